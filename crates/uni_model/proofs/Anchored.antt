@@ -1,0 +1,84 @@
+-- A world of the anchor alone has the invariant.
+use Rattle.std.proofs.Common.{◌≡◌, ℕ, ◌<◌, ◌≤◌, inl, refl, Option, Some, None, arith}
+use Rattle.uni_model.specs.Places.{Name, seq_of, after_of, new_of}
+use Rattle.uni_model.specs.Places.Name.{Anchor, Of}
+use Rattle.uni_model.specs.Stages.{Pending}
+use Rattle.uni_model.specs.Worlds.{anchored}
+use Rattle.uni_model.specs.Invariant.{Has, IsNumbered, HasValues, LeadsBack, IsSound}
+
+-- the number of the anchor, where it stands alone
+abbrev pub alone : ℕ → Name → ℕ
+alone number Anchor = number
+alone number (Of p k) = 0
+
+module _ {S I R : Type 0} (next : S → I → S) (answer : S → I → R) (s : S) (number : ℕ) (positive : 1 ≤ number) where
+  numbered : IsNumbered {S = S} {I = I} {R = R} (anchored s number) (alone number) number
+  numbered = record {
+    anchor = refl;
+    first = positive;
+    least = least;
+    greatest = greatest;
+    one_each = one_each;
+    link = λ x y e. cc;
+    goes_on = goes_on;
+    seq = seq;
+    threaded = threaded;
+  } where
+    least : (x : Name) → 1 ≤ alone number x → number ≤ alone number x
+    least Anchor h = omega arith
+    least (Of p k) h = absurd (omega arith)
+
+    greatest : (x : Name) → alone number x ≤ number
+    greatest Anchor = omega arith
+    greatest (Of p k) = omega arith
+
+    one_each : (x y : Name) → 1 ≤ alone number x → alone number x ≡ alone number y → x ≡ y
+    one_each Anchor Anchor h e = refl
+    one_each Anchor (Of q j) h e = absurd (omega arith)
+    one_each (Of p k) y h e = absurd (omega arith)
+
+    goes_on : (x : Name) → 1 ≤ alone number x → alone number x < number → Has (after_of {S = S} {I = I} {R = R} (anchored s number) x)
+    goes_on Anchor h less = absurd (omega arith)
+    goes_on (Of p k) h less = absurd (omega arith)
+
+    seq : (x : Name) → 1 ≤ seq_of {S = S} {I = I} {R = R} (anchored s number) x → seq_of {S = S} {I = I} {R = R} (anchored s number) x ≡ alone number x
+    seq Anchor h = refl
+    seq (Of p k) h = refl
+
+    threaded : (x : Name) → 1 ≤ alone number x → alone number x < number → seq_of {S = S} {I = I} {R = R} (anchored s number) x ≡ alone number x
+    threaded Anchor h less = refl
+    threaded (Of p k) h less = refl
+
+  values : HasValues next answer (anchored s number) (alone number)
+  values = record { anchor = (s, refl); none = none; threaded = threaded; after = λ x y v e settled. absurd (let f : None ≡ Some y = e in cc) } where
+    none : (x : Name) → alone number x ≡ 0 → new_of {S = S} {I = I} {R = R} (anchored s number) x ≡ None
+    none Anchor e = absurd (omega arith)
+    none (Of p k) e = refl
+
+    threaded : (x : Name) → 1 ≤ seq_of {S = S} {I = I} {R = R} (anchored s number) x → Has (new_of {S = S} {I = I} {R = R} (anchored s number) x)
+    threaded Anchor h = (_, refl)
+    threaded (Of p k) h = absurd (omega arith)
+
+  back : LeadsBack {S = S} {I = I} {R = R} (anchored s number)
+  back = record { link = λ x y e. absurd (let f : None ≡ Some x = e in cc); threaded = λ p k h. absurd (omega arith) }
+
+  -- nobody has a call pending
+  pub IsSound-anchored : (n : ℕ) (call : ℕ → Option Pending) (begun steps turns : ℕ → ℕ) → ((p : ℕ) → call p ≡ None)
+      → IsSound next answer (record { n = n; memory = anchored s number; call = call; begun = begun; steps = steps; turns = turns }) (alone number) number
+  IsSound-anchored n call begun steps turns idle = record {
+    numbered = numbered;
+    values = values;
+    back = back;
+    calls = record {
+      anchor = refl;
+      linked = λ p k h. absurd (omega arith);
+      begun = λ p k made. absurd (let e : None ≡ Some made.0 = made.1 in cc);
+      process = λ p c e. absurd (let f = idle p in cc);
+      mine = λ p c e. absurd (let f = idle p in cc);
+      threaded = λ p k made. absurd (let e : None ≡ Some made.0 = made.1 in cc);
+      announced = λ p h. inl refl;
+      head = λ p h. positive;
+    };
+    stands = λ p c e. absurd (let f = idle p in cc);
+    count = omega arith;
+  }

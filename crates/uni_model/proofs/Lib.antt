@@ -1,0 +1,13 @@
+pub mod Written
+pub mod Grows
+pub mod Numbered
+pub mod Values
+pub mod Sums
+pub mod Moves
+pub mod Steps
+pub mod Anchored
+pub mod Begun
+pub mod Kept
+pub mod Chains
+pub mod Simulation
+pub mod LawProofs

@@ -1,0 +1,5 @@
+use Rattle.uni_model.proofs.LawProofs.{IsLinearizable-holds}
+use Rattle.uni_model.proofs.laws.is_linearizable.Goals as goal
+
+pub returns : goal.returns
+returns g c object n start number events = IsLinearizable-holds (g.O.SeqObject.next object) (g.O.SeqObject.answer object) n start number events

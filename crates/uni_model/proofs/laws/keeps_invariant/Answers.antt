@@ -1,0 +1,5 @@
+use Rattle.uni_model.proofs.LawProofs.{Invariant-reached}
+use Rattle.uni_model.proofs.laws.keeps_invariant.Goals as goal
+
+pub returns : goal.returns
+returns g c object w = Invariant-reached (g.O.SeqObject.next object) (g.O.SeqObject.answer object) w

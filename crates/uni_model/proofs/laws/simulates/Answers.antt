@@ -1,0 +1,5 @@
+use Rattle.uni_model.proofs.LawProofs.{Simulates-holds}
+use Rattle.uni_model.proofs.laws.simulates.Goals as goal
+
+pub returns : goal.returns
+returns g c object w e = Simulates-holds (g.O.SeqObject.next object) (g.O.SeqObject.answer object) w e

@@ -1,0 +1,47 @@
+-- The laws over every list of accepted events.
+use Rattle.std.specs.Prelude.{◌≡◌, ◌≢◌, ℕ, ◌≤◌, List, [], ◌∷◌, Some}
+use Rattle.uni_model.specs.Stages.{Pending}
+use Rattle.uni_model.specs.Transition.{place_of}
+use Rattle.uni_model.specs.Worlds.{WorldOf, Event, opened, happened, replayed, IsAccepted, AreAccepted}
+use Rattle.uni_model.specs.Worlds.Event.{Call, Step, Trim}
+use Rattle.uni_model.specs.AtomicObject.{Atomic, AcceptsAll, at_start}
+use Rattle.uni_model.specs.History.{Shows, history_of, acts_of}
+use Rattle.uni_model.specs.Settled.{Grows, ChangesOnly}
+
+-- no trim is among the events
+abbrev pub HasNoTrim : {I : Type 0} → List (Event I) → Type 0
+HasNoTrim [] = Unit {0}
+HasNoTrim (Call p i ∷ es) = HasNoTrim es
+HasNoTrim (Step p ∷ es) = HasNoTrim es
+HasNoTrim (Trim ∷ es) = ⊥
+
+module _ {S I R : Type 0} (next : S → I → S) (answer : S → I → R) where
+  -- the world has been reached from an opening
+  pub record IsReached (w : WorldOf S I R) : Type 0 where
+    pub n : ℕ
+    pub start : S
+    pub number : ℕ
+    pub events : List (Event I)
+    pub positive : 1 ≤ number
+    pub accepted : AreAccepted next answer (opened n start number) events
+    pub reached : replayed next answer (opened n start number) events ≡ w
+
+  -- what a step does: it touches the one place that its process's stage names, and changes no other process
+  abbrev pub StepIsLocal : WorldOf S I R → ℕ → Pending → Type 0
+  StepIsLocal w p call = w.call p ≡ Some call → ChangesOnly (place_of w.n p call.mine call.stage) p w (happened next answer w (Step p))
+
+  -- in its era, what is settled stays through the event
+  abbrev pub SettledStays : WorldOf S I R → Event I → Type 0
+  SettledStays w e = IsReached w → IsAccepted w e → e ≢ Trim → Grows w.memory (happened next answer w e).memory
+
+  -- the atomic object takes the acts of the event from each object that the world shows to one that it shows afterwards
+  abbrev pub Simulates : WorldOf S I R → Event I → Type 0
+  Simulates w e = IsReached w → IsAccepted w e → e ≢ Trim → (a : Atomic S I) → Shows w a
+      → (b : Atomic S I) × Shows (happened next answer w e) b × AcceptsAll next answer a (acts_of next answer w e) b
+
+  -- the history of a run from the opening is one of the atomic object, which the run's last world shows
+  abbrev pub IsLinearizable : (n : ℕ) → (start : S) → (number : ℕ) → List (Event I) → Type 0
+  IsLinearizable n start number events =
+      1 ≤ number → AreAccepted next answer (opened n start number) events → HasNoTrim events
+      → (b : Atomic S I) × Shows (replayed next answer (opened n start number) events) b
+      × AcceptsAll next answer (at_start start) (history_of next answer (opened n start number) events) b

@@ -1,0 +1,12 @@
+pub mod Places
+pub mod Stages
+pub mod Transition
+pub mod Chain
+pub mod Worlds
+pub mod AtomicObject
+pub mod History
+pub mod Frontier
+pub mod Rows
+pub mod Settled
+pub mod Invariant
+pub mod Laws

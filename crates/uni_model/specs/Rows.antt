@@ -1,0 +1,127 @@
+-- Worked rows: what the definitions compute over a queue of numbers.
+use Rattle.std.specs.Prelude.{◌≡◌, refl, ℕ, zero, suc, List, [], ◌∷◌, ◌++◌, Some, map}
+use Rattle.uni_model.specs.Places.{head_seq}
+use Rattle.uni_model.specs.Chain.{Entry}
+use Rattle.uni_model.specs.Worlds.{WorldOf, Event, opened, replayed}
+use Rattle.uni_model.specs.Worlds.Event.{Call, Step, Trim}
+use Rattle.uni_model.specs.AtomicObject.Act.{Invoke, Linearize, Respond}
+use Rattle.uni_model.specs.History.{log, history_of}
+
+data QueueCall : Type 0 where
+  Enq : ℕ → QueueCall
+  Deq : QueueCall
+
+data QueueReply : Type 0 where
+  Ok : QueueReply
+  Value : ℕ → QueueReply
+  Empty : QueueReply
+
+abbrev queue_next : List ℕ → QueueCall → List ℕ
+queue_next xs (Enq v) = xs ++ v ∷ []
+queue_next [] Deq = []
+queue_next (x ∷ xs) Deq = xs
+
+abbrev queue_answer : List ℕ → QueueCall → QueueReply
+queue_answer xs (Enq v) = Ok
+queue_answer [] Deq = Empty
+queue_answer (x ∷ xs) Deq = Value x
+
+-- so many steps of a process
+abbrev steps : ℕ → ℕ → List (Event QueueCall)
+steps p zero = []
+steps p (suc m) = Step p ∷ steps p m
+
+-- a run of n processes over an empty queue, from number 1
+abbrev run : ℕ → List (Event QueueCall) → WorldOf (List ℕ) QueueCall QueueReply
+run n events = replayed queue_next queue_answer (opened n [] 1) events
+
+abbrev heads : WorldOf (List ℕ) QueueCall QueueReply → List ℕ → List ℕ
+heads w ps = map (head_seq w.memory) ps
+
+abbrev entry : ℕ → ℕ → ℕ → QueueCall → QueueReply → Entry QueueCall QueueReply
+entry number p k i r = record { number = number; call = record { process = p; nth = k; inv = i }; response = Some r }
+
+-- the least case: one process helps itself
+alone : List (Event QueueCall)
+alone = Call 0 (Enq 7) ∷ steps 0 14
+
+alone-log : log (run 1 alone) ≡ entry 2 0 0 (Enq 7) Ok ∷ []
+unfolding alone
+alone-log = refl
+
+alone-head : heads (run 1 alone) (0 ∷ []) ≡ 2 ∷ []
+unfolding alone
+alone-head = refl
+
+alone-steps : (run 1 alone).steps 0 ≡ 14
+unfolding alone
+alone-steps = refl
+
+alone-turns : (run 1 alone).turns 0 ≡ 1
+unfolding alone
+alone-turns = refl
+
+alone-history : history_of queue_next queue_answer (opened 1 [] 1) alone
+    ≡ Invoke 0 0 (Enq 7) ∷ Linearize (record { process = 0; nth = 0; inv = Enq 7 }) ∷ Respond 0 0 Ok ∷ []
+unfolding alone
+alone-history = refl
+
+-- two processes, of which one meets the bound of steps and turns: 32 and 3
+bound_met : List (Event QueueCall)
+bound_met = Call 0 (Enq 10) ∷ (steps 0 10 ++ Call 1 Deq ∷ (steps 1 14 ++ (steps 0 6 ++ Call 0 (Enq 20) ∷ Step 0 ∷ steps 1 18)))
+
+bound_met-log : log (run 2 bound_met) ≡ entry 2 0 0 (Enq 10) Ok ∷ entry 3 0 1 (Enq 20) Ok ∷ entry 4 1 0 Deq (Value 10) ∷ []
+unfolding bound_met
+bound_met-log = refl
+
+bound_met-heads : heads (run 2 bound_met) (0 ∷ 1 ∷ []) ≡ 2 ∷ 4 ∷ []
+unfolding bound_met
+bound_met-heads = refl
+
+bound_met-steps : (run 2 bound_met).steps 1 ≡ 32
+unfolding bound_met
+bound_met-steps = refl
+
+bound_met-turns : (run 2 bound_met).turns 1 ≡ 3
+unfolding bound_met
+bound_met-turns = refl
+
+-- process 1 announces and stops; process 0 places its call
+helped : List (Event QueueCall)
+helped = Call 1 (Enq 5) ∷ Step 1 ∷ Call 0 (Enq 6) ∷ steps 0 24
+
+helped-log : log (run 2 helped) ≡ entry 2 1 0 (Enq 5) Ok ∷ entry 3 0 0 (Enq 6) Ok ∷ []
+unfolding helped
+helped-log = refl
+
+helped-heads : heads (run 2 helped) (0 ∷ 1 ∷ []) ≡ 3 ∷ 1 ∷ []
+unfolding helped
+helped-heads = refl
+
+helped-steps : (run 2 helped).steps 0 ≡ 24
+unfolding helped
+helped-steps = refl
+
+helped-turns : (run 2 helped).turns 0 ≡ 2
+unfolding helped
+helped-turns = refl
+
+-- numbers go on after a trim, so the turns of processes do
+trimmed_between : List (Event QueueCall)
+trimmed_between = Call 0 (Enq 1) ∷ (steps 0 16 ++ Trim ∷ Call 1 (Enq 2) ∷ Step 1 ∷ Call 0 Deq ∷ steps 0 16)
+
+trimmed_between-log : log (run 2 trimmed_between) ≡ entry 3 0 1 Deq (Value 1) ∷ []
+unfolding trimmed_between
+trimmed_between-log = refl
+
+trimmed_between-heads : heads (run 2 trimmed_between) (0 ∷ 1 ∷ []) ≡ 3 ∷ 2 ∷ []
+unfolding trimmed_between
+trimmed_between-heads = refl
+
+trimmed_between-steps : (run 2 trimmed_between).steps 0 ≡ 16
+unfolding trimmed_between
+trimmed_between-steps = refl
+
+trimmed_between-turns : (run 2 trimmed_between).turns 0 ≡ 1
+unfolding trimmed_between
+trimmed_between-turns = refl

@@ -1,0 +1,44 @@
+//! The laws, each the contract of a function with an empty body.
+
+ghost use Rattle.std.specs.Prelude.{ℕ, List};
+ghost use Rattle.uni_model.specs.Stages.{Pending};
+ghost use Rattle.uni_model.specs.Worlds.{WorldOf, Event};
+ghost use Rattle.uni_model.specs.Invariant.{Invariant};
+ghost use Rattle.uni_model.specs.Laws.{IsReached, StepIsLocal, SettledStays, Simulates, IsLinearizable};
+
+use seq_object::SeqObject;
+
+/// A step touches the one place that its process's stage names; it changes that process's stage,
+/// steps and turns, and nothing else.
+pub fn changes_one_place<O: SeqObject>()
+    ensures { (object : O) (w : WorldOf O.State O.Inv O.Resp) (p : ℕ) (call : Pending) →
+        StepIsLocal (O.next object) (O.answer object) w p call }
+{}
+
+/// A place that is settled never changes again in its era: a decided `after` or `new`, a written
+/// `seq` or `before`, an invocation.
+pub fn keeps_settled<O: SeqObject>()
+    ensures { (object : O) (w : WorldOf O.State O.Inv O.Resp) (e : Event O.Inv) →
+        SettledStays (O.next object) (O.answer object) w e }
+{}
+
+/// Every world that is reached from an opening has the invariant.
+pub fn keeps_invariant<O: SeqObject>()
+    ensures { (object : O) (w : WorldOf O.State O.Inv O.Resp) →
+        IsReached (O.next object) (O.answer object) w → Invariant (O.next object) (O.answer object) w }
+{}
+
+/// Each call that is begun and each step is what the atomic object does, from what the world shows
+/// before it to what it shows afterwards.
+pub fn simulates<O: SeqObject>()
+    ensures { (object : O) (w : WorldOf O.State O.Inv O.Resp) (e : Event O.Inv) →
+        Simulates (O.next object) (O.answer object) w e }
+{}
+
+/// The construction is linearizable: for every number of processes and every list of accepted
+/// events without a trim, calls and replies are those of an atomic object that places each call
+/// once between its start and its reply (Herlihy and Wing 1990).
+pub fn is_linearizable<O: SeqObject>()
+    ensures { (object : O) (n : ℕ) (start : O.State) (number : ℕ) (events : List (Event O.Inv)) →
+        IsLinearizable (O.next object) (O.answer object) n start number events }
+{}

@@ -1,0 +1,10 @@
+//! The wait-free universal construction as a machine over shared places (Herlihy 1991, section 4),
+//! with its laws over every schedule.
+//!
+//! The definitions are in `specs/`; the functions here have empty bodies, and their contracts are
+//! the laws. They hold for every object and every number of processes.
+#![tactic(auto)]
+
+mod laws;
+
+pub use laws::{changes_one_place, is_linearizable, keeps_invariant, keeps_settled, simulates};
