@@ -1,6 +1,6 @@
 -- A legal sequential history, by recursion and place by place.
-use Rattle.std.proofs.Common.{◌≡◌, ◌∙◌, ℕ, zero, suc, List, [], ◌∷◌, Option, Some, None, map, slice_get, IfSome, refl, ap, sym}
-use Rattle.seq_object.specs.History.{Call, IsLegal, IsLegalByPlaces, response_at, state_after}
+use Rattle.std.proofs.Common.{◌≡◌, ◌∙◌, zero, suc, List, [], ◌∷◌, Option, Some, None, IfSome, refl, ap, sym}
+use Rattle.seq_object.specs.History.{Call, IsLegal, IsLegalByPlaces}
 
 module _ {S I R : Type 0} (next : S → I → S) (answer : S → I → R) where
   pub IsLegalByPlaces-from_IsLegal : (s : S) (calls : List (Call I R)) → IsLegal next answer s calls → IsLegalByPlaces next answer s calls
@@ -21,6 +21,7 @@ module _ {S I R : Type 0} (next : S → I → S) (answer : S → I → R) where
 
   pub IsLegal-from_IsLegalByPlaces : (s : S) (calls : List (Call I R)) → IsLegalByPlaces next answer s calls → IsLegal next answer s calls
   IsLegal-from_IsLegalByPlaces s [] places = tt
-  IsLegal-from_IsLegalByPlaces s (c ∷ cs) places =
-      (first_is_answer s c cs places c.response refl,
-      IsLegal-from_IsLegalByPlaces (next s c.inv) cs (λ place call r at given. places (suc place) call r at given))
+  IsLegal-from_IsLegalByPlaces s (c ∷ cs) places = (
+    first_is_answer s c cs places c.response refl,
+    IsLegal-from_IsLegalByPlaces (next s c.inv) cs (λ place call r at given. places (suc place) call r at given),
+  )

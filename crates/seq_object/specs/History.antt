@@ -1,5 +1,5 @@
 -- What a sequential object does with a list of invocations, the first of them first.
-use Rattle.std.specs.Prelude.{map, ◌≡◌, ℕ, List, [], ◌∷◌, Option, Some, None, option_map, slice_get, take, IfSome, refl}
+use Rattle.std.specs.Prelude.{map, ◌≡◌, ℕ, List, [], ◌∷◌, Option, Some, option_map, slice_get, take, IfSome}
 
 -- the state after these invocations
 abbrev pub state_after : {S I : Type 0} → (next : S → I → S) → S → List I → S
@@ -24,4 +24,4 @@ IsLegal next answer s (call ∷ calls) = IfSome call.response (λ r. r ≡ answe
 abbrev pub IsLegalByPlaces : {S I R : Type 0} → (next : S → I → S) → (answer : S → I → R) → S → List (Call I R) → Type 0
 IsLegalByPlaces {S} {I} {R} next answer s calls =
     (place : ℕ) (call : Call I R) (r : R) → slice_get calls place ≡ Some call → call.response ≡ Some r
-      → response_at next answer s (map (λ c. c.inv) calls) place ≡ Some r
+    → response_at next answer s (map (λ c. c.inv) calls) place ≡ Some r

@@ -3,6 +3,8 @@
 
 mod call_id;
 mod object;
+#[cfg(test)]
+mod tests;
 
 pub use call_id::CallId;
-pub use object::SeqObject;
+pub use object::{SeqObject, legal_by_places};

@@ -65,5 +65,4 @@ pub trait SeqObject: Drop {
 pub fn legal_by_places<O: SeqObject>()
     ensures { (object : O) (s : O.State) (calls : List (Call O.Inv O.Resp)) →
         IsLegal (O.next object) (O.answer object) s calls ↔ IsLegalByPlaces (O.next object) (O.answer object) s calls }
-{
-}
+{}

@@ -133,7 +133,7 @@ module _ {S I R : Type 0} (next : S → I → S) (answer : S → I → R) (w : W
     ]
 
   -- the number of p's head, at a stage that knows it
-  head_number : (c : Name) (s : ℕ) → AtHead w.memory p c s → (1 ≤ seq_of w.memory c) × (s ≡ num c)
+  pub head_number : (c : Name) (s : ℕ) → AtHead w.memory p c s → (1 ≤ seq_of w.memory c) × (s ≡ num c)
   head_number c s h =
       let positive : 1 ≤ seq_of w.memory c = subst (λ x. 1 ≤ seq_of w.memory x) h.head threaded_head in
       (positive, sym h.seq ∙ sound.numbered.seq c positive)
@@ -287,7 +287,7 @@ module _ {S I R : Type 0} (next : S → I → S) (answer : S → I → R) (w : W
 
   module _ (c : Name) (s : ℕ) (d : Name) (h : AtHead w.memory p c s) (link : after_of w.memory c ≡ Some d) where
     -- d is the cell of a call
-    linked_call : Has (inv_of w.memory d)
+    pub linked_call : Has (inv_of w.memory d)
     linked_call = of_name d refl where
       of_name : (x : Name) → d ≡ x → Has (inv_of w.memory d)
       of_name Anchor e = absurd (not_anchor w.memory num last sound.numbered c d link e)

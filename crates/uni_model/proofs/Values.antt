@@ -4,6 +4,7 @@ use Rattle.uni_model.specs.Places.{Name, Memory, written, seq_of, after_of, new_
 use Rattle.uni_model.specs.Places.Name.{Anchor, Of}
 use Rattle.uni_model.specs.Places.Place.{SeqOf, AfterOf, NewOf, BeforeOf}
 use Rattle.uni_model.specs.Places.Content.{Number, Link, Settled}
+use Rattle.uni_model.specs.Chain.{response_in}
 use Rattle.uni_model.specs.Invariant.{Has, IsNumbered, HasValues, LeadsBack}
 use Rattle.uni_model.proofs.Written.{seq_of-written, after_of-written, new_of-written, before_of-written}
 use Rattle.uni_model.proofs.Numbered.{numbered_last, numbered_last-cases}
@@ -161,3 +162,12 @@ module _ {S I R : Type 0} (m : Memory S I R) (num : Name → ℕ) (last : ℕ) (
       | inr h ↦ let was = old.threaded p k threaded in (was.0, h.1 ∙ was.1)
     ];
   }
+
+-- a threaded cell of a call has its response settled
+pub response-settled : {S I R : Type 0} (next : S → I → S) (answer : S → I → R) (m : Memory S I R) (num : Name → ℕ) → HasValues next answer m num → LeadsBack m
+    → (p k : ℕ) → 1 ≤ seq_of m (Of p k) → Has (response_in m (Of p k))
+response-settled {S = S} {R = R} next answer m num values back p k threaded =
+    let before = back.threaded p k threaded in
+    let new = values.threaded (Of p k) threaded in
+    let after = values.after before.0 (Of p k) new.0 (back.link before.0 (Of p k) before.1) new.1 in
+    (answer after.before.0 after.inv, rw new.1 (ap (λ (t : S × Option R). t.1) after.value))

@@ -6,5 +6,7 @@
 #![tactic(auto)]
 
 mod laws;
+#[cfg(test)]
+mod tests;
 
 pub use laws::{changes_one_place, is_linearizable, keeps_invariant, keeps_settled, simulates};

@@ -2,6 +2,7 @@ use Rattle.seq_object.proofs.Legality.{IsLegalByPlaces-from_IsLegal, IsLegal-fro
 use Rattle.seq_object.proofs.object.legal_by_places.Goals as goal
 
 pub returns : goal.returns
-returns g c object s calls =
-    (IsLegalByPlaces-from_IsLegal (g.O.SeqObject.next object) (g.O.SeqObject.answer object) s calls,
-    IsLegal-from_IsLegalByPlaces (g.O.SeqObject.next object) (g.O.SeqObject.answer object) s calls)
+returns g c object s calls = (
+  IsLegalByPlaces-from_IsLegal (g.O.SeqObject.next object) (g.O.SeqObject.answer object) s calls,
+  IsLegal-from_IsLegalByPlaces (g.O.SeqObject.next object) (g.O.SeqObject.answer object) s calls,
+)
