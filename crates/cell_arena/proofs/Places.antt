@@ -1,0 +1,20 @@
+-- Indices of cells, and who made them.
+use Rattle.std.proofs.Common.{◌≡◌, ◌∙◌, ◌+◌, ◌-◌, ◌*◌, ◌/◌, ◌%◌, ◌<◌, ℕ, ap, arith}
+use Rattle.std.proofs.lemmas.Nat.{div-mul-add, mod-mul-add, div-add-mod'}
+use Rattle.cell_arena.specs.CellRecord.{index_of}
+use Rattle.cell_arena.specs.Rows.{owner_of, nth_of}
+
+module _ (n : ℕ) where
+  pub owner_of-index_of : (p nth : ℕ) → p < n → owner_of n (index_of n p nth) ≡ p
+  owner_of-index_of p nth within =
+      let before : index_of n p nth - 1 ≡ nth * n + p = omega arith in
+      ap (λ k. k % n) before ∙ mod-mul-add nth n p within
+
+  pub nth_of-index_of : (p nth : ℕ) → p < n → nth_of n (index_of n p nth) ≡ nth
+  nth_of-index_of p nth within =
+      let before : index_of n p nth - 1 ≡ nth * n + p = omega arith in
+      ap (λ k. k / n) before ∙ div-mul-add nth n p within
+
+  -- an index is that of its owner and number
+  pub index_of-owner_of : (index : ℕ) → 0 < index → index_of n (owner_of n index) (nth_of n index) ≡ index
+  index_of-owner_of index made = omega (arith, div-add-mod' (index - 1) n)

@@ -1,0 +1,4 @@
+pub mod CellRecord
+pub mod Rows
+pub mod Lending
+pub mod Place

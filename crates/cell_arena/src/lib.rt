@@ -1,0 +1,15 @@
+//! The cells of a shared object's list, named by their index.
+#![tactic(auto)]
+
+mod cell;
+mod cell_id;
+mod cells;
+mod fault;
+mod row_cells;
+#[cfg(test)]
+mod tests;
+
+pub use cell_id::{CellId, of_is_injective};
+pub use cells::Cells;
+pub use fault::ArenaFault;
+pub use row_cells::RowCells;
