@@ -1,0 +1,9 @@
+pub mod Numbers
+pub mod Words
+pub mod QueueWords
+pub mod StickyReplies
+pub mod StickyWords
+pub mod BookSums
+pub mod BookWords
+pub mod DirectoryPairs
+pub mod DirectoryWords

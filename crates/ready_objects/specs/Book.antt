@@ -1,0 +1,153 @@
+-- The book: its state is the list of its sixteen balances.
+use Rattle.std.specs.Prelude.{◌≡◌, ℕ, ◌+◌, ◌-◌, ◌/◌, ◌%◌, ◌==◌, ◌<◌, nat_le, Bool, not, ◌&&◌, ◌||◌, if◌then◌else◌, List, [], ◌∷◌, replicate, slice_index, slice_set, sum, Option, Some, None, option_and_then, codes, refl}
+use Rattle.std.specs.Fmt.{decimal}
+use Rattle.std.specs.Str.{bytes_eq}
+use Rattle.ready_objects.specs.Number.{number_of_word, number_below}
+use Rattle.ready_objects.specs.declared.book.BookInv.{BookInv}
+use Rattle.ready_objects.specs.declared.book.BookInv.TheVariants.{Deposit, Withdraw, Move, Total}
+use Rattle.ready_objects.specs.declared.book.BookResp.{BookResp}
+use Rattle.ready_objects.specs.declared.book.BookResp.TheVariants.{Balance, Over, Short, Moved, Sum}
+
+infixl 10 ◌>>=◌
+abbrev pub ◌>>=◌ : {A B : Type 0} → Option A → (A → Option B) → Option B
+o >>= f = option_and_then f o
+
+-- the balances at the start
+abbrev pub book_start : List ℕ
+book_start = replicate 16 0
+
+-- whether an account can take in an amount: no balance is above 999999999999
+abbrev pub has_room : List ℕ → ℕ → ℕ → Bool
+has_room balances a v = nat_le (slice_index balances a + v) 999999999999
+
+-- whether an account has an amount
+abbrev pub has_funds : List ℕ → ℕ → ℕ → Bool
+has_funds balances a v = nat_le v (slice_index balances a)
+
+-- the balances after an amount goes into an account
+abbrev pub put_in : List ℕ → ℕ → ℕ → List ℕ
+put_in balances a v = slice_set balances a (slice_index balances a + v)
+
+-- the balances after it is taken out
+abbrev pub taken_out : List ℕ → ℕ → ℕ → List ℕ
+taken_out balances a v = slice_set balances a (slice_index balances a - v)
+
+-- the balances after an invocation
+abbrev pub book_next : List ℕ → BookInv → List ℕ
+book_next balances (Deposit a v) = if has_room balances a v then put_in balances a v else balances
+book_next balances (Withdraw a v) = if has_funds balances a v then taken_out balances a v else balances
+book_next balances (Move a b v) =
+    if not (has_funds balances a v) || (a == b) || not (has_room balances b v) then balances else put_in (taken_out balances a v) b v
+book_next balances Total = balances
+
+-- the response to it
+abbrev pub book_answer : List ℕ → BookInv → BookResp
+book_answer balances (Deposit a v) = if has_room balances a v then Balance (slice_index balances a + v) else Over
+book_answer balances (Withdraw a v) = if has_funds balances a v then Balance (slice_index balances a - v) else Short
+book_answer balances (Move a b v) =
+    if not (has_funds balances a v) then Short else if not (a == b) && not (has_room balances b v) then Over else Moved
+book_answer balances Total = Sum (sum balances)
+
+-- the words of an invocation
+abbrev pub book_words : BookInv → List (List ℕ)
+book_words (Deposit a v) = codes "deposit" ∷ decimal a ∷ decimal v ∷ []
+book_words (Withdraw a v) = codes "withdraw" ∷ decimal a ∷ decimal v ∷ []
+book_words (Move a b v) = codes "move" ∷ decimal a ∷ decimal b ∷ decimal v ∷ []
+book_words Total = codes "total" ∷ []
+
+-- an invocation with an account and an amount
+abbrev pub with_account : (ℕ → ℕ → BookInv) → List ℕ → List ℕ → Option BookInv
+with_account operation a v = do
+  account ← number_below 16 a
+  amount ← number_of_word v
+  Some (operation account amount)
+
+-- an invocation with two accounts and an amount
+abbrev pub with_accounts : (ℕ → ℕ → ℕ → BookInv) → List ℕ → List ℕ → List ℕ → Option BookInv
+with_accounts operation a b v = do
+  from ← number_below 16 a
+  to ← number_below 16 b
+  amount ← number_of_word v
+  Some (operation from to amount)
+
+-- the invocation that words are
+abbrev pub book_inv_of_words : List (List ℕ) → Option BookInv
+book_inv_of_words (name ∷ []) = if bytes_eq name (codes "total") then Some Total else None
+book_inv_of_words (name ∷ a ∷ v ∷ []) =
+    if bytes_eq name (codes "deposit") then with_account Deposit a v
+    else if bytes_eq name (codes "withdraw") then with_account Withdraw a v else None
+book_inv_of_words (name ∷ a ∷ b ∷ v ∷ []) = if bytes_eq name (codes "move") then with_accounts Move a b v else None
+book_inv_of_words _ = None
+
+-- the text of a response
+abbrev pub book_resp_text : BookResp → List ℕ
+book_resp_text (Balance v) = decimal v
+book_resp_text Over = codes "over"
+book_resp_text Short = codes "short"
+book_resp_text Moved = codes "moved"
+book_resp_text (Sum n) = decimal n
+
+-- what a drawn word stands for
+abbrev pub book_inv_of_word : ℕ → BookInv
+book_inv_of_word word =
+    let a = word / 4 % 16 in
+    let b = word / 64 % 16 in
+    let v = word / 1024 % 1000 in
+    if word % 4 == 0 then Deposit a v else if word % 4 == 1 then Withdraw a v else if word % 4 == 2 then Move a b v else Total
+
+-- the accounts of an invocation are among the sixteen
+abbrev pub HasAccounts : BookInv → Type 0
+HasAccounts (Deposit a v) = a < 16
+HasAccounts (Withdraw a v) = a < 16
+HasAccounts (Move a b v) = (a < 16) × (b < 16)
+HasAccounts Total = Unit {0}
+
+-- what an accepted deposit adds
+abbrev pub added_by : BookInv → BookResp → ℕ
+added_by (Deposit a v) (Balance _) = v
+added_by _ _ = 0
+
+-- what an accepted withdrawal takes
+abbrev pub taken_by : BookInv → BookResp → ℕ
+taken_by (Withdraw a v) (Balance _) = v
+taken_by _ _ = 0
+
+-- what the accepted deposits among these invocations add
+abbrev pub total_added : List ℕ → List BookInv → ℕ
+total_added balances [] = 0
+total_added balances (inv ∷ invs) = added_by inv (book_answer balances inv) + total_added (book_next balances inv) invs
+
+-- what the accepted withdrawals among them take
+abbrev pub total_taken : List ℕ → List BookInv → ℕ
+total_taken balances [] = 0
+total_taken balances (inv ∷ invs) = taken_by inv (book_answer balances inv) + total_taken (book_next balances inv) invs
+
+a_deposit_within_the_limit : book_next (4 ∷ 5 ∷ []) (Deposit 1 2) ≡ 4 ∷ 7 ∷ []
+a_deposit_within_the_limit = refl
+
+a_deposit_past_the_limit : book_answer (4 ∷ 999999999999 ∷ []) (Deposit 1 1) ≡ Over
+a_deposit_past_the_limit = refl
+
+a_withdrawal_past_the_balance : book_answer (4 ∷ 5 ∷ []) (Withdraw 0 5) ≡ Short
+a_withdrawal_past_the_balance = refl
+
+a_move : book_next (4 ∷ 5 ∷ []) (Move 0 1 3) ≡ 1 ∷ 8 ∷ []
+a_move = refl
+
+a_move_to_itself : book_next (4 ∷ 5 ∷ []) (Move 0 0 3) ≡ 4 ∷ 5 ∷ []
+a_move_to_itself = refl
+
+a_move_to_itself_has_room : book_answer (999999999999 ∷ 5 ∷ []) (Move 0 0 3) ≡ Moved
+a_move_to_itself_has_room = refl
+
+a_move_short_before_over : book_answer (4 ∷ 999999999999 ∷ []) (Move 0 1 5) ≡ Short
+a_move_short_before_over = refl
+
+a_move_over : book_answer (4 ∷ 999999999999 ∷ []) (Move 0 1 4) ≡ Over
+a_move_over = refl
+
+a_total : book_answer (4 ∷ 999999999999 ∷ []) Total ≡ Sum 1000000000003
+a_total = refl
+
+drawn_5254 : book_inv_of_word 5254 ≡ Move 1 2 5
+drawn_5254 = refl

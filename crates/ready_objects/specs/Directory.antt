@@ -1,0 +1,123 @@
+-- The directory: its state is the list of its pairs of a name and a value, in order of insertion.
+use Rattle.std.specs.Prelude.{◌≡◌, ℕ, ◌/◌, ◌%◌, ◌==◌, nat_lt, if◌then◌else◌, List, [], ◌∷◌, ◌++◌, length, replicate, slice_get, Option, Some, None, is_some, option_map, option_and_then, codes, refl}
+use Rattle.std.specs.Fmt.{decimal, digits}
+use Rattle.std.specs.Map.{lookup, set_value, remove_entry}
+use Rattle.std.specs.Str.{bytes_eq}
+use Rattle.ready_objects.specs.Name.{name_of_word, drawn_name}
+use Rattle.ready_objects.specs.Number.{number_of_word, number_below}
+use Rattle.ready_objects.specs.declared.directory.DirectoryInv.{DirectoryInv}
+use Rattle.ready_objects.specs.declared.directory.DirectoryInv.TheVariants.{Put, Get, Del, Size, At}
+use Rattle.ready_objects.specs.declared.directory.DirectoryResp.{DirectoryResp}
+use Rattle.ready_objects.specs.declared.directory.DirectoryResp.TheVariants.{Was, New, Full, Found, Absent, Count}
+
+abbrev pub Pairs : Type 0
+Pairs = List (List ℕ × ℕ)
+
+-- the value of a name, where it is there
+abbrev pub value_of : Pairs → List ℕ → Option ℕ
+value_of pairs name = lookup (bytes_eq name) pairs
+
+-- the value at a place, where there is one
+abbrev pub value_at : Pairs → ℕ → Option ℕ
+value_at pairs place = option_map (λ pair. pair.1) (slice_get pairs place)
+
+-- the pairs after an invocation: at most 256
+abbrev pub directory_next : Pairs → DirectoryInv → Pairs
+directory_next pairs (Put name v) =
+    if is_some (value_of pairs name) then set_value (bytes_eq name) pairs v
+    else if nat_lt (length pairs) 256 then pairs ++ (name, v) ∷ [] else pairs
+directory_next pairs (Get name) = pairs
+directory_next pairs (Del name) = remove_entry (bytes_eq name) pairs
+directory_next pairs Size = pairs
+directory_next pairs (At place) = pairs
+
+-- the response to a put, by the number of pairs and the value before
+abbrev pub put_answer : ℕ → Option ℕ → DirectoryResp
+put_answer count (Some w) = Was w
+put_answer count None = if nat_lt count 256 then New else Full
+
+-- the response that tells a value, or that there is none
+abbrev pub value_answer : Option ℕ → DirectoryResp
+value_answer (Some v) = Found v
+value_answer None = Absent
+
+-- the response to an invocation
+abbrev pub directory_answer : Pairs → DirectoryInv → DirectoryResp
+directory_answer pairs (Put name v) = put_answer (length pairs) (value_of pairs name)
+directory_answer pairs (Get name) = value_answer (value_of pairs name)
+directory_answer pairs (Del name) = value_answer (value_of pairs name)
+directory_answer pairs Size = Count (length pairs)
+directory_answer pairs (At place) = value_answer (value_at pairs place)
+
+-- the words of an invocation
+abbrev pub directory_words : DirectoryInv → List (List ℕ)
+directory_words (Put name v) = codes "put" ∷ name ∷ decimal v ∷ []
+directory_words (Get name) = codes "get" ∷ name ∷ []
+directory_words (Del name) = codes "del" ∷ name ∷ []
+directory_words Size = codes "size" ∷ []
+directory_words (At place) = codes "at" ∷ decimal place ∷ []
+
+-- a put of a name and a value
+abbrev pub put_of : List ℕ → List ℕ → Option DirectoryInv
+put_of name v = option_and_then (λ n. option_map (λ value. Put n value) (number_of_word v)) (name_of_word name)
+
+-- the invocation that words are
+abbrev pub directory_inv_of_words : List (List ℕ) → Option DirectoryInv
+directory_inv_of_words (operation ∷ []) = if bytes_eq operation (codes "size") then Some Size else None
+directory_inv_of_words (operation ∷ word ∷ []) =
+    if bytes_eq operation (codes "get") then option_map Get (name_of_word word)
+    else if bytes_eq operation (codes "del") then option_map Del (name_of_word word)
+    else if bytes_eq operation (codes "at") then option_map At (number_below 256 word) else None
+directory_inv_of_words (operation ∷ name ∷ v ∷ []) = if bytes_eq operation (codes "put") then put_of name v else None
+directory_inv_of_words _ = None
+
+-- the text of a response
+abbrev pub directory_resp_text : DirectoryResp → List ℕ
+directory_resp_text (Was w) = codes "was " ++ decimal w
+directory_resp_text New = codes "new"
+directory_resp_text Full = codes "full"
+directory_resp_text (Found v) = decimal v
+directory_resp_text Absent = codes "none"
+directory_resp_text (Count n) = decimal n
+
+-- what a drawn word stands for
+abbrev pub directory_inv_of_word : ℕ → DirectoryInv
+directory_inv_of_word word =
+    let name = drawn_name (word / 8) in
+    let r = word % 8 in
+    if nat_lt r 3 then Put name (word / 80 % 1000)
+    else if nat_lt r 5 then Get name
+    else if r == 5 then Del name
+    else if r == 6 then Size else At (word / 8 % 10)
+
+a_new_pair_goes_last : directory_next ((codes "b", 1) ∷ []) (Put (codes "a") 2) ≡ (codes "b", 1) ∷ (codes "a", 2) ∷ []
+a_new_pair_goes_last = refl
+
+a_put_keeps_its_place : directory_next ((codes "b", 1) ∷ (codes "a", 2) ∷ []) (Put (codes "b") 3) ≡ (codes "b", 3) ∷ (codes "a", 2) ∷ []
+a_put_keeps_its_place = refl
+
+a_put_tells_the_old_value : directory_answer ((codes "b", 1) ∷ (codes "a", 2) ∷ []) (Put (codes "b") 3) ≡ Was 1
+a_put_tells_the_old_value = refl
+
+later_pairs_close_up : directory_next ((codes "b", 3) ∷ (codes "a", 2) ∷ (codes "c", 4) ∷ []) (Del (codes "b")) ≡ (codes "a", 2) ∷ (codes "c", 4) ∷ []
+later_pairs_close_up = refl
+
+a_full_directory_refuses_a_new_name : directory_answer (replicate 256 (codes "b", 1)) (Put (codes "a") 2) ≡ Full
+a_full_directory_refuses_a_new_name = refl
+
+a_full_directory_takes_a_present_name : directory_answer (replicate 256 (codes "b", 1)) (Put (codes "b") 2) ≡ Was 1
+a_full_directory_takes_a_present_name = refl
+
+a_place_has_a_value : directory_answer ((codes "b", 3) ∷ (codes "a", 2) ∷ []) (At 1) ≡ Found 2
+a_place_has_a_value = refl
+
+no_value_at_a_later_place : directory_answer ((codes "b", 3) ∷ (codes "a", 2) ∷ []) (At 2) ≡ Absent
+no_value_at_a_later_place = refl
+
+drawn_80 : directory_inv_of_word 80 ≡ Put (codes "n0") 1
+unfolding digits
+drawn_80 = refl
+
+drawn_13 : directory_inv_of_word 13 ≡ Del (codes "n1")
+unfolding digits
+drawn_13 = refl

@@ -1,0 +1,50 @@
+-- The words that stand for numbers.
+use Rattle.std.specs.Prelude.{◌≡◌, ℕ, ◌==◌, nat_lt, nat_le, not, ◌&&◌, ◌||◌, if◌then◌else◌, Bool, List, length, slice_index, Option, Some, None, option_and_then, codes, refl}
+use Rattle.std.specs.Char.{is_ascii_digit}
+use Rattle.std.specs.List.{list_all}
+use Rattle.std.specs.Str.Parse.{digits_value}
+
+-- 1 to 12 decimal digits, without a leading zero unless the word is `0`
+abbrev pub is_number : List ℕ → Bool
+is_number word =
+    nat_lt 0 (length word) && nat_le (length word) 12 && list_all is_ascii_digit word && (not (slice_index word 0 == 48) || length word == 1)
+
+-- the number that a word stands for
+unfoldable pub number_of_word : List ℕ → Option ℕ
+number_of_word word = if is_number word then Some (digits_value 10 word) else None
+
+-- the number below a limit that a word stands for
+unfoldable pub number_below : ℕ → List ℕ → Option ℕ
+number_below limit word = option_and_then (λ n. if nat_lt n limit then Some n else None) (number_of_word word)
+
+zero_is_a_number : number_of_word (codes "0") ≡ Some 0
+unfolding number_of_word
+zero_is_a_number = refl
+
+twelve_digits_are_a_number : number_of_word (codes "999999999999") ≡ Some 999999999999
+unfolding number_of_word
+twelve_digits_are_a_number = refl
+
+thirteen_digits_are_none : number_of_word (codes "1000000000000") ≡ None
+unfolding number_of_word
+thirteen_digits_are_none = refl
+
+a_leading_zero_is_none : number_of_word (codes "007") ≡ None
+unfolding number_of_word
+a_leading_zero_is_none = refl
+
+the_empty_word_is_none : number_of_word (codes "") ≡ None
+unfolding number_of_word
+the_empty_word_is_none = refl
+
+a_sign_is_none : number_of_word (codes "+7") ≡ None
+unfolding number_of_word
+a_sign_is_none = refl
+
+fifteen_is_below_sixteen : number_below 16 (codes "15") ≡ Some 15
+unfolding number_below number_of_word
+fifteen_is_below_sixteen = refl
+
+sixteen_is_not_below_sixteen : number_below 16 (codes "16") ≡ None
+unfolding number_below number_of_word
+sixteen_is_not_below_sixteen = refl

@@ -1,0 +1,68 @@
+-- The queue: its state is the list of its values, the first of them first.
+use Rattle.std.specs.Prelude.{◌≡◌, ℕ, ◌/◌, ◌%◌, ◌==◌, nat_lt, if◌then◌else◌, List, [], ◌∷◌, ◌++◌, length, replicate, Option, Some, None, option_map, codes, refl}
+use Rattle.std.specs.Fmt.{decimal, digits}
+use Rattle.std.specs.Str.{bytes_eq}
+use Rattle.ready_objects.specs.Number.{number_of_word}
+use Rattle.ready_objects.specs.declared.queue.QueueInv.{QueueInv}
+use Rattle.ready_objects.specs.declared.queue.QueueInv.TheVariants.{Enq, Deq}
+use Rattle.ready_objects.specs.declared.queue.QueueResp.{QueueResp}
+use Rattle.ready_objects.specs.declared.queue.QueueResp.TheVariants.{Added, Full, Taken, Empty}
+
+-- the values after an invocation: at most 1,000
+abbrev pub queue_next : List ℕ → QueueInv → List ℕ
+queue_next values (Enq v) = if nat_lt (length values) 1000 then values ++ v ∷ [] else values
+queue_next [] Deq = []
+queue_next (v ∷ values) Deq = values
+
+-- the response to it
+abbrev pub queue_answer : List ℕ → QueueInv → QueueResp
+queue_answer values (Enq v) = if nat_lt (length values) 1000 then Added else Full
+queue_answer [] Deq = Empty
+queue_answer (v ∷ values) Deq = Taken v
+
+-- the words of an invocation
+abbrev pub queue_words : QueueInv → List (List ℕ)
+queue_words (Enq v) = codes "enq" ∷ decimal v ∷ []
+queue_words Deq = codes "deq" ∷ []
+
+-- the invocation that words are
+abbrev pub queue_inv_of_words : List (List ℕ) → Option QueueInv
+queue_inv_of_words (name ∷ []) = if bytes_eq name (codes "deq") then Some Deq else None
+queue_inv_of_words (name ∷ v ∷ []) = if bytes_eq name (codes "enq") then option_map Enq (number_of_word v) else None
+queue_inv_of_words _ = None
+
+-- the text of a response
+abbrev pub queue_resp_text : QueueResp → List ℕ
+queue_resp_text Added = codes "ok"
+queue_resp_text Full = codes "full"
+queue_resp_text (Taken v) = decimal v
+queue_resp_text Empty = codes "empty"
+
+-- what a drawn word stands for
+abbrev pub queue_inv_of_word : ℕ → QueueInv
+queue_inv_of_word word = if word % 3 == 0 then Deq else Enq (word / 3 % 1000)
+
+a_value_is_added : queue_next (4 ∷ []) (Enq 7) ≡ 4 ∷ 7 ∷ []
+a_value_is_added = refl
+
+a_full_queue_stays : queue_next (replicate 1000 4) (Enq 7) ≡ replicate 1000 4
+a_full_queue_stays = refl
+
+a_full_queue_says_so : queue_answer (replicate 1000 4) (Enq 7) ≡ Full
+a_full_queue_says_so = refl
+
+the_first_is_taken : queue_answer (4 ∷ 7 ∷ []) Deq ≡ Taken 4
+the_first_is_taken = refl
+
+an_empty_queue_says_so : queue_answer [] Deq ≡ Empty
+an_empty_queue_says_so = refl
+
+words_of_enq : queue_words (Enq 7) ≡ codes "enq" ∷ codes "7" ∷ []
+unfolding digits
+words_of_enq = refl
+
+drawn_22 : queue_inv_of_word 22 ≡ Enq 7
+drawn_22 = refl
+
+drawn_33 : queue_inv_of_word 33 ≡ Deq
+drawn_33 = refl

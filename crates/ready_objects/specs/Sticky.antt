@@ -1,0 +1,74 @@
+-- The sticky register: its state is its value, where that is settled.
+use Rattle.std.specs.Prelude.{◌≡◌, ℕ, ◌/◌, ◌%◌, ◌==◌, if◌then◌else◌, List, [], ◌∷◌, ◌++◌, Option, Some, None, option_map, codes, refl}
+use Rattle.std.specs.Fmt.{decimal, digits}
+use Rattle.std.specs.Str.{bytes_eq}
+use Rattle.seq_object.specs.History.{Call}
+use Rattle.ready_objects.specs.Number.{number_of_word}
+use Rattle.ready_objects.specs.declared.sticky.StickyInv.{StickyInv}
+use Rattle.ready_objects.specs.declared.sticky.StickyInv.TheVariants.{Stick, Read}
+use Rattle.ready_objects.specs.declared.sticky.StickyResp.{StickyResp}
+use Rattle.ready_objects.specs.declared.sticky.StickyResp.TheVariants.{Settled, Unset}
+
+-- the value after an invocation: the first that is proposed stays
+abbrev pub sticky_next : Option ℕ → StickyInv → Option ℕ
+sticky_next None (Stick v) = Some v
+sticky_next (Some w) (Stick v) = Some w
+sticky_next value Read = value
+
+-- the response to it: the value that is settled
+abbrev pub sticky_answer : Option ℕ → StickyInv → StickyResp
+sticky_answer (Some w) _ = Settled w
+sticky_answer None (Stick v) = Settled v
+sticky_answer None Read = Unset
+
+-- the words of an invocation
+abbrev pub sticky_words : StickyInv → List (List ℕ)
+sticky_words (Stick v) = codes "stick" ∷ decimal v ∷ []
+sticky_words Read = codes "read" ∷ []
+
+-- the invocation that words are
+abbrev pub sticky_inv_of_words : List (List ℕ) → Option StickyInv
+sticky_inv_of_words (name ∷ []) = if bytes_eq name (codes "read") then Some Read else None
+sticky_inv_of_words (name ∷ v ∷ []) = if bytes_eq name (codes "stick") then option_map Stick (number_of_word v) else None
+sticky_inv_of_words _ = None
+
+-- the text of a response
+abbrev pub sticky_resp_text : StickyResp → List ℕ
+sticky_resp_text (Settled v) = decimal v
+sticky_resp_text Unset = codes "unset"
+
+-- what a drawn word stands for
+abbrev pub sticky_inv_of_word : ℕ → StickyInv
+sticky_inv_of_word word = if word % 2 == 0 then Read else Stick (word / 2 % 1000)
+
+-- the reply to a call that proposes a value, where it is known
+abbrev pub stick_reply : StickyInv → Option StickyResp → List StickyResp
+stick_reply (Stick v) (Some reply) = reply ∷ []
+stick_reply _ _ = []
+
+-- the replies to the calls that propose a value
+abbrev pub stick_replies : List (Call StickyInv StickyResp) → List StickyResp
+stick_replies [] = []
+stick_replies (call ∷ calls) = stick_reply call.inv call.response ++ stick_replies calls
+
+the_first_value_stays : sticky_next (Some 5) (Stick 9) ≡ Some 5
+the_first_value_stays = refl
+
+a_later_proposal_is_told_the_first : sticky_answer (Some 5) (Stick 9) ≡ Settled 5
+a_later_proposal_is_told_the_first = refl
+
+a_first_proposal_is_told_its_own : sticky_answer None (Stick 5) ≡ Settled 5
+a_first_proposal_is_told_its_own = refl
+
+a_read_at_the_start_is_unset : sticky_answer None Read ≡ Unset
+a_read_at_the_start_is_unset = refl
+
+words_of_stick : sticky_words (Stick 9) ≡ codes "stick" ∷ codes "9" ∷ []
+unfolding digits
+words_of_stick = refl
+
+drawn_19 : sticky_inv_of_word 19 ≡ Stick 9
+drawn_19 = refl
+
+drawn_18 : sticky_inv_of_word 18 ≡ Read
+drawn_18 = refl

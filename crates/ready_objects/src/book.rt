@@ -1,0 +1,281 @@
+//! A book of sixteen accounts.
+
+ghost use Rattle.std.specs.Prelude.{◌≡◌, ℕ, ◌+◌, ◌≤◌, List, [], ◌∷◌, sum, length, refl};
+ghost use Rattle.std.proofs.Common.{ap, eqb-true, eq-eqb};
+ghost use Rattle.std.proofs.lemmas.Bool.{false≢true};
+ghost use Rattle.ready_objects.specs.declared.book.BookInv.TheVariants.{Deposit, Withdraw, Move, Total};
+ghost use Rattle.ready_objects.specs.declared.book.BookResp.TheVariants.{Balance, Over, Short, Moved, Sum};
+ghost use Rattle.ready_objects.specs.Exact.{exact_from, itself_two, itself_three, only_two, only_three};
+ghost use Rattle.ready_objects.specs.Book.{book_start, book_next, book_answer, book_words, book_inv_of_words, book_resp_text, book_inv_of_word, HasAccounts, added_by, taken_by, total_added, total_taken};
+ghost use Rattle.std.specs.List.{All};
+ghost use Rattle.seq_object.specs.History.{state_after};
+ghost use Rattle.ready_objects.specs.declared.book.BookInv.{BookInv};
+
+use crate::account::Account;
+use crate::number::Amount;
+use crate::spoken::{Spoken, is_text};
+use seq_object::SeqObject;
+use std::alloc::{AllocError, Global};
+use std::marker::Model;
+
+/// A book of sixteen accounts. All balances are 0 at the start, and none is ever above
+/// 999,999,999,999.
+#[derive(Clone, Copy, Debug)]
+pub struct BookObject;
+
+/// The sixteen balances of a book, by account.
+#[derive(Clone, Copy, Debug)]
+pub struct BookState {
+    balances: [Amount; 16],
+}
+
+impl Model for BookState {
+    ghost use Rattle.std.specs.Prelude.{ℕ, List};
+
+    ghost Value = { List ℕ };
+
+    ghost view = { λ state. state.balances };
+
+    ghost inverse = { λ balances. record { balances = balances } };
+}
+
+/// An invocation of the book.
+#[derive(Clone, Copy, Debug, PartialEq, Eq)]
+pub enum BookInv {
+    /// Puts an amount into an account.
+    Deposit(Account, Amount),
+    /// Takes an amount out of an account.
+    Withdraw(Account, Amount),
+    /// Takes an amount out of the first account, and puts it into the second.
+    Move(Account, Account, Amount),
+    /// Asks for the sum of the balances.
+    Total,
+}
+
+/// A response of the book.
+#[derive(Clone, Copy, Debug, PartialEq, Eq)]
+pub enum BookResp {
+    /// The balance after an accepted deposit or withdrawal.
+    Balance(Amount),
+    /// A balance would be above 999,999,999,999, and the book stays as it is.
+    Over,
+    /// The balance is below the amount, and the book stays as it is.
+    Short,
+    /// The amount went from the one account to the other.
+    Moved,
+    /// The sum of the sixteen balances.
+    Sum(u64),
+}
+
+impl BookState {
+    /// The balances after a deposit, and the response.
+    fn deposit(mut self, account: Account, amount: Amount) -> (BookState, BookResp)
+        ensures balances { result.0 ≡ book_next self (BookInv.Deposit account amount) }
+        ensures response { result.1 ≡ book_answer self (BookInv.Deposit account amount) }
+    {
+        let place = account.number();
+        let Some(balance) = self.balances[place].checked_add(amount) else {
+            return (self, BookResp::Over);
+        };
+        self.balances[place] = balance;
+        (self, BookResp::Balance(balance))
+    }
+
+    /// The balances after a withdrawal, and the response.
+    fn withdraw(mut self, account: Account, amount: Amount) -> (BookState, BookResp)
+        ensures balances { result.0 ≡ book_next self (BookInv.Withdraw account amount) }
+        ensures response { result.1 ≡ book_answer self (BookInv.Withdraw account amount) }
+    {
+        let place = account.number();
+        let Some(balance) = self.balances[place].checked_sub(amount) else {
+            return (self, BookResp::Short);
+        };
+        self.balances[place] = balance;
+        (self, BookResp::Balance(balance))
+    }
+
+    /// The balances after an amount goes from the one account to the other, and the response.
+    fn transfer(mut self, from: Account, to: Account, amount: Amount) -> (BookState, BookResp)
+        ensures balances { result.0 ≡ book_next self (BookInv.Move from to amount) }
+        ensures response { result.1 ≡ book_answer self (BookInv.Move from to amount) }
+    {
+        let (source, target) = (from.number(), to.number());
+        let Some(left) = self.balances[source].checked_sub(amount) else {
+            return (self, BookResp::Short);
+        };
+        if source == target {
+            return (self, BookResp::Moved);
+        }
+        let Some(grown) = self.balances[target].checked_add(amount) else {
+            return (self, BookResp::Over);
+        };
+        self.balances[source] = left;
+        self.balances[target] = grown;
+        (self, BookResp::Moved)
+    }
+}
+
+impl SeqObject for BookObject {
+    type State = BookState;
+
+    type Inv = BookInv;
+
+    type Resp = BookResp;
+
+    ghost initial = { λ _. book_start };
+
+    ghost next = { λ _. book_next };
+
+    ghost answer = { λ _. book_answer };
+
+    fn start(&self, _alloc: Global) -> Result<BookState, AllocError> {
+        Ok(BookState {
+            balances: [Amount::ZERO; 16],
+        })
+    }
+
+    fn apply(
+        &self,
+        _alloc: Global,
+        state: &BookState,
+        inv: &BookInv,
+    ) -> Result<(BookState, BookResp), AllocError> {
+        Ok(match *inv {
+            BookInv::Deposit(account, amount) => state.deposit(account, amount),
+            BookInv::Withdraw(account, amount) => state.withdraw(account, amount),
+            BookInv::Move(from, to, amount) => state.transfer(from, to, amount),
+            BookInv::Total => (*state, BookResp::Sum(total(&state.balances))),
+        })
+    }
+
+    fn copy_inv(_alloc: Global, inv: &BookInv) -> Result<BookInv, AllocError> {
+        Ok(*inv)
+    }
+
+    ghost same_inv = { exact_from _
+        (elim [ Deposit a b ↦ itself_two a b | Withdraw a b ↦ itself_two a b | Move a b c ↦ itself_three a b c | Total ↦ refl ])
+        (elim [
+          | Deposit a b ↦ elim [ Deposit x y ↦ λ e. only_two Deposit a b x y e | Withdraw x y ↦ λ e. absurd (false≢true e) | Move x y z ↦ λ e. absurd (false≢true e) | Total ↦ λ e. absurd (false≢true e) ]
+          | Withdraw a b ↦ elim [ Deposit x y ↦ λ e. absurd (false≢true e) | Withdraw x y ↦ λ e. only_two Withdraw a b x y e | Move x y z ↦ λ e. absurd (false≢true e) | Total ↦ λ e. absurd (false≢true e) ]
+          | Move a b c ↦ elim [ Deposit x y ↦ λ e. absurd (false≢true e) | Withdraw x y ↦ λ e. absurd (false≢true e) | Move x y z ↦ λ e. only_three Move a b c x y z e | Total ↦ λ e. absurd (false≢true e) ]
+          | Total ↦ elim [ Deposit x y ↦ λ e. absurd (false≢true e) | Withdraw x y ↦ λ e. absurd (false≢true e) | Move x y z ↦ λ e. absurd (false≢true e) | Total ↦ λ e. refl ]
+        ]) };
+
+    ghost same_resp = { exact_from _
+        (elim [ Balance a ↦ eq-eqb a a refl | Over ↦ refl | Short ↦ refl | Moved ↦ refl | Sum a ↦ eq-eqb a a refl ])
+        (elim [
+          | Balance a ↦ elim [ Balance x ↦ λ e. ap Balance (eqb-true a x e) | Over ↦ λ e. absurd (false≢true e) | Short ↦ λ e. absurd (false≢true e) | Moved ↦ λ e. absurd (false≢true e) | Sum x ↦ λ e. absurd (false≢true e) ]
+          | Over ↦ elim [ Balance x ↦ λ e. absurd (false≢true e) | Over ↦ λ e. refl | Short ↦ λ e. absurd (false≢true e) | Moved ↦ λ e. absurd (false≢true e) | Sum x ↦ λ e. absurd (false≢true e) ]
+          | Short ↦ elim [ Balance x ↦ λ e. absurd (false≢true e) | Over ↦ λ e. absurd (false≢true e) | Short ↦ λ e. refl | Moved ↦ λ e. absurd (false≢true e) | Sum x ↦ λ e. absurd (false≢true e) ]
+          | Moved ↦ elim [ Balance x ↦ λ e. absurd (false≢true e) | Over ↦ λ e. absurd (false≢true e) | Short ↦ λ e. absurd (false≢true e) | Moved ↦ λ e. refl | Sum x ↦ λ e. absurd (false≢true e) ]
+          | Sum a ↦ elim [ Balance x ↦ λ e. absurd (false≢true e) | Over ↦ λ e. absurd (false≢true e) | Short ↦ λ e. absurd (false≢true e) | Moved ↦ λ e. absurd (false≢true e) | Sum x ↦ λ e. ap Sum (eqb-true a x e) ]
+        ]) };
+}
+
+impl Spoken for BookObject {
+    ghost inv_words = { book_words };
+
+    ghost inv_of_words = { book_inv_of_words };
+
+    ghost resp_bytes = { book_resp_text };
+
+    ghost inv_of_word = { book_inv_of_word };
+
+    fn read_inv(words: &[&[u8]]) -> Option<BookInv> {
+        match words {
+            [name] if is_text(name, "total") => Some(BookInv::Total),
+            [name, account, amount] => read_at_account(name, account, amount),
+            [name, from, to, amount] if is_text(name, "move") => Some(BookInv::Move(
+                Account::read(from)?,
+                Account::read(to)?,
+                Amount::read(amount)?,
+            )),
+            _ => None,
+        }
+    }
+
+    fn inv_text(alloc: Global, inv: &BookInv) -> Result<Vec<u8>, AllocError> {
+        let text = match inv {
+            BookInv::Deposit(account, amount) => format!(in alloc; "deposit {account} {amount}")?,
+            BookInv::Withdraw(account, amount) => format!(in alloc; "withdraw {account} {amount}")?,
+            BookInv::Move(from, to, amount) => format!(in alloc; "move {from} {to} {amount}")?,
+            BookInv::Total => String::from_str(alloc, "total")?,
+        };
+        Ok(text.into_bytes())
+    }
+
+    fn resp_text(alloc: Global, resp: BookResp) -> Result<Vec<u8>, AllocError> {
+        let text = match resp {
+            BookResp::Balance(balance) => format!(in alloc; "{balance}")?,
+            BookResp::Over => String::from_str(alloc, "over")?,
+            BookResp::Short => String::from_str(alloc, "short")?,
+            BookResp::Moved => String::from_str(alloc, "moved")?,
+            BookResp::Sum(total) => format!(in alloc; "{total}")?,
+        };
+        Ok(text.into_bytes())
+    }
+
+    fn drawn(word: u64) -> BookInv {
+        let account = Account::below_sixteen(word / 4);
+        let amount = Amount::below_thousand(word / 1024);
+        match word % 4 {
+            0 => BookInv::Deposit(account, amount),
+            1 => BookInv::Withdraw(account, amount),
+            2 => BookInv::Move(account, Account::below_sixteen(word / 64), amount),
+            _ => BookInv::Total,
+        }
+    }
+
+    fn reads_back(inv: &BookInv) {
+        match *inv {
+            BookInv::Deposit(account, amount) => {
+                let _ = (account.number(), amount.number());
+            }
+            BookInv::Withdraw(account, amount) => {
+                let _ = (account.number(), amount.number());
+            }
+            BookInv::Move(from, to, amount) => {
+                let _ = (from.number(), to.number(), amount.number());
+            }
+            BookInv::Total => {}
+        }
+    }
+}
+
+/// The sum of the balances.
+fn total(balances: &[Amount]) -> u64
+    requires { length balances.now ≤ 16 }
+    ensures { result ≡ sum balances.now }
+{
+    let mut total = 0;
+    for balance in balances {
+        total += balance.number();
+    }
+    total
+}
+
+/// Reads a deposit or a withdrawal from its three words.
+fn read_at_account(name: &[u8], account: &[u8], amount: &[u8]) -> Option<BookInv>
+    ensures { result ≡ book_inv_of_words (name.now ∷ account.now ∷ amount.now ∷ []) }
+{
+    if is_text(name, "deposit") {
+        Some(BookInv::Deposit(Account::read(account)?, Amount::read(amount)?))
+    } else if is_text(name, "withdraw") {
+        Some(BookInv::Withdraw(Account::read(account)?, Amount::read(amount)?))
+    } else {
+        None
+    }
+}
+
+/// Every call keeps the law of conservation: the sum of the balances is what accepted deposits
+/// added less what accepted withdrawals took, and a move leaves it as it is. No balance is above
+/// the greatest amount. The call does nothing: it tells what holds of each list of invocations.
+pub fn book_is_conserved()
+    ensures each_call { (balances : List ℕ) (inv : BookInv) → length balances ≡ 16 → HasAccounts inv
+        → sum (book_next balances inv) + taken_by inv (book_answer balances inv) ≡ sum balances + added_by inv (book_answer balances inv) }
+    ensures moves { (balances : List ℕ) (a b v : ℕ) → length balances ≡ 16 → HasAccounts (BookInv.Move a b v)
+        → sum (book_next balances (BookInv.Move a b v)) ≡ sum balances }
+    ensures all_calls { (invs : List BookInv) → All HasAccounts invs
+        → sum (state_after book_next book_start invs) + total_taken book_start invs ≡ total_added book_start invs }
+    ensures bounded { (invs : List BookInv) → All (λ balance. balance ≤ 999999999999) (state_after book_next book_start invs) }
+{}

@@ -1,0 +1,295 @@
+//! A directory of at most 256 names, in order of insertion.
+
+ghost use Rattle.std.specs.Prelude.{◌≡◌, ◌++◌, [], ◌∷◌, IfOk, OnOk, OnErr, refl};
+ghost use Rattle.std.proofs.Common.{ap, eqb-true, eq-eqb};
+ghost use Rattle.std.proofs.lemmas.Bool.{false≢true};
+ghost use Rattle.std.specs.Cmp.Lexicographic.{bytes_decides};
+ghost use Rattle.ready_objects.specs.Exact.{exact_from, itself_named, only_named};
+ghost use Rattle.ready_objects.specs.declared.directory.DirectoryInv.TheVariants.{Put, Get, Del, Size, At};
+ghost use Rattle.ready_objects.specs.declared.directory.DirectoryResp.TheVariants.{Was, New, Full, Found, Absent, Count};
+ghost use Rattle.ready_objects.specs.Directory.{directory_next, directory_answer, directory_words, directory_inv_of_words, directory_resp_text, directory_inv_of_word};
+
+use crate::name::Name;
+use crate::number::Amount;
+use crate::place::Place;
+use crate::spoken::{Spoken, is_text};
+use indexmap::IndexMap;
+use seq_object::SeqObject;
+use std::alloc::{AllocError, Global};
+use std::marker::Model;
+
+/// A directory of at most 256 names, in order of insertion. It starts empty.
+#[derive(Clone, Copy, Debug)]
+pub struct DirectoryObject;
+
+/// The pairs of a directory, in order of insertion.
+#[derive(Drop)]
+pub struct DirectoryState {
+    pairs: IndexMap<Name, Amount>,
+}
+
+impl Model for DirectoryState {
+    ghost use Rattle.std.specs.Prelude.{ℕ, List};
+
+    ghost Value = { List (List ℕ × ℕ) };
+
+    ghost view = { λ state. state.pairs.entries };
+}
+
+/// An invocation of the directory.
+#[derive(Debug, Drop, PartialEq, Eq)]
+pub enum DirectoryInv {
+    /// Gives a name a value.
+    Put(Name, Amount),
+    /// Asks for the value of a name.
+    Get(Name),
+    /// Takes out a name.
+    Del(Name),
+    /// Asks for the number of pairs.
+    Size,
+    /// Asks for the value at a place.
+    At(Place),
+}
+
+/// A response of the directory.
+#[derive(Clone, Copy, Debug, PartialEq, Eq)]
+pub enum DirectoryResp {
+    /// The name was there, with this value.
+    Was(Amount),
+    /// The name is new, and its pair went last.
+    New,
+    /// There are 256 names and this isn't one of them, and the directory stays as it is.
+    Full,
+    /// The value.
+    Found(Amount),
+    /// There is no such name, or no such place.
+    Absent,
+    /// The number of pairs.
+    Count(u64),
+}
+
+impl DirectoryState {
+    /// A copy of the pairs.
+    fn copy(&self) -> Result<DirectoryState, AllocError>
+        ensures { IfOk result (λ copy. copy ≡ self.now) }
+    {
+        Ok(DirectoryState {
+            pairs: self.pairs.clone()?,
+        })
+    }
+
+    /// Gives a name a value.
+    fn put(&mut self, name: &Name, value: Amount) -> Result<DirectoryResp, AllocError>
+        ensures pairs { OnOk result (self.new ≡ directory_next self.old (DirectoryInv.Put name.now value)) }
+        ensures response { IfOk result (λ resp. resp ≡ directory_answer self.old (DirectoryInv.Put name.now value)) }
+        ensures err { OnErr result (self.new ≡ self.old) }
+    {
+        if self.pairs.len() >= 256 && !self.pairs.contains_key(name) {
+            return Ok(DirectoryResp::Full);
+        }
+        Ok(match self.pairs.insert(name.clone()?, value)? {
+            Some(before) => DirectoryResp::Was(before),
+            None => DirectoryResp::New,
+        })
+    }
+
+    /// Takes out a name.
+    fn del(&mut self, name: &Name) -> DirectoryResp
+        ensures pairs { self.new ≡ directory_next self.old (DirectoryInv.Del name.now) }
+        ensures response { result ≡ directory_answer self.old (DirectoryInv.Del name.now) }
+    {
+        match self.pairs.shift_remove(name) {
+            Some(value) => DirectoryResp::Found(value),
+            None => DirectoryResp::Absent,
+        }
+    }
+
+    /// The value of a name.
+    fn get(&self, name: &Name) -> DirectoryResp
+        ensures { result ≡ directory_answer self.now (DirectoryInv.Get name.now) }
+    {
+        match self.pairs.get(name) {
+            Some(value) => DirectoryResp::Found(*value),
+            None => DirectoryResp::Absent,
+        }
+    }
+
+    /// The value at a place.
+    fn at(&self, place: Place) -> DirectoryResp
+        ensures { result ≡ directory_answer self.now (DirectoryInv.At place) }
+    {
+        match self.pairs.get_index(place.number()) {
+            Some((_, value)) => DirectoryResp::Found(*value),
+            None => DirectoryResp::Absent,
+        }
+    }
+}
+
+impl SeqObject for DirectoryObject {
+    type State = DirectoryState;
+
+    type Inv = DirectoryInv;
+
+    type Resp = DirectoryResp;
+
+    ghost initial = { λ _. [] };
+
+    ghost next = { λ _. directory_next };
+
+    ghost answer = { λ _. directory_answer };
+
+    fn start(&self, alloc: Global) -> Result<DirectoryState, AllocError> {
+        Ok(DirectoryState {
+            pairs: IndexMap::new(alloc),
+        })
+    }
+
+    fn apply(
+        &self,
+        _alloc: Global,
+        state: &DirectoryState,
+        inv: &DirectoryInv,
+    ) -> Result<(DirectoryState, DirectoryResp), AllocError> {
+        let mut next = state.copy()?;
+        let resp = match inv {
+            DirectoryInv::Put(name, value) => next.put(name, *value)?,
+            DirectoryInv::Get(name) => next.get(name),
+            DirectoryInv::Del(name) => next.del(name),
+            DirectoryInv::Size => DirectoryResp::Count(next.pairs.len() as u64),
+            DirectoryInv::At(place) => next.at(*place),
+        };
+        Ok((next, resp))
+    }
+
+    fn copy_inv(_alloc: Global, inv: &DirectoryInv) -> Result<DirectoryInv, AllocError> {
+        Ok(match inv {
+            DirectoryInv::Put(name, value) => DirectoryInv::Put(name.clone()?, *value),
+            DirectoryInv::Get(name) => DirectoryInv::Get(name.clone()?),
+            DirectoryInv::Del(name) => DirectoryInv::Del(name.clone()?),
+            DirectoryInv::Size => DirectoryInv::Size,
+            DirectoryInv::At(place) => DirectoryInv::At(*place),
+        })
+    }
+
+    ghost same_inv = { exact_from _
+        (elim [ Put a v ↦ itself_named a v | Get a ↦ (bytes_decides a a).1 refl | Del a ↦ (bytes_decides a a).1 refl | Size ↦ refl | At v ↦ eq-eqb v v refl ])
+        (elim [
+          | Put a v ↦ elim [ Put b w ↦ λ e. only_named Put a v b w e | Get b ↦ λ e. absurd (false≢true e) | Del b ↦ λ e. absurd (false≢true e) | Size ↦ λ e. absurd (false≢true e) | At w ↦ λ e. absurd (false≢true e) ]
+          | Get a ↦ elim [ Put b w ↦ λ e. absurd (false≢true e) | Get b ↦ λ e. ap Get ((bytes_decides a b).0 e) | Del b ↦ λ e. absurd (false≢true e) | Size ↦ λ e. absurd (false≢true e) | At w ↦ λ e. absurd (false≢true e) ]
+          | Del a ↦ elim [ Put b w ↦ λ e. absurd (false≢true e) | Get b ↦ λ e. absurd (false≢true e) | Del b ↦ λ e. ap Del ((bytes_decides a b).0 e) | Size ↦ λ e. absurd (false≢true e) | At w ↦ λ e. absurd (false≢true e) ]
+          | Size ↦ elim [ Put b w ↦ λ e. absurd (false≢true e) | Get b ↦ λ e. absurd (false≢true e) | Del b ↦ λ e. absurd (false≢true e) | Size ↦ λ e. refl | At w ↦ λ e. absurd (false≢true e) ]
+          | At v ↦ elim [ Put b w ↦ λ e. absurd (false≢true e) | Get b ↦ λ e. absurd (false≢true e) | Del b ↦ λ e. absurd (false≢true e) | Size ↦ λ e. absurd (false≢true e) | At w ↦ λ e. ap At (eqb-true v w e) ]
+        ]) };
+
+    ghost same_resp = { exact_from _
+        (elim [ Was v ↦ eq-eqb v v refl | New ↦ refl | Full ↦ refl | Found v ↦ eq-eqb v v refl | Absent ↦ refl | Count v ↦ eq-eqb v v refl ])
+        (elim [
+          | Was v ↦ elim [ Was w ↦ λ e. ap Was (eqb-true v w e) | New ↦ λ e. absurd (false≢true e) | Full ↦ λ e. absurd (false≢true e) | Found w ↦ λ e. absurd (false≢true e) | Absent ↦ λ e. absurd (false≢true e) | Count w ↦ λ e. absurd (false≢true e) ]
+          | New ↦ elim [ Was w ↦ λ e. absurd (false≢true e) | New ↦ λ e. refl | Full ↦ λ e. absurd (false≢true e) | Found w ↦ λ e. absurd (false≢true e) | Absent ↦ λ e. absurd (false≢true e) | Count w ↦ λ e. absurd (false≢true e) ]
+          | Full ↦ elim [ Was w ↦ λ e. absurd (false≢true e) | New ↦ λ e. absurd (false≢true e) | Full ↦ λ e. refl | Found w ↦ λ e. absurd (false≢true e) | Absent ↦ λ e. absurd (false≢true e) | Count w ↦ λ e. absurd (false≢true e) ]
+          | Found v ↦ elim [ Was w ↦ λ e. absurd (false≢true e) | New ↦ λ e. absurd (false≢true e) | Full ↦ λ e. absurd (false≢true e) | Found w ↦ λ e. ap Found (eqb-true v w e) | Absent ↦ λ e. absurd (false≢true e) | Count w ↦ λ e. absurd (false≢true e) ]
+          | Absent ↦ elim [ Was w ↦ λ e. absurd (false≢true e) | New ↦ λ e. absurd (false≢true e) | Full ↦ λ e. absurd (false≢true e) | Found w ↦ λ e. absurd (false≢true e) | Absent ↦ λ e. refl | Count w ↦ λ e. absurd (false≢true e) ]
+          | Count v ↦ elim [ Was w ↦ λ e. absurd (false≢true e) | New ↦ λ e. absurd (false≢true e) | Full ↦ λ e. absurd (false≢true e) | Found w ↦ λ e. absurd (false≢true e) | Absent ↦ λ e. absurd (false≢true e) | Count w ↦ λ e. ap Count (eqb-true v w e) ]
+        ]) };
+}
+
+impl Spoken for DirectoryObject {
+    ghost inv_words = { directory_words };
+
+    ghost inv_of_words = { directory_inv_of_words };
+
+    ghost resp_bytes = { directory_resp_text };
+
+    ghost inv_of_word = { directory_inv_of_word };
+
+    fn read_inv(words: &[&[u8]]) -> Option<DirectoryInv> {
+        match words {
+            [operation] if is_text(operation, "size") => Some(DirectoryInv::Size),
+            [operation, word] => read_at(operation, word),
+            [operation, name, value] if is_text(operation, "put") => {
+                Some(DirectoryInv::Put(Name::read(name)?, Amount::read(value)?))
+            }
+            _ => None,
+        }
+    }
+
+    fn inv_text(alloc: Global, inv: &DirectoryInv) -> Result<Vec<u8>, AllocError> {
+        match inv {
+            DirectoryInv::Put(name, value) => {
+                let mut text = with_name(alloc, "put", name)?;
+                text.extend_from_slice(format!(in alloc; " {value}")?.as_bytes())?;
+                Ok(text)
+            }
+            DirectoryInv::Get(name) => with_name(alloc, "get", name),
+            DirectoryInv::Del(name) => with_name(alloc, "del", name),
+            DirectoryInv::Size => Vec::from_slice(alloc, b"size"),
+            DirectoryInv::At(place) => Ok(format!(in alloc; "at {place}")?.into_bytes()),
+        }
+    }
+
+    fn resp_text(alloc: Global, resp: DirectoryResp) -> Result<Vec<u8>, AllocError> {
+        let text = match resp {
+            DirectoryResp::Was(value) => format!(in alloc; "was {value}")?,
+            DirectoryResp::New => String::from_str(alloc, "new")?,
+            DirectoryResp::Full => String::from_str(alloc, "full")?,
+            DirectoryResp::Found(value) => format!(in alloc; "{value}")?,
+            DirectoryResp::Absent => String::from_str(alloc, "none")?,
+            DirectoryResp::Count(count) => format!(in alloc; "{count}")?,
+        };
+        Ok(text.into_bytes())
+    }
+
+    fn drawn(word: u64) -> DirectoryInv {
+        match word % 8 {
+            0..=2 => DirectoryInv::Put(Name::drawn(word / 8), Amount::below_thousand(word / 80)),
+            3 | 4 => DirectoryInv::Get(Name::drawn(word / 8)),
+            5 => DirectoryInv::Del(Name::drawn(word / 8)),
+            6 => DirectoryInv::Size,
+            _ => DirectoryInv::At(Place::below_ten(word / 8)),
+        }
+    }
+
+    fn reads_back(inv: &DirectoryInv) {
+        match inv {
+            DirectoryInv::Put(name, value) => {
+                let _ = name.as_bytes();
+                let _ = value.number();
+            }
+            DirectoryInv::Get(name) => {
+                let _ = name.as_bytes();
+            }
+            DirectoryInv::Del(name) => {
+                let _ = name.as_bytes();
+            }
+            DirectoryInv::Size => {}
+            DirectoryInv::At(place) => {
+                let _ = place.number();
+            }
+        }
+    }
+}
+
+/// Reads an invocation of two words.
+fn read_at(operation: &[u8], word: &[u8]) -> Option<DirectoryInv>
+    ensures { result ≡ directory_inv_of_words (operation.now ∷ word.now ∷ []) }
+{
+    if is_text(operation, "get") {
+        Some(DirectoryInv::Get(Name::read(word)?))
+    } else if is_text(operation, "del") {
+        Some(DirectoryInv::Del(Name::read(word)?))
+    } else if is_text(operation, "at") {
+        Some(DirectoryInv::At(Place::read(word)?))
+    } else {
+        None
+    }
+}
+
+/// An operation and a name, with a space between.
+fn with_name(alloc: Global, operation: &str, name: &Name) -> Result<Vec<u8>, AllocError>
+    ensures { IfOk result (λ text. text.items ≡ operation.now ++ (32 ∷ name.now)) }
+{
+    let mut text = Vec::from_slice(alloc, operation.as_bytes())?;
+    text.push(b' ')?;
+    text.extend_from_slice(name.as_bytes())?;
+    Ok(text)
+}

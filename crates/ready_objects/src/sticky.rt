@@ -1,0 +1,161 @@
+//! A register that keeps the first value that is proposed to it.
+
+ghost use Rattle.std.specs.Prelude.{◌≡◌, ℕ, List, None, refl};
+ghost use Rattle.std.specs.List.{All};
+ghost use Rattle.std.proofs.Common.{ap, eqb-true, eq-eqb};
+ghost use Rattle.std.proofs.lemmas.Bool.{false≢true};
+ghost use Rattle.seq_object.specs.History.{Call, IsLegal};
+ghost use Rattle.ready_objects.specs.declared.sticky.StickyInv.{StickyInv};
+ghost use Rattle.ready_objects.specs.declared.sticky.StickyInv.TheVariants.{Stick, Read};
+ghost use Rattle.ready_objects.specs.declared.sticky.StickyResp.{StickyResp};
+ghost use Rattle.ready_objects.specs.declared.sticky.StickyResp.TheVariants.{Settled, Unset};
+ghost use Rattle.ready_objects.specs.Exact.{exact_from};
+ghost use Rattle.ready_objects.specs.Sticky.{sticky_next, sticky_answer, sticky_words, sticky_inv_of_words, sticky_resp_text, sticky_inv_of_word, stick_replies};
+
+use crate::number::Amount;
+use crate::spoken::{Spoken, is_text};
+use seq_object::SeqObject;
+use std::alloc::{AllocError, Global};
+use std::marker::Model;
+
+/// A register that keeps the first value that is proposed to it. It starts unset.
+#[derive(Clone, Copy, Debug)]
+pub struct StickyObject;
+
+/// The value of the register, where it is settled.
+#[derive(Clone, Copy, Debug)]
+pub struct StickyState {
+    value: Option<Amount>,
+}
+
+impl Model for StickyState {
+    ghost use Rattle.std.specs.Prelude.{ℕ, Option};
+
+    ghost Value = { Option ℕ };
+
+    ghost view = { λ state. state.value };
+
+    ghost inverse = { λ value. record { value = value } };
+}
+
+/// An invocation of the register.
+#[derive(Clone, Copy, Debug, PartialEq, Eq)]
+pub enum StickyInv {
+    /// Proposes a value.
+    Stick(Amount),
+    /// Asks for the value.
+    Read,
+}
+
+/// A response of the register.
+#[derive(Clone, Copy, Debug, PartialEq, Eq)]
+pub enum StickyResp {
+    /// The value that is settled.
+    Settled(Amount),
+    /// No value is settled.
+    Unset,
+}
+
+impl SeqObject for StickyObject {
+    type State = StickyState;
+
+    type Inv = StickyInv;
+
+    type Resp = StickyResp;
+
+    ghost initial = { λ _. None };
+
+    ghost next = { λ _. sticky_next };
+
+    ghost answer = { λ _. sticky_answer };
+
+    fn start(&self, _alloc: Global) -> Result<StickyState, AllocError> {
+        Ok(StickyState { value: None })
+    }
+
+    fn apply(
+        &self,
+        _alloc: Global,
+        state: &StickyState,
+        inv: &StickyInv,
+    ) -> Result<(StickyState, StickyResp), AllocError> {
+        let (value, resp) = match (state.value, *inv) {
+            (Some(settled), _) => (Some(settled), StickyResp::Settled(settled)),
+            (None, StickyInv::Stick(proposed)) => (Some(proposed), StickyResp::Settled(proposed)),
+            (None, StickyInv::Read) => (None, StickyResp::Unset),
+        };
+        Ok((StickyState { value }, resp))
+    }
+
+    fn copy_inv(_alloc: Global, inv: &StickyInv) -> Result<StickyInv, AllocError> {
+        Ok(*inv)
+    }
+
+    ghost same_inv = { exact_from _
+        (elim [ Stick v ↦ eq-eqb v v refl | Read ↦ refl ])
+        (elim [
+          | Stick v ↦ elim [ Stick w ↦ λ e. ap Stick (eqb-true v w e) | Read ↦ λ e. absurd (false≢true e) ]
+          | Read ↦ elim [ Stick w ↦ λ e. absurd (false≢true e) | Read ↦ λ e. refl ]
+        ]) };
+
+    ghost same_resp = { exact_from _
+        (elim [ Settled v ↦ eq-eqb v v refl | Unset ↦ refl ])
+        (elim [
+          | Settled v ↦ elim [ Settled w ↦ λ e. ap Settled (eqb-true v w e) | Unset ↦ λ e. absurd (false≢true e) ]
+          | Unset ↦ elim [ Settled w ↦ λ e. absurd (false≢true e) | Unset ↦ λ e. refl ]
+        ]) };
+}
+
+impl Spoken for StickyObject {
+    ghost inv_words = { sticky_words };
+
+    ghost inv_of_words = { sticky_inv_of_words };
+
+    ghost resp_bytes = { sticky_resp_text };
+
+    ghost inv_of_word = { sticky_inv_of_word };
+
+    fn read_inv(words: &[&[u8]]) -> Option<StickyInv> {
+        match words {
+            [name] if is_text(name, "read") => Some(StickyInv::Read),
+            [name, value] if is_text(name, "stick") => Some(StickyInv::Stick(Amount::read(value)?)),
+            _ => None,
+        }
+    }
+
+    fn inv_text(alloc: Global, inv: &StickyInv) -> Result<Vec<u8>, AllocError> {
+        let text = match inv {
+            StickyInv::Stick(value) => format!(in alloc; "stick {value}")?,
+            StickyInv::Read => String::from_str(alloc, "read")?,
+        };
+        Ok(text.into_bytes())
+    }
+
+    fn resp_text(alloc: Global, resp: StickyResp) -> Result<Vec<u8>, AllocError> {
+        let text = match resp {
+            StickyResp::Settled(value) => format!(in alloc; "{value}")?,
+            StickyResp::Unset => String::from_str(alloc, "unset")?,
+        };
+        Ok(text.into_bytes())
+    }
+
+    fn drawn(word: u64) -> StickyInv {
+        match word % 2 {
+            0 => StickyInv::Read,
+            _ => StickyInv::Stick(Amount::below_thousand(word / 2)),
+        }
+    }
+
+    fn reads_back(inv: &StickyInv) {
+        if let StickyInv::Stick(value) = inv {
+            let _ = value.number();
+        }
+    }
+}
+
+/// The replies to all proposals of a legal history from the start are one value. The call does
+/// nothing: it tells what holds of each history.
+pub fn proposals_agree()
+    ensures { (calls : List (Call StickyInv StickyResp)) → IsLegal sticky_next sticky_answer None calls
+        → (v : ℕ) × All (λ reply. reply ≡ Settled v) (stick_replies calls) }
+{}

@@ -1,0 +1,269 @@
+//! Runs by the text of invocations and responses.
+
+use super::*;
+use seq_object::SeqObject;
+use std::alloc::Global;
+use std::process::Abort;
+use std::test::Fail;
+
+/// What a line's words are read as.
+fn read<O: Spoken>(alloc: Global, line: &str) -> Result<Option<O::Inv>, Fail> {
+    let mut words = Vec::new(alloc);
+    for word in line.as_bytes().split(|byte| *byte == b' ') {
+        words.push(word)?;
+    }
+    Ok(O::read_inv(&words))
+}
+
+/// Applies each line's invocation to the state that the one before left, and compares the replies.
+fn plays<O: Spoken>(
+    rt: &impl Abort,
+    alloc: Global,
+    object: &O,
+    start: O::State,
+    lines: &[(&str, &str)],
+) -> Result<O::State, Fail> {
+    let mut state = start;
+    for (line, reply) in lines {
+        let inv = read::<O>(alloc, line)?.ok_or("no invocation")?;
+        let copy = O::copy_inv(alloc, &inv)?;
+        O::reads_back(&inv);
+        assert!(rt; copy == inv, "{line}");
+        assert_eq!(rt;
+            O::inv_text(alloc, &inv)?.as_slice(),
+            line.as_bytes(),
+            "{line}"
+        );
+        let (next, resp) = object.apply(alloc, &state, &inv)?;
+        assert_eq!(rt;
+            O::resp_text(alloc, resp)?.as_slice(),
+            reply.as_bytes(),
+            "{line}"
+        );
+        state = next;
+    }
+    Ok(state)
+}
+
+/// Each of these lines is no invocation.
+fn refuses<O: Spoken>(rt: &impl Abort, alloc: Global, lines: &[&str]) -> Result<(), Fail> {
+    for line in lines {
+        assert!(rt; read::<O>(alloc, line)?.is_none(), "{line}");
+    }
+    Ok(())
+}
+
+/// Each drawn word stands for the invocation with this text.
+fn draws<O: Spoken>(rt: &impl Abort, alloc: Global, words: &[(u64, &str)]) -> Result<(), Fail> {
+    for (word, line) in words {
+        let text = O::inv_text(alloc, &O::drawn(*word))?;
+        assert_eq!(rt; text.as_slice(), line.as_bytes(), "{word}");
+    }
+    Ok(())
+}
+
+#[test]
+fn queue(rt: HostRuntime) -> Result<(), Fail> {
+    let (alloc, object) = (rt.alloc(), QueueObject);
+    let start = object.start(alloc)?;
+    let lines = [
+        ("deq", "empty"),
+        ("enq 7", "ok"),
+        ("enq 0", "ok"),
+        ("enq 999999999999", "ok"),
+        ("deq", "7"),
+        ("deq", "0"),
+        ("deq", "999999999999"),
+        ("deq", "empty"),
+    ];
+    let mut state = plays(&rt, alloc, &object, start, &lines)?;
+    for number in 0..1000 {
+        let value = Amount::new(number).ok_or("no amount")?;
+        state = object.apply(alloc, &state, &QueueInv::Enq(value))?.0;
+    }
+    let full = [
+        ("enq 1", "full"),
+        ("deq", "0"),
+        ("enq 1", "ok"),
+        ("enq 1", "full"),
+        ("deq", "1"),
+    ];
+    let _ = plays(&rt, alloc, &object, state, &full)?;
+    let none = [
+        "",
+        "enq",
+        "enq ",
+        "deq 1",
+        "enq 007",
+        "enq 00",
+        "enq +7",
+        "enq 7a",
+        "enq 1000000000000",
+        "enq 1 2",
+        "ENQ 1",
+        " deq",
+        "deq ",
+        "get a",
+    ];
+    refuses::<QueueObject>(&rt, alloc, &none)?;
+    draws::<QueueObject>(&rt, alloc, &[(22, "enq 7"), (33, "deq"), (3001, "enq 0")])
+}
+
+#[test]
+fn directory(rt: HostRuntime) -> Result<(), Fail> {
+    let (alloc, object) = (rt.alloc(), DirectoryObject);
+    let start = object.start(alloc)?;
+    let lines = [
+        ("put b 1", "new"),
+        ("put a 2", "new"),
+        ("put b 3", "was 1"),
+        ("at 0", "3"),
+        ("del b", "3"),
+        ("at 0", "2"),
+        ("get b", "none"),
+        ("size", "1"),
+        ("at 1", "none"),
+        ("at 255", "none"),
+        ("del b", "none"),
+        ("put abcdefghijklmnop 4", "new"),
+        ("get a", "2"),
+        ("del a", "2"),
+        ("del abcdefghijklmnop", "4"),
+        ("size", "0"),
+    ];
+    let mut state = plays(&rt, alloc, &object, start, &lines)?;
+    for number in 0..256u64 {
+        let line = format!(in alloc; "put n{number} {number}")?;
+        let put = read::<DirectoryObject>(alloc, line.as_str())?.ok_or("no invocation")?;
+        state = object.apply(alloc, &state, &put)?.0;
+    }
+    let full = [
+        ("size", "256"),
+        ("put m 1", "full"),
+        ("put n255 1", "was 255"),
+        ("at 255", "1"),
+        ("del n0", "0"),
+        ("put m 1", "new"),
+        ("at 0", "1"),
+        ("at 254", "1"),
+        ("at 255", "1"),
+    ];
+    let _ = plays(&rt, alloc, &object, state, &full)?;
+    let none = [
+        "",
+        "put",
+        "put a",
+        "put a 007",
+        "put A 1",
+        "put  1",
+        "put abcdefghijklmnopq 1",
+        "put a_b 1",
+        "at 256",
+        "at",
+        "size 1",
+        "get",
+        "get a b",
+        "enq 1",
+    ];
+    refuses::<DirectoryObject>(&rt, alloc, &none)?;
+    let words = [
+        (80, "put n0 1"),
+        (13, "del n1"),
+        (11, "get n1"),
+        (30, "size"),
+        (63, "at 7"),
+    ];
+    draws::<DirectoryObject>(&rt, alloc, &words)
+}
+
+#[test]
+fn book(rt: HostRuntime) -> Result<(), Fail> {
+    let (alloc, object) = (rt.alloc(), BookObject);
+    let start = object.start(alloc)?;
+    let lines = [
+        ("deposit 0 4", "4"),
+        ("move 0 1 5", "short"),
+        ("total", "4"),
+        ("deposit 1 999999999999", "999999999999"),
+        ("total", "1000000000003"),
+        ("deposit 1 1", "over"),
+        ("move 0 1 4", "over"),
+        ("move 0 0 4", "moved"),
+        ("deposit 0 0", "4"),
+        ("withdraw 0 5", "short"),
+        ("withdraw 0 4", "0"),
+        ("move 1 15 999999999999", "moved"),
+        ("withdraw 15 999999999998", "1"),
+        ("total", "1"),
+    ];
+    let _ = plays(&rt, alloc, &object, start, &lines)?;
+    let none = [
+        "",
+        "total 1",
+        "deposit 16 1",
+        "deposit 1",
+        "withdraw 0 01",
+        "move 0 16 1",
+        "move 16 0 1",
+        "move 0 1 1000000000000",
+        "move 0 1",
+        "stick 1",
+    ];
+    refuses::<BookObject>(&rt, alloc, &none)?;
+    let words = [
+        (5254, "move 1 2 5"),
+        (1024, "deposit 0 1"),
+        (61, "withdraw 15 0"),
+        (3, "total"),
+    ];
+    draws::<BookObject>(&rt, alloc, &words)?;
+    book_is_conserved();
+    Ok(())
+}
+
+#[test]
+fn sticky(rt: HostRuntime) -> Result<(), Fail> {
+    let (alloc, object) = (rt.alloc(), StickyObject);
+    let start = object.start(alloc)?;
+    let lines = [
+        ("read", "unset"),
+        ("stick 5", "5"),
+        ("stick 9", "5"),
+        ("read", "5"),
+    ];
+    let _ = plays(&rt, alloc, &object, start, &lines)?;
+    refuses::<StickyObject>(
+        &rt,
+        alloc,
+        &["", "read 1", "stick", "stick x", "stick 01", "deq"],
+    )?;
+    draws::<StickyObject>(
+        &rt,
+        alloc,
+        &[(19, "stick 9"), (18, "read"), (2001, "stick 0")],
+    )?;
+    proposals_agree();
+    Ok(())
+}
+
+#[test]
+fn limits(rt: HostRuntime) -> Result<(), Fail> {
+    let greatest = Amount::new(999_999_999_999).ok_or("no amount")?;
+    assert_eq!(rt; Amount::new(1_000_000_000_000), None);
+    assert_eq!(rt; greatest.number(), Amount::GREATEST);
+    assert_eq!(rt; greatest.checked_add(Amount::ZERO), Some(greatest));
+    assert_eq!(rt;
+        greatest.checked_add(Amount::new(1).ok_or("no amount")?),
+        None
+    );
+    assert_eq!(rt; greatest.checked_sub(greatest), Some(Amount::ZERO));
+    assert_eq!(rt; Amount::ZERO.checked_sub(greatest), None);
+    assert_eq!(rt; Account::new(15).ok_or("no account")?.number(), 15);
+    assert_eq!(rt; Account::new(16), None);
+    assert_eq!(rt; Place::new(255).ok_or("no place")?.number(), 255);
+    assert_eq!(rt; Place::new(256), None);
+    let name = Name::read(b"n7").ok_or("no name")?;
+    assert_eq!(rt; name.as_bytes(), b"n7".as_slice());
+    assert_eq!(rt; name.clone()?.as_bytes(), b"n7".as_slice());
+    Ok(())
+}
