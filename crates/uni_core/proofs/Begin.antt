@@ -1,0 +1,128 @@
+-- What a call that is begun leaves.
+use Rattle.std.proofs.Common.{◌≡◌, ◌≢◌, ◌∙◌, ℕ, ◌+◌, ◌-◌, ◌<◌, ◌≤◌, refl, sym, ap, subst, List, Option, Some, None, option_map, not, is_some, IsSome, arith, Bool, true, false, length, slice_get, slice_set, get_or}
+use Rattle.std.proofs.lemmas.Option.{slice_get_read}
+use Rattle.cell_arena.specs.CellRecord.{ChangesOnly, index_of}
+use Rattle.cell_arena.specs.Rows.{Rows, processes_of, made_of}
+use Rattle.uni_model.specs.Places.{written}
+use Rattle.uni_model.specs.Places.Name.{Of}
+use Rattle.uni_model.specs.Places.Place.{InvOf}
+use Rattle.uni_model.specs.Places.Content.{Invocation}
+use Rattle.uni_model.specs.Worlds.{WorldOf, call_begun}
+use Rattle.uni_model.specs.Worlds.Event.{Call}
+use Rattle.uni_model.specs.AtomicObject.{Atomic}
+use Rattle.uni_model.specs.History.{Shows, acts_of}
+use Rattle.uni_model.proofs.Simulation.{call_accepted}
+use Rattle.uni_core.specs.declared.local.Local.{Local}
+use Rattle.uni_core.specs.Shared.{Shared, name_of, memory_of}
+use Rattle.uni_core.specs.declared.stage.Pending.{Pending}
+use Rattle.uni_core.specs.Standing.{pending_of}
+use Rattle.uni_model.specs.Stages.{Pending as PendingAt}
+use Rattle.seq_object.specs.declared.call_id.CallId.{CallId}
+use Rattle.std.specs.Option.{option_map_or}
+use Rattle.uni_core.specs.Whole.{Whole, shown, call_at, current_of, IsWorld, Follows}
+use Rattle.uni_core.proofs.Named.{name_of-index_of}
+use Rattle.uni_core.proofs.Shown.{begun_whole, shown-begun, IsWorld-begun}
+
+-- what a process keeps for itself, where it stands in the list
+pub local_here : {O S I R : Type 0} (next : S → I → S) (answer : S → I → R) (v : Whole O S I R) → IsWorld next answer v → (p k : ℕ) (l : Local)
+    → k ≡ processes_of v.shared.cells → p < k → l ≡ get_or v.locals p l → slice_get v.locals p ≡ Some l
+local_here next answer v is p k l count below read =
+    slice_get_read v.locals (length v.locals) p l refl (subst (λ j. p < j) (count ∙ sym is.locals) below) read
+
+module _ {O S I R : Type 0} (next : S → I → S) (answer : S → I → R) (v now : Whole O S I R) (view : v ≡ now) (is : IsWorld next answer v) (p k : ℕ) (l : Local)
+    (count : k ≡ processes_of v.shared.cells) (below : p < k) (read : l ≡ get_or v.locals p l) where
+  pub here : slice_get v.locals p ≡ Some l
+  here = local_here next answer v is p k l count below read
+
+  pub inside : p < processes_of v.shared.cells
+  inside = subst (λ j. p < j) count below
+
+  begun_is : (shown v).begun p ≡ l.begun
+  begun_is = rw here refl
+
+  pub begun_now : l.begun ≡ (shown now).begun p
+  begun_now = subst (λ (x : Whole O S I R). l.begun ≡ (shown x).begun p) view (sym begun_is)
+
+  no_call : (o : Bool) → is_some l.call ≡ o → o ≡ false → l.call ≡ None
+  no_call true e f = cc
+  no_call false e f = none l.call e where
+    none : {A : Type 0} (o : Option A) → is_some o ≡ false → o ≡ None
+    none None g = refl
+    none (Some x) g = cc
+
+  pub no_call_now : l.call ≡ None → (shown now).call p ≡ None
+  no_call_now idle = subst (λ (x : Whole O S I R). (shown x).call p ≡ None) view (rw here (rw idle refl))
+
+  module _ (a' : Shared S I R) (i j : I) (same : i ≡ j) (mine : ℕ) (b : Bool) (tested : b ≡ is_some l.call) (none : b ≡ false) (free : l.begun ≢ v.row)
+      (mine_is : mine ≡ index_of (processes_of v.shared.cells) p (made_of v.shared.cells p))
+      (wrote : memory_of a' ≡ written (memory_of v.shared) (InvOf (Of p (made_of v.shared.cells p))) (Invocation (Some i)))
+      (shape : (processes_of a'.cells ≡ processes_of v.shared.cells) × (a'.cells.row ≡ v.shared.cells.row))
+      (made : ChangesOnly (made_of v.shared.cells) (made_of a'.cells) p (made_of v.shared.cells p + 1)) where
+    pub idle : l.call ≡ None
+    idle = no_call b (sym tested) none
+
+    made_is : made_of v.shared.cells p ≡ l.begun
+    made_is = sym (is.begun p inside) ∙ begun_is
+
+    pub name : name_of (processes_of v.shared.cells) mine ≡ Of p l.begun
+    name = ap (name_of (processes_of v.shared.cells)) mine_is ∙ name_of-index_of (processes_of v.shared.cells) p (made_of v.shared.cells p) inside ∙ ap (Of p) made_is
+
+    pub wrote_begun : memory_of a' ≡ written (memory_of v.shared) (InvOf (Of p l.begun)) (Invocation (Some i))
+    wrote_begun = wrote ∙ ap (λ c. written (memory_of v.shared) (InvOf (Of p c)) (Invocation (Some i))) made_is
+
+    pub idle_now : (shown now).call p ≡ None
+    idle_now = no_call_now idle
+
+    pub IsWorld-call : IsWorld next answer (begun_whole next answer v is p l here inside a' i mine name shape.0 wrote_begun idle)
+    IsWorld-call = IsWorld-begun next answer v is p l here inside a' i mine name shape.0 wrote_begun idle shape.1 made free
+
+    pub shown-call : shown (begun_whole next answer v is p l here inside a' i mine name shape.0 wrote_begun idle) ≡ call_begun (shown now) p j
+    shown-call = shown-begun next answer v is p l here inside a' i mine name shape.0 wrote_begun idle
+        ∙ ap (λ (x : Whole O S I R). call_begun (shown x) p i) view ∙ ap (call_begun (shown now) p) same
+
+    pub Follows-call : Follows next answer (shown now) (shown (begun_whole next answer v is p l here inside a' i mine name shape.0 wrote_begun idle)) (acts_of next answer (shown now) (Call p j))
+    Follows-call a shows =
+        let sound = subst (λ (x : Whole O S I R). IsWorld next answer x) view is in
+        let to : Atomic S I → Type 0 = λ b. Shows (shown now) b in
+        let accepted = call_accepted next answer (shown now) sound.sound.0 sound.sound.1 sound.sound.2 p j (subst (λ (x : Whole O S I R). p < processes_of x.shared.cells) view inside) idle_now a shows in
+        (accepted.0, subst (λ w. Shows w accepted.0) (sym shown-call) accepted.1, accepted.2)
+
+pub none_isn't_some : {A : Type 0} (o : Option A) → o ≡ None → IsSome o → ⊥
+none_isn't_some None e h = let f : false ≡ true = h in cc
+none_isn't_some (Some x) e h = cc
+
+-- the call that is pending is the latest that its process has begun
+module _ {O S I R : Type 0} (next : S → I → S) (answer : S → I → R) (v now : Whole O S I R) (view : v ≡ now) (is : IsWorld next answer v) (p : ℕ) (l : Local)
+    (below : p < processes_of now.shared.cells) (read : l ≡ get_or v.locals p l) where
+  inside_v : p < processes_of v.shared.cells
+  inside_v = subst (λ (x : Whole O S I R). p < processes_of x.shared.cells) (sym view) below
+
+  kept : slice_get v.locals p ≡ Some l
+  kept = local_here next answer v is p (processes_of v.shared.cells) l refl inside_v read
+
+  pend : (call : Pending) → l.call ≡ Some call → (shown v).call p ≡ Some (pending_of (processes_of v.shared.cells) call)
+  pend call e = ap (call_at (processes_of v.shared.cells)) kept ∙ ap (option_map (pending_of (processes_of v.shared.cells))) e
+
+  pub few_enough : p < 16
+  few_enough = let few = is.few in let h = inside_v in omega arith
+
+  begun_of : (shown v).begun p ≡ l.begun
+  begun_of = ap (λ o. option_map_or (λ (x : Local). x.begun) o 0) kept
+
+  module _ (b : Bool) (tested : is_some l.call ≡ not b) (is_false : b ≡ false) where
+    has_call : (o : Option Pending) → is_some o ≡ not b → (call : Pending) × (o ≡ Some call)
+    has_call None e = absurd (let f : false ≡ true = e ∙ ap not is_false in cc)
+    has_call (Some call) e = (call, refl)
+
+    pub begun_one : 1 ≤ l.begun
+    begun_one =
+        let c = has_call l.call tested in
+        let mine = is.sound.2.calls.mine p (pending_of (processes_of v.shared.cells) c.0) (pend c.0 c.1) in
+        subst (λ k. 1 ≤ k) (sym mine.2 ∙ begun_of) (omega arith)
+
+    pub current_now : Some (record { process = p; nth = l.begun - 1 }) ≡ current_of (shown now) p
+    current_now =
+        let c = has_call l.call tested in
+        subst (λ (x : Whole O S I R). Some (record { process = p; nth = l.begun - 1 }) ≡ current_of (shown x) p) view
+        (ap (λ k. Some (let id : CallId = record { process = p; nth = k - 1 } in id)) (sym begun_of)
+        ∙ sym (ap (option_map (λ (c : PendingAt). let id : CallId = record { process = p; nth = (shown v).begun p - 1 } in id)) (pend c.0 c.1)))

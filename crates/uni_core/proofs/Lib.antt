@@ -1,0 +1,9 @@
+pub mod Named
+pub mod Written
+pub mod SharedPlaces
+pub mod Transitions
+pub mod Shown
+pub mod Steppable
+pub mod Begin
+pub mod Stepped
+mod OpenedWorld

@@ -1,0 +1,247 @@
+-- The world that is shown, after a process's own data changed.
+use Rattle.std.proofs.Common.{◌≡◌, ◌≢◌, ◌∙◌, ℕ, zero, suc, ◌+◌, ◌*◌, ◌<◌, ◌≤◌, ◌^◌, ◌⊎◌, inl, inr, refl, sym, ap, subst, List, Option, Some, None, option_map, option_and_then, IsSome, arith, cond, Bool, true, false, nat_eq, length, slice_get, slice_set, min}
+use Rattle.std.specs.Option.{option_map_or}
+use Rattle.std.proofs.Math.ListN.{length-set}
+use Rattle.cell_arena.proofs.Lists.{slice_get-set_same, slice_get-set_other}
+use Rattle.cell_arena.specs.Rows.{Rows, processes_of, made_of, cell_of}
+use Rattle.cell_arena.specs.CellRecord.{ChangesOnly}
+use Rattle.uni_model.specs.Places.{Name, Place, Content, Memory, written, set_at, seq_of, new_of, inv_of}
+use Rattle.uni_model.specs.Places.Name.{Anchor, Of}
+use Rattle.uni_model.specs.Places.Place.{InvOf}
+use Rattle.uni_model.specs.Places.Content.{Invocation}
+use Rattle.uni_model.specs.Stages.{Stage as at, Pending as PendingAt}
+use Rattle.uni_model.specs.Transition.{place_of, effect_of, turn_of}
+use Rattle.uni_model.specs.Worlds.{WorldOf, Event, call_begun, stepped, happened, call_after, sum_below}
+use Rattle.uni_model.specs.Worlds.Event.{Call, Step}
+use Rattle.uni_model.specs.Settled.{Grows}
+use Rattle.uni_model.specs.Invariant.{Invariant, IsSound}
+use Rattle.uni_model.proofs.Written.{number_cases}
+use Rattle.uni_model.proofs.Simulation.{set_at_same}
+use Rattle.uni_model.proofs.Kept.{Invariant-begun, Invariant-stepped}
+use Rattle.uni_core.specs.declared.local.Local.{Local}
+use Rattle.uni_core.specs.declared.stage.Stage.{Stage}
+use Rattle.uni_core.specs.declared.stage.Stage.TheVariants as stages
+use Rattle.uni_core.specs.declared.stage.Pending.{Pending}
+use Rattle.uni_core.specs.Shared.{Shared, name_of, memory_of, HasShapeOf}
+use Rattle.uni_core.specs.Standing.{stage_of, pending_of, Takes, effect_at}
+use Rattle.uni_core.specs.Whole.{Whole, call_at, shown_at, shown, IsWorld, counted_step}
+use Rattle.uni_core.specs.Counts.{capped}
+
+-- what is read of a process's own data, after that of one process changed
+pub read-slice_set : {A : Type 0} (g : Option Local → A) (locals : List Local) (p : ℕ) (l : Local) → p < length locals
+    → (λ q. g (slice_get (slice_set locals p l) q)) ≡ set_at (λ q. g (slice_get locals q)) p (g (Some l))
+read-slice_set {A} g locals p l inside = λ i q. at_process q i where
+  at_process : (q : ℕ) → g (slice_get (slice_set locals p l) q) ≡ set_at (λ r. g (slice_get locals r)) p (g (Some l)) q
+  at_process q = elim (number_cases q p) [
+    | inl h ↦ rw (h.1, ap (slice_get (slice_set locals p l)) h.0 ∙ slice_get-set_same locals p l inside) refl
+    | inr h ↦ rw (h.1, slice_get-set_other locals p q l h.0) refl
+  ]
+
+-- the world that is shown then
+pub shown_at-slice_set : {S I R : Type 0} (n : ℕ) (m : Memory S I R) (locals : List Local) (p : ℕ) (l : Local) → p < length locals
+    → shown_at n m (slice_set locals p l) ≡ record {
+      n = n;
+      memory = m;
+      call = set_at (λ q. call_at n (slice_get locals q)) p (call_at n (Some l));
+      begun = set_at (λ q. option_map_or (λ (l : Local). l.begun) (slice_get locals q) 0) p l.begun;
+      steps = set_at (λ q. option_map_or (λ (l : Local). l.steps) (slice_get locals q) 0) p l.steps;
+      turns = set_at (λ q. option_map_or (λ (l : Local). l.turns) (slice_get locals q) 0) p l.turns;
+    }
+shown_at-slice_set n m locals p l inside = λ i. record {
+  n = n;
+  memory = m;
+  call = read-slice_set (call_at n) locals p l inside i;
+  begun = read-slice_set (λ o. option_map_or (λ (l : Local). l.begun) o 0) locals p l inside i;
+  steps = read-slice_set (λ o. option_map_or (λ (l : Local). l.steps) o 0) locals p l inside i;
+  turns = read-slice_set (λ o. option_map_or (λ (l : Local). l.turns) o 0) locals p l inside i;
+}
+
+pub length-slice_set : {A : Type 0} (xs : List A) (p : ℕ) (x : A) → length (slice_set xs p x) ≡ length xs
+length-slice_set xs p x = simp length-set
+
+-- the value that is there, written again
+pub set_at-same : {A : Type 0} (f : ℕ → A) (p : ℕ) (v : A) → f p ≡ v → set_at f p v ≡ f
+set_at-same f p v e = λ i q. at_number q i where
+  at_number : (q : ℕ) → set_at f p v q ≡ f q
+  at_number q = elim (number_cases q p) [ inl h ↦ rw h.1 (sym (ap f h.0 ∙ e)) | inr h ↦ rw h.1 refl ]
+
+-- counts play no part in the invariant
+pub Invariant-counts : {S I R : Type 0} (next : S → I → S) (answer : S → I → R) (w : WorldOf S I R) (steps turns : ℕ → ℕ) → Invariant next answer w
+    → Invariant next answer (record { n = w.n; memory = w.memory; call = w.call; begun = w.begun; steps = steps; turns = turns })
+Invariant-counts next answer w steps turns inv = (
+  inv.0,
+  inv.1,
+  record {
+    numbered = inv.2.numbered;
+    values = inv.2.values;
+    back = inv.2.back;
+    calls = record {
+      anchor = inv.2.calls.anchor;
+      linked = inv.2.calls.linked;
+      begun = inv.2.calls.begun;
+      process = inv.2.calls.process;
+      mine = inv.2.calls.mine;
+      threaded = inv.2.calls.threaded;
+      announced = inv.2.calls.announced;
+      head = inv.2.calls.head;
+    };
+    stands = inv.2.stands;
+    count = inv.2.count;
+  },
+)
+
+module _ {O S I R : Type 0} (next : S → I → S) (answer : S → I → R) (v : Whole O S I R) (is : IsWorld next answer v) (p : ℕ) (l : Local) (here : slice_get v.locals p ≡ Some l) (below : p < processes_of v.shared.cells) where
+  long : p < length v.locals
+  long = subst (λ k. p < k) (sym is.locals) below
+
+  module _ (a' : Shared S I R) (i : I) (mine : ℕ) (name : name_of (processes_of v.shared.cells) mine ≡ Of p l.begun) (count : processes_of a'.cells ≡ processes_of v.shared.cells)
+      (wrote : memory_of a' ≡ written (memory_of v.shared) (InvOf (Of p l.begun)) (Invocation (Some i))) (idle : l.call ≡ None) where
+    abbrev pub begun_local : Local
+    begun_local = record { call = Some (record { mine = mine; stage = stages.Announce }); begun = l.begun + 1; steps = 0; turns = 0 }
+
+    abbrev pub begun_whole : Whole O S I R
+    begun_whole = record { object = v.object; row = v.row; shared = a'; locals = slice_set v.locals p begun_local }
+
+    begun_is : (shown v).begun p ≡ l.begun
+    begun_is = rw here refl
+
+    pub shown-begun : shown begun_whole ≡ call_begun (shown v) p i
+    shown-begun =
+        ap (λ k. shown_at k (memory_of a') (slice_set v.locals p begun_local)) count
+        ∙ ap (λ m. shown_at (processes_of v.shared.cells) m (slice_set v.locals p begun_local)) wrote
+        ∙ shown_at-slice_set (processes_of v.shared.cells) (written (memory_of v.shared) (InvOf (Of p l.begun)) (Invocation (Some i))) v.locals p begun_local long
+        ∙ ap (λ x. let w : WorldOf S I R = record {
+          n = processes_of v.shared.cells;
+          memory = written (memory_of v.shared) (InvOf (Of p l.begun)) (Invocation (Some i));
+          call = set_at (shown v).call p (Some (record { mine = x; stage = at.Announce }));
+          begun = set_at (shown v).begun p (l.begun + 1);
+          steps = set_at (shown v).steps p 0;
+          turns = set_at (shown v).turns p 0;
+        } in w) name
+        ∙ ap (λ b. let w : WorldOf S I R = record {
+          n = processes_of v.shared.cells;
+          memory = written (memory_of v.shared) (InvOf (Of p b)) (Invocation (Some i));
+          call = set_at (shown v).call p (Some (record { mine = Of p b; stage = at.Announce }));
+          begun = set_at (shown v).begun p (b + 1);
+          steps = set_at (shown v).steps p 0;
+          turns = set_at (shown v).turns p 0;
+        } in w) (sym begun_is)
+
+    idle_is : (shown v).call p ≡ None
+    idle_is = rw here (rw idle refl)
+
+    begun_later : (q : ℕ) → (shown begun_whole).begun q ≡ set_at (shown v).begun p ((shown v).begun p + 1) q
+    begun_later q = ap (λ (w : WorldOf S I R). w.begun q) shown-begun
+
+    pub IsWorld-begun : a'.cells.row ≡ v.shared.cells.row → ChangesOnly (made_of v.shared.cells) (made_of a'.cells) p (made_of v.shared.cells p + 1) → l.begun ≢ v.row
+        → IsWorld next answer begun_whole
+    IsWorld-begun row made free = record {
+      locals = length-slice_set v.locals p begun_local ∙ is.locals ∙ sym count;
+      few = subst (λ k. k ≤ 16) (sym count) is.few;
+      row = is.row ∙ sym row;
+      begun = λ q inside. begun_later q ∙ (elim (number_cases q p) [
+        | inl h ↦ rw h.1 (ap (λ k. k + 1) (is.begun p below) ∙ sym (made q ∙ rw h.1 refl))
+        | inr h ↦ rw h.1 (is.begun q (subst (λ k. q < k) count inside) ∙ sym (made q ∙ rw h.1 refl))
+      ]);
+      room = λ q. subst (λ k. k ≤ v.row) (sym (begun_later q)) (elim (number_cases q p) [
+        | inl h ↦ rw h.1 (let bound : (shown v).begun p ≤ v.row = is.room p in let e : (shown v).begun p ≡ l.begun = begun_is in let f = free in omega arith)
+        | inr h ↦ rw h.1 (is.room q)
+      ]);
+      numbers = subst (λ k. seq_of (memory_of a') Anchor + k * v.row < 2 ^ 48) (sym count) (subst (λ (m : Memory S I R). seq_of m Anchor + processes_of v.shared.cells * v.row < 2 ^ 48) (sym wrote) is.numbers);
+      sound = subst (λ w. Invariant next answer w) (sym shown-begun) (Invariant-begun next answer (shown v) p i below idle_is is.sound).0;
+    }
+
+  module _ (a' : Shared S I R) (call : Pending) (pending : l.call ≡ Some call) (to : Option Stage)
+      (takes : Takes next answer p (name_of (processes_of v.shared.cells) call.mine) (stage_of (processes_of v.shared.cells) call.stage) v.shared a' (option_map (stage_of (processes_of v.shared.cells)) to))
+      (steps turns : ℕ) (steps_is : steps ≡ capped (l.steps + 1))
+      (turns_is : turns ≡ capped (l.turns + turn_of (stage_of (processes_of v.shared.cells) call.stage) (memory_of v.shared (place_of (processes_of v.shared.cells) p (name_of (processes_of v.shared.cells) call.mine) (stage_of (processes_of v.shared.cells) call.stage))))) where
+    abbrev pub stepped_local : Local
+    stepped_local = record { call = option_map (λ s. record { mine = call.mine; stage = s }) to; begun = l.begun; steps = steps; turns = turns }
+
+    abbrev pub stepped_whole : Whole O S I R
+    stepped_whole = record { object = v.object; row = v.row; shared = a'; locals = slice_set v.locals p stepped_local }
+
+    pub pending_is : (shown v).call p ≡ Some (pending_of (processes_of v.shared.cells) call)
+    pending_is = rw here (rw pending refl)
+
+    call_later : (o : Option Stage) → call_at (processes_of v.shared.cells) (Some (record { call = option_map (λ s. record { mine = call.mine; stage = s }) o; begun = l.begun; steps = steps; turns = turns }))
+        ≡ call_after (name_of (processes_of v.shared.cells) call.mine) (option_map (stage_of (processes_of v.shared.cells)) o)
+    call_later None = refl
+    call_later (Some s) = refl
+
+    -- the step of a process whose call is this, with counts that may have stopped
+    abbrev pub counted_with : Option PendingAt → WorldOf S I R
+    counted_with o =
+        let later = stepped next answer (shown v) p o in
+        record {
+          n = later.n;
+          memory = later.memory;
+          call = later.call;
+          begun = later.begun;
+          steps = set_at (shown v).steps p (capped (later.steps p));
+          turns = set_at (shown v).turns p (capped (later.turns p));
+        }
+
+    stepped_call : set_at (shown v).call p (call_at (processes_of v.shared.cells) (Some stepped_local)) ≡ (counted_with (Some (pending_of (processes_of v.shared.cells) call))).call
+    stepped_call = ap (λ o. set_at (shown v).call p o) (call_later to ∙ ap (call_after (name_of (processes_of v.shared.cells) call.mine)) takes.stage)
+
+    stepped_begun : set_at (shown v).begun p l.begun ≡ (shown v).begun
+    stepped_begun = set_at-same (shown v).begun p l.begun (rw here refl)
+
+    stepped_steps : set_at (shown v).steps p steps ≡ (counted_with (Some (pending_of (processes_of v.shared.cells) call))).steps
+    stepped_steps = ap (λ k. set_at (shown v).steps p k) (steps_is ∙ ap capped (later_steps ∙ sym (set_at_same (shown v).steps p ((shown v).steps p + 1)))) where
+      later_steps : l.steps + 1 ≡ (shown v).steps p + 1
+      later_steps = rw here refl
+
+    stepped_turns : set_at (shown v).turns p turns ≡ (counted_with (Some (pending_of (processes_of v.shared.cells) call))).turns
+    stepped_turns = ap (λ k. set_at (shown v).turns p k) (turns_is ∙ ap capped (ap (λ k. k + turned) now_turns ∙ sym (set_at_same (shown v).turns p ((shown v).turns p + turned)))) where
+      turned : ℕ
+      turned = turn_of (stage_of (processes_of v.shared.cells) call.stage) (memory_of v.shared (place_of (processes_of v.shared.cells) p (name_of (processes_of v.shared.cells) call.mine) (stage_of (processes_of v.shared.cells) call.stage)))
+
+      now_turns : l.turns ≡ (shown v).turns p
+      now_turns = rw here refl
+
+    -- the world after the step
+    pub shown-stepped : shown stepped_whole ≡ counted_step next answer (shown v) p
+    shown-stepped =
+        ap (λ k. shown_at k (memory_of a') (slice_set v.locals p stepped_local)) takes.shape.processes
+        ∙ ap (λ m. shown_at (processes_of v.shared.cells) m (slice_set v.locals p stepped_local)) takes.memory
+        ∙ shown_at-slice_set (processes_of v.shared.cells) _ v.locals p stepped_local long
+        ∙ (λ i. record {
+          n = processes_of v.shared.cells;
+          memory = (counted_with (Some (pending_of (processes_of v.shared.cells) call))).memory;
+          call = stepped_call i;
+          begun = stepped_begun i;
+          steps = stepped_steps i;
+          turns = stepped_turns i;
+        })
+        ∙ ap counted_with (sym pending_is)
+
+    begun_kept : (o : Option PendingAt) (q : ℕ) → (counted_with o).begun q ≡ (shown v).begun q
+    begun_kept None q = refl
+    begun_kept (Some c) q = refl
+
+    begun_stays : (q : ℕ) → (shown stepped_whole).begun q ≡ (shown v).begun q
+    begun_stays q = ap (λ (w : WorldOf S I R). w.begun q) shown-stepped ∙ begun_kept ((shown v).call p) q
+
+    kept : Invariant next answer (stepped next answer (shown v) p (Some (pending_of (processes_of v.shared.cells) call)))
+        × Grows (memory_of v.shared) (stepped next answer (shown v) p (Some (pending_of (processes_of v.shared.cells) call))).memory
+    kept = Invariant-stepped next answer (shown v) p (pending_of (processes_of v.shared.cells) call) pending_is is.sound
+
+    anchor_stays : seq_of (memory_of a') Anchor ≡ seq_of (memory_of v.shared) Anchor
+    anchor_stays =
+        let positive : 1 ≤ seq_of (memory_of v.shared) Anchor = subst (λ k. 1 ≤ k) is.sound.2.numbered.anchor is.sound.2.numbered.first in
+        ap (λ (m : Memory S I R). seq_of m Anchor) takes.memory ∙ kept.1.seq Anchor positive
+
+    pub IsWorld-stepped : IsWorld next answer stepped_whole
+    IsWorld-stepped = record {
+      locals = length-slice_set v.locals p stepped_local ∙ is.locals ∙ sym takes.shape.processes;
+      few = subst (λ k. k ≤ 16) (sym takes.shape.processes) is.few;
+      row = is.row ∙ sym takes.shape.row;
+      begun = λ q inside. begun_stays q ∙ is.begun q (subst (λ k. q < k) takes.shape.processes inside) ∙ sym (takes.shape.made q);
+      room = λ q. subst (λ k. k ≤ v.row) (sym (begun_stays q)) (is.room q);
+      numbers = subst (λ k. seq_of (memory_of a') Anchor + k * v.row < 2 ^ 48) (sym takes.shape.processes)
+          (subst (λ k. k + processes_of v.shared.cells * v.row < 2 ^ 48) (sym anchor_stays) is.numbers);
+      sound = subst (λ w. Invariant next answer w) (sym shown-stepped)
+          (subst (λ o. Invariant next answer (counted_with o)) (sym pending_is) (Invariant-counts next answer (stepped next answer (shown v) p (Some (pending_of (processes_of v.shared.cells) call))) _ _ kept.0));
+    }

@@ -1,0 +1,158 @@
+-- What a step leaves.
+use Rattle.std.proofs.Common.{◌≡◌, ◌≢◌, ◌∙◌, ℕ, ◌+◌, ◌<◌, ◌≤◌, refl, sym, ap, subst, List, Option, Some, None, option_map, option_and_then, is_some, IsSome, IfSome, arith, Bool, true, false, length, slice_get, slice_set, get_or, Result, Ok, Err, OnErr}
+use Rattle.cell_arena.specs.Rows.{Rows, processes_of, cell_of}
+use Rattle.uni_model.specs.Places.{Name, Memory, written, new_of}
+use Rattle.uni_model.specs.Stages.{Stage as at, Pending as PendingAt}
+use Rattle.uni_model.specs.Transition.{place_of, turn_of}
+use Rattle.uni_model.specs.Chain.{response_in}
+use Rattle.uni_model.specs.Worlds.{WorldOf, happened}
+use Rattle.uni_model.specs.Worlds.Event.{Step}
+use Rattle.uni_model.specs.AtomicObject.{Atomic}
+use Rattle.uni_model.specs.History.{Shows, acts_of}
+use Rattle.uni_model.proofs.Simulation.{step_accepted}
+use Rattle.uni_core.specs.declared.local.Local.{Local}
+use Rattle.uni_core.specs.declared.stage.Stage.{Stage}
+use Rattle.uni_core.specs.declared.stage.Stage.TheVariants.{Announce, ScanHead, ScanSeq, WriteScan, Test, ReadAnnounce, ReadHelpSeq, DecideAfter, DecideNew, WriteBefore, WriteSeq, WriteHead, Finish}
+use Rattle.uni_core.specs.declared.stage.Pending.{Pending}
+use Rattle.uni_core.specs.Shared.{Shared, name_of, memory_of}
+use Rattle.uni_core.specs.Standing.{stage_of, pending_of, Takes, CanStep, MayBeRefused, turns_to, effect_at}
+use Rattle.uni_core.specs.Counts.{capped}
+use Rattle.uni_core.specs.Whole.{Whole, shown, IsWorld, Follows, counted_step, MayNeedMemory, MayNeedMemoryAt, response_of_step, response_at_stage}
+use Rattle.uni_core.proofs.Begin.{local_here}
+use Rattle.uni_core.proofs.Shown.{stepped_whole, stepped_local, shown-stepped, IsWorld-stepped, pending_is}
+use Rattle.uni_core.proofs.Steppable.{CanStep-pending, turns_to-effect, response-finish, there_response, goes_on, ends_at}
+
+refused_at : {S I R : Type 0} (a : Shared S I R) (stage : Stage) → MayBeRefused a stage → MayNeedMemoryAt (memory_of a) (stage_of (processes_of a.cells) stage)
+refused_at a (DecideNew c s d) h = h
+refused_at a Announce h = h
+refused_at a (ScanHead q best s) h = h
+refused_at a (ScanSeq q best s head) h = h
+refused_at a (WriteScan best s) h = h
+refused_at a (Test c s) h = h
+refused_at a (ReadAnnounce c s) h = h
+refused_at a (ReadHelpSeq c s help) h = h
+refused_at a (DecideAfter c s prefer) h = h
+refused_at a (WriteBefore c s d) h = h
+refused_at a (WriteSeq c s d) h = h
+refused_at a (WriteHead c s d) h = h
+refused_at a (Finish s t) h = h
+
+module _ {O S I R : Type 0} (next : S → I → S) (answer : S → I → R) (v now : Whole O S I R) (view : v ≡ now) (is : IsWorld next answer v) (p k : ℕ) (l : Local)
+    (count : k ≡ processes_of v.shared.cells) (below : p < k) (read : l ≡ get_or v.locals p l) (call : Pending) (pending : l.call ≡ Some call) where
+  abbrev pub at_v : PendingAt
+  at_v = pending_of (processes_of v.shared.cells) call
+
+  pub here : slice_get v.locals p ≡ Some l
+  here = local_here next answer v is p k l count below read
+
+  pub inside : p < processes_of v.shared.cells
+  inside = subst (λ j. p < j) count below
+
+  pend : (shown v).call p ≡ Some at_v
+  pend = rw here (rw pending refl)
+
+  pub can_step : CanStep v.shared call.mine call.stage
+  can_step = CanStep-pending next answer v is p inside call.mine call.stage pend
+
+  pub not_idle : (shown now).call p ≡ None → ⊥
+  not_idle e = let f = subst (λ (x : Whole O S I R). (shown x).call p ≡ Some at_v) view pend in cc
+
+  pub may_need : MayBeRefused v.shared call.stage → MayNeedMemory (shown now) p
+  may_need h = subst (λ (x : Whole O S I R). MayNeedMemory (shown x) p) view (rw pend (refused_at v.shared call.stage h))
+
+  module _ (a' : Shared S I R) (to : Option Stage)
+      (takes : Takes next answer p (name_of (processes_of v.shared.cells) call.mine) (stage_of (processes_of v.shared.cells) call.stage) v.shared a' (option_map (stage_of (processes_of v.shared.cells)) to))
+      (after : Local) (call_is : after.call ≡ option_map (λ s. record { mine = call.mine; stage = s }) to) (begun_is : after.begun ≡ l.begun)
+      (steps_is : after.steps ≡ capped (l.steps + 1)) (turns_is : after.turns ≡ capped (l.turns + turns_to to)) where
+    turns_counted : after.turns ≡ capped (l.turns + turn_of (stage_of (processes_of v.shared.cells) call.stage) (memory_of v.shared (place_of (processes_of v.shared.cells) p (name_of (processes_of v.shared.cells) call.mine) (stage_of (processes_of v.shared.cells) call.stage))))
+    turns_counted = turns_is ∙ ap (λ t. capped (l.turns + t)) (turns_to-effect next answer v.shared p (name_of (processes_of v.shared.cells) call.mine) (stage_of (processes_of v.shared.cells) call.stage) to takes.stage)
+
+    abbrev pub left : Whole O S I R
+    left = record { object = v.object; row = v.row; shared = a'; locals = slice_set v.locals p after }
+
+    same_local : stepped_local next answer v is p l here inside a' call pending to takes after.steps after.turns steps_is turns_counted ≡ after
+    same_local = λ i. record { call = sym call_is i; begun = sym begun_is i; steps = after.steps; turns = after.turns }
+
+    same_whole : stepped_whole next answer v is p l here inside a' call pending to takes after.steps after.turns steps_is turns_counted ≡ left
+    same_whole = ap (λ (x : Local). let w : Whole O S I R = record { object = v.object; row = v.row; shared = a'; locals = slice_set v.locals p x } in w) same_local
+
+    pub IsWorld-left : IsWorld next answer left
+    IsWorld-left = subst (λ w. IsWorld next answer w) same_whole (IsWorld-stepped next answer v is p l here inside a' call pending to takes after.steps after.turns steps_is turns_counted)
+
+    pub shown-left : shown left ≡ counted_step next answer (shown now) p
+    shown-left = sym (ap shown same_whole) ∙ shown-stepped next answer v is p l here inside a' call pending to takes after.steps after.turns steps_is turns_counted
+        ∙ ap (λ (x : Whole O S I R). counted_step next answer (shown x) p) view
+
+    -- counts play no part in what is shown
+    Shows-counted : (w : WorldOf S I R) (b : Atomic S I) → Shows (happened next answer w (Step p)) b → Shows (counted_step next answer w p) b
+    Shows-counted w b h = record { start = h.start; agreed = h.agreed; open_call = h.open_call; next_nth = h.next_nth }
+
+    pub Follows-left : Follows next answer (shown now) (shown left) (acts_of next answer (shown now) (Step p))
+    Follows-left a shows =
+        let sound = subst (λ (x : Whole O S I R). IsWorld next answer x) view is in
+        let pend_now : (shown now).call p ≡ Some at_v = subst (λ (x : Whole O S I R). (shown x).call p ≡ Some at_v) view pend in
+        let accepted = step_accepted next answer (shown now) sound.sound.0 sound.sound.1 sound.sound.2 p at_v.mine a shows at_v.stage pend_now in
+        (accepted.0, subst (λ w. Shows w accepted.0) (sym shown-left) (Shows-counted (shown now) accepted.0 accepted.1), accepted.2)
+
+    -- the same for the functions of the object, as a contract has them
+    module _ (o : O) (nexts : O → S → I → S) (answers : O → S → I → R) (next_is : next ≡ nexts v.object) (answer_is : answer ≡ answers v.object) where
+      abbrev pub left_with : Whole O S I R
+      left_with = record { object = o; row = v.row; shared = a'; locals = slice_set v.locals p after }
+
+      pub shown-left_with : shown left_with ≡ counted_step (nexts now.object) (answers now.object) (shown now) p
+      shown-left_with = shown-left ∙ ap (λ f. counted_step f answer (shown now) p) next_is
+          ∙ ap (λ f. counted_step (nexts v.object) f (shown now) p) answer_is
+          ∙ ap (λ (x : Whole O S I R). counted_step (nexts x.object) (answers x.object) (shown now) p) view
+
+      pub Follows-left_with : Follows (nexts now.object) (answers now.object) (shown now) (shown left_with) (acts_of (nexts now.object) (answers now.object) (shown now) (Step p))
+      Follows-left_with =
+          let at_next = subst (λ f. Follows f answer (shown now) (shown left) (acts_of f answer (shown now) (Step p))) next_is Follows-left in
+          let at_answer = subst (λ f. Follows (nexts v.object) f (shown now) (shown left) (acts_of (nexts v.object) f (shown now) (Step p))) answer_is at_next in
+          subst (λ (x : Whole O S I R). Follows (nexts x.object) (answers x.object) (shown now) (shown left) (acts_of (nexts x.object) (answers x.object) (shown now) (Step p))) view at_answer
+
+    -- what the step answers
+    pub responds : (s : ℕ) (t : ℕ) → stage_of (processes_of v.shared.cells) call.stage ≡ at.Finish s t
+        → response_of_step (shown now) p ≡ response_in (memory_of a') (name_of (processes_of a'.cells) call.mine)
+    responds s t e =
+        let wrote = subst (λ x. Takes next answer p (name_of (processes_of v.shared.cells) call.mine) x v.shared a' (option_map (stage_of (processes_of v.shared.cells)) to)) e takes in
+        subst (λ (x : Whole O S I R). response_of_step (shown x) p ≡ response_in (memory_of a') (name_of (processes_of a'.cells) call.mine)) view
+        (rw (pend, e) (
+        ap (λ (m : Memory S I R). response_in m (name_of (processes_of v.shared.cells) call.mine)) (sym wrote.memory)
+        ∙ ap (λ j. response_in (memory_of a') (name_of j call.mine)) (sym takes.shape.processes)))
+
+    pub response_left : (s : ℕ) (t : ℕ) → stage_of (processes_of v.shared.cells) call.stage ≡ at.Finish s t
+        → IsSome (response_in (memory_of a') (name_of (processes_of a'.cells) call.mine))
+    response_left s t e =
+        let there = response-finish next answer v is p inside call.mine s t (pend ∙ ap (λ x. Some (record { mine = name_of (processes_of v.shared.cells) call.mine; stage = x })) e) in
+        let wrote = subst (λ x. Takes next answer p (name_of (processes_of v.shared.cells) call.mine) x v.shared a' (option_map (stage_of (processes_of v.shared.cells)) to)) e takes in
+        subst (λ o. IsSome o) (
+        ap (λ (m : Memory S I R). response_in m (name_of (processes_of v.shared.cells) call.mine)) (sym wrote.memory)
+        ∙ ap (λ j. response_in (memory_of a') (name_of j call.mine)) (sym takes.shape.processes)) there
+
+    pub ended : to ≡ None → (s : ℕ) × (t : ℕ) × (stage_of (processes_of v.shared.cells) call.stage ≡ at.Finish s t)
+    ended none = ends_at next answer v.shared p (name_of (processes_of v.shared.cells) call.mine) (stage_of (processes_of v.shared.cells) call.stage)
+        (ap (option_map (stage_of (processes_of v.shared.cells))) (sym none) ∙ takes.stage)
+
+    pub cell_left : to ≡ None → IsSome (cell_of a'.cells call.mine)
+    cell_left none =
+        let finish = ended none in
+        there_response a' (subst (λ j. 1 ≤ j) (sym takes.shape.processes) (let below_n = inside in omega arith)) call.mine (response_left finish.0 finish.1 finish.2)
+
+    pub still_going : (to' : Stage) → to ≡ Some to' → response_of_step (shown now) p ≡ None
+    still_going to' some =
+        subst (λ (x : Whole O S I R). response_of_step (shown x) p ≡ None) view
+        (rw pend (goes_on next answer v.shared p (name_of (processes_of v.shared.cells) call.mine) (stage_of (processes_of v.shared.cells) call.stage) (stage_of (processes_of v.shared.cells) to') _
+        (ap (option_map (stage_of (processes_of v.shared.cells))) (sym some) ∙ takes.stage)))
+
+-- whether there is a value, and which
+pub some_of : {A : Type 0} (o : Option A) (b : Bool) → b ≡ is_some o → b ≡ true → (x : A) × (o ≡ Some x)
+some_of None b e f = absurd (let g : false ≡ true = sym e ∙ f in cc)
+some_of (Some x) b e f = (x, refl)
+
+pub none_of : {A : Type 0} (o : Option A) (b : Bool) → b ≡ is_some o → b ≡ false → o ≡ None
+none_of None b e f = refl
+none_of (Some x) b e f = absurd (let g : true ≡ false = sym e ∙ f in cc)
+
+pub if_not_ok : {A E P : Type 0} (r : Result A E) → ((x : A) → r ≡ Ok x → ⊥) → OnErr r P → P
+if_not_ok (Ok x) never h = absurd (never x refl)
+if_not_ok (Err e) never h = h

@@ -1,0 +1,14 @@
+pub mod Shared
+pub mod Standing
+pub mod Counts
+pub mod NewLocal
+pub mod Whole
+pub use Rattle.uni_model.specs.Places
+pub use Rattle.uni_model.specs.Stages
+pub use Rattle.uni_model.specs.Transition
+pub use Rattle.uni_model.specs.Chain
+pub use Rattle.uni_model.specs.Worlds
+pub use Rattle.uni_model.specs.AtomicObject
+pub use Rattle.uni_model.specs.History
+pub use Rattle.uni_model.specs.Frontier
+pub use Rattle.uni_model.specs.Invariant

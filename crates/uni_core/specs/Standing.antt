@@ -1,0 +1,73 @@
+-- Where a process stands, as the code has it and as the definitions do; and the transition of each stage.
+use Rattle.std.specs.Prelude.{◌≡◌, ℕ, ◌+◌, ◌<◌, ◌^◌, Option, Some, None, IsSome}
+use Rattle.cell_arena.specs.CellRecord.{CellRecord}
+use Rattle.cell_arena.specs.Rows.{Rows, processes_of, cell_of}
+use Rattle.uni_model.specs.Places.{Name, Memory, written, inv_of, new_of}
+use Rattle.uni_model.specs.Stages.{Pending as PendingAt}
+use Rattle.uni_model.specs.Stages.{Stage as at}
+use Rattle.uni_model.specs.Transition.{Effect, place_of, effect_of, c_of, d_of}
+use Rattle.uni_core.specs.declared.stage.Stage.{Stage}
+use Rattle.uni_core.specs.declared.stage.Stage.TheVariants.{Announce, ScanHead, ScanSeq, WriteScan, Test, ReadAnnounce, ReadHelpSeq, DecideAfter, DecideNew, WriteBefore, WriteSeq, WriteHead, Finish}
+use Rattle.uni_core.specs.declared.stage.Pending.{Pending}
+use Rattle.uni_core.specs.Shared.{Shared, name_of, memory_of, HasShapeOf}
+
+-- the stage, with names for indices
+abbrev pub stage_of : (n : ℕ) → Stage → at
+stage_of n Announce = at.Announce
+stage_of n (ScanHead q best best_seq) = at.ScanHead q (name_of n best) best_seq
+stage_of n (ScanSeq q best best_seq head) = at.ScanSeq q (name_of n best) best_seq (name_of n head)
+stage_of n (WriteScan best best_seq) = at.WriteScan (name_of n best) best_seq
+stage_of n (Test c c_seq) = at.Test (name_of n c) c_seq
+stage_of n (ReadAnnounce c c_seq) = at.ReadAnnounce (name_of n c) c_seq
+stage_of n (ReadHelpSeq c c_seq help) = at.ReadHelpSeq (name_of n c) c_seq (name_of n help)
+stage_of n (DecideAfter c c_seq prefer) = at.DecideAfter (name_of n c) c_seq (name_of n prefer)
+stage_of n (DecideNew c c_seq d) = at.DecideNew (name_of n c) c_seq (name_of n d)
+stage_of n (WriteBefore c c_seq d) = at.WriteBefore (name_of n c) c_seq (name_of n d)
+stage_of n (WriteSeq c c_seq d) = at.WriteSeq (name_of n c) c_seq (name_of n d)
+stage_of n (WriteHead c c_seq d) = at.WriteHead (name_of n c) c_seq (name_of n d)
+stage_of n (Finish c_seq mine_seq) = at.Finish c_seq mine_seq
+
+abbrev pub pending_of : (n : ℕ) → Pending → PendingAt
+pending_of n call = record { mine = name_of n call.mine; stage = stage_of n call.stage }
+
+-- what the step of a process does to these shared places
+abbrev pub effect_at : {S I R : Type 0} → (next : S → I → S) → (answer : S → I → R) → Shared S I R → (p : ℕ) → (mine : Name) → at → Effect S I R
+effect_at next answer a p mine stage =
+    effect_of next answer (processes_of a.cells) mine stage (memory_of a (place_of (processes_of a.cells) p mine stage))
+    (inv_of (memory_of a) (d_of stage)) (new_of (memory_of a) (c_of stage))
+
+-- the process has taken the step of its stage: one place is written, and it stands where it stands after it
+pub record Takes {S I R : Type 0} (next : S → I → S) (answer : S → I → R) (p : ℕ) (mine : Name) (from : at) (old new : Shared S I R) (to : Option at) : Type 0 where
+  pub shape : HasShapeOf old.cells new.cells
+  pub memory : memory_of new ≡ written (memory_of old) (place_of (processes_of old.cells) p mine from) (effect_at next answer old p mine from).content
+  pub stage : to ≡ (effect_at next answer old p mine from).stage
+
+-- there is a cell at the index
+abbrev pub IsThere : {S I R : Type 0} → Shared S I R → ℕ → Type 0
+IsThere a id = IsSome (cell_of a.cells id)
+
+-- the cells that a step touches are there, and its numbers fit
+abbrev pub CanStep : {S I R : Type 0} → Shared S I R → (mine : ℕ) → Stage → Type 0
+CanStep a mine Announce = Unit {0}
+CanStep a mine (ScanHead q best best_seq) = q < processes_of a.cells
+CanStep a mine (ScanSeq q best best_seq head) = (q < processes_of a.cells) × IsThere a head
+CanStep a mine (WriteScan best best_seq) = Unit {0}
+CanStep a mine (Test c c_seq) = IsThere a mine
+CanStep a mine (ReadAnnounce c c_seq) = Unit {0}
+CanStep a mine (ReadHelpSeq c c_seq help) = IsThere a help
+CanStep a mine (DecideAfter c c_seq prefer) = IsThere a c
+CanStep a mine (DecideNew c c_seq d) = IsThere a c × IsThere a d × IsSome (new_of (memory_of a) (name_of (processes_of a.cells) c)) × IsSome (inv_of (memory_of a) (name_of (processes_of a.cells) d))
+CanStep a mine (WriteBefore c c_seq d) = IsThere a d
+CanStep a mine (WriteSeq c c_seq d) = IsThere a d × (c_seq < 2 ^ 48)
+CanStep a mine (WriteHead c c_seq d) = c_seq < 2 ^ 48
+CanStep a mine (Finish c_seq mine_seq) = IsThere a mine
+
+-- the step may be refused memory: it has to apply the object
+abbrev pub MayBeRefused : {S I R : Type 0} → Shared S I R → Stage → Type 0
+MayBeRefused a (DecideNew c c_seq d) = new_of (memory_of a) (name_of (processes_of a.cells) d) ≡ None
+MayBeRefused a _ = ⊥
+
+-- how many turns begin with this stage
+abbrev pub turns_to : Option Stage → ℕ
+turns_to (Some (ReadAnnounce c c_seq)) = 1
+turns_to _ = 0

@@ -1,0 +1,97 @@
+-- A world of the code, and the world that it shows.
+use Rattle.std.specs.Prelude.{◌≡◌, ℕ, ◌+◌, ◌-◌, ◌*◌, ◌<◌, ◌≤◌, ◌^◌, List, Option, Some, None, option_map, option_and_then, slice_get, length, IfSome}
+use Rattle.std.specs.Option.{option_map_or}
+use Rattle.cell_arena.specs.Rows.{processes_of, made_of}
+use Rattle.uni_model.specs.Places.{Name, Memory, set_at, seq_of, new_of}
+use Rattle.uni_model.specs.Places.Name.{Anchor}
+use Rattle.uni_model.specs.Stages.{Stage as at, Pending as PendingAt}
+use Rattle.uni_model.specs.Chain.{response_in}
+use Rattle.uni_model.specs.Worlds.{WorldOf, Event, happened}
+use Rattle.uni_model.specs.Worlds.Event.{Call, Step}
+use Rattle.uni_model.specs.AtomicObject.{Atomic, Act, AcceptsAll}
+use Rattle.uni_model.specs.History.{Shows, acts_of}
+use Rattle.uni_model.specs.Invariant.{Invariant}
+use Rattle.seq_object.specs.declared.call_id.CallId.{CallId}
+use Rattle.uni_core.specs.declared.local.Local.{Local}
+use Rattle.uni_core.specs.declared.fault.Progress.{Progress}
+use Rattle.uni_core.specs.declared.fault.Progress.TheVariants.{Going, Done}
+use Rattle.uni_core.specs.Counts.{capped}
+use Rattle.uni_core.specs.Shared.{Shared, memory_of}
+use Rattle.uni_core.specs.Standing.{pending_of}
+
+-- a world as the code has it: the object, how many calls a row has, the shared places, and what each process keeps for itself
+pub record Whole (O S I R : Type 0) : Type 0 where
+  pub object : O
+  pub row : ℕ
+  pub shared : Shared S I R
+  pub locals : List Local
+
+-- the pending call of a process that keeps this for itself
+abbrev pub call_at : (n : ℕ) → Option Local → Option PendingAt
+call_at n local = option_and_then (λ l. option_map (pending_of n) l.call) local
+
+-- the world of n processes that these places and locals show
+abbrev pub shown_at : {S I R : Type 0} → (n : ℕ) → Memory S I R → List Local → WorldOf S I R
+shown_at n memory locals =
+    record {
+      n = n;
+      memory = memory;
+      call = λ p. call_at n (slice_get locals p);
+      begun = λ p. option_map_or (λ l. l.begun) (slice_get locals p) 0;
+      steps = λ p. option_map_or (λ l. l.steps) (slice_get locals p) 0;
+      turns = λ p. option_map_or (λ l. l.turns) (slice_get locals p) 0;
+    }
+
+-- the world that is shown
+abbrev pub shown : {O S I R : Type 0} → Whole O S I R → WorldOf S I R
+shown v = shown_at (processes_of v.shared.cells) (memory_of v.shared) v.locals
+
+-- what every world keeps
+pub record IsWorld {O S I R : Type 0} (next : S → I → S) (answer : S → I → R) (v : Whole O S I R) : Type 0 where
+  pub locals : length v.locals ≡ processes_of v.shared.cells
+  pub few : processes_of v.shared.cells ≤ 16
+  pub row : v.row ≡ v.shared.cells.row
+  pub begun : (p : ℕ) → p < processes_of v.shared.cells → (shown v).begun p ≡ made_of v.shared.cells p
+  pub room : (p : ℕ) → (shown v).begun p ≤ v.row
+  pub numbers : seq_of (memory_of v.shared) Anchor + processes_of v.shared.cells * v.row < 2 ^ 48
+  pub sound : Invariant next answer (shown v)
+
+-- the pending call of a process: the latest that it has begun
+abbrev pub current_of : {S I R : Type 0} → WorldOf S I R → ℕ → Option CallId
+current_of w p = option_map (λ (c : PendingAt). record { process = p; nth = w.begun p - 1 }) (w.call p)
+
+-- a step, where the counts of own steps and turns stay at the greatest u64 once they reach it
+abbrev pub counted_step : {S I R : Type 0} → (next : S → I → S) → (answer : S → I → R) → WorldOf S I R → ℕ → WorldOf S I R
+counted_step next answer w p =
+    let later = happened next answer w (Step p) in
+    record later { steps = set_at w.steps p (capped (later.steps p)); turns = set_at w.turns p (capped (later.turns p)) }
+
+-- the response of a step: that of its call, where it is the last one
+abbrev pub response_at_stage : {R : Type 0} → Option R → at → Option R
+response_at_stage r (at.Finish c_seq mine_seq) = r
+response_at_stage r _ = None
+
+abbrev pub response_of_step : {S I R : Type 0} → WorldOf S I R → ℕ → Option R
+response_of_step w p = option_and_then (λ (c : PendingAt). response_at_stage (response_in w.memory c.mine) c.stage) (w.call p)
+
+-- what a step answers, with or without a response
+abbrev pub progress_of : {R : Type 0} → Option R → Progress R
+progress_of None = Going
+progress_of (Some r) = Done r
+
+-- from each atomic object that w shows, the acts lead to one that w' shows
+abbrev pub Follows : {S I R : Type 0} → (next : S → I → S) → (answer : S → I → R) → (w w' : WorldOf S I R) → List (Act I R) → Type 0
+Follows {S} {I} next answer w w' acts = (a : Atomic S I) → Shows w a → (b : Atomic S I) × Shows w' b × AcceptsAll next answer a acts b
+
+-- what a call never changes
+pub record KeepsFixed {O S I R : Type 0} (old new : Whole O S I R) : Type 0 where
+  pub object : new.object ≡ old.object
+  pub row : new.row ≡ old.row
+
+-- a step may need memory: it decides the state and the response of a cell that has none yet
+abbrev pub MayNeedMemoryAt : {S I R : Type 0} → Memory S I R → at → Type 0
+MayNeedMemoryAt m (at.DecideNew c c_seq d) = new_of m d ≡ None
+MayNeedMemoryAt m _ = ⊥
+
+abbrev pub MayNeedMemory : {S I R : Type 0} → WorldOf S I R → ℕ → Type 0
+MayNeedMemory w p = IfSome (w.call p) (λ (c : PendingAt). MayNeedMemoryAt w.memory c.stage)

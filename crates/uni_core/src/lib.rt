@@ -1,0 +1,16 @@
+//! The wait-free universal construction in single steps: n processes share an object through a
+//! list of cells, and each step of a process touches one shared place (Herlihy 1991, section 4).
+#![tactic(auto)]
+
+mod fault;
+mod local;
+mod shared;
+mod stage;
+#[cfg(test)]
+mod tests;
+mod transition;
+mod world;
+
+pub use fault::{BeginFault, OpenFault, Progress, StepFault};
+pub use stage::{Place, StepKind};
+pub use world::World;

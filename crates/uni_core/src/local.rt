@@ -1,0 +1,61 @@
+//! What a process keeps for itself.
+
+ghost use Rattle.std.specs.Prelude.{◌≡◌, ◌+◌, option_map};
+ghost use Rattle.uni_core.specs.Standing.{turns_to};
+ghost use Rattle.uni_core.specs.Counts.{capped};
+
+use crate::stage::{Pending, Stage};
+use cell_arena::CellId;
+
+/// What a process keeps for itself: its pending call, how many calls it has begun since the
+/// opening, and the own steps and turns of its latest call.
+#[derive(Clone, Copy, Debug)]
+pub(crate) struct Local {
+    pub(crate) call: Option<Pending>,
+    pub(crate) begun: u64,
+    pub(crate) steps: u64,
+    pub(crate) turns: u64,
+}
+
+impl Local {
+    ghost use Rattle.uni_core.specs.NewLocal.{new_local};
+
+    /// A process that hasn't called yet.
+    pub(crate) fn new() -> Local
+        ensures { result ≡ new_local }
+    {
+        Local {
+            call: None,
+            begun: 0,
+            steps: 0,
+            turns: 0,
+        }
+    }
+
+    /// The pending call.
+    pub(crate) fn pending(&self) -> Option<Pending>
+        ensures { result ≡ self.now.call }
+    {
+        self.call
+    }
+
+    /// After a step, which left the process at this stage in the call of cell `mine`, or ended the
+    /// call. The counts stop at the greatest `u64`.
+    pub(crate) fn after(&self, mine: CellId, next: Option<Stage>) -> Local
+        ensures call { result.call ≡ option_map (λ stage. record { mine = mine; stage = stage }) next }
+        ensures begun { result.begun ≡ self.now.begun }
+        ensures steps { result.steps ≡ capped (self.now.steps + 1) }
+        ensures turns { result.turns ≡ capped (self.now.turns + turns_to next) }
+    {
+        let turn = match next {
+            Some(Stage::ReadAnnounce { .. }) => 1,
+            _ => 0,
+        };
+        Local {
+            call: next.map(|stage| Pending { mine, stage }),
+            begun: self.begun,
+            steps: self.steps.saturating_add(1),
+            turns: self.turns.saturating_add(turn),
+        }
+    }
+}

@@ -1,0 +1,216 @@
+//! The shared places: the cells, and the entries of announce and head.
+
+ghost use Rattle.std.specs.Prelude.{◌≡◌, ◌+◌, ◌<◌, ◌≤◌, ◌⊎◌, ◌↔◌, ℕ, IfOk, OnOk, OnErr, IfErr, IsErrAnd, IsSome, Some, None, unwrap_or};
+ghost use Rattle.std.specs.Option.{option_copied};
+ghost use Rattle.cell_arena.specs.CellRecord.{ChangesOnly, index_of};
+ghost use Rattle.cell_arena.specs.Rows.{processes_of, made_of, cell_of};
+ghost use Rattle.uni_model.specs.Places.{written, announced, head_of, inv_of, seq_of, after_of, new_of, before_of};
+ghost use Rattle.uni_model.specs.Places.Place.{Announced, HeadOf, InvOf, SeqOf, AfterOf, NewOf, BeforeOf};
+ghost use Rattle.uni_model.specs.Places.Content.{CellName, Invocation, Number, Link, Settled};
+ghost use Rattle.uni_model.specs.Places.Name.{Of};
+ghost use Rattle.uni_model.specs.Chain.{response_in};
+ghost use Rattle.uni_model.specs.Transition.{decided};
+ghost use Rattle.uni_model.specs.Worlds.{anchored};
+ghost use Rattle.uni_core.specs.Shared.{name_of, memory_of, HasShapeOf};
+
+use cell_arena::{ArenaFault, CellId, Cells, RowCells};
+use consensus_cell::Own;
+use std::alloc::{AllocError, Global};
+use std::marker::Model;
+
+/// The shared places. A contract sees what each of them contains.
+#[derive(Drop)]
+pub(crate) struct Shared<S, I, R> {
+    cells: RowCells<S, I, R>,
+    announce: Vec<Own<CellId>>,
+    heads: Vec<Own<CellId>>,
+}
+
+impl<S, I, R> Model for Shared<S, I, R> {
+    ghost use Rattle.std.specs.Prelude.{◌≡◌, length};
+    ghost use Rattle.cell_arena.specs.Rows.{processes_of};
+    ghost use Rattle.uni_core.specs.Shared.{Shared as Entries};
+
+    ghost Value = { Entries S I R };
+
+    ghost view = { λ a. record { cells = a.cells; announce = a.announce.items; heads = a.heads.items } };
+
+    ghost invariant = { λ a. (length a.announce.items ≡ processes_of a.cells) × (length a.heads.items ≡ processes_of a.cells) };
+}
+
+impl<S: Drop, I: Drop, R: Copy> Shared<S, I, R> {
+    /// The shared places of `n` processes with rows of `k` cells: the anchor alone, with this state
+    /// and number, and every entry names it.
+    pub(crate) fn opened(
+        alloc: Global,
+        n: u64,
+        k: u64,
+        state: S,
+        seq: u64,
+    ) -> Result<Self, AllocError>
+        requires processes { (1 ≤ n) × (n ≤ 64) }
+        requires row { (1 ≤ k) × (k ≤ 4096) }
+        requires threaded { 1 ≤ seq }
+        ensures memory { IfOk result (λ a. memory_of a ≡ anchored state seq) }
+        ensures shape { IfOk result (λ a. (processes_of a.cells ≡ n) × (a.cells.row ≡ k)) }
+        ensures made { IfOk result (λ a. (p : ℕ) → made_of a.cells p ≡ 0) }
+    {
+        let cells = RowCells::opened(alloc, n, k, state, seq)?;
+        let entry = Own::new(CellId::anchor());
+        Ok(Shared {
+            cells,
+            announce: vec![in alloc; entry; n as usize]?,
+            heads: vec![in alloc; entry; n as usize]?,
+        })
+    }
+
+    /// How many processes there are.
+    pub(crate) fn processes(&self) -> u64
+        ensures { result ≡ processes_of self.now.cells }
+    {
+        self.announce.len() as u64
+    }
+
+    /// The cells.
+    pub(crate) fn cells(&self) -> &RowCells<S, I, R>
+        ensures { result.now ≡ self.now.cells }
+    {
+        &self.cells
+    }
+
+    /// Makes the next cell of process `p`, whose `RowFull` and `Memory` it answers.
+    pub(crate) fn make(&mut self, alloc: Global, p: u64, inv: I) -> Result<CellId, ArenaFault>
+        requires { p < processes_of self.old.cells }
+        ensures id { IfOk result (λ id. id ≡ index_of (processes_of self.old.cells) p (made_of self.old.cells p)) }
+        ensures memory { OnOk result (memory_of self.new ≡ written (memory_of self.old) (InvOf (Of p (made_of self.old.cells p))) (Invocation (Some inv))) }
+        ensures made { OnOk result (ChangesOnly (made_of self.old.cells) (made_of self.new.cells) p (made_of self.old.cells p + 1)) }
+        ensures shape { (processes_of self.new.cells ≡ processes_of self.old.cells) × (self.new.cells.row ≡ self.old.cells.row) }
+        ensures full { IsErrAnd result (λ e. e ≡ ArenaFault.RowFull p) ↔ (made_of self.old.cells p ≡ self.old.cells.row) }
+        ensures fault { IfErr result (λ e. (e ≡ ArenaFault.RowFull p) ⊎ (e ≡ ArenaFault.Memory)) }
+        ensures unchanged { OnErr result (self.new ≡ self.old) }
+    {
+        self.cells.shape();
+        match self.cells.make(alloc, p, inv) {
+            Ok(id) => Ok(id),
+            Err((fault, _)) => Err(fault),
+        }
+    }
+
+    /// The cell that process `q` announces.
+    pub(crate) fn announced(&self, q: u64) -> CellId
+        requires { q < processes_of self.now.cells }
+        ensures { name_of (processes_of self.now.cells) result ≡ announced (memory_of self.now) q }
+    {
+        self.announce[q as usize].read()
+    }
+
+    /// Process `p` announces a cell.
+    pub(crate) fn announce(&mut self, p: u64, id: CellId)
+        requires { p < processes_of self.old.cells }
+        ensures cells { self.new.cells ≡ self.old.cells }
+        ensures memory { memory_of self.new ≡ written (memory_of self.old) (Announced p) (CellName (name_of (processes_of self.old.cells) id)) }
+    {
+        self.announce[p as usize].write(id);
+    }
+
+    /// The cell that the head entry of process `q` names.
+    pub(crate) fn head(&self, q: u64) -> CellId
+        requires { q < processes_of self.now.cells }
+        ensures { name_of (processes_of self.now.cells) result ≡ head_of (memory_of self.now) q }
+    {
+        self.heads[q as usize].read()
+    }
+
+    /// The head entry of process `p` becomes this cell.
+    pub(crate) fn set_head(&mut self, p: u64, id: CellId)
+        requires { p < processes_of self.old.cells }
+        ensures cells { self.new.cells ≡ self.old.cells }
+        ensures memory { memory_of self.new ≡ written (memory_of self.old) (HeadOf p) (CellName (name_of (processes_of self.old.cells) id)) }
+    {
+        self.heads[p as usize].write(id);
+    }
+
+    /// The number of a cell.
+    pub(crate) fn seq(&self, id: CellId) -> u64
+        requires { IsSome (cell_of self.now.cells id) }
+        ensures { result ≡ seq_of (memory_of self.now) (name_of (processes_of self.now.cells) id) }
+    {
+        self.cells.shape();
+        self.cells.seq(id)
+    }
+
+    /// Writes the number of a cell.
+    pub(crate) fn set_seq(&mut self, id: CellId, seq: u64)
+        requires { IsSome (cell_of self.old.cells id) }
+        ensures shape { HasShapeOf self.old.cells self.new.cells }
+        ensures memory { memory_of self.new ≡ written (memory_of self.old) (SeqOf (name_of (processes_of self.old.cells) id)) (Number seq) }
+    {
+        self.cells.shape();
+        self.cells.set_seq(id, seq);
+    }
+
+    /// Writes which cell is before a cell.
+    pub(crate) fn set_before(&mut self, id: CellId, before: CellId)
+        requires { IsSome (cell_of self.old.cells id) }
+        ensures shape { HasShapeOf self.old.cells self.new.cells }
+        ensures memory { memory_of self.new ≡ written (memory_of self.old) (BeforeOf (name_of (processes_of self.old.cells) id))
+            (Link (Some (name_of (processes_of self.old.cells) before))) }
+    {
+        self.cells.shape();
+        self.cells.set_before(id, before);
+    }
+
+    /// Proposes the cell after a cell; the answer is what is settled then.
+    pub(crate) fn decide_after(&mut self, id: CellId, next: CellId) -> CellId
+        requires { IsSome (cell_of self.old.cells id) }
+        ensures shape { HasShapeOf self.old.cells self.new.cells }
+        ensures answer { name_of (processes_of self.old.cells) result
+            ≡ unwrap_or (after_of (memory_of self.old) (name_of (processes_of self.old.cells) id)) (name_of (processes_of self.old.cells) next) }
+        ensures memory { memory_of self.new ≡ written (memory_of self.old) (AfterOf (name_of (processes_of self.old.cells) id))
+            (Link (decided (after_of (memory_of self.old) (name_of (processes_of self.old.cells) id)) (Some (name_of (processes_of self.old.cells) next)))) }
+    {
+        self.cells.shape();
+        self.cells.decide_after(id, next)
+    }
+
+    /// The state and the response that are settled in a cell.
+    pub(crate) fn new_of(&self, id: CellId) -> Option<&(S, Option<R>)>
+        requires { IsSome (cell_of self.now.cells id) }
+        ensures { option_copied result ≡ new_of (memory_of self.now) (name_of (processes_of self.now.cells) id) }
+    {
+        self.cells.shape();
+        self.cells.new_of(id)
+    }
+
+    /// What the call of a cell asks for.
+    pub(crate) fn inv(&self, id: CellId) -> Option<&I>
+        requires { IsSome (cell_of self.now.cells id) }
+        ensures { option_copied result ≡ inv_of (memory_of self.now) (name_of (processes_of self.now.cells) id) }
+    {
+        self.cells.shape();
+        self.cells.inv(id)
+    }
+
+    /// Proposes the state and the response of a cell's call.
+    pub(crate) fn decide_new(&mut self, id: CellId, new: (S, Option<R>))
+        requires { IsSome (cell_of self.old.cells id) }
+        ensures shape { HasShapeOf self.old.cells self.new.cells }
+        ensures memory { memory_of self.new ≡ written (memory_of self.old) (NewOf (name_of (processes_of self.old.cells) id))
+            (Settled (decided (new_of (memory_of self.old) (name_of (processes_of self.old.cells) id)) (Some new))) }
+    {
+        self.cells.shape();
+        self.cells.decide_new(id, new);
+    }
+
+    /// The response that is settled in a cell, where one is.
+    pub(crate) fn response(&self, id: CellId) -> R
+        requires cell { IsSome (cell_of self.now.cells id) }
+        requires settled { IsSome (response_in (memory_of self.now) (name_of (processes_of self.now.cells) id)) }
+        ensures { response_in (memory_of self.now) (name_of (processes_of self.now.cells) id) ≡ Some result }
+    {
+        match self.new_of(id) {
+            Some((_, Some(response))) => *response,
+            _ => unreachable!(),
+        }
+    }
+}

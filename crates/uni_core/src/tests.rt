@@ -1,0 +1,206 @@
+//! Schedules worked out by hand: the exact numbers of steps and turns, and the responses.
+
+use crate::{BeginFault, OpenFault, Progress, StepFault, World};
+use seq_object::{CallId, SeqObject};
+use std::alloc::{AllocError, Global};
+use std::process::Abort;
+use std::test::Fail;
+
+/// Keeps the last number; the response is the number before.
+#[derive(Drop)]
+struct Last;
+
+impl SeqObject for Last {
+    ghost use Rattle.seq_object.specs.Exact.{nat_eq_exact};
+
+    type State = u32;
+
+    type Inv = u32;
+
+    type Resp = u32;
+
+    ghost initial = { λ _. 0 };
+
+    ghost next = { λ _ _ number. number };
+
+    ghost answer = { λ _ before _. before };
+
+    ghost same_inv = { nat_eq_exact };
+
+    ghost same_resp = { nat_eq_exact };
+
+    fn start(&self, _alloc: Global) -> Result<u32, AllocError> {
+        Ok(0)
+    }
+
+    fn apply(&self, _alloc: Global, before: &u32, number: &u32) -> Result<(u32, u32), AllocError> {
+        Ok((*number, *before))
+    }
+
+    fn copy_inv(_alloc: Global, number: &u32) -> Result<u32, AllocError> {
+        Ok(*number)
+    }
+}
+
+/// Takes so many steps of a process whose call goes on after each.
+fn goes(
+    rt: &impl Abort,
+    alloc: Global,
+    world: &mut World<Last>,
+    p: u64,
+    count: u64,
+) -> Result<(), Fail> {
+    for _ in 0..count {
+        match world.step(alloc, p) {
+            Ok(Progress::Going) => {}
+            _ => return Err(Fail::from("the call should go on")),
+        }
+    }
+    Ok(())
+}
+
+/// Takes steps of a process to the end of its call, and answers the response.
+fn finishes(alloc: Global, world: &mut World<Last>, p: u64) -> Result<u32, Fail> {
+    for _ in 0..200 {
+        match world.step(alloc, p) {
+            Ok(Progress::Going) => {}
+            Ok(Progress::Done(resp)) => return Ok(resp),
+            Err(_) => return Err(Fail::from("a step was refused")),
+        }
+    }
+    Err(Fail::from("the call should have returned"))
+}
+
+/// The own steps and the turns of a process's latest call.
+fn counts(world: &World<Last>, p: u64) -> Option<(u64, u64)> {
+    if p >= world.processes() {
+        return None;
+    }
+    Some((world.steps(p), world.turns(p)))
+}
+
+/// The pending call of a process.
+fn pending(world: &World<Last>, p: u64) -> Option<CallId> {
+    if p >= world.processes() {
+        return None;
+    }
+    world.current(p)
+}
+
+/// A world of so many processes with rows of 8 cells.
+fn opened(alloc: Global, n: u64) -> Result<World<Last>, Fail> {
+    World::open(alloc, Last, n, 8).map_err(|_| Fail::from("no world was opened"))
+}
+
+#[test]
+fn one_process_helps_itself(rt: HostRuntime) -> Result<(), Fail> {
+    let mut world = opened(rt.alloc(), 1)?;
+    assert_eq!(rt;
+        world.begin(rt.alloc(), 0, &7),
+        Ok(CallId { process: 0, nth: 0 })
+    );
+    assert_eq!(rt; finishes(rt.alloc(), &mut world, 0)?, 0);
+    assert_eq!(rt; counts(&world, 0), Some((14, 1)));
+    assert_eq!(rt;
+        world.begin(rt.alloc(), 0, &8),
+        Ok(CallId { process: 0, nth: 1 })
+    );
+    assert_eq!(rt; finishes(rt.alloc(), &mut world, 0)?, 7);
+    assert_eq!(rt; counts(&world, 0), Some((14, 1)));
+    assert_eq!(rt; (world.processes(), world.row()), (1, 8));
+    Ok(())
+}
+
+#[test]
+fn the_bound_is_met_exactly(rt: HostRuntime) -> Result<(), Fail> {
+    let mut world = opened(rt.alloc(), 2)?;
+    assert_eq!(rt;
+        world.begin(rt.alloc(), 0, &10),
+        Ok(CallId { process: 0, nth: 0 })
+    );
+    goes(&rt, rt.alloc(), &mut world, 0, 10)?;
+    assert_eq!(rt; counts(&world, 0), Some((10, 1)));
+    assert_eq!(rt;
+        world.begin(rt.alloc(), 1, &30),
+        Ok(CallId { process: 1, nth: 0 })
+    );
+    goes(&rt, rt.alloc(), &mut world, 1, 14)?;
+    assert_eq!(rt; counts(&world, 1), Some((14, 1)));
+    assert_eq!(rt; finishes(rt.alloc(), &mut world, 0)?, 0);
+    assert_eq!(rt; counts(&world, 0), Some((16, 1)));
+    assert_eq!(rt;
+        world.begin(rt.alloc(), 0, &20),
+        Ok(CallId { process: 0, nth: 1 })
+    );
+    goes(&rt, rt.alloc(), &mut world, 0, 1)?;
+    assert_eq!(rt; counts(&world, 0), Some((1, 0)));
+    assert_eq!(rt; finishes(rt.alloc(), &mut world, 1)?, 20);
+    assert_eq!(rt; counts(&world, 1), Some((32, 3)));
+    assert_eq!(rt; finishes(rt.alloc(), &mut world, 0)?, 10);
+    assert_eq!(rt; counts(&world, 0), Some((8, 0)));
+    Ok(())
+}
+
+#[test]
+fn a_stopped_process_is_helped(rt: HostRuntime) -> Result<(), Fail> {
+    let mut world = opened(rt.alloc(), 2)?;
+    assert_eq!(rt;
+        world.begin(rt.alloc(), 1, &5),
+        Ok(CallId { process: 1, nth: 0 })
+    );
+    goes(&rt, rt.alloc(), &mut world, 1, 1)?;
+    assert_eq!(rt;
+        world.begin(rt.alloc(), 0, &6),
+        Ok(CallId { process: 0, nth: 0 })
+    );
+    assert_eq!(rt; finishes(rt.alloc(), &mut world, 0)?, 5);
+    assert_eq!(rt; counts(&world, 0), Some((24, 2)));
+    assert_eq!(rt; pending(&world, 1), Some(CallId { process: 1, nth: 0 }));
+    assert_eq!(rt; finishes(rt.alloc(), &mut world, 1)?, 0);
+    assert_eq!(rt; counts(&world, 1), Some((8, 0)));
+    assert_eq!(rt; pending(&world, 1), None);
+    Ok(())
+}
+
+#[test]
+fn refusals_come_in_order(rt: HostRuntime) -> Result<(), Fail> {
+    assert!(rt;
+        matches!(
+            World::open(rt.alloc(), Last, 0, 0),
+            Err(OpenFault::BadCount)
+        )
+    );
+    assert!(rt;
+        matches!(
+            World::open(rt.alloc(), Last, 17, 8),
+            Err(OpenFault::BadCount)
+        )
+    );
+    assert!(rt; matches!(World::open(rt.alloc(), Last, 2, 0), Err(OpenFault::BadRow)));
+    assert!(rt;
+        matches!(
+            World::open(rt.alloc(), Last, 2, 4097),
+            Err(OpenFault::BadRow)
+        )
+    );
+    assert!(rt;
+        matches!(
+            World::open_at(rt.alloc(), Last, 1, 1, 5, 281_474_976_710_655),
+            Err(OpenFault::SeqFull)
+        )
+    );
+    let mut world = World::open(rt.alloc(), Last, 1, 1).map_err(|_| Fail::from(
+        "no world was opened",
+    ))?;
+    assert_eq!(rt; world.begin(rt.alloc(), 1, &5), Err(BeginFault::BadProcess));
+    assert!(rt; matches!(world.step(rt.alloc(), 1), Err(StepFault::BadProcess)));
+    assert!(rt; matches!(world.step(rt.alloc(), 0), Err(StepFault::Idle(0))));
+    assert_eq!(rt;
+        world.begin(rt.alloc(), 0, &5),
+        Ok(CallId { process: 0, nth: 0 })
+    );
+    assert_eq!(rt; world.begin(rt.alloc(), 0, &5), Err(BeginFault::Busy(0)));
+    assert_eq!(rt; finishes(rt.alloc(), &mut world, 0)?, 0);
+    assert_eq!(rt; world.begin(rt.alloc(), 0, &5), Err(BeginFault::RowFull(0)));
+    Ok(())
+}

@@ -1,0 +1,181 @@
+//! The transition of each kind of step: what it does to the one place that it touches, and where
+//! its process stands then.
+
+ghost use Rattle.std.specs.Prelude.{◌≡◌, ◌+◌, ◌<◌, ◌^◌, ◌==◌, if◌then◌else◌, ℕ, IsSome, Some, None, OnOk, IfOk, OnErr, option_map};
+ghost use Rattle.cell_arena.specs.Rows.{processes_of, cell_of};
+ghost use Rattle.uni_model.specs.Places.{new_of, inv_of, written};
+ghost use Rattle.uni_model.specs.Places.Place.{NewOf};
+ghost use Rattle.uni_model.specs.Places.Content.{Settled};
+ghost use Rattle.uni_model.specs.Stages.{Stage as at};
+ghost use Rattle.uni_model.specs.Transition.{scanned, decided, applied};
+ghost use Rattle.uni_core.specs.Shared.{name_of, memory_of, HasShapeOf};
+ghost use Rattle.uni_core.specs.Standing.{stage_of, Takes, CanStep, MayBeRefused};
+
+use crate::shared::Shared;
+use crate::stage::Stage;
+use cell_arena::CellId;
+use seq_object::SeqObject;
+use std::alloc::{AllocError, Global};
+
+/// Where a process of `n` stands in its scan after it has compared the number of the head of
+/// process `q`.
+fn after_comparing(n: u64, q: u64, best: (CellId, u64), head: (CellId, u64)) -> Stage
+    requires { q < n }
+    ensures { stage_of n result ≡ scanned n q (name_of n best.0) best.1 (name_of n head.0) head.1 }
+{
+    let (best, best_seq) = if best.1 < head.1 { head } else { best };
+    if q + 1 < n {
+        Stage::ScanHead {
+            q: q + 1,
+            best,
+            best_seq,
+        }
+    } else {
+        Stage::WriteScan { best, best_seq }
+    }
+}
+
+/// Where a process stands after it has tested the number of its cell: a turn begins where that is 0.
+fn after_test(c: CellId, c_seq: u64, mine_seq: u64) -> Stage
+    ensures { (n : ℕ) → stage_of n result ≡ (if mine_seq == 0 then at.ReadAnnounce (name_of n c) c_seq else at.Finish c_seq mine_seq) }
+{
+    match mine_seq {
+        0 => Stage::ReadAnnounce { c, c_seq },
+        mine_seq => Stage::Finish { c_seq, mine_seq },
+    }
+}
+
+/// The cell that is proposed: the one to be helped where it has no number yet, and else one's own.
+fn preferred(help: CellId, help_seq: u64, mine: CellId) -> CellId
+    ensures { (n : ℕ) → name_of n result ≡ (if help_seq == 0 then name_of n help else name_of n mine) }
+{
+    if help_seq == 0 { help } else { mine }
+}
+
+/// The object and the shared places.
+#[derive(Drop)]
+pub(crate) struct Machine<O: SeqObject> {
+    pub(crate) object: O,
+    pub(crate) shared: Shared<O::State, O::Inv, O::Resp>,
+}
+
+impl<O: SeqObject> Machine<O> {
+    /// Settles the state and the response of cell `d`, after those of `c`, where they aren't settled.
+    fn settle_new(&mut self, alloc: Global, c: CellId, d: CellId) -> Result<(), AllocError>
+        requires c { IsSome (cell_of self.old.shared.cells c) }
+        requires d { IsSome (cell_of self.old.shared.cells d) }
+        requires state { IsSome (new_of (memory_of self.old.shared) (name_of (processes_of self.old.shared.cells) c)) }
+        requires inv { IsSome (inv_of (memory_of self.old.shared) (name_of (processes_of self.old.shared.cells) d)) }
+        ensures shape { HasShapeOf self.old.shared.cells self.new.shared.cells }
+        ensures memory { OnOk result (memory_of self.new.shared ≡ written (memory_of self.old.shared) (NewOf (name_of (processes_of self.old.shared.cells) d))
+            (Settled (decided (new_of (memory_of self.old.shared) (name_of (processes_of self.old.shared.cells) d))
+            (applied (O.next self.old.object) (O.answer self.old.object) (new_of (memory_of self.old.shared) (name_of (processes_of self.old.shared.cells) c))
+            (inv_of (memory_of self.old.shared) (name_of (processes_of self.old.shared.cells) d)))))) }
+        ensures refused { OnErr result (new_of (memory_of self.old.shared) (name_of (processes_of self.old.shared.cells) d) ≡ None) }
+        ensures object { self.new.object ≡ self.old.object }
+        ensures unchanged { OnErr result (self.new.shared ≡ self.old.shared) }
+    {
+        if self.shared.new_of(d).is_some() {
+            return Ok(());
+        }
+        let (Some(before), Some(inv)) = (self.shared.new_of(c), self.shared.inv(d)) else {
+            unreachable!()
+        };
+        let (state, response) = self.object.apply(alloc, &before.0, inv)?;
+        self.shared.decide_new(d, (state, Some(response)));
+        Ok(())
+    }
+
+    /// Takes the next step of process `p`, which stands at `stage` in the call of cell `mine`: it
+    /// touches the one place of that step. The answer is where the process stands then, or `None` where its call has ended.
+    ///
+    /// An `Err` says that the object's apply was refused memory; nothing is changed then.
+    pub(crate) fn take_step(
+        &mut self,
+        alloc: Global,
+        p: u64,
+        mine: CellId,
+        stage: Stage,
+    ) -> Result<Option<Stage>, AllocError>
+        requires process { p < processes_of self.old.shared.cells }
+        requires step { CanStep self.old.shared mine stage }
+        ensures taken { IfOk result (λ next. Takes (O.next self.old.object) (O.answer self.old.object) p (name_of (processes_of self.old.shared.cells) mine)
+            (stage_of (processes_of self.old.shared.cells) stage) self.old.shared self.new.shared (option_map (stage_of (processes_of self.old.shared.cells)) next)) }
+        ensures refused { OnErr result (MayBeRefused self.old.shared stage) }
+        ensures object { self.new.object ≡ self.old.object }
+        ensures unchanged { OnErr result (self.new.shared ≡ self.old.shared) }
+    {
+        let n = self.shared.processes();
+        let next = match stage {
+            Stage::Announce => {
+                self.shared.announce(p, mine);
+                Stage::ScanHead {
+                    q: 0,
+                    best: CellId::anchor(),
+                    best_seq: 0,
+                }
+            }
+            Stage::ScanHead { q, best, best_seq } => Stage::ScanSeq {
+                q,
+                best,
+                best_seq,
+                head: self.shared.head(q),
+            },
+            Stage::ScanSeq {
+                q,
+                best,
+                best_seq,
+                head,
+            } => after_comparing(n, q, (best, best_seq), (head, self.shared.seq(head))),
+            Stage::WriteScan { best, best_seq } => {
+                self.shared.set_head(p, best);
+                Stage::Test {
+                    c: best,
+                    c_seq: best_seq,
+                }
+            }
+            Stage::Test { c, c_seq } => after_test(c, c_seq, self.shared.seq(mine)),
+            Stage::ReadAnnounce { c, c_seq } => Stage::ReadHelpSeq {
+                c,
+                c_seq,
+                help: self.shared.announced(c_seq % n),
+            },
+            Stage::ReadHelpSeq { c, c_seq, help } => Stage::DecideAfter {
+                c,
+                c_seq,
+                prefer: preferred(help, self.shared.seq(help), mine),
+            },
+            Stage::DecideAfter { c, c_seq, prefer } => Stage::DecideNew {
+                c,
+                c_seq,
+                d: self.shared.decide_after(c, prefer),
+            },
+            Stage::DecideNew { c, c_seq, d } => {
+                self.settle_new(alloc, c, d)?;
+                Stage::WriteBefore { c, c_seq, d }
+            }
+            Stage::WriteBefore { c, c_seq, d } => {
+                self.shared.set_before(d, c);
+                Stage::WriteSeq { c, c_seq, d }
+            }
+            Stage::WriteSeq { c, c_seq, d } => {
+                self.shared.set_seq(d, c_seq + 1);
+                Stage::WriteHead { c, c_seq, d }
+            }
+            Stage::WriteHead { c: _, c_seq, d } => {
+                self.shared.set_head(p, d);
+                Stage::Test {
+                    c: d,
+                    c_seq: c_seq + 1,
+                }
+            }
+            Stage::Finish { c_seq, mine_seq } => {
+                if c_seq < mine_seq {
+                    self.shared.set_head(p, mine);
+                }
+                return Ok(None);
+            }
+        };
+        Ok(Some(next))
+    }
+}

@@ -1,0 +1,261 @@
+//! A world of processes that share an object.
+
+ghost use Rattle.std.specs.Prelude.{◌≡◌, ◌+◌, ◌*◌, ◌<◌, ◌≤◌, ◌^◌, ◌⊎◌, ◌↔◌, IsSome, IfOk, OnOk, OnErr, IfErr, IsErrOf, None, replicate};
+ghost use Rattle.cell_arena.specs.Rows.{processes_of};
+ghost use Rattle.uni_model.specs.Worlds.{opened, happened};
+ghost use Rattle.uni_model.specs.Worlds.Event.{Call, Step};
+ghost use Rattle.uni_model.specs.History.{acts_of};
+ghost use Rattle.uni_core.specs.Whole.{shown, current_of, counted_step, response_of_step, progress_of, Follows, KeepsFixed, MayNeedMemory};
+
+use crate::fault::{BeginFault, OpenFault, Progress, StepFault};
+use crate::local::Local;
+use crate::shared::Shared;
+use crate::stage::{Pending, Stage};
+use crate::transition::Machine;
+use seq_object::{CallId, SeqObject};
+use std::alloc::{AllocError, Global};
+use std::marker::Model;
+
+/// The greatest number of processes.
+const MAX_PROCESSES: u64 = 16;
+
+/// The greatest number of calls of a process in an era.
+const MAX_ROW: u64 = 4096;
+
+/// The greatest number of a cell.
+const MAX_SEQ: u64 = 281_474_976_710_655;
+
+/// Processes that share an object, of which each takes its steps one at a time.
+///
+/// A contract sees it through `shown`, as a world of the definitions.
+#[derive(Drop)]
+pub struct World<O: SeqObject> {
+    machine: Machine<O>,
+    row: u64,
+    locals: Vec<Local>,
+}
+
+impl<O: SeqObject> Model for World<O> {
+    ghost use Rattle.uni_core.specs.Whole.{Whole, IsWorld};
+
+    ghost Value = { Whole O O.State O.Inv O.Resp };
+
+    ghost view = { λ w. record { object = w.machine.object; row = w.row; shared = w.machine.shared; locals = w.locals.items } };
+
+    ghost invariant = { λ w. IsWorld (O.next w.machine.object) (O.answer w.machine.object)
+        (record { object = w.machine.object; row = w.row; shared = w.machine.shared; locals = w.locals.items }) };
+}
+
+/// So many copies of a value.
+fn copies<T: Copy>(alloc: Global, value: T, count: u64) -> Result<Vec<T>, AllocError>
+    ensures { IfOk result (λ values. values.items ≡ replicate count value) }
+{
+    let mut values = Vec::new(alloc);
+    for _ in 0..count {
+        values.push(value)?;
+    }
+    Ok(values)
+}
+
+impl<O: SeqObject> World<O> {
+    /// A world of `n` processes over the object's start state, from number 1; each process can make
+    /// `k` calls in an era.
+    ///
+    /// Errors, in this order: `BadCount` where `n` isn't from 1 to 16; `BadRow` where `k` isn't from 1
+    /// to 4096; `SeqFull` never, since 1 is low enough; `Memory`. After each the object is dropped.
+    pub fn open(alloc: Global, object: O, n: u64, k: u64) -> Result<World<O>, OpenFault>
+        ensures count { IsErrOf result OpenFault.BadCount ↔ ((n ≡ 0) ⊎ (16 < n)) }
+        ensures row { IsErrOf result OpenFault.BadRow ↔ ((1 ≤ n) × (n ≤ 16) × ((k ≡ 0) ⊎ (4096 < k))) }
+        ensures fits { IsErrOf result OpenFault.SeqFull → ⊥ }
+        ensures opened { IfOk result (λ w. shown w ≡ opened n (O.initial object) 1) }
+        ensures fixed { IfOk result (λ w. (w.object ≡ object) × (w.row ≡ k)) }
+    {
+        if n < 1 || n > MAX_PROCESSES {
+            return Err(OpenFault::BadCount);
+        }
+        if k < 1 || k > MAX_ROW {
+            return Err(OpenFault::BadRow);
+        }
+        let Ok(state) = object.start(alloc) else {
+            return Err(OpenFault::Memory);
+        };
+        World::open_at(alloc, object, n, k, state, 1)
+    }
+
+    /// A world of `n` processes over a state, from number `seq`, which is at least 1; each process can
+    /// make `k` calls in an era.
+    ///
+    /// Errors, in this order: `BadCount` where `n` isn't from 1 to 16; `BadRow` where `k` isn't from 1
+    /// to 4096; `SeqFull` where `seq + n * k` passes 2^48 - 1; `Memory`. After each the object and the
+    /// state are dropped.
+    pub fn open_at(
+        alloc: Global,
+        object: O,
+        n: u64,
+        k: u64,
+        state: O::State,
+        seq: u64,
+    ) -> Result<World<O>, OpenFault>
+        requires { 1 ≤ seq }
+        ensures count { IsErrOf result OpenFault.BadCount ↔ ((n ≡ 0) ⊎ (16 < n)) }
+        ensures row { IsErrOf result OpenFault.BadRow ↔ ((1 ≤ n) × (n ≤ 16) × ((k ≡ 0) ⊎ (4096 < k))) }
+        ensures numbers { IsErrOf result OpenFault.SeqFull ↔ ((1 ≤ n) × (n ≤ 16) × (1 ≤ k) × (k ≤ 4096) × (2 ^ 48 ≤ seq + n * k)) }
+        ensures opened { IfOk result (λ w. shown w ≡ opened n state seq) }
+        ensures fixed { IfOk result (λ w. (w.object ≡ object) × (w.row ≡ k)) }
+    {
+        if n < 1 || n > MAX_PROCESSES {
+            return Err(OpenFault::BadCount);
+        }
+        if k < 1 || k > MAX_ROW {
+            return Err(OpenFault::BadRow);
+        }
+        if seq > MAX_SEQ - n * k {
+            return Err(OpenFault::SeqFull);
+        }
+        let Ok(locals) = copies(alloc, Local::new(), n) else {
+            return Err(OpenFault::Memory);
+        };
+        let Ok(shared) = Shared::opened(alloc, n, k, state, seq) else {
+            return Err(OpenFault::Memory);
+        };
+        Ok(World {
+            machine: Machine { object, shared },
+            row: k,
+            locals,
+        })
+    }
+
+    /// Process `p` begins a call: it makes a cell that no other process knows yet. The answer names
+    /// the call.
+    ///
+    /// Errors, in this order: `BadProcess` where there is no process `p`; `Busy(p)` where it has a
+    /// call pending; `RowFull(p)` where it has made as many calls in this era as a row has; `Memory`
+    /// where the copy of the invocation or the cell was refused memory. After each nothing is changed.
+    pub fn begin(&mut self, alloc: Global, p: u64, inv: &O::Inv) -> Result<CallId, BeginFault>
+        ensures process { IsErrOf result BeginFault.BadProcess ↔ ((shown self.old).n ≤ p) }
+        ensures busy { IsErrOf result (BeginFault.Busy p) ↔ ((p < (shown self.old).n) × IsSome ((shown self.old).call p)) }
+        ensures full { IsErrOf result (BeginFault.RowFull p) ↔
+            ((p < (shown self.old).n) × ((shown self.old).call p ≡ None) × ((shown self.old).begun p ≡ self.old.row)) }
+        ensures others { IfErr result (λ e. (e ≡ BeginFault.BadProcess) ⊎ (e ≡ BeginFault.Busy p) ⊎ (e ≡ BeginFault.RowFull p) ⊎ (e ≡ BeginFault.Memory)) }
+        ensures id { IfOk result (λ call. (call.process ≡ p) × (call.nth ≡ (shown self.old).begun p)) }
+        ensures begun { OnOk result (shown self.new ≡ happened (O.next self.old.object) (O.answer self.old.object) (shown self.old) (Call p inv.now)) }
+        ensures accepted { OnOk result (Follows (O.next self.old.object) (O.answer self.old.object) (shown self.old) (shown self.new)
+            (acts_of (O.next self.old.object) (O.answer self.old.object) (shown self.old) (Call p inv.now))) }
+        ensures fixed { KeepsFixed self.old self.new }
+        ensures unchanged { OnErr result (self.new ≡ self.old) }
+    {
+        if p >= self.machine.shared.processes() {
+            return Err(BeginFault::BadProcess);
+        }
+        let local = self.locals[p as usize];
+        if local.call.is_some() {
+            return Err(BeginFault::Busy(p));
+        }
+        if local.begun == self.row {
+            return Err(BeginFault::RowFull(p));
+        }
+        let Ok(inv) = O::copy_inv(alloc, inv) else {
+            return Err(BeginFault::Memory);
+        };
+        let Ok(mine) = self.machine.shared.make(alloc, p, inv) else {
+            return Err(BeginFault::Memory);
+        };
+        self.locals[p as usize] = Local {
+            call: Some(Pending {
+                mine,
+                stage: Stage::Announce,
+            }),
+            begun: local.begun + 1,
+            steps: 0,
+            turns: 0,
+        };
+        Ok(CallId {
+            process: p as u32,
+            nth: local.begun,
+        })
+    }
+
+    /// Process `p` takes the next step of its pending call: it touches one shared place.
+    ///
+    /// Errors, in this order: `BadProcess` where there is no process `p`; `Idle(p)` where it has no
+    /// call pending; `Memory`, only at the step that decides the state and the response of a cell
+    /// that has none yet, where the object's apply was refused memory. After each nothing is changed,
+    /// and the step may be asked again. The counts of own steps and of turns stop at the greatest `u64`.
+    pub fn step(&mut self, alloc: Global, p: u64) -> Result<Progress<O::Resp>, StepFault>
+        ensures process { IsErrOf result StepFault.BadProcess ↔ ((shown self.old).n ≤ p) }
+        ensures idle { IsErrOf result (StepFault.Idle p) ↔ ((p < (shown self.old).n) × ((shown self.old).call p ≡ None)) }
+        ensures memory { IsErrOf result StepFault.Memory → MayNeedMemory (shown self.old) p }
+        ensures others { IfErr result (λ e. (e ≡ StepFault.BadProcess) ⊎ (e ≡ StepFault.Idle p) ⊎ (e ≡ StepFault.Memory)) }
+        ensures step { OnOk result (shown self.new ≡ counted_step (O.next self.old.object) (O.answer self.old.object) (shown self.old) p) }
+        ensures progress { IfOk result (λ progress. progress ≡ progress_of (response_of_step (shown self.old) p)) }
+        ensures accepted { OnOk result (Follows (O.next self.old.object) (O.answer self.old.object) (shown self.old) (shown self.new)
+            (acts_of (O.next self.old.object) (O.answer self.old.object) (shown self.old) (Step p))) }
+        ensures fixed { KeepsFixed self.old self.new }
+        ensures unchanged { OnErr result (self.new ≡ self.old) }
+    {
+        if p >= self.machine.shared.processes() {
+            return Err(StepFault::BadProcess);
+        }
+        let local = self.locals[p as usize];
+        let Some(call) = local.pending() else {
+            return Err(StepFault::Idle(p));
+        };
+        let mine = call.mine;
+        let Ok(next) = self.machine.take_step(alloc, p, mine, call.stage) else {
+            return Err(StepFault::Memory);
+        };
+        let after = local.after(mine, next);
+        self.locals[p as usize] = after;
+        if next.is_some() {
+            return Ok(Progress::Going);
+        }
+        Ok(Progress::Done(self.machine.shared.response(mine)))
+    }
+
+    /// The pending call of process `p`, where it has one: the latest that it has begun.
+    pub fn current(&self, p: u64) -> Option<CallId>
+        requires { p < (shown self.now).n }
+        ensures { result ≡ current_of (shown self.now) p }
+    {
+        let local = self.locals[p as usize];
+        if local.call.is_none() {
+            return None;
+        }
+        Some(CallId {
+            process: p as u32,
+            nth: local.begun - 1,
+        })
+    }
+
+    /// How many processes there are.
+    pub fn processes(&self) -> u64
+        ensures { result ≡ (shown self.now).n }
+    {
+        self.machine.shared.processes()
+    }
+
+    /// How many calls a process can make in an era.
+    pub fn row(&self) -> u64
+        ensures { result ≡ self.now.row }
+    {
+        self.row
+    }
+
+    /// How many own steps the latest call of process `p` has taken, pending or returned; 0 where it
+    /// has made none.
+    pub fn steps(&self, p: u64) -> u64
+        requires { p < (shown self.now).n }
+        ensures { result ≡ (shown self.now).steps p }
+    {
+        self.locals[p as usize].steps
+    }
+
+    /// How many turns the latest call of process `p` has taken, pending or returned; 0 where it has
+    /// made none.
+    pub fn turns(&self, p: u64) -> u64
+        requires { p < (shown self.now).n }
+        ensures { result ≡ (shown self.now).turns p }
+    {
+        self.locals[p as usize].turns
+    }
+}
