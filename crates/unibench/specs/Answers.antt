@@ -1,0 +1,55 @@
+-- The texts of answers.
+use Rattle.std.specs.Prelude.{◌≡◌, ℕ, List, [], ◌∷◌, ◌++◌, codes, refl}
+use Rattle.std.specs.Fmt.{decimal, digits}
+use Rattle.std.specs.Option.{option_map_or}
+use Rattle.seq_object.specs.declared.call_id.CallId.{CallId}
+use Rattle.unibench.specs.declared.answer.Refusal.{Refusal}
+use Rattle.unibench.specs.declared.answer.Refusal.TheVariants.{Process, Busy, Row, Idle}
+use Rattle.unibench.specs.declared.answer.Answer.{Answer}
+use Rattle.unibench.specs.declared.answer.Answer.TheVariants.{Called, Refused, Returned, Going, End}
+use Rattle.unibench.specs.declared.answer.Entry.{Entry}
+
+-- the text of a call's name
+abbrev pub call_text : CallId → List ℕ
+call_text call = decimal call.process ++ codes "." ++ decimal call.nth
+
+-- the text of a refusal
+abbrev pub refusal_text : Refusal → List ℕ
+refusal_text (Process p) = codes "refused process " ++ decimal p
+refusal_text (Busy p) = codes "refused busy " ++ decimal p
+refusal_text (Row p) = codes "refused row " ++ decimal p
+refusal_text (Idle p) = codes "refused idle " ++ decimal p
+
+-- how far a call has come
+abbrev pub progress_text : (steps turns : ℕ) → List ℕ
+progress_text steps turns = codes " steps " ++ decimal steps ++ codes " turns " ++ decimal turns ++ 10 ∷ []
+
+-- the line of an answer
+abbrev pub answer_text : Answer → List ℕ
+answer_text (Called call) = codes "called " ++ call_text call ++ 10 ∷ []
+answer_text (Refused refusal) = refusal_text refusal ++ 10 ∷ []
+answer_text (Returned call reply steps turns) = codes "returned " ++ call_text call ++ codes " " ++ reply.items ++ progress_text steps turns
+answer_text (Going call steps turns) = codes "going " ++ call_text call ++ progress_text steps turns
+answer_text End = codes "end" ++ 10 ∷ []
+
+-- the end of an entry's line, with this text of its reply
+abbrev pub reply_text : List ℕ → List ℕ
+reply_text reply = codes " -> " ++ reply ++ 10 ∷ []
+
+-- the line of an entry of the log; its reply is a question mark where there is none yet
+abbrev pub entry_text : Entry → List ℕ
+entry_text entry =
+    decimal entry.number ++ codes " " ++ call_text entry.call ++ codes " " ++ entry.inv.items
+    ++ option_map_or (λ reply. reply_text reply.items) entry.reply (reply_text (codes "?"))
+
+a_call_began : answer_text (Called (record { process = 0; nth = 1 })) ≡ codes "called 0.1" ++ 10 ∷ []
+unfolding digits
+a_call_began = refl
+
+a_process_is_refused : answer_text (Refused (Process 9)) ≡ codes "refused process 9" ++ 10 ∷ []
+unfolding digits
+a_process_is_refused = refl
+
+a_call_goes_on : answer_text (Going (record { process = 0; nth = 0 }) 10 1) ≡ codes "going 0.0 steps 10 turns 1" ++ 10 ∷ []
+unfolding digits
+a_call_goes_on = refl

@@ -1,0 +1,18 @@
+-- What a writer holds after a write that may have stopped early, and what an end shows.
+use Rattle.std.specs.Prelude.{◌≡◌, List, ℕ, Option, Bool, ◌++◌}
+use Rattle.std.specs.Io.KnownBytes.{Appends}
+
+-- an end of std, and whether it has failed
+pub record CheckedEnd (T : Type 0) : Type 0 where
+  pub end : T
+  pub failed : Bool
+
+-- known bytes grew by a front of these bytes, and the rest is left to write
+pub record IsWritten (old new : Option (List ℕ)) (bytes rest : List ℕ) : Type 0 where
+  pub front : List ℕ
+  pub cut : bytes ≡ front ++ rest
+  pub taken : Appends old new front
+
+-- known bytes grew by a front of these bytes
+abbrev pub AppendsFront : Option (List ℕ) → Option (List ℕ) → List ℕ → Type 0
+AppendsFront old new bytes = (rest : List ℕ) × IsWritten old new bytes rest

@@ -1,0 +1,109 @@
+//! The command line, and the statuses of the program.
+
+ghost use Rattle.std.specs.Prelude.{◌≡◌, ◌≢◌, ◌≤◌, ◌⊎◌, true, false, OnOk, OnErr};
+
+use crate::ends::{Failed, TextIn, TextOut, write_all};
+use crate::fault::BenchFault;
+use crate::replay::first;
+use clap::Command;
+use clap::error::ErrorKind;
+use std::alloc::Global;
+use std::convert::AsStr;
+use std::fmt::{Display, Write};
+use std::{fmt, io};
+
+/// What the command line asks for.
+#[derive(Clone, Copy, Debug, PartialEq, Eq)]
+enum Request {
+    /// The replay of the script on standard input.
+    Replay,
+}
+
+/// Reads the command line.
+fn read_words<S: AsStr>(alloc: Global, words: &[S]) -> Result<Request, clap::Error> {
+    let replay = Command::new(alloc, "replay").about(
+        "Runs the script on standard input, and writes its answers to standard output",
+    );
+    let command = Command::new(alloc, "unibench")
+        .about("A bench for the wait-free universal construction")
+        .subcommand_required(true)
+        .subcommand(replay)?;
+    command.try_get_matches_from(words)?;
+    Ok(Request::Replay)
+}
+
+/// Runs the program over its argument texts, the program's name first; the answer is the status
+/// that it ends with.
+///
+/// The status is 0 where all went well, also for help that was asked for, which goes to `output`.
+/// It is 2 for a bad script or a bad command line, 3 where `input` or `output` failed, and 4 where
+/// memory was refused; the text that says so goes to `faults`, as far as that takes it.
+pub fn run<S: AsStr, I: TextIn, O: TextOut, F: TextOut>(
+    alloc: Global,
+    words: &[S],
+    input: &mut I,
+    output: &mut O,
+    faults: &mut F,
+) -> u8
+    requires input { I.has_failed input.old ≡ false }
+    requires output { O.has_failed output.old ≡ false }
+    requires faults { F.has_failed faults.old ≡ false }
+    ensures statuses { (result ≤ 4) × (result ≢ 1) }
+    ensures good { result ≡ 0 → (I.has_failed input.new ≡ false) × (O.has_failed output.new ≡ false) }
+    ensures written { O.has_failed output.new ≡ true → result ≡ 3 }
+    ensures ends { result ≡ 3 → (I.has_failed input.new ≡ true) ⊎ (O.has_failed output.new ≡ true) }
+{
+    let outcome = match read_words(alloc, words) {
+        Ok(Request::Replay) => first(alloc, input, output),
+        Err(error) if error.kind() == ErrorKind::OutOfMemory => Err(BenchFault::Memory),
+        Err(error) if error.use_stderr() => {
+            let _ = print(faults, &error);
+            return 2;
+        }
+        Err(error) => print(output, &error).map_err(|_| BenchFault::Write),
+    };
+    match outcome {
+        Ok(()) => 0,
+        Err(fault) => {
+            let _ = print(faults, &fault);
+            let _ = write_all(faults, b"\n");
+            fault.status()
+        }
+    }
+}
+
+/// Says why the argument texts can't be had; the answer is the status.
+pub fn refuse_words<F: TextOut>(error: &io::Error, faults: &mut F) -> u8
+    ensures { (result ≡ 2) ⊎ (result ≡ 4) }
+{
+    if error.kind() == io::ErrorKind::OutOfMemory {
+        let _ = write_all(faults, b"out of memory\n");
+        return 4;
+    }
+    let _ = write_all(faults, b"an argument is not UTF-8\n");
+    2
+}
+
+/// An end as a writer of text.
+#[derive(Drop)]
+struct Printer<'a, T> {
+    end: &'a mut T,
+}
+
+impl<T: TextOut> fmt::Write for Printer<'_, T> {
+    fn write_str(&mut self, text: &str) -> fmt::Result {
+        write_all(&mut *self.end, text.as_bytes()).map_err(|_| fmt::Error)
+    }
+}
+
+/// Writes the text of a value.
+///
+/// An `Err` says that the end has failed.
+fn print<T: TextOut, D: Display + Drop>(end: &mut T, value: D) -> Result<(), Failed>
+    ensures ok { OnOk result (T.has_failed end.new ≡ false) }
+    ensures err { OnErr result (T.has_failed end.new ≡ true) }
+{
+    let mut printer = Printer { end: &mut *end };
+    let _ = printer.write(value);
+    if end.failed() { Err(Failed) } else { Ok(()) }
+}

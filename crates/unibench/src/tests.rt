@@ -1,0 +1,320 @@
+//! Tests of the program over memory: what it writes, and its status.
+
+use crate::ends::Checked;
+use crate::program::run;
+use std::alloc::{AllocError, Global};
+use std::io;
+use std::io::{ErrorKind, Read, Write};
+use std::process::Abort;
+use std::test::Fail;
+
+/// A reader over memory that gives at most seven bytes at a time, and then ends or fails.
+#[derive(Drop)]
+struct Trickle<'a> {
+    left: &'a [u8],
+    fails: bool,
+}
+
+impl Read for Trickle<'_> {
+    fn read(&mut self, buffer: &mut [u8]) -> io::Result<usize> {
+        if self.left.is_empty() && self.fails {
+            return Err(io::Error::from(ErrorKind::Other));
+        }
+        let count = self.left.len().min(buffer.len()).min(7);
+        buffer[..count].copy_from_slice(&self.left[..count]);
+        self.left = &self.left[count..];
+        Ok(count)
+    }
+}
+
+/// A writer over memory that takes at most three bytes at a time, and none past its room.
+#[derive(Drop)]
+struct Narrow {
+    taken: Vec<u8>,
+    room: usize,
+}
+
+impl Write for Narrow {
+    fn write(&mut self, bytes: &[u8]) -> io::Result<usize> {
+        let count = bytes.len().min(self.room).min(3);
+        self.taken.extend_from_slice(&bytes[..count])?;
+        self.room -= count;
+        Ok(count)
+    }
+
+    fn flush(&mut self) -> io::Result<()> {
+        Ok(())
+    }
+}
+
+/// What the program wrote to its two outputs, and its status.
+#[derive(Drop)]
+struct Outcome {
+    output: Vec<u8>,
+    faults: Vec<u8>,
+    status: u8,
+}
+
+/// Runs the program on argument texts and a script.
+fn outcome_of(alloc: Global, words: &[&str], script: &[u8], fails: bool) -> Outcome {
+    let left = script;
+    let mut input = Checked::new(Trickle { left, fails });
+    let mut output = Vec::new(alloc);
+    let mut faults = Vec::new(alloc);
+    let status = run(
+        alloc,
+        words,
+        &mut input,
+        &mut Checked::new(&mut output),
+        &mut Checked::new(&mut faults),
+    );
+    Outcome {
+        output,
+        faults,
+        status,
+    }
+}
+
+/// Asserts what the replay of a script writes, and its status.
+fn replays(rt: &impl Abort, alloc: Global, script: &[u8], fails: bool, want: (&str, &str, u8)) {
+    let (output, faults, status) = want;
+    let outcome = outcome_of(alloc, ["unibench", "replay"].as_slice(), script, fails);
+    assert_eq!(rt;
+        outcome.faults.as_slice(),
+        faults.as_bytes(),
+        "after {output:?}"
+    );
+    assert_eq!(rt;
+        outcome.output.as_slice(),
+        output.as_bytes(),
+        "before {faults:?}"
+    );
+    assert_eq!(rt; outcome.status, status, "at {output:?} {faults:?}");
+}
+
+#[test]
+fn good_scripts(rt: HostRuntime) {
+    let rows = [
+        (
+            "universal 1 queue 1 8\ncall 0 enq 7\nfinish 0\nlog\n",
+            "called 0.0\nreturned 0.0 ok steps 14 turns 1\n2 0.0 enq 7 -> ok\nend\n",
+        ),
+        (
+            "universal 1 queue 1 8\ncall 0 enq 7\nfinish 0\nlog",
+            "called 0.0\nreturned 0.0 ok steps 14 turns 1\n2 0.0 enq 7 -> ok\nend\n",
+        ),
+        (
+            "universal 1 queue 1 8\ncall 0 enq 7\nfinish 0\nlog\ncall 0 deq\nfinish 0\n",
+            "called 0.0\nreturned 0.0 ok steps 14 turns 1\n2 0.0 enq 7 -> ok\ncalled 0.1\nreturned 0.1 7 steps 14 turns 1\nend\n",
+        ),
+        ("universal 1 queue 1 1\n", "end\n"),
+        ("# a note\n\nuniversal 1 queue 1 4096\n#\n", "end\n"),
+        (
+            "universal 1 queue 1 1\nfinish 0\ncall 0 enq 0\ncall 0 deq\nlog\nfinish 0\ncall 0 deq\nlog\n",
+            "refused idle 0\ncalled 0.0\nrefused busy 0\nreturned 0.0 ok steps 14 turns 1\nrefused row 0\n2 0.0 enq 0 -> ok\nend\n",
+        ),
+        (
+            "universal 1 queue 1 8\ncall 1 deq\nfinish 999999999999\nlog\n",
+            "refused process 1\nrefused process 999999999999\nend\n",
+        ),
+    ];
+    for (script, output) in rows {
+        replays(&rt, rt.alloc(), script.as_bytes(), false, (output, "", 0));
+    }
+}
+
+#[test]
+fn bad_scripts(rt: HostRuntime) {
+    let rows = [
+        ("", "", "line 1: no header\n"),
+        ("# a", "", "line 2: no header\n"),
+        ("universal 1 queue 17 8\n", "", "line 1: bad header\n"),
+        ("\nuniversal 1 queue 1 4097\n", "", "line 2: bad header\n"),
+        ("universal 1 queue 1 0\n", "", "line 1: bad header\n"),
+        ("universal 1 queue 1 08\n", "", "line 1: bad header\n"),
+        (" universal 1 queue 1 8\n", "", "line 1: bad header\n"),
+        (
+            "universal 1 queue 1 8\ncall 0 enq 7\nfin\nlog\n",
+            "called 0.0\n",
+            "line 3: bad line\n",
+        ),
+        (
+            "universal 1 queue 1 8\ncall 0 enq 007\n",
+            "",
+            "line 2: bad line\n",
+        ),
+        (
+            "universal 1 queue 1 8\ncall 0 get a\n",
+            "",
+            "line 2: bad line\n",
+        ),
+        (
+            "universal 1 queue 1 8\ncall 9 get a\n",
+            "",
+            "line 2: bad line\n",
+        ),
+        (
+            "universal 1 queue 1 8\ncall  0 deq\n",
+            "",
+            "line 2: bad line\n",
+        ),
+        (
+            "universal 1 queue 1 8\ncall 0 deq \n",
+            "",
+            "line 2: bad line\n",
+        ),
+        (
+            "universal 1 queue 1 8\nfinish 0 1\n",
+            "",
+            "line 2: bad line\n",
+        ),
+        ("universal 1 queue 1 8\nlog\tx\n", "", "line 2: bad byte\n"),
+        ("universal 1 queue 1 8\n#\r\nx\n", "", "line 2: bad byte\n"),
+    ];
+    for (script, output, faults) in rows {
+        replays(
+            &rt,
+            rt.alloc(),
+            script.as_bytes(),
+            false,
+            (output, faults, 2),
+        );
+    }
+}
+
+/// A header, and a line of so many bytes.
+fn long_line(alloc: Global, length: usize) -> Result<Vec<u8>, AllocError> {
+    let mut script = Vec::from_slice(alloc, b"universal 1 queue 1 8\n")?;
+    for _ in 0..length {
+        script.push(b'#')?;
+    }
+    Ok(script)
+}
+
+/// A header, and notes so that there are so many lines.
+fn many_lines(alloc: Global, lines: usize) -> Result<Vec<u8>, AllocError> {
+    let mut script = Vec::from_slice(alloc, b"universal 1 queue 1 8\n")?;
+    for _ in 1..lines {
+        script.push(b'\n')?;
+    }
+    Ok(script)
+}
+
+#[test]
+fn greatest_scripts(rt: HostRuntime) -> Result<(), Fail> {
+    let alloc = rt.alloc();
+    let long = "line 2: too long\n";
+    let many = "line 100001: too many lines\n";
+    let rows = [
+        (long_line(alloc, 200)?, false, ("end\n", "", 0)),
+        (long_line(alloc, 201)?, false, ("", long, 2)),
+        // Reading stops at the 201st byte, before the reader fails.
+        (long_line(alloc, 201)?, true, ("", long, 2)),
+        (long_line(alloc, 200)?, true, ("", "cannot read\n", 3)),
+        (many_lines(alloc, 100_000)?, false, ("end\n", "", 0)),
+        (many_lines(alloc, 100_001)?, false, ("", many, 2)),
+    ];
+    for (script, fails, want) in rows {
+        replays(&rt, alloc, script.as_slice(), fails, want);
+    }
+    Ok(())
+}
+
+#[test]
+fn reader_that_fails(rt: HostRuntime) {
+    let rows = [
+        ("", ("", "cannot read\n", 3)),
+        // A line that the reader failed within isn't judged.
+        (
+            "universal 1 queue 1 8\ncall 0 enq 7\nfin",
+            ("called 0.0\n", "cannot read\n", 3),
+        ),
+        // The whole lines before it are.
+        (
+            "universal 1 queue 1 8\nfin\nlo",
+            ("", "line 2: bad line\n", 2),
+        ),
+    ];
+    for (script, want) in rows {
+        replays(&rt, rt.alloc(), script.as_bytes(), true, want);
+    }
+}
+
+/// Runs the program with an output that has so much room.
+fn narrow_outcome(alloc: Global, words: &[&str], script: &[u8], room: usize) -> Outcome {
+    let taken = Vec::new(alloc);
+    let mut narrow = Narrow { taken, room };
+    let mut faults = Vec::new(alloc);
+    let status = run(
+        alloc,
+        words,
+        &mut Checked::new(script),
+        &mut Checked::new(&mut narrow),
+        &mut Checked::new(&mut faults),
+    );
+    let Narrow { taken, room: _ } = narrow;
+    Outcome {
+        output: taken,
+        faults,
+        status,
+    }
+}
+
+#[test]
+fn writer_that_fails(rt: HostRuntime) {
+    let replay = ["unibench", "replay"].as_slice();
+    let help = ["unibench", "--help"].as_slice();
+    let good = "universal 1 queue 1 8\ncall 0 enq 7\n";
+    let bad = "universal 1 queue 1 8\ncall 0 enq 7\nfin\n";
+    let rows = [
+        (replay, good, 15, "called 0.0\nend\n", "", 0),
+        (replay, good, 14, "called 0.0\nend", "cannot write\n", 3),
+        (replay, good, 0, "", "cannot write\n", 3),
+        (replay, bad, 11, "called 0.0\n", "line 3: bad line\n", 2),
+        (replay, bad, 10, "called 0.0", "cannot write\n", 3),
+        (help, "", 0, "", "cannot write\n", 3),
+    ];
+    for (words, script, room, output, faults, status) in rows {
+        let outcome = narrow_outcome(rt.alloc(), words, script.as_bytes(), room);
+        assert_eq!(rt; outcome.output.as_slice(), output.as_bytes(), "room {room}");
+        assert_eq!(rt; outcome.faults.as_slice(), faults.as_bytes(), "room {room}");
+        assert_eq!(rt; outcome.status, status, "room {room}");
+    }
+}
+
+#[test]
+fn faults_that_nobody_takes(rt: HostRuntime) {
+    let taken = Vec::new(rt.alloc());
+    let mut faults = Narrow { taken, room: 0 };
+    let mut output = Vec::new(rt.alloc());
+    let status = run(
+        rt.alloc(),
+        ["unibench", "replay"].as_slice(),
+        &mut Checked::new(b"fin\n".as_slice()),
+        &mut Checked::new(&mut output),
+        &mut Checked::new(&mut faults),
+    );
+    assert_eq!(rt; status, 2);
+    assert_eq!(rt; output.len(), 0);
+    assert_eq!(rt; faults.taken.len(), 0);
+}
+
+#[test]
+fn command_lines(rt: HostRuntime) {
+    let rows = [
+        (["unibench", "--help"].as_slice(), true, 0),
+        (["unibench", "help"].as_slice(), true, 0),
+        (["unibench", "replay", "--help"].as_slice(), true, 0),
+        (["unibench", "help", "replay"].as_slice(), true, 0),
+        (["unibench"].as_slice(), false, 2),
+        (["unibench", "play"].as_slice(), false, 2),
+        (["unibench", "replay", "--history"].as_slice(), false, 2),
+        (["unibench", "replay", "8"].as_slice(), false, 2),
+    ];
+    for (words, is_help, status) in rows {
+        let outcome = outcome_of(rt.alloc(), words, b"universal 1 queue 1 8\n", false);
+        assert_eq!(rt; outcome.status, status, "{words:?}");
+        assert_eq!(rt; outcome.output.is_empty(), !is_help, "{words:?}");
+        assert_eq!(rt; outcome.faults.is_empty(), is_help, "{words:?}");
+    }
+}
