@@ -6,7 +6,6 @@ ghost use Rattle.uni_core.specs.Whole.{shown};
 use crate::answer::{Answer, Entry, Refusal, push_answer, push_entry};
 use crate::fault::BenchFault;
 use crate::grammar::{Command, Header};
-
 use ready_objects::Spoken;
 use seq_object::CallId;
 use std::alloc::{AllocError, Global};
