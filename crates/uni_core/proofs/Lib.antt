@@ -6,4 +6,5 @@ pub mod Shown
 pub mod Steppable
 pub mod Begin
 pub mod Stepped
+pub mod Readers
 mod OpenedWorld

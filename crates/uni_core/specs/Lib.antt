@@ -3,6 +3,7 @@ pub mod Standing
 pub mod Counts
 pub mod NewLocal
 pub mod Whole
+pub mod Readers
 pub use Rattle.uni_model.specs.Places
 pub use Rattle.uni_model.specs.Stages
 pub use Rattle.uni_model.specs.Transition

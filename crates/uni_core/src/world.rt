@@ -1,10 +1,15 @@
 //! A world of processes that share an object.
 
-ghost use Rattle.std.specs.Prelude.{◌≡◌, ◌+◌, ◌*◌, ◌<◌, ◌≤◌, ◌^◌, ◌⊎◌, ◌↔◌, IsSome, IfOk, OnOk, OnErr, IfErr, IsErrOf, None, replicate};
-ghost use Rattle.cell_arena.specs.Rows.{processes_of};
+ghost use Rattle.std.specs.Prelude.{ℕ, ◌≡◌, ◌+◌, ◌*◌, ◌<◌, ◌≤◌, ◌^◌, ◌⊎◌, ◌↔◌, IsSome, IfOk, OnOk, OnErr, IfErr, IsErrOf, None, replicate};
+ghost use Rattle.cell_arena.specs.Rows.{processes_of, made_of, cell_of};
+ghost use Rattle.uni_model.specs.Places.{seq_of};
+ghost use Rattle.uni_model.specs.Places.Name.{Anchor};
+ghost use Rattle.uni_model.specs.Invariant.{Invariant};
 ghost use Rattle.uni_model.specs.Worlds.{opened, happened};
 ghost use Rattle.uni_model.specs.Worlds.Event.{Call, Step};
 ghost use Rattle.uni_model.specs.History.{acts_of};
+ghost use Rattle.uni_core.specs.Shared.{name_of};
+ghost use Rattle.uni_core.specs.Readers.{call_of_name};
 ghost use Rattle.uni_core.specs.Whole.{shown, current_of, counted_step, response_of_step, progress_of, Follows, KeepsFixed, MayNeedMemory};
 
 use crate::fault::{BeginFault, OpenFault, Progress, StepFault};
@@ -12,6 +17,7 @@ use crate::local::Local;
 use crate::shared::Shared;
 use crate::stage::{Pending, Stage};
 use crate::transition::Machine;
+use cell_arena::{CellId, Cells, RowCells};
 use seq_object::{CallId, SeqObject};
 use std::alloc::{AllocError, Global};
 use std::marker::Model;
@@ -257,5 +263,43 @@ impl<O: SeqObject> World<O> {
         ensures { result ≡ (shown self.now).turns p }
     {
         self.locals[p as usize].turns
+    }
+
+    /// The cells of the present era, to be read.
+    pub fn cells(&self) -> &RowCells<O::State, O::Inv, O::Resp>
+        ensures { result.now ≡ self.now.shared.cells }
+    {
+        self.machine.shared.cells()
+    }
+
+    /// The call that a cell of the arena was made for; `None` of the anchor.
+    pub fn call_of(&self, cell: CellId) -> Option<CallId>
+        requires { IsSome (cell_of self.now.shared.cells cell) }
+        ensures { result ≡ call_of_name (name_of (shown self.now).n cell) }
+    {
+        self.shape();
+        let n = self.machine.shared.processes();
+        match u64::from(cell.index()) {
+            0 => None,
+            index => Some(CallId {
+                process: ((index - 1) % n) as u32,
+                nth: (index - 1) / n,
+            }),
+        }
+    }
+
+    /// What every world keeps, for proofs: the call does nothing. What is shown has the invariant of
+    /// the definitions. There are 1 to 16 processes. A row has at most 4096 cells, and no process has
+    /// begun more calls; the arena has as many cells of a process as it has begun calls. The anchor's
+    /// number and that of all cells that there can be are below 2^48.
+    pub fn shape(&self)
+        ensures sound { Invariant (O.next self.now.object) (O.answer self.now.object) (shown self.now) }
+        ensures few { (1 ≤ (shown self.now).n) × ((shown self.now).n ≤ 16) }
+        ensures row { (self.now.shared.cells.row ≡ self.now.row) × (self.now.row ≤ 4096) }
+        ensures room { (p : ℕ) → (shown self.now).begun p ≤ self.now.row }
+        ensures made { (p : ℕ) → p < (shown self.now).n → made_of self.now.shared.cells p ≡ (shown self.now).begun p }
+        ensures numbers { seq_of (shown self.now).memory Anchor + (shown self.now).n * self.now.row < 2 ^ 48 }
+    {
+        self.machine.shared.cells().shape();
     }
 }
