@@ -1,13 +1,13 @@
 -- What a call that is begun leaves.
-use Rattle.std.proofs.Common.{◌≡◌, ◌≢◌, ◌∙◌, ℕ, ◌+◌, ◌-◌, ◌<◌, ◌≤◌, refl, sym, ap, subst, List, Option, Some, None, option_map, not, is_some, IsSome, arith, Bool, true, false, length, slice_get, slice_set, get_or}
+use Rattle.std.proofs.Common.{◌≡◌, ◌≢◌, ◌∙◌, ℕ, ◌+◌, ◌-◌, ◌<◌, ◌≤◌, refl, sym, ap, subst, Option, Some, None, option_map, not, is_some, IsSome, arith, Bool, true, false, length, slice_get, get_or}
 use Rattle.std.proofs.lemmas.Option.{slice_get_read}
 use Rattle.cell_arena.specs.CellRecord.{ChangesOnly, index_of}
-use Rattle.cell_arena.specs.Rows.{Rows, processes_of, made_of}
+use Rattle.cell_arena.specs.Rows.{processes_of, made_of}
 use Rattle.uni_model.specs.Places.{written}
 use Rattle.uni_model.specs.Places.Name.{Of}
 use Rattle.uni_model.specs.Places.Place.{InvOf}
 use Rattle.uni_model.specs.Places.Content.{Invocation}
-use Rattle.uni_model.specs.Worlds.{WorldOf, call_begun}
+use Rattle.uni_model.specs.Worlds.{call_begun}
 use Rattle.uni_model.specs.Worlds.Event.{Call}
 use Rattle.uni_model.specs.AtomicObject.{Atomic}
 use Rattle.uni_model.specs.History.{Shows, acts_of}

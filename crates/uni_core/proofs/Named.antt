@@ -1,11 +1,10 @@
 -- Cells by name and by index.
-use Rattle.std.proofs.Common.{◌≡◌, ◌≢◌, ◌∙◌, ℕ, zero, suc, ◌+◌, ◌*◌, ◌/◌, ◌%◌, ◌<◌, ◌≤◌, ◌⊎◌, inl, inr, refl, sym, ap, subst, Option, Some, None, option_map, IsSome, arith, cond, Bool, true, false, nat_eq, nat_lt, if◌then◌else◌, ◌&&◌}
+use Rattle.std.proofs.Common.{◌≡◌, ◌≢◌, ◌∙◌, ℕ, zero, suc, ◌+◌, ◌*◌, ◌/◌, ◌%◌, ◌<◌, ◌≤◌, ◌⊎◌, inl, inr, refl, sym, ap, Option, arith}
 use Rattle.std.proofs.lemmas.Nat.{div-mul-add, mod-mul-add, div-add-mod', mod_below}
 use Rattle.cell_arena.specs.CellRecord.{CellRecord, index_of, ChangesOnly}
-use Rattle.cell_arena.specs.Rows.{Rows, processes_of, cell_of}
-use Rattle.uni_model.specs.Places.{Name, name_eq}
+use Rattle.uni_model.specs.Places.{Name}
 use Rattle.uni_model.specs.Places.Name.{Anchor, Of}
-use Rattle.uni_model.proofs.Written.{number_cases, lt_cases, name_cases}
+use Rattle.uni_model.proofs.Written.{number_cases, lt_cases}
 use Rattle.uni_core.specs.Shared.{name_of, cell_named}
 
 -- the index of a name

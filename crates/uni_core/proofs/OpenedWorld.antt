@@ -1,5 +1,5 @@
 -- The world that is shown when no process has called yet.
-use Rattle.std.proofs.Common.{◌≡◌, ◌∙◌, ℕ, zero, suc, ◌+◌, ◌*◌, ◌-◌, ◌<◌, ◌≤◌, ◌^◌, refl, sym, ap, subst, List, [], ◌∷◌, Option, Some, None, arith, length, slice_get, replicate}
+use Rattle.std.proofs.Common.{◌≡◌, ◌∙◌, ℕ, zero, suc, ◌+◌, ◌*◌, ◌-◌, ◌<◌, ◌≤◌, ◌^◌, refl, sym, ap, subst, List, Option, Some, None, arith, length, slice_get, replicate}
 use Rattle.std.specs.Option.{option_map_or}
 use Rattle.std.proofs.lemmas.List.{length-replicate}
 use Rattle.cell_arena.specs.Rows.{processes_of, made_of}

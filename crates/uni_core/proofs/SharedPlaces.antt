@@ -1,9 +1,9 @@
 -- The shared places after each call of the arena and of the entries.
-use Rattle.std.proofs.Common.{◌≡◌, ◌≢◌, ◌∙◌, ℕ, ◌+◌, ◌<◌, ◌≤◌, ◌↔◌, refl, sym, ap, subst, List, Option, Some, None, option_map, IsSome, arith, Bool, true, false, length, slice_get, slice_set, unwrap_or, replicate, cond, zero, suc, inl, inr}
+use Rattle.std.proofs.Common.{◌≡◌, ◌∙◌, ℕ, ◌<◌, ◌≤◌, refl, sym, ap, subst, List, Option, Some, None, option_map, IsSome, arith, true, false, length, slice_get, slice_set, unwrap_or, replicate, zero, suc, inl, inr}
 use Rattle.std.specs.Option.{option_map_or}
 use Rattle.cell_arena.specs.CellRecord.{CellRecord, index_of, ChangesOnly, with_seq, with_before, with_after, with_new, fresh, settled, anchor_with, HasOnlyAnchor}
 use Rattle.cell_arena.specs.Rows.{Rows, processes_of, made_of, cell_of}
-use Rattle.uni_model.specs.Places.{Name, Place, Content, Memory, written, after_of, new_of}
+use Rattle.uni_model.specs.Places.{Name, Place, Content, written, after_of, new_of}
 use Rattle.uni_model.specs.Places.Name.{Anchor, Of}
 use Rattle.uni_model.specs.Places.Place.{Announced, HeadOf, InvOf, SeqOf, AfterOf, NewOf, BeforeOf}
 use Rattle.uni_model.specs.Places.Content.{CellName, Invocation, Number, Link, Settled}

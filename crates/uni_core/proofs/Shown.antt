@@ -1,20 +1,19 @@
 -- The world that is shown, after a process's own data changed.
-use Rattle.std.proofs.Common.{◌≡◌, ◌≢◌, ◌∙◌, ℕ, zero, suc, ◌+◌, ◌*◌, ◌<◌, ◌≤◌, ◌^◌, ◌⊎◌, inl, inr, refl, sym, ap, subst, List, Option, Some, None, option_map, option_and_then, IsSome, arith, cond, Bool, true, false, nat_eq, length, slice_get, slice_set, min}
+use Rattle.std.proofs.Common.{◌≡◌, ◌≢◌, ◌∙◌, ℕ, ◌+◌, ◌*◌, ◌<◌, ◌≤◌, ◌^◌, inl, inr, refl, sym, ap, subst, List, Option, Some, None, option_map, arith, length, slice_get, slice_set}
 use Rattle.std.specs.Option.{option_map_or}
 use Rattle.std.proofs.Math.ListN.{length-set}
 use Rattle.cell_arena.proofs.Lists.{slice_get-set_same, slice_get-set_other}
-use Rattle.cell_arena.specs.Rows.{Rows, processes_of, made_of, cell_of}
+use Rattle.cell_arena.specs.Rows.{processes_of, made_of}
 use Rattle.cell_arena.specs.CellRecord.{ChangesOnly}
-use Rattle.uni_model.specs.Places.{Name, Place, Content, Memory, written, set_at, seq_of, new_of, inv_of}
+use Rattle.uni_model.specs.Places.{Memory, written, set_at, seq_of}
 use Rattle.uni_model.specs.Places.Name.{Anchor, Of}
 use Rattle.uni_model.specs.Places.Place.{InvOf}
 use Rattle.uni_model.specs.Places.Content.{Invocation}
 use Rattle.uni_model.specs.Stages.{Stage as at, Pending as PendingAt}
-use Rattle.uni_model.specs.Transition.{place_of, effect_of, turn_of}
-use Rattle.uni_model.specs.Worlds.{WorldOf, Event, call_begun, stepped, happened, call_after, sum_below}
-use Rattle.uni_model.specs.Worlds.Event.{Call, Step}
+use Rattle.uni_model.specs.Transition.{place_of, turn_of}
+use Rattle.uni_model.specs.Worlds.{WorldOf, call_begun, stepped, call_after}
 use Rattle.uni_model.specs.Settled.{Grows}
-use Rattle.uni_model.specs.Invariant.{Invariant, IsSound}
+use Rattle.uni_model.specs.Invariant.{Invariant}
 use Rattle.uni_model.proofs.Written.{number_cases}
 use Rattle.uni_model.proofs.Simulation.{set_at_same}
 use Rattle.uni_model.proofs.Kept.{Invariant-begun, Invariant-stepped}
@@ -22,8 +21,8 @@ use Rattle.uni_core.specs.declared.local.Local.{Local}
 use Rattle.uni_core.specs.declared.stage.Stage.{Stage}
 use Rattle.uni_core.specs.declared.stage.Stage.TheVariants as stages
 use Rattle.uni_core.specs.declared.stage.Pending.{Pending}
-use Rattle.uni_core.specs.Shared.{Shared, name_of, memory_of, HasShapeOf}
-use Rattle.uni_core.specs.Standing.{stage_of, pending_of, Takes, effect_at}
+use Rattle.uni_core.specs.Shared.{Shared, name_of, memory_of}
+use Rattle.uni_core.specs.Standing.{stage_of, pending_of, Takes}
 use Rattle.uni_core.specs.Whole.{Whole, call_at, shown_at, shown, IsWorld, counted_step}
 use Rattle.uni_core.specs.Counts.{capped}
 

@@ -1,23 +1,22 @@
 -- Where a call is pending, its next step can be taken, and its last step finds a response.
-use Rattle.std.proofs.Common.{◌≡◌, ◌≢◌, ◌∙◌, ℕ, zero, suc, ◌+◌, ◌*◌, ◌<◌, ◌≤◌, ◌^◌, ◌%◌, ◌⊎◌, inl, inr, refl, sym, ap, subst, List, Option, Some, None, option_map, option_and_then, IsSome, arith, Bool, true, false, slice_get, cond, nat_eq, nat_lt}
+use Rattle.std.proofs.Common.{◌≡◌, ◌∙◌, ℕ, zero, suc, ◌+◌, ◌*◌, ◌<◌, ◌≤◌, ◌^◌, ◌%◌, ◌⊎◌, inl, inr, refl, sym, ap, subst, Option, Some, None, option_map, option_and_then, IsSome, arith, Bool, true, false, cond, nat_eq, nat_lt}
 use Rattle.std.specs.Option.{option_map_or}
 use Rattle.cell_arena.specs.CellRecord.{CellRecord}
-use Rattle.cell_arena.specs.Rows.{Rows, processes_of, made_of, cell_of}
-use Rattle.uni_model.specs.Places.{Name, Memory, Content, number_in, seq_of, new_of, inv_of, after_of, head_of, head_seq}
+use Rattle.cell_arena.specs.Rows.{processes_of, cell_of}
+use Rattle.uni_model.specs.Places.{Name, Content, number_in, seq_of, inv_of, after_of}
 use Rattle.uni_model.specs.Places.Name.{Anchor, Of}
-use Rattle.uni_model.specs.Stages.{Stage as at, Pending as PendingAt}
+use Rattle.uni_model.specs.Stages.{Stage as at}
 use Rattle.uni_model.specs.Chain.{response_in}
-use Rattle.uni_model.specs.Worlds.{WorldOf, sum_below, calls_begun}
-use Rattle.uni_model.specs.Invariant.{Has, AtHead, IsCellOf, Invariant, IsSound, Stands}
+use Rattle.uni_model.specs.Worlds.{sum_below, calls_begun}
+use Rattle.uni_model.specs.Invariant.{Has, AtHead, IsCellOf, Stands}
 use Rattle.uni_model.proofs.Steps.{linked_call, head_number}
-use Rattle.uni_model.proofs.Sums.{sum_below-le}
 use Rattle.uni_model.proofs.Values.{response-settled}
 use Rattle.uni_model.proofs.Simulation.{enough}
 use Rattle.uni_core.specs.declared.stage.Stage.{Stage}
 use Rattle.uni_core.specs.declared.stage.Stage.TheVariants.{Announce, ScanHead, ScanSeq, WriteScan, Test, ReadAnnounce, ReadHelpSeq, DecideAfter, DecideNew, WriteBefore, WriteSeq, WriteHead, Finish}
-use Rattle.uni_core.specs.Shared.{Shared, name_of, cell_named, memory_of}
-use Rattle.uni_core.specs.Standing.{stage_of, pending_of, CanStep, IsThere, effect_at, turns_to}
-use Rattle.uni_model.specs.Transition.{place_of, turn_of, effect_of, scanned, better}
+use Rattle.uni_core.specs.Shared.{Shared, name_of, memory_of}
+use Rattle.uni_core.specs.Standing.{stage_of, CanStep, IsThere, effect_at, turns_to}
+use Rattle.uni_model.specs.Transition.{place_of, turn_of, effect_of, better}
 use Rattle.uni_core.specs.Whole.{Whole, shown, IsWorld, response_at_stage}
 use Rattle.uni_core.proofs.Named.{cell_named-name_of}
 

@@ -1,7 +1,7 @@
 -- What a step leaves.
-use Rattle.std.proofs.Common.{◌≡◌, ◌≢◌, ◌∙◌, ℕ, ◌+◌, ◌<◌, ◌≤◌, refl, sym, ap, subst, List, Option, Some, None, option_map, option_and_then, is_some, IsSome, IfSome, arith, Bool, true, false, length, slice_get, slice_set, get_or, Result, Ok, Err, OnErr}
-use Rattle.cell_arena.specs.Rows.{Rows, processes_of, cell_of}
-use Rattle.uni_model.specs.Places.{Name, Memory, written, new_of}
+use Rattle.std.proofs.Common.{◌≡◌, ◌∙◌, ℕ, ◌+◌, ◌<◌, ◌≤◌, refl, sym, ap, subst, Option, Some, None, option_map, is_some, IsSome, arith, Bool, true, false, slice_get, slice_set, get_or, Result, Ok, Err, OnErr}
+use Rattle.cell_arena.specs.Rows.{processes_of, cell_of}
+use Rattle.uni_model.specs.Places.{Memory}
 use Rattle.uni_model.specs.Stages.{Stage as at, Pending as PendingAt}
 use Rattle.uni_model.specs.Transition.{place_of, turn_of}
 use Rattle.uni_model.specs.Chain.{response_in}
@@ -15,11 +15,11 @@ use Rattle.uni_core.specs.declared.stage.Stage.{Stage}
 use Rattle.uni_core.specs.declared.stage.Stage.TheVariants.{Announce, ScanHead, ScanSeq, WriteScan, Test, ReadAnnounce, ReadHelpSeq, DecideAfter, DecideNew, WriteBefore, WriteSeq, WriteHead, Finish}
 use Rattle.uni_core.specs.declared.stage.Pending.{Pending}
 use Rattle.uni_core.specs.Shared.{Shared, name_of, memory_of}
-use Rattle.uni_core.specs.Standing.{stage_of, pending_of, Takes, CanStep, MayBeRefused, turns_to, effect_at}
+use Rattle.uni_core.specs.Standing.{stage_of, pending_of, Takes, CanStep, MayBeRefused, turns_to}
 use Rattle.uni_core.specs.Counts.{capped}
-use Rattle.uni_core.specs.Whole.{Whole, shown, IsWorld, Follows, counted_step, MayNeedMemory, MayNeedMemoryAt, response_of_step, response_at_stage}
+use Rattle.uni_core.specs.Whole.{Whole, shown, IsWorld, Follows, counted_step, MayNeedMemory, MayNeedMemoryAt, response_of_step}
 use Rattle.uni_core.proofs.Begin.{local_here}
-use Rattle.uni_core.proofs.Shown.{stepped_whole, stepped_local, shown-stepped, IsWorld-stepped, pending_is}
+use Rattle.uni_core.proofs.Shown.{stepped_whole, stepped_local, shown-stepped, IsWorld-stepped}
 use Rattle.uni_core.proofs.Steppable.{CanStep-pending, turns_to-effect, response-finish, there_response, goes_on, ends_at}
 
 refused_at : {S I R : Type 0} (a : Shared S I R) (stage : Stage) → MayBeRefused a stage → MayNeedMemoryAt (memory_of a) (stage_of (processes_of a.cells) stage)

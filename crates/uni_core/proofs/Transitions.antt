@@ -1,8 +1,8 @@
 -- Single steps over the shared places.
-use Rattle.std.proofs.Common.{◌≡◌, ◌≢◌, ◌∙◌, ℕ, refl, sym, ap, subst, Option, Some, None, is_some, IsSome, arith, Bool, true, false, ◌<◌, ◌≤◌, ◌⊎◌, inl, inr, ◌%◌, ◌==◌, if◌then◌else◌, unwrap_or}
+use Rattle.std.proofs.Common.{◌≡◌, ◌∙◌, ℕ, refl, sym, ap, subst, Option, Some, None, is_some, IsSome, arith, true, false, ◌<◌, ◌≤◌, ◌⊎◌, inl, inr, ◌%◌, ◌==◌, if◌then◌else◌, unwrap_or}
 use Rattle.std.specs.Option.{option_copied}
 use Rattle.std.specs.Borrow.{Bor}
-use Rattle.uni_model.specs.Places.{Name, Place, Content, Memory, written, new_of, inv_of, announced, head_of, seq_of, after_of}
+use Rattle.uni_model.specs.Places.{Name, Content, written, new_of, announced, head_of, seq_of, after_of}
 use Rattle.uni_model.specs.Places.Place.{NewOf}
 use Rattle.uni_model.specs.Places.Content.{Settled}
 use Rattle.uni_model.specs.Places.Place.{HeadOf, AfterOf}

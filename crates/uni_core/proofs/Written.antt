@@ -1,14 +1,13 @@
 -- A field that is written in the arena is a place that is written.
-use Rattle.std.proofs.Common.{◌≡◌, ◌≢◌, ◌∙◌, ℕ, zero, suc, ◌+◌, ◌<◌, ◌≤◌, ◌⊎◌, inl, inr, refl, sym, ap, subst, List, Option, Some, None, option_map, IsSome, arith, cond, Bool, true, false, nat_eq, if◌then◌else◌, length, slice_get, slice_set}
+use Rattle.std.proofs.Common.{◌≡◌, ◌∙◌, ℕ, ◌<◌, ◌≤◌, inl, inr, refl, sym, ap, List, Option, Some, None, option_map, IsSome, cond, Bool, true, false, nat_eq, length, slice_get, slice_set}
 use Rattle.std.specs.Option.{option_map_or}
 use Rattle.cell_arena.specs.CellRecord.{CellRecord, index_of, ChangesOnly, with_seq, with_before, with_after, with_new, fresh, settled}
-use Rattle.cell_arena.specs.Rows.{Rows, processes_of, cell_of}
-use Rattle.uni_model.specs.Places.{Name, Place, Content, Memory, name_eq, written}
-use Rattle.uni_model.specs.Places.Name.{Anchor, Of}
+use Rattle.uni_model.specs.Places.{Name, Place, Content, name_eq, written}
+use Rattle.uni_model.specs.Places.Name.{Of}
 use Rattle.uni_model.specs.Places.Place.{Announced, HeadOf, InvOf, SeqOf, AfterOf, NewOf, BeforeOf}
 use Rattle.uni_model.specs.Places.Content.{CellName, Invocation, Number, Link, Settled}
 use Rattle.uni_model.proofs.Written.{name_cases, number_cases}
-use Rattle.uni_core.specs.Shared.{Shared, name_of, cell_named, entry_name, memory_at}
+use Rattle.uni_core.specs.Shared.{name_of, cell_named, entry_name, memory_at}
 use Rattle.uni_core.proofs.Named.{cell_named-name_of, changed_named, name_of-index_of}
 use Rattle.cell_arena.proofs.Lists.{slice_get-set_same, slice_get-set_other}
 

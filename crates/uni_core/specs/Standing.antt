@@ -1,8 +1,7 @@
 -- Where a process stands, as the code has it and as the definitions do; and the transition of each stage.
-use Rattle.std.specs.Prelude.{◌≡◌, ℕ, ◌+◌, ◌<◌, ◌^◌, Option, Some, None, IsSome}
-use Rattle.cell_arena.specs.CellRecord.{CellRecord}
-use Rattle.cell_arena.specs.Rows.{Rows, processes_of, cell_of}
-use Rattle.uni_model.specs.Places.{Name, Memory, written, inv_of, new_of}
+use Rattle.std.specs.Prelude.{◌≡◌, ℕ, ◌<◌, ◌^◌, Option, Some, None, IsSome}
+use Rattle.cell_arena.specs.Rows.{processes_of, cell_of}
+use Rattle.uni_model.specs.Places.{Name, written, inv_of, new_of}
 use Rattle.uni_model.specs.Stages.{Pending as PendingAt}
 use Rattle.uni_model.specs.Stages.{Stage as at}
 use Rattle.uni_model.specs.Transition.{Effect, place_of, effect_of, c_of, d_of}

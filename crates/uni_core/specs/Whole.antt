@@ -2,14 +2,14 @@
 use Rattle.std.specs.Prelude.{◌≡◌, ℕ, ◌+◌, ◌-◌, ◌*◌, ◌<◌, ◌≤◌, ◌^◌, List, Option, Some, None, option_map, option_and_then, slice_get, length, IfSome}
 use Rattle.std.specs.Option.{option_map_or}
 use Rattle.cell_arena.specs.Rows.{processes_of, made_of}
-use Rattle.uni_model.specs.Places.{Name, Memory, set_at, seq_of, new_of}
+use Rattle.uni_model.specs.Places.{Memory, set_at, seq_of, new_of}
 use Rattle.uni_model.specs.Places.Name.{Anchor}
 use Rattle.uni_model.specs.Stages.{Stage as at, Pending as PendingAt}
 use Rattle.uni_model.specs.Chain.{response_in}
-use Rattle.uni_model.specs.Worlds.{WorldOf, Event, happened}
-use Rattle.uni_model.specs.Worlds.Event.{Call, Step}
+use Rattle.uni_model.specs.Worlds.{WorldOf, happened}
+use Rattle.uni_model.specs.Worlds.Event.{Step}
 use Rattle.uni_model.specs.AtomicObject.{Atomic, Act, AcceptsAll}
-use Rattle.uni_model.specs.History.{Shows, acts_of}
+use Rattle.uni_model.specs.History.{Shows}
 use Rattle.uni_model.specs.Invariant.{Invariant}
 use Rattle.seq_object.specs.declared.call_id.CallId.{CallId}
 use Rattle.uni_core.specs.declared.local.Local.{Local}

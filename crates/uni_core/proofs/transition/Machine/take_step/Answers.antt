@@ -1,10 +1,4 @@
-use Rattle.std.proofs.Common.{◌≡◌, ◌∙◌, ◌%◌, ◌==◌, if◌then◌else◌, refl, ap, subst, inl, inr, Some}
-use Rattle.cell_arena.specs.Rows.{processes_of}
-use Rattle.uni_model.specs.Places.{announced}
-use Rattle.uni_model.specs.Transition.{scanned}
-use Rattle.uni_core.specs.Shared.{name_of, memory_of}
-use Rattle.uni_core.specs.Standing.{stage_of}
-use Rattle.uni_model.specs.Stages.{Stage as at}
+use Rattle.std.proofs.Common.{refl, inl, inr}
 use Rattle.uni_core.proofs.Transitions.{HasShapeOf-same, Takes-finish, Takes-scan_head, Takes-scan_seq, Takes-test, Takes-read_announce, Takes-read_help_seq, Takes-decide_after}
 use Rattle.uni_core.proofs.transition.Machine.take_step.Goals as goal
 use Rattle.uni_core.proofs.transition.Machine.take_step.Goals.{then-c_seq-mine_seq, else-c_seq-mine_seq, in-Announce, in-ScanHead, in-ScanSeq, in-WriteScan, in-Test, in-ReadAnnounce, in-ReadHelpSeq, in-DecideAfter, in-DecideNew+in_ok-settle_new-in-DecideNew, in-WriteBefore, in-WriteSeq, in-WriteHead}

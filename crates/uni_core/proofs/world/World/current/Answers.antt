@@ -1,4 +1,4 @@
-use Rattle.std.proofs.Common.{◌≡◌, ◌<◌, ◌≤◌, Fits, w32, arith}
+use Rattle.std.proofs.Common.{arith}
 use Rattle.uni_core.proofs.Begin.{begun_one, few_enough, current_now}
 use Rattle.uni_core.proofs.world.World.current.Goals as goal
 

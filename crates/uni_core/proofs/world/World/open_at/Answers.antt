@@ -1,4 +1,4 @@
-use Rattle.std.proofs.Common.{◌≡◌, ◌+◌, ◌*◌, ◌<◌, ◌^◌, ◌∙◌, ap, arith, replicate}
+use Rattle.std.proofs.Common.{◌*◌, ◌∙◌, ap, replicate}
 use Rattle.uni_core.proofs.OpenedWorld.{IsWorld-first, shown-first, low_enough}
 use Rattle.uni_core.proofs.world.World.open_at.Goals as goal
 
