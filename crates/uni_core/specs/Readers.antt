@@ -1,8 +1,15 @@
 -- What the readers of a world answer.
-use Rattle.std.specs.Prelude.{◌≡◌, Option, Some, None, refl}
+use Rattle.std.specs.Prelude.{◌≡◌, ℕ, Option, Some, None, refl}
 use Rattle.seq_object.specs.declared.call_id.CallId.{CallId}
-use Rattle.uni_model.specs.Places.{Name}
+use Rattle.uni_model.specs.Places.{Name, Place}
 use Rattle.uni_model.specs.Places.Name.{Anchor, Of}
+use Rattle.uni_model.specs.Places.Place.{Announced, HeadOf, SeqOf, AfterOf, NewOf, BeforeOf}
+use Rattle.uni_model.specs.Stages.{Stage}
+use Rattle.uni_model.specs.Stages.Stage.{Announce, ScanHead, ScanSeq, WriteScan, Test, ReadAnnounce, ReadHelpSeq, DecideAfter, DecideNew, WriteBefore, WriteSeq, WriteHead, Finish}
+use Rattle.uni_core.specs.declared.stage.StepKind.{StepKind}
+use Rattle.uni_core.specs.declared.stage.StepKind.TheVariants as kinds
+use Rattle.uni_core.specs.declared.stage.Place.{Place as PlaceById}
+use Rattle.uni_core.specs.declared.stage.Place.TheVariants as by_id
 use Rattle.uni_core.specs.Shared.{name_of}
 
 -- the call that a cell was made for; nothing of the anchor
@@ -16,3 +23,38 @@ call_of_cell_6 = refl
 
 call_of_anchor : call_of_name (name_of 3 0) ≡ None
 call_of_anchor = refl
+
+-- the kind of the next step of a process that stands there
+abbrev pub kind_of : Stage → StepKind
+kind_of Announce = kinds.Announce
+kind_of (ScanHead q best best_seq) = kinds.ScanHead
+kind_of (ScanSeq q best best_seq h) = kinds.ScanSeq
+kind_of (WriteScan best best_seq) = kinds.WriteScan
+kind_of (Test c c_seq) = kinds.Test
+kind_of (ReadAnnounce c c_seq) = kinds.ReadAnnounce
+kind_of (ReadHelpSeq c c_seq help) = kinds.ReadHelpSeq
+kind_of (DecideAfter c c_seq prefer) = kinds.DecideAfter
+kind_of (DecideNew c c_seq d) = kinds.DecideNew
+kind_of (WriteBefore c c_seq d) = kinds.WriteBefore
+kind_of (WriteSeq c c_seq d) = kinds.WriteSeq
+kind_of (WriteHead c c_seq d) = kinds.WriteHead
+kind_of (Finish c_seq mine_seq) = kinds.Finish
+
+-- a place that names its cell by index, with the cell's name among n processes
+abbrev pub place_named : (n : ℕ) → PlaceById → Place
+place_named n (by_id.Announced p) = Announced p
+place_named n (by_id.HeadOf p) = HeadOf p
+place_named n (by_id.SeqOf c) = SeqOf (name_of n c)
+place_named n (by_id.AfterOf c) = AfterOf (name_of n c)
+place_named n (by_id.NewOf c) = NewOf (name_of n c)
+place_named n (by_id.BeforeOf c) = BeforeOf (name_of n c)
+
+kind_of_last : kind_of (Finish 1 2) ≡ kinds.Finish
+kind_of_last = refl
+
+-- the number of the cell at 6, and what is decided after the anchor
+place_of_cell_6 : place_named 3 (by_id.SeqOf 6) ≡ SeqOf (Of 2 1)
+place_of_cell_6 = refl
+
+place_of_anchor : place_named 3 (by_id.AfterOf 0) ≡ AfterOf Anchor
+place_of_anchor = refl

@@ -1,5 +1,9 @@
 //! Where a process stands in its call.
 
+ghost use Rattle.std.specs.Prelude.{◌≡◌, ◌<◌, ℕ};
+ghost use Rattle.uni_model.specs.Transition.{place_of};
+ghost use Rattle.uni_core.specs.Shared.{name_of};
+
 use cell_arena::CellId;
 
 /// The kinds of step, in the order in which a call takes them (Herlihy 1991, section 4).
@@ -111,6 +115,55 @@ pub(crate) enum Stage {
         c_seq: u64,
         mine_seq: u64,
     },
+}
+
+impl Stage {
+    ghost use Rattle.uni_core.specs.Standing.{stage_of};
+    ghost use Rattle.uni_core.specs.Readers.{kind_of, place_named};
+
+    /// The kind of the next step.
+    pub(crate) fn kind(self) -> StepKind
+        ensures { (n : ℕ) → result ≡ kind_of (stage_of n self) }
+    {
+        match self {
+            Stage::Announce => StepKind::Announce,
+            Stage::ScanHead { .. } => StepKind::ScanHead,
+            Stage::ScanSeq { .. } => StepKind::ScanSeq,
+            Stage::WriteScan { .. } => StepKind::WriteScan,
+            Stage::Test { .. } => StepKind::Test,
+            Stage::ReadAnnounce { .. } => StepKind::ReadAnnounce,
+            Stage::ReadHelpSeq { .. } => StepKind::ReadHelpSeq,
+            Stage::DecideAfter { .. } => StepKind::DecideAfter,
+            Stage::DecideNew { .. } => StepKind::DecideNew,
+            Stage::WriteBefore { .. } => StepKind::WriteBefore,
+            Stage::WriteSeq { .. } => StepKind::WriteSeq,
+            Stage::WriteHead { .. } => StepKind::WriteHead,
+            Stage::Finish { .. } => StepKind::Finish,
+        }
+    }
+
+    /// The one place that the next step of process `p` touches, of `n` processes, in the call of
+    /// cell `mine`.
+    pub(crate) fn place(self, n: u64, p: u64, mine: CellId) -> Place
+        requires { p < n }
+        ensures { place_named n result ≡ place_of n p (name_of n mine) (stage_of n self) }
+    {
+        match self {
+            Stage::Announce => Place::Announced(p),
+            Stage::ScanHead { q, .. } => Place::HeadOf(q),
+            Stage::ScanSeq { head, .. } => Place::SeqOf(head),
+            Stage::WriteScan { .. } | Stage::WriteHead { .. } | Stage::Finish { .. } => {
+                Place::HeadOf(p)
+            }
+            Stage::Test { .. } => Place::SeqOf(mine),
+            Stage::ReadAnnounce { c: _, c_seq } => Place::Announced(c_seq % n),
+            Stage::ReadHelpSeq { help, .. } => Place::SeqOf(help),
+            Stage::DecideAfter { c, .. } => Place::AfterOf(c),
+            Stage::DecideNew { d, .. } => Place::NewOf(d),
+            Stage::WriteBefore { d, .. } => Place::BeforeOf(d),
+            Stage::WriteSeq { d, .. } => Place::SeqOf(d),
+        }
+    }
 }
 
 /// A call that is pending: its cell, and where its process stands.

@@ -1,6 +1,6 @@
 //! A world of processes that share an object.
 
-ghost use Rattle.std.specs.Prelude.{ℕ, ◌≡◌, ◌+◌, ◌*◌, ◌<◌, ◌≤◌, ◌^◌, ◌⊎◌, ◌↔◌, IsSome, IfOk, OnOk, OnErr, IfErr, IsErrOf, None, replicate};
+ghost use Rattle.std.specs.Prelude.{ℕ, ◌≡◌, ◌+◌, ◌*◌, ◌<◌, ◌≤◌, ◌^◌, ◌⊎◌, ◌↔◌, IsSome, IfOk, OnOk, OnErr, IfErr, IsErrOf, None, replicate, option_map};
 ghost use Rattle.cell_arena.specs.Rows.{processes_of, made_of, cell_of};
 ghost use Rattle.uni_model.specs.Places.{seq_of};
 ghost use Rattle.uni_model.specs.Places.Name.{Anchor};
@@ -8,14 +8,16 @@ ghost use Rattle.uni_model.specs.Invariant.{Invariant};
 ghost use Rattle.uni_model.specs.Worlds.{opened, happened};
 ghost use Rattle.uni_model.specs.Worlds.Event.{Call, Step};
 ghost use Rattle.uni_model.specs.History.{acts_of};
+ghost use Rattle.uni_model.specs.Transition.{place_of};
 ghost use Rattle.uni_core.specs.Shared.{name_of};
-ghost use Rattle.uni_core.specs.Readers.{call_of_name};
+ghost use Rattle.uni_core.specs.Standing.{pending_of};
+ghost use Rattle.uni_core.specs.Readers.{call_of_name, kind_of, place_named};
 ghost use Rattle.uni_core.specs.Whole.{shown, current_of, counted_step, response_of_step, progress_of, Follows, KeepsFixed, MayNeedMemory};
 
 use crate::fault::{BeginFault, OpenFault, Progress, StepFault};
 use crate::local::Local;
 use crate::shared::Shared;
-use crate::stage::{Pending, Stage};
+use crate::stage::{Pending, Place, Stage, StepKind};
 use crate::transition::Machine;
 use cell_arena::{CellId, Cells, RowCells};
 use seq_object::{CallId, SeqObject};
@@ -263,6 +265,37 @@ impl<O: SeqObject> World<O> {
         ensures { result ≡ (shown self.now).turns p }
     {
         self.locals[p as usize].turns
+    }
+
+    /// The pending call of process `p`, with where it stands.
+    fn standing(&self, p: u64) -> Option<Pending>
+        requires { p < (shown self.now).n }
+        ensures { option_map (pending_of (shown self.now).n) result ≡ (shown self.now).call p }
+    {
+        self.locals[p as usize].pending()
+    }
+
+    /// The kind of the next step of process `p`; `None` where it has no call pending.
+    pub fn next_kind(&self, p: u64) -> Option<StepKind>
+        requires { p < (shown self.now).n }
+        ensures { result ≡ option_map (λ c. kind_of c.stage) ((shown self.now).call p) }
+    {
+        let Some(call) = self.standing(p) else {
+            return None;
+        };
+        Some(call.stage.kind())
+    }
+
+    /// The one shared place that the next step of process `p` touches; `None` where it has no call
+    /// pending.
+    pub fn next_place(&self, p: u64) -> Option<Place>
+        requires { p < (shown self.now).n }
+        ensures { option_map (place_named (shown self.now).n) result ≡ option_map (λ c. place_of (shown self.now).n p c.mine c.stage) ((shown self.now).call p) }
+    {
+        let Some(call) = self.standing(p) else {
+            return None;
+        };
+        Some(call.stage.place(self.processes(), p, call.mine))
     }
 
     /// The cells of the present era, to be read.
