@@ -1,0 +1,16 @@
+use Rattle.std.proofs.Common.{ℕ, ◌-◌, ◌^◌, IsSome, map}
+use Rattle.cell_arena.specs.Rows.{cell_of}
+use Rattle.uni_core.specs.Shared.{name_of}
+use Rattle.uni_core.specs.Whole.{shown}
+use Rattle.uni_log.specs.Shown.{entry_shown}
+use Rattle.uni_log.proofs.Walk.{IsAlong}
+use Rattle.uni_log.proofs.log.Log.entries.Given as goal
+
+abbrev pub invariant-loop-next : goal.invariant-loop-next
+invariant-loop-next g l = record {
+  there : IsSome (cell_of l.world.shared.cells l.at);
+  along : IsAlong (shown l.world) (name_of (shown l.world).n l.at) l.seq (map entry_shown l.entries.items);
+}
+
+abbrev pub decreases-loop-next : goal.decreases-loop-next
+decreases-loop-next g l = 2 ^ 48 - l.seq

@@ -1,0 +1,94 @@
+//! The reader of the list.
+
+ghost use Rattle.std.specs.Prelude.{◌≡◌, IfOk, IsSome, Some, map};
+ghost use Rattle.cell_arena.specs.Rows.{cell_of};
+ghost use Rattle.uni_model.specs.Chain.{invoked_at, response_in};
+ghost use Rattle.uni_model.specs.History.{log};
+ghost use Rattle.uni_core.specs.Shared.{name_of};
+ghost use Rattle.uni_core.specs.Whole.{shown};
+ghost use Rattle.uni_log.specs.Shown.{entry_shown};
+
+use crate::entry::Entry;
+use cell_arena::{CellId, Cells};
+use seq_object::SeqObject;
+use std::alloc::{AllocError, Global};
+use std::marker::Model;
+use uni_core::World;
+
+/// The log of a world: what its list has, from the anchor on.
+///
+/// A contract sees the world.
+#[derive(Drop)]
+pub struct Log<'a, O: SeqObject> {
+    world: &'a World<O>,
+}
+
+impl<'a, O: SeqObject> Model for Log<'a, O> {
+    ghost use Rattle.uni_core.specs.Whole.{Whole};
+
+    ghost Value = { Whole O O.State O.Inv O.Resp };
+
+    ghost view = { λ l. l.world.now };
+}
+
+/// The entry of a cell that was made for a call, with this number.
+///
+/// An `Err` says that memory was refused.
+fn entry_at<O: SeqObject>(
+    alloc: Global,
+    world: &World<O>,
+    id: CellId,
+    seq: u64,
+) -> Result<Entry<O::Inv, O::Resp>, AllocError>
+    requires there { IsSome (cell_of world.now.shared.cells id) }
+    requires call { IsSome (invoked_at (shown world.now).memory (name_of (shown world.now).n id)) }
+    ensures seq { IfOk result (λ e. (entry_shown e).number ≡ seq) }
+    ensures call { IfOk result (λ e. invoked_at (shown world.now).memory (name_of (shown world.now).n id) ≡ Some (entry_shown e).call) }
+    ensures reply { IfOk result (λ e. (entry_shown e).response ≡ response_in (shown world.now).memory (name_of (shown world.now).n id)) }
+{
+    world.shape();
+    let cells = world.cells();
+    let call = world.call_of(id).unwrap();
+    let inv = O::copy_inv(alloc, cells.inv(id).unwrap())?;
+    let reply = match cells.new_of(id) {
+        Some((_, reply)) => *reply,
+        None => None,
+    };
+    Ok(Entry {
+        seq,
+        call,
+        inv,
+        reply,
+    })
+}
+
+impl<'a, O: SeqObject> Log<'a, O> {
+    /// The log of a world.
+    pub fn of(world: &'a World<O>) -> Self
+        ensures { result ≡ world.now }
+    {
+        Log { world }
+    }
+
+    /// The entries of the present era: the calls in the list, in the order in which they took
+    /// effect, from the one after the anchor on. Each has its number, what it asks for, and its
+    /// response where that is settled.
+    ///
+    /// An `Err` says that memory was refused.
+    pub fn entries(&self, alloc: Global) -> Result<Vec<Entry<O::Inv, O::Resp>>, AllocError>
+        ensures { IfOk result (λ entries. map entry_shown entries.items ≡ log (shown self.now)) }
+    {
+        let world = self.world;
+        world.shape();
+        let cells = world.cells();
+        let mut entries = Vec::new(alloc);
+        let mut at = CellId::anchor();
+        let mut seq = cells.seq(at);
+        while let Some(next) = cells.after(at) {
+            seq += 1;
+            entries.push(entry_at(alloc, world, next, seq)?)?;
+            at = next;
+        }
+        Ok(entries)
+    }
+}
