@@ -3,7 +3,7 @@
 use seq_object::CallId;
 
 /// An entry of the log: a call that took effect.
-#[derive(Debug, Drop)]
+#[derive(Debug, Drop, PartialEq, Eq)]
 pub struct Entry<I, R> {
     /// Its number in the list; the anchor's number is one less than the first entry's.
     pub seq: u64,

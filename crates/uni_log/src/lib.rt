@@ -4,6 +4,8 @@
 
 mod entry;
 mod log;
+#[cfg(test)]
+mod tests;
 
 pub use entry::Entry;
 pub use log::Log;

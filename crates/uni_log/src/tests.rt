@@ -1,0 +1,167 @@
+//! Schedules worked out by hand: which calls are in the list, with their numbers and responses.
+
+use crate::{Entry, Log};
+use seq_object::{CallId, SeqObject};
+use std::alloc::{AllocError, Global};
+use std::process::Abort;
+use std::test::Fail;
+use uni_core::{Progress, World};
+
+/// Keeps the last number; the response is the number before.
+#[derive(Drop)]
+struct Last;
+
+impl SeqObject for Last {
+    ghost use Rattle.seq_object.specs.Exact.{nat_eq_exact};
+
+    type State = u32;
+
+    type Inv = u32;
+
+    type Resp = u32;
+
+    ghost initial = { λ _. 0 };
+
+    ghost next = { λ _ _ number. number };
+
+    ghost answer = { λ _ before _. before };
+
+    ghost same_inv = { nat_eq_exact };
+
+    ghost same_resp = { nat_eq_exact };
+
+    fn start(&self, _alloc: Global) -> Result<u32, AllocError> {
+        Ok(0)
+    }
+
+    fn apply(&self, _alloc: Global, before: &u32, number: &u32) -> Result<(u32, u32), AllocError> {
+        Ok((*number, *before))
+    }
+
+    fn copy_inv(_alloc: Global, number: &u32) -> Result<u32, AllocError> {
+        Ok(*number)
+    }
+}
+
+/// A world of so many processes with rows of 8 cells.
+fn opened(alloc: Global, n: u64) -> Result<World<Last>, Fail> {
+    World::open(alloc, Last, n, 8).map_err(|_| Fail::from("no world was opened"))
+}
+
+/// A process begins a call.
+fn begins(alloc: Global, world: &mut World<Last>, p: u64, number: u32) -> Result<(), Fail> {
+    match world.begin(alloc, p, &number) {
+        Ok(_) => Ok(()),
+        Err(_) => Err(Fail::from("the call should have begun")),
+    }
+}
+
+/// Takes so many steps of a process whose call goes on after each.
+fn goes(alloc: Global, world: &mut World<Last>, p: u64, count: u64) -> Result<(), Fail> {
+    for _ in 0..count {
+        match world.step(alloc, p) {
+            Ok(Progress::Going) => {}
+            _ => return Err(Fail::from("the call should go on")),
+        }
+    }
+    Ok(())
+}
+
+/// Takes steps of a process to the end of its call.
+fn finishes(alloc: Global, world: &mut World<Last>, p: u64) -> Result<(), Fail> {
+    for _ in 0..200 {
+        match world.step(alloc, p) {
+            Ok(Progress::Going) => {}
+            Ok(Progress::Done(_)) => return Ok(()),
+            Err(_) => return Err(Fail::from("a step was refused")),
+        }
+    }
+    Err(Fail::from("the call should have returned"))
+}
+
+/// An entry of the log.
+fn entry(seq: u64, process: u32, nth: u64, inv: u32, reply: Option<u32>) -> Entry<u32, u32> {
+    Entry {
+        seq,
+        call: CallId { process, nth },
+        inv,
+        reply,
+    }
+}
+
+/// The log of a world has these entries.
+fn has_log(
+    rt: &impl Abort,
+    alloc: Global,
+    world: &World<Last>,
+    want: &[Entry<u32, u32>],
+) -> Result<(), Fail> {
+    let entries = Log::of(world).entries(alloc)?;
+    assert_eq!(rt; entries.as_slice(), want);
+    Ok(())
+}
+
+#[test]
+fn a_slow_call_comes_last(rt: HostRuntime) -> Result<(), Fail> {
+    let alloc = rt.alloc();
+    let mut world = opened(alloc, 2)?;
+    begins(alloc, &mut world, 0, 10)?;
+    goes(alloc, &mut world, 0, 10)?;
+    begins(alloc, &mut world, 1, 30)?;
+    goes(alloc, &mut world, 1, 14)?;
+    finishes(alloc, &mut world, 0)?;
+    begins(alloc, &mut world, 0, 20)?;
+    goes(alloc, &mut world, 0, 1)?;
+    finishes(alloc, &mut world, 1)?;
+    has_log(
+        &rt,
+        alloc,
+        &world,
+        &[
+            entry(2, 0, 0, 10, Some(0)),
+            entry(3, 0, 1, 20, Some(10)),
+            entry(4, 1, 0, 30, Some(20)),
+        ],
+    )
+}
+
+#[test]
+fn a_linked_call_has_no_reply_yet(rt: HostRuntime) -> Result<(), Fail> {
+    let alloc = rt.alloc();
+    let mut world = opened(alloc, 1)?;
+    has_log(&rt, alloc, &world, &[])?;
+    begins(alloc, &mut world, 0, 7)?;
+    goes(alloc, &mut world, 0, 7)?;
+    has_log(&rt, alloc, &world, &[])?;
+    goes(alloc, &mut world, 0, 1)?;
+    has_log(&rt, alloc, &world, &[entry(2, 0, 0, 7, None)])?;
+    goes(alloc, &mut world, 0, 1)?;
+    has_log(&rt, alloc, &world, &[entry(2, 0, 0, 7, Some(0))])
+}
+
+#[test]
+fn a_helped_call_comes_first(rt: HostRuntime) -> Result<(), Fail> {
+    let alloc = rt.alloc();
+    let mut world = opened(alloc, 2)?;
+    begins(alloc, &mut world, 1, 5)?;
+    goes(alloc, &mut world, 1, 1)?;
+    begins(alloc, &mut world, 0, 6)?;
+    finishes(alloc, &mut world, 0)?;
+    has_log(
+        &rt,
+        alloc,
+        &world,
+        &[entry(2, 1, 0, 5, Some(0)), entry(3, 0, 0, 6, Some(5))],
+    )
+}
+
+#[test]
+fn numbers_go_on_from_the_anchors(rt: HostRuntime) -> Result<(), Fail> {
+    let alloc = rt.alloc();
+    let mut world = World::open_at(alloc, Last, 1, 1, 9, 5).map_err(|_| Fail::from(
+        "no world was opened",
+    ))?;
+    begins(alloc, &mut world, 0, 7)?;
+    finishes(alloc, &mut world, 0)?;
+    has_log(&rt, alloc, &world, &[entry(6, 0, 0, 7, Some(9))])
+}
