@@ -1,6 +1,5 @@
 -- The entry of the definitions that an entry of the code shows.
 use Rattle.std.specs.Prelude.{◌≡◌, ℕ, Some, refl}
-use Rattle.seq_object.specs.declared.call_id.CallId.{CallId}
 use Rattle.uni_model.specs.Chain.{Entry as Logged}
 use Rattle.uni_log.specs.declared.entry.Entry.{Entry}
 

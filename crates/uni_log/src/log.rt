@@ -1,6 +1,6 @@
 //! The reader of the list.
 
-ghost use Rattle.std.specs.Prelude.{◌≡◌, IfOk, IsSome, Some, map};
+ghost use Rattle.std.specs.Prelude.{◌≡◌, ◌+◌, ◌<◌, ℕ, IfOk, IsSome, IsSomeAnd, Some, length, map, slice_get};
 ghost use Rattle.cell_arena.specs.Rows.{cell_of};
 ghost use Rattle.uni_model.specs.Chain.{invoked_at, response_in};
 ghost use Rattle.uni_model.specs.History.{log};
@@ -72,11 +72,13 @@ impl<'a, O: SeqObject> Log<'a, O> {
 
     /// The entries of the present era: the calls in the list, in the order in which they took
     /// effect, from the one after the anchor on. Each has its number, what it asks for, and its
-    /// response where that is settled.
+    /// response where that is settled, as it is in all but the last.
     ///
     /// An `Err` says that memory was refused.
     pub fn entries(&self, alloc: Global) -> Result<Vec<Entry<O::Inv, O::Resp>>, AllocError>
-        ensures { IfOk result (λ entries. map entry_shown entries.items ≡ log (shown self.now)) }
+        ensures log { IfOk result (λ entries. map entry_shown entries.items ≡ log (shown self.now)) }
+        ensures settled { IfOk result (λ entries. (i : ℕ) → i + 1 < length entries.items
+            → IsSomeAnd (slice_get entries.items i) (λ e. IsSome e.reply)) }
     {
         let world = self.world;
         world.shape();

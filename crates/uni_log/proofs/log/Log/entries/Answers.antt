@@ -1,20 +1,26 @@
-use Rattle.std.proofs.Common.{◌≡◌, refl, sym, subst, Some, None}
-use Rattle.std.proofs.lemmas.List.{map-append}
-use Rattle.uni_core.specs.Shared.{name_of}
-use Rattle.uni_core.specs.Whole.{Whole, shown}
-use Rattle.uni_model.specs.History.{log}
+use Rattle.std.proofs.Common.{◌≡◌, ◌+◌, refl, ap, Some, None, true}
+use Rattle.std.proofs.lemmas.List.{map-append, append-nil}
+use Rattle.uni_model.specs.Places.{seq_of}
+use Rattle.uni_model.specs.Places.Name.{Anchor}
+use Rattle.uni_model.specs.Chain.{entries_from}
+use Rattle.uni_model.specs.Worlds.{chain}
+use Rattle.uni_core.specs.Whole.{shown}
 use Rattle.uni_log.specs.Shown.{entry_shown}
 use Rattle.uni_log.proofs.Read.{after_read, call_there}
-use Rattle.uni_log.proofs.Walk.{IsAlong-anchor, along-end, along-call, IsAlong-next}
+use Rattle.uni_log.proofs.Walk.{IsAlong-anchor, along-end, along-call, along-next}
+use Rattle.uni_log.proofs.Entries.{entries_from-further, settled_but_last}
 use Rattle.uni_log.proofs.log.Log.entries.Goals as goal
 
 pub loop-next-init : goal.loop-next-init
 loop-next-init g c =
-    let seq = rw (c.cells-cells.ensures, c.anchor-at.ensures) at c.seq-seq.ensures in
+    let read = rw (c.cells-cells.ensures, c.anchor-at.ensures) at c.seq-seq.ensures in
+    let seq : c.seq-seq.result ≡ seq_of (shown c.self.inside.world.now).memory Anchor = cc in
     rw (c.anchor-at.ensures, c.new-entries.ensures.items) (record {
-      there = refl;
+      there = refl {a = true};
+      rest = chain (shown c.self.inside.world.now);
       along = IsAlong-anchor (shown c.self.inside.world.now) (g.O.SeqObject.next c.self.inside.world.now.object) (g.O.SeqObject.answer c.self.inside.world.now.object)
-          c.shape.ensures.sound c.self.inside.world.now.row c.shape.ensures.room c.shape.ensures.numbers c.seq-seq.result (cc);
+          c.shape.ensures.sound c.self.inside.world.now.row c.shape.ensures.room c.shape.ensures.numbers c.seq-seq.result seq;
+      whole = ap (λ k. entries_from (shown c.self.inside.world.now).memory (k + 1) (chain (shown c.self.inside.world.now))) seq;
     })
 
 pub entry_at-requires-clause-there : goal.entry_at-requires-clause-there
@@ -29,13 +35,23 @@ entry_at-requires-clause-call g c =
 pub loop-next-preserved : goal.loop-next-preserved
 loop-next-preserved g c =
     let after = after_read c.self.inside.world.now.shared c.shape.ensures.few.0 c.loop-next.at _ c.cells-cells.ensures (Some c.in-Some.next) c.in-Some.ensures in
+    let on = along-next _ _ _ _ c.loop-next.invariant.along _ after in
     record {
       there = call_there c.self.inside.world.now.shared c.shape.ensures.few.0 c.in-Some.next (along-call _ _ _ _ c.loop-next.invariant.along _ after);
-      along = rw (c.in_ok-push.ensures.items, map-append)
-          (IsAlong-next _ _ _ _ c.loop-next.invariant.along _ after (entry_shown c.in_ok-entry_at.field-0) c.in_ok-entry_at.ensures.seq c.in_ok-entry_at.ensures.call c.in_ok-entry_at.ensures.reply);
+      rest = on.0;
+      along = on.2;
+      whole = rw (c.in_ok-push.ensures.items, map-append)
+          (entries_from-further (shown c.self.inside.world.now).memory (c.loop-next.seq + 1) _ (entry_shown c.in_ok-entry_at.field-0) c.in_ok-entry_at.ensures.seq c.in_ok-entry_at.ensures.call c.in_ok-entry_at.ensures.reply _ _ _ on.1 c.loop-next.invariant.whole);
     }
 
-pub returns : goal.returns
-returns g c =
-    rw (← c.self.view_is)
-    (along-end _ _ _ _ c.loop-next.invariant.along (after_read c.self.inside.world.now.shared c.shape.ensures.few.0 c.loop-next.at _ c.cells-cells.ensures None c.in_default.ensures))
+pub returns-clause-log : goal.returns-clause-log
+returns-clause-log g c =
+    let end = along-end _ _ _ _ c.loop-next.invariant.along (after_read c.self.inside.world.now.shared c.shape.ensures.few.0 c.loop-next.at _ c.cells-cells.ensures None c.in_default.ensures) in
+    let whole = rw (end, append-nil) at c.loop-next.invariant.whole in
+    rw (← c.self.view_is) whole
+
+pub returns-clause-settled : goal.returns-clause-settled
+returns-clause-settled g c =
+    let end = along-end _ _ _ _ c.loop-next.invariant.along (after_read c.self.inside.world.now.shared c.shape.ensures.few.0 c.loop-next.at _ c.cells-cells.ensures None c.in_default.ensures) in
+    let whole = rw (end, append-nil) at c.loop-next.invariant.whole in
+    settled_but_last (g.O.SeqObject.next c.self.inside.world.now.object) (g.O.SeqObject.answer c.self.inside.world.now.object) _ c.shape.ensures.sound _ whole
