@@ -1,7 +1,10 @@
 //! The reader of the list.
 
-ghost use Rattle.std.specs.Prelude.{◌≡◌, ◌+◌, ◌<◌, ℕ, IfOk, IsSome, IsSomeAnd, Some, length, map, slice_get};
+ghost use Rattle.std.specs.Prelude.{◌≡◌, ◌+◌, ◌<◌, ℕ, IfOk, IsSome, IsSomeAnd, Some, length, map, option_map, position, slice_get};
 ghost use Rattle.cell_arena.specs.Rows.{cell_of};
+ghost use Rattle.uni_model.specs.Places.{after_of, name_eq};
+ghost use Rattle.uni_model.specs.Places.Name.{Of};
+ghost use Rattle.uni_model.specs.Worlds.{chain};
 ghost use Rattle.uni_model.specs.Chain.{invoked_at, response_in};
 ghost use Rattle.uni_model.specs.History.{log};
 ghost use Rattle.uni_core.specs.Shared.{name_of};
@@ -10,7 +13,7 @@ ghost use Rattle.uni_log.specs.Shown.{entry_shown};
 
 use crate::entry::Entry;
 use cell_arena::{CellId, Cells};
-use seq_object::SeqObject;
+use seq_object::{CallId, SeqObject};
 use std::alloc::{AllocError, Global};
 use std::marker::Model;
 use uni_core::World;
@@ -29,6 +32,27 @@ impl<'a, O: SeqObject> Model for Log<'a, O> {
     ghost Value = { Whole O O.State O.Inv O.Resp };
 
     ghost view = { λ l. l.world.now };
+}
+
+/// The cell that is settled as the next one after a cell, or `None`.
+fn after<O: SeqObject>(world: &World<O>, at: CellId) -> Option<CellId>
+    requires { IsSome (cell_of world.now.shared.cells at) }
+    ensures { after_of (shown world.now).memory (name_of (shown world.now).n at) ≡ option_map (name_of (shown world.now).n) result }
+{
+    world.shape();
+    let cells = world.cells();
+    cells.after(at)
+}
+
+/// Whether a cell was made for a call.
+fn is_cell_of<O: SeqObject>(world: &World<O>, id: CellId, call: CallId) -> bool
+    requires { IsSome (cell_of world.now.shared.cells id) }
+    ensures { result ≡ name_eq (Of call.process call.nth) (name_of (shown world.now).n id) }
+{
+    match world.call_of(id) {
+        Some(made) => call.process == made.process && call.nth == made.nth,
+        None => false,
+    }
 }
 
 /// The entry of a cell that was made for a call, with this number.
@@ -82,15 +106,50 @@ impl<'a, O: SeqObject> Log<'a, O> {
     {
         let world = self.world;
         world.shape();
-        let cells = world.cells();
         let mut entries = Vec::new(alloc);
         let mut at = CellId::anchor();
-        let mut seq = cells.seq(at);
-        while let Some(next) = cells.after(at) {
+        let mut seq = world.cells().seq(at);
+        while let Some(next) = after(world, at) {
             seq += 1;
             entries.push(entry_at(alloc, world, next, seq)?)?;
             at = next;
         }
         Ok(entries)
+    }
+
+    /// The cells of the list, in its order, from the one after the anchor on.
+    ///
+    /// An `Err` says that memory was refused.
+    pub fn cells_forward(&self, alloc: Global) -> Result<Vec<CellId>, AllocError>
+        ensures { IfOk result (λ cells. map (name_of (shown self.now).n) cells.items ≡ chain (shown self.now)) }
+    {
+        let world = self.world;
+        world.shape();
+        let mut forward = Vec::new(alloc);
+        let mut at = CellId::anchor();
+        while let Some(next) = after(world, at) {
+            forward.push(next)?;
+            at = next;
+        }
+        Ok(forward)
+    }
+
+    /// The place of a call in the order in which the calls of the present era took effect, from 0;
+    /// `None` where the list doesn't have it.
+    pub fn place_of(&self, call: CallId) -> Option<u64>
+        ensures { result ≡ position (name_eq (Of call.process call.nth)) (chain (shown self.now)) }
+    {
+        let world = self.world;
+        world.shape();
+        let mut place = 0;
+        let mut at = CellId::anchor();
+        while let Some(next) = after(world, at) {
+            if is_cell_of(world, next, call) {
+                return Some(place);
+            }
+            place += 1;
+            at = next;
+        }
+        None
     }
 }

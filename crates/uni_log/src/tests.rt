@@ -1,6 +1,7 @@
 //! Schedules worked out by hand: which calls are in the list, with their numbers and responses.
 
 use crate::{Entry, Log};
+use cell_arena::CellId;
 use seq_object::{CallId, SeqObject};
 use std::alloc::{AllocError, Global};
 use std::process::Abort;
@@ -122,7 +123,23 @@ fn a_slow_call_comes_last(rt: HostRuntime) -> Result<(), Fail> {
             entry(3, 0, 1, 20, Some(10)),
             entry(4, 1, 0, 30, Some(20)),
         ],
-    )
+    )?;
+    let log = Log::of(&world);
+    let cells = log.cells_forward(alloc)?;
+    assert_eq!(rt;
+        cells.as_slice(),
+        [
+            CellId::of(2, 0, 0),
+            CellId::of(2, 0, 1),
+            CellId::of(2, 1, 0)
+        ]
+        .as_slice()
+    );
+    assert_eq!(rt; log.place_of(CallId { process: 0, nth: 0 }), Some(0));
+    assert_eq!(rt; log.place_of(CallId { process: 0, nth: 1 }), Some(1));
+    assert_eq!(rt; log.place_of(CallId { process: 1, nth: 0 }), Some(2));
+    assert_eq!(rt; log.place_of(CallId { process: 0, nth: 2 }), None);
+    Ok(())
 }
 
 #[test]

@@ -1,4 +1,4 @@
-use Rattle.std.proofs.Common.{◌≡◌, ◌+◌, refl, ap, Some, None, true}
+use Rattle.std.proofs.Common.{◌≡◌, ◌+◌, refl, ap, true}
 use Rattle.std.proofs.lemmas.List.{map-append, append-nil}
 use Rattle.uni_model.specs.Places.{seq_of}
 use Rattle.uni_model.specs.Places.Name.{Anchor}
@@ -6,14 +6,14 @@ use Rattle.uni_model.specs.Chain.{entries_from}
 use Rattle.uni_model.specs.Worlds.{chain}
 use Rattle.uni_core.specs.Whole.{shown}
 use Rattle.uni_log.specs.Shown.{entry_shown}
-use Rattle.uni_log.proofs.Read.{after_read, call_there}
+use Rattle.uni_log.proofs.Read.{call_there}
 use Rattle.uni_log.proofs.Walk.{IsAlong-anchor, along-end, along-call, along-next}
 use Rattle.uni_log.proofs.Entries.{entries_from-further, settled_but_last}
 use Rattle.uni_log.proofs.log.Log.entries.Goals as goal
 
 pub loop-next-init : goal.loop-next-init
 loop-next-init g c =
-    let read = rw (c.cells-cells.ensures, c.anchor-at.ensures) at c.seq-seq.ensures in
+    let read = rw (c.cells.ensures, c.anchor-at.ensures) at c.seq-seq.ensures in
     let seq : c.seq-seq.result ≡ seq_of (shown c.self.inside.world.now).memory Anchor = cc in
     rw (c.anchor-at.ensures, c.new-entries.ensures.items) (record {
       there = refl {a = true};
@@ -25,16 +25,16 @@ loop-next-init g c =
 
 pub entry_at-requires-clause-there : goal.entry_at-requires-clause-there
 entry_at-requires-clause-there g c = call_there c.self.inside.world.now.shared c.shape.ensures.few.0 c.in-Some.next
-    (along-call _ _ _ _ c.loop-next.invariant.along _ (after_read c.self.inside.world.now.shared c.shape.ensures.few.0 c.loop-next.at _ c.cells-cells.ensures (Some c.in-Some.next) c.in-Some.ensures))
+    (along-call _ _ _ _ c.loop-next.invariant.along _ c.in-Some.ensures)
 
 pub entry_at-requires-clause-call : goal.entry_at-requires-clause-call
 entry_at-requires-clause-call g c =
-    let call = along-call _ _ _ _ c.loop-next.invariant.along _ (after_read c.self.inside.world.now.shared c.shape.ensures.few.0 c.loop-next.at _ c.cells-cells.ensures (Some c.in-Some.next) c.in-Some.ensures) in
+    let call = along-call _ _ _ _ c.loop-next.invariant.along _ c.in-Some.ensures in
     rw call.1 refl
 
 pub loop-next-preserved : goal.loop-next-preserved
 loop-next-preserved g c =
-    let after = after_read c.self.inside.world.now.shared c.shape.ensures.few.0 c.loop-next.at _ c.cells-cells.ensures (Some c.in-Some.next) c.in-Some.ensures in
+    let after = c.in-Some.ensures in
     let on = along-next _ _ _ _ c.loop-next.invariant.along _ after in
     record {
       there = call_there c.self.inside.world.now.shared c.shape.ensures.few.0 c.in-Some.next (along-call _ _ _ _ c.loop-next.invariant.along _ after);
@@ -46,12 +46,12 @@ loop-next-preserved g c =
 
 pub returns-clause-log : goal.returns-clause-log
 returns-clause-log g c =
-    let end = along-end _ _ _ _ c.loop-next.invariant.along (after_read c.self.inside.world.now.shared c.shape.ensures.few.0 c.loop-next.at _ c.cells-cells.ensures None c.in_default.ensures) in
+    let end = along-end _ _ _ _ c.loop-next.invariant.along c.in_default.ensures in
     let whole = rw (end, append-nil) at c.loop-next.invariant.whole in
     rw (← c.self.view_is) whole
 
 pub returns-clause-settled : goal.returns-clause-settled
 returns-clause-settled g c =
-    let end = along-end _ _ _ _ c.loop-next.invariant.along (after_read c.self.inside.world.now.shared c.shape.ensures.few.0 c.loop-next.at _ c.cells-cells.ensures None c.in_default.ensures) in
+    let end = along-end _ _ _ _ c.loop-next.invariant.along c.in_default.ensures in
     let whole = rw (end, append-nil) at c.loop-next.invariant.whole in
     settled_but_last (g.O.SeqObject.next c.self.inside.world.now.object) (g.O.SeqObject.answer c.self.inside.world.now.object) _ c.shape.ensures.sound _ whole

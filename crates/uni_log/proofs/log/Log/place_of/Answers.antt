@@ -1,0 +1,45 @@
+use Rattle.std.proofs.Common.{refl, sym, subst, true, arith}
+use Rattle.std.proofs.lemmas.Iterator.Adapters.{position_from-zero}
+use Rattle.uni_model.specs.Places.{name_eq}
+use Rattle.uni_model.specs.Places.Name.{Of}
+use Rattle.uni_model.specs.Worlds.{chain}
+use Rattle.uni_core.specs.Shared.{name_of}
+use Rattle.uni_core.specs.Whole.{shown}
+use Rattle.uni_log.proofs.Read.{call_there}
+use Rattle.uni_log.proofs.Walk.{IsAlong, IsAlong-anchor, along-end, along-call, along-next}
+use Rattle.uni_log.proofs.log.Log.place_of.Goals as goal
+
+pub loop-next-init : goal.loop-next-init
+loop-next-init g c =
+    rw c.anchor-at.ensures (record {
+      there = refl {a = true};
+      rest = chain (shown c.self.inside.world.now);
+      along = IsAlong-anchor (shown c.self.inside.world.now) (g.O.SeqObject.next c.self.inside.world.now.object) (g.O.SeqObject.answer c.self.inside.world.now.object)
+          c.shape.ensures.sound c.self.inside.world.now.row c.shape.ensures.room c.shape.ensures.numbers _ (omega arith);
+      whole = sym (position_from-zero (name_eq (Of c.args.call.process c.args.call.nth)) (chain (shown c.self.inside.world.now)));
+    })
+
+pub is_cell_of-requires : goal.is_cell_of-requires
+is_cell_of-requires g c = call_there c.self.inside.world.now.shared c.shape.ensures.few.0 c.in-Some.next (along-call _ _ _ _ c.loop-next.invariant.along _ c.in-Some.ensures)
+
+pub returns-then-is_cell_of : goal.returns-then-is_cell_of
+returns-then-is_cell_of g c =
+    let on = along-next _ _ _ _ c.loop-next.invariant.along _ c.in-Some.ensures in
+    let found = rw (on.1, ← c.is_cell_of.ensures, c.if-is_cell_of.true) at c.loop-next.invariant.whole in
+    rw (← c.self.view_is) found
+
+pub loop-next-preserved : goal.loop-next-preserved
+loop-next-preserved g c =
+    let on = along-next _ _ _ _ c.loop-next.invariant.along _ c.in-Some.ensures in
+    record {
+      there = call_there c.self.inside.world.now.shared c.shape.ensures.few.0 c.in-Some.next (along-call _ _ _ _ c.loop-next.invariant.along _ c.in-Some.ensures);
+      rest = on.0;
+      along = subst (λ k. IsAlong (shown c.self.inside.world.now) (name_of (shown c.self.inside.world.now).n c.in-Some.next) k on.0) (omega arith) on.2;
+      whole = rw (on.1, ← c.is_cell_of.ensures, c.if-is_cell_of.false) at c.loop-next.invariant.whole;
+    }
+
+pub returns : goal.returns
+returns g c =
+    let end = along-end _ _ _ _ c.loop-next.invariant.along c.in_default.ensures in
+    let whole = rw end at c.loop-next.invariant.whole in
+    rw (← c.self.view_is) whole
