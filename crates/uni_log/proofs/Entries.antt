@@ -2,7 +2,7 @@
 use Rattle.std.proofs.Common.{◌≡◌, ◌∙◌, ℕ, zero, suc, ◌+◌, ◌<◌, ◌≤◌, refl, sym, ap, subst, List, [], ◌∷◌, ◌++◌, Option, Some, None, IsSome, length, map, slice_get, option_map, arith}
 use Rattle.std.specs.Option.{IsSomeAnd, option_map_or}
 use Rattle.std.proofs.lemmas.Option.{slice_get-map}
-use Rattle.std.proofs.lemmas.List.{length-map}
+use Rattle.std.proofs.lemmas.List.{length-map, append-nil}
 use Rattle.uni_model.specs.Places.{Name, Memory, seq_of, after_of}
 use Rattle.uni_model.specs.Places.Name.{Anchor, Of}
 use Rattle.uni_model.specs.Chain.{cells_from, Invoked, invoked_at, Entry, entries_from, response_in}
@@ -12,6 +12,7 @@ use Rattle.uni_model.specs.Invariant.{IsSound, Invariant}
 use Rattle.uni_model.proofs.Values.{response-settled}
 use Rattle.uni_log.specs.declared.entry.Entry.{Entry as Shown}
 use Rattle.uni_log.specs.Shown.{entry_shown}
+use Rattle.uni_log.proofs.Walk.{IsAlong, along-end, walked-further}
 
 module _ {S I R : Type 0} (m : Memory S I R) (seq : ℕ) (y : Name) (e : Entry I R) (number : e.number ≡ seq) (call : invoked_at m y ≡ Some e.call) (response : e.response ≡ response_in m y) where
   -- the entry of a cell stands before those of the cells after it
@@ -22,10 +23,13 @@ module _ {S I R : Type 0} (m : Memory S I R) (seq : ℕ) (y : Name) (e : Entry I
   pub entries_from-further : {all : List (Entry I R)} (so_far : List (Entry I R)) (rest later : List Name) → rest ≡ y ∷ later → so_far ++ entries_from m seq rest ≡ all
       → (so_far ++ e ∷ []) ++ entries_from m (seq + 1) later ≡ all
   entries_from-further so_far rest later rest_is whole =
-      append_one so_far ∙ ap (λ es. so_far ++ es) (sym (entries_from-cell later)) ∙ ap (λ xs. so_far ++ entries_from m seq xs) (sym rest_is) ∙ whole where
-        append_one : (es : List (Entry I R)) → (es ++ e ∷ []) ++ entries_from m (seq + 1) later ≡ es ++ (e ∷ entries_from m (seq + 1) later)
-        append_one [] = refl
-        append_one (x ∷ es) = ap (λ fs. x ∷ fs) (append_one es)
+      walked-further so_far (entries_from m seq rest) (entries_from m (seq + 1) later) e (ap (entries_from m seq) rest_is ∙ entries_from-cell later) whole
+
+-- where the walk has come to the end, the entries so far are the log
+pub log_reached : {S I R : Type 0} (w : WorldOf S I R) (at : Name) (seq : ℕ) (rest : List Name) → IsAlong w at seq rest → after_of w.memory at ≡ None
+    → (so_far : List (Entry I R)) → so_far ++ entries_from w.memory (seq + 1) rest ≡ log w → so_far ≡ log w
+log_reached w at seq rest along none so_far whole =
+    sym (append-nil so_far) ∙ ap (λ xs. so_far ++ entries_from w.memory (seq + 1) xs) (sym (along-end w at seq rest along none)) ∙ whole
 
 -- where an entry isn't the last, it has its response
 abbrev IsSettledAt : {I R : Type 0} → List (Entry I R) → ℕ → Type 0

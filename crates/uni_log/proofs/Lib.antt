@@ -1,3 +1,4 @@
 pub mod Read
 pub mod Walk
 pub mod Entries
+pub mod Legal

@@ -1,5 +1,5 @@
 -- The walk along the chain, cell by cell.
-use Rattle.std.proofs.Common.{◌≡◌, ◌∙◌, ℕ, zero, suc, ◌+◌, ◌*◌, ◌<◌, ◌≤◌, ◌^◌, refl, sym, List, [], ◌∷◌, Some, None, arith}
+use Rattle.std.proofs.Common.{◌≡◌, ◌∙◌, ℕ, zero, suc, ◌+◌, ◌*◌, ◌<◌, ◌≤◌, ◌^◌, refl, sym, ap, List, [], ◌∷◌, ◌++◌, append_assoc, Some, None, arith}
 use Rattle.uni_model.specs.Places.{Name, seq_of, after_of, inv_of}
 use Rattle.uni_model.specs.Places.Name.{Anchor, Of}
 use Rattle.uni_model.specs.Chain.{cells_from, invoked_at}
@@ -21,6 +21,10 @@ pub record IsAlong {S I R : Type 0} (w : WorldOf S I R) (at : Name) (seq : ℕ) 
   pub most : ℕ
   pub enough : last ≤ num at + most
   pub rest_is : rest ≡ cells_from most w.memory at
+
+-- what was gone through, with what comes after it, stays the whole
+pub walked-further : {A : Type 0} {all : List A} (so_far rest later : List A) (y : A) → rest ≡ y ∷ later → so_far ++ rest ≡ all → (so_far ++ y ∷ []) ++ later ≡ all
+walked-further so_far rest later y rest_is whole = append_assoc so_far (y ∷ []) later ∙ ap (λ xs. so_far ++ xs) (sym rest_is) ∙ whole
 
 module _ {S I R : Type 0} (w : WorldOf S I R) where
   -- it begins at the anchor

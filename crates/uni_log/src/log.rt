@@ -1,15 +1,16 @@
 //! The reader of the list.
 
-ghost use Rattle.std.specs.Prelude.{◌≡◌, ◌+◌, ◌<◌, ℕ, IfOk, IsSome, IsSomeAnd, Some, length, map, option_map, position, slice_get};
+ghost use Rattle.std.specs.Prelude.{◌≡◌, ◌+◌, ◌<◌, ℕ, IfOk, IsSome, IsSomeAnd, Some, None, length, map, option_map, position, slice_get};
 ghost use Rattle.cell_arena.specs.Rows.{cell_of};
-ghost use Rattle.uni_model.specs.Places.{after_of, name_eq};
-ghost use Rattle.uni_model.specs.Places.Name.{Of};
+ghost use Rattle.seq_object.specs.History.{IsLegal};
+ghost use Rattle.uni_model.specs.Places.{after_of, new_of, name_eq};
+ghost use Rattle.uni_model.specs.Places.Name.{Anchor, Of};
 ghost use Rattle.uni_model.specs.Worlds.{chain};
 ghost use Rattle.uni_model.specs.Chain.{invoked_at, response_in};
 ghost use Rattle.uni_model.specs.History.{log};
 ghost use Rattle.uni_core.specs.Shared.{name_of};
 ghost use Rattle.uni_core.specs.Whole.{shown};
-ghost use Rattle.uni_log.specs.Shown.{entry_shown};
+ghost use Rattle.uni_log.specs.Shown.{entry_shown, call_shown};
 
 use crate::entry::Entry;
 use cell_arena::{CellId, Cells};
@@ -96,13 +97,16 @@ impl<'a, O: SeqObject> Log<'a, O> {
 
     /// The entries of the present era: the calls in the list, in the order in which they took
     /// effect, from the one after the anchor on. Each has its number, what it asks for, and its
-    /// response where that is settled, as it is in all but the last.
+    /// response where that is settled, as it is in all but the last. Each response is the
+    /// object's, after the calls before it, from the state of the anchor on.
     ///
     /// An `Err` says that memory was refused.
     pub fn entries(&self, alloc: Global) -> Result<Vec<Entry<O::Inv, O::Resp>>, AllocError>
         ensures log { IfOk result (λ entries. map entry_shown entries.items ≡ log (shown self.now)) }
         ensures settled { IfOk result (λ entries. (i : ℕ) → i + 1 < length entries.items
             → IsSomeAnd (slice_get entries.items i) (λ e. IsSome e.reply)) }
+        ensures legal { IfOk result (λ entries. (state : O.State) → new_of (shown self.now).memory Anchor ≡ Some (state, None)
+            → IsLegal (O.next self.now.object) (O.answer self.now.object) state (map call_shown entries.items)) }
     {
         let world = self.world;
         world.shape();

@@ -1,4 +1,4 @@
-use Rattle.std.proofs.Common.{◌≡◌, ◌∙◌, ◌+◌, ◌++◌, refl, sym, ap, subst, true, length, map, append_assoc, length-append, arith}
+use Rattle.std.proofs.Common.{◌≡◌, ◌+◌, refl, subst, true, length, length-append, arith}
 use Rattle.std.proofs.lemmas.List.{map-append, append-nil}
 use Rattle.uni_model.specs.Places.{seq_of}
 use Rattle.uni_model.specs.Places.Name.{Anchor}
@@ -6,7 +6,7 @@ use Rattle.uni_model.specs.Worlds.{chain}
 use Rattle.uni_core.specs.Shared.{name_of}
 use Rattle.uni_core.specs.Whole.{shown}
 use Rattle.uni_log.proofs.Read.{call_there}
-use Rattle.uni_log.proofs.Walk.{IsAlong, IsAlong-anchor, along-end, along-call, along-next}
+use Rattle.uni_log.proofs.Walk.{IsAlong, IsAlong-anchor, along-end, along-call, along-next, walked-further}
 use Rattle.uni_log.proofs.log.Log.cells_forward.Goals as goal
 
 pub loop-next-init : goal.loop-next-init
@@ -31,7 +31,7 @@ loop-next-preserved g c =
       there = call_there c.self.inside.world.now.shared c.shape.ensures.few.0 c.in-Some.next (along-call _ _ _ _ c.loop-next.invariant.along _ c.in-Some.ensures);
       rest = on.0;
       along = subst (λ k. IsAlong (shown c.self.inside.world.now) (name_of (shown c.self.inside.world.now).n c.in-Some.next) k on.0) seq on.2;
-      whole = rw (c.in_ok-push.ensures.items, map-append, append_assoc) (ap (λ xs. map (name_of (shown c.self.inside.world.now).n) c.loop-next.forward.items ++ xs) (sym on.1) ∙ c.loop-next.invariant.whole);
+      whole = rw (c.in_ok-push.ensures.items, map-append) (walked-further _ c.loop-next.invariant.rest on.0 (name_of (shown c.self.inside.world.now).n c.in-Some.next) on.1 c.loop-next.invariant.whole);
     }
 
 pub returns : goal.returns

@@ -1,5 +1,5 @@
 use Rattle.std.proofs.Common.{◌≡◌, ◌+◌, refl, ap, true}
-use Rattle.std.proofs.lemmas.List.{map-append, append-nil}
+use Rattle.std.proofs.lemmas.List.{map-append}
 use Rattle.uni_model.specs.Places.{seq_of}
 use Rattle.uni_model.specs.Places.Name.{Anchor}
 use Rattle.uni_model.specs.Chain.{entries_from}
@@ -7,8 +7,9 @@ use Rattle.uni_model.specs.Worlds.{chain}
 use Rattle.uni_core.specs.Whole.{shown}
 use Rattle.uni_log.specs.Shown.{entry_shown}
 use Rattle.uni_log.proofs.Read.{call_there}
-use Rattle.uni_log.proofs.Walk.{IsAlong-anchor, along-end, along-call, along-next}
-use Rattle.uni_log.proofs.Entries.{entries_from-further, settled_but_last}
+use Rattle.uni_log.proofs.Walk.{IsAlong-anchor, along-call, along-next}
+use Rattle.uni_log.proofs.Entries.{entries_from-further, log_reached, settled_but_last}
+use Rattle.uni_log.proofs.Legal.{legal_log}
 use Rattle.uni_log.proofs.log.Log.entries.Goals as goal
 
 pub loop-next-init : goal.loop-next-init
@@ -30,7 +31,7 @@ entry_at-requires-clause-there g c = call_there c.self.inside.world.now.shared c
 pub entry_at-requires-clause-call : goal.entry_at-requires-clause-call
 entry_at-requires-clause-call g c =
     let call = along-call _ _ _ _ c.loop-next.invariant.along _ c.in-Some.ensures in
-    rw call.1 refl
+    rw call.1 (refl {a = true})
 
 pub loop-next-preserved : goal.loop-next-preserved
 loop-next-preserved g c =
@@ -45,13 +46,13 @@ loop-next-preserved g c =
     }
 
 pub returns-clause-log : goal.returns-clause-log
-returns-clause-log g c =
-    let end = along-end _ _ _ _ c.loop-next.invariant.along c.in_default.ensures in
-    let whole = rw (end, append-nil) at c.loop-next.invariant.whole in
-    rw (← c.self.view_is) whole
+returns-clause-log g c = rw (← c.self.view_is) (log_reached _ _ _ _ c.loop-next.invariant.along c.in_default.ensures _ c.loop-next.invariant.whole)
 
 pub returns-clause-settled : goal.returns-clause-settled
-returns-clause-settled g c =
-    let end = along-end _ _ _ _ c.loop-next.invariant.along c.in_default.ensures in
-    let whole = rw (end, append-nil) at c.loop-next.invariant.whole in
-    settled_but_last (g.O.SeqObject.next c.self.inside.world.now.object) (g.O.SeqObject.answer c.self.inside.world.now.object) _ c.shape.ensures.sound _ whole
+returns-clause-settled g c = settled_but_last (g.O.SeqObject.next c.self.inside.world.now.object) (g.O.SeqObject.answer c.self.inside.world.now.object) _ c.shape.ensures.sound _
+    (log_reached _ _ _ _ c.loop-next.invariant.along c.in_default.ensures _ c.loop-next.invariant.whole)
+
+pub returns-clause-legal : goal.returns-clause-legal
+returns-clause-legal g c = rw (← c.self.view_is)
+    (legal_log (g.O.SeqObject.next c.self.inside.world.now.object) (g.O.SeqObject.answer c.self.inside.world.now.object) _ c.shape.ensures.sound _
+    (log_reached _ _ _ _ c.loop-next.invariant.along c.in_default.ensures _ c.loop-next.invariant.whole))
