@@ -24,7 +24,7 @@ Has-IsSome : {A : Type 0} (o : Option A) → Has o → IsSome o
 Has-IsSome None h = absurd (let e = h.1 in cc)
 Has-IsSome (Some x) h = refl
 
-sum_below-bound : (n bound : ℕ) (f : ℕ → ℕ) → ((p : ℕ) → f p ≤ bound) → sum_below n f ≤ n * bound
+pub sum_below-bound : (n bound : ℕ) (f : ℕ → ℕ) → ((p : ℕ) → f p ≤ bound) → sum_below n f ≤ n * bound
 sum_below-bound zero bound f each = omega arith
 sum_below-bound (suc n) bound f each =
     let rest : sum_below n f ≤ n * bound = sum_below-bound n bound f each in
@@ -32,13 +32,13 @@ sum_below-bound (suc n) bound f each =
     omega arith
 
 module _ {S I R : Type 0} (a : Shared S I R) (positive : 1 ≤ processes_of a.cells) where
-  there_seq : (id : ℕ) → 1 ≤ seq_of (memory_of a) (name_of (processes_of a.cells) id) → IsThere a id
+  pub there_seq : (id : ℕ) → 1 ≤ seq_of (memory_of a) (name_of (processes_of a.cells) id) → IsThere a id
   there_seq id h = by_cell (cell_of a.cells id) (subst (λ o. 1 ≤ option_map_or (λ (c : CellRecord S I R). c.seq) o 0) (cell_named-name_of (processes_of a.cells) positive (cell_of a.cells) id) h) where
     by_cell : (o : Option (CellRecord S I R)) → 1 ≤ option_map_or (λ (c : CellRecord S I R). c.seq) o 0 → IsSome o
     by_cell None g = absurd (omega arith)
     by_cell (Some c) g = refl
 
-  there_inv : (id : ℕ) → Has (inv_of (memory_of a) (name_of (processes_of a.cells) id)) → IsThere a id
+  pub there_inv : (id : ℕ) → Has (inv_of (memory_of a) (name_of (processes_of a.cells) id)) → IsThere a id
   there_inv id h = by_cell (cell_of a.cells id) (subst (λ o. Has (option_map_or (λ (c : CellRecord S I R). c.inv) o None)) (cell_named-name_of (processes_of a.cells) positive (cell_of a.cells) id) h) where
     by_cell : (o : Option (CellRecord S I R)) → Has (option_map_or (λ (c : CellRecord S I R). c.inv) o None) → IsSome o
     by_cell None g = absurd (let e : None ≡ Some g.0 = g.1 in cc)

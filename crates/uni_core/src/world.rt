@@ -1,11 +1,12 @@
 //! A world of processes that share an object.
 
-ghost use Rattle.std.specs.Prelude.{ℕ, ◌≡◌, ◌+◌, ◌*◌, ◌<◌, ◌≤◌, ◌^◌, ◌⊎◌, ◌↔◌, IsSome, IfOk, OnOk, OnErr, IfErr, IsErrOf, None, replicate, option_map};
+ghost use Rattle.std.specs.Prelude.{ℕ, ◌≡◌, ◌+◌, ◌*◌, ◌<◌, ◌≤◌, ◌^◌, ◌⊎◌, ◌↔◌, IsSome, IfOk, OnOk, OnErr, IfErr, IsErrOf, IfSome, None, replicate, option_map};
 ghost use Rattle.cell_arena.specs.Rows.{processes_of, made_of, cell_of};
-ghost use Rattle.uni_model.specs.Places.{seq_of};
+ghost use Rattle.uni_model.specs.Places.{seq_of, head_seq};
 ghost use Rattle.uni_model.specs.Places.Name.{Anchor};
 ghost use Rattle.uni_model.specs.Invariant.{Invariant};
-ghost use Rattle.uni_model.specs.Worlds.{opened, happened};
+ghost use Rattle.uni_model.specs.Frontier.{frontier};
+ghost use Rattle.uni_model.specs.Worlds.{opened, happened, IsQuiescent};
 ghost use Rattle.uni_model.specs.Worlds.Event.{Call, Step};
 ghost use Rattle.uni_model.specs.History.{acts_of};
 ghost use Rattle.uni_model.specs.Transition.{place_of};
@@ -296,6 +297,38 @@ impl<O: SeqObject> World<O> {
             return None;
         };
         Some(call.stage.place(self.processes(), p, call.mine))
+    }
+
+    /// The number of the cell that the head of process `p` names.
+    pub fn head_seq(&self, p: u64) -> u64
+        requires { p < (shown self.now).n }
+        ensures { result ≡ head_seq (shown self.now).memory p }
+    {
+        self.machine.shared.seq(self.machine.shared.head(p))
+    }
+
+    /// The frontier: the greatest number that the cell of a head has.
+    pub fn frontier(&self) -> u64
+        ensures { result ≡ frontier (shown self.now) }
+    {
+        let mut greatest = 0;
+        for p in 0..self.processes() {
+            greatest = greatest.max(self.head_seq(p));
+        }
+        greatest
+    }
+
+    /// The least process that has a call pending; `None` where no process has one.
+    pub fn pending(&self) -> Option<u64>
+        ensures least { IfSome result (λ p. (p < (shown self.now).n) × IsSome ((shown self.now).call p) × ((q : ℕ) → q < p → (shown self.now).call q ≡ None)) }
+        ensures none { (result ≡ None) ↔ IsQuiescent (shown self.now) }
+    {
+        for p in 0..self.processes() {
+            if self.standing(p).is_some() {
+                return Some(p);
+            }
+        }
+        None
     }
 
     /// The cells of the present era, to be read.
