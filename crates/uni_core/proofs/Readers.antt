@@ -1,11 +1,20 @@
 -- What the readers of a world answer.
-use Rattle.std.proofs.Common.{◌≡◌, ℕ, ◌<◌, ◌≤◌, sym, subst, arith}
+use Rattle.std.proofs.Common.{◌≡◌, ◌∙◌, ℕ, zero, suc, ◌+◌, ◌*◌, ◌<◌, ◌≤◌, sym, ap, subst, Option, Some, None, option_map, IfSome, ◌⊎◌, inl, inr, [], ◌∷◌, arith}
+use Rattle.std.specs.Option.{option_map_or}
+use Rattle.cell_arena.specs.CellRecord.{index_of}
 use Rattle.cell_arena.specs.Rows.{processes_of}
-use Rattle.uni_model.specs.Places.{head_of, seq_of}
+use Rattle.uni_model.specs.Places.{Name, head_of, seq_of, after_of, inv_of}
+use Rattle.uni_model.specs.Places.Name.{Anchor, Of}
+use Rattle.uni_model.specs.Chain.{cells_from, last_of}
+use Rattle.uni_model.specs.Worlds.{WorldOf, calls_begun, last_cell}
+use Rattle.uni_model.specs.Invariant.{Invariant, Has}
+use Rattle.uni_model.proofs.Simulation.{enough}
+use Rattle.uni_model.proofs.Chains.{cells_from-enough}
 use Rattle.uni_core.specs.Shared.{name_of, memory_of}
 use Rattle.uni_core.specs.Standing.{IsThere}
 use Rattle.uni_core.specs.Whole.{Whole, IsWorld}
-use Rattle.uni_core.proofs.Steppable.{there_seq}
+use Rattle.uni_core.proofs.Named.{name_of-index_of}
+use Rattle.uni_core.proofs.Steppable.{there_seq, there_inv, sum_below-bound}
 
 -- what every world keeps, of the world as a contract has it
 module _ {O S I R : Type 0} (v now : Whole O S I R) (view : v ≡ now) (nexts : O → S → I → S) (answers : O → S → I → R) where
@@ -18,3 +27,50 @@ module _ {O S I R : Type 0} (next : S → I → S) (answer : S → I → R) (v n
   head_there p id below named =
       let inside = subst (λ (x : Whole O S I R). p < processes_of x.shared.cells) (sym view) below in
       there_seq v.shared (omega (arith, inside)) id (subst (λ x. 1 ≤ seq_of (memory_of v.shared) x) (sym named) (is.sound.2.calls.head p inside))
+
+  -- the cell that is linked after a cell is there
+  pub linked_there : 1 ≤ processes_of now.shared.cells → (x : Name) (o : Option ℕ) → option_map (name_of (processes_of v.shared.cells)) o ≡ after_of (memory_of v.shared) x
+      → IfSome o (λ id. IsThere now.shared id)
+  linked_there positive x None link = tt
+  linked_there positive x (Some id) link =
+      let at_v = subst (λ (y : Whole O S I R). 1 ≤ processes_of y.shared.cells) (sym view) positive in
+      let step = is.sound.2.numbered.link x (name_of (processes_of v.shared.cells) id) (sym link) in
+      let least : is.sound.0 Anchor ≤ is.sound.0 x = is.sound.2.numbered.least x step.0 in
+      let number = step.1 in
+      subst (λ (y : Whole O S I R). IsThere y.shared id) view (there_inv v.shared at_v id (has_inv (name_of (processes_of v.shared.cells) id) (omega arith))) where
+        has_inv : (y : Name) → is.sound.0 Anchor < is.sound.0 y → Has (inv_of (memory_of v.shared) y)
+        has_inv Anchor past = absurd (omega arith)
+        has_inv (Of p k) past = is.sound.2.calls.linked p k (omega arith)
+
+-- the name of a cell whose index was counted
+pub name_of-counted : (n j p q k id : ℕ) → id ≡ index_of j q k → j ≡ n → q ≡ p → p < n → name_of n id ≡ Of p k
+name_of-counted n j p q k id counted processes process below =
+    ap (name_of n) (counted ∙ ap (λ i. index_of i q k) processes ∙ ap (λ i. index_of n i k) process) ∙ name_of-index_of n p k below
+
+-- the last cell, found by going along the chain from a cell, with so many cells to go at most
+module _ {S I R : Type 0} (next : S → I → S) (answer : S → I → R) (w : WorldOf S I R) (row : ℕ) (sound : Invariant next answer w) (room : (p : ℕ) → w.begun p ≤ row) where
+  pub last_from_anchor : last_cell w ≡ last_of Anchor (cells_from (w.n * row) w.memory Anchor)
+  last_from_anchor =
+      let num = sound.0 in
+      let numbered = sound.2.numbered in
+      let all : sound.1 ≤ num Anchor + calls_begun w = enough next answer w sound.0 sound.1 sound.2 in
+      let each : calls_begun w ≤ w.n * row = sum_below-bound w.n row w.begun room in
+      ap (last_of Anchor) (cells_from-enough w.memory sound.0 sound.1 sound.2.numbered (calls_begun w) (w.n * row) Anchor all (omega arith))
+
+-- from a cell the last one is found within so many steps
+abbrev pub LeadsToLast : {S I R : Type 0} → (w : WorldOf S I R) → (x : Name) → (rest : ℕ) → Type 0
+LeadsToLast w x rest = last_cell w ≡ last_of x (cells_from rest w.memory x)
+
+module _ {S I R : Type 0} (w : WorldOf S I R) where
+  -- where the walk ends it stands at the last cell
+  pub last_at_end : (x : Name) (rest : ℕ) → LeadsToLast w x rest → (rest ≡ 0) ⊎ (after_of w.memory x ≡ None) → x ≡ last_cell w
+  last_at_end x zero leads end = sym leads
+  last_at_end x (suc rest) leads (inl e) = cc
+  last_at_end x (suc rest) leads (inr e) = sym (leads ∙ ap (λ o. last_of x (option_map_or (λ y. y ∷ cells_from rest w.memory y) o [])) e)
+
+  -- and where it doesn't the next cell leads there too
+  pub last_later : (x y : Name) (rest count most : ℕ) → count + rest ≡ most → count < most → LeadsToLast w x rest → after_of w.memory x ≡ Some y
+      → (fewer : ℕ) × (count + 1 + fewer ≡ most) × LeadsToLast w y fewer
+  last_later x y zero count most sum less leads link = absurd (omega arith)
+  last_later x y (suc rest) count most sum less leads link =
+      (rest, omega arith, leads ∙ ap (λ o. last_of x (option_map_or (λ z. z ∷ cells_from rest w.memory z) o [])) link)

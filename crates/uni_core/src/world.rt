@@ -1,12 +1,13 @@
 //! A world of processes that share an object.
 
 ghost use Rattle.std.specs.Prelude.{ℕ, ◌≡◌, ◌+◌, ◌*◌, ◌<◌, ◌≤◌, ◌^◌, ◌⊎◌, ◌↔◌, IsSome, IfOk, OnOk, OnErr, IfErr, IsErrOf, IfSome, None, replicate, option_map};
+ghost use Rattle.cell_arena.specs.CellRecord.{index_of};
 ghost use Rattle.cell_arena.specs.Rows.{processes_of, made_of, cell_of};
-ghost use Rattle.uni_model.specs.Places.{seq_of, head_seq};
-ghost use Rattle.uni_model.specs.Places.Name.{Anchor};
+ghost use Rattle.uni_model.specs.Places.{seq_of, head_seq, after_of};
+ghost use Rattle.uni_model.specs.Places.Name.{Anchor, Of};
 ghost use Rattle.uni_model.specs.Invariant.{Invariant};
 ghost use Rattle.uni_model.specs.Frontier.{frontier};
-ghost use Rattle.uni_model.specs.Worlds.{opened, happened, IsQuiescent};
+ghost use Rattle.uni_model.specs.Worlds.{opened, happened, last_cell, IsQuiescent};
 ghost use Rattle.uni_model.specs.Worlds.Event.{Call, Step};
 ghost use Rattle.uni_model.specs.History.{acts_of};
 ghost use Rattle.uni_model.specs.Transition.{place_of};
@@ -329,6 +330,56 @@ impl<O: SeqObject> World<O> {
             }
         }
         None
+    }
+
+    /// How many calls process `p` has begun since the opening.
+    fn begun(&self, p: u64) -> u64
+        requires { p < (shown self.now).n }
+        ensures { result ≡ (shown self.now).begun p }
+    {
+        self.locals[p as usize].begun
+    }
+
+    /// The cell of a call; `None` where the call was not begun.
+    pub fn cell_of(&self, call: CallId) -> Option<CellId>
+        ensures begun { IsSome result ↔ ((call.process < (shown self.now).n) × (call.nth < (shown self.now).begun call.process)) }
+        ensures index { IfSome result (λ cell. cell ≡ index_of (shown self.now).n call.process call.nth) }
+        ensures name { IfSome result (λ cell. name_of (shown self.now).n cell ≡ Of call.process call.nth) }
+        ensures there { IfSome result (λ cell. IsSome (cell_of self.now.shared.cells cell)) }
+    {
+        self.shape();
+        self.cells().shape();
+        let p = u64::from(call.process);
+        if p >= self.processes() || call.nth >= self.begun(p) {
+            return None;
+        }
+        Some(CellId::of(self.processes(), p, call.nth))
+    }
+
+    /// The cell that is linked after a cell, where one is.
+    fn after(&self, cell: CellId) -> Option<CellId>
+        requires { IsSome (cell_of self.now.shared.cells cell) }
+        ensures link { option_map (name_of (shown self.now).n) result ≡ after_of (shown self.now).memory (name_of (shown self.now).n cell) }
+        ensures there { IfSome result (λ next. IsSome (cell_of self.now.shared.cells next)) }
+    {
+        self.shape();
+        self.machine.shared.after(cell)
+    }
+
+    /// The last linked cell, or the anchor. It goes along the whole list.
+    pub fn last(&self) -> CellId
+        ensures last { name_of (shown self.now).n result ≡ last_cell (shown self.now) }
+        ensures there { IsSome (cell_of self.now.shared.cells result) }
+    {
+        self.shape();
+        let mut last = CellId::anchor();
+        for _ in 0..self.processes() * self.row() {
+            let Some(next) = self.after(last) else {
+                return last;
+            };
+            last = next;
+        }
+        last
     }
 
     /// The cells of the present era, to be read.
