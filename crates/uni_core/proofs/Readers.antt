@@ -1,8 +1,8 @@
 -- What the readers of a world answer.
-use Rattle.std.proofs.Common.{◌≡◌, ◌∙◌, ℕ, zero, suc, ◌+◌, ◌*◌, ◌<◌, ◌≤◌, sym, ap, subst, Option, Some, None, option_map, IfSome, ◌⊎◌, inl, inr, [], ◌∷◌, arith}
+use Rattle.std.proofs.Common.{◌≡◌, ◌∙◌, ℕ, zero, suc, ◌+◌, ◌*◌, ◌<◌, ◌≤◌, refl, sym, ap, subst, Option, Some, None, option_map, IfSome, IsSome, [], ◌∷◌, arith}
 use Rattle.std.specs.Option.{option_map_or}
 use Rattle.cell_arena.specs.CellRecord.{index_of}
-use Rattle.cell_arena.specs.Rows.{processes_of}
+use Rattle.cell_arena.specs.Rows.{processes_of, cell_of}
 use Rattle.uni_model.specs.Places.{Name, head_of, seq_of, after_of, inv_of}
 use Rattle.uni_model.specs.Places.Name.{Anchor, Of}
 use Rattle.uni_model.specs.Chain.{cells_from, last_of}
@@ -12,8 +12,9 @@ use Rattle.uni_model.proofs.Simulation.{enough}
 use Rattle.uni_model.proofs.Chains.{cells_from-enough}
 use Rattle.uni_core.specs.Shared.{name_of, memory_of}
 use Rattle.uni_core.specs.Standing.{IsThere}
-use Rattle.uni_core.specs.Whole.{Whole, IsWorld}
+use Rattle.uni_core.specs.Whole.{Whole, shown, IsWorld}
 use Rattle.uni_core.proofs.Named.{name_of-index_of}
+use Rattle.uni_core.proofs.Begin.{inside_view}
 use Rattle.uni_core.proofs.Steppable.{there_seq, there_inv, sum_below-bound}
 
 -- what every world keeps, of the world as a contract has it
@@ -25,7 +26,7 @@ module _ {O S I R : Type 0} (v now : Whole O S I R) (view : v ≡ now) (nexts : 
 module _ {O S I R : Type 0} (next : S → I → S) (answer : S → I → R) (v now : Whole O S I R) (view : v ≡ now) (is : IsWorld next answer v) where
   pub head_there : (p id : ℕ) → p < processes_of now.shared.cells → name_of (processes_of v.shared.cells) id ≡ head_of (memory_of v.shared) p → IsThere v.shared id
   head_there p id below named =
-      let inside = subst (λ (x : Whole O S I R). p < processes_of x.shared.cells) (sym view) below in
+      let inside = inside_view v now p view below in
       there_seq v.shared (omega (arith, inside)) id (subst (λ x. 1 ≤ seq_of (memory_of v.shared) x) (sym named) (is.sound.2.calls.head p inside))
 
   -- the cell that is linked after a cell is there
@@ -47,30 +48,43 @@ pub name_of-counted : (n j p q k id : ℕ) → id ≡ index_of j q k → j ≡ n
 name_of-counted n j p q k id counted processes process below =
     ap (name_of n) (counted ∙ ap (λ i. index_of i q k) processes ∙ ap (λ i. index_of n i k) process) ∙ name_of-index_of n p k below
 
--- the last cell, found by going along the chain from a cell, with so many cells to go at most
-module _ {S I R : Type 0} (next : S → I → S) (answer : S → I → R) (w : WorldOf S I R) (row : ℕ) (sound : Invariant next answer w) (room : (p : ℕ) → w.begun p ≤ row) where
-  pub last_from_anchor : last_cell w ≡ last_of Anchor (cells_from (w.n * row) w.memory Anchor)
-  last_from_anchor =
-      let num = sound.0 in
-      let numbered = sound.2.numbered in
-      let all : sound.1 ≤ num Anchor + calls_begun w = enough next answer w sound.0 sound.1 sound.2 in
-      let each : calls_begun w ≤ w.n * row = sum_below-bound w.n row w.begun room in
-      ap (last_of Anchor) (cells_from-enough w.memory sound.0 sound.1 sound.2.numbered (calls_begun w) (w.n * row) Anchor all (omega arith))
-
 -- from a cell the last one is found within so many steps
 abbrev pub LeadsToLast : {S I R : Type 0} → (w : WorldOf S I R) → (x : Name) → (rest : ℕ) → Type 0
 LeadsToLast w x rest = last_cell w ≡ last_of x (cells_from rest w.memory x)
 
-module _ {S I R : Type 0} (w : WorldOf S I R) where
-  -- where the walk ends it stands at the last cell
-  pub last_at_end : (x : Name) (rest : ℕ) → LeadsToLast w x rest → (rest ≡ 0) ⊎ (after_of w.memory x ≡ None) → x ≡ last_cell w
-  last_at_end x zero leads end = sym leads
-  last_at_end x (suc rest) leads (inl e) = cc
-  last_at_end x (suc rest) leads (inr e) = sym (leads ∙ ap (λ o. last_of x (option_map_or (λ y. y ∷ cells_from rest w.memory y) o [])) e)
+-- all calls that there can be are enough for the whole list
+last_from_anchor : {S I R : Type 0} (next : S → I → S) (answer : S → I → R) (w : WorldOf S I R) (row : ℕ) → Invariant next answer w → ((p : ℕ) → w.begun p ≤ row) → LeadsToLast w Anchor (w.n * row)
+last_from_anchor next answer w row sound room =
+    let all : sound.1 ≤ sound.0 Anchor + calls_begun w = enough next answer w sound.0 sound.1 sound.2 in
+    let each : calls_begun w ≤ w.n * row = sum_below-bound w.n row w.begun room in
+    ap (last_of Anchor) (cells_from-enough w.memory sound.0 sound.1 sound.2.numbered (calls_begun w) (w.n * row) Anchor all (omega arith))
 
-  -- and where it doesn't the next cell leads there too
-  pub last_later : (x y : Name) (rest count most : ℕ) → count + rest ≡ most → count < most → LeadsToLast w x rest → after_of w.memory x ≡ Some y
-      → (fewer : ℕ) × (count + 1 + fewer ≡ most) × LeadsToLast w y fewer
-  last_later x y zero count most sum less leads link = absurd (omega arith)
-  last_later x y (suc rest) count most sum less leads link =
-      (rest, omega arith, leads ∙ ap (λ o. last_of x (option_map_or (λ z. z ∷ cells_from rest w.memory z) o [])) link)
+-- the walk along the list, at the cell with this index
+module _ {O S I R : Type 0} (now : Whole O S I R) (id : ℕ) where
+  abbrev pub named : ℕ → Name
+  named = name_of (processes_of now.shared.cells)
+
+  -- it starts at the anchor
+  pub leads_at_first : (next : S → I → S) (answer : S → I → R) → Invariant next answer (shown now) → ((p : ℕ) → (shown now).begun p ≤ now.row) → id ≡ 0
+      → ((rest : ℕ) × (0 + rest ≡ processes_of now.shared.cells * now.row) × LeadsToLast (shown now) (named id) rest) × IsSome (cell_of now.shared.cells id)
+  leads_at_first next answer sound room is =
+      rw is ((processes_of now.shared.cells * now.row, omega arith, last_from_anchor next answer (shown now) now.row sound room), refl)
+
+  -- it ends where no cell is linked
+  pub last_at_end : (o : Option ℕ) (rest : ℕ) → LeadsToLast (shown now) (named id) rest
+      → option_map named o ≡ after_of (memory_of now.shared) (named id) → o ≡ None
+      → named id ≡ last_cell (shown now)
+  last_at_end o zero leads link none = sym leads
+  last_at_end o (suc rest) leads link none =
+      let last : after_of (memory_of now.shared) (named id) ≡ None = sym link ∙ ap (option_map named) none in
+      sym (leads ∙ ap (λ x. last_of (named id) (option_map_or (λ y. y ∷ cells_from rest (memory_of now.shared) y) x [])) last)
+
+  -- and goes on where one is
+  pub leads_later : (o : Option ℕ) (y rest count j k : ℕ) → LeadsToLast (shown now) (named id) rest
+      → option_map named o ≡ after_of (memory_of now.shared) (named id) → o ≡ Some y
+      → count + rest ≡ processes_of now.shared.cells * now.row → j ≡ processes_of now.shared.cells → k ≡ now.row → count < j * k
+      → (fewer : ℕ) × (count + 1 + fewer ≡ processes_of now.shared.cells * now.row) × LeadsToLast (shown now) (named y) fewer
+  leads_later o y zero count j k leads link some sum processes row less = absurd (let many : j * k ≡ processes_of now.shared.cells * now.row = rw (processes, row) refl in omega arith)
+  leads_later o y (suc rest) count j k leads link some sum processes row less =
+      let later : after_of (memory_of now.shared) (named id) ≡ Some (named y) = sym link ∙ ap (option_map named) some in
+      (rest, omega arith, leads ∙ ap (λ x. last_of (named id) (option_map_or (λ z. z ∷ cells_from rest (memory_of now.shared) z) x [])) later)

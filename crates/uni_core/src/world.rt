@@ -56,6 +56,23 @@ impl<O: SeqObject> Model for World<O> {
         (record { object = w.machine.object; row = w.row; shared = w.machine.shared; locals = w.locals.items }) };
 }
 
+/// Whether there can be `n` processes with rows of `k` calls. Errors, in this order: `BadCount` where
+/// `n` isn't from 1 to 16; `BadRow` where `k` isn't from 1 to 4096.
+fn counts_fit(n: u64, k: u64) -> Result<(), OpenFault>
+    ensures count { IsErrOf result OpenFault.BadCount ↔ ((n ≡ 0) ⊎ (16 < n)) }
+    ensures row { IsErrOf result OpenFault.BadRow ↔ ((1 ≤ n) × (n ≤ 16) × ((k ≡ 0) ⊎ (4096 < k))) }
+    ensures others { IfErr result (λ e. (e ≡ OpenFault.BadCount) ⊎ (e ≡ OpenFault.BadRow)) }
+    ensures fits { OnOk result ((1 ≤ n) × (n ≤ 16) × (1 ≤ k) × (k ≤ 4096)) }
+{
+    if n < 1 || n > MAX_PROCESSES {
+        return Err(OpenFault::BadCount);
+    }
+    if k < 1 || k > MAX_ROW {
+        return Err(OpenFault::BadRow);
+    }
+    Ok(())
+}
+
 /// So many copies of a value.
 fn copies<T: Copy>(alloc: Global, value: T, count: u64) -> Result<Vec<T>, AllocError>
     ensures { IfOk result (λ values. values.items ≡ replicate count value) }
@@ -80,12 +97,7 @@ impl<O: SeqObject> World<O> {
         ensures opened { IfOk result (λ w. shown w ≡ opened n (O.initial object) 1) }
         ensures fixed { IfOk result (λ w. (w.object ≡ object) × (w.row ≡ k)) }
     {
-        if n < 1 || n > MAX_PROCESSES {
-            return Err(OpenFault::BadCount);
-        }
-        if k < 1 || k > MAX_ROW {
-            return Err(OpenFault::BadRow);
-        }
+        counts_fit(n, k)?;
         let Ok(state) = object.start(alloc) else {
             return Err(OpenFault::Memory);
         };
@@ -113,12 +125,7 @@ impl<O: SeqObject> World<O> {
         ensures opened { IfOk result (λ w. shown w ≡ opened n state seq) }
         ensures fixed { IfOk result (λ w. (w.object ≡ object) × (w.row ≡ k)) }
     {
-        if n < 1 || n > MAX_PROCESSES {
-            return Err(OpenFault::BadCount);
-        }
-        if k < 1 || k > MAX_ROW {
-            return Err(OpenFault::BadRow);
-        }
+        counts_fit(n, k)?;
         if seq > MAX_SEQ - n * k {
             return Err(OpenFault::SeqFull);
         }
