@@ -1,4 +1,4 @@
-use Rattle.uni_core.proofs.Readers.{leads_at_first, last_at_end, leads_later}
+use Rattle.uni_core.proofs.Walk.{leads_at_first, last_at_end, leads_later}
 use Rattle.uni_core.proofs.world.World.last.Goals as goal
 
 pub loop-init : goal.loop-init

@@ -2,7 +2,7 @@ use Rattle.std.proofs.Common.{◌≡◌, ◌+◌, ◌*◌, ℕ, IsSome}
 use Rattle.cell_arena.specs.Rows.{cell_of}
 use Rattle.uni_core.specs.Shared.{name_of}
 use Rattle.uni_core.specs.Whole.{shown}
-use Rattle.uni_core.proofs.Readers.{LeadsToLast}
+use Rattle.uni_core.proofs.Walk.{LeadsToLast}
 use Rattle.uni_core.proofs.world.World.last.Given as goal
 
 abbrev pub invariant-loop : goal.invariant-loop
