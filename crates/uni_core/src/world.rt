@@ -347,7 +347,7 @@ impl<O: SeqObject> World<O> {
         self.locals[p as usize].begun
     }
 
-    /// The cell of a call; `None` where the call was not begun.
+    /// The cell of a call; `None` where no such call was begun.
     pub fn cell_of(&self, call: CallId) -> Option<CellId>
         ensures begun { IsSome result ↔ ((call.process < (shown self.now).n) × (call.nth < (shown self.now).begun call.process)) }
         ensures index { IfSome result (λ cell. cell ≡ index_of (shown self.now).n call.process call.nth) }
@@ -415,7 +415,7 @@ impl<O: SeqObject> World<O> {
     /// What every world keeps, for proofs: the call does nothing. What is shown has the invariant of
     /// the definitions. There are 1 to 16 processes. A row has at most 4096 cells, and no process has
     /// begun more calls; the arena has as many cells of a process as it has begun calls. The anchor's
-    /// number and that of all cells that there can be are below 2^48.
+    /// number, and one more for each cell that there can be, stay below 2^48.
     pub fn shape(&self)
         ensures sound { Invariant (O.next self.now.object) (O.answer self.now.object) (shown self.now) }
         ensures few { (1 ≤ (shown self.now).n) × ((shown self.now).n ≤ 16) }
