@@ -17,14 +17,15 @@ module _ {O S I R : Type 0} (v now : Whole O S I R) (view : v ≡ now) (nexts : 
   pub IsWorld-now : IsWorld (nexts v.object) (answers v.object) v → IsWorld (nexts now.object) (answers now.object) now
   IsWorld-now is = subst (λ (x : Whole O S I R). IsWorld (nexts x.object) (answers x.object) x) view is
 
--- the cell that a head entry names is there
+-- cells that are there
 module _ {O S I R : Type 0} (next : S → I → S) (answer : S → I → R) (v now : Whole O S I R) (view : v ≡ now) (is : IsWorld next answer v) where
+  -- the one that a head entry names
   pub head_there : (p id : ℕ) → p < processes_of now.shared.cells → name_of (processes_of v.shared.cells) id ≡ head_of (memory_of v.shared) p → IsThere v.shared id
   head_there p id below named =
       let inside = inside_view v now p view below in
       there_seq v.shared (omega (arith, inside)) id (subst (λ x. 1 ≤ seq_of (memory_of v.shared) x) (sym named) (is.sound.2.calls.head p inside))
 
-  -- the cell that is linked after a cell is there
+  -- the one that is linked after a cell
   pub linked_there : 1 ≤ processes_of now.shared.cells → (x : Name) (o : Option ℕ) → option_map (name_of (processes_of v.shared.cells)) o ≡ after_of (memory_of v.shared) x
       → IfSome o (λ id. IsThere now.shared id)
   linked_there positive x None link = tt
