@@ -9,7 +9,6 @@ use Rattle.uni_model.specs.Places.Place.{InvOf}
 use Rattle.uni_model.specs.Places.Content.{Invocation}
 use Rattle.uni_model.specs.Worlds.{call_begun}
 use Rattle.uni_model.specs.Worlds.Event.{Call}
-use Rattle.uni_model.specs.AtomicObject.{Atomic}
 use Rattle.uni_model.specs.History.{Shows, acts_of}
 use Rattle.uni_model.proofs.Simulation.{call_accepted}
 use Rattle.uni_core.specs.declared.local.Local.{Local}
@@ -18,24 +17,27 @@ use Rattle.uni_core.specs.declared.stage.Pending.{Pending}
 use Rattle.uni_core.specs.Standing.{pending_of}
 use Rattle.uni_model.specs.Stages.{Pending as PendingAt}
 use Rattle.seq_object.specs.declared.call_id.CallId.{CallId}
-use Rattle.std.specs.Option.{option_map_or}
 use Rattle.uni_core.specs.Whole.{Whole, shown, call_at, current_of, IsWorld, Follows}
 use Rattle.uni_core.proofs.Named.{name_of-index_of}
 use Rattle.uni_core.proofs.Shown.{begun_whole, shown-begun, IsWorld-begun}
 
+-- a process that there is, by the count of processes as it was read
+pub inside_count : (n k p : ℕ) → k ≡ n → p < k → p < n
+inside_count n k p count below = subst (λ j. p < j) count below
+
+-- and by the world as a contract has it
+pub inside_view : {O S I R : Type 0} (v now : Whole O S I R) (p : ℕ) → v ≡ now → p < processes_of now.shared.cells → p < processes_of v.shared.cells
+inside_view {O} {S} {I} {R} v now p view below = subst (λ (x : Whole O S I R). p < processes_of x.shared.cells) (sym view) below
+
 -- what a process keeps for itself, where it stands in the list
-pub local_here : {O S I R : Type 0} (next : S → I → S) (answer : S → I → R) (v : Whole O S I R) → IsWorld next answer v → (p k : ℕ) (l : Local)
-    → k ≡ processes_of v.shared.cells → p < k → l ≡ get_or v.locals p l → slice_get v.locals p ≡ Some l
-local_here next answer v is p k l count below read =
-    slice_get_read v.locals (length v.locals) p l refl (subst (λ j. p < j) (count ∙ sym is.locals) below) read
+pub local_here : {O S I R : Type 0} (next : S → I → S) (answer : S → I → R) (v : Whole O S I R) → IsWorld next answer v → (p : ℕ) (l : Local)
+    → p < processes_of v.shared.cells → l ≡ get_or v.locals p l → slice_get v.locals p ≡ Some l
+local_here next answer v is p l inside read = slice_get_read v.locals (length v.locals) p l refl (subst (λ j. p < j) (sym is.locals) inside) read
 
-module _ {O S I R : Type 0} (next : S → I → S) (answer : S → I → R) (v now : Whole O S I R) (view : v ≡ now) (is : IsWorld next answer v) (p k : ℕ) (l : Local)
-    (count : k ≡ processes_of v.shared.cells) (below : p < k) (read : l ≡ get_or v.locals p l) where
+module _ {O S I R : Type 0} (next : S → I → S) (answer : S → I → R) (v now : Whole O S I R) (view : v ≡ now) (is : IsWorld next answer v) (p : ℕ) (l : Local)
+    (inside : p < processes_of v.shared.cells) (read : l ≡ get_or v.locals p l) where
   pub here : slice_get v.locals p ≡ Some l
-  here = local_here next answer v is p k l count below read
-
-  pub inside : p < processes_of v.shared.cells
-  inside = subst (λ j. p < j) count below
+  here = local_here next answer v is p l inside read
 
   begun_is : (shown v).begun p ≡ l.begun
   begun_is = rw here refl
@@ -83,31 +85,15 @@ module _ {O S I R : Type 0} (next : S → I → S) (answer : S → I → R) (v n
     pub Follows-call : Follows next answer (shown now) (shown (begun_whole next answer v is p l here inside a' i mine name shape.0 wrote_begun idle)) (acts_of next answer (shown now) (Call p j))
     Follows-call a shows =
         let sound = subst (λ (x : Whole O S I R). IsWorld next answer x) view is in
-        let to : Atomic S I → Type 0 = λ b. Shows (shown now) b in
         let accepted = call_accepted next answer (shown now) sound.sound.0 sound.sound.1 sound.sound.2 p j (subst (λ (x : Whole O S I R). p < processes_of x.shared.cells) view inside) idle_now a shows in
         (accepted.0, subst (λ w. Shows w accepted.0) (sym shown-call) accepted.1, accepted.2)
 
-pub none_isn't_some : {A : Type 0} (o : Option A) → o ≡ None → IsSome o → ⊥
-none_isn't_some None e h = let f : false ≡ true = h in cc
-none_isn't_some (Some x) e h = cc
-
--- the call that is pending is the latest that its process has begun
-module _ {O S I R : Type 0} (next : S → I → S) (answer : S → I → R) (v now : Whole O S I R) (view : v ≡ now) (is : IsWorld next answer v) (p : ℕ) (l : Local)
-    (below : p < processes_of now.shared.cells) (read : l ≡ get_or v.locals p l) where
-  inside_v : p < processes_of v.shared.cells
-  inside_v = subst (λ (x : Whole O S I R). p < processes_of x.shared.cells) (sym view) below
-
-  kept : slice_get v.locals p ≡ Some l
-  kept = local_here next answer v is p (processes_of v.shared.cells) l refl inside_v read
-
+  -- the call that is pending is the latest that its process has begun
   pend : (call : Pending) → l.call ≡ Some call → (shown v).call p ≡ Some (pending_of (processes_of v.shared.cells) call)
-  pend call e = ap (call_at (processes_of v.shared.cells)) kept ∙ ap (option_map (pending_of (processes_of v.shared.cells))) e
+  pend call e = ap (call_at (processes_of v.shared.cells)) here ∙ ap (option_map (pending_of (processes_of v.shared.cells))) e
 
   pub few_enough : p < 16
-  few_enough = let few = is.few in let h = inside_v in omega arith
-
-  begun_of : (shown v).begun p ≡ l.begun
-  begun_of = ap (λ o. option_map_or (λ (x : Local). x.begun) o 0) kept
+  few_enough = let few = is.few in omega arith
 
   module _ (b : Bool) (tested : is_some l.call ≡ not b) (is_false : b ≡ false) where
     has_call : (o : Option Pending) → is_some o ≡ not b → (call : Pending) × (o ≡ Some call)
@@ -118,11 +104,15 @@ module _ {O S I R : Type 0} (next : S → I → S) (answer : S → I → R) (v n
     begun_one =
         let c = has_call l.call tested in
         let mine = is.sound.2.calls.mine p (pending_of (processes_of v.shared.cells) c.0) (pend c.0 c.1) in
-        subst (λ k. 1 ≤ k) (sym mine.2 ∙ begun_of) (omega arith)
+        subst (λ k. 1 ≤ k) (sym mine.2 ∙ begun_is) (omega arith)
 
     pub current_now : Some (record { process = p; nth = l.begun - 1 }) ≡ current_of (shown now) p
     current_now =
         let c = has_call l.call tested in
         subst (λ (x : Whole O S I R). Some (record { process = p; nth = l.begun - 1 }) ≡ current_of (shown x) p) view
-        (ap (λ k. Some (let id : CallId = record { process = p; nth = k - 1 } in id)) (sym begun_of)
+        (ap (λ k. Some (let id : CallId = record { process = p; nth = k - 1 } in id)) (sym begun_is)
         ∙ sym (ap (option_map (λ (c : PendingAt). let id : CallId = record { process = p; nth = (shown v).begun p - 1 } in id)) (pend c.0 c.1)))
+
+pub none_isn't_some : {A : Type 0} (o : Option A) → o ≡ None → IsSome o → ⊥
+none_isn't_some None e h = let f : false ≡ true = h in cc
+none_isn't_some (Some x) e h = cc

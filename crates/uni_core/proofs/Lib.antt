@@ -7,4 +7,5 @@ pub mod Steppable
 pub mod Begin
 pub mod Stepped
 pub mod Readers
+mod Walk
 mod OpenedWorld

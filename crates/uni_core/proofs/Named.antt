@@ -7,11 +7,6 @@ use Rattle.uni_model.specs.Places.Name.{Anchor, Of}
 use Rattle.uni_model.proofs.Written.{number_cases, lt_cases}
 use Rattle.uni_core.specs.Shared.{name_of, cell_named}
 
--- the index of a name
-abbrev pub index_named : (n : ℕ) → Name → ℕ
-index_named n Anchor = 0
-index_named n (Of p k) = index_of n p k
-
 pub name_of-index_of : (n p k : ℕ) → p < n → name_of n (index_of n p k) ≡ Of p k
 name_of-index_of n p k below =
     let same : index_of n p k ≡ suc (k * n + p) = omega arith in

@@ -32,7 +32,7 @@ sum_below-bound (suc n) bound f each =
     omega arith
 
 module _ {S I R : Type 0} (a : Shared S I R) (positive : 1 ≤ processes_of a.cells) where
-  there_seq : (id : ℕ) → 1 ≤ seq_of (memory_of a) (name_of (processes_of a.cells) id) → IsThere a id
+  pub there_seq : (id : ℕ) → 1 ≤ seq_of (memory_of a) (name_of (processes_of a.cells) id) → IsThere a id
   there_seq id h = by_cell (cell_of a.cells id) (subst (λ o. 1 ≤ option_map_or (λ (c : CellRecord S I R). c.seq) o 0) (cell_named-name_of (processes_of a.cells) positive (cell_of a.cells) id) h) where
     by_cell : (o : Option (CellRecord S I R)) → 1 ≤ option_map_or (λ (c : CellRecord S I R). c.seq) o 0 → IsSome o
     by_cell None g = absurd (omega arith)
@@ -48,10 +48,7 @@ module _ {O S I R : Type 0} (next : S → I → S) (answer : S → I → R) (v :
   positive : 1 ≤ processes_of v.shared.cells
   positive = omega (arith, below)
 
-  num : Name → ℕ
-  num = is.sound.0
-
-  -- a number of p's head leaves room for the next
+  -- where p stands in a call that is pending
   module _ (mine : ℕ) (stage : Stage) (pending : (shown v).call p ≡ Some (record { mine = name_of (processes_of v.shared.cells) mine; stage = stage_of (processes_of v.shared.cells) stage })) where
     stands : Stands (memory_of v.shared) is.sound.0 (processes_of v.shared.cells) p (name_of (processes_of v.shared.cells) mine) (stage_of (processes_of v.shared.cells) stage)
     stands = is.sound.2.stands p (record { mine = name_of (processes_of v.shared.cells) mine; stage = stage_of (processes_of v.shared.cells) stage }) pending
@@ -65,6 +62,7 @@ module _ {O S I R : Type 0} (next : S → I → S) (answer : S → I → R) (v :
     head_there c s h = there_seq v.shared positive c
         (head_number next answer (shown v) is.sound.0 is.sound.1 is.sound.2 p (name_of (processes_of v.shared.cells) mine) (stage_of (processes_of v.shared.cells) stage) pending (name_of (processes_of v.shared.cells) c) s h).0
 
+    -- a number of p's head leaves room for the next
     head_small : (c s : ℕ) → AtHead (memory_of v.shared) p (name_of (processes_of v.shared.cells) c) s → s < 2 ^ 48
     head_small c s h =
         let number : s ≡ is.sound.0 (name_of (processes_of v.shared.cells) c)

@@ -18,7 +18,7 @@ use Rattle.uni_core.specs.Shared.{Shared, name_of, memory_of}
 use Rattle.uni_core.specs.Standing.{stage_of, pending_of, Takes, CanStep, MayBeRefused, turns_to}
 use Rattle.uni_core.specs.Counts.{capped}
 use Rattle.uni_core.specs.Whole.{Whole, shown, IsWorld, Follows, counted_step, MayNeedMemory, MayNeedMemoryAt, response_of_step}
-use Rattle.uni_core.proofs.Begin.{local_here}
+use Rattle.uni_core.proofs.Begin.{inside_count, local_here}
 use Rattle.uni_core.proofs.Shown.{stepped_whole, stepped_local, shown-stepped, IsWorld-stepped}
 use Rattle.uni_core.proofs.Steppable.{CanStep-pending, turns_to-effect, response-finish, there_response, goes_on, ends_at}
 
@@ -42,11 +42,11 @@ module _ {O S I R : Type 0} (next : S → I → S) (answer : S → I → R) (v n
   abbrev pub at_v : PendingAt
   at_v = pending_of (processes_of v.shared.cells) call
 
-  pub here : slice_get v.locals p ≡ Some l
-  here = local_here next answer v is p k l count below read
-
   pub inside : p < processes_of v.shared.cells
-  inside = subst (λ j. p < j) count below
+  inside = inside_count (processes_of v.shared.cells) k p count below
+
+  pub here : slice_get v.locals p ≡ Some l
+  here = local_here next answer v is p l inside read
 
   pend : (shown v).call p ≡ Some at_v
   pend = rw here (rw pending refl)

@@ -1,5 +1,5 @@
 //! The wait-free universal construction in single steps: n processes share an object through a
-//! list of cells, and each step of a process touches one shared place (Herlihy 1991, section 4).
+//! list of cells, and each step of a process touches one shared place.
 #![tactic(auto)]
 
 mod fault;

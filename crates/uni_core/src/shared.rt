@@ -1,6 +1,6 @@
 //! The shared places: the cells, and the entries of announce and head.
 
-ghost use Rattle.std.specs.Prelude.{◌≡◌, ◌+◌, ◌<◌, ◌≤◌, ◌⊎◌, ◌↔◌, ℕ, IfOk, OnOk, OnErr, IfErr, IsErrAnd, IsSome, Some, None, unwrap_or};
+ghost use Rattle.std.specs.Prelude.{◌≡◌, ◌+◌, ◌<◌, ◌≤◌, ◌⊎◌, ◌↔◌, ℕ, IfOk, OnOk, OnErr, IfErr, IsErrAnd, IsSome, Some, None, option_map, unwrap_or};
 ghost use Rattle.std.specs.Option.{option_copied};
 ghost use Rattle.cell_arena.specs.CellRecord.{ChangesOnly, index_of};
 ghost use Rattle.cell_arena.specs.Rows.{processes_of, made_of, cell_of};
@@ -158,6 +158,15 @@ impl<S: Drop, I: Drop, R: Copy> Shared<S, I, R> {
     {
         self.cells.shape();
         self.cells.set_before(id, before);
+    }
+
+    /// The cell that is settled after a cell, where one is.
+    pub(crate) fn after(&self, id: CellId) -> Option<CellId>
+        requires { IsSome (cell_of self.now.cells id) }
+        ensures { option_map (name_of (processes_of self.now.cells)) result ≡ after_of (memory_of self.now) (name_of (processes_of self.now.cells) id) }
+    {
+        self.cells.shape();
+        self.cells.after(id)
     }
 
     /// Proposes the cell after a cell; the answer is what is settled then.

@@ -6,7 +6,7 @@ ghost use Rattle.uni_core.specs.Shared.{name_of};
 
 use cell_arena::CellId;
 
-/// The kinds of step, in the order in which a call takes them (Herlihy 1991, section 4).
+/// The kinds of step, in the order in which a call takes them.
 #[derive(Clone, Copy, Debug, PartialEq, Eq)]
 pub enum StepKind {
     /// The process announces its cell.

@@ -1,6 +1,7 @@
 //! Schedules worked out by hand: the exact numbers of steps and turns, and the responses.
 
-use crate::{BeginFault, OpenFault, Progress, StepFault, World};
+use crate::{BeginFault, OpenFault, Place, Progress, StepFault, StepKind, World};
+use cell_arena::{CellId, Cells};
 use seq_object::{CallId, SeqObject};
 use std::alloc::{AllocError, Global};
 use std::process::Abort;
@@ -87,6 +88,25 @@ fn pending(world: &World<Last>, p: u64) -> Option<CallId> {
     world.current(p)
 }
 
+/// The numbers of the heads of processes 0 and 1, and the frontier.
+fn heads(world: &World<Last>) -> Option<(u64, u64, u64)> {
+    if world.processes() < 2 {
+        return None;
+    }
+    Some((world.head_seq(0), world.head_seq(1), world.frontier()))
+}
+
+/// The kind and the place of a process's next step.
+fn next(world: &World<Last>, p: u64) -> Option<(StepKind, Place)> {
+    if p >= world.processes() {
+        return None;
+    }
+    match (world.next_kind(p), world.next_place(p)) {
+        (Some(kind), Some(place)) => Some((kind, place)),
+        _ => None,
+    }
+}
+
 /// A world of so many processes with rows of 8 cells.
 fn opened(alloc: Global, n: u64) -> Result<World<Last>, Fail> {
     World::open(alloc, Last, n, 8).map_err(|_| Fail::from("no world was opened"))
@@ -136,8 +156,10 @@ fn the_bound_is_met_exactly(rt: HostRuntime) -> Result<(), Fail> {
     assert_eq!(rt; counts(&world, 0), Some((1, 0)));
     assert_eq!(rt; finishes(rt.alloc(), &mut world, 1)?, 20);
     assert_eq!(rt; counts(&world, 1), Some((32, 3)));
+    assert_eq!(rt; heads(&world), Some((2, 4, 4)));
     assert_eq!(rt; finishes(rt.alloc(), &mut world, 0)?, 10);
     assert_eq!(rt; counts(&world, 0), Some((8, 0)));
+    assert_eq!(rt; heads(&world), Some((4, 4, 4)));
     Ok(())
 }
 
@@ -156,9 +178,11 @@ fn a_stopped_process_is_helped(rt: HostRuntime) -> Result<(), Fail> {
     assert_eq!(rt; finishes(rt.alloc(), &mut world, 0)?, 5);
     assert_eq!(rt; counts(&world, 0), Some((24, 2)));
     assert_eq!(rt; pending(&world, 1), Some(CallId { process: 1, nth: 0 }));
+    assert_eq!(rt; heads(&world), Some((3, 1, 3)));
     assert_eq!(rt; finishes(rt.alloc(), &mut world, 1)?, 0);
     assert_eq!(rt; counts(&world, 1), Some((8, 0)));
     assert_eq!(rt; pending(&world, 1), None);
+    assert_eq!(rt; heads(&world), Some((3, 3, 3)));
     Ok(())
 }
 
@@ -202,5 +226,112 @@ fn refusals_come_in_order(rt: HostRuntime) -> Result<(), Fail> {
     assert_eq!(rt; world.begin(rt.alloc(), 0, &5), Err(BeginFault::Busy(0)));
     assert_eq!(rt; finishes(rt.alloc(), &mut world, 0)?, 0);
     assert_eq!(rt; world.begin(rt.alloc(), 0, &5), Err(BeginFault::RowFull(0)));
+    Ok(())
+}
+
+#[test]
+fn a_process_stopped_after_its_scan_is_helped(rt: HostRuntime) -> Result<(), Fail> {
+    let mut world = opened(rt.alloc(), 2)?;
+    assert_eq!(rt;
+        world.begin(rt.alloc(), 1, &5),
+        Ok(CallId { process: 1, nth: 0 })
+    );
+    goes(&rt, rt.alloc(), &mut world, 1, 6)?;
+    assert_eq!(rt; counts(&world, 1), Some((6, 0)));
+    assert_eq!(rt;
+        world.begin(rt.alloc(), 0, &6),
+        Ok(CallId { process: 0, nth: 0 })
+    );
+    assert_eq!(rt; finishes(rt.alloc(), &mut world, 0)?, 5);
+    assert_eq!(rt; counts(&world, 0), Some((24, 2)));
+    assert_eq!(rt; finishes(rt.alloc(), &mut world, 1)?, 0);
+    assert_eq!(rt; counts(&world, 1), Some((8, 0)));
+    assert_eq!(rt; heads(&world), Some((3, 2, 3)));
+    Ok(())
+}
+
+#[test]
+fn a_busy_process_with_a_full_row_is_busy(rt: HostRuntime) -> Result<(), Fail> {
+    let mut world = World::open(rt.alloc(), Last, 2, 1).map_err(|_| Fail::from(
+        "no world was opened",
+    ))?;
+    assert_eq!(rt;
+        world.begin(rt.alloc(), 0, &5),
+        Ok(CallId { process: 0, nth: 0 })
+    );
+    assert_eq!(rt; world.begin(rt.alloc(), 0, &5), Err(BeginFault::Busy(0)));
+    assert!(rt; matches!(world.step(rt.alloc(), 1), Err(StepFault::Idle(1))));
+    assert!(rt; matches!(world.step(rt.alloc(), 9), Err(StepFault::BadProcess)));
+    assert_eq!(rt; world.begin(rt.alloc(), 9, &5), Err(BeginFault::BadProcess));
+    Ok(())
+}
+
+#[test]
+fn the_greatest_number_is_used(rt: HostRuntime) {
+    assert!(rt; World::open_at(rt.alloc(), Last, 2, 4, 5, 281_474_976_710_647).is_ok());
+    assert!(rt;
+        matches!(
+            World::open_at(rt.alloc(), Last, 2, 4, 5, 281_474_976_710_648),
+            Err(OpenFault::SeqFull)
+        )
+    );
+}
+
+#[test]
+fn each_step_has_its_kind_and_place(rt: HostRuntime) -> Result<(), Fail> {
+    let mut world = opened(rt.alloc(), 1)?;
+    assert_eq!(rt; next(&world, 0), None);
+    assert_eq!(rt;
+        world.begin(rt.alloc(), 0, &7),
+        Ok(CallId { process: 0, nth: 0 })
+    );
+    let anchor = CellId::anchor();
+    let mine = CellId::of(1, 0, 0);
+    for step in [
+        (StepKind::Announce, Place::Announced(0)),
+        (StepKind::ScanHead, Place::HeadOf(0)),
+        (StepKind::ScanSeq, Place::SeqOf(anchor)),
+        (StepKind::WriteScan, Place::HeadOf(0)),
+        (StepKind::Test, Place::SeqOf(mine)),
+        (StepKind::ReadAnnounce, Place::Announced(0)),
+        (StepKind::ReadHelpSeq, Place::SeqOf(mine)),
+        (StepKind::DecideAfter, Place::AfterOf(anchor)),
+        (StepKind::DecideNew, Place::NewOf(mine)),
+        (StepKind::WriteBefore, Place::BeforeOf(mine)),
+        (StepKind::WriteSeq, Place::SeqOf(mine)),
+        (StepKind::WriteHead, Place::HeadOf(0)),
+        (StepKind::Test, Place::SeqOf(mine)),
+    ] {
+        assert_eq!(rt; next(&world, 0), Some(step));
+        goes(&rt, rt.alloc(), &mut world, 0, 1)?;
+    }
+    assert_eq!(rt; next(&world, 0), Some((StepKind::Finish, Place::HeadOf(0))));
+    assert!(rt; matches!(world.step(rt.alloc(), 0), Ok(Progress::Done(0))));
+    assert_eq!(rt; next(&world, 0), None);
+    Ok(())
+}
+
+#[test]
+fn a_world_shows_its_list(rt: HostRuntime) -> Result<(), Fail> {
+    let mut world = opened(rt.alloc(), 2)?;
+    assert_eq!(rt; (world.pending(), world.last()), (None, CellId::anchor()));
+    assert_eq!(rt;
+        world.begin(rt.alloc(), 1, &5),
+        Ok(CallId { process: 1, nth: 0 })
+    );
+    assert_eq!(rt;
+        (world.pending(), world.last()),
+        (Some(1), CellId::anchor())
+    );
+    assert_eq!(rt; finishes(rt.alloc(), &mut world, 1)?, 0);
+    world.shape();
+    let last = world.last();
+    assert_eq!(rt; (world.pending(), last), (None, CellId::of(2, 1, 0)));
+    assert_eq!(rt; world.cells().seq(last), 2);
+    assert_eq!(rt; world.call_of(CellId::anchor()), None);
+    assert_eq!(rt; world.call_of(last), Some(CallId { process: 1, nth: 0 }));
+    assert_eq!(rt; world.cell_of(CallId { process: 1, nth: 0 }), Some(last));
+    assert_eq!(rt; world.cell_of(CallId { process: 1, nth: 1 }), None);
+    assert_eq!(rt; world.cell_of(CallId { process: 2, nth: 0 }), None);
     Ok(())
 }

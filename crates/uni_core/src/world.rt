@@ -1,11 +1,13 @@
 //! A world of processes that share an object.
 
-ghost use Rattle.std.specs.Prelude.{ℕ, ◌≡◌, ◌+◌, ◌*◌, ◌<◌, ◌≤◌, ◌^◌, ◌⊎◌, ◌↔◌, IsSome, IfOk, OnOk, OnErr, IfErr, IsErrOf, None, replicate, option_map};
+ghost use Rattle.std.specs.Prelude.{ℕ, ◌≡◌, ◌+◌, ◌*◌, ◌<◌, ◌≤◌, ◌^◌, ◌⊎◌, ◌↔◌, IsSome, IfOk, OnOk, OnErr, IfErr, IsErrOf, IfSome, None, replicate, option_map};
+ghost use Rattle.cell_arena.specs.CellRecord.{index_of};
 ghost use Rattle.cell_arena.specs.Rows.{processes_of, made_of, cell_of};
-ghost use Rattle.uni_model.specs.Places.{seq_of};
-ghost use Rattle.uni_model.specs.Places.Name.{Anchor};
+ghost use Rattle.uni_model.specs.Places.{seq_of, head_seq, after_of};
+ghost use Rattle.uni_model.specs.Places.Name.{Anchor, Of};
 ghost use Rattle.uni_model.specs.Invariant.{Invariant};
-ghost use Rattle.uni_model.specs.Worlds.{opened, happened};
+ghost use Rattle.uni_model.specs.Frontier.{frontier};
+ghost use Rattle.uni_model.specs.Worlds.{opened, happened, last_cell, IsQuiescent};
 ghost use Rattle.uni_model.specs.Worlds.Event.{Call, Step};
 ghost use Rattle.uni_model.specs.History.{acts_of};
 ghost use Rattle.uni_model.specs.Transition.{place_of};
@@ -54,6 +56,23 @@ impl<O: SeqObject> Model for World<O> {
         (record { object = w.machine.object; row = w.row; shared = w.machine.shared; locals = w.locals.items }) };
 }
 
+/// Whether there can be `n` processes with rows of `k` calls. Errors, in this order: `BadCount` where
+/// `n` isn't from 1 to 16; `BadRow` where `k` isn't from 1 to 4096.
+fn counts_fit(n: u64, k: u64) -> Result<(), OpenFault>
+    ensures count { IsErrOf result OpenFault.BadCount ↔ ((n ≡ 0) ⊎ (16 < n)) }
+    ensures row { IsErrOf result OpenFault.BadRow ↔ ((1 ≤ n) × (n ≤ 16) × ((k ≡ 0) ⊎ (4096 < k))) }
+    ensures others { IfErr result (λ e. (e ≡ OpenFault.BadCount) ⊎ (e ≡ OpenFault.BadRow)) }
+    ensures fits { OnOk result ((1 ≤ n) × (n ≤ 16) × (1 ≤ k) × (k ≤ 4096)) }
+{
+    if n < 1 || n > MAX_PROCESSES {
+        return Err(OpenFault::BadCount);
+    }
+    if k < 1 || k > MAX_ROW {
+        return Err(OpenFault::BadRow);
+    }
+    Ok(())
+}
+
 /// So many copies of a value.
 fn copies<T: Copy>(alloc: Global, value: T, count: u64) -> Result<Vec<T>, AllocError>
     ensures { IfOk result (λ values. values.items ≡ replicate count value) }
@@ -78,12 +97,7 @@ impl<O: SeqObject> World<O> {
         ensures opened { IfOk result (λ w. shown w ≡ opened n (O.initial object) 1) }
         ensures fixed { IfOk result (λ w. (w.object ≡ object) × (w.row ≡ k)) }
     {
-        if n < 1 || n > MAX_PROCESSES {
-            return Err(OpenFault::BadCount);
-        }
-        if k < 1 || k > MAX_ROW {
-            return Err(OpenFault::BadRow);
-        }
+        counts_fit(n, k)?;
         let Ok(state) = object.start(alloc) else {
             return Err(OpenFault::Memory);
         };
@@ -111,12 +125,7 @@ impl<O: SeqObject> World<O> {
         ensures opened { IfOk result (λ w. shown w ≡ opened n state seq) }
         ensures fixed { IfOk result (λ w. (w.object ≡ object) × (w.row ≡ k)) }
     {
-        if n < 1 || n > MAX_PROCESSES {
-            return Err(OpenFault::BadCount);
-        }
-        if k < 1 || k > MAX_ROW {
-            return Err(OpenFault::BadRow);
-        }
+        counts_fit(n, k)?;
         if seq > MAX_SEQ - n * k {
             return Err(OpenFault::SeqFull);
         }
@@ -298,6 +307,88 @@ impl<O: SeqObject> World<O> {
         Some(call.stage.place(self.processes(), p, call.mine))
     }
 
+    /// The number of the cell that the head of process `p` names.
+    pub fn head_seq(&self, p: u64) -> u64
+        requires { p < (shown self.now).n }
+        ensures { result ≡ head_seq (shown self.now).memory p }
+    {
+        self.machine.shared.seq(self.machine.shared.head(p))
+    }
+
+    /// The frontier: the greatest number that the cell of a head has.
+    pub fn frontier(&self) -> u64
+        ensures { result ≡ frontier (shown self.now) }
+    {
+        let mut greatest = 0;
+        for p in 0..self.processes() {
+            greatest = greatest.max(self.head_seq(p));
+        }
+        greatest
+    }
+
+    /// The least process that has a call pending; `None` where no process has one.
+    pub fn pending(&self) -> Option<u64>
+        ensures least { IfSome result (λ p. (p < (shown self.now).n) × IsSome ((shown self.now).call p) × ((q : ℕ) → q < p → (shown self.now).call q ≡ None)) }
+        ensures none { (result ≡ None) ↔ IsQuiescent (shown self.now) }
+    {
+        for p in 0..self.processes() {
+            if self.standing(p).is_some() {
+                return Some(p);
+            }
+        }
+        None
+    }
+
+    /// How many calls process `p` has begun since the opening.
+    fn begun(&self, p: u64) -> u64
+        requires { p < (shown self.now).n }
+        ensures { result ≡ (shown self.now).begun p }
+    {
+        self.locals[p as usize].begun
+    }
+
+    /// The cell of a call; `None` where no such call was begun.
+    pub fn cell_of(&self, call: CallId) -> Option<CellId>
+        ensures begun { IsSome result ↔ ((call.process < (shown self.now).n) × (call.nth < (shown self.now).begun call.process)) }
+        ensures index { IfSome result (λ cell. cell ≡ index_of (shown self.now).n call.process call.nth) }
+        ensures name { IfSome result (λ cell. name_of (shown self.now).n cell ≡ Of call.process call.nth) }
+        ensures there { IfSome result (λ cell. IsSome (cell_of self.now.shared.cells cell)) }
+    {
+        self.shape();
+        self.cells().shape();
+        let p = u64::from(call.process);
+        if p >= self.processes() || call.nth >= self.begun(p) {
+            return None;
+        }
+        Some(CellId::of(self.processes(), p, call.nth))
+    }
+
+    /// The cell that is linked after a cell, where one is.
+    fn after(&self, cell: CellId) -> Option<CellId>
+        requires { IsSome (cell_of self.now.shared.cells cell) }
+        ensures link { option_map (name_of (shown self.now).n) result ≡ after_of (shown self.now).memory (name_of (shown self.now).n cell) }
+        ensures there { IfSome result (λ next. IsSome (cell_of self.now.shared.cells next)) }
+    {
+        self.shape();
+        self.machine.shared.after(cell)
+    }
+
+    /// The last linked cell, or the anchor. It goes along the whole list.
+    pub fn last(&self) -> CellId
+        ensures last { name_of (shown self.now).n result ≡ last_cell (shown self.now) }
+        ensures there { IsSome (cell_of self.now.shared.cells result) }
+    {
+        self.shape();
+        let mut last = CellId::anchor();
+        for _ in 0..self.processes() * self.row() {
+            let Some(next) = self.after(last) else {
+                return last;
+            };
+            last = next;
+        }
+        last
+    }
+
     /// The cells of the present era, to be read.
     pub fn cells(&self) -> &RowCells<O::State, O::Inv, O::Resp>
         ensures { result.now ≡ self.now.shared.cells }
@@ -324,7 +415,7 @@ impl<O: SeqObject> World<O> {
     /// What every world keeps, for proofs: the call does nothing. What is shown has the invariant of
     /// the definitions. There are 1 to 16 processes. A row has at most 4096 cells, and no process has
     /// begun more calls; the arena has as many cells of a process as it has begun calls. The anchor's
-    /// number and that of all cells that there can be are below 2^48.
+    /// number, and one more for each cell that there can be, stay below 2^48.
     pub fn shape(&self)
         ensures sound { Invariant (O.next self.now.object) (O.answer self.now.object) (shown self.now) }
         ensures few { (1 ≤ (shown self.now).n) × ((shown self.now).n ≤ 16) }
