@@ -364,7 +364,7 @@ impl<O: SeqObject> World<O> {
     }
 
     /// The cell that is linked after a cell, where one is.
-    fn after(&self, cell: CellId) -> Option<CellId>
+    pub fn after(&self, cell: CellId) -> Option<CellId>
         requires { IsSome (cell_of self.now.shared.cells cell) }
         ensures link { option_map (name_of (shown self.now).n) result ≡ after_of (shown self.now).memory (name_of (shown self.now).n cell) }
         ensures there { IfSome result (λ next. IsSome (cell_of self.now.shared.cells next)) }
