@@ -1,4 +1,3 @@
-pub mod Read
 pub mod Walk
 pub mod Entries
 pub mod Legal

@@ -1,9 +1,9 @@
 //! The reader of the list.
 
-ghost use Rattle.std.specs.Prelude.{◌≡◌, ◌+◌, ◌<◌, ℕ, IfOk, IsSome, IsSomeAnd, Some, None, length, map, option_map, position, slice_get};
+ghost use Rattle.std.specs.Prelude.{◌≡◌, ◌+◌, ◌<◌, ℕ, IfOk, IsSome, IsSomeAnd, Some, None, length, map, position, slice_get};
 ghost use Rattle.cell_arena.specs.Rows.{cell_of};
 ghost use Rattle.seq_object.specs.History.{IsLegal};
-ghost use Rattle.uni_model.specs.Places.{after_of, new_of, name_eq};
+ghost use Rattle.uni_model.specs.Places.{new_of, name_eq};
 ghost use Rattle.uni_model.specs.Places.Name.{Anchor, Of};
 ghost use Rattle.uni_model.specs.Worlds.{chain};
 ghost use Rattle.uni_model.specs.Chain.{invoked_at, response_in};
@@ -33,16 +33,6 @@ impl<'a, O: SeqObject> Model for Log<'a, O> {
     ghost Value = { Whole O O.State O.Inv O.Resp };
 
     ghost view = { λ l. l.world.now };
-}
-
-/// The cell that is settled as the next one after a cell, or `None`.
-fn after<O: SeqObject>(world: &World<O>, at: CellId) -> Option<CellId>
-    requires { IsSome (cell_of world.now.shared.cells at) }
-    ensures { after_of (shown world.now).memory (name_of (shown world.now).n at) ≡ option_map (name_of (shown world.now).n) result }
-{
-    world.shape();
-    let cells = world.cells();
-    cells.after(at)
 }
 
 /// Whether a cell was made for a call.
@@ -113,7 +103,7 @@ impl<'a, O: SeqObject> Log<'a, O> {
         let mut entries = Vec::new(alloc);
         let mut at = CellId::anchor();
         let mut seq = world.cells().seq(at);
-        while let Some(next) = after(world, at) {
+        while let Some(next) = world.after(at) {
             seq += 1;
             entries.push(entry_at(alloc, world, next, seq)?)?;
             at = next;
@@ -131,7 +121,7 @@ impl<'a, O: SeqObject> Log<'a, O> {
         world.shape();
         let mut forward = Vec::new(alloc);
         let mut at = CellId::anchor();
-        while let Some(next) = after(world, at) {
+        while let Some(next) = world.after(at) {
             forward.push(next)?;
             at = next;
         }
@@ -147,7 +137,7 @@ impl<'a, O: SeqObject> Log<'a, O> {
         world.shape();
         let mut place = 0;
         let mut at = CellId::anchor();
-        while let Some(next) = after(world, at) {
+        while let Some(next) = world.after(at) {
             if is_cell_of(world, next, call) {
                 return Some(place);
             }

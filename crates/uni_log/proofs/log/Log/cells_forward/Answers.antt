@@ -1,12 +1,11 @@
-use Rattle.std.proofs.Common.{◌≡◌, ◌+◌, refl, subst, true, length, length-append, arith}
+use Rattle.std.proofs.Common.{sym, ◌≡◌, ◌+◌, refl, subst, true, length, length-append, arith}
 use Rattle.std.proofs.lemmas.List.{map-append, append-nil}
 use Rattle.uni_model.specs.Places.{seq_of}
 use Rattle.uni_model.specs.Places.Name.{Anchor}
 use Rattle.uni_model.specs.Worlds.{chain}
 use Rattle.uni_core.specs.Shared.{name_of}
 use Rattle.uni_core.specs.Whole.{shown}
-use Rattle.uni_log.proofs.Read.{call_there}
-use Rattle.uni_log.proofs.Walk.{IsAlong, IsAlong-anchor, along-end, along-call, along-next, walked-further}
+use Rattle.uni_log.proofs.Walk.{IsAlong, IsAlong-anchor, along-end, along-next, walked-further}
 use Rattle.uni_log.proofs.log.Log.cells_forward.Goals as goal
 
 pub loop-next-init : goal.loop-next-init
@@ -24,11 +23,11 @@ after-requires g c = c.loop-next.invariant.there
 
 pub loop-next-preserved : goal.loop-next-preserved
 loop-next-preserved g c =
-    let on = along-next _ _ _ _ c.loop-next.invariant.along _ c.in-Some.ensures in
+    let on = along-next _ _ _ _ c.loop-next.invariant.along _ (sym c.in-Some.ensures.link) in
     let longer : length c.push.new.self.items ≡ length c.loop-next.forward.items + 1 = rw c.in_ok-push.ensures.items (length-append _ _) in
     let seq : length c.loop-next.forward.items + seq_of (shown c.self.inside.world.now).memory Anchor + 1 ≡ length c.push.new.self.items + seq_of (shown c.self.inside.world.now).memory Anchor = omega arith in
     record {
-      there = call_there c.self.inside.world.now.shared c.shape.ensures.few.0 c.in-Some.next (along-call _ _ _ _ c.loop-next.invariant.along _ c.in-Some.ensures);
+      there = c.in-Some.ensures.there;
       rest = on.0;
       along = subst (λ k. IsAlong (shown c.self.inside.world.now) (name_of (shown c.self.inside.world.now).n c.in-Some.next) k on.0) seq on.2;
       whole = rw (c.in_ok-push.ensures.items, map-append) (walked-further _ c.loop-next.invariant.rest on.0 (name_of (shown c.self.inside.world.now).n c.in-Some.next) on.1 c.loop-next.invariant.whole);
@@ -36,6 +35,6 @@ loop-next-preserved g c =
 
 pub returns : goal.returns
 returns g c =
-    let end = along-end _ _ _ _ c.loop-next.invariant.along c.in_default.ensures in
+    let end = along-end _ _ _ _ c.loop-next.invariant.along (sym c.in_default.ensures.link) in
     let whole = rw (end, append-nil) at c.loop-next.invariant.whole in
     rw (← c.self.view_is) whole

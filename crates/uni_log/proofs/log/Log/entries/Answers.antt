@@ -1,4 +1,4 @@
-use Rattle.std.proofs.Common.{◌≡◌, ◌+◌, refl, ap, true}
+use Rattle.std.proofs.Common.{sym, ◌≡◌, ◌+◌, refl, ap, true}
 use Rattle.std.proofs.lemmas.List.{map-append}
 use Rattle.uni_model.specs.Places.{seq_of}
 use Rattle.uni_model.specs.Places.Name.{Anchor}
@@ -6,7 +6,6 @@ use Rattle.uni_model.specs.Chain.{entries_from}
 use Rattle.uni_model.specs.Worlds.{chain}
 use Rattle.uni_core.specs.Whole.{shown}
 use Rattle.uni_log.specs.Shown.{entry_shown}
-use Rattle.uni_log.proofs.Read.{call_there}
 use Rattle.uni_log.proofs.Walk.{IsAlong-anchor, along-call, along-next}
 use Rattle.uni_log.proofs.Entries.{entries_from-further, log_reached, settled_but_last}
 use Rattle.uni_log.proofs.Legal.{legal_log}
@@ -25,20 +24,19 @@ loop-next-init g c =
     })
 
 pub entry_at-requires-clause-there : goal.entry_at-requires-clause-there
-entry_at-requires-clause-there g c = call_there c.self.inside.world.now.shared c.shape.ensures.few.0 c.in-Some.next
-    (along-call _ _ _ _ c.loop-next.invariant.along _ c.in-Some.ensures)
+entry_at-requires-clause-there g c = c.in-Some.ensures.there
 
 pub entry_at-requires-clause-call : goal.entry_at-requires-clause-call
 entry_at-requires-clause-call g c =
-    let call = along-call _ _ _ _ c.loop-next.invariant.along _ c.in-Some.ensures in
+    let call = along-call _ _ _ _ c.loop-next.invariant.along _ (sym c.in-Some.ensures.link) in
     rw call.1 (refl {a = true})
 
 pub loop-next-preserved : goal.loop-next-preserved
 loop-next-preserved g c =
-    let after = c.in-Some.ensures in
+    let after = sym c.in-Some.ensures.link in
     let on = along-next _ _ _ _ c.loop-next.invariant.along _ after in
     record {
-      there = call_there c.self.inside.world.now.shared c.shape.ensures.few.0 c.in-Some.next (along-call _ _ _ _ c.loop-next.invariant.along _ after);
+      there = c.in-Some.ensures.there;
       rest = on.0;
       along = on.2;
       whole = rw (c.in_ok-push.ensures.items, map-append)
@@ -46,13 +44,13 @@ loop-next-preserved g c =
     }
 
 pub returns-clause-log : goal.returns-clause-log
-returns-clause-log g c = rw (← c.self.view_is) (log_reached _ _ _ _ c.loop-next.invariant.along c.in_default.ensures _ c.loop-next.invariant.whole)
+returns-clause-log g c = rw (← c.self.view_is) (log_reached _ _ _ _ c.loop-next.invariant.along (sym c.in_default.ensures.link) _ c.loop-next.invariant.whole)
 
 pub returns-clause-settled : goal.returns-clause-settled
 returns-clause-settled g c = settled_but_last (g.O.SeqObject.next c.self.inside.world.now.object) (g.O.SeqObject.answer c.self.inside.world.now.object) _ c.shape.ensures.sound _
-    (log_reached _ _ _ _ c.loop-next.invariant.along c.in_default.ensures _ c.loop-next.invariant.whole)
+    (log_reached _ _ _ _ c.loop-next.invariant.along (sym c.in_default.ensures.link) _ c.loop-next.invariant.whole)
 
 pub returns-clause-legal : goal.returns-clause-legal
 returns-clause-legal g c = rw (← c.self.view_is)
     (legal_log (g.O.SeqObject.next c.self.inside.world.now.object) (g.O.SeqObject.answer c.self.inside.world.now.object) _ c.shape.ensures.sound _
-    (log_reached _ _ _ _ c.loop-next.invariant.along c.in_default.ensures _ c.loop-next.invariant.whole))
+    (log_reached _ _ _ _ c.loop-next.invariant.along (sym c.in_default.ensures.link) _ c.loop-next.invariant.whole))

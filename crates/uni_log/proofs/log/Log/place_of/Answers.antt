@@ -5,8 +5,7 @@ use Rattle.uni_model.specs.Places.Name.{Of}
 use Rattle.uni_model.specs.Worlds.{chain}
 use Rattle.uni_core.specs.Shared.{name_of}
 use Rattle.uni_core.specs.Whole.{shown}
-use Rattle.uni_log.proofs.Read.{call_there}
-use Rattle.uni_log.proofs.Walk.{IsAlong, IsAlong-anchor, along-end, along-call, along-next}
+use Rattle.uni_log.proofs.Walk.{IsAlong, IsAlong-anchor, along-end, along-next}
 use Rattle.uni_log.proofs.log.Log.place_of.Goals as goal
 
 pub loop-next-init : goal.loop-next-init
@@ -20,19 +19,19 @@ loop-next-init g c =
     })
 
 pub is_cell_of-requires : goal.is_cell_of-requires
-is_cell_of-requires g c = call_there c.self.inside.world.now.shared c.shape.ensures.few.0 c.in-Some.next (along-call _ _ _ _ c.loop-next.invariant.along _ c.in-Some.ensures)
+is_cell_of-requires g c = c.in-Some.ensures.there
 
 pub returns-then-is_cell_of : goal.returns-then-is_cell_of
 returns-then-is_cell_of g c =
-    let on = along-next _ _ _ _ c.loop-next.invariant.along _ c.in-Some.ensures in
+    let on = along-next _ _ _ _ c.loop-next.invariant.along _ (sym c.in-Some.ensures.link) in
     let found = rw (on.1, ← c.is_cell_of.ensures, c.if-is_cell_of.true) at c.loop-next.invariant.whole in
     rw (← c.self.view_is) found
 
 pub loop-next-preserved : goal.loop-next-preserved
 loop-next-preserved g c =
-    let on = along-next _ _ _ _ c.loop-next.invariant.along _ c.in-Some.ensures in
+    let on = along-next _ _ _ _ c.loop-next.invariant.along _ (sym c.in-Some.ensures.link) in
     record {
-      there = call_there c.self.inside.world.now.shared c.shape.ensures.few.0 c.in-Some.next (along-call _ _ _ _ c.loop-next.invariant.along _ c.in-Some.ensures);
+      there = c.in-Some.ensures.there;
       rest = on.0;
       along = subst (λ k. IsAlong (shown c.self.inside.world.now) (name_of (shown c.self.inside.world.now).n c.in-Some.next) k on.0) (omega arith) on.2;
       whole = rw (on.1, ← c.is_cell_of.ensures, c.if-is_cell_of.false) at c.loop-next.invariant.whole;
@@ -40,6 +39,6 @@ loop-next-preserved g c =
 
 pub returns : goal.returns
 returns g c =
-    let end = along-end _ _ _ _ c.loop-next.invariant.along c.in_default.ensures in
+    let end = along-end _ _ _ _ c.loop-next.invariant.along (sym c.in_default.ensures.link) in
     let whole = rw end at c.loop-next.invariant.whole in
     rw (← c.self.view_is) whole
