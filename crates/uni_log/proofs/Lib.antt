@@ -1,3 +1,4 @@
 pub mod Walk
 pub mod Entries
+pub mod Replies
 pub mod Legal

@@ -7,7 +7,8 @@ use Rattle.uni_model.specs.Worlds.{chain}
 use Rattle.uni_core.specs.Whole.{shown}
 use Rattle.uni_log.specs.Shown.{entry_shown}
 use Rattle.uni_log.proofs.Walk.{IsAlong-anchor, along-call, along-next}
-use Rattle.uni_log.proofs.Entries.{entries_from-further, log_reached, settled_but_last}
+use Rattle.uni_log.proofs.Entries.{entries_from-further, log_reached}
+use Rattle.uni_log.proofs.Replies.{settled_but_last}
 use Rattle.uni_log.proofs.Legal.{legal_log}
 use Rattle.uni_log.proofs.log.Log.entries.Goals as goal
 
