@@ -363,7 +363,7 @@ impl<O: SeqObject> World<O> {
         Some(CellId::of(self.processes(), p, call.nth))
     }
 
-    /// The cell that is linked after a cell, where one is.
+    /// The cell that is linked after a cell of the arena; `None` where none is.
     pub fn after(&self, cell: CellId) -> Option<CellId>
         requires { IsSome (cell_of self.now.shared.cells cell) }
         ensures link { option_map (name_of (shown self.now).n) result ≡ after_of (shown self.now).memory (name_of (shown self.now).n cell) }
