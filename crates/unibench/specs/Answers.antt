@@ -7,7 +7,7 @@ use Rattle.unibench.specs.declared.answer.Refusal.{Refusal}
 use Rattle.unibench.specs.declared.answer.Refusal.TheVariants.{Process, Busy, Row, Idle}
 use Rattle.unibench.specs.declared.answer.Answer.{Answer}
 use Rattle.unibench.specs.declared.answer.Answer.TheVariants.{Called, Refused, Returned, Going, End}
-use Rattle.unibench.specs.declared.answer.Entry.{Entry}
+use Rattle.uni_model.specs.Chain.{Entry}
 
 -- the text of a call's name
 abbrev pub call_text : CallId → List ℕ
@@ -24,23 +24,40 @@ refusal_text (Idle p) = codes "refused idle " ++ decimal p
 abbrev pub progress_text : (steps turns : ℕ) → List ℕ
 progress_text steps turns = codes " steps " ++ decimal steps ++ codes " turns " ++ decimal turns ++ 10 ∷ []
 
+-- the line of a call that began
+abbrev pub called_text : CallId → List ℕ
+called_text call = codes "called " ++ call_text call ++ 10 ∷ []
+
+-- the line of a command that was refused
+abbrev pub refused_text : Refusal → List ℕ
+refused_text refusal = refusal_text refusal ++ 10 ∷ []
+
+-- the line of a call that returned, with the text of its response
+abbrev pub returned_text : CallId → List ℕ → (steps turns : ℕ) → List ℕ
+returned_text call reply steps turns = codes "returned " ++ call_text call ++ codes " " ++ reply ++ progress_text steps turns
+
+-- the line of a call that goes on
+abbrev pub going_text : CallId → (steps turns : ℕ) → List ℕ
+going_text call steps turns = codes "going " ++ call_text call ++ progress_text steps turns
+
+-- the last line of a script
+abbrev pub end_text : List ℕ
+end_text = codes "end" ++ 10 ∷ []
+
 -- the line of an answer
 abbrev pub answer_text : Answer → List ℕ
-answer_text (Called call) = codes "called " ++ call_text call ++ 10 ∷ []
-answer_text (Refused refusal) = refusal_text refusal ++ 10 ∷ []
-answer_text (Returned call reply steps turns) = codes "returned " ++ call_text call ++ codes " " ++ reply.items ++ progress_text steps turns
-answer_text (Going call steps turns) = codes "going " ++ call_text call ++ progress_text steps turns
-answer_text End = codes "end" ++ 10 ∷ []
+answer_text (Called call) = called_text call
+answer_text (Refused refusal) = refused_text refusal
+answer_text (Returned call reply steps turns) = returned_text call reply.items steps turns
+answer_text (Going call steps turns) = going_text call steps turns
+answer_text End = end_text
 
--- the end of an entry's line, with this text of its reply
-abbrev pub reply_text : List ℕ → List ℕ
-reply_text reply = codes " -> " ++ reply ++ 10 ∷ []
-
--- the line of an entry of the log; its reply is a question mark where there is none yet
-abbrev pub entry_text : Entry → List ℕ
-entry_text entry =
-    decimal entry.number ++ codes " " ++ call_text entry.call ++ codes " " ++ entry.inv.items
-    ++ option_map_or (λ reply. reply_text reply.items) entry.reply (reply_text (codes "?"))
+-- the line of an entry of the log, with these texts of invocations and responses; the response is a question mark where
+-- there is none yet
+abbrev pub entry_text : {I R : Type 0} → (I → List ℕ) → (R → List ℕ) → Entry I R → List ℕ
+entry_text inv_text resp_text entry =
+    decimal entry.number ++ codes " " ++ decimal entry.call.process ++ codes "." ++ decimal entry.call.nth ++ codes " "
+    ++ inv_text entry.call.inv ++ codes " -> " ++ option_map_or resp_text entry.response (codes "?") ++ 10 ∷ []
 
 a_call_began : answer_text (Called (record { process = 0; nth = 1 })) ≡ codes "called 0.1" ++ 10 ∷ []
 unfolding digits

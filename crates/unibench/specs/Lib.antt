@@ -1,6 +1,8 @@
 pub mod Ends
 pub mod Statuses
-pub mod Faults
 pub mod Script
-pub mod Reading
 pub mod Answers
+pub mod Meaning
+pub mod Reading
+pub mod Replays
+pub mod Scripts

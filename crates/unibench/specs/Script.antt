@@ -1,5 +1,5 @@
 -- The lines of a script, and what each of them means.
-use Rattle.std.specs.Prelude.{◌≡◌, ℕ, ◌==◌, nat_le, ◌&&◌, if◌then◌else◌, Bool, true, List, [], ◌∷◌, Option, Some, None, option_map, option_and_then, codes, refl}
+use Rattle.std.specs.Prelude.{◌≡◌, ℕ, ◌==◌, nat_le, ◌&&◌, if◌then◌else◌, Bool, true, List, [], ◌∷◌, ◌++◌, Option, Some, None, option_map, option_and_then, codes, refl}
 use Rattle.std.specs.Str.{bytes_eq}
 use Rattle.ready_objects.specs.Number.{number_of_word}
 use Rattle.ready_objects.specs.Queue.{queue_inv_of_words}
@@ -9,15 +9,32 @@ use Rattle.unibench.specs.declared.grammar.Header.{Header}
 use Rattle.unibench.specs.declared.grammar.Command.{Command}
 use Rattle.unibench.specs.declared.grammar.Command.TheVariants.{Call, Finish, Log}
 
--- a text's lines, with a byte before the first of them
-abbrev pub with_first : ℕ → List (List ℕ) → List (List ℕ)
-with_first b [] = (b ∷ []) ∷ []
-with_first b (line ∷ lines) = (b ∷ line) ∷ lines
+-- a text cut at its line ends, which are bytes 10: its whole lines, without their ends, and the bytes after them
+pub record Cut : Type 0 where
+  pub whole : List (List ℕ)
+  pub tail : List ℕ
+
+-- a byte that ends no line, before these whole lines and this tail: it belongs to the first line
+abbrev pub with_first : ℕ → (whole : List (List ℕ)) (tail : List ℕ) → Cut
+with_first b [] tail = record { whole = []; tail = b ∷ tail }
+with_first b (line ∷ lines) tail = record { whole = (b ∷ line) ∷ lines; tail = tail }
+
+-- a byte before a text that is cut
+abbrev pub after_byte : ℕ → Cut → Cut
+after_byte b rest = if b == 10 then record { whole = [] ∷ rest.whole; tail = rest.tail } else with_first b rest.whole rest.tail
+
+abbrev pub cut : List ℕ → Cut
+cut [] = record { whole = []; tail = [] }
+cut (b ∷ bytes) = after_byte b (cut bytes)
+
+-- the line of the bytes after the last line end: there is none where there are no bytes
+abbrev pub last_line : List ℕ → List (List ℕ)
+last_line [] = []
+last_line (b ∷ bytes) = (b ∷ bytes) ∷ []
 
 -- the lines of a text: each ends with byte 10, which the last may lack
 abbrev pub lines_of : List ℕ → List (List ℕ)
-lines_of [] = []
-lines_of (b ∷ bytes) = if b == 10 then [] ∷ lines_of bytes else with_first b (lines_of bytes)
+lines_of bytes = let c = cut bytes in c.whole ++ last_line c.tail
 
 -- a byte that may stand in a line
 abbrev pub is_plain_byte : ℕ → Bool

@@ -1,7 +1,7 @@
 //! What is written in answer to a line of a script.
 
 ghost use Rattle.std.specs.Prelude.{◌≡◌, ◌++◌, OnOk, Some};
-ghost use Rattle.unibench.specs.Answers.{refusal_text, answer_text, reply_text, entry_text};
+ghost use Rattle.unibench.specs.Answers.{refusal_text, answer_text};
 
 use seq_object::CallId;
 use std::alloc::AllocError;
@@ -65,19 +65,6 @@ pub enum Answer {
     End,
 }
 
-/// A call that the log has.
-#[derive(Debug, Drop)]
-pub struct Entry {
-    /// The number of its cell.
-    pub number: u64,
-    /// The call.
-    pub call: CallId,
-    /// The text of what it asks for.
-    pub inv: Vec<u8>,
-    /// The text of its response, where that is known.
-    pub reply: Option<Vec<u8>>,
-}
-
 /// Writes an answer and the end of its line after a text.
 ///
 /// An `Err` says that memory was refused.
@@ -102,27 +89,4 @@ pub fn push_answer(text: &mut Vec<u8>, answer: &Answer) -> Result<(), AllocError
         }
         Answer::End => writeln!(text, "end").map_err(|_| AllocError),
     }
-}
-
-/// Writes an entry of the log and the end of its line after a text.
-///
-/// An `Err` says that memory was refused.
-pub fn push_entry(text: &mut Vec<u8>, entry: &Entry) -> Result<(), AllocError>
-    ensures { OnOk result (text.new.items ≡ text.old.items ++ entry_text entry.now) }
-{
-    write!(text, "{} {} ", entry.number, entry.call).map_err(|_| AllocError)?;
-    text.extend_from_slice(&entry.inv)?;
-    match &entry.reply {
-        Some(reply) => push_reply(text, reply),
-        None => push_reply(text, b"?"),
-    }
-}
-
-/// Writes an arrow, a reply and the end of the line after a text.
-fn push_reply(text: &mut Vec<u8>, reply: &[u8]) -> Result<(), AllocError>
-    ensures { OnOk result (text.new.items ≡ text.old.items ++ reply_text reply.now) }
-{
-    write!(text, " -> ").map_err(|_| AllocError)?;
-    text.extend_from_slice(reply)?;
-    writeln!(text, "").map_err(|_| AllocError)
 }

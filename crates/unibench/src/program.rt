@@ -1,6 +1,8 @@
 //! The command line, and the statuses of the program.
 
-ghost use Rattle.std.specs.Prelude.{◌≡◌, ◌≢◌, ◌≤◌, ◌⊎◌, true, false, OnOk, OnErr};
+ghost use Rattle.std.specs.Prelude.{◌≡◌, ◌≢◌, ◌≤◌, ◌⊎◌, true, false, None, OnOk, OnErr};
+ghost use Rattle.unibench.specs.Replays.{IsReplay, IsBadReplay};
+ghost use Rattle.unibench.specs.Statuses.{status_of};
 
 use crate::ends::{Failed, TextIn, TextOut, write_all};
 use crate::fault::BenchFault;
@@ -52,9 +54,11 @@ pub fn run<S: AsStr, I: TextIn, O: TextOut, F: TextOut>(
     ensures good { result ≡ 0 → (I.has_failed input.new ≡ false) × (O.has_failed output.new ≡ false) }
     ensures written { O.has_failed output.new ≡ true → result ≡ 3 }
     ensures ends { result ≡ 3 → (I.has_failed input.new ≡ true) ⊎ (O.has_failed output.new ≡ true) }
+    ensures replayed { result ≡ 0 → IsReplay (I.remaining input.old) (O.contents output.old) (O.contents output.new) None ⊎ (input.new ≡ input.old) }
+    ensures bad { result ≡ 2 → IsBadReplay (I.remaining input.old) (O.contents output.old) (O.contents output.new) ⊎ (input.new ≡ input.old) }
 {
     let outcome = match read_words(alloc, words) {
-        Ok(Request::Replay) => first(alloc, input, output),
+        Ok(Request::Replay) => return replay(alloc, input, output, faults),
         Err(error) if error.kind() == ErrorKind::OutOfMemory => Err(BenchFault::Memory),
         Err(error) if error.use_stderr() => {
             let _ = print(faults, &error);
@@ -64,12 +68,42 @@ pub fn run<S: AsStr, I: TextIn, O: TextOut, F: TextOut>(
     };
     match outcome {
         Ok(()) => 0,
-        Err(fault) => {
-            let _ = print(faults, &fault);
-            let _ = write_all(faults, b"\n");
-            fault.status()
-        }
+        Err(fault) => report(fault, faults),
     }
+}
+
+/// Runs the script on `input`, and writes its answers to `output`; the answer is the status.
+///
+/// The status is 0 where all went well, 2 for a bad script, 3 where `input` or `output` failed, and
+/// 4 where memory was refused; the text that says so goes to `faults`, as far as that takes it.
+fn replay<I: TextIn, O: TextOut, F: TextOut>(
+    alloc: Global,
+    input: &mut I,
+    output: &mut O,
+    faults: &mut F,
+) -> u8
+    requires input { I.has_failed input.old ≡ false }
+    requires output { O.has_failed output.old ≡ false }
+    ensures statuses { (result ≤ 4) × (result ≢ 1) }
+    ensures replayed { result ≡ 0 → IsReplay (I.remaining input.old) (O.contents output.old) (O.contents output.new) None }
+    ensures bad { result ≡ 2 → IsBadReplay (I.remaining input.old) (O.contents output.old) (O.contents output.new) }
+    ensures good { result ≡ 0 → (I.has_failed input.new ≡ false) × (O.has_failed output.new ≡ false) }
+    ensures written { O.has_failed output.new ≡ true → result ≡ 3 }
+    ensures ends { result ≡ 3 → (I.has_failed input.new ≡ true) ⊎ (O.has_failed output.new ≡ true) }
+{
+    match first(alloc, input, output) {
+        Ok(()) => 0,
+        Err(fault) => report(fault, faults),
+    }
+}
+
+/// Says what went wrong, as far as the end takes it; the answer is the status.
+fn report<F: TextOut>(fault: BenchFault, faults: &mut F) -> u8
+    ensures { result ≡ status_of fault }
+{
+    let _ = print(faults, &fault);
+    let _ = write_all(faults, b"\n");
+    fault.status()
 }
 
 /// Says why the argument texts can't be had; the answer is the status.

@@ -1,18 +1,21 @@
 //! The replay of a script.
 
-ghost use Rattle.std.specs.Prelude.{◌≡◌, ◌<◌, ◌↔◌, ◌++◌, ℕ, List, true, false, length, IfSome, IsSome, IfOk, IfErr, OnOk, IsErrOf};
-ghost use Rattle.std.specs.Io.KnownBytes.{Appends, IsAtEnd};
-ghost use Rattle.unibench.specs.Answers.{answer_text};
-ghost use Rattle.unibench.specs.Faults.{IsOfLine, IsOfScript};
+ghost use Rattle.std.specs.Prelude.{◌≡◌, ◌<◌, ◌≤◌, ◌↔◌, ◌∷◌, [], true, false, length, ◌==◌, None, Some, IfSome, IfNone, IfOk, IfErr, OnOk, IsErrOf, option_map};
+ghost use Rattle.std.specs.Io.KnownBytes.{IsAtEnd};
+ghost use Rattle.std.specs.List.{list_all, position};
+ghost use Rattle.unibench.specs.Meaning.{bench_of, queue, short_line_run};
+ghost use Rattle.unibench.specs.Reading.{is_short, lines_read, read_run, EndsAs};
+ghost use Rattle.unibench.specs.Replays.{IsReplay, HasAnswered, IsPartOfReplay, IsFaultOfScript};
 
 use crate::answer::{Answer, push_answer};
-use crate::bench::Bench;
+use crate::bench::{make, open};
 use crate::ends::{TextIn, TextOut, write_all};
 use crate::fault::BenchFault;
 use crate::grammar::{command_of, header_of, is_note, is_plain, words_of};
 use crate::script::{Stop, read_script};
 use ready_objects::QueueObject;
 use std::alloc::Global;
+use uni_core::World;
 
 /// Runs the script that a reader has, and writes its answers.
 ///
@@ -28,84 +31,122 @@ pub fn first<I: TextIn, O: TextOut>(
 ) -> Result<(), BenchFault>
     requires reader { I.has_failed reader.old ≡ false }
     requires writer { O.has_failed writer.old ≡ false }
-    ensures read { IsErrOf result BenchFault.Read → I.has_failed reader.new ≡ true }
-    ensures write { IsErrOf result BenchFault.Write ↔ (O.has_failed writer.new ≡ true) }
-    ensures ok { OnOk result (I.has_failed reader.new ≡ false) }
+    ensures replayed { OnOk result (IsReplay (I.remaining reader.old) (O.contents writer.old) (O.contents writer.new) None) }
     ensures all_read { OnOk result (IsAtEnd (I.remaining reader.new)) }
-    ensures ended { OnOk result ((answers : List ℕ) × Appends (O.contents writer.old) (O.contents writer.new) (answers ++ answer_text Answer.End)) }
+    ensures fault { IfErr result (λ e. IsFaultOfScript e → IsReplay (I.remaining reader.old) (O.contents writer.old) (O.contents writer.new) (Some e)) }
+    ensures read { IsErrOf result BenchFault.Read → HasAnswered (I.remaining reader.old) (I.remaining reader.new) (O.contents writer.old) (O.contents writer.new) }
+    ensures part { IfErr result (λ e. IsPartOfReplay (I.remaining reader.old) (O.contents writer.old) (O.contents writer.new)) }
+    ensures reader { IsErrOf result BenchFault.Read → I.has_failed reader.new ≡ true }
+    ensures reader_ok { OnOk result (I.has_failed reader.new ≡ false) }
+    ensures writer { IsErrOf result BenchFault.Write ↔ (O.has_failed writer.new ≡ true) }
 {
-    let (script, stop) = read_script(alloc, reader).map_err(|_| BenchFault::Memory)?;
+    let Ok((script, stop)) = read_script(alloc, reader) else {
+        return Err(BenchFault::Memory);
+    };
     let mut answers = Vec::new(alloc);
     let outcome = run_script(alloc, script.bytes.as_slice(), stop, &mut answers);
     if outcome == Err(BenchFault::Memory) {
         return outcome;
     }
-    write_all(writer, answers.as_slice()).map_err(|_| BenchFault::Write)?;
+    let Ok(()) = write_all(writer, answers.as_slice()) else {
+        return Err(BenchFault::Write);
+    };
     outcome
 }
 
 /// Runs what was read of a script, and writes the answers after a text.
+///
+/// `Memory` where memory was refused; any other `Err` is the first fault of what was read.
 fn run_script(alloc: Global, bytes: &[u8], stop: Stop, text: &mut Vec<u8>) -> Result<(), BenchFault>
-    ensures ok { OnOk result (stop ≡ Stop.End) }
-    ensures ended { OnOk result ((answers : List ℕ) × (text.new.items ≡ answers ++ answer_text Answer.End)) }
-    ensures fault { IfErr result (IsOfScript stop) }
+    requires short { list_all is_short (lines_read stop bytes.now) ≡ true }
+    requires few { length (lines_read stop bytes.now) ≤ 100000 }
+    ensures outcome { EndsAs (read_run queue stop bytes.now) text.old.items text.new.items result }
 {
-    let mut bench = None;
+    let mut world = None;
     let mut number: u64 = 0;
     let mut rest = bytes;
     while let Some((line, after)) = split_line(rest, stop) {
         number += 1;
-        bench = run_line(alloc, bench, number, line, text)?;
+        world = run_line(alloc, world, number, line, text)?;
         rest = after;
     }
-    match (stop, bench) {
+    match (stop, world) {
         (Stop::Failed, _) => Err(BenchFault::Read),
         (Stop::TooLong, _) => Err(BenchFault::TooLong(number + 1)),
         (Stop::TooMany, _) => Err(BenchFault::TooMany),
         (Stop::End, None) => Err(BenchFault::NoHeader(number + 1)),
-        (Stop::End, Some(_)) => push_answer(text, &Answer::End).map_err(|_| BenchFault::Memory),
+        (Stop::End, Some(_)) => match push_answer(text, &Answer::End) {
+            Ok(()) => Ok(()),
+            Err(_) => Err(BenchFault::Memory),
+        },
     }
 }
 
 /// The first line of what was read, without its end, and what follows it. A last line that lacks
 /// its end is one where the reading stopped at the end of the text.
 fn split_line(bytes: &[u8], stop: Stop) -> Option<(&[u8], &[u8])>
-    ensures { IfSome result (λ cut. length cut.1.now < length bytes.now) }
+    ensures line { IfSome result (λ cut. lines_read stop bytes.now ≡ cut.0.now ∷ lines_read stop cut.1.now) }
+    ensures shorter { IfSome result (λ cut. length cut.1.now < length bytes.now) }
+    ensures end { IfNone result (lines_read stop bytes.now ≡ []) }
 {
-    match bytes.iter().position(|byte| *byte == b'\n') {
+    match end_of_line(bytes) {
         Some(at) => Some((&bytes[..at], &bytes[at + 1..])),
-        None if bytes.is_empty() || stop != Stop::End => None,
-        None => Some((bytes, &[])),
+        None if bytes.is_empty() => None,
+        None => match stop {
+            Stop::End => Some((bytes, &[])),
+            Stop::Failed | Stop::TooLong | Stop::TooMany => None,
+        },
     }
 }
 
-/// Runs a line on the bench, where the header has opened it, and writes its answers after a text.
-/// The answer is the bench after it.
+/// Where the first line of a text ends.
+fn end_of_line(bytes: &[u8]) -> Option<usize>
+    ensures { result ≡ position (λ b. b == 10) bytes.now }
+{
+    bytes.iter().position(|byte| *byte == b'\n')
+}
+
+/// Runs a line on the world, where the header has opened it, and writes its answer after a text.
+/// The answer is the world after it.
+///
+/// `Memory` where memory was refused; any other `Err` is the fault of the line.
 fn run_line(
     alloc: Global,
-    bench: Option<Bench<QueueObject>>,
+    world: Option<World<QueueObject>>,
     number: u64,
     line: &[u8],
     text: &mut Vec<u8>,
-) -> Result<Option<Bench<QueueObject>>, BenchFault>
-    ensures fault { IfErr result (IsOfLine number) }
-    ensures opened { IfOk result (λ after. IsSome bench → IsSome after) }
+) -> Result<Option<World<QueueObject>>, BenchFault>
+    ensures outcome { EndsAs (short_line_run queue number (option_map bench_of world) line.now) text.old.items text.new.items result }
+    ensures world { IfOk result (λ after. option_map bench_of after ≡ (short_line_run queue number (option_map bench_of world) line.now).bench) }
 {
     if !is_plain(line) {
         return Err(BenchFault::BadByte(number));
     }
     if is_note(line) {
-        return Ok(bench);
+        return Ok(world);
     }
-    let words = words_of(alloc, line).map_err(|_| BenchFault::Memory)?;
-    let Some(mut bench) = bench else {
-        let header = header_of(words.as_slice()).ok_or(BenchFault::BadHeader(number))?;
-        let bench = Bench::open(alloc, QueueObject, header).map_err(|_| BenchFault::Memory)?;
-        return Ok(Some(bench));
+    let Ok(words) = words_of(alloc, line) else {
+        return Err(BenchFault::Memory);
     };
-    let command = command_of::<QueueObject>(words.as_slice()).ok_or(BenchFault::BadLine(number))?;
-    bench
-        .make(alloc, command, text)
-        .map_err(|_| BenchFault::Memory)?;
-    Ok(Some(bench))
+    match world {
+        None => {
+            let Some(header) = header_of(words.as_slice()) else {
+                return Err(BenchFault::BadHeader(number));
+            };
+            let Ok(world) = open(alloc, header) else {
+                return Err(BenchFault::Memory);
+            };
+            Ok(Some(world))
+        }
+        Some(mut world) => {
+            let Some(command) = command_of::<QueueObject>(words.as_slice()) else {
+                return Err(BenchFault::BadLine(number));
+            };
+            let Ok(()) = make(&mut world, alloc, command, text) else {
+                return Err(BenchFault::Memory);
+            };
+            Ok(Some(world))
+        }
+    }
 }

@@ -1,7 +1,7 @@
 //! The reading of a script, as far as it may go.
 
-ghost use Rattle.std.specs.Prelude.{◌≡◌, ◌+◌, ◌≤◌, ◌++◌, ◌∷◌, [], ◌↔◌, ◌⊎◌, true, false, IfOk, IfSome, IfNone, OnErr, OnSome, length};
-ghost use Rattle.std.specs.Io.KnownBytes.{Consumes, IsAtEnd};
+ghost use Rattle.std.specs.Prelude.{◌≡◌, ◌+◌, ◌≤◌, ◌++◌, ◌∷◌, [], ◌↔◌, ℕ, List, Option, true, false, IfOk, IfSome, IfNone, OnOk, OnErr, OnSome, length};
+ghost use Rattle.unibench.specs.Reading.{IsRead, StopsWithin};
 
 use crate::ends::TextIn;
 use std::alloc::{AllocError, Global};
@@ -34,12 +34,10 @@ pub struct Script {
     pub lines: u64,
     /// How many bytes the line after them has.
     pub column: u64,
-    ghost short: { column ≤ 200 },
-    ghost few: { lines ≤ 100000 },
 }
 
 impl Script {
-    ghost use Rattle.unibench.specs.Reading.{stop_of_byte, room_of};
+    ghost use Rattle.unibench.specs.Reading.{stop_of_byte, room_of, IsScript, StopsAt};
 
     /// Nothing was read.
     fn new(alloc: Global) -> Script
@@ -55,9 +53,12 @@ impl Script {
 
     /// Takes a byte; the answer is where reading stops, where that is at this byte.
     fn take(&mut self, byte: u8) -> Result<Option<Stop>, AllocError>
+        requires { IsScript self.old.bytes.items self.old.lines self.old.column }
         ensures stop { IfOk result (λ stop. stop ≡ stop_of_byte self.old.lines self.old.column byte) }
         ensures taken { IfOk result (λ stop. IfNone stop (self.new.bytes.items ≡ self.old.bytes.items ++ byte ∷ [])) }
         ensures kept { IfOk result (λ stop. OnSome stop (self.new.bytes.items ≡ self.old.bytes.items)) }
+        ensures stops { IfOk result (λ stop. IfSome stop (λ s. (past : List ℕ) → (left : Option (List ℕ)) → StopsAt s self.new.bytes.items (byte ∷ past) left)) }
+        ensures script { OnOk result (IsScript self.new.bytes.items self.new.lines self.new.column) }
         ensures room { IfOk result (λ stop. IfNone stop (room_of self.new.lines self.new.column + 1 ≤ room_of self.old.lines self.old.column)) }
     {
         if self.lines >= MOST_LINES {
@@ -78,8 +79,10 @@ impl Script {
 
     /// Takes bytes; the answer is where reading stops, where that is within them.
     fn take_all(&mut self, bytes: &[u8]) -> Result<Option<Stop>, AllocError>
-        ensures stop { IfOk result (λ stop. IfSome stop (λ s. (s ≡ Stop.TooLong) ⊎ (s ≡ Stop.TooMany))) }
+        requires { IsScript self.old.bytes.items self.old.lines self.old.column }
         ensures taken { IfOk result (λ stop. IfNone stop (self.new.bytes.items ≡ self.old.bytes.items ++ bytes.now)) }
+        ensures stops { IfOk result (λ stop. IfSome stop (λ s. StopsWithin s self.old.bytes.items self.new.bytes.items bytes.now)) }
+        ensures script { OnOk result (IsScript self.new.bytes.items self.new.lines self.new.column) }
         ensures room { IfOk result (λ stop. IfNone stop (room_of self.new.lines self.new.column + length bytes.now ≤ room_of self.old.lines self.old.column)) }
     {
         for byte in bytes {
@@ -96,9 +99,8 @@ impl Script {
 /// An `Err` says that memory was refused.
 pub fn read_script<T: TextIn>(alloc: Global, reader: &mut T) -> Result<(Script, Stop), AllocError>
     requires { T.has_failed reader.old ≡ false }
+    ensures read { IfOk result (λ read. IsRead (T.remaining reader.old) (T.remaining reader.new) read.1 read.0.bytes.items read.0.lines read.0.column) }
     ensures failed { IfOk result (λ read. (read.1 ≡ Stop.Failed) ↔ (T.has_failed reader.new ≡ true)) }
-    ensures whole { IfOk result (λ read. read.1 ≡ Stop.End → Consumes (T.remaining reader.old) (T.remaining reader.new) read.0.bytes.items) }
-    ensures end { IfOk result (λ read. read.1 ≡ Stop.End → IsAtEnd (T.remaining reader.new)) }
     ensures memory { OnErr result (T.has_failed reader.new ≡ false) }
 {
     let mut script = Script::new(alloc);

@@ -8,10 +8,11 @@ use std::io::{ErrorKind, Read, Write};
 use std::process::Abort;
 use std::test::Fail;
 
-/// A reader over memory that gives at most seven bytes at a time, and then ends or fails.
+/// A reader over memory that gives at most so many bytes at a time, and then ends or fails.
 #[derive(Drop)]
 struct Trickle<'a> {
     left: &'a [u8],
+    most: usize,
     fails: bool,
 }
 
@@ -20,22 +21,27 @@ impl Read for Trickle<'_> {
         if self.left.is_empty() && self.fails {
             return Err(io::Error::from(ErrorKind::Other));
         }
-        let count = self.left.len().min(buffer.len()).min(7);
+        let count = self.left.len().min(buffer.len()).min(self.most);
         buffer[..count].copy_from_slice(&self.left[..count]);
         self.left = &self.left[count..];
         Ok(count)
     }
 }
 
-/// A writer over memory that takes at most three bytes at a time, and none past its room.
+/// A writer over memory that takes at most three bytes at a time, and past its room takes none or
+/// fails.
 #[derive(Drop)]
 struct Narrow {
     taken: Vec<u8>,
     room: usize,
+    fails: bool,
 }
 
 impl Write for Narrow {
     fn write(&mut self, bytes: &[u8]) -> io::Result<usize> {
+        if self.room == 0 && self.fails {
+            return Err(io::Error::from(ErrorKind::Other));
+        }
         let count = bytes.len().min(self.room).min(3);
         self.taken.extend_from_slice(&bytes[..count])?;
         self.room -= count;
@@ -55,10 +61,9 @@ struct Outcome {
     status: u8,
 }
 
-/// Runs the program on argument texts and a script.
-fn outcome_of(alloc: Global, words: &[&str], script: &[u8], fails: bool) -> Outcome {
-    let left = script;
-    let mut input = Checked::new(Trickle { left, fails });
+/// Runs the program on argument texts and the script of a reader.
+fn outcome_of(alloc: Global, words: &[&str], reader: Trickle<'_>) -> Outcome {
+    let mut input = Checked::new(reader);
     let mut output = Vec::new(alloc);
     let mut faults = Vec::new(alloc);
     let status = run(
@@ -75,10 +80,19 @@ fn outcome_of(alloc: Global, words: &[&str], script: &[u8], fails: bool) -> Outc
     }
 }
 
-/// Asserts what the replay of a script writes, and its status.
-fn replays(rt: &impl Abort, alloc: Global, script: &[u8], fails: bool, want: (&str, &str, u8)) {
+/// A reader of a script that gives at most seven bytes at a time.
+fn by_sevens(script: &[u8], fails: bool) -> Trickle<'_> {
+    Trickle {
+        left: script,
+        most: 7,
+        fails,
+    }
+}
+
+/// Asserts what the replay of the script of a reader writes, and its status.
+fn replays(rt: &impl Abort, alloc: Global, reader: Trickle<'_>, want: (&str, &str, u8)) {
     let (output, faults, status) = want;
-    let outcome = outcome_of(alloc, ["unibench", "replay"].as_slice(), script, fails);
+    let outcome = outcome_of(alloc, ["unibench", "replay"].as_slice(), reader);
     assert_eq!(rt;
         outcome.faults.as_slice(),
         faults.as_bytes(),
@@ -107,6 +121,15 @@ fn good_scripts(rt: HostRuntime) {
             "universal 1 queue 1 8\ncall 0 enq 7\nfinish 0\nlog\ncall 0 deq\nfinish 0\n",
             "called 0.0\nreturned 0.0 ok steps 14 turns 1\n2 0.0 enq 7 -> ok\ncalled 0.1\nreturned 0.1 7 steps 14 turns 1\nend\n",
         ),
+        (
+            "universal 1 queue 1 8\ncall 0 enq 7\nfinish 0\ncall 0 deq\nfinish 0\nlog\n",
+            "called 0.0\nreturned 0.0 ok steps 14 turns 1\ncalled 0.1\nreturned 0.1 7 steps 14 turns 1\n2 0.0 enq 7 -> ok\n3 0.1 deq -> 7\nend\n",
+        ),
+        // A call that was begun and took no step isn't in the log.
+        (
+            "universal 1 queue 1 8\ncall 0 enq 7\nfinish 0\ncall 0 deq\nlog\n",
+            "called 0.0\nreturned 0.0 ok steps 14 turns 1\ncalled 0.1\n2 0.0 enq 7 -> ok\nend\n",
+        ),
         ("universal 1 queue 1 1\n", "end\n"),
         ("# a note\n\nuniversal 1 queue 1 4096\n#\n", "end\n"),
         (
@@ -119,7 +142,27 @@ fn good_scripts(rt: HostRuntime) {
         ),
     ];
     for (script, output) in rows {
-        replays(&rt, rt.alloc(), script.as_bytes(), false, (output, "", 0));
+        let reader = by_sevens(script.as_bytes(), false);
+        replays(&rt, rt.alloc(), reader, (output, "", 0));
+    }
+}
+
+/// A script of one call of a queue. Its lines end after 22, 35, 44 and 48 bytes.
+const ONE_CALL: &[u8] = b"universal 1 queue 1 8\ncall 0 enq 7\nfinish 0\nlog\n";
+
+/// What is written for it: lines of 11, 33, 18 and 4 bytes.
+const ONE_CALL_ANSWERED: &str =
+    "called 0.0\nreturned 0.0 ok steps 14 turns 1\n2 0.0 enq 7 -> ok\nend\n";
+
+#[test]
+fn one_call_in_any_pieces(rt: HostRuntime) {
+    for most in [1, 2, 7, 5_000] {
+        let reader = Trickle {
+            left: ONE_CALL,
+            most,
+            fails: false,
+        };
+        replays(&rt, rt.alloc(), reader, (ONE_CALL_ANSWERED, "", 0));
     }
 }
 
@@ -172,13 +215,8 @@ fn bad_scripts(rt: HostRuntime) {
         ("universal 1 queue 1 8\n#\r\nx\n", "", "line 2: bad byte\n"),
     ];
     for (script, output, faults) in rows {
-        replays(
-            &rt,
-            rt.alloc(),
-            script.as_bytes(),
-            false,
-            (output, faults, 2),
-        );
+        let reader = by_sevens(script.as_bytes(), false);
+        replays(&rt, rt.alloc(), reader, (output, faults, 2));
     }
 }
 
@@ -215,7 +253,7 @@ fn greatest_scripts(rt: HostRuntime) -> Result<(), Fail> {
         (many_lines(alloc, 100_001)?, false, ("", many, 2)),
     ];
     for (script, fails, want) in rows {
-        replays(&rt, alloc, script.as_slice(), fails, want);
+        replays(&rt, alloc, by_sevens(script.as_slice(), fails), want);
     }
     Ok(())
 }
@@ -236,14 +274,58 @@ fn reader_that_fails(rt: HostRuntime) {
         ),
     ];
     for (script, want) in rows {
-        replays(&rt, rt.alloc(), script.as_bytes(), true, want);
+        replays(&rt, rt.alloc(), by_sevens(script.as_bytes(), true), want);
     }
 }
 
-/// Runs the program with an output that has so much room.
-fn narrow_outcome(alloc: Global, words: &[&str], script: &[u8], room: usize) -> Outcome {
+/// What is written where the reader of `ONE_CALL` fails after so many bytes: the answers to the
+/// lines that end by then.
+fn answered_after(count: usize) -> &'static str {
+    if count < 35 {
+        ""
+    } else if count < 44 {
+        "called 0.0\n"
+    } else if count < 48 {
+        "called 0.0\nreturned 0.0 ok steps 14 turns 1\n"
+    } else {
+        "called 0.0\nreturned 0.0 ok steps 14 turns 1\n2 0.0 enq 7 -> ok\n"
+    }
+}
+
+/// Asserts what is written where the reader of `ONE_CALL` fails after these bytes of it.
+fn answers_what_it_read(rt: &impl Abort, alloc: Global, left: &[u8]) {
+    let want = (answered_after(left.len()), "cannot read\n", 3);
+    for most in [1, 7, 5_000] {
+        let reader = Trickle {
+            left,
+            most,
+            fails: true,
+        };
+        replays(rt, alloc, reader, want);
+    }
+}
+
+#[test]
+fn reader_that_fails_after_each_byte(rt: HostRuntime) -> Result<(), Fail> {
+    let mut given = Vec::new(rt.alloc());
+    for byte in ONE_CALL {
+        answers_what_it_read(&rt, rt.alloc(), given.as_slice());
+        given.push(*byte)?;
+    }
+    answers_what_it_read(&rt, rt.alloc(), given.as_slice());
+    Ok(())
+}
+
+/// Runs the program with an output that has so much room, and then takes no byte or fails.
+fn narrow_outcome(
+    alloc: Global,
+    words: &[&str],
+    script: &[u8],
+    room: usize,
+    fails: bool,
+) -> Outcome {
     let taken = Vec::new(alloc);
-    let mut narrow = Narrow { taken, room };
+    let mut narrow = Narrow { taken, room, fails };
     let mut faults = Vec::new(alloc);
     let status = run(
         alloc,
@@ -252,7 +334,11 @@ fn narrow_outcome(alloc: Global, words: &[&str], script: &[u8], room: usize) -> 
         &mut Checked::new(&mut narrow),
         &mut Checked::new(&mut faults),
     );
-    let Narrow { taken, room: _ } = narrow;
+    let Narrow {
+        taken,
+        room: _,
+        fails: _,
+    } = narrow;
     Outcome {
         output: taken,
         faults,
@@ -275,7 +361,7 @@ fn writer_that_fails(rt: HostRuntime) {
         (help, "", 0, "", "cannot write\n", 3),
     ];
     for (words, script, room, output, faults, status) in rows {
-        let outcome = narrow_outcome(rt.alloc(), words, script.as_bytes(), room);
+        let outcome = narrow_outcome(rt.alloc(), words, script.as_bytes(), room, false);
         assert_eq!(rt; outcome.output.as_slice(), output.as_bytes(), "room {room}");
         assert_eq!(rt; outcome.faults.as_slice(), faults.as_bytes(), "room {room}");
         assert_eq!(rt; outcome.status, status, "room {room}");
@@ -283,9 +369,38 @@ fn writer_that_fails(rt: HostRuntime) {
 }
 
 #[test]
+fn writer_that_fails_after_each_byte(rt: HostRuntime) -> Result<(), Fail> {
+    let replay = ["unibench", "replay"].as_slice();
+    for fails in [false, true] {
+        let mut front = Vec::new(rt.alloc());
+        for byte in ONE_CALL_ANSWERED.as_bytes() {
+            let room = front.len();
+            let outcome = narrow_outcome(rt.alloc(), replay, ONE_CALL, room, fails);
+            assert_eq!(rt;
+                outcome.output.as_slice(),
+                front.as_slice(),
+                "{room} {fails}"
+            );
+            assert_eq!(rt;
+                outcome.faults.as_slice(),
+                "cannot write\n".as_bytes(),
+                "{room} {fails}"
+            );
+            assert_eq!(rt; outcome.status, 3, "{room} {fails}");
+            front.push(*byte)?;
+        }
+    }
+    Ok(())
+}
+
+#[test]
 fn faults_that_nobody_takes(rt: HostRuntime) {
     let taken = Vec::new(rt.alloc());
-    let mut faults = Narrow { taken, room: 0 };
+    let mut faults = Narrow {
+        taken,
+        room: 0,
+        fails: false,
+    };
     let mut output = Vec::new(rt.alloc());
     let status = run(
         rt.alloc(),
@@ -312,7 +427,11 @@ fn command_lines(rt: HostRuntime) {
         (["unibench", "replay", "8"].as_slice(), false, 2),
     ];
     for (words, is_help, status) in rows {
-        let outcome = outcome_of(rt.alloc(), words, b"universal 1 queue 1 8\n", false);
+        let outcome = outcome_of(
+            rt.alloc(),
+            words,
+            by_sevens(b"universal 1 queue 1 8\n", false),
+        );
         assert_eq!(rt; outcome.status, status, "{words:?}");
         assert_eq!(rt; outcome.output.is_empty(), !is_help, "{words:?}");
         assert_eq!(rt; outcome.faults.is_empty(), is_help, "{words:?}");
