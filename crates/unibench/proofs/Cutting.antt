@@ -17,9 +17,6 @@ end_of bytes = position_or_len ends bytes
 abbrev cut_is : Cut → (whole : List (List ℕ)) (tail : List ℕ) → Type 0
 cut_is c whole tail = c ≡ record { whole = whole; tail = tail }
 
-after_end : (b : ℕ) (c : Cut) → (b == 10) ≡ true → cut_is (after_byte b c) ([] ∷ c.whole) c.tail
-after_end b c e = rw e refl
-
 after_other : (b : ℕ) (c : Cut) → (b == 10) ≡ false → after_byte b c ≡ with_first b c.whole c.tail
 after_other b c e = rw e refl
 
