@@ -6,3 +6,4 @@ pub mod Meaning
 pub mod Reading
 pub mod Replays
 pub mod Scripts
+pub mod CommandLine

@@ -1,7 +1,9 @@
 //! The command line, and the statuses of the program.
 
-ghost use Rattle.std.specs.Prelude.{◌≡◌, ◌≢◌, ◌≤◌, ◌⊎◌, true, false, None, OnOk, OnErr};
-ghost use Rattle.unibench.specs.Replays.{IsReplay, IsBadReplay};
+ghost use Rattle.std.specs.Prelude.{◌≡◌, ◌≢◌, ◌≤◌, ◌⊎◌, true, false, None, OnOk, OnErr, map};
+ghost use Rattle.clap.specs.Words.{FailsBy};
+ghost use Rattle.unibench.specs.CommandLine.{faults_of_words, AsksForReplay, MayAskForHelp};
+ghost use Rattle.unibench.specs.Replays.{IsReplay, IsBadReplay, IsPartOfReplay, HasAnswered};
 ghost use Rattle.unibench.specs.Statuses.{status_of};
 
 use crate::ends::{Failed, TextIn, TextOut, write_all};
@@ -22,7 +24,11 @@ enum Request {
 }
 
 /// Reads the command line.
-fn read_words<S: AsStr>(alloc: Global, words: &[S]) -> Result<Request, clap::Error> {
+///
+/// An `Err` has the fault of the words, or says that memory was refused.
+fn read_words<S: AsStr>(alloc: Global, words: &[S]) -> Result<Request, clap::Error>
+    ensures { FailsBy (faults_of_words (map S.text words.now)) result }
+{
     let replay = Command::new(alloc, "replay").about(
         "Runs the script on standard input, and writes its answers to standard output",
     );
@@ -30,8 +36,10 @@ fn read_words<S: AsStr>(alloc: Global, words: &[S]) -> Result<Request, clap::Err
         .about("A bench for the wait-free universal construction")
         .subcommand_required(true)
         .subcommand(replay)?;
-    command.try_get_matches_from(words)?;
-    Ok(Request::Replay)
+    match command.try_get_matches_from(words) {
+        Ok(_) => Ok(Request::Replay),
+        Err(error) => Err(error),
+    }
 }
 
 /// Runs the program over its argument texts, the program's name first; the answer is the status
@@ -54,21 +62,26 @@ pub fn run<S: AsStr, I: TextIn, O: TextOut, F: TextOut>(
     ensures good { result ≡ 0 → (I.has_failed input.new ≡ false) × (O.has_failed output.new ≡ false) }
     ensures written { O.has_failed output.new ≡ true → result ≡ 3 }
     ensures ends { result ≡ 3 → (I.has_failed input.new ≡ true) ⊎ (O.has_failed output.new ≡ true) }
-    ensures replayed { result ≡ 0 → IsReplay (I.remaining input.old) (O.contents output.old) (O.contents output.new) None ⊎ (input.new ≡ input.old) }
-    ensures bad { result ≡ 2 → IsBadReplay (I.remaining input.old) (O.contents output.old) (O.contents output.new) ⊎ (input.new ≡ input.old) }
+    ensures replayed { AsksForReplay (map S.text words.now) → result ≡ 0 → IsReplay (I.remaining input.old) (O.contents output.old) (O.contents output.new) None }
+    ensures bad { AsksForReplay (map S.text words.now) → result ≡ 2 → IsBadReplay (I.remaining input.old) (O.contents output.old) (O.contents output.new) }
+    ensures read { AsksForReplay (map S.text words.now) → result ≡ 3 → O.has_failed output.new ≡ false
+        → HasAnswered (I.remaining input.old) (I.remaining input.new) (O.contents output.old) (O.contents output.new) }
+    ensures part { AsksForReplay (map S.text words.now) → IsPartOfReplay (I.remaining input.old) (O.contents output.old) (O.contents output.new) }
+    ensures unread { (AsksForReplay (map S.text words.now) → ⊥) → input.new ≡ input.old }
+    ensures refused { (AsksForReplay (map S.text words.now) → ⊥) → (MayAskForHelp (map S.text words.now) → ⊥)
+        → ((result ≡ 2) ⊎ (result ≡ 4)) × (output.new ≡ output.old) }
 {
-    let outcome = match read_words(alloc, words) {
-        Ok(Request::Replay) => return replay(alloc, input, output, faults),
-        Err(error) if error.kind() == ErrorKind::OutOfMemory => Err(BenchFault::Memory),
+    match read_words(alloc, words) {
+        Ok(Request::Replay) => replay(alloc, input, output, faults),
+        Err(error) if error.kind() == ErrorKind::OutOfMemory => report(BenchFault::Memory, faults),
         Err(error) if error.use_stderr() => {
             let _ = print(faults, &error);
-            return 2;
+            2
         }
-        Err(error) => print(output, &error).map_err(|_| BenchFault::Write),
-    };
-    match outcome {
-        Ok(()) => 0,
-        Err(fault) => report(fault, faults),
+        Err(error) => match print(output, &error) {
+            Ok(()) => 0,
+            Err(Failed) => report(BenchFault::Write, faults),
+        },
     }
 }
 
@@ -87,6 +100,8 @@ fn replay<I: TextIn, O: TextOut, F: TextOut>(
     ensures statuses { (result ≤ 4) × (result ≢ 1) }
     ensures replayed { result ≡ 0 → IsReplay (I.remaining input.old) (O.contents output.old) (O.contents output.new) None }
     ensures bad { result ≡ 2 → IsBadReplay (I.remaining input.old) (O.contents output.old) (O.contents output.new) }
+    ensures read { result ≡ 3 → O.has_failed output.new ≡ false → HasAnswered (I.remaining input.old) (I.remaining input.new) (O.contents output.old) (O.contents output.new) }
+    ensures part { IsPartOfReplay (I.remaining input.old) (O.contents output.old) (O.contents output.new) }
     ensures good { result ≡ 0 → (I.has_failed input.new ≡ false) × (O.has_failed output.new ≡ false) }
     ensures written { O.has_failed output.new ≡ true → result ≡ 3 }
     ensures ends { result ≡ 3 → (I.has_failed input.new ≡ true) ⊎ (O.has_failed output.new ≡ true) }
