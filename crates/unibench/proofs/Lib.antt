@@ -1,9 +1,1 @@
-pub mod Written
-pub mod Stepping
-pub mod Commands
-pub mod Cutting
-pub mod Running
-pub mod ByteByByte
-pub mod Replaying
-pub mod LogLines
 pub mod CommandLine

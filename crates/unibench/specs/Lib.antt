@@ -1,9 +1,2 @@
-pub mod Ends
 pub mod Statuses
-pub mod Script
-pub mod Answers
-pub mod Meaning
-pub mod Reading
-pub mod Replays
-pub mod Scripts
 pub mod CommandLine

@@ -1,7 +1,7 @@
 -- The statuses with which the program ends.
 use Rattle.std.specs.Prelude.{ℕ}
-use Rattle.unibench.specs.declared.fault.BenchFault.{BenchFault}
-use Rattle.unibench.specs.declared.fault.BenchFault.TheVariants.{NoHeader, BadHeader, TooLong, BadByte, BadLine, TooMany, Read, Write, Memory}
+use Rattle.uni_script.specs.declared.fault.BenchFault.{BenchFault}
+use Rattle.uni_script.specs.declared.fault.BenchFault.TheVariants.{NoHeader, BadHeader, TooLong, BadByte, BadLine, TooMany, Read, Write, Memory}
 
 -- the status that a fault ends with
 abbrev pub status_of : BenchFault → ℕ

@@ -1,24 +1,17 @@
-//! The bench: reads a script of calls on an object that processes share, makes them on the wait-free
-//! universal construction, and writes what each of them answers.
+//! The program: reads the command line, and runs the bench of `uni_script` from standard input to
+//! standard output.
 #![tactic(auto)]
 
-mod answer;
-mod bench;
-mod ends;
-mod fault;
-mod grammar;
 mod program;
-mod replay;
-mod script;
 #[cfg(test)]
 mod tests;
 
-use crate::ends::Checked;
 use crate::program::{refuse_words, run};
 use std::alloc::Global;
 use std::env::Env;
 use std::process::ExitCode;
 use std::{env, io};
+use uni_script::Checked;
 
 /// The argument texts, the program's name first.
 fn words<R: Env + Alloc<A = Global>>(rt: &R) -> io::Result<Vec<String>> {

@@ -3,18 +3,16 @@
 ghost use Rattle.std.specs.Prelude.{◌≡◌, ◌≢◌, ◌≤◌, ◌⊎◌, true, false, None, OnOk, OnErr, map};
 ghost use Rattle.clap.specs.Words.{FailsBy};
 ghost use Rattle.unibench.specs.CommandLine.{faults_of_words, AsksForReplay, MayAskForHelp};
-ghost use Rattle.unibench.specs.Replays.{IsReplay, IsBadReplay, IsPartOfReplay, HasAnswered};
+ghost use Rattle.uni_script.specs.Replays.{IsReplay, IsBadReplay, IsPartOfReplay, HasAnswered};
 ghost use Rattle.unibench.specs.Statuses.{status_of};
 
-use crate::ends::{Failed, TextIn, TextOut, write_all};
-use crate::fault::BenchFault;
-use crate::replay::first;
 use clap::Command;
 use clap::error::ErrorKind;
 use std::alloc::Global;
 use std::convert::AsStr;
 use std::fmt::{Display, Write};
 use std::{fmt, io};
+use uni_script::{BenchFault, Failed, TextIn, TextOut, bench, write_all};
 
 /// What the command line asks for.
 #[derive(Clone, Copy, Debug, PartialEq, Eq)]
@@ -106,9 +104,26 @@ fn replay<I: TextIn, O: TextOut, F: TextOut>(
     ensures written { O.has_failed output.new ≡ true → result ≡ 3 }
     ensures ends { result ≡ 3 → (I.has_failed input.new ≡ true) ⊎ (O.has_failed output.new ≡ true) }
 {
-    match first(alloc, input, output) {
+    match bench(alloc, input, output) {
         Ok(()) => 0,
         Err(fault) => report(fault, faults),
+    }
+}
+
+/// The status with which the program ends: 2 for a bad script, 3 for input and output, 4 for memory.
+fn status(fault: BenchFault) -> u8
+    ensures value { result ≡ status_of fault }
+    ensures range { (2 ≤ result) × (result ≤ 4) }
+{
+    match fault {
+        BenchFault::NoHeader(_)
+        | BenchFault::BadHeader(_)
+        | BenchFault::TooLong(_)
+        | BenchFault::BadByte(_)
+        | BenchFault::BadLine(_)
+        | BenchFault::TooMany => 2,
+        BenchFault::Read | BenchFault::Write => 3,
+        BenchFault::Memory => 4,
     }
 }
 
@@ -118,7 +133,7 @@ fn report<F: TextOut>(fault: BenchFault, faults: &mut F) -> u8
 {
     let _ = print(faults, &fault);
     let _ = write_all(faults, b"\n");
-    fault.status()
+    status(fault)
 }
 
 /// Says why the argument texts can't be had; the answer is the status.

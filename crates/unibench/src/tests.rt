@@ -1,16 +1,12 @@
 //! Tests of the program over memory: what it writes, and its status.
 
-use crate::ends::Checked;
 use crate::program::run;
-use ready_objects::{Amount, StickyInv, StickyObject, StickyResp};
-use seq_object::CallId;
 use std::alloc::{AllocError, Global};
 use std::io;
 use std::io::{ErrorKind, Read, Write};
 use std::process::Abort;
 use std::test::Fail;
-use uni_core::{Progress, World};
-use uni_log::{Entry, Log};
+use uni_script::Checked;
 
 /// A reader over memory that gives at most so many bytes at a time, and then ends or fails.
 #[derive(Drop)]
@@ -440,62 +436,4 @@ fn command_lines(rt: HostRuntime) {
         assert_eq!(rt; outcome.output.is_empty(), !is_help, "{words:?}");
         assert_eq!(rt; outcome.faults.is_empty(), is_help, "{words:?}");
     }
-}
-
-/// Makes a call of a process that runs alone, from its start to its response.
-fn makes(
-    alloc: Global,
-    world: &mut World<StickyObject>,
-    p: u64,
-    inv: &StickyInv,
-) -> Result<StickyResp, Fail> {
-    if world.begin(alloc, p, inv).is_err() {
-        return Err(Fail::from("no call was begun"));
-    }
-    for _ in 0..200 {
-        match world.step(alloc, p) {
-            Ok(Progress::Going) => {}
-            Ok(Progress::Done(resp)) => return Ok(resp),
-            Err(_) => return Err(Fail::from("a step was refused")),
-        }
-    }
-    Err(Fail::from("the call should have returned"))
-}
-
-#[test]
-fn three_processes_share_the_first_proposal(rt: HostRuntime) -> Result<(), Fail> {
-    let alloc = rt.alloc();
-    let Ok(mut world) = World::open(alloc, StickyObject, 3, 8) else {
-        return Err(Fail::from("no world was opened"));
-    };
-    let five = Amount::new(5).ok_or("no amount")?;
-    let nine = Amount::new(9).ok_or("no amount")?;
-    for (p, inv) in [
-        (0, StickyInv::Stick(five)),
-        (1, StickyInv::Stick(nine)),
-        (2, StickyInv::Read),
-    ] {
-        assert_eq!(rt;
-            makes(alloc, &mut world, p, &inv)?,
-            StickyResp::Settled(five)
-        );
-        if p < world.processes() {
-            assert_eq!(rt; (world.steps(p), world.turns(p)), (18, 1));
-        }
-    }
-    assert_eq!(rt; world.processes(), 3);
-    let entries = Log::of(&world).entries(alloc)?;
-    let want = [
-        (2, 0, StickyInv::Stick(five)),
-        (3, 1, StickyInv::Stick(nine)),
-        (4, 2, StickyInv::Read),
-    ]
-    .map(|(seq, process, inv)| Entry {
-        seq,
-        call: CallId { process, nth: 0 },
-        inv,
-        reply: Some(StickyResp::Settled(five)),
-    });
-    assert_eq!(rt; entries.as_slice(), want.as_slice());
-    Ok(())
 }

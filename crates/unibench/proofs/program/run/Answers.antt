@@ -1,4 +1,4 @@
-use Rattle.unibench.proofs.Replaying.{IsPartOfReplay-start}
+use Rattle.uni_script.proofs.Replaying.{IsPartOfReplay-start}
 use Rattle.unibench.proofs.program.run.Goals as goal
 
 pub returns-in-Err-clause-part : goal.returns-in-Err-clause-part

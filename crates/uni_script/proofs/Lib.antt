@@ -1,0 +1,8 @@
+pub mod Written
+pub mod Stepping
+pub mod Made
+pub mod Cutting
+pub mod Running
+pub mod ByteByByte
+pub mod Replaying
+pub mod LogLines

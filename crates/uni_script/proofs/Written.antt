@@ -1,0 +1,34 @@
+-- What is written of some bytes, write by write.
+use Rattle.std.proofs.Common.{◌≡◌, ℕ, List, [], ◌++◌, Option, None, Some, refl, sym, ap, ◌∙◌, subst, take, drop, append_assoc, append-nil, take-append-drop}
+use Rattle.std.proofs.KnownBytes.{Appends-nil, Appends-trans}
+use Rattle.std.specs.Io.KnownBytes.{Appends, Keeps}
+use Rattle.uni_script.specs.Ends.{IsWritten}
+
+-- before the first write all bytes are left
+pub IsWritten-start : (a : Option (List ℕ)) (bytes : List ℕ) → IsWritten a a bytes bytes
+IsWritten-start a bytes = record { front = []; cut = refl; taken = Appends-nil a }
+
+-- a write takes the first n of the bytes that are left
+pub IsWritten-write : (a b c : Option (List ℕ)) (bytes rest left : List ℕ) (n : ℕ) → IsWritten a b bytes rest → Appends b c (take n rest) → left ≡ drop n rest → IsWritten a c bytes left
+IsWritten-write a b c bytes rest left n so_far write is_left = record {
+  front = so_far.front ++ take n rest;
+  cut =
+      so_far.cut ∙ ap (λ l. so_far.front ++ l) (sym (take-append-drop n rest))
+      ∙ sym (append_assoc so_far.front (take n rest) (drop n rest)) ∙ ap (λ l. (so_far.front ++ take n rest) ++ l) (sym is_left);
+  taken = Appends-trans a b c so_far.front (take n rest) so_far.taken write;
+}
+
+-- a write that fails takes nothing
+pub IsWritten-kept : (a b c : Option (List ℕ)) (bytes rest : List ℕ) → IsWritten a b bytes rest → Keeps b c → IsWritten a c bytes rest
+IsWritten-kept a b c bytes rest so_far kept = record { front = so_far.front; cut = so_far.cut; taken = Appends-kept a b c so_far.front so_far.taken kept }
+  where
+    Appends-kept : (a b c : Option (List ℕ)) (xs : List ℕ) → Appends a b xs → Keeps b c → Appends a c xs
+    Appends-kept None b c xs p q = tt
+    Appends-kept (Some x) None c xs p q = absurd p
+    Appends-kept (Some x) (Some y) None xs p q = absurd q
+    Appends-kept (Some x) (Some y) (Some z) xs p q = q ∙ p
+
+-- where no byte is left, all are written
+pub Appends-from_IsWritten : (a b : Option (List ℕ)) (bytes rest : List ℕ) → IsWritten a b bytes rest → rest ≡ [] → Appends a b bytes
+Appends-from_IsWritten a b bytes rest so_far none =
+    subst (Appends a b) (sym (so_far.cut ∙ ap (λ l. so_far.front ++ l) none ∙ append-nil so_far.front)) so_far.taken

@@ -1,0 +1,72 @@
+-- The texts of answers.
+use Rattle.std.specs.Prelude.{◌≡◌, ℕ, List, [], ◌∷◌, ◌++◌, codes, refl}
+use Rattle.std.specs.Fmt.{decimal, digits}
+use Rattle.std.specs.Option.{option_map_or}
+use Rattle.seq_object.specs.declared.call_id.CallId.{CallId}
+use Rattle.uni_script.specs.declared.answer.Refusal.{Refusal}
+use Rattle.uni_script.specs.declared.answer.Refusal.TheVariants.{Process, Busy, Row, Idle}
+use Rattle.uni_script.specs.declared.answer.Answer.{Answer}
+use Rattle.uni_script.specs.declared.answer.Answer.TheVariants.{Called, Refused, Returned, Going, End}
+use Rattle.uni_model.specs.Chain.{Entry}
+
+-- the text of a call's name
+abbrev pub call_text : CallId → List ℕ
+call_text call = decimal call.process ++ codes "." ++ decimal call.nth
+
+-- the text of a refusal
+abbrev pub refusal_text : Refusal → List ℕ
+refusal_text (Process p) = codes "refused process " ++ decimal p
+refusal_text (Busy p) = codes "refused busy " ++ decimal p
+refusal_text (Row p) = codes "refused row " ++ decimal p
+refusal_text (Idle p) = codes "refused idle " ++ decimal p
+
+-- how far a call has come
+abbrev pub progress_text : (steps turns : ℕ) → List ℕ
+progress_text steps turns = codes " steps " ++ decimal steps ++ codes " turns " ++ decimal turns ++ 10 ∷ []
+
+-- the line of a call that began
+abbrev pub called_text : CallId → List ℕ
+called_text call = codes "called " ++ call_text call ++ 10 ∷ []
+
+-- the line of a command that was refused
+abbrev pub refused_text : Refusal → List ℕ
+refused_text refusal = refusal_text refusal ++ 10 ∷ []
+
+-- the line of a call that returned, with the text of its response
+abbrev pub returned_text : CallId → List ℕ → (steps turns : ℕ) → List ℕ
+returned_text call reply steps turns = codes "returned " ++ call_text call ++ codes " " ++ reply ++ progress_text steps turns
+
+-- the line of a call that goes on
+abbrev pub going_text : CallId → (steps turns : ℕ) → List ℕ
+going_text call steps turns = codes "going " ++ call_text call ++ progress_text steps turns
+
+-- the last line of a script
+abbrev pub end_text : List ℕ
+end_text = codes "end" ++ 10 ∷ []
+
+-- the line of an answer
+abbrev pub answer_text : Answer → List ℕ
+answer_text (Called call) = called_text call
+answer_text (Refused refusal) = refused_text refusal
+answer_text (Returned call reply steps turns) = returned_text call reply.items steps turns
+answer_text (Going call steps turns) = going_text call steps turns
+answer_text End = end_text
+
+-- the line of an entry of the log, with these texts of invocations and responses; the response is a question mark where
+-- there is none yet
+abbrev pub entry_text : {I R : Type 0} → (I → List ℕ) → (R → List ℕ) → Entry I R → List ℕ
+entry_text inv_text resp_text entry =
+    decimal entry.number ++ codes " " ++ decimal entry.call.process ++ codes "." ++ decimal entry.call.nth ++ codes " "
+    ++ inv_text entry.call.inv ++ codes " -> " ++ option_map_or resp_text entry.response (codes "?") ++ 10 ∷ []
+
+a_call_began : answer_text (Called (record { process = 0; nth = 1 })) ≡ codes "called 0.1" ++ 10 ∷ []
+unfolding digits
+a_call_began = refl
+
+a_process_is_refused : answer_text (Refused (Process 9)) ≡ codes "refused process 9" ++ 10 ∷ []
+unfolding digits
+a_process_is_refused = refl
+
+a_call_goes_on : answer_text (Going (record { process = 0; nth = 0 }) 10 1) ≡ codes "going 0.0 steps 10 turns 1" ++ 10 ∷ []
+unfolding digits
+a_call_goes_on = refl

@@ -1,0 +1,7 @@
+pub mod Ends
+pub mod Script
+pub mod Answers
+pub mod Meaning
+pub mod Reading
+pub mod Replays
+pub mod Scripts

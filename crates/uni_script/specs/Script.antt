@@ -1,0 +1,119 @@
+-- The lines of a script, and what each of them means.
+use Rattle.std.specs.Prelude.{◌≡◌, ℕ, ◌==◌, nat_le, ◌&&◌, if◌then◌else◌, Bool, true, List, [], ◌∷◌, ◌++◌, Option, Some, None, option_map, option_and_then, codes, refl}
+use Rattle.std.specs.Str.{bytes_eq}
+use Rattle.ready_objects.specs.Number.{number_of_word}
+use Rattle.ready_objects.specs.Queue.{queue_inv_of_words}
+use Rattle.ready_objects.specs.declared.queue.QueueInv.TheVariants.{Enq}
+use Rattle.ready_objects.specs.Words.{words_of_text}
+use Rattle.uni_script.specs.declared.grammar.Header.{Header}
+use Rattle.uni_script.specs.declared.grammar.Command.{Command}
+use Rattle.uni_script.specs.declared.grammar.Command.TheVariants.{Call, Finish, Log}
+
+-- a text cut at its line ends, which are bytes 10: its whole lines, without their ends, and the bytes after them
+pub record Cut : Type 0 where
+  pub whole : List (List ℕ)
+  pub tail : List ℕ
+
+-- a byte that ends no line, before these whole lines and this tail: it belongs to the first line
+abbrev pub with_first : ℕ → (whole : List (List ℕ)) (tail : List ℕ) → Cut
+with_first b [] tail = record { whole = []; tail = b ∷ tail }
+with_first b (line ∷ lines) tail = record { whole = (b ∷ line) ∷ lines; tail = tail }
+
+-- a byte before a text that is cut
+abbrev pub after_byte : ℕ → Cut → Cut
+after_byte b rest = if b == 10 then record { whole = [] ∷ rest.whole; tail = rest.tail } else with_first b rest.whole rest.tail
+
+abbrev pub cut : List ℕ → Cut
+cut [] = record { whole = []; tail = [] }
+cut (b ∷ bytes) = after_byte b (cut bytes)
+
+-- the line of the bytes after the last line end: there is none where there are no bytes
+abbrev pub last_line : List ℕ → List (List ℕ)
+last_line [] = []
+last_line (b ∷ bytes) = (b ∷ bytes) ∷ []
+
+-- the lines of a text: each ends with byte 10, which the last may lack
+abbrev pub lines_of : List ℕ → List (List ℕ)
+lines_of bytes = let c = cut bytes in c.whole ++ last_line c.tail
+
+-- a byte that may stand in a line
+abbrev pub is_plain_byte : ℕ → Bool
+is_plain_byte b = nat_le 32 b && nat_le b 126
+
+-- an empty line, or one that begins with `#`
+abbrev pub is_note : List ℕ → Bool
+is_note [] = true
+is_note (b ∷ bytes) = b == 35
+
+-- the header with rows of so many cells: 1 to 4096
+abbrev pub header_of_row : ℕ → Option Header
+header_of_row k = if nat_le 1 k && nat_le k 4096 then Some (record { row = k }) else None
+
+-- whether words open a queue of one process, in version 1
+abbrev pub opens_queue : (name version object processes : List ℕ) → Bool
+opens_queue name version object processes =
+    bytes_eq name (codes "universal") && (bytes_eq version (codes "1") && (bytes_eq object (codes "queue") && bytes_eq processes (codes "1")))
+
+-- the header of a queue of one process
+abbrev pub header_of_words : List (List ℕ) → Option Header
+header_of_words (name ∷ version ∷ object ∷ processes ∷ row ∷ []) =
+    if opens_queue name version object processes then option_and_then header_of_row (number_of_word row) else None
+header_of_words _ = None
+
+-- a call of a process, where both are read
+abbrev pub call_of : {I : Type 0} → Option ℕ → Option I → Option (Command I)
+call_of (Some p) (Some inv) = Some (Call p inv)
+call_of _ _ = None
+
+-- the command that words are, with the object's reading of invocations
+abbrev pub command_of_words : {I : Type 0} → (List (List ℕ) → Option I) → List (List ℕ) → Option (Command I)
+command_of_words inv_of_words [] = None
+command_of_words inv_of_words (name ∷ []) = if bytes_eq name (codes "log") then Some Log else None
+command_of_words inv_of_words (name ∷ p ∷ []) =
+    if bytes_eq name (codes "finish") then option_map Finish (number_of_word p)
+    else if bytes_eq name (codes "call") then call_of (number_of_word p) (inv_of_words [])
+    else None
+command_of_words inv_of_words (name ∷ p ∷ word ∷ words) =
+    if bytes_eq name (codes "call") then call_of (number_of_word p) (inv_of_words (word ∷ words)) else None
+
+the_last_line_may_lack_its_end : lines_of (97 ∷ 10 ∷ 98 ∷ []) ≡ (97 ∷ []) ∷ (98 ∷ []) ∷ []
+the_last_line_may_lack_its_end = refl
+
+no_line_follows_the_last_end : lines_of (97 ∷ 10 ∷ []) ≡ (97 ∷ []) ∷ []
+no_line_follows_the_last_end = refl
+
+a_line_may_be_empty : lines_of (10 ∷ 10 ∷ []) ≡ [] ∷ [] ∷ []
+a_line_may_be_empty = refl
+
+a_header : header_of_words (words_of_text (codes "universal 1 queue 1 8")) ≡ Some (record { row = 8 })
+unfolding number_of_word
+a_header = refl
+
+seventeen_processes_are_none : header_of_words (words_of_text (codes "universal 1 queue 17 8")) ≡ None
+seventeen_processes_are_none = refl
+
+a_row_of_4097_is_none : header_of_words (words_of_text (codes "universal 1 queue 1 4097")) ≡ None
+unfolding number_of_word
+a_row_of_4097_is_none = refl
+
+a_call : command_of_words queue_inv_of_words (words_of_text (codes "call 0 enq 7")) ≡ Some (Call 0 (Enq 7))
+unfolding number_of_word
+a_call = refl
+
+a_finish : command_of_words queue_inv_of_words (words_of_text (codes "finish 12")) ≡ Some (Finish 12)
+unfolding number_of_word
+a_finish = refl
+
+a_log : command_of_words queue_inv_of_words (words_of_text (codes "log")) ≡ Some Log
+a_log = refl
+
+no_command : command_of_words queue_inv_of_words (words_of_text (codes "fin")) ≡ None
+no_command = refl
+
+a_leading_zero_is_no_command : command_of_words queue_inv_of_words (words_of_text (codes "call 0 enq 007")) ≡ None
+unfolding number_of_word
+a_leading_zero_is_no_command = refl
+
+two_spaces_are_no_command : command_of_words queue_inv_of_words (words_of_text (codes "call  0 deq")) ≡ None
+unfolding number_of_word
+two_spaces_are_no_command = refl

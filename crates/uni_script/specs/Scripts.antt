@@ -1,0 +1,110 @@
+-- Scripts, with the text of their answers and their first fault.
+use Rattle.std.specs.Prelude.{◌≡◌, ℕ, List, [], ◌∷◌, ◌++◌, replicate, None, Some, codes, refl}
+use Rattle.std.specs.Fmt.{digits}
+use Rattle.ready_objects.specs.Number.{number_of_word}
+use Rattle.uni_script.specs.declared.fault.BenchFault.TheVariants.{NoHeader, BadHeader, TooLong, BadByte, BadLine, TooMany}
+use Rattle.uni_script.specs.Meaning.{queue, line_run, faulted}
+use Rattle.uni_script.specs.Replays.{text_of_script, fault_of_script}
+
+-- a line with its end, before a text
+abbrev line : List ℕ → List ℕ → List ℕ
+line bytes text = bytes ++ 10 ∷ text
+
+abbrev header : List ℕ → List ℕ
+header rest = line (codes "universal 1 queue 1 8") rest
+
+-- a value is put into the queue, and the log is read
+abbrev one_call : List ℕ → List ℕ
+one_call rest = header (line (codes "call 0 enq 7") (line (codes "finish 0") (line (codes "log") rest)))
+
+abbrev one_answer : List ℕ → List ℕ
+one_answer rest = line (codes "called 0.0") (line (codes "returned 0.0 ok steps 14 turns 1") (line (codes "2 0.0 enq 7 -> ok") rest))
+
+one_call_answered : text_of_script (one_call []) ≡ one_answer (line (codes "end") [])
+unfolding digits number_of_word
+one_call_answered = refl
+
+one_call_is_good : fault_of_script (one_call []) ≡ None
+unfolding digits number_of_word
+one_call_is_good = refl
+
+-- it is read back
+abbrev two_calls : List ℕ
+two_calls = one_call (line (codes "call 0 deq") (line (codes "finish 0") []))
+
+two_calls_answered : text_of_script two_calls ≡ one_answer (line (codes "called 0.1") (line (codes "returned 0.1 7 steps 14 turns 1") (line (codes "end") [])))
+unfolding digits number_of_word
+two_calls_answered = refl
+
+-- a header alone
+header_answered : text_of_script (header []) ≡ line (codes "end") []
+unfolding digits number_of_word
+header_answered = refl
+
+-- the last line may lack its end
+last_end_missing : text_of_script (header (line (codes "call 0 enq 7") (codes "finish 0"))) ≡ text_of_script (header (line (codes "call 0 enq 7") (line (codes "finish 0") [])))
+unfolding digits number_of_word
+last_end_missing = refl
+
+-- the answers before a fault stay
+bad_line : fault_of_script (header (line (codes "call 0 enq 7") (codes "fin"))) ≡ Some (BadLine 3)
+unfolding digits number_of_word
+bad_line = refl
+
+answers_before_bad_line : text_of_script (header (line (codes "call 0 enq 7") (codes "fin"))) ≡ line (codes "called 0.0") []
+unfolding digits number_of_word
+answers_before_bad_line = refl
+
+leading_zeros : fault_of_script (header (codes "call 0 enq 007")) ≡ Some (BadLine 2)
+unfolding digits number_of_word
+leading_zeros = refl
+
+no_operation_of_a_queue : fault_of_script (header (codes "call 0 get a")) ≡ Some (BadLine 2)
+unfolding digits number_of_word
+no_operation_of_a_queue = refl
+
+-- no line is a header
+nothing : fault_of_script [] ≡ Some (NoHeader 1)
+nothing = refl
+
+nothing_answered : text_of_script [] ≡ []
+nothing_answered = refl
+
+notes_alone : fault_of_script (line (codes "# a note") (line [] [])) ≡ Some (NoHeader 3)
+notes_alone = refl
+
+too_many_processes : fault_of_script (line (codes "universal 1 queue 17 8") []) ≡ Some (BadHeader 1)
+unfolding digits number_of_word
+too_many_processes = refl
+
+-- notes count as lines, and their bytes are looked at
+bad_byte_of_a_note : fault_of_script (header (line (codes "# a" ++ 9 ∷ []) [])) ≡ Some (BadByte 2)
+unfolding digits number_of_word
+bad_byte_of_a_note = refl
+
+line_end_of_two_bytes : fault_of_script (header (line (codes "log" ++ 13 ∷ []) [])) ≡ Some (BadByte 2)
+unfolding digits number_of_word
+line_end_of_two_bytes = refl
+
+note_of_200_bytes : text_of_script (header (line (replicate 200 35) [])) ≡ line (codes "end") []
+unfolding digits number_of_word
+note_of_200_bytes = refl
+
+note_of_201_bytes : fault_of_script (header (line (replicate 201 35) [])) ≡ Some (TooLong 2)
+unfolding digits number_of_word
+note_of_201_bytes = refl
+
+-- a line that is too long is that before it has a bad byte
+too_long_comes_first : fault_of_script (header (line (replicate 201 9) [])) ≡ Some (TooLong 2)
+unfolding digits number_of_word
+too_long_comes_first = refl
+
+-- and line 100001 is one too many before it is too long
+too_many_comes_first : line_run queue 100001 None (replicate 201 9) ≡ faulted None TooMany
+too_many_comes_first = refl
+
+-- what is refused is answered, and changes nothing
+refusals : text_of_script (header (line (codes "finish 0") (line (codes "call 9 deq") (line (codes "call 0 deq") (line (codes "call 0 deq") [])))))
+    ≡ line (codes "refused idle 0") (line (codes "refused process 9") (line (codes "called 0.0") (line (codes "refused busy 0") (line (codes "end") []))))
+unfolding digits number_of_word
+refusals = refl

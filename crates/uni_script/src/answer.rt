@@ -1,0 +1,92 @@
+//! What is written in answer to a line of a script.
+
+ghost use Rattle.std.specs.Prelude.{◌≡◌, ◌++◌, OnOk, Some};
+ghost use Rattle.uni_script.specs.Answers.{refusal_text, answer_text};
+
+use seq_object::CallId;
+use std::alloc::AllocError;
+use std::fmt;
+use std::io::Write;
+
+/// A command that the construction refused, with the process as the script gave it.
+#[derive(Clone, Copy, Debug, PartialEq, Eq)]
+pub enum Refusal {
+    /// There is no such process.
+    Process(u64),
+    /// The process has a call that hasn't returned.
+    Busy(u64),
+    /// The process has made as many calls as its row has cells.
+    Row(u64),
+    /// The process has no call.
+    Idle(u64),
+}
+
+impl fmt::Display for Refusal {
+    ghost output = { λ refusal. Some (refusal_text refusal) };
+
+    fn fmt<W: fmt::Write>(&self, f: &mut fmt::Formatter<W>) -> fmt::Result {
+        match self {
+            Refusal::Process(process) => write!(f, "refused process {process}"),
+            Refusal::Busy(process) => write!(f, "refused busy {process}"),
+            Refusal::Row(process) => write!(f, "refused row {process}"),
+            Refusal::Idle(process) => write!(f, "refused idle {process}"),
+        }
+    }
+}
+
+/// An answer.
+#[derive(Debug, Drop)]
+pub enum Answer {
+    /// A call began.
+    Called(CallId),
+    /// The command was refused.
+    Refused(Refusal),
+    /// The call returned.
+    Returned {
+        /// The call.
+        call: CallId,
+        /// The text of its response.
+        reply: Vec<u8>,
+        /// How many steps it took.
+        steps: u64,
+        /// How many turns it took.
+        turns: u64,
+    },
+    /// The call goes on.
+    Going {
+        /// The call.
+        call: CallId,
+        /// How many steps it has taken.
+        steps: u64,
+        /// How many turns it has taken.
+        turns: u64,
+    },
+    /// The script ended.
+    End,
+}
+
+/// Writes an answer and the end of its line after a text.
+///
+/// An `Err` says that memory was refused.
+pub fn push_answer(text: &mut Vec<u8>, answer: &Answer) -> Result<(), AllocError>
+    ensures { OnOk result (text.new.items ≡ text.old.items ++ answer_text answer.now) }
+{
+    match answer {
+        Answer::Called(call) => writeln!(text, "called {call}").map_err(|_| AllocError),
+        Answer::Refused(refusal) => writeln!(text, "{refusal}").map_err(|_| AllocError),
+        Answer::Returned {
+            call,
+            reply,
+            steps,
+            turns,
+        } => {
+            write!(text, "returned {call} ").map_err(|_| AllocError)?;
+            text.extend_from_slice(reply)?;
+            writeln!(text, " steps {steps} turns {turns}").map_err(|_| AllocError)
+        }
+        Answer::Going { call, steps, turns } => {
+            writeln!(text, "going {call} steps {steps} turns {turns}").map_err(|_| AllocError)
+        }
+        Answer::End => writeln!(text, "end").map_err(|_| AllocError),
+    }
+}

@@ -1,0 +1,177 @@
+//! The commands of a script, made on a world.
+
+ghost use Rattle.std.specs.Prelude.{◌≡◌, ◌++◌, IfOk, OnOk, codes};
+ghost use Rattle.std.specs.Option.{option_map_or};
+ghost use Rattle.uni_core.specs.Whole.{shown};
+ghost use Rattle.uni_log.specs.Shown.{entry_shown};
+ghost use Rattle.uni_script.specs.Answers.{answer_text, entry_text};
+ghost use Rattle.uni_script.specs.Meaning.{bench_of, bench_opened, queue, made, call_made, finish_made, steps_taken, most_steps, log_text};
+
+use crate::answer::{Answer, Refusal, push_answer};
+use crate::grammar::{Command, Header};
+use ready_objects::{QueueInv, QueueObject, QueueResp, Spoken};
+use std::alloc::{AllocError, Global};
+use std::io::Write;
+use uni_core::{BeginFault, Progress, World};
+use uni_log::{Entry, Log};
+
+/// Opens the world of a header.
+///
+/// An `Err` says that memory was refused.
+pub fn open(alloc: Global, header: Header) -> Result<World<QueueObject>, AllocError>
+    ensures { IfOk result (λ world. bench_of world ≡ bench_opened queue header) }
+{
+    // The numbers of a header are in range, so that memory alone is refused.
+    match World::open(alloc, QueueObject, 1, header.row) {
+        Ok(world) => Ok(world),
+        Err(_) => Err(AllocError),
+    }
+}
+
+/// Makes a command, and writes its answer after a text.
+///
+/// An `Err` says that memory was refused.
+pub fn make(
+    world: &mut World<QueueObject>,
+    alloc: Global,
+    command: Command<QueueInv>,
+    text: &mut Vec<u8>,
+) -> Result<(), AllocError>
+    ensures bench { OnOk result (bench_of world.new ≡ (made queue (bench_of world.old) command).bench) }
+    ensures text { OnOk result (text.new.items ≡ text.old.items ++ (made queue (bench_of world.old) command).text) }
+{
+    match command {
+        Command::Call { process, inv } => {
+            let answer = call(world, alloc, process, &inv)?;
+            push_answer(text, &answer)
+        }
+        Command::Finish { process } => {
+            let answer = finish(world, alloc, process)?;
+            push_answer(text, &answer)
+        }
+        Command::Log => push_log(world, alloc, text),
+    }
+}
+
+/// Begins a call of a process; the answer names it, or says why it wasn't begun.
+///
+/// An `Err` says that memory was refused.
+fn call(
+    world: &mut World<QueueObject>,
+    alloc: Global,
+    process: u64,
+    inv: &QueueInv,
+) -> Result<Answer, AllocError>
+    ensures bench { OnOk result (bench_of world.new ≡ (call_made queue (bench_of world.old) process inv.now).bench) }
+    ensures answer { IfOk result (λ answer. answer_text answer ≡ (call_made queue (bench_of world.old) process inv.now).text) }
+{
+    match world.begin(alloc, process, inv) {
+        Ok(call) => Ok(Answer::Called(call)),
+        Err(BeginFault::BadProcess) => Ok(Answer::Refused(Refusal::Process(process))),
+        Err(BeginFault::Busy(process)) => Ok(Answer::Refused(Refusal::Busy(process))),
+        Err(BeginFault::RowFull(process)) => Ok(Answer::Refused(Refusal::Row(process))),
+        Err(BeginFault::Memory) => Err(AllocError),
+    }
+}
+
+/// Takes steps of a process until its call returns, at most as many as a call takes; the answer
+/// says how far the call has come, or why no step was taken.
+///
+/// An `Err` says that memory was refused.
+fn finish(world: &mut World<QueueObject>, alloc: Global, process: u64) -> Result<Answer, AllocError>
+    ensures bench { OnOk result (bench_of world.new ≡ (finish_made queue (bench_of world.old) process).bench) }
+    ensures answer { IfOk result (λ answer. answer_text answer ≡ (finish_made queue (bench_of world.old) process).text) }
+{
+    if process >= world.processes() {
+        return Ok(Answer::Refused(Refusal::Process(process)));
+    }
+    let Some(call) = world.current(process) else {
+        return Ok(Answer::Refused(Refusal::Idle(process)));
+    };
+    let response = step_on(world, alloc, process)?;
+    let steps = world.steps(process);
+    let turns = world.turns(process);
+    let Some(response) = response else {
+        return Ok(Answer::Going { call, steps, turns });
+    };
+    let reply = QueueObject::resp_text(alloc, response)?;
+    Ok(Answer::Returned {
+        call,
+        reply,
+        steps,
+        turns,
+    })
+}
+
+/// Takes steps of a process until its call returns, at most as many as a call takes; the answer is
+/// the response, where it returns.
+///
+/// An `Err` says that memory was refused.
+fn step_on(
+    world: &mut World<QueueObject>,
+    alloc: Global,
+    process: u64,
+) -> Result<Option<QueueResp>, AllocError>
+    ensures stepped { IfOk result (λ response. record { world = shown world.new; response = response } ≡ steps_taken queue (most_steps (shown world.old).n) (shown world.old) process) }
+    ensures kept { (world.new.row ≡ world.old.row) × ((shown world.new).n ≡ (shown world.old).n) }
+{
+    world.shape();
+    let most = 10 * world.processes() + 12;
+    for _ in 0..most {
+        match world.step(alloc, process) {
+            Ok(Progress::Done(response)) => return Ok(Some(response)),
+            Ok(Progress::Going) => {}
+            // The process has a call, so that memory alone is refused.
+            Err(_) => return Err(AllocError),
+        }
+    }
+    Ok(None)
+}
+
+/// Writes the log after a text.
+///
+/// An `Err` says that memory was refused.
+fn push_log(world: &World<QueueObject>, alloc: Global, text: &mut Vec<u8>) -> Result<(), AllocError>
+    ensures { OnOk result (text.new.items ≡ text.old.items ++ log_text queue (shown world.now)) }
+{
+    let entries = Log::of(world).entries(alloc)?;
+    for entry in &entries {
+        push_entry(text, alloc, entry)?;
+    }
+    Ok(())
+}
+
+/// Writes an entry of the log and the end of its line after a text.
+///
+/// An `Err` says that memory was refused.
+fn push_entry(
+    text: &mut Vec<u8>,
+    alloc: Global,
+    entry: &Entry<QueueInv, QueueResp>,
+) -> Result<(), AllocError>
+    ensures { OnOk result (text.new.items ≡ text.old.items ++ entry_text queue.inv_text queue.resp_text (entry_shown entry.now)) }
+{
+    let inv = QueueObject::inv_text(alloc, &entry.inv)?;
+    let reply = reply_of(alloc, entry.reply)?;
+    write!(text, "{} {} ", entry.seq, entry.call).map_err(|_| AllocError)?;
+    text.extend_from_slice(&inv)?;
+    write!(text, " -> ").map_err(|_| AllocError)?;
+    text.extend_from_slice(&reply)?;
+    writeln!(text, "").map_err(|_| AllocError)
+}
+
+/// The text of a response in the log: a question mark where there is none yet.
+///
+/// An `Err` says that memory was refused.
+fn reply_of(alloc: Global, reply: Option<QueueResp>) -> Result<Vec<u8>, AllocError>
+    ensures { IfOk result (λ text. text.items ≡ option_map_or queue.resp_text reply (codes "?")) }
+{
+    match reply {
+        Some(response) => QueueObject::resp_text(alloc, response),
+        None => {
+            let mut text = Vec::new(alloc);
+            text.push(b'?')?;
+            Ok(text)
+        }
+    }
+}

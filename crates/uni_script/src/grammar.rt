@@ -1,0 +1,132 @@
+//! The lines of a script: notes, the header and commands.
+
+ghost use Rattle.std.specs.Prelude.{◌≡◌, IfOk};
+ghost use Rattle.std.specs.List.{list_all};
+ghost use Rattle.std.specs.Str.{bytes_eq};
+ghost use Rattle.ready_objects.specs.Number.{number_of_word};
+ghost use Rattle.ready_objects.specs.Words.{bytes_of, words_of_text};
+ghost use Rattle.uni_script.specs.Script.{is_plain_byte, is_note, opens_queue, header_of_row, header_of_words, command_of_words};
+
+use ready_objects::{Amount, Spoken};
+use std::alloc::{AllocError, Global};
+
+/// The header of a script on a queue of one process.
+#[derive(Clone, Copy, Debug, PartialEq, Eq)]
+pub struct Header {
+    /// How many calls each process can make, from 1 to 4096.
+    pub row: u64,
+}
+
+/// A command of a script, with an invocation of the object.
+#[derive(Clone, Copy, Debug, PartialEq, Eq)]
+pub enum Command<I> {
+    /// A process begins a call.
+    Call {
+        /// The process.
+        process: u64,
+        /// What its call asks for.
+        inv: I,
+    },
+    /// A process takes steps until its call returns.
+    Finish {
+        /// The process.
+        process: u64,
+    },
+    /// The entries are printed.
+    Log,
+}
+
+/// Tells whether a line is a note: it is empty or begins with `#`.
+pub fn is_note(line: &[u8]) -> bool
+    ensures { result ≡ is_note line.now }
+{
+    match line {
+        [] => true,
+        [first, ..] => *first == b'#',
+    }
+}
+
+/// Tells whether each byte of a line is from 32 to 126.
+pub fn is_plain(line: &[u8]) -> bool
+    ensures { result ≡ list_all is_plain_byte line.now }
+{
+    line.iter().all(|byte| *byte >= 32 && *byte <= 126)
+}
+
+/// The words of a line, cut at each space.
+///
+/// An `Err` says that memory was refused.
+pub fn words_of(alloc: Global, line: &[u8]) -> Result<Vec<&[u8]>, AllocError>
+    ensures { IfOk result (λ words. bytes_of words.items ≡ words_of_text line.now) }
+{
+    line.split(|byte| *byte == b' ').collect(alloc)
+}
+
+/// The header that words are; `None` where they are none.
+pub fn header_of(words: &[&[u8]]) -> Option<Header>
+    ensures { result ≡ header_of_words (bytes_of words.now) }
+{
+    let [name, version, object, processes, row] = words else {
+        return None;
+    };
+    if opens_queue(name, version, object, processes) {
+        header_of_row(number_of(row)?)
+    } else {
+        None
+    }
+}
+
+/// Tells whether words open a queue of one process, in version 1.
+fn opens_queue(name: &[u8], version: &[u8], object: &[u8], processes: &[u8]) -> bool
+    ensures { result ≡ opens_queue name.now version.now object.now processes.now }
+{
+    is_text(name, "universal")
+        && is_text(version, "1")
+        && is_text(object, "queue")
+        && is_text(processes, "1")
+}
+
+/// The header with rows of this many cells; `None` where that isn't from 1 to 4096.
+fn header_of_row(row: u64) -> Option<Header>
+    ensures { result ≡ header_of_row row }
+{
+    if row >= 1 && row <= 4096 {
+        Some(Header { row })
+    } else {
+        None
+    }
+}
+
+/// The command that words are; `None` where they are none.
+pub fn command_of<O: Spoken>(words: &[&[u8]]) -> Option<Command<O::Inv>>
+    ensures { result ≡ command_of_words O.inv_of_words (bytes_of words.now) }
+{
+    match words {
+        [name] if is_text(name, "log") => Some(Command::Log),
+        [name, process] if is_text(name, "finish") => {
+            let process = number_of(process)?;
+            Some(Command::Finish { process })
+        }
+        [name, process, inv @ ..] if is_text(name, "call") => {
+            let process = number_of(process)?;
+            let inv = O::read_inv(inv)?;
+            Some(Command::Call { process, inv })
+        }
+        _ => None,
+    }
+}
+
+/// The number that a word of 1 to 12 digits writes, without a leading zero unless the word is `0`;
+/// `None` where the word isn't one.
+fn number_of(word: &[u8]) -> Option<u64>
+    ensures { result ≡ number_of_word word.now }
+{
+    Some(Amount::read(word)?.number())
+}
+
+/// Tells whether a word is this text.
+fn is_text(word: &[u8], text: &str) -> bool
+    ensures { result ≡ bytes_eq word.now text.now }
+{
+    word == text.as_bytes()
+}

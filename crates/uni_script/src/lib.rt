@@ -1,0 +1,19 @@
+//! Scripts of calls on an object that processes share: what a script means, and the bench that runs
+//! one on the wait-free universal construction and writes what each call answers.
+//!
+//! What a script means is `script_run` in `specs/`, a definition over worlds of the definitions.
+#![tactic(auto)]
+
+mod answer;
+mod commands;
+mod ends;
+mod fault;
+mod grammar;
+mod replay;
+mod script;
+#[cfg(test)]
+mod tests;
+
+pub use ends::{Checked, Failed, TextIn, TextOut, write_all};
+pub use fault::BenchFault;
+pub use replay::bench;
