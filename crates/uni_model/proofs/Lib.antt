@@ -10,4 +10,5 @@ pub mod Begun
 pub mod Kept
 pub mod Chains
 pub mod Simulation
+pub mod Counted
 pub mod LawProofs
