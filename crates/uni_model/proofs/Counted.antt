@@ -54,7 +54,7 @@ module _ {S I R : Type 0} (next : S → I → S) (answer : S → I → R) where
         | inr other ↦ rw other.1 (counts q)
       ]
 
-  CountsSteps-happened : (w : WorldOf S I R) (e : Event I) → IsAccepted w e → Invariant next answer w → CountsSteps w → CountsSteps (happened next answer w e)
+  pub CountsSteps-happened : (w : WorldOf S I R) (e : Event I) → IsAccepted w e → Invariant next answer w → CountsSteps w → CountsSteps (happened next answer w e)
   CountsSteps-happened w (Call p i) ok inv counts = CountsSteps-begun w p i counts
   CountsSteps-happened w (Step p) ok inv counts = by_call (w.call p) refl where
     by_call : (o : Option Pending) → w.call p ≡ o → CountsSteps (stepped next answer w p o)

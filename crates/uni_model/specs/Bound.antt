@@ -1,5 +1,5 @@
 -- How far a call has come: its own steps and its turns, by where its process stands.
-use Rattle.std.specs.Prelude.{◌≡◌, ℕ, ◌+◌, ◌-◌, ◌*◌, ◌≤◌, Option, None, Some}
+use Rattle.std.specs.Prelude.{◌≡◌, ℕ, ◌+◌, ◌-◌, ◌*◌, ◌<◌, ◌≤◌, Option, None, Some}
 use Rattle.uni_model.specs.Stages.{Stage, Pending}
 use Rattle.uni_model.specs.Stages.Stage.{Announce, ScanHead, ScanSeq, WriteScan, Test, ReadAnnounce, ReadHelpSeq, DecideAfter, DecideNew, WriteBefore, WriteSeq, WriteHead, Finish}
 use Rattle.uni_model.specs.Worlds.{WorldOf}
@@ -46,3 +46,13 @@ IsCounted n (Some c) begun steps turns = HasTurns c.stage turns × (steps ≡ st
 -- the own steps of every process's latest call are counted so
 abbrev pub CountsSteps : {S I R : Type 0} → WorldOf S I R → Type 0
 CountsSteps w = (p : ℕ) → IsCounted w.n (w.call p) (w.begun p) (w.steps p) (w.turns p)
+
+-- a process's latest call has taken at most n + 1 turns; while it is pending, fewer than 10n + 12 own steps, and once it has
+-- returned, 2n + 4 and eight for each turn
+abbrev pub IsWithinBound : (n : ℕ) → Option Pending → (begun steps turns : ℕ) → Type 0
+IsWithinBound n None begun steps turns = (turns ≤ n + 1) × (1 ≤ begun → steps ≡ 2 * n + 4 + 8 * turns)
+IsWithinBound n (Some c) begun steps turns = (turns ≤ n + 1) × (steps < 10 * n + 12)
+
+-- so has every process's latest call
+abbrev pub IsBounded : {S I R : Type 0} → WorldOf S I R → Type 0
+IsBounded w = (p : ℕ) → IsWithinBound w.n (w.call p) (w.begun p) (w.steps p) (w.turns p)

@@ -1,7 +1,8 @@
 //! The laws at a concrete object.
 
 use crate::{
-    changes_one_place, counts_steps, is_linearizable, keeps_invariant, keeps_settled, simulates,
+    changes_one_place, counts_steps, is_bounded, is_linearizable, keeps_invariant, keeps_settled,
+    simulates,
 };
 use seq_object::SeqObject;
 use std::alloc::{AllocError, Global};
@@ -50,4 +51,5 @@ fn laws_hold_of_an_object() {
     simulates::<Last>();
     is_linearizable::<Last>();
     counts_steps::<Last>();
+    is_bounded::<Last>();
 }
