@@ -12,7 +12,7 @@ use Rattle.uni_model.specs.Settled.{Grows}
 use Rattle.uni_model.specs.Invariant.{AtHead, IsPast, Stands, IsSound}
 use Rattle.uni_model.specs.Bound.{HasTurns}
 use Rattle.uni_model.proofs.Written.{number_cases, lt_cases, head_of-written, announced-written, written_same}
-use Rattle.uni_model.proofs.Grows.{NumbersGrow}
+use Rattle.uni_model.proofs.Grows.{NumbersGrow, head_seq-at}
 use Rattle.uni_model.proofs.Numbered.{IsPast-threaded}
 use Rattle.uni_model.proofs.Helping.{SomeHead, Finds, Announces, CountsOwnHead, IsAhead, OfConsidered, IsHelped, IsFairToAll, Helps}
 use Rattle.uni_model.proofs.Helped.{Announces-cases, IsPast-later, not_passed}
@@ -49,12 +49,12 @@ module _ {S I R : Type 0} (next : S → I → S) (answer : S → I → R) (w : W
               apart (ap (announced w.memory) (sym here) ∙ same)
         ];
     help = λ none other its_turn. elim (Announces-cases w.memory q d.mine d.stage (helps.each q d pending).announced) [
-      | inl first ↦ subst (λ k. Finds w.memory w.n k (w.turns q) s) (sym first) (found)
+      | inl first ↦ subst (λ k. Finds w.memory w.n k (w.turns q) s) (sym first) found
       | inr there ↦ absurd (other (ap (announced w.memory) its_turn ∙ there))
     ];
   } where
     number : head_seq w.memory p ≡ s
-    number = ap (seq_of w.memory) h.head ∙ h.seq
+    number = head_seq-at w.memory p c s h
 
     found : SomeHead w.memory w.n 0 s
     found = (p, omega arith, inside, (let e = number in omega arith))
@@ -80,11 +80,8 @@ module _ {S I R : Type 0} (next : S → I → S) (answer : S → I → R) (w : W
   }
 
   module _ (inside : p < w.n) (threaded : 1 ≤ head_seq w.memory p) (num' : Name → ℕ) (numbers : NumbersGrow w.memory num num') where
-    at_head : (c : Name) (s : ℕ) → AtHead w.memory p c s → head_seq w.memory p ≡ s
-    at_head c s h = ap (seq_of w.memory) h.head ∙ h.seq
-
     past : (c : Name) (s : ℕ) → AtHead w.memory p c s → IsPast num mine s → IsPast num' mine s
-    past c s h is = IsPast-later w.memory num num' numbers p threaded mine s (at_head c s h) is
+    past c s h is = IsPast-later w.memory num num' numbers p threaded mine s (head_seq-at w.memory p c s h) is
 
     better-le : (b s : ℕ) → (b ≤ better b s s b) × (s ≤ better b s s b)
     better-le b s = elim (lt_cases b s) [
@@ -187,7 +184,7 @@ module _ {S I R : Type 0} (next : S → I → S) (answer : S → I → R) (w : W
         finds = λ k found. omega arith;
         announced = h.announced;
         own_head = tt;
-        ahead = elim (not_passed w.memory num num' numbers p threaded mine (w.turns p) s (at_head c s stands) h.ahead) [ inl first ↦ inl (omega arith) | inr rest ↦ inr rest ];
+        ahead = elim (not_passed w.memory num num' numbers p threaded mine (w.turns p) s (head_seq-at w.memory p c s stands) h.ahead) [ inl first ↦ inl (omega arith) | inr rest ↦ inr rest ];
         fair = tt;
       })
     ]
@@ -285,7 +282,7 @@ module _ {S I R : Type 0} (next : S → I → S) (answer : S → I → R) (w : W
   head_rises threaded (WriteBefore c s d) stands own grows = still _ grows threaded refl
   head_rises threaded (WriteSeq c s d) stands own grows = still _ grows threaded refl
   head_rises threaded (WriteHead c s d) stands own grows =
-      let here : head_seq w.memory p ≡ s = ap (seq_of w.memory) stands.0.head ∙ stands.0.seq in
+      let here : head_seq w.memory p ≡ s = head_seq-at w.memory p c s stands.0 in
       let number : seq_of w.memory d ≡ s + 1 = stands.2 in
       becomes _ grows threaded d (own_head d) (omega arith) (omega arith)
   head_rises threaded (Finish s k) stands own grows = elim (lt_cases s k) [

@@ -14,7 +14,7 @@ use Rattle.uni_model.proofs.Steps.{leads}
 use Rattle.uni_model.proofs.Anchored.{alone, IsSound-anchored}
 use Rattle.uni_model.proofs.Begun.{IsSound-begun}
 use Rattle.uni_model.proofs.Kept.{idle_when_quiescent, last_cell_threaded}
-use Rattle.uni_model.proofs.Counted.{CountsSteps-happened}
+use Rattle.uni_model.proofs.Counted.{IsCounted-pending, CountsSteps-happened}
 use Rattle.uni_model.proofs.Helping.{Helps}
 use Rattle.uni_model.proofs.Turns.{turns-le}
 use Rattle.uni_model.proofs.Advanced.{advances, head_rises}
@@ -39,7 +39,7 @@ module _ {S I R : Type 0} (next : S → I → S) (answer : S → I → R) where
   HelpingInvariant-stepped : (w : WorldOf S I R) (p : ℕ) (c : Pending) → w.call p ≡ Some c → CountsSteps w → HelpingInvariant w → HelpingInvariant (stepped next answer w p (Some c))
   HelpingInvariant-stepped w p c is counts inv =
       let moved = leads next answer w inv.0 inv.1 inv.2 p c.mine c.stage is c.stage (inv.2.stands p c is) in
-      let own : IsCounted w.n (Some c) (w.begun p) (w.steps p) (w.turns p) = subst (λ o. IsCounted w.n o (w.begun p) (w.steps p) (w.turns p)) is (counts p) in
+      let own = IsCounted-pending w counts p c is in
       let place = place_of w.n p c.mine c.stage in
       let e = effect_of next answer w.n c.mine c.stage (w.memory place) (inv_of w.memory (d_of c.stage)) (new_of w.memory (c_of c.stage)) in
       let inside : p < w.n = inv.2.calls.process p c is in
@@ -62,7 +62,7 @@ module _ {S I R : Type 0} (next : S → I → S) (answer : S → I → R) where
     by_call : (o : Option Pending) → w.call p ≡ o → w.turns p ≤ w.n + 1
     by_call None is = inv.3.returned p is
     by_call (Some c) is =
-        let own : IsCounted w.n (Some c) (w.begun p) (w.steps p) (w.turns p) = subst (λ o. IsCounted w.n o (w.begun p) (w.steps p) (w.turns p)) is (counts p) in
+        let own = IsCounted-pending w counts p c is in
         let inside : p < w.n = inv.2.calls.process p c is in
         turns-le w.memory inv.0 inv.1 inv.2.numbered w.n p inside (inv.2.calls.head p inside) c.mine (w.turns p) c.stage (inv.2.stands p c is) own.0 (inv.3.each p c is)
 

@@ -37,6 +37,9 @@ module _ {S I R : Type 0} (next : S → I → S) (answer : S → I → R) (m : M
   IsCounted-effect (WriteHead c s d) h turns e = (tt, omega arith)
   IsCounted-effect (Finish s k) h turns e = λ some. omega arith
 
+pub IsCounted-pending : {S I R : Type 0} (w : WorldOf S I R) → CountsSteps w → (p : ℕ) (c : Pending) → w.call p ≡ Some c → IsCounted w.n (Some c) (w.begun p) (w.steps p) (w.turns p)
+IsCounted-pending w counts p c is = subst (λ o. IsCounted w.n o (w.begun p) (w.steps p) (w.turns p)) is (counts p)
+
 module _ {S I R : Type 0} (next : S → I → S) (answer : S → I → R) where
   CountsSteps-begun : (w : WorldOf S I R) (p : ℕ) (i : I) → CountsSteps w → CountsSteps (call_begun w p i)
   CountsSteps-begun w p i counts q = elim (number_cases q p) [
@@ -47,7 +50,7 @@ module _ {S I R : Type 0} (next : S → I → S) (answer : S → I → R) where
   CountsSteps-stepped : (w : WorldOf S I R) (num : Name → ℕ) (p : ℕ) (c : Pending) → w.call p ≡ Some c → Stands w.memory num w.n p c.mine c.stage
       → CountsSteps w → CountsSteps (stepped next answer w p (Some c))
   CountsSteps-stepped w num p c is stands counts q =
-      let own : IsCounted w.n (Some c) (w.begun p) (w.steps p) (w.turns p) = subst (λ o. IsCounted w.n o (w.begun p) (w.steps p) (w.turns p)) is (counts p) in
+      let own = IsCounted-pending w counts p c is in
       elim (number_cases q p) [
         | inl here ↦ rw here.1 (IsCounted-effect next answer w.memory num w.n p c.mine (w.memory (place_of w.n p c.mine c.stage)) (inv_of w.memory (d_of c.stage)) (new_of w.memory (c_of c.stage))
             (w.begun q) (w.steps p) (w.turns p) c.stage stands own.0 own.1)

@@ -1,11 +1,11 @@
 -- What holds of a process that takes no step, and of what one considers, holds later.
-use Rattle.std.proofs.Common.{◌≡◌, ◌∙◌, ℕ, ◌+◌, ◌<◌, ◌≤◌, ◌⊎◌, inl, inr, refl, sym, ap, subst, arith}
-use Rattle.uni_model.specs.Places.{Name, Memory, announced, head_of, head_seq, seq_of}
+use Rattle.std.proofs.Common.{◌≡◌, ◌∙◌, ℕ, ◌+◌, ◌<◌, ◌≤◌, ◌⊎◌, inl, inr, refl, sym, subst, arith}
+use Rattle.uni_model.specs.Places.{Name, Memory, announced, head_of, head_seq}
 use Rattle.uni_model.specs.Stages.{Stage}
 use Rattle.uni_model.specs.Stages.Stage.{Announce, ScanHead, ScanSeq, WriteScan, Test, ReadAnnounce, ReadHelpSeq, DecideAfter, DecideNew, WriteBefore, WriteSeq, WriteHead, Finish}
 use Rattle.uni_model.specs.Settled.{Grows}
-use Rattle.uni_model.specs.Invariant.{IsPast, AtHead, Stands}
-use Rattle.uni_model.proofs.Grows.{NumbersGrow}
+use Rattle.uni_model.specs.Invariant.{IsPast, Stands}
+use Rattle.uni_model.proofs.Grows.{NumbersGrow, head_seq-at}
 use Rattle.uni_model.proofs.Helping.{SomeHead, Finds, Announces, CountsOwnHead, IsAhead, OfConsidered}
 
 pub OfConsidered-map : (stage : Stage) (Was Is : ℕ → Name → Type 0) → ((s : ℕ) (x : Name) → Was s x → Is s x) → OfConsidered stage Was → OfConsidered stage Is
@@ -105,9 +105,6 @@ module _ {S I R : Type 0} (m : Memory S I R) (num num' : Name → ℕ) (numbers 
   past_head : (s : ℕ) → head_seq m p ≡ s → (num' mine ≡ num mine) ⊎ (s < num' mine)
   past_head s number = elim (numbers mine) [ inl same ↦ inl same | inr past ↦ inr (subst (λ k. k < num' mine) number (past (head_of m p) threaded)) ]
 
-  at_head : (c : Name) (s : ℕ) → AtHead m p c s → head_seq m p ≡ s
-  at_head c s h = ap (seq_of m) h.head ∙ h.seq
-
   pub IsPast-later : (s : ℕ) → head_seq m p ≡ s → IsPast num mine s → IsPast num' mine s
   IsPast-later s number h = elim (past_head s number) [
     | inl same ↦ subst (λ k. (k ≡ 0) ⊎ (s < k)) (sym same) h
@@ -125,12 +122,12 @@ module _ {S I R : Type 0} (m : Memory S I R) (num num' : Name → ℕ) (numbers 
   IsAhead-grows n (ScanHead q best s) turns stands h = tt
   IsAhead-grows n (ScanSeq q best s x) turns stands h = tt
   IsAhead-grows n (WriteScan best s) turns stands h = tt
-  IsAhead-grows n (Test c s) turns stands h = not_passed turns s (at_head c s stands) h
-  IsAhead-grows n (ReadAnnounce c s) turns stands h = IsPast-later s (at_head c s stands.0) h
-  IsAhead-grows n (ReadHelpSeq c s help) turns stands h = IsPast-later s (at_head c s stands.0) h
-  IsAhead-grows n (DecideAfter c s prefer) turns stands h = IsPast-later s (at_head c s stands.0) h
-  IsAhead-grows n (DecideNew c s d) turns stands h = IsPast-later s (at_head c s stands.0) h
-  IsAhead-grows n (WriteBefore c s d) turns stands h = IsPast-later s (at_head c s stands.0) h
-  IsAhead-grows n (WriteSeq c s d) turns stands h = IsPast-later s (at_head c s stands.0) h
-  IsAhead-grows n (WriteHead c s d) turns stands h = IsPast-later s (at_head c s stands.0) h
+  IsAhead-grows n (Test c s) turns stands h = not_passed turns s (head_seq-at m p c s stands) h
+  IsAhead-grows n (ReadAnnounce c s) turns stands h = IsPast-later s (head_seq-at m p c s stands.0) h
+  IsAhead-grows n (ReadHelpSeq c s help) turns stands h = IsPast-later s (head_seq-at m p c s stands.0) h
+  IsAhead-grows n (DecideAfter c s prefer) turns stands h = IsPast-later s (head_seq-at m p c s stands.0) h
+  IsAhead-grows n (DecideNew c s d) turns stands h = IsPast-later s (head_seq-at m p c s stands.0) h
+  IsAhead-grows n (WriteBefore c s d) turns stands h = IsPast-later s (head_seq-at m p c s stands.0) h
+  IsAhead-grows n (WriteSeq c s d) turns stands h = IsPast-later s (head_seq-at m p c s stands.0) h
+  IsAhead-grows n (WriteHead c s d) turns stands h = IsPast-later s (head_seq-at m p c s stands.0) h
   IsAhead-grows n (Finish s t) turns stands h = not_passed turns s stands.0 h

@@ -1,6 +1,6 @@
 -- A call that is begun is helped from its start on.
 use Rattle.std.proofs.Common.{◌≡◌, ◌≢◌, ◌∙◌, ℕ, ◌<◌, ◌≤◌, ◌⊎◌, inl, inr, refl, sym, ap, subst, Some, None, arith}
-use Rattle.uni_model.specs.Places.{Name, set_at, announced, head_of, head_seq, seq_of, inv_of}
+use Rattle.uni_model.specs.Places.{Name, set_at, announced, head_of, head_seq, inv_of}
 use Rattle.uni_model.specs.Places.Name.{Anchor, Of}
 use Rattle.uni_model.specs.Stages.{Stage, Pending}
 use Rattle.uni_model.specs.Stages.Stage.{Announce, ScanHead, ScanSeq, WriteScan, Test, ReadAnnounce, ReadHelpSeq, DecideAfter, DecideNew, WriteBefore, WriteSeq, WriteHead, Finish}
@@ -8,6 +8,7 @@ use Rattle.uni_model.specs.Worlds.{WorldOf, call_begun}
 use Rattle.uni_model.specs.Invariant.{Has, AtHead, IsCellOf, Stands, IsSound}
 use Rattle.uni_model.proofs.Written.{number_cases}
 use Rattle.uni_model.proofs.Begun.{fresh, not_linked, Grows-begun}
+use Rattle.uni_model.proofs.Grows.{head_seq-at}
 use Rattle.uni_model.proofs.Helping.{SomeHead, OfConsidered, IsHelped, IsFair, IsFairToAll, Helps}
 use Rattle.uni_model.proofs.Helped.{OfConsidered-map}
 use Rattle.uni_model.proofs.Later.{heads_later, IsFair-later, Finds-waiting, IsHelped-waiting}
@@ -21,7 +22,7 @@ module _ {S I R : Type 0} (next : S → I → S) (answer : S → I → R) (w : W
   considered : (Holds : ℕ → Name → Type 0) (o : ℕ) (d : Pending) → w.call o ≡ Some d → OfConsidered d.stage Holds → OfConsidered d.stage (λ s x. Holds s x × IsThere s x)
   considered Holds o d pending held = at_stage d.stage (sound.stands o d pending) held where
     after_head : (c : Name) (s : ℕ) → AtHead w.memory o c s → SomeHead w.memory w.n 0 s
-    after_head c s h = let number : head_seq w.memory o ≡ s = ap (seq_of w.memory) h.head ∙ h.seq in (o, omega arith, sound.calls.process o d pending, omega arith)
+    after_head c s h = let number : head_seq w.memory o ≡ s = head_seq-at w.memory o c s h in (o, omega arith, sound.calls.process o d pending, omega arith)
 
     there : (q : ℕ) (x : Name) → IsCellOf w.memory q x → Has (inv_of w.memory x)
     there q x cell = subst (λ y. Has (inv_of w.memory y)) (sym cell.1) cell.2

@@ -7,6 +7,7 @@ use Rattle.uni_model.specs.Worlds.{WorldOf, call_after}
 use Rattle.uni_model.specs.Invariant.{Stands, IsSound}
 use Rattle.uni_model.proofs.Written.{number_cases}
 use Rattle.uni_model.proofs.Moves.{Moves, Extends}
+use Rattle.uni_model.proofs.Grows.{head_seq-at}
 use Rattle.uni_model.proofs.Helping.{OfConsidered, IsHelped, IsFair, IsFairToAll, Helps}
 use Rattle.uni_model.proofs.Helped.{OfConsidered-map}
 use Rattle.uni_model.proofs.Advanced.{AdvancesTo}
@@ -33,7 +34,7 @@ module _ {S I R : Type 0} (next : S → I → S) (answer : S → I → R) (w : W
     | inl same ↦ inl same
     | inr more ↦
         let stands : Stands w.memory num w.n p mine (DecideAfter more.0 last more.1) = subst (λ k. Stands w.memory num w.n p mine k) more.2 (sound.stands p (record { mine = mine; stage = from }) is) in
-        let number : head_seq w.memory p ≡ last = ap (seq_of w.memory) stands.0.head ∙ stands.0.seq in
+        let number : head_seq w.memory p ≡ last = head_seq-at w.memory p more.0 last stands.0 in
         inr (
           more.1,
           subst (λ k. OfConsidered k (λ s x. IsFairToAll w num s x)) more.2 (helps.fair p (record { mine = mine; stage = from }) is),

@@ -1,12 +1,13 @@
 -- No call takes more than n + 1 turns.
-use Rattle.std.proofs.Common.{◌≡◌, ◌∙◌, ℕ, ◌+◌, ◌-◌, ◌<◌, ◌≤◌, ◌%◌, ◌⊎◌, inl, inr, ap, arith}
+use Rattle.std.proofs.Common.{◌≡◌, ℕ, ◌+◌, ◌-◌, ◌<◌, ◌≤◌, ◌%◌, ◌⊎◌, inl, inr, arith}
 use Rattle.std.proofs.lemmas.Bool.{cases_lt}
-use Rattle.uni_model.specs.Places.{Name, Memory, head_of, head_seq, seq_of}
+use Rattle.uni_model.specs.Places.{Name, Memory, head_of, head_seq}
 use Rattle.uni_model.specs.Places.Name.{Anchor}
 use Rattle.uni_model.specs.Stages.{Stage}
 use Rattle.uni_model.specs.Stages.Stage.{Announce, ScanHead, ScanSeq, WriteScan, Test, ReadAnnounce, ReadHelpSeq, DecideAfter, DecideNew, WriteBefore, WriteSeq, WriteHead, Finish}
-use Rattle.uni_model.specs.Invariant.{IsNumbered, IsPast, AtHead, Stands}
+use Rattle.uni_model.specs.Invariant.{IsNumbered, IsPast, Stands}
 use Rattle.uni_model.specs.Bound.{HasTurns}
+use Rattle.uni_model.proofs.Grows.{head_seq-at}
 use Rattle.uni_model.proofs.Residues.{with_remainder}
 use Rattle.uni_model.proofs.Helping.{IsHelped}
 
@@ -30,9 +31,6 @@ module _ {S I R : Type 0} (m : Memory S I R) (num : Name → ℕ) (last : ℕ) (
       let is : head_seq m p ≡ num (head_of m p) = numbered.seq (head_of m p) threaded in
       let greatest : num (head_of m p) ≤ last = numbered.greatest (head_of m p) in
       omega arith
-
-  at_head : (c : Name) (s : ℕ) → AtHead m p c s → head_seq m p ≡ s
-  at_head c s h = ap (seq_of m) h.head ∙ h.seq
 
   -- within a turn
   within : (s : ℕ) → head_seq m p ≡ s → IsPast num mine s → num Anchor + turns ≤ s + 1
@@ -67,12 +65,12 @@ module _ {S I R : Type 0} (m : Memory S I R) (num : Name → ℕ) (last : ℕ) (
   turns-le (ScanHead q best s) stands none h = omega arith
   turns-le (ScanSeq q best s x) stands none h = omega arith
   turns-le (WriteScan best s) stands none h = omega arith
-  turns-le (Test c s) stands some h = between s (at_head c s stands) h.ahead h.anchor h.unlinked h.linked
-  turns-le (ReadAnnounce c s) stands some h = within s (at_head c s stands.0) h.ahead h.anchor h.unlinked h.linked
-  turns-le (ReadHelpSeq c s help) stands some h = within s (at_head c s stands.0) h.ahead h.anchor h.unlinked h.linked
-  turns-le (DecideAfter c s prefer) stands some h = within s (at_head c s stands.0) h.ahead h.anchor h.unlinked h.linked
-  turns-le (DecideNew c s d) stands some h = within s (at_head c s stands.0) h.ahead h.anchor h.unlinked h.linked
-  turns-le (WriteBefore c s d) stands some h = within s (at_head c s stands.0) h.ahead h.anchor h.unlinked h.linked
-  turns-le (WriteSeq c s d) stands some h = within s (at_head c s stands.0) h.ahead h.anchor h.unlinked h.linked
-  turns-le (WriteHead c s d) stands some h = within s (at_head c s stands.0) h.ahead h.anchor h.unlinked h.linked
+  turns-le (Test c s) stands some h = between s (head_seq-at m p c s stands) h.ahead h.anchor h.unlinked h.linked
+  turns-le (ReadAnnounce c s) stands some h = within s (head_seq-at m p c s stands.0) h.ahead h.anchor h.unlinked h.linked
+  turns-le (ReadHelpSeq c s help) stands some h = within s (head_seq-at m p c s stands.0) h.ahead h.anchor h.unlinked h.linked
+  turns-le (DecideAfter c s prefer) stands some h = within s (head_seq-at m p c s stands.0) h.ahead h.anchor h.unlinked h.linked
+  turns-le (DecideNew c s d) stands some h = within s (head_seq-at m p c s stands.0) h.ahead h.anchor h.unlinked h.linked
+  turns-le (WriteBefore c s d) stands some h = within s (head_seq-at m p c s stands.0) h.ahead h.anchor h.unlinked h.linked
+  turns-le (WriteSeq c s d) stands some h = within s (head_seq-at m p c s stands.0) h.ahead h.anchor h.unlinked h.linked
+  turns-le (WriteHead c s d) stands some h = within s (head_seq-at m p c s stands.0) h.ahead h.anchor h.unlinked h.linked
   turns-le (Finish s t) stands some h = between s stands.0 h.ahead h.anchor h.unlinked h.linked

@@ -1,7 +1,7 @@
 -- Worked rows: what the definitions compute over a queue of numbers.
 use Rattle.std.specs.Prelude.{◌≡◌, refl, ℕ, zero, suc, List, [], ◌∷◌, ◌++◌, Some, map}
 use Rattle.uni_model.specs.Places.{head_seq}
-use Rattle.uni_model.specs.Places.Name.{Anchor}
+use Rattle.uni_model.specs.Places.Name.{Anchor, Of}
 use Rattle.uni_model.specs.Stages.Stage.{Announce, ScanHead, Test, WriteHead, Finish}
 use Rattle.uni_model.specs.Bound.{steps_at}
 use Rattle.uni_model.specs.Chain.{Entry}
@@ -88,6 +88,18 @@ bound_met-steps = refl
 bound_met-turns : (run 2 bound_met).turns 1 ≡ 3
 unfolding bound_met
 bound_met-turns = refl
+
+-- the same run before its last step: the call is pending, and has taken 31 steps, one less than the bound
+bound_pending : List (Event QueueCall)
+bound_pending = Call 0 (Enq 10) ∷ (steps 0 10 ++ Call 1 Deq ∷ (steps 1 14 ++ (steps 0 6 ++ Call 0 (Enq 20) ∷ Step 0 ∷ steps 1 17)))
+
+bound_pending-call : (run 2 bound_pending).call 1 ≡ Some (record { mine = Of 1 0; stage = Finish 4 4 })
+unfolding bound_pending
+bound_pending-call = refl
+
+bound_pending-steps : (run 2 bound_pending).steps 1 ≡ 31
+unfolding bound_pending
+bound_pending-steps = refl
 
 -- process 1 announces and stops; process 0 places its call
 helped : List (Event QueueCall)
