@@ -11,6 +11,10 @@ use Rattle.uni_model.specs.Invariant.{Has, HasBest, AtHead, IsPast, IsCellOf, St
 abbrev pub NumbersGrow : {S I R : Type 0} → Memory S I R → (num num' : Name → ℕ) → Type 0
 NumbersGrow m num num' = (x : Name) → (num' x ≡ num x) ⊎ ((y : Name) → 1 ≤ seq_of m y → seq_of m y < num' x)
 
+-- the number of p's head, at a stage that knows it
+pub head_seq-at : {S I R : Type 0} (m : Memory S I R) (p : ℕ) (c : Name) (s : ℕ) → AtHead m p c s → head_seq m p ≡ s
+head_seq-at m p c s h = ap (seq_of m) h.head ∙ h.seq
+
 module _ {S I R : Type 0} (m m' : Memory S I R) (grows : Grows m m') where
   pub number_stays : (x : Name) (s : ℕ) → 1 ≤ s → seq_of m x ≡ s → seq_of m' x ≡ s
   number_stays x s positive e = grows.seq x (subst (λ t. 1 ≤ t) (sym e) positive) ∙ e
@@ -33,7 +37,7 @@ module _ {S I R : Type 0} (m m' : Memory S I R) (grows : Grows m m') where
   module _ (num num' : Name → ℕ) (numbers : NumbersGrow m num num') (p : ℕ) (head : head_of m' p ≡ head_of m p) (threaded : 1 ≤ head_seq m p) where
     pub AtHead-grows : (c : Name) (s : ℕ) → AtHead m p c s → AtHead m' p c s
     AtHead-grows c s h =
-        let positive : 1 ≤ s = subst (λ t. 1 ≤ t) (ap (seq_of m) h.head ∙ h.seq) threaded in
+        let positive : 1 ≤ s = subst (λ t. 1 ≤ t) (head_seq-at m p c s h) threaded in
         record { head = head ∙ h.head; seq = number_stays c s positive h.seq }
 
     pub IsPast-grows : (x c : Name) (s : ℕ) → AtHead m p c s → IsPast num x s → IsPast num' x s

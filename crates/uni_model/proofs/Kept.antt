@@ -26,10 +26,10 @@ module _ {S I R : Type 0} (next : S → I → S) (answer : S → I → R) where
         (
           moved.0,
           moved.1,
-          IsSound-moved next answer w inv.0 inv.1 inv.2 p c.mine c.stage is (written w.memory place e.content) moved.0 moved.1 e.stage moved.2
+          IsSound-moved next answer w inv.0 inv.1 inv.2 p c.mine c.stage is (written w.memory place e.content) moved.0 moved.1 e.stage moved.3
               (set_at w.steps p (w.steps p + 1)) (set_at w.turns p (w.turns p + turn_of c.stage (w.memory place))),
         ),
-        moved.2.grows,
+        moved.3.grows,
       )
 
   pub Invariant-begun : (w : WorldOf S I R) (p : ℕ) (i : I) → p < w.n → w.call p ≡ None → Invariant next answer w
@@ -58,25 +58,25 @@ module _ {S I R : Type 0} (next : S → I → S) (answer : S → I → R) where
     | inr pending ↦ absurd (let none = quiet p (sound.calls.process p pending.0 pending.1) in let some = pending.1 in cc)
   ]
 
-  idle_when_quiescent : (w : WorldOf S I R) (num : Name → ℕ) (last : ℕ) → IsSound next answer w num last → IsQuiescent w → (p : ℕ) → w.call p ≡ None
+  pub idle_when_quiescent : (w : WorldOf S I R) (num : Name → ℕ) (last : ℕ) → IsSound next answer w num last → IsQuiescent w → (p : ℕ) → w.call p ≡ None
   idle_when_quiescent w num last sound quiet p = by_call (w.call p) refl where
     by_call : (o : Option Pending) → w.call p ≡ o → w.call p ≡ None
     by_call None e = e
     by_call (Some c) e = quiet p (sound.calls.process p c e)
 
+  pub last_cell_threaded : (w : WorldOf S I R) (num : Name → ℕ) (last : ℕ) → IsSound next answer w num last → IsQuiescent w → 1 ≤ seq_of w.memory (last_cell w)
+  last_cell_threaded w num last sound quiet = threaded_when_quiescent w num last sound quiet (last_cell w)
+      (last_in_chain w.memory num last sound.numbered (calls_begun w) Anchor sound.numbered.first)
+
   pub Invariant-trimmed : (w : WorldOf S I R) → IsQuiescent w → Invariant next answer w → Invariant next answer (trimmed w)
   Invariant-trimmed w quiet inv = by_new (new_of w.memory (last_cell w)) refl where
-    positive : 1 ≤ seq_of w.memory (last_cell w)
-    positive = threaded_when_quiescent w inv.0 inv.1 inv.2 quiet (last_cell w)
-        (last_in_chain w.memory inv.0 inv.1 inv.2.numbered (calls_begun w) Anchor inv.2.numbered.first)
-
     by_new : (o : Option (S × Option R)) → new_of w.memory (last_cell w) ≡ o
         → Invariant next answer (record w { memory = option_map_or (λ new. anchored new.0 (seq_of w.memory (last_cell w))) o w.memory })
     by_new None e = inv
     by_new (Some new) e = (
       alone (seq_of w.memory (last_cell w)),
       seq_of w.memory (last_cell w),
-      IsSound-anchored next answer new.0 (seq_of w.memory (last_cell w)) positive w.n w.call w.begun w.steps w.turns
+      IsSound-anchored next answer new.0 (seq_of w.memory (last_cell w)) (last_cell_threaded w inv.0 inv.1 inv.2 quiet) w.n w.call w.begun w.steps w.turns
           (idle_when_quiescent w inv.0 inv.1 inv.2 quiet),
     )
 

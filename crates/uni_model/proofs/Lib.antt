@@ -10,4 +10,14 @@ pub mod Begun
 pub mod Kept
 pub mod Chains
 pub mod Simulation
+pub mod Counted
+pub mod Residues
+pub mod Helping
+pub mod Helped
+pub mod Turns
+pub mod Advanced
+pub mod Later
+pub mod HelpedStep
+pub mod HelpedCall
+pub mod Bounded
 pub mod LawProofs

@@ -3,17 +3,25 @@ use Rattle.std.proofs.Common.{◌≡◌, ◌≢◌, ◌∙◌, ℕ, ◌+◌, ◌
 use Rattle.uni_model.specs.Places.{Name, Memory, set_at, head_of, head_seq, announced, seq_of, inv_of}
 use Rattle.uni_model.specs.Places.Name.{Anchor, Of}
 use Rattle.uni_model.specs.Stages.{Stage, Pending}
+use Rattle.uni_model.specs.Stages.Stage.{DecideAfter}
 use Rattle.uni_model.specs.Worlds.{WorldOf, call_after, sum_below}
 use Rattle.uni_model.specs.Invariant.{Has, IsNumbered, HasValues, LeadsBack, AreCalls, Stands, IsSound, can_be_linked}
 use Rattle.uni_model.proofs.Written.{set_at-cases, number_cases}
 use Rattle.uni_model.specs.Settled.{Grows}
 use Rattle.uni_model.proofs.Grows.{NumbersGrow, Has-inv, Stands-grows}
+use Rattle.uni_model.proofs.Numbered.{numbered_last}
 use Rattle.uni_model.proofs.Sums.{sum_below-le}
 
 -- what process p stands at after its step, if it goes on
 abbrev pub StandsNext : {S I R : Type 0} → Memory S I R → (Name → ℕ) → (n p : ℕ) → (mine : Name) → Option Stage → Type 0
 StandsNext m num n p mine None = 1 ≤ seq_of m mine
 StandsNext m num n p mine (Some stage) = Stands m num n p mine stage
+
+-- the numbers after a step from a stage: as before, or one more, of the cell that the step links after the last one
+abbrev pub Extends : (num : Name → ℕ) (last : ℕ) (num' : Name → ℕ) (last' : ℕ) → Stage → Type 0
+Extends num last num' last' stage =
+    ((num' ≡ num) × (last' ≡ last))
+    ⊎ ((c : Name) × (x : Name) × (stage ≡ DecideAfter c last x) × (num x ≡ 0) × (num' ≡ numbered_last num last x) × (last' ≡ last + 1))
 
 -- p, whose cell is mine, leads from the memory of w to m and goes on at this stage
 pub record Moves {S I R : Type 0} (next : S → I → S) (answer : S → I → R) (w : WorldOf S I R) (num : Name → ℕ) (p : ℕ) (mine : Name) (m : Memory S I R) (num' : Name → ℕ) (last' : ℕ) (stage : Option Stage) : Type 0 where

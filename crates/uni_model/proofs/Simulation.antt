@@ -268,7 +268,7 @@ module _ {S I R : Type 0} (next : S → I → S) (answer : S → I → R) (w : W
         let place = place_of w.n p mine stage in
         let e = effect_of next answer w.n mine stage (w.memory place) (inv_of w.memory (d_of stage)) (new_of w.memory (c_of stage)) in
         let moved = leads next answer w num last sound p mine stage is stage (sound.stands p (record { mine = mine; stage = stage }) is) in
-        silent p mine stage is a shows (written w.memory place e.content) moved.0 moved.1 e.stage moved.2
+        silent p mine stage is a shows (written w.memory place e.content) moved.0 moved.1 e.stage moved.3
         (set_at w.steps p (w.steps p + 1)) (set_at w.turns p (w.turns p + turn_of stage (w.memory place))) same k on
 
     decides : (c : Name) (s : ℕ) (prefer : Name) → w.call p ≡ Some (record { mine = mine; stage = DecideAfter c s prefer })
@@ -291,7 +291,7 @@ module _ {S I R : Type 0} (next : S → I → S) (answer : S → I → R) (w : W
         let place = place_of w.n p mine (Finish s t) in
         let e = effect_of next answer w.n mine (Finish s t) (w.memory place) (inv_of w.memory Anchor) (new_of w.memory Anchor) in
         let moved = leads next answer w num last sound p mine (Finish s t) is (Finish s t) h in
-        ends p mine (Finish s t) is a shows (written w.memory place e.content) moved.0 moved.1 e.stage moved.2
+        ends p mine (Finish s t) is a shows (written w.memory place e.content) moved.0 moved.1 e.stage moved.3
         (set_at w.steps p (w.steps p + 1)) (set_at w.turns p (w.turns p + 0)) (λ x. refl) refl (subst (λ k. 1 ≤ k) (sym h.2) h.1)
 
     simulates : (stage : Stage) → w.call p ≡ Some (record { mine = mine; stage = stage }) → SimulatesAt p a (Some (record { mine = mine; stage = stage }))

@@ -13,9 +13,9 @@ use Rattle.uni_model.specs.Invariant.{Has, HasBest, AtHead, IsPast, IsCellOf, St
 use Rattle.uni_model.proofs.Written.{number_cases, head_of-written, announced-written, written_same, lt_cases, after_of-written, seq_of-written, new_of-written, before_of-written}
 use Rattle.uni_model.specs.Settled.{Grows}
 use Rattle.uni_model.proofs.Sums.{sum_below-lt}
-use Rattle.uni_model.proofs.Numbered.{IsPast-threaded, IsNumbered-seq, IsNumbered-link, numbered_last, numbered_last-cases}
+use Rattle.uni_model.proofs.Numbered.{IsPast-threaded, IsNumbered-seq, IsNumbered-link, end_number, numbered_last, numbered_last-cases}
 use Rattle.uni_model.proofs.Values.{Grows-seq, HasValues-seq, LeadsBack-seq, Grows-link, HasValues-link, LeadsBack-link, Grows-new, HasValues-new, Grows-before, LeadsBack-before, not_anchor}
-use Rattle.uni_model.proofs.Moves.{Moves, StandsNext}
+use Rattle.uni_model.proofs.Moves.{Moves, StandsNext, Extends}
 
 module _ {S I R : Type 0} (next : S → I → S) (answer : S → I → R) (w : WorldOf S I R) (num : Name → ℕ) (last : ℕ) (sound : IsSound next answer w num last)
     (p : ℕ) (mine : Name) (from : Stage) (is : w.call p ≡ Some (record { mine = mine; stage = from })) where
@@ -389,33 +389,42 @@ module _ {S I R : Type 0} (next : S → I → S) (answer : S → I → R) (w : W
     moves_on number = heads d (subst (λ t. 1 ≤ t) (sym number) (omega arith)) (Some (Test d (s + 1))) (record { head = head_of-own d; seq = number })
 
   -- what the effect of a step leaves, and where p stands then
-  abbrev pub Leads : Content S I R → Option Stage → Place → Type 0
-  Leads content stage place = (num' : Name → ℕ) × (last' : ℕ) × Moves next answer w num p mine (written w.memory place content) num' last' stage
+  abbrev pub Leads : (was : Stage) → Content S I R → Option Stage → Place → Type 0
+  Leads was content stage place =
+      (num' : Name → ℕ) × (last' : ℕ) × Extends num last num' last' was × Moves next answer w num p mine (written w.memory place content) num' last' stage
 
   -- a place to which its own content is written
-  reads : (place : Place) (content : Content S I R) → w.memory place ≡ content → (stage : Option Stage) → StandsNext w.memory num w.n p mine stage → Leads content stage place
-  reads place content same stage stands =
-      subst (λ v. (num' : Name → ℕ) × (last' : ℕ) × Moves next answer w num p mine (written w.memory place v) num' last' stage) same
-      (subst (λ m. (num' : Name → ℕ) × (last' : ℕ) × Moves next answer w num p mine m num' last' stage) (sym (written_same w.memory place)) (num, last, still stage stands))
+  reads : {was : Stage} (place : Place) (content : Content S I R) → w.memory place ≡ content → (stage : Option Stage) → StandsNext w.memory num w.n p mine stage → Leads was content stage place
+  reads {was} place content same stage stands =
+      subst (λ v. (num' : Name → ℕ) × (last' : ℕ) × Extends num last num' last' was × Moves next answer w num p mine (written w.memory place v) num' last' stage) same
+      (subst (λ m. (num' : Name → ℕ) × (last' : ℕ) × Extends num last num' last' was × Moves next answer w num p mine m num' last' stage) (sym (written_same w.memory place)) (num, last, inl (refl, refl), still stage stands))
+
+  links_on : (c : Name) (s : ℕ) (prefer : Name) → AtHead w.memory p c s → IsPast num prefer s → (prefer ≡ mine) ⊎ IsCellOf w.memory (s % w.n) prefer
+      → after_of w.memory c ≡ None → Leads (DecideAfter c s prefer) (Link (Some prefer)) (Some (DecideNew c s prefer)) (AfterOf c)
+  links_on c s prefer h past cell at_end =
+      let end : num c ≡ last = end_number w.memory num last sound.numbered c prefer (threaded_c c s prefer h past cell at_end) at_end
+      (outside c s prefer h past cell at_end) (nothing_after c s prefer h past cell at_end) in
+      let number : s ≡ last = (head_number c s h).1 ∙ end in
+      (_, _, inr (c, prefer, ap (λ k. DecideAfter c k prefer) number, outside c s prefer h past cell at_end, refl, refl), links c s prefer h past cell at_end)
 
   decides_after : (c : Name) (s : ℕ) (prefer : Name) → AtHead w.memory p c s → IsPast num prefer s → (prefer ≡ mine) ⊎ IsCellOf w.memory (s % w.n) prefer
-      → (v : Content S I R) → w.memory (AfterOf c) ≡ v → Leads (Link (decided (link_in v) (Some prefer))) (Some (DecideNew c s (unwrap_or (link_in v) prefer))) (AfterOf c)
+      → (v : Content S I R) → w.memory (AfterOf c) ≡ v → Leads (DecideAfter c s prefer) (Link (decided (link_in v) (Some prefer))) (Some (DecideNew c s (unwrap_or (link_in v) prefer))) (AfterOf c)
   decides_after c s prefer h past cell (Link (Some d)) is_v = reads (AfterOf c) (Link (Some d)) is_v (Some (DecideNew c s d)) (h, ap link_in is_v)
-  decides_after c s prefer h past cell (Link None) is_v = (_, _, links c s prefer h past cell (ap link_in is_v))
-  decides_after c s prefer h past cell (CellName x) is_v = (_, _, links c s prefer h past cell (ap link_in is_v))
-  decides_after c s prefer h past cell (Invocation x) is_v = (_, _, links c s prefer h past cell (ap link_in is_v))
-  decides_after c s prefer h past cell (Number x) is_v = (_, _, links c s prefer h past cell (ap link_in is_v))
-  decides_after c s prefer h past cell (Settled x) is_v = (_, _, links c s prefer h past cell (ap link_in is_v))
+  decides_after c s prefer h past cell (Link None) is_v = links_on c s prefer h past cell (ap link_in is_v)
+  decides_after c s prefer h past cell (CellName x) is_v = links_on c s prefer h past cell (ap link_in is_v)
+  decides_after c s prefer h past cell (Invocation x) is_v = links_on c s prefer h past cell (ap link_in is_v)
+  decides_after c s prefer h past cell (Number x) is_v = links_on c s prefer h past cell (ap link_in is_v)
+  decides_after c s prefer h past cell (Settled x) is_v = links_on c s prefer h past cell (ap link_in is_v)
 
   settles_new : (c : Name) (s : ℕ) (d : Name) → AtHead w.memory p c s → after_of w.memory c ≡ Some d → new_of w.memory d ≡ None
-      → Leads (Settled (decided None (applied next answer (new_of w.memory c) (inv_of w.memory d)))) (Some (WriteBefore c s d)) (NewOf d)
+      → Leads (DecideNew c s d) (Settled (decided None (applied next answer (new_of w.memory c) (inv_of w.memory d)))) (Some (WriteBefore c s d)) (NewOf d)
   settles_new c s d h link unsettled =
       let u = sound.values.threaded c (head_number c s h).0 in
       let i = linked_call c s d h link in
-      rw (u.1, i.1) (num, last, settles c s d h link u.0 i.0 u.1 i.1 unsettled)
+      rw (u.1, i.1) (num, last, inl (refl, refl), settles c s d h link u.0 i.0 u.1 i.1 unsettled)
 
   decides_new : (c : Name) (s : ℕ) (d : Name) → AtHead w.memory p c s → after_of w.memory c ≡ Some d
-      → (v : Content S I R) → w.memory (NewOf d) ≡ v → Leads (Settled (decided (settled_in v) (applied next answer (new_of w.memory c) (inv_of w.memory d)))) (Some (WriteBefore c s d)) (NewOf d)
+      → (v : Content S I R) → w.memory (NewOf d) ≡ v → Leads (DecideNew c s d) (Settled (decided (settled_in v) (applied next answer (new_of w.memory c) (inv_of w.memory d)))) (Some (WriteBefore c s d)) (NewOf d)
   decides_new c s d h link (Settled (Some u)) is_v = reads (NewOf d) (Settled (Some u)) is_v (Some (WriteBefore c s d)) (h, link, (u, ap settled_in is_v))
   decides_new c s d h link (Settled None) is_v = settles_new c s d h link (ap settled_in is_v)
   decides_new c s d h link (CellName x) is_v = settles_new c s d h link (ap settled_in is_v)
@@ -424,28 +433,28 @@ module _ {S I R : Type 0} (next : S → I → S) (answer : S → I → R) (w : W
   decides_new c s d h link (Link x) is_v = settles_new c s d h link (ap settled_in is_v)
 
   finishes : (s t : ℕ) → (head_seq w.memory p ≡ s) × (1 ≤ t) × (seq_of w.memory mine ≡ t)
-      → Leads (if nat_lt s t then CellName mine else w.memory (HeadOf p)) None (HeadOf p)
+      → Leads (Finish s t) (if nat_lt s t then CellName mine else w.memory (HeadOf p)) None (HeadOf p)
   finishes s t h =
       let threaded : 1 ≤ seq_of w.memory mine = subst (λ x. 1 ≤ x) (sym h.2) h.1 in
       elim (lt_cases s t) [
-        | inl less ↦ rw less.1 (num, last, heads mine threaded None threaded)
+        | inl less ↦ rw less.1 (num, last, inl (refl, refl), heads mine threaded None threaded)
         | inr more ↦ rw more.1 (reads (HeadOf p) (w.memory (HeadOf p)) refl None threaded)
       ]
 
   -- each kind of step
   pub leads : (stage : Stage) → Stands w.memory num w.n p mine stage
       → let e = effect_of next answer w.n mine stage (w.memory (place_of w.n p mine stage)) (inv_of w.memory (d_of stage)) (new_of w.memory (c_of stage)) in
-      Leads e.content e.stage (place_of w.n p mine stage)
-  leads Announce h = (num, last, announces)
+      Leads stage e.content e.stage (place_of w.n p mine stage)
+  leads Announce h = (num, last, inl (refl, refl), announces)
   leads (ScanHead q best s) h = reads (HeadOf q) _ refl (Some (ScanSeq q best s (head_of w.memory q))) (h.0, h.1, sound.calls.head q h.0)
   leads (ScanSeq q best s x) h = reads (SeqOf x) _ refl (Some (scanned w.n q best s x (seq_of w.memory x))) (scans_on q best s x h.1 h.2)
-  leads (WriteScan best s) h = (num, last, heads best (subst (λ t. 1 ≤ t) (sym h.1) h.0) (Some (Test best s)) (record { head = head_of-own best; seq = h.1 }))
+  leads (WriteScan best s) h = (num, last, inl (refl, refl), heads best (subst (λ t. 1 ≤ t) (sym h.1) h.0) (Some (Test best s)) (record { head = head_of-own best; seq = h.1 }))
   leads (Test c s) h = reads (SeqOf mine) _ refl _ (tests c s h)
   leads (ReadAnnounce c s) h = reads (Announced (s % w.n)) _ refl _ (reads_announce c s h.0 h.1)
   leads (ReadHelpSeq c s help) h = reads (SeqOf help) _ refl _ (prefers c s help h.0 h.1 h.2)
   leads (DecideAfter c s prefer) h = decides_after c s prefer h.0 h.1 h.2 (w.memory (AfterOf c)) refl
   leads (DecideNew c s d) h = decides_new c s d h.0 h.1 (w.memory (NewOf d)) refl
-  leads (WriteBefore c s d) h = (num, last, leads_back c s d h.0 h.1 h.2)
-  leads (WriteSeq c s d) h = (num, last, numbers_d c s d h.0 h.1 h.2 h.3)
-  leads (WriteHead c s d) h = (num, last, moves_on c s d h.0 h.1 h.2)
+  leads (WriteBefore c s d) h = (num, last, inl (refl, refl), leads_back c s d h.0 h.1 h.2)
+  leads (WriteSeq c s d) h = (num, last, inl (refl, refl), numbers_d c s d h.0 h.1 h.2 h.3)
+  leads (WriteHead c s d) h = (num, last, inl (refl, refl), moves_on c s d h.0 h.1 h.2)
   leads (Finish s t) h = finishes s t h

@@ -6,7 +6,8 @@ pub mod Worlds
 pub mod AtomicObject
 pub mod History
 pub mod Frontier
-pub mod Rows
 pub mod Settled
 pub mod Invariant
+pub mod Bound
+pub mod Rows
 pub mod Laws

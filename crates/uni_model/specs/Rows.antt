@@ -1,6 +1,9 @@
 -- Worked rows: what the definitions compute over a queue of numbers.
 use Rattle.std.specs.Prelude.{◌≡◌, refl, ℕ, zero, suc, List, [], ◌∷◌, ◌++◌, Some, map}
 use Rattle.uni_model.specs.Places.{head_seq}
+use Rattle.uni_model.specs.Places.Name.{Anchor, Of}
+use Rattle.uni_model.specs.Stages.Stage.{Announce, ScanHead, Test, WriteHead, Finish}
+use Rattle.uni_model.specs.Bound.{steps_at}
 use Rattle.uni_model.specs.Chain.{Entry}
 use Rattle.uni_model.specs.Worlds.{WorldOf, Event, opened, replayed}
 use Rattle.uni_model.specs.Worlds.Event.{Call, Step, Trim}
@@ -86,6 +89,18 @@ bound_met-turns : (run 2 bound_met).turns 1 ≡ 3
 unfolding bound_met
 bound_met-turns = refl
 
+-- the same run before its last step: the call is pending, and has taken 31 steps, one less than the bound
+bound_pending : List (Event QueueCall)
+bound_pending = Call 0 (Enq 10) ∷ (steps 0 10 ++ Call 1 Deq ∷ (steps 1 14 ++ (steps 0 6 ++ Call 0 (Enq 20) ∷ Step 0 ∷ steps 1 17)))
+
+bound_pending-call : (run 2 bound_pending).call 1 ≡ Some (record { mine = Of 1 0; stage = Finish 4 4 })
+unfolding bound_pending
+bound_pending-call = refl
+
+bound_pending-steps : (run 2 bound_pending).steps 1 ≡ 31
+unfolding bound_pending
+bound_pending-steps = refl
+
 -- process 1 announces and stops; process 0 places its call
 helped : List (Event QueueCall)
 helped = Call 1 (Enq 5) ∷ Step 1 ∷ Call 0 (Enq 6) ∷ steps 0 24
@@ -125,3 +140,19 @@ trimmed_between-steps = refl
 trimmed_between-turns : (run 2 trimmed_between).turns 0 ≡ 1
 unfolding trimmed_between
 trimmed_between-turns = refl
+
+-- of two processes: the announcement, the first head, the first test, the end of a turn, the end of three
+steps_at-announce : steps_at 2 Announce 0 ≡ 0
+steps_at-announce = refl
+
+steps_at-second_head : steps_at 2 (ScanHead 1 Anchor 1) 0 ≡ 3
+steps_at-second_head = refl
+
+steps_at-test : steps_at 2 (Test Anchor 1) 1 ≡ 14
+steps_at-test = refl
+
+steps_at-write_head : steps_at 2 (WriteHead Anchor 1 Anchor) 1 ≡ 13
+steps_at-write_head = refl
+
+steps_at-finish : steps_at 2 (Finish 4 4) 3 ≡ 31
+steps_at-finish = refl

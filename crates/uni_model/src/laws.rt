@@ -4,6 +4,7 @@ ghost use Rattle.std.specs.Prelude.{ℕ, List};
 ghost use Rattle.uni_model.specs.Stages.{Pending};
 ghost use Rattle.uni_model.specs.Worlds.{WorldOf, Event};
 ghost use Rattle.uni_model.specs.Invariant.{Invariant};
+ghost use Rattle.uni_model.specs.Bound.{CountsSteps, IsBounded};
 ghost use Rattle.uni_model.specs.Laws.{IsReached, StepIsLocal, SettledStays, Simulates, IsLinearizable};
 
 use seq_object::SeqObject;
@@ -41,4 +42,18 @@ pub fn simulates<O: SeqObject>()
 pub fn is_linearizable<O: SeqObject>()
     ensures { (object : O) (n : ℕ) (start : O.State) (number : ℕ) (events : List (Event O.Inv)) →
         IsLinearizable (O.next object) (O.answer object) n start number events }
+{}
+
+/// The own steps of a call follow from where its process stands and from its turns: 2n + 2 before
+/// the first turn, eight a turn, and two after the last one.
+pub fn counts_steps<O: SeqObject>()
+    ensures { (object : O) (w : WorldOf O.State O.Inv O.Resp) →
+        IsReached (O.next object) (O.answer object) w → CountsSteps w }
+{}
+
+/// Each call ends within a known number of its own steps, whatever the others do (Herlihy 1991,
+/// section 4): at most n + 1 turns, so fewer than 10n + 12 own steps while it is pending.
+pub fn is_bounded<O: SeqObject>()
+    ensures { (object : O) (w : WorldOf O.State O.Inv O.Resp) →
+        IsReached (O.next object) (O.answer object) w → IsBounded w }
 {}

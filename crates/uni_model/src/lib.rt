@@ -9,4 +9,7 @@ mod laws;
 #[cfg(test)]
 mod tests;
 
-pub use laws::{changes_one_place, is_linearizable, keeps_invariant, keeps_settled, simulates};
+pub use laws::{
+    changes_one_place, counts_steps, is_bounded, is_linearizable, keeps_invariant, keeps_settled,
+    simulates,
+};

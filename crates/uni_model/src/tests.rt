@@ -1,6 +1,9 @@
 //! The laws at a concrete object.
 
-use crate::{changes_one_place, is_linearizable, keeps_invariant, keeps_settled, simulates};
+use crate::{
+    changes_one_place, counts_steps, is_bounded, is_linearizable, keeps_invariant, keeps_settled,
+    simulates,
+};
 use seq_object::SeqObject;
 use std::alloc::{AllocError, Global};
 
@@ -47,4 +50,6 @@ fn laws_hold_of_an_object() {
     keeps_invariant::<Last>();
     simulates::<Last>();
     is_linearizable::<Last>();
+    counts_steps::<Last>();
+    is_bounded::<Last>();
 }

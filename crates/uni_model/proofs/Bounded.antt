@@ -1,0 +1,126 @@
+-- Every event that is accepted goes on helping each pending call; so each call ends within n + 1 turns.
+use Rattle.std.proofs.Common.{◌≡◌, ℕ, ◌+◌, ◌*◌, ◌<◌, ◌≤◌, refl, sym, subst, List, [], ◌∷◌, Option, Some, None, arith}
+use Rattle.std.specs.Option.{option_map_or}
+use Rattle.uni_model.specs.Places.{Name, Memory, written, set_at, head_seq, seq_of, new_of, inv_of}
+use Rattle.uni_model.specs.Stages.{Stage, Pending}
+use Rattle.uni_model.specs.Stages.Stage.{Announce, ScanHead, ScanSeq, WriteScan, Test, ReadAnnounce, ReadHelpSeq, DecideAfter, DecideNew, WriteBefore, WriteSeq, WriteHead, Finish}
+use Rattle.uni_model.specs.Transition.{place_of, effect_of, turn_of, c_of, d_of}
+use Rattle.uni_model.specs.Worlds.{WorldOf, Event, stepped, opened, anchored, trimmed, last_cell, happened, replayed, IsAccepted, AreAccepted, IsQuiescent}
+use Rattle.uni_model.specs.Worlds.Event.{Call, Step, Trim}
+use Rattle.uni_model.specs.Invariant.{Stands, IsSound}
+use Rattle.uni_model.specs.Bound.{steps_at, IsCounted, CountsSteps, IsWithinBound, IsBounded}
+use Rattle.uni_model.proofs.Moves.{IsSound-moved}
+use Rattle.uni_model.proofs.Steps.{leads}
+use Rattle.uni_model.proofs.Anchored.{alone, IsSound-anchored}
+use Rattle.uni_model.proofs.Begun.{IsSound-begun}
+use Rattle.uni_model.proofs.Kept.{idle_when_quiescent, last_cell_threaded}
+use Rattle.uni_model.proofs.Counted.{IsCounted-pending, CountsSteps-happened}
+use Rattle.uni_model.proofs.Helping.{Helps}
+use Rattle.uni_model.proofs.Turns.{turns-le}
+use Rattle.uni_model.proofs.Advanced.{advances, head_rises}
+use Rattle.uni_model.proofs.HelpedStep.{Helps-moved}
+use Rattle.uni_model.proofs.HelpedCall.{Helps-begun}
+
+-- with no call pending nobody waits for help
+Helps-anchored : {S I R : Type 0} (s : S) (number n : ℕ) (call : ℕ → Option Pending) (begun steps turns : ℕ → ℕ) → ((p : ℕ) → call p ≡ None) → ((p : ℕ) → turns p ≤ n + 1)
+    → Helps {S = S} {I = I} {R = R} (record { n = n; memory = anchored s number; call = call; begun = begun; steps = steps; turns = turns }) (alone number) number
+Helps-anchored s number n call begun steps turns idle few = record {
+  each = λ p c e. absurd (let f = idle p in cc);
+  fair = λ o d e. absurd (let f = idle o in cc);
+  heads = λ k from below. absurd (omega arith);
+  returned = λ p e. few p;
+}
+
+module _ {S I R : Type 0} (next : S → I → S) (answer : S → I → R) where
+  -- the invariant, with what helps each pending call, for the same numbers
+  abbrev pub HelpingInvariant : WorldOf S I R → Type 0
+  HelpingInvariant w = (num : Name → ℕ) × (last : ℕ) × IsSound next answer w num last × Helps w num last
+
+  HelpingInvariant-stepped : (w : WorldOf S I R) (p : ℕ) (c : Pending) → w.call p ≡ Some c → CountsSteps w → HelpingInvariant w → HelpingInvariant (stepped next answer w p (Some c))
+  HelpingInvariant-stepped w p c is counts inv =
+      let moved = leads next answer w inv.0 inv.1 inv.2 p c.mine c.stage is c.stage (inv.2.stands p c is) in
+      let own = IsCounted-pending w counts p c is in
+      let place = place_of w.n p c.mine c.stage in
+      let e = effect_of next answer w.n c.mine c.stage (w.memory place) (inv_of w.memory (d_of c.stage)) (new_of w.memory (c_of c.stage)) in
+      let inside : p < w.n = inv.2.calls.process p c is in
+      let threaded : 1 ≤ head_seq w.memory p = inv.2.calls.head p inside in
+      let helped = inv.3.each p c is in (
+        moved.0,
+        moved.1,
+        IsSound-moved next answer w inv.0 inv.1 inv.2 p c.mine c.stage is (written w.memory place e.content) moved.0 moved.1 e.stage moved.3
+            (set_at w.steps p (w.steps p + 1)) (set_at w.turns p (w.turns p + turn_of c.stage (w.memory place))),
+        Helps-moved next answer w inv.0 inv.1 inv.2 inv.3 p c.mine c.stage is (written w.memory place e.content) moved.0 moved.1 e.stage moved.3 moved.2
+            (head_rises next answer w inv.0 inv.1 inv.2 inv.3 p c.mine threaded c.stage (inv.2.stands p c is) helped.own_head moved.3.grows)
+            (w.turns p + turn_of c.stage (w.memory place))
+            (advances next answer w inv.0 inv.1 inv.2 inv.3 p c.mine inside threaded moved.0 moved.3.numbers c.stage is (inv.2.stands p c is) helped own.0)
+            (set_at w.steps p (w.steps p + 1)),
+      )
+
+  -- every process's latest call has taken at most n + 1 turns
+  turns_bounded : (w : WorldOf S I R) → CountsSteps w → HelpingInvariant w → (p : ℕ) → w.turns p ≤ w.n + 1
+  turns_bounded w counts inv p = by_call (w.call p) refl where
+    by_call : (o : Option Pending) → w.call p ≡ o → w.turns p ≤ w.n + 1
+    by_call None is = inv.3.returned p is
+    by_call (Some c) is =
+        let own = IsCounted-pending w counts p c is in
+        let inside : p < w.n = inv.2.calls.process p c is in
+        turns-le w.memory inv.0 inv.1 inv.2.numbered w.n p inside (inv.2.calls.head p inside) c.mine (w.turns p) c.stage (inv.2.stands p c is) own.0 (inv.3.each p c is)
+
+  HelpingInvariant-trimmed : (w : WorldOf S I R) → IsQuiescent w → CountsSteps w → HelpingInvariant w → HelpingInvariant (trimmed w)
+  HelpingInvariant-trimmed w quiet counts inv = by_new (new_of w.memory (last_cell w)) where
+    by_new : (o : Option (S × Option R)) → HelpingInvariant (record w { memory = option_map_or (λ new. anchored new.0 (seq_of w.memory (last_cell w))) o w.memory })
+    by_new None = inv
+    by_new (Some new) =
+        let idle : (p : ℕ) → w.call p ≡ None = idle_when_quiescent next answer w inv.0 inv.1 inv.2 quiet in (
+          alone (seq_of w.memory (last_cell w)),
+          seq_of w.memory (last_cell w),
+          IsSound-anchored next answer new.0 (seq_of w.memory (last_cell w)) (last_cell_threaded next answer w inv.0 inv.1 inv.2 quiet) w.n w.call w.begun w.steps w.turns idle,
+          Helps-anchored new.0 (seq_of w.memory (last_cell w)) w.n w.call w.begun w.steps w.turns idle (turns_bounded w counts inv),
+        )
+
+  HelpingInvariant-happened : (w : WorldOf S I R) (e : Event I) → IsAccepted w e → CountsSteps w → HelpingInvariant w → HelpingInvariant (happened next answer w e)
+  HelpingInvariant-happened w (Call p i) ok counts inv =
+      (inv.0, inv.1, IsSound-begun next answer w inv.0 inv.1 inv.2 p i ok.0 ok.1, Helps-begun next answer w inv.0 inv.1 inv.2 inv.3 p i ok.0 ok.1)
+  HelpingInvariant-happened w (Step p) ok counts inv = by_call (w.call p) refl where
+    by_call : (o : Option Pending) → w.call p ≡ o → HelpingInvariant (stepped next answer w p o)
+    by_call None is = inv
+    by_call (Some c) is = HelpingInvariant-stepped w p c is counts inv
+  HelpingInvariant-happened w Trim ok counts inv = HelpingInvariant-trimmed w ok counts inv
+
+  pub HelpingInvariant-replayed : (w : WorldOf S I R) (es : List (Event I)) → AreAccepted next answer w es → CountsSteps w → HelpingInvariant w → HelpingInvariant (replayed next answer w es)
+  HelpingInvariant-replayed w [] ok counts inv = inv
+  HelpingInvariant-replayed w (e ∷ es) ok counts inv =
+      HelpingInvariant-replayed (happened next answer w e) es ok.1 (CountsSteps-happened next answer w e ok.0 (inv.0, inv.1, inv.2) counts) (HelpingInvariant-happened w e ok.0 counts inv)
+
+  pub HelpingInvariant-opened : (n : ℕ) (s : S) (number : ℕ) → 1 ≤ number → HelpingInvariant (opened {S = S} {I = I} {R = R} n s number)
+  HelpingInvariant-opened n s number positive = (
+    alone number,
+    number,
+    IsSound-anchored next answer s number positive n (λ p. None) (λ p. 0) (λ p. 0) (λ p. 0) (λ p. refl),
+    Helps-anchored s number n (λ p. None) (λ p. 0) (λ p. 0) (λ p. 0) (λ p. refl) (λ p. omega arith),
+  )
+
+  -- the own steps of a pending call with at most n + 1 turns
+  steps_at-lt : (m : Memory S I R) (num : Name → ℕ) (n p : ℕ) (mine : Name) (stage : Stage) (turns : ℕ) → Stands m num n p mine stage → turns ≤ n + 1 → steps_at n stage turns < 10 * n + 12
+  steps_at-lt m num n p mine Announce turns h few = omega arith
+  steps_at-lt m num n p mine (ScanHead q best s) turns h few = let below : q < n = h.0 in omega arith
+  steps_at-lt m num n p mine (ScanSeq q best s x) turns h few = let below : q < n = h.0 in omega arith
+  steps_at-lt m num n p mine (WriteScan best s) turns h few = omega arith
+  steps_at-lt m num n p mine (Test c s) turns h few = omega arith
+  steps_at-lt m num n p mine (ReadAnnounce c s) turns h few = omega arith
+  steps_at-lt m num n p mine (ReadHelpSeq c s help) turns h few = omega arith
+  steps_at-lt m num n p mine (DecideAfter c s prefer) turns h few = omega arith
+  steps_at-lt m num n p mine (DecideNew c s d) turns h few = omega arith
+  steps_at-lt m num n p mine (WriteBefore c s d) turns h few = omega arith
+  steps_at-lt m num n p mine (WriteSeq c s d) turns h few = omega arith
+  steps_at-lt m num n p mine (WriteHead c s d) turns h few = omega arith
+  steps_at-lt m num n p mine (Finish s k) turns h few = omega arith
+
+  pub IsBounded-held : (w : WorldOf S I R) → CountsSteps w → HelpingInvariant w → IsBounded w
+  IsBounded-held w counts inv p = by_call (w.call p) refl (counts p) where
+    by_call : (o : Option Pending) → w.call p ≡ o → IsCounted w.n o (w.begun p) (w.steps p) (w.turns p) → IsWithinBound w.n o (w.begun p) (w.steps p) (w.turns p)
+    by_call None is counted = (turns_bounded w counts inv p, counted)
+    by_call (Some c) is counted =
+        let few : w.turns p ≤ w.n + 1 = turns_bounded w counts inv p in
+        let less : steps_at w.n c.stage (w.turns p) < 10 * w.n + 12 = steps_at-lt w.memory inv.0 w.n p c.mine c.stage (w.turns p) (inv.2.stands p c is) few in
+        (few, subst (λ u. u < 10 * w.n + 12) (sym counted.1) less)

@@ -1,0 +1,134 @@
+-- What helps a pending call helps it later too.
+use Rattle.std.proofs.Common.{◌≡◌, ◌≢◌, ◌∙◌, ℕ, ◌+◌, ◌-◌, ◌<◌, ◌≤◌, ◌%◌, ◌⊎◌, inl, inr, refl, sym, ap, subst, Some, arith}
+use Rattle.std.proofs.lemmas.Bool.{cases_lt}
+use Rattle.uni_model.specs.Places.{Name, Memory, announced, head_of, head_seq, seq_of}
+use Rattle.uni_model.specs.Places.Name.{Anchor}
+use Rattle.uni_model.specs.Stages.{Stage, Pending}
+use Rattle.uni_model.specs.Stages.Stage.{Announce}
+use Rattle.uni_model.specs.Worlds.{WorldOf}
+use Rattle.uni_model.specs.Settled.{Grows}
+use Rattle.uni_model.specs.Invariant.{IsSound}
+use Rattle.uni_model.proofs.Grows.{NumbersGrow}
+use Rattle.uni_model.proofs.Numbered.{numbered_last, numbered_last-cases}
+use Rattle.uni_model.proofs.Residues.{with_remainder}
+use Rattle.uni_model.proofs.Helping.{SomeHead, Finds, Announces, CountsOwnHead, IsAhead, IsHelped, IsFair, IsFairToAll, Helps}
+use Rattle.uni_model.proofs.Helped.{SomeHead-grows, Finds-grows, Announces-same, CountsOwnHead-same, IsAhead-grows}
+
+-- the numbers are as before, or one more: that of a cell which is fair to all and is linked after some process's head
+abbrev pub GrowFairly : {S I R : Type 0} → WorldOf S I R → (num : Name → ℕ) (last : ℕ) (num' : Name → ℕ) (last' : ℕ) → Type 0
+GrowFairly w num last num' last' =
+    ((num' ≡ num) × (last' ≡ last))
+    ⊎ ((x : Name) × IsFairToAll w num last x × SomeHead w.memory w.n 0 last × (num x ≡ 0) × (num' ≡ numbered_last num last x) × (last' ≡ last + 1))
+
+module _ {S I R : Type 0} (next : S → I → S) (answer : S → I → R) (w : WorldOf S I R) (num : Name → ℕ) (last : ℕ) (sound : IsSound next answer w num last) (helps : Helps w num last)
+    (m : Memory S I R) (num' : Name → ℕ) (last' : ℕ) (grow : GrowFairly w num last num' last') where
+  -- a linked cell keeps its number
+  numbers-cases : (y : Name) → (num' y ≡ num y) ⊎ ((num y ≡ 0) × (num' y ≡ last + 1) × IsFairToAll w num last y)
+  numbers-cases y = elim grow [
+    | inl same ↦ inl (ap (λ f. f y) same.0)
+    | inr more ↦ elim (numbered_last-cases num last more.0 y) [
+      | inl new ↦ inr (ap num new.0 ∙ more.3, ap (λ f. f y) more.4 ∙ new.1, subst (λ x. IsFairToAll w num last x) (sym new.0) more.1)
+      | inr old ↦ inl (ap (λ f. f y) more.4 ∙ old.1)
+    ]
+  ]
+
+  anchor_stays : num' Anchor ≡ num Anchor
+  anchor_stays = elim (numbers-cases Anchor) [ inl same ↦ same | inr new ↦ absurd (let none : num Anchor ≡ 0 = new.0 in let first : 1 ≤ num Anchor = sound.numbered.first in omega arith) ]
+
+  not_linked_before : (y : Name) → num' y ≡ 0 → num y ≡ 0
+  not_linked_before y none = elim (numbers-cases y) [ inl same ↦ sym same ∙ none | inr new ↦ new.0 ]
+
+  -- a number below the last one was so before, or is that of the cell which was the last one
+  below-cases : (s : ℕ) → s < last' → (s < last) ⊎ ((s ≡ last) × (x : Name) × IsFairToAll w num last x × SomeHead w.memory w.n 0 last × (num' x ≡ last + 1))
+  below-cases s below = elim grow [
+    | inl same ↦ let e = same.1 in inl (omega arith)
+    | inr more ↦
+        let e = more.5 in
+        elim (cases_lt s last) [
+          | inl before ↦ inl before
+          | inr not_before ↦ inr (
+            omega arith,
+            more.0,
+            more.1,
+            more.2,
+            elim (numbers-cases more.0) [
+              | inl same ↦ elim (numbered_last-cases num last more.0 more.0) [ inl new ↦ ap (λ f. f more.0) more.4 ∙ new.1 | inr old ↦ absurd (old.0 refl) ]
+              | inr new ↦ new.1
+            ],
+          )
+        ]
+  ]
+
+  module _ (rise : (r : ℕ) → r < w.n → head_seq w.memory r ≤ head_seq m r) where
+    pub heads_later : (s : ℕ) → num' Anchor ≤ s → s < last' → SomeHead m w.n 0 s
+    heads_later s from below =
+        let anchor : num' Anchor ≡ num Anchor = anchor_stays in
+        SomeHead-grows w.memory m w.n rise 0 s (elim (below-cases s below) [
+          | inl before ↦ helps.heads s (omega arith) before
+          | inr end ↦ subst (λ k. SomeHead w.memory w.n 0 k) (sym end.0) end.3
+        ])
+
+  -- a pending call, at its next stage or at the same one
+  module _ (q : ℕ) (d : Pending) (pending : w.call q ≡ Some d) (stage : Stage) (turns : ℕ)
+      (finds : (s : ℕ) → Finds w.memory w.n d.stage (w.turns q) s → Finds m w.n stage turns s) where
+    was : IsHelped w.memory num last w.n q d.mine d.stage (w.turns q)
+    was = helps.each q d pending
+
+    unlinked_later : num' d.mine ≡ 0 → (s : ℕ) → s % w.n ≡ q → num' Anchor ≤ s → s < last' → Finds m w.n stage turns s
+    unlinked_later none s its_turn from below =
+        let anchor : num' Anchor ≡ num Anchor = anchor_stays in
+        let absent : num d.mine ≡ 0 = not_linked_before d.mine none in
+        finds s (elim (below-cases s below) [
+          | inl before ↦ was.unlinked absent s its_turn (omega arith) before
+          | inr end ↦
+              let apart : end.1 ≢ d.mine = (λ same. let new : num' end.1 ≡ last + 1 = end.4 in let zero : num' end.1 ≡ 0 = ap num' same ∙ none in omega arith) in
+              subst (λ k. Finds w.memory w.n d.stage (w.turns q) k) (sym end.0)
+              ((end.2 q d pending).help absent apart (ap (λ k. k % w.n) (sym end.0) ∙ its_turn))
+        ])
+
+    -- mine is linked at most n + 1 past a number that the scan finds
+    linked_later : (s : ℕ) × Finds m w.n stage turns s × (num' d.mine ≤ s + w.n + 1)
+    linked_later = elim (numbers-cases d.mine) [
+      | inl same ↦ (was.linked.0, finds was.linked.0 was.linked.1, (let near : num d.mine ≤ was.linked.0 + w.n + 1 = was.linked.2 in omega arith))
+      | inr new ↦
+          let number : num' d.mine ≡ last + 1 = new.1 in
+          elim (cases_lt last (num Anchor + w.n)) [
+            | inl near ↦ (num Anchor, finds (num Anchor) was.anchor, omega arith)
+            | inr far ↦
+                let k = with_remainder w.n q (sound.calls.process q d pending) (last - w.n) in
+                let from : last - w.n ≤ k.0 = k.1 in
+                let to : k.0 < (last - w.n) + w.n = k.2 in
+                (k.0, finds k.0 (was.unlinked new.0 k.0 k.3 (omega arith) (omega arith)), omega arith)
+          ]
+    ]
+
+    pub IsHelped-later : Announces m q d.mine stage → CountsOwnHead m q stage → IsAhead num' d.mine stage turns → IsHelped m num' last' w.n q d.mine stage turns
+    IsHelped-later announced own_head ahead = record {
+      announced = announced;
+      own_head = own_head;
+      ahead = ahead;
+      anchor = finds (num' Anchor) (subst (λ k. Finds w.memory w.n d.stage (w.turns q) k) (sym anchor_stays) was.anchor);
+      unlinked = unlinked_later;
+      linked = linked_later;
+    }
+
+    pub IsFair-later : (stage ≡ Announce → d.stage ≡ Announce) → (s : ℕ) (x : Name) → IsFair w.memory num w.n q d.mine d.stage (w.turns q) s x → IsFair m num' w.n q d.mine stage turns s x
+    IsFair-later first s x fair = record {
+      unknown = λ e. fair.unknown (first e);
+      help = λ none other its_turn. finds s (fair.help (not_linked_before d.mine none) other its_turn);
+    }
+
+  -- a pending call whose process takes no step
+  module _ (grows : Grows w.memory m) (rise : (r : ℕ) → r < w.n → head_seq w.memory r ≤ head_seq m r) (numbers : NumbersGrow w.memory num num')
+      (q : ℕ) (d : Pending) (pending : w.call q ≡ Some d) where
+    pub Finds-waiting : (s : ℕ) → Finds w.memory w.n d.stage (w.turns q) s → Finds m w.n d.stage (w.turns q) s
+    Finds-waiting s found = Finds-grows w.memory m w.n rise grows num q d.mine d.stage (w.turns q) s (sound.stands q d pending) found
+
+    pub IsHelped-waiting : head_of m q ≡ head_of w.memory q → announced m q ≡ announced w.memory q → IsHelped m num' last' w.n q d.mine d.stage (w.turns q)
+    IsHelped-waiting head same =
+        let old : IsHelped w.memory num last w.n q d.mine d.stage (w.turns q) = helps.each q d pending in
+        let threaded : 1 ≤ head_seq w.memory q = sound.calls.head q (sound.calls.process q d pending) in
+        IsHelped-later q d pending d.stage (w.turns q) Finds-waiting
+        (Announces-same w.memory m q same d.mine d.stage old.announced)
+        (CountsOwnHead-same w.memory m q head (ap (seq_of m) head ∙ grows.seq (head_of w.memory q) threaded) d.stage old.own_head)
+        (IsAhead-grows w.memory num num' numbers q threaded d.mine w.n d.stage (w.turns q) (sound.stands q d pending) old.ahead)

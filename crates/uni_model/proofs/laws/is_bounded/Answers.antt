@@ -1,0 +1,5 @@
+use Rattle.uni_model.proofs.LawProofs.{IsBounded-reached}
+use Rattle.uni_model.proofs.laws.is_bounded.Goals as goal
+
+pub returns : goal.returns
+returns g c object w = IsBounded-reached (g.O.SeqObject.next object) (g.O.SeqObject.answer object) w
