@@ -6,7 +6,7 @@ use seq_object::{CallId, SeqObject};
 use std::alloc::{AllocError, Global};
 use std::process::Abort;
 use std::test::Fail;
-use uni_core::{Progress, World};
+use uni_core::{Command, Outcome, Progress, World};
 
 /// Keeps the last number; the response is the number before.
 #[derive(Drop)]
@@ -257,4 +257,23 @@ fn a_linked_call_has_no_state_yet(rt: HostRuntime) -> Result<(), Fail> {
     assert_eq!(rt; Log::of(&world).state_at(1), Some(&7));
     assert_eq!(rt; Log::of(&world).state_at(2), None);
     Ok(())
+}
+
+#[test]
+fn a_run_settles_the_reply_at_its_ninth_step(rt: HostRuntime) -> Result<(), Fail> {
+    let alloc = rt.alloc();
+    let mut world = opened(alloc, 1)?;
+    let call = CallId { process: 0, nth: 0 };
+    let mut commands = vec![in alloc; Command::Call(0, 7)]?;
+    let mut want = vec![in alloc; Outcome::Called(call)]?;
+    for _ in 0..8 {
+        commands.push(Command::Step(0))?;
+        want.push(Outcome::Went)?;
+    }
+    let outcomes = world.run(alloc, commands.as_slice())?;
+    assert_eq!(rt; outcomes.as_slice(), want.as_slice());
+    has_log(&rt, alloc, &world, &[entry(2, 0, 0, 7, None)])?;
+    let ninth = world.run(alloc, &[Command::Step(0)])?;
+    assert_eq!(rt; ninth.as_slice(), [Outcome::Went].as_slice());
+    has_log(&rt, alloc, &world, &[entry(2, 0, 0, 7, Some(0))])
 }
