@@ -7,5 +7,6 @@ pub mod Steppable
 pub mod Begin
 pub mod Stepped
 pub mod Readers
+pub mod Runs
 mod Walk
 mod OpenedWorld

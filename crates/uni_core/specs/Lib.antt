@@ -4,6 +4,7 @@ pub mod Counts
 pub mod NewLocal
 pub mod Whole
 pub mod Readers
+pub mod Commands
 pub use Rattle.uni_model.specs.Places
 pub use Rattle.uni_model.specs.Stages
 pub use Rattle.uni_model.specs.Transition

@@ -2,8 +2,10 @@
 //! list of cells, and each step of a process touches one shared place.
 #![tactic(auto)]
 
+mod command;
 mod fault;
 mod local;
+mod run;
 mod shared;
 mod stage;
 #[cfg(test)]
@@ -11,6 +13,7 @@ mod tests;
 mod transition;
 mod world;
 
+pub use command::{Command, Outcome, Refusal};
 pub use fault::{BeginFault, OpenFault, Progress, StepFault};
 pub use stage::{Place, StepKind};
 pub use world::World;

@@ -1,6 +1,8 @@
 //! Schedules worked out by hand: the exact numbers of steps and turns, and the responses.
 
-use crate::{BeginFault, OpenFault, Place, Progress, StepFault, StepKind, World};
+use crate::{
+    BeginFault, Command, OpenFault, Outcome, Place, Progress, Refusal, StepFault, StepKind, World,
+};
 use cell_arena::{CellId, Cells};
 use seq_object::{CallId, SeqObject};
 use std::alloc::{AllocError, Global};
@@ -333,5 +335,70 @@ fn a_world_shows_its_list(rt: HostRuntime) -> Result<(), Fail> {
     assert_eq!(rt; world.cell_of(CallId { process: 1, nth: 0 }), Some(last));
     assert_eq!(rt; world.cell_of(CallId { process: 1, nth: 1 }), None);
     assert_eq!(rt; world.cell_of(CallId { process: 2, nth: 0 }), None);
+    Ok(())
+}
+
+/// Adds so many steps of a process to commands.
+fn add_steps(commands: &mut Vec<Command<u32>>, p: u64, count: u64) -> Result<(), AllocError> {
+    for _ in 0..count {
+        commands.push(Command::Step(p))?;
+    }
+    Ok(())
+}
+
+/// Adds as many steps, of a call that goes on, to outcomes.
+fn add_went(outcomes: &mut Vec<Outcome<u32>>, count: u64) -> Result<(), AllocError> {
+    for _ in 0..count {
+        outcomes.push(Outcome::Went)?;
+    }
+    Ok(())
+}
+
+#[test]
+fn a_run_helps_a_stopped_process(rt: HostRuntime) -> Result<(), Fail> {
+    let alloc = rt.alloc();
+    let slow = CallId { process: 1, nth: 0 };
+    let fast = CallId { process: 0, nth: 0 };
+    let mut commands = vec![in alloc; Command::Call(1, 5), Command::Step(1), Command::Call(0, 6)]?;
+    add_steps(&mut commands, 0, 24)?;
+    let mut want = vec![in alloc; Outcome::Called(slow), Outcome::Went, Outcome::Called(fast)]?;
+    add_went(&mut want, 23)?;
+    want.push(Outcome::Returned(fast, 5))?;
+    let mut world = opened(alloc, 2)?;
+    let outcomes = world.run(alloc, commands.as_slice())?;
+    assert_eq!(rt; outcomes.as_slice(), want.as_slice());
+    assert_eq!(rt; counts(&world, 0), Some((24, 2)));
+    assert_eq!(rt; pending(&world, 1), Some(slow));
+    Ok(())
+}
+
+#[test]
+fn a_run_passes_over_what_is_refused(rt: HostRuntime) -> Result<(), Fail> {
+    let alloc = rt.alloc();
+    let call = CallId { process: 0, nth: 0 };
+    let mut commands = vec![in alloc;
+        Command::Step(1),
+        Command::Step(9),
+        Command::Call(9, 5),
+        Command::Call(0, 5),
+        Command::Call(0, 5),
+    ]?;
+    add_steps(&mut commands, 0, 17)?;
+    commands.push(Command::Call(0, 5))?;
+    let mut want = vec![in alloc;
+        Outcome::Refused(Refusal::Idle(1)),
+        Outcome::Refused(Refusal::BadProcess),
+        Outcome::Refused(Refusal::BadProcess),
+        Outcome::Called(call),
+        Outcome::Refused(Refusal::Busy(0)),
+    ]?;
+    add_went(&mut want, 15)?;
+    want.push(Outcome::Returned(call, 0))?;
+    want.push(Outcome::Refused(Refusal::Idle(0)))?;
+    want.push(Outcome::Refused(Refusal::RowFull(0)))?;
+    let mut world = World::open(alloc, Last, 2, 1).map_err(|_| Fail::from("no world was opened"))?;
+    let outcomes = world.run(alloc, commands.as_slice())?;
+    assert_eq!(rt; outcomes.as_slice(), want.as_slice());
+    assert_eq!(rt; counts(&world, 0), Some((16, 1)));
     Ok(())
 }

@@ -17,7 +17,7 @@ logged_call e = record { inv = e.call.inv; response = e.response }
 
 module _ {S I R : Type 0} (next : S → I → S) (answer : S → I → R) (w : WorldOf S I R) (num : Name → ℕ) (last : ℕ) (sound : IsSound next answer w num last) where
   -- a cell with no state yet is the last one
-  unsettled_last : (most : ℕ) (y : Name) → 1 ≤ num y → new_of w.memory y ≡ None → cells_from most w.memory y ≡ []
+  pub unsettled_last : (most : ℕ) (y : Name) → 1 ≤ num y → new_of w.memory y ≡ None → cells_from most w.memory y ≡ []
   unsettled_last zero y linked none = refl
   unsettled_last (suc most) y linked none = by_after (after_of w.memory y) refl where
     by_after : (o : Option Name) → after_of w.memory y ≡ o → option_map_or (λ z. z ∷ cells_from most w.memory z) o [] ≡ []

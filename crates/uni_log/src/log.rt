@@ -1,9 +1,10 @@
 //! The reader of the list.
 
-ghost use Rattle.std.specs.Prelude.{◌≡◌, ◌+◌, ◌<◌, ℕ, IfOk, IsSome, IsSomeAnd, Some, None, length, map, position, slice_get};
+ghost use Rattle.std.specs.Prelude.{◌≡◌, ◌+◌, ◌<◌, ◌≤◌, ℕ, ◌∷◌, IfOk, IfSome, IsSome, IsSomeAnd, Some, None, length, map, option_map, position, reverse, slice_get, take};
+ghost use Rattle.std.specs.Option.{option_copied};
 ghost use Rattle.cell_arena.specs.Rows.{cell_of};
-ghost use Rattle.seq_object.specs.History.{IsLegal};
-ghost use Rattle.uni_model.specs.Places.{new_of, name_eq};
+ghost use Rattle.seq_object.specs.History.{IsLegal, state_after};
+ghost use Rattle.uni_model.specs.Places.{before_of, new_of, seq_of, name_eq};
 ghost use Rattle.uni_model.specs.Places.Name.{Anchor, Of};
 ghost use Rattle.uni_model.specs.Worlds.{chain};
 ghost use Rattle.uni_model.specs.Chain.{invoked_at, response_in};
@@ -11,6 +12,7 @@ ghost use Rattle.uni_model.specs.History.{log};
 ghost use Rattle.uni_core.specs.Shared.{name_of};
 ghost use Rattle.uni_core.specs.Whole.{shown};
 ghost use Rattle.uni_log.specs.Shown.{entry_shown, call_shown};
+ghost use Rattle.uni_log.specs.States.{state_settled_at, invocations_of};
 
 use crate::entry::Entry;
 use cell_arena::{CellId, Cells};
@@ -75,6 +77,28 @@ fn entry_at<O: SeqObject>(
         inv,
         reply,
     })
+}
+
+/// The state that is settled in a cell of the arena, or `None`.
+fn state_in<'a, O: SeqObject>(world: &'a World<O>, id: CellId) -> Option<&'a O::State>
+    requires { IsSome (cell_of world.now.shared.cells id) }
+    ensures { option_copied result ≡ option_map (λ new. new.0) (new_of (shown world.now).memory (name_of (shown world.now).n id)) }
+{
+    world.shape();
+    match world.cells().new_of(id) {
+        Some((state, _)) => Some(state),
+        None => None,
+    }
+}
+
+/// The cell before a cell of the arena; `None` where none was written.
+fn cell_before<O: SeqObject>(world: &World<O>, id: CellId) -> Option<CellId>
+    requires { IsSome (cell_of world.now.shared.cells id) }
+    ensures link { option_map (name_of (shown world.now).n) result ≡ before_of (shown world.now).memory (name_of (shown world.now).n id) }
+    ensures there { IfSome result (λ before. IsSome (cell_of world.now.shared.cells before)) }
+{
+    world.shape();
+    world.cells().before(id)
 }
 
 impl<'a, O: SeqObject> Log<'a, O> {
@@ -145,5 +169,47 @@ impl<'a, O: SeqObject> Log<'a, O> {
             at = next;
         }
         None
+    }
+
+    /// The state after so many entries of the present era: that of the anchor after none. `None`
+    /// where it isn't settled yet, or the list has no such entry.
+    pub fn state_at(&self, place: u64) -> Option<&O::State>
+        ensures settled { option_copied result ≡ state_settled_at (shown self.now) place }
+        ensures folded { IfSome result (λ state. (start : O.State) → new_of (shown self.now).memory Anchor ≡ Some (start, None)
+            → state.now ≡ state_after (O.next self.now.object) start (take place (invocations_of (shown self.now)))) }
+    {
+        let world = self.world;
+        world.shape();
+        let mut at = CellId::anchor();
+        for _ in 0..place {
+            let Some(next) = world.after(at) else {
+                return None;
+            };
+            at = next;
+        }
+        state_in(world, at)
+    }
+
+    /// The cells of the list from a cell back to the anchor, each found as the one before: the
+    /// reverse of the list from the anchor up to that cell. The cell has to be threaded, that is
+    /// its number, which `cells().seq` tells, isn't 0.
+    ///
+    /// An `Err` says that memory was refused.
+    pub fn cells_back(&self, alloc: Global, from: CellId) -> Result<Vec<CellId>, AllocError>
+        requires there { IsSome (cell_of self.now.shared.cells from) }
+        requires threaded { 1 ≤ seq_of (shown self.now).memory (name_of (shown self.now).n from) }
+        ensures first { IfOk result (λ cells. slice_get cells.items 0 ≡ Some from) }
+        ensures reversed { IfOk result (λ cells. reverse (map (name_of (shown self.now).n) cells.items) ≡ take (length cells.items) (Anchor ∷ chain (shown self.now))) }
+    {
+        let world = self.world;
+        world.shape();
+        let mut back = Vec::new(alloc);
+        back.push(from)?;
+        let mut at = from;
+        while let Some(before) = cell_before(world, at) {
+            back.push(before)?;
+            at = before;
+        }
+        Ok(back)
     }
 }

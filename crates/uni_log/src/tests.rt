@@ -1,12 +1,12 @@
 //! Schedules worked out by hand: which calls are in the list, with their numbers and responses.
 
 use crate::{Entry, Log};
-use cell_arena::CellId;
+use cell_arena::{CellId, Cells};
 use seq_object::{CallId, SeqObject};
 use std::alloc::{AllocError, Global};
 use std::process::Abort;
 use std::test::Fail;
-use uni_core::{Progress, World};
+use uni_core::{Command, Outcome, Progress, World};
 
 /// Keeps the last number; the response is the number before.
 #[derive(Drop)]
@@ -102,9 +102,8 @@ fn has_log(
     Ok(())
 }
 
-#[test]
-fn a_slow_call_comes_last(rt: HostRuntime) -> Result<(), Fail> {
-    let alloc = rt.alloc();
+/// Two processes, of which 1 has returned after both calls of 0 took effect.
+fn with_a_slow_call(alloc: Global) -> Result<World<Last>, Fail> {
     let mut world = opened(alloc, 2)?;
     begins(alloc, &mut world, 0, 10)?;
     goes(alloc, &mut world, 0, 10)?;
@@ -114,6 +113,13 @@ fn a_slow_call_comes_last(rt: HostRuntime) -> Result<(), Fail> {
     begins(alloc, &mut world, 0, 20)?;
     goes(alloc, &mut world, 0, 1)?;
     finishes(alloc, &mut world, 1)?;
+    Ok(world)
+}
+
+#[test]
+fn a_slow_call_comes_last(rt: HostRuntime) -> Result<(), Fail> {
+    let alloc = rt.alloc();
+    let world = with_a_slow_call(alloc)?;
     has_log(
         &rt,
         alloc,
@@ -181,4 +187,93 @@ fn numbers_go_on_from_the_anchors(rt: HostRuntime) -> Result<(), Fail> {
     begins(alloc, &mut world, 0, 7)?;
     finishes(alloc, &mut world, 0)?;
     has_log(&rt, alloc, &world, &[entry(6, 0, 0, 7, Some(9))])
+}
+
+/// The indices of cells.
+fn indices(alloc: Global, cells: &[CellId]) -> Result<Vec<u32>, AllocError> {
+    let mut indices = Vec::new(alloc);
+    for cell in cells {
+        indices.push(cell.index())?;
+    }
+    Ok(indices)
+}
+
+/// The indices of the cells back from the last one.
+fn back_from_last(alloc: Global, world: &World<Last>) -> Result<Vec<u32>, Fail> {
+    let last = world.last();
+    if world.cells().seq(last) < 1 {
+        return Err(Fail::from("the last cell should be threaded"));
+    }
+    let cells = Log::of(world).cells_back(alloc, last)?;
+    Ok(indices(alloc, cells.as_slice())?)
+}
+
+#[test]
+fn back_is_forward_reversed(rt: HostRuntime) -> Result<(), Fail> {
+    let alloc = rt.alloc();
+    let world = with_a_slow_call(alloc)?;
+    let forward = Log::of(&world).cells_forward(alloc)?;
+    assert_eq!(rt;
+        indices(alloc, forward.as_slice())?.as_slice(),
+        [1, 3, 2].as_slice()
+    );
+    assert_eq!(rt;
+        back_from_last(alloc, &world)?.as_slice(),
+        [2, 3, 1, 0].as_slice()
+    );
+    Ok(())
+}
+
+#[test]
+fn back_from_the_anchor_is_the_anchor(rt: HostRuntime) -> Result<(), Fail> {
+    let alloc = rt.alloc();
+    let world = opened(alloc, 2)?;
+    assert_eq!(rt; back_from_last(alloc, &world)?.as_slice(), [0].as_slice());
+    Ok(())
+}
+
+#[test]
+fn states_lie_along_the_list(rt: HostRuntime) -> Result<(), Fail> {
+    let alloc = rt.alloc();
+    let world = with_a_slow_call(alloc)?;
+    let log = Log::of(&world);
+    assert_eq!(rt; log.state_at(0), Some(&0));
+    assert_eq!(rt; log.state_at(1), Some(&10));
+    assert_eq!(rt; log.state_at(2), Some(&20));
+    assert_eq!(rt; log.state_at(3), Some(&30));
+    assert_eq!(rt; log.state_at(4), None);
+    Ok(())
+}
+
+#[test]
+fn a_linked_call_has_no_state_yet(rt: HostRuntime) -> Result<(), Fail> {
+    let alloc = rt.alloc();
+    let mut world = opened(alloc, 1)?;
+    begins(alloc, &mut world, 0, 7)?;
+    goes(alloc, &mut world, 0, 8)?;
+    assert_eq!(rt; Log::of(&world).state_at(0), Some(&0));
+    assert_eq!(rt; Log::of(&world).state_at(1), None);
+    goes(alloc, &mut world, 0, 1)?;
+    assert_eq!(rt; Log::of(&world).state_at(1), Some(&7));
+    assert_eq!(rt; Log::of(&world).state_at(2), None);
+    Ok(())
+}
+
+#[test]
+fn a_run_settles_the_reply_at_its_ninth_step(rt: HostRuntime) -> Result<(), Fail> {
+    let alloc = rt.alloc();
+    let mut world = opened(alloc, 1)?;
+    let call = CallId { process: 0, nth: 0 };
+    let mut commands = vec![in alloc; Command::Call(0, 7)]?;
+    let mut want = vec![in alloc; Outcome::Called(call)]?;
+    for _ in 0..8 {
+        commands.push(Command::Step(0))?;
+        want.push(Outcome::Went)?;
+    }
+    let outcomes = world.run(alloc, commands.as_slice())?;
+    assert_eq!(rt; outcomes.as_slice(), want.as_slice());
+    has_log(&rt, alloc, &world, &[entry(2, 0, 0, 7, None)])?;
+    let ninth = world.run(alloc, &[Command::Step(0)])?;
+    assert_eq!(rt; ninth.as_slice(), [Outcome::Went].as_slice());
+    has_log(&rt, alloc, &world, &[entry(2, 0, 0, 7, Some(0))])
 }

@@ -1,0 +1,188 @@
+-- What a command does, and the run of a list of them.
+use Rattle.std.proofs.Common.{◌≡◌, ◌∙◌, ℕ, ◌+◌, ◌-◌, ◌<◌, ◌≤◌, ◌⊎◌, inl, inr, refl, sym, ap, subst, List, [], ◌∷◌, ◌++◌, append_assoc, Option, Some, None, option_map, IsSome, suc, get_or, take, length, Result, Ok, Err, true, false, arith}
+use Rattle.std.proofs.lemmas.List.{append-nil}
+use Rattle.std.proofs.lemmas.Bool.{cases_lt}
+use Rattle.std.proofs.Math.Seq.{take-suc, take-length}
+use Rattle.std.specs.Option.{option_map_or}
+use Rattle.std.specs.Result.{IsErrOf}
+use Rattle.seq_object.specs.declared.call_id.CallId.{CallId}
+use Rattle.uni_model.specs.Stages.{Pending}
+use Rattle.uni_model.specs.Worlds.{WorldOf, Event}
+use Rattle.uni_model.specs.AtomicObject.{Atomic, Act, AcceptsAll}
+use Rattle.uni_model.specs.History.{Shows, acts_of}
+use Rattle.uni_core.specs.declared.command.Command.{Command}
+use Rattle.uni_core.specs.declared.command.Refusal.{Refusal}
+use Rattle.uni_core.specs.declared.command.Outcome.{Outcome}
+use Rattle.uni_core.specs.declared.command.Outcome.TheVariants.{Refused}
+use Rattle.uni_core.specs.declared.fault.BeginFault.{BeginFault}
+use Rattle.uni_core.specs.declared.fault.BeginFault.TheVariants as begin
+use Rattle.uni_core.specs.declared.fault.StepFault.{StepFault}
+use Rattle.uni_core.specs.declared.fault.StepFault.TheVariants as step
+use Rattle.uni_core.specs.declared.fault.Progress.TheVariants.{Going, Done}
+use Rattle.uni_core.specs.Whole.{Whole, shown, current_of, progress_of, Follows, MayNeedMemory}
+use Rattle.uni_core.specs.Commands.{CanCall, IsOutcome, event_of, events_of, counted, counted_replay, counted_history, AreOutcomes, TakesCommand}
+
+-- a command that is refused leaves the world as it was
+pub TakesCommand-refused : {O S I R : Type 0} (next : S → I → S) (answer : S → I → R) (old new : Whole O S I R) (row : ℕ) (command : Command I) (why : Refusal) → new ≡ old
+    → IsOutcome (shown old) row command (Refused why) → TakesCommand next answer (shown old) row command (Refused why) (shown new)
+TakesCommand-refused next answer old new row command why same is = record {
+  is = is;
+  left = ap shown same;
+  accepted = λ a shows. (a, subst (λ w. Shows (shown w) a) (sym same) shows, refl);
+}
+
+-- which error a result has
+pub IsErrOf-Err : {T E : Type 0} (e e' : E) → e ≡ e' → IsErrOf {T = T} (Err e) e'
+IsErrOf-Err e e' same = ap (λ x. Err x) same
+
+pub Err-IsErrOf : {T E : Type 0} (e e' : E) → IsErrOf {T = T} (Err e) e' → e ≡ e'
+Err-IsErrOf e e' is = cc
+
+pub Ok-IsErrOf : {T E : Type 0} (x : T) (e : E) → IsErrOf (Ok x) e → ⊥
+Ok-IsErrOf x e is = cc
+
+-- a process that isn't refused a call can begin one
+can_call : {S I R : Type 0} (w : WorldOf S I R) (row p : ℕ) → w.begun p ≤ row → (w.n ≤ p → ⊥) → ((p < w.n) × IsSome (w.call p) → ⊥) → ((p < w.n) × (w.call p ≡ None) × (w.begun p ≡ row) → ⊥)
+    → CanCall w row p
+can_call w row p room process busy full = elim (cases_lt p w.n) [
+  | inl below ↦ (
+    below,
+    idle below (w.call p) refl,
+    elim (cases_lt (w.begun p) row) [
+      | inl less ↦ less
+      | inr more ↦ absurd (full (below, idle below (w.call p) refl, omega (arith, more, room)))
+    ],
+  )
+  | inr past ↦ absurd (process past)
+] where
+  idle : p < w.n → (o : Option Pending) → w.call p ≡ o → w.call p ≡ None
+  idle below None e = e
+  idle below (Some c) e = absurd (busy (below, rw e refl))
+
+-- a call that has begun, or that is refused memory alone, could begin
+pub begun_can_call : {S I R : Type 0} (w : WorldOf S I R) (row p : ℕ) (r : Result CallId BeginFault) → ((e : BeginFault) → r ≡ Err e → e ≡ begin.Memory) → w.begun p ≤ row → (w.n ≤ p → IsErrOf r begin.BadProcess)
+    → ((p < w.n) × IsSome (w.call p) → IsErrOf r (begin.Busy p)) → ((p < w.n) × (w.call p ≡ None) × (w.begun p ≡ row) → IsErrOf r (begin.RowFull p)) → CanCall w row p
+begun_can_call w row p r memory room process busy full = can_call w row p room
+    (λ h. let f : begin.BadProcess ≡ begin.Memory = memory begin.BadProcess (process h) in cc)
+    (λ h. let f : begin.Busy p ≡ begin.Memory = memory (begin.Busy p) (busy h) in cc)
+    (λ h. let f : begin.RowFull p ≡ begin.Memory = memory (begin.RowFull p) (full h) in cc)
+
+-- the process that a refusal names
+pub busy_names : (e : BeginFault) (p q : ℕ) → (e ≡ begin.BadProcess) ⊎ (e ≡ begin.Busy p) ⊎ (e ≡ begin.RowFull p) ⊎ (e ≡ begin.Memory) → e ≡ begin.Busy q → q ≡ p
+busy_names e p q (inl h) is = cc
+busy_names e p q (inr (inl h)) is = cc
+busy_names e p q (inr (inr (inl h))) is = cc
+busy_names e p q (inr (inr (inr h))) is = cc
+
+pub full_names : (e : BeginFault) (p q : ℕ) → (e ≡ begin.BadProcess) ⊎ (e ≡ begin.Busy p) ⊎ (e ≡ begin.RowFull p) ⊎ (e ≡ begin.Memory) → e ≡ begin.RowFull q → q ≡ p
+full_names e p q (inl h) is = cc
+full_names e p q (inr (inl h)) is = cc
+full_names e p q (inr (inr (inl h))) is = cc
+full_names e p q (inr (inr (inr h))) is = cc
+
+-- whether a step that was taken has a response
+pub going_none : {R : Type 0} (o : Option R) → Going ≡ progress_of o → o ≡ None
+going_none None e = refl
+going_none (Some r) e = cc
+
+pub done_some : {R : Type 0} (o : Option R) (r : R) → Done r ≡ progress_of o → o ≡ Some r
+done_some None r e = cc
+done_some (Some s) r e = cc
+
+-- whether there is a pending call to name
+pub current_none : {S I R : Type 0} (w : WorldOf S I R) (p : ℕ) → None ≡ current_of w p → w.call p ≡ None
+current_none w p e = by_call (w.call p) e where
+  by_call : (o : Option Pending) → None ≡ option_map (λ (c : Pending). let id : CallId = record { process = p; nth = w.begun p - 1 } in id) o → o ≡ None
+  by_call None e = refl
+  by_call (Some c) e = cc
+
+pub current_some : {S I R : Type 0} (w : WorldOf S I R) (p : ℕ) (id : CallId) → Some id ≡ current_of w p → IsSome (w.call p)
+current_some w p id e = by_call (w.call p) e where
+  by_call : (o : Option Pending) → Some id ≡ option_map (λ (c : Pending). let id : CallId = record { process = p; nth = w.begun p - 1 } in id) o → IsSome o
+  by_call None e = cc
+  by_call (Some c) e = refl
+
+-- a step that is refused to a process that has one to take may need memory
+pub memory_needed : {S I R T : Type 0} (w : WorldOf S I R) (p : ℕ) (e : StepFault) → p < w.n → IsSome (w.call p) → (e ≡ step.BadProcess) ⊎ (e ≡ step.Idle p) ⊎ (e ≡ step.Memory)
+    → (IsErrOf {T = T} (Err e) step.BadProcess → w.n ≤ p) → (IsErrOf {T = T} (Err e) (step.Idle p) → (p < w.n) × (w.call p ≡ None)) → (IsErrOf {T = T} (Err e) step.Memory → MayNeedMemory w p) → MayNeedMemory w p
+memory_needed w p e below there (inl h) process idle memory = absurd (let past = process (IsErrOf-Err e step.BadProcess h) in omega arith)
+memory_needed w p e below there (inr (inl h)) process idle memory =
+    absurd (let none : w.call p ≡ None = (idle (IsErrOf-Err e (step.Idle p) h)).1 in let f : false ≡ true = (rw none at there) in cc)
+memory_needed w p e below there (inr (inr h)) process idle memory = memory (IsErrOf-Err e step.Memory h)
+
+-- Lists of events and one event more.
+module _ {S I R : Type 0} (next : S → I → S) (answer : S → I → R) where
+  replay-event : (w : WorldOf S I R) (o : Option (Event I)) (es : List (Event I))
+      → counted_replay next answer w (option_map_or (λ e. e ∷ es) o es) ≡ counted_replay next answer (option_map_or (counted next answer w) o w) es
+  replay-event w None es = refl
+  replay-event w (Some e) es = refl
+
+  history-event : (w : WorldOf S I R) (o : Option (Event I)) (es : List (Event I))
+      → counted_history next answer w (option_map_or (λ e. e ∷ es) o es)
+      ≡ option_map_or (acts_of next answer w) o [] ++ counted_history next answer (option_map_or (counted next answer w) o w) es
+  history-event w None es = refl
+  history-event w (Some e) es = refl
+
+  AcceptsAll-append : (a b c : Atomic S I) (xs ys : List (Act I R)) → AcceptsAll next answer a xs b → AcceptsAll next answer b ys c → AcceptsAll next answer a (xs ++ ys) c
+  AcceptsAll-append a b c [] ys first rest = subst (λ x. AcceptsAll next answer x ys c) first rest
+  AcceptsAll-append a b c (x ∷ xs) ys first rest = (first.0, first.1, AcceptsAll-append first.0 b c xs ys first.2 rest)
+
+  Follows-append : (w later last : WorldOf S I R) (xs ys : List (Act I R)) → Follows next answer w later xs → Follows next answer later last ys → Follows next answer w last (xs ++ ys)
+  Follows-append w later last xs ys first rest a shows =
+      let b = first a shows in
+      let c = rest b.0 b.1 in
+      (c.0, c.1, AcceptsAll-append a b.0 c.0 xs ys b.2 c.2)
+
+-- A world has taken these commands with these outcomes, and is w then.
+pub record Ran {S I R : Type 0} (next : S → I → S) (answer : S → I → R) (first : WorldOf S I R) (row : ℕ) (commands : List (Command I)) (outcomes : List (Outcome R)) (w : WorldOf S I R) : Type 0 where
+  pub are : AreOutcomes next answer first row commands outcomes
+  pub ran : w ≡ counted_replay next answer first (events_of commands outcomes)
+  pub accepted : Follows next answer first w (counted_history next answer first (events_of commands outcomes))
+
+module _ {S I R : Type 0} (next : S → I → S) (answer : S → I → R) (row : ℕ) where
+  Ran-nothing : (w : WorldOf S I R) → Ran next answer w row [] [] w
+  Ran-nothing w = record { are = tt; ran = refl; accepted = λ a shows. (a, shows, refl) }
+
+  -- one command, and then these
+  Ran-then : (w w' last : WorldOf S I R) (command : Command I) (outcome : Outcome R) (commands : List (Command I)) (outcomes : List (Outcome R))
+      → TakesCommand next answer w row command outcome w' → Ran next answer w' row commands outcomes last → Ran next answer w row (command ∷ commands) (outcome ∷ outcomes) last
+  Ran-then w w' last command outcome commands outcomes takes rest =
+      let event : Option (Event I) = event_of command outcome in
+      record {
+        are = (takes.is, subst (λ x. AreOutcomes next answer x row commands outcomes) takes.left rest.are);
+        ran = rest.ran ∙ ap (λ x. counted_replay next answer x (events_of commands outcomes)) takes.left ∙ sym (replay-event next answer w event (events_of commands outcomes));
+        accepted = subst (Follows next answer w last) (
+            ap (λ x. option_map_or (acts_of next answer w) event [] ++ counted_history next answer x (events_of commands outcomes)) takes.left ∙ sym (history-event next answer w event (events_of commands outcomes)))
+            (Follows-append next answer w w' last (option_map_or (acts_of next answer w) event []) (counted_history next answer w' (events_of commands outcomes)) takes.accepted rest.accepted);
+      }
+
+  -- From where it began, the world has taken these commands with these outcomes, and whatever it takes from here on comes after them.
+  pub record Leads (first : WorldOf S I R) (commands : List (Command I)) (outcomes : List (Outcome R)) (w : WorldOf S I R) : Type 0 where
+    pub onward : (later : List (Command I)) (outcomes_later : List (Outcome R)) (last : WorldOf S I R) → Ran next answer w row later outcomes_later last
+        → Ran next answer first row (commands ++ later) (outcomes ++ outcomes_later) last
+
+  pub Leads-nothing : (w : WorldOf S I R) → Leads w [] [] w
+  Leads-nothing w = record { onward = λ later outcomes last ran. ran }
+
+  Leads-further : (first w w' : WorldOf S I R) (commands : List (Command I)) (outcomes : List (Outcome R)) (command : Command I) (outcome : Outcome R)
+      → Leads first commands outcomes w → TakesCommand next answer w row command outcome w' → Leads first (commands ++ command ∷ []) (outcomes ++ outcome ∷ []) w'
+  Leads-further first w w' commands outcomes command outcome leads takes = record {
+    onward = λ later outcomes_later last ran.
+        rw (append_assoc commands (command ∷ []) later, append_assoc outcomes (outcome ∷ []) outcomes_later)
+        (leads.onward (command ∷ later) (outcome ∷ outcomes_later) last (Ran-then w w' last command outcome later outcomes_later takes ran));
+  }
+
+  -- after the first commands of a list, the next one is taken
+  pub Leads-next : (first w w' : WorldOf S I R) (all : List (Command I)) (index : ℕ) (outcomes : List (Outcome R)) (command : Command I) (outcome : Outcome R) → index < length all → command ≡ get_or all index command
+      → Leads first (take index all) outcomes w → TakesCommand next answer w row command outcome w' → Leads first (take (index + 1) all) (outcomes ++ outcome ∷ []) w'
+  Leads-next first w w' all index outcomes command outcome within is leads takes =
+      let more : suc index ≡ index + 1 = omega arith in
+      let longer : take (suc index) all ≡ take index all ++ command ∷ [] = take-suc all index command within ∙ ap (λ c. take index all ++ c ∷ []) (sym is) in
+      subst (λ commands. Leads first commands (outcomes ++ outcome ∷ []) w') (sym longer ∙ ap (λ k. take k all) more) (Leads-further first w w' (take index all) outcomes command outcome leads takes)
+
+  -- and after the last, all have been
+  pub Ran-all : (first w : WorldOf S I R) (all : List (Command I)) (index : ℕ) (outcomes : List (Outcome R)) → index ≤ length all → length all ≤ index → Leads first (take index all) outcomes w → Ran next answer first row all outcomes w
+  Ran-all first w all index outcomes within past leads =
+      let same : index ≡ length all = omega arith in
+      let whole = leads.onward [] [] w (Ran-nothing w) in
+      rw (same, take-length all, append-nil all, append-nil outcomes) at whole

@@ -1,0 +1,37 @@
+use Rattle.std.proofs.Common.{◌≡◌, ◌∙◌, ◌+◌, length, length-append, refl, arith}
+use Rattle.uni_core.specs.Whole.{shown}
+use Rattle.uni_core.proofs.Runs.{Leads-nothing, Leads-next, Ran-all}
+use Rattle.uni_core.proofs.world.World.run.Goals as goal
+
+pub loop-command-init : goal.loop-command-init
+loop-command-init g c = record {
+  counted = rw c.in_ok-outcomes.ensures.items refl;
+  has_room = c.in_ok-outcomes.ensures.capacity;
+  fixed = record { object = refl; row = refl };
+  leads = rw c.in_ok-outcomes.ensures.items (Leads-nothing _ _ _ (shown c.args.self.now));
+}
+
+pub loop-command-preserved : goal.loop-command-preserved
+loop-command-preserved g c =
+    let takes = rw (c.loop-command.invariant.fixed.object, c.loop-command.invariant.fixed.row) at c.take-outcome.ensures.takes in
+    let longer : length c.push_reserved.new.self.items ≡ length c.loop-command.outcomes.items + 1 = rw c.push_reserved.ensures.items (length-append _ _) in
+    record {
+      counted = omega arith;
+      has_room = rw c.push_reserved.ensures.capacity c.loop-command.invariant.has_room;
+      fixed = record { object = c.take-outcome.ensures.fixed.object ∙ c.loop-command.invariant.fixed.object; row = c.take-outcome.ensures.fixed.row ∙ c.loop-command.invariant.fixed.row };
+      leads = rw c.push_reserved.ensures.items
+          (Leads-next _ _ _ (shown c.args.self.now) (shown c.loop-command.self) (shown c.take-outcome.new.self) c.args.commands.now c.loop-command.command-index c.loop-command.outcomes.items c.command-item.result c.take-outcome.result
+          c.loop-command-test.true c.command-item.is c.loop-command.invariant.leads takes);
+    }
+
+pub returns-clause-outcomes : goal.returns-clause-outcomes
+returns-clause-outcomes g c = (Ran-all _ _ _ (shown c.args.self.now) (shown c.loop-command.self) c.args.commands.now c.loop-command.command-index c.loop-command.outcomes.items
+    (omega arith) c.loop-command-test.false c.loop-command.invariant.leads).are
+
+pub returns-clause-ran : goal.returns-clause-ran
+returns-clause-ran g c = (Ran-all _ _ _ (shown c.args.self.now) (shown c.loop-command.self) c.args.commands.now c.loop-command.command-index c.loop-command.outcomes.items
+    (omega arith) c.loop-command-test.false c.loop-command.invariant.leads).ran
+
+pub returns-clause-accepted : goal.returns-clause-accepted
+returns-clause-accepted g c = (Ran-all _ _ _ (shown c.args.self.now) (shown c.loop-command.self) c.args.commands.now c.loop-command.command-index c.loop-command.outcomes.items
+    (omega arith) c.loop-command-test.false c.loop-command.invariant.leads).accepted

@@ -1,0 +1,12 @@
+use Rattle.std.proofs.Common.{◌≡◌, ◌≤◌, length, take, vec_capacity}
+use Rattle.uni_core.specs.Whole.{shown, KeepsFixed}
+use Rattle.uni_core.proofs.Runs.{Leads}
+use Rattle.uni_core.proofs.world.World.run.Given as goal
+
+abbrev pub invariant-loop-command : goal.invariant-loop-command
+invariant-loop-command g l = record {
+  counted : length l.outcomes.items ≡ l.command-index;
+  has_room : length l.commands ≤ vec_capacity l.outcomes;
+  fixed : KeepsFixed l.fn.self l.self;
+  leads : Leads (g.O.SeqObject.next l.fn.self.object) (g.O.SeqObject.answer l.fn.self.object) l.fn.self.row (shown l.fn.self) (take l.command-index l.commands) l.outcomes.items (shown l.self);
+}

@@ -1,0 +1,115 @@
+-- What commands to a world answer, which events they are, and the run of a list of them.
+use Rattle.std.specs.Prelude.{◌≡◌, ℕ, ◌<◌, ◌≤◌, List, [], ◌∷◌, ◌++◌, Option, Some, None, IsSome, refl}
+use Rattle.std.specs.Option.{option_map_or}
+use Rattle.uni_model.specs.Worlds.{WorldOf, Event, happened, opened}
+use Rattle.uni_model.specs.Worlds.{Event as event}
+use Rattle.uni_model.specs.AtomicObject.{Act}
+use Rattle.uni_model.specs.AtomicObject.Act.{Invoke}
+use Rattle.uni_model.specs.History.{acts_of}
+use Rattle.uni_core.specs.declared.command.Command.{Command}
+use Rattle.uni_core.specs.declared.command.Command.TheVariants.{Call, Step}
+use Rattle.uni_core.specs.declared.command.Refusal.{Refusal}
+use Rattle.uni_core.specs.declared.command.Refusal.TheVariants.{BadProcess, Busy, RowFull, Idle, Memory}
+use Rattle.uni_core.specs.declared.command.Outcome.{Outcome}
+use Rattle.uni_core.specs.declared.command.Outcome.TheVariants.{Called, Went, Returned, Refused}
+use Rattle.uni_core.specs.Whole.{current_of, counted_step, response_of_step, Follows, MayNeedMemory}
+
+-- a process can begin a call: it has none pending, and room in its row
+abbrev pub CanCall : {S I R : Type 0} → WorldOf S I R → (row p : ℕ) → Type 0
+CanCall w row p = (p < w.n) × (w.call p ≡ None) × (w.begun p < row)
+
+-- a process has a step to take
+abbrev pub CanGo : {S I R : Type 0} → WorldOf S I R → (p : ℕ) → Type 0
+CanGo w p = (p < w.n) × IsSome (w.call p)
+
+-- why a call is refused
+abbrev pub IsCallRefused : {S I R : Type 0} → WorldOf S I R → (row p : ℕ) → Refusal → Type 0
+IsCallRefused w row p BadProcess = w.n ≤ p
+IsCallRefused w row p (Busy q) = (q ≡ p) × (p < w.n) × IsSome (w.call p)
+IsCallRefused w row p (RowFull q) = (q ≡ p) × (p < w.n) × (w.call p ≡ None) × (w.begun p ≡ row)
+IsCallRefused w row p (Idle q) = ⊥
+IsCallRefused w row p Memory = CanCall w row p
+
+-- why a step is refused
+abbrev pub IsStepRefused : {S I R : Type 0} → WorldOf S I R → (p : ℕ) → Refusal → Type 0
+IsStepRefused w p BadProcess = w.n ≤ p
+IsStepRefused w p (Busy q) = ⊥
+IsStepRefused w p (RowFull q) = ⊥
+IsStepRefused w p (Idle q) = (q ≡ p) × (p < w.n) × (w.call p ≡ None)
+IsStepRefused w p Memory = CanGo w p × MayNeedMemory w p
+
+-- what a command answers in a world with rows of so many calls
+abbrev pub IsOutcome : {S I R : Type 0} → WorldOf S I R → (row : ℕ) → Command I → Outcome R → Type 0
+IsOutcome w row (Call p i) (Called id) = CanCall w row p × (id ≡ record { process = p; nth = w.begun p })
+IsOutcome w row (Call p i) (Refused why) = IsCallRefused w row p why
+IsOutcome w row (Call p i) _ = ⊥
+IsOutcome w row (Step p) Went = CanGo w p × (response_of_step w p ≡ None)
+IsOutcome w row (Step p) (Returned id r) = (p < w.n) × (current_of w p ≡ Some id) × (response_of_step w p ≡ Some r)
+IsOutcome w row (Step p) (Refused why) = IsStepRefused w p why
+IsOutcome w row (Step p) _ = ⊥
+
+-- the event that a command is, where it wasn't refused
+abbrev pub event_of : {I R : Type 0} → Command I → Outcome R → Option (Event I)
+event_of command (Refused why) = None
+event_of (Call p i) _ = Some (event.Call p i)
+event_of (Step p) _ = Some (event.Step p)
+
+-- the events of these commands with these outcomes, in order
+abbrev pub events_of : {I R : Type 0} → List (Command I) → List (Outcome R) → List (Event I)
+events_of [] outcomes = []
+events_of (command ∷ commands) [] = []
+events_of (command ∷ commands) (outcome ∷ outcomes) = option_map_or (λ e. e ∷ events_of commands outcomes) (event_of command outcome) (events_of commands outcomes)
+
+-- an event, where the counts of own steps and turns stay at the greatest u64 once they reach it
+abbrev pub counted : {S I R : Type 0} → (next : S → I → S) → (answer : S → I → R) → WorldOf S I R → Event I → WorldOf S I R
+counted next answer w (event.Call p i) = happened next answer w (event.Call p i)
+counted next answer w (event.Step p) = counted_step next answer w p
+counted next answer w event.Trim = happened next answer w event.Trim
+
+-- the events with such counts, the first of them first
+abbrev pub counted_replay : {S I R : Type 0} → (next : S → I → S) → (answer : S → I → R) → WorldOf S I R → List (Event I) → WorldOf S I R
+counted_replay next answer w [] = w
+counted_replay next answer w (e ∷ es) = counted_replay next answer (counted next answer w e) es
+
+-- the acts of these events
+abbrev pub counted_history : {S I R : Type 0} → (next : S → I → S) → (answer : S → I → R) → WorldOf S I R → List (Event I) → List (Act I R)
+counted_history next answer w [] = []
+counted_history next answer w (e ∷ es) = acts_of next answer w e ++ counted_history next answer (counted next answer w e) es
+
+-- the world after a command with this outcome
+abbrev pub after_command : {S I R : Type 0} → (next : S → I → S) → (answer : S → I → R) → WorldOf S I R → Command I → Outcome R → WorldOf S I R
+after_command next answer w command outcome = option_map_or (counted next answer w) (event_of command outcome) w
+
+-- one outcome for each command, at the world that the commands before it have left
+abbrev pub AreOutcomes : {S I R : Type 0} → (next : S → I → S) → (answer : S → I → R) → WorldOf S I R → (row : ℕ) → List (Command I) → List (Outcome R) → Type 0
+AreOutcomes next answer w row [] [] = Unit {0}
+AreOutcomes next answer w row [] (outcome ∷ outcomes) = ⊥
+AreOutcomes next answer w row (command ∷ commands) [] = ⊥
+AreOutcomes next answer w row (command ∷ commands) (outcome ∷ outcomes) =
+    IsOutcome w row command outcome
+    × AreOutcomes next answer (after_command next answer w command outcome) row commands outcomes
+
+-- a world takes a command with this outcome, and is w' then
+pub record TakesCommand {S I R : Type 0} (next : S → I → S) (answer : S → I → R) (w : WorldOf S I R) (row : ℕ) (command : Command I) (outcome : Outcome R) (w' : WorldOf S I R) : Type 0 where
+  pub is : IsOutcome w row command outcome
+  pub left : w' ≡ after_command next answer w command outcome
+  pub accepted : Follows next answer w w' (option_map_or (acts_of next answer w) (event_of command outcome) [])
+
+-- An object that keeps the last number, and answers the one before; two processes over 9. Process 0 calls; 1 is idle; 0 steps.
+abbrev sample : WorldOf ℕ ℕ ℕ
+sample = opened 2 9 1
+
+abbrev sample_commands : List (Command ℕ)
+sample_commands = Call 0 5 ∷ Step 1 ∷ Step 0 ∷ []
+
+abbrev sample_outcomes : List (Outcome ℕ)
+sample_outcomes = Called (record { process = 0; nth = 0 }) ∷ Refused (Idle 1) ∷ Went ∷ []
+
+sample_events : events_of sample_commands sample_outcomes ≡ event.Call 0 5 ∷ event.Step 0 ∷ []
+sample_events = refl
+
+sample_steps : (counted_replay (λ s i. i) (λ s i. s) sample (event.Call 0 5 ∷ event.Step 0 ∷ [])).steps 0 ≡ 1
+sample_steps = refl
+
+sample_acts : counted_history (λ s i. i) (λ s i. s) sample (event.Call 0 5 ∷ event.Step 0 ∷ []) ≡ Invoke 0 0 5 ∷ []
+sample_acts = refl

@@ -1,0 +1,82 @@
+//! The run of a list of commands.
+
+ghost use Rattle.std.specs.Prelude.{◌≡◌, IfOk, OnErr};
+ghost use Rattle.uni_core.specs.Whole.{shown, Follows, KeepsFixed};
+ghost use Rattle.uni_core.specs.Commands.{TakesCommand, AreOutcomes, events_of, counted_replay, counted_history};
+ghost use Rattle.uni_core.specs.declared.command.Command.TheVariants.{Call, Step};
+
+use crate::command::{Command, Outcome, Refusal};
+use crate::fault::{BeginFault, Progress};
+use crate::world::World;
+use seq_object::SeqObject;
+use std::alloc::{AllocError, Global};
+
+impl<O: SeqObject> World<O> {
+    /// Process `p` is asked to begin a call.
+    fn take_call(&mut self, alloc: Global, p: u64, inv: &O::Inv) -> Outcome<O::Resp>
+        ensures takes { TakesCommand (O.next self.old.object) (O.answer self.old.object) (shown self.old) self.old.row (Call p inv.now) result (shown self.new) }
+        ensures fixed { KeepsFixed self.old self.new }
+    {
+        self.shape();
+        match self.begin(alloc, p, inv) {
+            Ok(call) => Outcome::Called(call),
+            Err(BeginFault::BadProcess) => Outcome::Refused(Refusal::BadProcess),
+            Err(BeginFault::Busy(q)) => Outcome::Refused(Refusal::Busy(q)),
+            Err(BeginFault::RowFull(q)) => Outcome::Refused(Refusal::RowFull(q)),
+            Err(BeginFault::Memory) => Outcome::Refused(Refusal::Memory),
+        }
+    }
+
+    /// Process `p` is asked to take a step.
+    fn take_step(&mut self, alloc: Global, p: u64) -> Outcome<O::Resp>
+        ensures takes { TakesCommand (O.next self.old.object) (O.answer self.old.object) (shown self.old) self.old.row (Step p) result (shown self.new) }
+        ensures fixed { KeepsFixed self.old self.new }
+    {
+        if p >= self.processes() {
+            return Outcome::Refused(Refusal::BadProcess);
+        }
+        let Some(call) = self.current(p) else {
+            return Outcome::Refused(Refusal::Idle(p));
+        };
+        match self.step(alloc, p) {
+            Ok(Progress::Going) => Outcome::Went,
+            Ok(Progress::Done(response)) => Outcome::Returned(call, response),
+            Err(_) => Outcome::Refused(Refusal::Memory),
+        }
+    }
+
+    /// The world takes a command.
+    fn take(&mut self, alloc: Global, command: &Command<O::Inv>) -> Outcome<O::Resp>
+        ensures takes { TakesCommand (O.next self.old.object) (O.answer self.old.object) (shown self.old) self.old.row command.now result (shown self.new) }
+        ensures fixed { KeepsFixed self.old self.new }
+    {
+        match command {
+            Command::Call(p, inv) => self.take_call(alloc, *p, inv),
+            Command::Step(p) => self.take_step(alloc, *p),
+        }
+    }
+
+    /// The world takes these commands, one after the other, and answers what each did. A command
+    /// that is refused changes nothing and is passed over: the run goes on with the next one.
+    ///
+    /// An `Err` says that memory for the answer was refused; then nothing is done.
+    pub fn run(
+        &mut self,
+        alloc: Global,
+        commands: &[Command<O::Inv>],
+    ) -> Result<Vec<Outcome<O::Resp>>, AllocError>
+        ensures outcomes { IfOk result (λ outcomes. AreOutcomes (O.next self.old.object) (O.answer self.old.object) (shown self.old) self.old.row commands.now outcomes.items) }
+        ensures ran { IfOk result (λ outcomes. shown self.new ≡ counted_replay (O.next self.old.object) (O.answer self.old.object) (shown self.old) (events_of commands.now outcomes.items)) }
+        ensures accepted { IfOk result (λ outcomes. Follows (O.next self.old.object) (O.answer self.old.object) (shown self.old) (shown self.new)
+            (counted_history (O.next self.old.object) (O.answer self.old.object) (shown self.old) (events_of commands.now outcomes.items))) }
+        ensures fixed { KeepsFixed self.old self.new }
+        ensures unchanged { OnErr result (self.new ≡ self.old) }
+    {
+        let mut outcomes = Vec::with_capacity(alloc, commands.len())?;
+        for command in commands {
+            let outcome = self.take(alloc, command);
+            outcomes.push_reserved(outcome);
+        }
+        Ok(outcomes)
+    }
+}
