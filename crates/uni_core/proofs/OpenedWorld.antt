@@ -6,8 +6,10 @@ use Rattle.cell_arena.specs.Rows.{processes_of, made_of}
 use Rattle.uni_model.specs.Places.{Memory, seq_of}
 use Rattle.uni_model.specs.Places.Name.{Anchor}
 use Rattle.uni_model.specs.Worlds.{WorldOf, anchored, opened}
-use Rattle.uni_model.specs.Invariant.{Invariant}
-use Rattle.uni_model.proofs.Kept.{Invariant-opened}
+use Rattle.uni_model.specs.Helping.{HelpingInvariant}
+use Rattle.uni_model.specs.Bound.{CountsSteps}
+use Rattle.uni_model.proofs.Counted.{CountsSteps-opened}
+use Rattle.uni_model.proofs.Bounded.{HelpingInvariant-opened}
 use Rattle.uni_core.specs.declared.local.Local.{Local}
 use Rattle.uni_core.specs.NewLocal.{new_local}
 use Rattle.uni_core.specs.Shared.{Shared, memory_of}
@@ -50,7 +52,8 @@ module _ {O S I R : Type 0} (next : S → I → S) (answer : S → I → R) (obj
         begun = λ p below. ap (λ (w : WorldOf S I R). w.begun p) shown-first ∙ sym (made p);
         room = λ p. subst (λ j. j ≤ k) (sym (ap (λ (w : WorldOf S I R). w.begun p) shown-first)) (omega arith);
         numbers = subst (λ (m : Memory S I R). seq_of m Anchor + processes_of a.cells * k < 2 ^ 48) (sym memory) (subst (λ j. number + j * k < 2 ^ 48) (sym shape.0) fits);
-        sound = subst (λ w. Invariant next answer w) (sym shown-first) (Invariant-opened next answer n s number positive);
+        sound = subst (λ w. HelpingInvariant next answer w) (sym shown-first) (HelpingInvariant-opened next answer n s number positive);
+        counts = subst CountsSteps (sym shown-first) (CountsSteps-opened next answer n s number);
       }
 
 -- a number that is low enough leaves room for that many after it

@@ -7,9 +7,9 @@ use Rattle.std.specs.Option.{option_map_or}
 use Rattle.std.specs.Result.{IsErrOf}
 use Rattle.seq_object.specs.declared.call_id.CallId.{CallId}
 use Rattle.uni_model.specs.Stages.{Pending}
-use Rattle.uni_model.specs.Worlds.{WorldOf, Event}
+use Rattle.uni_model.specs.Worlds.{WorldOf, Event, happened, replayed}
 use Rattle.uni_model.specs.AtomicObject.{Atomic, Act, AcceptsAll}
-use Rattle.uni_model.specs.History.{Shows, acts_of}
+use Rattle.uni_model.specs.History.{Shows, acts_of, history_of}
 use Rattle.uni_core.specs.declared.command.Command.{Command}
 use Rattle.uni_core.specs.declared.command.Refusal.{Refusal}
 use Rattle.uni_core.specs.declared.command.Outcome.{Outcome}
@@ -20,7 +20,7 @@ use Rattle.uni_core.specs.declared.fault.StepFault.{StepFault}
 use Rattle.uni_core.specs.declared.fault.StepFault.TheVariants as step
 use Rattle.uni_core.specs.declared.fault.Progress.TheVariants.{Going, Done}
 use Rattle.uni_core.specs.Whole.{Whole, shown, current_of, progress_of, Follows, MayNeedMemory}
-use Rattle.uni_core.specs.Commands.{CanCall, IsOutcome, event_of, events_of, counted, counted_replay, counted_history, AreOutcomes, TakesCommand}
+use Rattle.uni_core.specs.Commands.{CanCall, IsOutcome, event_of, events_of, AreOutcomes, TakesCommand}
 
 -- a command that is refused leaves the world as it was
 pub TakesCommand-refused : {O S I R : Type 0} (next : S → I → S) (answer : S → I → R) (old new : Whole O S I R) (row : ℕ) (command : Command I) (why : Refusal) → new ≡ old
@@ -113,13 +113,13 @@ memory_needed w p e below there (inr (inr h)) process idle memory = memory (IsEr
 -- Lists of events and one event more.
 module _ {S I R : Type 0} (next : S → I → S) (answer : S → I → R) where
   replay-event : (w : WorldOf S I R) (o : Option (Event I)) (es : List (Event I))
-      → counted_replay next answer w (option_map_or (λ e. e ∷ es) o es) ≡ counted_replay next answer (option_map_or (counted next answer w) o w) es
+      → replayed next answer w (option_map_or (λ e. e ∷ es) o es) ≡ replayed next answer (option_map_or (happened next answer w) o w) es
   replay-event w None es = refl
   replay-event w (Some e) es = refl
 
   history-event : (w : WorldOf S I R) (o : Option (Event I)) (es : List (Event I))
-      → counted_history next answer w (option_map_or (λ e. e ∷ es) o es)
-      ≡ option_map_or (acts_of next answer w) o [] ++ counted_history next answer (option_map_or (counted next answer w) o w) es
+      → history_of next answer w (option_map_or (λ e. e ∷ es) o es)
+      ≡ option_map_or (acts_of next answer w) o [] ++ history_of next answer (option_map_or (happened next answer w) o w) es
   history-event w None es = refl
   history-event w (Some e) es = refl
 
@@ -136,8 +136,8 @@ module _ {S I R : Type 0} (next : S → I → S) (answer : S → I → R) where
 -- A world has taken these commands with these outcomes, and is w then.
 pub record Ran {S I R : Type 0} (next : S → I → S) (answer : S → I → R) (first : WorldOf S I R) (row : ℕ) (commands : List (Command I)) (outcomes : List (Outcome R)) (w : WorldOf S I R) : Type 0 where
   pub are : AreOutcomes next answer first row commands outcomes
-  pub ran : w ≡ counted_replay next answer first (events_of commands outcomes)
-  pub accepted : Follows next answer first w (counted_history next answer first (events_of commands outcomes))
+  pub ran : w ≡ replayed next answer first (events_of commands outcomes)
+  pub accepted : Follows next answer first w (history_of next answer first (events_of commands outcomes))
 
 module _ {S I R : Type 0} (next : S → I → S) (answer : S → I → R) (row : ℕ) where
   Ran-nothing : (w : WorldOf S I R) → Ran next answer w row [] [] w
@@ -150,10 +150,10 @@ module _ {S I R : Type 0} (next : S → I → S) (answer : S → I → R) (row :
       let event : Option (Event I) = event_of command outcome in
       record {
         are = (takes.is, subst (λ x. AreOutcomes next answer x row commands outcomes) takes.left rest.are);
-        ran = rest.ran ∙ ap (λ x. counted_replay next answer x (events_of commands outcomes)) takes.left ∙ sym (replay-event next answer w event (events_of commands outcomes));
+        ran = rest.ran ∙ ap (λ x. replayed next answer x (events_of commands outcomes)) takes.left ∙ sym (replay-event next answer w event (events_of commands outcomes));
         accepted = subst (Follows next answer w last) (
-            ap (λ x. option_map_or (acts_of next answer w) event [] ++ counted_history next answer x (events_of commands outcomes)) takes.left ∙ sym (history-event next answer w event (events_of commands outcomes)))
-            (Follows-append next answer w w' last (option_map_or (acts_of next answer w) event []) (counted_history next answer w' (events_of commands outcomes)) takes.accepted rest.accepted);
+            ap (λ x. option_map_or (acts_of next answer w) event [] ++ history_of next answer x (events_of commands outcomes)) takes.left ∙ sym (history-event next answer w event (events_of commands outcomes)))
+            (Follows-append next answer w w' last (option_map_or (acts_of next answer w) event []) (history_of next answer w' (events_of commands outcomes)) takes.accepted rest.accepted);
       }
 
   -- From where it began, the world has taken these commands with these outcomes, and whatever it takes from here on comes after them.

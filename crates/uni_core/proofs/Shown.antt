@@ -11,20 +11,23 @@ use Rattle.uni_model.specs.Places.Place.{InvOf}
 use Rattle.uni_model.specs.Places.Content.{Invocation}
 use Rattle.uni_model.specs.Stages.{Stage as at, Pending as PendingAt}
 use Rattle.uni_model.specs.Transition.{place_of, turn_of}
-use Rattle.uni_model.specs.Worlds.{WorldOf, call_begun, stepped, call_after}
+use Rattle.uni_model.specs.Worlds.{WorldOf, call_begun, stepped, call_after, happened, IsAccepted}
+use Rattle.uni_model.specs.Worlds.Event.{Call, Step}
 use Rattle.uni_model.specs.Settled.{Grows}
 use Rattle.uni_model.specs.Invariant.{Invariant}
+use Rattle.uni_model.specs.Helping.{HelpingInvariant}
+use Rattle.uni_model.specs.Bound.{CountsSteps}
 use Rattle.uni_model.proofs.Written.{number_cases}
-use Rattle.uni_model.proofs.Simulation.{set_at_same}
-use Rattle.uni_model.proofs.Kept.{Invariant-begun, Invariant-stepped}
+use Rattle.uni_model.proofs.Kept.{Invariant-stepped}
+use Rattle.uni_model.proofs.Counted.{CountsSteps-happened}
+use Rattle.uni_model.proofs.Bounded.{HelpingInvariant-happened}
 use Rattle.uni_core.specs.declared.local.Local.{Local}
 use Rattle.uni_core.specs.declared.stage.Stage.{Stage}
 use Rattle.uni_core.specs.declared.stage.Stage.TheVariants as stages
 use Rattle.uni_core.specs.declared.stage.Pending.{Pending}
 use Rattle.uni_core.specs.Shared.{Shared, name_of, memory_of}
 use Rattle.uni_core.specs.Standing.{stage_of, pending_of, Takes}
-use Rattle.uni_core.specs.Whole.{Whole, call_at, shown_at, shown, IsWorld, counted_step}
-use Rattle.uni_core.specs.Counts.{capped}
+use Rattle.uni_core.specs.Whole.{Whole, call_at, shown_at, shown, IsWorld}
 
 -- what is read of a process's own data, after that of one process changed
 pub read-slice_set : {A : Type 0} (g : Option Local → A) (locals : List Local) (p : ℕ) (l : Local) → p < length locals
@@ -63,31 +66,6 @@ pub set_at-same : {A : Type 0} (f : ℕ → A) (p : ℕ) (v : A) → f p ≡ v �
 set_at-same f p v e = λ i q. at_number q i where
   at_number : (q : ℕ) → set_at f p v q ≡ f q
   at_number q = elim (number_cases q p) [ inl h ↦ rw h.1 (sym (ap f h.0 ∙ e)) | inr h ↦ rw h.1 refl ]
-
--- counts play no part in the invariant
-pub Invariant-counts : {S I R : Type 0} (next : S → I → S) (answer : S → I → R) (w : WorldOf S I R) (steps turns : ℕ → ℕ) → Invariant next answer w
-    → Invariant next answer (record { n = w.n; memory = w.memory; call = w.call; begun = w.begun; steps = steps; turns = turns })
-Invariant-counts next answer w steps turns inv = (
-  inv.0,
-  inv.1,
-  record {
-    numbered = inv.2.numbered;
-    values = inv.2.values;
-    back = inv.2.back;
-    calls = record {
-      anchor = inv.2.calls.anchor;
-      linked = inv.2.calls.linked;
-      begun = inv.2.calls.begun;
-      process = inv.2.calls.process;
-      mine = inv.2.calls.mine;
-      threaded = inv.2.calls.threaded;
-      announced = inv.2.calls.announced;
-      head = inv.2.calls.head;
-    };
-    stands = inv.2.stands;
-    count = inv.2.count;
-  },
-)
 
 module _ {O S I R : Type 0} (next : S → I → S) (answer : S → I → R) (v : Whole O S I R) (is : IsWorld next answer v) (p : ℕ) (l : Local) (here : slice_get v.locals p ≡ Some l) (below : p < processes_of v.shared.cells) where
   long : p < length v.locals
@@ -147,13 +125,14 @@ module _ {O S I R : Type 0} (next : S → I → S) (answer : S → I → R) (v :
         | inr h ↦ rw h.1 (is.room q)
       ]);
       numbers = subst (λ k. seq_of (memory_of a') Anchor + k * v.row < 2 ^ 48) (sym count) (subst (λ (m : Memory S I R). seq_of m Anchor + processes_of v.shared.cells * v.row < 2 ^ 48) (sym wrote) is.numbers);
-      sound = subst (λ w. Invariant next answer w) (sym shown-begun) (Invariant-begun next answer (shown v) p i below idle_is is.sound).0;
+      sound = subst (λ w. HelpingInvariant next answer w) (sym shown-begun) (HelpingInvariant-happened next answer (shown v) (Call p i) (below, idle_is) is.counts is.sound);
+      counts = subst CountsSteps (sym shown-begun) (CountsSteps-happened next answer (shown v) (Call p i) (below, idle_is) (is.sound.0, is.sound.1, is.sound.2) is.counts);
     }
 
   module _ (a' : Shared S I R) (call : Pending) (pending : l.call ≡ Some call) (to : Option Stage)
       (takes : Takes next answer p (name_of (processes_of v.shared.cells) call.mine) (stage_of (processes_of v.shared.cells) call.stage) v.shared a' (option_map (stage_of (processes_of v.shared.cells)) to))
-      (steps turns : ℕ) (steps_is : steps ≡ capped (l.steps + 1))
-      (turns_is : turns ≡ capped (l.turns + turn_of (stage_of (processes_of v.shared.cells) call.stage) (memory_of v.shared (place_of (processes_of v.shared.cells) p (name_of (processes_of v.shared.cells) call.mine) (stage_of (processes_of v.shared.cells) call.stage))))) where
+      (steps turns : ℕ) (steps_is : steps ≡ l.steps + 1)
+      (turns_is : turns ≡ l.turns + turn_of (stage_of (processes_of v.shared.cells) call.stage) (memory_of v.shared (place_of (processes_of v.shared.cells) p (name_of (processes_of v.shared.cells) call.mine) (stage_of (processes_of v.shared.cells) call.stage)))) where
     abbrev pub stepped_local : Local
     stepped_local = record { call = option_map (λ s. record { mine = call.mine; stage = s }) to; begun = l.begun; steps = steps; turns = turns }
 
@@ -168,32 +147,23 @@ module _ {O S I R : Type 0} (next : S → I → S) (answer : S → I → R) (v :
     call_later None = refl
     call_later (Some s) = refl
 
-    -- the step of a process whose call is this, with counts that may have stopped
-    abbrev pub counted_with : Option PendingAt → WorldOf S I R
-    counted_with o =
-        let later = stepped next answer (shown v) p o in
-        record {
-          n = later.n;
-          memory = later.memory;
-          call = later.call;
-          begun = later.begun;
-          steps = set_at (shown v).steps p (capped (later.steps p));
-          turns = set_at (shown v).turns p (capped (later.turns p));
-        }
+    -- the step of a process whose call is this
+    abbrev pub step_of : Option PendingAt → WorldOf S I R
+    step_of o = stepped next answer (shown v) p o
 
-    stepped_call : set_at (shown v).call p (call_at (processes_of v.shared.cells) (Some stepped_local)) ≡ (counted_with (Some (pending_of (processes_of v.shared.cells) call))).call
+    stepped_call : set_at (shown v).call p (call_at (processes_of v.shared.cells) (Some stepped_local)) ≡ (step_of (Some (pending_of (processes_of v.shared.cells) call))).call
     stepped_call = ap (λ o. set_at (shown v).call p o) (call_later to ∙ ap (call_after (name_of (processes_of v.shared.cells) call.mine)) takes.stage)
 
     stepped_begun : set_at (shown v).begun p l.begun ≡ (shown v).begun
     stepped_begun = set_at-same (shown v).begun p l.begun (rw here refl)
 
-    stepped_steps : set_at (shown v).steps p steps ≡ (counted_with (Some (pending_of (processes_of v.shared.cells) call))).steps
-    stepped_steps = ap (λ k. set_at (shown v).steps p k) (steps_is ∙ ap capped (later_steps ∙ sym (set_at_same (shown v).steps p ((shown v).steps p + 1)))) where
+    stepped_steps : set_at (shown v).steps p steps ≡ (step_of (Some (pending_of (processes_of v.shared.cells) call))).steps
+    stepped_steps = ap (λ k. set_at (shown v).steps p k) (steps_is ∙ later_steps) where
       later_steps : l.steps + 1 ≡ (shown v).steps p + 1
       later_steps = rw here refl
 
-    stepped_turns : set_at (shown v).turns p turns ≡ (counted_with (Some (pending_of (processes_of v.shared.cells) call))).turns
-    stepped_turns = ap (λ k. set_at (shown v).turns p k) (turns_is ∙ ap capped (ap (λ k. k + turned) now_turns ∙ sym (set_at_same (shown v).turns p ((shown v).turns p + turned)))) where
+    stepped_turns : set_at (shown v).turns p turns ≡ (step_of (Some (pending_of (processes_of v.shared.cells) call))).turns
+    stepped_turns = ap (λ k. set_at (shown v).turns p k) (turns_is ∙ ap (λ k. k + turned) now_turns) where
       turned : ℕ
       turned = turn_of (stage_of (processes_of v.shared.cells) call.stage) (memory_of v.shared (place_of (processes_of v.shared.cells) p (name_of (processes_of v.shared.cells) call.mine) (stage_of (processes_of v.shared.cells) call.stage)))
 
@@ -201,22 +171,22 @@ module _ {O S I R : Type 0} (next : S → I → S) (answer : S → I → R) (v :
       now_turns = rw here refl
 
     -- the world after the step
-    pub shown-stepped : shown stepped_whole ≡ counted_step next answer (shown v) p
+    pub shown-stepped : shown stepped_whole ≡ happened next answer (shown v) (Step p)
     shown-stepped =
         ap (λ k. shown_at k (memory_of a') (slice_set v.locals p stepped_local)) takes.shape.processes
         ∙ ap (λ m. shown_at (processes_of v.shared.cells) m (slice_set v.locals p stepped_local)) takes.memory
         ∙ shown_at-slice_set (processes_of v.shared.cells) _ v.locals p stepped_local long
         ∙ (λ i. record {
           n = processes_of v.shared.cells;
-          memory = (counted_with (Some (pending_of (processes_of v.shared.cells) call))).memory;
+          memory = (step_of (Some (pending_of (processes_of v.shared.cells) call))).memory;
           call = stepped_call i;
           begun = stepped_begun i;
           steps = stepped_steps i;
           turns = stepped_turns i;
         })
-        ∙ ap counted_with (sym pending_is)
+        ∙ ap step_of (sym pending_is)
 
-    begun_kept : (o : Option PendingAt) (q : ℕ) → (counted_with o).begun q ≡ (shown v).begun q
+    begun_kept : (o : Option PendingAt) (q : ℕ) → (step_of o).begun q ≡ (shown v).begun q
     begun_kept None q = refl
     begun_kept (Some c) q = refl
 
@@ -225,7 +195,10 @@ module _ {O S I R : Type 0} (next : S → I → S) (answer : S → I → R) (v :
 
     kept : Invariant next answer (stepped next answer (shown v) p (Some (pending_of (processes_of v.shared.cells) call)))
         × Grows (memory_of v.shared) (stepped next answer (shown v) p (Some (pending_of (processes_of v.shared.cells) call))).memory
-    kept = Invariant-stepped next answer (shown v) p (pending_of (processes_of v.shared.cells) call) pending_is is.sound
+    kept = Invariant-stepped next answer (shown v) p (pending_of (processes_of v.shared.cells) call) pending_is (is.sound.0, is.sound.1, is.sound.2)
+
+    accepted : IsAccepted (shown v) (Step p)
+    accepted = rw pending_is refl
 
     anchor_stays : seq_of (memory_of a') Anchor ≡ seq_of (memory_of v.shared) Anchor
     anchor_stays =
@@ -241,6 +214,6 @@ module _ {O S I R : Type 0} (next : S → I → S) (answer : S → I → R) (v :
       room = λ q. subst (λ k. k ≤ v.row) (sym (begun_stays q)) (is.room q);
       numbers = subst (λ k. seq_of (memory_of a') Anchor + k * v.row < 2 ^ 48) (sym takes.shape.processes)
           (subst (λ k. k + processes_of v.shared.cells * v.row < 2 ^ 48) (sym anchor_stays) is.numbers);
-      sound = subst (λ w. Invariant next answer w) (sym shown-stepped)
-          (subst (λ o. Invariant next answer (counted_with o)) (sym pending_is) (Invariant-counts next answer (stepped next answer (shown v) p (Some (pending_of (processes_of v.shared.cells) call))) _ _ kept.0));
+      sound = subst (λ w. HelpingInvariant next answer w) (sym shown-stepped) (HelpingInvariant-happened next answer (shown v) (Step p) accepted is.counts is.sound);
+      counts = subst CountsSteps (sym shown-stepped) (CountsSteps-happened next answer (shown v) (Step p) accepted (is.sound.0, is.sound.1, is.sound.2) is.counts);
     }

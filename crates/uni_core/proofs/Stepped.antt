@@ -1,23 +1,23 @@
 -- What a step leaves.
-use Rattle.std.proofs.Common.{◌≡◌, ◌∙◌, ℕ, ◌+◌, ◌<◌, ◌≤◌, refl, sym, ap, subst, Option, Some, None, option_map, is_some, IsSome, arith, Bool, true, false, slice_get, slice_set, get_or, Result, Ok, Err, OnErr}
+use Rattle.std.proofs.Common.{◌≡◌, ◌∙◌, ℕ, ◌+◌, ◌*◌, ◌^◌, ◌<◌, ◌≤◌, refl, sym, ap, subst, Option, Some, None, option_map, is_some, IsSome, arith, Bool, true, false, slice_get, slice_set, get_or, Result, Ok, Err, OnErr}
 use Rattle.cell_arena.specs.Rows.{processes_of, cell_of}
 use Rattle.uni_model.specs.Places.{Memory}
 use Rattle.uni_model.specs.Stages.{Stage as at, Pending as PendingAt}
 use Rattle.uni_model.specs.Transition.{place_of, turn_of}
 use Rattle.uni_model.specs.Chain.{response_in}
-use Rattle.uni_model.specs.Worlds.{WorldOf, happened}
+use Rattle.uni_model.specs.Worlds.{happened}
 use Rattle.uni_model.specs.Worlds.Event.{Step}
-use Rattle.uni_model.specs.AtomicObject.{Atomic}
+use Rattle.uni_model.specs.Bound.{IsBounded, IsWithinBound}
 use Rattle.uni_model.specs.History.{Shows, acts_of}
 use Rattle.uni_model.proofs.Simulation.{step_accepted}
+use Rattle.uni_model.proofs.Bounded.{IsBounded-held}
 use Rattle.uni_core.specs.declared.local.Local.{Local}
 use Rattle.uni_core.specs.declared.stage.Stage.{Stage}
 use Rattle.uni_core.specs.declared.stage.Stage.TheVariants.{Announce, ScanHead, ScanSeq, WriteScan, Test, ReadAnnounce, ReadHelpSeq, DecideAfter, DecideNew, WriteBefore, WriteSeq, WriteHead, Finish}
 use Rattle.uni_core.specs.declared.stage.Pending.{Pending}
 use Rattle.uni_core.specs.Shared.{Shared, name_of, memory_of}
 use Rattle.uni_core.specs.Standing.{stage_of, pending_of, Takes, CanStep, MayBeRefused, turns_to}
-use Rattle.uni_core.specs.Counts.{capped}
-use Rattle.uni_core.specs.Whole.{Whole, shown, IsWorld, Follows, counted_step, MayNeedMemory, MayNeedMemoryAt, response_of_step}
+use Rattle.uni_core.specs.Whole.{Whole, shown, IsWorld, Follows, MayNeedMemory, MayNeedMemoryAt, response_of_step}
 use Rattle.uni_core.proofs.Begin.{inside_count, local_here}
 use Rattle.uni_core.proofs.Shown.{stepped_whole, stepped_local, shown-stepped, IsWorld-stepped}
 use Rattle.uni_core.proofs.Steppable.{CanStep-pending, turns_to-effect, response-finish, there_response, goes_on, ends_at}
@@ -54,6 +54,26 @@ module _ {O S I R : Type 0} (next : S → I → S) (answer : S → I → R) (v n
   pub can_step : CanStep v.shared call.mine call.stage
   can_step = CanStep-pending next answer v is p inside call.mine call.stage pend
 
+  bounded : ((shown v).turns p ≤ processes_of v.shared.cells + 1) × ((shown v).steps p < 10 * processes_of v.shared.cells + 12)
+  bounded =
+      let all : IsBounded (shown v) = IsBounded-held next answer (shown v) is.counts is.sound in
+      let own : IsWithinBound (processes_of v.shared.cells) ((shown v).call p) ((shown v).begun p) ((shown v).steps p) ((shown v).turns p) = all p in
+      rw pend at own
+
+  pub steps_fit : l.steps < 2 ^ 32
+  steps_fit =
+      let few : processes_of v.shared.cells ≤ 16 = is.few in
+      let steps : (shown v).steps p ≡ l.steps = rw here refl in
+      let bound : (shown v).steps p < 10 * processes_of v.shared.cells + 12 = bounded.1 in
+      omega arith
+
+  pub turns_fit : l.turns < 2 ^ 32
+  turns_fit =
+      let few : processes_of v.shared.cells ≤ 16 = is.few in
+      let turns : (shown v).turns p ≡ l.turns = rw here refl in
+      let bound : (shown v).turns p ≤ processes_of v.shared.cells + 1 = bounded.0 in
+      omega arith
+
   pub not_idle : (shown now).call p ≡ None → ⊥
   not_idle e = let f = subst (λ (x : Whole O S I R). (shown x).call p ≡ Some at_v) view pend in cc
 
@@ -63,9 +83,9 @@ module _ {O S I R : Type 0} (next : S → I → S) (answer : S → I → R) (v n
   module _ (a' : Shared S I R) (to : Option Stage)
       (takes : Takes next answer p (name_of (processes_of v.shared.cells) call.mine) (stage_of (processes_of v.shared.cells) call.stage) v.shared a' (option_map (stage_of (processes_of v.shared.cells)) to))
       (after : Local) (call_is : after.call ≡ option_map (λ s. record { mine = call.mine; stage = s }) to) (begun_is : after.begun ≡ l.begun)
-      (steps_is : after.steps ≡ capped (l.steps + 1)) (turns_is : after.turns ≡ capped (l.turns + turns_to to)) where
-    turns_counted : after.turns ≡ capped (l.turns + turn_of (stage_of (processes_of v.shared.cells) call.stage) (memory_of v.shared (place_of (processes_of v.shared.cells) p (name_of (processes_of v.shared.cells) call.mine) (stage_of (processes_of v.shared.cells) call.stage))))
-    turns_counted = turns_is ∙ ap (λ t. capped (l.turns + t)) (turns_to-effect next answer v.shared p (name_of (processes_of v.shared.cells) call.mine) (stage_of (processes_of v.shared.cells) call.stage) to takes.stage)
+      (steps_is : after.steps ≡ l.steps + 1) (turns_is : after.turns ≡ l.turns + turns_to to) where
+    turns_counted : after.turns ≡ l.turns + turn_of (stage_of (processes_of v.shared.cells) call.stage) (memory_of v.shared (place_of (processes_of v.shared.cells) p (name_of (processes_of v.shared.cells) call.mine) (stage_of (processes_of v.shared.cells) call.stage)))
+    turns_counted = turns_is ∙ ap (λ t. l.turns + t) (turns_to-effect next answer v.shared p (name_of (processes_of v.shared.cells) call.mine) (stage_of (processes_of v.shared.cells) call.stage) to takes.stage)
 
     abbrev pub left : Whole O S I R
     left = record { object = v.object; row = v.row; shared = a'; locals = slice_set v.locals p after }
@@ -79,30 +99,29 @@ module _ {O S I R : Type 0} (next : S → I → S) (answer : S → I → R) (v n
     pub IsWorld-left : IsWorld next answer left
     IsWorld-left = subst (λ w. IsWorld next answer w) same_whole (IsWorld-stepped next answer v is p l here inside a' call pending to takes after.steps after.turns steps_is turns_counted)
 
-    pub shown-left : shown left ≡ counted_step next answer (shown now) p
-    shown-left = sym (ap shown same_whole) ∙ shown-stepped next answer v is p l here inside a' call pending to takes after.steps after.turns steps_is turns_counted
-        ∙ ap (λ (x : Whole O S I R). counted_step next answer (shown x) p) view
+    pub IsBounded-left : IsBounded (shown left)
+    IsBounded-left = let world = IsWorld-left in IsBounded-held next answer (shown left) world.counts world.sound
 
-    -- counts play no part in what is shown
-    Shows-counted : (w : WorldOf S I R) (b : Atomic S I) → Shows (happened next answer w (Step p)) b → Shows (counted_step next answer w p) b
-    Shows-counted w b h = record { start = h.start; agreed = h.agreed; open_call = h.open_call; next_nth = h.next_nth }
+    pub shown-left : shown left ≡ happened next answer (shown now) (Step p)
+    shown-left = sym (ap shown same_whole) ∙ shown-stepped next answer v is p l here inside a' call pending to takes after.steps after.turns steps_is turns_counted
+        ∙ ap (λ (x : Whole O S I R). happened next answer (shown x) (Step p)) view
 
     pub Follows-left : Follows next answer (shown now) (shown left) (acts_of next answer (shown now) (Step p))
     Follows-left a shows =
         let sound = subst (λ (x : Whole O S I R). IsWorld next answer x) view is in
         let pend_now : (shown now).call p ≡ Some at_v = subst (λ (x : Whole O S I R). (shown x).call p ≡ Some at_v) view pend in
         let accepted = step_accepted next answer (shown now) sound.sound.0 sound.sound.1 sound.sound.2 p at_v.mine a shows at_v.stage pend_now in
-        (accepted.0, subst (λ w. Shows w accepted.0) (sym shown-left) (Shows-counted (shown now) accepted.0 accepted.1), accepted.2)
+        (accepted.0, subst (λ w. Shows w accepted.0) (sym shown-left) accepted.1, accepted.2)
 
     -- the same for the functions of the object, as a contract has them
     module _ (o : O) (nexts : O → S → I → S) (answers : O → S → I → R) (next_is : next ≡ nexts v.object) (answer_is : answer ≡ answers v.object) where
       abbrev pub left_with : Whole O S I R
       left_with = record { object = o; row = v.row; shared = a'; locals = slice_set v.locals p after }
 
-      pub shown-left_with : shown left_with ≡ counted_step (nexts now.object) (answers now.object) (shown now) p
-      shown-left_with = shown-left ∙ ap (λ f. counted_step f answer (shown now) p) next_is
-          ∙ ap (λ f. counted_step (nexts v.object) f (shown now) p) answer_is
-          ∙ ap (λ (x : Whole O S I R). counted_step (nexts x.object) (answers x.object) (shown now) p) view
+      pub shown-left_with : shown left_with ≡ happened (nexts now.object) (answers now.object) (shown now) (Step p)
+      shown-left_with = shown-left ∙ ap (λ f. happened f answer (shown now) (Step p)) next_is
+          ∙ ap (λ f. happened (nexts v.object) f (shown now) (Step p)) answer_is
+          ∙ ap (λ (x : Whole O S I R). happened (nexts x.object) (answers x.object) (shown now) (Step p)) view
 
       pub Follows-left_with : Follows (nexts now.object) (answers now.object) (shown now) (shown left_with) (acts_of (nexts now.object) (answers now.object) (shown now) (Step p))
       Follows-left_with =

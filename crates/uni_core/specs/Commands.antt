@@ -1,18 +1,17 @@
 -- What commands to a world answer, which events they are, and the run of a list of them.
-use Rattle.std.specs.Prelude.{◌≡◌, ℕ, ◌<◌, ◌≤◌, List, [], ◌∷◌, ◌++◌, Option, Some, None, IsSome, refl}
+use Rattle.std.specs.Prelude.{◌≡◌, ℕ, ◌<◌, ◌≤◌, List, [], ◌∷◌, Option, Some, None, IsSome, refl}
 use Rattle.std.specs.Option.{option_map_or}
-use Rattle.uni_model.specs.Worlds.{WorldOf, Event, happened, opened}
+use Rattle.uni_model.specs.Worlds.{WorldOf, Event, happened, replayed, opened}
 use Rattle.uni_model.specs.Worlds.{Event as event}
-use Rattle.uni_model.specs.AtomicObject.{Act}
 use Rattle.uni_model.specs.AtomicObject.Act.{Invoke}
-use Rattle.uni_model.specs.History.{acts_of}
+use Rattle.uni_model.specs.History.{acts_of, history_of}
 use Rattle.uni_core.specs.declared.command.Command.{Command}
 use Rattle.uni_core.specs.declared.command.Command.TheVariants.{Call, Step}
 use Rattle.uni_core.specs.declared.command.Refusal.{Refusal}
 use Rattle.uni_core.specs.declared.command.Refusal.TheVariants.{BadProcess, Busy, RowFull, Idle, Memory}
 use Rattle.uni_core.specs.declared.command.Outcome.{Outcome}
 use Rattle.uni_core.specs.declared.command.Outcome.TheVariants.{Called, Went, Returned, Refused}
-use Rattle.uni_core.specs.Whole.{current_of, counted_step, response_of_step, Follows, MayNeedMemory}
+use Rattle.uni_core.specs.Whole.{current_of, response_of_step, Follows, MayNeedMemory}
 
 -- a process can begin a call: it has none pending, and room in its row
 abbrev pub CanCall : {S I R : Type 0} → WorldOf S I R → (row p : ℕ) → Type 0
@@ -60,25 +59,9 @@ events_of [] outcomes = []
 events_of (command ∷ commands) [] = []
 events_of (command ∷ commands) (outcome ∷ outcomes) = option_map_or (λ e. e ∷ events_of commands outcomes) (event_of command outcome) (events_of commands outcomes)
 
--- an event, where the counts of own steps and turns stay at the greatest u64 once they reach it
-abbrev pub counted : {S I R : Type 0} → (next : S → I → S) → (answer : S → I → R) → WorldOf S I R → Event I → WorldOf S I R
-counted next answer w (event.Call p i) = happened next answer w (event.Call p i)
-counted next answer w (event.Step p) = counted_step next answer w p
-counted next answer w event.Trim = happened next answer w event.Trim
-
--- the events with such counts, the first of them first
-abbrev pub counted_replay : {S I R : Type 0} → (next : S → I → S) → (answer : S → I → R) → WorldOf S I R → List (Event I) → WorldOf S I R
-counted_replay next answer w [] = w
-counted_replay next answer w (e ∷ es) = counted_replay next answer (counted next answer w e) es
-
--- the acts of these events
-abbrev pub counted_history : {S I R : Type 0} → (next : S → I → S) → (answer : S → I → R) → WorldOf S I R → List (Event I) → List (Act I R)
-counted_history next answer w [] = []
-counted_history next answer w (e ∷ es) = acts_of next answer w e ++ counted_history next answer (counted next answer w e) es
-
 -- the world after a command with this outcome
 abbrev pub after_command : {S I R : Type 0} → (next : S → I → S) → (answer : S → I → R) → WorldOf S I R → Command I → Outcome R → WorldOf S I R
-after_command next answer w command outcome = option_map_or (counted next answer w) (event_of command outcome) w
+after_command next answer w command outcome = option_map_or (happened next answer w) (event_of command outcome) w
 
 -- one outcome for each command, at the world that the commands before it have left
 abbrev pub AreOutcomes : {S I R : Type 0} → (next : S → I → S) → (answer : S → I → R) → WorldOf S I R → (row : ℕ) → List (Command I) → List (Outcome R) → Type 0
@@ -108,8 +91,8 @@ sample_outcomes = Called (record { process = 0; nth = 0 }) ∷ Refused (Idle 1) 
 sample_events : events_of sample_commands sample_outcomes ≡ event.Call 0 5 ∷ event.Step 0 ∷ []
 sample_events = refl
 
-sample_steps : (counted_replay (λ s i. i) (λ s i. s) sample (event.Call 0 5 ∷ event.Step 0 ∷ [])).steps 0 ≡ 1
+sample_steps : (replayed (λ s i. i) (λ s i. s) sample (event.Call 0 5 ∷ event.Step 0 ∷ [])).steps 0 ≡ 1
 sample_steps = refl
 
-sample_acts : counted_history (λ s i. i) (λ s i. s) sample (event.Call 0 5 ∷ event.Step 0 ∷ []) ≡ Invoke 0 0 5 ∷ []
+sample_acts : history_of (λ s i. i) (λ s i. s) sample (event.Call 0 5 ∷ event.Step 0 ∷ []) ≡ Invoke 0 0 5 ∷ []
 sample_acts = refl

@@ -1,6 +1,5 @@
 pub mod Shared
 pub mod Standing
-pub mod Counts
 pub mod NewLocal
 pub mod Whole
 pub mod Readers
@@ -14,3 +13,5 @@ pub use Rattle.uni_model.specs.AtomicObject
 pub use Rattle.uni_model.specs.History
 pub use Rattle.uni_model.specs.Frontier
 pub use Rattle.uni_model.specs.Invariant
+pub use Rattle.uni_model.specs.Helping
+pub use Rattle.uni_model.specs.Bound

@@ -2,20 +2,19 @@
 use Rattle.std.specs.Prelude.{◌≡◌, ℕ, ◌+◌, ◌-◌, ◌*◌, ◌<◌, ◌≤◌, ◌^◌, List, Option, Some, None, option_map, option_and_then, slice_get, length, IfSome}
 use Rattle.std.specs.Option.{option_map_or}
 use Rattle.cell_arena.specs.Rows.{processes_of, made_of}
-use Rattle.uni_model.specs.Places.{Memory, set_at, seq_of, new_of}
+use Rattle.uni_model.specs.Places.{Memory, seq_of, new_of}
 use Rattle.uni_model.specs.Places.Name.{Anchor}
 use Rattle.uni_model.specs.Stages.{Stage as at, Pending as PendingAt}
 use Rattle.uni_model.specs.Chain.{response_in}
-use Rattle.uni_model.specs.Worlds.{WorldOf, happened}
-use Rattle.uni_model.specs.Worlds.Event.{Step}
+use Rattle.uni_model.specs.Worlds.{WorldOf}
 use Rattle.uni_model.specs.AtomicObject.{Atomic, Act, AcceptsAll}
 use Rattle.uni_model.specs.History.{Shows}
-use Rattle.uni_model.specs.Invariant.{Invariant}
+use Rattle.uni_model.specs.Helping.{HelpingInvariant}
+use Rattle.uni_model.specs.Bound.{CountsSteps}
 use Rattle.seq_object.specs.declared.call_id.CallId.{CallId}
 use Rattle.uni_core.specs.declared.local.Local.{Local}
 use Rattle.uni_core.specs.declared.fault.Progress.{Progress}
 use Rattle.uni_core.specs.declared.fault.Progress.TheVariants.{Going, Done}
-use Rattle.uni_core.specs.Counts.{capped}
 use Rattle.uni_core.specs.Shared.{Shared, memory_of}
 use Rattle.uni_core.specs.Standing.{pending_of}
 
@@ -54,17 +53,12 @@ pub record IsWorld {O S I R : Type 0} (next : S → I → S) (answer : S → I �
   pub begun : (p : ℕ) → p < processes_of v.shared.cells → (shown v).begun p ≡ made_of v.shared.cells p
   pub room : (p : ℕ) → (shown v).begun p ≤ v.row
   pub numbers : seq_of (memory_of v.shared) Anchor + processes_of v.shared.cells * v.row < 2 ^ 48
-  pub sound : Invariant next answer (shown v)
+  pub sound : HelpingInvariant next answer (shown v)
+  pub counts : CountsSteps (shown v)
 
 -- the pending call of a process: the latest that it has begun
 abbrev pub current_of : {S I R : Type 0} → WorldOf S I R → ℕ → Option CallId
 current_of w p = option_map (λ (c : PendingAt). record { process = p; nth = w.begun p - 1 }) (w.call p)
-
--- a step, where the counts of own steps and turns stay at the greatest u64 once they reach it
-abbrev pub counted_step : {S I R : Type 0} → (next : S → I → S) → (answer : S → I → R) → WorldOf S I R → ℕ → WorldOf S I R
-counted_step next answer w p =
-    let later = happened next answer w (Step p) in
-    record later { steps = set_at w.steps p (capped (later.steps p)); turns = set_at w.turns p (capped (later.turns p)) }
 
 -- the response of a step: that of its call, where it is the last one
 abbrev pub response_at_stage : {R : Type 0} → Option R → at → Option R

@@ -1,8 +1,7 @@
 //! What a process keeps for itself.
 
-ghost use Rattle.std.specs.Prelude.{◌≡◌, ◌+◌, option_map};
+ghost use Rattle.std.specs.Prelude.{◌≡◌, ◌+◌, ◌<◌, ◌^◌, option_map};
 ghost use Rattle.uni_core.specs.Standing.{turns_to};
-ghost use Rattle.uni_core.specs.Counts.{capped};
 
 use crate::stage::{Pending, Stage};
 use cell_arena::CellId;
@@ -40,12 +39,14 @@ impl Local {
     }
 
     /// After a step, which left the process at this stage in the call of cell `mine`, or ended the
-    /// call. The counts stop at the greatest `u64`.
+    /// call.
     pub(crate) fn after(&self, mine: CellId, next: Option<Stage>) -> Local
+        requires steps { self.now.steps < 2 ^ 32 }
+        requires turns { self.now.turns < 2 ^ 32 }
         ensures call { result.call ≡ option_map (λ stage. record { mine = mine; stage = stage }) next }
         ensures begun { result.begun ≡ self.now.begun }
-        ensures steps { result.steps ≡ capped (self.now.steps + 1) }
-        ensures turns { result.turns ≡ capped (self.now.turns + turns_to next) }
+        ensures steps { result.steps ≡ self.now.steps + 1 }
+        ensures turns { result.turns ≡ self.now.turns + turns_to next }
     {
         let turn = match next {
             Some(Stage::ReadAnnounce { .. }) => 1,
@@ -54,8 +55,8 @@ impl Local {
         Local {
             call: next.map(|stage| Pending { mine, stage }),
             begun: self.begun,
-            steps: self.steps.saturating_add(1),
-            turns: self.turns.saturating_add(turn),
+            steps: self.steps + 1,
+            turns: self.turns + turn,
         }
     }
 }

@@ -1,8 +1,11 @@
 //! The run of a list of commands.
 
-ghost use Rattle.std.specs.Prelude.{◌≡◌, IfOk, OnErr};
+ghost use Rattle.std.specs.Prelude.{◌≡◌, IfOk, OnOk, OnErr};
+ghost use Rattle.uni_model.specs.Bound.{IsBounded};
+ghost use Rattle.uni_model.specs.Worlds.{replayed};
+ghost use Rattle.uni_model.specs.History.{history_of};
 ghost use Rattle.uni_core.specs.Whole.{shown, Follows, KeepsFixed};
-ghost use Rattle.uni_core.specs.Commands.{TakesCommand, AreOutcomes, events_of, counted_replay, counted_history};
+ghost use Rattle.uni_core.specs.Commands.{TakesCommand, AreOutcomes, events_of};
 ghost use Rattle.uni_core.specs.declared.command.Command.TheVariants.{Call, Step};
 
 use crate::command::{Command, Outcome, Refusal};
@@ -66,9 +69,10 @@ impl<O: SeqObject> World<O> {
         commands: &[Command<O::Inv>],
     ) -> Result<Vec<Outcome<O::Resp>>, AllocError>
         ensures outcomes { IfOk result (λ outcomes. AreOutcomes (O.next self.old.object) (O.answer self.old.object) (shown self.old) self.old.row commands.now outcomes.items) }
-        ensures ran { IfOk result (λ outcomes. shown self.new ≡ counted_replay (O.next self.old.object) (O.answer self.old.object) (shown self.old) (events_of commands.now outcomes.items)) }
+        ensures ran { IfOk result (λ outcomes. shown self.new ≡ replayed (O.next self.old.object) (O.answer self.old.object) (shown self.old) (events_of commands.now outcomes.items)) }
         ensures accepted { IfOk result (λ outcomes. Follows (O.next self.old.object) (O.answer self.old.object) (shown self.old) (shown self.new)
-            (counted_history (O.next self.old.object) (O.answer self.old.object) (shown self.old) (events_of commands.now outcomes.items))) }
+            (history_of (O.next self.old.object) (O.answer self.old.object) (shown self.old) (events_of commands.now outcomes.items))) }
+        ensures bounded { OnOk result (IsBounded (shown self.new)) }
         ensures fixed { KeepsFixed self.old self.new }
         ensures unchanged { OnErr result (self.new ≡ self.old) }
     {
@@ -77,6 +81,7 @@ impl<O: SeqObject> World<O> {
             let outcome = self.take(alloc, command);
             outcomes.push_reserved(outcome);
         }
+        self.shape();
         Ok(outcomes)
     }
 }

@@ -7,6 +7,7 @@ ghost use Rattle.uni_model.specs.Places.{seq_of, head_seq, after_of};
 ghost use Rattle.uni_model.specs.Places.Name.{Anchor, Of};
 ghost use Rattle.uni_model.specs.Invariant.{Invariant};
 ghost use Rattle.uni_model.specs.Frontier.{frontier};
+ghost use Rattle.uni_model.specs.Bound.{IsBounded};
 ghost use Rattle.uni_model.specs.Worlds.{opened, happened, last_cell, IsQuiescent};
 ghost use Rattle.uni_model.specs.Worlds.Event.{Call, Step};
 ghost use Rattle.uni_model.specs.History.{acts_of};
@@ -14,7 +15,7 @@ ghost use Rattle.uni_model.specs.Transition.{place_of};
 ghost use Rattle.uni_core.specs.Shared.{name_of};
 ghost use Rattle.uni_core.specs.Standing.{pending_of};
 ghost use Rattle.uni_core.specs.Readers.{call_of_name, kind_of, place_named};
-ghost use Rattle.uni_core.specs.Whole.{shown, current_of, counted_step, response_of_step, progress_of, Follows, KeepsFixed, MayNeedMemory};
+ghost use Rattle.uni_core.specs.Whole.{shown, current_of, response_of_step, progress_of, Follows, KeepsFixed, MayNeedMemory};
 
 use crate::fault::{BeginFault, OpenFault, Progress, StepFault};
 use crate::local::Local;
@@ -197,13 +198,14 @@ impl<O: SeqObject> World<O> {
     /// Errors, in this order: `BadProcess` where there is no process `p`; `Idle(p)` where it has no
     /// call pending; `Memory`, only at the step that decides the state and the response of a cell
     /// that has none yet, where the object's apply was refused memory. After each nothing is changed,
-    /// and the step may be asked again. The counts of own steps and of turns stop at the greatest `u64`.
+    /// and the step may be asked again.
     pub fn step(&mut self, alloc: Global, p: u64) -> Result<Progress<O::Resp>, StepFault>
         ensures process { IsErrOf result StepFault.BadProcess ↔ ((shown self.old).n ≤ p) }
         ensures idle { IsErrOf result (StepFault.Idle p) ↔ ((p < (shown self.old).n) × ((shown self.old).call p ≡ None)) }
         ensures memory { IsErrOf result StepFault.Memory → MayNeedMemory (shown self.old) p }
         ensures others { IfErr result (λ e. (e ≡ StepFault.BadProcess) ⊎ (e ≡ StepFault.Idle p) ⊎ (e ≡ StepFault.Memory)) }
-        ensures step { OnOk result (shown self.new ≡ counted_step (O.next self.old.object) (O.answer self.old.object) (shown self.old) p) }
+        ensures step { OnOk result (shown self.new ≡ happened (O.next self.old.object) (O.answer self.old.object) (shown self.old) (Step p)) }
+        ensures bounded { OnOk result (IsBounded (shown self.new)) }
         ensures progress { IfOk result (λ progress. progress ≡ progress_of (response_of_step (shown self.old) p)) }
         ensures accepted { OnOk result (Follows (O.next self.old.object) (O.answer self.old.object) (shown self.old) (shown self.new)
             (acts_of (O.next self.old.object) (O.answer self.old.object) (shown self.old) (Step p))) }
@@ -259,20 +261,26 @@ impl<O: SeqObject> World<O> {
     }
 
     /// How many own steps the latest call of process `p` has taken, pending or returned; 0 where it
-    /// has made none.
+    /// has made none. A call of `n` processes that is pending has taken fewer than `10 n + 12`; one
+    /// that has returned took `2 n + 4`, and eight for each turn.
     pub fn steps(&self, p: u64) -> u64
         requires { p < (shown self.now).n }
-        ensures { result ≡ (shown self.now).steps p }
+        ensures value { result ≡ (shown self.now).steps p }
+        ensures pending { IsSome ((shown self.now).call p) → result < 10 * (shown self.now).n + 12 }
+        ensures returned { (shown self.now).call p ≡ None → 1 ≤ (shown self.now).begun p → result ≡ 2 * (shown self.now).n + 4 + 8 * (shown self.now).turns p }
     {
+        self.shape();
         self.locals[p as usize].steps
     }
 
     /// How many turns the latest call of process `p` has taken, pending or returned; 0 where it has
-    /// made none.
+    /// made none. They are at most `n + 1`.
     pub fn turns(&self, p: u64) -> u64
         requires { p < (shown self.now).n }
-        ensures { result ≡ (shown self.now).turns p }
+        ensures value { result ≡ (shown self.now).turns p }
+        ensures bound { result ≤ (shown self.now).n + 1 }
     {
+        self.shape();
         self.locals[p as usize].turns
     }
 
@@ -415,7 +423,8 @@ impl<O: SeqObject> World<O> {
     /// What every world keeps, for proofs: the call does nothing. What is shown has the invariant of
     /// the definitions. There are 1 to 16 processes. A row has at most 4096 cells, and no process has
     /// begun more calls; the arena has as many cells of a process as it has begun calls. The anchor's
-    /// number, and one more for each cell that there can be, stay below 2^48.
+    /// number, and one more for each cell that there can be, stay below 2^48. The latest call of each
+    /// process is within the bound of its own steps and turns.
     pub fn shape(&self)
         ensures sound { Invariant (O.next self.now.object) (O.answer self.now.object) (shown self.now) }
         ensures few { (1 ≤ (shown self.now).n) × ((shown self.now).n ≤ 16) }
@@ -423,6 +432,7 @@ impl<O: SeqObject> World<O> {
         ensures room { (p : ℕ) → (shown self.now).begun p ≤ self.now.row }
         ensures made { (p : ℕ) → p < (shown self.now).n → made_of self.now.shared.cells p ≡ (shown self.now).begun p }
         ensures numbers { seq_of (shown self.now).memory Anchor + (shown self.now).n * self.now.row < 2 ^ 48 }
+        ensures bounded { IsBounded (shown self.now) }
     {
         self.machine.shared.cells().shape();
     }

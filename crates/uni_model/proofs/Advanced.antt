@@ -14,7 +14,7 @@ use Rattle.uni_model.specs.Bound.{HasTurns}
 use Rattle.uni_model.proofs.Written.{number_cases, lt_cases, head_of-written, announced-written, written_same}
 use Rattle.uni_model.proofs.Grows.{NumbersGrow, head_seq-at}
 use Rattle.uni_model.proofs.Numbered.{IsPast-threaded}
-use Rattle.uni_model.proofs.Helping.{SomeHead, Finds, Announces, CountsOwnHead, IsAhead, OfConsidered, IsHelped, IsFairToAll, Helps}
+use Rattle.uni_model.specs.Helping.{SomeHead, Finds, Announces, CountsOwnHead, IsAhead, OfConsidered, IsHelped, IsFairToAll, Helps}
 use Rattle.uni_model.proofs.Helped.{Announces-cases, IsPast-later, not_passed}
 use Rattle.uni_model.proofs.Turns.{turns-le}
 

@@ -7,7 +7,7 @@ use Rattle.uni_model.specs.Stages.Stage.{Announce, ScanHead, ScanSeq, WriteScan,
 use Rattle.uni_model.specs.Transition.{place_of, effect_of, turn_of, c_of, d_of}
 use Rattle.uni_model.specs.Worlds.{WorldOf, Event, stepped, opened, anchored, trimmed, last_cell, happened, replayed, IsAccepted, AreAccepted, IsQuiescent}
 use Rattle.uni_model.specs.Worlds.Event.{Call, Step, Trim}
-use Rattle.uni_model.specs.Invariant.{Stands, IsSound}
+use Rattle.uni_model.specs.Invariant.{Stands}
 use Rattle.uni_model.specs.Bound.{steps_at, IsCounted, CountsSteps, IsWithinBound, IsBounded}
 use Rattle.uni_model.proofs.Moves.{IsSound-moved}
 use Rattle.uni_model.proofs.Steps.{leads}
@@ -15,7 +15,7 @@ use Rattle.uni_model.proofs.Anchored.{alone, IsSound-anchored}
 use Rattle.uni_model.proofs.Begun.{IsSound-begun}
 use Rattle.uni_model.proofs.Kept.{idle_when_quiescent, last_cell_threaded}
 use Rattle.uni_model.proofs.Counted.{IsCounted-pending, CountsSteps-happened}
-use Rattle.uni_model.proofs.Helping.{Helps}
+use Rattle.uni_model.specs.Helping.{Helps, HelpingInvariant}
 use Rattle.uni_model.proofs.Turns.{turns-le}
 use Rattle.uni_model.proofs.Advanced.{advances, head_rises}
 use Rattle.uni_model.proofs.HelpedStep.{Helps-moved}
@@ -32,11 +32,7 @@ Helps-anchored s number n call begun steps turns idle few = record {
 }
 
 module _ {S I R : Type 0} (next : S → I → S) (answer : S → I → R) where
-  -- the invariant, with what helps each pending call, for the same numbers
-  abbrev pub HelpingInvariant : WorldOf S I R → Type 0
-  HelpingInvariant w = (num : Name → ℕ) × (last : ℕ) × IsSound next answer w num last × Helps w num last
-
-  HelpingInvariant-stepped : (w : WorldOf S I R) (p : ℕ) (c : Pending) → w.call p ≡ Some c → CountsSteps w → HelpingInvariant w → HelpingInvariant (stepped next answer w p (Some c))
+  HelpingInvariant-stepped : (w : WorldOf S I R) (p : ℕ) (c : Pending) → w.call p ≡ Some c → CountsSteps w → HelpingInvariant next answer w → HelpingInvariant next answer (stepped next answer w p (Some c))
   HelpingInvariant-stepped w p c is counts inv =
       let moved = leads next answer w inv.0 inv.1 inv.2 p c.mine c.stage is c.stage (inv.2.stands p c is) in
       let own = IsCounted-pending w counts p c is in
@@ -57,7 +53,7 @@ module _ {S I R : Type 0} (next : S → I → S) (answer : S → I → R) where
       )
 
   -- every process's latest call has taken at most n + 1 turns
-  turns_bounded : (w : WorldOf S I R) → CountsSteps w → HelpingInvariant w → (p : ℕ) → w.turns p ≤ w.n + 1
+  turns_bounded : (w : WorldOf S I R) → CountsSteps w → HelpingInvariant next answer w → (p : ℕ) → w.turns p ≤ w.n + 1
   turns_bounded w counts inv p = by_call (w.call p) refl where
     by_call : (o : Option Pending) → w.call p ≡ o → w.turns p ≤ w.n + 1
     by_call None is = inv.3.returned p is
@@ -66,9 +62,9 @@ module _ {S I R : Type 0} (next : S → I → S) (answer : S → I → R) where
         let inside : p < w.n = inv.2.calls.process p c is in
         turns-le w.memory inv.0 inv.1 inv.2.numbered w.n p inside (inv.2.calls.head p inside) c.mine (w.turns p) c.stage (inv.2.stands p c is) own.0 (inv.3.each p c is)
 
-  HelpingInvariant-trimmed : (w : WorldOf S I R) → IsQuiescent w → CountsSteps w → HelpingInvariant w → HelpingInvariant (trimmed w)
+  HelpingInvariant-trimmed : (w : WorldOf S I R) → IsQuiescent w → CountsSteps w → HelpingInvariant next answer w → HelpingInvariant next answer (trimmed w)
   HelpingInvariant-trimmed w quiet counts inv = by_new (new_of w.memory (last_cell w)) where
-    by_new : (o : Option (S × Option R)) → HelpingInvariant (record w { memory = option_map_or (λ new. anchored new.0 (seq_of w.memory (last_cell w))) o w.memory })
+    by_new : (o : Option (S × Option R)) → HelpingInvariant next answer (record w { memory = option_map_or (λ new. anchored new.0 (seq_of w.memory (last_cell w))) o w.memory })
     by_new None = inv
     by_new (Some new) =
         let idle : (p : ℕ) → w.call p ≡ None = idle_when_quiescent next answer w inv.0 inv.1 inv.2 quiet in (
@@ -78,21 +74,21 @@ module _ {S I R : Type 0} (next : S → I → S) (answer : S → I → R) where
           Helps-anchored new.0 (seq_of w.memory (last_cell w)) w.n w.call w.begun w.steps w.turns idle (turns_bounded w counts inv),
         )
 
-  HelpingInvariant-happened : (w : WorldOf S I R) (e : Event I) → IsAccepted w e → CountsSteps w → HelpingInvariant w → HelpingInvariant (happened next answer w e)
+  pub HelpingInvariant-happened : (w : WorldOf S I R) (e : Event I) → IsAccepted w e → CountsSteps w → HelpingInvariant next answer w → HelpingInvariant next answer (happened next answer w e)
   HelpingInvariant-happened w (Call p i) ok counts inv =
       (inv.0, inv.1, IsSound-begun next answer w inv.0 inv.1 inv.2 p i ok.0 ok.1, Helps-begun next answer w inv.0 inv.1 inv.2 inv.3 p i ok.0 ok.1)
   HelpingInvariant-happened w (Step p) ok counts inv = by_call (w.call p) refl where
-    by_call : (o : Option Pending) → w.call p ≡ o → HelpingInvariant (stepped next answer w p o)
+    by_call : (o : Option Pending) → w.call p ≡ o → HelpingInvariant next answer (stepped next answer w p o)
     by_call None is = inv
     by_call (Some c) is = HelpingInvariant-stepped w p c is counts inv
   HelpingInvariant-happened w Trim ok counts inv = HelpingInvariant-trimmed w ok counts inv
 
-  pub HelpingInvariant-replayed : (w : WorldOf S I R) (es : List (Event I)) → AreAccepted next answer w es → CountsSteps w → HelpingInvariant w → HelpingInvariant (replayed next answer w es)
+  pub HelpingInvariant-replayed : (w : WorldOf S I R) (es : List (Event I)) → AreAccepted next answer w es → CountsSteps w → HelpingInvariant next answer w → HelpingInvariant next answer (replayed next answer w es)
   HelpingInvariant-replayed w [] ok counts inv = inv
   HelpingInvariant-replayed w (e ∷ es) ok counts inv =
       HelpingInvariant-replayed (happened next answer w e) es ok.1 (CountsSteps-happened next answer w e ok.0 (inv.0, inv.1, inv.2) counts) (HelpingInvariant-happened w e ok.0 counts inv)
 
-  pub HelpingInvariant-opened : (n : ℕ) (s : S) (number : ℕ) → 1 ≤ number → HelpingInvariant (opened {S = S} {I = I} {R = R} n s number)
+  pub HelpingInvariant-opened : (n : ℕ) (s : S) (number : ℕ) → 1 ≤ number → HelpingInvariant next answer (opened {S = S} {I = I} {R = R} n s number)
   HelpingInvariant-opened n s number positive = (
     alone number,
     number,
@@ -116,7 +112,7 @@ module _ {S I R : Type 0} (next : S → I → S) (answer : S → I → R) where
   steps_at-lt m num n p mine (WriteHead c s d) turns h few = omega arith
   steps_at-lt m num n p mine (Finish s k) turns h few = omega arith
 
-  pub IsBounded-held : (w : WorldOf S I R) → CountsSteps w → HelpingInvariant w → IsBounded w
+  pub IsBounded-held : (w : WorldOf S I R) → CountsSteps w → HelpingInvariant next answer w → IsBounded w
   IsBounded-held w counts inv p = by_call (w.call p) refl (counts p) where
     by_call : (o : Option Pending) → w.call p ≡ o → IsCounted w.n o (w.begun p) (w.steps p) (w.turns p) → IsWithinBound w.n o (w.begun p) (w.steps p) (w.turns p)
     by_call None is counted = (turns_bounded w counts inv p, counted)

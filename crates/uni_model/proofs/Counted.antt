@@ -4,7 +4,7 @@ use Rattle.uni_model.specs.Places.{Name, Content, Memory, number_in, new_of, inv
 use Rattle.uni_model.specs.Stages.{Stage, Pending}
 use Rattle.uni_model.specs.Stages.Stage.{Announce, ScanHead, ScanSeq, WriteScan, Test, ReadAnnounce, ReadHelpSeq, DecideAfter, DecideNew, WriteBefore, WriteSeq, WriteHead, Finish}
 use Rattle.uni_model.specs.Transition.{place_of, effect_of, turn_of, c_of, d_of}
-use Rattle.uni_model.specs.Worlds.{WorldOf, Event, stepped, call_begun, call_after, happened, replayed, IsAccepted, AreAccepted}
+use Rattle.uni_model.specs.Worlds.{WorldOf, Event, opened, stepped, call_begun, call_after, happened, replayed, IsAccepted, AreAccepted}
 use Rattle.uni_model.specs.Worlds.Event.{Call, Step, Trim}
 use Rattle.uni_model.specs.Invariant.{Stands, Invariant}
 use Rattle.uni_model.specs.Bound.{steps_at, HasTurns, IsCounted, CountsSteps}
@@ -69,3 +69,7 @@ module _ {S I R : Type 0} (next : S → I → S) (answer : S → I → R) where
   CountsSteps-replayed w [] ok inv counts = counts
   CountsSteps-replayed w (e ∷ es) ok inv counts =
       CountsSteps-replayed (happened next answer w e) es ok.1 (Invariant-happened next answer w e ok.0 inv) (CountsSteps-happened w e ok.0 inv counts)
+
+  -- no process has called yet
+  pub CountsSteps-opened : (n : ℕ) (start : S) (number : ℕ) → CountsSteps (opened {S = S} {I = I} {R = R} n start number)
+  CountsSteps-opened n start number p begun = absurd (omega arith)

@@ -6,7 +6,7 @@ use Rattle.uni_model.specs.Stages.Stage.{Announce, ScanHead, ScanSeq, WriteScan,
 use Rattle.uni_model.specs.Settled.{Grows}
 use Rattle.uni_model.specs.Invariant.{IsPast, Stands}
 use Rattle.uni_model.proofs.Grows.{NumbersGrow, head_seq-at}
-use Rattle.uni_model.proofs.Helping.{SomeHead, Finds, Announces, CountsOwnHead, IsAhead, OfConsidered}
+use Rattle.uni_model.specs.Helping.{SomeHead, Finds, Announces, CountsOwnHead, IsAhead, OfConsidered}
 
 pub OfConsidered-map : (stage : Stage) (Was Is : ℕ → Name → Type 0) → ((s : ℕ) (x : Name) → Was s x → Is s x) → OfConsidered stage Was → OfConsidered stage Is
 OfConsidered-map Announce Was Is each h = tt

@@ -9,7 +9,7 @@ use Rattle.uni_model.specs.Invariant.{Has, AtHead, IsCellOf, Stands, IsSound}
 use Rattle.uni_model.proofs.Written.{number_cases}
 use Rattle.uni_model.proofs.Begun.{fresh, not_linked, Grows-begun}
 use Rattle.uni_model.proofs.Grows.{head_seq-at}
-use Rattle.uni_model.proofs.Helping.{SomeHead, OfConsidered, IsHelped, IsFair, IsFairToAll, Helps}
+use Rattle.uni_model.specs.Helping.{SomeHead, OfConsidered, IsHelped, IsFair, IsFairToAll, Helps}
 use Rattle.uni_model.proofs.Helped.{OfConsidered-map}
 use Rattle.uni_model.proofs.Later.{heads_later, IsFair-later, Finds-waiting, IsHelped-waiting}
 

@@ -8,7 +8,7 @@ use Rattle.uni_model.specs.Invariant.{Stands, IsSound}
 use Rattle.uni_model.proofs.Written.{number_cases}
 use Rattle.uni_model.proofs.Moves.{Moves, Extends}
 use Rattle.uni_model.proofs.Grows.{head_seq-at}
-use Rattle.uni_model.proofs.Helping.{OfConsidered, IsHelped, IsFair, IsFairToAll, Helps}
+use Rattle.uni_model.specs.Helping.{OfConsidered, IsHelped, IsFair, IsFairToAll, Helps}
 use Rattle.uni_model.proofs.Helped.{OfConsidered-map}
 use Rattle.uni_model.proofs.Advanced.{AdvancesTo}
 use Rattle.uni_model.proofs.Later.{GrowFairly, heads_later, IsHelped-later, IsFair-later, Finds-waiting, IsHelped-waiting}

@@ -11,7 +11,7 @@ use Rattle.uni_model.specs.Invariant.{IsSound}
 use Rattle.uni_model.proofs.Grows.{NumbersGrow}
 use Rattle.uni_model.proofs.Numbered.{numbered_last, numbered_last-cases}
 use Rattle.uni_model.proofs.Residues.{with_remainder}
-use Rattle.uni_model.proofs.Helping.{SomeHead, Finds, Announces, CountsOwnHead, IsAhead, IsHelped, IsFair, IsFairToAll, Helps}
+use Rattle.uni_model.specs.Helping.{SomeHead, Finds, Announces, CountsOwnHead, IsAhead, IsHelped, IsFair, IsFairToAll, Helps}
 use Rattle.uni_model.proofs.Helped.{SomeHead-grows, Finds-grows, Announces-same, CountsOwnHead-same, IsAhead-grows}
 
 -- the numbers are as before, or one more: that of a cell which is fair to all and is linked after some process's head

@@ -1,5 +1,5 @@
 -- The laws over every list of accepted events.
-use Rattle.std.proofs.Common.{◌≡◌, ◌≢◌, ℕ, zero, suc, map, ◌+◌, inl, inr, refl, sym, ap, subst, List, [], ◌∷◌, ◌++◌, Option, Some, None, IsSome, Bool, true, false, cond, arith}
+use Rattle.std.proofs.Common.{◌≡◌, ◌≢◌, ℕ, zero, suc, map, ◌+◌, inl, inr, refl, sym, ap, subst, List, [], ◌∷◌, ◌++◌, Option, Some, None, IsSome, Bool, true, false, cond}
 use Rattle.uni_model.specs.Places.{Place, Content, Memory, written, place_eq, set_at}
 use Rattle.uni_model.specs.Places.Name.{Anchor}
 use Rattle.uni_model.specs.Chain.{cells_from, Entry, entries_from}
@@ -15,8 +15,9 @@ use Rattle.uni_model.specs.Laws.{HasNoTrim, IsReached, StepIsLocal, SettledStays
 use Rattle.uni_model.proofs.Written.{set_at-cases, place_eq_true}
 use Rattle.uni_model.proofs.Kept.{Invariant-stepped, Invariant-begun, Invariant-opened, Invariant-replayed, Invariant-happened}
 use Rattle.uni_model.specs.Bound.{CountsSteps, IsBounded}
-use Rattle.uni_model.proofs.Counted.{CountsSteps-replayed}
-use Rattle.uni_model.proofs.Bounded.{HelpingInvariant, HelpingInvariant-opened, HelpingInvariant-replayed, IsBounded-held}
+use Rattle.uni_model.proofs.Counted.{CountsSteps-opened, CountsSteps-replayed}
+use Rattle.uni_model.specs.Helping.{HelpingInvariant}
+use Rattle.uni_model.proofs.Bounded.{HelpingInvariant-opened, HelpingInvariant-replayed, IsBounded-held}
 use Rattle.uni_model.proofs.Simulation.{step_accepted, call_accepted}
 
 -- a place that isn't written
@@ -48,16 +49,13 @@ module _ {S I R : Type 0} (next : S → I → S) (answer : S → I → R) where
   Invariant-reached w r = subst (λ v. Invariant next answer v) r.reached
       (Invariant-replayed next answer (opened r.n r.start r.number) r.events r.accepted (Invariant-opened next answer r.n r.start r.number r.positive))
 
-  none_begun : (n : ℕ) (start : S) (number : ℕ) → CountsSteps (opened {S = S} {I = I} {R = R} n start number)
-  none_begun n start number p begun = absurd (omega arith)
-
   pub CountsSteps-reached : (w : WorldOf S I R) → IsReached next answer w → CountsSteps w
   CountsSteps-reached w r = subst (λ v. CountsSteps v) r.reached
-      (CountsSteps-replayed next answer (opened r.n r.start r.number) r.events r.accepted (Invariant-opened next answer r.n r.start r.number r.positive) (none_begun r.n r.start r.number))
+      (CountsSteps-replayed next answer (opened r.n r.start r.number) r.events r.accepted (Invariant-opened next answer r.n r.start r.number r.positive) (CountsSteps-opened next answer r.n r.start r.number))
 
   pub IsBounded-reached : (w : WorldOf S I R) → IsReached next answer w → IsBounded w
   IsBounded-reached w r = IsBounded-held next answer w (CountsSteps-reached w r) (subst (λ v. HelpingInvariant next answer v) r.reached
-      (HelpingInvariant-replayed next answer (opened r.n r.start r.number) r.events r.accepted (none_begun r.n r.start r.number) (HelpingInvariant-opened next answer r.n r.start r.number r.positive)))
+      (HelpingInvariant-replayed next answer (opened r.n r.start r.number) r.events r.accepted (CountsSteps-opened next answer r.n r.start r.number) (HelpingInvariant-opened next answer r.n r.start r.number r.positive)))
 
   pub grows : (w : WorldOf S I R) (e : Event I) → Invariant next answer w → IsAccepted w e → e ≢ Trim → Grows w.memory (happened next answer w e).memory
   grows w (Call p i) inv ok other = (Invariant-begun next answer w p i ok.0 ok.1 inv).1

@@ -12,7 +12,6 @@ pub mod Chains
 pub mod Simulation
 pub mod Counted
 pub mod Residues
-pub mod Helping
 pub mod Helped
 pub mod Turns
 pub mod Advanced

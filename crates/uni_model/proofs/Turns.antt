@@ -9,7 +9,7 @@ use Rattle.uni_model.specs.Invariant.{IsNumbered, IsPast, Stands}
 use Rattle.uni_model.specs.Bound.{HasTurns}
 use Rattle.uni_model.proofs.Grows.{head_seq-at}
 use Rattle.uni_model.proofs.Residues.{with_remainder}
-use Rattle.uni_model.proofs.Helping.{IsHelped}
+use Rattle.uni_model.specs.Helping.{IsHelped}
 
 -- the numbers that a head has passed, while mine isn't linked: among n of them in a row is one with the remainder p
 turns-unlinked : (n p first last s turns : ℕ) → p < n → first + turns ≤ s + 1 → s ≤ last

@@ -8,6 +8,7 @@ pub mod History
 pub mod Frontier
 pub mod Settled
 pub mod Invariant
+pub mod Helping
 pub mod Bound
 pub mod Rows
 pub mod Laws

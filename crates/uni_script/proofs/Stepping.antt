@@ -1,8 +1,9 @@
 -- Steps of a process until its call returns.
 use Rattle.std.proofs.Common.{◌≡◌, ℕ, suc, ◌+◌, ◌-◌, ◌<◌, ◌∙◌, refl, ap, Option, None, Some, arith}
 use Rattle.uni_model.specs.Stages.{Pending}
-use Rattle.uni_model.specs.Worlds.{WorldOf, stepped}
-use Rattle.uni_core.specs.Whole.{counted_step, response_of_step, progress_of}
+use Rattle.uni_model.specs.Worlds.{WorldOf, stepped, happened}
+use Rattle.uni_model.specs.Worlds.Event.{Step}
+use Rattle.uni_core.specs.Whole.{response_of_step, progress_of}
 use Rattle.uni_core.specs.declared.fault.Progress.{Progress}
 use Rattle.uni_core.specs.declared.fault.Progress.TheVariants.{Going, Done}
 use Rattle.uni_script.specs.Meaning.{Language, steps_taken}
@@ -20,7 +21,7 @@ some-from_Done (Some q) r progress e f = cc
 one_left : (most counter : ℕ) → counter < most → most - counter ≡ suc (most - (counter + 1))
 one_left most counter h = omega arith
 
-module _ {S I R : Type 0} (o : Language S I R) (p : ℕ) (w w' : WorldOf S I R) (step : w' ≡ counted_step o.next o.answer w p) where
+module _ {S I R : Type 0} (o : Language S I R) (p : ℕ) (w w' : WorldOf S I R) (step : w' ≡ happened o.next o.answer w (Step p)) where
   -- a step leaves the number of processes
   pub n-stepped : w'.n ≡ w.n
   n-stepped = ap (λ (v : WorldOf S I R). v.n) step ∙ at (w.call p)

@@ -8,10 +8,10 @@ use Rattle.ready_objects.specs.Queue.{queue_next, queue_answer, queue_words, que
 use Rattle.ready_objects.specs.declared.queue.QueueInv.{QueueInv}
 use Rattle.ready_objects.specs.declared.queue.QueueResp.{QueueResp}
 use Rattle.uni_model.specs.Worlds.{WorldOf, happened, opened}
-use Rattle.uni_model.specs.Worlds.Event.{Call}
+use Rattle.uni_model.specs.Worlds.Event.{Call, Step}
 use Rattle.uni_model.specs.Chain.{Entry}
 use Rattle.uni_model.specs.History.{log}
-use Rattle.uni_core.specs.Whole.{Whole, shown, counted_step, response_of_step}
+use Rattle.uni_core.specs.Whole.{Whole, shown, response_of_step}
 use Rattle.uni_script.specs.declared.fault.BenchFault.{BenchFault}
 use Rattle.uni_script.specs.declared.fault.BenchFault.TheVariants.{NoHeader, BadHeader, TooLong, BadByte, BadLine, TooMany}
 use Rattle.uni_script.specs.declared.grammar.Header.{Header}
@@ -93,8 +93,8 @@ pub record Stepped (S I R : Type 0) : Type 0 where
 abbrev pub steps_taken : {S I R : Type 0} → Language S I R → (most : ℕ) → WorldOf S I R → ℕ → Stepped S I R
 steps_taken o zero w p = record { world = w; response = None }
 steps_taken o (suc most) w p =
-    option_map_or (λ r. record { world = counted_step o.next o.answer w p; response = Some r }) (response_of_step w p)
-    (steps_taken o most (counted_step o.next o.answer w p) p)
+    option_map_or (λ r. record { world = happened o.next o.answer w (Step p); response = Some r }) (response_of_step w p)
+    (steps_taken o most (happened o.next o.answer w (Step p)) p)
 
 -- how many steps a call of n processes takes at most
 abbrev pub most_steps : ℕ → ℕ

@@ -1,11 +1,11 @@
 -- How calls are helped: what every world that is reached keeps besides the invariant, so that no call takes many turns.
-use Rattle.std.proofs.Common.{◌≡◌, ◌≢◌, ℕ, ◌+◌, ◌<◌, ◌≤◌, ◌%◌, ◌⊎◌, None, Some}
+use Rattle.std.specs.Prelude.{◌≡◌, ◌≢◌, ℕ, ◌+◌, ◌<◌, ◌≤◌, ◌%◌, ◌⊎◌, None, Some}
 use Rattle.uni_model.specs.Places.{Name, Memory, announced, head_of, head_seq, seq_of}
 use Rattle.uni_model.specs.Places.Name.{Anchor}
 use Rattle.uni_model.specs.Stages.{Stage, Pending}
 use Rattle.uni_model.specs.Stages.Stage.{Announce, ScanHead, ScanSeq, WriteScan, Test, ReadAnnounce, ReadHelpSeq, DecideAfter, DecideNew, WriteBefore, WriteSeq, WriteHead, Finish}
 use Rattle.uni_model.specs.Worlds.{WorldOf}
-use Rattle.uni_model.specs.Invariant.{IsPast}
+use Rattle.uni_model.specs.Invariant.{IsPast, IsSound}
 
 -- one of the processes from q on has a head with at least this number
 abbrev pub SomeHead : {S I R : Type 0} → Memory S I R → (n q s : ℕ) → Type 0
@@ -84,3 +84,7 @@ pub record Helps {S I R : Type 0} (w : WorldOf S I R) (num : Name → ℕ) (last
   pub fair : (o : ℕ) (d : Pending) → w.call o ≡ Some d → OfConsidered d.stage (λ s x. IsFairToAll w num s x)
   pub heads : (s : ℕ) → num Anchor ≤ s → s < last → SomeHead w.memory w.n 0 s
   pub returned : (p : ℕ) → w.call p ≡ None → w.turns p ≤ w.n + 1
+
+-- the invariant, with what helps each pending call, for the same numbers
+abbrev pub HelpingInvariant : {S I R : Type 0} → (next : S → I → S) → (answer : S → I → R) → WorldOf S I R → Type 0
+HelpingInvariant next answer w = (num : Name → ℕ) × (last : ℕ) × IsSound next answer w num last × Helps w num last
