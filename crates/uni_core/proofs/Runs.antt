@@ -10,6 +10,7 @@ use Rattle.uni_model.specs.Stages.{Pending}
 use Rattle.uni_model.specs.Worlds.{WorldOf, Event, happened, replayed}
 use Rattle.uni_model.specs.AtomicObject.{Atomic, Act, AcceptsAll}
 use Rattle.uni_model.specs.History.{Shows, acts_of, history_of}
+use Rattle.uni_model.proofs.LawProofs.{AcceptsAll-append}
 use Rattle.uni_core.specs.declared.command.Command.{Command}
 use Rattle.uni_core.specs.declared.command.Refusal.{Refusal}
 use Rattle.uni_core.specs.declared.command.Outcome.{Outcome}
@@ -123,15 +124,11 @@ module _ {S I R : Type 0} (next : S → I → S) (answer : S → I → R) where
   history-event w None es = refl
   history-event w (Some e) es = refl
 
-  AcceptsAll-append : (a b c : Atomic S I) (xs ys : List (Act I R)) → AcceptsAll next answer a xs b → AcceptsAll next answer b ys c → AcceptsAll next answer a (xs ++ ys) c
-  AcceptsAll-append a b c [] ys first rest = subst (λ x. AcceptsAll next answer x ys c) first rest
-  AcceptsAll-append a b c (x ∷ xs) ys first rest = (first.0, first.1, AcceptsAll-append first.0 b c xs ys first.2 rest)
-
   Follows-append : (w later last : WorldOf S I R) (xs ys : List (Act I R)) → Follows next answer w later xs → Follows next answer later last ys → Follows next answer w last (xs ++ ys)
   Follows-append w later last xs ys first rest a shows =
       let b = first a shows in
       let c = rest b.0 b.1 in
-      (c.0, c.1, AcceptsAll-append a b.0 c.0 xs ys b.2 c.2)
+      (c.0, c.1, AcceptsAll-append next answer a b.0 c.0 xs ys b.2 c.2)
 
 -- A world has taken these commands with these outcomes, and is w then.
 pub record Ran {S I R : Type 0} (next : S → I → S) (answer : S → I → R) (first : WorldOf S I R) (row : ℕ) (commands : List (Command I)) (outcomes : List (Outcome R)) (w : WorldOf S I R) : Type 0 where

@@ -206,6 +206,7 @@ impl<O: SeqObject> World<O> {
         ensures others { IfErr result (λ e. (e ≡ StepFault.BadProcess) ⊎ (e ≡ StepFault.Idle p) ⊎ (e ≡ StepFault.Memory)) }
         ensures step { OnOk result (shown self.new ≡ happened (O.next self.old.object) (O.answer self.old.object) (shown self.old) (Step p)) }
         ensures bounded { OnOk result (IsBounded (shown self.new)) }
+        ensures pending { IfOk result (λ progress. progress ≡ Progress.Going → IsSome ((shown self.new).call p)) }
         ensures progress { IfOk result (λ progress. progress ≡ progress_of (response_of_step (shown self.old) p)) }
         ensures accepted { OnOk result (Follows (O.next self.old.object) (O.answer self.old.object) (shown self.old) (shown self.new)
             (acts_of (O.next self.old.object) (O.answer self.old.object) (shown self.old) (Step p))) }

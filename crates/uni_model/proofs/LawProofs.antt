@@ -80,7 +80,8 @@ module _ {S I R : Type 0} (next : S → I → S) (answer : S → I → R) where
   pub Simulates-holds : (w : WorldOf S I R) (e : Event I) → Simulates next answer w e
   Simulates-holds w e reached ok other a shows = accepts w e (Invariant-reached w reached) ok other a shows
 
-  AcceptsAll-append : (a b c : Atomic S I) (xs ys : List (Act I R)) → AcceptsAll next answer a xs b → AcceptsAll next answer b ys c → AcceptsAll next answer a (xs ++ ys) c
+  -- acts, and further acts
+  pub AcceptsAll-append : (a b c : Atomic S I) (xs ys : List (Act I R)) → AcceptsAll next answer a xs b → AcceptsAll next answer b ys c → AcceptsAll next answer a (xs ++ ys) c
   AcceptsAll-append a b c [] ys first rest = subst (λ x. AcceptsAll next answer x ys c) first rest
   AcceptsAll-append a b c (x ∷ xs) ys first rest = (first.0, first.1, AcceptsAll-append first.0 b c xs ys first.2 rest)
 

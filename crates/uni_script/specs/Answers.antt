@@ -6,7 +6,7 @@ use Rattle.seq_object.specs.declared.call_id.CallId.{CallId}
 use Rattle.uni_script.specs.declared.answer.Refusal.{Refusal}
 use Rattle.uni_script.specs.declared.answer.Refusal.TheVariants.{Process, Busy, Row, Idle}
 use Rattle.uni_script.specs.declared.answer.Answer.{Answer}
-use Rattle.uni_script.specs.declared.answer.Answer.TheVariants.{Called, Refused, Returned, Going, End}
+use Rattle.uni_script.specs.declared.answer.Answer.TheVariants.{Called, Refused, Returned, End}
 use Rattle.uni_model.specs.Chain.{Entry}
 
 -- the text of a call's name
@@ -49,7 +49,6 @@ abbrev pub answer_text : Answer → List ℕ
 answer_text (Called call) = called_text call
 answer_text (Refused refusal) = refused_text refusal
 answer_text (Returned call reply steps turns) = returned_text call reply.items steps turns
-answer_text (Going call steps turns) = going_text call steps turns
 answer_text End = end_text
 
 -- the line of an entry of the log, with these texts of invocations and responses; the response is a question mark where
@@ -67,6 +66,6 @@ a_process_is_refused : answer_text (Refused (Process 9)) ≡ codes "refused proc
 unfolding digits
 a_process_is_refused = refl
 
-a_call_goes_on : answer_text (Going (record { process = 0; nth = 0 }) 10 1) ≡ codes "going 0.0 steps 10 turns 1" ++ 10 ∷ []
+a_call_goes_on : going_text (record { process = 0; nth = 0 }) 10 1 ≡ codes "going 0.0 steps 10 turns 1" ++ 10 ∷ []
 unfolding digits
 a_call_goes_on = refl

@@ -1,6 +1,6 @@
 //! The commands of a script, made on a world.
 
-ghost use Rattle.std.specs.Prelude.{◌≡◌, ◌++◌, IfOk, OnOk, codes};
+ghost use Rattle.std.specs.Prelude.{◌≡◌, ◌<◌, ◌++◌, IfOk, IsSome, OnOk, Some, codes};
 ghost use Rattle.std.specs.Option.{option_map_or};
 ghost use Rattle.uni_core.specs.Whole.{shown};
 ghost use Rattle.uni_log.specs.Shown.{entry_shown};
@@ -74,8 +74,8 @@ fn call(
     }
 }
 
-/// Takes steps of a process until its call returns, at most as many as a call takes; the answer
-/// says how far the call has come, or why no step was taken.
+/// Takes steps of a process until its call returns; the answer says that it has, or why no step was
+/// taken.
 ///
 /// An `Err` says that memory was refused.
 fn finish(world: &mut World<QueueObject>, alloc: Global, process: u64) -> Result<Answer, AllocError>
@@ -91,9 +91,6 @@ fn finish(world: &mut World<QueueObject>, alloc: Global, process: u64) -> Result
     let response = step_on(world, alloc, process)?;
     let steps = world.steps(process);
     let turns = world.turns(process);
-    let Some(response) = response else {
-        return Ok(Answer::Going { call, steps, turns });
-    };
     let reply = QueueObject::resp_text(alloc, response)?;
     Ok(Answer::Returned {
         call,
@@ -103,29 +100,29 @@ fn finish(world: &mut World<QueueObject>, alloc: Global, process: u64) -> Result
     })
 }
 
-/// Takes steps of a process until its call returns, at most as many as a call takes; the answer is
-/// the response, where it returns.
+/// Takes steps of a process that has a call pending until that returns, as it does after fewer steps
+/// than the bound on a call; the answer is the response.
 ///
 /// An `Err` says that memory was refused.
 fn step_on(
     world: &mut World<QueueObject>,
     alloc: Global,
     process: u64,
-) -> Result<Option<QueueResp>, AllocError>
-    ensures stepped { IfOk result (λ response. record { world = shown world.new; response = response } ≡ steps_taken queue (most_steps (shown world.old).n) (shown world.old) process) }
+) -> Result<QueueResp, AllocError>
+    requires process { process < (shown world.old).n }
+    requires pending { IsSome ((shown world.old).call process) }
+    ensures stepped { IfOk result (λ response. record { world = shown world.new; response = Some response } ≡ steps_taken queue (most_steps (shown world.old).n) (shown world.old) process) }
     ensures kept { (world.new.row ≡ world.old.row) × ((shown world.new).n ≡ (shown world.old).n) }
 {
-    world.shape();
-    let most = 10 * world.processes() + 12;
-    for _ in 0..most {
+    loop {
+        world.shape();
         match world.step(alloc, process) {
-            Ok(Progress::Done(response)) => return Ok(Some(response)),
+            Ok(Progress::Done(response)) => return Ok(response),
             Ok(Progress::Going) => {}
             // The process has a call, so that memory alone is refused.
             Err(_) => return Err(AllocError),
         }
     }
-    Ok(None)
 }
 
 /// Writes the log after a text.
