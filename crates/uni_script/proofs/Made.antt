@@ -8,7 +8,7 @@ use Rattle.uni_core.specs.Whole.{current_of}
 use Rattle.uni_script.specs.declared.answer.Refusal.{Refusal}
 use Rattle.uni_script.specs.declared.answer.Refusal.TheVariants.{Idle}
 use Rattle.uni_script.specs.Answers.{called_text}
-use Rattle.uni_script.specs.Meaning.{Language, Bench, Stepped, latest, refusal_of_call, refusal_of_step, call_begun, call_made, finish_made, steps_taken, most_steps, stepped_text}
+use Rattle.uni_script.specs.Meaning.{Language, Bench, Stepped, latest, refusal_of_call, refusal_of_step, call_begun, call_made, step_made, steps_taken, stepped_text}
 
 pub bench_is : {S I R : Type 0} (b c : Bench S I R) → b.row ≡ c.row → b.world ≡ c.world → b ≡ c
 bench_is b c p q = let e : record { row = b.row; world = b.world } ≡ record { row = c.row; world = c.world } = cc in e
@@ -64,6 +64,6 @@ module _ {S I R : Type 0} (o : Language S I R) (b : Bench S I R) (p : ℕ) where
   pub call_made-refused : (i : I) (refusal : Refusal) → refusal_of_call b p ≡ Some refusal → (call_made o b p i).bench ≡ b
   call_made-refused i refusal some = rw some refl
 
-  pub finish_made-stepped : (after : Stepped S I R) → refusal_of_step b.world p ≡ None → after ≡ steps_taken o (most_steps b.world.n) b.world p
-      → finish_made o b p ≡ record { bench = record b { world = after.world }; text = stepped_text o after p (latest b.world p) }
-  finish_made-stepped after none e = rw none (rw e refl)
+  pub step_made-stepped : (most : ℕ) (after : Stepped S I R) → refusal_of_step b.world p ≡ None → after ≡ steps_taken o most b.world p
+      → step_made o b p most ≡ record { bench = record b { world = after.world }; text = stepped_text o after p (latest b.world p) }
+  step_made-stepped most after none e = rw none (rw e refl)

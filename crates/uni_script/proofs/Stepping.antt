@@ -1,5 +1,5 @@
 -- Steps of a process until its call returns.
-use Rattle.std.proofs.Common.{◌≡◌, ℕ, suc, ◌+◌, ◌-◌, ◌<◌, ◌∙◌, refl, ap, Option, None, Some, IsSome, arith}
+use Rattle.std.proofs.Common.{◌≡◌, ℕ, suc, ◌+◌, ◌-◌, ◌<◌, ◌≤◌, ◌∙◌, refl, ap, Option, None, Some, IsSome, arith}
 use Rattle.uni_model.specs.Stages.{Pending}
 use Rattle.uni_model.specs.Worlds.{WorldOf, stepped, happened}
 use Rattle.uni_model.specs.Worlds.Event.{Step}
@@ -20,20 +20,12 @@ pub some-from_Done : {R : Type 0} (o : Option R) (r : R) (progress : Progress R)
 some-from_Done None r progress e f = cc
 some-from_Done (Some q) r progress e f = cc
 
--- From w, a process has taken some steps, which is w' then; its call is still pending.
-pub record IsOnTheWay {S I R : Type 0} (o : Language S I R) (p : ℕ) (w w' : WorldOf S I R) : Type 0 where
-  pub count : ℕ
+-- From w, of the most steps that a process may take, it has taken so many, which is w' then; its call is still pending.
+pub record IsOnTheWay {S I R : Type 0} (o : Language S I R) (p most : ℕ) (w : WorldOf S I R) (count : ℕ) (w' : WorldOf S I R) : Type 0 where
+  pub n : w'.n ≡ w.n
   pub steps : w'.steps p ≡ w.steps p + count
   pub pending : IsSome (w'.call p)
-  pub rest : steps_taken o (most_steps w.n - count) w' p ≡ steps_taken o (most_steps w.n) w p
-
--- a world within the bound has a step left for each pending call
-step_left : {S I R : Type 0} (w : WorldOf S I R) (p : ℕ) → IsBounded w → IsSome (w.call p) → w.steps p < most_steps w.n
-step_left w p bounded pending = at (w.call p) pending (bounded p)
-  where
-    at : (call : Option Pending) → IsSome call → IsWithinBound w.n call (w.begun p) (w.steps p) (w.turns p) → w.steps p < most_steps w.n
-    at None h b = cc
-    at (Some call) h b = b.1
+  pub rest : steps_taken o (most - count) w' p ≡ steps_taken o most w p
 
 module _ {S I R : Type 0} (o : Language S I R) (p : ℕ) (w w' : WorldOf S I R) (step : w' ≡ happened o.next o.answer w (Step p)) where
   -- a step leaves the number of processes
@@ -52,43 +44,45 @@ module _ {S I R : Type 0} (o : Language S I R) (p : ℕ) (w w' : WorldOf S I R) 
       at None h = cc
       at (Some call) h = set_at_same w.steps p (w.steps p + 1)
 
-  -- each step of a pending call leaves it fewer
-  pub steps_left-stepped : IsBounded w → IsSome (w.call p) → most_steps w'.n - w'.steps p < most_steps w.n - w.steps p
-  steps_left-stepped bounded pending =
-      let left : w.steps p < most_steps w.n = step_left w p bounded pending in
-      let same : w'.n ≡ w.n = n-stepped in
-      let one : w'.steps p ≡ w.steps p + 1 = steps-stepped pending in
-      omega arith
-
 one_left : (most count : ℕ) → count < most → most - count ≡ suc (most - (count + 1))
 one_left most count h = omega arith
 
-module _ {S I R : Type 0} (o : Language S I R) (p : ℕ) (w : WorldOf S I R) where
-  pub IsOnTheWay-start : IsSome (w.call p) → IsOnTheWay o p w w
-  IsOnTheWay-start pending = record { count = 0; steps = omega arith; pending = pending; rest = (let all : most_steps w.n - 0 ≡ most_steps w.n = omega arith in ap (λ k. steps_taken o k w p) all) }
+module _ {S I R : Type 0} (o : Language S I R) (p most : ℕ) (w : WorldOf S I R) where
+  pub IsOnTheWay-start : IsSome (w.call p) → IsOnTheWay o p most w 0 w
+  IsOnTheWay-start pending = record { n = refl; steps = omega arith; pending = pending; rest = (let all : most - 0 ≡ most = omega arith in ap (λ k. steps_taken o k w p) all) }
 
-  module _ (v v' : WorldOf S I R) (same : v.n ≡ w.n) (on : IsOnTheWay o p w v) (bounded : IsBounded v) (step : v' ≡ happened o.next o.answer v (Step p)) where
-    few : on.count < most_steps w.n
-    few =
-        let left : v.steps p < most_steps v.n = step_left v p bounded on.pending in
-        let n : v.n ≡ w.n = same in
-        let steps : v.steps p ≡ w.steps p + on.count = on.steps in
-        omega arith
+  module _ (count : ℕ) (v : WorldOf S I R) (on : IsOnTheWay o p most w count v) where
+    module _ (few : count < most) (v' : WorldOf S I R) (step : v' ≡ happened o.next o.answer v (Step p)) where
+      -- a step that goes on
+      pub IsOnTheWay-going : response_of_step v p ≡ None → IsSome (v'.call p) → IsOnTheWay o p most w (count + 1) v'
+      IsOnTheWay-going none pending = record {
+        n = n-stepped o p v v' step ∙ on.n;
+        steps = (let one : v'.steps p ≡ v.steps p + 1 = steps-stepped o p v v' step on.pending in let before : v.steps p ≡ w.steps p + count = on.steps in omega arith);
+        pending = pending;
+        rest = (let taken : steps_taken o (most - (count + 1)) v' p ≡ steps_taken o (most - count) v p = rw (one_left most count few) (rw none (rw step refl)) in taken ∙ on.rest);
+      }
 
-    -- a step that goes on
-    pub IsOnTheWay-going : response_of_step v p ≡ None → IsSome (v'.call p) → IsOnTheWay o p w v'
-    IsOnTheWay-going none pending = record {
-      count = on.count + 1;
-      steps = let one : v'.steps p ≡ v.steps p + 1 = steps-stepped o p v v' step on.pending in let before : v.steps p ≡ w.steps p + on.count = on.steps in omega arith;
-      pending = pending;
-      rest = (let one : most_steps w.n - on.count ≡ suc (most_steps w.n - (on.count + 1)) = one_left (most_steps w.n) on.count few in
-          let taken : steps_taken o (most_steps w.n - (on.count + 1)) v' p ≡ steps_taken o (most_steps w.n - on.count) v p = rw one (rw none (rw step refl)) in
-          taken ∙ on.rest);
-    }
+      -- a step with a response is the last one
+      pub steps_taken-done : (r : R) → response_of_step v p ≡ Some r → record { world = v'; response = Some r } ≡ steps_taken o most w p
+      steps_taken-done r some =
+          let taken : record { world = v'; response = Some r } ≡ steps_taken o (most - count) v p = rw (one_left most count few) (rw some (rw step refl)) in
+          taken ∙ on.rest
 
-    -- a step with a response is the last one
-    pub steps_taken-done : (r : R) → response_of_step v p ≡ Some r → record { world = v'; response = Some r } ≡ steps_taken o (most_steps w.n) w p
-    steps_taken-done r some =
-        let one : most_steps w.n - on.count ≡ suc (most_steps w.n - (on.count + 1)) = one_left (most_steps w.n) on.count few in
-        let taken : record { world = v'; response = Some r } ≡ steps_taken o (most_steps w.n - on.count) v p = rw one (rw some (rw step refl)) in
-        taken ∙ on.rest
+    -- no step is left
+    pub steps_taken-stopped : most ≤ count → record { world = v; response = None } ≡ steps_taken o most w p
+    steps_taken-stopped all =
+        let none : most - count ≡ 0 = omega arith in
+        let stopped : record { world = v; response = None } ≡ steps_taken o (most - count) v p = rw none refl in
+        stopped ∙ on.rest
+
+    -- a call that is on its way is within the bound
+    pub IsOnTheWay-few : IsBounded v → count < most_steps w.n
+    IsOnTheWay-few bounded = at (v.call p) on.pending (bounded p)
+      where
+        at : (call : Option Pending) → IsSome call → IsWithinBound v.n call (v.begun p) (v.steps p) (v.turns p) → count < most_steps w.n
+        at None h b = cc
+        at (Some call) h b =
+            let bound : v.steps p < most_steps v.n = b.1 in
+            let same : v.n ≡ w.n = on.n in
+            let steps : v.steps p ≡ w.steps p + count = on.steps in
+            omega arith

@@ -1,12 +1,12 @@
 -- The texts of answers.
-use Rattle.std.specs.Prelude.{◌≡◌, ℕ, List, [], ◌∷◌, ◌++◌, codes, refl}
+use Rattle.std.specs.Prelude.{◌≡◌, ℕ, zero, suc, ◌+◌, List, [], ◌∷◌, ◌++◌, codes, refl}
 use Rattle.std.specs.Fmt.{decimal, digits}
 use Rattle.std.specs.Option.{option_map_or}
 use Rattle.seq_object.specs.declared.call_id.CallId.{CallId}
 use Rattle.uni_script.specs.declared.answer.Refusal.{Refusal}
 use Rattle.uni_script.specs.declared.answer.Refusal.TheVariants.{Process, Busy, Row, Idle}
 use Rattle.uni_script.specs.declared.answer.Answer.{Answer}
-use Rattle.uni_script.specs.declared.answer.Answer.TheVariants.{Called, Refused, Returned, End}
+use Rattle.uni_script.specs.declared.answer.Answer.TheVariants.{Called, Refused, Returned, Going, End}
 use Rattle.uni_model.specs.Chain.{Entry}
 
 -- the text of a call's name
@@ -40,6 +40,15 @@ returned_text call reply steps turns = codes "returned " ++ call_text call ++ co
 abbrev pub going_text : CallId → (steps turns : ℕ) → List ℕ
 going_text call steps turns = codes "going " ++ call_text call ++ progress_text steps turns
 
+-- the numbers of the heads of so many processes, with a space before each
+abbrev pub numbers_text : ℕ → (ℕ → ℕ) → List ℕ
+numbers_text zero number = []
+numbers_text (suc p) number = numbers_text p number ++ codes " " ++ decimal (number p)
+
+-- the line of the heads
+abbrev pub heads_text : ℕ → (ℕ → ℕ) → List ℕ
+heads_text n number = codes "heads" ++ numbers_text n number ++ 10 ∷ []
+
 -- the last line of a script
 abbrev pub end_text : List ℕ
 end_text = codes "end" ++ 10 ∷ []
@@ -49,6 +58,7 @@ abbrev pub answer_text : Answer → List ℕ
 answer_text (Called call) = called_text call
 answer_text (Refused refusal) = refused_text refusal
 answer_text (Returned call reply steps turns) = returned_text call reply.items steps turns
+answer_text (Going call steps turns) = going_text call steps turns
 answer_text End = end_text
 
 -- the line of an entry of the log, with these texts of invocations and responses; the response is a question mark where
@@ -66,6 +76,15 @@ a_process_is_refused : answer_text (Refused (Process 9)) ≡ codes "refused proc
 unfolding digits
 a_process_is_refused = refl
 
-a_call_goes_on : going_text (record { process = 0; nth = 0 }) 10 1 ≡ codes "going 0.0 steps 10 turns 1" ++ 10 ∷ []
+a_call_goes_on : answer_text (Going (record { process = 0; nth = 0 }) 10 1) ≡ codes "going 0.0 steps 10 turns 1" ++ 10 ∷ []
 unfolding digits
 a_call_goes_on = refl
+
+two_heads : heads_text 2 (λ p. p + 3) ≡ codes "heads 3 4" ++ 10 ∷ []
+unfolding digits
+two_heads = refl
+
+-- the answer to a command after which the process has no call pending
+abbrev pub IsOver : Answer → Type 0
+IsOver (Going call steps turns) = ⊥
+IsOver _ = Unit {0}

@@ -7,6 +7,7 @@ use Rattle.ready_objects.specs.Words.{text_of_words, words_of_text}
 use Rattle.ready_objects.specs.Queue.{queue_next, queue_answer, queue_words, queue_inv_of_words, queue_resp_text}
 use Rattle.ready_objects.specs.declared.queue.QueueInv.{QueueInv}
 use Rattle.ready_objects.specs.declared.queue.QueueResp.{QueueResp}
+use Rattle.uni_model.specs.Places.{head_seq}
 use Rattle.uni_model.specs.Worlds.{WorldOf, happened, opened}
 use Rattle.uni_model.specs.Worlds.Event.{Call, Step}
 use Rattle.uni_model.specs.Chain.{Entry}
@@ -19,7 +20,7 @@ use Rattle.uni_script.specs.declared.grammar.Command.{Command}
 use Rattle.uni_script.specs.declared.grammar.Command.TheVariants as command
 use Rattle.uni_script.specs.declared.answer.Refusal.{Refusal}
 use Rattle.uni_script.specs.declared.answer.Refusal.TheVariants.{Process, Busy, Row, Idle}
-use Rattle.uni_script.specs.Answers.{called_text, refused_text, returned_text, going_text, entry_text, end_text}
+use Rattle.uni_script.specs.Answers.{called_text, refused_text, returned_text, going_text, heads_text, entry_text, end_text}
 use Rattle.uni_script.specs.Script.{lines_of, is_plain_byte, is_note, header_of_words, command_of_words}
 
 -- a sequential object, with the words of its invocations and the texts of its responses
@@ -106,10 +107,11 @@ stepped_text o after p call =
     option_map_or (λ r. returned_text call (o.resp_text r) (after.world.steps p) (after.world.turns p)) after.response
     (going_text call (after.world.steps p) (after.world.turns p))
 
-abbrev pub finish_made : {S I R : Type 0} → Language S I R → Bench S I R → ℕ → Made S I R
-finish_made o b p =
+-- a process takes steps, at most so many
+abbrev pub step_made : {S I R : Type 0} → Language S I R → Bench S I R → ℕ → (most : ℕ) → Made S I R
+step_made o b p most =
     option_map_or (λ refusal. record { bench = b; text = refused_text refusal }) (refusal_of_step b.world p)
-    (let after = steps_taken o (most_steps b.world.n) b.world p in
+    (let after = steps_taken o most b.world p in
     record { bench = record b { world = after.world }; text = stepped_text o after p (latest b.world p) })
 
 -- the lines of the entries of the present log
@@ -118,7 +120,9 @@ log_text o w = concat (map (λ (entry : Entry _ _). entry_text o.inv_text o.resp
 
 abbrev pub made : {S I R : Type 0} → Language S I R → Bench S I R → Command I → Made S I R
 made o b (command.Call p i) = call_made o b p i
-made o b (command.Finish p) = finish_made o b p
+made o b (command.Step p most) = step_made o b p most
+made o b (command.Finish p) = step_made o b p (most_steps b.world.n)
+made o b command.Heads = record { bench = b; text = heads_text b.world.n (head_seq b.world.memory) }
 made o b command.Log = record { bench = b; text = log_text o b.world }
 
 -- What some lines come to: the bench after them, none before the header; the text of their answers; and the fault that
@@ -144,7 +148,7 @@ and_then first rest = and_then_from first (rest first.bench) first.fault
 
 -- the bench that a header opens
 abbrev pub bench_opened : {S I R : Type 0} → Language S I R → Header → Bench S I R
-bench_opened o header = record { row = header.row; world = opened 1 o.initial 1 }
+bench_opened o header = record { row = header.row; world = opened header.processes o.initial 1 }
 
 -- a line that isn't a note
 abbrev pub words_run : {S I R : Type 0} → Language S I R → (number : ℕ) → Option (Bench S I R) → List (List ℕ) → Outcome S I R

@@ -7,7 +7,7 @@ use Rattle.ready_objects.specs.declared.queue.QueueInv.TheVariants.{Enq}
 use Rattle.ready_objects.specs.Words.{words_of_text}
 use Rattle.uni_script.specs.declared.grammar.Header.{Header}
 use Rattle.uni_script.specs.declared.grammar.Command.{Command}
-use Rattle.uni_script.specs.declared.grammar.Command.TheVariants.{Call, Finish, Log}
+use Rattle.uni_script.specs.declared.grammar.Command.TheVariants.{Call, Step, Finish, Log, Heads}
 
 -- a text cut at its line ends, which are bytes 10: its whole lines, without their ends, and the bytes after them
 pub record Cut : Type 0 where
@@ -45,19 +45,24 @@ abbrev pub is_note : List ℕ → Bool
 is_note [] = true
 is_note (b ∷ bytes) = b == 35
 
--- the header with rows of so many cells: 1 to 4096
-abbrev pub header_of_row : ℕ → Option Header
-header_of_row k = if nat_le 1 k && nat_le k 4096 then Some (record { row = k }) else None
+-- the header of so many processes, 1 to 16, with rows of so many cells, 1 to 4096
+abbrev pub header_of_numbers : (n k : ℕ) → Option Header
+header_of_numbers n k = if nat_le 1 n && nat_le n 16 && nat_le 1 k && nat_le k 4096 then Some (record { processes = n; row = k }) else None
 
--- whether words open a queue of one process, in version 1
-abbrev pub opens_queue : (name version object processes : List ℕ) → Bool
-opens_queue name version object processes =
-    bytes_eq name (codes "universal") && (bytes_eq version (codes "1") && (bytes_eq object (codes "queue") && bytes_eq processes (codes "1")))
+-- a header of the two, where both are read
+abbrev pub header_of : Option ℕ → Option ℕ → Option Header
+header_of (Some n) (Some k) = header_of_numbers n k
+header_of _ _ = None
 
--- the header of a queue of one process
+-- whether words open a queue, in version 1
+abbrev pub opens_queue : (name version object : List ℕ) → Bool
+opens_queue name version object =
+    bytes_eq name (codes "universal") && (bytes_eq version (codes "1") && bytes_eq object (codes "queue"))
+
+-- the header of a queue
 abbrev pub header_of_words : List (List ℕ) → Option Header
-header_of_words (name ∷ version ∷ object ∷ processes ∷ row ∷ []) =
-    if opens_queue name version object processes then option_and_then header_of_row (number_of_word row) else None
+header_of_words (name ∷ version ∷ object ∷ n ∷ k ∷ []) =
+    if opens_queue name version object then header_of (number_of_word n) (number_of_word k) else None
 header_of_words _ = None
 
 -- a call of a process, where both are read
@@ -65,16 +70,30 @@ abbrev pub call_of : {I : Type 0} → Option ℕ → Option I → Option (Comman
 call_of (Some p) (Some inv) = Some (Call p inv)
 call_of _ _ = None
 
+-- how many steps are asked for: 1 to 1000
+abbrev pub count_of_number : ℕ → Option ℕ
+count_of_number m = if nat_le 1 m && nat_le m 1000 then Some m else None
+
+-- steps of a process, where both are read
+abbrev pub step_of : {I : Type 0} → Option ℕ → Option ℕ → Option (Command I)
+step_of (Some p) (Some m) = Some (Step p m)
+step_of _ _ = None
+
+-- a command of a process that isn't a call: its name, the process, and the words after it
+abbrev pub command_of_process : {I : Type 0} → (name : List ℕ) → Option ℕ → List (List ℕ) → Option (Command I)
+command_of_process name p [] =
+    if bytes_eq name (codes "finish") then option_map Finish p else if bytes_eq name (codes "step") then step_of p (Some 1) else None
+command_of_process name p (m ∷ []) = if bytes_eq name (codes "step") then step_of p (option_and_then count_of_number (number_of_word m)) else None
+command_of_process name p _ = None
+
 -- the command that words are, with the object's reading of invocations
 abbrev pub command_of_words : {I : Type 0} → (List (List ℕ) → Option I) → List (List ℕ) → Option (Command I)
 command_of_words inv_of_words [] = None
-command_of_words inv_of_words (name ∷ []) = if bytes_eq name (codes "log") then Some Log else None
-command_of_words inv_of_words (name ∷ p ∷ []) =
-    if bytes_eq name (codes "finish") then option_map Finish (number_of_word p)
-    else if bytes_eq name (codes "call") then call_of (number_of_word p) (inv_of_words [])
-    else None
-command_of_words inv_of_words (name ∷ p ∷ word ∷ words) =
-    if bytes_eq name (codes "call") then call_of (number_of_word p) (inv_of_words (word ∷ words)) else None
+command_of_words inv_of_words (name ∷ []) =
+    if bytes_eq name (codes "log") then Some Log else if bytes_eq name (codes "heads") then Some Heads else None
+command_of_words inv_of_words (name ∷ p ∷ words) =
+    if bytes_eq name (codes "call") then call_of (number_of_word p) (inv_of_words words)
+    else command_of_process name (number_of_word p) words
 
 the_last_line_may_lack_its_end : lines_of (97 ∷ 10 ∷ 98 ∷ []) ≡ (97 ∷ []) ∷ (98 ∷ []) ∷ []
 the_last_line_may_lack_its_end = refl
@@ -85,11 +104,12 @@ no_line_follows_the_last_end = refl
 a_line_may_be_empty : lines_of (10 ∷ 10 ∷ []) ≡ [] ∷ [] ∷ []
 a_line_may_be_empty = refl
 
-a_header : header_of_words (words_of_text (codes "universal 1 queue 1 8")) ≡ Some (record { row = 8 })
+a_header : header_of_words (words_of_text (codes "universal 1 queue 2 8")) ≡ Some (record { processes = 2; row = 8 })
 unfolding number_of_word
 a_header = refl
 
 seventeen_processes_are_none : header_of_words (words_of_text (codes "universal 1 queue 17 8")) ≡ None
+unfolding number_of_word
 seventeen_processes_are_none = refl
 
 a_row_of_4097_is_none : header_of_words (words_of_text (codes "universal 1 queue 1 4097")) ≡ None
@@ -106,6 +126,21 @@ a_finish = refl
 
 a_log : command_of_words queue_inv_of_words (words_of_text (codes "log")) ≡ Some Log
 a_log = refl
+
+a_step : command_of_words queue_inv_of_words (words_of_text (codes "step 3")) ≡ Some (Step 3 1)
+unfolding number_of_word
+a_step = refl
+
+ten_steps : command_of_words queue_inv_of_words (words_of_text (codes "step 3 10")) ≡ Some (Step 3 10)
+unfolding number_of_word
+ten_steps = refl
+
+no_steps_are_no_command : command_of_words queue_inv_of_words (words_of_text (codes "step 3 0")) ≡ None
+unfolding number_of_word
+no_steps_are_no_command = refl
+
+the_heads : command_of_words queue_inv_of_words (words_of_text (codes "heads")) ≡ Some Heads
+the_heads = refl
 
 no_command : command_of_words queue_inv_of_words (words_of_text (codes "fin")) ≡ None
 no_command = refl

@@ -108,3 +108,24 @@ refusals : text_of_script (header (line (codes "finish 0") (line (codes "call 9 
     ≡ line (codes "refused idle 0") (line (codes "refused process 9") (line (codes "called 0.0") (line (codes "refused busy 0") (line (codes "end") []))))
 unfolding digits number_of_word
 refusals = refl
+
+-- of two processes, one stops after its first step, and the other places its call
+abbrev stopped : List ℕ
+stopped = line (codes "universal 1 queue 2 8") (line (codes "call 1 enq 5") (line (codes "step 1") (line (codes "call 0 enq 6") (line (codes "finish 0") (line (codes "heads") (line (codes "log") []))))))
+
+stopped_answered : text_of_script stopped
+    ≡ line (codes "called 1.0") (line (codes "going 1.0 steps 1 turns 0") (line (codes "called 0.0") (line (codes "returned 0.0 ok steps 24 turns 2")
+    (line (codes "heads 3 1") (line (codes "2 1.0 enq 5 -> ok") (line (codes "3 0.0 enq 6 -> ok") (line (codes "end") [])))))))
+unfolding digits number_of_word
+stopped_answered = refl
+
+-- one of them meets the bound, of 32 steps and 3 turns
+abbrev bound_met : List ℕ
+bound_met = line (codes "universal 1 queue 2 8") (line (codes "call 0 enq 10") (line (codes "step 0 10") (line (codes "call 1 deq") (line (codes "step 1 14")
+    (line (codes "finish 0") (line (codes "call 0 enq 20") (line (codes "step 0") (line (codes "finish 1") []))))))))
+
+bound_met_answered : text_of_script bound_met
+    ≡ line (codes "called 0.0") (line (codes "going 0.0 steps 10 turns 1") (line (codes "called 1.0") (line (codes "going 1.0 steps 14 turns 1") (line (codes "returned 0.0 ok steps 16 turns 1")
+    (line (codes "called 0.1") (line (codes "going 0.1 steps 1 turns 0") (line (codes "returned 1.0 10 steps 32 turns 3") (line (codes "end") []))))))))
+unfolding digits number_of_word
+bound_met_answered = refl

@@ -52,6 +52,15 @@ pub enum Answer {
         /// How many turns it took.
         turns: u64,
     },
+    /// The call goes on.
+    Going {
+        /// The call.
+        call: CallId,
+        /// How many steps it has taken.
+        steps: u64,
+        /// How many turns it has taken.
+        turns: u64,
+    },
     /// The script ended.
     End,
 }
@@ -74,6 +83,9 @@ pub fn push_answer(text: &mut Vec<u8>, answer: &Answer) -> Result<(), AllocError
             write!(text, "returned {call} ").map_err(|_| AllocError)?;
             text.extend_from_slice(reply)?;
             writeln!(text, " steps {steps} turns {turns}").map_err(|_| AllocError)
+        }
+        Answer::Going { call, steps, turns } => {
+            writeln!(text, "going {call} steps {steps} turns {turns}").map_err(|_| AllocError)
         }
         Answer::End => writeln!(text, "end").map_err(|_| AllocError),
     }

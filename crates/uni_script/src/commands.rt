@@ -1,11 +1,12 @@
 //! The commands of a script, made on a world.
 
-ghost use Rattle.std.specs.Prelude.{◌≡◌, ◌<◌, ◌++◌, IfOk, IsSome, OnOk, Some, codes};
+ghost use Rattle.std.specs.Prelude.{◌≡◌, ◌<◌, ◌≤◌, ◌++◌, IfOk, IsSome, OnOk, codes};
 ghost use Rattle.std.specs.Option.{option_map_or};
+ghost use Rattle.uni_model.specs.Places.{head_seq};
 ghost use Rattle.uni_core.specs.Whole.{shown};
 ghost use Rattle.uni_log.specs.Shown.{entry_shown};
-ghost use Rattle.uni_script.specs.Answers.{answer_text, entry_text};
-ghost use Rattle.uni_script.specs.Meaning.{bench_of, bench_opened, queue, made, call_made, finish_made, steps_taken, most_steps, log_text};
+ghost use Rattle.uni_script.specs.Answers.{answer_text, numbers_text, heads_text, entry_text, IsOver};
+ghost use Rattle.uni_script.specs.Meaning.{bench_of, bench_opened, queue, made, call_made, step_made, steps_taken, most_steps, log_text};
 
 use crate::answer::{Answer, Refusal, push_answer};
 use crate::grammar::{Command, Header};
@@ -22,7 +23,7 @@ pub fn open(alloc: Global, header: Header) -> Result<World<QueueObject>, AllocEr
     ensures { IfOk result (λ world. bench_of world ≡ bench_opened queue header) }
 {
     // The numbers of a header are in range, so that memory alone is refused.
-    match World::open(alloc, QueueObject, 1, header.row) {
+    match World::open(alloc, QueueObject, header.processes, header.row) {
         Ok(world) => Ok(world),
         Err(_) => Err(AllocError),
     }
@@ -45,11 +46,16 @@ pub fn make(
             let answer = call(world, alloc, process, &inv)?;
             push_answer(text, &answer)
         }
+        Command::Step { process, count } => {
+            let answer = step(world, alloc, process, count)?;
+            push_answer(text, &answer)
+        }
         Command::Finish { process } => {
             let answer = finish(world, alloc, process)?;
             push_answer(text, &answer)
         }
         Command::Log => push_log(world, alloc, text),
+        Command::Heads => push_heads(world, text),
     }
 }
 
@@ -74,13 +80,33 @@ fn call(
     }
 }
 
-/// Takes steps of a process until its call returns; the answer says that it has, or why no step was
-/// taken.
+/// Takes steps of a process until its call returns, as it does within the bound on a call; the answer
+/// says that it has, or why no step was taken.
 ///
 /// An `Err` says that memory was refused.
 fn finish(world: &mut World<QueueObject>, alloc: Global, process: u64) -> Result<Answer, AllocError>
-    ensures bench { OnOk result (bench_of world.new ≡ (finish_made queue (bench_of world.old) process).bench) }
-    ensures answer { IfOk result (λ answer. answer_text answer ≡ (finish_made queue (bench_of world.old) process).text) }
+    ensures bench { OnOk result (bench_of world.new ≡ (step_made queue (bench_of world.old) process (most_steps (shown world.old).n)).bench) }
+    ensures answer { IfOk result (λ answer. answer_text answer ≡ (step_made queue (bench_of world.old) process (most_steps (shown world.old).n)).text) }
+    ensures over { IfOk result IsOver }
+{
+    world.shape();
+    let most = 10 * world.processes() + 12;
+    step(world, alloc, process, most)
+}
+
+/// Takes steps of a process until its call returns, at most so many; the answer says how far the call
+/// has come, or why no step was taken.
+///
+/// An `Err` says that memory was refused.
+fn step(
+    world: &mut World<QueueObject>,
+    alloc: Global,
+    process: u64,
+    most: u64,
+) -> Result<Answer, AllocError>
+    ensures bench { OnOk result (bench_of world.new ≡ (step_made queue (bench_of world.old) process most).bench) }
+    ensures answer { IfOk result (λ answer. answer_text answer ≡ (step_made queue (bench_of world.old) process most).text) }
+    ensures over { IfOk result (λ answer. most_steps (shown world.old).n ≤ most → IsOver answer) }
 {
     if process >= world.processes() {
         return Ok(Answer::Refused(Refusal::Process(process)));
@@ -88,9 +114,12 @@ fn finish(world: &mut World<QueueObject>, alloc: Global, process: u64) -> Result
     let Some(call) = world.current(process) else {
         return Ok(Answer::Refused(Refusal::Idle(process)));
     };
-    let response = step_on(world, alloc, process)?;
+    let response = step_on(world, alloc, process, most)?;
     let steps = world.steps(process);
     let turns = world.turns(process);
+    let Some(response) = response else {
+        return Ok(Answer::Going { call, steps, turns });
+    };
     let reply = QueueObject::resp_text(alloc, response)?;
     Ok(Answer::Returned {
         call,
@@ -100,29 +129,55 @@ fn finish(world: &mut World<QueueObject>, alloc: Global, process: u64) -> Result
     })
 }
 
-/// Takes steps of a process that has a call pending until that returns, as it does after fewer steps
-/// than the bound on a call; the answer is the response.
+/// Takes steps of a process that has a call pending until that returns, at most so many; the answer is
+/// the response, where it returns. It does within the bound on a call.
 ///
 /// An `Err` says that memory was refused.
 fn step_on(
     world: &mut World<QueueObject>,
     alloc: Global,
     process: u64,
-) -> Result<QueueResp, AllocError>
+    most: u64,
+) -> Result<Option<QueueResp>, AllocError>
     requires process { process < (shown world.old).n }
     requires pending { IsSome ((shown world.old).call process) }
-    ensures stepped { IfOk result (λ response. record { world = shown world.new; response = Some response } ≡ steps_taken queue (most_steps (shown world.old).n) (shown world.old) process) }
+    ensures stepped { IfOk result (λ response. record { world = shown world.new; response = response } ≡ steps_taken queue most (shown world.old) process) }
     ensures kept { (world.new.row ≡ world.old.row) × ((shown world.new).n ≡ (shown world.old).n) }
+    ensures over { IfOk result (λ response. most_steps (shown world.old).n ≤ most → IsSome response) }
 {
-    loop {
-        world.shape();
+    for _ in 0..most {
         match world.step(alloc, process) {
-            Ok(Progress::Done(response)) => return Ok(response),
+            Ok(Progress::Done(response)) => return Ok(Some(response)),
             Ok(Progress::Going) => {}
             // The process has a call, so that memory alone is refused.
             Err(_) => return Err(AllocError),
         }
     }
+    world.shape();
+    Ok(None)
+}
+
+/// Writes the line of the heads after a text.
+///
+/// An `Err` says that memory was refused.
+fn push_heads(world: &World<QueueObject>, text: &mut Vec<u8>) -> Result<(), AllocError>
+    ensures { OnOk result (text.new.items ≡ text.old.items ++ heads_text (shown world.now).n (head_seq (shown world.now).memory)) }
+{
+    write!(text, "heads").map_err(|_| AllocError)?;
+    push_numbers(world, text)?;
+    writeln!(text, "").map_err(|_| AllocError)
+}
+
+/// Writes the number of each head after a text, with a space before each.
+///
+/// An `Err` says that memory was refused.
+fn push_numbers(world: &World<QueueObject>, text: &mut Vec<u8>) -> Result<(), AllocError>
+    ensures { OnOk result (text.new.items ≡ text.old.items ++ numbers_text (shown world.now).n (head_seq (shown world.now).memory)) }
+{
+    for process in 0..world.processes() {
+        write!(text, " {}", world.head_seq(process)).map_err(|_| AllocError)?;
+    }
+    Ok(())
 }
 
 /// Writes the log after a text.

@@ -5,14 +5,16 @@ ghost use Rattle.std.specs.List.{list_all};
 ghost use Rattle.std.specs.Str.{bytes_eq};
 ghost use Rattle.ready_objects.specs.Number.{number_of_word};
 ghost use Rattle.ready_objects.specs.Words.{bytes_of, words_of_text};
-ghost use Rattle.uni_script.specs.Script.{is_plain_byte, is_note, opens_queue, header_of_row, header_of_words, command_of_words};
+ghost use Rattle.uni_script.specs.Script.{is_plain_byte, is_note, opens_queue, header_of_numbers, header_of_words, count_of_number, command_of_words};
 
 use ready_objects::{Amount, Spoken};
 use std::alloc::{AllocError, Global};
 
-/// The header of a script on a queue of one process.
+/// The header of a script on a queue.
 #[derive(Clone, Copy, Debug, PartialEq, Eq)]
 pub struct Header {
+    /// How many processes there are, from 1 to 16.
+    pub processes: u64,
     /// How many calls each process can make, from 1 to 4096.
     pub row: u64,
 }
@@ -27,6 +29,13 @@ pub enum Command<I> {
         /// What its call asks for.
         inv: I,
     },
+    /// A process takes steps until its call returns, at most so many.
+    Step {
+        /// The process.
+        process: u64,
+        /// How many steps, from 1 to 1000.
+        count: u64,
+    },
     /// A process takes steps until its call returns.
     Finish {
         /// The process.
@@ -34,6 +43,8 @@ pub enum Command<I> {
     },
     /// The entries are printed.
     Log,
+    /// The number of each head is printed.
+    Heads,
 }
 
 /// Tells whether a line is a note: it is empty or begins with `#`.
@@ -69,29 +80,27 @@ pub fn header_of(words: &[&[u8]]) -> Option<Header>
     let [name, version, object, processes, row] = words else {
         return None;
     };
-    if opens_queue(name, version, object, processes) {
-        header_of_row(number_of(row)?)
+    if opens_queue(name, version, object) {
+        header_of_numbers(number_of(processes)?, number_of(row)?)
     } else {
         None
     }
 }
 
-/// Tells whether words open a queue of one process, in version 1.
-fn opens_queue(name: &[u8], version: &[u8], object: &[u8], processes: &[u8]) -> bool
-    ensures { result ≡ opens_queue name.now version.now object.now processes.now }
+/// Tells whether words open a queue, in version 1.
+fn opens_queue(name: &[u8], version: &[u8], object: &[u8]) -> bool
+    ensures { result ≡ opens_queue name.now version.now object.now }
 {
-    is_text(name, "universal")
-        && is_text(version, "1")
-        && is_text(object, "queue")
-        && is_text(processes, "1")
+    is_text(name, "universal") && is_text(version, "1") && is_text(object, "queue")
 }
 
-/// The header with rows of this many cells; `None` where that isn't from 1 to 4096.
-fn header_of_row(row: u64) -> Option<Header>
-    ensures { result ≡ header_of_row row }
+/// The header of this many processes with rows of this many cells; `None` where they aren't from 1
+/// to 16 and from 1 to 4096.
+fn header_of_numbers(processes: u64, row: u64) -> Option<Header>
+    ensures { result ≡ header_of_numbers processes row }
 {
-    if row >= 1 && row <= 4096 {
-        Some(Header { row })
+    if processes >= 1 && processes <= 16 && row >= 1 && row <= 4096 {
+        Some(Header { processes, row })
     } else {
         None
     }
@@ -103,16 +112,37 @@ pub fn command_of<O: Spoken>(words: &[&[u8]]) -> Option<Command<O::Inv>>
 {
     match words {
         [name] if is_text(name, "log") => Some(Command::Log),
-        [name, process] if is_text(name, "finish") => {
-            let process = number_of(process)?;
-            Some(Command::Finish { process })
-        }
+        [name] if is_text(name, "heads") => Some(Command::Heads),
         [name, process, inv @ ..] if is_text(name, "call") => {
             let process = number_of(process)?;
             let inv = O::read_inv(inv)?;
             Some(Command::Call { process, inv })
         }
+        [name, process] if is_text(name, "finish") => {
+            let process = number_of(process)?;
+            Some(Command::Finish { process })
+        }
+        [name, process] if is_text(name, "step") => {
+            let process = number_of(process)?;
+            Some(Command::Step { process, count: 1 })
+        }
+        [name, process, count] if is_text(name, "step") => {
+            let process = number_of(process)?;
+            let count = count_of_number(number_of(count)?)?;
+            Some(Command::Step { process, count })
+        }
         _ => None,
+    }
+}
+
+/// A number of steps; `None` where it isn't from 1 to 1000.
+fn count_of_number(count: u64) -> Option<u64>
+    ensures { result ≡ count_of_number count }
+{
+    if count >= 1 && count <= 1000 {
+        Some(count)
+    } else {
+        None
     }
 }
 

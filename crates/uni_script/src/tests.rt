@@ -5,10 +5,21 @@ use ready_objects::{Amount, StickyInv, StickyObject, StickyResp};
 use seq_object::CallId;
 use std::alloc::Global;
 use std::io;
-use std::io::{ErrorKind, Read};
+use std::io::{ErrorKind, Read, Write};
+use std::process::Abort;
 use std::test::Fail;
 use uni_core::{Progress, World};
 use uni_log::{Entry, Log};
+
+/// Asserts what the bench writes for a script, and how it ends.
+fn runs(rt: &impl Abort, alloc: Global, script: &str, want: &str, outcome: Result<(), BenchFault>) {
+    let mut text = Vec::new(alloc);
+    let mut reader = Checked::new(script.as_bytes());
+    let mut writer = Checked::new(&mut text);
+    assert_eq!(rt; bench(alloc, &mut reader, &mut writer), outcome, "{script}");
+    assert!(rt; !TextIn::failed(&reader) && !TextOut::failed(&writer));
+    assert_eq!(rt; text.as_slice(), want.as_bytes(), "{script}");
+}
 
 #[test]
 fn scripts(rt: HostRuntime) {
@@ -24,14 +35,81 @@ fn scripts(rt: HostRuntime) {
             Err(BenchFault::BadLine(3)),
         ),
         ("", "", Err(BenchFault::NoHeader(1))),
+        ("universal 1 queue 16 4096\n", "end\n", Ok(())),
+        (
+            "universal 1 queue 17 8\n",
+            "",
+            Err(BenchFault::BadHeader(1)),
+        ),
+        ("universal 1 queue 0 8\n", "", Err(BenchFault::BadHeader(1))),
+        // A cell that is linked, and has no response yet.
+        (
+            "universal 1 queue 1 8\ncall 0 enq 7\nstep 0 8\nlog\nstep 0\nlog\nheads\n",
+            "called 0.0\ngoing 0.0 steps 8 turns 1\n2 0.0 enq 7 -> ?\ngoing 0.0 steps 9 turns 1\n2 0.0 enq 7 -> ok\nheads 1\nend\n",
+            Ok(()),
+        ),
+        // A step that ends the call is the last one.
+        (
+            "universal 1 queue 1 8\ncall 0 deq\nstep 0 1000\nstep 0\n",
+            "called 0.0\nreturned 0.0 empty steps 14 turns 1\nrefused idle 0\nend\n",
+            Ok(()),
+        ),
     ];
     for (script, want, outcome) in rows {
+        runs(&rt, rt.alloc(), script, want, outcome);
+    }
+}
+
+#[test]
+fn schedules_of_two_processes(rt: HostRuntime) {
+    let rows = [
+        // One process meets the bound, of 32 steps and 3 turns. Then a head isn't lowered.
+        (
+            "universal 1 queue 2 8\ncall 0 enq 10\nstep 0 10\ncall 1 deq\nstep 1 14\nfinish 0\ncall 0 enq 20\nstep 0\nfinish 1\nheads\nlog\nfinish 0\nheads\n",
+            "called 0.0\ngoing 0.0 steps 10 turns 1\ncalled 1.0\ngoing 1.0 steps 14 turns 1\nreturned 0.0 ok steps 16 turns 1\ncalled 0.1\ngoing 0.1 steps 1 turns 0\nreturned 1.0 10 steps 32 turns 3\nheads 2 4\n2 0.0 enq 10 -> ok\n3 0.1 enq 20 -> ok\n4 1.0 deq -> 10\nreturned 0.1 ok steps 8 turns 0\nheads 4 4\nend\n",
+        ),
+        // A stopped process is helped.
+        (
+            "universal 1 queue 2 8\ncall 1 enq 5\nstep 1\ncall 0 enq 6\nfinish 0\nheads\nlog\nfinish 1\nheads\n",
+            "called 1.0\ngoing 1.0 steps 1 turns 0\ncalled 0.0\nreturned 0.0 ok steps 24 turns 2\nheads 3 1\n2 1.0 enq 5 -> ok\n3 0.0 enq 6 -> ok\nreturned 1.0 ok steps 8 turns 0\nheads 3 3\nend\n",
+        ),
+        // The last step raises a head.
+        (
+            "universal 1 queue 2 8\ncall 1 enq 5\nstep 1 6\ncall 0 enq 6\nfinish 0\nfinish 1\nheads\n",
+            "called 1.0\ngoing 1.0 steps 6 turns 0\ncalled 0.0\nreturned 0.0 ok steps 24 turns 2\nreturned 1.0 ok steps 8 turns 0\nheads 3 2\nend\n",
+        ),
+        // The order of refusals: the row is full too.
+        (
+            "universal 1 queue 2 1\ncall 0 enq 1\ncall 0 deq\nstep 1\nstep 9\ncall 9 deq\nstep 999999999999\n",
+            "called 0.0\nrefused busy 0\nrefused idle 1\nrefused process 9\nrefused process 9\nrefused process 999999999999\nend\n",
+        ),
+    ];
+    for (script, want) in rows {
+        runs(&rt, rt.alloc(), script, want, Ok(()));
+    }
+}
+
+#[test]
+fn lines_that_are_no_commands(rt: HostRuntime) {
+    for line in [
+        "step 0 0",
+        "step 0 1001",
+        "step 00",
+        "step",
+        "step 0 1 1",
+        "finish 0 1",
+        "heads 0",
+        "call 0",
+    ] {
+        let mut script = Vec::new(rt.alloc());
+        let wrote = writeln!(script, "universal 1 queue 2 8").is_ok()
+            && write!(script, "{line}").is_ok();
+        assert!(rt; wrote);
+        let mut reader = Checked::new(script.as_slice());
         let mut text = Vec::new(rt.alloc());
-        let mut reader = Checked::new(script.as_bytes());
-        let mut writer = Checked::new(&mut text);
-        assert_eq!(rt; bench(rt.alloc(), &mut reader, &mut writer), outcome);
-        assert!(rt; !TextIn::failed(&reader) && !TextOut::failed(&writer));
-        assert_eq!(rt; text.as_slice(), want.as_bytes());
+        let outcome = bench(rt.alloc(), &mut reader, &mut Checked::new(&mut text));
+        assert_eq!(rt; outcome, Err(BenchFault::BadLine(2)), "{line}");
+        assert_eq!(rt; text.len(), 0, "{line}");
     }
 }
 
