@@ -1,5 +1,5 @@
 -- What a command comes to.
-use Rattle.std.proofs.Common.{◌≡◌, ℕ, ◌<◌, ◌≤◌, refl, Option, None, Some, Bool, true, false, nat_le, ◌==◌, is_none, IsSome, arith, option_map, if◌then◌else◌}
+use Rattle.std.proofs.Common.{◌≡◌, ℕ, ◌<◌, ◌≤◌, refl, Option, None, Some, Bool, true, false, nat_le, ◌==◌, is_none, IsSome, arith, option_map, if◌then◌else◌, Result, Ok, Err, OnOk}
 use Rattle.std.proofs.lemmas.Bool.Decides.{nat_tests}
 use Rattle.seq_object.specs.declared.call_id.CallId.{CallId}
 use Rattle.uni_model.specs.Stages.{Pending}
@@ -67,3 +67,20 @@ module _ {S I R : Type 0} (o : Language S I R) (b : Bench S I R) (p : ℕ) where
   pub step_made-stepped : (most : ℕ) (after : Stepped S I R) → refusal_of_step b.world p ≡ None → after ≡ steps_taken o most b.world p
       → step_made o b p most ≡ record { bench = record b { world = after.world }; text = stepped_text o after p (latest b.world p) }
   step_made-stepped most after none e = rw none (rw e refl)
+
+  -- a process that has no call pending takes no step
+  pub step_made-idle : (most : ℕ) → None ≡ current_of b.world p → b ≡ (step_made o b p most).bench
+  step_made-idle most e = by_call (b.world.call p) refl e
+    where
+      by_call : (call : Option Pending) → b.world.call p ≡ call → None ≡ option_map (λ (x : Pending). latest b.world p) call → b ≡ (step_made o b p most).bench
+      by_call None is f = by_test (nat_le b.world.n p) refl
+        where
+          by_test : (t : Bool) → nat_le b.world.n p ≡ t → b ≡ (step_made o b p most).bench
+          by_test true g = rw g refl
+          by_test false g = rw g (rw is refl)
+      by_call (Some x) is f = cc
+
+-- a fact that holds of any result
+pub OnOk-always : {A E P : Type 0} (r : Result A E) → P → OnOk r P
+OnOk-always (Ok x) p = p
+OnOk-always (Err e) p = tt

@@ -32,6 +32,19 @@ pub record Language (S I R : Type 0) : Type 0 where
   pub inv_text : I → List ℕ
   pub resp_text : R → List ℕ
 
+-- the language of an object, from its own functions and those of its words
+abbrev pub language_of : {O S I R : Type 0} → (initial : O → S) → (next : O → S → I → S) → (answer : O → S → I → R)
+    → (inv_of_words : List (List ℕ) → Option I) → (inv_words : I → List (List ℕ)) → (resp_text : R → List ℕ) → O → Language S I R
+language_of initial next answer inv_of_words inv_words resp_text object =
+    record {
+      initial = initial object;
+      next = next object;
+      answer = answer object;
+      inv_of_words = inv_of_words;
+      inv_text = λ inv. text_of_words (inv_words inv);
+      resp_text = resp_text;
+    }
+
 abbrev pub queue : Language (List ℕ) QueueInv QueueResp
 queue =
     record {

@@ -2,28 +2,30 @@
 
 ghost use Rattle.std.specs.Prelude.{◌≡◌, ◌<◌, ◌≤◌, ◌++◌, IfOk, IsSome, OnOk, codes};
 ghost use Rattle.std.specs.Option.{option_map_or};
+ghost use Rattle.ready_objects.specs.Words.{text_of_words};
 ghost use Rattle.uni_model.specs.Places.{head_seq};
 ghost use Rattle.uni_core.specs.Whole.{shown};
 ghost use Rattle.uni_log.specs.Shown.{entry_shown};
 ghost use Rattle.uni_script.specs.Answers.{answer_text, numbers_text, heads_text, entry_text, IsOver};
-ghost use Rattle.uni_script.specs.Meaning.{bench_of, bench_opened, queue, made, call_made, step_made, steps_taken, most_steps, log_text};
+ghost use Rattle.uni_script.specs.Meaning.{bench_of, bench_opened, language_of, made, call_made, step_made, steps_taken, most_steps, log_text};
 
 use crate::answer::{Answer, Refusal, push_answer};
 use crate::grammar::{Command, Header};
-use ready_objects::{QueueInv, QueueObject, QueueResp, Spoken};
+use ready_objects::Spoken;
 use std::alloc::{AllocError, Global};
 use std::io::Write;
 use uni_core::{BeginFault, Progress, World};
 use uni_log::{Entry, Log};
 
-/// Opens the world of a header.
+/// Opens the world of a header, for processes that share this object.
 ///
 /// An `Err` says that memory was refused.
-pub fn open(alloc: Global, header: Header) -> Result<World<QueueObject>, AllocError>
-    ensures { IfOk result (λ world. bench_of world ≡ bench_opened queue header) }
+pub fn open<O: Spoken>(alloc: Global, object: O, header: Header) -> Result<World<O>, AllocError>
+    ensures bench { IfOk result (λ world. bench_of world ≡ bench_opened (language_of O.initial O.next O.answer O.inv_of_words O.inv_words O.resp_bytes object) header) }
+    ensures object { IfOk result (λ world. world.object ≡ object) }
 {
     // The numbers of a header are in range, so that memory alone is refused.
-    match World::open(alloc, QueueObject, header.processes, header.row) {
+    match World::open(alloc, object, header.processes, header.row) {
         Ok(world) => Ok(world),
         Err(_) => Err(AllocError),
     }
@@ -32,14 +34,15 @@ pub fn open(alloc: Global, header: Header) -> Result<World<QueueObject>, AllocEr
 /// Makes a command, and writes its answer after a text.
 ///
 /// An `Err` says that memory was refused.
-pub fn make(
-    world: &mut World<QueueObject>,
+pub fn make<O: Spoken>(
+    world: &mut World<O>,
     alloc: Global,
-    command: Command<QueueInv>,
+    command: Command<O::Inv>,
     text: &mut Vec<u8>,
 ) -> Result<(), AllocError>
-    ensures bench { OnOk result (bench_of world.new ≡ (made queue (bench_of world.old) command).bench) }
-    ensures text { OnOk result (text.new.items ≡ text.old.items ++ (made queue (bench_of world.old) command).text) }
+    ensures object { world.new.object ≡ world.old.object }
+    ensures bench { OnOk result (bench_of world.new ≡ (made (language_of O.initial O.next O.answer O.inv_of_words O.inv_words O.resp_bytes world.old.object) (bench_of world.old) command).bench) }
+    ensures text { OnOk result (text.new.items ≡ text.old.items ++ (made (language_of O.initial O.next O.answer O.inv_of_words O.inv_words O.resp_bytes world.old.object) (bench_of world.old) command).text) }
 {
     match command {
         Command::Call { process, inv } => {
@@ -62,14 +65,15 @@ pub fn make(
 /// Begins a call of a process; the answer names it, or says why it wasn't begun.
 ///
 /// An `Err` says that memory was refused.
-fn call(
-    world: &mut World<QueueObject>,
+fn call<O: Spoken>(
+    world: &mut World<O>,
     alloc: Global,
     process: u64,
-    inv: &QueueInv,
+    inv: &O::Inv,
 ) -> Result<Answer, AllocError>
-    ensures bench { OnOk result (bench_of world.new ≡ (call_made queue (bench_of world.old) process inv.now).bench) }
-    ensures answer { IfOk result (λ answer. answer_text answer ≡ (call_made queue (bench_of world.old) process inv.now).text) }
+    ensures object { world.new.object ≡ world.old.object }
+    ensures bench { OnOk result (bench_of world.new ≡ (call_made (language_of O.initial O.next O.answer O.inv_of_words O.inv_words O.resp_bytes world.old.object) (bench_of world.old) process inv.now).bench) }
+    ensures answer { IfOk result (λ answer. answer_text answer ≡ (call_made (language_of O.initial O.next O.answer O.inv_of_words O.inv_words O.resp_bytes world.old.object) (bench_of world.old) process inv.now).text) }
 {
     match world.begin(alloc, process, inv) {
         Ok(call) => Ok(Answer::Called(call)),
@@ -84,9 +88,10 @@ fn call(
 /// says that it has, or why no step was taken.
 ///
 /// An `Err` says that memory was refused.
-fn finish(world: &mut World<QueueObject>, alloc: Global, process: u64) -> Result<Answer, AllocError>
-    ensures bench { OnOk result (bench_of world.new ≡ (step_made queue (bench_of world.old) process (most_steps (shown world.old).n)).bench) }
-    ensures answer { IfOk result (λ answer. answer_text answer ≡ (step_made queue (bench_of world.old) process (most_steps (shown world.old).n)).text) }
+fn finish<O: Spoken>(world: &mut World<O>, alloc: Global, process: u64) -> Result<Answer, AllocError>
+    ensures object { world.new.object ≡ world.old.object }
+    ensures bench { OnOk result (bench_of world.new ≡ (step_made (language_of O.initial O.next O.answer O.inv_of_words O.inv_words O.resp_bytes world.old.object) (bench_of world.old) process (most_steps (shown world.old).n)).bench) }
+    ensures answer { IfOk result (λ answer. answer_text answer ≡ (step_made (language_of O.initial O.next O.answer O.inv_of_words O.inv_words O.resp_bytes world.old.object) (bench_of world.old) process (most_steps (shown world.old).n)).text) }
     ensures over { IfOk result IsOver }
 {
     world.shape();
@@ -98,14 +103,15 @@ fn finish(world: &mut World<QueueObject>, alloc: Global, process: u64) -> Result
 /// has come, or why no step was taken.
 ///
 /// An `Err` says that memory was refused.
-fn step(
-    world: &mut World<QueueObject>,
+fn step<O: Spoken>(
+    world: &mut World<O>,
     alloc: Global,
     process: u64,
     most: u64,
 ) -> Result<Answer, AllocError>
-    ensures bench { OnOk result (bench_of world.new ≡ (step_made queue (bench_of world.old) process most).bench) }
-    ensures answer { IfOk result (λ answer. answer_text answer ≡ (step_made queue (bench_of world.old) process most).text) }
+    ensures object { world.new.object ≡ world.old.object }
+    ensures bench { OnOk result (bench_of world.new ≡ (step_made (language_of O.initial O.next O.answer O.inv_of_words O.inv_words O.resp_bytes world.old.object) (bench_of world.old) process most).bench) }
+    ensures answer { IfOk result (λ answer. answer_text answer ≡ (step_made (language_of O.initial O.next O.answer O.inv_of_words O.inv_words O.resp_bytes world.old.object) (bench_of world.old) process most).text) }
     ensures over { IfOk result (λ answer. most_steps (shown world.old).n ≤ most → IsOver answer) }
 {
     if process >= world.processes() {
@@ -120,7 +126,7 @@ fn step(
     let Some(response) = response else {
         return Ok(Answer::Going { call, steps, turns });
     };
-    let reply = QueueObject::resp_text(alloc, response)?;
+    let reply = O::resp_text(alloc, response)?;
     Ok(Answer::Returned {
         call,
         reply,
@@ -133,15 +139,16 @@ fn step(
 /// the response, where it returns. It does within the bound on a call.
 ///
 /// An `Err` says that memory was refused.
-fn step_on(
-    world: &mut World<QueueObject>,
+fn step_on<O: Spoken>(
+    world: &mut World<O>,
     alloc: Global,
     process: u64,
     most: u64,
-) -> Result<Option<QueueResp>, AllocError>
+) -> Result<Option<O::Resp>, AllocError>
     requires process { process < (shown world.old).n }
     requires pending { IsSome ((shown world.old).call process) }
-    ensures stepped { IfOk result (λ response. record { world = shown world.new; response = response } ≡ steps_taken queue most (shown world.old) process) }
+    ensures stepped { IfOk result (λ response. record { world = shown world.new; response = response } ≡ steps_taken (language_of O.initial O.next O.answer O.inv_of_words O.inv_words O.resp_bytes world.old.object) most (shown world.old) process) }
+    ensures object { world.new.object ≡ world.old.object }
     ensures kept { (world.new.row ≡ world.old.row) × ((shown world.new).n ≡ (shown world.old).n) }
     ensures over { IfOk result (λ response. most_steps (shown world.old).n ≤ most → IsSome response) }
 {
@@ -160,7 +167,7 @@ fn step_on(
 /// Writes the line of the heads after a text.
 ///
 /// An `Err` says that memory was refused.
-fn push_heads(world: &World<QueueObject>, text: &mut Vec<u8>) -> Result<(), AllocError>
+fn push_heads<O: Spoken>(world: &World<O>, text: &mut Vec<u8>) -> Result<(), AllocError>
     ensures { OnOk result (text.new.items ≡ text.old.items ++ heads_text (shown world.now).n (head_seq (shown world.now).memory)) }
 {
     write!(text, "heads").map_err(|_| AllocError)?;
@@ -171,7 +178,7 @@ fn push_heads(world: &World<QueueObject>, text: &mut Vec<u8>) -> Result<(), Allo
 /// Writes the number of each head after a text, with a space before each.
 ///
 /// An `Err` says that memory was refused.
-fn push_numbers(world: &World<QueueObject>, text: &mut Vec<u8>) -> Result<(), AllocError>
+fn push_numbers<O: Spoken>(world: &World<O>, text: &mut Vec<u8>) -> Result<(), AllocError>
     ensures { OnOk result (text.new.items ≡ text.old.items ++ numbers_text (shown world.now).n (head_seq (shown world.now).memory)) }
 {
     for process in 0..world.processes() {
@@ -183,12 +190,12 @@ fn push_numbers(world: &World<QueueObject>, text: &mut Vec<u8>) -> Result<(), Al
 /// Writes the log after a text.
 ///
 /// An `Err` says that memory was refused.
-fn push_log(world: &World<QueueObject>, alloc: Global, text: &mut Vec<u8>) -> Result<(), AllocError>
-    ensures { OnOk result (text.new.items ≡ text.old.items ++ log_text queue (shown world.now)) }
+fn push_log<O: Spoken>(world: &World<O>, alloc: Global, text: &mut Vec<u8>) -> Result<(), AllocError>
+    ensures { OnOk result (text.new.items ≡ text.old.items ++ log_text (language_of O.initial O.next O.answer O.inv_of_words O.inv_words O.resp_bytes world.now.object) (shown world.now)) }
 {
     let entries = Log::of(world).entries(alloc)?;
     for entry in &entries {
-        push_entry(text, alloc, entry)?;
+        push_entry::<O>(text, alloc, entry)?;
     }
     Ok(())
 }
@@ -196,15 +203,15 @@ fn push_log(world: &World<QueueObject>, alloc: Global, text: &mut Vec<u8>) -> Re
 /// Writes an entry of the log and the end of its line after a text.
 ///
 /// An `Err` says that memory was refused.
-fn push_entry(
+fn push_entry<O: Spoken>(
     text: &mut Vec<u8>,
     alloc: Global,
-    entry: &Entry<QueueInv, QueueResp>,
+    entry: &Entry<O::Inv, O::Resp>,
 ) -> Result<(), AllocError>
-    ensures { OnOk result (text.new.items ≡ text.old.items ++ entry_text queue.inv_text queue.resp_text (entry_shown entry.now)) }
+    ensures { OnOk result (text.new.items ≡ text.old.items ++ entry_text (λ inv. text_of_words (O.inv_words inv)) O.resp_bytes (entry_shown entry.now)) }
 {
-    let inv = QueueObject::inv_text(alloc, &entry.inv)?;
-    let reply = reply_of(alloc, entry.reply)?;
+    let inv = O::inv_text(alloc, &entry.inv)?;
+    let reply = reply_of::<O>(alloc, entry.reply)?;
     write!(text, "{} {} ", entry.seq, entry.call).map_err(|_| AllocError)?;
     text.extend_from_slice(&inv)?;
     write!(text, " -> ").map_err(|_| AllocError)?;
@@ -215,11 +222,11 @@ fn push_entry(
 /// The text of a response in the log: a question mark where there is none yet.
 ///
 /// An `Err` says that memory was refused.
-fn reply_of(alloc: Global, reply: Option<QueueResp>) -> Result<Vec<u8>, AllocError>
-    ensures { IfOk result (λ text. text.items ≡ option_map_or queue.resp_text reply (codes "?")) }
+fn reply_of<O: Spoken>(alloc: Global, reply: Option<O::Resp>) -> Result<Vec<u8>, AllocError>
+    ensures { IfOk result (λ text. text.items ≡ option_map_or O.resp_bytes reply (codes "?")) }
 {
     match reply {
-        Some(response) => QueueObject::resp_text(alloc, response),
+        Some(response) => O::resp_text(alloc, response),
         None => {
             let mut text = Vec::new(alloc);
             text.push(b'?')?;

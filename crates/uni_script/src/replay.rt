@@ -134,7 +134,7 @@ fn run_line(
             let Some(header) = header_of(words.as_slice()) else {
                 return Err(BenchFault::BadHeader(number));
             };
-            let Ok(world) = open(alloc, header) else {
+            let Ok(world) = open(alloc, QueueObject, header) else {
                 return Err(BenchFault::Memory);
             };
             Ok(Some(world))

@@ -5,4 +5,4 @@ use Rattle.uni_script.specs.Answers.{numbers_text}
 use Rattle.uni_script.proofs.commands.push_numbers.Given as goal
 
 abbrev pub invariant-loop-process : goal.invariant-loop-process
-invariant-loop-process l = l.text.items ≡ l.initial.text.items ++ numbers_text l.process (head_seq (shown l.world).memory)
+invariant-loop-process g l = l.text.items ≡ l.initial.text.items ++ numbers_text l.process (head_seq (shown l.world).memory)
