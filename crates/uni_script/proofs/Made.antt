@@ -84,3 +84,8 @@ module _ {S I R : Type 0} (o : Language S I R) (b : Bench S I R) (p : ℕ) where
 pub OnOk-always : {A E P : Type 0} (r : Result A E) → P → OnOk r P
 OnOk-always (Ok x) p = p
 OnOk-always (Err e) p = tt
+
+-- a fact of everything, where a result is good, is one of this
+pub OnOk-at : {A E X : Type 0} (r : Result A E) (P : X → Type 0) (a : X) → OnOk r ((x : X) → P x) → OnOk r (P a)
+OnOk-at (Ok y) P a h = h a
+OnOk-at (Err e) P a h = tt

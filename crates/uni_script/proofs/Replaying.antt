@@ -12,117 +12,121 @@ use Rattle.std.specs.List.{list_all}
 use Rattle.ready_objects.specs.Words.{words_of_text}
 use Rattle.uni_script.specs.Answers.{end_text}
 use Rattle.uni_script.specs.Script.{cut, lines_of, is_plain_byte, is_note, header_of_words, command_of_words}
-use Rattle.uni_script.specs.Meaning.{Language, Bench, bench_opened, made, went_on, Outcome, queue, faulted, and_then, and_then_from, words_run, line_run, lines_run, end_run, script_run}
+use Rattle.uni_script.specs.Meaning.{Language, Bench, AnyBench, any_opened, made, went_on, Outcome, queue, directory, book, sticky, command_run, faulted, and_then, and_then_from, words_run, line_run, lines_run, end_run, script_run}
+use Rattle.uni_script.specs.Meaning.AnyBench.{OfQueue, OfDirectory, OfBook, OfSticky}
 use Rattle.uni_script.specs.Reading.{lines_read, stop_run, read_run, StopsAt, IsRead, EndsAs}
 use Rattle.uni_script.specs.Replays.{IsInput, IsReplay, IsPartOfReplay, HasAnswered, IsFaultOfScript, text_of_script}
 use Rattle.uni_script.proofs.Cutting.{GoesOn-start, GoesOn-start_other, GoesOn-after, lines_of-append}
 use Rattle.uni_script.proofs.Running.{after_text, and_then-same, and_then-assoc, and_then-none, and_then-some, lines_run-append, lines_run-too_long, lines_run-too_many}
 use Rattle.uni_script.proofs.ByteByByte.{other_byte}
 use Rattle.uni_script.proofs.Written.{IsWritten-start}
-use Rattle.ready_objects.specs.declared.queue.QueueInv.{QueueInv}
-use Rattle.ready_objects.specs.declared.queue.QueueResp.{QueueResp}
 
 -- each fault that an outcome has is one of these
-abbrev FaultsOnly : {S I R : Type 0} → (BenchFault → Type 0) → Outcome S I R → Type 0
+abbrev FaultsOnly : (BenchFault → Type 0) → Outcome → Type 0
 FaultsOnly P outcome = (e : BenchFault) → outcome.fault ≡ Some e → P e
 
-module _ {S I R : Type 0} (P : BenchFault → Type 0) where
-  FaultsOnly-faulted : (b : Option (Bench S I R)) (f : BenchFault) → P f → FaultsOnly P (faulted b f)
+module _ (P : BenchFault → Type 0) where
+  FaultsOnly-faulted : (b : Option AnyBench) (f : BenchFault) → P f → FaultsOnly P (faulted b f)
   FaultsOnly-faulted b f p e q = subst P (same q) p
     where
       same : Some f ≡ Some e → f ≡ e
       same q = cc
 
-  FaultsOnly-none : (b : Option (Bench S I R)) (text : List ℕ) → FaultsOnly P (record { bench = b; text = text; fault = None })
+  FaultsOnly-none : (b : Option AnyBench) (text : List ℕ) → FaultsOnly P (record { bench = b; text = text; fault = None })
   FaultsOnly-none b text e q = absurd (let f : None ≡ Some e = q in cc)
 
-  FaultsOnly-if : (c : Bool) (x y : Outcome S I R) → FaultsOnly P x → FaultsOnly P y → FaultsOnly P (if c then x else y)
+  FaultsOnly-if : (c : Bool) (x y : Outcome) → FaultsOnly P x → FaultsOnly P y → FaultsOnly P (if c then x else y)
   FaultsOnly-if true x y p q = p
   FaultsOnly-if false x y p q = q
 
-  FaultsOnly-map_or : {A : Type 0} (f : A → Outcome S I R) (o : Option A) (x : Outcome S I R) → ((a : A) → FaultsOnly P (f a)) → FaultsOnly P x → FaultsOnly P (option_map_or f o x)
+  FaultsOnly-map_or : {A : Type 0} (f : A → Outcome) (o : Option A) (x : Outcome) → ((a : A) → FaultsOnly P (f a)) → FaultsOnly P x → FaultsOnly P (option_map_or f o x)
   FaultsOnly-map_or f None x p q = q
   FaultsOnly-map_or f (Some a) x p q = p a
 
-  FaultsOnly-and_then : (first : Outcome S I R) (rest : Option (Bench S I R) → Outcome S I R) → FaultsOnly P first → ((b : Option (Bench S I R)) → FaultsOnly P (rest b)) → FaultsOnly P (and_then first rest)
+  FaultsOnly-and_then : (first : Outcome) (rest : Option AnyBench → Outcome) → FaultsOnly P first → ((b : Option AnyBench) → FaultsOnly P (rest b)) → FaultsOnly P (and_then first rest)
   FaultsOnly-and_then first rest p q = at first.fault refl
     where
       at : (f : Option BenchFault) → first.fault ≡ f → FaultsOnly P (and_then_from first (rest first.bench) f)
       at None e = q first.bench
       at (Some f) e = p
 
-module _ {S I R : Type 0} (o : Language S I R) where
-  FaultsOnly-words_run : (number : ℕ) (b : Option (Bench S I R)) (words : List (List ℕ)) → FaultsOnly IsFaultOfScript (words_run o number b words)
-  FaultsOnly-words_run number None words =
-      FaultsOnly-map_or IsFaultOfScript (λ header. went_on (bench_opened o header) []) (header_of_words words) (faulted None (fault.BadHeader number))
-      (λ header. FaultsOnly-none IsFaultOfScript (Some (bench_opened o header)) []) (FaultsOnly-faulted {S = S} {I = I} {R = R} IsFaultOfScript None (fault.BadHeader number) tt)
-  FaultsOnly-words_run number (Some b) words =
-      FaultsOnly-map_or IsFaultOfScript (λ command. went_on (made o b command).bench (made o b command).text) (command_of_words o.inv_of_words words) (faulted (Some b) (fault.BadLine number))
-      (λ command. FaultsOnly-none IsFaultOfScript (Some (made o b command).bench) (made o b command).text) (FaultsOnly-faulted IsFaultOfScript (Some b) (fault.BadLine number) tt)
+FaultsOnly-command_run : {S I R : Type 0} (o : Language S I R) (inside : Bench S I R → AnyBench) (number : ℕ) (b : Bench S I R) (words : List (List ℕ)) → FaultsOnly IsFaultOfScript (command_run o inside number b words)
+FaultsOnly-command_run o inside number b words =
+    FaultsOnly-map_or IsFaultOfScript (λ command. went_on (inside (made o b command).bench) (made o b command).text) (command_of_words o.inv_of_words words) (faulted (Some (inside b)) (fault.BadLine number))
+    (λ command. FaultsOnly-none IsFaultOfScript (Some (inside (made o b command).bench)) (made o b command).text) (FaultsOnly-faulted IsFaultOfScript (Some (inside b)) (fault.BadLine number) tt)
 
-  FaultsOnly-line_run : (number : ℕ) (b : Option (Bench S I R)) (line : List ℕ) → FaultsOnly IsFaultOfScript (line_run o number b line)
-  FaultsOnly-line_run number b line =
-      let worded : Outcome S I R = words_run o number b (words_of_text line) in
-      let noted : Outcome S I R = record { bench = b; text = []; fault = None } in
-      let plain : Outcome S I R = if is_note line then noted else worded in
-      let short : Outcome S I R = if not (list_all is_plain_byte line) then faulted b (fault.BadByte number) else plain in
-      let counted : Outcome S I R = if nat_lt 200 (length line) then faulted b (fault.TooLong number) else short in
-      FaultsOnly-if IsFaultOfScript (nat_lt 100000 number) (faulted b fault.TooMany) counted (FaultsOnly-faulted IsFaultOfScript b fault.TooMany tt)
-      (FaultsOnly-if IsFaultOfScript (nat_lt 200 (length line)) (faulted b (fault.TooLong number)) short (FaultsOnly-faulted IsFaultOfScript b (fault.TooLong number) tt)
-      (FaultsOnly-if IsFaultOfScript (not (list_all is_plain_byte line)) (faulted b (fault.BadByte number)) plain (FaultsOnly-faulted IsFaultOfScript b (fault.BadByte number) tt)
-      (FaultsOnly-if IsFaultOfScript (is_note line) noted worded (FaultsOnly-none IsFaultOfScript b []) (FaultsOnly-words_run number b (words_of_text line)))))
+FaultsOnly-words_run : (number : ℕ) (b : Option AnyBench) (words : List (List ℕ)) → FaultsOnly IsFaultOfScript (words_run number b words)
+FaultsOnly-words_run number None words =
+    FaultsOnly-map_or IsFaultOfScript (λ header. went_on (any_opened header) []) (header_of_words words) (faulted None (fault.BadHeader number))
+    (λ header. FaultsOnly-none IsFaultOfScript (Some (any_opened header)) []) (FaultsOnly-faulted IsFaultOfScript None (fault.BadHeader number) tt)
+FaultsOnly-words_run number (Some (OfQueue b)) words = FaultsOnly-command_run queue OfQueue number b words
+FaultsOnly-words_run number (Some (OfDirectory b)) words = FaultsOnly-command_run directory OfDirectory number b words
+FaultsOnly-words_run number (Some (OfBook b)) words = FaultsOnly-command_run book OfBook number b words
+FaultsOnly-words_run number (Some (OfSticky b)) words = FaultsOnly-command_run sticky OfSticky number b words
 
-  FaultsOnly-lines_run : (number : ℕ) (b : Option (Bench S I R)) (lines : List (List ℕ)) → FaultsOnly IsFaultOfScript (lines_run o number b lines)
-  FaultsOnly-lines_run number b [] = FaultsOnly-none IsFaultOfScript b []
-  FaultsOnly-lines_run number b (line ∷ lines) =
-      FaultsOnly-and_then IsFaultOfScript (line_run o number b line) (λ after. lines_run o (number + 1) after lines) (FaultsOnly-line_run number b line) (λ after. FaultsOnly-lines_run (number + 1) after lines)
+FaultsOnly-line_run : (number : ℕ) (b : Option AnyBench) (line : List ℕ) → FaultsOnly IsFaultOfScript (line_run number b line)
+FaultsOnly-line_run number b line =
+    let worded : Outcome = words_run number b (words_of_text line) in
+    let noted : Outcome = record { bench = b; text = []; fault = None } in
+    let plain : Outcome = if is_note line then noted else worded in
+    let short : Outcome = if not (list_all is_plain_byte line) then faulted b (fault.BadByte number) else plain in
+    let counted : Outcome = if nat_lt 200 (length line) then faulted b (fault.TooLong number) else short in
+    FaultsOnly-if IsFaultOfScript (nat_lt 100000 number) (faulted b fault.TooMany) counted (FaultsOnly-faulted IsFaultOfScript b fault.TooMany tt)
+    (FaultsOnly-if IsFaultOfScript (nat_lt 200 (length line)) (faulted b (fault.TooLong number)) short (FaultsOnly-faulted IsFaultOfScript b (fault.TooLong number) tt)
+    (FaultsOnly-if IsFaultOfScript (not (list_all is_plain_byte line)) (faulted b (fault.BadByte number)) plain (FaultsOnly-faulted IsFaultOfScript b (fault.BadByte number) tt)
+    (FaultsOnly-if IsFaultOfScript (is_note line) noted worded (FaultsOnly-none IsFaultOfScript b []) (FaultsOnly-words_run number b (words_of_text line)))))
 
-  FaultsOnly-end_run : (lines : ℕ) (b : Option (Bench S I R)) → FaultsOnly IsFaultOfScript (end_run lines b)
-  FaultsOnly-end_run lines None = FaultsOnly-faulted {S = S} {I = I} {R = R} IsFaultOfScript None (NoHeader (lines + 1)) tt
-  FaultsOnly-end_run lines (Some b) = FaultsOnly-none IsFaultOfScript (Some b) end_text
+FaultsOnly-lines_run : (number : ℕ) (b : Option AnyBench) (lines : List (List ℕ)) → FaultsOnly IsFaultOfScript (lines_run number b lines)
+FaultsOnly-lines_run number b [] = FaultsOnly-none IsFaultOfScript b []
+FaultsOnly-lines_run number b (line ∷ lines) =
+    FaultsOnly-and_then IsFaultOfScript (line_run number b line) (λ after. lines_run (number + 1) after lines) (FaultsOnly-line_run number b line) (λ after. FaultsOnly-lines_run (number + 1) after lines)
 
-  -- a line that ends the run
-  run_stopped : (before : List (List ℕ)) (line : List ℕ) (lines : List (List ℕ)) (f : BenchFault) (rest : Option (Bench S I R) → Outcome S I R)
-      → ((b : Option (Bench S I R)) → lines_run o (1 + length before) b (line ∷ lines) ≡ faulted b f)
-      → and_then (lines_run o 1 None (before ++ line ∷ lines)) rest ≡ and_then (lines_run o 1 None before) (λ b. faulted b f)
-  run_stopped before line lines f rest stops =
-      ap (λ run. and_then run rest) (lines_run-append o 1 None before (line ∷ lines))
-      ∙ and_then-assoc (lines_run o 1 None before) (λ b. lines_run o (1 + length before) b (line ∷ lines)) rest
-      ∙ and_then-same (lines_run o 1 None before) (λ b. and_then (lines_run o (1 + length before) b (line ∷ lines)) rest) (λ b. faulted b f) (λ b. ap (λ run. and_then run rest) (stops b))
+FaultsOnly-end_run : (lines : ℕ) (b : Option AnyBench) → FaultsOnly IsFaultOfScript (end_run lines b)
+FaultsOnly-end_run lines None = FaultsOnly-faulted IsFaultOfScript None (NoHeader (lines + 1)) tt
+FaultsOnly-end_run lines (Some b) = FaultsOnly-none IsFaultOfScript (Some b) end_text
 
-  -- a script that was read to its end, or to a byte that it may not have, comes to what was read of it
-  pub script_run-read : (stop : Stop) (bytes past : List ℕ) (left : Option (List ℕ)) → StopsAt stop bytes past left → (stop ≡ Failed → ⊥) → script_run o (bytes ++ past) ≡ read_run o stop bytes
-  script_run-read End bytes past left at other = rw at.0 (rw (append-nil bytes) refl)
-  script_run-read Failed bytes past left at other = absurd (other refl)
-  script_run-read TooLong bytes past left at other =
-      let few = at.0 in
-      let wide = at.1 in
-      let g = GoesOn-after bytes (at.2.0 ∷ at.2.1) 1 (GoesOn-start_other at.2.0 at.2.1 (other_byte at.2.0 at.2.3)) in
-      let long = g.long in
-      let next : 1 + length (cut bytes).whole ≡ length (cut bytes).whole + 1 = omega arith in
-      ap (λ p. script_run o (bytes ++ p)) at.2.2
-      ∙ ap (λ lines. and_then (lines_run o 1 None lines) (λ after. end_run (length lines) after)) g.cut_as
-      ∙ run_stopped (cut bytes).whole g.line g.lines (fault.TooLong (length (cut bytes).whole + 1)) (λ after. end_run (length ((cut bytes).whole ++ g.line ∷ g.lines)) after)
-      (λ b. rw next (lines_run-too_long o (length (cut bytes).whole + 1) b g.line g.lines (omega arith) (omega arith)))
-  script_run-read TooMany bytes past left at other =
-      let g = GoesOn-after bytes (at.1.0 ∷ at.1.1) 0 (GoesOn-start at.1.0 at.1.1) in
-      let many = at.0 in
-      let next : 1 + length (cut bytes).whole ≡ 100001 = omega arith in
-      ap (λ p. script_run o (bytes ++ p)) at.1.2
-      ∙ ap (λ lines. and_then (lines_run o 1 None lines) (λ after. end_run (length lines) after)) g.cut_as
-      ∙ run_stopped (cut bytes).whole g.line g.lines fault.TooMany (λ after. end_run (length ((cut bytes).whole ++ g.line ∷ g.lines)) after) (λ b. rw next (lines_run-too_many o b g.line g.lines))
+-- a line that ends the run
+run_stopped : (before : List (List ℕ)) (line : List ℕ) (lines : List (List ℕ)) (f : BenchFault) (rest : Option AnyBench → Outcome)
+    → ((b : Option AnyBench) → lines_run (1 + length before) b (line ∷ lines) ≡ faulted b f)
+    → and_then (lines_run 1 None (before ++ line ∷ lines)) rest ≡ and_then (lines_run 1 None before) (λ b. faulted b f)
+run_stopped before line lines f rest stops =
+    ap (λ run. and_then run rest) (lines_run-append 1 None before (line ∷ lines))
+    ∙ and_then-assoc (lines_run 1 None before) (λ b. lines_run (1 + length before) b (line ∷ lines)) rest
+    ∙ and_then-same (lines_run 1 None before) (λ b. and_then (lines_run (1 + length before) b (line ∷ lines)) rest) (λ b. faulted b f) (λ b. ap (λ run. and_then run rest) (stops b))
 
-  -- a script goes on after its whole lines
-  script_run-whole : (bytes past : List ℕ) → (rest : Option (Bench S I R) → Outcome S I R) × (script_run o (bytes ++ past) ≡ and_then (lines_run o 1 None (cut bytes).whole) rest)
-  script_run-whole bytes past =
-      let more = lines_of ((cut bytes).tail ++ past) in
-      let number = 1 + length (cut bytes).whole in
-      let finish : Option (Bench S I R) → Outcome S I R = λ after. end_run (length ((cut bytes).whole ++ more)) after in (
-        (λ b. and_then (lines_run o number b more) finish),
-        ap (λ lines. and_then (lines_run o 1 None lines) (λ after. end_run (length lines) after)) (lines_of-append bytes past)
-            ∙ ap (λ run. and_then run finish) (lines_run-append o 1 None (cut bytes).whole more)
-            ∙ and_then-assoc (lines_run o 1 None (cut bytes).whole) (λ b. lines_run o number b more) finish,
-      )
+-- a script that was read to its end, or to a byte that it may not have, comes to what was read of it
+pub script_run-read : (stop : Stop) (bytes past : List ℕ) (left : Option (List ℕ)) → StopsAt stop bytes past left → (stop ≡ Failed → ⊥) → script_run (bytes ++ past) ≡ read_run stop bytes
+script_run-read End bytes past left at other = rw at.0 (rw (append-nil bytes) refl)
+script_run-read Failed bytes past left at other = absurd (other refl)
+script_run-read TooLong bytes past left at other =
+    let few = at.0 in
+    let wide = at.1 in
+    let g = GoesOn-after bytes (at.2.0 ∷ at.2.1) 1 (GoesOn-start_other at.2.0 at.2.1 (other_byte at.2.0 at.2.3)) in
+    let long = g.long in
+    let next : 1 + length (cut bytes).whole ≡ length (cut bytes).whole + 1 = omega arith in
+    ap (λ p. script_run (bytes ++ p)) at.2.2
+    ∙ ap (λ lines. and_then (lines_run 1 None lines) (λ after. end_run (length lines) after)) g.cut_as
+    ∙ run_stopped (cut bytes).whole g.line g.lines (fault.TooLong (length (cut bytes).whole + 1)) (λ after. end_run (length ((cut bytes).whole ++ g.line ∷ g.lines)) after)
+    (λ b. rw next (lines_run-too_long (length (cut bytes).whole + 1) b g.line g.lines (omega arith) (omega arith)))
+script_run-read TooMany bytes past left at other =
+    let g = GoesOn-after bytes (at.1.0 ∷ at.1.1) 0 (GoesOn-start at.1.0 at.1.1) in
+    let many = at.0 in
+    let next : 1 + length (cut bytes).whole ≡ 100001 = omega arith in
+    ap (λ p. script_run (bytes ++ p)) at.1.2
+    ∙ ap (λ lines. and_then (lines_run 1 None lines) (λ after. end_run (length lines) after)) g.cut_as
+    ∙ run_stopped (cut bytes).whole g.line g.lines fault.TooMany (λ after. end_run (length ((cut bytes).whole ++ g.line ∷ g.lines)) after) (λ b. rw next (lines_run-too_many b g.line g.lines))
+
+-- a script goes on after its whole lines
+script_run-whole : (bytes past : List ℕ) → (rest : Option AnyBench → Outcome) × (script_run (bytes ++ past) ≡ and_then (lines_run 1 None (cut bytes).whole) rest)
+script_run-whole bytes past =
+    let more = lines_of ((cut bytes).tail ++ past) in
+    let number = 1 + length (cut bytes).whole in
+    let finish : Option AnyBench → Outcome = λ after. end_run (length ((cut bytes).whole ++ more)) after in (
+      (λ b. and_then (lines_run number b more) finish),
+      ap (λ lines. and_then (lines_run 1 None lines) (λ after. end_run (length lines) after)) (lines_of-append bytes past)
+          ∙ ap (λ run. and_then run finish) (lines_run-append 1 None (cut bytes).whole more)
+          ∙ and_then-assoc (lines_run 1 None (cut bytes).whole) (λ b. lines_run number b more) finish,
+    )
 
 -- the bytes that a reader had, where it gave these ones: with what is left, where that is known
 abbrev with_left : (given : List ℕ) → Option (List ℕ) → List ℕ
@@ -165,17 +169,17 @@ is_failed TooLong = inr (λ e. cc)
 is_failed TooMany = inr (λ e. cc)
 
 -- the outcome of the whole lines of some bytes
-abbrev whole_run : List ℕ → Outcome (List ℕ) QueueInv QueueResp
-whole_run bytes = lines_run queue 1 None (cut bytes).whole
+abbrev whole_run : List ℕ → Outcome
+whole_run bytes = lines_run 1 None (cut bytes).whole
 
 -- where the reader failed: the whole lines have the fault, or have none
-failed_run : (bytes : List ℕ) → ((whole_run bytes).fault ≡ None) × (read_run queue Failed bytes ≡ after_text (whole_run bytes).text (faulted (whole_run bytes).bench Read))
-    ⊎ (e : BenchFault) × ((whole_run bytes).fault ≡ Some e) × (read_run queue Failed bytes ≡ whole_run bytes)
+failed_run : (bytes : List ℕ) → ((whole_run bytes).fault ≡ None) × (read_run Failed bytes ≡ after_text (whole_run bytes).text (faulted (whole_run bytes).bench Read))
+    ⊎ (e : BenchFault) × ((whole_run bytes).fault ≡ Some e) × (read_run Failed bytes ≡ whole_run bytes)
 failed_run bytes = at (whole_run bytes).fault refl
   where
     at : (f : Option BenchFault) → (whole_run bytes).fault ≡ f
-        → ((whole_run bytes).fault ≡ None) × (read_run queue Failed bytes ≡ after_text (whole_run bytes).text (faulted (whole_run bytes).bench Read))
-        ⊎ (e : BenchFault) × ((whole_run bytes).fault ≡ Some e) × (read_run queue Failed bytes ≡ whole_run bytes)
+        → ((whole_run bytes).fault ≡ None) × (read_run Failed bytes ≡ after_text (whole_run bytes).text (faulted (whole_run bytes).bench Read))
+        ⊎ (e : BenchFault) × ((whole_run bytes).fault ≡ Some e) × (read_run Failed bytes ≡ whole_run bytes)
     at None e = inl (e, and_then-none (whole_run bytes) (λ b. faulted b Read) e)
     at (Some f) e = inr (f, e, and_then-some (whole_run bytes) (λ b. faulted b Read) f e)
 
@@ -183,28 +187,28 @@ failed_run bytes = at (whole_run bytes).fault refl
 abbrev IsFaultOfRead : BenchFault → Type 0
 IsFaultOfRead e = IsFaultOfScript e ⊎ (e ≡ Read)
 
-FaultsOnly-read_run : (stop : Stop) (bytes : List ℕ) → FaultsOnly IsFaultOfRead (read_run queue stop bytes)
+FaultsOnly-read_run : (stop : Stop) (bytes : List ℕ) → FaultsOnly IsFaultOfRead (read_run stop bytes)
 FaultsOnly-read_run stop bytes =
     let lines = lines_read stop bytes in
-    FaultsOnly-and_then IsFaultOfRead (lines_run queue 1 None lines) (λ after. stop_run stop (length lines) after) (λ e q. inl (FaultsOnly-lines_run queue 1 None lines e q)) (at stop (length lines))
+    FaultsOnly-and_then IsFaultOfRead (lines_run 1 None lines) (λ after. stop_run stop (length lines) after) (λ e q. inl (FaultsOnly-lines_run 1 None lines e q)) (at stop (length lines))
   where
-    at : (s : Stop) (n : ℕ) (b : Option (Bench (List ℕ) QueueInv QueueResp)) → FaultsOnly IsFaultOfRead (stop_run s n b)
-    at End n b = λ e q. inl (FaultsOnly-end_run queue n b e q)
+    at : (s : Stop) (n : ℕ) (b : Option AnyBench) → FaultsOnly IsFaultOfRead (stop_run s n b)
+    at End n b = λ e q. inl (FaultsOnly-end_run n b e q)
     at Failed n b = FaultsOnly-faulted IsFaultOfRead b Read (inr refl)
     at TooLong n b = FaultsOnly-faulted IsFaultOfRead b (fault.TooLong (n + 1)) (inl tt)
     at TooMany n b = FaultsOnly-faulted IsFaultOfRead b fault.TooMany (inl tt)
 
-FaultsOnly-script_run : (bytes : List ℕ) → FaultsOnly IsFaultOfScript (script_run queue bytes)
+FaultsOnly-script_run : (bytes : List ℕ) → FaultsOnly IsFaultOfScript (script_run bytes)
 FaultsOnly-script_run bytes =
-    FaultsOnly-and_then IsFaultOfScript (lines_run queue 1 None (lines_of bytes)) (λ after. end_run (length (lines_of bytes)) after) (FaultsOnly-lines_run queue 1 None (lines_of bytes))
-    (λ b. FaultsOnly-end_run queue (length (lines_of bytes)) b)
+    FaultsOnly-and_then IsFaultOfScript (lines_run 1 None (lines_of bytes)) (λ after. end_run (length (lines_of bytes)) after) (FaultsOnly-lines_run 1 None (lines_of bytes))
+    (λ b. FaultsOnly-end_run (length (lines_of bytes)) b)
 
 -- only a script that was read to its end has no fault
-end_of_run : (stop : Stop) (bytes : List ℕ) → (read_run queue stop bytes).fault ≡ None → stop ≡ End
-end_of_run stop bytes none = at (lines_run queue 1 None (lines_read stop bytes)).fault refl stop (length (lines_read stop bytes)) none
+end_of_run : (stop : Stop) (bytes : List ℕ) → (read_run stop bytes).fault ≡ None → stop ≡ End
+end_of_run stop bytes none = at (lines_run 1 None (lines_read stop bytes)).fault refl stop (length (lines_read stop bytes)) none
   where
-    at : (f : Option BenchFault) → (lines_run queue 1 None (lines_read stop bytes)).fault ≡ f → (s : Stop) (n : ℕ)
-        → (and_then_from (lines_run queue 1 None (lines_read stop bytes)) (stop_run s n (lines_run queue 1 None (lines_read stop bytes)).bench) f).fault ≡ None → s ≡ End
+    at : (f : Option BenchFault) → (lines_run 1 None (lines_read stop bytes)).fault ≡ f → (s : Stop) (n : ℕ)
+        → (and_then_from (lines_run 1 None (lines_read stop bytes)) (stop_run s n (lines_run 1 None (lines_read stop bytes)).bench) f).fault ≡ None → s ≡ End
     at None g End n e = refl
     at None g Failed n e = absurd (let h : Some Read ≡ None = e in cc)
     at None g TooLong n e = absurd (let h : Some (fault.TooLong (n + 1)) ≡ None = e in cc)
@@ -221,20 +225,20 @@ module _ (left left_after : Option (List ℕ)) (stop : Stop) (bytes : List ℕ) 
   is_input : IsInput left script
   is_input = IsInput-with_left left left_after (bytes ++ is.past) is.consumed
 
-  same_run : (stop ≡ Failed → ⊥) → script_run queue script ≡ read_run queue stop bytes
+  same_run : (stop ≡ Failed → ⊥) → script_run script ≡ read_run stop bytes
   same_run other =
-      ap (λ s. script_run queue s) script_is
-      ∙ script_run-read queue stop bytes (past_left is.past left_after) left_after (StopsAt-past_left stop bytes is.past left_after is.stops other) other
+      ap (λ s. script_run s) script_is
+      ∙ script_run-read stop bytes (past_left is.past left_after) left_after (StopsAt-past_left stop bytes is.past left_after is.stops other) other
 
   -- the whole script goes on after the whole lines
-  goes_on : (rest : Option (Bench (List ℕ) QueueInv QueueResp) → Outcome (List ℕ) QueueInv QueueResp) × (script_run queue script ≡ and_then (whole_run bytes) rest)
-  goes_on = let whole = script_run-whole queue bytes (past_left is.past left_after) in (whole.0, ap (λ s. script_run queue s) script_is ∙ whole.1)
+  goes_on : (rest : Option AnyBench → Outcome) × (script_run script ≡ and_then (whole_run bytes) rest)
+  goes_on = let whole = script_run-whole bytes (past_left is.past left_after) in (whole.0, ap (λ s. script_run s) script_is ∙ whole.1)
 
-  read_failed : stop ≡ Failed → read_run queue stop bytes ≡ read_run queue Failed bytes
-  read_failed failed = ap (λ s. read_run queue s bytes) failed
+  read_failed : stop ≡ Failed → read_run stop bytes ≡ read_run Failed bytes
+  read_failed failed = ap (λ s. read_run s bytes) failed
 
   -- what was read has a fault of the script: the script has it, after the same answers
-  same_fault : (e : BenchFault) → (read_run queue stop bytes).fault ≡ Some e → IsFaultOfScript e → script_run queue script ≡ read_run queue stop bytes
+  same_fault : (e : BenchFault) → (read_run stop bytes).fault ≡ Some e → IsFaultOfScript e → script_run script ≡ read_run stop bytes
   same_fault e has own = elim (is_failed stop) [
     | inr other ↦ same_run other
     | inl failed ↦ elim (failed_run bytes) [
@@ -243,88 +247,88 @@ module _ (left left_after : Option (List ℕ)) (stop : Stop) (bytes : List ℕ) 
     ]
   ]
     where
-      fault_of : Outcome (List ℕ) QueueInv QueueResp → Option BenchFault
+      fault_of : Outcome → Option BenchFault
       fault_of o = o.fault
 
       same : Some Read ≡ Some e → e ≡ Read
       same h = cc
 
   -- the answers to what was read are the first of the script's
-  pub part_of : (old new : Option (List ℕ)) → AppendsFront old new (read_run queue stop bytes).text → IsPartOfReplay left old new
+  pub part_of : (old new : Option (List ℕ)) → AppendsFront old new (read_run stop bytes).text → IsPartOfReplay left old new
   part_of old new front = (
     script,
     is_input,
     elim (is_failed stop) [
-      | inr other ↦ subst (λ (o : Outcome (List ℕ) QueueInv QueueResp). AppendsFront old new o.text) (sym (same_run other)) front
+      | inr other ↦ subst (λ (o : Outcome). AppendsFront old new o.text) (sym (same_run other)) front
       | inl failed ↦ elim (failed_run bytes) [
         | inl clean ↦
-            let whole = subst (AppendsFront old new) (ap (λ (o : Outcome (List ℕ) QueueInv QueueResp). o.text) (read_failed failed ∙ clean.1) ∙ append-nil (whole_run bytes).text) front in
-            subst (λ (o : Outcome (List ℕ) QueueInv QueueResp). AppendsFront old new o.text) (sym (goes_on.1 ∙ and_then-none (whole_run bytes) goes_on.0 clean.0))
+            let whole = subst (AppendsFront old new) (ap (λ (o : Outcome). o.text) (read_failed failed ∙ clean.1) ∙ append-nil (whole_run bytes).text) front in
+            subst (λ (o : Outcome). AppendsFront old new o.text) (sym (goes_on.1 ∙ and_then-none (whole_run bytes) goes_on.0 clean.0))
             (AppendsFront-more old new (whole_run bytes).text (goes_on.0 (whole_run bytes).bench).text whole)
         | inr some ↦
-            subst (λ (o : Outcome (List ℕ) QueueInv QueueResp). AppendsFront old new o.text) (read_failed failed ∙ some.2 ∙ sym (goes_on.1 ∙ and_then-some (whole_run bytes) goes_on.0 some.0 some.1)) front
+            subst (λ (o : Outcome). AppendsFront old new o.text) (read_failed failed ∙ some.2 ∙ sym (goes_on.1 ∙ and_then-some (whole_run bytes) goes_on.0 some.0 some.1)) front
       ]
     ],
   )
 
   -- the script has this outcome, and the text of its answers was written
-  replayed_as : (old new : Option (List ℕ)) (answers : List ℕ) (f : Option BenchFault) → script_run queue script ≡ read_run queue stop bytes → (read_run queue stop bytes).fault ≡ f
-      → answers ≡ (read_run queue stop bytes).text → Appends old new answers → IsReplay left old new f
+  replayed_as : (old new : Option (List ℕ)) (answers : List ℕ) (f : Option BenchFault) → script_run script ≡ read_run stop bytes → (read_run stop bytes).fault ≡ f
+      → answers ≡ (read_run stop bytes).text → Appends old new answers → IsReplay left old new f
   replayed_as old new answers f same has text appends = (
     script,
     is_input,
-    ap (λ (o : Outcome (List ℕ) QueueInv QueueResp). o.fault) same ∙ has,
-    subst (Appends old new) (text ∙ sym (ap (λ (o : Outcome (List ℕ) QueueInv QueueResp). o.text) same)) appends,
+    ap (λ (o : Outcome). o.fault) same ∙ has,
+    subst (Appends old new) (text ∙ sym (ap (λ (o : Outcome). o.text) same)) appends,
   )
 
-  not_failed : (read_run queue stop bytes).fault ≡ None → stop ≡ Failed → ⊥
+  not_failed : (read_run stop bytes).fault ≡ None → stop ≡ Failed → ⊥
   not_failed none failed = let e = end_of_run stop bytes none in let f : End ≡ Failed = sym e ∙ failed in cc
 
-  pub ended-replayed : {A : Type 0} (answers : List ℕ) (result : Result A BenchFault) → EndsAs (read_run queue stop bytes) [] answers result
+  pub ended-replayed : {A : Type 0} (answers : List ℕ) (result : Result A BenchFault) → EndsAs (read_run stop bytes) [] answers result
       → (old new : Option (List ℕ)) → Appends old new answers → OnOk result (IsReplay left old new None)
   ended-replayed answers (Ok x) ends old new appends = replayed_as old new answers None (same_run (not_failed ends.0)) ends.0 ends.1 appends
   ended-replayed answers (Err e) ends old new appends = tt
 
-  pub ended-all_read : {A : Type 0} (answers : List ℕ) (result : Result A BenchFault) → EndsAs (read_run queue stop bytes) [] answers result → OnOk result (stop ≡ End)
+  pub ended-all_read : {A : Type 0} (answers : List ℕ) (result : Result A BenchFault) → EndsAs (read_run stop bytes) [] answers result → OnOk result (stop ≡ End)
   ended-all_read answers (Ok x) ends = end_of_run stop bytes ends.0
   ended-all_read answers (Err e) ends = tt
 
-  pub ended-fault : {A : Type 0} (answers : List ℕ) (result : Result A BenchFault) → EndsAs (read_run queue stop bytes) [] answers result
+  pub ended-fault : {A : Type 0} (answers : List ℕ) (result : Result A BenchFault) → EndsAs (read_run stop bytes) [] answers result
       → (old new : Option (List ℕ)) → Appends old new answers → IfErr result (λ e. IsFaultOfScript e → IsReplay left old new (Some e))
   ended-fault answers (Ok x) ends old new appends = tt
   ended-fault answers (Err e) (inl memory) old new appends = λ own. absurd (subst IsFaultOfScript memory own)
   ended-fault answers (Err e) (inr has) old new appends = λ own. replayed_as old new answers (Some e) (same_fault e has.0 own) has.0 has.1 appends
 
-  pub ended-part : {A : Type 0} (answers : List ℕ) (result : Result A BenchFault) → EndsAs (read_run queue stop bytes) [] answers result
+  pub ended-part : {A : Type 0} (answers : List ℕ) (result : Result A BenchFault) → EndsAs (read_run stop bytes) [] answers result
       → (old new : Option (List ℕ)) → (result ≡ Err Memory → ⊥) → AppendsFront old new answers → IsPartOfReplay left old new
   ended-part answers (Ok x) ends old new other front = part_of old new (subst (AppendsFront old new) ends.1 front)
   ended-part answers (Err e) (inl memory) old new other front = absurd (other (ap Err memory))
   ended-part answers (Err e) (inr has) old new other front = part_of old new (subst (AppendsFront old new) has.1 front)
 
-  pub read_fault : {A : Type 0} (answers : List ℕ) (result : Result A BenchFault) → EndsAs (read_run queue stop bytes) [] answers result → (e : BenchFault) → result ≡ Err e → (e ≡ Memory → ⊥)
-      → ((read_run queue stop bytes).fault ≡ Some e) × (answers ≡ (read_run queue stop bytes).text)
+  pub read_fault : {A : Type 0} (answers : List ℕ) (result : Result A BenchFault) → EndsAs (read_run stop bytes) [] answers result → (e : BenchFault) → result ≡ Err e → (e ≡ Memory → ⊥)
+      → ((read_run stop bytes).fault ≡ Some e) × (answers ≡ (read_run stop bytes).text)
   read_fault answers (Ok x) ends e is_err other = absurd (let f : Ok x ≡ Err e = is_err in cc)
   read_fault answers (Err f) (inl memory) e is_err other = absurd (let g : Err f ≡ Err e = is_err in other cc)
-  read_fault answers (Err f) (inr has) e is_err other = (let g : Err f ≡ Err e = is_err in let h : f ≡ e = cc in subst (λ x. (read_run queue stop bytes).fault ≡ Some x) h has.0, has.1)
+  read_fault answers (Err f) (inr has) e is_err other = (let g : Err f ≡ Err e = is_err in let h : f ≡ e = cc in subst (λ x. (read_run stop bytes).fault ≡ Some x) h has.0, has.1)
 
-  not_own : (e : BenchFault) → (read_run queue stop bytes).fault ≡ Some e → (IsFaultOfScript e → ⊥) → e ≡ Read
+  not_own : (e : BenchFault) → (read_run stop bytes).fault ≡ Some e → (IsFaultOfScript e → ⊥) → e ≡ Read
   not_own e has other = elim (FaultsOnly-read_run stop bytes e has) [ inl own ↦ absurd (other own) | inr read ↦ read ]
 
-  pub ended-writer : {A : Type 0} (answers : List ℕ) (result : Result A BenchFault) → EndsAs (read_run queue stop bytes) [] answers result → result ≡ Err Write → ⊥
+  pub ended-writer : {A : Type 0} (answers : List ℕ) (result : Result A BenchFault) → EndsAs (read_run stop bytes) [] answers result → result ≡ Err Write → ⊥
   ended-writer answers result ends e =
       let has = read_fault answers result ends Write e (λ f. cc) in
       let f : Write ≡ Read = not_own Write has.0 (λ own. own) in cc
 
-  pub ended-reader : {A : Type 0} (answers : List ℕ) (result : Result A BenchFault) → EndsAs (read_run queue stop bytes) [] answers result → result ≡ Err Read → stop ≡ Failed
+  pub ended-reader : {A : Type 0} (answers : List ℕ) (result : Result A BenchFault) → EndsAs (read_run stop bytes) [] answers result → result ≡ Err Read → stop ≡ Failed
   ended-reader answers result ends e = elim (is_failed stop) [
     | inl failed ↦ failed
     | inr other ↦ absurd (own_fault (read_fault answers result ends Read e (λ f. cc)).0 (same_run other))
   ]
     where
-      own_fault : (read_run queue stop bytes).fault ≡ Some Read → script_run queue script ≡ read_run queue stop bytes → ⊥
-      own_fault has same = FaultsOnly-script_run script Read (ap (λ (o : Outcome (List ℕ) QueueInv QueueResp). o.fault) same ∙ has)
+      own_fault : (read_run stop bytes).fault ≡ Some Read → script_run script ≡ read_run stop bytes → ⊥
+      own_fault has same = FaultsOnly-script_run script Read (ap (λ (o : Outcome). o.fault) same ∙ has)
 
-  pub ended-read : {A : Type 0} (answers : List ℕ) (result : Result A BenchFault) → EndsAs (read_run queue stop bytes) [] answers result
+  pub ended-read : {A : Type 0} (answers : List ℕ) (result : Result A BenchFault) → EndsAs (read_run stop bytes) [] answers result
       → (old new : Option (List ℕ)) → Appends old new answers → result ≡ Err Read → HasAnswered left left_after old new
   ended-read answers result ends old new appends e =
       let failed = ended-reader answers result ends e in
@@ -332,14 +336,14 @@ module _ (left left_after : Option (List ℕ)) (stop : Stop) (bytes : List ℕ) 
       let nothing_past = subst (λ s. StopsAt s bytes is.past left_after) failed is.stops in
       let given = subst (Consumes left left_after) (ap (λ p. bytes ++ p) nothing_past ∙ append-nil bytes) is.consumed in
       elim (failed_run bytes) [
-        | inl clean ↦ (bytes, given, clean.0, subst (Appends old new) (has.1 ∙ ap (λ (o : Outcome (List ℕ) QueueInv QueueResp). o.text) (read_failed failed ∙ clean.1) ∙ append-nil (whole_run bytes).text) appends)
-        | inr some ↦ absurd (FaultsOnly-lines_run queue 1 None (cut bytes).whole Read (sym (ap (λ (o : Outcome (List ℕ) QueueInv QueueResp). o.fault) (read_failed failed ∙ some.2)) ∙ has.0))
+        | inl clean ↦ (bytes, given, clean.0, subst (Appends old new) (has.1 ∙ ap (λ (o : Outcome). o.text) (read_failed failed ∙ clean.1) ∙ append-nil (whole_run bytes).text) appends)
+        | inr some ↦ absurd (FaultsOnly-lines_run 1 None (cut bytes).whole Read (sym (ap (λ (o : Outcome). o.fault) (read_failed failed ∙ some.2)) ∙ has.0))
       ]
 
 pub EndsAs-from : {A : Type 0} (stop : Stop) (bytes slice old answers : List ℕ) (result : Result A BenchFault) → slice ≡ bytes → old ≡ []
-    → EndsAs (read_run queue stop slice) old answers result → EndsAs (read_run queue stop bytes) [] answers result
+    → EndsAs (read_run stop slice) old answers result → EndsAs (read_run stop bytes) [] answers result
 EndsAs-from stop bytes slice old answers result e f ends =
-    subst (λ b. EndsAs (read_run queue stop b) [] answers result) e (subst (λ o. EndsAs (read_run queue stop slice) o answers result) f ends)
+    subst (λ b. EndsAs (read_run stop b) [] answers result) e (subst (λ o. EndsAs (read_run stop slice) o answers result) f ends)
 
 pub IfErr-always : {A E : Type 0} (result : Result A E) (P : Type 0) → P → IfErr result (λ e. P)
 IfErr-always (Ok x) P p = tt

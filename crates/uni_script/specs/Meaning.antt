@@ -5,6 +5,15 @@ use Rattle.std.specs.List.{list_all, concat}
 use Rattle.seq_object.specs.declared.call_id.CallId.{CallId}
 use Rattle.ready_objects.specs.Words.{text_of_words, words_of_text}
 use Rattle.ready_objects.specs.Queue.{queue_next, queue_answer, queue_words, queue_inv_of_words, queue_resp_text}
+use Rattle.ready_objects.specs.Directory.{Pairs, directory_next, directory_answer, directory_words, directory_inv_of_words, directory_resp_text}
+use Rattle.ready_objects.specs.Book.{book_start, book_next, book_answer, book_words, book_inv_of_words, book_resp_text}
+use Rattle.ready_objects.specs.Sticky.{sticky_next, sticky_answer, sticky_words, sticky_inv_of_words, sticky_resp_text}
+use Rattle.ready_objects.specs.declared.directory.DirectoryInv.{DirectoryInv}
+use Rattle.ready_objects.specs.declared.directory.DirectoryResp.{DirectoryResp}
+use Rattle.ready_objects.specs.declared.book.BookInv.{BookInv}
+use Rattle.ready_objects.specs.declared.book.BookResp.{BookResp}
+use Rattle.ready_objects.specs.declared.sticky.StickyInv.{StickyInv}
+use Rattle.ready_objects.specs.declared.sticky.StickyResp.{StickyResp}
 use Rattle.ready_objects.specs.declared.queue.QueueInv.{QueueInv}
 use Rattle.ready_objects.specs.declared.queue.QueueResp.{QueueResp}
 use Rattle.uni_model.specs.Places.{head_seq}
@@ -15,6 +24,8 @@ use Rattle.uni_model.specs.History.{log}
 use Rattle.uni_core.specs.Whole.{Whole, shown, response_of_step}
 use Rattle.uni_script.specs.declared.fault.BenchFault.{BenchFault}
 use Rattle.uni_script.specs.declared.fault.BenchFault.TheVariants.{NoHeader, BadHeader, TooLong, BadByte, BadLine, TooMany}
+use Rattle.uni_script.specs.declared.grammar.ObjectName.{ObjectName}
+use Rattle.uni_script.specs.declared.grammar.ObjectName.TheVariants.{Queue, Directory, Book, Sticky}
 use Rattle.uni_script.specs.declared.grammar.Header.{Header}
 use Rattle.uni_script.specs.declared.grammar.Command.{Command}
 use Rattle.uni_script.specs.declared.grammar.Command.TheVariants as command
@@ -54,6 +65,39 @@ queue =
       inv_of_words = queue_inv_of_words;
       inv_text = λ inv. text_of_words (queue_words inv);
       resp_text = queue_resp_text;
+    }
+
+abbrev pub directory : Language Pairs DirectoryInv DirectoryResp
+directory =
+    record {
+      initial = [];
+      next = directory_next;
+      answer = directory_answer;
+      inv_of_words = directory_inv_of_words;
+      inv_text = λ inv. text_of_words (directory_words inv);
+      resp_text = directory_resp_text;
+    }
+
+abbrev pub book : Language (List ℕ) BookInv BookResp
+book =
+    record {
+      initial = book_start;
+      next = book_next;
+      answer = book_answer;
+      inv_of_words = book_inv_of_words;
+      inv_text = λ inv. text_of_words (book_words inv);
+      resp_text = book_resp_text;
+    }
+
+abbrev pub sticky : Language (Option ℕ) StickyInv StickyResp
+sticky =
+    record {
+      initial = None;
+      next = sticky_next;
+      answer = sticky_answer;
+      inv_of_words = sticky_inv_of_words;
+      inv_text = λ inv. text_of_words (sticky_words inv);
+      resp_text = sticky_resp_text;
     }
 
 -- a world that a header opened, and how many calls a process can make in it
@@ -138,61 +182,85 @@ made o b (command.Finish p) = step_made o b p (most_steps b.world.n)
 made o b command.Heads = record { bench = b; text = heads_text b.world.n (head_seq b.world.memory) }
 made o b command.Log = record { bench = b; text = log_text o b.world }
 
--- What some lines come to: the bench after them, none before the header; the text of their answers; and the fault that
--- ended them, if one did.
-pub record Outcome (S I R : Type 0) : Type 0 where
-  pub bench : Option (Bench S I R)
-  pub text : List ℕ
-  pub fault : Option BenchFault
-
-abbrev pub faulted : {S I R : Type 0} → Option (Bench S I R) → BenchFault → Outcome S I R
-faulted b fault = record { bench = b; text = []; fault = Some fault }
-
-abbrev pub went_on : {S I R : Type 0} → Bench S I R → (text : List ℕ) → Outcome S I R
-went_on b text = record { bench = Some b; text = text; fault = None }
-
--- an outcome, and then another one from the bench after it, unless a fault ended it
-abbrev pub and_then_from : {S I R : Type 0} → Outcome S I R → Outcome S I R → Option BenchFault → Outcome S I R
-and_then_from first rest (Some fault) = first
-and_then_from first rest None = record rest { text = first.text ++ rest.text }
-
-abbrev pub and_then : {S I R : Type 0} → Outcome S I R → (Option (Bench S I R) → Outcome S I R) → Outcome S I R
-and_then first rest = and_then_from first (rest first.bench) first.fault
-
 -- the bench that a header opens
 abbrev pub bench_opened : {S I R : Type 0} → Language S I R → Header → Bench S I R
 bench_opened o header = record { row = header.row; world = opened header.processes o.initial 1 }
 
+-- the bench of a script: of processes that share one of the four objects
+pub data AnyBench : Type 0 where
+  OfQueue : Bench (List ℕ) QueueInv QueueResp → AnyBench
+  OfDirectory : Bench Pairs DirectoryInv DirectoryResp → AnyBench
+  OfBook : Bench (List ℕ) BookInv BookResp → AnyBench
+  OfSticky : Bench (Option ℕ) StickyInv StickyResp → AnyBench
+
+-- the one that a header opens
+abbrev pub any_opened_as : ObjectName → Header → AnyBench
+any_opened_as Queue header = OfQueue (bench_opened queue header)
+any_opened_as Directory header = OfDirectory (bench_opened directory header)
+any_opened_as Book header = OfBook (bench_opened book header)
+any_opened_as Sticky header = OfSticky (bench_opened sticky header)
+
+abbrev pub any_opened : Header → AnyBench
+any_opened header = any_opened_as header.object header
+
+-- What some lines come to: the bench after them, none before the header; the text of their answers; and the fault that
+-- ended them, if one did.
+pub record Outcome : Type 0 where
+  pub bench : Option AnyBench
+  pub text : List ℕ
+  pub fault : Option BenchFault
+
+abbrev pub faulted : Option AnyBench → BenchFault → Outcome
+faulted b fault = record { bench = b; text = []; fault = Some fault }
+
+abbrev pub went_on : AnyBench → (text : List ℕ) → Outcome
+went_on b text = record { bench = Some b; text = text; fault = None }
+
+-- an outcome, and then another one from the bench after it, unless a fault ended it
+abbrev pub and_then_from : Outcome → Outcome → Option BenchFault → Outcome
+and_then_from first rest (Some fault) = first
+and_then_from first rest None = record rest { text = first.text ++ rest.text }
+
+abbrev pub and_then : Outcome → (Option AnyBench → Outcome) → Outcome
+and_then first rest = and_then_from first (rest first.bench) first.fault
+
+-- the words of a command, on a bench of this object
+abbrev pub command_run : {S I R : Type 0} → Language S I R → (inside : Bench S I R → AnyBench) → (number : ℕ) → Bench S I R → List (List ℕ) → Outcome
+command_run o inside number b words =
+    option_map_or (λ command. went_on (inside (made o b command).bench) (made o b command).text) (command_of_words o.inv_of_words words) (faulted (Some (inside b)) (BadLine number))
+
 -- a line that isn't a note
-abbrev pub words_run : {S I R : Type 0} → Language S I R → (number : ℕ) → Option (Bench S I R) → List (List ℕ) → Outcome S I R
-words_run o number None words = option_map_or (λ header. went_on (bench_opened o header) []) (header_of_words words) (faulted None (BadHeader number))
-words_run o number (Some b) words =
-    option_map_or (λ command. went_on (made o b command).bench (made o b command).text) (command_of_words o.inv_of_words words) (faulted (Some b) (BadLine number))
+abbrev pub words_run : (number : ℕ) → Option AnyBench → List (List ℕ) → Outcome
+words_run number None words = option_map_or (λ header. went_on (any_opened header) []) (header_of_words words) (faulted None (BadHeader number))
+words_run number (Some (OfQueue b)) words = command_run queue OfQueue number b words
+words_run number (Some (OfDirectory b)) words = command_run directory OfDirectory number b words
+words_run number (Some (OfBook b)) words = command_run book OfBook number b words
+words_run number (Some (OfSticky b)) words = command_run sticky OfSticky number b words
 
 -- a line that isn't too long
-abbrev pub short_line_run : {S I R : Type 0} → Language S I R → (number : ℕ) → Option (Bench S I R) → List ℕ → Outcome S I R
-short_line_run o number b line =
+abbrev pub short_line_run : (number : ℕ) → Option AnyBench → List ℕ → Outcome
+short_line_run number b line =
     if not (list_all is_plain_byte line) then faulted b (BadByte number)
     else if is_note line then record { bench = b; text = []; fault = None }
-    else words_run o number b (words_of_text line)
+    else words_run number b (words_of_text line)
 
 -- a line, with its number: the first fault of those that it has
-abbrev pub line_run : {S I R : Type 0} → Language S I R → (number : ℕ) → Option (Bench S I R) → List ℕ → Outcome S I R
-line_run o number b line =
+abbrev pub line_run : (number : ℕ) → Option AnyBench → List ℕ → Outcome
+line_run number b line =
     if nat_lt 100000 number then faulted b TooMany
     else if nat_lt 200 (length line) then faulted b (TooLong number)
-    else short_line_run o number b line
+    else short_line_run number b line
 
 -- lines, numbered from here on
-abbrev pub lines_run : {S I R : Type 0} → Language S I R → (number : ℕ) → Option (Bench S I R) → List (List ℕ) → Outcome S I R
-lines_run o number b [] = record { bench = b; text = []; fault = None }
-lines_run o number b (line ∷ lines) = and_then (line_run o number b line) (λ after. lines_run o (number + 1) after lines)
+abbrev pub lines_run : (number : ℕ) → Option AnyBench → List (List ℕ) → Outcome
+lines_run number b [] = record { bench = b; text = []; fault = None }
+lines_run number b (line ∷ lines) = and_then (line_run number b line) (λ after. lines_run (number + 1) after lines)
 
 -- the end of a script that has so many lines
-abbrev pub end_run : {S I R : Type 0} → (lines : ℕ) → Option (Bench S I R) → Outcome S I R
+abbrev pub end_run : (lines : ℕ) → Option AnyBench → Outcome
 end_run lines None = faulted None (NoHeader (lines + 1))
 end_run lines (Some b) = went_on b end_text
 
 -- a script
-abbrev pub script_run : {S I R : Type 0} → Language S I R → List ℕ → Outcome S I R
-script_run o bytes = and_then (lines_run o 1 None (lines_of bytes)) (λ after. end_run (length (lines_of bytes)) after)
+abbrev pub script_run : List ℕ → Outcome
+script_run bytes = and_then (lines_run 1 None (lines_of bytes)) (λ after. end_run (length (lines_of bytes)) after)

@@ -8,7 +8,7 @@ use Rattle.uni_script.specs.declared.fault.BenchFault.TheVariants as fault
 use Rattle.uni_script.specs.declared.script.Stop.{Stop}
 use Rattle.uni_script.specs.declared.script.Stop.TheVariants.{End, Failed, TooLong, TooMany}
 use Rattle.uni_script.specs.Script.{cut, lines_of}
-use Rattle.uni_script.specs.Meaning.{Language, Bench, Outcome, faulted, and_then, lines_run, end_run}
+use Rattle.uni_script.specs.Meaning.{AnyBench, Outcome, faulted, and_then, lines_run, end_run}
 
 -- whether reading stops at a byte after so many whole lines, and so many bytes of the line after them
 abbrev pub stop_of_byte : (lines column byte : ℕ) → Option Stop
@@ -58,18 +58,18 @@ lines_read End bytes = lines_of bytes
 lines_read _ bytes = (cut bytes).whole
 
 -- what comes after those lines
-abbrev pub stop_run : {S I R : Type 0} → Stop → (lines : ℕ) → Option (Bench S I R) → Outcome S I R
+abbrev pub stop_run : Stop → (lines : ℕ) → Option AnyBench → Outcome
 stop_run End lines b = end_run lines b
 stop_run Failed lines b = faulted b Read
 stop_run TooLong lines b = faulted b (fault.TooLong (lines + 1))
 stop_run TooMany lines b = faulted b fault.TooMany
 
 -- the run of what was read
-abbrev pub read_run : {S I R : Type 0} → Language S I R → Stop → List ℕ → Outcome S I R
-read_run o stop bytes = and_then (lines_run o 1 None (lines_read stop bytes)) (λ after. stop_run stop (length (lines_read stop bytes)) after)
+abbrev pub read_run : Stop → List ℕ → Outcome
+read_run stop bytes = and_then (lines_run 1 None (lines_read stop bytes)) (λ after. stop_run stop (length (lines_read stop bytes)) after)
 
 -- a call ended as the outcome says, and a text grew by its text; or memory was refused
-abbrev pub EndsAs : {S I R A : Type 0} → Outcome S I R → (old new : List ℕ) → Result A BenchFault → Type 0
+abbrev pub EndsAs : {A : Type 0} → Outcome → (old new : List ℕ) → Result A BenchFault → Type 0
 EndsAs outcome old new (Ok _) = (outcome.fault ≡ None) × (new ≡ old ++ outcome.text)
 EndsAs outcome old new (Err e) = (e ≡ Memory) ⊎ ((outcome.fault ≡ Some e) × (new ≡ old ++ outcome.text))
 

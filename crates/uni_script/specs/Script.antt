@@ -5,6 +5,8 @@ use Rattle.ready_objects.specs.Number.{number_of_word}
 use Rattle.ready_objects.specs.Queue.{queue_inv_of_words}
 use Rattle.ready_objects.specs.declared.queue.QueueInv.TheVariants.{Enq}
 use Rattle.ready_objects.specs.Words.{words_of_text}
+use Rattle.uni_script.specs.declared.grammar.ObjectName.{ObjectName}
+use Rattle.uni_script.specs.declared.grammar.ObjectName.TheVariants.{Queue, Directory, Book, Sticky}
 use Rattle.uni_script.specs.declared.grammar.Header.{Header}
 use Rattle.uni_script.specs.declared.grammar.Command.{Command}
 use Rattle.uni_script.specs.declared.grammar.Command.TheVariants.{Call, Step, Finish, Log, Heads}
@@ -45,24 +47,28 @@ abbrev pub is_note : List ℕ → Bool
 is_note [] = true
 is_note (b ∷ bytes) = b == 35
 
+-- the object that a word names
+abbrev pub object_of_word : List ℕ → Option ObjectName
+object_of_word word =
+    if bytes_eq word (codes "queue") then Some Queue
+    else if bytes_eq word (codes "directory") then Some Directory
+    else if bytes_eq word (codes "book") then Some Book
+    else if bytes_eq word (codes "sticky") then Some Sticky
+    else None
+
 -- the header of so many processes, 1 to 16, with rows of so many cells, 1 to 4096
-abbrev pub header_of_numbers : (n k : ℕ) → Option Header
-header_of_numbers n k = if nat_le 1 n && nat_le n 16 && nat_le 1 k && nat_le k 4096 then Some (record { processes = n; row = k }) else None
+abbrev pub header_with : ObjectName → (n k : ℕ) → Option Header
+header_with object n k = if nat_le 1 n && nat_le n 16 && nat_le 1 k && nat_le k 4096 then Some (record { object = object; processes = n; row = k }) else None
 
--- a header of the two, where both are read
-abbrev pub header_of : Option ℕ → Option ℕ → Option Header
-header_of (Some n) (Some k) = header_of_numbers n k
-header_of _ _ = None
+-- a header, where its three parts are read
+abbrev pub header_of : Option ObjectName → Option ℕ → Option ℕ → Option Header
+header_of (Some object) (Some n) (Some k) = header_with object n k
+header_of _ _ _ = None
 
--- whether words open a queue, in version 1
-abbrev pub opens_queue : (name version object : List ℕ) → Bool
-opens_queue name version object =
-    bytes_eq name (codes "universal") && (bytes_eq version (codes "1") && bytes_eq object (codes "queue"))
-
--- the header of a queue
+-- the header that words are, in version 1
 abbrev pub header_of_words : List (List ℕ) → Option Header
 header_of_words (name ∷ version ∷ object ∷ n ∷ k ∷ []) =
-    if opens_queue name version object then header_of (number_of_word n) (number_of_word k) else None
+    if bytes_eq name (codes "universal") && bytes_eq version (codes "1") then header_of (object_of_word object) (number_of_word n) (number_of_word k) else None
 header_of_words _ = None
 
 -- a call of a process, where both are read
@@ -104,7 +110,7 @@ no_line_follows_the_last_end = refl
 a_line_may_be_empty : lines_of (10 ∷ 10 ∷ []) ≡ [] ∷ [] ∷ []
 a_line_may_be_empty = refl
 
-a_header : header_of_words (words_of_text (codes "universal 1 queue 2 8")) ≡ Some (record { processes = 2; row = 8 })
+a_header : header_of_words (words_of_text (codes "universal 1 queue 2 8")) ≡ Some (record { object = Queue; processes = 2; row = 8 })
 unfolding number_of_word
 a_header = refl
 

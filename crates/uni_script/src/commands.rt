@@ -88,7 +88,11 @@ fn call<O: Spoken>(
 /// says that it has, or why no step was taken.
 ///
 /// An `Err` says that memory was refused.
-fn finish<O: Spoken>(world: &mut World<O>, alloc: Global, process: u64) -> Result<Answer, AllocError>
+fn finish<O: Spoken>(
+    world: &mut World<O>,
+    alloc: Global,
+    process: u64,
+) -> Result<Answer, AllocError>
     ensures object { world.new.object ≡ world.old.object }
     ensures bench { OnOk result (bench_of world.new ≡ (step_made (language_of O.initial O.next O.answer O.inv_of_words O.inv_words O.resp_bytes world.old.object) (bench_of world.old) process (most_steps (shown world.old).n)).bench) }
     ensures answer { IfOk result (λ answer. answer_text answer ≡ (step_made (language_of O.initial O.next O.answer O.inv_of_words O.inv_words O.resp_bytes world.old.object) (bench_of world.old) process (most_steps (shown world.old).n)).text) }
@@ -190,7 +194,11 @@ fn push_numbers<O: Spoken>(world: &World<O>, text: &mut Vec<u8>) -> Result<(), A
 /// Writes the log after a text.
 ///
 /// An `Err` says that memory was refused.
-fn push_log<O: Spoken>(world: &World<O>, alloc: Global, text: &mut Vec<u8>) -> Result<(), AllocError>
+fn push_log<O: Spoken>(
+    world: &World<O>,
+    alloc: Global,
+    text: &mut Vec<u8>,
+) -> Result<(), AllocError>
     ensures { OnOk result (text.new.items ≡ text.old.items ++ log_text (language_of O.initial O.next O.answer O.inv_of_words O.inv_words O.resp_bytes world.now.object) (shown world.now)) }
 {
     let entries = Log::of(world).entries(alloc)?;

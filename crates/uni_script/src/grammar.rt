@@ -5,14 +5,29 @@ ghost use Rattle.std.specs.List.{list_all};
 ghost use Rattle.std.specs.Str.{bytes_eq};
 ghost use Rattle.ready_objects.specs.Number.{number_of_word};
 ghost use Rattle.ready_objects.specs.Words.{bytes_of, words_of_text};
-ghost use Rattle.uni_script.specs.Script.{is_plain_byte, is_note, opens_queue, header_of_numbers, header_of_words, count_of_number, command_of_words};
+ghost use Rattle.uni_script.specs.Script.{is_plain_byte, is_note, object_of_word, header_with, header_of_words, count_of_number, command_of_words};
 
 use ready_objects::{Amount, Spoken};
 use std::alloc::{AllocError, Global};
 
-/// The header of a script on a queue.
+/// An object that the processes of a script can share.
+#[derive(Clone, Copy, Debug, PartialEq, Eq)]
+pub enum ObjectName {
+    /// A queue.
+    Queue,
+    /// A directory.
+    Directory,
+    /// A book of accounts.
+    Book,
+    /// A sticky register.
+    Sticky,
+}
+
+/// The header of a script.
 #[derive(Clone, Copy, Debug, PartialEq, Eq)]
 pub struct Header {
+    /// What the processes share.
+    pub object: ObjectName,
     /// How many processes there are, from 1 to 16.
     pub processes: u64,
     /// How many calls each process can make, from 1 to 4096.
@@ -80,27 +95,41 @@ pub fn header_of(words: &[&[u8]]) -> Option<Header>
     let [name, version, object, processes, row] = words else {
         return None;
     };
-    if opens_queue(name, version, object) {
-        header_of_numbers(number_of(processes)?, number_of(row)?)
+    if is_text(name, "universal") && is_text(version, "1") {
+        header_with(object_of(object)?, number_of(processes)?, number_of(row)?)
     } else {
         None
     }
 }
 
-/// Tells whether words open a queue, in version 1.
-fn opens_queue(name: &[u8], version: &[u8], object: &[u8]) -> bool
-    ensures { result ≡ opens_queue name.now version.now object.now }
+/// The object that a word names; `None` where it names none.
+fn object_of(word: &[u8]) -> Option<ObjectName>
+    ensures { result ≡ object_of_word word.now }
 {
-    is_text(name, "universal") && is_text(version, "1") && is_text(object, "queue")
+    if is_text(word, "queue") {
+        Some(ObjectName::Queue)
+    } else if is_text(word, "directory") {
+        Some(ObjectName::Directory)
+    } else if is_text(word, "book") {
+        Some(ObjectName::Book)
+    } else if is_text(word, "sticky") {
+        Some(ObjectName::Sticky)
+    } else {
+        None
+    }
 }
 
 /// The header of this many processes with rows of this many cells; `None` where they aren't from 1
 /// to 16 and from 1 to 4096.
-fn header_of_numbers(processes: u64, row: u64) -> Option<Header>
-    ensures { result ≡ header_of_numbers processes row }
+fn header_with(object: ObjectName, processes: u64, row: u64) -> Option<Header>
+    ensures { result ≡ header_with object processes row }
 {
     if processes >= 1 && processes <= 16 && row >= 1 && row <= 4096 {
-        Some(Header { processes, row })
+        Some(Header {
+            object,
+            processes,
+            row,
+        })
     } else {
         None
     }

@@ -5,6 +5,7 @@
 #![tactic(auto)]
 
 mod answer;
+mod any_world;
 mod commands;
 mod ends;
 mod fault;

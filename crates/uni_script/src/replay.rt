@@ -3,19 +3,18 @@
 ghost use Rattle.std.specs.Prelude.{◌≡◌, ◌<◌, ◌≤◌, ◌↔◌, ◌∷◌, [], true, false, length, ◌==◌, None, Some, IfSome, IfNone, IfOk, IfErr, OnOk, IsErrOf, option_map};
 ghost use Rattle.std.specs.Io.KnownBytes.{IsAtEnd};
 ghost use Rattle.std.specs.List.{list_all, position};
-ghost use Rattle.uni_script.specs.Meaning.{bench_of, queue, short_line_run};
+ghost use Rattle.uni_script.specs.AnyWorlds.{any_bench_of};
+ghost use Rattle.uni_script.specs.Meaning.{short_line_run};
 ghost use Rattle.uni_script.specs.Reading.{is_short, lines_read, read_run, EndsAs};
 ghost use Rattle.uni_script.specs.Replays.{IsReplay, HasAnswered, IsPartOfReplay, IsFaultOfScript};
 
 use crate::answer::{Answer, push_answer};
-use crate::commands::{make, open};
+use crate::any_world::{AnyWorld, open_any, run_any};
 use crate::ends::{TextIn, TextOut, write_all};
 use crate::fault::BenchFault;
-use crate::grammar::{command_of, header_of, is_note, is_plain, words_of};
+use crate::grammar::{header_of, is_note, is_plain, words_of};
 use crate::script::{Stop, read_script};
-use ready_objects::QueueObject;
 use std::alloc::Global;
-use uni_core::World;
 
 /// Runs the script that a reader has, and writes its answers.
 ///
@@ -60,7 +59,7 @@ pub fn bench<I: TextIn, O: TextOut>(
 fn run_script(alloc: Global, bytes: &[u8], stop: Stop, text: &mut Vec<u8>) -> Result<(), BenchFault>
     requires short { list_all is_short (lines_read stop bytes.now) ≡ true }
     requires few { length (lines_read stop bytes.now) ≤ 100000 }
-    ensures outcome { EndsAs (read_run queue stop bytes.now) text.old.items text.new.items result }
+    ensures outcome { EndsAs (read_run stop bytes.now) text.old.items text.new.items result }
 {
     let mut world = None;
     let mut number: u64 = 0;
@@ -112,13 +111,13 @@ fn end_of_line(bytes: &[u8]) -> Option<usize>
 /// `Memory` where memory was refused; any other `Err` is the fault of the line.
 fn run_line(
     alloc: Global,
-    world: Option<World<QueueObject>>,
+    world: Option<AnyWorld>,
     number: u64,
     line: &[u8],
     text: &mut Vec<u8>,
-) -> Result<Option<World<QueueObject>>, BenchFault>
-    ensures outcome { EndsAs (short_line_run queue number (option_map bench_of world) line.now) text.old.items text.new.items result }
-    ensures world { IfOk result (λ after. option_map bench_of after ≡ (short_line_run queue number (option_map bench_of world) line.now).bench) }
+) -> Result<Option<AnyWorld>, BenchFault>
+    ensures outcome { EndsAs (short_line_run number (option_map any_bench_of world) line.now) text.old.items text.new.items result }
+    ensures world { IfOk result (λ after. option_map any_bench_of after ≡ (short_line_run number (option_map any_bench_of world) line.now).bench) }
 {
     if !is_plain(line) {
         return Err(BenchFault::BadByte(number));
@@ -134,18 +133,13 @@ fn run_line(
             let Some(header) = header_of(words.as_slice()) else {
                 return Err(BenchFault::BadHeader(number));
             };
-            let Ok(world) = open(alloc, QueueObject, header) else {
+            let Ok(world) = open_any(alloc, header) else {
                 return Err(BenchFault::Memory);
             };
             Ok(Some(world))
         }
         Some(mut world) => {
-            let Some(command) = command_of::<QueueObject>(words.as_slice()) else {
-                return Err(BenchFault::BadLine(number));
-            };
-            let Ok(()) = make(&mut world, alloc, command, text) else {
-                return Err(BenchFault::Memory);
-            };
+            run_any(alloc, &mut world, number, words.as_slice(), text)?;
             Ok(Some(world))
         }
     }

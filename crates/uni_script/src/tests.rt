@@ -42,6 +42,13 @@ fn scripts(rt: HostRuntime) {
             Err(BenchFault::BadHeader(1)),
         ),
         ("universal 1 queue 0 8\n", "", Err(BenchFault::BadHeader(1))),
+        ("universal 1 stack 1 8\n", "", Err(BenchFault::BadHeader(1))),
+        // The words of another object's call.
+        (
+            "universal 1 directory 1 8\ncall 0 enq 1\n",
+            "",
+            Err(BenchFault::BadLine(2)),
+        ),
         // A cell that is linked, and has no response yet.
         (
             "universal 1 queue 1 8\ncall 0 enq 7\nstep 0 8\nlog\nstep 0\nlog\nheads\n",
@@ -87,6 +94,76 @@ fn schedules_of_two_processes(rt: HostRuntime) {
     for (script, want) in rows {
         runs(&rt, rt.alloc(), script, want, Ok(()));
     }
+}
+
+#[test]
+fn three_processes_of_a_script_share_the_first_proposal(rt: HostRuntime) {
+    runs(
+        &rt,
+        rt.alloc(),
+        "universal 1 sticky 3 8\ncall 0 stick 5\nfinish 0\ncall 1 stick 9\nfinish 1\ncall 2 read\nfinish 2\nlog\n",
+        "called 0.0\nreturned 0.0 5 steps 18 turns 1\ncalled 1.0\nreturned 1.0 5 steps 18 turns 1\ncalled 2.0\nreturned 2.0 5 steps 18 turns 1\n2 0.0 stick 5 -> 5\n3 1.0 stick 9 -> 5\n4 2.0 read -> 5\nend\n",
+        Ok(()),
+    );
+    runs(&rt, rt.alloc(), "universal 1 sticky 1 1\n", "end\n", Ok(()));
+}
+
+/// Asserts the replies to calls of one process on an object, each ended before the next one.
+fn replies(
+    rt: &impl Abort,
+    alloc: Global,
+    object: &str,
+    rows: &[(&str, &str)],
+) -> Result<(), Fail> {
+    let mut script = String::new(alloc);
+    let mut want = String::new(alloc);
+    writeln!(script, "universal 1 {object} 1 4096")?;
+    let mut number = 0_u64;
+    for (call, reply) in rows {
+        writeln!(script, "call 0 {call}\nfinish 0")?;
+        writeln!(
+            want,
+            "called 0.{number}\nreturned 0.{number} {reply} steps 14 turns 1"
+        )?;
+        number = number.wrapping_add(1);
+    }
+    writeln!(want, "end")?;
+    runs(rt, alloc, script.as_str(), want.as_str(), Ok(()));
+    Ok(())
+}
+
+#[test]
+fn a_book_of_accounts(rt: HostRuntime) -> Result<(), Fail> {
+    let rows = [
+        ("deposit 0 4", "4"),
+        ("move 0 1 5", "short"),
+        ("total", "4"),
+        ("deposit 1 999999999999", "999999999999"),
+        ("total", "1000000000003"),
+        ("deposit 1 1", "over"),
+        ("move 0 1 4", "over"),
+        ("move 0 0 4", "moved"),
+        ("deposit 0 0", "4"),
+        ("withdraw 0 5", "short"),
+        ("withdraw 0 4", "0"),
+    ];
+    replies(&rt, rt.alloc(), "book", rows.as_slice())
+}
+
+#[test]
+fn a_directory(rt: HostRuntime) -> Result<(), Fail> {
+    let rows = [
+        ("put b 1", "new"),
+        ("put a 2", "new"),
+        ("put b 3", "was 1"),
+        ("at 0", "3"),
+        ("del b", "3"),
+        ("at 0", "2"),
+        ("get b", "none"),
+        ("size", "1"),
+        ("at 1", "none"),
+    ];
+    replies(&rt, rt.alloc(), "directory", rows.as_slice())
 }
 
 #[test]

@@ -1,6 +1,7 @@
 use Rattle.std.proofs.Common.{◌≡◌, ◌∙◌, ◌+◌, ◌++◌, ◌∷◌, ◌≤◌, true, length, option_map, ap, subst, arith, append_assoc}
 use Rattle.std.specs.List.{list_all}
-use Rattle.uni_script.specs.Meaning.{queue, bench_of, short_line_run, lines_run, and_then}
+use Rattle.uni_script.specs.Meaning.{short_line_run, lines_run, and_then}
+use Rattle.uni_script.specs.AnyWorlds.{any_bench_of}
 use Rattle.uni_script.specs.Reading.{is_short, lines_read, stop_run}
 use Rattle.uni_script.proofs.Running.{after_text, lines_run-went, all_short}
 use Rattle.uni_script.proofs.replay.run_script.Goals as goal
@@ -16,10 +17,10 @@ loop-line-preserved c =
       (let e : c.loop-line.number + 1 + length (lines_read c.args.stop c.in-Some.after.now) ≡ length (lines_read c.args.stop c.args.bytes.now) = omega arith in e),
       short.1,
       (
-        left.0 ++ (short_line_run queue (c.loop-line.number + 1) (option_map bench_of c.loop-line.world) c.in-Some.line.now).text,
-        c.in_ok-world.ensures.outcome.1 ∙ ap (λ t. t ++ (short_line_run queue (c.loop-line.number + 1) (option_map bench_of c.loop-line.world) c.in-Some.line.now).text) left.1 ∙ append_assoc c.args.text.now.items left.0 _,
-        left.2 ∙ ap (λ l. after_text left.0 (and_then (lines_run queue (c.loop-line.number + 1) (option_map bench_of c.loop-line.world) l) (stop_run c.args.stop (length (lines_read c.args.stop c.args.bytes.now))))) split
-            ∙ lines_run-went queue (c.loop-line.number + 1) (option_map bench_of c.loop-line.world) c.in-Some.line.now (lines_read c.args.stop c.in-Some.after.now) (stop_run c.args.stop (length (lines_read c.args.stop c.args.bytes.now)))
-            (let e : c.loop-line.number + 1 ≤ 100000 = omega arith in e) short.0 left.0 (option_map bench_of c.in_ok-world.world) c.in_ok-world.ensures.outcome.0 c.in_ok-world.ensures.world,
+        left.0 ++ (short_line_run (c.loop-line.number + 1) (option_map any_bench_of c.loop-line.world) c.in-Some.line.now).text,
+        c.in_ok-world.ensures.outcome.1 ∙ ap (λ t. t ++ (short_line_run (c.loop-line.number + 1) (option_map any_bench_of c.loop-line.world) c.in-Some.line.now).text) left.1 ∙ append_assoc c.args.text.now.items left.0 _,
+        left.2 ∙ ap (λ l. after_text left.0 (and_then (lines_run (c.loop-line.number + 1) (option_map any_bench_of c.loop-line.world) l) (stop_run c.args.stop (length (lines_read c.args.stop c.args.bytes.now))))) split
+            ∙ lines_run-went (c.loop-line.number + 1) (option_map any_bench_of c.loop-line.world) c.in-Some.line.now (lines_read c.args.stop c.in-Some.after.now) (stop_run c.args.stop (length (lines_read c.args.stop c.args.bytes.now)))
+            (let e : c.loop-line.number + 1 ≤ 100000 = omega arith in e) short.0 left.0 (option_map any_bench_of c.in_ok-world.world) c.in_ok-world.ensures.outcome.0 c.in_ok-world.ensures.world,
       ),
     )
