@@ -129,3 +129,21 @@ bound_met_answered : text_of_script bound_met
     (line (codes "called 0.1") (line (codes "going 0.1 steps 1 turns 0") (line (codes "returned 1.0 10 steps 32 turns 3") (line (codes "end") []))))))))
 unfolding digits number_of_word
 bound_met_answered = refl
+
+-- the first proposal to a sticky register holds
+abbrev proposals : List ℕ
+proposals = line (codes "universal 1 sticky 2 8") (line (codes "call 0 stick 5") (line (codes "finish 0") (line (codes "call 1 stick 9") (line (codes "finish 1") []))))
+
+proposals_answered : text_of_script proposals
+    ≡ line (codes "called 0.0") (line (codes "returned 0.0 5 steps 16 turns 1") (line (codes "called 1.0") (line (codes "returned 1.0 5 steps 16 turns 1") (line (codes "end") []))))
+unfolding digits number_of_word
+proposals_answered = refl
+
+-- the words of a queue are none of a directory
+words_of_a_queue : fault_of_script (line (codes "universal 1 directory 1 8") (codes "call 0 enq 7")) ≡ Some (BadLine 2)
+unfolding digits number_of_word
+words_of_a_queue = refl
+
+no_such_object : fault_of_script (codes "universal 1 stack 1 8") ≡ Some (BadHeader 1)
+unfolding digits number_of_word
+no_such_object = refl
