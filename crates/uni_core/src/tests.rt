@@ -82,6 +82,14 @@ fn counts(world: &World<Last>, p: u64) -> Option<(u64, u64)> {
     Some((world.steps(p), world.turns(p)))
 }
 
+/// How many calls a process has begun.
+fn begun(world: &World<Last>, p: u64) -> Option<u64> {
+    if p >= world.processes() {
+        return None;
+    }
+    Some(world.begun(p))
+}
+
 /// The pending call of a process.
 fn pending(world: &World<Last>, p: u64) -> Option<CallId> {
     if p >= world.processes() {
@@ -127,6 +135,7 @@ fn one_process_helps_itself(rt: HostRuntime) -> Result<(), Fail> {
         world.begin(rt.alloc(), 0, &8),
         Ok(CallId { process: 0, nth: 1 })
     );
+    assert_eq!(rt; begun(&world, 0), Some(2));
     assert_eq!(rt; finishes(rt.alloc(), &mut world, 0)?, 7);
     assert_eq!(rt; counts(&world, 0), Some((14, 1)));
     assert_eq!(rt; (world.processes(), world.row()), (1, 8));

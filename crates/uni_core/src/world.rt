@@ -349,7 +349,7 @@ impl<O: SeqObject> World<O> {
     }
 
     /// How many calls process `p` has begun since the opening.
-    fn begun(&self, p: u64) -> u64
+    pub fn begun(&self, p: u64) -> u64
         requires { p < (shown self.now).n }
         ensures { result ≡ (shown self.now).begun p }
     {

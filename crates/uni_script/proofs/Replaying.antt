@@ -1,5 +1,5 @@
 -- What was read of a script, and the whole script.
-use Rattle.std.proofs.Common.{◌≡◌, ◌∙◌, ◌⊎◌, inl, inr, ℕ, ◌+◌, nat_lt, not, if◌then◌else◌, Bool, true, false, List, [], ◌∷◌, ◌++◌, length, Option, None, Some, Result, Ok, Err, IfErr, OnOk, refl, sym, ap, subst, arith, append_assoc, append-nil}
+use Rattle.std.proofs.Common.{◌≡◌, ◌∙◌, ◌⊎◌, inl, inr, ℕ, ◌+◌, nat_lt, not, if◌then◌else◌, Bool, true, false, List, [], ◌∷◌, ◌++◌, length, Option, None, Some, option_map, Result, Ok, Err, IfOk, IfErr, OnOk, refl, sym, ap, subst, arith, append_assoc, append-nil}
 use Rattle.std.specs.Option.{option_map_or}
 use Rattle.std.specs.Io.KnownBytes.{Appends, Consumes}
 use Rattle.uni_script.specs.declared.fault.BenchFault.{BenchFault}
@@ -15,7 +15,9 @@ use Rattle.uni_script.specs.Script.{cut, lines_of, is_plain_byte, is_note, heade
 use Rattle.uni_script.specs.Meaning.{Language, Bench, AnyBench, any_opened, made, went_on, Outcome, queue, directory, book, sticky, command_run, faulted, and_then, and_then_from, words_run, line_run, lines_run, end_run, script_run}
 use Rattle.uni_script.specs.Meaning.AnyBench.{OfQueue, OfDirectory, OfBook, OfSticky}
 use Rattle.uni_script.specs.Reading.{lines_read, stop_run, read_run, StopsAt, IsRead, EndsAs}
-use Rattle.uni_script.specs.Replays.{IsInput, IsReplay, IsPartOfReplay, HasAnswered, IsFaultOfScript, text_of_script}
+use Rattle.uni_script.specs.declared.summary.Summary.{Summary}
+use Rattle.uni_script.specs.Summaries.{any_summary_of}
+use Rattle.uni_script.specs.Replays.{IsInput, IsReplay, IsSummary, IsPartOfReplay, HasAnswered, IsFaultOfScript, text_of_script}
 use Rattle.uni_script.proofs.Cutting.{GoesOn-start, GoesOn-start_other, GoesOn-after, lines_of-append}
 use Rattle.uni_script.proofs.Running.{after_text, and_then-same, and_then-assoc, and_then-none, and_then-some, lines_run-append, lines_run-too_long, lines_run-too_many}
 use Rattle.uni_script.proofs.ByteByByte.{other_byte}
@@ -146,6 +148,11 @@ past_left past (Some left) = past ++ left
 with_left-past : (bytes past : List ℕ) (left : Option (List ℕ)) → with_left (bytes ++ past) left ≡ bytes ++ past_left past left
 with_left-past bytes past None = refl
 with_left-past bytes past (Some left) = append_assoc bytes past left
+
+-- nothing is past a script that was read to its end
+past_left-end : (bytes past : List ℕ) (left : Option (List ℕ)) → StopsAt End bytes past left → past_left past left ≡ []
+past_left-end bytes past None at = at.0
+past_left-end bytes past (Some left) at = ap (λ p. p ++ left) at.0 ∙ at.1
 
 StopsAt-past_left : (stop : Stop) (bytes past : List ℕ) (left : Option (List ℕ)) → StopsAt stop bytes past left → (stop ≡ Failed → ⊥) → StopsAt stop bytes (past_left past left) left
 StopsAt-past_left stop bytes past None at other = at
@@ -288,6 +295,20 @@ module _ (left left_after : Option (List ℕ)) (stop : Stop) (bytes : List ℕ) 
       → (old new : Option (List ℕ)) → Appends old new answers → OnOk result (IsReplay left old new None)
   ended-replayed answers (Ok x) ends old new appends = replayed_as old new answers None (same_run (not_failed ends.0)) ends.0 ends.1 appends
   ended-replayed answers (Err e) ends old new appends = tt
+
+  script_whole : stop ≡ End → script ≡ bytes
+  script_whole e = script_is ∙ ap (λ p. bytes ++ p) (past_left-end bytes is.past left_after (subst (λ s. StopsAt s bytes is.past left_after) e is.stops)) ∙ append-nil bytes
+
+  pub ended-summary : (answers : List ℕ) (result : Result Summary BenchFault) → EndsAs (read_run stop bytes) [] answers result
+      → IfOk result (λ s. option_map (any_summary_of (length (lines_read stop bytes))) (read_run stop bytes).bench ≡ Some s) → IfOk result (IsSummary left)
+  ended-summary answers (Ok s) ends has =
+      let whole = end_of_run stop bytes ends.0 in
+      let lines : length (lines_of script) ≡ length (lines_read stop bytes) = ap (λ t. length (lines_of t)) (script_whole whole) ∙ ap (λ k. length (lines_read k bytes)) (sym whole) in (
+        script,
+        is_input,
+        ap (λ (o : Outcome). option_map (any_summary_of (length (lines_of script))) o.bench) (same_run (not_failed ends.0)) ∙ ap (λ n. option_map (any_summary_of n) (read_run stop bytes).bench) lines ∙ has,
+      )
+  ended-summary answers (Err e) ends has = tt
 
   pub ended-all_read : {A : Type 0} (answers : List ℕ) (result : Result A BenchFault) → EndsAs (read_run stop bytes) [] answers result → OnOk result (stop ≡ End)
   ended-all_read answers (Ok x) ends = end_of_run stop bytes ends.0

@@ -4,5 +4,6 @@ pub mod Answers
 pub mod Meaning
 pub mod AnyWorlds
 pub mod Reading
+pub mod Summaries
 pub mod Replays
 pub mod Scripts

@@ -5,7 +5,9 @@ use Rattle.uni_script.specs.declared.fault.BenchFault.{BenchFault}
 use Rattle.uni_script.specs.declared.fault.BenchFault.TheVariants.{NoHeader, BadHeader, TooLong, BadByte, BadLine, TooMany, Read, Write, Memory}
 use Rattle.uni_script.specs.Ends.{AppendsFront}
 use Rattle.uni_script.specs.Script.{cut}
+use Rattle.uni_script.specs.declared.summary.Summary.{Summary}
 use Rattle.uni_script.specs.Meaning.{lines_run, script_run}
+use Rattle.uni_script.specs.Summaries.{summary_of_script}
 
 -- the text that a script's answers make, up to its first fault
 abbrev pub text_of_script : List ℕ → List ℕ
@@ -22,6 +24,10 @@ IsInput left script = IfSome left (λ bytes. bytes ≡ script)
 -- the reader had a script with this first fault, or none, and the text of its answers was written
 abbrev pub IsReplay : (left old new : Option (List ℕ)) → Option BenchFault → Type 0
 IsReplay left old new fault = (script : List ℕ) × IsInput left script × (fault_of_script script ≡ fault) × Appends old new (text_of_script script)
+
+-- the reader had a script with this summary
+abbrev pub IsSummary : (left : Option (List ℕ)) → Summary → Type 0
+IsSummary left summary = (script : List ℕ) × IsInput left script × (summary_of_script script ≡ Some summary)
 
 -- a front of the text of the script's answers was written
 abbrev pub IsPartOfReplay : (left old new : Option (List ℕ)) → Type 0

@@ -4,6 +4,7 @@ use Rattle.std.specs.Fmt.{digits}
 use Rattle.ready_objects.specs.Number.{number_of_word}
 use Rattle.uni_script.specs.declared.fault.BenchFault.TheVariants.{NoHeader, BadHeader, TooLong, BadByte, BadLine, TooMany}
 use Rattle.uni_script.specs.Meaning.{line_run, faulted}
+use Rattle.uni_script.specs.Summaries.{summary_of_script}
 use Rattle.uni_script.specs.Replays.{text_of_script, fault_of_script}
 
 -- a line with its end, before a text
@@ -27,6 +28,10 @@ one_call_answered = refl
 one_call_is_good : fault_of_script (one_call []) ≡ None
 unfolding digits number_of_word
 one_call_is_good = refl
+
+one_call_summary : summary_of_script (one_call []) ≡ Some (record { lines = 4; calls = 1; returns = 1 })
+unfolding digits number_of_word
+one_call_summary = refl
 
 -- it is read back
 abbrev two_calls : List ℕ

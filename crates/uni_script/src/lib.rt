@@ -12,9 +12,11 @@ mod fault;
 mod grammar;
 mod replay;
 mod script;
+mod summary;
 #[cfg(test)]
 mod tests;
 
 pub use ends::{Checked, Failed, TextIn, TextOut, write_all};
 pub use fault::BenchFault;
-pub use replay::bench;
+pub use replay::{Options, bench};
+pub use summary::Summary;

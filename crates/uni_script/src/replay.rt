@@ -6,7 +6,8 @@ ghost use Rattle.std.specs.List.{list_all, position};
 ghost use Rattle.uni_script.specs.AnyWorlds.{any_bench_of};
 ghost use Rattle.uni_script.specs.Meaning.{short_line_run};
 ghost use Rattle.uni_script.specs.Reading.{is_short, lines_read, read_run, EndsAs};
-ghost use Rattle.uni_script.specs.Replays.{IsReplay, HasAnswered, IsPartOfReplay, IsFaultOfScript};
+ghost use Rattle.uni_script.specs.Summaries.{any_summary_of};
+ghost use Rattle.uni_script.specs.Replays.{IsReplay, IsSummary, HasAnswered, IsPartOfReplay, IsFaultOfScript};
 
 use crate::answer::{Answer, push_answer};
 use crate::any_world::{AnyWorld, open_any, run_any};
@@ -14,9 +15,14 @@ use crate::ends::{TextIn, TextOut, write_all};
 use crate::fault::BenchFault;
 use crate::grammar::{header_of, is_note, is_plain, words_of};
 use crate::script::{Stop, read_script};
+use crate::summary::{Summary, any_summary_of};
 use std::alloc::Global;
 
-/// Runs the script that a reader has, and writes its answers.
+/// What a run of the bench can be told. There is nothing yet.
+#[derive(Clone, Copy, Debug, PartialEq, Eq)]
+pub struct Options {}
+
+/// Runs the script that a reader has, and writes its answers; the answer is how much it has done.
 ///
 /// Nothing is run before the reading has stopped: at the end, at an error of the reader, at the
 /// 201st byte of a line or at the first byte of line 100001. Then the lines are run in turn, and
@@ -27,10 +33,12 @@ pub fn bench<I: TextIn, O: TextOut>(
     alloc: Global,
     reader: &mut I,
     writer: &mut O,
-) -> Result<(), BenchFault>
+    options: &Options,
+) -> Result<Summary, BenchFault>
     requires reader { I.has_failed reader.old ≡ false }
     requires writer { O.has_failed writer.old ≡ false }
     ensures replayed { OnOk result (IsReplay (I.remaining reader.old) (O.contents writer.old) (O.contents writer.new) None) }
+    ensures summary { IfOk result (IsSummary (I.remaining reader.old)) }
     ensures all_read { OnOk result (IsAtEnd (I.remaining reader.new)) }
     ensures fault { IfErr result (λ e. IsFaultOfScript e → IsReplay (I.remaining reader.old) (O.contents writer.old) (O.contents writer.new) (Some e)) }
     ensures read { IsErrOf result BenchFault.Read → HasAnswered (I.remaining reader.old) (I.remaining reader.new) (O.contents writer.old) (O.contents writer.new) }
@@ -39,6 +47,7 @@ pub fn bench<I: TextIn, O: TextOut>(
     ensures reader_ok { OnOk result (I.has_failed reader.new ≡ false) }
     ensures writer { IsErrOf result BenchFault.Write ↔ (O.has_failed writer.new ≡ true) }
 {
+    let Options {} = options;
     let Ok((script, stop)) = read_script(alloc, reader) else {
         return Err(BenchFault::Memory);
     };
@@ -53,13 +62,20 @@ pub fn bench<I: TextIn, O: TextOut>(
     outcome
 }
 
-/// Runs what was read of a script, and writes the answers after a text.
+/// Runs what was read of a script, and writes the answers after a text; the answer is how much it has
+/// done.
 ///
 /// `Memory` where memory was refused; any other `Err` is the first fault of what was read.
-fn run_script(alloc: Global, bytes: &[u8], stop: Stop, text: &mut Vec<u8>) -> Result<(), BenchFault>
+fn run_script(
+    alloc: Global,
+    bytes: &[u8],
+    stop: Stop,
+    text: &mut Vec<u8>,
+) -> Result<Summary, BenchFault>
     requires short { list_all is_short (lines_read stop bytes.now) ≡ true }
     requires few { length (lines_read stop bytes.now) ≤ 100000 }
     ensures outcome { EndsAs (read_run stop bytes.now) text.old.items text.new.items result }
+    ensures summary { IfOk result (λ summary. option_map (any_summary_of (length (lines_read stop bytes.now))) (read_run stop bytes.now).bench ≡ Some summary) }
 {
     let mut world = None;
     let mut number: u64 = 0;
@@ -74,8 +90,8 @@ fn run_script(alloc: Global, bytes: &[u8], stop: Stop, text: &mut Vec<u8>) -> Re
         (Stop::TooLong, _) => Err(BenchFault::TooLong(number + 1)),
         (Stop::TooMany, _) => Err(BenchFault::TooMany),
         (Stop::End, None) => Err(BenchFault::NoHeader(number + 1)),
-        (Stop::End, Some(_)) => match push_answer(text, &Answer::End) {
-            Ok(()) => Ok(()),
+        (Stop::End, Some(world)) => match push_answer(text, &Answer::End) {
+            Ok(()) => Ok(any_summary_of(&world, number)),
             Err(_) => Err(BenchFault::Memory),
         },
     }

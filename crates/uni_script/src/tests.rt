@@ -1,6 +1,6 @@
 //! Tests of the bench over memory, and of objects that processes share through a world.
 
-use crate::{BenchFault, Checked, Failed, TextIn, TextOut, bench, write_all};
+use crate::{BenchFault, Checked, Failed, Options, Summary, TextIn, TextOut, bench, write_all};
 use ready_objects::{Amount, StickyInv, StickyObject, StickyResp};
 use seq_object::CallId;
 use std::alloc::Global;
@@ -16,7 +16,8 @@ fn runs(rt: &impl Abort, alloc: Global, script: &str, want: &str, outcome: Resul
     let mut text = Vec::new(alloc);
     let mut reader = Checked::new(script.as_bytes());
     let mut writer = Checked::new(&mut text);
-    assert_eq!(rt; bench(alloc, &mut reader, &mut writer), outcome, "{script}");
+    let ended = bench(alloc, &mut reader, &mut writer, &Options {}).map(|_| ());
+    assert_eq!(rt; ended, outcome, "{script}");
     assert!(rt; !TextIn::failed(&reader) && !TextOut::failed(&writer));
     assert_eq!(rt; text.as_slice(), want.as_bytes(), "{script}");
 }
@@ -167,6 +168,47 @@ fn a_directory(rt: HostRuntime) -> Result<(), Fail> {
 }
 
 #[test]
+fn summaries(rt: HostRuntime) {
+    let rows = [
+        (
+            "universal 1 queue 1 8\ncall 0 enq 7\nfinish 0\nlog",
+            4,
+            1,
+            1,
+        ),
+        ("# a note\n\nuniversal 1 book 16 1\n", 3, 0, 0),
+        // One call is refused, and one hasn't returned.
+        (
+            "universal 1 queue 2 1\ncall 0 enq 1\ncall 0 deq\nstep 1\n",
+            4,
+            1,
+            0,
+        ),
+        (
+            "universal 1 queue 2 8\ncall 0 enq 10\nstep 0 10\ncall 1 deq\nstep 1 14\nfinish 0\ncall 0 enq 20\nstep 0\nfinish 1\nheads\nlog\n",
+            11,
+            3,
+            2,
+        ),
+    ];
+    for (script, lines, calls, returns) in rows {
+        let mut text = Vec::new(rt.alloc());
+        let ended = bench(
+            rt.alloc(),
+            &mut Checked::new(script.as_bytes()),
+            &mut Checked::new(&mut text),
+            &Options {},
+        );
+        let summary = Summary {
+            lines,
+            calls,
+            returns,
+        };
+        assert_eq!(rt; ended, Ok(summary), "{script}");
+    }
+}
+
+#[test]
 fn lines_that_are_no_commands(rt: HostRuntime) {
     for line in [
         "step 0 0",
@@ -184,7 +226,12 @@ fn lines_that_are_no_commands(rt: HostRuntime) {
         assert!(rt; wrote);
         let mut reader = Checked::new(script.as_slice());
         let mut text = Vec::new(rt.alloc());
-        let outcome = bench(rt.alloc(), &mut reader, &mut Checked::new(&mut text));
+        let outcome = bench(
+            rt.alloc(),
+            &mut reader,
+            &mut Checked::new(&mut text),
+            &Options {},
+        );
         assert_eq!(rt; outcome, Err(BenchFault::BadLine(2)), "{line}");
         assert_eq!(rt; text.len(), 0, "{line}");
     }
@@ -204,7 +251,12 @@ impl Read for Broken {
 fn ends_that_fail(rt: HostRuntime) {
     let mut text = Vec::new(rt.alloc());
     let mut reader = Checked::new(Broken);
-    let outcome = bench(rt.alloc(), &mut reader, &mut Checked::new(&mut text));
+    let outcome = bench(
+        rt.alloc(),
+        &mut reader,
+        &mut Checked::new(&mut text),
+        &Options {},
+    );
     assert_eq!(rt; outcome, Err(BenchFault::Read));
     assert!(rt; reader.failed());
 
@@ -215,8 +267,14 @@ fn ends_that_fail(rt: HostRuntime) {
         rt.alloc(),
         &mut Checked::new(script.as_slice()),
         &mut writer,
+        &Options {},
     );
-    assert_eq!(rt; outcome, Ok(()));
+    let summary = Summary {
+        lines: 1,
+        calls: 0,
+        returns: 0,
+    };
+    assert_eq!(rt; outcome, Ok(summary));
     assert_eq!(rt; write_all(&mut writer, b"x"), Err(Failed));
     assert!(rt; writer.failed());
 }

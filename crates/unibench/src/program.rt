@@ -12,7 +12,7 @@ use std::alloc::Global;
 use std::convert::AsStr;
 use std::fmt::{Display, Write};
 use std::{fmt, io};
-use uni_script::{BenchFault, Failed, TextIn, TextOut, bench, write_all};
+use uni_script::{BenchFault, Failed, Options, TextIn, TextOut, bench, write_all};
 
 /// What the command line asks for.
 #[derive(Clone, Copy, Debug, PartialEq, Eq)]
@@ -104,8 +104,8 @@ fn replay<I: TextIn, O: TextOut, F: TextOut>(
     ensures written { O.has_failed output.new ≡ true → result ≡ 3 }
     ensures ends { result ≡ 3 → (I.has_failed input.new ≡ true) ⊎ (O.has_failed output.new ≡ true) }
 {
-    match bench(alloc, input, output) {
-        Ok(()) => 0,
+    match bench(alloc, input, output, &Options {}) {
+        Ok(_) => 0,
         Err(fault) => report(fault, faults),
     }
 }

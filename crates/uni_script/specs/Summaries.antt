@@ -1,0 +1,31 @@
+-- How much a script has done.
+use Rattle.std.specs.Prelude.{◌≡◌, ℕ, ◌-◌, List, length, Option, None, Some, option_map, refl}
+use Rattle.uni_model.specs.Stages.{Pending}
+use Rattle.uni_model.specs.Worlds.{WorldOf, sum_below, calls_begun}
+use Rattle.uni_script.specs.declared.summary.Summary.{Summary}
+use Rattle.uni_script.specs.Script.{lines_of}
+use Rattle.uni_script.specs.Meaning.{Bench, AnyBench, Outcome, script_run}
+use Rattle.uni_script.specs.Meaning.AnyBench.{OfQueue, OfDirectory, OfBook, OfSticky}
+
+-- how many of the calls that a process has begun have returned: all but the pending one
+abbrev pub returned_of : Option Pending → (begun : ℕ) → ℕ
+returned_of None begun = begun
+returned_of (Some call) begun = begun - 1
+
+-- how many calls have returned
+abbrev pub calls_returned : {S I R : Type 0} → WorldOf S I R → ℕ
+calls_returned w = sum_below w.n (λ p. returned_of (w.call p) (w.begun p))
+
+-- so many lines, and the calls of a world: those that were begun, and those that have returned
+abbrev pub summary_of : {S I R : Type 0} → (lines : ℕ) → Bench S I R → Summary
+summary_of lines b = record { lines = lines; calls = calls_begun b.world; returns = calls_returned b.world }
+
+abbrev pub any_summary_of : (lines : ℕ) → AnyBench → Summary
+any_summary_of lines (OfQueue b) = summary_of lines b
+any_summary_of lines (OfDirectory b) = summary_of lines b
+any_summary_of lines (OfBook b) = summary_of lines b
+any_summary_of lines (OfSticky b) = summary_of lines b
+
+-- the summary of a script that opens a world
+abbrev pub summary_of_script : List ℕ → Option Summary
+summary_of_script script = option_map (any_summary_of (length (lines_of script))) (script_run script).bench
