@@ -11,6 +11,7 @@ pub mod Kept
 pub mod Chains
 pub mod Simulation
 pub mod Counted
+pub mod Longer
 pub mod Residues
 pub mod Helped
 pub mod Turns
