@@ -20,4 +20,8 @@ pub mod Later
 pub mod HelpedStep
 pub mod HelpedCall
 pub mod Bounded
+pub mod FloorStep
+pub mod FloorCall
+pub mod Floors
+pub mod Soon
 pub mod LawProofs

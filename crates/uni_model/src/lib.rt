@@ -11,5 +11,5 @@ mod tests;
 
 pub use laws::{
     changes_one_place, counts_steps, is_bounded, is_linearizable, keeps_invariant, keeps_settled,
-    simulates,
+    links_soon, simulates,
 };

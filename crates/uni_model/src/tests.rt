@@ -2,7 +2,7 @@
 
 use crate::{
     changes_one_place, counts_steps, is_bounded, is_linearizable, keeps_invariant, keeps_settled,
-    simulates,
+    links_soon, simulates,
 };
 use seq_object::SeqObject;
 use std::alloc::{AllocError, Global};
@@ -52,4 +52,5 @@ fn laws_hold_of_an_object() {
     is_linearizable::<Last>();
     counts_steps::<Last>();
     is_bounded::<Last>();
+    links_soon::<Last>();
 }
