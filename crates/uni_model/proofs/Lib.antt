@@ -24,4 +24,5 @@ pub mod FloorStep
 pub mod FloorCall
 pub mod Floors
 pub mod Soon
+pub mod Announced
 pub mod LawProofs

@@ -76,7 +76,7 @@ module _ {S I R : Type 0} (next : S → I → S) (answer : S → I → R) where
         ]
 
   -- a call with a floor has it in the world that is reached
-  FloorInvariant-floor : (w : WorldOf S I R) (es : List (Event I)) → AreAccepted next answer w es → CountsSteps w → HelpingInvariant next answer w
+  pub FloorInvariant-floor : (w : WorldOf S I R) (es : List (Event I)) → AreAccepted next answer w es → CountsSteps w → HelpingInvariant next answer w
       → (p k floor : ℕ) → floor_of next answer (Of p k) w es ≡ Some floor → FloorInvariant next answer (replayed next answer w es) p k floor
   FloorInvariant-floor w [] ok counts inv p k floor e = cc
   FloorInvariant-floor w (Call o i ∷ es) ok counts inv p k floor e =

@@ -5,7 +5,7 @@ ghost use Rattle.uni_model.specs.Stages.{Pending};
 ghost use Rattle.uni_model.specs.Worlds.{WorldOf, Event};
 ghost use Rattle.uni_model.specs.Invariant.{Invariant};
 ghost use Rattle.uni_model.specs.Bound.{CountsSteps, IsBounded};
-ghost use Rattle.uni_model.specs.Laws.{IsReached, StepIsLocal, SettledStays, Simulates, IsLinearizable, LinksSoon};
+ghost use Rattle.uni_model.specs.Laws.{IsReached, StepIsLocal, SettledStays, Simulates, IsLinearizable, LinksSoon, HasFloorOnceAnnounced};
 
 use seq_object::SeqObject;
 
@@ -64,4 +64,11 @@ pub fn is_bounded<O: SeqObject>()
 pub fn links_soon<O: SeqObject>()
     ensures { (object : O) (n : ℕ) (start : O.State) (number : ℕ) (events : List (Event O.Inv)) →
         LinksSoon (O.next object) (O.answer object) n start number events }
+{}
+
+/// A pending call has a floor, the frontier at the step that announces it, exactly where it has
+/// taken that step.
+pub fn has_floor<O: SeqObject>()
+    ensures { (object : O) (n : ℕ) (start : O.State) (number : ℕ) (events : List (Event O.Inv)) →
+        HasFloorOnceAnnounced (O.next object) (O.answer object) n start number events }
 {}
