@@ -14,14 +14,14 @@ use Rattle.uni_model.specs.Floored.{IsBelowFloor, Waits, HasFloor, IsAnnounced}
 use Rattle.uni_model.proofs.Written.{number_cases}
 use Rattle.uni_model.proofs.Helped.{OfConsidered-map}
 
-pub le-greatest_below : (n : ℕ) (f : ℕ → ℕ) (r : ℕ) → r < n → f r ≤ greatest_below n f
+le-greatest_below : (n : ℕ) (f : ℕ → ℕ) (r : ℕ) → r < n → f r ≤ greatest_below n f
 le-greatest_below zero f r below = absurd (omega arith)
 le-greatest_below (suc n) f r below =
     let left : greatest_below n f ≤ max (greatest_below n f) (f n) = le-max_left (greatest_below n f) (f n) in
     let right : f n ≤ max (greatest_below n f) (f n) = le-max_right (greatest_below n f) (f n) in
     elim (cases_lt r n) [
       | inl before ↦ let rest : f r ≤ greatest_below n f = le-greatest_below n f r before in omega arith
-      | inr not_before ↦ let same : n ≡ r = omega arith in let there : f r ≤ max (greatest_below n f) (f n) = subst (λ s. f s ≤ max (greatest_below n f) (f n)) same right in there
+      | inr not_before ↦ let same : n ≡ r = omega arith in subst (λ s. f s ≤ max (greatest_below n f) (f n)) same right
     ]
 
 -- a number that some head has isn't past the frontier
@@ -76,7 +76,7 @@ module _ {S I R : Type 0} (w : WorldOf S I R) (num : Name → ℕ) (last : ℕ) 
     fair = λ o d e. elim (number_cases o p) [
       | inl here ↦
           let new : record { mine = Of p (w.begun p); stage = Announce } ≡ d = (let f = rw here.1 at e in cc) in
-          subst (λ (y : Pending). OfConsidered y.stage (λ s x. IsBelowFloor num w.n q (Of q k) floor s x)) new tt
+          subst (λ (y : Pending). OfConsidered y.stage (IsBelowFloor num w.n q (Of q k) floor)) new tt
       | inr other ↦ waits.fair o d (rw other.1 at e)
     ];
   }

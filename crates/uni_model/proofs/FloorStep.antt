@@ -21,12 +21,21 @@ abbrev pub OfNext : Option Stage → (ℕ → Name → Type 0) → Type 0
 OfNext None Holds = Unit {0}
 OfNext (Some stage) Holds = OfConsidered stage Holds
 
+-- while x isn't linked, the last number is at most n past the floor
+pub last-le : {S I R : Type 0} (w : WorldOf S I R) (num : Name → ℕ) (last p : ℕ) (x : Name) (floor : ℕ) → p < w.n → Waits w num last p x floor → num x ≡ 0 → last ≤ floor + w.n
+last-le w num last p x floor inside waits none =
+    let found = found_near w.n p inside (num Anchor) last (λ s. s ≤ floor) waits.anchor (waits.unlinked none) in
+    let le : found.0 ≤ floor = found.1 in
+    let near : last ≤ found.0 + w.n = found.2 in
+    omega arith
+
 module _ {S I R : Type 0} (next : S → I → S) (answer : S → I → R) (w : WorldOf S I R) (num : Name → ℕ) (last : ℕ) (sound : IsSound next answer w num last)
     (p : ℕ) (mine : Name) (q : ℕ) (x : Name) (floor : ℕ) where
-  -- what process p may link after its step is after a number below the floor, or is x: p reads the announcement of x
-  pub considers_below : (stage : Stage) → (stage ≢ Announce → announced w.memory q ≡ x) → OfConsidered stage (λ s y. IsBelowFloor num w.n q x floor s y)
+  -- Where it is q's turn, what p may link after its step is x, or comes after a number that isn't past the floor: in q's entry
+  -- of announce p finds x.
+  pub considers_below : (stage : Stage) → (stage ≢ Announce → announced w.memory q ≡ x) → OfConsidered stage (IsBelowFloor num w.n q x floor)
       → OfNext (effect_of next answer w.n mine stage (w.memory (place_of w.n p mine stage)) (inv_of w.memory (d_of stage)) (new_of w.memory (c_of stage))).stage
-      (λ s y. IsBelowFloor num w.n q x floor s y)
+      (IsBelowFloor num w.n q x floor)
   considers_below Announce known h = tt
   considers_below (ScanHead r best b) known h = tt
   considers_below (ScanSeq r best b y) known h = elim (lt_cases (r + 1) w.n) [ inl more ↦ rw more.1 tt | inr done ↦ rw done.1 tt ]
@@ -56,7 +65,7 @@ module _ {S I R : Type 0} (next : S → I → S) (answer : S → I → R) (w : W
     (extends : Extends num last num' last' from) (t : ℕ) (advances : AdvancesTo w num p mine from m num' to t)
     (q k floor : ℕ) (has : HasFloor w num last q k floor)
     (known : (c : Pending) → w.call q ≡ Some c → c.mine ≡ Of q k → (c.stage ≢ Announce) ⊎ (q ≡ p))
-    (considers : (from ≢ Announce → announced w.memory q ≡ Of q k) → OfConsidered from (λ s y. IsBelowFloor num w.n q (Of q k) floor s y) → OfNext to (λ s y. IsBelowFloor num w.n q (Of q k) floor s y)) where
+    (considers : (from ≢ Announce → announced w.memory q ≡ Of q k) → OfConsidered from (IsBelowFloor num w.n q (Of q k) floor) → OfNext to (IsBelowFloor num w.n q (Of q k) floor)) where
   -- a cell that is linked now is one that p proposes
   abbrev IsProposed : Name → Type 0
   IsProposed x = (c : Name) × (from ≡ DecideAfter c last x)
@@ -93,17 +102,17 @@ module _ {S I R : Type 0} (next : S → I → S) (answer : S → I → R) (w : W
           | inr end ↦
               let apart : end.1 ≢ Of q k = (λ same. let new : num' end.1 ≡ last + 1 = end.3 in let zero : num' end.1 ≡ 0 = ap num' same ∙ none in omega arith) in
               subst (λ j. j ≤ floor) (sym end.0)
-              (subst (λ j. OfConsidered j (λ s y. IsBelowFloor num w.n q (Of q k) floor s y)) end.2.1 (waits.fair p (record { mine = mine; stage = from }) is)
+              (subst (λ j. OfConsidered j (IsBelowFloor num w.n q (Of q k) floor)) end.2.1 (waits.fair p (record { mine = mine; stage = from }) is)
               absent apart (ap (λ j. j % w.n) (sym end.0) ∙ its_turn))
         ]
 
-    own_considered : (d : Pending) → call_after mine to ≡ Some d → OfConsidered d.stage (λ s y. IsBelowFloor num w.n q (Of q k) floor s y)
+    own_considered : (d : Pending) → call_after mine to ≡ Some d → OfConsidered d.stage (IsBelowFloor num w.n q (Of q k) floor)
     own_considered d e = at_stage to (considers announces (waits.fair p (record { mine = mine; stage = from }) is)) e where
-      at_stage : (j : Option Stage) → OfNext j (λ s y. IsBelowFloor num w.n q (Of q k) floor s y) → call_after mine j ≡ Some d → OfConsidered d.stage (λ s y. IsBelowFloor num w.n q (Of q k) floor s y)
+      at_stage : (j : Option Stage) → OfNext j (IsBelowFloor num w.n q (Of q k) floor) → call_after mine j ≡ Some d → OfConsidered d.stage (IsBelowFloor num w.n q (Of q k) floor)
       at_stage None done f = cc
-      at_stage (Some j) on f = let same : record { mine = mine; stage = j } ≡ d = cc in subst (λ (y : Pending). OfConsidered y.stage (λ s y. IsBelowFloor num w.n q (Of q k) floor s y)) same on
+      at_stage (Some j) on f = let same : record { mine = mine; stage = j } ≡ d = cc in subst (λ (y : Pending). OfConsidered y.stage (IsBelowFloor num w.n q (Of q k) floor)) same on
 
-    considered_later : (o : ℕ) (d : Pending) → set_at w.call p (call_after mine to) o ≡ Some d → OfConsidered d.stage (λ s y. IsBelowFloor num w.n q (Of q k) floor s y)
+    considered_later : (o : ℕ) (d : Pending) → set_at w.call p (call_after mine to) o ≡ Some d → OfConsidered d.stage (IsBelowFloor num w.n q (Of q k) floor)
     considered_later o d e = elim (number_cases o p) [
       | inl here ↦ own_considered d (rw here.1 at e)
       | inr other ↦ waits.fair o d (rw other.1 at e)
@@ -114,16 +123,8 @@ module _ {S I R : Type 0} (next : S → I → S) (answer : S → I → R) (w : W
     Waits-moved steps = record {
       anchor = subst (λ j. j ≤ floor) (sym (anchor_stays num last num' last' IsProposed longer sound.numbered.first)) waits.anchor;
       unlinked = unlinked_later;
-      fair = λ o d e. OfConsidered-map d.stage (λ s y. IsBelowFloor num w.n q (Of q k) floor s y) _ (λ s y below none. below (absent_before none)) (considered_later o d e);
+      fair = λ o d e. OfConsidered-map d.stage (IsBelowFloor num w.n q (Of q k) floor) _ (λ s y below none. below (absent_before none)) (considered_later o d e);
     }
-
-    -- where it is linked now, that is at most n + 1 past the floor
-    last-le : num (Of q k) ≡ 0 → last ≤ floor + w.n
-    last-le none =
-        let found = found_near w.n q (sound.calls.process q c pending) (num Anchor) last (λ s. s ≤ floor) waits.anchor (waits.unlinked none) in
-        let le : found.0 ≤ floor = found.1 in
-        let below : last ≤ found.0 + w.n = found.2 in
-        omega arith
 
   linked_later : num' (Of q k) ≤ floor + w.n + 1
   linked_later =
@@ -135,7 +136,7 @@ module _ {S I R : Type 0} (next : S → I → S) (answer : S → I → R) (w : W
             let number : num' (Of q k) ≡ last + 1 = new.1 in
             elim (sound.calls.threaded q k (moves.linked q k (omega arith))) [
               | inl threaded ↦ absurd (let is_number : seq_of w.memory (Of q k) ≡ num (Of q k) = sound.numbered.seq (Of q k) threaded in omega arith)
-              | inr pending ↦ let le : last ≤ floor + w.n = last-le pending.0 pending.1 pending.2 none in omega arith
+              | inr pending ↦ let near : last ≤ floor + w.n = last-le w num last q (Of q k) floor (sound.calls.process q pending.0 pending.1) (has.waits pending.0 pending.1 pending.2) none in omega arith
             ]
       ]
 

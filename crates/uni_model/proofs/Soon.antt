@@ -15,7 +15,7 @@ use Rattle.uni_model.specs.Floored.{FloorInvariant}
 use Rattle.uni_model.specs.Laws.{IsLinkedSoon, LinksSoon}
 use Rattle.uni_model.proofs.Written.{name_eq_true}
 use Rattle.uni_model.proofs.Chains.{number_at, slice_get-cells_from, length-cells_from}
-use Rattle.uni_model.proofs.Residues.{found_near}
+use Rattle.uni_model.proofs.FloorStep.{last-le}
 use Rattle.uni_model.proofs.Simulation.{enough}
 use Rattle.uni_model.proofs.Counted.{CountsSteps-opened, CountsSteps-happened}
 use Rattle.uni_model.proofs.Bounded.{HelpingInvariant-opened, HelpingInvariant-happened}
@@ -37,43 +37,35 @@ Contains-slice_get xs place x e = (place, slice_get_within xs place x e, get_or_
 
 module _ {S I R : Type 0} (next : S → I → S) (answer : S → I → R) where
   IsLinkedSoon-held : (w : WorldOf S I R) (p k floor : ℕ) → FloorInvariant next answer w p k floor → IsLinkedSoon w p k floor
-  IsLinkedSoon-held w p k floor inv = record { linked = linked; waiting = waiting } where
-    anchor : inv.0.0 Anchor ≡ seq_of w.memory Anchor
-    anchor = inv.0.2.numbered.anchor
-
-    long_enough : inv.0.1 ≤ inv.0.0 Anchor + calls_begun w
-    long_enough = enough next answer w inv.0.0 inv.0.1 inv.0.2
-
-    linked : (place : ℕ) → slice_get (chain w) place ≡ Some (Of p k) → seq_of w.memory Anchor + place + 1 ≤ floor + w.n + 1
-    linked place e =
-        let number : inv.0.0 (Of p k) ≡ inv.0.0 Anchor + (place + 1) = number_at w.memory inv.0.0 inv.0.1 inv.0.2.numbered (calls_begun w) Anchor (Of p k) place e in
-        let bound : inv.0.0 (Of p k) ≤ floor + w.n + 1 = inv.1.linked in
-        let first = anchor in
-        omega arith
-
-    waiting : (c : Pending) → w.call p ≡ Some c → c.mine ≡ Of p k → ¬ (Contains (chain w) (Of p k)) → seq_of w.memory Anchor + length (chain w) ≤ floor + w.n
-    waiting c pending its outside =
-        let waits = inv.1.waits c pending its in
-        let first = anchor in
-        let all = long_enough in
-        let end : inv.0.0 Anchor + length (chain w) ≡ inv.0.1 = length-cells_from w.memory inv.0.0 inv.0.1 inv.0.2.numbered (calls_begun w) Anchor inv.0.2.numbered.first long_enough in
-        elim (cases_lt 0 (inv.0.0 (Of p k))) [
-          | inl linked ↦ absurd (outside (
-              let least : inv.0.0 Anchor ≤ inv.0.0 (Of p k) = inv.0.2.numbered.least (Of p k) linked in
-              let top : inv.0.0 (Of p k) ≤ inv.0.1 = inv.0.2.numbered.greatest (Of p k) in
-              let place : ℕ = inv.0.0 (Of p k) - inv.0.0 Anchor - 1 in
-              let past : inv.0.0 Anchor < inv.0.0 (Of p k) = elim (cases_lt (inv.0.0 Anchor) (inv.0.0 (Of p k))) [
-                | inl less ↦ less
-                | inr more ↦ absurd (let same = inv.0.2.numbered.one_each Anchor (Of p k) inv.0.2.numbered.first (omega arith) in cc)
-              ] in
-              Contains-slice_get (chain w) place (Of p k)
-              (slice_get-cells_from w.memory inv.0.0 inv.0.1 inv.0.2.numbered (calls_begun w) Anchor (Of p k) place inv.0.2.numbered.first (omega arith) (omega arith))))
-          | inr none ↦
-              let found = found_near w.n p (inv.0.2.calls.process p c pending) (inv.0.0 Anchor) inv.0.1 (λ s. s ≤ floor) waits.anchor (waits.unlinked (omega arith)) in
-              let le : found.0 ≤ floor = found.1 in
-              let near : inv.0.1 ≤ found.0 + w.n = found.2 in
-              omega arith
-        ]
+  IsLinkedSoon-held w p k floor inv =
+      let num = inv.0.0 in
+      let last = inv.0.1 in
+      let numbered = inv.0.2.numbered in
+      let anchor : num Anchor ≡ seq_of w.memory Anchor = numbered.anchor in
+      let long_enough : last ≤ num Anchor + calls_begun w = enough next answer w num last inv.0.2 in
+      record {
+        linked = λ place e.
+            let number : num (Of p k) ≡ num Anchor + (place + 1) = number_at w.memory num last numbered (calls_begun w) Anchor (Of p k) place e in
+            let bound : num (Of p k) ≤ floor + w.n + 1 = inv.1.linked in
+            omega arith;
+        waiting = λ c pending its outside.
+            let end : num Anchor + length (chain w) ≡ last = length-cells_from w.memory num last numbered (calls_begun w) Anchor numbered.first long_enough in
+            elim (cases_lt 0 (num (Of p k))) [
+              | inl linked ↦ absurd (outside (
+                  let least : num Anchor ≤ num (Of p k) = numbered.least (Of p k) linked in
+                  let top : num (Of p k) ≤ last = numbered.greatest (Of p k) in
+                  let place : ℕ = num (Of p k) - num Anchor - 1 in
+                  let past : num Anchor < num (Of p k) = elim (cases_lt (num Anchor) (num (Of p k))) [
+                    | inl less ↦ less
+                    | inr more ↦ absurd (let same = numbered.one_each Anchor (Of p k) numbered.first (omega arith) in cc)
+                  ] in
+                  Contains-slice_get (chain w) place (Of p k)
+                  (slice_get-cells_from w.memory num last numbered (calls_begun w) Anchor (Of p k) place numbered.first (omega arith) (omega arith))))
+              | inr none ↦
+                  let near : last ≤ floor + w.n = last-le w num last p (Of p k) floor (inv.0.2.calls.process p c pending) (inv.1.waits c pending its) (omega arith) in
+                  omega arith
+            ];
+      }
 
   -- a call with a floor has it in the world that is reached
   pub FloorInvariant-floor : (w : WorldOf S I R) (es : List (Event I)) → AreAccepted next answer w es → CountsSteps w → HelpingInvariant next answer w

@@ -17,7 +17,7 @@ IsBelowFloor num n p x floor s y = num x ≡ 0 → y ≢ x → s % n ≡ p → s
 pub record Waits {S I R : Type 0} (w : WorldOf S I R) (num : Name → ℕ) (last p : ℕ) (x : Name) (floor : ℕ) : Type 0 where
   pub anchor : num Anchor ≤ floor
   pub unlinked : num x ≡ 0 → (s : ℕ) → s % w.n ≡ p → num Anchor ≤ s → s < last → s ≤ floor
-  pub fair : (o : ℕ) (d : Pending) → w.call o ≡ Some d → OfConsidered d.stage (λ s y. IsBelowFloor num w.n p x floor s y)
+  pub fair : (o : ℕ) (d : Pending) → w.call o ≡ Some d → OfConsidered d.stage (IsBelowFloor num w.n p x floor)
 
 -- the call of the cell Of p k was begun, and this is its floor
 pub record HasFloor {S I R : Type 0} (w : WorldOf S I R) (num : Name → ℕ) (last p k floor : ℕ) : Type 0 where
