@@ -5,7 +5,7 @@ use Rattle.uni_model.specs.Places.{Name, Memory, written, set_at, head_seq, seq_
 use Rattle.uni_model.specs.Stages.{Stage, Pending}
 use Rattle.uni_model.specs.Stages.Stage.{Announce, ScanHead, ScanSeq, WriteScan, Test, ReadAnnounce, ReadHelpSeq, DecideAfter, DecideNew, WriteBefore, WriteSeq, WriteHead, Finish}
 use Rattle.uni_model.specs.Transition.{place_of, effect_of, turn_of, c_of, d_of}
-use Rattle.uni_model.specs.Worlds.{WorldOf, Event, stepped, opened, anchored, trimmed, last_cell, happened, replayed, IsAccepted, AreAccepted, IsQuiescent}
+use Rattle.uni_model.specs.Worlds.{WorldOf, Event, call_begun, stepped, opened, anchored, trimmed, last_cell, happened, replayed, IsAccepted, AreAccepted, IsQuiescent}
 use Rattle.uni_model.specs.Worlds.Event.{Call, Step, Trim}
 use Rattle.uni_model.specs.Invariant.{Stands}
 use Rattle.uni_model.specs.Bound.{steps_at, IsCounted, CountsSteps, IsWithinBound, IsBounded}
@@ -22,7 +22,7 @@ use Rattle.uni_model.proofs.HelpedStep.{Helps-moved}
 use Rattle.uni_model.proofs.HelpedCall.{Helps-begun}
 
 -- with no call pending nobody waits for help
-Helps-anchored : {S I R : Type 0} (s : S) (number n : ℕ) (call : ℕ → Option Pending) (begun steps turns : ℕ → ℕ) → ((p : ℕ) → call p ≡ None) → ((p : ℕ) → turns p ≤ n + 1)
+pub Helps-anchored : {S I R : Type 0} (s : S) (number n : ℕ) (call : ℕ → Option Pending) (begun steps turns : ℕ → ℕ) → ((p : ℕ) → call p ≡ None) → ((p : ℕ) → turns p ≤ n + 1)
     → Helps {S = S} {I = I} {R = R} (record { n = n; memory = anchored s number; call = call; begun = begun; steps = steps; turns = turns }) (alone number) number
 Helps-anchored s number n call begun steps turns idle few = record {
   each = λ p c e. absurd (let f = idle p in cc);
@@ -32,7 +32,7 @@ Helps-anchored s number n call begun steps turns idle few = record {
 }
 
 module _ {S I R : Type 0} (next : S → I → S) (answer : S → I → R) where
-  HelpingInvariant-stepped : (w : WorldOf S I R) (p : ℕ) (c : Pending) → w.call p ≡ Some c → CountsSteps w → HelpingInvariant next answer w → HelpingInvariant next answer (stepped next answer w p (Some c))
+  abbrev pub HelpingInvariant-stepped : (w : WorldOf S I R) (p : ℕ) (c : Pending) → w.call p ≡ Some c → CountsSteps w → HelpingInvariant next answer w → HelpingInvariant next answer (stepped next answer w p (Some c))
   HelpingInvariant-stepped w p c is counts inv =
       let moved = leads next answer w inv.0 inv.1 inv.2 p c.mine c.stage is c.stage (inv.2.stands p c is) in
       let own = IsCounted-pending w counts p c is in
@@ -53,7 +53,7 @@ module _ {S I R : Type 0} (next : S → I → S) (answer : S → I → R) where
       )
 
   -- every process's latest call has taken at most n + 1 turns
-  turns_bounded : (w : WorldOf S I R) → CountsSteps w → HelpingInvariant next answer w → (p : ℕ) → w.turns p ≤ w.n + 1
+  pub turns_bounded : (w : WorldOf S I R) → CountsSteps w → HelpingInvariant next answer w → (p : ℕ) → w.turns p ≤ w.n + 1
   turns_bounded w counts inv p = by_call (w.call p) refl where
     by_call : (o : Option Pending) → w.call p ≡ o → w.turns p ≤ w.n + 1
     by_call None is = inv.3.returned p is
@@ -62,21 +62,29 @@ module _ {S I R : Type 0} (next : S → I → S) (answer : S → I → R) where
         let inside : p < w.n = inv.2.calls.process p c is in
         turns-le w.memory inv.0 inv.1 inv.2.numbered w.n p inside (inv.2.calls.head p inside) c.mine (w.turns p) c.stage (inv.2.stands p c is) own.0 (inv.3.each p c is)
 
+  -- the list is replaced by one anchor with the state s
+  abbrev pub HelpingInvariant-anchored : (w : WorldOf S I R) (s : S) → IsQuiescent w → CountsSteps w → HelpingInvariant next answer w
+      → HelpingInvariant next answer (record w { memory = anchored s (seq_of w.memory (last_cell w)) })
+  HelpingInvariant-anchored w s quiet counts inv =
+      let idle : (p : ℕ) → w.call p ≡ None = idle_when_quiescent next answer w inv.0 inv.1 inv.2 quiet in (
+        alone (seq_of w.memory (last_cell w)),
+        seq_of w.memory (last_cell w),
+        IsSound-anchored next answer s (seq_of w.memory (last_cell w)) (last_cell_threaded next answer w inv.0 inv.1 inv.2 quiet) w.n w.call w.begun w.steps w.turns idle,
+        Helps-anchored s (seq_of w.memory (last_cell w)) w.n w.call w.begun w.steps w.turns idle (turns_bounded w counts inv),
+      )
+
   HelpingInvariant-trimmed : (w : WorldOf S I R) → IsQuiescent w → CountsSteps w → HelpingInvariant next answer w → HelpingInvariant next answer (trimmed w)
   HelpingInvariant-trimmed w quiet counts inv = by_new (new_of w.memory (last_cell w)) where
     by_new : (o : Option (S × Option R)) → HelpingInvariant next answer (record w { memory = option_map_or (λ new. anchored new.0 (seq_of w.memory (last_cell w))) o w.memory })
     by_new None = inv
-    by_new (Some new) =
-        let idle : (p : ℕ) → w.call p ≡ None = idle_when_quiescent next answer w inv.0 inv.1 inv.2 quiet in (
-          alone (seq_of w.memory (last_cell w)),
-          seq_of w.memory (last_cell w),
-          IsSound-anchored next answer new.0 (seq_of w.memory (last_cell w)) (last_cell_threaded next answer w inv.0 inv.1 inv.2 quiet) w.n w.call w.begun w.steps w.turns idle,
-          Helps-anchored new.0 (seq_of w.memory (last_cell w)) w.n w.call w.begun w.steps w.turns idle (turns_bounded w counts inv),
-        )
+    by_new (Some new) = HelpingInvariant-anchored w new.0 quiet counts inv
+
+  abbrev pub HelpingInvariant-begun : (w : WorldOf S I R) (p : ℕ) (i : I) → p < w.n → w.call p ≡ None → HelpingInvariant next answer w → HelpingInvariant next answer (call_begun w p i)
+  HelpingInvariant-begun w p i inside idle inv =
+      (inv.0, inv.1, IsSound-begun next answer w inv.0 inv.1 inv.2 p i inside idle, Helps-begun next answer w inv.0 inv.1 inv.2 inv.3 p i inside idle)
 
   pub HelpingInvariant-happened : (w : WorldOf S I R) (e : Event I) → IsAccepted w e → CountsSteps w → HelpingInvariant next answer w → HelpingInvariant next answer (happened next answer w e)
-  HelpingInvariant-happened w (Call p i) ok counts inv =
-      (inv.0, inv.1, IsSound-begun next answer w inv.0 inv.1 inv.2 p i ok.0 ok.1, Helps-begun next answer w inv.0 inv.1 inv.2 inv.3 p i ok.0 ok.1)
+  HelpingInvariant-happened w (Call p i) ok counts inv = HelpingInvariant-begun w p i ok.0 ok.1 inv
   HelpingInvariant-happened w (Step p) ok counts inv = by_call (w.call p) refl where
     by_call : (o : Option Pending) → w.call p ≡ o → HelpingInvariant next answer (stepped next answer w p o)
     by_call None is = inv

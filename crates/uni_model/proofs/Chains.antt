@@ -1,5 +1,5 @@
 -- The chain as a list of cells and of calls.
-use Rattle.std.proofs.Common.{◌≡◌, ◌≢◌, ◌∙◌, ℕ, zero, suc, ◌+◌, ◌<◌, ◌≤◌, inl, inr, refl, sym, ap, List, [], ◌∷◌, ◌++◌, map, slice_get, Option, Some, None, option_map, arith}
+use Rattle.std.proofs.Common.{◌≡◌, ◌≢◌, ◌∙◌, ℕ, zero, suc, ◌+◌, ◌<◌, ◌≤◌, inl, inr, refl, sym, ap, List, [], ◌∷◌, ◌++◌, map, length, slice_get, Option, Some, None, option_map, arith}
 use Rattle.std.proofs.lemmas.Bool.{cases_lt}
 use Rattle.std.specs.Option.{option_map_or}
 use Rattle.std.specs.List.{AllByRecursion}
@@ -70,6 +70,44 @@ module _ {S I R : Type 0} (m : Memory S I R) where
           → option_map_or (λ y. y ∷ cells_from a m y) o [] ≡ option_map_or (λ y. y ∷ cells_from b m y) o []
       by_after rest None e = refl
       by_after rest (Some y) e = let n = next_number x y e in ap (λ ys. y ∷ ys) (rest y (omega arith) (omega arith))
+
+    -- the numbers of the chain's cells go on by one from that of x
+    pub number_at : (most : ℕ) (x y : Name) (place : ℕ) → slice_get (cells_from most m x) place ≡ Some y → num y ≡ num x + (place + 1)
+    number_at zero x y place e = cc
+    number_at (suc most) x y place e = by_after (λ z k at. number_at most z y k at) (after_of m x) refl place e where
+      by_after : ((z : Name) (k : ℕ) → slice_get (cells_from most m z) k ≡ Some y → num y ≡ num z + (k + 1)) → (o : Option Name) → after_of m x ≡ o
+          → (k : ℕ) → slice_get (option_map_or (λ z. z ∷ cells_from most m z) o []) k ≡ Some y → num y ≡ num x + (k + 1)
+      by_after rest None link k at = cc
+      by_after rest (Some z) link zero at = let same : z ≡ y = cc in let n = next_number x z link in let e : num z ≡ num y = ap num same in omega arith
+      by_after rest (Some z) link (suc k) at = let n = next_number x z link in let e = rest z k at in omega arith
+
+    pub slice_get-cells_from : (most : ℕ) (x y : Name) (place : ℕ) → 1 ≤ num x → num y ≡ num x + (place + 1) → num y ≤ num x + most → slice_get (cells_from most m x) place ≡ Some y
+    slice_get-cells_from zero x y place h at bound = absurd (omega arith)
+    slice_get-cells_from (suc most) x y zero h at bound =
+        let top : num y ≤ last = numbered.greatest y in
+        let more = numbered.goes_on x h (omega arith) in
+        let n : num more.0 ≡ num x + 1 = next_number x more.0 more.1 in
+        let same : more.0 ≡ y = numbered.one_each more.0 y (omega arith) (omega arith) in
+        rw more.1 (ap (λ z. Some z) same)
+    slice_get-cells_from (suc most) x y (suc place) h at bound =
+        let top : num y ≤ last = numbered.greatest y in
+        let more = numbered.goes_on x h (omega arith) in
+        let n : num more.0 ≡ num x + 1 = next_number x more.0 more.1 in
+        rw more.1 (slice_get-cells_from most more.0 y place (omega arith) (omega arith) (omega arith))
+
+    pub length-cells_from : (most : ℕ) (x : Name) → 1 ≤ num x → last ≤ num x + most → num x + length (cells_from most m x) ≡ last
+    length-cells_from zero x h bound = let top = numbered.greatest x in omega arith
+    length-cells_from (suc most) x h bound = by_after (λ y linked enough. length-cells_from most y linked enough) (after_of m x) refl where
+      by_after : ((y : Name) → 1 ≤ num y → last ≤ num y + most → num y + length (cells_from most m y) ≡ last) → (o : Option Name) → after_of m x ≡ o
+          → num x + length (option_map_or (λ y. y ∷ cells_from most m y) o []) ≡ last
+      by_after rest None e = elim (cases_lt (num x) last) [
+        | inl before ↦ absurd (let more = numbered.goes_on x h before in let f = more.1 in cc)
+        | inr end ↦ let top = numbered.greatest x in omega arith
+      ]
+      by_after rest (Some y) e =
+          let n = next_number x y e in
+          let all : num y + length (cells_from most m y) ≡ last = rest y (omega arith) (omega arith) in
+          omega arith
 
     -- what is said of the calls of linked cells is said of the chain's
     pub calls_at-same : (m' : Memory S I R) → ((x : Name) → 1 ≤ num x → invoked_at m' x ≡ invoked_at m x) → (most : ℕ) (x : Name)

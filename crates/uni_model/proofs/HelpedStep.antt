@@ -37,8 +37,7 @@ module _ {S I R : Type 0} (next : S → I → S) (answer : S → I → R) (w : W
         let number : head_seq w.memory p ≡ last = head_seq-at w.memory p more.0 last stands.0 in
         inr (
           more.1,
-          subst (λ k. OfConsidered k (λ s x. IsFairToAll w num s x)) more.2 (helps.fair p (record { mine = mine; stage = from }) is),
-          (p, omega arith, inside, omega arith),
+          (subst (λ k. OfConsidered k (λ s x. IsFairToAll w num s x)) more.2 (helps.fair p (record { mine = mine; stage = from }) is), (p, omega arith, inside, omega arith)),
           more.3,
           more.4,
           more.5,

@@ -1,6 +1,5 @@
 -- What helps a pending call helps it later too.
-use Rattle.std.proofs.Common.{◌≡◌, ◌≢◌, ◌∙◌, ℕ, ◌+◌, ◌-◌, ◌<◌, ◌≤◌, ◌%◌, ◌⊎◌, inl, inr, refl, sym, ap, subst, Some, arith}
-use Rattle.std.proofs.lemmas.Bool.{cases_lt}
+use Rattle.std.proofs.Common.{◌≡◌, ◌≢◌, ◌∙◌, ℕ, ◌+◌, ◌<◌, ◌≤◌, ◌%◌, inl, inr, sym, ap, subst, Some, arith}
 use Rattle.uni_model.specs.Places.{Name, Memory, announced, head_of, head_seq, seq_of}
 use Rattle.uni_model.specs.Places.Name.{Anchor}
 use Rattle.uni_model.specs.Stages.{Stage, Pending}
@@ -9,63 +8,28 @@ use Rattle.uni_model.specs.Worlds.{WorldOf}
 use Rattle.uni_model.specs.Settled.{Grows}
 use Rattle.uni_model.specs.Invariant.{IsSound}
 use Rattle.uni_model.proofs.Grows.{NumbersGrow}
-use Rattle.uni_model.proofs.Numbered.{numbered_last, numbered_last-cases}
-use Rattle.uni_model.proofs.Residues.{with_remainder}
+use Rattle.uni_model.proofs.Longer.{IsLonger, anchor_stays, not_linked_before, numbers-cases, below-cases}
+use Rattle.uni_model.proofs.Residues.{found_near}
 use Rattle.uni_model.specs.Helping.{SomeHead, Finds, Announces, CountsOwnHead, IsAhead, IsHelped, IsFair, IsFairToAll, Helps}
 use Rattle.uni_model.proofs.Helped.{SomeHead-grows, Finds-grows, Announces-same, CountsOwnHead-same, IsAhead-grows}
 
--- the numbers are as before, or one more: that of a cell which is fair to all and is linked after some process's head
+-- the chain is as before, or longer by a cell which is fair to all and is linked after some process's head
 abbrev pub GrowFairly : {S I R : Type 0} → WorldOf S I R → (num : Name → ℕ) (last : ℕ) (num' : Name → ℕ) (last' : ℕ) → Type 0
-GrowFairly w num last num' last' =
-    ((num' ≡ num) × (last' ≡ last))
-    ⊎ ((x : Name) × IsFairToAll w num last x × SomeHead w.memory w.n 0 last × (num x ≡ 0) × (num' ≡ numbered_last num last x) × (last' ≡ last + 1))
+GrowFairly w num last num' last' = IsLonger num last num' last' (λ x. IsFairToAll w num last x × SomeHead w.memory w.n 0 last)
 
 module _ {S I R : Type 0} (next : S → I → S) (answer : S → I → R) (w : WorldOf S I R) (num : Name → ℕ) (last : ℕ) (sound : IsSound next answer w num last) (helps : Helps w num last)
     (m : Memory S I R) (num' : Name → ℕ) (last' : ℕ) (grow : GrowFairly w num last num' last') where
-  -- a linked cell keeps its number
-  numbers-cases : (y : Name) → (num' y ≡ num y) ⊎ ((num y ≡ 0) × (num' y ≡ last + 1) × IsFairToAll w num last y)
-  numbers-cases y = elim grow [
-    | inl same ↦ inl (ap (λ f. f y) same.0)
-    | inr more ↦ elim (numbered_last-cases num last more.0 y) [
-      | inl new ↦ inr (ap num new.0 ∙ more.3, ap (λ f. f y) more.4 ∙ new.1, subst (λ x. IsFairToAll w num last x) (sym new.0) more.1)
-      | inr old ↦ inl (ap (λ f. f y) more.4 ∙ old.1)
-    ]
-  ]
-
-  anchor_stays : num' Anchor ≡ num Anchor
-  anchor_stays = elim (numbers-cases Anchor) [ inl same ↦ same | inr new ↦ absurd (let none : num Anchor ≡ 0 = new.0 in let first : 1 ≤ num Anchor = sound.numbered.first in omega arith) ]
-
-  not_linked_before : (y : Name) → num' y ≡ 0 → num y ≡ 0
-  not_linked_before y none = elim (numbers-cases y) [ inl same ↦ sym same ∙ none | inr new ↦ new.0 ]
-
-  -- a number below the last one was so before, or is that of the cell which was the last one
-  below-cases : (s : ℕ) → s < last' → (s < last) ⊎ ((s ≡ last) × (x : Name) × IsFairToAll w num last x × SomeHead w.memory w.n 0 last × (num' x ≡ last + 1))
-  below-cases s below = elim grow [
-    | inl same ↦ let e = same.1 in inl (omega arith)
-    | inr more ↦
-        let e = more.5 in
-        elim (cases_lt s last) [
-          | inl before ↦ inl before
-          | inr not_before ↦ inr (
-            omega arith,
-            more.0,
-            more.1,
-            more.2,
-            elim (numbers-cases more.0) [
-              | inl same ↦ elim (numbered_last-cases num last more.0 more.0) [ inl new ↦ ap (λ f. f more.0) more.4 ∙ new.1 | inr old ↦ absurd (old.0 refl) ]
-              | inr new ↦ new.1
-            ],
-          )
-        ]
-  ]
+  -- what holds of a cell that is linked now
+  abbrev pub IsFairLast : Name → Type 0
+  IsFairLast x = IsFairToAll w num last x × SomeHead w.memory w.n 0 last
 
   module _ (rise : (r : ℕ) → r < w.n → head_seq w.memory r ≤ head_seq m r) where
     pub heads_later : (s : ℕ) → num' Anchor ≤ s → s < last' → SomeHead m w.n 0 s
     heads_later s from below =
-        let anchor : num' Anchor ≡ num Anchor = anchor_stays in
-        SomeHead-grows w.memory m w.n rise 0 s (elim (below-cases s below) [
+        let anchor : num' Anchor ≡ num Anchor = anchor_stays num last num' last' IsFairLast grow sound.numbered.first in
+        SomeHead-grows w.memory m w.n rise 0 s (elim (below-cases num last num' last' IsFairLast grow s below) [
           | inl before ↦ helps.heads s (omega arith) before
-          | inr end ↦ subst (λ k. SomeHead w.memory w.n 0 k) (sym end.0) end.3
+          | inr end ↦ subst (λ k. SomeHead w.memory w.n 0 k) (sym end.0) end.2.1
         ])
 
   -- a pending call, at its next stage or at the same one
@@ -76,30 +40,25 @@ module _ {S I R : Type 0} (next : S → I → S) (answer : S → I → R) (w : W
 
     unlinked_later : num' d.mine ≡ 0 → (s : ℕ) → s % w.n ≡ q → num' Anchor ≤ s → s < last' → Finds m w.n stage turns s
     unlinked_later none s its_turn from below =
-        let anchor : num' Anchor ≡ num Anchor = anchor_stays in
-        let absent : num d.mine ≡ 0 = not_linked_before d.mine none in
-        finds s (elim (below-cases s below) [
+        let anchor : num' Anchor ≡ num Anchor = anchor_stays num last num' last' IsFairLast grow sound.numbered.first in
+        let absent : num d.mine ≡ 0 = not_linked_before num last num' last' IsFairLast grow d.mine none in
+        finds s (elim (below-cases num last num' last' IsFairLast grow s below) [
           | inl before ↦ was.unlinked absent s its_turn (omega arith) before
           | inr end ↦
-              let apart : end.1 ≢ d.mine = (λ same. let new : num' end.1 ≡ last + 1 = end.4 in let zero : num' end.1 ≡ 0 = ap num' same ∙ none in omega arith) in
+              let apart : end.1 ≢ d.mine = (λ same. let new : num' end.1 ≡ last + 1 = end.3 in let zero : num' end.1 ≡ 0 = ap num' same ∙ none in omega arith) in
               subst (λ k. Finds w.memory w.n d.stage (w.turns q) k) (sym end.0)
-              ((end.2 q d pending).help absent apart (ap (λ k. k % w.n) (sym end.0) ∙ its_turn))
+              ((end.2.0 q d pending).help absent apart (ap (λ k. k % w.n) (sym end.0) ∙ its_turn))
         ])
 
     -- mine is linked at most n + 1 past a number that the scan finds
     linked_later : (s : ℕ) × Finds m w.n stage turns s × (num' d.mine ≤ s + w.n + 1)
-    linked_later = elim (numbers-cases d.mine) [
+    linked_later = elim (numbers-cases num last num' last' IsFairLast grow d.mine) [
       | inl same ↦ (was.linked.0, finds was.linked.0 was.linked.1, (let near : num d.mine ≤ was.linked.0 + w.n + 1 = was.linked.2 in omega arith))
       | inr new ↦
           let number : num' d.mine ≡ last + 1 = new.1 in
-          elim (cases_lt last (num Anchor + w.n)) [
-            | inl near ↦ (num Anchor, finds (num Anchor) was.anchor, omega arith)
-            | inr far ↦
-                let k = with_remainder w.n q (sound.calls.process q d pending) (last - w.n) in
-                let from : last - w.n ≤ k.0 = k.1 in
-                let to : k.0 < (last - w.n) + w.n = k.2 in
-                (k.0, finds k.0 (was.unlinked new.0 k.0 k.3 (omega arith) (omega arith)), omega arith)
-          ]
+          let k = found_near w.n q (sound.calls.process q d pending) (num Anchor) last (λ s. Finds w.memory w.n d.stage (w.turns q) s) was.anchor (was.unlinked new.0) in
+          let near : last ≤ k.0 + w.n = k.2 in
+          (k.0, finds k.0 k.1, omega arith)
     ]
 
     pub IsHelped-later : Announces m q d.mine stage → CountsOwnHead m q stage → IsAhead num' d.mine stage turns → IsHelped m num' last' w.n q d.mine stage turns
@@ -107,7 +66,7 @@ module _ {S I R : Type 0} (next : S → I → S) (answer : S → I → R) (w : W
       announced = announced;
       own_head = own_head;
       ahead = ahead;
-      anchor = finds (num' Anchor) (subst (λ k. Finds w.memory w.n d.stage (w.turns q) k) (sym anchor_stays) was.anchor);
+      anchor = finds (num' Anchor) (subst (λ k. Finds w.memory w.n d.stage (w.turns q) k) (sym (anchor_stays num last num' last' IsFairLast grow sound.numbered.first)) was.anchor);
       unlinked = unlinked_later;
       linked = linked_later;
     }
@@ -115,7 +74,7 @@ module _ {S I R : Type 0} (next : S → I → S) (answer : S → I → R) (w : W
     pub IsFair-later : (stage ≡ Announce → d.stage ≡ Announce) → (s : ℕ) (x : Name) → IsFair w.memory num w.n q d.mine d.stage (w.turns q) s x → IsFair m num' w.n q d.mine stage turns s x
     IsFair-later first s x fair = record {
       unknown = λ e. fair.unknown (first e);
-      help = λ none other its_turn. finds s (fair.help (not_linked_before d.mine none) other its_turn);
+      help = λ none other its_turn. finds s (fair.help (not_linked_before num last num' last' IsFairLast grow d.mine none) other its_turn);
     }
 
   -- a pending call whose process takes no step

@@ -11,6 +11,7 @@ pub mod Kept
 pub mod Chains
 pub mod Simulation
 pub mod Counted
+pub mod Longer
 pub mod Residues
 pub mod Helped
 pub mod Turns
@@ -19,4 +20,9 @@ pub mod Later
 pub mod HelpedStep
 pub mod HelpedCall
 pub mod Bounded
+pub mod FloorStep
+pub mod FloorCall
+pub mod Floors
+pub mod Soon
+pub mod Announced
 pub mod LawProofs

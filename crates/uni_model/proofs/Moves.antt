@@ -45,8 +45,7 @@ module _ {S I R : Type 0} (next : S → I → S) (answer : S → I → R) (w : W
   call_later = set_at w.call p (call_after mine stage)
 
   -- who has a call pending afterwards had it before, with the same cell
-  was_pending : (q : ℕ) (c : Pending) → call_later q ≡ Some c → (d : Pending) × (w.call q ≡ Some d) × (c.mine ≡ d.mine)
-  unfolding call_later
+  pub was_pending : (q : ℕ) (c : Pending) → set_at w.call p (call_after mine stage) q ≡ Some c → (d : Pending) × (w.call q ≡ Some d) × (c.mine ≡ d.mine)
   was_pending q c e = elim (set_at-cases w.call p (call_after mine stage) q) [
     | inl h ↦ (record { mine = mine; stage = from }, ap w.call h.0 ∙ is, of_stage stage (sym h.1 ∙ e))
     | inr h ↦ (c, sym h.1 ∙ e, refl)

@@ -1,5 +1,5 @@
 -- Among n numbers in a row there is one with each remainder.
-use Rattle.std.proofs.Common.{◌≡◌, ◌∙◌, ℕ, zero, suc, ◌+◌, ◌<◌, ◌≤◌, ◌%◌, inl, inr, arith}
+use Rattle.std.proofs.Common.{◌≡◌, ◌∙◌, ℕ, zero, suc, ◌+◌, ◌-◌, ◌<◌, ◌≤◌, ◌%◌, inl, inr, arith}
 use Rattle.std.proofs.lemmas.Bool.{cases_lt}
 use Rattle.std.proofs.Math.Nat.{mod-eq_of_lt, add-mod_right}
 
@@ -13,3 +13,16 @@ with_remainder n r below (suc b) =
       | inl past ↦ (before.0, omega arith, omega arith, before.3)
       | inr first ↦ (before.0 + n, omega arith, omega arith, add-mod_right before.0 n ∙ before.3)
     ]
+
+-- Where first is found, and so is each number with the remainder r that isn't below first and is below last, one of them is
+-- at most n below last.
+pub found_near : (n r : ℕ) → r < n → (first last : ℕ) (Found : ℕ → Type 0) → Found first → ((s : ℕ) → s % n ≡ r → first ≤ s → s < last → Found s)
+    → (s : ℕ) × Found s × (last ≤ s + n)
+found_near n r below first last Found at_first each = elim (cases_lt last (first + n)) [
+  | inl near ↦ (first, at_first, omega arith)
+  | inr far ↦
+      let k = with_remainder n r below (last - n) in
+      let from : last - n ≤ k.0 = k.1 in
+      let to : k.0 < (last - n) + n = k.2 in
+      (k.0, each k.0 k.3 (omega arith) (omega arith), omega arith)
+]

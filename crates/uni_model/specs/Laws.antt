@@ -1,12 +1,22 @@
 -- The laws over every list of accepted events.
-use Rattle.std.specs.Prelude.{◌≡◌, ◌≢◌, ℕ, ◌≤◌, List, [], ◌∷◌, Some}
+use Rattle.std.specs.Prelude.{◌≡◌, ◌≢◌, ◌↔◌, ℕ, ◌+◌, ◌≤◌, List, [], ◌∷◌, length, slice_get, Contains, Some, IsSome}
+use Rattle.uni_model.specs.Places.{seq_of}
+use Rattle.uni_model.specs.Places.Name.{Anchor, Of}
 use Rattle.uni_model.specs.Stages.{Pending}
+use Rattle.uni_model.specs.Stages.Stage.{Announce}
 use Rattle.uni_model.specs.Transition.{place_of}
-use Rattle.uni_model.specs.Worlds.{WorldOf, Event, opened, happened, replayed, IsAccepted, AreAccepted}
+use Rattle.uni_model.specs.Worlds.{WorldOf, Event, chain, opened, happened, replayed, IsAccepted, AreAccepted}
 use Rattle.uni_model.specs.Worlds.Event.{Call, Step, Trim}
+use Rattle.uni_model.specs.Frontier.{floor_of}
 use Rattle.uni_model.specs.AtomicObject.{Atomic, AcceptsAll, at_start}
 use Rattle.uni_model.specs.History.{Shows, history_of, acts_of}
 use Rattle.uni_model.specs.Settled.{Grows, ChangesOnly}
+
+-- A call of p with this floor is linked soon: its number is at most n + 1 past the floor, and while it is pending and isn't
+-- linked, the last number is at most n past the floor.
+pub record IsLinkedSoon {S I R : Type 0} (w : WorldOf S I R) (p k floor : ℕ) : Type 0 where
+  pub linked : (place : ℕ) → slice_get (chain w) place ≡ Some (Of p k) → seq_of w.memory Anchor + place + 1 ≤ floor + w.n + 1
+  pub waiting : (c : Pending) → w.call p ≡ Some c → c.mine ≡ Of p k → ¬ (Contains (chain w) (Of p k)) → seq_of w.memory Anchor + length (chain w) ≤ floor + w.n
 
 -- no trim is among the events
 abbrev pub HasNoTrim : {I : Type 0} → List (Event I) → Type 0
@@ -45,3 +55,15 @@ module _ {S I R : Type 0} (next : S → I → S) (answer : S → I → R) where
       1 ≤ number → AreAccepted next answer (opened n start number) events → HasNoTrim events
       → (b : Atomic S I) × Shows (replayed next answer (opened n start number) events) b
       × AcceptsAll next answer (at_start start) (history_of next answer (opened n start number) events) b
+
+  -- in a run from the opening, each call that has a floor is linked soon
+  abbrev pub LinksSoon : (n : ℕ) → (start : S) → (number : ℕ) → List (Event I) → Type 0
+  LinksSoon n start number events =
+      1 ≤ number → AreAccepted next answer (opened n start number) events → (p k floor : ℕ) → floor_of next answer (Of p k) (opened n start number) events ≡ Some floor
+      → IsLinkedSoon (replayed next answer (opened n start number) events) p k floor
+
+  -- in a run from the opening, a pending call has a floor exactly where it has taken the step that announces it
+  abbrev pub HasFloorOnceAnnounced : (n : ℕ) → (start : S) → (number : ℕ) → List (Event I) → Type 0
+  HasFloorOnceAnnounced n start number events =
+      1 ≤ number → AreAccepted next answer (opened n start number) events → (p : ℕ) (c : Pending) → (replayed next answer (opened n start number) events).call p ≡ Some c
+      → IsSome (floor_of next answer c.mine (opened n start number) events) ↔ (c.stage ≢ Announce)

@@ -9,6 +9,7 @@ pub mod Frontier
 pub mod Settled
 pub mod Invariant
 pub mod Helping
+pub mod Floored
 pub mod Bound
 pub mod Rows
 pub mod Laws

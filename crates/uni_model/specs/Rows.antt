@@ -1,11 +1,12 @@
 -- Worked rows: what the definitions compute over a queue of numbers.
-use Rattle.std.specs.Prelude.{◌≡◌, refl, ℕ, zero, suc, List, [], ◌∷◌, ◌++◌, Some, map}
-use Rattle.uni_model.specs.Places.{head_seq}
+use Rattle.std.specs.Prelude.{◌≡◌, refl, ℕ, zero, suc, ◌+◌, List, [], ◌∷◌, ◌++◌, length, Option, None, Some, map}
+use Rattle.uni_model.specs.Places.{Name, seq_of, head_seq}
 use Rattle.uni_model.specs.Places.Name.{Anchor, Of}
 use Rattle.uni_model.specs.Stages.Stage.{Announce, ScanHead, Test, WriteHead, Finish}
 use Rattle.uni_model.specs.Bound.{steps_at}
 use Rattle.uni_model.specs.Chain.{Entry}
-use Rattle.uni_model.specs.Worlds.{WorldOf, Event, opened, replayed}
+use Rattle.uni_model.specs.Frontier.{floor_of}
+use Rattle.uni_model.specs.Worlds.{WorldOf, Event, chain, opened, replayed}
 use Rattle.uni_model.specs.Worlds.Event.{Call, Step, Trim}
 use Rattle.uni_model.specs.AtomicObject.Act.{Invoke, Linearize, Respond}
 use Rattle.uni_model.specs.History.{log, history_of}
@@ -40,6 +41,14 @@ run n events = replayed queue_next queue_answer (opened n [] 1) events
 
 abbrev heads : WorldOf (List ℕ) QueueCall QueueReply → List ℕ → List ℕ
 heads w ps = map (head_seq w.memory) ps
+
+-- the floor that a run of n processes gives the call of a cell
+abbrev floor : ℕ → Name → List (Event QueueCall) → Option ℕ
+floor n x events = floor_of queue_next queue_answer x (opened {R = QueueReply} n [] 1) events
+
+-- the number of the last linked cell, or of the anchor
+abbrev last_number : WorldOf (List ℕ) QueueCall QueueReply → ℕ
+last_number w = seq_of w.memory Anchor + length (chain w)
 
 abbrev entry : ℕ → ℕ → ℕ → QueueCall → QueueReply → Entry QueueCall QueueReply
 entry number p k i r = record { number = number; call = record { process = p; nth = k; inv = i }; response = Some r }
@@ -89,6 +98,31 @@ bound_met-turns : (run 2 bound_met).turns 1 ≡ 3
 unfolding bound_met
 bound_met-turns = refl
 
+-- the call's number, 4, is n + 1 past its floor
+bound_met-floor : floor 2 (Of 1 0) bound_met ≡ Some 1
+unfolding bound_met
+bound_met-floor = refl
+
+bound_met-chain : chain (run 2 bound_met) ≡ Of 0 0 ∷ Of 0 1 ∷ Of 1 0 ∷ []
+unfolding bound_met
+bound_met-chain = refl
+
+-- the same run while that call waits: the last number, 3, is n past its floor
+bound_waiting : List (Event QueueCall)
+bound_waiting = Call 0 (Enq 10) ∷ (steps 0 10 ++ Call 1 Deq ∷ (steps 1 14 ++ (steps 0 6 ++ Call 0 (Enq 20) ∷ Step 0 ∷ steps 1 8)))
+
+bound_waiting-call : (run 2 bound_waiting).call 1 ≡ Some (record { mine = Of 1 0; stage = Test (Of 0 1) 3 })
+unfolding bound_waiting
+bound_waiting-call = refl
+
+bound_waiting-floor : floor 2 (Of 1 0) bound_waiting ≡ Some 1
+unfolding bound_waiting
+bound_waiting-floor = refl
+
+bound_waiting-last : last_number (run 2 bound_waiting) ≡ 3
+unfolding bound_waiting
+bound_waiting-last = refl
+
 -- the same run before its last step: the call is pending, and has taken 31 steps, one less than the bound
 bound_pending : List (Event QueueCall)
 bound_pending = Call 0 (Enq 10) ∷ (steps 0 10 ++ Call 1 Deq ∷ (steps 1 14 ++ (steps 0 6 ++ Call 0 (Enq 20) ∷ Step 0 ∷ steps 1 17)))
@@ -121,6 +155,19 @@ helped-turns : (run 2 helped).turns 0 ≡ 2
 unfolding helped
 helped-turns = refl
 
+-- the call that process 1 announced at the frontier 1 gets the next number
+helped-floor : floor 2 (Of 1 0) helped ≡ Some 1
+unfolding helped
+helped-floor = refl
+
+helped-chain : chain (run 2 helped) ≡ Of 1 0 ∷ Of 0 0 ∷ []
+unfolding helped
+helped-chain = refl
+
+-- before its first step a call has no floor
+helped-no_floor : floor 2 (Of 1 0) (Call 1 (Enq 5) ∷ []) ≡ None
+helped-no_floor = refl
+
 -- numbers go on after a trim, so the turns of processes do
 trimmed_between : List (Event QueueCall)
 trimmed_between = Call 0 (Enq 1) ∷ (steps 0 16 ++ Trim ∷ Call 1 (Enq 2) ∷ Step 1 ∷ Call 0 Deq ∷ steps 0 16)
@@ -132,6 +179,11 @@ trimmed_between-log = refl
 trimmed_between-heads : heads (run 2 trimmed_between) (0 ∷ 1 ∷ []) ≡ 3 ∷ 2 ∷ []
 unfolding trimmed_between
 trimmed_between-heads = refl
+
+-- so does the frontier
+trimmed_between-floor : floor 2 (Of 1 0) trimmed_between ≡ Some 2
+unfolding trimmed_between
+trimmed_between-floor = refl
 
 trimmed_between-steps : (run 2 trimmed_between).steps 0 ≡ 16
 unfolding trimmed_between

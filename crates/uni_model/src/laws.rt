@@ -5,7 +5,7 @@ ghost use Rattle.uni_model.specs.Stages.{Pending};
 ghost use Rattle.uni_model.specs.Worlds.{WorldOf, Event};
 ghost use Rattle.uni_model.specs.Invariant.{Invariant};
 ghost use Rattle.uni_model.specs.Bound.{CountsSteps, IsBounded};
-ghost use Rattle.uni_model.specs.Laws.{IsReached, StepIsLocal, SettledStays, Simulates, IsLinearizable};
+ghost use Rattle.uni_model.specs.Laws.{IsReached, StepIsLocal, SettledStays, Simulates, IsLinearizable, LinksSoon, HasFloorOnceAnnounced};
 
 use seq_object::SeqObject;
 
@@ -56,4 +56,19 @@ pub fn counts_steps<O: SeqObject>()
 pub fn is_bounded<O: SeqObject>()
     ensures { (object : O) (w : WorldOf O.State O.Inv O.Resp) →
         IsReached (O.next object) (O.answer object) w → IsBounded w }
+{}
+
+/// A call is linked soon after it is announced, whatever its own process does then (Herlihy 1991,
+/// section 4): it gets a number at most n + 1 past the frontier at that step, and while it is
+/// pending and not linked, the last number is at most n past that frontier.
+pub fn links_soon<O: SeqObject>()
+    ensures { (object : O) (n : ℕ) (start : O.State) (number : ℕ) (events : List (Event O.Inv)) →
+        LinksSoon (O.next object) (O.answer object) n start number events }
+{}
+
+/// A pending call has a floor, the frontier at the step that announces it, exactly where it has
+/// taken that step.
+pub fn has_floor<O: SeqObject>()
+    ensures { (object : O) (n : ℕ) (start : O.State) (number : ℕ) (events : List (Event O.Inv)) →
+        HasFloorOnceAnnounced (O.next object) (O.answer object) n start number events }
 {}

@@ -10,6 +10,6 @@ mod laws;
 mod tests;
 
 pub use laws::{
-    changes_one_place, counts_steps, is_bounded, is_linearizable, keeps_invariant, keeps_settled,
-    simulates,
+    changes_one_place, counts_steps, has_floor, is_bounded, is_linearizable, keeps_invariant,
+    keeps_settled, links_soon, simulates,
 };

@@ -1,8 +1,8 @@
 //! The laws at a concrete object.
 
 use crate::{
-    changes_one_place, counts_steps, is_bounded, is_linearizable, keeps_invariant, keeps_settled,
-    simulates,
+    changes_one_place, counts_steps, has_floor, is_bounded, is_linearizable, keeps_invariant,
+    keeps_settled, links_soon, simulates,
 };
 use seq_object::SeqObject;
 use std::alloc::{AllocError, Global};
@@ -52,4 +52,6 @@ fn laws_hold_of_an_object() {
     is_linearizable::<Last>();
     counts_steps::<Last>();
     is_bounded::<Last>();
+    links_soon::<Last>();
+    has_floor::<Last>();
 }

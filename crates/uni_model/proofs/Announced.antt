@@ -1,0 +1,84 @@
+-- A pending call has a floor exactly where it has been announced.
+use Rattle.std.proofs.Common.{◌≡◌, ◌≢◌, ◌∙◌, ℕ, ◌⊎◌, inl, inr, refl, sym, ap, subst, List, [], ◌∷◌, Option, Some, None, IsSome, Bool, true, false, cond}
+use Rattle.uni_model.specs.Places.{Name, name_eq}
+use Rattle.uni_model.specs.Places.Name.{Of}
+use Rattle.uni_model.specs.Stages.{Stage, Pending}
+use Rattle.uni_model.specs.Stages.Stage.{Announce}
+use Rattle.uni_model.specs.Worlds.{WorldOf, Event, call_after, stepped, opened, happened, replayed}
+use Rattle.uni_model.specs.Worlds.Event.{Call, Step, Trim}
+use Rattle.uni_model.specs.Frontier.{frontier, announces, announces_at, floor_of}
+use Rattle.uni_model.specs.Bound.{CountsSteps}
+use Rattle.uni_model.specs.Helping.{HelpingInvariant}
+use Rattle.uni_model.specs.Laws.{HasFloorOnceAnnounced}
+use Rattle.uni_model.proofs.Written.{name_eq_same, number_cases}
+use Rattle.uni_model.proofs.Counted.{CountsSteps-opened}
+use Rattle.uni_model.proofs.Bounded.{HelpingInvariant-opened, HelpingInvariant-replayed}
+use Rattle.uni_model.proofs.Soon.{FloorInvariant-floor}
+
+module _ {S I R : Type 0} (next : S → I → S) (answer : S → I → R) where
+  -- a pending call that has been announced by the end of a run was so at its start, or the run gives it its floor
+  floor_or_announced : (w : WorldOf S I R) (es : List (Event I)) (p : ℕ) (x : Name) (c : Pending) → (replayed next answer w es).call p ≡ Some c → c.mine ≡ x → c.stage ≢ Announce
+      → IsSome (floor_of next answer x w es) ⊎ ((d : Pending) × (w.call p ≡ Some d) × (d.mine ≡ x) × (d.stage ≢ Announce))
+  floor_or_announced w [] p x c pending its past = inr (c, pending, its, past)
+  floor_or_announced w (Call o i ∷ es) p x c pending its past = elim (floor_or_announced (happened next answer w (Call o i)) es p x c pending its past) [
+    | inl some ↦ inl some
+    | inr was ↦ elim (number_cases p o) [
+      | inl here ↦ absurd (
+          let new : record { mine = Of o (w.begun o); stage = Announce } ≡ was.0 = (let f = rw here.1 at was.1 in cc) in
+          was.3 (sym (ap (λ (y : Pending). y.stage) new)))
+      | inr other ↦ inr (was.0, rw other.1 at was.1, was.2, was.3)
+    ]
+  ]
+  floor_or_announced w (Trim ∷ es) p x c pending its past = floor_or_announced (happened next answer w Trim) es p x c pending its past
+  floor_or_announced w (Step o ∷ es) p x c pending its past = by_test (floor_or_announced (happened next answer w (Step o)) es p x c pending its past) (announces x (w.call o)) refl where
+    at_call : (call : Option Pending) → w.call o ≡ call → announces x call ≡ false → (d : Pending) → (stepped next answer w o call).call p ≡ Some d → d.mine ≡ x → d.stage ≢ Announce
+        → (d : Pending) × (w.call p ≡ Some d) × (d.mine ≡ x) × (d.stage ≢ Announce)
+    at_call None is silent d pending its past = (d, pending, its, past)
+    at_call (Some e) is silent d pending its past = elim (number_cases p o) [
+      | inl here ↦ at_stage here.0 _ (rw here.1 at pending)
+      | inr other ↦ (d, rw other.1 at pending, its, past)
+    ] where
+      at_stage : p ≡ o → (to : Option Stage) → call_after e.mine to ≡ Some d → (d : Pending) × (w.call p ≡ Some d) × (d.mine ≡ x) × (d.stage ≢ Announce)
+      at_stage here None f = cc
+      at_stage here (Some k) f =
+          let same : record { mine = e.mine; stage = k } ≡ d = cc in
+          let mine : e.mine ≡ x = ap (λ (y : Pending). y.mine) same ∙ its in (
+            e,
+            ap w.call here ∙ is,
+            mine,
+            λ first.
+                let test : announces_at (name_eq x e.mine) Announce ≡ false = subst (λ j. announces_at (name_eq x e.mine) j ≡ false) first silent in
+                let own : name_eq x x ≡ false = subst (λ y. name_eq x y ≡ false) mine test in
+                let t : name_eq x x ≡ true = name_eq_same x in
+                cc,
+          )
+
+    by_test : IsSome (floor_of next answer x (happened next answer w (Step o)) es) ⊎ ((d : Pending) × ((happened next answer w (Step o)).call p ≡ Some d) × (d.mine ≡ x) × (d.stage ≢ Announce))
+        → (b : Bool) → announces x (w.call o) ≡ b
+        → IsSome (cond b (Some (frontier w)) (floor_of next answer x (happened next answer w (Step o)) es)) ⊎ ((d : Pending) × (w.call p ≡ Some d) × (d.mine ≡ x) × (d.stage ≢ Announce))
+    by_test rest true announcing = inl refl
+    by_test rest false silent = elim rest [
+      | inl some ↦ inl some
+      | inr was ↦ inr (at_call (w.call o) refl silent was.0 was.1 was.2 was.3)
+    ]
+
+  pub HasFloorOnceAnnounced-holds : (n : ℕ) (start : S) (number : ℕ) (events : List (Event I)) → HasFloorOnceAnnounced next answer n start number events
+  HasFloorOnceAnnounced-holds n start number events positive ok p c pending = (floored (floor_of next answer c.mine (opened n start number) events) refl, announced) where
+    counts : CountsSteps (opened {S = S} {I = I} {R = R} n start number)
+    counts = CountsSteps-opened next answer n start number
+
+    held : HelpingInvariant next answer (opened {S = S} {I = I} {R = R} n start number)
+    held = HelpingInvariant-opened next answer n start number positive
+
+    floored : (o : Option ℕ) → floor_of next answer c.mine (opened n start number) events ≡ o → IsSome o → c.stage ≢ Announce
+    floored None e some = absurd (let f : false ≡ true = some in cc)
+    floored (Some floor) e some =
+        let its = (HelpingInvariant-replayed next answer (opened n start number) events ok counts held).2.calls.mine p c pending in
+        let inv = FloorInvariant-floor next answer (opened n start number) events ok counts held p its.0 floor (ap (λ x. floor_of next answer x (opened n start number) events) (sym its.1) ∙ e) in
+        inv.2 c pending its.1
+
+    announced : c.stage ≢ Announce → IsSome (floor_of next answer c.mine (opened n start number) events)
+    announced past = elim (floor_or_announced (opened n start number) events p c.mine c pending refl past) [
+      | inl some ↦ some
+      | inr was ↦ absurd (let f : None ≡ Some was.0 = was.1 in cc)
+    ]
