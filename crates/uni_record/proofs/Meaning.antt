@@ -1,71 +1,32 @@
 -- `Agrees` is the verdict exactly where entries and returns agree.
-use Rattle.std.proofs.Common.{◌≡◌, ◌≢◌, ◌↔◌, ◌∙◌, ℕ, zero, suc, ◌+◌, ◌<◌, ◌==◌, ◌&&◌, Bool, true, false, cond, if◌then◌else◌, List, [], ◌∷◌, ◌++◌, Option, Some, None, IfSome, option_and_then, find, map, take, length, slice_get, eq-eqb, refl, sym, ap, subst, arith}
+use Rattle.std.proofs.Common.{◌≡◌, ◌≢◌, ◌↔◌, ◌∙◌, ℕ, ◌==◌, Bool, true, false, if◌then◌else◌, List, [], ◌∷◌, ◌++◌, Option, Some, None, IfSome, map, take, length, slice_get, eq-eqb, refl, sym, ap, subst}
 use Rattle.std.specs.Option.{option_map_or}
 use Rattle.std.proofs.lemmas.Bool.{eqb-true}
 use Rattle.seq_object.specs.History.{IsLegal}
-use Rattle.seq_object.specs.declared.call_id.CallId.{CallId}
 use Rattle.uni_log.specs.declared.entry.Entry.{Entry}
 use Rattle.uni_log.specs.Shown.{call_shown}
 use Rattle.uni_record.specs.declared.verdict.Return.{Return}
 use Rattle.uni_record.specs.declared.verdict.Verdict.{Verdict}
 use Rattle.uni_record.specs.declared.verdict.Verdict.TheVariants.{Agrees, BadCall, BadReply, Missing, BadReturn, Twice}
-use Rattle.uni_record.specs.Verdicts.{calls_of, first, entry_verdict, entries_verdict, return_verdict, returns_verdict, reply_to, has_returned, same_call, verdict_of}
+use Rattle.uni_record.specs.Verdicts.{calls_of, entry_verdict, entries_verdict, return_verdict, returns_verdict, reply_to, has_returned, same_call, verdict_of}
 use Rattle.uni_record.specs.Audited.{IsAudited}
-use Rattle.uni_record.proofs.Before.{EachAfter, EachAfter-none, EachAfter-cons, EachAfter-parts, none_before, none_of_first, count_by-before}
-
--- names of calls
-abbrev call_named : (process nth : ℕ) → CallId
-call_named p k = record { process = p; nth = k }
-
-pub same_call-equal : (a b : CallId) → same_call a b ≡ true → a ≡ b
-same_call-equal a b e = by_process (a.process == b.process) refl e where
-  by_fields : a.process ≡ b.process → a.nth ≡ b.nth → a ≡ b
-  by_fields process nth = ap (λ p. call_named p a.nth) process ∙ ap (call_named b.process) nth
-
-  by_process : (t : Bool) → (a.process == b.process) ≡ t → (t && (a.nth == b.nth)) ≡ true → a ≡ b
-  by_process true process nth = by_fields (eqb-true _ _ process) (eqb-true _ _ nth)
-  by_process false process nth = absurd (cc)
-
-pub same_call-same : (a b : CallId) → a ≡ b → same_call a b ≡ true
-same_call-same a b e =
-    let process : (a.process == b.process) ≡ true = eq-eqb _ _ (ap (λ c. c.process) e) in
-    let nth : (a.nth == b.nth) ≡ true = eq-eqb _ _ (ap (λ c. c.nth) e) in
-    rw (process, nth) refl
-
-pub first-agrees : (a b : Verdict) → first a b ≡ Agrees → (a ≡ Agrees) × (b ≡ Agrees)
-first-agrees Agrees b e = (refl, e)
-first-agrees (BadCall j) b e = absurd (cc)
-first-agrees (BadReply j) b e = absurd (cc)
-first-agrees (Missing call) b e = absurd (cc)
-first-agrees (BadReturn call) b e = absurd (cc)
-first-agrees (Twice call) b e = absurd (cc)
-
-pub first-fault : (a b : Verdict) → a ≢ Agrees → first a b ≡ a
-first-fault Agrees b fault = absurd (fault refl)
-first-fault (BadCall j) b fault = refl
-first-fault (BadReply j) b fault = refl
-first-fault (Missing call) b fault = refl
-first-fault (BadReturn call) b fault = refl
-first-fault (Twice call) b fault = refl
-
--- a test that says that there is no fault
-passed : (t : Bool) (good fault : Verdict) → fault ≢ Agrees → (if t then good else fault) ≡ Agrees → (t ≡ true) × (good ≡ Agrees)
-passed true good fault is e = (refl, e)
-passed false good fault is e = absurd (is e)
+use Rattle.uni_record.proofs.Before.{EachAfter, EachAfter-none, EachAfter-cons, EachAfter-parts, none_before, none_of_first}
+use Rattle.uni_record.proofs.Calls.{same_call-equal, same_call-same, one_entry, reply_from, reply_at}
+use Rattle.uni_record.proofs.Faults.{first-agrees, passed}
 
 module _ {R : Type 0} (same : R → R → Bool) (exact : (r s : R) → (same r s ≡ true) ↔ (r ≡ s)) where
+  reply_agrees : (right : R) (place : ℕ) (o : Option R) → option_map_or (λ reply. if same reply right then Agrees else BadReply place) o Agrees ≡ Agrees → IfSome o (λ r. r ≡ right)
+  reply_agrees right place None e = tt
+  reply_agrees right place (Some r) e = (exact r right).0 (passed (same r right) Agrees (BadReply place) (λ f. absurd (cc)) e).0
+
+  reply_right : (right : R) (place : ℕ) (o : Option R) → IfSome o (λ r. r ≡ right) → option_map_or (λ reply. if same reply right then Agrees else BadReply place) o Agrees ≡ Agrees
+  reply_right right place None is = refl
+  reply_right right place (Some r) is = let equal : same r right ≡ true = (exact r right).1 is in rw equal refl
+
+  abbrev IsNext : {I : Type 0} → List (Entry I R) → Entry I R → Type 0
+  IsNext earlier entry = entry.call.nth ≡ calls_of entry.call.process earlier
+
   module _ {S I : Type 0} (next : S → I → S) (answer : S → I → R) where
-    reply_agrees : (right : R) (place : ℕ) (o : Option R) → option_map_or (λ reply. if same reply right then Agrees else BadReply place) o Agrees ≡ Agrees → IfSome o (λ r. r ≡ right)
-    reply_agrees right place None e = tt
-    reply_agrees right place (Some r) e = (exact r right).0 (passed (same r right) Agrees (BadReply place) (λ f. absurd (cc)) e).0
-
-    reply_right : (right : R) (place : ℕ) (o : Option R) → IfSome o (λ r. r ≡ right) → option_map_or (λ reply. if same reply right then Agrees else BadReply place) o Agrees ≡ Agrees
-    reply_right right place None is = refl
-    reply_right right place (Some r) is = let equal : same r right ≡ true = (exact r right).1 is in rw equal refl
-
-    abbrev IsNext : List (Entry I R) → Entry I R → Type 0
-    IsNext earlier entry = entry.call.nth ≡ calls_of entry.call.process earlier
-
     pub entries_agree : (state : S) (earlier later : List (Entry I R)) → entries_verdict same next answer state earlier later ≡ Agrees
         → IsLegal next answer state (map call_shown later) × EachAfter IsNext earlier later
     entries_agree state earlier [] e = (tt, EachAfter-none IsNext earlier)
@@ -116,45 +77,6 @@ module _ {R : Type 0} (same : R → R → Bool) (exact : (r s : R) → (same r s
     agree_returns earlier (returned ∷ later) replied =
         let parts = EachAfter-parts IsReplied earlier returned later replied in
         rw (agree_return earlier returned parts.0, agree_returns (earlier ++ returned ∷ []) later parts.1) refl
-
--- in entries that are each the next call of their process, no call has two
-pub one_entry : {I R : Type 0} (entries : List (Entry I R)) → ((i : ℕ) (entry : Entry I R) → slice_get entries i ≡ Some entry → entry.call.nth ≡ calls_of entry.call.process (take i entries))
-    → (i j : ℕ) (a b : Entry I R) → i < j → slice_get entries i ≡ Some a → slice_get entries j ≡ Some b → a.call ≢ b.call
-one_entry entries numbered i j a b less at_i at_j same =
-    let process : a.call.process ≡ b.call.process = ap (λ c. c.process) same in
-    let nth : a.call.nth ≡ b.call.nth = ap (λ c. c.nth) same in
-    let low : a.call.nth ≡ calls_of a.call.process (take i entries) = numbered i a at_i in
-    let high : b.call.nth ≡ calls_of a.call.process (take j entries) = rw (← process) at (numbered j b at_j) in
-    let more : calls_of a.call.process (take i entries) < calls_of a.call.process (take j entries) =
-    count_by-before (λ e. e.call.process == a.call.process) entries i j a less at_i (eq-eqb a.call.process a.call.process refl) in
-    absurd (omega arith)
-
--- a reply is that of an entry of the call
-pub reply_from : {I R : Type 0} (call : CallId) (reply : R) (entries : List (Entry I R)) → reply_to call entries ≡ Some reply
-    → (place : ℕ) × (entry : Entry I R) × (slice_get entries place ≡ Some entry) × (entry.call ≡ call) × (entry.reply ≡ Some reply)
-reply_from call reply [] is = absurd (cc)
-reply_from {I} {R} call reply (x ∷ xs) is = by_call (reply_from call reply xs) (same_call x.call call) refl is where
-  by_call : (reply_to call xs ≡ Some reply → (place : ℕ) × (entry : Entry I R) × (slice_get xs place ≡ Some entry) × (entry.call ≡ call) × (entry.reply ≡ Some reply))
-      → (t : Bool) → same_call x.call call ≡ t → option_and_then (λ e. e.reply) (cond t (Some x) (find (λ e. same_call e.call call) xs)) ≡ Some reply
-      → (place : ℕ) × (entry : Entry I R) × (slice_get (x ∷ xs) place ≡ Some entry) × (entry.call ≡ call) × (entry.reply ≡ Some reply)
-  by_call rest true test is = (zero, x, refl, same_call-equal x.call call test, is)
-  by_call rest false test is = let later = rest is in (suc later.0, later.1, later.2, later.3, later.4)
-
--- and the first entry of a call is the one that counts
-pub reply_at : {I R : Type 0} (entries : List (Entry I R)) (place : ℕ) (entry : Entry I R) → slice_get entries place ≡ Some entry
-    → ((i : ℕ) (e : Entry I R) → i < place → slice_get entries i ≡ Some e → e.call ≢ entry.call) → reply_to entry.call entries ≡ entry.reply
-reply_at [] place entry at first = absurd (cc)
-reply_at (x ∷ xs) zero entry at first =
-    let same : x ≡ entry = cc in
-    let test : same_call x.call entry.call ≡ true = same_call-same x.call entry.call (ap (λ e. e.call) same) in
-    rw test (ap (λ e. e.reply) same)
-reply_at (x ∷ xs) (suc place) entry at first =
-    let rest = reply_at xs place entry at (λ i e less there. first (suc i) e (omega arith) there) in
-    by_call (same_call x.call entry.call) refl rest where
-      by_call : (t : Bool) → same_call x.call entry.call ≡ t → reply_to entry.call xs ≡ entry.reply
-          → option_and_then (λ e. e.reply) (cond t (Some x) (find (λ e. same_call e.call entry.call) xs)) ≡ entry.reply
-      by_call true test rest = absurd (first zero x (omega arith) refl (same_call-equal x.call entry.call test))
-      by_call false test rest = rest
 
 module _ {S I R : Type 0} (same : R → R → Bool) (exact : (r s : R) → (same r s ≡ true) ↔ (r ≡ s)) (next : S → I → S) (answer : S → I → R) (start : S) (entries : List (Entry I R)) (returns : List (Return R)) where
   pub audited : verdict_of same next answer start entries returns ≡ Agrees → IsAudited next answer start entries returns

@@ -4,7 +4,6 @@ use Rattle.std.specs.Option.{option_map_or}
 use Rattle.std.proofs.lemmas.List.{at_drop_more, length-take-le, take_more}
 use Rattle.std.proofs.lemmas.Bool.{ne_eqb}
 use Rattle.uni_log.specs.declared.entry.Entry.{Entry}
-use Rattle.uni_record.specs.declared.verdict.Verdict.{Verdict}
 use Rattle.uni_record.specs.declared.verdict.Verdict.TheVariants.{Agrees, BadCall, BadReply}
 use Rattle.uni_record.specs.Verdicts.{calls_of, first, entry_verdict, entries_verdict}
 

@@ -42,6 +42,42 @@ impl SeqObject for Last {
     }
 }
 
+/// Is refused memory for each invocation, of which the response would be 9.
+#[derive(Drop)]
+struct Refused;
+
+impl SeqObject for Refused {
+    ghost use Rattle.seq_object.specs.Exact.{nat_eq_exact};
+
+    type State = u32;
+
+    type Inv = u32;
+
+    type Resp = u32;
+
+    ghost initial = { λ _. 9 };
+
+    ghost next = { λ _ state _. state };
+
+    ghost answer = { λ _ _ _. 9 };
+
+    ghost same_inv = { nat_eq_exact };
+
+    ghost same_resp = { nat_eq_exact };
+
+    fn start(&self, _alloc: Global) -> Result<u32, AllocError> {
+        Ok(9)
+    }
+
+    fn apply(&self, _alloc: Global, _state: &u32, _number: &u32) -> Result<(u32, u32), AllocError> {
+        Err(AllocError)
+    }
+
+    fn copy_inv(_alloc: Global, number: &u32) -> Result<u32, AllocError> {
+        Ok(*number)
+    }
+}
+
 /// The name of a call.
 fn call(process: u32, nth: u64) -> CallId {
     CallId { process, nth }
@@ -162,5 +198,19 @@ fn first_fault_is_answered(rt: HostRuntime) -> Result<(), Fail> {
     let entries = [entry(2, call(0, 0), Some(5))];
     let verdict = audit(rt.alloc(), &Last, &entries, &[returned(9), returned(9)])?;
     assert_eq!(rt; verdict, Verdict::BadReply(0));
+    Ok(())
+}
+
+#[test]
+fn refused_memory_is_no_verdict(rt: HostRuntime) -> Result<(), Fail> {
+    let entries = [entry(2, call(0, 0), Some(9))];
+    assert!(rt; audit(rt.alloc(), &Refused, &entries, &[]).is_err());
+    // a call is checked before its entry is replayed
+    let entries = [entry(2, call(0, 1), Some(9))];
+    assert_eq!(rt;
+        audit(rt.alloc(), &Refused, &entries, &[])?,
+        Verdict::BadCall(0)
+    );
+    assert_eq!(rt; audit(rt.alloc(), &Refused, &[], &[])?, Verdict::Agrees);
     Ok(())
 }

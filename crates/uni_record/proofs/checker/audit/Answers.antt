@@ -1,7 +1,8 @@
 use Rattle.std.proofs.Common.{◌≡◌, ◌∙◌, [], refl, sym, ap}
 use Rattle.uni_record.specs.Verdicts.{first, entries_verdict, returns_verdict, verdict_of}
 use Rattle.uni_record.specs.declared.verdict.Verdict.TheVariants.{Agrees}
-use Rattle.uni_record.proofs.Meaning.{first-fault, agrees_means}
+use Rattle.uni_record.proofs.Faults.{first-fault}
+use Rattle.uni_record.proofs.Meaning.{agrees_means}
 use Rattle.uni_record.proofs.checker.audit.Goals as goal
 
 pub returns-in_default : goal.returns-in_default

@@ -1,4 +1,4 @@
-use Rattle.std.proofs.Common.{◌≡◌, ◌≢◌, ◌∙◌, ◌+◌, true, false, take, refl, sym, ap, arith}
+use Rattle.std.proofs.Common.{◌≡◌, ◌≢◌, ◌∙◌, ◌+◌, true, false, take, sym, ap}
 use Rattle.std.specs.Option.{option_map_or}
 use Rattle.uni_record.specs.Verdicts.{calls_of}
 use Rattle.uni_record.specs.declared.verdict.Verdict.TheVariants.{BadCall, BadReply}
