@@ -8,7 +8,7 @@ use Rattle.std.specs.Result.{IsErrOf}
 use Rattle.seq_object.specs.declared.call_id.CallId.{CallId}
 use Rattle.uni_model.specs.Stages.{Pending}
 use Rattle.uni_model.specs.Worlds.{WorldOf, Event, happened, replayed}
-use Rattle.uni_model.specs.AtomicObject.{Atomic, Act, AcceptsAll}
+use Rattle.uni_model.specs.AtomicObject.{Act}
 use Rattle.uni_model.specs.History.{Shows, acts_of, history_of}
 use Rattle.uni_model.proofs.LawProofs.{AcceptsAll-append}
 use Rattle.uni_core.specs.declared.command.Command.{Command}

@@ -2,7 +2,7 @@
 
 ghost use Rattle.std.specs.Prelude.{ℕ, ◌≡◌, ◌+◌, ◌*◌, ◌<◌, ◌≤◌, ◌^◌, ◌⊎◌, ◌↔◌, IsSome, IfOk, OnOk, OnErr, IfErr, IsErrOf, IfSome, None, replicate, option_map};
 ghost use Rattle.cell_arena.specs.CellRecord.{index_of};
-ghost use Rattle.cell_arena.specs.Rows.{processes_of, made_of, cell_of};
+ghost use Rattle.cell_arena.specs.Rows.{made_of, cell_of};
 ghost use Rattle.uni_model.specs.Places.{seq_of, head_seq, after_of};
 ghost use Rattle.uni_model.specs.Places.Name.{Anchor, Of};
 ghost use Rattle.uni_model.specs.Invariant.{Invariant};

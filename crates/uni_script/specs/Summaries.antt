@@ -1,10 +1,10 @@
 -- How much a script has done.
-use Rattle.std.specs.Prelude.{◌≡◌, ℕ, ◌-◌, List, length, Option, None, Some, option_map, refl}
+use Rattle.std.specs.Prelude.{ℕ, ◌-◌, List, length, Option, None, Some, option_map}
 use Rattle.uni_model.specs.Stages.{Pending}
 use Rattle.uni_model.specs.Worlds.{WorldOf, sum_below, calls_begun}
 use Rattle.uni_script.specs.declared.summary.Summary.{Summary}
 use Rattle.uni_script.specs.Script.{lines_of}
-use Rattle.uni_script.specs.Meaning.{Bench, AnyBench, Outcome, script_run}
+use Rattle.uni_script.specs.Meaning.{Bench, AnyBench, script_run}
 use Rattle.uni_script.specs.Meaning.AnyBench.{OfQueue, OfDirectory, OfBook, OfSticky}
 
 -- how many of the calls that a process has begun have returned: all but the pending one

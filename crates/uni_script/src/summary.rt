@@ -1,6 +1,6 @@
 //! How much a script has done.
 
-ghost use Rattle.std.specs.Prelude.{◌≡◌, ◌≤◌};
+ghost use Rattle.std.specs.Prelude.{◌≡◌};
 ghost use Rattle.uni_script.specs.AnyWorlds.{any_bench_of};
 ghost use Rattle.uni_script.specs.Meaning.{bench_of};
 ghost use Rattle.uni_script.specs.Summaries.{summary_of, any_summary_of};
