@@ -1,2 +1,3 @@
+pub mod Sequential
 pub mod History
 pub mod Exact

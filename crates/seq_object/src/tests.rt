@@ -18,11 +18,7 @@ impl SeqObject for Counter {
 
     type Resp = u64;
 
-    ghost initial = { λ _. 0 };
-
-    ghost next = { λ _ sum number. (sum + number) % 2 ^ 64 };
-
-    ghost answer = { λ _ sum _. sum };
+    ghost sequential = { λ _. record { initial = 0; next = λ sum number. (sum + number) % 2 ^ 64; answer = λ sum number. sum } };
 
     ghost same_inv = { nat_eq_exact };
 

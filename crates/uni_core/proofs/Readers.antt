@@ -1,5 +1,6 @@
 -- What the readers of a world answer.
 use Rattle.std.proofs.Common.{◌≡◌, ◌∙◌, ℕ, ◌<◌, ◌≤◌, sym, ap, subst, Option, Some, None, option_map, IfSome, arith}
+use Rattle.seq_object.specs.Sequential.{Sequential}
 use Rattle.cell_arena.specs.CellRecord.{index_of}
 use Rattle.cell_arena.specs.Rows.{processes_of}
 use Rattle.uni_model.specs.Places.{Name, head_of, seq_of, after_of, inv_of}
@@ -13,12 +14,12 @@ use Rattle.uni_core.proofs.Begin.{inside_view}
 use Rattle.uni_core.proofs.Steppable.{there_seq, there_inv}
 
 -- what every world keeps, of the world as a contract has it
-module _ {O S I R : Type 0} (v now : Whole O S I R) (view : v ≡ now) (nexts : O → S → I → S) (answers : O → S → I → R) where
-  pub IsWorld-now : IsWorld (nexts v.object) (answers v.object) v → IsWorld (nexts now.object) (answers now.object) now
-  IsWorld-now is = subst (λ (x : Whole O S I R). IsWorld (nexts x.object) (answers x.object) x) view is
+module _ {O S I R : Type 0} (v now : Whole O S I R) (view : v ≡ now) (sequential : O → Sequential S I R) where
+  pub IsWorld-now : IsWorld (sequential v.object) v → IsWorld (sequential now.object) now
+  IsWorld-now is = subst (λ (x : Whole O S I R). IsWorld (sequential x.object) x) view is
 
 -- cells that are there
-module _ {O S I R : Type 0} (next : S → I → S) (answer : S → I → R) (v now : Whole O S I R) (view : v ≡ now) (is : IsWorld next answer v) where
+module _ {O S I R : Type 0} (object : Sequential S I R) (v now : Whole O S I R) (view : v ≡ now) (is : IsWorld object v) where
   -- the one that a head entry names
   pub head_there : (p id : ℕ) → p < processes_of now.shared.cells → name_of (processes_of v.shared.cells) id ≡ head_of (memory_of v.shared) p → IsThere v.shared id
   head_there p id below named =

@@ -5,9 +5,10 @@ use Rattle.std.proofs.lemmas.Bool.{cases_lt}
 use Rattle.std.proofs.Math.Seq.{take-suc, take-length}
 use Rattle.std.specs.Option.{option_map_or}
 use Rattle.std.specs.Result.{IsErrOf}
+use Rattle.seq_object.specs.Sequential.{Sequential}
 use Rattle.seq_object.specs.declared.call_id.CallId.{CallId}
 use Rattle.uni_model.specs.Stages.{Pending}
-use Rattle.uni_model.specs.Worlds.{WorldOf, Event, happened, replayed}
+use Rattle.uni_model.specs.Worlds.{WorldOf, Event, world_after, world_after_all}
 use Rattle.uni_model.specs.AtomicObject.{Act}
 use Rattle.uni_model.specs.History.{Shows, acts_of, history_of}
 use Rattle.uni_model.proofs.LawProofs.{AcceptsAll-append}
@@ -20,16 +21,16 @@ use Rattle.uni_core.specs.declared.fault.BeginFault.TheVariants as begin
 use Rattle.uni_core.specs.declared.fault.StepFault.{StepFault}
 use Rattle.uni_core.specs.declared.fault.StepFault.TheVariants as step
 use Rattle.uni_core.specs.declared.fault.Progress.TheVariants.{Going, Done}
-use Rattle.uni_core.specs.Whole.{Whole, shown, current_of, progress_of, Follows, MayNeedMemory}
+use Rattle.uni_core.specs.Whole.{Whole, world_of, current_of, progress_of, Follows, MayNeedMemory}
 use Rattle.uni_core.specs.Commands.{CanCall, IsOutcome, event_of, events_of, AreOutcomes, TakesCommand}
 
 -- a command that is refused leaves the world as it was
-pub TakesCommand-refused : {O S I R : Type 0} (next : S → I → S) (answer : S → I → R) (old new : Whole O S I R) (row : ℕ) (command : Command I) (why : Refusal) → new ≡ old
-    → IsOutcome (shown old) row command (Refused why) → TakesCommand next answer (shown old) row command (Refused why) (shown new)
-TakesCommand-refused next answer old new row command why same is = record {
+pub TakesCommand-refused : {O S I R : Type 0} (object : Sequential S I R) (old new : Whole O S I R) (row : ℕ) (command : Command I) (why : Refusal) → new ≡ old
+    → IsOutcome (world_of old) row command (Refused why) → TakesCommand object (world_of old) row command (Refused why) (world_of new)
+TakesCommand-refused object old new row command why same is = record {
   is = is;
-  left = ap shown same;
-  accepted = λ a shows. (a, subst (λ w. Shows (shown w) a) (sym same) shows, refl);
+  left = ap world_of same;
+  accepted = λ a shows. (a, subst (λ w. Shows (world_of w) a) (sym same) shows, refl);
 }
 
 -- which error a result has
@@ -112,57 +113,57 @@ memory_needed w p e below there (inr (inl h)) process idle memory =
 memory_needed w p e below there (inr (inr h)) process idle memory = memory (IsErrOf-Err e step.Memory h)
 
 -- Lists of events and one event more.
-module _ {S I R : Type 0} (next : S → I → S) (answer : S → I → R) where
+module _ {S I R : Type 0} (object : Sequential S I R) where
   replay-event : (w : WorldOf S I R) (o : Option (Event I)) (es : List (Event I))
-      → replayed next answer w (option_map_or (λ e. e ∷ es) o es) ≡ replayed next answer (option_map_or (happened next answer w) o w) es
+      → world_after_all object w (option_map_or (λ e. e ∷ es) o es) ≡ world_after_all object (option_map_or (world_after object w) o w) es
   replay-event w None es = refl
   replay-event w (Some e) es = refl
 
   history-event : (w : WorldOf S I R) (o : Option (Event I)) (es : List (Event I))
-      → history_of next answer w (option_map_or (λ e. e ∷ es) o es)
-      ≡ option_map_or (acts_of next answer w) o [] ++ history_of next answer (option_map_or (happened next answer w) o w) es
+      → history_of object w (option_map_or (λ e. e ∷ es) o es)
+      ≡ option_map_or (acts_of object w) o [] ++ history_of object (option_map_or (world_after object w) o w) es
   history-event w None es = refl
   history-event w (Some e) es = refl
 
-  Follows-append : (w later last : WorldOf S I R) (xs ys : List (Act I R)) → Follows next answer w later xs → Follows next answer later last ys → Follows next answer w last (xs ++ ys)
+  Follows-append : (w later last : WorldOf S I R) (xs ys : List (Act I R)) → Follows object w later xs → Follows object later last ys → Follows object w last (xs ++ ys)
   Follows-append w later last xs ys first rest a shows =
       let b = first a shows in
       let c = rest b.0 b.1 in
-      (c.0, c.1, AcceptsAll-append next answer a b.0 c.0 xs ys b.2 c.2)
+      (c.0, c.1, AcceptsAll-append object a b.0 c.0 xs ys b.2 c.2)
 
 -- A world has taken these commands with these outcomes, and is w then.
-pub record Ran {S I R : Type 0} (next : S → I → S) (answer : S → I → R) (first : WorldOf S I R) (row : ℕ) (commands : List (Command I)) (outcomes : List (Outcome R)) (w : WorldOf S I R) : Type 0 where
-  pub are : AreOutcomes next answer first row commands outcomes
-  pub ran : w ≡ replayed next answer first (events_of commands outcomes)
-  pub accepted : Follows next answer first w (history_of next answer first (events_of commands outcomes))
+pub record Ran {S I R : Type 0} (object : Sequential S I R) (first : WorldOf S I R) (row : ℕ) (commands : List (Command I)) (outcomes : List (Outcome R)) (w : WorldOf S I R) : Type 0 where
+  pub are : AreOutcomes object first row commands outcomes
+  pub ran : w ≡ world_after_all object first (events_of commands outcomes)
+  pub accepted : Follows object first w (history_of object first (events_of commands outcomes))
 
-module _ {S I R : Type 0} (next : S → I → S) (answer : S → I → R) (row : ℕ) where
-  Ran-nothing : (w : WorldOf S I R) → Ran next answer w row [] [] w
+module _ {S I R : Type 0} (object : Sequential S I R) (row : ℕ) where
+  Ran-nothing : (w : WorldOf S I R) → Ran object w row [] [] w
   Ran-nothing w = record { are = tt; ran = refl; accepted = λ a shows. (a, shows, refl) }
 
   -- one command, and then these
   Ran-then : (w w' last : WorldOf S I R) (command : Command I) (outcome : Outcome R) (commands : List (Command I)) (outcomes : List (Outcome R))
-      → TakesCommand next answer w row command outcome w' → Ran next answer w' row commands outcomes last → Ran next answer w row (command ∷ commands) (outcome ∷ outcomes) last
+      → TakesCommand object w row command outcome w' → Ran object w' row commands outcomes last → Ran object w row (command ∷ commands) (outcome ∷ outcomes) last
   Ran-then w w' last command outcome commands outcomes takes rest =
       let event : Option (Event I) = event_of command outcome in
       record {
-        are = (takes.is, subst (λ x. AreOutcomes next answer x row commands outcomes) takes.left rest.are);
-        ran = rest.ran ∙ ap (λ x. replayed next answer x (events_of commands outcomes)) takes.left ∙ sym (replay-event next answer w event (events_of commands outcomes));
-        accepted = subst (Follows next answer w last) (
-            ap (λ x. option_map_or (acts_of next answer w) event [] ++ history_of next answer x (events_of commands outcomes)) takes.left ∙ sym (history-event next answer w event (events_of commands outcomes)))
-            (Follows-append next answer w w' last (option_map_or (acts_of next answer w) event []) (history_of next answer w' (events_of commands outcomes)) takes.accepted rest.accepted);
+        are = (takes.is, subst (λ x. AreOutcomes object x row commands outcomes) takes.left rest.are);
+        ran = rest.ran ∙ ap (λ x. world_after_all object x (events_of commands outcomes)) takes.left ∙ sym (replay-event object w event (events_of commands outcomes));
+        accepted = subst (Follows object w last) (
+            ap (λ x. option_map_or (acts_of object w) event [] ++ history_of object x (events_of commands outcomes)) takes.left ∙ sym (history-event object w event (events_of commands outcomes)))
+            (Follows-append object w w' last (option_map_or (acts_of object w) event []) (history_of object w' (events_of commands outcomes)) takes.accepted rest.accepted);
       }
 
   -- From where it began, the world has taken these commands with these outcomes, and whatever it takes from here on comes after them.
   pub record Leads (first : WorldOf S I R) (commands : List (Command I)) (outcomes : List (Outcome R)) (w : WorldOf S I R) : Type 0 where
-    pub onward : (later : List (Command I)) (outcomes_later : List (Outcome R)) (last : WorldOf S I R) → Ran next answer w row later outcomes_later last
-        → Ran next answer first row (commands ++ later) (outcomes ++ outcomes_later) last
+    pub onward : (later : List (Command I)) (outcomes_later : List (Outcome R)) (last : WorldOf S I R) → Ran object w row later outcomes_later last
+        → Ran object first row (commands ++ later) (outcomes ++ outcomes_later) last
 
   pub Leads-nothing : (w : WorldOf S I R) → Leads w [] [] w
   Leads-nothing w = record { onward = λ later outcomes last ran. ran }
 
   Leads-further : (first w w' : WorldOf S I R) (commands : List (Command I)) (outcomes : List (Outcome R)) (command : Command I) (outcome : Outcome R)
-      → Leads first commands outcomes w → TakesCommand next answer w row command outcome w' → Leads first (commands ++ command ∷ []) (outcomes ++ outcome ∷ []) w'
+      → Leads first commands outcomes w → TakesCommand object w row command outcome w' → Leads first (commands ++ command ∷ []) (outcomes ++ outcome ∷ []) w'
   Leads-further first w w' commands outcomes command outcome leads takes = record {
     onward = λ later outcomes_later last ran.
         rw (append_assoc commands (command ∷ []) later, append_assoc outcomes (outcome ∷ []) outcomes_later)
@@ -171,14 +172,14 @@ module _ {S I R : Type 0} (next : S → I → S) (answer : S → I → R) (row :
 
   -- after the first commands of a list, the next one is taken
   pub Leads-next : (first w w' : WorldOf S I R) (all : List (Command I)) (index : ℕ) (outcomes : List (Outcome R)) (command : Command I) (outcome : Outcome R) → index < length all → command ≡ get_or all index command
-      → Leads first (take index all) outcomes w → TakesCommand next answer w row command outcome w' → Leads first (take (index + 1) all) (outcomes ++ outcome ∷ []) w'
+      → Leads first (take index all) outcomes w → TakesCommand object w row command outcome w' → Leads first (take (index + 1) all) (outcomes ++ outcome ∷ []) w'
   Leads-next first w w' all index outcomes command outcome within is leads takes =
       let more : suc index ≡ index + 1 = omega arith in
       let longer : take (suc index) all ≡ take index all ++ command ∷ [] = take-suc all index command within ∙ ap (λ c. take index all ++ c ∷ []) (sym is) in
       subst (λ commands. Leads first commands (outcomes ++ outcome ∷ []) w') (sym longer ∙ ap (λ k. take k all) more) (Leads-further first w w' (take index all) outcomes command outcome leads takes)
 
   -- and after the last, all have been
-  pub Ran-all : (first w : WorldOf S I R) (all : List (Command I)) (index : ℕ) (outcomes : List (Outcome R)) → index ≤ length all → length all ≤ index → Leads first (take index all) outcomes w → Ran next answer first row all outcomes w
+  pub Ran-all : (first w : WorldOf S I R) (all : List (Command I)) (index : ℕ) (outcomes : List (Outcome R)) → index ≤ length all → length all ≤ index → Leads first (take index all) outcomes w → Ran object first row all outcomes w
   Ran-all first w all index outcomes within past leads =
       let same : index ≡ length all = omega arith in
       let whole = leads.onward [] [] w (Ran-nothing w) in

@@ -1,7 +1,8 @@
 -- Where a process stands, as the code has it and as the definitions do; and the transition of each stage.
 use Rattle.std.specs.Prelude.{◌≡◌, ℕ, ◌<◌, ◌^◌, Option, Some, None, IsSome}
+use Rattle.seq_object.specs.Sequential.{Sequential}
 use Rattle.cell_arena.specs.Rows.{processes_of, cell_of}
-use Rattle.uni_model.specs.Places.{Name, written, inv_of, new_of}
+use Rattle.uni_model.specs.Places.{Name, memory_with, inv_of, new_of}
 use Rattle.uni_model.specs.Stages.{Pending as PendingAt}
 use Rattle.uni_model.specs.Stages.{Stage as at}
 use Rattle.uni_model.specs.Transition.{Effect, place_of, effect_of, c_of, d_of}
@@ -30,16 +31,16 @@ abbrev pub pending_of : (n : ℕ) → Pending → PendingAt
 pending_of n call = record { mine = name_of n call.mine; stage = stage_of n call.stage }
 
 -- what the step of a process does to these shared places
-abbrev pub effect_at : {S I R : Type 0} → (next : S → I → S) → (answer : S → I → R) → Shared S I R → (p : ℕ) → (mine : Name) → at → Effect S I R
-effect_at next answer a p mine stage =
-    effect_of next answer (processes_of a.cells) mine stage (memory_of a (place_of (processes_of a.cells) p mine stage))
+abbrev pub effect_at : {S I R : Type 0} → Sequential S I R → Shared S I R → (p : ℕ) → (mine : Name) → at → Effect S I R
+effect_at object a p mine stage =
+    effect_of object (processes_of a.cells) mine stage (memory_of a (place_of (processes_of a.cells) p mine stage))
     (inv_of (memory_of a) (d_of stage)) (new_of (memory_of a) (c_of stage))
 
 -- the process has taken the step of its stage: one place is written, and it stands where it stands after it
-pub record Takes {S I R : Type 0} (next : S → I → S) (answer : S → I → R) (p : ℕ) (mine : Name) (from : at) (old new : Shared S I R) (to : Option at) : Type 0 where
+pub record Takes {S I R : Type 0} (object : Sequential S I R) (p : ℕ) (mine : Name) (from : at) (old new : Shared S I R) (to : Option at) : Type 0 where
   pub shape : HasShapeOf old.cells new.cells
-  pub memory : memory_of new ≡ written (memory_of old) (place_of (processes_of old.cells) p mine from) (effect_at next answer old p mine from).content
-  pub stage : to ≡ (effect_at next answer old p mine from).stage
+  pub memory : memory_of new ≡ memory_with (memory_of old) (place_of (processes_of old.cells) p mine from) (effect_at object old p mine from).content
+  pub stage : to ≡ (effect_at object old p mine from).stage
 
 -- there is a cell at the index
 abbrev pub IsThere : {S I R : Type 0} → Shared S I R → ℕ → Type 0

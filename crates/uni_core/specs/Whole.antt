@@ -1,6 +1,7 @@
 -- A world of the code, and the world that it shows.
 use Rattle.std.specs.Prelude.{◌≡◌, ℕ, ◌+◌, ◌-◌, ◌*◌, ◌<◌, ◌≤◌, ◌^◌, List, Option, Some, None, option_map, option_and_then, slice_get, length, IfSome}
 use Rattle.std.specs.Option.{option_map_or}
+use Rattle.seq_object.specs.Sequential.{Sequential}
 use Rattle.cell_arena.specs.Rows.{processes_of, made_of}
 use Rattle.uni_model.specs.Places.{Memory, seq_of, new_of}
 use Rattle.uni_model.specs.Places.Name.{Anchor}
@@ -30,8 +31,8 @@ abbrev pub call_at : (n : ℕ) → Option Local → Option PendingAt
 call_at n local = option_and_then (λ l. option_map (pending_of n) l.call) local
 
 -- the world of n processes that these places and locals show
-abbrev pub shown_at : {S I R : Type 0} → (n : ℕ) → Memory S I R → List Local → WorldOf S I R
-shown_at n memory locals =
+abbrev pub world_at : {S I R : Type 0} → (n : ℕ) → Memory S I R → List Local → WorldOf S I R
+world_at n memory locals =
     record {
       n = n;
       memory = memory;
@@ -42,19 +43,19 @@ shown_at n memory locals =
     }
 
 -- the world that is shown
-abbrev pub shown : {O S I R : Type 0} → Whole O S I R → WorldOf S I R
-shown v = shown_at (processes_of v.shared.cells) (memory_of v.shared) v.locals
+abbrev pub world_of : {O S I R : Type 0} → Whole O S I R → WorldOf S I R
+world_of v = world_at (processes_of v.shared.cells) (memory_of v.shared) v.locals
 
 -- what every world keeps
-pub record IsWorld {O S I R : Type 0} (next : S → I → S) (answer : S → I → R) (v : Whole O S I R) : Type 0 where
+pub record IsWorld {O S I R : Type 0} (object : Sequential S I R) (v : Whole O S I R) : Type 0 where
   pub locals : length v.locals ≡ processes_of v.shared.cells
   pub few : processes_of v.shared.cells ≤ 16
   pub row : v.row ≡ v.shared.cells.row
-  pub begun : (p : ℕ) → p < processes_of v.shared.cells → (shown v).begun p ≡ made_of v.shared.cells p
-  pub room : (p : ℕ) → (shown v).begun p ≤ v.row
+  pub begun : (p : ℕ) → p < processes_of v.shared.cells → (world_of v).begun p ≡ made_of v.shared.cells p
+  pub room : (p : ℕ) → (world_of v).begun p ≤ v.row
   pub numbers : seq_of (memory_of v.shared) Anchor + processes_of v.shared.cells * v.row < 2 ^ 48
-  pub sound : HelpingInvariant next answer (shown v)
-  pub counts : CountsSteps (shown v)
+  pub sound : HelpingInvariant object (world_of v)
+  pub counts : CountsSteps (world_of v)
 
 -- the pending call of a process: the latest that it has begun
 abbrev pub current_of : {S I R : Type 0} → WorldOf S I R → ℕ → Option CallId
@@ -74,8 +75,8 @@ progress_of None = Going
 progress_of (Some r) = Done r
 
 -- from each atomic object that w shows, the acts lead to one that w' shows
-abbrev pub Follows : {S I R : Type 0} → (next : S → I → S) → (answer : S → I → R) → (w w' : WorldOf S I R) → List (Act I R) → Type 0
-Follows {S} {I} next answer w w' acts = (a : Atomic S I) → Shows w a → (b : Atomic S I) × Shows w' b × AcceptsAll next answer a acts b
+abbrev pub Follows : {S I R : Type 0} → Sequential S I R → (w w' : WorldOf S I R) → List (Act I R) → Type 0
+Follows {S} {I} object w w' acts = (a : Atomic S I) → Shows w a → (b : Atomic S I) × Shows w' b × AcceptsAll object a acts b
 
 -- what a call never changes
 pub record KeepsFixed {O S I R : Type 0} (old new : Whole O S I R) : Type 0 where

@@ -3,11 +3,11 @@
 
 ghost use Rattle.std.specs.Prelude.{◌≡◌, ◌+◌, ◌<◌, ◌^◌, ◌==◌, if◌then◌else◌, ℕ, IsSome, Some, None, OnOk, IfOk, OnErr, option_map};
 ghost use Rattle.cell_arena.specs.Rows.{processes_of, cell_of};
-ghost use Rattle.uni_model.specs.Places.{new_of, inv_of, written};
+ghost use Rattle.uni_model.specs.Places.{new_of, inv_of, memory_with};
 ghost use Rattle.uni_model.specs.Places.Place.{NewOf};
 ghost use Rattle.uni_model.specs.Places.Content.{Settled};
 ghost use Rattle.uni_model.specs.Stages.{Stage as at};
-ghost use Rattle.uni_model.specs.Transition.{scanned, decided, applied};
+ghost use Rattle.uni_model.specs.Transition.{stage_after_scan, decision, value_after};
 ghost use Rattle.uni_core.specs.Shared.{name_of, memory_of, HasShapeOf};
 ghost use Rattle.uni_core.specs.Standing.{stage_of, Takes, CanStep, MayBeRefused};
 
@@ -21,7 +21,7 @@ use std::alloc::{AllocError, Global};
 /// process `q`.
 fn after_comparing(n: u64, q: u64, best: (CellId, u64), head: (CellId, u64)) -> Stage
     requires { q < n }
-    ensures { stage_of n result ≡ scanned n q (name_of n best.0) best.1 (name_of n head.0) head.1 }
+    ensures { stage_of n result ≡ stage_after_scan n q (name_of n best.0) best.1 (name_of n head.0) head.1 }
 {
     let (best, best_seq) = if best.1 < head.1 { head } else { best };
     if q + 1 < n {
@@ -67,9 +67,9 @@ impl<O: SeqObject> Machine<O> {
         requires state { IsSome (new_of (memory_of self.old.shared) (name_of (processes_of self.old.shared.cells) c)) }
         requires inv { IsSome (inv_of (memory_of self.old.shared) (name_of (processes_of self.old.shared.cells) d)) }
         ensures shape { HasShapeOf self.old.shared.cells self.new.shared.cells }
-        ensures memory { OnOk result (memory_of self.new.shared ≡ written (memory_of self.old.shared) (NewOf (name_of (processes_of self.old.shared.cells) d))
-            (Settled (decided (new_of (memory_of self.old.shared) (name_of (processes_of self.old.shared.cells) d))
-            (applied (O.next self.old.object) (O.answer self.old.object) (new_of (memory_of self.old.shared) (name_of (processes_of self.old.shared.cells) c))
+        ensures memory { OnOk result (memory_of self.new.shared ≡ memory_with (memory_of self.old.shared) (NewOf (name_of (processes_of self.old.shared.cells) d))
+            (Settled (decision (new_of (memory_of self.old.shared) (name_of (processes_of self.old.shared.cells) d))
+            (value_after (O.sequential self.old.object) (new_of (memory_of self.old.shared) (name_of (processes_of self.old.shared.cells) c))
             (inv_of (memory_of self.old.shared) (name_of (processes_of self.old.shared.cells) d)))))) }
         ensures refused { OnErr result (new_of (memory_of self.old.shared) (name_of (processes_of self.old.shared.cells) d) ≡ None) }
         ensures object { self.new.object ≡ self.old.object }
@@ -99,7 +99,7 @@ impl<O: SeqObject> Machine<O> {
     ) -> Result<Option<Stage>, AllocError>
         requires process { p < processes_of self.old.shared.cells }
         requires step { CanStep self.old.shared mine stage }
-        ensures taken { IfOk result (λ next. Takes (O.next self.old.object) (O.answer self.old.object) p (name_of (processes_of self.old.shared.cells) mine)
+        ensures taken { IfOk result (λ next. Takes (O.sequential self.old.object) p (name_of (processes_of self.old.shared.cells) mine)
             (stage_of (processes_of self.old.shared.cells) stage) self.old.shared self.new.shared (option_map (stage_of (processes_of self.old.shared.cells)) next)) }
         ensures refused { OnErr result (MayBeRefused self.old.shared stage) }
         ensures object { self.new.object ≡ self.old.object }

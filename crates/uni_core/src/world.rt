@@ -8,14 +8,14 @@ ghost use Rattle.uni_model.specs.Places.Name.{Anchor, Of};
 ghost use Rattle.uni_model.specs.Invariant.{Invariant};
 ghost use Rattle.uni_model.specs.Frontier.{frontier};
 ghost use Rattle.uni_model.specs.Bound.{IsBounded};
-ghost use Rattle.uni_model.specs.Worlds.{opened, happened, last_cell, IsQuiescent};
+ghost use Rattle.uni_model.specs.Worlds.{opened_world, world_after, last_cell, IsQuiescent};
 ghost use Rattle.uni_model.specs.Worlds.Event.{Call, Step};
 ghost use Rattle.uni_model.specs.History.{acts_of};
 ghost use Rattle.uni_model.specs.Transition.{place_of};
 ghost use Rattle.uni_core.specs.Shared.{name_of};
 ghost use Rattle.uni_core.specs.Standing.{pending_of};
 ghost use Rattle.uni_core.specs.Readers.{call_of_name, kind_of, place_named};
-ghost use Rattle.uni_core.specs.Whole.{shown, current_of, response_of_step, progress_of, Follows, KeepsFixed, MayNeedMemory};
+ghost use Rattle.uni_core.specs.Whole.{world_of, current_of, response_of_step, progress_of, Follows, KeepsFixed, MayNeedMemory};
 
 use crate::fault::{BeginFault, OpenFault, Progress, StepFault};
 use crate::local::Local;
@@ -38,7 +38,7 @@ const MAX_SEQ: u64 = 281_474_976_710_655;
 
 /// Processes that share an object, of which each takes its steps one at a time.
 ///
-/// A contract sees it through `shown`, as a world of the definitions.
+/// A contract sees it through `world_of`, as a world of the definitions.
 #[derive(Drop)]
 pub struct World<O: SeqObject> {
     machine: Machine<O>,
@@ -53,7 +53,7 @@ impl<O: SeqObject> Model for World<O> {
 
     ghost view = { λ w. record { object = w.machine.object; row = w.row; shared = w.machine.shared; locals = w.locals.items } };
 
-    ghost invariant = { λ w. IsWorld (O.next w.machine.object) (O.answer w.machine.object)
+    ghost invariant = { λ w. IsWorld (O.sequential w.machine.object)
         (record { object = w.machine.object; row = w.row; shared = w.machine.shared; locals = w.locals.items }) };
 }
 
@@ -95,7 +95,7 @@ impl<O: SeqObject> World<O> {
         ensures count { IsErrOf result OpenFault.BadCount ↔ ((n ≡ 0) ⊎ (16 < n)) }
         ensures row { IsErrOf result OpenFault.BadRow ↔ ((1 ≤ n) × (n ≤ 16) × ((k ≡ 0) ⊎ (4096 < k))) }
         ensures fits { IsErrOf result OpenFault.SeqFull → ⊥ }
-        ensures opened { IfOk result (λ w. shown w ≡ opened n (O.initial object) 1) }
+        ensures opened { IfOk result (λ w. world_of w ≡ opened_world n ((O.sequential object).initial) 1) }
         ensures fixed { IfOk result (λ w. (w.object ≡ object) × (w.row ≡ k)) }
     {
         counts_fit(n, k)?;
@@ -123,7 +123,7 @@ impl<O: SeqObject> World<O> {
         ensures count { IsErrOf result OpenFault.BadCount ↔ ((n ≡ 0) ⊎ (16 < n)) }
         ensures row { IsErrOf result OpenFault.BadRow ↔ ((1 ≤ n) × (n ≤ 16) × ((k ≡ 0) ⊎ (4096 < k))) }
         ensures numbers { IsErrOf result OpenFault.SeqFull ↔ ((1 ≤ n) × (n ≤ 16) × (1 ≤ k) × (k ≤ 4096) × (2 ^ 48 ≤ seq + n * k)) }
-        ensures opened { IfOk result (λ w. shown w ≡ opened n state seq) }
+        ensures opened { IfOk result (λ w. world_of w ≡ opened_world n state seq) }
         ensures fixed { IfOk result (λ w. (w.object ≡ object) × (w.row ≡ k)) }
     {
         counts_fit(n, k)?;
@@ -150,15 +150,15 @@ impl<O: SeqObject> World<O> {
     /// call pending; `RowFull(p)` where it has made as many calls in this era as a row has; `Memory`
     /// where the copy of the invocation or the cell was refused memory. After each nothing is changed.
     pub fn begin(&mut self, alloc: Global, p: u64, inv: &O::Inv) -> Result<CallId, BeginFault>
-        ensures process { IsErrOf result BeginFault.BadProcess ↔ ((shown self.old).n ≤ p) }
-        ensures busy { IsErrOf result (BeginFault.Busy p) ↔ ((p < (shown self.old).n) × IsSome ((shown self.old).call p)) }
+        ensures process { IsErrOf result BeginFault.BadProcess ↔ ((world_of self.old).n ≤ p) }
+        ensures busy { IsErrOf result (BeginFault.Busy p) ↔ ((p < (world_of self.old).n) × IsSome ((world_of self.old).call p)) }
         ensures full { IsErrOf result (BeginFault.RowFull p) ↔
-            ((p < (shown self.old).n) × ((shown self.old).call p ≡ None) × ((shown self.old).begun p ≡ self.old.row)) }
+            ((p < (world_of self.old).n) × ((world_of self.old).call p ≡ None) × ((world_of self.old).begun p ≡ self.old.row)) }
         ensures others { IfErr result (λ e. (e ≡ BeginFault.BadProcess) ⊎ (e ≡ BeginFault.Busy p) ⊎ (e ≡ BeginFault.RowFull p) ⊎ (e ≡ BeginFault.Memory)) }
-        ensures id { IfOk result (λ call. (call.process ≡ p) × (call.nth ≡ (shown self.old).begun p)) }
-        ensures begun { OnOk result (shown self.new ≡ happened (O.next self.old.object) (O.answer self.old.object) (shown self.old) (Call p inv.now)) }
-        ensures accepted { OnOk result (Follows (O.next self.old.object) (O.answer self.old.object) (shown self.old) (shown self.new)
-            (acts_of (O.next self.old.object) (O.answer self.old.object) (shown self.old) (Call p inv.now))) }
+        ensures id { IfOk result (λ call. (call.process ≡ p) × (call.nth ≡ (world_of self.old).begun p)) }
+        ensures begun { OnOk result (world_of self.new ≡ world_after (O.sequential self.old.object) (world_of self.old) (Call p inv.now)) }
+        ensures accepted { OnOk result (Follows (O.sequential self.old.object) (world_of self.old) (world_of self.new)
+            (acts_of (O.sequential self.old.object) (world_of self.old) (Call p inv.now))) }
         ensures fixed { KeepsFixed self.old self.new }
         ensures unchanged { OnErr result (self.new ≡ self.old) }
     {
@@ -200,16 +200,16 @@ impl<O: SeqObject> World<O> {
     /// that has none yet, where the object's apply was refused memory. After each nothing is changed,
     /// and the step may be asked again.
     pub fn step(&mut self, alloc: Global, p: u64) -> Result<Progress<O::Resp>, StepFault>
-        ensures process { IsErrOf result StepFault.BadProcess ↔ ((shown self.old).n ≤ p) }
-        ensures idle { IsErrOf result (StepFault.Idle p) ↔ ((p < (shown self.old).n) × ((shown self.old).call p ≡ None)) }
-        ensures memory { IsErrOf result StepFault.Memory → MayNeedMemory (shown self.old) p }
+        ensures process { IsErrOf result StepFault.BadProcess ↔ ((world_of self.old).n ≤ p) }
+        ensures idle { IsErrOf result (StepFault.Idle p) ↔ ((p < (world_of self.old).n) × ((world_of self.old).call p ≡ None)) }
+        ensures memory { IsErrOf result StepFault.Memory → MayNeedMemory (world_of self.old) p }
         ensures others { IfErr result (λ e. (e ≡ StepFault.BadProcess) ⊎ (e ≡ StepFault.Idle p) ⊎ (e ≡ StepFault.Memory)) }
-        ensures step { OnOk result (shown self.new ≡ happened (O.next self.old.object) (O.answer self.old.object) (shown self.old) (Step p)) }
-        ensures bounded { OnOk result (IsBounded (shown self.new)) }
-        ensures pending { IfOk result (λ progress. progress ≡ Progress.Going → IsSome ((shown self.new).call p)) }
-        ensures progress { IfOk result (λ progress. progress ≡ progress_of (response_of_step (shown self.old) p)) }
-        ensures accepted { OnOk result (Follows (O.next self.old.object) (O.answer self.old.object) (shown self.old) (shown self.new)
-            (acts_of (O.next self.old.object) (O.answer self.old.object) (shown self.old) (Step p))) }
+        ensures step { OnOk result (world_of self.new ≡ world_after (O.sequential self.old.object) (world_of self.old) (Step p)) }
+        ensures bounded { OnOk result (IsBounded (world_of self.new)) }
+        ensures pending { IfOk result (λ progress. progress ≡ Progress.Going → IsSome ((world_of self.new).call p)) }
+        ensures progress { IfOk result (λ progress. progress ≡ progress_of (response_of_step (world_of self.old) p)) }
+        ensures accepted { OnOk result (Follows (O.sequential self.old.object) (world_of self.old) (world_of self.new)
+            (acts_of (O.sequential self.old.object) (world_of self.old) (Step p))) }
         ensures fixed { KeepsFixed self.old self.new }
         ensures unchanged { OnErr result (self.new ≡ self.old) }
     {
@@ -234,8 +234,8 @@ impl<O: SeqObject> World<O> {
 
     /// The pending call of process `p`, where it has one: the latest that it has begun.
     pub fn current(&self, p: u64) -> Option<CallId>
-        requires { p < (shown self.now).n }
-        ensures { result ≡ current_of (shown self.now) p }
+        requires { p < (world_of self.now).n }
+        ensures { result ≡ current_of (world_of self.now) p }
     {
         let local = self.locals[p as usize];
         if local.call.is_none() {
@@ -249,7 +249,7 @@ impl<O: SeqObject> World<O> {
 
     /// How many processes there are.
     pub fn processes(&self) -> u64
-        ensures { result ≡ (shown self.now).n }
+        ensures { result ≡ (world_of self.now).n }
     {
         self.machine.shared.processes()
     }
@@ -265,10 +265,10 @@ impl<O: SeqObject> World<O> {
     /// has made none. A call of `n` processes that is pending has taken fewer than `10 n + 12`; one
     /// that has returned took `2 n + 4`, and eight for each turn.
     pub fn steps(&self, p: u64) -> u64
-        requires { p < (shown self.now).n }
-        ensures value { result ≡ (shown self.now).steps p }
-        ensures pending { IsSome ((shown self.now).call p) → result < 10 * (shown self.now).n + 12 }
-        ensures returned { (shown self.now).call p ≡ None → 1 ≤ (shown self.now).begun p → result ≡ 2 * (shown self.now).n + 4 + 8 * (shown self.now).turns p }
+        requires { p < (world_of self.now).n }
+        ensures value { result ≡ (world_of self.now).steps p }
+        ensures pending { IsSome ((world_of self.now).call p) → result < 10 * (world_of self.now).n + 12 }
+        ensures returned { (world_of self.now).call p ≡ None → 1 ≤ (world_of self.now).begun p → result ≡ 2 * (world_of self.now).n + 4 + 8 * (world_of self.now).turns p }
     {
         self.shape();
         self.locals[p as usize].steps
@@ -277,9 +277,9 @@ impl<O: SeqObject> World<O> {
     /// How many turns the latest call of process `p` has taken, pending or returned; 0 where it has
     /// made none. They are at most `n + 1`.
     pub fn turns(&self, p: u64) -> u64
-        requires { p < (shown self.now).n }
-        ensures value { result ≡ (shown self.now).turns p }
-        ensures bound { result ≤ (shown self.now).n + 1 }
+        requires { p < (world_of self.now).n }
+        ensures value { result ≡ (world_of self.now).turns p }
+        ensures bound { result ≤ (world_of self.now).n + 1 }
     {
         self.shape();
         self.locals[p as usize].turns
@@ -287,16 +287,16 @@ impl<O: SeqObject> World<O> {
 
     /// The pending call of process `p`, with where it stands.
     fn standing(&self, p: u64) -> Option<Pending>
-        requires { p < (shown self.now).n }
-        ensures { option_map (pending_of (shown self.now).n) result ≡ (shown self.now).call p }
+        requires { p < (world_of self.now).n }
+        ensures { option_map (pending_of (world_of self.now).n) result ≡ (world_of self.now).call p }
     {
         self.locals[p as usize].pending()
     }
 
     /// The kind of the next step of process `p`; `None` where it has no call pending.
     pub fn next_kind(&self, p: u64) -> Option<StepKind>
-        requires { p < (shown self.now).n }
-        ensures { result ≡ option_map (λ c. kind_of c.stage) ((shown self.now).call p) }
+        requires { p < (world_of self.now).n }
+        ensures { result ≡ option_map (λ c. kind_of c.stage) ((world_of self.now).call p) }
     {
         let Some(call) = self.standing(p) else {
             return None;
@@ -307,8 +307,8 @@ impl<O: SeqObject> World<O> {
     /// The one shared place that the next step of process `p` touches; `None` where it has no call
     /// pending.
     pub fn next_place(&self, p: u64) -> Option<Place>
-        requires { p < (shown self.now).n }
-        ensures { option_map (place_named (shown self.now).n) result ≡ option_map (λ c. place_of (shown self.now).n p c.mine c.stage) ((shown self.now).call p) }
+        requires { p < (world_of self.now).n }
+        ensures { option_map (place_named (world_of self.now).n) result ≡ option_map (λ c. place_of (world_of self.now).n p c.mine c.stage) ((world_of self.now).call p) }
     {
         let Some(call) = self.standing(p) else {
             return None;
@@ -318,15 +318,15 @@ impl<O: SeqObject> World<O> {
 
     /// The number of the cell that the head of process `p` names.
     pub fn head_seq(&self, p: u64) -> u64
-        requires { p < (shown self.now).n }
-        ensures { result ≡ head_seq (shown self.now).memory p }
+        requires { p < (world_of self.now).n }
+        ensures { result ≡ head_seq (world_of self.now).memory p }
     {
         self.machine.shared.seq(self.machine.shared.head(p))
     }
 
     /// The frontier: the greatest number that the cell of a head has.
     pub fn frontier(&self) -> u64
-        ensures { result ≡ frontier (shown self.now) }
+        ensures { result ≡ frontier (world_of self.now) }
     {
         let mut greatest = 0;
         for p in 0..self.processes() {
@@ -337,8 +337,8 @@ impl<O: SeqObject> World<O> {
 
     /// The least process that has a call pending; `None` where no process has one.
     pub fn pending(&self) -> Option<u64>
-        ensures least { IfSome result (λ p. (p < (shown self.now).n) × IsSome ((shown self.now).call p) × ((q : ℕ) → q < p → (shown self.now).call q ≡ None)) }
-        ensures none { (result ≡ None) ↔ IsQuiescent (shown self.now) }
+        ensures least { IfSome result (λ p. (p < (world_of self.now).n) × IsSome ((world_of self.now).call p) × ((q : ℕ) → q < p → (world_of self.now).call q ≡ None)) }
+        ensures none { (result ≡ None) ↔ IsQuiescent (world_of self.now) }
     {
         for p in 0..self.processes() {
             if self.standing(p).is_some() {
@@ -350,17 +350,17 @@ impl<O: SeqObject> World<O> {
 
     /// How many calls process `p` has begun since the opening.
     pub fn begun(&self, p: u64) -> u64
-        requires { p < (shown self.now).n }
-        ensures { result ≡ (shown self.now).begun p }
+        requires { p < (world_of self.now).n }
+        ensures { result ≡ (world_of self.now).begun p }
     {
         self.locals[p as usize].begun
     }
 
     /// The cell of a call; `None` where no such call was begun.
     pub fn cell_of(&self, call: CallId) -> Option<CellId>
-        ensures begun { IsSome result ↔ ((call.process < (shown self.now).n) × (call.nth < (shown self.now).begun call.process)) }
-        ensures index { IfSome result (λ cell. cell ≡ index_of (shown self.now).n call.process call.nth) }
-        ensures name { IfSome result (λ cell. name_of (shown self.now).n cell ≡ Of call.process call.nth) }
+        ensures begun { IsSome result ↔ ((call.process < (world_of self.now).n) × (call.nth < (world_of self.now).begun call.process)) }
+        ensures index { IfSome result (λ cell. cell ≡ index_of (world_of self.now).n call.process call.nth) }
+        ensures name { IfSome result (λ cell. name_of (world_of self.now).n cell ≡ Of call.process call.nth) }
         ensures there { IfSome result (λ cell. IsSome (cell_of self.now.shared.cells cell)) }
     {
         self.shape();
@@ -375,7 +375,7 @@ impl<O: SeqObject> World<O> {
     /// The cell that is linked after a cell of the arena; `None` where none is.
     pub fn after(&self, cell: CellId) -> Option<CellId>
         requires { IsSome (cell_of self.now.shared.cells cell) }
-        ensures link { option_map (name_of (shown self.now).n) result ≡ after_of (shown self.now).memory (name_of (shown self.now).n cell) }
+        ensures link { option_map (name_of (world_of self.now).n) result ≡ after_of (world_of self.now).memory (name_of (world_of self.now).n cell) }
         ensures there { IfSome result (λ next. IsSome (cell_of self.now.shared.cells next)) }
     {
         self.shape();
@@ -384,7 +384,7 @@ impl<O: SeqObject> World<O> {
 
     /// The last linked cell, or the anchor. It goes along the whole list.
     pub fn last(&self) -> CellId
-        ensures last { name_of (shown self.now).n result ≡ last_cell (shown self.now) }
+        ensures last { name_of (world_of self.now).n result ≡ last_cell (world_of self.now) }
         ensures there { IsSome (cell_of self.now.shared.cells result) }
     {
         self.shape();
@@ -408,7 +408,7 @@ impl<O: SeqObject> World<O> {
     /// The call that a cell of the arena was made for; `None` of the anchor.
     pub fn call_of(&self, cell: CellId) -> Option<CallId>
         requires { IsSome (cell_of self.now.shared.cells cell) }
-        ensures { result ≡ call_of_name (name_of (shown self.now).n cell) }
+        ensures { result ≡ call_of_name (name_of (world_of self.now).n cell) }
     {
         self.shape();
         let n = self.machine.shared.processes();
@@ -421,19 +421,19 @@ impl<O: SeqObject> World<O> {
         }
     }
 
-    /// What every world keeps, for proofs: the call does nothing. What is shown has the invariant of
+    /// What every world keeps, for proofs: the call does nothing. What it shows has the invariant of
     /// the definitions. There are 1 to 16 processes. A row has at most 4096 cells, and no process has
     /// begun more calls; the arena has as many cells of a process as it has begun calls. The anchor's
     /// number, and one more for each cell that there can be, stay below 2^48. The latest call of each
     /// process is within the bound of its own steps and turns.
     pub fn shape(&self)
-        ensures sound { Invariant (O.next self.now.object) (O.answer self.now.object) (shown self.now) }
-        ensures few { (1 ≤ (shown self.now).n) × ((shown self.now).n ≤ 16) }
+        ensures sound { Invariant (O.sequential self.now.object) (world_of self.now) }
+        ensures few { (1 ≤ (world_of self.now).n) × ((world_of self.now).n ≤ 16) }
         ensures row { (self.now.shared.cells.row ≡ self.now.row) × (self.now.row ≤ 4096) }
-        ensures room { (p : ℕ) → (shown self.now).begun p ≤ self.now.row }
-        ensures made { (p : ℕ) → p < (shown self.now).n → made_of self.now.shared.cells p ≡ (shown self.now).begun p }
-        ensures numbers { seq_of (shown self.now).memory Anchor + (shown self.now).n * self.now.row < 2 ^ 48 }
-        ensures bounded { IsBounded (shown self.now) }
+        ensures room { (p : ℕ) → (world_of self.now).begun p ≤ self.now.row }
+        ensures made { (p : ℕ) → p < (world_of self.now).n → made_of self.now.shared.cells p ≡ (world_of self.now).begun p }
+        ensures numbers { seq_of (world_of self.now).memory Anchor + (world_of self.now).n * self.now.row < 2 ^ 48 }
+        ensures bounded { IsBounded (world_of self.now) }
     {
         self.machine.shared.cells().shape();
     }

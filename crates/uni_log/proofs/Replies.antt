@@ -3,6 +3,7 @@ use Rattle.std.proofs.Common.{◌≡◌, ◌∙◌, ℕ, zero, suc, ◌+◌, ◌
 use Rattle.std.specs.Option.{IsSomeAnd, option_map_or}
 use Rattle.std.proofs.lemmas.Option.{slice_get-map}
 use Rattle.std.proofs.lemmas.List.{length-map}
+use Rattle.seq_object.specs.Sequential.{Sequential}
 use Rattle.uni_model.specs.Places.{Name, seq_of, after_of}
 use Rattle.uni_model.specs.Places.Name.{Anchor, Of}
 use Rattle.uni_model.specs.Chain.{cells_from, Invoked, invoked_at, Entry, entries_from, response_in}
@@ -17,13 +18,13 @@ use Rattle.uni_log.specs.Shown.{entry_shown}
 abbrev IsSettledAt : {I R : Type 0} → List (Entry I R) → ℕ → Type 0
 IsSettledAt es i = i + 1 < length es → IsSomeAnd (slice_get es i) (λ e. IsSome e.response)
 
-module _ {S I R : Type 0} (next : S → I → S) (answer : S → I → R) (w : WorldOf S I R) (num : Name → ℕ) (last : ℕ) (sound : IsSound next answer w num last) where
+module _ {S I R : Type 0} (object : Sequential S I R) (w : WorldOf S I R) (num : Name → ℕ) (last : ℕ) (sound : IsSound object w num last) where
   -- a cell past the anchor has its response, where the chain goes on after it
   settled_inside : (y : Name) → num Anchor < num y → num y < last → IsSome (response_in w.memory y)
   settled_inside Anchor past inside = absurd (omega arith)
   settled_inside (Of p k) past inside =
       let number : seq_of w.memory (Of p k) ≡ num (Of p k) = sound.numbered.threaded (Of p k) (omega arith) inside in
-      let response = response-settled next answer w.memory num sound.values sound.back p k (omega arith) in
+      let response = response-settled object w.memory num sound.values sound.back p k (omega arith) in
       rw response.1 refl
 
   -- where a cell has cells after it, it isn't the last
@@ -52,10 +53,10 @@ module _ {S I R : Type 0} (next : S → I → S) (answer : S → I → R) (w : W
     by_after later (Some y) e h = by_call y (sound.numbered.link x y e).1 (later y) (invoked_at w.memory y) i h
 
 -- each entry of the code but the last has its reply
-pub settled_but_last : {S I R : Type 0} (next : S → I → S) (answer : S → I → R) (w : WorldOf S I R) → Invariant next answer w → (entries : List (Shown I R))
+pub settled_but_last : {S I R : Type 0} (object : Sequential S I R) (w : WorldOf S I R) → Invariant object w → (entries : List (Shown I R))
     → map entry_shown entries ≡ log w → (i : ℕ) → i + 1 < length entries → IsSomeAnd (slice_get entries i) (λ e. IsSome e.reply)
-settled_but_last {I = I} {R = R} next answer w inv entries is i more = by_entry (slice_get entries i) (subst (λ o. IsSomeAnd o (λ (e : Entry I R). IsSome e.response)) (ap (λ es. slice_get es i) (sym is) ∙ slice_get-map entry_shown entries i)
-    (settled_from next answer w inv.0 inv.1 inv.2 (calls_begun w) Anchor _ i inv.2.numbered.first (subst (λ k. i + 1 < k) (sym (length-map entries entry_shown) ∙ ap length is) more))) where
+settled_but_last {I = I} {R = R} object w inv entries is i more = by_entry (slice_get entries i) (subst (λ o. IsSomeAnd o (λ (e : Entry I R). IsSome e.response)) (ap (λ es. slice_get es i) (sym is) ∙ slice_get-map entry_shown entries i)
+    (settled_from object w inv.0 inv.1 inv.2 (calls_begun w) Anchor _ i inv.2.numbered.first (subst (λ k. i + 1 < k) (sym (length-map entries entry_shown) ∙ ap length is) more))) where
       by_entry : (o : Option (Shown I R)) → IsSomeAnd (option_map entry_shown o) (λ (e : Entry I R). IsSome e.response) → IsSomeAnd o (λ (e : Shown I R). IsSome e.reply)
       by_entry None h = h
       by_entry (Some e) h = h

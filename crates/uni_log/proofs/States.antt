@@ -1,6 +1,7 @@
 -- The state that is settled at a place of the list.
 use Rattle.std.proofs.Common.{◌≡◌, ◌≢◌, ◌∙◌, ℕ, zero, suc, ◌+◌, ◌≤◌, refl, sym, ap, List, [], ◌∷◌, Option, Some, None, map, option_map, option_and_then, Bor, IfSome, slice_get, take, ◌-◌, ◌<◌, arith}
 use Rattle.std.specs.Option.{option_map_or, option_copied}
+use Rattle.seq_object.specs.Sequential.{Sequential}
 use Rattle.seq_object.specs.History.{state_after}
 use Rattle.uni_model.specs.Places.{Name, after_of, new_of, inv_of}
 use Rattle.uni_model.specs.Places.Name.{Anchor}
@@ -17,7 +18,7 @@ at_only : {A : Type 0} (x y : A) (place : ℕ) → slice_get (x ∷ []) place �
 at_only x y zero at = cc
 at_only x y (suc place) at = cc
 
-module _ {S I R : Type 0} (next : S → I → S) (answer : S → I → R) (w : WorldOf S I R) (num : Name → ℕ) (last : ℕ) (sound : IsSound next answer w num last) where
+module _ {S I R : Type 0} (object : Sequential S I R) (w : WorldOf S I R) (num : Name → ℕ) (last : ℕ) (sound : IsSound object w num last) where
   not_anchor : (z : Name) (i : I) → inv_of w.memory z ≡ Some i → z ≢ Anchor
   not_anchor z i e same = let f = ap (inv_of w.memory) same in let none = sound.calls.anchor in cc
 
@@ -37,7 +38,7 @@ module _ {S I R : Type 0} (next : S → I → S) (answer : S → I → R) (w : W
             → (o : Option (S × Option R)) → new_of w.memory z ≡ o
             → v.0 ≡ state_after next u.0 (take (suc place) (map (λ (c : Invoked I). c.inv) (calls_at w.memory (z ∷ cells_from most w.memory z))))
         by_new z e linked_z at_z rest None none = absurd (
-            let only = rw (unsettled_last next answer w num last sound most z linked_z none) at at_z in
+            let only = rw (unsettled_last object w num last sound most z linked_z none) at at_z in
             let same : new_of w.memory z ≡ new_of w.memory y = ap (new_of w.memory) (at_only z y place only) in
             cc)
         by_new z e linked_z at_z rest (Some t) settled_z =
@@ -57,15 +58,15 @@ module _ {S I R : Type 0} (next : S → I → S) (answer : S → I → R) (w : W
             by_new z e (omega arith) at_o (λ t f. rest z t (omega arith) at_o f) (new_of w.memory z) refl
 
 -- a state that is settled at a place of the list is the object's after so many invocations
-state_folded : {S I R : Type 0} (next : S → I → S) (answer : S → I → R) (w : WorldOf S I R) → Invariant next answer w → (place : ℕ) (state : S) → state_settled_at w place ≡ Some state
+state_folded : {S I R : Type 0} (object : Sequential S I R) (w : WorldOf S I R) → Invariant object w → (place : ℕ) (state : S) → state_settled_at w place ≡ Some state
     → (start : S) → new_of w.memory Anchor ≡ Some (start, None) → state ≡ state_after next start (take place (invocations_of w))
-state_folded {S} {I} {R} next answer w inv place state is start at_start = by_cell (slice_get (Anchor ∷ chain w) place) refl is where
+state_folded {S} {I} {R} object w inv place state is start at_start = by_cell (slice_get (Anchor ∷ chain w) place) refl is where
   by_new : (y : Name) → slice_get (Anchor ∷ chain w) place ≡ Some y → (o : Option (S × Option R)) → new_of w.memory y ≡ o → option_map (λ (new : S × Option R). new.0) o ≡ Some state
       → state ≡ state_after next start (take place (invocations_of w))
   by_new y at None e h = cc
   by_new y at (Some v) e h =
       let value : state ≡ v.0 = cc in
-      value ∙ state_after-from next answer w inv.0 inv.1 inv.2 (calls_begun w) Anchor y place (start, None) v inv.2.numbered.first at at_start e
+      value ∙ state_after-from object w inv.0 inv.1 inv.2 (calls_begun w) Anchor y place (start, None) v inv.2.numbered.first at at_start e
       ∙ ap (λ cs. state_after next start (take place (map (λ (c : Invoked I). c.inv) cs))) (sym (calls_of-calls_at w))
 
   by_cell : (o : Option Name) → slice_get (Anchor ∷ chain w) place ≡ o
@@ -75,10 +76,10 @@ state_folded {S} {I} {R} next answer w inv place state is start at_start = by_ce
   by_cell (Some y) at h = by_new y at (new_of w.memory y) refl h
 
 -- the same of a state that is read
-pub folded_behind : {S I R : Type 0} (next : S → I → S) (answer : S → I → R) (w : WorldOf S I R) → Invariant next answer w → (place : ℕ) (o : Option (Bor S)) → option_copied o ≡ state_settled_at w place
+pub folded_behind : {S I R : Type 0} (object : Sequential S I R) (w : WorldOf S I R) → Invariant object w → (place : ℕ) (o : Option (Bor S)) → option_copied o ≡ state_settled_at w place
     → IfSome o (λ state. (start : S) → new_of w.memory Anchor ≡ Some (start, None) → state.now ≡ state_after next start (take place (invocations_of w)))
-folded_behind next answer w inv place None is = tt
-folded_behind next answer w inv place (Some state) is = λ start at_start. state_folded next answer w inv place state.now (sym is) start at_start
+folded_behind object w inv place None is = tt
+folded_behind object w inv place (Some state) is = λ start at_start. state_folded object w inv place state.now (sym is) start at_start
 
 -- The walk along the list stands at a cell after so many: what comes then is the rest of the list.
 pub place_past : {A : Type 0} (all rest : List A) (x : A) (count place : ℕ) → ((j : ℕ) → slice_get all (count + j) ≡ slice_get (x ∷ rest) j) → rest ≡ [] → count < place → slice_get all place ≡ None

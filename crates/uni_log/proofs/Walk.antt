@@ -1,5 +1,6 @@
 -- The walk along the chain, cell by cell.
 use Rattle.std.proofs.Common.{◌≡◌, ◌∙◌, ℕ, zero, suc, ◌+◌, ◌*◌, ◌<◌, ◌≤◌, ◌^◌, refl, sym, ap, List, [], ◌∷◌, ◌++◌, append_assoc, Some, None, arith}
+use Rattle.seq_object.specs.Sequential.{Sequential}
 use Rattle.uni_model.specs.Places.{Name, seq_of, after_of, inv_of}
 use Rattle.uni_model.specs.Places.Name.{Anchor, Of}
 use Rattle.uni_model.specs.Chain.{cells_from, invoked_at}
@@ -28,22 +29,22 @@ walked-further so_far rest later y rest_is whole = append_assoc so_far (y ∷ []
 
 module _ {S I R : Type 0} (w : WorldOf S I R) where
   -- it begins at the anchor
-  pub IsAlong-anchor : (next : S → I → S) (answer : S → I → R) → Invariant next answer w → (row : ℕ) → ((p : ℕ) → w.begun p ≤ row)
+  pub IsAlong-anchor : (object : Sequential S I R) → Invariant object w → (row : ℕ) → ((p : ℕ) → w.begun p ≤ row)
       → seq_of w.memory Anchor + w.n * row < 2 ^ 48 → (seq : ℕ) → seq ≡ seq_of w.memory Anchor → IsAlong w Anchor seq (chain w)
-  IsAlong-anchor next answer inv row room numbers seq is = record {
+  IsAlong-anchor object inv row room numbers seq is = record {
     num = inv.0;
     last = inv.1;
     numbered = inv.2.numbered;
     calls = inv.2.calls.linked;
     low =
-        let all : inv.1 ≤ inv.0 Anchor + calls_begun w = enough next answer w inv.0 inv.1 inv.2 in
+        let all : inv.1 ≤ inv.0 Anchor + calls_begun w = enough object w inv.0 inv.1 inv.2 in
         let each : calls_begun w ≤ w.n * row = sum_below-bound w.n row w.begun room in
         let anchor : inv.0 Anchor ≡ seq_of w.memory Anchor = inv.2.numbered.anchor in
         omega arith;
     linked = inv.2.numbered.first;
     number = is ∙ sym inv.2.numbered.anchor;
     most = calls_begun w;
-    enough = enough next answer w inv.0 inv.1 inv.2;
+    enough = enough object w inv.0 inv.1 inv.2;
     rest_is = refl;
   }
 

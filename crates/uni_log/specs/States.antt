@@ -2,7 +2,7 @@
 use Rattle.std.specs.Prelude.{◌≡◌, ℕ, ◌∷◌, List, [], Option, Some, None, map, option_map, option_and_then, slice_get, refl}
 use Rattle.uni_model.specs.Places.{new_of}
 use Rattle.uni_model.specs.Places.Name.{Anchor}
-use Rattle.uni_model.specs.Worlds.{WorldOf, chain, opened}
+use Rattle.uni_model.specs.Worlds.{WorldOf, chain, opened_world}
 use Rattle.uni_model.specs.History.{calls_of}
 
 -- the state that is settled in the cell at a place of the list, where the anchor is at place 0
@@ -15,7 +15,7 @@ invocations_of w = map (λ c. c.inv) (calls_of w)
 
 -- two processes over 9, of which none has called
 abbrev sample : WorldOf ℕ ℕ ℕ
-sample = opened 2 9 1
+sample = opened_world 2 9 1
 
 state_of_anchor : state_settled_at sample 0 ≡ Some 9
 state_of_anchor = refl

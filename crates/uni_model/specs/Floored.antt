@@ -1,5 +1,6 @@
 -- What every world that is reached keeps of a call with a floor.
 use Rattle.std.specs.Prelude.{◌≡◌, ◌≢◌, ℕ, ◌+◌, ◌<◌, ◌≤◌, ◌%◌, Some}
+use Rattle.seq_object.specs.Sequential.{Sequential}
 use Rattle.uni_model.specs.Places.{Name}
 use Rattle.uni_model.specs.Places.Name.{Anchor, Of}
 use Rattle.uni_model.specs.Stages.{Pending}
@@ -30,6 +31,6 @@ abbrev pub IsAnnounced : {S I R : Type 0} → WorldOf S I R → (p k : ℕ) → 
 IsAnnounced w p k = (c : Pending) → w.call p ≡ Some c → c.mine ≡ Of p k → c.stage ≢ Announce
 
 -- the invariant, with the floor of a call
-abbrev pub FloorInvariant : {S I R : Type 0} → (next : S → I → S) → (answer : S → I → R) → WorldOf S I R → (p k floor : ℕ) → Type 0
-FloorInvariant next answer w p k floor =
-    (inv : HelpingInvariant next answer w) × HasFloor w inv.0 inv.1 p k floor × IsAnnounced w p k
+abbrev pub FloorInvariant : {S I R : Type 0} → Sequential S I R → WorldOf S I R → (p k floor : ℕ) → Type 0
+FloorInvariant object w p k floor =
+    (inv : HelpingInvariant object w) × HasFloor w inv.0 inv.1 p k floor × IsAnnounced w p k

@@ -11,5 +11,5 @@ pub mod Invariant
 pub mod Helping
 pub mod Floored
 pub mod Bound
-pub mod Rows
+pub mod Examples
 pub mod Laws

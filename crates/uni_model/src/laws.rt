@@ -13,27 +13,27 @@ use seq_object::SeqObject;
 /// steps and turns, and nothing else.
 pub fn changes_one_place<O: SeqObject>()
     ensures { (object : O) (w : WorldOf O.State O.Inv O.Resp) (p : ℕ) (call : Pending) →
-        StepIsLocal (O.next object) (O.answer object) w p call }
+        StepIsLocal (O.sequential object) w p call }
 {}
 
 /// A place that is settled never changes again in its era: a decided `after` or `new`, a written
 /// `seq` or `before`, an invocation.
 pub fn keeps_settled<O: SeqObject>()
     ensures { (object : O) (w : WorldOf O.State O.Inv O.Resp) (e : Event O.Inv) →
-        SettledStays (O.next object) (O.answer object) w e }
+        SettledStays (O.sequential object) w e }
 {}
 
 /// Every world that is reached from an opening has the invariant.
 pub fn keeps_invariant<O: SeqObject>()
     ensures { (object : O) (w : WorldOf O.State O.Inv O.Resp) →
-        IsReached (O.next object) (O.answer object) w → Invariant (O.next object) (O.answer object) w }
+        IsReached (O.sequential object) w → Invariant (O.sequential object) w }
 {}
 
 /// Each call that is begun and each step is what the atomic object does, from what the world shows
 /// before it to what it shows afterwards.
 pub fn simulates<O: SeqObject>()
     ensures { (object : O) (w : WorldOf O.State O.Inv O.Resp) (e : Event O.Inv) →
-        Simulates (O.next object) (O.answer object) w e }
+        Simulates (O.sequential object) w e }
 {}
 
 /// The construction is linearizable: for every number of processes and every list of accepted
@@ -41,21 +41,21 @@ pub fn simulates<O: SeqObject>()
 /// once between its start and its reply (Herlihy and Wing 1990).
 pub fn is_linearizable<O: SeqObject>()
     ensures { (object : O) (n : ℕ) (start : O.State) (number : ℕ) (events : List (Event O.Inv)) →
-        IsLinearizable (O.next object) (O.answer object) n start number events }
+        IsLinearizable (O.sequential object) n start number events }
 {}
 
 /// The own steps of a call follow from where its process stands and from its turns: 2n + 2 before
 /// the first turn, eight a turn, and two after the last one.
 pub fn counts_steps<O: SeqObject>()
     ensures { (object : O) (w : WorldOf O.State O.Inv O.Resp) →
-        IsReached (O.next object) (O.answer object) w → CountsSteps w }
+        IsReached (O.sequential object) w → CountsSteps w }
 {}
 
 /// Each call ends within a known number of its own steps, whatever the others do (Herlihy 1991,
 /// section 4): at most n + 1 turns, so fewer than 10n + 12 own steps while it is pending.
 pub fn is_bounded<O: SeqObject>()
     ensures { (object : O) (w : WorldOf O.State O.Inv O.Resp) →
-        IsReached (O.next object) (O.answer object) w → IsBounded w }
+        IsReached (O.sequential object) w → IsBounded w }
 {}
 
 /// A call is linked soon after it is announced, whatever its own process does then (Herlihy 1991,
@@ -63,12 +63,12 @@ pub fn is_bounded<O: SeqObject>()
 /// pending and not linked, the last number is at most n past that frontier.
 pub fn links_soon<O: SeqObject>()
     ensures { (object : O) (n : ℕ) (start : O.State) (number : ℕ) (events : List (Event O.Inv)) →
-        LinksSoon (O.next object) (O.answer object) n start number events }
+        LinksSoon (O.sequential object) n start number events }
 {}
 
 /// A pending call has a floor, the frontier at the step that announces it, exactly where it has
 /// taken that step.
 pub fn has_floor<O: SeqObject>()
     ensures { (object : O) (n : ℕ) (start : O.State) (number : ℕ) (events : List (Event O.Inv)) →
-        HasFloorOnceAnnounced (O.next object) (O.answer object) n start number events }
+        HasFloorOnceAnnounced (O.sequential object) n start number events }
 {}

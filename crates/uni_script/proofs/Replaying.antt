@@ -291,10 +291,10 @@ module _ (left left_after : Option (List ℕ)) (stop : Stop) (bytes : List ℕ) 
   not_failed : (read_run stop bytes).fault ≡ None → stop ≡ Failed → ⊥
   not_failed none failed = let e = end_of_run stop bytes none in let f : End ≡ Failed = sym e ∙ failed in cc
 
-  pub ended-replayed : {A : Type 0} (answers : List ℕ) (result : Result A BenchFault) → EndsAs (read_run stop bytes) [] answers result
+  pub ended-world_after_all : {A : Type 0} (answers : List ℕ) (result : Result A BenchFault) → EndsAs (read_run stop bytes) [] answers result
       → (old new : Option (List ℕ)) → Appends old new answers → OnOk result (IsReplay left old new None)
-  ended-replayed answers (Ok x) ends old new appends = replayed_as old new answers None (same_run (not_failed ends.0)) ends.0 ends.1 appends
-  ended-replayed answers (Err e) ends old new appends = tt
+  ended-world_after_all answers (Ok x) ends old new appends = replayed_as old new answers None (same_run (not_failed ends.0)) ends.0 ends.1 appends
+  ended-world_after_all answers (Err e) ends old new appends = tt
 
   script_whole : stop ≡ End → script ≡ bytes
   script_whole e = script_is ∙ ap (λ p. bytes ++ p) (past_left-end bytes is.past left_after (subst (λ s. StopsAt s bytes is.past left_after) e is.stops)) ∙ append-nil bytes

@@ -97,9 +97,9 @@ module _ (number : ℕ) (b : Option AnyBench) (line : List ℕ) (lines : List (L
   pub lines_run-faulted : (e : BenchFault) → (short_line_run number b line).fault ≡ Some e → and_then (lines_run number b (line ∷ lines)) stop ≡ short_line_run number b line
   lines_run-faulted e some = run_line-first ∙ and_then-some (short_line_run number b line) rest_after e some
 
-pub short_line_run-opened : (number : ℕ) (line : List ℕ) (header : Header) → list_all is_plain_byte line ≡ true → is_note line ≡ false → header_of_words (words_of_text line) ≡ Some header
+pub short_line_run-opened_world : (number : ℕ) (line : List ℕ) (header : Header) → list_all is_plain_byte line ≡ true → is_note line ≡ false → header_of_words (words_of_text line) ≡ Some header
     → (short_line_run number None line).bench ≡ Some (any_opened header)
-short_line_run-opened number line header plain note opens = rw plain (rw note (rw opens refl))
+short_line_run-opened_world number line header plain note opens = rw plain (rw note (rw opens refl))
 
 -- the first line of short lines is short, and so are the others
 pub all_short : (line : List ℕ) (lines : List (List ℕ)) → list_all is_short (line ∷ lines) ≡ true → (is_short line ≡ true) × (list_all is_short lines ≡ true)

@@ -1,7 +1,7 @@
 -- Steps of a process until its call returns.
 use Rattle.std.proofs.Common.{◌≡◌, ℕ, suc, ◌+◌, ◌-◌, ◌<◌, ◌≤◌, ◌∙◌, refl, ap, Option, None, Some, IsSome, arith}
 use Rattle.uni_model.specs.Stages.{Pending}
-use Rattle.uni_model.specs.Worlds.{WorldOf, stepped, happened}
+use Rattle.uni_model.specs.Worlds.{WorldOf, world_after_step, world_after}
 use Rattle.uni_model.specs.Worlds.Event.{Step}
 use Rattle.uni_model.specs.Bound.{IsBounded, IsWithinBound}
 use Rattle.uni_model.proofs.Simulation.{set_at_same}
@@ -27,20 +27,20 @@ pub record IsOnTheWay {S I R : Type 0} (o : Language S I R) (p most : ℕ) (w : 
   pub pending : IsSome (w'.call p)
   pub rest : steps_taken o (most - count) w' p ≡ steps_taken o most w p
 
-module _ {S I R : Type 0} (o : Language S I R) (p : ℕ) (w w' : WorldOf S I R) (step : w' ≡ happened o.next o.answer w (Step p)) where
+module _ {S I R : Type 0} (o : Language S I R) (p : ℕ) (w w' : WorldOf S I R) (step : w' ≡ world_after o.object w (Step p)) where
   -- a step leaves the number of processes
-  pub n-stepped : w'.n ≡ w.n
-  n-stepped = ap (λ (v : WorldOf S I R). v.n) step ∙ at (w.call p)
+  pub n-world_after_step : w'.n ≡ w.n
+  n-world_after_step = ap (λ (v : WorldOf S I R). v.n) step ∙ at (w.call p)
     where
-      at : (call : Option Pending) → (stepped o.next o.answer w p call).n ≡ w.n
+      at : (call : Option Pending) → (world_after_step o.object w p call).n ≡ w.n
       at None = refl
       at (Some call) = refl
 
   -- a step is counted
-  pub steps-stepped : IsSome (w.call p) → w'.steps p ≡ w.steps p + 1
-  steps-stepped pending = ap (λ (v : WorldOf S I R). v.steps p) step ∙ at (w.call p) pending
+  pub steps-world_after_step : IsSome (w.call p) → w'.steps p ≡ w.steps p + 1
+  steps-world_after_step pending = ap (λ (v : WorldOf S I R). v.steps p) step ∙ at (w.call p) pending
     where
-      at : (call : Option Pending) → IsSome call → (stepped o.next o.answer w p call).steps p ≡ w.steps p + 1
+      at : (call : Option Pending) → IsSome call → (world_after_step o.object w p call).steps p ≡ w.steps p + 1
       at None h = cc
       at (Some call) h = set_at_same w.steps p (w.steps p + 1)
 
@@ -52,12 +52,12 @@ module _ {S I R : Type 0} (o : Language S I R) (p most : ℕ) (w : WorldOf S I R
   IsOnTheWay-start pending = record { n = refl; steps = omega arith; pending = pending; rest = (let all : most - 0 ≡ most = omega arith in ap (λ k. steps_taken o k w p) all) }
 
   module _ (count : ℕ) (v : WorldOf S I R) (on : IsOnTheWay o p most w count v) where
-    module _ (few : count < most) (v' : WorldOf S I R) (step : v' ≡ happened o.next o.answer v (Step p)) where
+    module _ (few : count < most) (v' : WorldOf S I R) (step : v' ≡ world_after o.object v (Step p)) where
       -- a step that goes on
       pub IsOnTheWay-going : response_of_step v p ≡ None → IsSome (v'.call p) → IsOnTheWay o p most w (count + 1) v'
       IsOnTheWay-going none pending = record {
-        n = n-stepped o p v v' step ∙ on.n;
-        steps = (let one : v'.steps p ≡ v.steps p + 1 = steps-stepped o p v v' step on.pending in let before : v.steps p ≡ w.steps p + count = on.steps in omega arith);
+        n = n-world_after_step o p v v' step ∙ on.n;
+        steps = (let one : v'.steps p ≡ v.steps p + 1 = steps-world_after_step o p v v' step on.pending in let before : v.steps p ≡ w.steps p + count = on.steps in omega arith);
         pending = pending;
         rest = (let taken : steps_taken o (most - (count + 1)) v' p ≡ steps_taken o (most - count) v p = rw (one_left most count few) (rw none (rw step refl)) in taken ∙ on.rest);
       }

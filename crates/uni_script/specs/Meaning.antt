@@ -17,11 +17,11 @@ use Rattle.ready_objects.specs.declared.sticky.StickyResp.{StickyResp}
 use Rattle.ready_objects.specs.declared.queue.QueueInv.{QueueInv}
 use Rattle.ready_objects.specs.declared.queue.QueueResp.{QueueResp}
 use Rattle.uni_model.specs.Places.{head_seq}
-use Rattle.uni_model.specs.Worlds.{WorldOf, happened, opened}
+use Rattle.uni_model.specs.Worlds.{WorldOf, world_after, opened_world}
 use Rattle.uni_model.specs.Worlds.Event.{Call, Step}
 use Rattle.uni_model.specs.Chain.{Entry}
 use Rattle.uni_model.specs.History.{log}
-use Rattle.uni_core.specs.Whole.{Whole, shown, response_of_step}
+use Rattle.uni_core.specs.Whole.{Whole, world_of, response_of_step}
 use Rattle.uni_script.specs.declared.fault.BenchFault.{BenchFault}
 use Rattle.uni_script.specs.declared.fault.BenchFault.TheVariants.{NoHeader, BadHeader, TooLong, BadByte, BadLine, TooMany}
 use Rattle.uni_script.specs.declared.grammar.ObjectName.{ObjectName}
@@ -46,7 +46,7 @@ pub record Language (S I R : Type 0) : Type 0 where
 -- the language of an object, from its own functions and those of its words
 abbrev pub language_of : {O S I R : Type 0} → (initial : O → S) → (next : O → S → I → S) → (answer : O → S → I → R)
     → (inv_of_words : List (List ℕ) → Option I) → (inv_words : I → List (List ℕ)) → (resp_text : R → List ℕ) → O → Language S I R
-language_of initial next answer inv_of_words inv_words resp_text object =
+language_of initial object inv_of_words inv_words resp_text object =
     record {
       initial = initial object;
       next = next object;
@@ -107,7 +107,7 @@ pub record Bench (S I R : Type 0) : Type 0 where
 
 -- the world that the code has
 abbrev pub bench_of : {O S I R : Type 0} → Whole O S I R → Bench S I R
-bench_of v = record { row = v.row; world = shown v }
+bench_of v = record { row = v.row; world = world_of v }
 
 -- what a command comes to: the world after it, and the text of its answer
 pub record Made (S I R : Type 0) : Type 0 where
@@ -127,13 +127,13 @@ refusal_of_call b p =
     else None
 
 -- a process begins a call
-abbrev pub call_begun : {S I R : Type 0} → Language S I R → Bench S I R → ℕ → I → Bench S I R
-call_begun o b p i = record b { world = happened o.next o.answer b.world (Call p i) }
+abbrev pub bench_after_call : {S I R : Type 0} → Language S I R → Bench S I R → ℕ → I → Bench S I R
+bench_after_call o b p i = record b { world = world_after o.object b.world (Call p i) }
 
 abbrev pub call_made : {S I R : Type 0} → Language S I R → Bench S I R → ℕ → I → Made S I R
 call_made o b p i =
     option_map_or (λ refusal. record { bench = b; text = refused_text refusal }) (refusal_of_call b p)
-    (record { bench = call_begun o b p i; text = called_text (record { process = p; nth = b.world.begun p }) })
+    (record { bench = bench_after_call o b p i; text = called_text (record { process = p; nth = b.world.begun p }) })
 
 -- why a process can't take a step, if it can't
 abbrev pub refusal_of_step : {S I R : Type 0} → WorldOf S I R → ℕ → Option Refusal
@@ -151,8 +151,8 @@ pub record Stepped (S I R : Type 0) : Type 0 where
 abbrev pub steps_taken : {S I R : Type 0} → Language S I R → (most : ℕ) → WorldOf S I R → ℕ → Stepped S I R
 steps_taken o zero w p = record { world = w; response = None }
 steps_taken o (suc most) w p =
-    option_map_or (λ r. record { world = happened o.next o.answer w (Step p); response = Some r }) (response_of_step w p)
-    (steps_taken o most (happened o.next o.answer w (Step p)) p)
+    option_map_or (λ r. record { world = world_after o.object w (Step p); response = Some r }) (response_of_step w p)
+    (steps_taken o most (world_after o.object w (Step p)) p)
 
 -- how many steps a call of n processes takes at most
 abbrev pub most_steps : ℕ → ℕ
@@ -184,7 +184,7 @@ made o b command.Log = record { bench = b; text = log_text o b.world }
 
 -- the bench that a header opens
 abbrev pub bench_opened : {S I R : Type 0} → Language S I R → Header → Bench S I R
-bench_opened o header = record { row = header.row; world = opened header.processes o.initial 1 }
+bench_opened o header = record { row = header.row; world = opened_world header.processes o.initial 1 }
 
 -- the bench of a script: of processes that share one of the four objects
 pub data AnyBench : Type 0 where

@@ -4,7 +4,7 @@ ghost use Rattle.std.specs.Prelude.{◌≡◌, ◌<◌, ◌≤◌, ◌++◌, IfO
 ghost use Rattle.std.specs.Option.{option_map_or};
 ghost use Rattle.ready_objects.specs.Words.{text_of_words};
 ghost use Rattle.uni_model.specs.Places.{head_seq};
-ghost use Rattle.uni_core.specs.Whole.{shown};
+ghost use Rattle.uni_core.specs.Whole.{world_of};
 ghost use Rattle.uni_log.specs.Shown.{entry_shown};
 ghost use Rattle.uni_script.specs.Answers.{answer_text, numbers_text, heads_text, entry_text, IsOver};
 ghost use Rattle.uni_script.specs.Meaning.{bench_of, bench_opened, language_of, made, call_made, step_made, steps_taken, most_steps, log_text};
@@ -94,8 +94,8 @@ fn finish<O: Spoken>(
     process: u64,
 ) -> Result<Answer, AllocError>
     ensures object { world.new.object ≡ world.old.object }
-    ensures bench { OnOk result (bench_of world.new ≡ (step_made (language_of O.initial O.next O.answer O.inv_of_words O.inv_words O.resp_bytes world.old.object) (bench_of world.old) process (most_steps (shown world.old).n)).bench) }
-    ensures answer { IfOk result (λ answer. answer_text answer ≡ (step_made (language_of O.initial O.next O.answer O.inv_of_words O.inv_words O.resp_bytes world.old.object) (bench_of world.old) process (most_steps (shown world.old).n)).text) }
+    ensures bench { OnOk result (bench_of world.new ≡ (step_made (language_of O.initial O.next O.answer O.inv_of_words O.inv_words O.resp_bytes world.old.object) (bench_of world.old) process (most_steps (world_of world.old).n)).bench) }
+    ensures answer { IfOk result (λ answer. answer_text answer ≡ (step_made (language_of O.initial O.next O.answer O.inv_of_words O.inv_words O.resp_bytes world.old.object) (bench_of world.old) process (most_steps (world_of world.old).n)).text) }
     ensures over { IfOk result IsOver }
 {
     world.shape();
@@ -116,7 +116,7 @@ fn step<O: Spoken>(
     ensures object { world.new.object ≡ world.old.object }
     ensures bench { OnOk result (bench_of world.new ≡ (step_made (language_of O.initial O.next O.answer O.inv_of_words O.inv_words O.resp_bytes world.old.object) (bench_of world.old) process most).bench) }
     ensures answer { IfOk result (λ answer. answer_text answer ≡ (step_made (language_of O.initial O.next O.answer O.inv_of_words O.inv_words O.resp_bytes world.old.object) (bench_of world.old) process most).text) }
-    ensures over { IfOk result (λ answer. most_steps (shown world.old).n ≤ most → IsOver answer) }
+    ensures over { IfOk result (λ answer. most_steps (world_of world.old).n ≤ most → IsOver answer) }
 {
     if process >= world.processes() {
         return Ok(Answer::Refused(Refusal::Process(process)));
@@ -149,12 +149,12 @@ fn step_on<O: Spoken>(
     process: u64,
     most: u64,
 ) -> Result<Option<O::Resp>, AllocError>
-    requires process { process < (shown world.old).n }
-    requires pending { IsSome ((shown world.old).call process) }
-    ensures stepped { IfOk result (λ response. record { world = shown world.new; response = response } ≡ steps_taken (language_of O.initial O.next O.answer O.inv_of_words O.inv_words O.resp_bytes world.old.object) most (shown world.old) process) }
+    requires process { process < (world_of world.old).n }
+    requires pending { IsSome ((world_of world.old).call process) }
+    ensures stepped { IfOk result (λ response. record { world = world_of world.new; response = response } ≡ steps_taken (language_of O.initial O.next O.answer O.inv_of_words O.inv_words O.resp_bytes world.old.object) most (world_of world.old) process) }
     ensures object { world.new.object ≡ world.old.object }
-    ensures kept { (world.new.row ≡ world.old.row) × ((shown world.new).n ≡ (shown world.old).n) }
-    ensures over { IfOk result (λ response. most_steps (shown world.old).n ≤ most → IsSome response) }
+    ensures kept { (world.new.row ≡ world.old.row) × ((world_of world.new).n ≡ (world_of world.old).n) }
+    ensures over { IfOk result (λ response. most_steps (world_of world.old).n ≤ most → IsSome response) }
 {
     for _ in 0..most {
         match world.step(alloc, process) {
@@ -172,7 +172,7 @@ fn step_on<O: Spoken>(
 ///
 /// An `Err` says that memory was refused.
 fn push_heads<O: Spoken>(world: &World<O>, text: &mut Vec<u8>) -> Result<(), AllocError>
-    ensures { OnOk result (text.new.items ≡ text.old.items ++ heads_text (shown world.now).n (head_seq (shown world.now).memory)) }
+    ensures { OnOk result (text.new.items ≡ text.old.items ++ heads_text (world_of world.now).n (head_seq (world_of world.now).memory)) }
 {
     write!(text, "heads").map_err(|_| AllocError)?;
     push_numbers(world, text)?;
@@ -183,7 +183,7 @@ fn push_heads<O: Spoken>(world: &World<O>, text: &mut Vec<u8>) -> Result<(), All
 ///
 /// An `Err` says that memory was refused.
 fn push_numbers<O: Spoken>(world: &World<O>, text: &mut Vec<u8>) -> Result<(), AllocError>
-    ensures { OnOk result (text.new.items ≡ text.old.items ++ numbers_text (shown world.now).n (head_seq (shown world.now).memory)) }
+    ensures { OnOk result (text.new.items ≡ text.old.items ++ numbers_text (world_of world.now).n (head_seq (world_of world.now).memory)) }
 {
     for process in 0..world.processes() {
         write!(text, " {}", world.head_seq(process)).map_err(|_| AllocError)?;
@@ -199,7 +199,7 @@ fn push_log<O: Spoken>(
     alloc: Global,
     text: &mut Vec<u8>,
 ) -> Result<(), AllocError>
-    ensures { OnOk result (text.new.items ≡ text.old.items ++ log_text (language_of O.initial O.next O.answer O.inv_of_words O.inv_words O.resp_bytes world.now.object) (shown world.now)) }
+    ensures { OnOk result (text.new.items ≡ text.old.items ++ log_text (language_of O.initial O.next O.answer O.inv_of_words O.inv_words O.resp_bytes world.now.object) (world_of world.now)) }
 {
     let entries = Log::of(world).entries(alloc)?;
     for entry in &entries {

@@ -4,10 +4,10 @@ use Rattle.uni_core.proofs.world.World.shape.Goals as goal
 
 pub returns-clause-sound : goal.returns-clause-sound
 returns-clause-sound g c =
-    let sound = (IsWorld-now _ _ c.self.view_is g.O.SeqObject.next g.O.SeqObject.answer c.self.invariant).sound in
+    let sound = (IsWorld-now _ _ c.self.view_is g.O.SeqObject.sequential c.self.invariant).sound in
     (sound.0, sound.1, sound.2)
 
 pub returns-clause-bounded : goal.returns-clause-bounded
 returns-clause-bounded g c =
-    let world = IsWorld-now _ _ c.self.view_is g.O.SeqObject.next g.O.SeqObject.answer c.self.invariant in
-    IsBounded-held _ _ _ world.counts world.sound
+    let world = IsWorld-now _ _ c.self.view_is g.O.SeqObject.sequential c.self.invariant in
+    IsBounded-held _ _ world.counts world.sound

@@ -1,12 +1,13 @@
--- Worked rows: what the definitions compute over a queue of numbers.
+-- Worked examples: what the definitions compute over a queue of numbers.
 use Rattle.std.specs.Prelude.{◌≡◌, refl, ℕ, zero, suc, ◌+◌, List, [], ◌∷◌, ◌++◌, length, Option, None, Some, map}
+use Rattle.seq_object.specs.Sequential.{Sequential}
 use Rattle.uni_model.specs.Places.{Name, seq_of, head_seq}
 use Rattle.uni_model.specs.Places.Name.{Anchor, Of}
 use Rattle.uni_model.specs.Stages.Stage.{Announce, ScanHead, Test, WriteHead, Finish}
 use Rattle.uni_model.specs.Bound.{steps_at}
 use Rattle.uni_model.specs.Chain.{Entry}
 use Rattle.uni_model.specs.Frontier.{floor_of}
-use Rattle.uni_model.specs.Worlds.{WorldOf, Event, chain, opened, replayed}
+use Rattle.uni_model.specs.Worlds.{WorldOf, Event, chain, opened_world, world_after_all}
 use Rattle.uni_model.specs.Worlds.Event.{Call, Step, Trim}
 use Rattle.uni_model.specs.AtomicObject.Act.{Invoke, Linearize, Respond}
 use Rattle.uni_model.specs.History.{log, history_of}
@@ -30,6 +31,10 @@ queue_answer xs (Enq v) = Ok
 queue_answer [] Deq = Empty
 queue_answer (x ∷ xs) Deq = Value x
 
+-- a queue of numbers
+abbrev queue : Sequential (List ℕ) QueueCall QueueReply
+queue = record { initial = []; next = queue_next; answer = queue_answer }
+
 -- so many steps of a process
 abbrev steps : ℕ → ℕ → List (Event QueueCall)
 steps p zero = []
@@ -37,14 +42,14 @@ steps p (suc m) = Step p ∷ steps p m
 
 -- a run of n processes over an empty queue, from number 1
 abbrev run : ℕ → List (Event QueueCall) → WorldOf (List ℕ) QueueCall QueueReply
-run n events = replayed queue_next queue_answer (opened n [] 1) events
+run n events = world_after_all queue (opened_world n [] 1) events
 
 abbrev heads : WorldOf (List ℕ) QueueCall QueueReply → List ℕ → List ℕ
 heads w ps = map (head_seq w.memory) ps
 
 -- the floor that a run of n processes gives the call of a cell
 abbrev floor : ℕ → Name → List (Event QueueCall) → Option ℕ
-floor n x events = floor_of queue_next queue_answer x (opened {R = QueueReply} n [] 1) events
+floor n x events = floor_of queue x (opened_world {R = QueueReply} n [] 1) events
 
 -- the number of the last linked cell, or of the anchor
 abbrev last_number : WorldOf (List ℕ) QueueCall QueueReply → ℕ
@@ -73,7 +78,7 @@ alone-turns : (run 1 alone).turns 0 ≡ 1
 unfolding alone
 alone-turns = refl
 
-alone-history : history_of queue_next queue_answer (opened 1 [] 1) alone
+alone-history : history_of queue (opened_world 1 [] 1) alone
     ≡ Invoke 0 0 (Enq 7) ∷ Linearize (record { process = 0; nth = 0; inv = Enq 7 }) ∷ Respond 0 0 Ok ∷ []
 unfolding alone
 alone-history = refl
