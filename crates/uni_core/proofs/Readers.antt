@@ -1,15 +1,16 @@
 -- What the readers of a world answer.
 use Rattle.std.proofs.Common.{◌≡◌, ◌∙◌, ℕ, ◌<◌, ◌≤◌, sym, ap, subst, Option, Some, None, option_map, IfSome, arith}
+use Rattle.std.specs.Option.{option_map_or}
 use Rattle.seq_object.specs.Sequential.{Sequential}
-use Rattle.cell_arena.specs.CellRecord.{index_of}
-use Rattle.cell_arena.specs.Rows.{processes_of}
+use Rattle.cell_arena.specs.CellRecord.{CellRecord, index_of}
+use Rattle.cell_arena.specs.Rows.{processes_of, cell_of}
 use Rattle.uni_model.specs.Places.{Name, head_of, seq_of, after_of, inv_of}
 use Rattle.uni_model.specs.Places.Name.{Anchor, Of}
 use Rattle.uni_model.specs.Invariant.{Has}
-use Rattle.uni_core.specs.Shared.{name_of, memory_of}
+use Rattle.uni_core.specs.Shared.{Shared, name_of, cell_named, memory_of}
 use Rattle.uni_core.specs.Standing.{IsThere}
 use Rattle.uni_core.specs.Whole.{Whole, IsWorld}
-use Rattle.uni_core.proofs.Named.{name_of-index_of}
+use Rattle.uni_core.proofs.Named.{name_of-index_of, cell_named-name_of}
 use Rattle.uni_core.proofs.Begin.{inside_view}
 use Rattle.uni_core.proofs.Steppable.{there_seq, there_inv}
 
@@ -44,3 +45,13 @@ module _ {O S I R : Type 0} (object : Sequential S I R) (v now : Whole O S I R) 
 pub name_of-counted : (n j p q k id : ℕ) → id ≡ index_of j q k → j ≡ n → q ≡ p → p < n → name_of n id ≡ Of p k
 name_of-counted n j p q k id counted processes process below =
     ap (name_of n) (counted ∙ ap (λ i. index_of i q k) processes ∙ ap (λ i. index_of n i k) process) ∙ name_of-index_of n p k below
+
+-- what a field of a cell that is there contributes to the places, read by the cell's name
+pub field_there : {S I R A B : Type 0} (a : Shared S I R) → 1 ≤ processes_of a.cells → (id : ℕ) (field : CellRecord S I R → A) (content : A → B) (none : B) (value : A)
+    → option_map field (cell_of a.cells id) ≡ Some value
+    → option_map_or (λ (c : CellRecord S I R). content (field c)) (cell_named (processes_of a.cells) (cell_of a.cells) (name_of (processes_of a.cells) id)) none ≡ content value
+field_there a positive id field content none value is =
+    ap (λ o. option_map_or (λ (c : CellRecord _ _ _). content (field c)) o none) (cell_named-name_of (processes_of a.cells) positive (cell_of a.cells) id) ∙ by_cell (cell_of a.cells id) is where
+      by_cell : (o : Option (CellRecord _ _ _)) → option_map field o ≡ Some value → option_map_or (λ (c : CellRecord _ _ _). content (field c)) o none ≡ content value
+      by_cell None e = absurd (let f : None ≡ Some value = e in cc)
+      by_cell (Some c) e = ap content (let f : field c ≡ value = cc in f)

@@ -130,8 +130,8 @@ module _ {O S I R : Type 0} (object : Sequential S I R) (v : Whole O S I R) (is 
       counts = subst CountsSteps (sym world_of-begun) (CountsSteps-world_after object (world_of v) (Call p i) (below, idle_is) (is.sound.0, is.sound.1, is.sound.2) is.counts);
     }
 
-  module _ (a' : Shared S I R) (call : Pending) (pending : l.call ≡ Some call) (to : Option Stage)
-      (takes : Takes object p (name_of (processes_of v.shared.cells) call.mine) (stage_of (processes_of v.shared.cells) call.stage) v.shared a' (option_map (stage_of (processes_of v.shared.cells)) to))
+  module _ (a' : Shared S I R) (call : Pending) (pending : l.call ≡ Some call) (to : Option Stage) (response : Option R)
+      (takes : Takes object p (name_of (processes_of v.shared.cells) call.mine) (stage_of (processes_of v.shared.cells) call.stage) v.shared a' (option_map (stage_of (processes_of v.shared.cells)) to) response)
       (steps turns : ℕ) (steps_is : steps ≡ l.steps + 1)
       (turns_is : turns ≡ l.turns + turn_of (stage_of (processes_of v.shared.cells) call.stage) (memory_of v.shared (place_of (processes_of v.shared.cells) p (name_of (processes_of v.shared.cells) call.mine) (stage_of (processes_of v.shared.cells) call.stage)))) where
     abbrev pub stepped_local : Local

@@ -17,8 +17,8 @@ use Rattle.uni_core.specs.declared.stage.Stage.{Stage}
 use Rattle.uni_core.specs.declared.stage.Stage.TheVariants.{Announce, ScanHead, ScanSeq, WriteScan, Test, ReadAnnounce, ReadHelpSeq, DecideAfter, DecideNew, WriteBefore, WriteSeq, WriteHead, Finish}
 use Rattle.uni_core.specs.Shared.{Shared, name_of, memory_of}
 use Rattle.uni_core.specs.Standing.{stage_of, CanStep, IsThere, effect_at, turns_to}
-use Rattle.uni_model.specs.Transition.{place_of, turn_of, effect_of, best_of}
-use Rattle.uni_core.specs.Whole.{Whole, world_of, IsWorld, response_at_stage}
+use Rattle.uni_model.specs.Transition.{place_of, turn_of, stage_after, best_of}
+use Rattle.uni_core.specs.Whole.{Whole, world_of, IsWorld}
 use Rattle.uni_core.proofs.Named.{cell_named-name_of}
 
 Has-IsSome : {A : Type 0} (o : Option A) → Has o → IsSome o
@@ -86,6 +86,15 @@ module _ {O S I R : Type 0} (object : Sequential S I R) (v : Whole O S I R) (is 
     | inr cell ↦ there_inv v.shared positive help (cell.2.0, ap (inv_of (memory_of v.shared)) cell.1 ∙ cell.2.1)
   ]
 
+  -- the last step finds a response
+  response-finish : (mine s t : ℕ) → (world_of v).call p ≡ Some (record { mine = name_of (processes_of v.shared.cells) mine; stage = at.Finish s t }) → IsSome (response_in (memory_of v.shared) (name_of (processes_of v.shared.cells) mine))
+  response-finish mine s t e =
+      let h = is.sound.2.stands p (record { mine = name_of (processes_of v.shared.cells) mine; stage = at.Finish s t }) e in
+      let its = is.sound.2.calls.mine p (record { mine = name_of (processes_of v.shared.cells) mine; stage = at.Finish s t }) e in
+      let threaded : 1 ≤ seq_of (memory_of v.shared) (Of p its.0) = subst (λ x. 1 ≤ seq_of (memory_of v.shared) x) its.1 (subst (λ k. 1 ≤ k) (sym h.2) h.1) in
+      let settled = response-settled object (memory_of v.shared) is.sound.0 is.sound.2.values is.sound.2.back p its.0 threaded in
+      Has-IsSome _ (settled.0, ap (response_in (memory_of v.shared)) its.1 ∙ settled.1)
+
   -- the step of each stage can be taken
   pub CanStep-pending : (mine : ℕ) (stage : Stage) → (world_of v).call p ≡ Some (record { mine = name_of (processes_of v.shared.cells) mine; stage = stage_of (processes_of v.shared.cells) stage }) → CanStep v.shared mine stage
   CanStep-pending mine Announce e = tt
@@ -104,16 +113,7 @@ module _ {O S I R : Type 0} (object : Sequential S I R) (v : Whole O S I R) (is 
   CanStep-pending mine (WriteBefore c s d) e = let h = stands mine (WriteBefore c s d) e in there_inv v.shared positive d (linked mine (WriteBefore c s d) e c s d h.0 h.1)
   CanStep-pending mine (WriteSeq c s d) e = let h = stands mine (WriteSeq c s d) e in (there_inv v.shared positive d (linked mine (WriteSeq c s d) e c s d h.0 h.1), head_small mine (WriteSeq c s d) e c s h.0)
   CanStep-pending mine (WriteHead c s d) e = head_small mine (WriteHead c s d) e c s (stands mine (WriteHead c s d) e).0
-  CanStep-pending mine (Finish s t) e = mine_there mine (Finish s t) e
-
-  -- the last step finds a response
-  pub response-finish : (mine s t : ℕ) → (world_of v).call p ≡ Some (record { mine = name_of (processes_of v.shared.cells) mine; stage = at.Finish s t }) → IsSome (response_in (memory_of v.shared) (name_of (processes_of v.shared.cells) mine))
-  response-finish mine s t e =
-      let h = is.sound.2.stands p (record { mine = name_of (processes_of v.shared.cells) mine; stage = at.Finish s t }) e in
-      let its = is.sound.2.calls.mine p (record { mine = name_of (processes_of v.shared.cells) mine; stage = at.Finish s t }) e in
-      let threaded : 1 ≤ seq_of (memory_of v.shared) (Of p its.0) = subst (λ x. 1 ≤ seq_of (memory_of v.shared) x) its.1 (subst (λ k. 1 ≤ k) (sym h.2) h.1) in
-      let settled = response-settled object (memory_of v.shared) is.sound.0 is.sound.2.values is.sound.2.back p its.0 threaded in
-      Has-IsSome _ (settled.0, ap (response_in (memory_of v.shared)) its.1 ∙ settled.1)
+  CanStep-pending mine (Finish s t) e = (mine_there mine (Finish s t) e, response-finish mine s t e)
 
 -- how many turns begin with a stage of the definitions
 abbrev pub turns_at : Option at → ℕ
@@ -137,72 +137,30 @@ turns_to-stage_of n (Some (WriteHead c s d)) = refl
 turns_to-stage_of n (Some (Finish s t)) = refl
 
 -- how many turns a step adds, told by where the process stands then
-turn_of-effect : {S I R : Type 0} (object : Sequential S I R) (n : ℕ) (mine : Name) (stage : at) (v : Content S I R) (inv : Option I) (new : Option (S × Option R))
-    → turn_of stage v ≡ turns_at (effect_of object n mine stage v inv new).stage
-turn_of-effect object n mine at.Announce v inv new = refl
-turn_of-effect object n mine (at.ScanHead q best s) v inv new = refl
-turn_of-effect object n mine (at.ScanSeq q best s head) v inv new = by_test (nat_lt (q + 1) n) where
+turn_of-stage_after : {S I R : Type 0} (n : ℕ) (mine : Name) (stage : at) (v : Content S I R)
+    → turn_of stage v ≡ turns_at (stage_after n mine stage v)
+turn_of-stage_after n mine at.Announce v = refl
+turn_of-stage_after n mine (at.ScanHead q best s) v = refl
+turn_of-stage_after n mine (at.ScanSeq q best s head) v = by_test (nat_lt (q + 1) n) where
   by_test : (b : Bool) → 0 ≡ turns_at (Some (cond b (at.ScanHead (q + 1) (best_of s (number_in v) head best) (best_of s (number_in v) (number_in v) s)) (at.WriteScan (best_of s (number_in v) head best) (best_of s (number_in v) (number_in v) s))))
   by_test true = refl
   by_test false = refl
-turn_of-effect object n mine (at.WriteScan best s) v inv new = refl
-turn_of-effect object n mine (at.Test c s) v inv new = by_test (nat_eq (number_in v) 0) where
+turn_of-stage_after n mine (at.WriteScan best s) v = refl
+turn_of-stage_after n mine (at.Test c s) v = by_test (nat_eq (number_in v) 0) where
   by_test : (b : Bool) → cond b 1 0 ≡ turns_at (Some (cond b (at.ReadAnnounce c s) (at.Finish s (number_in v))))
   by_test true = refl
   by_test false = refl
-turn_of-effect object n mine (at.ReadAnnounce c s) v inv new = refl
-turn_of-effect object n mine (at.ReadHelpSeq c s help) v inv new = refl
-turn_of-effect object n mine (at.DecideAfter c s prefer) v inv new = refl
-turn_of-effect object n mine (at.DecideNew c s d) v inv new = refl
-turn_of-effect object n mine (at.WriteBefore c s d) v inv new = refl
-turn_of-effect object n mine (at.WriteSeq c s d) v inv new = refl
-turn_of-effect object n mine (at.WriteHead c s d) v inv new = refl
-turn_of-effect object n mine (at.Finish s t) v inv new = refl
+turn_of-stage_after n mine (at.ReadAnnounce c s) v = refl
+turn_of-stage_after n mine (at.ReadHelpSeq c s help) v = refl
+turn_of-stage_after n mine (at.DecideAfter c s prefer) v = refl
+turn_of-stage_after n mine (at.DecideNew c s d) v = refl
+turn_of-stage_after n mine (at.WriteBefore c s d) v = refl
+turn_of-stage_after n mine (at.WriteSeq c s d) v = refl
+turn_of-stage_after n mine (at.WriteHead c s d) v = refl
+turn_of-stage_after n mine (at.Finish s t) v = refl
 
 pub turns_to-effect : {S I R : Type 0} (object : Sequential S I R) (a : Shared S I R) (p : ℕ) (mine : Name) (stage : at) (to : Option Stage)
     → option_map (stage_of (processes_of a.cells)) to ≡ (effect_at object a p mine stage).stage
     → turns_to to ≡ turn_of stage (memory_of a (place_of (processes_of a.cells) p mine stage))
 turns_to-effect object a p mine stage to e =
-    turns_to-stage_of (processes_of a.cells) to ∙ ap turns_at e ∙ sym (turn_of-effect object (processes_of a.cells) mine stage _ _ _)
-
--- a cell whose response is settled is there
-pub there_response : {S I R : Type 0} (a : Shared S I R) (positive : 1 ≤ processes_of a.cells) (id : ℕ) → IsSome (response_in (memory_of a) (name_of (processes_of a.cells) id)) → IsThere a id
-there_response {S = S} {I = I} {R = R} a positive id h =
-    by_cell (cell_of a.cells id) (subst (λ o. IsSome (option_and_then (λ (new : S × Option R). new.1) (option_map_or (λ (c : CellRecord S I R). c.new) o None))) (cell_named-name_of (processes_of a.cells) positive (cell_of a.cells) id) h) where
-      by_cell : (o : Option (CellRecord S I R)) → IsSome (option_and_then (λ (new : S × Option R). new.1) (option_map_or (λ (c : CellRecord S I R). c.new) o None)) → IsSome o
-      by_cell None g = absurd (let f : false ≡ true = g in cc)
-      by_cell (Some c) g = refl
-
--- a step after which the process goes on has no response
-pub goes_on : {S I R : Type 0} (object : Sequential S I R) (a : Shared S I R) (p : ℕ) (mine : Name) (stage : at) (s : at) (r : Option R)
-    → Some s ≡ (effect_at object a p mine stage).stage → response_at_stage r stage ≡ None
-goes_on object a p mine at.Announce s r e = refl
-goes_on object a p mine (at.ScanHead q best t) s r e = refl
-goes_on object a p mine (at.ScanSeq q best t head) s r e = refl
-goes_on object a p mine (at.WriteScan best t) s r e = refl
-goes_on object a p mine (at.Test c t) s r e = refl
-goes_on object a p mine (at.ReadAnnounce c t) s r e = refl
-goes_on object a p mine (at.ReadHelpSeq c t help) s r e = refl
-goes_on object a p mine (at.DecideAfter c t prefer) s r e = refl
-goes_on object a p mine (at.DecideNew c t d) s r e = refl
-goes_on object a p mine (at.WriteBefore c t d) s r e = refl
-goes_on object a p mine (at.WriteSeq c t d) s r e = refl
-goes_on object a p mine (at.WriteHead c t d) s r e = refl
-goes_on object a p mine (at.Finish c t) s r e = cc
-
--- a step that ends the call is the last kind
-pub ends_at : {S I R : Type 0} (object : Sequential S I R) (a : Shared S I R) (p : ℕ) (mine : Name) (stage : at)
-    → None ≡ (effect_at object a p mine stage).stage → (s : ℕ) × (t : ℕ) × (stage ≡ at.Finish s t)
-ends_at object a p mine at.Announce e = cc
-ends_at object a p mine (at.ScanHead q best t) e = cc
-ends_at object a p mine (at.ScanSeq q best t head) e = cc
-ends_at object a p mine (at.WriteScan best t) e = cc
-ends_at object a p mine (at.Test c t) e = cc
-ends_at object a p mine (at.ReadAnnounce c t) e = cc
-ends_at object a p mine (at.ReadHelpSeq c t help) e = cc
-ends_at object a p mine (at.DecideAfter c t prefer) e = cc
-ends_at object a p mine (at.DecideNew c t d) e = cc
-ends_at object a p mine (at.WriteBefore c t d) e = cc
-ends_at object a p mine (at.WriteSeq c t d) e = cc
-ends_at object a p mine (at.WriteHead c t d) e = cc
-ends_at object a p mine (at.Finish s t) e = (s, t, refl)
+    turns_to-stage_of (processes_of a.cells) to ∙ ap turns_at e ∙ sym (turn_of-stage_after (processes_of a.cells) mine stage _)

@@ -1,12 +1,13 @@
 -- What a step leaves.
 use Rattle.std.proofs.Common.{◌≡◌, ◌∙◌, ℕ, ◌+◌, ◌*◌, ◌^◌, ◌<◌, ◌≤◌, refl, sym, ap, subst, Option, Some, None, option_map, is_some, IsSome, arith, Bool, true, false, slice_get, slice_set, get_or, Result, Ok, Err, OnErr}
+use Rattle.cell_arena.proofs.Lists.{slice_get-set_same}
 use Rattle.seq_object.specs.Sequential.{Sequential}
 use Rattle.cell_arena.specs.Rows.{processes_of, cell_of}
 use Rattle.uni_model.specs.Places.{Memory}
 use Rattle.uni_model.specs.Stages.{Stage as at, Pending as PendingAt}
 use Rattle.uni_model.specs.Transition.{place_of, turn_of}
 use Rattle.uni_model.specs.Chain.{response_in}
-use Rattle.uni_model.specs.Worlds.{world_after}
+use Rattle.uni_model.specs.Worlds.{world_after, response_of_step}
 use Rattle.uni_model.specs.Worlds.Event.{Step}
 use Rattle.uni_model.specs.Bound.{IsBounded, IsWithinBound}
 use Rattle.uni_model.specs.History.{Shows, acts_of}
@@ -16,12 +17,15 @@ use Rattle.uni_core.specs.declared.local.Local.{Local}
 use Rattle.uni_core.specs.declared.stage.Stage.{Stage}
 use Rattle.uni_core.specs.declared.stage.Stage.TheVariants.{Announce, ScanHead, ScanSeq, WriteScan, Test, ReadAnnounce, ReadHelpSeq, DecideAfter, DecideNew, WriteBefore, WriteSeq, WriteHead, Finish}
 use Rattle.uni_core.specs.declared.stage.Pending.{Pending}
+use Rattle.uni_core.specs.declared.transition.After.{After}
+use Rattle.uni_core.specs.declared.transition.After.TheVariants.{At, Ended}
+use Rattle.uni_core.specs.declared.fault.Progress.TheVariants.{Going, Done}
 use Rattle.uni_core.specs.Shared.{Shared, name_of, memory_of}
-use Rattle.uni_core.specs.Standing.{stage_of, pending_of, Takes, CanStep, MayBeRefused, turns_to}
-use Rattle.uni_core.specs.Whole.{Whole, world_of, IsWorld, Follows, MayNeedMemory, MayNeedMemoryAt, response_of_step}
+use Rattle.uni_core.specs.Standing.{stage_of, stage_told, response_told, pending_of, Takes, CanStep, MayBeRefused, turns_to}
+use Rattle.uni_core.specs.Whole.{Whole, world_of, IsWorld, Follows, MayNeedMemory, MayNeedMemoryAt, progress_of}
 use Rattle.uni_core.proofs.Begin.{inside_count, local_here}
 use Rattle.uni_core.proofs.Shown.{stepped_whole, stepped_local, world_of-world_after_step, IsWorld-world_after_step}
-use Rattle.uni_core.proofs.Steppable.{CanStep-pending, turns_to-effect, response-finish, there_response, goes_on, ends_at}
+use Rattle.uni_core.proofs.Steppable.{CanStep-pending, turns_to-effect}
 
 refused_at : {S I R : Type 0} (a : Shared S I R) (stage : Stage) → MayBeRefused a stage → MayNeedMemoryAt (memory_of a) (stage_of (processes_of a.cells) stage)
 refused_at a (DecideNew c s d) h = h
@@ -81,30 +85,34 @@ module _ {O S I R : Type 0} (object : Sequential S I R) (v now : Whole O S I R) 
   pub may_need : MayBeRefused v.shared call.stage → MayNeedMemory (world_of now) p
   may_need h = subst (λ (x : Whole O S I R). MayNeedMemory (world_of x) p) view (rw pend (refused_at v.shared call.stage h))
 
-  module _ (a' : Shared S I R) (to : Option Stage)
-      (takes : Takes object p (name_of (processes_of v.shared.cells) call.mine) (stage_of (processes_of v.shared.cells) call.stage) v.shared a' (option_map (stage_of (processes_of v.shared.cells)) to))
+  module _ (a' : Shared S I R) (told : After R)
+      (taken : Takes object p (name_of (processes_of v.shared.cells) call.mine) (stage_of (processes_of v.shared.cells) call.stage) v.shared a' (stage_told (processes_of v.shared.cells) told) (response_told told))
+      (to : Option Stage) (to_is : (n : ℕ) → option_map (stage_of n) to ≡ stage_told n told)
       (after : Local) (call_is : after.call ≡ option_map (λ s. record { mine = call.mine; stage = s }) to) (begun_is : after.begun ≡ l.begun)
       (steps_is : after.steps ≡ l.steps + 1) (turns_is : after.turns ≡ l.turns + turns_to to) where
+    takes : Takes object p (name_of (processes_of v.shared.cells) call.mine) (stage_of (processes_of v.shared.cells) call.stage) v.shared a' (option_map (stage_of (processes_of v.shared.cells)) to) (response_told told)
+    takes = subst (λ s. Takes object p (name_of (processes_of v.shared.cells) call.mine) (stage_of (processes_of v.shared.cells) call.stage) v.shared a' s (response_told told)) (sym (to_is (processes_of v.shared.cells))) taken
+
     turns_counted : after.turns ≡ l.turns + turn_of (stage_of (processes_of v.shared.cells) call.stage) (memory_of v.shared (place_of (processes_of v.shared.cells) p (name_of (processes_of v.shared.cells) call.mine) (stage_of (processes_of v.shared.cells) call.stage)))
     turns_counted = turns_is ∙ ap (λ t. l.turns + t) (turns_to-effect object v.shared p (name_of (processes_of v.shared.cells) call.mine) (stage_of (processes_of v.shared.cells) call.stage) to takes.stage)
 
     abbrev pub left : Whole O S I R
     left = record { object = v.object; row = v.row; shared = a'; locals = slice_set v.locals p after }
 
-    same_local : stepped_local object v is p l here inside a' call pending to takes after.steps after.turns steps_is turns_counted ≡ after
+    same_local : stepped_local object v is p l here inside a' call pending to (response_told told) takes after.steps after.turns steps_is turns_counted ≡ after
     same_local = λ i. record { call = sym call_is i; begun = sym begun_is i; steps = after.steps; turns = after.turns }
 
-    same_whole : stepped_whole object v is p l here inside a' call pending to takes after.steps after.turns steps_is turns_counted ≡ left
+    same_whole : stepped_whole object v is p l here inside a' call pending to (response_told told) takes after.steps after.turns steps_is turns_counted ≡ left
     same_whole = ap (λ (x : Local). let w : Whole O S I R = record { object = v.object; row = v.row; shared = a'; locals = slice_set v.locals p x } in w) same_local
 
     pub IsWorld-left : IsWorld object left
-    IsWorld-left = subst (λ w. IsWorld object w) same_whole (IsWorld-world_after_step object v is p l here inside a' call pending to takes after.steps after.turns steps_is turns_counted)
+    IsWorld-left = subst (λ w. IsWorld object w) same_whole (IsWorld-world_after_step object v is p l here inside a' call pending to (response_told told) takes after.steps after.turns steps_is turns_counted)
 
     pub IsBounded-left : IsBounded (world_of left)
     IsBounded-left = let world = IsWorld-left in IsBounded-held object (world_of left) world.counts world.sound
 
     pub world_of-left : world_of left ≡ world_after object (world_of now) (Step p)
-    world_of-left = sym (ap world_of same_whole) ∙ world_of-world_after_step object v is p l here inside a' call pending to takes after.steps after.turns steps_is turns_counted
+    world_of-left = sym (ap world_of same_whole) ∙ world_of-world_after_step object v is p l here inside a' call pending to (response_told told) takes after.steps after.turns steps_is turns_counted
         ∙ ap (λ (x : Whole O S I R). world_after object (world_of x) (Step p)) view
 
     pub Follows-left : Follows object (world_of now) (world_of left) (acts_of object (world_of now) (Step p))
@@ -129,48 +137,23 @@ module _ {O S I R : Type 0} (object : Sequential S I R) (v now : Whole O S I R) 
           subst (λ (x : Whole O S I R). Follows (sequential x.object) (world_of now) (world_of left) (acts_of (sequential x.object) (world_of now) (Step p))) view at_object
 
     -- what the step answers
-    pub responds : (s : ℕ) (t : ℕ) → stage_of (processes_of v.shared.cells) call.stage ≡ at.Finish s t
-        → response_of_step (world_of now) p ≡ response_in (memory_of a') (name_of (processes_of a'.cells) call.mine)
-    responds s t e =
-        let wrote = subst (λ x. Takes object p (name_of (processes_of v.shared.cells) call.mine) x v.shared a' (option_map (stage_of (processes_of v.shared.cells)) to)) e takes in
-        subst (λ (x : Whole O S I R). response_of_step (world_of x) p ≡ response_in (memory_of a') (name_of (processes_of a'.cells) call.mine)) view
-        (rw (pend, e) (
-        ap (λ (m : Memory S I R). response_in m (name_of (processes_of v.shared.cells) call.mine)) (sym wrote.memory)
-        ∙ ap (λ j. response_in (memory_of a') (name_of j call.mine)) (sym takes.shape.processes)))
+    pub answers : progress_of (response_told told) ≡ progress_of (response_of_step (world_of now) p)
+    answers = subst (λ (x : Whole O S I R). progress_of (response_told told) ≡ progress_of (response_of_step (world_of x) p)) view (rw pend (ap progress_of taken.told))
 
-    pub response_left : (s : ℕ) (t : ℕ) → stage_of (processes_of v.shared.cells) call.stage ≡ at.Finish s t
-        → IsSome (response_in (memory_of a') (name_of (processes_of a'.cells) call.mine))
-    response_left s t e =
-        let there = response-finish object v is p inside call.mine s t (pend ∙ ap (λ x. Some (record { mine = name_of (processes_of v.shared.cells) call.mine; stage = x })) e) in
-        let wrote = subst (λ x. Takes object p (name_of (processes_of v.shared.cells) call.mine) x v.shared a' (option_map (stage_of (processes_of v.shared.cells)) to)) e takes in
-        subst (λ o. IsSome o) (
-        ap (λ (m : Memory S I R). response_in m (name_of (processes_of v.shared.cells) call.mine)) (sym wrote.memory)
-        ∙ ap (λ j. response_in (memory_of a') (name_of j call.mine)) (sym takes.shape.processes)) there
+    pub still_pending : progress_of (response_told told) ≡ Going → IsSome ((world_of left).call p)
+    still_pending going = rw (slice_get-same) (rw call_is (some_to told (to_is 0) going)) where
+      slice_get-same : slice_get (slice_set v.locals p after) p ≡ Some after
+      slice_get-same = slice_get-set_same v.locals p after (subst (λ k. p < k) (sym is.locals) inside)
 
-    pub ended : to ≡ None → (s : ℕ) × (t : ℕ) × (stage_of (processes_of v.shared.cells) call.stage ≡ at.Finish s t)
-    ended none = ends_at object v.shared p (name_of (processes_of v.shared.cells) call.mine) (stage_of (processes_of v.shared.cells) call.stage)
-        (ap (option_map (stage_of (processes_of v.shared.cells))) (sym none) ∙ takes.stage)
+      some_to : (x : After R) → option_map (stage_of 0) to ≡ stage_told 0 x → progress_of (response_told x) ≡ Going
+          → IsSome (option_map (pending_of (processes_of a'.cells)) (option_map (λ s. record { mine = call.mine; stage = s }) to))
+      some_to (At s) e going = by_stage to e where
+        by_stage : (o : Option Stage) → option_map (stage_of 0) o ≡ Some (stage_of 0 s) → IsSome (option_map (pending_of (processes_of a'.cells)) (option_map (λ s. record { mine = call.mine; stage = s }) o))
+        by_stage None f = absurd (let g : None ≡ Some (stage_of 0 s) = f in cc)
+        by_stage (Some x) f = refl
+      some_to (Ended r) e going = absurd (let f : Done r ≡ Going = going in cc)
 
-    pub cell_left : to ≡ None → IsSome (cell_of a'.cells call.mine)
-    cell_left none =
-        let finish = ended none in
-        there_response a' (subst (λ j. 1 ≤ j) (sym takes.shape.processes) (let below_n = inside in omega arith)) call.mine (response_left finish.0 finish.1 finish.2)
-
-    pub still_going : (to' : Stage) → to ≡ Some to' → response_of_step (world_of now) p ≡ None
-    still_going to' some =
-        subst (λ (x : Whole O S I R). response_of_step (world_of x) p ≡ None) view
-        (rw pend (goes_on object v.shared p (name_of (processes_of v.shared.cells) call.mine) (stage_of (processes_of v.shared.cells) call.stage) (stage_of (processes_of v.shared.cells) to') _
-        (ap (option_map (stage_of (processes_of v.shared.cells))) (sym some) ∙ takes.stage)))
-
--- whether there is a value, and which
-pub some_of : {A : Type 0} (o : Option A) (b : Bool) → b ≡ is_some o → b ≡ true → (x : A) × (o ≡ Some x)
-some_of None b e f = absurd (let g : false ≡ true = sym e ∙ f in cc)
-some_of (Some x) b e f = (x, refl)
-
-pub none_of : {A : Type 0} (o : Option A) (b : Bool) → b ≡ is_some o → b ≡ false → o ≡ None
-none_of None b e f = refl
-none_of (Some x) b e f = absurd (let g : true ≡ false = sym e ∙ f in cc)
-
+-- a call that is refused
 pub if_not_ok : {A E P : Type 0} (r : Result A E) → ((x : A) → r ≡ Ok x → ⊥) → OnErr r P → P
 if_not_ok (Ok x) never h = absurd (never x refl)
 if_not_ok (Err e) never h = h

@@ -2,7 +2,7 @@
 use Rattle.std.specs.Prelude.{◌≡◌, ℕ, ◌<◌, ◌≤◌, List, [], ◌∷◌, Option, Some, None, IsSome, refl}
 use Rattle.std.specs.Option.{option_map_or}
 use Rattle.seq_object.specs.Sequential.{Sequential}
-use Rattle.uni_model.specs.Worlds.{WorldOf, Event, world_after, world_after_all, opened_world}
+use Rattle.uni_model.specs.Worlds.{WorldOf, Event, world_after, world_after_all, response_of_step, opened_world}
 use Rattle.uni_model.specs.Worlds.{Event as event}
 use Rattle.uni_model.specs.AtomicObject.Act.{Invoke}
 use Rattle.uni_model.specs.History.{acts_of, history_of}
@@ -12,7 +12,7 @@ use Rattle.uni_core.specs.declared.command.Refusal.{Refusal}
 use Rattle.uni_core.specs.declared.command.Refusal.TheVariants.{BadProcess, Busy, RowFull, Idle, Memory}
 use Rattle.uni_core.specs.declared.command.Outcome.{Outcome}
 use Rattle.uni_core.specs.declared.command.Outcome.TheVariants.{Called, Went, Returned, Refused}
-use Rattle.uni_core.specs.Whole.{current_of, response_of_step, Follows, MayNeedMemory}
+use Rattle.uni_core.specs.Whole.{current_of, Follows, MayNeedMemory}
 
 -- a process can begin a call: it has none pending, and room in its row
 abbrev pub CanCall : {S I R : Type 0} → WorldOf S I R → (row p : ℕ) → Type 0

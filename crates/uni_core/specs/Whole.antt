@@ -61,14 +61,6 @@ pub record IsWorld {O S I R : Type 0} (object : Sequential S I R) (v : Whole O S
 abbrev pub current_of : {S I R : Type 0} → WorldOf S I R → ℕ → Option CallId
 current_of w p = option_map (λ (c : PendingAt). record { process = p; nth = w.begun p - 1 }) (w.call p)
 
--- the response of a step: that of its call, where it is the last one
-abbrev pub response_at_stage : {R : Type 0} → Option R → at → Option R
-response_at_stage r (at.Finish c_seq mine_seq) = r
-response_at_stage r _ = None
-
-abbrev pub response_of_step : {S I R : Type 0} → WorldOf S I R → ℕ → Option R
-response_of_step w p = option_and_then (λ (c : PendingAt). response_at_stage (response_in w.memory c.mine) c.stage) (w.call p)
-
 -- what a step answers, with or without a response
 abbrev pub progress_of : {R : Type 0} → Option R → Progress R
 progress_of None = Going

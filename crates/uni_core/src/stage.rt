@@ -25,7 +25,7 @@ pub enum StepKind {
     ReadHelpSeq,
     /// It proposes a cell after its head.
     DecideAfter,
-    /// It proposes the state and the response of the cell that was decision.
+    /// It proposes the state and the response of the cell that was decided.
     DecideNew,
     /// It writes the way back from that cell.
     WriteBefore,

@@ -8,14 +8,14 @@ ghost use Rattle.uni_model.specs.Places.Name.{Anchor, Of};
 ghost use Rattle.uni_model.specs.Invariant.{Invariant};
 ghost use Rattle.uni_model.specs.Frontier.{frontier};
 ghost use Rattle.uni_model.specs.Bound.{IsBounded};
-ghost use Rattle.uni_model.specs.Worlds.{opened_world, world_after, last_cell, IsQuiescent};
+ghost use Rattle.uni_model.specs.Worlds.{opened_world, world_after, response_of_step, last_cell, IsQuiescent};
 ghost use Rattle.uni_model.specs.Worlds.Event.{Call, Step};
 ghost use Rattle.uni_model.specs.History.{acts_of};
 ghost use Rattle.uni_model.specs.Transition.{place_of};
 ghost use Rattle.uni_core.specs.Shared.{name_of};
 ghost use Rattle.uni_core.specs.Standing.{pending_of};
 ghost use Rattle.uni_core.specs.Readers.{call_of_name, kind_of, place_named};
-ghost use Rattle.uni_core.specs.Whole.{world_of, current_of, response_of_step, progress_of, Follows, KeepsFixed, MayNeedMemory};
+ghost use Rattle.uni_core.specs.Whole.{world_of, current_of, progress_of, Follows, KeepsFixed, MayNeedMemory};
 
 use crate::fault::{BeginFault, OpenFault, Progress, StepFault};
 use crate::local::Local;
@@ -221,15 +221,11 @@ impl<O: SeqObject> World<O> {
             return Err(StepFault::Idle(p));
         };
         let mine = call.mine;
-        let Ok(next) = self.machine.take_step(alloc, p, mine, call.stage) else {
+        let Ok(after) = self.machine.take_step(alloc, p, mine, call.stage) else {
             return Err(StepFault::Memory);
         };
-        let after = local.after(mine, next);
-        self.locals[p as usize] = after;
-        if next.is_some() {
-            return Ok(Progress::Going);
-        }
-        Ok(Progress::Done(self.machine.shared.response(mine)))
+        self.locals[p as usize] = local.after(mine, after.stage());
+        Ok(after.progress())
     }
 
     /// The pending call of process `p`, where it has one: the latest that it has begun.

@@ -39,13 +39,13 @@ module _ {S I R : Type 0} (object : Sequential S I R) (w : WorldOf S I R) (num :
     by_new : (y : Name) → after_of w.memory x ≡ Some y → 1 ≤ num y → (i : I) → inv_of w.memory y ≡ Some i
         → ((v : S × Option R) → new_of w.memory y ≡ Some v → IsLegal object v.0 (map logged_call (entries_from w.memory (k + 1) (cells_from most w.memory y))))
         → (n : Option (S × Option R)) → new_of w.memory y ≡ n
-        → IfSome (response_in w.memory y) (λ r. r ≡ answer u.0 i) × IsLegal object (next u.0 i) (map logged_call (entries_from w.memory (k + 1) (cells_from most w.memory y)))
+        → IfSome (response_in w.memory y) (λ r. r ≡ object.answer u.0 i) × IsLegal object (object.next u.0 i) (map logged_call (entries_from w.memory (k + 1) (cells_from most w.memory y)))
     by_new y e linked_y i inv rest None new = (rw new tt, rw (unsettled_last most y linked_y new) tt)
     by_new y e linked_y i inv rest (Some v) new =
         let after = sound.values.after x y v e new in
         let state : u ≡ after.before = (let f = after.new_of_x in cc) in
         let asked : i ≡ after.inv = (let f = after.inv_of_y in cc) in
-        let value : v ≡ (next u.0 i, Some (answer u.0 i)) = rw (state, asked) after.value in (
+        let value : v ≡ (object.next u.0 i, Some (object.answer u.0 i)) = rw (state, asked) after.value in (
           rw (new, value) refl,
           subst (λ s. IsLegal object s (map logged_call (entries_from w.memory (k + 1) (cells_from most w.memory y)))) (ap (λ (t : S × Option R). t.0) value) (rest v new),
         )

@@ -176,7 +176,7 @@ impl<'a, O: SeqObject> Log<'a, O> {
     pub fn state_at(&self, place: u64) -> Option<&O::State>
         ensures settled { option_copied result ≡ state_settled_at (world_of self.now) place }
         ensures folded { IfSome result (λ state. (start : O.State) → new_of (world_of self.now).memory Anchor ≡ Some (start, None)
-            → state.now ≡ state_after (O.next self.now.object) start (take place (invocations_of (world_of self.now)))) }
+            → state.now ≡ state_after (O.sequential self.now.object) start (take place (invocations_of (world_of self.now)))) }
     {
         let world = self.world;
         world.shape();

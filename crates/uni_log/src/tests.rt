@@ -21,11 +21,7 @@ impl SeqObject for Last {
 
     type Resp = u32;
 
-    ghost initial = { λ _. 0 };
-
-    ghost next = { λ _ _ number. number };
-
-    ghost answer = { λ _ before _. before };
+    ghost sequential = { λ _. record { initial = 0; next = λ _ number. number; answer = λ before _. before } };
 
     ghost same_inv = { nat_eq_exact };
 

@@ -19,11 +19,7 @@ impl SeqObject for Last {
 
     type Resp = u32;
 
-    ghost initial = { λ _. 9 };
-
-    ghost next = { λ _ _ number. number };
-
-    ghost answer = { λ _ before _. before };
+    ghost sequential = { λ _. record { initial = 9; next = λ _ number. number; answer = λ before _. before } };
 
     ghost same_inv = { nat_eq_exact };
 
@@ -55,11 +51,7 @@ impl SeqObject for Refused {
 
     type Resp = u32;
 
-    ghost initial = { λ _. 9 };
-
-    ghost next = { λ _ state _. state };
-
-    ghost answer = { λ _ _ _. 9 };
+    ghost sequential = { λ _. record { initial = 9; next = λ state _. state; answer = λ _ _. 9 } };
 
     ghost same_inv = { nat_eq_exact };
 
