@@ -30,6 +30,7 @@ world_at-copies n count m s number is i =
       memory = is i;
       call = λ p. of_copies (call_at n) new_local refl count p i;
       begun = λ p. of_copies (λ l. option_map_or (λ (x : Local). x.begun) l 0) new_local refl count p i;
+      first = λ p. 0;
       steps = λ p. of_copies (λ l. option_map_or (λ (x : Local). x.steps) l 0) new_local refl count p i;
       turns = λ p. of_copies (λ l. option_map_or (λ (x : Local). x.turns) l 0) new_local refl count p i;
     }

@@ -47,6 +47,7 @@ pub world_at-slice_set : {S I R : Type 0} (n : ℕ) (m : Memory S I R) (locals :
       memory = m;
       call = set_at (λ q. call_at n (slice_get locals q)) p (call_at n (Some l));
       begun = set_at (λ q. option_map_or (λ (l : Local). l.begun) (slice_get locals q) 0) p l.begun;
+      first = λ q. 0;
       steps = set_at (λ q. option_map_or (λ (l : Local). l.steps) (slice_get locals q) 0) p l.steps;
       turns = set_at (λ q. option_map_or (λ (l : Local). l.turns) (slice_get locals q) 0) p l.turns;
     }
@@ -55,6 +56,7 @@ world_at-slice_set n m locals p l inside = λ i. record {
   memory = m;
   call = read-slice_set (call_at n) locals p l inside i;
   begun = read-slice_set (λ o. option_map_or (λ (l : Local). l.begun) o 0) locals p l inside i;
+  first = λ q. 0;
   steps = read-slice_set (λ o. option_map_or (λ (l : Local). l.steps) o 0) locals p l inside i;
   turns = read-slice_set (λ o. option_map_or (λ (l : Local). l.turns) o 0) locals p l inside i;
 }
@@ -93,6 +95,7 @@ module _ {O S I R : Type 0} (object : Sequential S I R) (v : Whole O S I R) (is 
           memory = memory_with (memory_of v.shared) (InvOf (Of p l.begun)) (Invocation (Some i));
           call = set_at (world_of v).call p (Some (record { mine = x; stage = at.Announce }));
           begun = set_at (world_of v).begun p (l.begun + 1);
+          first = λ q. 0;
           steps = set_at (world_of v).steps p 0;
           turns = set_at (world_of v).turns p 0;
         } in w) name
@@ -101,6 +104,7 @@ module _ {O S I R : Type 0} (object : Sequential S I R) (v : Whole O S I R) (is 
           memory = memory_with (memory_of v.shared) (InvOf (Of p b)) (Invocation (Some i));
           call = set_at (world_of v).call p (Some (record { mine = Of p b; stage = at.Announce }));
           begun = set_at (world_of v).begun p (b + 1);
+          first = λ q. 0;
           steps = set_at (world_of v).steps p 0;
           turns = set_at (world_of v).turns p 0;
         } in w) (sym begun_is)
@@ -182,6 +186,7 @@ module _ {O S I R : Type 0} (object : Sequential S I R) (v : Whole O S I R) (is 
           memory = (step_of (Some (pending_of (processes_of v.shared.cells) call))).memory;
           call = stepped_call i;
           begun = stepped_begun i;
+          first = λ q. 0;
           steps = stepped_steps i;
           turns = stepped_turns i;
         })

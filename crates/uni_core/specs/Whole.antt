@@ -38,6 +38,7 @@ world_at n memory locals =
       memory = memory;
       call = λ p. call_at n (slice_get locals p);
       begun = λ p. option_map_or (λ l. l.begun) (slice_get locals p) 0;
+      first = λ p. 0;
       steps = λ p. option_map_or (λ l. l.steps) (slice_get locals p) 0;
       turns = λ p. option_map_or (λ l. l.turns) (slice_get locals p) 0;
     }

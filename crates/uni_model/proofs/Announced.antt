@@ -1,11 +1,12 @@
 -- A pending call has a floor exactly where it has been announced.
 use Rattle.std.proofs.Common.{◌≡◌, ◌≢◌, ◌∙◌, ℕ, ◌⊎◌, inl, inr, refl, sym, ap, subst, List, [], ◌∷◌, Option, Some, None, IsSome, Bool, true, false, cond}
 use Rattle.seq_object.specs.Sequential.{Sequential}
-use Rattle.uni_model.specs.Places.{Name, name_eq}
+use Rattle.std.specs.Option.{option_map_or}
+use Rattle.uni_model.specs.Places.{Name, name_eq, seq_of, new_of}
 use Rattle.uni_model.specs.Places.Name.{Of}
 use Rattle.uni_model.specs.Stages.{Stage, Pending}
 use Rattle.uni_model.specs.Stages.Stage.{Announce}
-use Rattle.uni_model.specs.Worlds.{WorldOf, Event, call_after, world_after_step, opened_world, world_after, world_after_all}
+use Rattle.uni_model.specs.Worlds.{WorldOf, Event, call_after, anchor_memory, last_cell, world_after_step, opened_world, world_after, world_after_all}
 use Rattle.uni_model.specs.Worlds.Event.{Call, Step, Trim}
 use Rattle.uni_model.specs.Frontier.{frontier, announces, announces_at, floor_of}
 use Rattle.uni_model.specs.Bound.{CountsSteps}
@@ -30,7 +31,13 @@ module _ {S I R : Type 0} (object : Sequential S I R) where
       | inr other ↦ inr (was.0, rw other.1 at was.1, was.2, was.3)
     ]
   ]
-  floor_or_announced w (Trim ∷ es) p x c pending its past = floor_or_announced (world_after object w Trim) es p x c pending its past
+  floor_or_announced w (Trim ∷ es) p x c pending its past = elim (floor_or_announced (world_after object w Trim) es p x c pending its past) [
+    | inl some ↦ inl some
+    | inr was ↦ inr (was.0, sym (call-world_after_trim (new_of w.memory (last_cell w)) p) ∙ was.1, was.2, was.3)
+  ] where
+    call-world_after_trim : (o : Option (S × Option R)) (q : ℕ) → (option_map_or (λ new. record w { first = w.begun; memory = anchor_memory new.0 (seq_of w.memory (last_cell w)) }) o w).call q ≡ w.call q
+    call-world_after_trim None q = refl
+    call-world_after_trim (Some new) q = refl
   floor_or_announced w (Step o ∷ es) p x c pending its past = by_test (floor_or_announced (world_after object w (Step o)) es p x c pending its past) (announces x (w.call o)) refl where
     at_call : (call : Option Pending) → w.call o ≡ call → announces x call ≡ false → (d : Pending) → (world_after_step object w o call).call p ≡ Some d → d.mine ≡ x → d.stage ≢ Announce
         → (d : Pending) × (w.call p ≡ Some d) × (d.mine ≡ x) × (d.stage ≢ Announce)

@@ -23,9 +23,9 @@ use Rattle.uni_model.proofs.HelpedStep.{Helps-moved}
 use Rattle.uni_model.proofs.HelpedCall.{Helps-begun}
 
 -- with no call pending nobody waits for help
-pub Helps-anchor_memory : {S I R : Type 0} (s : S) (number n : ℕ) (call : ℕ → Option Pending) (begun steps turns : ℕ → ℕ) → ((p : ℕ) → call p ≡ None) → ((p : ℕ) → turns p ≤ n + 1)
-    → Helps {S = S} {I = I} {R = R} (record { n = n; memory = anchor_memory s number; call = call; begun = begun; steps = steps; turns = turns }) (alone number) number
-Helps-anchor_memory s number n call begun steps turns idle few = record {
+pub Helps-anchor_memory : {S I R : Type 0} (s : S) (number n : ℕ) (call : ℕ → Option Pending) (begun first steps turns : ℕ → ℕ) → ((p : ℕ) → call p ≡ None) → ((p : ℕ) → turns p ≤ n + 1)
+    → Helps {S = S} {I = I} {R = R} (record { n = n; memory = anchor_memory s number; call = call; begun = begun; first = first; steps = steps; turns = turns }) (alone number) number
+Helps-anchor_memory s number n call begun first steps turns idle few = record {
   each = λ p c e. absurd (let f = idle p in cc);
   fair = λ o d e. absurd (let f = idle o in cc);
   heads = λ k from below. absurd (omega arith);
@@ -65,18 +65,18 @@ module _ {S I R : Type 0} (object : Sequential S I R) where
 
   -- the list is replaced by one anchor with the state s
   abbrev pub HelpingInvariant-anchor_memory : (w : WorldOf S I R) (s : S) → IsQuiescent w → CountsSteps w → HelpingInvariant object w
-      → HelpingInvariant object (record w { memory = anchor_memory s (seq_of w.memory (last_cell w)) })
+      → HelpingInvariant object (record w { first = w.begun; memory = anchor_memory s (seq_of w.memory (last_cell w)) })
   HelpingInvariant-anchor_memory w s quiet counts inv =
       let idle : (p : ℕ) → w.call p ≡ None = idle_when_quiescent object w inv.0 inv.1 inv.2 quiet in (
         alone (seq_of w.memory (last_cell w)),
         seq_of w.memory (last_cell w),
-        IsSound-anchor_memory object s (seq_of w.memory (last_cell w)) (last_cell_threaded object w inv.0 inv.1 inv.2 quiet) w.n w.call w.begun w.steps w.turns idle,
-        Helps-anchor_memory s (seq_of w.memory (last_cell w)) w.n w.call w.begun w.steps w.turns idle (turns_bounded w counts inv),
+        IsSound-anchor_memory object s (seq_of w.memory (last_cell w)) (last_cell_threaded object w inv.0 inv.1 inv.2 quiet) w.n w.call w.begun w.begun w.steps w.turns idle,
+        Helps-anchor_memory s (seq_of w.memory (last_cell w)) w.n w.call w.begun w.begun w.steps w.turns idle (turns_bounded w counts inv),
       )
 
   HelpingInvariant-world_after_trim : (w : WorldOf S I R) → IsQuiescent w → CountsSteps w → HelpingInvariant object w → HelpingInvariant object (world_after_trim w)
   HelpingInvariant-world_after_trim w quiet counts inv = by_new (new_of w.memory (last_cell w)) where
-    by_new : (o : Option (S × Option R)) → HelpingInvariant object (record w { memory = option_map_or (λ new. anchor_memory new.0 (seq_of w.memory (last_cell w))) o w.memory })
+    by_new : (o : Option (S × Option R)) → HelpingInvariant object (option_map_or (λ new. record w { first = w.begun; memory = anchor_memory new.0 (seq_of w.memory (last_cell w)) }) o w)
     by_new None = inv
     by_new (Some new) = HelpingInvariant-anchor_memory w new.0 quiet counts inv
 
@@ -101,8 +101,8 @@ module _ {S I R : Type 0} (object : Sequential S I R) where
   HelpingInvariant-opened_world n s number positive = (
     alone number,
     number,
-    IsSound-anchor_memory object s number positive n (λ p. None) (λ p. 0) (λ p. 0) (λ p. 0) (λ p. refl),
-    Helps-anchor_memory s number n (λ p. None) (λ p. 0) (λ p. 0) (λ p. 0) (λ p. refl) (λ p. omega arith),
+    IsSound-anchor_memory object s number positive n (λ p. None) (λ p. 0) (λ p. 0) (λ p. 0) (λ p. 0) (λ p. refl),
+    Helps-anchor_memory s number n (λ p. None) (λ p. 0) (λ p. 0) (λ p. 0) (λ p. 0) (λ p. refl) (λ p. omega arith),
   )
 
   -- the own steps of a pending call with at most n + 1 turns

@@ -1,11 +1,12 @@
 -- Own steps are counted by the stage and the turns.
 use Rattle.std.proofs.Common.{◌≡◌, ℕ, ◌+◌, ◌<◌, inl, inr, refl, subst, List, [], ◌∷◌, Option, Some, None, arith}
+use Rattle.std.specs.Option.{option_map_or}
 use Rattle.seq_object.specs.Sequential.{Sequential}
-use Rattle.uni_model.specs.Places.{Name, Content, Memory, number_in, new_of, inv_of}
+use Rattle.uni_model.specs.Places.{Name, Content, Memory, number_in, seq_of, new_of, inv_of}
 use Rattle.uni_model.specs.Stages.{Stage, Pending}
 use Rattle.uni_model.specs.Stages.Stage.{Announce, ScanHead, ScanSeq, WriteScan, Test, ReadAnnounce, ReadHelpSeq, DecideAfter, DecideNew, WriteBefore, WriteSeq, WriteHead, Finish}
 use Rattle.uni_model.specs.Transition.{place_of, effect_of, turn_of, Beside, beside}
-use Rattle.uni_model.specs.Worlds.{WorldOf, Event, opened_world, world_after_step, world_after_call, call_after, world_after, world_after_all, IsAccepted, AreAccepted}
+use Rattle.uni_model.specs.Worlds.{WorldOf, Event, anchor_memory, last_cell, opened_world, world_after_step, world_after_call, call_after, world_after, world_after_all, IsAccepted, AreAccepted}
 use Rattle.uni_model.specs.Worlds.Event.{Call, Step, Trim}
 use Rattle.uni_model.specs.Invariant.{Stands, Invariant}
 use Rattle.uni_model.specs.Bound.{steps_at, HasTurns, IsCounted, CountsSteps}
@@ -64,7 +65,10 @@ module _ {S I R : Type 0} (object : Sequential S I R) where
     by_call : (o : Option Pending) → w.call p ≡ o → CountsSteps (world_after_step object w p o)
     by_call None is = counts
     by_call (Some c) is = CountsSteps-world_after_step w inv.0 p c is (inv.2.stands p c is) counts
-  CountsSteps-world_after w Trim ok inv counts = counts
+  CountsSteps-world_after w Trim ok inv counts = by_new (new_of w.memory (last_cell w)) where
+    by_new : (o : Option (S × Option R)) → CountsSteps (option_map_or (λ new. record w { first = w.begun; memory = anchor_memory new.0 (seq_of w.memory (last_cell w)) }) o w)
+    by_new None = counts
+    by_new (Some new) = counts
 
   pub CountsSteps-world_after_all : (w : WorldOf S I R) (es : List (Event I)) → AreAccepted object w es → Invariant object w → CountsSteps w → CountsSteps (world_after_all object w es)
   CountsSteps-world_after_all w [] ok inv counts = counts

@@ -44,7 +44,7 @@ module _ {S I R : Type 0} (object : Sequential S I R) where
   -- where no call is pending, none waits
   FloorInvariant-world_after_trim : (w : WorldOf S I R) → IsQuiescent w → CountsSteps w → (q k floor : ℕ) → FloorInvariant object w q k floor → FloorInvariant object (world_after_trim w) q k floor
   FloorInvariant-world_after_trim w quiet counts q k floor inv = by_new (new_of w.memory (last_cell w)) where
-    by_new : (o : Option (S × Option R)) → FloorInvariant object (record w { memory = option_map_or (λ new. anchor_memory new.0 (seq_of w.memory (last_cell w))) o w.memory }) q k floor
+    by_new : (o : Option (S × Option R)) → FloorInvariant object (option_map_or (λ new. record w { first = w.begun; memory = anchor_memory new.0 (seq_of w.memory (last_cell w)) }) o w) q k floor
     by_new None = inv
     by_new (Some new) =
         let idle : (p : ℕ) → w.call p ≡ None = idle_when_quiescent object w inv.0.0 inv.0.1 inv.0.2 quiet in (

@@ -103,7 +103,7 @@ module _ {S I R : Type 0} (object : Sequential S I R) (w : WorldOf S I R) (num :
     at_stage (Some k) on f = cc
 
   pub Helps-moved : (steps : ℕ → ℕ)
-      → Helps (record { n = w.n; memory = m; call = set_at w.call p (call_after mine to); begun = w.begun; steps = steps; turns = set_at w.turns p t }) num' last'
+      → Helps (record { n = w.n; memory = m; call = set_at w.call p (call_after mine to); begun = w.begun; first = w.first; steps = steps; turns = set_at w.turns p t }) num' last'
   Helps-moved steps = record {
     each = each_later;
     fair = λ o c e. OfConsidered-map c.stage (λ s x. IsFairToAll w num s x) _ all_fair_later (considered_later o c e);

@@ -1,5 +1,5 @@
 -- Every event that is accepted keeps the invariant, and in its era what is settled stays.
-use Rattle.std.proofs.Common.{◌≡◌, ℕ, zero, suc, ◌+◌, ◌<◌, ◌≤◌, inl, inr, refl, subst, List, [], ◌∷◌, Option, Some, None, arith, IsSome}
+use Rattle.std.proofs.Common.{◌≡◌, ℕ, zero, suc, ◌+◌, ◌<◌, ◌≤◌, inl, inr, refl, subst, List, [], ◌∷◌, Option, Some, None, arith, IsSome, true, false}
 use Rattle.std.specs.Option.{option_map_or}
 use Rattle.seq_object.specs.Sequential.{Sequential}
 use Rattle.uni_model.specs.Places.{Name, Memory, memory_with, set_at, seq_of, after_of, new_of, inv_of}
@@ -10,6 +10,7 @@ use Rattle.uni_model.specs.Chain.{cells_from, last_of}
 use Rattle.uni_model.specs.Worlds.{WorldOf, Event, world_after_step, world_after_call, opened_world, anchor_memory, world_after_trim, world_after, world_after_all, last_cell, calls_begun, IsAccepted, AreAccepted, IsQuiescent}
 use Rattle.uni_model.specs.Worlds.Event.{Call, Step, Trim}
 use Rattle.uni_model.specs.Invariant.{IsNumbered, IsSound, Invariant}
+use Rattle.uni_model.specs.Growth.{EndsNoEra}
 use Rattle.uni_model.specs.Settled.{Grows}
 use Rattle.uni_model.proofs.Moves.{IsSound-moved}
 use Rattle.uni_model.proofs.Steps.{leads}
@@ -39,7 +40,7 @@ module _ {S I R : Type 0} (object : Sequential S I R) where
       ((inv.0, inv.1, IsSound-begun object w inv.0 inv.1 inv.2 p i inside idle), Grows-begun object w inv.0 inv.1 inv.2 p i inside idle)
 
   pub Invariant-opened_world : (n : ℕ) (s : S) (number : ℕ) → 1 ≤ number → Invariant object (opened_world {S = S} {I = I} {R = R} n s number)
-  Invariant-opened_world n s number positive = (alone number, number, IsSound-anchor_memory object s number positive n (λ p. None) (λ p. 0) (λ p. 0) (λ p. 0) (λ p. refl))
+  Invariant-opened_world n s number positive = (alone number, number, IsSound-anchor_memory object s number positive n (λ p. None) (λ p. 0) (λ p. 0) (λ p. 0) (λ p. 0) (λ p. refl))
 
   -- the last cell is in the chain
   last_in_chain : (m : Memory S I R) (num : Name → ℕ) (last : ℕ) → IsNumbered m num last → (most : ℕ) (x : Name) → 1 ≤ num x → 1 ≤ num (last_of x (cells_from most m x))
@@ -72,12 +73,12 @@ module _ {S I R : Type 0} (object : Sequential S I R) where
   pub Invariant-world_after_trim : (w : WorldOf S I R) → IsQuiescent w → Invariant object w → Invariant object (world_after_trim w)
   Invariant-world_after_trim w quiet inv = by_new (new_of w.memory (last_cell w)) refl where
     by_new : (o : Option (S × Option R)) → new_of w.memory (last_cell w) ≡ o
-        → Invariant object (record w { memory = option_map_or (λ new. anchor_memory new.0 (seq_of w.memory (last_cell w))) o w.memory })
+        → Invariant object (option_map_or (λ new. record w { first = w.begun; memory = anchor_memory new.0 (seq_of w.memory (last_cell w)) }) o w)
     by_new None e = inv
     by_new (Some new) e = (
       alone (seq_of w.memory (last_cell w)),
       seq_of w.memory (last_cell w),
-      IsSound-anchor_memory object new.0 (seq_of w.memory (last_cell w)) (last_cell_threaded w inv.0 inv.1 inv.2 quiet) w.n w.call w.begun w.steps w.turns
+      IsSound-anchor_memory object new.0 (seq_of w.memory (last_cell w)) (last_cell_threaded w inv.0 inv.1 inv.2 quiet) w.n w.call w.begun w.begun w.steps w.turns
           (idle_when_quiescent w inv.0 inv.1 inv.2 quiet),
     )
 
@@ -92,3 +93,12 @@ module _ {S I R : Type 0} (object : Sequential S I R) where
   pub Invariant-world_after_all : (w : WorldOf S I R) (es : List (Event I)) → AreAccepted object w es → Invariant object w → Invariant object (world_after_all object w es)
   Invariant-world_after_all w [] ok inv = inv
   Invariant-world_after_all w (e ∷ es) ok inv = Invariant-world_after_all (world_after object w e) es ok.1 (Invariant-world_after w e ok.0 inv)
+
+  -- in its era, what is settled stays through an event
+  pub Grows-world_after : (w : WorldOf S I R) (e : Event I) → Invariant object w → IsAccepted w e → EndsNoEra e → Grows w.memory (world_after object w e).memory
+  Grows-world_after w (Call p i) inv ok other = (Invariant-begun w p i ok.0 ok.1 inv).1
+  Grows-world_after w (Step p) inv ok other = by_call (w.call p) refl ok where
+    by_call : (o : Option Pending) → w.call p ≡ o → IsSome o → Grows w.memory (world_after_step object w p o).memory
+    by_call None is some = absurd (let e : false ≡ true = some in cc)
+    by_call (Some call) is some = (Invariant-world_after_step w p call is inv).1
+  Grows-world_after w Trim inv ok other = absurd other

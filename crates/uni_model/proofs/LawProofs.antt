@@ -10,11 +10,12 @@ use Rattle.uni_model.specs.Worlds.{WorldOf, Event, opened_world, anchor_memory, 
 use Rattle.uni_model.specs.Worlds.Event.{Call, Step, Trim}
 use Rattle.uni_model.specs.AtomicObject.{Atomic, Act, AcceptsAll, at_start}
 use Rattle.uni_model.specs.History.{Shows, history_of, acts_of}
+use Rattle.uni_model.specs.Growth.{EndsNoEra, EndNoEra}
 use Rattle.uni_model.specs.Settled.{Grows, ChangesOnly}
 use Rattle.uni_model.specs.Invariant.{Invariant}
-use Rattle.uni_model.specs.Laws.{HasNoTrim, IsReached, StepIsLocal, SettledStays, Simulates, IsLinearizable}
+use Rattle.uni_model.specs.Laws.{IsReached, StepIsLocal, SettledStays, Simulates, IsLinearizable}
 use Rattle.uni_model.proofs.Written.{set_at-cases, place_eq_true}
-use Rattle.uni_model.proofs.Kept.{Invariant-world_after_step, Invariant-begun, Invariant-opened_world, Invariant-world_after_all, Invariant-world_after}
+use Rattle.uni_model.proofs.Kept.{Invariant-world_after_step, Invariant-begun, Invariant-opened_world, Invariant-world_after_all, Invariant-world_after, Grows-world_after}
 use Rattle.uni_model.specs.Bound.{CountsSteps, IsBounded}
 use Rattle.uni_model.proofs.Counted.{CountsSteps-opened_world, CountsSteps-world_after_all}
 use Rattle.uni_model.specs.Helping.{HelpingInvariant}
@@ -58,25 +59,17 @@ module _ {S I R : Type 0} (object : Sequential S I R) where
   IsBounded-reached w r = IsBounded-held object w (CountsSteps-reached w r) (subst (λ v. HelpingInvariant object v) r.reached
       (HelpingInvariant-world_after_all object (opened_world r.n r.start r.number) r.events r.accepted (CountsSteps-opened_world object r.n r.start r.number) (HelpingInvariant-opened_world object r.n r.start r.number r.positive)))
 
-  pub grows : (w : WorldOf S I R) (e : Event I) → Invariant object w → IsAccepted w e → e ≢ Trim → Grows w.memory (world_after object w e).memory
-  grows w (Call p i) inv ok other = (Invariant-begun object w p i ok.0 ok.1 inv).1
-  grows w (Step p) inv ok other = by_call (w.call p) refl ok where
-    by_call : (o : Option Pending) → w.call p ≡ o → IsSome o → Grows w.memory (world_after_step object w p o).memory
-    by_call None is some = absurd (let e : false ≡ true = some in cc)
-    by_call (Some call) is some = (Invariant-world_after_step object w p call is inv).1
-  grows w Trim inv ok other = absurd (other refl)
-
   pub SettledStays-holds : (w : WorldOf S I R) (e : Event I) → SettledStays object w e
-  SettledStays-holds w e reached ok other = grows w e (Invariant-reached w reached) ok other
+  SettledStays-holds w e reached ok other = Grows-world_after object w e (Invariant-reached w reached) ok other
 
-  pub accepts : (w : WorldOf S I R) (e : Event I) → Invariant object w → IsAccepted w e → e ≢ Trim → (a : Atomic S I) → Shows w a
+  pub accepts : (w : WorldOf S I R) (e : Event I) → Invariant object w → IsAccepted w e → EndsNoEra e → (a : Atomic S I) → Shows w a
       → (b : Atomic S I) × Shows (world_after object w e) b × AcceptsAll object a (acts_of object w e) b
   accepts w (Call p i) inv ok other a shows = call_accepted object w inv.0 inv.1 inv.2 p i ok.0 ok.1 a shows
   accepts w (Step p) inv ok other a shows = by_call (w.call p) refl ok where
     by_call : (o : Option Pending) → w.call p ≡ o → IsSome o → (b : Atomic S I) × Shows (world_after object w (Step p)) b × AcceptsAll object a (acts_of object w (Step p)) b
     by_call None is some = absurd (let e : false ≡ true = some in cc)
     by_call (Some call) is some = step_accepted object w inv.0 inv.1 inv.2 p call.mine a shows call.stage is
-  accepts w Trim inv ok other a shows = absurd (other refl)
+  accepts w Trim inv ok other a shows = absurd other
 
   pub Simulates-holds : (w : WorldOf S I R) (e : Event I) → Simulates object w e
   Simulates-holds w e reached ok other a shows = accepts w e (Invariant-reached w reached) ok other a shows
@@ -86,18 +79,18 @@ module _ {S I R : Type 0} (object : Sequential S I R) where
   AcceptsAll-append a b c [] ys first rest = subst (λ x. AcceptsAll object x ys c) first rest
   AcceptsAll-append a b c (x ∷ xs) ys first rest = (first.0, first.1, AcceptsAll-append first.0 b c xs ys first.2 rest)
 
-  accepts_run : (w : WorldOf S I R) (es : List (Event I)) → Invariant object w → AreAccepted object w es → HasNoTrim es → (a : Atomic S I) → Shows w a
+  accepts_run : (w : WorldOf S I R) (es : List (Event I)) → Invariant object w → AreAccepted object w es → EndNoEra es → (a : Atomic S I) → Shows w a
       → (b : Atomic S I) × Shows (world_after_all object w es) b × AcceptsAll object a (history_of object w es) b
   accepts_run w [] inv ok none a shows = (a, shows, refl)
   accepts_run w (Call p i ∷ es) inv ok none a shows =
-      let first = accepts w (Call p i) inv ok.0 (λ e. cc) a shows in
-      let rest = accepts_run (world_after object w (Call p i)) es (Invariant-world_after object w (Call p i) ok.0 inv) ok.1 none first.0 first.1 in
+      let first = accepts w (Call p i) inv ok.0 tt a shows in
+      let rest = accepts_run (world_after object w (Call p i)) es (Invariant-world_after object w (Call p i) ok.0 inv) ok.1 none.1 first.0 first.1 in
       (rest.0, rest.1, AcceptsAll-append a first.0 rest.0 (acts_of object w (Call p i)) _ first.2 rest.2)
   accepts_run w (Step p ∷ es) inv ok none a shows =
-      let first = accepts w (Step p) inv ok.0 (λ e. cc) a shows in
-      let rest = accepts_run (world_after object w (Step p)) es (Invariant-world_after object w (Step p) ok.0 inv) ok.1 none first.0 first.1 in
+      let first = accepts w (Step p) inv ok.0 tt a shows in
+      let rest = accepts_run (world_after object w (Step p)) es (Invariant-world_after object w (Step p) ok.0 inv) ok.1 none.1 first.0 first.1 in
       (rest.0, rest.1, AcceptsAll-append a first.0 rest.0 (acts_of object w (Step p)) _ first.2 rest.2)
-  accepts_run w (Trim ∷ es) inv ok none a shows = absurd none
+  accepts_run w (Trim ∷ es) inv ok none a shows = absurd none.0
 
   none_linked : (start : S) (number most : ℕ) → cells_from {S = S} {I = I} {R = R} most (anchor_memory start number) Anchor ≡ []
   none_linked start number zero = refl

@@ -10,6 +10,9 @@ pub mod Begun
 pub mod Kept
 pub mod Chains
 pub mod Simulation
+pub mod Logged
+pub mod OneLists
+pub mod Growing
 pub mod Counted
 pub mod Longer
 pub mod Residues

@@ -78,7 +78,7 @@ module _ {S I R : Type 0} (object : Sequential S I R) (w : WorldOf S I R) (num :
     at_stage (Some k') on e its = inr (record { mine = mine; stage = k' }, e, its)
 
   later : WorldOf S I R
-  later = record { n = w.n; memory = m; call = set_at w.call p (call_after mine stage); begun = w.begun; steps = w.steps; turns = w.turns }
+  later = record { n = w.n; memory = m; call = set_at w.call p (call_after mine stage); begun = w.begun; first = w.first; steps = w.steps; turns = w.turns }
 
   -- a cell that is linked now and wasn't threaded has a call that is pending, so it is the last one of its process
   linked_before : (q k j : ℕ) → k < j → Has (inv_of w.memory (Of q j)) → Has (inv_of w.memory (Of q k)) → 1 ≤ seq_of w.memory (Of q k)
@@ -170,7 +170,7 @@ module _ {S I R : Type 0} (object : Sequential S I R) (w : WorldOf S I R) (num :
 
   -- the invariant holds after the step
   pub IsSound-moved : (steps turns : ℕ → ℕ)
-      → IsSound object (record { n = w.n; memory = m; call = set_at w.call p (call_after mine stage); begun = w.begun; steps = steps; turns = turns }) num' last'
+      → IsSound object (record { n = w.n; memory = m; call = set_at w.call p (call_after mine stage); begun = w.begun; first = w.first; steps = steps; turns = turns }) num' last'
   unfolding later
   IsSound-moved steps turns = record {
     numbered = moves.numbered;

@@ -74,7 +74,7 @@ module _ {S I R : Type 0} (object : Sequential S I R) (w : WorldOf S I R) (num :
 
     module _ (m : Memory S I R) (num' : Name → ℕ) (last' : ℕ) (stage : Option Stage) (moves : Moves object w num p mine m num' last' stage) (steps turns : ℕ → ℕ) where
       abbrev pub later : WorldOf S I R
-      later = record { n = w.n; memory = m; call = set_at w.call p (call_after mine stage); begun = w.begun; steps = steps; turns = turns }
+      later = record { n = w.n; memory = m; call = set_at w.call p (call_after mine stage); begun = w.begun; first = w.first; steps = steps; turns = turns }
 
       invoked_kept : (x : Name) → invoked_at m x ≡ invoked_at w.memory x
       invoked_kept = invoked_at-same w.memory m moves.inv
@@ -192,7 +192,7 @@ module _ {S I R : Type 0} (object : Sequential S I R) (w : WorldOf S I R) (num :
       ]
 
       abbrev pub linked_world : WorldOf S I R
-      linked_world = record { n = w.n; memory = linked_memory; call = set_at w.call p (call_after mine (Some (DecideNew c s prefer))); begun = w.begun; steps = steps; turns = turns }
+      linked_world = record { n = w.n; memory = linked_memory; call = set_at w.call p (call_after mine (Some (DecideNew c s prefer))); begun = w.begun; first = w.first; steps = steps; turns = turns }
 
       linked_enough : last + 1 ≤ num Anchor + calls_begun w
       linked_enough =
@@ -250,7 +250,7 @@ module _ {S I R : Type 0} (object : Sequential S I R) (w : WorldOf S I R) (num :
     -- what is to be shown of a step that leaves this memory and this stage: the world then shows what the atomic object is after the acts
     abbrev pub Outcome : Memory S I R → Option Stage → Type 0
     Outcome m stage = let steps = set_at w.steps p (w.steps p + 1) in let turns = set_at w.turns p (w.turns p + turn_of from (w.memory (place_of w.n p mine from))) in
-        let later : WorldOf S I R = record { n = w.n; memory = m; call = set_at w.call p (call_after mine stage); begun = w.begun; steps = steps; turns = turns } in
+        let later : WorldOf S I R = record { n = w.n; memory = m; call = set_at w.call p (call_after mine stage); begun = w.begun; first = w.first; steps = steps; turns = turns } in
         (b : Atomic S I) × Shows later b
         × AcceptsAll object a (map Linearize (drop (length (calls_of w)) (calls_of later)) ++ responses_of w.memory p mine (response_after from (beside w.memory mine from))) b
 

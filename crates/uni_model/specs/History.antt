@@ -2,6 +2,7 @@
 use Rattle.std.specs.Prelude.{◌≡◌, ℕ, ◌+◌, List, [], ◌∷◌, ◌++◌, Option, None, Some, map, drop, length, option_map, option_and_then}
 use Rattle.std.specs.Option.{option_map_or}
 use Rattle.seq_object.specs.Sequential.{Sequential}
+use Rattle.seq_object.specs.History.{Call as Answered}
 use Rattle.uni_model.specs.Places.{Name, Memory, seq_of, new_of}
 use Rattle.uni_model.specs.Places.Name.{Anchor}
 use Rattle.uni_model.specs.Stages.{Pending}
@@ -18,6 +19,14 @@ log w = entries_from w.memory (seq_of w.memory Anchor + 1) (chain w)
 -- the calls of the present era, in the order in which they took effect
 abbrev pub calls_of : {S I R : Type 0} → WorldOf S I R → List (Invoked I)
 calls_of w = map (λ e. e.call) (log w)
+
+-- what they ask for
+abbrev pub invocations_of : {S I R : Type 0} → WorldOf S I R → List I
+invocations_of w = map (λ c. c.inv) (calls_of w)
+
+-- an entry as a call of a sequential history
+abbrev pub logged_call : {I R : Type 0} → Entry I R → Answered I R
+logged_call e = record { inv = e.call.inv; response = e.response }
 
 -- the entries of all eras of a run from w; a trim ends an era
 abbrev pub log_of_run : {S I R : Type 0} → Sequential S I R → WorldOf S I R → List (Event I) → List (Entry I R)

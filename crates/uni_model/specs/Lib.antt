@@ -8,6 +8,8 @@ pub mod History
 pub mod Frontier
 pub mod Settled
 pub mod Invariant
+pub mod OneList
+pub mod Growth
 pub mod Helping
 pub mod Floored
 pub mod Bound

@@ -1,5 +1,5 @@
 -- Worlds, events, and the replay of a list of events.
-use Rattle.std.specs.Prelude.{◌≡◌, ℕ, zero, suc, ◌+◌, ◌<◌, List, [], ◌∷◌, Option, None, Some, option_map, option_and_then, IsSome}
+use Rattle.std.specs.Prelude.{◌≡◌, ℕ, zero, suc, ◌+◌, ◌-◌, ◌<◌, List, [], ◌∷◌, Option, None, Some, option_map, option_and_then, IsSome}
 use Rattle.std.specs.Option.{option_map_or}
 use Rattle.seq_object.specs.Sequential.{Sequential}
 use Rattle.uni_model.specs.Places.{Name, Memory, memory_with, set_at, inv_of, seq_of, new_of}
@@ -11,13 +11,14 @@ use Rattle.uni_model.specs.Stages.Stage.{Announce}
 use Rattle.uni_model.specs.Chain.{cells_from, last_of}
 use Rattle.uni_model.specs.Transition.{Effect, place_of, beside, effect_of, turn_of, response_after}
 
--- n processes: the shared places; of each process its pending call, how many calls it has begun since the opening, and the
--- own steps and turns of its latest call
+-- n processes: the shared places; of each process its pending call, how many calls it has begun since the opening, the
+-- number of its first call of the present era, and the own steps and turns of its latest call
 pub record WorldOf (S I R : Type 0) : Type 0 where
   pub n : ℕ
   pub memory : Memory S I R
   pub call : ℕ → Option Pending
   pub begun : ℕ → ℕ
+  pub first : ℕ → ℕ
   pub steps : ℕ → ℕ
   pub turns : ℕ → ℕ
 
@@ -35,6 +36,7 @@ world_after_call w p i =
       memory = memory_with w.memory (InvOf (Of p (w.begun p))) (Invocation (Some i));
       call = set_at w.call p (Some (record { mine = Of p (w.begun p); stage = Announce }));
       begun = set_at w.begun p (w.begun p + 1);
+      first = w.first;
       steps = set_at w.steps p 0;
       turns = set_at w.turns p 0;
     }
@@ -57,6 +59,7 @@ world_after_step object w p (Some call) =
       memory = memory_with w.memory place (effect_in object w p call).content;
       call = set_at w.call p (call_after call.mine (effect_in object w p call).stage);
       begun = w.begun;
+      first = w.first;
       steps = set_at w.steps p (w.steps p + 1);
       turns = set_at w.turns p (w.turns p + turn_of call.stage (w.memory place));
     }
@@ -79,7 +82,11 @@ anchor_memory s number (BeforeOf x) = Link None
 
 -- n processes of which none has called, over a state and a first number
 abbrev pub opened_world : {S I R : Type 0} → ℕ → S → ℕ → WorldOf S I R
-opened_world n s number = record { n = n; memory = anchor_memory s number; call = λ p. None; begun = λ p. 0; steps = λ p. 0; turns = λ p. 0 }
+opened_world n s number = record { n = n; memory = anchor_memory s number; call = λ p. None; begun = λ p. 0; first = λ p. 0; steps = λ p. 0; turns = λ p. 0 }
+
+-- how many calls of a process the present era has
+abbrev pub calls_in_era : {S I R : Type 0} → WorldOf S I R → ℕ → ℕ
+calls_in_era w p = w.begun p - w.first p
 
 -- f below n, added up
 abbrev pub sum_below : ℕ → (ℕ → ℕ) → ℕ
@@ -100,7 +107,8 @@ last_cell w = last_of Anchor (chain w)
 
 -- the list is replaced by one anchor, with the last cell's state and number; numbers of calls go on
 abbrev pub world_after_trim : {S I R : Type 0} → WorldOf S I R → WorldOf S I R
-world_after_trim w = record w { memory = option_map_or (λ new. anchor_memory new.0 (seq_of w.memory (last_cell w))) (new_of w.memory (last_cell w)) w.memory }
+world_after_trim w =
+    option_map_or (λ new. record w { first = w.begun; memory = anchor_memory new.0 (seq_of w.memory (last_cell w)) }) (new_of w.memory (last_cell w)) w
 
 -- an event
 abbrev pub world_after : {S I R : Type 0} → Sequential S I R → WorldOf S I R → Event I → WorldOf S I R

@@ -5,7 +5,8 @@ ghost use Rattle.uni_model.specs.Stages.{Pending};
 ghost use Rattle.uni_model.specs.Worlds.{WorldOf, Event};
 ghost use Rattle.uni_model.specs.Invariant.{Invariant};
 ghost use Rattle.uni_model.specs.Bound.{CountsSteps, IsBounded};
-ghost use Rattle.uni_model.specs.Laws.{IsReached, StepIsLocal, SettledStays, Simulates, IsLinearizable, LinksSoon, HasFloorOnceAnnounced};
+ghost use Rattle.uni_model.specs.OneList.{HasOneList, HasLegalLog};
+ghost use Rattle.uni_model.specs.Laws.{IsReached, KeepsInvariant, KeepsHelping, KeepsSettled, IsAtomic, KeepsLog, KeepsLogAlong, OpensSound, StepIsLocal, SettledStays, Simulates, IsLinearizable, LinksSoon, HasFloorOnceAnnounced};
 
 use seq_object::SeqObject;
 
@@ -14,6 +15,54 @@ use seq_object::SeqObject;
 pub fn changes_one_place<O: SeqObject>()
     ensures { (object : O) (w : WorldOf O.State O.Inv O.Resp) (p : ℕ) (call : Pending) →
         StepIsLocal (O.sequential object) w p call }
+{}
+
+/// Every opening has the invariant, with the facts of helping and the counts of own steps.
+pub fn opening_is_sound<O: SeqObject>()
+    ensures { (object : O) (n : ℕ) (start : O.State) (number : ℕ) → OpensSound (O.sequential object) n start number }
+{}
+
+/// Each accepted event keeps the invariant, whichever world it comes to: a call that is begun, a
+/// step, a trim.
+pub fn event_keeps_invariant<O: SeqObject>()
+    ensures { (object : O) (w : WorldOf O.State O.Inv O.Resp) (e : Event O.Inv) → KeepsInvariant (O.sequential object) w e }
+{}
+
+/// Each accepted event keeps the facts of helping and the counts of own steps, by which no call
+/// takes many turns.
+pub fn event_keeps_helping<O: SeqObject>()
+    ensures { (object : O) (w : WorldOf O.State O.Inv O.Resp) (e : Event O.Inv) → KeepsHelping (O.sequential object) w e }
+{}
+
+/// Each accepted event that ends no era leaves what is settled: a decided `after` or `new`, a
+/// written `seq` or `before`, an invocation.
+pub fn event_keeps_settled<O: SeqObject>()
+    ensures { (object : O) (w : WorldOf O.State O.Inv O.Resp) (e : Event O.Inv) → KeepsSettled (O.sequential object) w e }
+{}
+
+/// Each accepted event that ends no era is what the atomic object does, from what the world shows
+/// before it to what it shows afterwards.
+pub fn event_is_atomic<O: SeqObject>()
+    ensures { (object : O) (w : WorldOf O.State O.Inv O.Resp) (e : Event O.Inv) → IsAtomic (O.sequential object) w e }
+{}
+
+/// While no era ends the log only grows: after each accepted event, and after any list of them, the
+/// log before is a front of it, but that a response that is missing in its last entry may be there.
+pub fn log_only_grows<O: SeqObject>()
+    ensures event { (object : O) (w : WorldOf O.State O.Inv O.Resp) (e : Event O.Inv) → KeepsLog (O.sequential object) w e }
+    ensures events { (object : O) (w : WorldOf O.State O.Inv O.Resp) (es : List (Event O.Inv)) → KeepsLogAlong (O.sequential object) w es }
+{}
+
+/// The cells of every world that has the invariant are one list: none twice, with their numbers,
+/// their values and the way back.
+pub fn is_one_list<O: SeqObject>()
+    ensures { (object : O) (w : WorldOf O.State O.Inv O.Resp) → Invariant (O.sequential object) w → HasOneList (O.sequential object) w }
+{}
+
+/// The log of every world that has the invariant is a legal history of the object from the anchor's
+/// state, and only its last entry can lack its response.
+pub fn log_is_legal<O: SeqObject>()
+    ensures { (object : O) (w : WorldOf O.State O.Inv O.Resp) → Invariant (O.sequential object) w → HasLegalLog (O.sequential object) w }
 {}
 
 /// A place that is settled never changes again in its era: a decided `after` or `new`, a written
