@@ -13,6 +13,7 @@ pub mod Simulation
 pub mod Logged
 pub mod OneLists
 pub mod Growing
+pub mod Seen
 pub mod Counted
 pub mod Longer
 pub mod Residues

@@ -6,8 +6,8 @@ pub mod Worlds
 pub mod AtomicObject
 pub mod History
 pub mod Frontier
-pub mod Settled
 pub mod Invariant
+pub mod Settled
 pub mod OneList
 pub mod Growth
 pub mod Helping

@@ -1,7 +1,9 @@
 //! The laws, each the contract of a function with an empty body.
 
 ghost use Rattle.std.specs.Prelude.{ℕ, List};
-ghost use Rattle.uni_model.specs.Stages.{Pending};
+ghost use Rattle.uni_model.specs.Places.{Name, Memory};
+ghost use Rattle.uni_model.specs.Stages.{Stage, Pending};
+ghost use Rattle.uni_model.specs.Settled.{SeesSettled, SeesOnly};
 ghost use Rattle.uni_model.specs.Worlds.{WorldOf, Event};
 ghost use Rattle.uni_model.specs.Invariant.{Invariant};
 ghost use Rattle.uni_model.specs.Bound.{CountsSteps, IsBounded};
@@ -15,6 +17,13 @@ use seq_object::SeqObject;
 pub fn changes_one_place<O: SeqObject>()
     ensures { (object : O) (w : WorldOf O.State O.Inv O.Resp) (p : ℕ) (call : Pending) →
         StepIsLocal (O.sequential object) w p call }
+{}
+
+/// Beside its one place a step sees only places that are settled, those that the definitions name
+/// for its stage: what a call asks for, and settled values.
+pub fn step_sees_settled<O: SeqObject>()
+    ensures settled { (object : O) (w : WorldOf O.State O.Inv O.Resp) (p : ℕ) → Invariant (O.sequential object) w → SeesSettled w p }
+    ensures only { (m later : Memory O.State O.Inv O.Resp) (mine : Name) (stage : Stage) → SeesOnly m later mine stage }
 {}
 
 /// Every opening has the invariant, with the facts of helping and the counts of own steps.
