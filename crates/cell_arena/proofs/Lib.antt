@@ -1,3 +1,4 @@
 pub mod Places
 pub mod Lists
 pub mod Changes
+pub mod ArenaOf

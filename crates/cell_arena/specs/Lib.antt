@@ -1,4 +1,5 @@
 pub mod CellRecord
+pub mod Arena
 pub mod Rows
 pub mod Lending
 pub mod Place

@@ -6,6 +6,7 @@ mod cell_id;
 mod cells;
 mod fault;
 mod row_cells;
+mod rows;
 #[cfg(test)]
 mod tests;
 

@@ -1,6 +1,6 @@
 use Rattle.std.proofs.Common.{◌∷◌, [], length-append, arith}
 use Rattle.cell_arena.proofs.Lists.{AreEmpty-append}
-use Rattle.cell_arena.proofs.row_cells.empty_rows.Goals as goal
+use Rattle.cell_arena.proofs.rows.empty_rows.Goals as goal
 
 pub loop-preserved : goal.loop-preserved
 loop-preserved g c =
