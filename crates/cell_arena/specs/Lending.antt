@@ -1,4 +1,4 @@
--- A cell of an arena in rows that is lent.
+-- A cell of rows that is lent.
 use Rattle.std.specs.Prelude.{◌≡◌, ◌==◌, ◌∷◌, [], ℕ, List, if◌then◌else◌, slice_set, refl}
 use Rattle.std.specs.Borrow.{Fml, Lends, MutBor, RattleType}
 use Rattle.cell_arena.specs.CellRecord.{CellRecord, anchor_with, fresh}

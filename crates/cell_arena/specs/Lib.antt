@@ -2,4 +2,5 @@ pub mod CellRecord
 pub mod Arena
 pub mod Rows
 pub mod Lending
+pub mod Ending
 pub mod Place

@@ -1,7 +1,10 @@
 //! An arena whose cells are kept in rows.
 
 ghost use Rattle.std.specs.Prelude.{◌≡◌, ◌≤◌, ℕ, IfOk, IsSome, Some, option_map};
+ghost use Rattle.std.specs.Borrow.{sem};
 ghost use Rattle.cell_arena.specs.CellRecord.{anchor_with, settled, with_new, ChangesOnly, IsUnchanged, HasOnlyAnchor};
+ghost use Rattle.cell_arena.specs.Ending.{EndsSo};
+ghost use Rattle.cell_arena.specs.contracts.row_cells.RowCells.{the_row};
 ghost use Rattle.cell_arena.specs.Arena.{processes_of, made_of, cell_of};
 
 use crate::cell_id::CellId;
@@ -122,16 +125,17 @@ impl<S: Drop, I: Drop, R: Copy> Cells for RowCells<S, I, R> {
         *cell.after.decide(next)
     }
 
-    fn decide_new(&mut self, id: CellId, new: (S, Option<R>)) -> Option<R>
+    fn decide_new(&mut self, id: CellId, new: (S, Option<R>)) -> &(S, Option<R>)
         requires { IsSome (cell_of self.old id) }
-        ensures answer { option_map (λ c. (settled c.new new).1) (cell_of self.old id) ≡ Some result }
-        ensures cell { ChangesOnly (cell_of self.old) (cell_of self.new) id (option_map (with_new new) (cell_of self.old id)) }
-        ensures made { IsUnchanged (made_of self.old) (made_of self.new) }
-        ensures shape { (processes_of self.new ≡ processes_of self.old) × (self.new.row ≡ self.old.row) }
+        ensures answer { option_map (λ c. settled c.new new) (cell_of self.old id) ≡ Some result.now }
+        ensures* changes { sem 𝓛 (EndsSo (the_row S.row I.row R.row) self.entry (λ last.
+            ChangesOnly (cell_of self.old) (cell_of last) id (option_map (with_new new) (cell_of self.old id))
+            × IsUnchanged (made_of self.old) (made_of last)
+            × (processes_of last ≡ processes_of self.old) × (last.row ≡ self.old.row))) }
     {
-        let cell = self.rows.cell_mut(id);
-        let (_, response) = cell.new.decide(new);
-        *response
+        self.rows.settle(id, new);
+        let cell = self.rows.cell(id);
+        cell.new.get().unwrap()
     }
 
     fn clear_to(&mut self, last: CellId) {

@@ -1,8 +1,8 @@
 //! The cells of an arena in rows, one for each process.
 
-ghost use Rattle.std.specs.Prelude.{◌≡◌, ◌+◌, ◌-◌, ◌<◌, ◌≤◌, ℕ, IfOk, OnOk, OnErr, IfErr, IsSome, Some, [], slice_get, length};
+ghost use Rattle.std.specs.Prelude.{◌≡◌, ◌+◌, ◌-◌, ◌<◌, ◌≤◌, ℕ, IfOk, OnOk, OnErr, IfErr, IsSome, Some, [], slice_get, length, option_map};
 ghost use Rattle.std.specs.Borrow.{sem};
-ghost use Rattle.cell_arena.specs.CellRecord.{anchor_with, fresh, index_of, ChangesOnly, HasOnlyAnchor};
+ghost use Rattle.cell_arena.specs.CellRecord.{anchor_with, fresh, index_of, with_new, ChangesOnly, IsUnchanged, HasOnlyAnchor};
 ghost use Rattle.cell_arena.specs.Arena.{processes_of, made_of, cell_of};
 ghost use Rattle.cell_arena.specs.Rows.{Rows, AreRows, AreEmpty, arena_of, cell_at};
 ghost use Rattle.cell_arena.specs.Lending.{LendsCell};
@@ -128,6 +128,17 @@ impl<S: Drop, I: Drop, R: Drop> CellRows<S, I, R> {
             Place::Anchor => &mut self.anchor,
             Place::Made { owner, nth } => self.rows[owner].cell_mut(nth),
         }
+    }
+
+    /// Proposes the state and the response of a cell's call.
+    pub(crate) fn settle(&mut self, id: CellId, new: (S, Option<R>))
+        requires { IsSome (cell_of (arena_of self.old) id) }
+        ensures cell { ChangesOnly (cell_of (arena_of self.old)) (cell_of (arena_of self.new)) id (option_map (with_new new) (cell_of (arena_of self.old) id)) }
+        ensures made { IsUnchanged (made_of (arena_of self.old)) (made_of (arena_of self.new)) }
+        ensures shape { (processes_of (arena_of self.new) ≡ processes_of (arena_of self.old)) × (self.new.row ≡ self.old.row) }
+    {
+        let cell = self.cell_mut(id);
+        cell.new.decide(new);
     }
 
     /// Takes every cell out, and puts an anchor in.

@@ -105,7 +105,7 @@ fn proposes<C: Cells<Inv = u32, State = u64, Resp = u8>>(rt: &impl Abort, arena:
     assert_eq!(rt; arena.decide_after(id, CellId::of(2, 0, 0)).index(), 1);
     assert_eq!(rt; arena.decide_after(id, CellId::of(2, 1, 1)).index(), 1);
     assert_eq!(rt; fields(arena, id), (2, Some(71), Some(0), Some(1), None));
-    assert_eq!(rt; arena.decide_new(id, (11, Some(5))), Some(5));
+    assert_eq!(rt; *arena.decide_new(id, (11, Some(5))), (11, Some(5)));
     assert_eq!(rt;
         fields(arena, id),
         (2, Some(71), Some(0), Some(1), Some((11, Some(5))))
@@ -123,7 +123,7 @@ fn clears<C: Cells<Inv = u32, State = u64, Resp = u8>>(
     requires last { IsSome (C.cell arena.old last) }
 {
     arena.set_seq(last, 3);
-    assert_eq!(rt; arena.decide_new(last, (98, None)), Some(5));
+    assert_eq!(rt; *arena.decide_new(last, (98, None)), (11, Some(5)));
     arena.clear_to(last);
     arena.shape();
     assert_eq!(rt;
