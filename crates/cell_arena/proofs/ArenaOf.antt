@@ -6,9 +6,9 @@ use Rattle.std.proofs.lemmas.Nat.{le-div}
 use Rattle.std.proofs.lemmas.Option.{slice_get_past}
 use Rattle.std.proofs.lemmas.Bool.{cases_eq, cases_lt}
 use Rattle.std.proofs.Math.ListN.{length-set}
-use Rattle.cell_arena.specs.CellRecord.{CellRecord, ChangesOnly, HasOnlyAnchor, index_of}
+use Rattle.cell_arena.specs.CellRecord.{CellRecord, ChangesOnly, HasOnlyAnchor, index_of, nth_of, owner_of}
 use Rattle.cell_arena.specs.Arena.{processes_of, made_of, cell_of}
-use Rattle.cell_arena.specs.Rows.{Rows, AreRows, AreEmpty, arena_of, cell_at, cells_of, nth_of, owner_of, rows_of}
+use Rattle.cell_arena.specs.Rows.{Rows, AreRows, AreEmpty, arena_of, cell_at, cells_of, rows_of}
 use Rattle.cell_arena.specs.Lending.{with_cell}
 use Rattle.cell_arena.proofs.Changes.{with_row, rows_of-with_row, at_same, at_other, ChangesOnly-added, ChangesOnly-by, cell_at-is_some, cell_at-no_others}
 use Rattle.cell_arena.proofs.Lists.{slice_get-within, slice_index_or-within}

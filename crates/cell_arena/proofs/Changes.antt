@@ -2,8 +2,8 @@
 use Rattle.std.proofs.Common.{◌≡◌, ◌≢◌, ◌∙◌, ◌++◌, ◌∷◌, [], ◌==◌, ◌<◌, ◌⊎◌, ◌↔◌, ℕ, List, Option, Some, IsSome, inl, inr, if◌then◌else◌, length, slice_get, slice_set, refl, ap, sym, arith, eq-eqb, get_or-set_same, get_or-set_other, option_map, is_some}
 use Rattle.std.proofs.lemmas.Bool.{cases_eq, ne_eqb, cond-true, cond-false}
 use Rattle.std.proofs.Math.ListN.{length-set}
-use Rattle.cell_arena.specs.CellRecord.{CellRecord, ChangesOnly, index_of}
-use Rattle.cell_arena.specs.Rows.{Rows, cell_at, cells_of, owner_of, nth_of, rows_of}
+use Rattle.cell_arena.specs.CellRecord.{CellRecord, ChangesOnly, index_of, owner_of, nth_of}
+use Rattle.cell_arena.specs.Rows.{Rows, cell_at, cells_of, rows_of}
 use Rattle.cell_arena.specs.Lending.{with_cell}
 use Rattle.cell_arena.proofs.Places.{owner_of-index_of, nth_of-index_of, index_of-owner_of}
 use Rattle.cell_arena.proofs.Lists.{slice_get-set_same, slice_get-set_other, slice_get-append_same, slice_get-append_other, slice_get-within, slice_get-there, slice_index_or-within}

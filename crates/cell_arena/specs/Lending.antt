@@ -1,8 +1,8 @@
 -- A cell of rows that is lent.
 use Rattle.std.specs.Prelude.{◌≡◌, ◌==◌, ◌∷◌, [], ℕ, List, if◌then◌else◌, slice_set, refl}
 use Rattle.std.specs.Borrow.{Fml, Lends, MutBor, RattleType}
-use Rattle.cell_arena.specs.CellRecord.{CellRecord, anchor_with, fresh}
-use Rattle.cell_arena.specs.Rows.{Rows, cells_of, owner_of, nth_of, rows_of}
+use Rattle.cell_arena.specs.CellRecord.{CellRecord, anchor_with, fresh, owner_of, nth_of}
+use Rattle.cell_arena.specs.Rows.{Rows, cells_of, rows_of}
 use Rattle.cell_arena.specs.contracts.cell.Cell as cell
 use Rattle.cell_arena.specs.contracts.cell.Row as row
 use Rattle.cell_arena.specs.contracts.rows.CellRows as arena

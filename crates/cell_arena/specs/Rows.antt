@@ -1,7 +1,7 @@
 -- An arena whose cells are kept in rows, one for each process.
-use Rattle.std.specs.Prelude.{◌≡◌, ◌==◌, ◌+◌, ◌*◌, ◌-◌, ◌/◌, ◌%◌, ◌≤◌, ℕ, List, [], ◌∷◌, Option, None, Some, if◌then◌else◌, length, map, slice_get, slice_index_or, EachIndex, refl}
+use Rattle.std.specs.Prelude.{◌≡◌, ◌==◌, ◌+◌, ◌*◌, ◌≤◌, ℕ, List, [], ◌∷◌, Option, None, Some, if◌then◌else◌, length, map, slice_get, slice_index_or, EachIndex, refl}
 use Rattle.std.specs.List.{range_with_len}
-use Rattle.cell_arena.specs.CellRecord.{CellRecord, fresh, anchor_with}
+use Rattle.cell_arena.specs.CellRecord.{CellRecord, fresh, anchor_with, owner_of, nth_of}
 use Rattle.cell_arena.specs.Arena.{Arena}
 
 pub record Rows (S I R : Type 0) : Type 0 where
@@ -18,13 +18,6 @@ rows_of a = length a.rows
 -- the cells of a process
 abbrev pub cells_of : {S I R : Type 0} → Rows S I R → ℕ → List (CellRecord S I R)
 cells_of a p = slice_index_or a.rows p []
-
--- who made the cell at an index, and as its which one
-abbrev pub owner_of : (n index : ℕ) → ℕ
-owner_of n index = (index - 1) % n
-
-abbrev pub nth_of : (n index : ℕ) → ℕ
-nth_of n index = (index - 1) / n
 
 -- the cell at an index
 abbrev pub cell_at : {S I R : Type 0} → Rows S I R → ℕ → Option (CellRecord S I R)
@@ -49,13 +42,6 @@ pub record AreRows {S I R : Type 0} (a : Rows S I R) : Type 0 where
 -- no row has a cell
 abbrev pub AreEmpty : {A : Type 0} → List (List A) → Type 0
 AreEmpty rows = EachIndex rows (λ p. slice_index_or rows p [] ≡ [])
-
--- among three processes, process 2 made the cell at 6 as its second
-owner_of_6 : owner_of 3 6 ≡ 2
-owner_of_6 = refl
-
-nth_of_6 : nth_of 3 6 ≡ 1
-nth_of_6 = refl
 
 -- an anchor 9 with the row of process 0, which has two cells, and the empty one of process 1
 arena_of_two : arena_of {S = ℕ} {I = ℕ} {R = ℕ} (record { row = 2; anchor = anchor_with 9 1; rows = (fresh 5 ∷ fresh 6 ∷ []) ∷ [] ∷ [] })

@@ -1,0 +1,9 @@
+use Rattle.std.proofs.Common.{refl}
+use Rattle.cell_arena.specs.CellRecord.{with_before}
+use Rattle.cell_arena.proofs.FlatArena.{ChangesOnly-by_column}
+use Rattle.cell_arena.proofs.column_cells.ColumnCellsCells.set_before.Goals as goal
+
+pub returns-clause-cell : goal.returns-clause-cell
+returns-clause-cell g c =
+    rw (← c.self.view_is, c.set_before.ensures, c.index.ensures)
+    (ChangesOnly-by_column (with_before c.args.before) (λ _. refl) c.self.inside.columns c.args.id (rw (← c.self.view_is) at c.requires))

@@ -1,0 +1,9 @@
+use Rattle.std.proofs.Common.{refl}
+use Rattle.cell_arena.specs.CellRecord.{with_seq}
+use Rattle.cell_arena.proofs.FlatArena.{ChangesOnly-by_column}
+use Rattle.cell_arena.proofs.column_cells.ColumnCellsCells.set_seq.Goals as goal
+
+pub returns-clause-cell : goal.returns-clause-cell
+returns-clause-cell g c =
+    rw (← c.self.view_is, c.set_seq.ensures, c.index.ensures)
+    (ChangesOnly-by_column (with_seq c.args.seq) (λ _. refl) c.self.inside.columns c.args.id (rw (← c.self.view_is) at c.requires))
