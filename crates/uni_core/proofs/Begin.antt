@@ -3,14 +3,13 @@ use Rattle.std.proofs.Common.{◌≡◌, ◌≢◌, ◌∙◌, ℕ, ◌+◌, ◌
 use Rattle.std.proofs.lemmas.Option.{slice_get_read}
 use Rattle.seq_object.specs.Sequential.{Sequential}
 use Rattle.cell_arena.specs.CellRecord.{ChangesOnly, index_of}
-use Rattle.cell_arena.specs.Rows.{processes_of, made_of}
+use Rattle.cell_arena.specs.Arena.{processes_of, made_of}
 use Rattle.uni_model.specs.Places.{memory_with}
 use Rattle.uni_model.specs.Places.Name.{Of}
 use Rattle.uni_model.specs.Places.Place.{InvOf}
 use Rattle.uni_model.specs.Places.Content.{Invocation}
-use Rattle.uni_model.specs.Worlds.{world_after_call}
+use Rattle.uni_model.specs.Worlds.{world_after_call, calls_in_era}
 use Rattle.uni_model.specs.Worlds.Event.{Call}
-use Rattle.uni_model.specs.History.{Shows, acts_of}
 use Rattle.uni_model.proofs.Simulation.{call_accepted}
 use Rattle.uni_core.specs.declared.local.Local.{Local}
 use Rattle.uni_core.specs.Shared.{Shared, name_of, memory_of}
@@ -18,7 +17,7 @@ use Rattle.uni_core.specs.declared.stage.Pending.{Pending}
 use Rattle.uni_core.specs.Standing.{pending_of}
 use Rattle.uni_model.specs.Stages.{Pending as PendingAt}
 use Rattle.seq_object.specs.declared.call_id.CallId.{CallId}
-use Rattle.uni_core.specs.Whole.{Whole, world_of, call_at, current_of, IsWorld, Follows}
+use Rattle.uni_core.specs.Whole.{Whole, world_of, call_at, current_of, IsWorld, TakesEffect}
 use Rattle.uni_core.proofs.Named.{name_of-index_of}
 use Rattle.uni_core.proofs.Shown.{begun_whole, world_of-begun, IsWorld-begun}
 
@@ -29,6 +28,10 @@ inside_count n k p count below = subst (λ j. p < j) count below
 -- and by the world as a contract has it
 pub inside_view : {O S I R : Type 0} (v now : Whole O S I R) (p : ℕ) → v ≡ now → p < processes_of now.shared.cells → p < processes_of v.shared.cells
 inside_view {O} {S} {I} {R} v now p view below = subst (λ (x : Whole O S I R). p < processes_of x.shared.cells) (sym view) below
+
+-- a row in which cells can still be made
+pub room_left : (row made room : ℕ) → room ≡ row - made → room ≢ 0 → made < row
+room_left row made room is some = omega (arith, is, some)
 
 -- what a process keeps for itself, where it stands in the list
 pub local_here : {O S I R : Type 0} (object : Sequential S I R) (v : Whole O S I R) → IsWorld object v → (p : ℕ) (l : Local)
@@ -56,7 +59,19 @@ module _ {O S I R : Type 0} (object : Sequential S I R) (v now : Whole O S I R) 
   pub no_call_now : l.call ≡ None → (world_of now).call p ≡ None
   no_call_now idle = subst (λ (x : Whole O S I R). (world_of x).call p ≡ None) view (rw here (rw idle refl))
 
-  module _ (a' : Shared S I R) (i j : I) (same : i ≡ j) (mine : ℕ) (b : Bool) (tested : b ≡ is_some l.call) (none : b ≡ false) (free : l.begun ≢ v.row)
+  -- the era has as many of its calls as there are cells
+  era_is : calls_in_era (world_of v) p ≡ made_of v.shared.cells p
+  era_is = let all : (world_of v).begun p ≡ 0 + made_of v.shared.cells p = is.made p inside in omega arith
+
+  -- a row that is full
+  pub full_now : (room : ℕ) → room ≡ v.shared.cells.row - made_of v.shared.cells p → room ≡ 0 → calls_in_era (world_of now) p ≡ now.row
+  full_now room is_room none = subst (λ (x : Whole O S I R). calls_in_era (world_of x) p ≡ x.row) view (let all = era_is in let most : calls_in_era (world_of v) p ≤ v.row = is.room p in let rows : v.row ≡ v.shared.cells.row = is.row in omega arith)
+
+  -- a row that isn't
+  pub not_full_now : (room : ℕ) → room ≡ v.shared.cells.row - made_of v.shared.cells p → room ≢ 0 → calls_in_era (world_of now) p ≢ now.row
+  not_full_now room is_room some = subst (λ (x : Whole O S I R). calls_in_era (world_of x) p ≢ x.row) view (λ e. let all = era_is in let rows : v.row ≡ v.shared.cells.row = is.row in omega arith)
+
+  module _ (a' : Shared S I R) (i j : I) (same : i ≡ j) (mine : ℕ) (b : Bool) (tested : b ≡ is_some l.call) (none : b ≡ false) (free : made_of v.shared.cells p < v.shared.cells.row)
       (mine_is : mine ≡ index_of (processes_of v.shared.cells) p (made_of v.shared.cells p))
       (wrote : memory_of a' ≡ memory_with (memory_of v.shared) (InvOf (Of p (made_of v.shared.cells p))) (Invocation (Some i)))
       (shape : (processes_of a'.cells ≡ processes_of v.shared.cells) × (a'.cells.row ≡ v.shared.cells.row))
@@ -65,7 +80,7 @@ module _ {O S I R : Type 0} (object : Sequential S I R) (v now : Whole O S I R) 
     idle = no_call b (sym tested) none
 
     made_is : made_of v.shared.cells p ≡ l.begun
-    made_is = sym (is.begun p inside) ∙ begun_is
+    made_is = let all : (world_of v).begun p ≡ 0 + made_of v.shared.cells p = is.made p inside in let own = begun_is in omega arith
 
     pub name : name_of (processes_of v.shared.cells) mine ≡ Of p l.begun
     name = ap (name_of (processes_of v.shared.cells)) mine_is ∙ name_of-index_of (processes_of v.shared.cells) p (made_of v.shared.cells p) inside ∙ ap (Of p) made_is
@@ -83,11 +98,11 @@ module _ {O S I R : Type 0} (object : Sequential S I R) (v now : Whole O S I R) 
     world_of-call = world_of-begun object v is p l here inside a' i mine name shape.0 wrote_begun idle
         ∙ ap (λ (x : Whole O S I R). world_after_call (world_of x) p i) view ∙ ap (world_after_call (world_of now) p) same
 
-    pub Follows-call : Follows object (world_of now) (world_of (begun_whole object v is p l here inside a' i mine name shape.0 wrote_begun idle)) (acts_of object (world_of now) (Call p j))
+    pub Follows-call : TakesEffect object (world_of now) (Call p j)
     Follows-call a shows =
         let sound = subst (λ (x : Whole O S I R). IsWorld object x) view is in
         let accepted = call_accepted object (world_of now) sound.sound.0 sound.sound.1 sound.sound.2 p j (subst (λ (x : Whole O S I R). p < processes_of x.shared.cells) view inside) idle_now a shows in
-        (accepted.0, subst (λ w. Shows w accepted.0) (sym world_of-call) accepted.1, accepted.2)
+        accepted
 
   -- the call that is pending is the latest that its process has begun
   pend : (call : Pending) → l.call ≡ Some call → (world_of v).call p ≡ Some (pending_of (processes_of v.shared.cells) call)

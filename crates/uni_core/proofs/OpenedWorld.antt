@@ -3,7 +3,7 @@ use Rattle.std.proofs.Common.{◌≡◌, ◌∙◌, ℕ, zero, suc, ◌+◌, ◌
 use Rattle.std.specs.Option.{option_map_or}
 use Rattle.std.proofs.lemmas.List.{length-replicate}
 use Rattle.seq_object.specs.Sequential.{Sequential}
-use Rattle.cell_arena.specs.Rows.{processes_of, made_of}
+use Rattle.cell_arena.specs.Arena.{processes_of, made_of}
 use Rattle.uni_model.specs.Places.{Memory, seq_of}
 use Rattle.uni_model.specs.Places.Name.{Anchor}
 use Rattle.uni_model.specs.Worlds.{WorldOf, anchor_memory, opened_world}
@@ -51,8 +51,8 @@ module _ {O S I R : Type 0} (sequential : Sequential S I R) (object : O) (a : Sh
         locals = ap length copied ∙ length-replicate n new_local ∙ sym shape.0;
         few = subst (λ j. j ≤ 16) (sym shape.0) few;
         row = sym shape.1;
-        begun = λ p below. ap (λ (w : WorldOf S I R). w.begun p) world_of-first ∙ sym (made p);
-        room = λ p. subst (λ j. j ≤ k) (sym (ap (λ (w : WorldOf S I R). w.begun p) world_of-first)) (omega arith);
+        made = λ p below. let none : (world_of first).begun p ≡ 0 = ap (λ (w : WorldOf S I R). w.begun p) world_of-first in let empty = made p in omega arith;
+        room = λ p. let none : (world_of first).begun p ≡ 0 = ap (λ (w : WorldOf S I R). w.begun p) world_of-first in omega arith;
         numbers = subst (λ (m : Memory S I R). seq_of m Anchor + processes_of a.cells * k < 2 ^ 48) (sym memory) (subst (λ j. number + j * k < 2 ^ 48) (sym shape.0) fits);
         sound = subst (λ w. HelpingInvariant sequential w) (sym world_of-first) (HelpingInvariant-opened_world sequential n s number positive);
         counts = subst CountsSteps (sym world_of-first) (CountsSteps-opened_world sequential n s number);

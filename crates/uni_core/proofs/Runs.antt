@@ -8,7 +8,7 @@ use Rattle.std.specs.Result.{IsErrOf}
 use Rattle.seq_object.specs.Sequential.{Sequential}
 use Rattle.seq_object.specs.declared.call_id.CallId.{CallId}
 use Rattle.uni_model.specs.Stages.{Pending}
-use Rattle.uni_model.specs.Worlds.{WorldOf, Event, world_after, world_after_all}
+use Rattle.uni_model.specs.Worlds.{WorldOf, Event, calls_in_era, world_after, world_after_all}
 use Rattle.uni_model.specs.AtomicObject.{Act}
 use Rattle.uni_model.specs.History.{Shows, acts_of, history_of}
 use Rattle.uni_model.proofs.LawProofs.{AcceptsAll-append}
@@ -30,7 +30,7 @@ pub TakesCommand-refused : {O S I R : Type 0} (object : Sequential S I R) (old n
 TakesCommand-refused object old new row command why same is = record {
   is = is;
   left = ap world_of same;
-  accepted = λ a shows. (a, subst (λ w. Shows (world_of w) a) (sym same) shows, refl);
+  accepted = λ a shows. (a, shows, refl);
 }
 
 -- which error a result has
@@ -44,13 +44,13 @@ pub Ok-IsErrOf : {T E : Type 0} (x : T) (e : E) → IsErrOf (Ok x) e → ⊥
 Ok-IsErrOf x e is = cc
 
 -- a process that isn't refused a call can begin one
-can_call : {S I R : Type 0} (w : WorldOf S I R) (row p : ℕ) → w.begun p ≤ row → (w.n ≤ p → ⊥) → ((p < w.n) × IsSome (w.call p) → ⊥) → ((p < w.n) × (w.call p ≡ None) × (w.begun p ≡ row) → ⊥)
+can_call : {S I R : Type 0} (w : WorldOf S I R) (row p : ℕ) → calls_in_era w p ≤ row → (w.n ≤ p → ⊥) → ((p < w.n) × IsSome (w.call p) → ⊥) → ((p < w.n) × (w.call p ≡ None) × (calls_in_era w p ≡ row) → ⊥)
     → CanCall w row p
 can_call w row p room process busy full = elim (cases_lt p w.n) [
   | inl below ↦ (
     below,
     idle below (w.call p) refl,
-    elim (cases_lt (w.begun p) row) [
+    elim (cases_lt (calls_in_era w p) row) [
       | inl less ↦ less
       | inr more ↦ absurd (full (below, idle below (w.call p) refl, omega (arith, more, room)))
     ],
@@ -62,8 +62,8 @@ can_call w row p room process busy full = elim (cases_lt p w.n) [
   idle below (Some c) e = absurd (busy (below, rw e refl))
 
 -- a call that has begun, or that is refused memory alone, could begin
-pub begun_can_call : {S I R : Type 0} (w : WorldOf S I R) (row p : ℕ) (r : Result CallId BeginFault) → ((e : BeginFault) → r ≡ Err e → e ≡ begin.Memory) → w.begun p ≤ row → (w.n ≤ p → IsErrOf r begin.BadProcess)
-    → ((p < w.n) × IsSome (w.call p) → IsErrOf r (begin.Busy p)) → ((p < w.n) × (w.call p ≡ None) × (w.begun p ≡ row) → IsErrOf r (begin.RowFull p)) → CanCall w row p
+pub begun_can_call : {S I R : Type 0} (w : WorldOf S I R) (row p : ℕ) (r : Result CallId BeginFault) → ((e : BeginFault) → r ≡ Err e → e ≡ begin.Memory) → calls_in_era w p ≤ row → (w.n ≤ p → IsErrOf r begin.BadProcess)
+    → ((p < w.n) × IsSome (w.call p) → IsErrOf r (begin.Busy p)) → ((p < w.n) × (w.call p ≡ None) × (calls_in_era w p ≡ row) → IsErrOf r (begin.RowFull p)) → CanCall w row p
 begun_can_call w row p r memory room process busy full = can_call w row p room
     (λ h. let f : begin.BadProcess ≡ begin.Memory = memory begin.BadProcess (process h) in cc)
     (λ h. let f : begin.Busy p ≡ begin.Memory = memory (begin.Busy p) (busy h) in cc)
@@ -151,7 +151,7 @@ module _ {S I R : Type 0} (object : Sequential S I R) (row : ℕ) where
         ran = rest.ran ∙ ap (λ x. world_after_all object x (events_of commands outcomes)) takes.left ∙ sym (replay-event object w event (events_of commands outcomes));
         accepted = subst (Follows object w last) (
             ap (λ x. option_map_or (acts_of object w) event [] ++ history_of object x (events_of commands outcomes)) takes.left ∙ sym (history-event object w event (events_of commands outcomes)))
-            (Follows-append object w w' last (option_map_or (acts_of object w) event []) (history_of object w' (events_of commands outcomes)) takes.accepted rest.accepted);
+            (Follows-append object w w' last (option_map_or (acts_of object w) event []) (history_of object w' (events_of commands outcomes)) (subst (λ x. Follows object w x (option_map_or (acts_of object w) (event_of command outcome) [])) (sym takes.left) takes.accepted) rest.accepted);
       }
 
   -- From where it began, the world has taken these commands with these outcomes, and whatever it takes from here on comes after them.

@@ -2,7 +2,7 @@
 use Rattle.std.proofs.Common.{◌≡◌, ◌∙◌, ℕ, ◌<◌, ◌≤◌, refl, sym, ap, subst, List, Option, Some, None, option_map, IsSome, arith, true, false, length, slice_get, slice_set, unwrap_or, replicate, zero, suc, inl, inr}
 use Rattle.std.specs.Option.{option_map_or}
 use Rattle.cell_arena.specs.CellRecord.{CellRecord, index_of, ChangesOnly, with_seq, with_before, with_after, with_new, fresh, settled, anchor_with, HasOnlyAnchor}
-use Rattle.cell_arena.specs.Rows.{Rows, processes_of, made_of, cell_of}
+use Rattle.cell_arena.specs.Arena.{Arena, processes_of, made_of, cell_of}
 use Rattle.uni_model.specs.Places.{Name, Place, Content, memory_with, after_of, new_of}
 use Rattle.uni_model.specs.Places.Name.{Anchor, Of}
 use Rattle.uni_model.specs.Places.Place.{Announced, HeadOf, InvOf, SeqOf, AfterOf, NewOf, BeforeOf}
@@ -15,7 +15,7 @@ use Rattle.uni_core.proofs.Named.{cell_named-name_of}
 use Rattle.uni_core.proofs.Written.{memory_at-with_seq, memory_at-with_before, memory_at-with_after, memory_at-with_new, memory_at-made, memory_at-announce, memory_at-head}
 
 module _ {S I R : Type 0} (a now : Shared S I R) (view : a ≡ now) where
-  module _ (cells' : Rows S I R) (positive : 1 ≤ processes_of a.cells) (same : processes_of cells' ≡ processes_of a.cells) where
+  module _ (cells' : Arena S I R) (positive : 1 ≤ processes_of a.cells) (same : processes_of cells' ≡ processes_of a.cells) where
     -- the number of processes as it was
     counted : (announce heads : List ℕ) → memory_of (record { cells = cells'; announce = announce; heads = heads }) ≡ memory_at (processes_of a.cells) (cell_of cells') announce heads
     counted announce heads = ap (λ k. memory_at k (cell_of cells') announce heads) same

@@ -1,10 +1,10 @@
 -- The world that is shown, after a process's own data changed.
-use Rattle.std.proofs.Common.{◌≡◌, ◌≢◌, ◌∙◌, ℕ, ◌+◌, ◌*◌, ◌<◌, ◌≤◌, ◌^◌, inl, inr, refl, sym, ap, subst, List, Option, Some, None, option_map, arith, length, slice_get, slice_set}
+use Rattle.std.proofs.Common.{◌≡◌, ◌≢◌, ◌∙◌, ℕ, ◌+◌, ◌-◌, ◌*◌, ◌<◌, ◌≤◌, ◌^◌, inl, inr, refl, sym, ap, subst, List, Option, Some, None, option_map, arith, length, slice_get, slice_set}
 use Rattle.std.specs.Option.{option_map_or}
 use Rattle.std.proofs.Math.ListN.{length-set}
 use Rattle.seq_object.specs.Sequential.{Sequential}
 use Rattle.cell_arena.proofs.Lists.{slice_get-set_same, slice_get-set_other}
-use Rattle.cell_arena.specs.Rows.{processes_of, made_of}
+use Rattle.cell_arena.specs.Arena.{processes_of, made_of}
 use Rattle.cell_arena.specs.CellRecord.{ChangesOnly}
 use Rattle.uni_model.specs.Places.{Memory, memory_with, set_at, seq_of}
 use Rattle.uni_model.specs.Places.Name.{Anchor, Of}
@@ -115,18 +115,18 @@ module _ {O S I R : Type 0} (object : Sequential S I R) (v : Whole O S I R) (is 
     begun_later : (q : ℕ) → (world_of begun_whole).begun q ≡ set_at (world_of v).begun p ((world_of v).begun p + 1) q
     begun_later q = ap (λ (w : WorldOf S I R). w.begun q) world_of-begun
 
-    pub IsWorld-begun : a'.cells.row ≡ v.shared.cells.row → ChangesOnly (made_of v.shared.cells) (made_of a'.cells) p (made_of v.shared.cells p + 1) → l.begun ≢ v.row
+    pub IsWorld-begun : a'.cells.row ≡ v.shared.cells.row → ChangesOnly (made_of v.shared.cells) (made_of a'.cells) p (made_of v.shared.cells p + 1) → made_of v.shared.cells p < v.shared.cells.row
         → IsWorld object begun_whole
     IsWorld-begun row made free = record {
       locals = length-slice_set v.locals p begun_local ∙ is.locals ∙ sym count;
       few = subst (λ k. k ≤ 16) (sym count) is.few;
       row = is.row ∙ sym row;
-      begun = λ q inside. begun_later q ∙ (elim (number_cases q p) [
-        | inl h ↦ rw h.1 (ap (λ k. k + 1) (is.begun p below) ∙ sym (made q ∙ rw h.1 refl))
-        | inr h ↦ rw h.1 (is.begun q (subst (λ k. q < k) count inside) ∙ sym (made q ∙ rw h.1 refl))
+      made = λ q inside. begun_later q ∙ (elim (number_cases q p) [
+        | inl h ↦ rw h.1 (let was : (world_of v).begun p ≡ 0 + made_of v.shared.cells p = is.made p below in let now : made_of a'.cells q ≡ made_of v.shared.cells p + 1 = made q ∙ rw h.1 refl in omega arith)
+        | inr h ↦ rw h.1 (is.made q (subst (λ k. q < k) count inside) ∙ ap (λ k. 0 + k) (sym (made q ∙ rw h.1 refl)))
       ]);
-      room = λ q. subst (λ k. k ≤ v.row) (sym (begun_later q)) (elim (number_cases q p) [
-        | inl h ↦ rw h.1 (let bound : (world_of v).begun p ≤ v.row = is.room p in let e : (world_of v).begun p ≡ l.begun = begun_is in let f = free in omega arith)
+      room = λ q. subst (λ k. k - 0 ≤ v.row) (sym (begun_later q)) (elim (number_cases q p) [
+        | inl h ↦ rw h.1 (let e : (world_of v).begun p ≡ l.begun = begun_is in let was : (world_of v).begun p ≡ 0 + made_of v.shared.cells p = is.made p below in let rows : v.row ≡ v.shared.cells.row = is.row in let f = free in omega arith)
         | inr h ↦ rw h.1 (is.room q)
       ]);
       numbers = subst (λ k. seq_of (memory_of a') Anchor + k * v.row < 2 ^ 48) (sym count) (subst (λ (m : Memory S I R). seq_of m Anchor + processes_of v.shared.cells * v.row < 2 ^ 48) (sym wrote) is.numbers);
@@ -216,8 +216,8 @@ module _ {O S I R : Type 0} (object : Sequential S I R) (v : Whole O S I R) (is 
       locals = length-slice_set v.locals p stepped_local ∙ is.locals ∙ sym takes.shape.processes;
       few = subst (λ k. k ≤ 16) (sym takes.shape.processes) is.few;
       row = is.row ∙ sym takes.shape.row;
-      begun = λ q inside. begun_stays q ∙ is.begun q (subst (λ k. q < k) takes.shape.processes inside) ∙ sym (takes.shape.made q);
-      room = λ q. subst (λ k. k ≤ v.row) (sym (begun_stays q)) (is.room q);
+      made = λ q inside. begun_stays q ∙ is.made q (subst (λ k. q < k) takes.shape.processes inside) ∙ ap (λ k. 0 + k) (sym (takes.shape.made q));
+      room = λ q. subst (λ k. k - 0 ≤ v.row) (sym (begun_stays q)) (is.room q);
       numbers = subst (λ k. seq_of (memory_of a') Anchor + k * v.row < 2 ^ 48) (sym takes.shape.processes)
           (subst (λ k. k + processes_of v.shared.cells * v.row < 2 ^ 48) (sym anchor_stays) is.numbers);
       sound = subst (λ w. HelpingInvariant object w) (sym world_of-world_after_step) (HelpingInvariant-world_after object (world_of v) (Step p) accepted is.counts is.sound);

@@ -1,9 +1,9 @@
 -- Where a call is pending, its next step can be taken, and its last step finds a response.
-use Rattle.std.proofs.Common.{◌≡◌, ◌∙◌, ℕ, zero, suc, ◌+◌, ◌*◌, ◌<◌, ◌≤◌, ◌^◌, ◌%◌, ◌⊎◌, inl, inr, refl, sym, ap, subst, Option, Some, None, option_map, option_and_then, IsSome, arith, Bool, true, false, cond, nat_eq, nat_lt}
+use Rattle.std.proofs.Common.{◌≡◌, ◌∙◌, ℕ, zero, suc, ◌+◌, ◌-◌, ◌*◌, ◌<◌, ◌≤◌, ◌^◌, ◌%◌, ◌⊎◌, inl, inr, refl, sym, ap, subst, Option, Some, None, option_map, option_and_then, IsSome, arith, Bool, true, false, cond, nat_eq, nat_lt}
 use Rattle.std.specs.Option.{option_map_or}
 use Rattle.seq_object.specs.Sequential.{Sequential}
 use Rattle.cell_arena.specs.CellRecord.{CellRecord}
-use Rattle.cell_arena.specs.Rows.{processes_of, cell_of}
+use Rattle.cell_arena.specs.Arena.{processes_of, cell_of}
 use Rattle.uni_model.specs.Places.{Name, Content, number_in, seq_of, inv_of, after_of}
 use Rattle.uni_model.specs.Places.Name.{Anchor, Of}
 use Rattle.uni_model.specs.Stages.{Stage as at}
@@ -70,7 +70,7 @@ module _ {O S I R : Type 0} (object : Sequential S I R) (v : Whole O S I R) (is 
         = (head_number object (world_of v) is.sound.0 is.sound.1 is.sound.2 p (name_of (processes_of v.shared.cells) mine) (stage_of (processes_of v.shared.cells) stage) pending (name_of (processes_of v.shared.cells) c) s h).1 in
         let top : is.sound.0 (name_of (processes_of v.shared.cells) c) ≤ is.sound.1 = is.sound.2.numbered.greatest (name_of (processes_of v.shared.cells) c) in
         let all : is.sound.1 ≤ is.sound.0 Anchor + calls_begun (world_of v) = enough object (world_of v) is.sound.0 is.sound.1 is.sound.2 in
-        let each : calls_begun (world_of v) ≤ processes_of v.shared.cells * v.row = sum_below-bound (processes_of v.shared.cells) v.row (world_of v).begun is.room in
+        let each : calls_begun (world_of v) ≤ processes_of v.shared.cells * v.row = sum_below-bound (processes_of v.shared.cells) v.row (world_of v).begun (λ q. let room : (world_of v).begun q - 0 ≤ v.row = is.room q in omega arith) in
         let anchor : is.sound.0 Anchor ≡ seq_of (memory_of v.shared) Anchor = is.sound.2.numbered.anchor in
         let fits : seq_of (memory_of v.shared) Anchor + processes_of v.shared.cells * v.row < 2 ^ 48 = is.numbers in
         omega arith

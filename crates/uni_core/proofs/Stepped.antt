@@ -2,7 +2,7 @@
 use Rattle.std.proofs.Common.{◌≡◌, ◌∙◌, ℕ, ◌+◌, ◌*◌, ◌^◌, ◌<◌, ◌≤◌, refl, sym, ap, subst, Option, Some, None, option_map, is_some, IsSome, arith, Bool, true, false, slice_get, slice_set, get_or, Result, Ok, Err, OnErr}
 use Rattle.cell_arena.proofs.Lists.{slice_get-set_same}
 use Rattle.seq_object.specs.Sequential.{Sequential}
-use Rattle.cell_arena.specs.Rows.{processes_of, cell_of}
+use Rattle.cell_arena.specs.Arena.{processes_of, cell_of}
 use Rattle.uni_model.specs.Places.{Memory}
 use Rattle.uni_model.specs.Stages.{Stage as at, Pending as PendingAt}
 use Rattle.uni_model.specs.Transition.{place_of, turn_of}
@@ -10,7 +10,8 @@ use Rattle.uni_model.specs.Chain.{response_in}
 use Rattle.uni_model.specs.Worlds.{world_after, response_of_step}
 use Rattle.uni_model.specs.Worlds.Event.{Step}
 use Rattle.uni_model.specs.Bound.{IsBounded, IsWithinBound}
-use Rattle.uni_model.specs.History.{Shows, acts_of}
+use Rattle.uni_model.specs.Settled.{SeesSettled}
+use Rattle.uni_model.proofs.Seen.{SeesSettled-held}
 use Rattle.uni_model.proofs.Simulation.{step_accepted}
 use Rattle.uni_model.proofs.Bounded.{IsBounded-held}
 use Rattle.uni_core.specs.declared.local.Local.{Local}
@@ -22,7 +23,7 @@ use Rattle.uni_core.specs.declared.transition.After.TheVariants.{At, Ended}
 use Rattle.uni_core.specs.declared.fault.Progress.TheVariants.{Going, Done}
 use Rattle.uni_core.specs.Shared.{Shared, name_of, memory_of}
 use Rattle.uni_core.specs.Standing.{stage_of, stage_told, response_told, pending_of, Takes, CanStep, MayBeRefused, turns_to}
-use Rattle.uni_core.specs.Whole.{Whole, world_of, IsWorld, Follows, MayNeedMemory, MayNeedMemoryAt, progress_of}
+use Rattle.uni_core.specs.Whole.{Whole, world_of, IsWorld, TakesEffect, MayNeedMemory, MayNeedMemoryAt, progress_of}
 use Rattle.uni_core.proofs.Begin.{inside_count, local_here}
 use Rattle.uni_core.proofs.Shown.{stepped_whole, stepped_local, world_of-world_after_step, IsWorld-world_after_step}
 use Rattle.uni_core.proofs.Steppable.{CanStep-pending, turns_to-effect}
@@ -115,12 +116,16 @@ module _ {O S I R : Type 0} (object : Sequential S I R) (v now : Whole O S I R) 
     world_of-left = sym (ap world_of same_whole) ∙ world_of-world_after_step object v is p l here inside a' call pending to (response_told told) takes after.steps after.turns steps_is turns_counted
         ∙ ap (λ (x : Whole O S I R). world_after object (world_of x) (Step p)) view
 
-    pub Follows-left : Follows object (world_of now) (world_of left) (acts_of object (world_of now) (Step p))
+    Follows-left : TakesEffect object (world_of now) (Step p)
     Follows-left a shows =
         let sound = subst (λ (x : Whole O S I R). IsWorld object x) view is in
         let pend_now : (world_of now).call p ≡ Some at_v = subst (λ (x : Whole O S I R). (world_of x).call p ≡ Some at_v) view pend in
-        let accepted = step_accepted object (world_of now) sound.sound.0 sound.sound.1 sound.sound.2 p at_v.mine a shows at_v.stage pend_now in
-        (accepted.0, subst (λ w. Shows w accepted.0) (sym world_of-left) accepted.1, accepted.2)
+        step_accepted object (world_of now) sound.sound.0 sound.sound.1 sound.sound.2 p at_v.mine a shows at_v.stage pend_now
+
+    pub SeesSettled-left : SeesSettled (world_of now) p
+    SeesSettled-left =
+        let sound = subst (λ (x : Whole O S I R). IsWorld object x) view is in
+        SeesSettled-held object (world_of now) (sound.sound.0, sound.sound.1, sound.sound.2) p
 
     -- the same for the meaning of the object, as a contract has it
     module _ (o : O) (sequential : O → Sequential S I R) (is_object : object ≡ sequential v.object) where
@@ -131,10 +136,8 @@ module _ {O S I R : Type 0} (object : Sequential S I R) (v now : Whole O S I R) 
       world_of-left_with = world_of-left ∙ ap (λ f. world_after f (world_of now) (Step p)) is_object
           ∙ ap (λ (x : Whole O S I R). world_after (sequential x.object) (world_of now) (Step p)) view
 
-      pub Follows-left_with : Follows (sequential now.object) (world_of now) (world_of left_with) (acts_of (sequential now.object) (world_of now) (Step p))
-      Follows-left_with =
-          let at_object = subst (λ f. Follows f (world_of now) (world_of left) (acts_of f (world_of now) (Step p))) is_object Follows-left in
-          subst (λ (x : Whole O S I R). Follows (sequential x.object) (world_of now) (world_of left) (acts_of (sequential x.object) (world_of now) (Step p))) view at_object
+      pub Follows-left_with : TakesEffect (sequential now.object) (world_of now) (Step p)
+      Follows-left_with = subst (λ (x : Whole O S I R). TakesEffect (sequential x.object) (world_of now) (Step p)) view (subst (λ f. TakesEffect f (world_of now) (Step p)) is_object Follows-left)
 
     -- what the step answers
     pub answers : progress_of (response_told told) ≡ progress_of (response_of_step (world_of now) p)

@@ -11,7 +11,7 @@ use Rattle.uni_model.specs.Places.Content.{CellName, Link}
 use Rattle.uni_model.specs.Stages.{Stage as at}
 use Rattle.uni_model.specs.Chain.{response_in}
 use Rattle.uni_model.specs.Transition.{decision, value_after, place_of, stage_after_scan}
-use Rattle.cell_arena.specs.Rows.{Rows, processes_of, made_of}
+use Rattle.cell_arena.specs.Arena.{Arena, processes_of, made_of}
 use Rattle.uni_model.proofs.Written.{written_same, lt_cases}
 use Rattle.uni_core.specs.Shared.{Shared, name_of, memory_of, HasShapeOf}
 use Rattle.uni_core.specs.Standing.{Takes, effect_at, stage_of}
@@ -44,7 +44,7 @@ pub proposed_same : {S I R : Type 0} (a a' : Shared S I R) (d : Name) (p q : Opt
 proposed_same a a' d p q e h = subst (λ x. memory_of a' ≡ memory_with (memory_of a) (NewOf d) (Settled (decision (new_of (memory_of a) d) x))) (sym e) h
 
 -- the same cells have the same shape
-pub HasShapeOf-same : {S I R : Type 0} (old new : Rows S I R) → new ≡ old → HasShapeOf old new
+pub HasShapeOf-same : {S I R : Type 0} (old new : Arena S I R) → new ≡ old → HasShapeOf old new
 HasShapeOf-same old new same = record { processes = ap processes_of same; row = ap (λ r. r.row) same; made = λ p. ap (λ r. made_of r p) same }
 
 -- a step that only reads its place

@@ -1,12 +1,12 @@
 -- The walk along the list to its last cell.
-use Rattle.std.proofs.Common.{◌≡◌, ◌∙◌, ℕ, zero, suc, ◌+◌, ◌*◌, ◌<◌, ◌≤◌, refl, sym, ap, Option, Some, None, option_map, IsSome, [], ◌∷◌, arith}
+use Rattle.std.proofs.Common.{◌≡◌, ◌∙◌, ℕ, zero, suc, ◌+◌, ◌-◌, ◌*◌, ◌<◌, ◌≤◌, refl, sym, ap, Option, Some, None, option_map, IsSome, [], ◌∷◌, arith}
 use Rattle.std.specs.Option.{option_map_or}
 use Rattle.seq_object.specs.Sequential.{Sequential}
-use Rattle.cell_arena.specs.Rows.{processes_of, cell_of}
+use Rattle.cell_arena.specs.Arena.{processes_of, cell_of}
 use Rattle.uni_model.specs.Places.{Name, after_of}
 use Rattle.uni_model.specs.Places.Name.{Anchor}
 use Rattle.uni_model.specs.Chain.{cells_from, last_of}
-use Rattle.uni_model.specs.Worlds.{WorldOf, calls_begun, last_cell}
+use Rattle.uni_model.specs.Worlds.{WorldOf, calls_begun, calls_in_era, last_cell}
 use Rattle.uni_model.specs.Invariant.{Invariant}
 use Rattle.uni_model.proofs.Simulation.{enough}
 use Rattle.uni_model.proofs.Chains.{cells_from-enough}
@@ -31,10 +31,10 @@ module _ {O S I R : Type 0} (now : Whole O S I R) (id : ℕ) where
   named = name_of (processes_of now.shared.cells)
 
   -- it starts at the anchor
-  pub leads_at_first : (object : Sequential S I R) → Invariant object (world_of now) → ((p : ℕ) → (world_of now).begun p ≤ now.row) → id ≡ 0
+  pub leads_at_first : (object : Sequential S I R) → Invariant object (world_of now) → ((p : ℕ) → calls_in_era (world_of now) p ≤ now.row) → IsSome (cell_of now.shared.cells 0) → id ≡ 0
       → ((rest : ℕ) × (0 + rest ≡ processes_of now.shared.cells * now.row) × LeadsToLast (world_of now) (named id) rest) × IsSome (cell_of now.shared.cells id)
-  leads_at_first object sound room is =
-      rw is ((processes_of now.shared.cells * now.row, omega arith, last_from_anchor object (world_of now) now.row sound room), refl)
+  leads_at_first object sound room anchor is =
+      rw is ((processes_of now.shared.cells * now.row, omega arith, last_from_anchor object (world_of now) now.row sound (λ p. let few : (world_of now).begun p - 0 ≤ now.row = room p in omega arith)), anchor)
 
   -- it ends where no cell is linked
   pub last_at_end : (o : Option ℕ) (rest : ℕ) → LeadsToLast (world_of now) (named id) rest

@@ -2,7 +2,7 @@
 use Rattle.std.specs.Prelude.{◌≡◌, ℕ, ◌<◌, ◌≤◌, List, [], ◌∷◌, Option, Some, None, IsSome, refl}
 use Rattle.std.specs.Option.{option_map_or}
 use Rattle.seq_object.specs.Sequential.{Sequential}
-use Rattle.uni_model.specs.Worlds.{WorldOf, Event, world_after, world_after_all, response_of_step, opened_world}
+use Rattle.uni_model.specs.Worlds.{WorldOf, Event, world_after, world_after_all, response_of_step, calls_in_era, opened_world}
 use Rattle.uni_model.specs.Worlds.{Event as event}
 use Rattle.uni_model.specs.AtomicObject.Act.{Invoke}
 use Rattle.uni_model.specs.History.{acts_of, history_of}
@@ -16,7 +16,7 @@ use Rattle.uni_core.specs.Whole.{current_of, Follows, MayNeedMemory}
 
 -- a process can begin a call: it has none pending, and room in its row
 abbrev pub CanCall : {S I R : Type 0} → WorldOf S I R → (row p : ℕ) → Type 0
-CanCall w row p = (p < w.n) × (w.call p ≡ None) × (w.begun p < row)
+CanCall w row p = (p < w.n) × (w.call p ≡ None) × (calls_in_era w p < row)
 
 -- a process has a step to take
 abbrev pub CanGo : {S I R : Type 0} → WorldOf S I R → (p : ℕ) → Type 0
@@ -26,7 +26,7 @@ CanGo w p = (p < w.n) × IsSome (w.call p)
 abbrev pub IsCallRefused : {S I R : Type 0} → WorldOf S I R → (row p : ℕ) → Refusal → Type 0
 IsCallRefused w row p BadProcess = w.n ≤ p
 IsCallRefused w row p (Busy q) = (q ≡ p) × (p < w.n) × IsSome (w.call p)
-IsCallRefused w row p (RowFull q) = (q ≡ p) × (p < w.n) × (w.call p ≡ None) × (w.begun p ≡ row)
+IsCallRefused w row p (RowFull q) = (q ≡ p) × (p < w.n) × (w.call p ≡ None) × (calls_in_era w p ≡ row)
 IsCallRefused w row p (Idle q) = ⊥
 IsCallRefused w row p Memory = CanCall w row p
 
@@ -77,7 +77,7 @@ AreOutcomes object w row (command ∷ commands) (outcome ∷ outcomes) =
 pub record TakesCommand {S I R : Type 0} (object : Sequential S I R) (w : WorldOf S I R) (row : ℕ) (command : Command I) (outcome : Outcome R) (w' : WorldOf S I R) : Type 0 where
   pub is : IsOutcome w row command outcome
   pub left : w' ≡ after_command object w command outcome
-  pub accepted : Follows object w w' (option_map_or (acts_of object w) (event_of command outcome) [])
+  pub accepted : Follows object w (after_command object w command outcome) (option_map_or (acts_of object w) (event_of command outcome) [])
 
 -- an object that keeps the last number, and answers the one before
 abbrev last_number : Sequential ℕ ℕ ℕ

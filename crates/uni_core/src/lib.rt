@@ -15,5 +15,6 @@ mod world;
 
 pub use command::{Command, Outcome, Refusal};
 pub use fault::{BeginFault, OpenFault, Progress, StepFault};
+pub use shared::WorldCells;
 pub use stage::{Place, StepKind};
 pub use world::World;

@@ -2,7 +2,7 @@
 //! its process stands then.
 
 ghost use Rattle.std.specs.Prelude.{◌≡◌, ◌+◌, ◌<◌, ◌^◌, ◌==◌, if◌then◌else◌, ℕ, IsSome, Some, None, OnOk, IfOk, OnErr, option_map};
-ghost use Rattle.cell_arena.specs.Rows.{processes_of, cell_of};
+ghost use Rattle.cell_arena.specs.Arena.{processes_of, cell_of};
 ghost use Rattle.uni_model.specs.Places.{new_of, inv_of, memory_with};
 ghost use Rattle.uni_model.specs.Places.Place.{NewOf};
 ghost use Rattle.uni_model.specs.Places.Content.{Settled};

@@ -2,27 +2,29 @@
 
 ghost use Rattle.std.specs.Prelude.{ℕ, ◌≡◌, ◌+◌, ◌*◌, ◌<◌, ◌≤◌, ◌^◌, ◌⊎◌, ◌↔◌, IsSome, IfOk, OnOk, OnErr, IfErr, IsErrOf, IfSome, None, replicate, option_map};
 ghost use Rattle.cell_arena.specs.CellRecord.{index_of};
-ghost use Rattle.cell_arena.specs.Rows.{made_of, cell_of};
+ghost use Rattle.cell_arena.specs.Arena.{made_of, cell_of};
 ghost use Rattle.uni_model.specs.Places.{seq_of, head_seq, after_of};
 ghost use Rattle.uni_model.specs.Places.Name.{Anchor, Of};
 ghost use Rattle.uni_model.specs.Invariant.{Invariant};
 ghost use Rattle.uni_model.specs.Frontier.{frontier};
-ghost use Rattle.uni_model.specs.Bound.{IsBounded};
-ghost use Rattle.uni_model.specs.Worlds.{opened_world, world_after, response_of_step, last_cell, IsQuiescent};
+ghost use Rattle.uni_model.specs.Bound.{IsBounded, CountsSteps};
+ghost use Rattle.uni_model.specs.Helping.{HelpingInvariant};
+ghost use Rattle.uni_model.specs.OneList.{HasOneList, HasLegalLog};
+ghost use Rattle.uni_model.specs.Worlds.{opened_world, world_after, calls_in_era, last_cell, IsQuiescent};
 ghost use Rattle.uni_model.specs.Worlds.Event.{Call, Step};
-ghost use Rattle.uni_model.specs.History.{acts_of};
+ghost use Rattle.uni_model.specs.Settled.{SeesSettled};
 ghost use Rattle.uni_model.specs.Transition.{place_of};
 ghost use Rattle.uni_core.specs.Shared.{name_of};
 ghost use Rattle.uni_core.specs.Standing.{pending_of};
 ghost use Rattle.uni_core.specs.Readers.{call_of_name, kind_of, place_named};
-ghost use Rattle.uni_core.specs.Whole.{world_of, current_of, progress_of, Follows, KeepsFixed, MayNeedMemory};
+ghost use Rattle.uni_core.specs.Whole.{world_of, current_of, TakesEffect, IsIdle, IsStepFault, IsProgress, GoesOn, KeepsFixed, MayNeedMemory};
 
 use crate::fault::{BeginFault, OpenFault, Progress, StepFault};
 use crate::local::Local;
-use crate::shared::Shared;
+use crate::shared::{Shared, WorldCells};
 use crate::stage::{Pending, Place, Stage, StepKind};
 use crate::transition::Machine;
-use cell_arena::{CellId, Cells, RowCells};
+use cell_arena::{CellId, Cells};
 use seq_object::{CallId, SeqObject};
 use std::alloc::{AllocError, Global};
 use std::marker::Model;
@@ -148,17 +150,17 @@ impl<O: SeqObject> World<O> {
     ///
     /// Errors, in this order: `BadProcess` where there is no process `p`; `Busy(p)` where it has a
     /// call pending; `RowFull(p)` where it has made as many calls in this era as a row has; `Memory`
-    /// where the copy of the invocation or the cell was refused memory. After each nothing is changed.
+    /// only where the copy of the invocation was refused memory, since the cells of an era are
+    /// reserved when it opens. After each nothing is changed.
     pub fn begin(&mut self, alloc: Global, p: u64, inv: &O::Inv) -> Result<CallId, BeginFault>
         ensures process { IsErrOf result BeginFault.BadProcess ↔ ((world_of self.old).n ≤ p) }
         ensures busy { IsErrOf result (BeginFault.Busy p) ↔ ((p < (world_of self.old).n) × IsSome ((world_of self.old).call p)) }
         ensures full { IsErrOf result (BeginFault.RowFull p) ↔
-            ((p < (world_of self.old).n) × ((world_of self.old).call p ≡ None) × ((world_of self.old).begun p ≡ self.old.row)) }
+            ((p < (world_of self.old).n) × ((world_of self.old).call p ≡ None) × (calls_in_era (world_of self.old) p ≡ self.old.row)) }
         ensures others { IfErr result (λ e. (e ≡ BeginFault.BadProcess) ⊎ (e ≡ BeginFault.Busy p) ⊎ (e ≡ BeginFault.RowFull p) ⊎ (e ≡ BeginFault.Memory)) }
         ensures id { IfOk result (λ call. (call.process ≡ p) × (call.nth ≡ (world_of self.old).begun p)) }
         ensures begun { OnOk result (world_of self.new ≡ world_after (O.sequential self.old.object) (world_of self.old) (Call p inv.now)) }
-        ensures accepted { OnOk result (Follows (O.sequential self.old.object) (world_of self.old) (world_of self.new)
-            (acts_of (O.sequential self.old.object) (world_of self.old) (Call p inv.now))) }
+        ensures accepted { OnOk result (TakesEffect (O.sequential self.old.object) (world_of self.old) (Call p inv.now)) }
         ensures fixed { KeepsFixed self.old self.new }
         ensures unchanged { OnErr result (self.new ≡ self.old) }
     {
@@ -169,15 +171,13 @@ impl<O: SeqObject> World<O> {
         if local.call.is_some() {
             return Err(BeginFault::Busy(p));
         }
-        if local.begun == self.row {
+        if self.machine.shared.room(p) == 0 {
             return Err(BeginFault::RowFull(p));
         }
         let Ok(inv) = O::copy_inv(alloc, inv) else {
             return Err(BeginFault::Memory);
         };
-        let Ok(mine) = self.machine.shared.make(alloc, p, inv) else {
-            return Err(BeginFault::Memory);
-        };
+        let mine = self.machine.shared.make(alloc, p, inv);
         self.locals[p as usize] = Local {
             call: Some(Pending {
                 mine,
@@ -201,15 +201,15 @@ impl<O: SeqObject> World<O> {
     /// and the step may be asked again.
     pub fn step(&mut self, alloc: Global, p: u64) -> Result<Progress<O::Resp>, StepFault>
         ensures process { IsErrOf result StepFault.BadProcess ↔ ((world_of self.old).n ≤ p) }
-        ensures idle { IsErrOf result (StepFault.Idle p) ↔ ((p < (world_of self.old).n) × ((world_of self.old).call p ≡ None)) }
+        ensures idle { IsErrOf result (StepFault.Idle p) ↔ IsIdle (world_of self.old) p }
         ensures memory { IsErrOf result StepFault.Memory → MayNeedMemory (world_of self.old) p }
-        ensures others { IfErr result (λ e. (e ≡ StepFault.BadProcess) ⊎ (e ≡ StepFault.Idle p) ⊎ (e ≡ StepFault.Memory)) }
+        ensures others { IfErr result (IsStepFault p) }
         ensures step { OnOk result (world_of self.new ≡ world_after (O.sequential self.old.object) (world_of self.old) (Step p)) }
+        ensures progress { IfOk result (IsProgress (world_of self.old) p) }
+        ensures pending { IfOk result (GoesOn (world_of self.new) p) }
+        ensures accepted { OnOk result (TakesEffect (O.sequential self.old.object) (world_of self.old) (Step p)) }
         ensures bounded { OnOk result (IsBounded (world_of self.new)) }
-        ensures pending { IfOk result (λ progress. progress ≡ Progress.Going → IsSome ((world_of self.new).call p)) }
-        ensures progress { IfOk result (λ progress. progress ≡ progress_of (response_of_step (world_of self.old) p)) }
-        ensures accepted { OnOk result (Follows (O.sequential self.old.object) (world_of self.old) (world_of self.new)
-            (acts_of (O.sequential self.old.object) (world_of self.old) (Step p))) }
+        ensures beside { OnOk result (SeesSettled (world_of self.old) p) }
         ensures fixed { KeepsFixed self.old self.new }
         ensures unchanged { OnErr result (self.new ≡ self.old) }
     {
@@ -395,7 +395,7 @@ impl<O: SeqObject> World<O> {
     }
 
     /// The cells of the present era, to be read.
-    pub fn cells(&self) -> &RowCells<O::State, O::Inv, O::Resp>
+    pub fn cells(&self) -> &WorldCells<O::State, O::Inv, O::Resp>
         ensures { result.now ≡ self.now.shared.cells }
     {
         self.machine.shared.cells()
@@ -424,10 +424,15 @@ impl<O: SeqObject> World<O> {
     /// process is within the bound of its own steps and turns.
     pub fn shape(&self)
         ensures sound { Invariant (O.sequential self.now.object) (world_of self.now) }
+        ensures helping { HelpingInvariant (O.sequential self.now.object) (world_of self.now) }
+        ensures counts { CountsSteps (world_of self.now) }
+        ensures list { HasOneList (O.sequential self.now.object) (world_of self.now) }
+        ensures log { HasLegalLog (O.sequential self.now.object) (world_of self.now) }
         ensures few { (1 ≤ (world_of self.now).n) × ((world_of self.now).n ≤ 16) }
         ensures row { (self.now.shared.cells.row ≡ self.now.row) × (self.now.row ≤ 4096) }
-        ensures room { (p : ℕ) → (world_of self.now).begun p ≤ self.now.row }
-        ensures made { (p : ℕ) → p < (world_of self.now).n → made_of self.now.shared.cells p ≡ (world_of self.now).begun p }
+        ensures room { (p : ℕ) → calls_in_era (world_of self.now) p ≤ self.now.row }
+        ensures anchor { IsSome (cell_of self.now.shared.cells 0) }
+        ensures made { (p : ℕ) → p < (world_of self.now).n → made_of self.now.shared.cells p ≡ calls_in_era (world_of self.now) p }
         ensures numbers { seq_of (world_of self.now).memory Anchor + (world_of self.now).n * self.now.row < 2 ^ 48 }
         ensures bounded { IsBounded (world_of self.now) }
     {

@@ -4,7 +4,7 @@ use Rattle.std.specs.Option.{option_map_or}
 use Rattle.std.proofs.lemmas.List.{reverse-append}
 use Rattle.seq_object.specs.Sequential.{Sequential}
 use Rattle.cell_arena.specs.CellRecord.{CellRecord}
-use Rattle.cell_arena.specs.Rows.{processes_of, cell_of}
+use Rattle.cell_arena.specs.Arena.{processes_of, cell_of}
 use Rattle.uni_model.specs.Places.{Name, Memory, seq_of, after_of, before_of}
 use Rattle.uni_model.specs.Places.Name.{Anchor, Of}
 use Rattle.uni_model.specs.Chain.{cells_from}

@@ -2,7 +2,7 @@
 
 ghost use Rattle.std.specs.Prelude.{◌≡◌, ◌+◌, ◌<◌, ◌≤◌, ℕ, ◌∷◌, IfOk, IfSome, IsSome, IsSomeAnd, Some, None, length, map, option_map, position, reverse, slice_get, take};
 ghost use Rattle.std.specs.Option.{option_copied};
-ghost use Rattle.cell_arena.specs.Rows.{cell_of};
+ghost use Rattle.cell_arena.specs.Arena.{cell_of};
 ghost use Rattle.seq_object.specs.History.{IsLegal, state_after};
 ghost use Rattle.uni_model.specs.Places.{before_of, new_of, seq_of, name_eq};
 ghost use Rattle.uni_model.specs.Places.Name.{Anchor, Of};

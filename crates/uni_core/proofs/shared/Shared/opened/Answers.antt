@@ -1,5 +1,5 @@
 use Rattle.std.proofs.Common.{◌∙◌, sym}
-use Rattle.cell_arena.specs.Rows.{processes_of, cell_of}
+use Rattle.cell_arena.specs.Arena.{processes_of, cell_of}
 use Rattle.uni_core.proofs.SharedPlaces.{memory_at-opened_world}
 use Rattle.uni_core.proofs.shared.Shared.opened.Goals as goal
 

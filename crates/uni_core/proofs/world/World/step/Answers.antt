@@ -1,5 +1,5 @@
 use Rattle.std.proofs.Common.{refl, sym, ◌∙◌}
-use Rattle.uni_core.proofs.Stepped.{can_step, not_idle, may_need, steps_fit, turns_fit, IsWorld-left, IsBounded-left, world_of-left_with, Follows-left_with, answers, still_pending, if_not_ok}
+use Rattle.uni_core.proofs.Stepped.{can_step, not_idle, may_need, steps_fit, turns_fit, IsWorld-left, IsBounded-left, world_of-left_with, Follows-left_with, SeesSettled-left, answers, still_pending, if_not_ok}
 use Rattle.uni_core.proofs.world.World.step.Goals as goal
 
 pub take_step-requires-clause-step : goal.take_step-requires-clause-step
@@ -45,3 +45,7 @@ pub returns-clause-accepted : goal.returns-clause-accepted
 returns-clause-accepted g c = Follows-left_with _ _ _ c.self.view_is c.self.invariant c.args.p c.processes.result c.index.result.now c.processes.ensures c.if-p-processes.false c.index.ensures c.in-Some.call (sym c.in-Some.ensures)
     c.take_step.new.self.shared c.in-Ok.after c.in-Ok.ensures.taken c.stage.result c.stage.ensures c.after.result c.after.ensures.call c.after.ensures.begun c.after.ensures.steps c.after.ensures.turns
     c.take_step.new.self.object g.O.SeqObject.sequential refl
+
+pub returns-clause-beside : goal.returns-clause-beside
+returns-clause-beside g c = SeesSettled-left _ _ _ c.self.view_is c.self.invariant c.args.p c.processes.result c.index.result.now c.processes.ensures c.if-p-processes.false c.index.ensures c.in-Some.call (sym c.in-Some.ensures)
+    c.take_step.new.self.shared c.in-Ok.after c.in-Ok.ensures.taken c.stage.result c.stage.ensures c.after.result c.after.ensures.call c.after.ensures.begun c.after.ensures.steps c.after.ensures.turns

@@ -1,5 +1,5 @@
 use Rattle.std.proofs.Common.{◌≡◌, IsSome, Some, slice_get, map}
-use Rattle.cell_arena.specs.Rows.{cell_of}
+use Rattle.cell_arena.specs.Arena.{cell_of}
 use Rattle.uni_model.specs.Places.{seq_of}
 use Rattle.uni_core.specs.Shared.{name_of}
 use Rattle.uni_core.specs.Whole.{world_of}

@@ -1,5 +1,5 @@
 use Rattle.std.proofs.Common.{◌≡◌, ◌+◌, ◌-◌, ◌^◌, List, ◌++◌, IsSome, map}
-use Rattle.cell_arena.specs.Rows.{cell_of}
+use Rattle.cell_arena.specs.Arena.{cell_of}
 use Rattle.uni_model.specs.Places.{Name}
 use Rattle.uni_model.specs.Chain.{entries_from}
 use Rattle.uni_model.specs.History.{log}

@@ -1,6 +1,6 @@
 use Rattle.std.proofs.Common.{◌≡◌, ◌+◌, ◌-◌, ◌^◌, List, IsSome, position}
 use Rattle.std.specs.List.{position_from}
-use Rattle.cell_arena.specs.Rows.{cell_of}
+use Rattle.cell_arena.specs.Arena.{cell_of}
 use Rattle.uni_model.specs.Places.{Name, seq_of, name_eq}
 use Rattle.uni_model.specs.Places.Name.{Anchor, Of}
 use Rattle.uni_model.specs.Worlds.{chain}
