@@ -1,6 +1,6 @@
 //! A counter, called through the trait.
 
-use crate::{CallId, SeqObject, legal_by_places};
+use crate::{CallId, SeqObject, SwapRegister, legal_by_places};
 use std::alloc::{AllocError, Global};
 use std::test::Fail;
 
@@ -68,5 +68,12 @@ fn call_is_printed(rt: HostRuntime) -> Result<(), Fail> {
     };
     assert_eq!(rt; format!(in rt.alloc(); "{call}")?.as_str(), "3.12");
     assert!(rt; call != CallId { process: 3, nth: 1 });
+    Ok(())
+}
+
+#[test]
+fn register_answers_the_number_before(rt: HostRuntime) -> Result<(), Fail> {
+    let (first, second) = two_responses(rt.alloc(), &SwapRegister { start: 9 }, &5, &7)?;
+    assert_eq!(rt; (first, second), (9, 5));
     Ok(())
 }

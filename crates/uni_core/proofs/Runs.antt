@@ -8,21 +8,23 @@ use Rattle.std.specs.Result.{IsErrOf}
 use Rattle.seq_object.specs.Sequential.{Sequential}
 use Rattle.seq_object.specs.declared.call_id.CallId.{CallId}
 use Rattle.uni_model.specs.Stages.{Pending}
-use Rattle.uni_model.specs.Worlds.{WorldOf, Event, calls_in_era, world_after, world_after_all}
+use Rattle.uni_model.specs.Worlds.{WorldOf, Event, AreAccepted, calls_in_era, world_after, world_after_all}
+use Rattle.uni_model.specs.Growth.{EndNoEra}
 use Rattle.uni_model.specs.AtomicObject.{Act}
 use Rattle.uni_model.specs.History.{Shows, acts_of, history_of}
 use Rattle.uni_model.proofs.LawProofs.{AcceptsAll-append}
 use Rattle.uni_core.specs.declared.command.Command.{Command}
+use Rattle.uni_core.specs.declared.command.Command.TheVariants.{Call, Step}
 use Rattle.uni_core.specs.declared.command.Refusal.{Refusal}
 use Rattle.uni_core.specs.declared.command.Outcome.{Outcome}
-use Rattle.uni_core.specs.declared.command.Outcome.TheVariants.{Refused}
+use Rattle.uni_core.specs.declared.command.Outcome.TheVariants.{Called, Went, Returned, Refused}
 use Rattle.uni_core.specs.declared.fault.BeginFault.{BeginFault}
 use Rattle.uni_core.specs.declared.fault.BeginFault.TheVariants as begin
 use Rattle.uni_core.specs.declared.fault.StepFault.{StepFault}
 use Rattle.uni_core.specs.declared.fault.StepFault.TheVariants as step
 use Rattle.uni_core.specs.declared.fault.Progress.TheVariants.{Going, Done}
 use Rattle.uni_core.specs.Whole.{Whole, world_of, current_of, progress_of, Follows, MayNeedMemory}
-use Rattle.uni_core.specs.Commands.{CanCall, IsOutcome, event_of, events_of, AreOutcomes, TakesCommand}
+use Rattle.uni_core.specs.Commands.{CanCall, IsOutcome, after_command, event_of, events_of, AreOutcomes, TakesCommand}
 
 -- a command that is refused leaves the world as it was
 pub TakesCommand-refused : {O S I R : Type 0} (object : Sequential S I R) (old new : Whole O S I R) (row : ℕ) (command : Command I) (why : Refusal) → new ≡ old
@@ -131,15 +133,42 @@ module _ {S I R : Type 0} (object : Sequential S I R) where
       let c = rest b.0 b.1 in
       (c.0, c.1, AcceptsAll-append object a b.0 c.0 xs ys b.2 c.2)
 
+-- no era ends by commands
+pub EndNoEra-events_of : {I R : Type 0} (commands : List (Command I)) (outcomes : List (Outcome R)) → EndNoEra (events_of commands outcomes)
+EndNoEra-events_of [] outcomes = tt
+EndNoEra-events_of (command ∷ commands) [] = tt
+EndNoEra-events_of (command ∷ commands) (outcome ∷ outcomes) = by_event _ command outcome (EndNoEra-events_of commands outcomes) where
+  by_event : {I R : Type 0} (rest : List (Event I)) (c : Command I) (o : Outcome R) → EndNoEra rest → EndNoEra (option_map_or (λ e. e ∷ rest) (event_of c o) rest)
+  by_event rest (Call p i) (Refused why) stay = stay
+  by_event rest (Step p) (Refused why) stay = stay
+  by_event rest (Call p i) _ stay = (tt, stay)
+  by_event rest (Step p) _ stay = (tt, stay)
+
 -- A world has taken these commands with these outcomes, and is w then.
 pub record Ran {S I R : Type 0} (object : Sequential S I R) (first : WorldOf S I R) (row : ℕ) (commands : List (Command I)) (outcomes : List (Outcome R)) (w : WorldOf S I R) : Type 0 where
   pub are : AreOutcomes object first row commands outcomes
   pub ran : w ≡ world_after_all object first (events_of commands outcomes)
   pub accepted : Follows object first w (history_of object first (events_of commands outcomes))
+  pub events : AreAccepted object first (events_of commands outcomes)
 
 module _ {S I R : Type 0} (object : Sequential S I R) (row : ℕ) where
   Ran-nothing : (w : WorldOf S I R) → Ran object w row [] [] w
-  Ran-nothing w = record { are = tt; ran = refl; accepted = λ a shows. (a, shows, refl) }
+  Ran-nothing w = record { are = tt; ran = refl; accepted = λ a shows. (a, shows, refl); events = tt }
+
+  -- the event of a command that wasn't refused can come
+  IsAccepted-event_of : (w : WorldOf S I R) (command : Command I) (outcome : Outcome R) → IsOutcome w row command outcome → (rest : List (Event I))
+      → AreAccepted object (after_command object w command outcome) rest → AreAccepted object w (option_map_or (λ e. e ∷ rest) (event_of command outcome) rest)
+  IsAccepted-event_of w (Call p i) (Called id) is rest ok = ((is.0.0, is.0.1), ok)
+  IsAccepted-event_of w (Call p i) (Refused why) is rest ok = ok
+  IsAccepted-event_of w (Call p i) Went is rest ok = absurd is
+  IsAccepted-event_of w (Call p i) (Returned id r) is rest ok = absurd is
+  IsAccepted-event_of w (Step p) (Called id) is rest ok = absurd is
+  IsAccepted-event_of w (Step p) (Refused why) is rest ok = ok
+  IsAccepted-event_of w (Step p) Went is rest ok = (is.0.1, ok)
+  IsAccepted-event_of w (Step p) (Returned id r) is rest ok = (has_call (w.call p) is.1, ok) where
+    has_call : (o : Option Pending) → option_map (λ (c : Pending). let call : CallId = record { process = p; nth = w.begun p - 1 } in call) o ≡ Some id → IsSome o
+    has_call None e = cc
+    has_call (Some c) e = refl
 
   -- one command, and then these
   Ran-then : (w w' last : WorldOf S I R) (command : Command I) (outcome : Outcome R) (commands : List (Command I)) (outcomes : List (Outcome R))
@@ -152,6 +181,7 @@ module _ {S I R : Type 0} (object : Sequential S I R) (row : ℕ) where
         accepted = subst (Follows object w last) (
             ap (λ x. option_map_or (acts_of object w) event [] ++ history_of object x (events_of commands outcomes)) takes.left ∙ sym (history-event object w event (events_of commands outcomes)))
             (Follows-append object w w' last (option_map_or (acts_of object w) event []) (history_of object w' (events_of commands outcomes)) (subst (λ x. Follows object w x (option_map_or (acts_of object w) (event_of command outcome) [])) (sym takes.left) takes.accepted) rest.accepted);
+        events = IsAccepted-event_of w command outcome takes.is (events_of commands outcomes) (subst (λ x. AreAccepted object x (events_of commands outcomes)) takes.left rest.events);
       }
 
   -- From where it began, the world has taken these commands with these outcomes, and whatever it takes from here on comes after them.

@@ -5,6 +5,7 @@
 mod command;
 mod fault;
 mod local;
+mod readers;
 mod run;
 mod shared;
 mod stage;

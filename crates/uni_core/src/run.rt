@@ -2,7 +2,8 @@
 
 ghost use Rattle.std.specs.Prelude.{◌≡◌, IfOk, OnOk, OnErr};
 ghost use Rattle.uni_model.specs.Bound.{IsBounded};
-ghost use Rattle.uni_model.specs.Worlds.{world_after_all};
+ghost use Rattle.uni_model.specs.Worlds.{AreAccepted, world_after_all};
+ghost use Rattle.uni_model.specs.Laws.{LogGrows};
 ghost use Rattle.uni_model.specs.History.{history_of};
 ghost use Rattle.uni_core.specs.Whole.{world_of, Follows, KeepsFixed};
 ghost use Rattle.uni_core.specs.Commands.{TakesCommand, AreOutcomes, events_of};
@@ -72,10 +73,13 @@ impl<O: SeqObject> World<O> {
         ensures ran { IfOk result (λ outcomes. world_of self.new ≡ world_after_all (O.sequential self.old.object) (world_of self.old) (events_of commands.now outcomes.items)) }
         ensures accepted { IfOk result (λ outcomes. Follows (O.sequential self.old.object) (world_of self.old) (world_of self.new)
             (history_of (O.sequential self.old.object) (world_of self.old) (events_of commands.now outcomes.items))) }
+        ensures events { IfOk result (λ outcomes. AreAccepted (O.sequential self.old.object) (world_of self.old) (events_of commands.now outcomes.items)) }
+        ensures log { IfOk result (λ outcomes. LogGrows (O.sequential self.old.object) (world_of self.old) (events_of commands.now outcomes.items)) }
         ensures bounded { OnOk result (IsBounded (world_of self.new)) }
         ensures fixed { KeepsFixed self.old self.new }
         ensures unchanged { OnErr result (self.new ≡ self.old) }
     {
+        self.shape();
         let mut outcomes = Vec::with_capacity(alloc, commands.len())?;
         for command in commands {
             let outcome = self.take(alloc, command);

@@ -1,5 +1,5 @@
 -- The log only grows while no era ends.
-use Rattle.std.proofs.Common.{◌≡◌, ◌≢◌, ◌∙◌, ℕ, zero, suc, ◌+◌, ◌-◌, ◌<◌, ◌≤◌, ◌⊎◌, inl, inr, refl, sym, ap, subst, List, [], ◌∷◌, Option, Some, None, IsSome, length, slice_get, option_map, option_and_then, true, false, arith}
+use Rattle.std.proofs.Common.{◌≡◌, ◌≢◌, ◌∙◌, ℕ, zero, suc, ◌+◌, ◌-◌, ◌<◌, ◌≤◌, ◌⊎◌, inl, inr, refl, sym, ap, subst, List, [], ◌∷◌, Option, Some, None, IsSome, length, slice_get, take, option_map, option_and_then, true, false, arith}
 use Rattle.std.specs.Option.{option_map_or}
 use Rattle.std.specs.List.{AllByRecursion}
 use Rattle.std.proofs.lemmas.Bool.{cases_lt}
@@ -210,3 +210,11 @@ module _ {S I R : Type 0} (object : Sequential S I R) where
       IsFrontOf-then (log w) (log (world_after object w e)) (log (world_after_all object (world_after object w e) es))
       (log-world_after w e inv ok.0 stays.0)
       (log-world_after_all (world_after object w e) es (Invariant-world_after object w e ok.0 inv) ok.1 stays.1)
+
+  -- the log after each front of the events
+  pub log-fronts : (w : WorldOf S I R) (es : List (Event I)) → Invariant object w → AreAccepted object w es → EndNoEra es → (j : ℕ)
+      → IsFrontOf (log (world_after_all object w (take j es))) (log (world_after_all object w es))
+  log-fronts w [] inv ok stay zero = IsFrontOf-same (log w)
+  log-fronts w [] inv ok stay (suc j) = IsFrontOf-same (log w)
+  log-fronts w (e ∷ es) inv ok stay zero = log-world_after_all w (e ∷ es) inv ok stay
+  log-fronts w (e ∷ es) inv ok stay (suc j) = log-fronts (world_after object w e) es (Invariant-world_after object w e ok.0 inv) ok.1 stay.1 j

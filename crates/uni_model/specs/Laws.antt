@@ -1,5 +1,5 @@
 -- The laws over every list of accepted events.
-use Rattle.std.specs.Prelude.{◌≡◌, ◌≢◌, ◌↔◌, ℕ, ◌+◌, ◌≤◌, List, [], ◌∷◌, length, slice_get, Contains, Some, IsSome}
+use Rattle.std.specs.Prelude.{◌≡◌, ◌≢◌, ◌↔◌, ℕ, ◌+◌, ◌≤◌, List, [], ◌∷◌, length, slice_get, take, Contains, Some, IsSome}
 use Rattle.seq_object.specs.Sequential.{Sequential}
 use Rattle.uni_model.specs.Places.{seq_of}
 use Rattle.uni_model.specs.Places.Name.{Anchor, Of}
@@ -51,12 +51,16 @@ module _ {S I R : Type 0} (object : Sequential S I R) where
   IsAtomic w e = IsAccepted w e → Invariant object w → EndsNoEra e → (a : Atomic S I) → Shows w a
       → (b : Atomic S I) × Shows (world_after object w e) b × AcceptsAll object a (acts_of object w e) b
 
+  -- the log after each front of these events is a front of the log after all
+  abbrev pub LogGrows : WorldOf S I R → List (Event I) → Type 0
+  LogGrows w es = (j : ℕ) → IsFrontOf (log (world_after_all object w (take j es))) (log (world_after_all object w es))
+
   -- An accepted event that ends no era leaves the log a front of the later one; so do such events, one after another.
   abbrev pub KeepsLog : WorldOf S I R → Event I → Type 0
   KeepsLog w e = IsAccepted w e → Invariant object w → EndsNoEra e → IsFrontOf (log w) (log (world_after object w e))
 
   abbrev pub KeepsLogAlong : WorldOf S I R → List (Event I) → Type 0
-  KeepsLogAlong w es = AreAccepted object w es → Invariant object w → EndNoEra es → IsFrontOf (log w) (log (world_after_all object w es))
+  KeepsLogAlong w es = AreAccepted object w es → Invariant object w → EndNoEra es → LogGrows w es
 
   -- every opening has the invariant with the facts of helping, and the counts
   abbrev pub OpensSound : (n : ℕ) → (start : S) → (number : ℕ) → Type 0

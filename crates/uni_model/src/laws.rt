@@ -55,8 +55,9 @@ pub fn event_is_atomic<O: SeqObject>()
     ensures { (object : O) (w : WorldOf O.State O.Inv O.Resp) (e : Event O.Inv) → IsAtomic (O.sequential object) w e }
 {}
 
-/// While no era ends the log only grows: after each accepted event, and after any list of them, the
-/// log before is a front of it, but that a response that is missing in its last entry may be there.
+/// While no era ends the log only grows: the log before an accepted event is a front of the log
+/// after it, but that a response that is missing in its last entry may be there then; and so is the
+/// log after each front of a list of them a front of the log after all.
 pub fn log_only_grows<O: SeqObject>()
     ensures event { (object : O) (w : WorldOf O.State O.Inv O.Resp) (e : Event O.Inv) → KeepsLog (O.sequential object) w e }
     ensures events { (object : O) (w : WorldOf O.State O.Inv O.Resp) (es : List (Event O.Inv)) → KeepsLogAlong (O.sequential object) w es }

@@ -1,7 +1,7 @@
 use Rattle.std.proofs.Common.{None, option_map, sym}
 use Rattle.cell_arena.specs.Arena.{processes_of}
 use Rattle.uni_core.specs.Shared.{name_of}
-use Rattle.uni_core.proofs.Readers.{field_there}
+use Rattle.uni_core.proofs.Reading.{field_there}
 use Rattle.uni_log.proofs.Back.{before_there}
 use Rattle.uni_log.proofs.log.cell_before.Goals as goal
 

@@ -1,6 +1,6 @@
 use Rattle.std.proofs.Common.{◌∙◌, None, sym, ap, option_and_then}
 use Rattle.std.specs.Option.{option_copied}
-use Rattle.uni_core.proofs.Readers.{field_there}
+use Rattle.uni_core.proofs.Reading.{field_there}
 use Rattle.uni_log.proofs.log.entry_at.Goals as goal
 use Rattle.uni_log.proofs.log.entry_at.Goals.{in-Some, in-None}
 

@@ -1,6 +1,6 @@
 use Rattle.std.proofs.Common.{◌∙◌, None, sym, ap, option_map}
 use Rattle.std.specs.Option.{option_copied}
-use Rattle.uni_core.proofs.Readers.{field_there}
+use Rattle.uni_core.proofs.Reading.{field_there}
 use Rattle.uni_log.proofs.log.state_in.Goals as goal
 
 pub returns-in-Some : goal.returns-in-Some

@@ -1,4 +1,4 @@
-use Rattle.uni_core.proofs.Readers.{linked_there}
+use Rattle.uni_core.proofs.Reading.{linked_there}
 use Rattle.uni_core.proofs.world.World.after.Goals as goal
 
 pub returns-clause-there : goal.returns-clause-there

@@ -28,5 +28,5 @@ returns-clause-busy g c = (
   λ e. cc,
   λ h. absurd (none_isn't_some _ (idle_now _ _ _ c.self.view_is c.self.invariant c.args.p c.index.result.now (inside_count _ _ c.args.p c.processes.ensures c.if-p-processes.false) c.index.ensures
       c.make-mine.new.self c.in-Ok.inv c.args.inv.now c.in-Ok.ensures c.make-mine.result c.is_some.result c.is_some.ensures c.if-is_some.false (room_left _ _ _ c.room.ensures c.if-room-eq0.false)
-    c.make-mine.ensures.id c.make-mine.ensures.memory c.make-mine.ensures.shape c.make-mine.ensures.made) h.1),
+      c.make-mine.ensures.id c.make-mine.ensures.memory c.make-mine.ensures.shape c.make-mine.ensures.made) h.1),
 )

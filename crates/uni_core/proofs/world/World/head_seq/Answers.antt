@@ -1,4 +1,4 @@
-use Rattle.uni_core.proofs.Readers.{head_there}
+use Rattle.uni_core.proofs.Reading.{head_there}
 use Rattle.uni_core.proofs.world.World.head_seq.Goals as goal
 
 pub seq-requires : goal.seq-requires

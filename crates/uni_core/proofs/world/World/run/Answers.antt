@@ -1,6 +1,7 @@
 use Rattle.std.proofs.Common.{◌≡◌, ◌∙◌, ◌+◌, length, length-append, refl, arith}
 use Rattle.uni_core.specs.Whole.{world_of}
-use Rattle.uni_core.proofs.Runs.{Leads-nothing, Leads-next, Ran-all}
+use Rattle.uni_core.proofs.Runs.{Leads-nothing, Leads-next, Ran-all, EndNoEra-events_of}
+use Rattle.uni_model.proofs.Growing.{log-fronts}
 use Rattle.uni_core.proofs.world.World.run.Goals as goal
 
 pub loop-command-init : goal.loop-command-init
@@ -35,3 +36,13 @@ returns-clause-ran g c = (Ran-all _ _ (world_of c.args.self.now) (world_of c.loo
 pub returns-clause-accepted : goal.returns-clause-accepted
 returns-clause-accepted g c = (Ran-all _ _ (world_of c.args.self.now) (world_of c.loop-command.self) c.args.commands.now c.loop-command.command-index c.loop-command.outcomes.items
     (omega arith) c.loop-command-test.false c.loop-command.invariant.leads).accepted
+
+pub returns-clause-events : goal.returns-clause-events
+returns-clause-events g c = (Ran-all _ _ (world_of c.args.self.now) (world_of c.loop-command.self) c.args.commands.now c.loop-command.command-index c.loop-command.outcomes.items
+    (omega arith) c.loop-command-test.false c.loop-command.invariant.leads).events
+
+pub returns-clause-log : goal.returns-clause-log
+returns-clause-log g c =
+    let ran = Ran-all _ _ (world_of c.args.self.now) (world_of c.loop-command.self) c.args.commands.now c.loop-command.command-index c.loop-command.outcomes.items
+    (omega arith) c.loop-command-test.false c.loop-command.invariant.leads in
+    log-fronts _ (world_of c.args.self.now) _ c.shape.ensures.sound ran.events (EndNoEra-events_of c.args.commands.now c.loop-command.outcomes.items)

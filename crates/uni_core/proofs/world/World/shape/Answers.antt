@@ -1,6 +1,6 @@
 use Rattle.uni_model.proofs.Bounded.{IsBounded-held}
 use Rattle.uni_model.proofs.OneLists.{HasOneList-held, HasLegalLog-held}
-use Rattle.uni_core.proofs.Readers.{IsWorld-now}
+use Rattle.uni_core.proofs.Reading.{IsWorld-now}
 use Rattle.uni_core.proofs.world.World.shape.Goals as goal
 
 pub returns-clause-sound : goal.returns-clause-sound
