@@ -155,6 +155,25 @@ module _ {S I R : Type 0} where
         )
       ]
 
+  -- a cell that is there changes, and keeps what its call asks for
+  pub IsFlat-set : (a : Flat S I R) → IsFlat a → (i : ℕ) (x : CellRecord S I R) → IsSome (slice_index_or (made_cells a.cells) i None) → x.inv ≡ (at a i).inv → IsFlat (record a { cells = slice_set a.cells i x })
+  IsFlat-set a flat i x there keeps =
+      let within : i < length a.cells = there-within a.cells i there in
+      record {
+        processes = flat.processes;
+        row = flat.row;
+        made = flat.made;
+        room = simp length-set flat.room;
+        there = λ j later made. elim (cases_eq j i) [
+          | inl same ↦ rw (same, get_or-set_same a.cells i x blank within) (ap (λ o. is_some o) keeps ∙ there-inv a.cells i (omega arith) there)
+          | inr other ↦ rw (get_or-set_other a.cells i j x blank other) (flat.there j later made)
+        ];
+        nothing = λ j later unmade. elim (cases_eq j i) [
+          | inl same ↦ absurd (let some = there-inv a.cells i (omega arith) there in let none = ap (λ c. is_some c.inv) (ap (λ k. at a k) (sym same) ∙ flat.nothing j later unmade) in cc)
+          | inr other ↦ rw (get_or-set_other a.cells i j x blank other) (flat.nothing j later unmade)
+        ];
+      }
+
   -- there is room for each cell that a process can make
   pub index_of-within : (a : Flat S I R) → IsFlat a → (p nth i : ℕ) → p < length a.made → nth < a.row → i ≡ index_of (length a.made) p nth → i < length a.cells
   index_of-within a flat p nth i among room i_is =
