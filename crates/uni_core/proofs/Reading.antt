@@ -1,18 +1,21 @@
 -- What the readers of a world answer.
-use Rattle.std.proofs.Common.{◌≡◌, ◌∙◌, ℕ, ◌<◌, ◌≤◌, sym, ap, subst, Option, Some, None, option_map, IfSome, arith}
+use Rattle.std.proofs.Common.{◌≡◌, ◌∙◌, ℕ, ◌+◌, ◌-◌, ◌*◌, ◌^◌, ◌<◌, ◌≤◌, length, sym, ap, subst, Option, Some, None, option_map, IfSome, arith}
 use Rattle.std.specs.Option.{option_map_or}
 use Rattle.seq_object.specs.Sequential.{Sequential}
 use Rattle.cell_arena.specs.CellRecord.{CellRecord, index_of}
 use Rattle.cell_arena.specs.Arena.{processes_of, cell_of}
-use Rattle.uni_model.specs.Places.{Name, head_of, seq_of, after_of, inv_of}
+use Rattle.uni_model.specs.Places.{Name, head_of, seq_of, after_of, inv_of, before_of}
 use Rattle.uni_model.specs.Places.Name.{Anchor, Of}
+use Rattle.uni_model.specs.Worlds.{chain, calls_begun}
 use Rattle.uni_model.specs.Invariant.{Has}
+use Rattle.uni_model.proofs.Simulation.{enough}
+use Rattle.uni_model.proofs.OneLists.{length-chain}
 use Rattle.uni_core.specs.Shared.{Shared, name_of, cell_named, memory_of}
 use Rattle.uni_core.specs.Standing.{IsThere}
-use Rattle.uni_core.specs.Whole.{Whole, IsWorld}
+use Rattle.uni_core.specs.Whole.{Whole, world_of, IsWorld}
 use Rattle.uni_core.proofs.Named.{name_of-index_of, cell_named-name_of}
 use Rattle.uni_core.proofs.Begin.{inside_view}
-use Rattle.uni_core.proofs.Steppable.{there_seq, there_inv}
+use Rattle.uni_core.proofs.Steppable.{sum_below-bound, there_seq, there_inv}
 
 -- what every world keeps, of the world as a contract has it
 module _ {O S I R : Type 0} (v now : Whole O S I R) (view : v ≡ now) (sequential : O → Sequential S I R) where
@@ -46,12 +49,25 @@ pub name_of-counted : (n j p q k id : ℕ) → id ≡ index_of j q k → j ≡ n
 name_of-counted n j p q k id counted processes process below =
     ap (name_of n) (counted ∙ ap (λ i. index_of i q k) processes ∙ ap (λ i. index_of n i k) process) ∙ name_of-index_of n p k below
 
--- what a field of a cell that is there contributes to the places, read by the cell's name
-pub field_there : {S I R A B : Type 0} (a : Shared S I R) → 1 ≤ processes_of a.cells → (id : ℕ) (field : CellRecord S I R → A) (content : A → B) (none : B) (value : A)
-    → option_map field (cell_of a.cells id) ≡ Some value
-    → option_map_or (λ (c : CellRecord S I R). content (field c)) (cell_named (processes_of a.cells) (cell_of a.cells) (name_of (processes_of a.cells) id)) none ≡ content value
-field_there a positive id field content none value is =
-    ap (λ o. option_map_or (λ (c : CellRecord _ _ _). content (field c)) o none) (cell_named-name_of (processes_of a.cells) positive (cell_of a.cells) id) ∙ by_cell (cell_of a.cells id) is where
-      by_cell : (o : Option (CellRecord _ _ _)) → option_map field o ≡ Some value → option_map_or (λ (c : CellRecord _ _ _). content (field c)) o none ≡ content value
-      by_cell None e = absurd (let f : None ≡ Some value = e in cc)
-      by_cell (Some c) e = ap content (let f : field c ≡ value = cc in f)
+-- the cells of a world have numbers that fit
+pub numbers_fit : {O S I R : Type 0} (object : Sequential S I R) (v : Whole O S I R) → IsWorld object v → seq_of (memory_of v.shared) Anchor + length (chain (world_of v)) < 2 ^ 48
+numbers_fit object v is =
+    let end : is.sound.0 Anchor + length (chain (world_of v)) ≡ is.sound.1 = length-chain object (world_of v) is.sound.0 is.sound.1 is.sound.2 in
+    let all : is.sound.1 ≤ is.sound.0 Anchor + calls_begun (world_of v) = enough object (world_of v) is.sound.0 is.sound.1 is.sound.2 in
+    let each : calls_begun (world_of v) ≤ processes_of v.shared.cells * v.row = sum_below-bound (processes_of v.shared.cells) v.row (world_of v).begun (λ q. let room : (world_of v).begun q - 0 ≤ v.row = is.room q in omega arith) in
+    let anchor : is.sound.0 Anchor ≡ seq_of (memory_of v.shared) Anchor = is.sound.2.numbered.anchor in
+    let fits : seq_of (memory_of v.shared) Anchor + processes_of v.shared.cells * v.row < 2 ^ 48 = is.numbers in
+    omega arith
+
+-- the cell before a cell is there
+pub before_there : {O S I R : Type 0} (object : Sequential S I R) (v now : Whole O S I R) → v ≡ now → IsWorld object v → 1 ≤ processes_of now.shared.cells → (x : Name) (o : Option ℕ)
+    → option_map (name_of (processes_of v.shared.cells)) o ≡ before_of (memory_of v.shared) x → IfSome o (λ id. IsThere now.shared id)
+before_there object v now view is positive x None read = tt
+before_there {O} {S} {I} {R} object v now view is positive x (Some id) read =
+    let at_v = subst (λ (y : Whole O S I R). 1 ≤ processes_of y.shared.cells) (sym view) positive in
+    let y : Name = name_of (processes_of v.shared.cells) id in
+    let linked = is.sound.2.numbered.link y x (is.sound.2.back.link y x (sym read)) in
+    let top : is.sound.0 x ≤ is.sound.1 = is.sound.2.numbered.greatest x in
+    let n : is.sound.0 x ≡ is.sound.0 y + 1 = linked.1 in
+    let number : seq_of (memory_of v.shared) y ≡ is.sound.0 y = is.sound.2.numbered.threaded y linked.0 (omega arith) in
+    subst (λ (u : Whole O S I R). IsThere u.shared id) view (there_seq v.shared at_v id (let h = linked.0 in omega arith))

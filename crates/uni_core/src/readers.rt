@@ -1,16 +1,17 @@
 //! What can be read of a world.
 
-ghost use Rattle.std.specs.Prelude.{ℕ, ◌≡◌, ◌+◌, ◌*◌, ◌<◌, ◌≤◌, ◌^◌, ◌⊎◌, ◌↔◌, IsSome, IfOk, OnOk, OnErr, IfErr, IsErrOf, IfSome, None, replicate, option_map};
+ghost use Rattle.std.specs.Option.{option_copied};
+ghost use Rattle.std.specs.Prelude.{length, ℕ, ◌≡◌, ◌+◌, ◌*◌, ◌<◌, ◌≤◌, ◌^◌, ◌⊎◌, ◌↔◌, IsSome, IfOk, OnOk, OnErr, IfErr, IsErrOf, IfSome, None, replicate, option_map};
 ghost use Rattle.cell_arena.specs.CellRecord.{index_of};
 ghost use Rattle.cell_arena.specs.Arena.{made_of, cell_of};
-ghost use Rattle.uni_model.specs.Places.{seq_of, head_seq, after_of};
+ghost use Rattle.uni_model.specs.Places.{seq_of, head_seq, inv_of, after_of, new_of, before_of};
 ghost use Rattle.uni_model.specs.Places.Name.{Anchor, Of};
 ghost use Rattle.uni_model.specs.Invariant.{Invariant};
 ghost use Rattle.uni_model.specs.Frontier.{frontier};
 ghost use Rattle.uni_model.specs.Bound.{IsBounded, CountsSteps};
 ghost use Rattle.uni_model.specs.Helping.{HelpingInvariant};
 ghost use Rattle.uni_model.specs.OneList.{HasOneList, HasLegalLog};
-ghost use Rattle.uni_model.specs.Worlds.{opened_world, world_after, calls_in_era, last_cell, IsQuiescent};
+ghost use Rattle.uni_model.specs.Worlds.{chain, opened_world, world_after, calls_in_era, last_cell, IsQuiescent};
 ghost use Rattle.uni_model.specs.Worlds.Event.{Call, Step};
 ghost use Rattle.uni_model.specs.Settled.{SeesSettled};
 ghost use Rattle.uni_model.specs.Transition.{place_of};
@@ -166,6 +167,41 @@ impl<O: SeqObject> World<O> {
         Some(CellId::of(self.processes(), p, call.nth))
     }
 
+    /// The number of a cell of the arena; 0 while it isn't threaded.
+    pub fn seq(&self, cell: CellId) -> u64
+        requires { IsSome (cell_of self.now.shared.cells cell) }
+        ensures { result ≡ seq_of (world_of self.now).memory (name_of (world_of self.now).n cell) }
+    {
+        self.machine.shared.seq(cell)
+    }
+
+    /// What the call of a cell of the arena asks for; `None` of the anchor.
+    pub fn inv(&self, cell: CellId) -> Option<&O::Inv>
+        requires { IsSome (cell_of self.now.shared.cells cell) }
+        ensures { option_copied result ≡ inv_of (world_of self.now).memory (name_of (world_of self.now).n cell) }
+    {
+        self.machine.shared.inv(cell)
+    }
+
+    /// The state and the response that are settled in a cell of the arena, or `None`. The anchor's
+    /// response is `None`.
+    pub fn new_of(&self, cell: CellId) -> Option<&(O::State, Option<O::Resp>)>
+        requires { IsSome (cell_of self.now.shared.cells cell) }
+        ensures { option_copied result ≡ new_of (world_of self.now).memory (name_of (world_of self.now).n cell) }
+    {
+        self.machine.shared.new_of(cell)
+    }
+
+    /// The cell before a cell of the arena; `None` where none was written.
+    pub fn before(&self, cell: CellId) -> Option<CellId>
+        requires { IsSome (cell_of self.now.shared.cells cell) }
+        ensures link { option_map (name_of (world_of self.now).n) result ≡ before_of (world_of self.now).memory (name_of (world_of self.now).n cell) }
+        ensures there { IfSome result (λ before. IsSome (cell_of self.now.shared.cells before)) }
+    {
+        self.shape();
+        self.machine.shared.before(cell)
+    }
+
     /// The cell that is linked after a cell of the arena; `None` where none is.
     pub fn after(&self, cell: CellId) -> Option<CellId>
         requires { IsSome (cell_of self.now.shared.cells cell) }
@@ -216,7 +252,8 @@ impl<O: SeqObject> World<O> {
     }
 
     /// What every world keeps, for proofs: the call does nothing. What it shows has the invariant of
-    /// the definitions. There are 1 to 16 processes. A row has at most 4096 cells, and no process has
+    /// the definitions, with the facts of helping and the counts of own steps; its cells are one
+    /// list, and its log is a legal history. There are 1 to 16 processes. A row has at most 4096 cells, and no process has
     /// begun more calls; the arena has as many cells of a process as it has begun calls. The anchor's
     /// number, and one more for each cell that there can be, stay below 2^48. The latest call of each
     /// process is within the bound of its own steps and turns.
@@ -232,6 +269,7 @@ impl<O: SeqObject> World<O> {
         ensures anchor { IsSome (cell_of self.now.shared.cells 0) }
         ensures made { (p : ℕ) → p < (world_of self.now).n → made_of self.now.shared.cells p ≡ calls_in_era (world_of self.now) p }
         ensures numbers { seq_of (world_of self.now).memory Anchor + (world_of self.now).n * self.now.row < 2 ^ 48 }
+        ensures fits { seq_of (world_of self.now).memory Anchor + length (chain (world_of self.now)) < 2 ^ 48 }
         ensures bounded { IsBounded (world_of self.now) }
     {
         self.machine.shared.cells().shape();

@@ -87,24 +87,6 @@ module _ {S I R : Type 0} (w : WorldOf S I R) (from : Name) where
           let bound : b.more ≤ calls_begun w = omega arith in
           b.reversed ∙ rw (is, b.count) (ap (λ ys. Anchor ∷ ys) (cells_from-take w.memory b.more (calls_begun w) Anchor bound))
 
--- the cell before a cell, as it is read, is there
-pub before_there : {O S I R : Type 0} (object : Sequential S I R) (now : Whole O S I R) → Invariant object (world_of now) → 1 ≤ processes_of now.shared.cells
-    → (at : ℕ) (o : Option ℕ) → option_map (λ (c : CellRecord S I R). c.before) (cell_of now.shared.cells at) ≡ Some o → IfSome o (λ id. IsThere now.shared id)
-before_there object now inv positive at None read = tt
-before_there {O} {S} {I} {R} object now inv positive at (Some id) read =
-    let x : Name = name_of (processes_of now.shared.cells) at in
-    let y : Name = name_of (processes_of now.shared.cells) id in
-    let after = inv.2.back.link y x (rw (cell_named-name_of (processes_of now.shared.cells) positive (cell_of now.shared.cells) at) (by_cell (cell_of now.shared.cells at) read)) in
-    let linked = inv.2.numbered.link y x after in
-    let top : inv.0 x ≤ inv.1 = inv.2.numbered.greatest x in
-    let n : inv.0 x ≡ inv.0 y + 1 = linked.1 in
-    let number : seq_of (memory_of now.shared) y ≡ inv.0 y = inv.2.numbered.threaded y linked.0 (omega arith) in
-    there_seq now.shared positive id (let h = linked.0 in omega arith) where
-      by_cell : (c : Option (CellRecord S I R)) → option_map (λ (c : CellRecord S I R). c.before) c ≡ Some (Some id)
-          → option_map_or (λ (c : CellRecord S I R). option_map (name_of (processes_of now.shared.cells)) c.before) c None ≡ Some (name_of (processes_of now.shared.cells) id)
-      by_cell None e = cc
-      by_cell (Some c) e = let f : c.before ≡ Some id = cc in ap (option_map (name_of (processes_of now.shared.cells))) f
-
 -- what is pushed leaves the first one
 pub first_kept : {A : Type 0} (xs ys : List A) (x : A) → slice_get xs 0 ≡ Some x → slice_get (xs ++ ys) 0 ≡ Some x
 first_kept [] ys x first = cc

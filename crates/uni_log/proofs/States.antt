@@ -7,12 +7,12 @@ use Rattle.uni_model.specs.Places.{Name, after_of, new_of, inv_of}
 use Rattle.uni_model.specs.Places.Name.{Anchor}
 use Rattle.uni_model.specs.Chain.{cells_from, Invoked}
 use Rattle.uni_model.specs.Worlds.{WorldOf, calls_begun, chain}
+use Rattle.uni_model.specs.History.{invocations_of}
 use Rattle.uni_model.specs.Invariant.{IsSound, Invariant}
 use Rattle.uni_model.proofs.Chains.{calls_at, invoked_at-inv}
 use Rattle.uni_model.proofs.Simulation.{calls_of-calls_at}
 use Rattle.uni_model.proofs.Logged.{state_after-from}
 use Rattle.uni_log.specs.States.{state_settled_at}
-use Rattle.uni_log.proofs.Legal.{unsettled_last}
 
 -- a state that is settled at a place of the list is the object's after so many invocations
 state_folded : {S I R : Type 0} (object : Sequential S I R) (w : WorldOf S I R) → Invariant object w → (place : ℕ) (state : S) → state_settled_at w place ≡ Some state

@@ -15,7 +15,7 @@ ghost use Rattle.uni_log.specs.Shown.{entry_shown, call_shown};
 ghost use Rattle.uni_log.specs.States.{state_settled_at};
 
 use crate::entry::Entry;
-use cell_arena::{CellId, Cells};
+use cell_arena::CellId;
 use seq_object::{CallId, SeqObject};
 use std::alloc::{AllocError, Global};
 use std::marker::Model;
@@ -63,11 +63,9 @@ fn entry_at<O: SeqObject>(
     ensures call { IfOk result (λ e. invoked_at (world_of world.now).memory (name_of (world_of world.now).n id) ≡ Some (entry_shown e).call) }
     ensures reply { IfOk result (λ e. (entry_shown e).response ≡ response_in (world_of world.now).memory (name_of (world_of world.now).n id)) }
 {
-    world.shape();
-    let cells = world.cells();
     let call = world.call_of(id).unwrap();
-    let inv = O::copy_inv(alloc, cells.inv(id).unwrap())?;
-    let reply = match cells.new_of(id) {
+    let inv = O::copy_inv(alloc, world.inv(id).unwrap())?;
+    let reply = match world.new_of(id) {
         Some((_, reply)) => *reply,
         None => None,
     };
@@ -84,21 +82,10 @@ fn state_in<'a, O: SeqObject>(world: &'a World<O>, id: CellId) -> Option<&'a O::
     requires { IsSome (cell_of world.now.shared.cells id) }
     ensures { option_copied result ≡ option_map (λ new. new.0) (new_of (world_of world.now).memory (name_of (world_of world.now).n id)) }
 {
-    world.shape();
-    match world.cells().new_of(id) {
+    match world.new_of(id) {
         Some((state, _)) => Some(state),
         None => None,
     }
-}
-
-/// The cell before a cell of the arena; `None` where none was written.
-fn cell_before<O: SeqObject>(world: &World<O>, id: CellId) -> Option<CellId>
-    requires { IsSome (cell_of world.now.shared.cells id) }
-    ensures link { option_map (name_of (world_of world.now).n) result ≡ before_of (world_of world.now).memory (name_of (world_of world.now).n id) }
-    ensures there { IfSome result (λ before. IsSome (cell_of world.now.shared.cells before)) }
-{
-    world.shape();
-    world.cells().before(id)
 }
 
 impl<'a, O: SeqObject> Log<'a, O> {
@@ -126,7 +113,7 @@ impl<'a, O: SeqObject> Log<'a, O> {
         world.shape();
         let mut entries = Vec::new(alloc);
         let mut at = CellId::anchor();
-        let mut seq = world.cells().seq(at);
+        let mut seq = world.seq(at);
         while let Some(next) = world.after(at) {
             seq += 1;
             entries.push(entry_at(alloc, world, next, seq)?)?;
@@ -135,16 +122,17 @@ impl<'a, O: SeqObject> Log<'a, O> {
         Ok(entries)
     }
 
-    /// The cells of the list, in its order, from the one after the anchor on.
+    /// The cells of the list, in its order: the anchor first, and then those of the calls.
     ///
     /// An `Err` says that memory was refused.
     pub fn cells_forward(&self, alloc: Global) -> Result<Vec<CellId>, AllocError>
-        ensures { IfOk result (λ cells. map (name_of (world_of self.now).n) cells.items ≡ chain (world_of self.now)) }
+        ensures { IfOk result (λ cells. map (name_of (world_of self.now).n) cells.items ≡ Anchor ∷ chain (world_of self.now)) }
     {
         let world = self.world;
         world.shape();
         let mut forward = Vec::new(alloc);
         let mut at = CellId::anchor();
+        forward.push(at)?;
         while let Some(next) = world.after(at) {
             forward.push(next)?;
             at = next;
@@ -192,7 +180,7 @@ impl<'a, O: SeqObject> Log<'a, O> {
 
     /// The cells of the list from a cell back to the anchor, each found as the one before: the
     /// reverse of the list from the anchor up to that cell. The cell has to be threaded, that is
-    /// its number, which `cells().seq` tells, isn't 0.
+    /// its number, which `World::seq` tells, isn't 0.
     ///
     /// An `Err` says that memory was refused.
     pub fn cells_back(&self, alloc: Global, from: CellId) -> Result<Vec<CellId>, AllocError>
@@ -206,7 +194,7 @@ impl<'a, O: SeqObject> Log<'a, O> {
         let mut back = Vec::new(alloc);
         back.push(from)?;
         let mut at = from;
-        while let Some(before) = cell_before(world, at) {
+        while let Some(before) = world.before(at) {
             back.push(before)?;
             at = before;
         }

@@ -99,6 +99,7 @@ fn a_slow_call_comes_last(rt: HostRuntime) -> Result<(), Fail> {
     assert_eq!(rt;
         cells.as_slice(),
         [
+            CellId::anchor(),
             CellId::of(2, 0, 0),
             CellId::of(2, 0, 1),
             CellId::of(2, 1, 0)
@@ -165,7 +166,7 @@ fn indices(alloc: Global, cells: &[CellId]) -> Result<Vec<u32>, AllocError> {
 /// The indices of the cells back from the last one.
 fn back_from_last(alloc: Global, world: &World<SwapRegister>) -> Result<Vec<u32>, Fail> {
     let last = world.last();
-    if world.cells().seq(last) < 1 {
+    if world.seq(last) < 1 {
         return Err(Fail::from("the last cell should be threaded"));
     }
     let cells = Log::of(world).cells_back(alloc, last)?;
@@ -179,7 +180,7 @@ fn back_is_forward_reversed(rt: HostRuntime) -> Result<(), Fail> {
     let forward = Log::of(&world).cells_forward(alloc)?;
     assert_eq!(rt;
         indices(alloc, forward.as_slice())?.as_slice(),
-        [1, 3, 2].as_slice()
+        [0, 1, 3, 2].as_slice()
     );
     assert_eq!(rt;
         back_from_last(alloc, &world)?.as_slice(),

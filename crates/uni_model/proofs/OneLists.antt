@@ -38,7 +38,7 @@ module _ {S I R : Type 0} (object : Sequential S I R) (w : WorldOf S I R) (num :
       let least : num Anchor ≤ num x = sound.numbered.least x linked in
       (num x - num Anchor, place_of_number (num x - num Anchor) x (omega arith))
 
-  length-chain : num Anchor + length (chain w) ≡ last
+  pub length-chain : num Anchor + length (chain w) ≡ last
   length-chain = length-cells_from w.memory num last sound.numbered (calls_begun w) Anchor sound.numbered.first (enough object w num last sound)
 
   -- the last cell has the last number

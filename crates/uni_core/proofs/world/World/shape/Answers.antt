@@ -1,6 +1,6 @@
 use Rattle.uni_model.proofs.Bounded.{IsBounded-held}
 use Rattle.uni_model.proofs.OneLists.{HasOneList-held, HasLegalLog-held}
-use Rattle.uni_core.proofs.Reading.{IsWorld-now}
+use Rattle.uni_core.proofs.Reading.{IsWorld-now, numbers_fit}
 use Rattle.uni_core.proofs.world.World.shape.Goals as goal
 
 pub returns-clause-sound : goal.returns-clause-sound
@@ -20,6 +20,9 @@ pub returns-clause-log : goal.returns-clause-log
 returns-clause-log g c =
     let sound = (IsWorld-now _ _ c.self.view_is g.O.SeqObject.sequential c.self.invariant).sound in
     HasLegalLog-held _ _ (sound.0, sound.1, sound.2)
+
+pub returns-clause-fits : goal.returns-clause-fits
+returns-clause-fits g c = numbers_fit _ _ (IsWorld-now _ _ c.self.view_is g.O.SeqObject.sequential c.self.invariant)
 
 pub returns-clause-bounded : goal.returns-clause-bounded
 returns-clause-bounded g c =

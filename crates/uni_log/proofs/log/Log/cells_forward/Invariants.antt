@@ -1,4 +1,4 @@
-use Rattle.std.proofs.Common.{◌≡◌, ◌+◌, ◌-◌, ◌^◌, List, ◌++◌, IsSome, length, map}
+use Rattle.std.proofs.Common.{◌≡◌, ◌+◌, ◌-◌, ◌^◌, ◌≤◌, List, ◌++◌, ◌∷◌, IsSome, length, map}
 use Rattle.cell_arena.specs.Arena.{cell_of}
 use Rattle.uni_model.specs.Places.{Name, seq_of}
 use Rattle.uni_model.specs.Places.Name.{Anchor}
@@ -10,10 +10,11 @@ use Rattle.uni_log.proofs.log.Log.cells_forward.Given as goal
 
 abbrev pub invariant-loop-next : goal.invariant-loop-next
 invariant-loop-next g l = record {
+  some : 1 ≤ length l.forward.items;
   there : IsSome (cell_of l.world.shared.cells l.at);
   rest : List Name;
-  along : IsAlong (world_of l.world) (name_of (world_of l.world).n l.at) (length l.forward.items + seq_of (world_of l.world).memory Anchor) rest;
-  whole : map (name_of (world_of l.world).n) l.forward.items ++ rest ≡ chain (world_of l.world);
+  along : IsAlong (world_of l.world) (name_of (world_of l.world).n l.at) (length l.forward.items - 1 + seq_of (world_of l.world).memory Anchor) rest;
+  whole : map (name_of (world_of l.world).n) l.forward.items ++ rest ≡ Anchor ∷ chain (world_of l.world);
 }
 
 abbrev pub decreases-loop-next : goal.decreases-loop-next

@@ -14,13 +14,12 @@ use Rattle.uni_log.proofs.log.Log.entries.Goals as goal
 
 pub loop-next-init : goal.loop-next-init
 loop-next-init g c =
-    let read = rw (c.cells.ensures, c.anchor-at.ensures) at c.seq-seq.ensures in
-    let seq : c.seq-seq.result ≡ seq_of (world_of c.self.inside.world.now).memory Anchor = cc in
+    let seq : c.seq-seq.result ≡ seq_of (world_of c.self.inside.world.now).memory Anchor = rw c.anchor-at.ensures at c.seq-seq.ensures in
     rw (c.anchor-at.ensures, c.new-entries.ensures.items) (record {
-      there = refl {a = true};
+      there = c.shape.ensures.anchor;
       rest = chain (world_of c.self.inside.world.now);
       along = IsAlong-anchor (world_of c.self.inside.world.now) (g.O.SeqObject.sequential c.self.inside.world.now.object)
-          c.shape.ensures.sound c.self.inside.world.now.row c.shape.ensures.room c.shape.ensures.numbers c.seq-seq.result seq;
+          c.shape.ensures.sound c.shape.ensures.fits c.seq-seq.result seq;
       whole = ap (λ k. entries_from (world_of c.self.inside.world.now).memory (k + 1) (chain (world_of c.self.inside.world.now))) seq;
     })
 

@@ -1,4 +1,4 @@
-use Rattle.std.proofs.Common.{refl, sym, subst, true, arith}
+use Rattle.std.proofs.Common.{sym, subst, arith}
 use Rattle.std.proofs.lemmas.Iterator.Adapters.{position_from-zero}
 use Rattle.uni_model.specs.Places.{name_eq}
 use Rattle.uni_model.specs.Places.Name.{Of}
@@ -11,10 +11,10 @@ use Rattle.uni_log.proofs.log.Log.place_of.Goals as goal
 pub loop-next-init : goal.loop-next-init
 loop-next-init g c =
     rw c.anchor-at.ensures (record {
-      there = refl {a = true};
+      there = c.shape.ensures.anchor;
       rest = chain (world_of c.self.inside.world.now);
       along = IsAlong-anchor (world_of c.self.inside.world.now) (g.O.SeqObject.sequential c.self.inside.world.now.object)
-          c.shape.ensures.sound c.self.inside.world.now.row c.shape.ensures.room c.shape.ensures.numbers _ (omega arith);
+          c.shape.ensures.sound c.shape.ensures.fits _ (omega arith);
       whole = sym (position_from-zero (name_eq (Of c.args.call.process c.args.call.nth)) (chain (world_of c.self.inside.world.now)));
     })
 

@@ -1,4 +1,4 @@
-use Rattle.std.proofs.Common.{◌≡◌, ◌+◌, ◌∷◌, refl, sym, ap, subst, true, slice_get, arith}
+use Rattle.std.proofs.Common.{◌≡◌, ◌+◌, ◌∷◌, refl, sym, ap, subst, slice_get, arith}
 use Rattle.uni_model.specs.Places.Name.{Anchor}
 use Rattle.uni_model.specs.Worlds.{chain}
 use Rattle.uni_core.specs.Shared.{name_of}
@@ -10,10 +10,10 @@ use Rattle.uni_log.proofs.log.Log.state_at.Goals as goal
 pub loop-init : goal.loop-init
 loop-init g c =
     rw c.anchor-at.ensures (record {
-      there = refl {a = true};
+      there = c.shape.ensures.anchor;
       rest = chain (world_of c.self.inside.world.now);
       along = IsAlong-anchor (world_of c.self.inside.world.now) (g.O.SeqObject.sequential c.self.inside.world.now.object)
-          c.shape.ensures.sound c.self.inside.world.now.row c.shape.ensures.room c.shape.ensures.numbers _ (omega arith);
+          c.shape.ensures.sound c.shape.ensures.fits _ (omega arith);
       whole = λ j. let same : 0 + j ≡ j = omega arith in ap (slice_get (Anchor ∷ chain (world_of c.self.inside.world.now))) same;
     })
 
