@@ -11,7 +11,7 @@ use Rattle.uni_model.specs.Worlds.{WorldOf, world_after_call}
 use Rattle.uni_model.specs.Frontier.{greatest_below, frontier}
 use Rattle.uni_model.specs.Invariant.{IsSound}
 use Rattle.uni_model.specs.Helping.{SomeHead, OfConsidered, IsFairToAll, Helps}
-use Rattle.uni_model.specs.Floored.{IsBelowFloor, Waits, HasFloor, IsAnnounced}
+use Rattle.uni_model.proofs.Floored.{IsBelowFloor, Waits, HasFloor, IsAnnounced}
 use Rattle.uni_model.proofs.Written.{number_cases}
 use Rattle.uni_model.proofs.Helped.{OfConsidered-map}
 

@@ -9,7 +9,7 @@ use Rattle.uni_model.specs.Transition.{place_of, effect_of, beside}
 use Rattle.uni_model.specs.Worlds.{WorldOf, call_after}
 use Rattle.uni_model.specs.Invariant.{IsSound}
 use Rattle.uni_model.specs.Helping.{OfConsidered, Helps}
-use Rattle.uni_model.specs.Floored.{IsBelowFloor, Waits, HasFloor, IsAnnounced}
+use Rattle.uni_model.proofs.Floored.{IsBelowFloor, Waits, HasFloor, IsAnnounced}
 use Rattle.uni_model.proofs.Written.{number_cases, lt_cases}
 use Rattle.uni_model.proofs.Moves.{Moves, Extends, was_pending}
 use Rattle.uni_model.proofs.Longer.{IsLonger, numbers-cases, anchor_stays, not_linked_before, below-cases}

@@ -12,7 +12,7 @@ use Rattle.uni_model.specs.Worlds.Event.{Call, Step, Trim}
 use Rattle.uni_model.specs.Frontier.{frontier}
 use Rattle.uni_model.specs.Bound.{CountsSteps}
 use Rattle.uni_model.specs.Helping.{HelpingInvariant}
-use Rattle.uni_model.specs.Floored.{HasFloor, FloorInvariant}
+use Rattle.uni_model.proofs.Floored.{HasFloor, FloorInvariant}
 use Rattle.uni_model.proofs.Steps.{leads}
 use Rattle.uni_model.proofs.Kept.{idle_when_quiescent}
 use Rattle.uni_model.proofs.Counted.{IsCounted-pending, CountsSteps-world_after}

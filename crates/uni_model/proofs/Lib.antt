@@ -17,6 +17,7 @@ pub mod Seen
 pub mod Counted
 pub mod Longer
 pub mod Residues
+pub mod Floored
 pub mod Helped
 pub mod Turns
 pub mod Advanced

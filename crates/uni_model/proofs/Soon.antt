@@ -12,7 +12,7 @@ use Rattle.uni_model.specs.Worlds.Event.{Call, Step, Trim}
 use Rattle.uni_model.specs.Frontier.{frontier, announces, announces_at, floor_of}
 use Rattle.uni_model.specs.Bound.{CountsSteps}
 use Rattle.uni_model.specs.Helping.{HelpingInvariant}
-use Rattle.uni_model.specs.Floored.{FloorInvariant}
+use Rattle.uni_model.proofs.Floored.{FloorInvariant}
 use Rattle.uni_model.specs.Laws.{IsLinkedSoon, LinksSoon}
 use Rattle.uni_model.proofs.Written.{name_eq_true}
 use Rattle.uni_model.proofs.Chains.{number_at, slice_get-cells_from, length-cells_from}

@@ -11,7 +11,6 @@ pub mod Settled
 pub mod OneList
 pub mod Growth
 pub mod Helping
-pub mod Floored
 pub mod Bound
 pub mod Examples
 pub mod Laws

@@ -1,5 +1,5 @@
 -- What every world that is reached keeps of a call with a floor.
-use Rattle.std.specs.Prelude.{◌≡◌, ◌≢◌, ℕ, ◌+◌, ◌<◌, ◌≤◌, ◌%◌, Some}
+use Rattle.std.proofs.Common.{◌≡◌, ◌≢◌, ℕ, ◌+◌, ◌<◌, ◌≤◌, ◌%◌, Some}
 use Rattle.seq_object.specs.Sequential.{Sequential}
 use Rattle.uni_model.specs.Places.{Name}
 use Rattle.uni_model.specs.Places.Name.{Anchor, Of}
