@@ -31,3 +31,6 @@ pub mod Floors
 pub mod Soon
 pub mod Announced
 pub mod LawProofs
+pub mod Indices
+pub mod SamePlace
+pub mod Ranges

@@ -14,3 +14,4 @@ pub mod Helping
 pub mod Bound
 pub mod Examples
 pub mod Laws
+pub mod Indices
