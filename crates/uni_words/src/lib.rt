@@ -1,0 +1,22 @@
+//! The wait-free universal construction on the words of an `atomic_table`.
+#![tactic(auto)]
+
+mod apply;
+mod calls;
+mod close;
+mod log;
+mod object;
+mod objects;
+mod open;
+mod rule;
+mod steps;
+#[cfg(test)]
+mod tests;
+mod view;
+
+pub use apply::{Answer, RowFull};
+pub use close::Words;
+pub use log::{WordLog, WordOpenFault};
+pub use object::WordObject;
+pub use objects::{WordSticky, WordTally};
+pub use steps::WordSeat;
