@@ -34,3 +34,5 @@ pub mod LawProofs
 pub mod Indices
 pub mod SamePlace
 pub mod Ranges
+pub mod LegalLog
+pub mod SameLog

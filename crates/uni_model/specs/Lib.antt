@@ -15,3 +15,4 @@ pub mod Bound
 pub mod Examples
 pub mod Laws
 pub mod Indices
+pub mod Logged

@@ -5,4 +5,5 @@ pub mod Shown
 pub mod Seats
 pub mod Standing
 pub mod Rule
+pub mod Log
 pub mod Belongs

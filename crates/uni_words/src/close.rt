@@ -1,33 +1,29 @@
 //! Closing a log.
-ghost use Rattle.std.specs.Prelude.{◌≡◌};
-ghost use Rattle.std.specs.Mem.Slots.{slots_items, slots_len, IsFull};
-ghost use Rattle.atomic_table.specs.Table.{Final, Seen};
-ghost use Rattle.uni_words.specs.Belongs.{IsSeatOf};
-ghost use Rattle.uni_words.specs.Words.{words_of};
-ghost use Rattle.uni_words.specs.Rule.{Rule};
+ghost use Rattle.std.specs.Prelude.{◌≡◌, map};
+ghost use Rattle.seq_object.specs.History.{IsLegal};
+ghost use Rattle.uni_model.specs.Logged.{logged_call};
+ghost use Rattle.uni_words.specs.Belongs.{IsSeatOf, object_of, processes_of, row_of, process_of, own_calls, count_in, row_in, words_in};
+ghost use Rattle.uni_words.specs.Log.{IsChained, log_of, calls_by, replied};
 
 use crate::log::WordLog;
 use crate::object::WordObject;
 use crate::rule::Setup;
 use crate::steps::WordSeat;
-use atomic_table::Closed;
-use std::alloc::Global;
-
-/// The words of a log that is closed.
-pub struct Words {
-    pub(crate) n: u64,
-    pub(crate) k: u64,
-    pub(crate) closed: Closed<u8, Global>,
-    pub ghost sized: { slots_len closed.words ≡ words_of n k },
-    pub ghost empty: { slots_len closed.slots ≡ 0 },
-}
+use crate::words::Words;
 
 impl<O: WordObject> WordLog<O> {
-    /// Closes the log: the words as they are then, with what the seat knows.
+    /// Closes the log, with the seat of one of its processes: the words as they are then. Other
+    /// seats may be dropped in a call; what they have begun stays as it is.
+    ///
+    /// The words show one chain, which is legal from the start state, and the calls of the seat's
+    /// process in it are the seat's own calls, in their order, with the replies that it was given.
     pub fn close_with(self, seat: WordSeat) -> Words
         requires { IsSeatOf self seat }
-        ensures counts { (result.n ≡ self.setup.n) × (result.k ≡ self.setup.k) }
-        ensures shown { Final (Seen (Rule O.sequential self.setup) seat.seat.id seat.seat.me.0) (slots_items result.closed.words) (slots_items result.closed.slots) }
+        ensures counts { (count_in result ≡ processes_of self) × (row_in result ≡ row_of self) }
+        ensures chain { IsChained (count_in result) (row_in result) (words_in result) }
+        ensures legal { IsLegal (O.sequential (object_of self)) (O.sequential (object_of self)).initial
+            (map logged_call (log_of (count_in result) (row_in result) (words_in result))) }
+        ensures own { calls_by (process_of seat) (log_of (count_in result) (row_in result) (words_in result)) ≡ map replied (own_calls seat) }
     {
         let WordLog { setup, table } = self;
         let Setup { object, n, k } = setup;

@@ -8,15 +8,18 @@ mod log;
 mod object;
 mod objects;
 mod open;
+mod read;
 mod rule;
 mod steps;
 #[cfg(test)]
 mod tests;
 mod view;
+mod words;
 
 pub use apply::{Answer, RowFull};
-pub use close::Words;
 pub use log::{WordLog, WordOpenFault};
 pub use object::WordObject;
 pub use objects::{WordSticky, WordTally};
+pub use read::{WordEntry, read_log};
 pub use steps::WordSeat;
+pub use words::Words;
