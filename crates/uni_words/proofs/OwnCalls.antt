@@ -19,18 +19,18 @@ use Rattle.uni_words.specs.Views.{Known}
 use Rattle.uni_words.specs.declared.view.View.{View}
 use Rattle.uni_words.proofs.Closing.{log_is}
 
-drop-here : {A : Type 0} (l : List A) (i : ℕ) (a : A) → slice_get l i ≡ Some a → drop i l ≡ a ∷ drop (suc i) l
+pub drop-here : {A : Type 0} (l : List A) (i : ℕ) (a : A) → slice_get l i ≡ Some a → drop i l ≡ a ∷ drop (suc i) l
 drop-here [] i a e = absurd (let f : None ≡ Some a = e in cc)
 drop-here (x ∷ xs) zero a e = let same : x ≡ a = (let f : Some x ≡ Some a = e in cc) in ap (λ y. y ∷ xs) same
 drop-here (x ∷ xs) (suc i) a e = drop-here xs i a e
 
-drop-past : {A : Type 0} (l : List A) (i : ℕ) → length l ≤ i → drop i l ≡ []
+pub drop-past : {A : Type 0} (l : List A) (i : ℕ) → length l ≤ i → drop i l ≡ []
 drop-past [] zero h = refl
 drop-past [] (suc i) h = refl
 drop-past (x ∷ xs) zero h = absurd (omega arith)
 drop-past (x ∷ xs) (suc i) h = drop-past xs i (omega arith)
 
-there_below : {A : Type 0} (l : List A) (i : ℕ) → i < length l → (a : A) × (slice_get l i ≡ Some a)
+pub there_below : {A : Type 0} (l : List A) (i : ℕ) → i < length l → (a : A) × (slice_get l i ≡ Some a)
 there_below [] i h = absurd (omega arith)
 there_below (x ∷ xs) zero h = (x, refl)
 there_below (x ∷ xs) (suc i) h = there_below xs i (omega arith)

@@ -6,4 +6,5 @@ pub mod Seats
 pub mod Standing
 pub mod Rule
 pub mod Log
+pub mod Differs
 pub mod Belongs

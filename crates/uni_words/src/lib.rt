@@ -4,6 +4,7 @@
 mod apply;
 mod calls;
 mod close;
+mod compare;
 mod log;
 mod object;
 mod objects;
@@ -17,6 +18,7 @@ mod view;
 mod words;
 
 pub use apply::{Answer, RowFull};
+pub use compare::differs;
 pub use log::{WordLog, WordOpenFault};
 pub use object::WordObject;
 pub use objects::{WordSticky, WordTally};
