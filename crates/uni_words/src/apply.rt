@@ -3,7 +3,7 @@ ghost use Rattle.std.specs.Prelude.{◌≡◌, ◌↔◌, ◌+◌, ◌*◌, ◌<
 ghost use Rattle.uni_words.specs.Standing.{StandsAt, GoesBy, IsIdle, IsCountOf};
 ghost use Rattle.uni_model.specs.Indices.{name_of};
 ghost use Rattle.uni_words.specs.Words.{cells_of};
-ghost use Rattle.uni_words.specs.Belongs.{IsSeatOf};
+ghost use Rattle.uni_words.specs.Belongs.{IsSeatOf, processes_of, row_of, process_of, calls_made, own_calls, latest_turns, word_steps_of};
 ghost use Rattle.uni_model.specs.Places.Name.{Anchor};
 ghost use Rattle.uni_model.specs.Stages.Stage.{ScanHead, WriteScan, Test, ReadAnnounce, Finish};
 
@@ -140,19 +140,22 @@ impl<O: WordObject> WordLog<O> {
 }
 
 impl WordSeat {
-    /// Applies the invocation: the reply, and how many turns it took. It returns after a bounded
-    /// number of word steps, whatever the other seats do.
+    /// Applies the invocation: the reply, and how many turns it took. It returns after a known
+    /// number of word steps, whatever the other seats do, and takes no memory and no lock. The seat
+    /// is one of this log's.
     ///
     /// The error says that the seat has made all the calls that it can make; nothing is changed then.
     pub fn apply<O: WordObject>(&mut self, log: &WordLog<O>, inv: u64) -> Result<Answer, RowFull>
         requires { IsSeatOf log.now self.old }
-        ensures kept { IsSeatOf log.now self.new × (self.new.p ≡ self.old.p) }
-        ensures full { IsErr result ↔ (self.old.made ≡ log.now.setup.k) }
+        ensures kept { IsSeatOf log.now self.new × (process_of self.new ≡ process_of self.old) }
+        ensures full { IsErr result ↔ (calls_made self.old ≡ row_of log.now) }
         ensures unchanged { OnErr result (self.new ≡ self.old) }
-        ensures own { IfOk result (λ answer. self.new.seat.me.0.known.own ≡ self.old.seat.me.0.known.own ++ (inv, answer.reply) ∷ []) }
-        ensures made { OnOk result (self.new.made ≡ self.old.made + 1) }
-        ensures turns { IfOk result (λ answer. answer.turns ≤ log.now.setup.n + 1) }
-        ensures steps { IfOk result (λ answer. IsCountOf log.now.setup.n answer.turns self.old.seat.me.0.known.word_steps self.new.seat.me.0.known.word_steps) }
+        ensures own { IfOk result (λ answer. own_calls self.new ≡ own_calls self.old ++ (inv, answer.reply) ∷ []) }
+        ensures made { OnOk result (calls_made self.new ≡ calls_made self.old + 1) }
+        ensures turns { IfOk result (λ answer. latest_turns self.new ≡ answer.turns) }
+        ensures few_turns { IfOk result (λ answer. answer.turns ≤ processes_of log.now + 1) }
+        ensures steps { IfOk result (λ answer. IsCountOf (processes_of log.now) answer.turns (word_steps_of self.old) (word_steps_of self.new)) }
+        ensures few_steps { OnOk result (word_steps_of self.new ≤ word_steps_of self.old + (12 * processes_of log.now + 16)) }
     {
         if self.made == self.k {
             return Err(RowFull);

@@ -1,8 +1,10 @@
-use Rattle.std.proofs.Common.{◌≡◌, ℕ, ◌-◌, arith, sym, ap, subst}
+use Rattle.std.proofs.Common.{rules, refl, ◌+◌, ◌≤◌, ◌<◌, ◌≡◌, ℕ, ◌-◌, arith, sym, ap, subst}
 use Rattle.atomic_table.specs.Table.{Me, Splits}
 use Rattle.uni_words.specs.Seats.{others, first_alone}
 use Rattle.uni_words.specs.Rule.{Rule}
 use Rattle.uni_words.specs.declared.view.View.{View}
+use Rattle.uni_words.specs.Belongs.{AreFirstSeats}
+use Rattle.uni_words.proofs.Seating.{one_more}
 use Rattle.uni_words.proofs.Splitting.{splits}
 use Rattle.uni_words.proofs.log.WordLog.seats.Goals as goal
 
@@ -16,3 +18,16 @@ split_seat-seat-requires g c =
       subst (λ key. Splits (Rule g.O.WordObject.sequential key) c.loop-p.rest.id v (others v) (first_alone v)) (sym log.same)
           (splits (g.O.WordObject.sequential log.setup.object) log.setup.k c.loop-p.rest.id v (let t = c.loop-p-test.true in omega arith) log.setup.n),
     )
+
+pub loop-p-preserved : goal.loop-p-preserved
+loop-p-preserved g c = (
+  search rules,
+  search rules,
+  one_more c.args.self.now c.loop-p.p c.loop-p.seats.items c.push.new.self.items _ c.loop-p.invariant.2 c.in_ok-push.ensures.items (search rules) refl refl (search rules) refl (search rules) refl,
+)
+
+pub returns : goal.returns
+returns g c =
+    let whole : c.loop-p.p + 1 ≡ c.args.self.now.setup.n = (let t = c.loop-p-test.false in let a = c.loop-p.auto.p-end in let f = c.args.self.now.few.0 in omega arith) in
+    subst (λ k. AreFirstSeats c.args.self.now k c.push-2.new.self.items) whole
+    (one_more c.args.self.now c.loop-p.p c.loop-p.seats.items c.push-2.new.self.items _ c.loop-p.invariant.2 c.in_ok-push-2.ensures.items (search rules) refl refl (search rules) (search rules) (search rules) refl)
