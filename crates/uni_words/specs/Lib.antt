@@ -8,3 +8,4 @@ pub mod Rule
 pub mod Log
 pub mod Differs
 pub mod Belongs
+pub mod Laws

@@ -5,6 +5,7 @@ mod apply;
 mod calls;
 mod close;
 mod compare;
+mod laws;
 mod log;
 mod object;
 mod objects;
@@ -19,6 +20,7 @@ mod words;
 
 pub use apply::{Answer, RowFull};
 pub use compare::differs;
+pub use laws::{load_ends, load_keeps, own_calls_rise, store_begins, store_ends, word_step_moves};
 pub use log::{WordLog, WordOpenFault};
 pub use object::WordObject;
 pub use objects::{WordSticky, WordTally};
