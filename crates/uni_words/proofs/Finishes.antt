@@ -20,7 +20,7 @@ use Rattle.uni_model.proofs.Written.{lt_cases, written_same}
 use Rattle.uni_words.specs.Words.{reply_in, content_of, word_of, memory_of}
 use Rattle.uni_words.specs.Views.{Known, finished_by}
 use Rattle.uni_words.specs.Views.Reading.{Reply}
-use Rattle.uni_words.specs.Seats.{HasFinished, Ends, TellsReply}
+use Rattle.uni_words.specs.Seats.{HasFinished, TellsReply}
 use Rattle.uni_words.specs.Shown.{HasReturned, HasRead, IsLocal, IsShown, ShowsWorld, pending_count}
 use Rattle.uni_words.specs.declared.view.View.{View}
 use Rattle.uni_words.proofs.Underway.{HasReturned-grows}
@@ -128,10 +128,10 @@ module _ (object : Sequential ℕ ℕ ℕ) (row : ℕ) where
         = ap (memory_with w.memory (HeadOf v.first)) stays ∙ (written_same w.memory (HeadOf v.first) ∙ (is.memory ∙ ap (λ ws. memory_of w.n row ws w.begun) (sym same))) in
         finished_kept (slice_set s.words i found) (length-set s.words i found) memory_is (reply_in found) (reply_told object row w s is id v at single mine c_seq mine_seq pending i word)
 
-  pub ends : (n slots id i : ℕ) (st : Step ℕ) (me : Me ℕ View) → me.0.known.count ≡ 1 → (mine c_seq mine_seq reply : ℕ)
+  pub ends : (n slots id i : ℕ) (me : Me ℕ View) → me.0.known.count ≡ 1 → (mine c_seq mine_seq reply : ℕ)
       → me.0.known.call ≡ Some (record { mine = name_of n mine; stage = Finish c_seq mine_seq }) → me.0.known.read ≡ Reply reply → c_seq < mine_seq → word_of n row (HeadOf me.0.known.first) ≡ Some i
-      → Allows (ShowsWorld object n row) slots id me i (λ x. mine) (λ found me'. Ends st me mine me')
-  ends n slots id i st me single mine c_seq mine_seq reply pending read less word_n s shown deep at small =
+      → Allows (ShowsWorld object n row) slots id me i (λ x. mine) (λ found me'. HasFinished me reply me')
+  ends n slots id i me single mine c_seq mine_seq reply pending read less word_n s shown deep at small =
       let v : Known = me.0.known in
       let w : WorldOf ℕ ℕ ℕ = shown.0 in
       let word : word_of w.n row (HeadOf v.first) ≡ Some i = subst (λ k. word_of k row (HeadOf v.first) ≡ Some i) (sym shown.1) word_n in (
@@ -143,7 +143,7 @@ module _ (object : Sequential ℕ ℕ ℕ) (row : ℕ) where
           shown.1,
           stored_kept w s shown.2 id v at single (name_of n mine) c_seq mine_seq pending less i mine word (ap (λ k. name_of k mine) shown.1) reply read,
         ),
-        λ other e. (let same : reply ≡ other = (let f = sym read ∙ e in cc) in subst (λ k. HasFinished me k (record { known = finished_by v reply }, me.1)) same refl),
+        refl,
       )
 
   pub told_reply : (n slots id i : ℕ) (st : Step ℕ) (me : Me ℕ View) → me.0.known.count ≡ 1 → (mine : Name) (c_seq mine_seq : ℕ)

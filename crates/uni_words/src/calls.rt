@@ -10,7 +10,7 @@ ghost use Rattle.uni_model.specs.Stages.Stage.{Announce, DecideNew, WriteBefore,
 
 use crate::log::WordLog;
 use crate::object::WordObject;
-use crate::rule::{Begins, Finishes, LooksInv, LooksNew, LooksReply, Moves};
+use crate::rule::{Begins, LooksInv, LooksNew, LooksReply, Moves};
 use crate::view::View;
 use atomic_table::Seat;
 
@@ -143,14 +143,12 @@ impl<O: WordObject> WordLog<O> {
         reply: u32,
     )
         requires table { seat.old.table_id ≡ self.now.table.shared.table_id }
-        requires inside { (p < self.now.setup.n) × (c_seq < mine_seq) }
+        requires inside { (p < self.now.setup.n) × (mine < cells_of self.now.setup.n self.now.setup.k) × (c_seq < mine_seq) }
         requires stands { StandsAt self.now.setup.n self.now.setup.k p (name_of self.now.setup.n mine) (Finish c_seq mine_seq) seat.old.me }
         requires read { seat.old.me.0.known.read ≡ Reply reply }
         ensures same { (seat.new.table_id ≡ seat.old.table_id) × (seat.new.id ≡ seat.old.id) }
         ensures finished { HasFinished seat.old.me reply seat.new.me }
     {
-        self.table
-            .shared
-            .store::<Finishes>(seat, self.head_word(p), mine);
+        self.store_head(seat, p, mine);
     }
 }

@@ -71,13 +71,13 @@ impl Play<u8, View> for LooksReply {
     ghost then = { TellsReply };
 }
 
-/// A store of the head as the last step of a call.
-pub struct Finishes;
+/// A store of the head, which ends a call where it is its last step.
+pub struct StoresHead;
 
-impl Play<u8, View> for Finishes {
-    ghost use Rattle.uni_words.specs.Seats.{Ends};
+impl Play<u8, View> for StoresHead {
+    ghost use Rattle.uni_words.specs.Standing.{HeadIsStored};
 
-    ghost then = { Ends };
+    ghost then = { HeadIsStored };
 }
 
 /// The first process apart from the others.

@@ -1,15 +1,17 @@
 //! The word steps, each one function.
 ghost use Rattle.std.specs.Prelude.{◌≡◌, ◌+◌, ◌<◌, ◌≤◌, ◌%◌, ◌==◌, if◌then◌else◌, unwrap_or, Some};
-ghost use Rattle.uni_words.specs.Standing.{StandsAt, GoesBy, IsIdle};
+ghost use Rattle.uni_words.specs.Standing.{StandsAt, GoesBy, IsIdle, IsBeforeNumber, IsBeforeHead, IsPastHead};
 ghost use Rattle.uni_model.specs.Places.Name.{Anchor};
 ghost use Rattle.uni_model.specs.Transition.{stage_after_scan};
 ghost use Rattle.uni_model.specs.Indices.{name_of};
 ghost use Rattle.uni_words.specs.Words.{cells_of, link_of};
+ghost use Rattle.uni_model.specs.Stages.{Pending};
+ghost use Rattle.uni_words.specs.Seats.{HasMoved};
 ghost use Rattle.uni_model.specs.Stages.Stage.{Announce, ScanHead, ScanSeq, WriteScan, Test, ReadAnnounce, ReadHelpSeq, DecideAfter, DecideNew, WriteBefore, WriteSeq, WriteHead, Finish};
 
 use crate::log::WordLog;
 use crate::object::WordObject;
-use crate::rule::Moves;
+use crate::rule::{Moves, StoresHead};
 use crate::view::View;
 use atomic_table::Seat;
 
@@ -25,6 +27,30 @@ pub struct WordSeat {
 }
 
 impl<O: WordObject> WordLog<O> {
+    /// The load of the number of a cell, at each stage that does it.
+    fn load_seq(&self, seat: &mut Seat<u8, View>, p: u64, cell: u64) -> u64
+        requires table { seat.old.table_id ≡ self.now.table.shared.table_id }
+        requires inside { cell < cells_of self.now.setup.n self.now.setup.k }
+        requires before { IsBeforeNumber self.now.setup.n self.now.setup.k p (name_of self.now.setup.n cell) seat.old.me }
+        ensures same { (seat.new.table_id ≡ seat.old.table_id) × (seat.new.id ≡ seat.old.id) }
+        ensures moved { (c : Pending) → seat.old.me.0.known.call ≡ Some c → HasMoved seat.old.me c result seat.new.me }
+    {
+        self.table.shared.load::<Moves>(seat, self.seq_word(cell))
+    }
+
+    /// The store of a cell in the head of process p, at each stage that does it.
+    pub(crate) fn store_head(&self, seat: &mut Seat<u8, View>, p: u64, cell: u64)
+        requires table { seat.old.table_id ≡ self.now.table.shared.table_id }
+        requires inside { (p < self.now.setup.n) × (cell < cells_of self.now.setup.n self.now.setup.k) }
+        requires before { IsBeforeHead self.now.setup.n self.now.setup.k p (name_of self.now.setup.n cell) seat.old.me }
+        ensures same { (seat.new.table_id ≡ seat.old.table_id) × (seat.new.id ≡ seat.old.id) }
+        ensures past { (c : Pending) → seat.old.me.0.known.call ≡ Some c → IsPastHead seat.old.me c.mine c.stage cell seat.new.me }
+    {
+        self.table
+            .shared
+            .store::<StoresHead>(seat, self.head_word(p), cell);
+    }
+
     /// `Announce`: stores `mine` in the announce entry of the process.
     pub(crate) fn announce(&self, seat: &mut Seat<u8, View>, p: u64, mine: u64)
         requires table { seat.old.table_id ≡ self.now.table.shared.table_id }
@@ -79,7 +105,7 @@ impl<O: WordObject> WordLog<O> {
         ensures goes { GoesBy seat.old.me seat.new.me 1 (0) }
         ensures within { result ≤ cells_of self.now.setup.n self.now.setup.k }
     {
-        self.table.shared.load::<Moves>(seat, self.seq_word(h))
+        self.load_seq(seat, p, h)
     }
 
     /// `WriteScan`: stores the best cell of the scan in the process's head.
@@ -98,9 +124,7 @@ impl<O: WordObject> WordLog<O> {
         ensures stands { StandsAt self.now.setup.n self.now.setup.k p (name_of self.now.setup.n mine) (Test (name_of self.now.setup.n best) best_seq) seat.new.me }
         ensures goes { GoesBy seat.old.me seat.new.me 1 (0) }
     {
-        self.table
-            .shared
-            .store::<Moves>(seat, self.head_word(p), best);
+        self.store_head(seat, p, best);
     }
 
     /// `Test`: loads the number of `mine`.
@@ -121,7 +145,7 @@ impl<O: WordObject> WordLog<O> {
         ensures within { result ≤ cells_of self.now.setup.n self.now.setup.k }
         ensures bound { seat.new.me.0.known.turns ≤ self.now.setup.n + 1 }
     {
-        self.table.shared.load::<Moves>(seat, self.seq_word(mine))
+        self.load_seq(seat, p, mine)
     }
 
     /// `ReadAnnounce`: loads the announce entry of the process whose turn it is.
@@ -164,7 +188,7 @@ impl<O: WordObject> WordLog<O> {
         ensures goes { GoesBy seat.old.me seat.new.me 1 (0) }
         ensures within { result ≤ cells_of self.now.setup.n self.now.setup.k }
     {
-        self.table.shared.load::<Moves>(seat, self.seq_word(help))
+        self.load_seq(seat, p, help)
     }
 
     /// `DecideAfter`: proposes `prefer` after c.
@@ -252,6 +276,6 @@ impl<O: WordObject> WordLog<O> {
         ensures stands { StandsAt self.now.setup.n self.now.setup.k p (name_of self.now.setup.n mine) (Test (name_of self.now.setup.n d) (c_seq + 1)) seat.new.me }
         ensures goes { GoesBy seat.old.me seat.new.me 1 (0) }
     {
-        self.table.shared.store::<Moves>(seat, self.head_word(p), d);
+        self.store_head(seat, p, d);
     }
 }
