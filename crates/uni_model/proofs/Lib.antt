@@ -34,5 +34,4 @@ pub mod LawProofs
 pub mod Indices
 pub mod SamePlace
 pub mod Ranges
-pub mod LegalLog
 pub mod SameLog

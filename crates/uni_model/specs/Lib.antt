@@ -15,4 +15,3 @@ pub mod Bound
 pub mod Examples
 pub mod Laws
 pub mod Indices
-pub mod Logged

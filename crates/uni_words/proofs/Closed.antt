@@ -7,7 +7,7 @@ use Rattle.seq_object.specs.Sequential.{Sequential}
 use Rattle.seq_object.specs.History.{IsLegal}
 use Rattle.uni_model.specs.Places.{seq_of}
 use Rattle.uni_model.specs.Places.Name.{Anchor}
-use Rattle.uni_model.specs.Logged.{logged_call}
+use Rattle.uni_model.specs.History.{logged_call}
 use Rattle.uni_model.specs.Worlds.{WorldOf}
 use Rattle.uni_words.specs.Log.{AreCallCells, IsChained, told_memory, log_of, calls_by, replied}
 use Rattle.uni_words.specs.Rule.{Rule}

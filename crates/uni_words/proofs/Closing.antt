@@ -10,11 +10,11 @@ use Rattle.uni_model.specs.Places.{Name, Memory, inv_of, new_of, seq_of, after_o
 use Rattle.uni_model.specs.Places.Name.{Anchor, Of}
 use Rattle.uni_model.specs.Places.Place.{InvOf}
 use Rattle.uni_model.specs.Chain.{Invoked, Entry, cells_from, entries_from, invoked_at, response_in}
-use Rattle.uni_model.specs.Logged.{logged_call}
+use Rattle.uni_model.specs.History.{logged_call}
 use Rattle.uni_model.specs.Worlds.{WorldOf, calls_begun}
 use Rattle.uni_model.specs.Invariant.{Has, IsNumbered, IsSound}
 use Rattle.uni_model.proofs.Chains.{cells_from-same, number_at}
-use Rattle.uni_model.proofs.LegalLog.{legal_from}
+use Rattle.uni_model.proofs.Logged.{legal_from}
 use Rattle.uni_model.proofs.Ranges.{sum_below-bound}
 use Rattle.uni_model.proofs.SameLog.{entries_from-same}
 use Rattle.uni_model.proofs.Simulation.{enough}

@@ -1,7 +1,7 @@
 //! Closing a log.
 ghost use Rattle.std.specs.Prelude.{◌≡◌, map};
 ghost use Rattle.seq_object.specs.History.{IsLegal};
-ghost use Rattle.uni_model.specs.Logged.{logged_call};
+ghost use Rattle.uni_model.specs.History.{logged_call};
 ghost use Rattle.uni_words.specs.Belongs.{IsSeatOf, object_of, processes_of, row_of, process_of, own_calls, count_in, row_in, words_in};
 ghost use Rattle.uni_words.specs.Log.{IsChained, log_of, calls_by, replied};
 
