@@ -1,6 +1,6 @@
 pub mod Written
 pub mod Stepping
-pub mod Made
+pub mod Results
 pub mod Cutting
 pub mod Running
 pub mod ByteByByte

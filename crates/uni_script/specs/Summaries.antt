@@ -4,7 +4,7 @@ use Rattle.uni_model.specs.Stages.{Pending}
 use Rattle.uni_model.specs.Worlds.{WorldOf, sum_below, calls_begun}
 use Rattle.uni_script.specs.declared.summary.Summary.{Summary}
 use Rattle.uni_script.specs.Script.{lines_of}
-use Rattle.uni_script.specs.Meaning.{Bench, AnyBench, script_run}
+use Rattle.uni_script.specs.Meaning.{Bench, AnyBench, outcome_of_script}
 use Rattle.uni_script.specs.Meaning.AnyBench.{OfQueue, OfDirectory, OfBook, OfSticky}
 
 -- how many of the calls that a process has begun have returned: all but the pending one
@@ -28,4 +28,4 @@ any_summary_of lines (OfSticky b) = summary_of lines b
 
 -- the summary of a script that opens a world
 abbrev pub summary_of_script : List ℕ → Option Summary
-summary_of_script script = option_map (any_summary_of (length (lines_of script))) (script_run script).bench
+summary_of_script script = option_map (any_summary_of (length (lines_of script))) (outcome_of_script script).bench

@@ -3,8 +3,9 @@
 ghost use Rattle.std.specs.Prelude.{◌≡◌, IfOk, OnOk, Some};
 ghost use Rattle.ready_objects.specs.Words.{bytes_of};
 ghost use Rattle.uni_script.specs.AnyWorlds.{any_bench_of};
-ghost use Rattle.uni_script.specs.Meaning.{AnyBench, Bench, bench_of, any_opened, language_of, command_run, words_run};
+ghost use Rattle.uni_script.specs.Meaning.{AnyBench, Bench, bench_of, bench_of_header, outcome_of_command, outcome_of_words};
 ghost use Rattle.uni_script.specs.Reading.{EndsAs};
+ghost use Rattle.uni_script.specs.Script.{IsInRange};
 
 use crate::commands::{make, open};
 use crate::fault::BenchFault;
@@ -30,7 +31,8 @@ pub enum AnyWorld {
 ///
 /// An `Err` says that memory was refused.
 pub fn open_any(alloc: Global, header: Header) -> Result<AnyWorld, AllocError>
-    ensures { IfOk result (λ world. any_bench_of world ≡ any_opened header) }
+    requires { IsInRange header }
+    ensures { IfOk result (λ world. any_bench_of world ≡ bench_of_header header) }
 {
     match header.object {
         ObjectName::Queue => Ok(AnyWorld::Queue(open(alloc, QueueObject, header)?)),
@@ -51,16 +53,16 @@ fn run_words<O: Spoken>(
     text: &mut Vec<u8>,
 ) -> Result<(), BenchFault>
     ensures outcome { (inside : Bench O.State O.Inv O.Resp → AnyBench) →
-        EndsAs (command_run (language_of O.initial O.next O.answer O.inv_of_words O.inv_words O.resp_bytes world.old.object) inside number (bench_of world.old) (bytes_of words.now)) text.old.items text.new.items result }
+        EndsAs (outcome_of_command (record { object = O.sequential world.old.object; language = O.language }) inside number (bench_of world.old) (bytes_of words.now)) text.old.items text.new.items result }
     ensures world { OnOk result ((inside : Bench O.State O.Inv O.Resp → AnyBench) →
-        Some (inside (bench_of world.new)) ≡ (command_run (language_of O.initial O.next O.answer O.inv_of_words O.inv_words O.resp_bytes world.old.object) inside number (bench_of world.old) (bytes_of words.now)).bench) }
+        Some (inside (bench_of world.new)) ≡ (outcome_of_command (record { object = O.sequential world.old.object; language = O.language }) inside number (bench_of world.old) (bytes_of words.now)).bench) }
 {
     let Some(command) = command_of::<O>(words) else {
         return Err(BenchFault::BadLine(number));
     };
     match make(world, alloc, command, text) {
         Ok(()) => Ok(()),
-        Err(_) => Err(BenchFault::Memory),
+        Err(AllocError) => Err(BenchFault::Memory),
     }
 }
 
@@ -74,8 +76,8 @@ pub fn run_any(
     words: &[&[u8]],
     text: &mut Vec<u8>,
 ) -> Result<(), BenchFault>
-    ensures outcome { EndsAs (words_run number (Some (any_bench_of world.old)) (bytes_of words.now)) text.old.items text.new.items result }
-    ensures world { OnOk result (Some (any_bench_of world.new) ≡ (words_run number (Some (any_bench_of world.old)) (bytes_of words.now)).bench) }
+    ensures outcome { EndsAs (outcome_of_words number (Some (any_bench_of world.old)) (bytes_of words.now)) text.old.items text.new.items result }
+    ensures world { OnOk result (Some (any_bench_of world.new) ≡ (outcome_of_words number (Some (any_bench_of world.old)) (bytes_of words.now)).bench) }
 {
     match world {
         AnyWorld::Queue(world) => run_words(alloc, world, number, words, text),

@@ -4,8 +4,8 @@ ghost use Rattle.std.specs.Prelude.{◌≡◌, ◌<◌, ◌≤◌, ◌↔◌, �
 ghost use Rattle.std.specs.Io.KnownBytes.{IsAtEnd};
 ghost use Rattle.std.specs.List.{list_all, position};
 ghost use Rattle.uni_script.specs.AnyWorlds.{any_bench_of};
-ghost use Rattle.uni_script.specs.Meaning.{short_line_run};
-ghost use Rattle.uni_script.specs.Reading.{is_short, lines_read, read_run, EndsAs};
+ghost use Rattle.uni_script.specs.Meaning.{outcome_of_short_line};
+ghost use Rattle.uni_script.specs.Reading.{is_short, lines_of_read, outcome_of_read, EndsAs};
 ghost use Rattle.uni_script.specs.Summaries.{any_summary_of};
 ghost use Rattle.uni_script.specs.Replays.{IsReplay, IsSummary, HasAnswered, IsPartOfReplay, IsFaultOfScript};
 
@@ -16,7 +16,7 @@ use crate::fault::BenchFault;
 use crate::grammar::{header_of, is_note, is_plain, words_of};
 use crate::script::{Stop, read_script};
 use crate::summary::{Summary, any_summary_of};
-use std::alloc::Global;
+use std::alloc::{AllocError, Global};
 
 /// What a run of the bench can be told. There is nothing yet.
 #[derive(Clone, Copy, Debug, PartialEq, Eq)]
@@ -72,10 +72,10 @@ fn run_script(
     stop: Stop,
     text: &mut Vec<u8>,
 ) -> Result<Summary, BenchFault>
-    requires short { list_all is_short (lines_read stop bytes.now) ≡ true }
-    requires few { length (lines_read stop bytes.now) ≤ 100000 }
-    ensures outcome { EndsAs (read_run stop bytes.now) text.old.items text.new.items result }
-    ensures summary { IfOk result (λ summary. option_map (any_summary_of (length (lines_read stop bytes.now))) (read_run stop bytes.now).bench ≡ Some summary) }
+    requires short { list_all is_short (lines_of_read stop bytes.now) ≡ true }
+    requires few { length (lines_of_read stop bytes.now) ≤ 100000 }
+    ensures outcome { EndsAs (outcome_of_read stop bytes.now) text.old.items text.new.items result }
+    ensures summary { IfOk result (λ summary. option_map (any_summary_of (length (lines_of_read stop bytes.now))) (outcome_of_read stop bytes.now).bench ≡ Some summary) }
 {
     let mut world = None;
     let mut number: u64 = 0;
@@ -92,7 +92,7 @@ fn run_script(
         (Stop::End, None) => Err(BenchFault::NoHeader(number + 1)),
         (Stop::End, Some(world)) => match push_answer(text, &Answer::End) {
             Ok(()) => Ok(any_summary_of(&world, number)),
-            Err(_) => Err(BenchFault::Memory),
+            Err(AllocError) => Err(BenchFault::Memory),
         },
     }
 }
@@ -100,9 +100,9 @@ fn run_script(
 /// The first line of what was read, without its end, and what follows it. A last line that lacks
 /// its end is one where the reading stopped at the end of the text.
 fn split_line(bytes: &[u8], stop: Stop) -> Option<(&[u8], &[u8])>
-    ensures line { IfSome result (λ cut. lines_read stop bytes.now ≡ cut.0.now ∷ lines_read stop cut.1.now) }
+    ensures line { IfSome result (λ cut. lines_of_read stop bytes.now ≡ cut.0.now ∷ lines_of_read stop cut.1.now) }
     ensures shorter { IfSome result (λ cut. length cut.1.now < length bytes.now) }
-    ensures end { IfNone result (lines_read stop bytes.now ≡ []) }
+    ensures end { IfNone result (lines_of_read stop bytes.now ≡ []) }
 {
     match end_of_line(bytes) {
         Some(at) => Some((&bytes[..at], &bytes[at + 1..])),
@@ -132,8 +132,8 @@ fn run_line(
     line: &[u8],
     text: &mut Vec<u8>,
 ) -> Result<Option<AnyWorld>, BenchFault>
-    ensures outcome { EndsAs (short_line_run number (option_map any_bench_of world) line.now) text.old.items text.new.items result }
-    ensures world { IfOk result (λ after. option_map any_bench_of after ≡ (short_line_run number (option_map any_bench_of world) line.now).bench) }
+    ensures outcome { EndsAs (outcome_of_short_line number (option_map any_bench_of world) line.now) text.old.items text.new.items result }
+    ensures world { IfOk result (λ after. option_map any_bench_of after ≡ (outcome_of_short_line number (option_map any_bench_of world) line.now).bench) }
 {
     if !is_plain(line) {
         return Err(BenchFault::BadByte(number));

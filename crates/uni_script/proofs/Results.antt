@@ -8,7 +8,7 @@ use Rattle.uni_core.specs.Whole.{current_of}
 use Rattle.uni_script.specs.declared.answer.Refusal.{Refusal}
 use Rattle.uni_script.specs.declared.answer.Refusal.TheVariants.{Idle}
 use Rattle.uni_script.specs.Answers.{called_text}
-use Rattle.uni_script.specs.Meaning.{Language, Bench, Stepped, latest, refusal_of_call, refusal_of_step, bench_after_call, call_made, step_made, steps_taken, stepped_text}
+use Rattle.uni_script.specs.Meaning.{SpokenObject, Bench, StepsOutcome, latest, refusal_of_call, refusal_of_step, bench_after_call, result_of_call, result_of_steps, outcome_of_steps, text_of_steps}
 
 pub bench_is : {S I R : Type 0} (b c : Bench S I R) → b.row ≡ c.row → b.world ≡ c.world → b ≡ c
 bench_is b c p q = let e : record { row = b.row; world = b.world } ≡ record { row = c.row; world = c.world } = cc in e
@@ -57,25 +57,25 @@ current_is_latest w p call e = at (w.call p) e
     at None f = cc
     at (Some x) f = cc
 
-module _ {S I R : Type 0} (o : Language S I R) (b : Bench S I R) (p : ℕ) where
-  pub call_made-begun : (i : I) → refusal_of_call b p ≡ None → call_made o b p i ≡ record { bench = bench_after_call o b p i; text = called_text (record { process = p; nth = b.world.begun p }) }
-  call_made-begun i none = rw none refl
+module _ {S I R : Type 0} (o : SpokenObject S I R) (b : Bench S I R) (p : ℕ) where
+  pub result_of_call-begun : (i : I) → refusal_of_call b p ≡ None → result_of_call o b p i ≡ record { bench = bench_after_call o b p i; text = called_text (record { process = p; nth = b.world.begun p }) }
+  result_of_call-begun i none = rw none refl
 
-  pub call_made-refused : (i : I) (refusal : Refusal) → refusal_of_call b p ≡ Some refusal → (call_made o b p i).bench ≡ b
-  call_made-refused i refusal some = rw some refl
+  pub result_of_call-refused : (i : I) (refusal : Refusal) → refusal_of_call b p ≡ Some refusal → (result_of_call o b p i).bench ≡ b
+  result_of_call-refused i refusal some = rw some refl
 
-  pub step_made-world_after_step : (most : ℕ) (after : Stepped S I R) → refusal_of_step b.world p ≡ None → after ≡ steps_taken o most b.world p
-      → step_made o b p most ≡ record { bench = record b { world = after.world }; text = stepped_text o after p (latest b.world p) }
-  step_made-world_after_step most after none e = rw none (rw e refl)
+  pub result_of_steps-taken : (most : ℕ) (after : StepsOutcome S I R) → refusal_of_step b.world p ≡ None → after ≡ outcome_of_steps o most b.world p
+      → result_of_steps o b p most ≡ record { bench = record b { world = after.world }; text = text_of_steps o after p (latest b.world p) }
+  result_of_steps-taken most after none e = rw none (rw e refl)
 
   -- a process that has no call pending takes no step
-  pub step_made-idle : (most : ℕ) → None ≡ current_of b.world p → b ≡ (step_made o b p most).bench
-  step_made-idle most e = by_call (b.world.call p) refl e
+  pub result_of_steps-idle : (most : ℕ) → None ≡ current_of b.world p → b ≡ (result_of_steps o b p most).bench
+  result_of_steps-idle most e = by_call (b.world.call p) refl e
     where
-      by_call : (call : Option Pending) → b.world.call p ≡ call → None ≡ option_map (λ (x : Pending). latest b.world p) call → b ≡ (step_made o b p most).bench
+      by_call : (call : Option Pending) → b.world.call p ≡ call → None ≡ option_map (λ (x : Pending). latest b.world p) call → b ≡ (result_of_steps o b p most).bench
       by_call None is f = by_test (nat_le b.world.n p) refl
         where
-          by_test : (t : Bool) → nat_le b.world.n p ≡ t → b ≡ (step_made o b p most).bench
+          by_test : (t : Bool) → nat_le b.world.n p ≡ t → b ≡ (result_of_steps o b p most).bench
           by_test true g = rw g refl
           by_test false g = rw g (rw is refl)
       by_call (Some x) is f = cc
