@@ -12,11 +12,11 @@ use Rattle.std.specs.List.{list_all}
 use Rattle.ready_objects.specs.Words.{words_of_text}
 use Rattle.uni_script.specs.Answers.{end_text}
 use Rattle.uni_script.specs.Script.{cut, lines_of, is_plain_byte, is_note, header_of_words, command_of_words}
-use Rattle.uni_script.specs.Meaning.{SpokenObject, Bench, AnyBench, bench_of_header, result_of_command, outcome_of_text, Outcome, spoken_queue, spoken_directory, spoken_book, spoken_sticky, outcome_of_command, outcome_of_fault, and_then, and_then_from, outcome_of_words, outcome_of_line, outcome_of_lines, outcome_of_end, outcome_of_script}
-use Rattle.uni_script.specs.Meaning.AnyBench.{OfQueue, OfDirectory, OfBook, OfSticky}
-use Rattle.uni_script.specs.Reading.{lines_of_read, outcome_of_stop, outcome_of_read, StopsAt, IsRead, EndsAs}
+use Rattle.uni_script.specs.Objects.{SpokenObject, spoken_of}
+use Rattle.uni_script.specs.Meaning.{Bench, ScriptBench, bench_of_header, result_of_command, outcome_of_text, Outcome, script_bench, outcome_of_command, outcome_of_fault, and_then, and_then_from, outcome_of_words, outcome_of_line, outcome_of_lines, outcome_of_end, outcome_of_script}
+use Rattle.uni_script.specs.Reading.{lines_of_read, outcome_of_stop, outcome_of_read, outcome_of_rest, StopsAt, IsRead, EndsAs}
 use Rattle.uni_script.specs.declared.summary.Summary.{Summary}
-use Rattle.uni_script.specs.Summaries.{any_summary_of}
+use Rattle.uni_script.specs.Summaries.{summary_of_bench}
 use Rattle.uni_script.specs.Replays.{IsInput, IsReplay, IsSummary, IsPartOfReplay, HasAnswered, IsFaultOfScript, text_of_script}
 use Rattle.uni_script.proofs.Cutting.{GoesOn-start, GoesOn-start_other, GoesOn-after, lines_of-append}
 use Rattle.uni_script.proofs.Running.{after_text, and_then-same, and_then-assoc, and_then-none, and_then-some, outcome_of_lines-append, outcome_of_lines-too_long, outcome_of_lines-too_many}
@@ -28,13 +28,13 @@ abbrev FaultsOnly : (BenchFault → Type 0) → Outcome → Type 0
 FaultsOnly P outcome = (e : BenchFault) → outcome.fault ≡ Some e → P e
 
 module _ (P : BenchFault → Type 0) where
-  FaultsOnly-outcome_of_fault : (b : Option AnyBench) (f : BenchFault) → P f → FaultsOnly P (outcome_of_fault b f)
+  FaultsOnly-outcome_of_fault : (b : Option ScriptBench) (f : BenchFault) → P f → FaultsOnly P (outcome_of_fault b f)
   FaultsOnly-outcome_of_fault b f p e q = subst P (same q) p
     where
       same : Some f ≡ Some e → f ≡ e
       same q = cc
 
-  FaultsOnly-none : (b : Option AnyBench) (text : List ℕ) → FaultsOnly P (record { bench = b; text = text; fault = None })
+  FaultsOnly-none : (b : Option ScriptBench) (text : List ℕ) → FaultsOnly P (record { bench = b; text = text; fault = None })
   FaultsOnly-none b text e q = absurd (let f : None ≡ Some e = q in cc)
 
   FaultsOnly-if : (c : Bool) (x y : Outcome) → FaultsOnly P x → FaultsOnly P y → FaultsOnly P (if c then x else y)
@@ -45,28 +45,25 @@ module _ (P : BenchFault → Type 0) where
   FaultsOnly-map_or f None x p q = q
   FaultsOnly-map_or f (Some a) x p q = p a
 
-  FaultsOnly-and_then : (first : Outcome) (rest : Option AnyBench → Outcome) → FaultsOnly P first → ((b : Option AnyBench) → FaultsOnly P (rest b)) → FaultsOnly P (and_then first rest)
+  FaultsOnly-and_then : (first : Outcome) (rest : Option ScriptBench → Outcome) → FaultsOnly P first → ((b : Option ScriptBench) → FaultsOnly P (rest b)) → FaultsOnly P (and_then first rest)
   FaultsOnly-and_then first rest p q = at first.fault refl
     where
       at : (f : Option BenchFault) → first.fault ≡ f → FaultsOnly P (and_then_from first (rest first.bench) f)
       at None e = q first.bench
       at (Some f) e = p
 
-FaultsOnly-outcome_of_command : {S I R : Type 0} (o : SpokenObject S I R) (inside : Bench S I R → AnyBench) (number : ℕ) (b : Bench S I R) (words : List (List ℕ)) → FaultsOnly IsFaultOfScript (outcome_of_command o inside number b words)
+FaultsOnly-outcome_of_command : {S I R : Type 0} (o : SpokenObject S I R) (inside : Bench S I R → ScriptBench) (number : ℕ) (b : Bench S I R) (words : List (List ℕ)) → FaultsOnly IsFaultOfScript (outcome_of_command o inside number b words)
 FaultsOnly-outcome_of_command o inside number b words =
     FaultsOnly-map_or IsFaultOfScript (λ command. outcome_of_text (inside (result_of_command o b command).bench) (result_of_command o b command).text) (command_of_words o.language.inv_of_words words) (outcome_of_fault (Some (inside b)) (fault.BadLine number))
     (λ command. FaultsOnly-none IsFaultOfScript (Some (inside (result_of_command o b command).bench)) (result_of_command o b command).text) (FaultsOnly-outcome_of_fault IsFaultOfScript (Some (inside b)) (fault.BadLine number) tt)
 
-FaultsOnly-outcome_of_words : (number : ℕ) (b : Option AnyBench) (words : List (List ℕ)) → FaultsOnly IsFaultOfScript (outcome_of_words number b words)
+FaultsOnly-outcome_of_words : (number : ℕ) (b : Option ScriptBench) (words : List (List ℕ)) → FaultsOnly IsFaultOfScript (outcome_of_words number b words)
 FaultsOnly-outcome_of_words number None words =
     FaultsOnly-map_or IsFaultOfScript (λ header. outcome_of_text (bench_of_header header) []) (header_of_words words) (outcome_of_fault None (fault.BadHeader number))
     (λ header. FaultsOnly-none IsFaultOfScript (Some (bench_of_header header)) []) (FaultsOnly-outcome_of_fault IsFaultOfScript None (fault.BadHeader number) tt)
-FaultsOnly-outcome_of_words number (Some (OfQueue b)) words = FaultsOnly-outcome_of_command spoken_queue OfQueue number b words
-FaultsOnly-outcome_of_words number (Some (OfDirectory b)) words = FaultsOnly-outcome_of_command spoken_directory OfDirectory number b words
-FaultsOnly-outcome_of_words number (Some (OfBook b)) words = FaultsOnly-outcome_of_command spoken_book OfBook number b words
-FaultsOnly-outcome_of_words number (Some (OfSticky b)) words = FaultsOnly-outcome_of_command spoken_sticky OfSticky number b words
+FaultsOnly-outcome_of_words number (Some b) words = FaultsOnly-outcome_of_command (spoken_of b.object) (script_bench b.object) number b.bench words
 
-FaultsOnly-outcome_of_line : (number : ℕ) (b : Option AnyBench) (line : List ℕ) → FaultsOnly IsFaultOfScript (outcome_of_line number b line)
+FaultsOnly-outcome_of_line : (number : ℕ) (b : Option ScriptBench) (line : List ℕ) → FaultsOnly IsFaultOfScript (outcome_of_line number b line)
 FaultsOnly-outcome_of_line number b line =
     let worded : Outcome = outcome_of_words number b (words_of_text line) in
     let noted : Outcome = record { bench = b; text = []; fault = None } in
@@ -78,18 +75,18 @@ FaultsOnly-outcome_of_line number b line =
     (FaultsOnly-if IsFaultOfScript (not (list_all is_plain_byte line)) (outcome_of_fault b (fault.BadByte number)) plain (FaultsOnly-outcome_of_fault IsFaultOfScript b (fault.BadByte number) tt)
     (FaultsOnly-if IsFaultOfScript (is_note line) noted worded (FaultsOnly-none IsFaultOfScript b []) (FaultsOnly-outcome_of_words number b (words_of_text line)))))
 
-FaultsOnly-outcome_of_lines : (number : ℕ) (b : Option AnyBench) (lines : List (List ℕ)) → FaultsOnly IsFaultOfScript (outcome_of_lines number b lines)
+FaultsOnly-outcome_of_lines : (number : ℕ) (b : Option ScriptBench) (lines : List (List ℕ)) → FaultsOnly IsFaultOfScript (outcome_of_lines number b lines)
 FaultsOnly-outcome_of_lines number b [] = FaultsOnly-none IsFaultOfScript b []
 FaultsOnly-outcome_of_lines number b (line ∷ lines) =
     FaultsOnly-and_then IsFaultOfScript (outcome_of_line number b line) (λ after. outcome_of_lines (number + 1) after lines) (FaultsOnly-outcome_of_line number b line) (λ after. FaultsOnly-outcome_of_lines (number + 1) after lines)
 
-FaultsOnly-outcome_of_end : (lines : ℕ) (b : Option AnyBench) → FaultsOnly IsFaultOfScript (outcome_of_end lines b)
+FaultsOnly-outcome_of_end : (lines : ℕ) (b : Option ScriptBench) → FaultsOnly IsFaultOfScript (outcome_of_end lines b)
 FaultsOnly-outcome_of_end lines None = FaultsOnly-outcome_of_fault IsFaultOfScript None (NoHeader (lines + 1)) tt
 FaultsOnly-outcome_of_end lines (Some b) = FaultsOnly-none IsFaultOfScript (Some b) end_text
 
 -- a line that ends the run
-run_stopped : (before : List (List ℕ)) (line : List ℕ) (lines : List (List ℕ)) (f : BenchFault) (rest : Option AnyBench → Outcome)
-    → ((b : Option AnyBench) → outcome_of_lines (1 + length before) b (line ∷ lines) ≡ outcome_of_fault b f)
+run_stopped : (before : List (List ℕ)) (line : List ℕ) (lines : List (List ℕ)) (f : BenchFault) (rest : Option ScriptBench → Outcome)
+    → ((b : Option ScriptBench) → outcome_of_lines (1 + length before) b (line ∷ lines) ≡ outcome_of_fault b f)
     → and_then (outcome_of_lines 1 None (before ++ line ∷ lines)) rest ≡ and_then (outcome_of_lines 1 None before) (λ b. outcome_of_fault b f)
 run_stopped before line lines f rest stops =
     ap (λ run. and_then run rest) (outcome_of_lines-append 1 None before (line ∷ lines))
@@ -119,11 +116,11 @@ outcome_of_script-read TooMany bytes past left at other =
     ∙ run_stopped (cut bytes).whole g.line g.lines fault.TooMany (λ after. outcome_of_end (length ((cut bytes).whole ++ g.line ∷ g.lines)) after) (λ b. rw next (outcome_of_lines-too_many b g.line g.lines))
 
 -- a script goes on after its whole lines
-outcome_of_script-whole : (bytes past : List ℕ) → (rest : Option AnyBench → Outcome) × (outcome_of_script (bytes ++ past) ≡ and_then (outcome_of_lines 1 None (cut bytes).whole) rest)
+outcome_of_script-whole : (bytes past : List ℕ) → (rest : Option ScriptBench → Outcome) × (outcome_of_script (bytes ++ past) ≡ and_then (outcome_of_lines 1 None (cut bytes).whole) rest)
 outcome_of_script-whole bytes past =
     let more = lines_of ((cut bytes).tail ++ past) in
     let number = 1 + length (cut bytes).whole in
-    let finish : Option AnyBench → Outcome = λ after. outcome_of_end (length ((cut bytes).whole ++ more)) after in (
+    let finish : Option ScriptBench → Outcome = λ after. outcome_of_end (length ((cut bytes).whole ++ more)) after in (
       (λ b. and_then (outcome_of_lines number b more) finish),
       ap (λ lines. and_then (outcome_of_lines 1 None lines) (λ after. outcome_of_end (length lines) after)) (lines_of-append bytes past)
           ∙ ap (λ run. and_then run finish) (outcome_of_lines-append 1 None (cut bytes).whole more)
@@ -199,7 +196,7 @@ FaultsOnly-outcome_of_read stop bytes =
     let lines = lines_of_read stop bytes in
     FaultsOnly-and_then IsFaultOfRead (outcome_of_lines 1 None lines) (λ after. outcome_of_stop stop (length lines) after) (λ e q. inl (FaultsOnly-outcome_of_lines 1 None lines e q)) (at stop (length lines))
   where
-    at : (s : Stop) (n : ℕ) (b : Option AnyBench) → FaultsOnly IsFaultOfRead (outcome_of_stop s n b)
+    at : (s : Stop) (n : ℕ) (b : Option ScriptBench) → FaultsOnly IsFaultOfRead (outcome_of_stop s n b)
     at End n b = λ e q. inl (FaultsOnly-outcome_of_end n b e q)
     at Failed n b = FaultsOnly-outcome_of_fault IsFaultOfRead b Read (inr refl)
     at TooLong n b = FaultsOnly-outcome_of_fault IsFaultOfRead b (fault.TooLong (n + 1)) (inl tt)
@@ -238,7 +235,7 @@ module _ (left left_after : Option (List ℕ)) (stop : Stop) (bytes : List ℕ) 
       ∙ outcome_of_script-read stop bytes (past_left is.past left_after) left_after (StopsAt-past_left stop bytes is.past left_after is.stops other) other
 
   -- the whole script goes on after the whole lines
-  goes_on : (rest : Option AnyBench → Outcome) × (outcome_of_script script ≡ and_then (outcome_of_whole_lines bytes) rest)
+  goes_on : (rest : Option ScriptBench → Outcome) × (outcome_of_script script ≡ and_then (outcome_of_whole_lines bytes) rest)
   goes_on = let whole = outcome_of_script-whole bytes (past_left is.past left_after) in (whole.0, ap (λ s. outcome_of_script s) script_is ∙ whole.1)
 
   read_failed : stop ≡ Failed → outcome_of_read stop bytes ≡ outcome_of_read Failed bytes
@@ -300,13 +297,13 @@ module _ (left left_after : Option (List ℕ)) (stop : Stop) (bytes : List ℕ) 
   script_whole e = script_is ∙ ap (λ p. bytes ++ p) (past_left-end bytes is.past left_after (subst (λ s. StopsAt s bytes is.past left_after) e is.stops)) ∙ append-nil bytes
 
   pub ended-summary : (answers : List ℕ) (result : Result Summary BenchFault) → EndsAs (outcome_of_read stop bytes) [] answers result
-      → IfOk result (λ s. option_map (any_summary_of (length (lines_of_read stop bytes))) (outcome_of_read stop bytes).bench ≡ Some s) → IfOk result (IsSummary left)
+      → IfOk result (λ s. option_map (summary_of_bench (length (lines_of_read stop bytes))) (outcome_of_read stop bytes).bench ≡ Some s) → IfOk result (IsSummary left)
   ended-summary answers (Ok s) ends has =
       let whole = end_of_run stop bytes ends.0 in
       let lines : length (lines_of script) ≡ length (lines_of_read stop bytes) = ap (λ t. length (lines_of t)) (script_whole whole) ∙ ap (λ k. length (lines_of_read k bytes)) (sym whole) in (
         script,
         is_input,
-        ap (λ (o : Outcome). option_map (any_summary_of (length (lines_of script))) o.bench) (same_run (not_failed ends.0)) ∙ ap (λ n. option_map (any_summary_of n) (outcome_of_read stop bytes).bench) lines ∙ has,
+        ap (λ (o : Outcome). option_map (summary_of_bench (length (lines_of script))) o.bench) (same_run (not_failed ends.0)) ∙ ap (λ n. option_map (summary_of_bench n) (outcome_of_read stop bytes).bench) lines ∙ has,
       )
   ended-summary answers (Err e) ends has = tt
 
@@ -361,10 +358,26 @@ module _ (left left_after : Option (List ℕ)) (stop : Stop) (bytes : List ℕ) 
         | inr some ↦ absurd (FaultsOnly-outcome_of_lines 1 None (cut bytes).whole Read (sym (ap (λ (o : Outcome). o.fault) (read_failed failed ∙ some.2)) ∙ has.0))
       ]
 
+-- the run from the first line on is the run of all that was read
+no_lines_before : (lines : ℕ) → 0 + lines ≡ lines
+no_lines_before lines = omega arith
+
+outcome_of_rest-all : (stop : Stop) (bytes : List ℕ) → outcome_of_rest stop 0 None bytes ≡ outcome_of_read stop bytes
+outcome_of_rest-all stop bytes = ap (λ n. and_then (outcome_of_lines 1 None (lines_of_read stop bytes)) (λ after. outcome_of_stop stop n after)) (no_lines_before (length (lines_of_read stop bytes)))
+
 pub EndsAs-from : {A : Type 0} (stop : Stop) (bytes slice old answers : List ℕ) (result : Result A BenchFault) → slice ≡ bytes → old ≡ []
-    → EndsAs (outcome_of_read stop slice) old answers result → EndsAs (outcome_of_read stop bytes) [] answers result
+    → EndsAs (outcome_of_rest stop 0 None slice) old answers result → EndsAs (outcome_of_read stop bytes) [] answers result
 EndsAs-from stop bytes slice old answers result e f ends =
-    subst (λ b. EndsAs (outcome_of_read stop b) [] answers result) e (subst (λ o. EndsAs (outcome_of_read stop slice) o answers result) f ends)
+    subst (λ b. EndsAs (outcome_of_read stop b) [] answers result) e
+    (subst (λ o. EndsAs (outcome_of_read stop slice) o answers result) f (subst (λ (o : Outcome). EndsAs o old answers result) (outcome_of_rest-all stop slice) ends))
+
+pub summary-from : (stop : Stop) (bytes slice : List ℕ) (result : Result Summary BenchFault) → slice ≡ bytes
+    → IfOk result (λ s. option_map (summary_of_bench (0 + length (lines_of_read stop slice))) (outcome_of_rest stop 0 None slice).bench ≡ Some s)
+    → IfOk result (λ s. option_map (summary_of_bench (length (lines_of_read stop bytes))) (outcome_of_read stop bytes).bench ≡ Some s)
+summary-from stop bytes slice result e has =
+    subst (λ b. IfOk result (λ s. option_map (summary_of_bench (length (lines_of_read stop b))) (outcome_of_read stop b).bench ≡ Some s)) e
+    (subst (λ n. IfOk result (λ s. option_map (summary_of_bench n) (outcome_of_read stop slice).bench ≡ Some s)) (no_lines_before (length (lines_of_read stop slice)))
+    (subst (λ (o : Outcome). IfOk result (λ s. option_map (summary_of_bench (0 + length (lines_of_read stop slice))) o.bench ≡ Some s)) (outcome_of_rest-all stop slice) has))
 
 pub IfErr-always : {A E : Type 0} (result : Result A E) (P : Type 0) → P → IfErr result (λ e. P)
 IfErr-always (Ok x) P p = tt

@@ -8,7 +8,8 @@ use Rattle.uni_core.specs.Whole.{current_of}
 use Rattle.uni_script.specs.declared.answer.Refusal.{Refusal}
 use Rattle.uni_script.specs.declared.answer.Refusal.TheVariants.{Idle}
 use Rattle.uni_script.specs.Answers.{called_text}
-use Rattle.uni_script.specs.Meaning.{SpokenObject, Bench, StepsOutcome, latest, refusal_of_call, refusal_of_step, bench_after_call, result_of_call, result_of_steps, outcome_of_steps, text_of_steps}
+use Rattle.uni_script.specs.Objects.{SpokenObject}
+use Rattle.uni_script.specs.Meaning.{Bench, StepsOutcome, latest, refusal_of_call, refusal_of_step, bench_after_call, result_of_call, result_of_steps, outcome_of_steps, text_of_steps}
 
 pub bench_is : {S I R : Type 0} (b c : Bench S I R) → b.row ≡ c.row → b.world ≡ c.world → b ≡ c
 bench_is b c p q = let e : record { row = b.row; world = b.world } ≡ record { row = c.row; world = c.world } = cc in e
@@ -84,8 +85,3 @@ module _ {S I R : Type 0} (o : SpokenObject S I R) (b : Bench S I R) (p : ℕ) w
 pub OnOk-always : {A E P : Type 0} (r : Result A E) → P → OnOk r P
 OnOk-always (Ok x) p = p
 OnOk-always (Err e) p = tt
-
--- a fact of everything, where a result is good, is one of this
-pub OnOk-at : {A E X : Type 0} (r : Result A E) (P : X → Type 0) (a : X) → OnOk r ((x : X) → P x) → OnOk r (P a)
-OnOk-at (Ok y) P a h = h a
-OnOk-at (Err e) P a h = tt

@@ -8,7 +8,8 @@ use Rattle.uni_model.proofs.Simulation.{set_at_same}
 use Rattle.uni_core.specs.Whole.{progress_of}
 use Rattle.uni_core.specs.declared.fault.Progress.{Progress}
 use Rattle.uni_core.specs.declared.fault.Progress.TheVariants.{Going, Done}
-use Rattle.uni_script.specs.Meaning.{SpokenObject, outcome_of_steps, most_steps}
+use Rattle.uni_script.specs.Objects.{SpokenObject}
+use Rattle.uni_script.specs.Meaning.{outcome_of_steps, most_steps}
 
 -- a step that answers `Going` has no response
 pub none-from_Going : {R : Type 0} (o : Option R) (progress : Progress R) → progress ≡ Going → progress ≡ progress_of o → o ≡ None

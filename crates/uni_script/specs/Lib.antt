@@ -1,8 +1,8 @@
 pub mod Ends
 pub mod Script
 pub mod Answers
+pub mod Objects
 pub mod Meaning
-pub mod AnyWorlds
 pub mod Reading
 pub mod Summaries
 pub mod Replays

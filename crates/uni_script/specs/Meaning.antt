@@ -3,21 +3,7 @@ use Rattle.std.specs.Prelude.{ℕ, zero, suc, ◌+◌, ◌-◌, ◌*◌, ◌==�
 use Rattle.std.specs.Option.{option_map_or}
 use Rattle.std.specs.List.{list_all, concat}
 use Rattle.seq_object.specs.declared.call_id.CallId.{CallId}
-use Rattle.seq_object.specs.Sequential.{Sequential}
-use Rattle.ready_objects.specs.Language.{Language}
 use Rattle.ready_objects.specs.Words.{text_of_words, words_of_text}
-use Rattle.ready_objects.specs.Queue.{queue, queue_language}
-use Rattle.ready_objects.specs.Directory.{Pairs, directory, directory_language}
-use Rattle.ready_objects.specs.Book.{book, book_language}
-use Rattle.ready_objects.specs.Sticky.{sticky, sticky_language}
-use Rattle.ready_objects.specs.declared.directory.DirectoryInv.{DirectoryInv}
-use Rattle.ready_objects.specs.declared.directory.DirectoryResp.{DirectoryResp}
-use Rattle.ready_objects.specs.declared.book.BookInv.{BookInv}
-use Rattle.ready_objects.specs.declared.book.BookResp.{BookResp}
-use Rattle.ready_objects.specs.declared.sticky.StickyInv.{StickyInv}
-use Rattle.ready_objects.specs.declared.sticky.StickyResp.{StickyResp}
-use Rattle.ready_objects.specs.declared.queue.QueueInv.{QueueInv}
-use Rattle.ready_objects.specs.declared.queue.QueueResp.{QueueResp}
 use Rattle.uni_model.specs.Places.{head_seq}
 use Rattle.uni_model.specs.Worlds.{WorldOf, world_after, opened_world, response_of_step}
 use Rattle.uni_model.specs.Worlds.Event.{Call, Step}
@@ -26,32 +12,15 @@ use Rattle.uni_model.specs.History.{log}
 use Rattle.uni_core.specs.Whole.{Whole, world_of}
 use Rattle.uni_script.specs.declared.fault.BenchFault.{BenchFault}
 use Rattle.uni_script.specs.declared.fault.BenchFault.TheVariants.{NoHeader, BadHeader, TooLong, BadByte, BadLine, TooMany}
-use Rattle.uni_script.specs.declared.grammar.ObjectName.{ObjectName}
-use Rattle.uni_script.specs.declared.grammar.ObjectName.TheVariants.{Queue, Directory, Book, Sticky}
 use Rattle.uni_script.specs.declared.grammar.Header.{Header}
 use Rattle.uni_script.specs.declared.grammar.Command.{Command}
 use Rattle.uni_script.specs.declared.grammar.Command.TheVariants as command
 use Rattle.uni_script.specs.declared.answer.Refusal.{Refusal}
 use Rattle.uni_script.specs.declared.answer.Refusal.TheVariants.{Process, Busy, Row, Idle}
 use Rattle.uni_script.specs.Answers.{called_text, refused_text, returned_text, going_text, heads_text, entry_text, end_text}
+use Rattle.uni_script.specs.Objects.{SpokenObject, StateOf, InvOf, RespOf, spoken_of}
+use Rattle.uni_script.specs.declared.grammar.ObjectName.{ObjectName}
 use Rattle.uni_script.specs.Script.{lines_of, is_plain_byte, is_note, header_of_words, command_of_words}
-
--- a sequential object, and the words of its invocations and responses
-pub record SpokenObject (S I R : Type 0) : Type 0 where
-  pub object : Sequential S I R
-  pub language : Language I R
-
-abbrev pub spoken_queue : SpokenObject (List ℕ) QueueInv QueueResp
-spoken_queue = record { object = queue; language = queue_language }
-
-abbrev pub spoken_directory : SpokenObject Pairs DirectoryInv DirectoryResp
-spoken_directory = record { object = directory; language = directory_language }
-
-abbrev pub spoken_book : SpokenObject (List ℕ) BookInv BookResp
-spoken_book = record { object = book; language = book_language }
-
-abbrev pub spoken_sticky : SpokenObject (Option ℕ) StickyInv StickyResp
-spoken_sticky = record { object = sticky; language = sticky_language }
 
 -- a world that a header opened, and how many calls a process can make in it
 pub record Bench (S I R : Type 0) : Type 0 where
@@ -139,34 +108,30 @@ result_of_command o b command.Log = record { bench = b; text = log_text o b.worl
 abbrev pub opened_bench : {S I R : Type 0} → SpokenObject S I R → Header → Bench S I R
 opened_bench o header = record { row = header.row; world = opened_world header.processes o.object.initial 1 }
 
--- the bench of a script: of processes that share one of the four objects
-pub data AnyBench : Type 0 where
-  OfQueue : Bench (List ℕ) QueueInv QueueResp → AnyBench
-  OfDirectory : Bench Pairs DirectoryInv DirectoryResp → AnyBench
-  OfBook : Bench (List ℕ) BookInv BookResp → AnyBench
-  OfSticky : Bench (Option ℕ) StickyInv StickyResp → AnyBench
+-- the bench of a script: of processes that share the object of this name
+pub record ScriptBench : Type 0 where
+  pub object : ObjectName
+  pub bench : Bench (StateOf object) (InvOf object) (RespOf object)
+
+-- the one of an object's bench
+abbrev pub script_bench : (object : ObjectName) → Bench (StateOf object) (InvOf object) (RespOf object) → ScriptBench
+script_bench object b = record { object = object; bench = b }
 
 -- the one that a header opens
-abbrev pub bench_of_object : ObjectName → Header → AnyBench
-bench_of_object Queue header = OfQueue (opened_bench spoken_queue header)
-bench_of_object Directory header = OfDirectory (opened_bench spoken_directory header)
-bench_of_object Book header = OfBook (opened_bench spoken_book header)
-bench_of_object Sticky header = OfSticky (opened_bench spoken_sticky header)
-
-abbrev pub bench_of_header : Header → AnyBench
-bench_of_header header = bench_of_object header.object header
+abbrev pub bench_of_header : Header → ScriptBench
+bench_of_header header = script_bench header.object (opened_bench (spoken_of header.object) header)
 
 -- What some lines come to: the bench after them, none before the header; the text of their answers; and the fault that
 -- ended them, if one did.
 pub record Outcome : Type 0 where
-  pub bench : Option AnyBench
+  pub bench : Option ScriptBench
   pub text : List ℕ
   pub fault : Option BenchFault
 
-abbrev pub outcome_of_fault : Option AnyBench → BenchFault → Outcome
+abbrev pub outcome_of_fault : Option ScriptBench → BenchFault → Outcome
 outcome_of_fault b fault = record { bench = b; text = []; fault = Some fault }
 
-abbrev pub outcome_of_text : AnyBench → (text : List ℕ) → Outcome
+abbrev pub outcome_of_text : ScriptBench → (text : List ℕ) → Outcome
 outcome_of_text b text = record { bench = Some b; text = text; fault = None }
 
 -- an outcome, and then another one from the bench after it, unless a fault ended it
@@ -174,43 +139,40 @@ abbrev pub and_then_from : Outcome → Outcome → Option BenchFault → Outcome
 and_then_from first rest (Some fault) = first
 and_then_from first rest None = record rest { text = first.text ++ rest.text }
 
-abbrev pub and_then : Outcome → (Option AnyBench → Outcome) → Outcome
+abbrev pub and_then : Outcome → (Option ScriptBench → Outcome) → Outcome
 and_then first rest = and_then_from first (rest first.bench) first.fault
 
 -- the words of a command, on a bench of this object
-abbrev pub outcome_of_command : {S I R : Type 0} → SpokenObject S I R → (inside : Bench S I R → AnyBench) → (number : ℕ) → Bench S I R → List (List ℕ) → Outcome
+abbrev pub outcome_of_command : {S I R : Type 0} → SpokenObject S I R → (inside : Bench S I R → ScriptBench) → (number : ℕ) → Bench S I R → List (List ℕ) → Outcome
 outcome_of_command o inside number b words =
     option_map_or (λ command. outcome_of_text (inside (result_of_command o b command).bench) (result_of_command o b command).text) (command_of_words o.language.inv_of_words words) (outcome_of_fault (Some (inside b)) (BadLine number))
 
 -- a line that isn't a note
-abbrev pub outcome_of_words : (number : ℕ) → Option AnyBench → List (List ℕ) → Outcome
+abbrev pub outcome_of_words : (number : ℕ) → Option ScriptBench → List (List ℕ) → Outcome
 outcome_of_words number None words = option_map_or (λ header. outcome_of_text (bench_of_header header) []) (header_of_words words) (outcome_of_fault None (BadHeader number))
-outcome_of_words number (Some (OfQueue b)) words = outcome_of_command spoken_queue OfQueue number b words
-outcome_of_words number (Some (OfDirectory b)) words = outcome_of_command spoken_directory OfDirectory number b words
-outcome_of_words number (Some (OfBook b)) words = outcome_of_command spoken_book OfBook number b words
-outcome_of_words number (Some (OfSticky b)) words = outcome_of_command spoken_sticky OfSticky number b words
+outcome_of_words number (Some b) words = outcome_of_command (spoken_of b.object) (script_bench b.object) number b.bench words
 
 -- a line that isn't too long
-abbrev pub outcome_of_short_line : (number : ℕ) → Option AnyBench → List ℕ → Outcome
+abbrev pub outcome_of_short_line : (number : ℕ) → Option ScriptBench → List ℕ → Outcome
 outcome_of_short_line number b line =
     if not (list_all is_plain_byte line) then outcome_of_fault b (BadByte number)
     else if is_note line then record { bench = b; text = []; fault = None }
     else outcome_of_words number b (words_of_text line)
 
 -- a line, with its number: the first fault of those that it has
-abbrev pub outcome_of_line : (number : ℕ) → Option AnyBench → List ℕ → Outcome
+abbrev pub outcome_of_line : (number : ℕ) → Option ScriptBench → List ℕ → Outcome
 outcome_of_line number b line =
     if nat_lt 100000 number then outcome_of_fault b TooMany
     else if nat_lt 200 (length line) then outcome_of_fault b (TooLong number)
     else outcome_of_short_line number b line
 
 -- lines, numbered from here on
-abbrev pub outcome_of_lines : (number : ℕ) → Option AnyBench → List (List ℕ) → Outcome
+abbrev pub outcome_of_lines : (number : ℕ) → Option ScriptBench → List (List ℕ) → Outcome
 outcome_of_lines number b [] = record { bench = b; text = []; fault = None }
 outcome_of_lines number b (line ∷ lines) = and_then (outcome_of_line number b line) (λ after. outcome_of_lines (number + 1) after lines)
 
 -- the end of a script that has so many lines
-abbrev pub outcome_of_end : (lines : ℕ) → Option AnyBench → Outcome
+abbrev pub outcome_of_end : (lines : ℕ) → Option ScriptBench → Outcome
 outcome_of_end lines None = outcome_of_fault None (NoHeader (lines + 1))
 outcome_of_end lines (Some b) = outcome_of_text b end_text
 

@@ -8,7 +8,7 @@ use Rattle.uni_script.specs.declared.fault.BenchFault.TheVariants as fault
 use Rattle.uni_script.specs.declared.script.Stop.{Stop}
 use Rattle.uni_script.specs.declared.script.Stop.TheVariants.{End, Failed, TooLong, TooMany}
 use Rattle.uni_script.specs.Script.{cut, lines_of}
-use Rattle.uni_script.specs.Meaning.{AnyBench, Outcome, outcome_of_fault, and_then, outcome_of_lines, outcome_of_end}
+use Rattle.uni_script.specs.Meaning.{ScriptBench, Outcome, outcome_of_fault, and_then, outcome_of_lines, outcome_of_end}
 
 -- whether reading stops at a byte after so many whole lines, and so many bytes of the line after them
 abbrev pub stop_of_byte : (lines column byte : ℕ) → Option Stop
@@ -58,11 +58,16 @@ lines_of_read End bytes = lines_of bytes
 lines_of_read _ bytes = (cut bytes).whole
 
 -- what comes after those lines
-abbrev pub outcome_of_stop : Stop → (lines : ℕ) → Option AnyBench → Outcome
+abbrev pub outcome_of_stop : Stop → (lines : ℕ) → Option ScriptBench → Outcome
 outcome_of_stop End lines b = outcome_of_end lines b
 outcome_of_stop Failed lines b = outcome_of_fault b Read
 outcome_of_stop TooLong lines b = outcome_of_fault b (fault.TooLong (lines + 1))
 outcome_of_stop TooMany lines b = outcome_of_fault b fault.TooMany
+
+-- the run of what is left of it after so many lines, which have left this bench
+abbrev pub outcome_of_rest : Stop → (lines : ℕ) → Option ScriptBench → List ℕ → Outcome
+outcome_of_rest stop lines b bytes =
+    and_then (outcome_of_lines (lines + 1) b (lines_of_read stop bytes)) (λ after. outcome_of_stop stop (lines + length (lines_of_read stop bytes)) after)
 
 -- the run of what was read
 abbrev pub outcome_of_read : Stop → List ℕ → Outcome

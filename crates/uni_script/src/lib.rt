@@ -5,11 +5,11 @@
 #![tactic(auto)]
 
 mod answer;
-mod any_world;
 mod commands;
 mod ends;
 mod fault;
 mod grammar;
+mod objects;
 mod replay;
 mod script;
 mod summary;
