@@ -3,7 +3,7 @@ use Rattle.std.proofs.Common.{◌≡◌, ℕ, ◌<◌, ◌≤◌, refl, Option, 
 use Rattle.std.proofs.lemmas.Bool.Decides.{nat_tests}
 use Rattle.seq_object.specs.declared.call_id.CallId.{CallId}
 use Rattle.uni_model.specs.Stages.{Pending}
-use Rattle.uni_model.specs.Worlds.{WorldOf}
+use Rattle.uni_model.specs.Worlds.{WorldOf, calls_in_era}
 use Rattle.uni_core.specs.Whole.{current_of}
 use Rattle.uni_script.specs.declared.answer.Refusal.{Refusal}
 use Rattle.uni_script.specs.declared.answer.Refusal.TheVariants.{Idle}
@@ -37,10 +37,10 @@ module _ {S I R : Type 0} (b : Bench S I R) (p : ℕ) (inside : b.world.n ≤ p 
   p_below : nat_le b.world.n p ≡ false
   p_below = below b.world.n p (nat_le b.world.n p) refl inside
 
-  pub none_refused-call : (IsSome (b.world.call p) → ⊥) → (b.world.call p ≡ None → b.world.begun p ≡ b.row → ⊥) → refusal_of_call b p ≡ None
+  pub none_refused-call : (IsSome (b.world.call p) → ⊥) → (b.world.call p ≡ None → calls_in_era b.world p ≡ b.row → ⊥) → refusal_of_call b p ≡ None
   none_refused-call idle room =
       let none = not_some (b.world.call p) idle in
-      rw p_below (rw none (rw (not_equal (b.world.begun p) b.row (b.world.begun p == b.row) refl (room none)) refl))
+      rw p_below (rw none (rw (not_equal (calls_in_era b.world p) b.row (calls_in_era b.world p == b.row) refl (room none)) refl))
 
   pub none_refused-step : (call : CallId) → Some call ≡ current_of b.world p → refusal_of_step b.world p ≡ None
   none_refused-step call e = rw p_below (at (b.world.call p) e)

@@ -5,7 +5,7 @@ use Rattle.std.specs.List.{list_all, concat}
 use Rattle.seq_object.specs.declared.call_id.CallId.{CallId}
 use Rattle.ready_objects.specs.Words.{text_of_words, words_of_text}
 use Rattle.uni_model.specs.Places.{head_seq}
-use Rattle.uni_model.specs.Worlds.{WorldOf, world_after, opened_world, response_of_step}
+use Rattle.uni_model.specs.Worlds.{WorldOf, world_after, opened_world, response_of_step, calls_in_era}
 use Rattle.uni_model.specs.Worlds.Event.{Call, Step}
 use Rattle.uni_model.specs.Chain.{Entry}
 use Rattle.uni_model.specs.History.{log}
@@ -45,7 +45,7 @@ abbrev pub refusal_of_call : {S I R : Type 0} → Bench S I R → ℕ → Option
 refusal_of_call b p =
     if nat_le b.world.n p then Some (Process p)
     else if is_some (b.world.call p) then Some (Busy p)
-    else if b.world.begun p == b.row then Some (Row p)
+    else if calls_in_era b.world p == b.row then Some (Row p)
     else None
 
 -- a process begins a call

@@ -1,4 +1,5 @@
 use Rattle.std.proofs.Common.{◌≡◌, ◌≤◌, ◌∙◌, sym, ap, IsSome, None}
+use Rattle.uni_model.specs.Worlds.{calls_in_era}
 use Rattle.uni_core.specs.Whole.{world_of}
 use Rattle.uni_script.specs.Meaning.{bench_of, CommandResult}
 use Rattle.uni_script.proofs.Results.{bench_is, begun_inside, none_refused-call, result_of_call-begun}
@@ -8,7 +9,7 @@ pub returns-in-Ok-clause-bench : goal.returns-in-Ok-clause-bench
 returns-in-Ok-clause-bench g c =
     let inside : (world_of c.args.world.now).n ≤ c.args.process → ⊥ = λ h. let e = c.in-Ok.ensures.process.1 h in cc in
     let idle : IsSome ((world_of c.args.world.now).call c.args.process) → ⊥ = λ h. let e = c.in-Ok.ensures.busy.1 (begun_inside _ _ inside, h) in cc in
-    let room : (world_of c.args.world.now).call c.args.process ≡ None → (world_of c.args.world.now).begun c.args.process ≡ c.args.world.now.row → ⊥ =
+    let room : (world_of c.args.world.now).call c.args.process ≡ None → calls_in_era (world_of c.args.world.now) c.args.process ≡ c.args.world.now.row → ⊥ =
     λ none h. let e = c.in-Ok.ensures.full.1 (begun_inside _ _ inside, none, h) in cc in
     bench_is _ _ c.in-Ok.ensures.fixed.row c.in-Ok.ensures.begun
     ∙ sym (ap (λ (m : CommandResult _ _ _). m.bench) (result_of_call-begun (record { object = g.O.SeqObject.sequential c.args.world.now.object; language = g.O.Spoken.language }) (bench_of c.args.world.now) c.args.process c.args.inv.now
