@@ -67,7 +67,6 @@ impl World {
     }
 
     /// One step of a process that makes a call: its response, where the call ends.
-    #[inline(never)]
     fn step(&mut self, p: usize) -> Option<u32> {
         let (mine, stage) = self.processes[p].call?;
         let n = self.heads.len();
