@@ -35,9 +35,6 @@ module _ {S I R : Type 0} where
 
   -- one field that changes at one index, where `x` is what stands there
   module _ (c : Fields S I R) (even : AreEven c) (i : ℕ) (within : i < length (cells_in c)) where
-    here : CellRecord S I R
-    here = slice_index_or (cells_in c) i blank
-
     pub cells_in-inv : (v : Option I) → cells_in (record c { inv = slice_set c.inv i v }) ≡ slice_set (cells_in c) i (record (slice_index_or (cells_in c) i blank) { inv = v })
     cells_in-inv v =
         cells_in-set c (record c { inv = slice_set c.inv i v }) even (record { inv = simp length-set even.inv; before = even.before; after = even.after; new = even.new }) i _ refl within
