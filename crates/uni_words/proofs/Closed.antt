@@ -1,7 +1,5 @@
 -- What closing tells, in the words of the log.
 use Rattle.std.proofs.Common.{◌≡◌, ◌∙◌, ℕ, List, None, map, sym, subst}
-use mathlib.Core.Option.{some}
-use lib.ListN.{get_elem?}
 use Rattle.atomic_table.specs.Table.{State, Final, Seen}
 use Rattle.seq_object.specs.Sequential.{Sequential}
 use Rattle.seq_object.specs.History.{IsLegal}

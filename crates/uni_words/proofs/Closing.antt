@@ -1,28 +1,23 @@
 -- What the words of a closed table show.
-use Rattle.std.proofs.Common.{◌≡◌, ◌≢◌, ◌∙◌, ℕ, zero, suc, ◌+◌, ◌-◌, ◌*◌, ◌<◌, ◌≤◌, ◌⊎◌, inl, inr, refl, sym, ap, subst, List, [], ◌∷◌, length, map, slice_get, slice_index, drop, Option, Some, None, option_map, option_and_then, arith, nat_lt, Bool, true, false, cond, nat_eq}
-use Rattle.std.specs.Option.{option_map_or}
-use mathlib.Core.Option.{some, some-injective, some-ne-none}
-use lib.ListN.{get_elem?}
+use Rattle.std.proofs.Common.{◌≡◌, ◌∙◌, ℕ, ◌+◌, ◌*◌, ◌<◌, ◌≤◌, inl, inr, refl, sym, ap, subst, map, slice_get, Some, None, option_map, arith, true}
 use Rattle.atomic_table.specs.Table.{State}
 use Rattle.seq_object.specs.Sequential.{Sequential}
 use Rattle.seq_object.specs.History.{IsLegal}
-use Rattle.uni_model.specs.Places.{Name, Memory, inv_of, new_of, seq_of, after_of}
+use Rattle.uni_model.specs.Places.{Name, Memory, inv_of, seq_of, after_of}
 use Rattle.uni_model.specs.Places.Name.{Anchor, Of}
-use Rattle.uni_model.specs.Places.Place.{InvOf}
-use Rattle.uni_model.specs.Chain.{Invoked, Entry, cells_from, entries_from, invoked_at, response_in}
+use Rattle.uni_model.specs.Chain.{cells_from, entries_from, invoked_at, response_in}
 use Rattle.uni_model.specs.History.{logged_call}
 use Rattle.uni_model.specs.Worlds.{WorldOf, calls_begun}
-use Rattle.uni_model.specs.Invariant.{Has, IsNumbered, IsSound}
+use Rattle.uni_model.specs.Invariant.{IsNumbered, IsSound}
 use Rattle.uni_model.proofs.Chains.{cells_from-same, number_at}
 use Rattle.uni_model.proofs.Logged.{legal_from}
 use Rattle.uni_model.proofs.Ranges.{sum_below-bound}
 use Rattle.uni_model.proofs.SameLog.{entries_from-same}
 use Rattle.uni_model.proofs.Simulation.{enough}
-use Rattle.uni_model.proofs.Written.{lt_cases, number_cases}
-use Rattle.uni_words.specs.Log.{IsChained, is_call_cell, calls_by, log_of, replied, told_memory}
-use Rattle.uni_words.specs.Shown.{HasReturned, IsLocal, IsShown}
-use Rattle.uni_words.specs.Views.{Known}
-use Rattle.uni_words.specs.Words.{memory_of, word_at}
+use Rattle.uni_model.proofs.Written.{lt_cases}
+use Rattle.uni_words.specs.Log.{IsChained, is_call_cell, log_of, told_memory}
+use Rattle.uni_words.specs.Shown.{IsShown}
+use Rattle.uni_words.specs.Words.{memory_of}
 use Rattle.uni_words.specs.declared.view.View.{View}
 
 module _ (object : Sequential ℕ ℕ ℕ) (row : ℕ) (w : WorldOf ℕ ℕ ℕ) (s : State ℕ View) (is : IsShown object row w s) where

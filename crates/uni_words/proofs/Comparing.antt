@@ -1,5 +1,5 @@
 -- Comparing a log with what callers were told, entry by entry.
-use Rattle.std.proofs.Common.{◌≡◌, ◌≢◌, ◌∙◌, ℕ, zero, suc, ◌+◌, ◌<◌, ◌≤◌, inl, inr, refl, sym, ap, subst, List, [], ◌∷◌, ◌++◌, append-nil, append_assoc, length, map, slice_get, slice_index_or, take, drop, Option, Some, None, option_map, arith, ◌==◌, Bool, true, false, cond}
+use Rattle.std.proofs.Common.{◌≡◌, ◌≢◌, ◌∙◌, ℕ, zero, suc, ◌+◌, ◌<◌, ◌≤◌, inl, inr, refl, sym, ap, subst, List, [], ◌∷◌, ◌++◌, append-nil, append_assoc, length, map, slice_get, slice_index_or, take, drop, Option, Some, None, option_map, arith, ◌==◌, cond}
 use Rattle.seq_object.specs.Sequential.{Sequential}
 use Rattle.seq_object.specs.History.{state_after, response_at}
 use Rattle.seq_object.specs.declared.call_id.CallId.{CallId}

@@ -1,26 +1,23 @@
 -- The laws of the word steps.
-use Rattle.std.proofs.Common.{◌≡◌, ◌∙◌, ℕ, ◌<◌, ◌^◌, sym, ap, subst, slice_index, Option, Some, None, arith}
+use Rattle.std.proofs.Common.{◌≡◌, ◌∙◌, ℕ, ◌<◌, ◌^◌, sym, ap, subst, slice_index, Option, Some, arith}
 use mathlib.Core.Option.{some}
 use lib.ListN.{get_elem?}
 use Rattle.atomic_table.specs.Table.{State}
 use Rattle.seq_object.specs.Sequential.{Sequential}
 use Rattle.uni_model.specs.Places.{Name, new_of}
-use Rattle.uni_model.specs.Places.Place.{InvOf, NewOf}
 use Rattle.uni_model.specs.Stages.{Stage, Pending}
-use Rattle.uni_model.specs.Stages.Stage.{Announce, ScanHead, ScanSeq, WriteScan, Test, ReadAnnounce, ReadHelpSeq, DecideAfter, DecideNew, WriteBefore, WriteSeq, WriteHead, Finish}
-use Rattle.uni_model.specs.Transition.{place_of}
-use Rattle.uni_model.specs.Worlds.{WorldOf, world_after, world_after_step}
-use Rattle.uni_model.specs.Worlds.Event.{Step}
+use Rattle.uni_model.specs.Stages.Stage.{DecideNew, Finish}
+use Rattle.uni_model.specs.Worlds.{WorldOf}
 use Rattle.uni_model.proofs.Steps.{linked_call, head_number}
 use Rattle.uni_words.specs.Laws.{IsLoad, after_word, StoreBegins, WordStepMoves, StoreEnds, LoadEnds, LoadKeeps, OwnCallsRise}
 use Rattle.uni_words.specs.Shown.{HasRead, IsShown}
 use Rattle.uni_words.specs.Views.{Known, Reading, moved_at, finished_by}
 use Rattle.uni_words.specs.Views.Reading.{Nothing, Invocation, Applied, Reply}
-use Rattle.uni_words.specs.Words.{state_in, reply_in, reply_at, word_of}
+use Rattle.uni_words.specs.Words.{reply_in, reply_at}
 use Rattle.uni_words.specs.declared.view.View.{View}
 use Rattle.uni_words.proofs.Begins.{begun_kept}
 use Rattle.uni_words.proofs.Finishes.{stored_kept, loaded_kept}
-use Rattle.uni_words.proofs.Happens.{own_local, own_call, later, later_is}
+use Rattle.uni_words.proofs.Happens.{own_local, later_is}
 use Rattle.uni_words.proofs.Looks.{stands, underway, inv_told, state_told, reply_told, looked_kept}
 use Rattle.uni_words.proofs.Moving.{moved_kept}
 use Rattle.uni_words.proofs.Rising.{own_rises}

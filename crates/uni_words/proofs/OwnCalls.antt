@@ -1,20 +1,20 @@
 -- The calls of a seat's process in the log are the seat's own calls.
-use Rattle.std.proofs.Common.{◌≡◌, ◌≢◌, ◌∙◌, ℕ, zero, suc, ◌+◌, ◌*◌, ◌<◌, ◌≤◌, ◌⊎◌, inl, inr, refl, sym, ap, subst, List, [], ◌∷◌, length, map, slice_get, drop, Option, Some, None, option_map, arith, nat_eq, ◌==◌, cond}
+use Rattle.std.proofs.Common.{◌≡◌, ◌≢◌, ◌∙◌, ℕ, zero, suc, ◌+◌, ◌*◌, ◌<◌, ◌≤◌, inl, inr, refl, sym, ap, subst, List, [], ◌∷◌, length, map, slice_get, drop, Option, Some, None, arith, ◌==◌, cond}
 use Rattle.std.specs.Option.{option_map_or}
 use mathlib.Core.Option.{some}
 use lib.ListN.{get_elem?}
 use Rattle.atomic_table.specs.Table.{State}
 use Rattle.seq_object.specs.Sequential.{Sequential}
-use Rattle.uni_model.specs.Places.{Name, inv_of, seq_of, after_of}
+use Rattle.uni_model.specs.Places.{Name, inv_of, after_of}
 use Rattle.uni_model.specs.Places.Name.{Anchor, Of}
-use Rattle.uni_model.specs.Chain.{Invoked, cells_from, entries_from, invoked_at, response_in}
+use Rattle.uni_model.specs.Chain.{cells_from, entries_from, invoked_at, response_in}
 use Rattle.uni_model.specs.Worlds.{WorldOf, calls_begun}
-use Rattle.uni_model.specs.Invariant.{Has, IsSound}
+use Rattle.uni_model.specs.Invariant.{IsSound}
 use Rattle.uni_model.proofs.Ranges.{sum_below-bound}
 use Rattle.uni_model.proofs.Simulation.{enough}
 use Rattle.uni_model.proofs.Written.{lt_cases, number_cases}
 use Rattle.uni_words.specs.Log.{calls_by, log_of, replied}
-use Rattle.uni_words.specs.Shown.{HasReturned, IsLocal, IsShown, pending_count}
+use Rattle.uni_words.specs.Shown.{IsLocal, IsShown, pending_count}
 use Rattle.uni_words.specs.Views.{Known}
 use Rattle.uni_words.specs.declared.view.View.{View}
 use Rattle.uni_words.proofs.Closing.{log_is}

@@ -1,11 +1,11 @@
 -- The walk along the chain of closed words, cell by cell.
-use Rattle.std.proofs.Common.{◌≡◌, ◌≢◌, ◌∙◌, ℕ, zero, suc, ◌+◌, ◌-◌, ◌*◌, ◌/◌, ◌%◌, ◌<◌, ◌≤◌, inl, inr, refl, sym, ap, subst, List, [], ◌∷◌, ◌++◌, append_assoc, append-nil, slice_get, slice_index, Option, Some, None, arith, nat_lt, Bool, true, false}
+use Rattle.std.proofs.Common.{◌≡◌, ◌≢◌, ◌∙◌, ℕ, zero, suc, ◌+◌, ◌-◌, ◌*◌, ◌/◌, ◌%◌, ◌<◌, ◌≤◌, inl, inr, refl, sym, ap, subst, List, [], ◌∷◌, ◌++◌, append_assoc, append-nil, slice_get, slice_index, Option, Some, None, arith, true, false}
 use Rattle.std.specs.Option.{option_map_or}
 use mathlib.Core.Option.{some, some-injective, some-ne-none}
 use lib.ListN.{get_elem?}
 use Rattle.uni_model.specs.Indices.{name_of}
 use Rattle.uni_model.specs.Places.{Name, Memory, after_of, seq_of}
-use Rattle.uni_model.specs.Places.Name.{Anchor, Of}
+use Rattle.uni_model.specs.Places.Name.{Anchor}
 use Rattle.uni_model.specs.Chain.{Invoked, Entry, cells_from, entries_from, invoked_at, response_in}
 use Rattle.uni_model.proofs.Written.{lt_cases}
 use Rattle.uni_words.specs.Log.{AreCallCells, is_call_cell, log_of, told_memory}

@@ -1,20 +1,20 @@
 -- The kinds of word steps that more than one stage takes: the load of a number, and the store of the head.
-use Rattle.std.proofs.Common.{◌≡◌, ◌∙◌, ℕ, ◌+◌, ◌<◌, ◌≤◌, refl, sym, ap, subst, Option, Some, arith}
+use Rattle.std.proofs.Common.{◌≡◌, ◌∙◌, ℕ, ◌<◌, refl, sym, ap, subst, Some}
 use Rattle.atomic_table.specs.Table.{State, Me, Step, Allows}
 use Rattle.seq_object.specs.Sequential.{Sequential}
 use Rattle.uni_model.specs.Indices.{name_of}
-use Rattle.uni_model.specs.Places.{Name, Place}
+use Rattle.uni_model.specs.Places.{Name}
 use Rattle.uni_model.specs.Places.Place.{HeadOf, SeqOf}
 use Rattle.uni_model.specs.Places.Content.{CellName}
 use Rattle.uni_model.specs.Stages.{Stage, Pending}
-use Rattle.uni_model.specs.Stages.Stage.{Announce, ScanHead, ScanSeq, WriteScan, Test, ReadAnnounce, ReadHelpSeq, DecideAfter, DecideNew, WriteBefore, WriteSeq, WriteHead, Finish}
+use Rattle.uni_model.specs.Stages.Stage.{ScanSeq, WriteScan, Test, ReadHelpSeq, WriteHead, Finish}
 use Rattle.uni_model.specs.Transition.{Beside, place_of, content_after}
 use Rattle.uni_words.specs.Words.{cells_of, content_of, word_of}
-use Rattle.uni_words.specs.Views.{Known, Reading, moved_at}
-use Rattle.uni_words.specs.Views.Reading.{Nothing, Invocation, Applied, Reply}
-use Rattle.uni_words.specs.Seats.{HasFinished, Moved, IsWithin}
+use Rattle.uni_words.specs.Views.{Reading}
+use Rattle.uni_words.specs.Views.Reading.{Reply}
+use Rattle.uni_words.specs.Seats.{HasFinished, Moved}
 use Rattle.uni_words.specs.Shown.{ShowsWorld}
-use Rattle.uni_words.specs.Standing.{StandsAt, LoadsNumber, StoresHead, IsPastHead, HeadIsStored}
+use Rattle.uni_words.specs.Standing.{LoadsNumber, StoresHead, IsPastHead, HeadIsStored}
 use Rattle.uni_words.specs.declared.view.View.{View}
 use Rattle.uni_words.proofs.Finishes.{ends}
 use Rattle.uni_words.proofs.Moving.{GoesOn, moves}
@@ -56,14 +56,14 @@ stores_head object row n slots id i st me cell single c pending stores inside wo
       → Allows (ShowsWorld object n row) slots id me i (λ x. cell) (λ found me'. HeadIsStored st me cell me')
   by_stage (WriteScan best s) read at is names = Allows-told (ShowsWorld object n row) slots id me i (λ x. cell) (λ found me'. Moved st me cell me') (λ found me'. HeadIsStored st me cell me')
       (λ found me' moved d e. let same : record { mine = c.mine; stage = WriteScan best s } ≡ d = (let g = sym at ∙ e in cc) in
-          subst (λ (k : Pending). IsPastHead me k.mine k.stage cell me') same (moved _ at))
+      subst (λ (k : Pending). IsPastHead me k.mine k.stage cell me') same (moved _ at))
       (moves object row n slots id i st me (λ x. cell) (λ x. cell) single (record { mine = c.mine; stage = WriteScan best s }) at tt word (λ found seen. ap CellName (sym names)) (λ found. refl) (λ found a b. b))
   by_stage (WriteHead x s d) read at is names = Allows-told (ShowsWorld object n row) slots id me i (λ x. cell) (λ found me'. Moved st me cell me') (λ found me'. HeadIsStored st me cell me')
       (λ found me' moved k e. let same : record { mine = c.mine; stage = WriteHead x s d } ≡ k = (let g = sym at ∙ e in cc) in
-          subst (λ (k : Pending). IsPastHead me k.mine k.stage cell me') same (moved _ at))
+      subst (λ (k : Pending). IsPastHead me k.mine k.stage cell me') same (moved _ at))
       (moves object row n slots id i st me (λ x. cell) (λ x. cell) single (record { mine = c.mine; stage = WriteHead x s d }) at tt word (λ found seen. ap CellName (sym names)) (λ found. refl) (λ found a b. b))
   by_stage (Finish c_seq mine_seq) (Reply reply) at is stores = Allows-told (ShowsWorld object n row) slots id me i (λ x. cell) (λ found me'. HasFinished me reply me') (λ found me'. HeadIsStored st me cell me')
       (λ found me' finished k e. let same : record { mine = c.mine; stage = Finish c_seq mine_seq } ≡ k = (let g = sym at ∙ e in cc) in
-          subst (λ (k : Pending). IsPastHead me k.mine k.stage cell me') same (λ other read. (let one : reply ≡ other = (let f = sym is ∙ read in cc) in subst (λ r. HasFinished me r me') one finished)))
+      subst (λ (k : Pending). IsPastHead me k.mine k.stage cell me') same (λ other read. (let one : reply ≡ other = (let f = sym is ∙ read in cc) in subst (λ r. HasFinished me r me') one finished)))
       (ends object row n slots id i me single cell c_seq mine_seq reply (subst (λ x. me.0.known.call ≡ Some (record { mine = x; stage = Finish c_seq mine_seq })) stores.0 at) is stores.1 word)
   by_stage _ _ at is stores = absurd stores

@@ -19,11 +19,7 @@ fn is_right<O: WordObject>(object: &O, state: u32, entry: WordEntry, processes: 
 
 /// The call of the first entry whose reply is missing or not the object's, or whose process isn't one
 /// of so many.
-fn first_wrong<O: WordObject>(
-    object: &O,
-    entries: &[WordEntry],
-    processes: usize,
-) -> Option<CallId>
+fn first_wrong<O: WordObject>(object: &O, entries: &[WordEntry], processes: usize) -> Option<CallId>
     ensures none { result ≡ None → (place : ℕ) → IsRight (O.sequential object.now) (map entry_shown entries.now) processes place }
     ensures some { IfSome result (IsFirstWrong (O.sequential object.now) (map entry_shown entries.now) processes) }
 {

@@ -1,4 +1,4 @@
-use Rattle.std.proofs.Common.{ℕ, List, map, length}
+use Rattle.std.proofs.Common.{ℕ, map, length}
 use Rattle.uni_words.specs.Differs.{IsRight}
 use Rattle.uni_words.specs.Log.{entry_shown}
 use Rattle.uni_words.proofs.Comparing.{AreListed}

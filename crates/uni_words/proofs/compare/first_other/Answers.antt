@@ -1,4 +1,4 @@
-use Rattle.std.proofs.Common.{◌≡◌, ◌<◌, ◌≤◌, ◌∙◌, ◌+◌, ap, sym, subst, refl, map, length, slice_index_or, Bool, true, false, arith, ℕ, List, Fits, w64}
+use Rattle.std.proofs.Common.{◌+◌, sym, subst, map, slice_index_or, arith}
 use Rattle.uni_words.specs.Log.{entry_shown}
 use Rattle.uni_words.proofs.Comparing.{AreTold, no_entry, told-start, told-more, told-all, told-other, told-next, told-otherwise, shown_here, length-mapped}
 use Rattle.uni_words.proofs.compare.first_other.Goals.{then-entry-process+else-not-is_told, else-entry-process}

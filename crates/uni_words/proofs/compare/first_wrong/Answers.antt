@@ -1,4 +1,4 @@
-use Rattle.std.proofs.Common.{◌≡◌, ◌<◌, ◌≤◌, ◌∙◌, ◌+◌, ap, sym, subst, refl, map, length, slice_index_or, Bool, true, false, arith}
+use Rattle.std.proofs.Common.{◌+◌, sym, subst, refl, map, slice_index_or, arith}
 use Rattle.uni_words.specs.Log.{entry_shown}
 use Rattle.uni_words.proofs.Comparing.{AreRightTo, no_entry, right-start, right-all, right-further, wrong-here, shown_here, length-mapped}
 use Rattle.uni_words.proofs.compare.first_wrong.Goals as goal

@@ -1,4 +1,4 @@
-use Rattle.std.proofs.Common.{◌≡◌, ◌∙◌, ◌++◌, ◌∷◌, [], ℕ, ◌-◌, ap, sym, subst, map, arith, ◌+◌}
+use Rattle.std.proofs.Common.{◌∙◌, ◌∷◌, [], ◌-◌, ap, sym, subst, map, arith, ◌+◌}
 use Rattle.std.proofs.lemmas.List.{map-append}
 use Rattle.uni_words.specs.Belongs.{count_in, row_in, words_in}
 use Rattle.uni_words.specs.Log.{entry_shown}

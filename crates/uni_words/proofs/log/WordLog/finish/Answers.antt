@@ -1,4 +1,4 @@
-use Rattle.std.proofs.Common.{◌≡◌, ◌<◌, refl, sym, subst}
+use Rattle.std.proofs.Common.{refl, sym, subst}
 use Rattle.uni_model.specs.Indices.{name_of}
 use Rattle.uni_model.specs.Stages.Stage.{Finish}
 use Rattle.uni_words.specs.Standing.{StoresHead}

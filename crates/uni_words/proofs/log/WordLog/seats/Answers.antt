@@ -1,4 +1,4 @@
-use Rattle.std.proofs.Common.{rules, refl, ◌+◌, ◌≤◌, ◌<◌, ◌≡◌, ℕ, ◌-◌, arith, sym, ap, subst}
+use Rattle.std.proofs.Common.{rules, refl, ◌+◌, ◌≡◌, ℕ, ◌-◌, arith, sym, ap, subst}
 use Rattle.atomic_table.specs.Table.{Me, Splits}
 use Rattle.uni_words.specs.Seats.{others, first_alone}
 use Rattle.uni_words.specs.Rule.{Rule}

@@ -1,6 +1,5 @@
 use Rattle.std.proofs.Common.{refl}
 use Rattle.uni_model.specs.Indices.{name_of}
-use Rattle.uni_model.specs.Stages.{Pending}
 use Rattle.uni_model.specs.Stages.Stage.{Test}
 use Rattle.uni_words.proofs.Allowed.{stands_next, goes_one, within_here, few_turns}
 use Rattle.uni_words.proofs.log.WordLog.test.Goals as goal

@@ -1,6 +1,5 @@
-use Rattle.std.proofs.Common.{ℕ, ◌+◌, ◌*◌, ◌<◌, sym, ap, ◌∙◌, slice_index, arith}
-use Rattle.uni_words.specs.Belongs.{count_in, row_in, words_in}
-use Rattle.uni_words.specs.Words.{cells_of, start_of}
+use Rattle.std.proofs.Common.{◌+◌, ◌*◌, sym, ap, ◌∙◌, slice_index}
+use Rattle.uni_words.specs.Belongs.{words_in}
 use Rattle.uni_words.proofs.Reading.{slice_index-get, start_of-cells}
 use Rattle.uni_words.proofs.words.Words.word_of_cell.Goals as goal
 
