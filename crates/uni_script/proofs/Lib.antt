@@ -6,3 +6,4 @@ pub mod Running
 pub mod ByteByByte
 pub mod Replaying
 pub mod LogLines
+pub mod Finishing

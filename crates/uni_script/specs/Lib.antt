@@ -7,3 +7,4 @@ pub mod Reading
 pub mod Summaries
 pub mod Replays
 pub mod Scripts
+pub mod Finishes

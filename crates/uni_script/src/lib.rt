@@ -9,6 +9,7 @@ mod commands;
 mod ends;
 mod fault;
 mod grammar;
+mod laws;
 mod objects;
 mod replay;
 mod script;
@@ -18,5 +19,6 @@ mod tests;
 
 pub use ends::{Checked, Failed, TextIn, TextOut, write_all};
 pub use fault::BenchFault;
+pub use laws::finish_returns;
 pub use replay::{Options, bench};
 pub use summary::Summary;

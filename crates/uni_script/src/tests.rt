@@ -1,7 +1,9 @@
 //! Tests of the bench over memory, and of objects that processes share through a world.
 
-use crate::{BenchFault, Checked, Failed, Options, Summary, TextIn, TextOut, bench, write_all};
-use ready_objects::{Amount, StickyInv, StickyObject, StickyResp};
+use crate::{
+    BenchFault, Checked, Failed, Options, Summary, TextIn, TextOut, bench, finish_returns, write_all,
+};
+use ready_objects::{Amount, QueueObject, StickyInv, StickyObject, StickyResp};
 use seq_object::CallId;
 use std::alloc::Global;
 use std::io;
@@ -70,6 +72,7 @@ fn scripts(rt: HostRuntime) {
 
 #[test]
 fn schedules_of_two_processes(rt: HostRuntime) {
+    finish_returns::<QueueObject>();
     let rows = [
         // One process meets the bound, of 32 steps and 3 turns. Then a head isn't lowered.
         (
