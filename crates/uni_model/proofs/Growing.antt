@@ -1,5 +1,5 @@
 -- The log only grows while no era ends.
-use Rattle.std.proofs.Common.{◌≡◌, ◌≢◌, ◌∙◌, ℕ, zero, suc, ◌+◌, ◌-◌, ◌<◌, ◌≤◌, ◌⊎◌, inl, inr, refl, sym, ap, subst, List, [], ◌∷◌, Option, Some, None, IsSome, length, slice_get, take, option_map, option_and_then, true, false, arith}
+use Rattle.std.proofs.Common.{◌≡◌, ◌∙◌, ℕ, zero, suc, ◌+◌, ◌-◌, ◌<◌, ◌≤◌, ◌⊎◌, inl, inr, refl, sym, ap, subst, List, [], ◌∷◌, Option, Some, None, IsSome, length, slice_get, take, option_map, option_and_then, true, false, arith}
 use Rattle.std.specs.Option.{option_map_or}
 use Rattle.std.specs.List.{AllByRecursion}
 use Rattle.std.proofs.lemmas.Bool.{cases_lt}
@@ -9,12 +9,11 @@ use Rattle.uni_model.specs.Places.{Name, Memory, seq_of, after_of, inv_of, new_o
 use Rattle.uni_model.specs.Places.Name.{Anchor, Of}
 use Rattle.uni_model.specs.Stages.{Pending}
 use Rattle.uni_model.specs.Chain.{cells_from, Invoked, invoked_at, Entry, entries_from, response_in}
-use Rattle.uni_model.specs.Worlds.{WorldOf, Event, chain, calls_begun, world_after, world_after_step, world_after_all, IsAccepted, AreAccepted, sum_below}
+use Rattle.uni_model.specs.Worlds.{WorldOf, Event, chain, calls_begun, world_after, world_after_step, world_after_all, IsAccepted, AreAccepted}
 use Rattle.uni_model.specs.Worlds.Event.{Call, Step, Trim}
 use Rattle.uni_model.specs.History.{log}
 use Rattle.uni_model.specs.Settled.{Grows}
-use Rattle.uni_model.specs.Invariant.{Has, IsNumbered, IsSound, Invariant}
-use Rattle.uni_model.specs.OneList.{HasLegalLog}
+use Rattle.uni_model.specs.Invariant.{Has, IsSound, Invariant}
 use Rattle.uni_model.specs.Growth.{GetsResponse, IsFrontOf, EndsNoEra, EndNoEra}
 use Rattle.uni_model.proofs.Kept.{Invariant-world_after, Grows-world_after}
 use Rattle.uni_model.proofs.Sums.{sum_below-le}
@@ -172,9 +171,9 @@ IsFrontOf-then a b c first second = record {
             | inl kept ↦ inl (kept ∙ same)
             | inr gets ↦ inr (
               let longer = first.longer in
-              let end : j + 1 ≡ length b = gets.0 in
-              let within : j < length a = slice_get_within a j e at in
-              omega arith,
+                  let end : j + 1 ≡ length b = gets.0 in
+                  let within : j < length a = slice_get_within a j e at in
+                  omega arith,
               subst (λ d. GetsResponse d two.0) same gets.1,
             )
           ]

@@ -1,7 +1,7 @@
 -- Cells by name and by index.
 use Rattle.std.proofs.Common.{◌≡◌, ◌∙◌, ℕ, zero, suc, ◌*◌, ◌+◌, ◌/◌, ◌%◌, ◌<◌, refl, sym, ap, arith}
 use Rattle.std.proofs.lemmas.Nat.{div-mul-add, mod-mul-add, div-add-mod'}
-use Rattle.uni_model.specs.Places.Name.{Anchor, Of}
+use Rattle.uni_model.specs.Places.Name.{Of}
 use Rattle.uni_model.specs.Indices.{index_of, name_of}
 
 pub name_of-index_of : (n p k : ℕ) → p < n → name_of n (index_of n p k) ≡ Of p k

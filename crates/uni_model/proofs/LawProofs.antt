@@ -11,11 +11,11 @@ use Rattle.uni_model.specs.Worlds.Event.{Call, Step, Trim}
 use Rattle.uni_model.specs.AtomicObject.{Atomic, Act, AcceptsAll, at_start}
 use Rattle.uni_model.specs.History.{Shows, history_of, acts_of}
 use Rattle.uni_model.specs.Growth.{EndsNoEra, EndNoEra}
-use Rattle.uni_model.specs.Settled.{Grows, ChangesOnly}
+use Rattle.uni_model.specs.Settled.{ChangesOnly}
 use Rattle.uni_model.specs.Invariant.{Invariant}
 use Rattle.uni_model.specs.Laws.{IsReached, StepIsLocal, SettledStays, Simulates, IsLinearizable}
 use Rattle.uni_model.proofs.Written.{set_at-cases, place_eq_true}
-use Rattle.uni_model.proofs.Kept.{Invariant-world_after_step, Invariant-begun, Invariant-opened_world, Invariant-world_after_all, Invariant-world_after, Grows-world_after}
+use Rattle.uni_model.proofs.Kept.{Invariant-opened_world, Invariant-world_after_all, Invariant-world_after, Grows-world_after}
 use Rattle.uni_model.specs.Bound.{CountsSteps, IsBounded}
 use Rattle.uni_model.proofs.Counted.{CountsSteps-opened_world, CountsSteps-world_after_all}
 use Rattle.uni_model.specs.Helping.{HelpingInvariant}

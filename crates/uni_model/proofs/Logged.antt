@@ -1,5 +1,5 @@
 -- The log is a legal history of the object: what is settled along the chain is what the object makes of its calls.
-use Rattle.std.proofs.Common.{◌≡◌, ◌≢◌, ◌∙◌, ℕ, zero, suc, ◌+◌, ◌<◌, ◌≤◌, refl, sym, ap, subst, List, [], ◌∷◌, Option, Some, None, IsSome, length, map, slice_get, take, option_map, IfSome, arith}
+use Rattle.std.proofs.Common.{◌≡◌, ◌≢◌, ℕ, zero, suc, ◌+◌, ◌<◌, ◌≤◌, refl, sym, ap, subst, List, [], ◌∷◌, Option, Some, None, IsSome, length, map, slice_get, take, option_map, IfSome, arith}
 use Rattle.std.specs.Option.{IsSomeAnd, option_map_or}
 use Rattle.seq_object.specs.Sequential.{Sequential}
 use Rattle.seq_object.specs.History.{IsLegal, state_after}

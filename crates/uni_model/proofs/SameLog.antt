@@ -1,8 +1,8 @@
 -- Two memories with the same chain, calls and settled values have the same log.
-use Rattle.std.proofs.Common.{◌≡◌, ◌∙◌, ℕ, zero, suc, ◌+◌, ◌≤◌, refl, sym, ap, List, [], ◌∷◌, Option, Some, None, arith}
+use Rattle.std.proofs.Common.{◌≡◌, ℕ, zero, suc, ◌+◌, ◌≤◌, refl, [], ◌∷◌, Option, Some, None, arith}
 use Rattle.std.specs.Option.{option_map_or}
 use Rattle.uni_model.specs.Places.{Name, Memory, after_of}
-use Rattle.uni_model.specs.Chain.{Invoked, cells_from, invoked_at, entries_from, response_in}
+use Rattle.uni_model.specs.Chain.{cells_from, invoked_at, entries_from, response_in}
 use Rattle.uni_model.specs.Invariant.{IsNumbered}
 
 module _ {S I R : Type 0} (m m' : Memory S I R) (num : Name → ℕ) (last : ℕ) (numbered : IsNumbered m num last)

@@ -6,7 +6,7 @@ use Rattle.seq_object.specs.History.{Call as Answered}
 use Rattle.uni_model.specs.Places.{Name, Memory, seq_of, new_of}
 use Rattle.uni_model.specs.Places.Name.{Anchor}
 use Rattle.uni_model.specs.Stages.{Pending}
-use Rattle.uni_model.specs.Chain.{Invoked, Entry, entries_from, invoked_at, response_in}
+use Rattle.uni_model.specs.Chain.{Invoked, Entry, entries_from, invoked_at}
 use Rattle.uni_model.specs.Worlds.{WorldOf, Event, chain, effect_in, world_after}
 use Rattle.uni_model.specs.Worlds.Event.{Call, Step, Trim}
 use Rattle.uni_model.specs.AtomicObject.{Atomic, Open, Act}
