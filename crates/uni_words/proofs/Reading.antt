@@ -80,9 +80,6 @@ module _ (n row : ℕ) (words : List ℕ) (positive : 1 ≤ n) where
         link_to : link_of n link ≡ Some next
         link_to = (let whole : link ≡ suc (link - 1) = omega (arith, some) in ap (link_of n) whole)
 
-        rest : List Name
-        rest = cells_from (n * row - (place + 1)) m next
-
         cells_next : cells_from (n * row - place) m (name_of n at) ≡ next ∷ cells_from (n * row - (place + 1)) m next
         cells_next = cells_are (Some next) (after_is ∙ link_to)
 

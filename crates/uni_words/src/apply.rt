@@ -146,7 +146,7 @@ impl WordSeat {
     ///
     /// The error says that the seat has made all the calls that it can make; nothing is changed then.
     pub fn apply<O: WordObject>(&mut self, log: &WordLog<O>, inv: u64) -> Result<Answer, RowFull>
-        requires { IsSeatOf log.now self.old }
+        requires seat { IsSeatOf log.now self.old }
         ensures kept { IsSeatOf log.now self.new × (process_of self.new ≡ process_of self.old) }
         ensures full { IsErr result ↔ (calls_made self.old ≡ row_of log.now) }
         ensures unchanged { OnErr result (self.new ≡ self.old) }

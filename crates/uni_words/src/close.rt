@@ -12,13 +12,14 @@ use crate::steps::WordSeat;
 use crate::words::Words;
 
 impl<O: WordObject> WordLog<O> {
-    /// Closes the log, with the seat of one of its processes: the words as they are then. Other
+    /// Closes the log, with the seat of one of its processes, which is one of this log's: the words as
+    /// they are then. Other
     /// seats may be dropped in a call; what they have begun stays as it is.
     ///
     /// The words show one chain, which is legal from the start state, and the calls of the seat's
     /// process in it are the seat's own calls, in their order, with the replies that it was given.
     pub fn close_with(self, seat: WordSeat) -> Words
-        requires { IsSeatOf self seat }
+        requires seat { IsSeatOf self seat }
         ensures counts { (count_in result ≡ processes_of self) × (row_in result ≡ row_of self) }
         ensures chain { IsChained (count_in result) (row_in result) (words_in result) }
         ensures legal { IsLegal (O.sequential (object_of self)) (O.sequential (object_of self)).initial

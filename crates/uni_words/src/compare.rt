@@ -70,13 +70,13 @@ fn first_other(entries: &[WordEntry], process: u32, own: &[(u64, u32)]) -> Optio
 /// entry of any other process. Else this is the call of the first entry whose reply is missing or not
 /// the object's, or whose process has no list; where there is none, it is the first call, by process
 /// and by its place in the process's list, in which the list and the entries differ. It takes no
-/// memory.
+/// memory. There are fewer than 2^32 lists.
 pub fn differs<O: WordObject>(
     object: &O,
     entries: &[WordEntry],
     lists: &[Vec<(u64, u32)>],
 ) -> Option<CallId>
-    requires { length lists.now < 2 ^ 32 }
+    requires few { length lists.now < 2 ^ 32 }
     ensures agrees { (result ≡ None) ↔ Agrees (O.sequential object.now) (map entry_shown entries.now) (map (λ own. own.items) lists.now) }
     ensures first { IfSome result (IsFirstFault (O.sequential object.now) (map entry_shown entries.now) (map (λ own. own.items) lists.now)) }
 {

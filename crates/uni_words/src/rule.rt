@@ -13,6 +13,7 @@ pub struct Setup<O: WordObject> {
     pub k: u64,
 }
 
+/// The rule of the table: its words and the views of its seats show a world of the construction.
 pub struct Universal<O> {
     object: PhantomData<O>,
 }
@@ -91,4 +92,5 @@ impl Split<View> for First {
     ghost right = { first_alone };
 }
 
+/// The table of a log: it has no slots.
 pub type WordTable<O> = Table<u8, View, Setup<O>, Universal<O>, Global>;
