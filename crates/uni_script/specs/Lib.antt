@@ -8,3 +8,4 @@ pub mod Summaries
 pub mod Replays
 pub mod Scripts
 pub mod Finishes
+pub mod Faults

@@ -18,7 +18,7 @@ mod summary;
 mod tests;
 
 pub use ends::{Checked, Failed, TextIn, TextOut, write_all};
-pub use fault::BenchFault;
+pub use fault::{BenchFault, push_fault};
 pub use laws::finish_returns;
 pub use replay::{Options, bench};
 pub use summary::Summary;
