@@ -1,19 +1,18 @@
 -- What the readers of a world answer.
 use Rattle.std.proofs.Common.{◌≡◌, ◌∙◌, ℕ, ◌+◌, ◌-◌, ◌*◌, ◌^◌, ◌<◌, ◌≤◌, length, sym, ap, subst, Option, Some, None, option_map, IfSome, arith}
-use Rattle.std.specs.Option.{option_map_or}
 use Rattle.seq_object.specs.Sequential.{Sequential}
-use Rattle.cell_arena.specs.CellRecord.{CellRecord, index_of}
-use Rattle.cell_arena.specs.Arena.{processes_of, cell_of}
+use Rattle.cell_arena.specs.CellRecord.{index_of}
+use Rattle.cell_arena.specs.Arena.{processes_of}
 use Rattle.uni_model.specs.Places.{Name, head_of, seq_of, after_of, inv_of, before_of}
 use Rattle.uni_model.specs.Places.Name.{Anchor, Of}
 use Rattle.uni_model.specs.Worlds.{chain, calls_begun}
 use Rattle.uni_model.specs.Invariant.{Has}
 use Rattle.uni_model.proofs.Simulation.{enough}
 use Rattle.uni_model.proofs.OneLists.{length-chain}
-use Rattle.uni_core.specs.Shared.{Shared, name_of, cell_named, memory_of}
+use Rattle.uni_core.specs.Shared.{name_of, memory_of}
 use Rattle.uni_core.specs.Standing.{IsThere}
 use Rattle.uni_core.specs.Whole.{Whole, world_of, IsWorld}
-use Rattle.uni_core.proofs.Named.{name_of-index_of, cell_named-name_of}
+use Rattle.uni_core.proofs.Named.{name_of-index_of}
 use Rattle.uni_core.proofs.Begin.{inside_view}
 use Rattle.uni_core.proofs.Steppable.{sum_below-bound, there_seq, there_inv}
 

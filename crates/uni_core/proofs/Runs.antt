@@ -11,7 +11,7 @@ use Rattle.uni_model.specs.Stages.{Pending}
 use Rattle.uni_model.specs.Worlds.{WorldOf, Event, AreAccepted, calls_in_era, world_after, world_after_all}
 use Rattle.uni_model.specs.Growth.{EndNoEra}
 use Rattle.uni_model.specs.AtomicObject.{Act}
-use Rattle.uni_model.specs.History.{Shows, acts_of, history_of}
+use Rattle.uni_model.specs.History.{acts_of, history_of}
 use Rattle.uni_model.proofs.LawProofs.{AcceptsAll-append}
 use Rattle.uni_core.specs.declared.command.Command.{Command}
 use Rattle.uni_core.specs.declared.command.Command.TheVariants.{Call, Step}

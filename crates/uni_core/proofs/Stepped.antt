@@ -1,12 +1,10 @@
 -- What a step leaves.
-use Rattle.std.proofs.Common.{◌≡◌, ◌∙◌, ℕ, ◌+◌, ◌*◌, ◌^◌, ◌<◌, ◌≤◌, refl, sym, ap, subst, Option, Some, None, option_map, is_some, IsSome, arith, Bool, true, false, slice_get, slice_set, get_or, Result, Ok, Err, OnErr}
+use Rattle.std.proofs.Common.{◌≡◌, ◌∙◌, ℕ, ◌+◌, ◌*◌, ◌^◌, ◌<◌, ◌≤◌, refl, sym, ap, subst, Option, Some, None, option_map, IsSome, arith, slice_get, slice_set, get_or, Result, Ok, Err, OnErr}
 use Rattle.cell_arena.proofs.Lists.{slice_get-set_same}
 use Rattle.seq_object.specs.Sequential.{Sequential}
-use Rattle.cell_arena.specs.Arena.{processes_of, cell_of}
-use Rattle.uni_model.specs.Places.{Memory}
-use Rattle.uni_model.specs.Stages.{Stage as at, Pending as PendingAt}
+use Rattle.cell_arena.specs.Arena.{processes_of}
+use Rattle.uni_model.specs.Stages.{Pending as PendingAt}
 use Rattle.uni_model.specs.Transition.{place_of, turn_of}
-use Rattle.uni_model.specs.Chain.{response_in}
 use Rattle.uni_model.specs.Worlds.{world_after, response_of_step}
 use Rattle.uni_model.specs.Worlds.Event.{Step}
 use Rattle.uni_model.specs.Bound.{IsBounded, IsWithinBound}

@@ -6,7 +6,6 @@ use Rattle.cell_arena.specs.Arena.{processes_of, made_of}
 use Rattle.uni_model.specs.Places.{Memory as Contents, seq_of, new_of}
 use Rattle.uni_model.specs.Places.Name.{Anchor}
 use Rattle.uni_model.specs.Stages.{Stage as at, Pending as PendingAt}
-use Rattle.uni_model.specs.Chain.{response_in}
 use Rattle.uni_model.specs.Worlds.{WorldOf, Event, world_after, response_of_step, calls_in_era}
 use Rattle.uni_model.specs.AtomicObject.{Atomic, Act, AcceptsAll}
 use Rattle.uni_model.specs.History.{Shows, acts_of}

@@ -1,21 +1,14 @@
 -- The walk back from a cell.
-use Rattle.std.proofs.Common.{◌≡◌, ◌∙◌, ℕ, zero, suc, ◌+◌, ◌<◌, ◌≤◌, refl, ap, subst, List, [], ◌∷◌, ◌++◌, Option, Some, None, option_map, IfSome, slice_get, reverse, length, length-append, take, arith}
+use Rattle.std.proofs.Common.{◌≡◌, ◌∙◌, ℕ, zero, suc, ◌+◌, ◌<◌, ◌≤◌, refl, ap, subst, List, [], ◌∷◌, ◌++◌, Option, Some, None, slice_get, reverse, length, length-append, take, arith}
 use Rattle.std.specs.Option.{option_map_or}
 use Rattle.std.proofs.lemmas.List.{reverse-append}
 use Rattle.seq_object.specs.Sequential.{Sequential}
-use Rattle.cell_arena.specs.CellRecord.{CellRecord}
-use Rattle.cell_arena.specs.Arena.{processes_of, cell_of}
 use Rattle.uni_model.specs.Places.{Name, Memory, seq_of, after_of, before_of}
 use Rattle.uni_model.specs.Places.Name.{Anchor, Of}
 use Rattle.uni_model.specs.Chain.{cells_from}
 use Rattle.uni_model.specs.Worlds.{WorldOf, calls_begun, chain}
 use Rattle.uni_model.specs.Invariant.{Invariant}
 use Rattle.uni_model.proofs.Simulation.{enough}
-use Rattle.uni_core.specs.Shared.{name_of, memory_of}
-use Rattle.uni_core.specs.Standing.{IsThere}
-use Rattle.uni_core.specs.Whole.{Whole, world_of}
-use Rattle.uni_core.proofs.Named.{cell_named-name_of}
-use Rattle.uni_core.proofs.Steppable.{there_seq}
 
 -- fewer of the cells after x are the first of them
 cells_from-take : {S I R : Type 0} (m : Memory S I R) (a b : ℕ) (x : Name) → a ≤ b → cells_from a m x ≡ take a (cells_from b m x)

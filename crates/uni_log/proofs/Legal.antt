@@ -1,14 +1,11 @@
 -- The log is a legal history of the object.
-use Rattle.std.proofs.Common.{◌≡◌, ◌∙◌, ℕ, zero, suc, ◌+◌, ◌≤◌, refl, sym, ap, subst, List, [], ◌∷◌, Option, Some, None, map, option_map, IfSome, arith}
-use Rattle.std.specs.Option.{option_map_or}
+use Rattle.std.proofs.Common.{◌≡◌, ◌∙◌, refl, sym, ap, subst, List, [], ◌∷◌, Some, None, map}
 use Rattle.seq_object.specs.Sequential.{Sequential}
-use Rattle.seq_object.specs.History.{Call, IsLegal}
-use Rattle.uni_model.specs.Places.{Name, seq_of, after_of, new_of, inv_of}
-use Rattle.uni_model.specs.Places.Name.{Anchor, Of}
-use Rattle.uni_model.specs.Chain.{cells_from, invoked_at, Entry, entries_from, response_in}
+use Rattle.seq_object.specs.History.{IsLegal}
+use Rattle.uni_model.specs.Places.{new_of}
+use Rattle.uni_model.specs.Places.Name.{Anchor}
 use Rattle.uni_model.specs.Worlds.{WorldOf, calls_begun}
-
-use Rattle.uni_model.specs.Invariant.{IsSound, Invariant}
+use Rattle.uni_model.specs.Invariant.{Invariant}
 use Rattle.uni_model.specs.History.{log, logged_call}
 use Rattle.uni_model.proofs.Logged.{legal_from}
 use Rattle.uni_log.specs.declared.entry.Entry.{Entry as Shown}

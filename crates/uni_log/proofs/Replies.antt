@@ -1,16 +1,14 @@
 -- Which entries have their responses.
-use Rattle.std.proofs.Common.{◌≡◌, ◌∙◌, ℕ, zero, suc, ◌+◌, ◌<◌, ◌≤◌, refl, sym, ap, subst, List, [], ◌∷◌, Option, Some, None, IsSome, length, map, slice_get, option_map, arith}
-use Rattle.std.specs.Option.{IsSomeAnd, option_map_or}
+use Rattle.std.proofs.Common.{◌≡◌, ◌∙◌, ℕ, ◌+◌, ◌<◌, sym, ap, subst, List, Option, Some, None, IsSome, length, map, slice_get, option_map}
+use Rattle.std.specs.Option.{IsSomeAnd}
 use Rattle.std.proofs.lemmas.Option.{slice_get-map}
 use Rattle.std.proofs.lemmas.List.{length-map}
 use Rattle.seq_object.specs.Sequential.{Sequential}
-use Rattle.uni_model.specs.Places.{Name, seq_of, after_of}
-use Rattle.uni_model.specs.Places.Name.{Anchor, Of}
-use Rattle.uni_model.specs.Chain.{cells_from, Invoked, invoked_at, Entry, entries_from, response_in}
+use Rattle.uni_model.specs.Places.Name.{Anchor}
+use Rattle.uni_model.specs.Chain.{Entry}
 use Rattle.uni_model.specs.Worlds.{WorldOf, calls_begun}
 use Rattle.uni_model.specs.History.{log}
-use Rattle.uni_model.specs.Invariant.{IsSound, Invariant}
-use Rattle.uni_model.proofs.Values.{response-settled}
+use Rattle.uni_model.specs.Invariant.{Invariant}
 use Rattle.uni_model.proofs.Logged.{settled_from}
 use Rattle.uni_log.specs.declared.entry.Entry.{Entry as Shown}
 use Rattle.uni_log.specs.Shown.{entry_shown}

@@ -1,15 +1,14 @@
 -- The state that is settled at a place of the list.
-use Rattle.std.proofs.Common.{◌≡◌, ◌≢◌, ◌∙◌, ℕ, zero, suc, ◌+◌, ◌≤◌, refl, sym, ap, List, [], ◌∷◌, Option, Some, None, map, option_map, option_and_then, Bor, IfSome, slice_get, take, ◌-◌, ◌<◌, arith}
-use Rattle.std.specs.Option.{option_map_or, option_copied}
+use Rattle.std.proofs.Common.{◌≡◌, ◌∙◌, ℕ, suc, ◌+◌, refl, sym, ap, List, [], ◌∷◌, Option, Some, None, map, option_map, option_and_then, Bor, IfSome, slice_get, take, ◌-◌, ◌<◌, arith}
+use Rattle.std.specs.Option.{option_copied}
 use Rattle.seq_object.specs.Sequential.{Sequential}
 use Rattle.seq_object.specs.History.{state_after}
-use Rattle.uni_model.specs.Places.{Name, after_of, new_of, inv_of}
+use Rattle.uni_model.specs.Places.{Name, new_of}
 use Rattle.uni_model.specs.Places.Name.{Anchor}
-use Rattle.uni_model.specs.Chain.{cells_from, Invoked}
+use Rattle.uni_model.specs.Chain.{Invoked}
 use Rattle.uni_model.specs.Worlds.{WorldOf, calls_begun, chain}
 use Rattle.uni_model.specs.History.{invocations_of}
-use Rattle.uni_model.specs.Invariant.{IsSound, Invariant}
-use Rattle.uni_model.proofs.Chains.{calls_at, invoked_at-inv}
+use Rattle.uni_model.specs.Invariant.{Invariant}
 use Rattle.uni_model.proofs.Simulation.{calls_of-calls_at}
 use Rattle.uni_model.proofs.Logged.{state_after-from}
 use Rattle.uni_log.specs.States.{state_settled_at}

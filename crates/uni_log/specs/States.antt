@@ -1,5 +1,5 @@
 -- The states along the list.
-use Rattle.std.specs.Prelude.{◌≡◌, ℕ, ◌∷◌, List, [], Option, Some, None, map, option_map, option_and_then, slice_get, refl}
+use Rattle.std.specs.Prelude.{◌≡◌, ℕ, ◌∷◌, [], Option, Some, None, option_map, option_and_then, slice_get, refl}
 use Rattle.uni_model.specs.Places.{new_of}
 use Rattle.uni_model.specs.Places.Name.{Anchor}
 use Rattle.uni_model.specs.Worlds.{WorldOf, chain, opened_world}

@@ -10,7 +10,9 @@ use uni_core::{Command, Outcome, Progress, World};
 
 /// A world of so many processes with rows of 8 cells.
 fn opened(alloc: Global, n: u64) -> Result<World<SwapRegister>, Fail> {
-    World::open(alloc, SwapRegister { start: 0 }, n, 8).map_err(|_| Fail::from("no world was opened"))
+    World::open(alloc, SwapRegister { start: 0 }, n, 8).map_err(|_| Fail::from(
+        "no world was opened",
+    ))
 }
 
 /// A process begins a call.
@@ -146,9 +148,9 @@ fn a_helped_call_comes_first(rt: HostRuntime) -> Result<(), Fail> {
 #[test]
 fn numbers_go_on_from_the_anchors(rt: HostRuntime) -> Result<(), Fail> {
     let alloc = rt.alloc();
-    let mut world = World::open_at(alloc, SwapRegister { start: 0 }, 1, 1, 9, 5).map_err(|_| Fail::from(
-        "no world was opened",
-    ))?;
+    let mut world = World::open_at(alloc, SwapRegister { start: 0 }, 1, 1, 9, 5).map_err(
+        |_| Fail::from("no world was opened"),
+    )?;
     begins(alloc, &mut world, 0, 7)?;
     finishes(alloc, &mut world, 0)?;
     has_log(&rt, alloc, &world, &[entry(6, 0, 0, 7, Some(9))])
