@@ -16,9 +16,9 @@ use Rattle.uni_words.proofs.Closing.{shows_chain, call_cells, legal_log}
 use Rattle.uni_words.proofs.OwnCalls.{own_is}
 
 -- what holds of the last state's world and words holds of the words that are left
-left : (object : Sequential ℕ ℕ ℕ) (n row : ℕ) (words : List ℕ) (w : WorldOf ℕ ℕ ℕ) (s : State ℕ View) → w.n ≡ n → s.words ≡ words
+left : (n : ℕ) (words : List ℕ) (w : WorldOf ℕ ℕ ℕ) (s : State ℕ View) → w.n ≡ n → s.words ≡ words
     → (P : ℕ → List ℕ → Type 0) → P w.n s.words → P n words
-left object n row words w s count same P h = subst (λ k. P k words) count (subst (P w.n) same h)
+left n words w s count same P h = subst (λ k. P k words) count (subst (P w.n) same h)
 
 module _ {O : Type 0} (meaning : O → Sequential ℕ ℕ ℕ) (told setup : Setup O) (same : told ≡ setup) (id : ℕ) (view : View) (words xs : List ℕ)
     (final : Final (Seen (Rule meaning told) id view) words xs) where
@@ -32,19 +32,19 @@ module _ {O : Type 0} (meaning : O → Sequential ℕ ℕ ℕ) (told setup : Set
   is = last.1.0.2
 
   pub closed_chain : IsChained setup.n setup.k words
-  closed_chain = left (meaning setup.object) setup.n setup.k words w last.0 last.1.0.1 last.2 (λ n ws. IsChained n setup.k ws) (shows_chain (meaning setup.object) setup.k w last.0 is)
+  closed_chain = left setup.n words w last.0 last.1.0.1 last.2 (λ n ws. IsChained n setup.k ws) (shows_chain (meaning setup.object) setup.k w last.0 is)
 
   pub closed_first : seq_of (told_memory setup.n setup.k words) Anchor ≡ 1
   closed_first = let chain = closed_chain in sym chain.numbered.anchor ∙ chain.first
 
   pub closed_cells : AreCallCells setup.n setup.k words
-  closed_cells = left (meaning setup.object) setup.n setup.k words w last.0 last.1.0.1 last.2 (λ n ws. AreCallCells n setup.k ws) (call_cells (meaning setup.object) setup.k w last.0 is)
+  closed_cells = left setup.n words w last.0 last.1.0.1 last.2 (λ n ws. AreCallCells n setup.k ws) (call_cells (meaning setup.object) setup.k w last.0 is)
 
   pub closed_legal : IsLegal (meaning setup.object) (meaning setup.object).initial (map logged_call (log_of setup.n setup.k words))
-  closed_legal = left (meaning setup.object) setup.n setup.k words w last.0 last.1.0.1 last.2
+  closed_legal = left setup.n words w last.0 last.1.0.1 last.2
       (λ n ws. IsLegal (meaning setup.object) (meaning setup.object).initial (map logged_call (log_of n setup.k ws))) (legal_log (meaning setup.object) setup.k w last.0 is)
 
   pub closed_own : view.known.count ≡ 1 → view.known.call ≡ None → calls_by view.known.first (log_of setup.n setup.k words) ≡ map replied view.known.own
-  closed_own single idle = left (meaning setup.object) setup.n setup.k words w last.0 last.1.0.1 last.2
+  closed_own single idle = left setup.n words w last.0 last.1.0.1 last.2
       (λ n ws. calls_by view.known.first (log_of n setup.k ws) ≡ map replied view.known.own)
       (own_is (meaning setup.object) setup.k w last.0 is id view.known last.1.1 single idle)

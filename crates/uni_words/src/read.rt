@@ -20,7 +20,7 @@ pub struct WordEntry {
     pub call: CallId,
     /// Its invocation.
     pub inv: u64,
-    /// Its reply, where it is settled. Only the last entry can be without one.
+    /// Its reply, where it is settled.
     pub reply: Option<u32>,
 }
 
@@ -64,7 +64,7 @@ impl Words {
 ///
 /// An `Err` says that memory was refused.
 pub fn read_log(alloc: Global, words: &Words) -> Result<Vec<WordEntry>, AllocError>
-    ensures { IfOk result (λ entries. map entry_shown entries.items ≡ log_of (count_in words.now) (row_in words.now) (words_in words.now)) }
+    ensures log { IfOk result (λ entries. map entry_shown entries.items ≡ log_of (count_in words.now) (row_in words.now) (words_in words.now)) }
 {
     let mut entries = Vec::new(alloc);
     let mut at = 0;

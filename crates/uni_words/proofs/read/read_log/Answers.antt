@@ -17,7 +17,7 @@ word_of_cell-link-requires c = (omega arith, c.loop-place.invariant.inside)
 pub returns-then-link-eq0 : goal.returns-then-link-eq0
 returns-then-link-eq0 c =
     let ws = c.args.words.now in
-    along-last (count_in ws) (row_in ws) (words_in ws) ws.few.0 c.loop-place.place c.loop-place.at _ c.loop-place.invariant c.word_of_cell-link.result c.word_of_cell-link.ensures c.loop-place-test.true c.if-link-eq0.true
+    record { log = along-last (count_in ws) (row_in ws) (words_in ws) ws.few.0 c.loop-place.place c.loop-place.at _ c.loop-place.invariant c.word_of_cell-link.result c.word_of_cell-link.ensures c.loop-place-test.true c.if-link-eq0.true }
 
 pub entry-requires : goal.entry-requires
 entry-requires c =
@@ -35,4 +35,4 @@ loop-place-preserved c =
 pub returns : goal.returns
 returns c =
     let ws = c.args.words.now in
-    along-full (count_in ws) (row_in ws) (words_in ws) ws.few.0 c.loop-place.place c.loop-place.at _ c.loop-place.invariant (let t = c.loop-place-test.false in omega arith)
+    record { log = along-full (count_in ws) (row_in ws) (words_in ws) ws.few.0 c.loop-place.place c.loop-place.at _ c.loop-place.invariant (let t = c.loop-place-test.false in omega arith) }
