@@ -1,3 +1,6 @@
 pub mod Places
 pub mod Lists
 pub mod Changes
+pub mod ArenaOf
+pub mod CellsIn
+pub mod FlatArena

@@ -1,5 +1,5 @@
 -- What a cell contains, and how the cells of an arena change.
-use Rattle.std.specs.Prelude.{◌≡◌, ◌==◌, ◌+◌, ◌*◌, ℕ, Option, None, Some, if◌then◌else◌, option_map, unwrap_or, refl}
+use Rattle.std.specs.Prelude.{◌≡◌, ◌==◌, ◌+◌, ◌-◌, ◌*◌, ◌/◌, ◌%◌, ℕ, Option, None, Some, if◌then◌else◌, option_map, unwrap_or, refl}
 
 -- the fields of a cell; other cells are named by their index
 pub record CellRecord (S I R : Type 0) : Type 0 where
@@ -28,6 +28,13 @@ anchor_for c = record { inv = None; seq = c.seq; before = None; after = None; ne
 -- the index of the nth cell of an owner among n, both from 0; the anchor has index 0
 abbrev pub index_of : (n owner nth : ℕ) → ℕ
 index_of n owner nth = 1 + nth * n + owner
+
+-- who made the cell at an index, and as its which one
+abbrev pub owner_of : (n index : ℕ) → ℕ
+owner_of n index = (index - 1) % n
+
+abbrev pub nth_of : (n index : ℕ) → ℕ
+nth_of n index = (index - 1) / n
 
 -- what is settled after a proposal: the first one
 abbrev pub settled : {A : Type 0} → Option A → A → A
@@ -70,6 +77,13 @@ first_of_owner_2 = refl
 
 second_of_owner_2 : index_of 3 2 1 ≡ 6
 second_of_owner_2 = refl
+
+-- so process 2 made the cell at 6, as its second
+owner_of_6 : owner_of 3 6 ≡ 2
+owner_of_6 = refl
+
+nth_of_6 : nth_of 3 6 ≡ 1
+nth_of_6 = refl
 
 -- the first proposal stands
 first_is_settled : settled {A = ℕ} None 4 ≡ 4

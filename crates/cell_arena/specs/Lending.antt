@@ -1,19 +1,19 @@
--- A cell of an arena that is lent.
+-- A cell of rows that is lent.
 use Rattle.std.specs.Prelude.{◌≡◌, ◌==◌, ◌∷◌, [], ℕ, List, if◌then◌else◌, slice_set, refl}
 use Rattle.std.specs.Borrow.{Fml, Lends, MutBor, RattleType}
-use Rattle.cell_arena.specs.CellRecord.{CellRecord, anchor_with, fresh}
-use Rattle.cell_arena.specs.Rows.{Rows, cells_of, owner_of, nth_of, processes_of}
+use Rattle.cell_arena.specs.CellRecord.{CellRecord, anchor_with, fresh, owner_of, nth_of}
+use Rattle.cell_arena.specs.Rows.{Rows, cells_of, rows_of}
 use Rattle.cell_arena.specs.contracts.cell.Cell as cell
 use Rattle.cell_arena.specs.contracts.cell.Row as row
-use Rattle.cell_arena.specs.contracts.row_cells.RowCells as arena
+use Rattle.cell_arena.specs.contracts.rows.CellRows as arena
 
--- an arena with a cell changed
+-- rows with a cell changed
 abbrev pub with_cell : {S I R : Type 0} → Rows S I R → ℕ → CellRecord S I R → Rows S I R
 with_cell a index c =
     if index == 0 then record a { anchor = c }
     else record a {
-      rows = slice_set a.rows (owner_of (processes_of a) index)
-          (slice_set (cells_of a (owner_of (processes_of a) index)) (nth_of (processes_of a) index) c);
+      rows = slice_set a.rows (owner_of (rows_of a) index)
+          (slice_set (cells_of a (owner_of (rows_of a) index)) (nth_of (rows_of a) index) c);
     }
 
 module _ (S I R : RattleType) where
@@ -21,7 +21,7 @@ module _ (S I R : RattleType) where
   abbrev pub LendsNth : MutBor (List (CellRecord S.Denot I.Denot R.Denot)) → ℕ → MutBor (CellRecord S.Denot I.Denot R.Denot) → Fml
   LendsNth s nth r = Lends (row.the_row S I R) (cell.the_row S I R) s r (slice_set s.now nth)
 
-  -- an arena ends with the cell at an index set to the last value behind r
+  -- rows end with the cell at an index set to the last value behind r
   abbrev pub LendsCell : MutBor (Rows S.Denot I.Denot R.Denot) → ℕ → MutBor (CellRecord S.Denot I.Denot R.Denot) → Fml
   LendsCell s index r = Lends (arena.the_row S I R) (cell.the_row S I R) s r (with_cell s.now index)
 

@@ -1,6 +1,6 @@
 -- Where a cell is, by its index.
 use Rattle.std.specs.Prelude.{◌≡◌, ◌<◌, ℕ}
-use Rattle.cell_arena.specs.Rows.{owner_of, nth_of}
+use Rattle.cell_arena.specs.CellRecord.{owner_of, nth_of}
 use Rattle.cell_arena.specs.declared.cell_id.Place.{Place}
 use Rattle.cell_arena.specs.declared.cell_id.Place.TheVariants.{Anchor, Made}
 

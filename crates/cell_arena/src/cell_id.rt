@@ -45,6 +45,7 @@ impl CellId {
 
     /// The cell that process `owner`, from 0, of `n` processes made as its `nth`, from 0:
     /// index `1 + nth * n + owner`. There are 1 to 64 processes, and `nth` is below 4096.
+    #[inline]
     pub fn of(n: u64, owner: u64, nth: u64) -> Self
         requires processes { n ≤ 64 }
         requires owner { owner < n }
@@ -71,6 +72,7 @@ impl CellId {
     }
 
     /// The index in the arena.
+    #[inline]
     pub fn index(&self) -> u32
         ensures { result ≡ self.now }
     {

@@ -2,6 +2,8 @@
 
 ghost use Rattle.std.specs.Prelude.{◌≡◌, ◌+◌, ◌-◌, ◌<◌, ◌≤◌, ◌⊎◌, ◌↔◌, ℕ, Option, Some, IsSome, IsSomeAnd, IsErrAnd, IfOk, OnOk, OnErr, IfErr, option_map};
 ghost use Rattle.std.specs.Option.{option_copied};
+ghost use Rattle.std.specs.Borrow.{sem};
+ghost use Rattle.cell_arena.specs.Ending.{EndsSo};
 ghost use Rattle.cell_arena.specs.CellRecord.{CellRecord, fresh, anchor_for, index_of, settled, with_seq, with_before, with_after, with_new, ChangesOnly, IsUnchanged, HasOnlyAnchor};
 
 use crate::cell_id::CellId;
@@ -124,18 +126,18 @@ pub trait Cells: Drop {
         ensures shape { (processes self.new ≡ processes self.old) × (row self.new ≡ row self.old) };
 
     /// Proposes the state after a cell's call, and the response: the pair is settled where none is
-    /// yet, and dropped otherwise. The answer is the response that is settled then; `new_of` has
-    /// the state.
+    /// yet, and dropped otherwise. The answer is what is settled then.
     fn decide_new(
         &mut self,
         id: CellId,
         new: (Self::State, Option<Self::Resp>),
-    ) -> Option<Self::Resp>
+    ) -> &(Self::State, Option<Self::Resp>)
         requires { IsSome (cell self.old id) }
-        ensures answer { option_map (λ c. (settled c.new new).1) (cell self.old id) ≡ Some result }
-        ensures cell { ChangesOnly (cell self.old) (cell self.new) id (option_map (with_new new) (cell self.old id)) }
-        ensures made { IsUnchanged (made self.old) (made self.new) }
-        ensures shape { (processes self.new ≡ processes self.old) × (row self.new ≡ row self.old) };
+        ensures answer { option_map (λ c. settled c.new new) (cell self.old id) ≡ Some result.now }
+        ensures* changes { sem 𝓛 (EndsSo Self.row self.entry (λ last.
+            ChangesOnly (cell self.old) (cell last) id (option_map (with_new new) (cell self.old id))
+            × IsUnchanged (made self.old) (made last)
+            × (processes last ≡ processes self.old) × (row last ≡ row self.old))) };
 
     /// Begins an era: one cell is left, the anchor, with the state and the number of `last`. No
     /// process has made a cell then. The state is moved; the call takes no memory.

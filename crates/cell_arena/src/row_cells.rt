@@ -1,36 +1,34 @@
-//! The cells of an arena in rows, one for each process.
+//! An arena whose cells are kept in rows.
 
-ghost use Rattle.std.specs.Prelude.{◌≡◌, ◌-◌, ◌<◌, ◌≤◌, ℕ, IfOk, IsSome, Some, [], replicate, slice_get, length, option_map};
+ghost use Rattle.std.specs.Prelude.{◌≡◌, ◌≤◌, ℕ, IfOk, IsSome, Some, option_map};
 ghost use Rattle.std.specs.Borrow.{sem};
 ghost use Rattle.cell_arena.specs.CellRecord.{anchor_with, settled, with_new, ChangesOnly, IsUnchanged, HasOnlyAnchor};
-ghost use Rattle.cell_arena.specs.Rows.{Rows, IsArena, AreEmpty, processes_of, cells_of, made_of, cell_of, owner_of, nth_of};
-ghost use Rattle.cell_arena.specs.Lending.{LendsCell};
+ghost use Rattle.cell_arena.specs.Ending.{EndsSo};
+ghost use Rattle.cell_arena.specs.contracts.row_cells.RowCells.{the_row};
+ghost use Rattle.cell_arena.specs.Arena.{processes_of, made_of, cell_of};
 
-use crate::cell::{Cell, Row};
-use crate::cell_id::{CellId, Place};
+use crate::cell_id::CellId;
 use crate::cells::Cells;
 use crate::fault::ArenaFault;
+use crate::rows::CellRows;
 use consensus_cell::Settle;
 use std::alloc::{AllocError, Global};
 use std::marker::Model;
 use std::mem;
 
-/// An arena that keeps a vector of cells for each process.
+/// An arena that keeps a vector of cells for each process, which takes memory as cells are made.
 #[derive(Debug, Drop)]
 pub struct RowCells<S, I, R> {
-    row: u64,
-    anchor: Cell<S, I, R>,
-    rows: Vec<Row<S, I, R>>,
+    rows: CellRows<S, I, R>,
 }
 
 impl<S, I, R> Model for RowCells<S, I, R> {
-    ghost use Rattle.cell_arena.specs.Rows.{Rows, IsArena};
+    ghost use Rattle.cell_arena.specs.Arena.{Arena};
+    ghost use Rattle.cell_arena.specs.Rows.{arena_of};
 
-    ghost Value = { Rows S I R };
+    ghost Value = { Arena S I R };
 
-    ghost view = { λ a. record { row = a.row; anchor = a.anchor; rows = a.rows.items } };
-
-    ghost invariant = { λ a. IsArena (record { row = a.row; anchor = a.anchor; rows = a.rows.items }) };
+    ghost view = { λ a. arena_of a.rows };
 }
 
 impl<S: Drop, I: Drop, R: Drop> RowCells<S, I, R> {
@@ -47,56 +45,8 @@ impl<S: Drop, I: Drop, R: Drop> RowCells<S, I, R> {
         ensures made { IfOk result (λ arena. (p : ℕ) → made_of arena p ≡ 0) }
         ensures shape { IfOk result (λ arena. (processes_of arena ≡ n) × (arena.row ≡ k)) }
     {
-        let rows = empty_rows(alloc, n)?;
-        Ok(RowCells {
-            row: k,
-            anchor: Cell::anchor(state, seq),
-            rows,
-        })
-    }
-
-    /// How many processes there are.
-    fn processes(&self) -> u64
-        ensures processes { result ≡ processes_of self.now }
-        ensures arena { IsArena self.now }
-    {
-        self.rows.len() as u64
-    }
-
-    /// How many cells a process has made.
-    fn made(&self, p: u64) -> u64
-        requires { p < processes_of self.now }
-        ensures made { result ≡ made_of self.now p }
-        ensures arena { IsArena self.now }
-    {
-        let row = &self.rows[p as usize];
-        row.cells.len() as u64
-    }
-
-    /// The cell at an index.
-    fn cell(&self, id: CellId) -> &Cell<S, I, R>
-        requires { IsSome (cell_of self.now id) }
-        ensures { cell_of self.now id ≡ Some result.now }
-    {
-        match id.place(self.rows.len()) {
-            Place::Anchor => &self.anchor,
-            Place::Made { owner, nth } => {
-                let row = &self.rows[owner];
-                &row.cells[nth]
-            }
-        }
-    }
-
-    /// The cell at an index, to be changed.
-    fn cell_mut(&mut self, id: CellId) -> &mut Cell<S, I, R>
-        requires { IsSome (cell_of self.old id) }
-        ensures cell { cell_of self.old id ≡ Some result.now }
-        ensures* writes_back { sem 𝓛 (LendsCell S.row I.row R.row self.entry id result) }
-    {
-        match id.place(self.rows.len()) {
-            Place::Anchor => &mut self.anchor,
-            Place::Made { owner, nth } => self.rows[owner].cell_mut(nth),
-        }
+        let rows = CellRows::opened(alloc, n, k, state, seq)?;
+        Ok(RowCells { rows })
     }
 }
 
@@ -116,108 +66,83 @@ impl<S: Drop, I: Drop, R: Copy> Cells for RowCells<S, I, R> {
     ghost made = { made_of };
 
     fn shape(&self) {
-        let _ = &self.rows;
+        self.rows.shape();
     }
 
     fn room(&self, p: u64) -> u64 {
-        self.row - self.made(p)
+        self.rows.room(p)
     }
 
     fn make(&mut self, _alloc: Global, p: u64, inv: I) -> Result<CellId, (ArenaFault, I)> {
-        let processes = self.processes();
-        let nth = self.made(p);
-        if nth == self.row {
+        let processes = self.rows.processes();
+        let nth = self.rows.made(p);
+        if self.rows.room(p) == 0 {
             return Err((ArenaFault::RowFull(p), inv));
         }
-        let row = &mut self.rows[p as usize];
-        if let Err(inv) = row.add(inv) {
+        if let Err(inv) = self.rows.add(p, inv) {
             return Err((ArenaFault::Memory, inv));
         }
         Ok(CellId::of(processes, p, nth))
     }
 
     fn seq(&self, id: CellId) -> u64 {
-        let cell = self.cell(id);
+        let cell = self.rows.cell(id);
         cell.seq.read()
     }
 
     fn inv(&self, id: CellId) -> Option<&I> {
-        let cell = self.cell(id);
+        let cell = self.rows.cell(id);
         cell.inv.as_ref()
     }
 
     fn after(&self, id: CellId) -> Option<CellId> {
-        let cell = self.cell(id);
+        let cell = self.rows.cell(id);
         cell.after.get().copied()
     }
 
     fn before(&self, id: CellId) -> Option<CellId> {
-        let cell = self.cell(id);
+        let cell = self.rows.cell(id);
         cell.before.read()
     }
 
     fn new_of(&self, id: CellId) -> Option<&(S, Option<R>)> {
-        let cell = self.cell(id);
+        let cell = self.rows.cell(id);
         cell.new.get()
     }
 
     fn set_seq(&mut self, id: CellId, seq: u64) {
-        let cell = self.cell_mut(id);
+        let cell = self.rows.cell_mut(id);
         cell.seq.write(seq);
     }
 
     fn set_before(&mut self, id: CellId, before: CellId) {
-        let cell = self.cell_mut(id);
+        let cell = self.rows.cell_mut(id);
         cell.before.write(Some(before));
     }
 
     fn decide_after(&mut self, id: CellId, next: CellId) -> CellId {
-        let cell = self.cell_mut(id);
+        let cell = self.rows.cell_mut(id);
         *cell.after.decide(next)
     }
 
-    fn decide_new(&mut self, id: CellId, new: (S, Option<R>)) -> Option<R>
+    fn decide_new(&mut self, id: CellId, new: (S, Option<R>)) -> &(S, Option<R>)
         requires { IsSome (cell_of self.old id) }
-        ensures answer { option_map (λ c. (settled c.new new).1) (cell_of self.old id) ≡ Some result }
-        ensures cell { ChangesOnly (cell_of self.old) (cell_of self.new) id (option_map (with_new new) (cell_of self.old id)) }
-        ensures made { IsUnchanged (made_of self.old) (made_of self.new) }
-        ensures shape { (processes_of self.new ≡ processes_of self.old) × (self.new.row ≡ self.old.row) }
+        ensures answer { option_map (λ c. settled c.new new) (cell_of self.old id) ≡ Some result.now }
+        ensures* changes { sem 𝓛 (EndsSo (the_row S.row I.row R.row) self.entry (λ last.
+            ChangesOnly (cell_of self.old) (cell_of last) id (option_map (with_new new) (cell_of self.old id))
+            × IsUnchanged (made_of self.old) (made_of last)
+            × (processes_of last ≡ processes_of self.old) × (last.row ≡ self.old.row))) }
     {
-        let cell = self.cell_mut(id);
-        let (_, response) = cell.new.decide(new);
-        *response
+        self.rows.settle(id, new);
+        let cell = self.rows.cell(id);
+        cell.new.get().unwrap()
     }
 
     fn clear_to(&mut self, last: CellId) {
-        let cell = self.cell_mut(last);
+        let cell = self.rows.cell_mut(last);
         let seq = cell.seq.read();
         let settled = mem::replace(&mut cell.new, Settle::new());
         let (state, _) = settled.into_inner().unwrap();
-        self.anchor = Cell::anchor(state, seq);
-        empty(&mut self.rows);
-    }
-}
-
-/// As many rows, with no cells.
-fn empty_rows<S: Drop, I: Drop, R: Drop>(
-    alloc: Global,
-    n: u64,
-) -> Result<Vec<Row<S, I, R>>, AllocError>
-    ensures len { IfOk result (λ rows. length rows.items ≡ n) }
-    ensures empty { IfOk result (λ rows. AreEmpty rows.items) }
-{
-    let mut rows = Vec::new(alloc);
-    for _ in 0..n {
-        rows.push(Row::new(alloc))?;
-    }
-    Ok(rows)
-}
-
-/// Takes the cells out of each row.
-fn empty<S: Drop, I: Drop, R: Drop>(rows: &mut [Row<S, I, R>])
-    ensures { AreEmpty rows.new }
-{
-    for row in rows.iter_mut() {
-        row.cells.clear();
+        self.rows.clear(state, seq);
     }
 }

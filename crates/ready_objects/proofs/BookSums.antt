@@ -10,7 +10,7 @@ use Rattle.std.proofs.lemmas.List.Sums.{sum_by-set}
 use Rattle.seq_object.specs.History.{state_after}
 use Rattle.ready_objects.specs.declared.book.BookInv.{BookInv}
 use Rattle.ready_objects.specs.declared.book.BookInv.TheVariants.{Deposit, Withdraw, Move, Total}
-use Rattle.ready_objects.specs.Book.{book_start, has_room, has_funds, put_in, taken_out, book_next, book_answer, HasAccounts, added_by, taken_by, total_added, total_taken}
+use Rattle.ready_objects.specs.Book.{book, book_start, has_room, has_funds, put_in, taken_out, book_next, book_answer, HasAccounts, added_by, taken_by, total_added, total_taken}
 
 -- what goes in is in the sum
 sum-put_in : (balances : List ℕ) (a v : ℕ) → a < length balances → sum (put_in balances a v) ≡ sum balances + v
@@ -82,7 +82,7 @@ length-book_next balances Total = refl
 
 -- all calls from some balances keep the law
 state_after-conserves : (balances : List ℕ) (invs : List BookInv) → length balances ≡ 16 → All HasAccounts invs
-    → sum (state_after book_next balances invs) + total_taken balances invs ≡ sum balances + total_added balances invs
+    → sum (state_after book balances invs) + total_taken balances invs ≡ sum balances + total_added balances invs
 state_after-conserves balances [] sixteen within = refl
 state_after-conserves balances (inv ∷ invs) sixteen within =
     let one = book_next-conserves balances inv sixteen (All-head HasAccounts inv invs within) in
@@ -91,7 +91,7 @@ state_after-conserves balances (inv ∷ invs) sixteen within =
 
 -- and from the start
 pub state_after-book_start : (invs : List BookInv) → All HasAccounts invs
-    → sum (state_after book_next book_start invs) + total_taken book_start invs ≡ total_added book_start invs
+    → sum (state_after book book_start invs) + total_taken book_start invs ≡ total_added book_start invs
 state_after-book_start invs within = let all = state_after-conserves book_start invs refl within in omega arith
 
 -- the limit of a balance
@@ -129,12 +129,12 @@ book_next-limit balances (Move a b v) limited =
     ]
 book_next-limit balances Total limited = limited
 
-state_after-limit : (balances : List ℕ) (invs : List BookInv) → All IsWithinLimit balances → All IsWithinLimit (state_after book_next balances invs)
+state_after-limit : (balances : List ℕ) (invs : List BookInv) → All IsWithinLimit balances → All IsWithinLimit (state_after book balances invs)
 state_after-limit balances [] limited = limited
 state_after-limit balances (inv ∷ invs) limited = state_after-limit (book_next balances inv) invs (book_next-limit balances inv limited)
 
 -- no balance is ever above it
-pub state_after-book_start-limit : (invs : List BookInv) → All IsWithinLimit (state_after book_next book_start invs)
+pub state_after-book_start-limit : (invs : List BookInv) → All IsWithinLimit (state_after book book_start invs)
 state_after-book_start-limit invs =
     let zero : 0 ≤ 999999999999 = omega arith in
     state_after-limit book_start invs (All-replicate IsWithinLimit 16 0 zero)

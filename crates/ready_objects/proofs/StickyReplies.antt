@@ -7,7 +7,7 @@ use Rattle.ready_objects.specs.declared.sticky.StickyInv.{StickyInv}
 use Rattle.ready_objects.specs.declared.sticky.StickyInv.TheVariants.{Stick, Read}
 use Rattle.ready_objects.specs.declared.sticky.StickyResp.{StickyResp}
 use Rattle.ready_objects.specs.declared.sticky.StickyResp.TheVariants.{Settled}
-use Rattle.ready_objects.specs.Sticky.{sticky_next, sticky_answer, stick_reply, stick_replies}
+use Rattle.ready_objects.specs.Sticky.{sticky, sticky_next, sticky_answer, stick_reply, stick_replies}
 
 -- one more call, once a value is settled
 stick_reply-settled : (v : ℕ) (i : StickyInv) (o : Option StickyResp) (later : List StickyResp) → IfSome o (λ r. r ≡ sticky_answer (Some v) i)
@@ -23,7 +23,7 @@ sticky_next-settled v (Stick w) = refl
 sticky_next-settled v Read = refl
 
 -- once a value is settled it is the reply to each proposal
-stick_replies-settled : (v : ℕ) (calls : List (Call StickyInv StickyResp)) → IsLegal sticky_next sticky_answer (Some v) calls
+stick_replies-settled : (v : ℕ) (calls : List (Call StickyInv StickyResp)) → IsLegal sticky (Some v) calls
     → All (λ reply. reply ≡ Settled v) (stick_replies calls)
 stick_replies-settled v [] legal = λ k d below. absurd (omega arith)
 stick_replies-settled v (call ∷ calls) legal =
@@ -36,8 +36,8 @@ AreOneValue replies = (v : ℕ) × All (λ reply. reply ≡ Settled v) replies
 
 -- one more call, at the start
 stick_reply-start : (i : StickyInv) (o : Option StickyResp) (calls : List (Call StickyInv StickyResp)) → IfSome o (λ r. r ≡ sticky_answer None i)
-    → IsLegal sticky_next sticky_answer (sticky_next None i) calls
-    → (IsLegal sticky_next sticky_answer None calls → AreOneValue (stick_replies calls)) → AreOneValue (stick_reply i o ++ stick_replies calls)
+    → IsLegal sticky (sticky_next None i) calls
+    → (IsLegal sticky None calls → AreOneValue (stick_replies calls)) → AreOneValue (stick_reply i o ++ stick_replies calls)
 stick_reply-start (Stick v) None calls legal later rest = (v, stick_replies-settled v calls later)
 stick_reply-start (Stick v) (Some r) calls legal later rest =
     (v, All-cons (λ reply. reply ≡ Settled v) r (stick_replies calls) legal (stick_replies-settled v calls later))
@@ -45,7 +45,7 @@ stick_reply-start Read None calls legal later rest = rest later
 stick_reply-start Read (Some r) calls legal later rest = rest later
 
 -- the replies to all proposals of a legal history are one value
-pub stick_replies-start : (calls : List (Call StickyInv StickyResp)) → IsLegal sticky_next sticky_answer None calls
+pub stick_replies-start : (calls : List (Call StickyInv StickyResp)) → IsLegal sticky None calls
     → (v : ℕ) × All (λ reply. reply ≡ Settled v) (stick_replies calls)
 stick_replies-start [] legal = (0, λ k d below. absurd (omega arith))
 stick_replies-start (call ∷ calls) legal = stick_reply-start call.inv call.response calls legal.0 legal.1 (stick_replies-start calls)

@@ -2,6 +2,8 @@
 use Rattle.std.specs.Prelude.{◌≡◌, ℕ, ◌+◌, ◌-◌, ◌/◌, ◌%◌, ◌==◌, ◌<◌, nat_le, Bool, not, ◌&&◌, ◌||◌, if◌then◌else◌, List, [], ◌∷◌, replicate, slice_index, slice_set, sum, Option, Some, None, option_and_then, codes, refl}
 use Rattle.std.specs.Fmt.{decimal}
 use Rattle.std.specs.Str.{bytes_eq}
+use Rattle.seq_object.specs.Sequential.{Sequential}
+use Rattle.ready_objects.specs.Language.{Language}
 use Rattle.ready_objects.specs.Number.{number_of_word, number_below}
 use Rattle.ready_objects.specs.declared.book.BookInv.{BookInv}
 use Rattle.ready_objects.specs.declared.book.BookInv.TheVariants.{Deposit, Withdraw, Move, Total}
@@ -47,6 +49,10 @@ book_answer balances (Withdraw a v) = if has_funds balances a v then Balance (sl
 book_answer balances (Move a b v) =
     if not (has_funds balances a v) then Short else if not (a == b) && not (has_room balances b v) then Over else Moved
 book_answer balances Total = Sum (sum balances)
+
+-- the object
+abbrev pub book : Sequential (List ℕ) BookInv BookResp
+book = record { initial = book_start; next = book_next; answer = book_answer }
 
 -- the words of an invocation
 abbrev pub book_words : BookInv → List (List ℕ)
@@ -94,6 +100,10 @@ book_inv_of_word word =
     let b = word / 64 % 16 in
     let v = word / 1024 % 1000 in
     if word % 4 == 0 then Deposit a v else if word % 4 == 1 then Withdraw a v else if word % 4 == 2 then Move a b v else Total
+
+-- its words
+abbrev pub book_language : Language BookInv BookResp
+book_language = record { inv_words = book_words; inv_of_words = book_inv_of_words; resp_text = book_resp_text; inv_of_word = book_inv_of_word }
 
 -- the accounts of an invocation are among the sixteen
 abbrev pub HasAccounts : BookInv → Type 0

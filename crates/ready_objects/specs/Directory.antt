@@ -3,6 +3,8 @@ use Rattle.std.specs.Prelude.{◌≡◌, ℕ, ◌/◌, ◌%◌, ◌==◌, nat_lt
 use Rattle.std.specs.Fmt.{decimal, digits}
 use Rattle.std.specs.Map.{lookup, set_value, remove_entry}
 use Rattle.std.specs.Str.{bytes_eq}
+use Rattle.seq_object.specs.Sequential.{Sequential}
+use Rattle.ready_objects.specs.Language.{Language}
 use Rattle.ready_objects.specs.Name.{name_of_word, drawn_name}
 use Rattle.ready_objects.specs.Number.{number_of_word, number_below}
 use Rattle.ready_objects.specs.declared.directory.DirectoryInv.{DirectoryInv}
@@ -49,6 +51,10 @@ directory_answer pairs (Del name) = value_answer (value_of pairs name)
 directory_answer pairs Size = Count (length pairs)
 directory_answer pairs (At place) = value_answer (value_at pairs place)
 
+-- the object
+abbrev pub directory : Sequential Pairs DirectoryInv DirectoryResp
+directory = record { initial = []; next = directory_next; answer = directory_answer }
+
 -- the words of an invocation
 abbrev pub directory_words : DirectoryInv → List (List ℕ)
 directory_words (Put name v) = codes "put" ∷ name ∷ decimal v ∷ []
@@ -89,6 +95,10 @@ directory_inv_of_word word =
     else if nat_lt r 5 then Get name
     else if r == 5 then Del name
     else if r == 6 then Size else At (word / 8 % 10)
+
+-- its words
+abbrev pub directory_language : Language DirectoryInv DirectoryResp
+directory_language = record { inv_words = directory_words; inv_of_words = directory_inv_of_words; resp_text = directory_resp_text; inv_of_word = directory_inv_of_word }
 
 a_new_pair_goes_last : directory_next ((codes "b", 1) ∷ []) (Put (codes "a") 2) ≡ (codes "b", 1) ∷ (codes "a", 2) ∷ []
 a_new_pair_goes_last = refl

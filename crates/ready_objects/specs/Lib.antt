@@ -1,6 +1,7 @@
 pub mod Exact
 pub mod Number
 pub mod Words
+pub mod Language
 pub mod Queue
 pub mod Sticky
 pub mod Book

@@ -2,6 +2,8 @@
 use Rattle.std.specs.Prelude.{◌≡◌, ℕ, ◌/◌, ◌%◌, ◌==◌, nat_lt, if◌then◌else◌, List, [], ◌∷◌, ◌++◌, length, replicate, Option, Some, None, option_map, codes, refl}
 use Rattle.std.specs.Fmt.{decimal, digits}
 use Rattle.std.specs.Str.{bytes_eq}
+use Rattle.seq_object.specs.Sequential.{Sequential}
+use Rattle.ready_objects.specs.Language.{Language}
 use Rattle.ready_objects.specs.Number.{number_of_word}
 use Rattle.ready_objects.specs.declared.queue.QueueInv.{QueueInv}
 use Rattle.ready_objects.specs.declared.queue.QueueInv.TheVariants.{Enq, Deq}
@@ -19,6 +21,10 @@ abbrev pub queue_answer : List ℕ → QueueInv → QueueResp
 queue_answer values (Enq v) = if nat_lt (length values) 1000 then Added else Full
 queue_answer [] Deq = Empty
 queue_answer (v ∷ values) Deq = Taken v
+
+-- the object
+abbrev pub queue : Sequential (List ℕ) QueueInv QueueResp
+queue = record { initial = []; next = queue_next; answer = queue_answer }
 
 -- the words of an invocation
 abbrev pub queue_words : QueueInv → List (List ℕ)
@@ -41,6 +47,10 @@ queue_resp_text Empty = codes "empty"
 -- what a drawn word stands for
 abbrev pub queue_inv_of_word : ℕ → QueueInv
 queue_inv_of_word word = if word % 3 == 0 then Deq else Enq (word / 3 % 1000)
+
+-- its words
+abbrev pub queue_language : Language QueueInv QueueResp
+queue_language = record { inv_words = queue_words; inv_of_words = queue_inv_of_words; resp_text = queue_resp_text; inv_of_word = queue_inv_of_word }
 
 a_value_is_added : queue_next (4 ∷ []) (Enq 7) ≡ 4 ∷ 7 ∷ []
 a_value_is_added = refl

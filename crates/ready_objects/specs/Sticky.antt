@@ -3,6 +3,8 @@ use Rattle.std.specs.Prelude.{◌≡◌, ℕ, ◌/◌, ◌%◌, ◌==◌, if◌t
 use Rattle.std.specs.Fmt.{decimal, digits}
 use Rattle.std.specs.Str.{bytes_eq}
 use Rattle.seq_object.specs.History.{Call}
+use Rattle.seq_object.specs.Sequential.{Sequential}
+use Rattle.ready_objects.specs.Language.{Language}
 use Rattle.ready_objects.specs.Number.{number_of_word}
 use Rattle.ready_objects.specs.declared.sticky.StickyInv.{StickyInv}
 use Rattle.ready_objects.specs.declared.sticky.StickyInv.TheVariants.{Stick, Read}
@@ -20,6 +22,10 @@ abbrev pub sticky_answer : Option ℕ → StickyInv → StickyResp
 sticky_answer (Some w) _ = Settled w
 sticky_answer None (Stick v) = Settled v
 sticky_answer None Read = Unset
+
+-- the object
+abbrev pub sticky : Sequential (Option ℕ) StickyInv StickyResp
+sticky = record { initial = None; next = sticky_next; answer = sticky_answer }
 
 -- the words of an invocation
 abbrev pub sticky_words : StickyInv → List (List ℕ)
@@ -40,6 +46,10 @@ sticky_resp_text Unset = codes "unset"
 -- what a drawn word stands for
 abbrev pub sticky_inv_of_word : ℕ → StickyInv
 sticky_inv_of_word word = if word % 2 == 0 then Read else Stick (word / 2 % 1000)
+
+-- its words
+abbrev pub sticky_language : Language StickyInv StickyResp
+sticky_language = record { inv_words = sticky_words; inv_of_words = sticky_inv_of_words; resp_text = sticky_resp_text; inv_of_word = sticky_inv_of_word }
 
 -- the reply to a call that proposes a value, where it is known
 abbrev pub stick_reply : StickyInv → Option StickyResp → List StickyResp

@@ -6,7 +6,7 @@ ghost use Rattle.std.proofs.lemmas.Bool.{false≢true};
 ghost use Rattle.ready_objects.specs.declared.book.BookInv.TheVariants.{Deposit, Withdraw, Move, Total};
 ghost use Rattle.ready_objects.specs.declared.book.BookResp.TheVariants.{Balance, Over, Short, Moved, Sum};
 ghost use Rattle.ready_objects.specs.Exact.{exact_from, itself_two, itself_three, only_two, only_three};
-ghost use Rattle.ready_objects.specs.Book.{book_start, book_next, book_answer, book_words, book_inv_of_words, book_resp_text, book_inv_of_word, HasAccounts, added_by, taken_by, total_added, total_taken};
+ghost use Rattle.ready_objects.specs.Book.{book, book_start, book_next, book_answer, book_inv_of_words, book_language, HasAccounts, added_by, taken_by, total_added, total_taken};
 ghost use Rattle.std.specs.List.{All};
 ghost use Rattle.seq_object.specs.History.{state_after};
 ghost use Rattle.ready_objects.specs.declared.book.BookInv.{BookInv};
@@ -122,11 +122,7 @@ impl SeqObject for BookObject {
 
     type Resp = BookResp;
 
-    ghost initial = { λ _. book_start };
-
-    ghost next = { λ _. book_next };
-
-    ghost answer = { λ _. book_answer };
+    ghost sequential = { λ _. book };
 
     fn start(&self, _alloc: Global) -> Result<BookState, AllocError> {
         Ok(BookState {
@@ -173,13 +169,7 @@ impl SeqObject for BookObject {
 }
 
 impl Spoken for BookObject {
-    ghost inv_words = { book_words };
-
-    ghost inv_of_words = { book_inv_of_words };
-
-    ghost resp_bytes = { book_resp_text };
-
-    ghost inv_of_word = { book_inv_of_word };
+    ghost language = { book_language };
 
     fn read_inv(words: &[&[u8]]) -> Option<BookInv> {
         match words {
@@ -276,6 +266,6 @@ pub fn book_is_conserved()
     ensures moves { (balances : List ℕ) (a b v : ℕ) → length balances ≡ 16 → HasAccounts (BookInv.Move a b v)
         → sum (book_next balances (BookInv.Move a b v)) ≡ sum balances }
     ensures all_calls { (invs : List BookInv) → All HasAccounts invs
-        → sum (state_after book_next book_start invs) + total_taken book_start invs ≡ total_added book_start invs }
-    ensures bounded { (invs : List BookInv) → All (λ balance. balance ≤ 999999999999) (state_after book_next book_start invs) }
+        → sum (state_after book book_start invs) + total_taken book_start invs ≡ total_added book_start invs }
+    ensures bounded { (invs : List BookInv) → All (λ balance. balance ≤ 999999999999) (state_after book book_start invs) }
 {}

@@ -7,7 +7,7 @@ ghost use Rattle.std.specs.Cmp.Lexicographic.{bytes_decides};
 ghost use Rattle.ready_objects.specs.Exact.{exact_from, itself_named, only_named};
 ghost use Rattle.ready_objects.specs.declared.directory.DirectoryInv.TheVariants.{Put, Get, Del, Size, At};
 ghost use Rattle.ready_objects.specs.declared.directory.DirectoryResp.TheVariants.{Was, New, Full, Found, Absent, Count};
-ghost use Rattle.ready_objects.specs.Directory.{directory_next, directory_answer, directory_words, directory_inv_of_words, directory_resp_text, directory_inv_of_word};
+ghost use Rattle.ready_objects.specs.Directory.{directory_next, directory, directory_answer, directory_inv_of_words, directory_language};
 
 use crate::name::Name;
 use crate::number::Amount;
@@ -132,11 +132,7 @@ impl SeqObject for DirectoryObject {
 
     type Resp = DirectoryResp;
 
-    ghost initial = { λ _. [] };
-
-    ghost next = { λ _. directory_next };
-
-    ghost answer = { λ _. directory_answer };
+    ghost sequential = { λ _. directory };
 
     fn start(&self, alloc: Global) -> Result<DirectoryState, AllocError> {
         Ok(DirectoryState {
@@ -194,13 +190,7 @@ impl SeqObject for DirectoryObject {
 }
 
 impl Spoken for DirectoryObject {
-    ghost inv_words = { directory_words };
-
-    ghost inv_of_words = { directory_inv_of_words };
-
-    ghost resp_bytes = { directory_resp_text };
-
-    ghost inv_of_word = { directory_inv_of_word };
+    ghost language = { directory_language };
 
     fn read_inv(words: &[&[u8]]) -> Option<DirectoryInv> {
         match words {

@@ -6,7 +6,7 @@ ghost use Rattle.std.proofs.lemmas.Bool.{false≢true};
 ghost use Rattle.ready_objects.specs.declared.queue.QueueInv.TheVariants.{Enq, Deq};
 ghost use Rattle.ready_objects.specs.declared.queue.QueueResp.TheVariants.{Added, Full, Taken, Empty};
 ghost use Rattle.ready_objects.specs.Exact.{exact_from};
-ghost use Rattle.ready_objects.specs.Queue.{queue_next, queue_answer, queue_words, queue_inv_of_words, queue_resp_text, queue_inv_of_word};
+ghost use Rattle.ready_objects.specs.Queue.{queue, queue_next, queue_answer, queue_language};
 
 use crate::number::Amount;
 use crate::spoken::{Spoken, is_text};
@@ -61,11 +61,7 @@ impl SeqObject for QueueObject {
 
     type Resp = QueueResp;
 
-    ghost initial = { λ _. [] };
-
-    ghost next = { λ _. queue_next };
-
-    ghost answer = { λ _. queue_answer };
+    ghost sequential = { λ _. queue };
 
     fn start(&self, alloc: Global) -> Result<QueueState, AllocError> {
         Ok(QueueState {
@@ -109,13 +105,7 @@ impl SeqObject for QueueObject {
 }
 
 impl Spoken for QueueObject {
-    ghost inv_words = { queue_words };
-
-    ghost inv_of_words = { queue_inv_of_words };
-
-    ghost resp_bytes = { queue_resp_text };
-
-    ghost inv_of_word = { queue_inv_of_word };
+    ghost language = { queue_language };
 
     fn read_inv(words: &[&[u8]]) -> Option<QueueInv> {
         match words {

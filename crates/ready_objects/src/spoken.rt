@@ -2,6 +2,7 @@
 
 ghost use Rattle.std.specs.Prelude.{◌≡◌, ℕ, List, Option, Some, IfOk};
 ghost use Rattle.std.specs.Str.{bytes_eq};
+ghost use Rattle.ready_objects.specs.Language.{Language};
 ghost use Rattle.ready_objects.specs.Words.{bytes_of, text_of_words, words_of_text};
 
 use seq_object::SeqObject;
@@ -10,45 +11,36 @@ use std::alloc::{AllocError, Global};
 /// A sequential object whose invocations are read from words and written as text, whose responses
 /// are written as text, and of which each drawn word stands for an invocation.
 pub trait Spoken: SeqObject {
-    /// The words of an invocation.
-    ghost inv_words: { Self.Inv → List (List ℕ) };
-
-    /// The invocation that words are, where they are one.
-    ghost inv_of_words: { List (List ℕ) → Option Self.Inv };
-
-    /// The text of a response.
-    ghost resp_bytes: { Self.Resp → List ℕ };
-
-    /// The invocation that a drawn word stands for.
-    ghost inv_of_word: { ℕ → Self.Inv };
+    /// The words of invocations and responses.
+    ghost language: { Language Self.Inv Self.Resp };
 
     /// Reads an invocation from its words. `None` where the words are no invocation.
     fn read_inv(words: &[&[u8]]) -> Option<Self::Inv>
-        ensures { result ≡ inv_of_words (bytes_of words.now) };
+        ensures { result ≡ language.inv_of_words (bytes_of words.now) };
 
     /// The text of an invocation: its words with one space between.
     ///
     /// An `Err` says that memory was refused.
     fn inv_text(alloc: Global, inv: &Self::Inv) -> Result<Vec<u8>, AllocError>
-        ensures { IfOk result (λ text. text.items ≡ text_of_words (inv_words inv.now)) };
+        ensures { IfOk result (λ text. text.items ≡ text_of_words (language.inv_words inv.now)) };
 
     /// The text of a response.
     ///
     /// An `Err` says that memory was refused.
     fn resp_text(alloc: Global, resp: Self::Resp) -> Result<Vec<u8>, AllocError>
-        ensures { IfOk result (λ text. text.items ≡ resp_bytes resp) };
+        ensures { IfOk result (λ text. text.items ≡ language.resp_text resp) };
 
     /// The invocation that a drawn word stands for.
     fn drawn(word: u64) -> Self::Inv
-        ensures { result ≡ inv_of_word word };
+        ensures { result ≡ language.inv_of_word word };
 
     /// What is written of an invocation is read back as it, and no other words are read as it. The
     /// call does nothing: it tells what holds of each invocation.
     fn reads_back(inv: &Self::Inv)
         // Its text is cut at the spaces into its words.
-        ensures words { words_of_text (text_of_words (inv_words inv.now)) ≡ inv_words inv.now }
-        ensures inv { inv_of_words (inv_words inv.now) ≡ Some inv.now }
-        ensures only { (words : List (List ℕ)) → inv_of_words words ≡ Some inv.now → words ≡ inv_words inv.now };
+        ensures words { words_of_text (text_of_words (language.inv_words inv.now)) ≡ language.inv_words inv.now }
+        ensures inv { language.inv_of_words (language.inv_words inv.now) ≡ Some inv.now }
+        ensures only { (words : List (List ℕ)) → language.inv_of_words words ≡ Some inv.now → words ≡ language.inv_words inv.now };
 }
 
 /// Tells whether a word is this text.

@@ -10,7 +10,7 @@ ghost use Rattle.ready_objects.specs.declared.sticky.StickyInv.TheVariants.{Stic
 ghost use Rattle.ready_objects.specs.declared.sticky.StickyResp.{StickyResp};
 ghost use Rattle.ready_objects.specs.declared.sticky.StickyResp.TheVariants.{Settled, Unset};
 ghost use Rattle.ready_objects.specs.Exact.{exact_from};
-ghost use Rattle.ready_objects.specs.Sticky.{sticky_next, sticky_answer, sticky_words, sticky_inv_of_words, sticky_resp_text, sticky_inv_of_word, stick_replies};
+ghost use Rattle.ready_objects.specs.Sticky.{sticky, sticky_language, stick_replies};
 
 use crate::number::Amount;
 use crate::spoken::{Spoken, is_text};
@@ -63,11 +63,7 @@ impl SeqObject for StickyObject {
 
     type Resp = StickyResp;
 
-    ghost initial = { λ _. None };
-
-    ghost next = { λ _. sticky_next };
-
-    ghost answer = { λ _. sticky_answer };
+    ghost sequential = { λ _. sticky };
 
     fn start(&self, _alloc: Global) -> Result<StickyState, AllocError> {
         Ok(StickyState { value: None })
@@ -107,13 +103,7 @@ impl SeqObject for StickyObject {
 }
 
 impl Spoken for StickyObject {
-    ghost inv_words = { sticky_words };
-
-    ghost inv_of_words = { sticky_inv_of_words };
-
-    ghost resp_bytes = { sticky_resp_text };
-
-    ghost inv_of_word = { sticky_inv_of_word };
+    ghost language = { sticky_language };
 
     fn read_inv(words: &[&[u8]]) -> Option<StickyInv> {
         match words {
@@ -156,6 +146,6 @@ impl Spoken for StickyObject {
 /// The replies to all proposals of a legal history from the start are one value. The call does
 /// nothing: it tells what holds of each history.
 pub fn proposals_agree()
-    ensures { (calls : List (Call StickyInv StickyResp)) → IsLegal sticky_next sticky_answer None calls
+    ensures { (calls : List (Call StickyInv StickyResp)) → IsLegal sticky None calls
         → (v : ℕ) × All (λ reply. reply ≡ Settled v) (stick_replies calls) }
 {}

@@ -1,2 +1,4 @@
+pub mod Sequential
 pub mod History
+pub mod SwapRegister
 pub mod Exact

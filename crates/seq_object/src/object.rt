@@ -1,6 +1,7 @@
 //! What a sequential object is.
 
 ghost use Rattle.std.specs.Prelude.{◌≡◌, ◌↔◌, true, IfOk, List};
+ghost use Rattle.seq_object.specs.Sequential.{Sequential};
 ghost use Rattle.seq_object.specs.History.{Call, IsLegal, IsLegalByPlaces};
 
 use std::alloc::{AllocError, Global};
@@ -8,8 +9,8 @@ use std::alloc::{AllocError, Global};
 /// A deterministic sequential object: a start state, and for each state and invocation one next
 /// state and one response (Herlihy 1991, section 2).
 ///
-/// The functions `initial`, `next` and `answer` are what the object means. Each call answers what
-/// they give, or that memory was refused, and changes nothing.
+/// The record `sequential` is what the object means. Each call answers what it gives, or that memory
+/// was refused, and changes nothing.
 pub trait SeqObject: Drop {
     /// A state of the object.
     type State: Drop;
@@ -20,20 +21,15 @@ pub trait SeqObject: Drop {
     /// A response.
     type Resp: Copy + Eq;
 
-    /// The start state.
-    ghost initial: { Self → Self.State };
-
-    /// The state after an invocation in a state.
-    ghost next: { Self → Self.State → Self.Inv → Self.State };
-
-    /// The response to an invocation in a state.
-    ghost answer: { Self → Self.State → Self.Inv → Self.Resp };
+    /// What the object means: its start state, and for each state and invocation the next state and
+    /// the response.
+    ghost sequential: { Self → Sequential Self.State Self.Inv Self.Resp };
 
     /// Makes the start state.
     ///
     /// An `Err` says that memory was refused.
     fn start(&self, alloc: Global) -> Result<Self::State, AllocError>
-        ensures { IfOk result (λ state. state ≡ initial self.now) };
+        ensures { IfOk result (λ state. state ≡ (sequential self.now).initial) };
 
     /// Applies an invocation to a state: the next state, and the response. The state that is
     /// handed in stays as it is.
@@ -45,8 +41,8 @@ pub trait SeqObject: Drop {
         state: &Self::State,
         inv: &Self::Inv,
     ) -> Result<(Self::State, Self::Resp), AllocError>
-        ensures next { IfOk result (λ applied. applied.0 ≡ next self.now state.now inv.now) }
-        ensures answer { IfOk result (λ applied. applied.1 ≡ answer self.now state.now inv.now) };
+        ensures state { IfOk result (λ applied. applied.0 ≡ (sequential self.now).next state.now inv.now) }
+        ensures response { IfOk result (λ applied. applied.1 ≡ (sequential self.now).answer state.now inv.now) };
 
     /// Copies an invocation.
     ///
@@ -64,5 +60,5 @@ pub trait SeqObject: Drop {
 /// A legal sequential history has, at each place, no response or the one at that place.
 pub fn legal_by_places<O: SeqObject>()
     ensures { (object : O) (s : O.State) (calls : List (Call O.Inv O.Resp)) →
-        IsLegal (O.next object) (O.answer object) s calls ↔ IsLegalByPlaces (O.next object) (O.answer object) s calls }
+        IsLegal (O.sequential object) s calls ↔ IsLegalByPlaces (O.sequential object) s calls }
 {}

@@ -1,6 +1,6 @@
 //! A counter, called through the trait.
 
-use crate::{CallId, SeqObject, legal_by_places};
+use crate::{CallId, SeqObject, SwapRegister, legal_by_places};
 use std::alloc::{AllocError, Global};
 use std::test::Fail;
 
@@ -18,11 +18,7 @@ impl SeqObject for Counter {
 
     type Resp = u64;
 
-    ghost initial = { λ _. 0 };
-
-    ghost next = { λ _ sum number. (sum + number) % 2 ^ 64 };
-
-    ghost answer = { λ _ sum _. sum };
+    ghost sequential = { λ _. record { initial = 0; next = λ sum number. (sum + number) % 2 ^ 64; answer = λ sum number. sum } };
 
     ghost same_inv = { nat_eq_exact };
 
@@ -72,5 +68,12 @@ fn call_is_printed(rt: HostRuntime) -> Result<(), Fail> {
     };
     assert_eq!(rt; format!(in rt.alloc(); "{call}")?.as_str(), "3.12");
     assert!(rt; call != CallId { process: 3, nth: 1 });
+    Ok(())
+}
+
+#[test]
+fn register_answers_the_number_before(rt: HostRuntime) -> Result<(), Fail> {
+    let (first, second) = two_responses(rt.alloc(), &SwapRegister { start: 9 }, &5, &7)?;
+    assert_eq!(rt; (first, second), (9, 5));
     Ok(())
 }

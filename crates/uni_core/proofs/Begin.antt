@@ -1,15 +1,15 @@
 -- What a call that is begun leaves.
 use Rattle.std.proofs.Common.{◌≡◌, ◌≢◌, ◌∙◌, ℕ, ◌+◌, ◌-◌, ◌<◌, ◌≤◌, refl, sym, ap, subst, Option, Some, None, option_map, not, is_some, IsSome, arith, Bool, true, false, length, slice_get, get_or}
 use Rattle.std.proofs.lemmas.Option.{slice_get_read}
+use Rattle.seq_object.specs.Sequential.{Sequential}
 use Rattle.cell_arena.specs.CellRecord.{ChangesOnly, index_of}
-use Rattle.cell_arena.specs.Rows.{processes_of, made_of}
-use Rattle.uni_model.specs.Places.{written}
+use Rattle.cell_arena.specs.Arena.{processes_of, made_of}
+use Rattle.uni_model.specs.Places.{memory_with}
 use Rattle.uni_model.specs.Places.Name.{Of}
 use Rattle.uni_model.specs.Places.Place.{InvOf}
 use Rattle.uni_model.specs.Places.Content.{Invocation}
-use Rattle.uni_model.specs.Worlds.{call_begun}
+use Rattle.uni_model.specs.Worlds.{world_after_call, calls_in_era}
 use Rattle.uni_model.specs.Worlds.Event.{Call}
-use Rattle.uni_model.specs.History.{Shows, acts_of}
 use Rattle.uni_model.proofs.Simulation.{call_accepted}
 use Rattle.uni_core.specs.declared.local.Local.{Local}
 use Rattle.uni_core.specs.Shared.{Shared, name_of, memory_of}
@@ -17,9 +17,9 @@ use Rattle.uni_core.specs.declared.stage.Pending.{Pending}
 use Rattle.uni_core.specs.Standing.{pending_of}
 use Rattle.uni_model.specs.Stages.{Pending as PendingAt}
 use Rattle.seq_object.specs.declared.call_id.CallId.{CallId}
-use Rattle.uni_core.specs.Whole.{Whole, shown, call_at, current_of, IsWorld, Follows}
+use Rattle.uni_core.specs.Whole.{Whole, world_of, call_at, current_of, IsWorld, TakesEffect}
 use Rattle.uni_core.proofs.Named.{name_of-index_of}
-use Rattle.uni_core.proofs.Shown.{begun_whole, shown-begun, IsWorld-begun}
+use Rattle.uni_core.proofs.Shown.{begun_whole, world_of-begun, IsWorld-begun}
 
 -- a process that there is, by the count of processes as it was read
 pub inside_count : (n k p : ℕ) → k ≡ n → p < k → p < n
@@ -29,21 +29,25 @@ inside_count n k p count below = subst (λ j. p < j) count below
 pub inside_view : {O S I R : Type 0} (v now : Whole O S I R) (p : ℕ) → v ≡ now → p < processes_of now.shared.cells → p < processes_of v.shared.cells
 inside_view {O} {S} {I} {R} v now p view below = subst (λ (x : Whole O S I R). p < processes_of x.shared.cells) (sym view) below
 
--- what a process keeps for itself, where it stands in the list
-pub local_here : {O S I R : Type 0} (next : S → I → S) (answer : S → I → R) (v : Whole O S I R) → IsWorld next answer v → (p : ℕ) (l : Local)
-    → p < processes_of v.shared.cells → l ≡ get_or v.locals p l → slice_get v.locals p ≡ Some l
-local_here next answer v is p l inside read = slice_get_read v.locals (length v.locals) p l refl (subst (λ j. p < j) (sym is.locals) inside) read
+-- a row in which cells can still be made
+pub room_left : (row made room : ℕ) → room ≡ row - made → room ≢ 0 → made < row
+room_left row made room is some = omega (arith, is, some)
 
-module _ {O S I R : Type 0} (next : S → I → S) (answer : S → I → R) (v now : Whole O S I R) (view : v ≡ now) (is : IsWorld next answer v) (p : ℕ) (l : Local)
+-- what a process keeps for itself, where it stands in the list
+pub local_here : {O S I R : Type 0} (object : Sequential S I R) (v : Whole O S I R) → IsWorld object v → (p : ℕ) (l : Local)
+    → p < processes_of v.shared.cells → l ≡ get_or v.locals p l → slice_get v.locals p ≡ Some l
+local_here object v is p l inside read = slice_get_read v.locals (length v.locals) p l refl (subst (λ j. p < j) (sym is.locals) inside) read
+
+module _ {O S I R : Type 0} (object : Sequential S I R) (v now : Whole O S I R) (view : v ≡ now) (is : IsWorld object v) (p : ℕ) (l : Local)
     (inside : p < processes_of v.shared.cells) (read : l ≡ get_or v.locals p l) where
   pub here : slice_get v.locals p ≡ Some l
-  here = local_here next answer v is p l inside read
+  here = local_here object v is p l inside read
 
-  begun_is : (shown v).begun p ≡ l.begun
+  begun_is : (world_of v).begun p ≡ l.begun
   begun_is = rw here refl
 
-  pub begun_now : l.begun ≡ (shown now).begun p
-  begun_now = subst (λ (x : Whole O S I R). l.begun ≡ (shown x).begun p) view (sym begun_is)
+  pub begun_now : l.begun ≡ (world_of now).begun p
+  begun_now = subst (λ (x : Whole O S I R). l.begun ≡ (world_of x).begun p) view (sym begun_is)
 
   no_call : (o : Bool) → is_some l.call ≡ o → o ≡ false → l.call ≡ None
   no_call true e f = cc
@@ -52,44 +56,56 @@ module _ {O S I R : Type 0} (next : S → I → S) (answer : S → I → R) (v n
     none None g = refl
     none (Some x) g = cc
 
-  pub no_call_now : l.call ≡ None → (shown now).call p ≡ None
-  no_call_now idle = subst (λ (x : Whole O S I R). (shown x).call p ≡ None) view (rw here (rw idle refl))
+  pub no_call_now : l.call ≡ None → (world_of now).call p ≡ None
+  no_call_now idle = subst (λ (x : Whole O S I R). (world_of x).call p ≡ None) view (rw here (rw idle refl))
 
-  module _ (a' : Shared S I R) (i j : I) (same : i ≡ j) (mine : ℕ) (b : Bool) (tested : b ≡ is_some l.call) (none : b ≡ false) (free : l.begun ≢ v.row)
+  -- the era has as many of its calls as there are cells
+  era_is : calls_in_era (world_of v) p ≡ made_of v.shared.cells p
+  era_is = let all : (world_of v).begun p ≡ 0 + made_of v.shared.cells p = is.made p inside in omega arith
+
+  -- a row that is full
+  pub full_now : (room : ℕ) → room ≡ v.shared.cells.row - made_of v.shared.cells p → room ≡ 0 → calls_in_era (world_of now) p ≡ now.row
+  full_now room is_room none = subst (λ (x : Whole O S I R). calls_in_era (world_of x) p ≡ x.row) view (let all = era_is in let most : calls_in_era (world_of v) p ≤ v.row = is.room p in let rows : v.row ≡ v.shared.cells.row = is.row in omega arith)
+
+  -- a row that isn't
+  pub not_full_now : (room : ℕ) → room ≡ v.shared.cells.row - made_of v.shared.cells p → room ≢ 0 → calls_in_era (world_of now) p ≢ now.row
+  not_full_now room is_room some = subst (λ (x : Whole O S I R). calls_in_era (world_of x) p ≢ x.row) view (λ e. let all = era_is in let rows : v.row ≡ v.shared.cells.row = is.row in omega arith)
+
+  module _ (a' : Shared S I R) (i j : I) (same : i ≡ j) (mine : ℕ) (b : Bool) (tested : b ≡ is_some l.call) (none : b ≡ false) (free : made_of v.shared.cells p < v.shared.cells.row)
       (mine_is : mine ≡ index_of (processes_of v.shared.cells) p (made_of v.shared.cells p))
-      (wrote : memory_of a' ≡ written (memory_of v.shared) (InvOf (Of p (made_of v.shared.cells p))) (Invocation (Some i)))
+      (wrote : memory_of a' ≡ memory_with (memory_of v.shared) (InvOf (Of p (made_of v.shared.cells p))) (Invocation (Some i)))
       (shape : (processes_of a'.cells ≡ processes_of v.shared.cells) × (a'.cells.row ≡ v.shared.cells.row))
       (made : ChangesOnly (made_of v.shared.cells) (made_of a'.cells) p (made_of v.shared.cells p + 1)) where
     pub idle : l.call ≡ None
     idle = no_call b (sym tested) none
 
     made_is : made_of v.shared.cells p ≡ l.begun
-    made_is = sym (is.begun p inside) ∙ begun_is
+    made_is = let all : (world_of v).begun p ≡ 0 + made_of v.shared.cells p = is.made p inside in let own = begun_is in omega arith
 
     pub name : name_of (processes_of v.shared.cells) mine ≡ Of p l.begun
     name = ap (name_of (processes_of v.shared.cells)) mine_is ∙ name_of-index_of (processes_of v.shared.cells) p (made_of v.shared.cells p) inside ∙ ap (Of p) made_is
 
-    pub wrote_begun : memory_of a' ≡ written (memory_of v.shared) (InvOf (Of p l.begun)) (Invocation (Some i))
-    wrote_begun = wrote ∙ ap (λ c. written (memory_of v.shared) (InvOf (Of p c)) (Invocation (Some i))) made_is
+    pub wrote_begun : memory_of a' ≡ memory_with (memory_of v.shared) (InvOf (Of p l.begun)) (Invocation (Some i))
+    wrote_begun = wrote ∙ ap (λ c. memory_with (memory_of v.shared) (InvOf (Of p c)) (Invocation (Some i))) made_is
 
-    pub idle_now : (shown now).call p ≡ None
+    pub idle_now : (world_of now).call p ≡ None
     idle_now = no_call_now idle
 
-    pub IsWorld-call : IsWorld next answer (begun_whole next answer v is p l here inside a' i mine name shape.0 wrote_begun idle)
-    IsWorld-call = IsWorld-begun next answer v is p l here inside a' i mine name shape.0 wrote_begun idle shape.1 made free
+    pub IsWorld-call : IsWorld object (begun_whole object v is p l here inside a' i mine name shape.0 wrote_begun idle)
+    IsWorld-call = IsWorld-begun object v is p l here inside a' i mine name shape.0 wrote_begun idle shape.1 made free
 
-    pub shown-call : shown (begun_whole next answer v is p l here inside a' i mine name shape.0 wrote_begun idle) ≡ call_begun (shown now) p j
-    shown-call = shown-begun next answer v is p l here inside a' i mine name shape.0 wrote_begun idle
-        ∙ ap (λ (x : Whole O S I R). call_begun (shown x) p i) view ∙ ap (call_begun (shown now) p) same
+    pub world_of-call : world_of (begun_whole object v is p l here inside a' i mine name shape.0 wrote_begun idle) ≡ world_after_call (world_of now) p j
+    world_of-call = world_of-begun object v is p l here inside a' i mine name shape.0 wrote_begun idle
+        ∙ ap (λ (x : Whole O S I R). world_after_call (world_of x) p i) view ∙ ap (world_after_call (world_of now) p) same
 
-    pub Follows-call : Follows next answer (shown now) (shown (begun_whole next answer v is p l here inside a' i mine name shape.0 wrote_begun idle)) (acts_of next answer (shown now) (Call p j))
+    pub Follows-call : TakesEffect object (world_of now) (Call p j)
     Follows-call a shows =
-        let sound = subst (λ (x : Whole O S I R). IsWorld next answer x) view is in
-        let accepted = call_accepted next answer (shown now) sound.sound.0 sound.sound.1 sound.sound.2 p j (subst (λ (x : Whole O S I R). p < processes_of x.shared.cells) view inside) idle_now a shows in
-        (accepted.0, subst (λ w. Shows w accepted.0) (sym shown-call) accepted.1, accepted.2)
+        let sound = subst (λ (x : Whole O S I R). IsWorld object x) view is in
+        let accepted = call_accepted object (world_of now) sound.sound.0 sound.sound.1 sound.sound.2 p j (subst (λ (x : Whole O S I R). p < processes_of x.shared.cells) view inside) idle_now a shows in
+        accepted
 
   -- the call that is pending is the latest that its process has begun
-  pend : (call : Pending) → l.call ≡ Some call → (shown v).call p ≡ Some (pending_of (processes_of v.shared.cells) call)
+  pend : (call : Pending) → l.call ≡ Some call → (world_of v).call p ≡ Some (pending_of (processes_of v.shared.cells) call)
   pend call e = ap (call_at (processes_of v.shared.cells)) here ∙ ap (option_map (pending_of (processes_of v.shared.cells))) e
 
   pub few_enough : p < 16
@@ -106,12 +122,12 @@ module _ {O S I R : Type 0} (next : S → I → S) (answer : S → I → R) (v n
         let mine = is.sound.2.calls.mine p (pending_of (processes_of v.shared.cells) c.0) (pend c.0 c.1) in
         subst (λ k. 1 ≤ k) (sym mine.2 ∙ begun_is) (omega arith)
 
-    pub current_now : Some (record { process = p; nth = l.begun - 1 }) ≡ current_of (shown now) p
+    pub current_now : Some (record { process = p; nth = l.begun - 1 }) ≡ current_of (world_of now) p
     current_now =
         let c = has_call l.call tested in
-        subst (λ (x : Whole O S I R). Some (record { process = p; nth = l.begun - 1 }) ≡ current_of (shown x) p) view
+        subst (λ (x : Whole O S I R). Some (record { process = p; nth = l.begun - 1 }) ≡ current_of (world_of x) p) view
         (ap (λ k. Some (let id : CallId = record { process = p; nth = k - 1 } in id)) (sym begun_is)
-        ∙ sym (ap (option_map (λ (c : PendingAt). let id : CallId = record { process = p; nth = (shown v).begun p - 1 } in id)) (pend c.0 c.1)))
+        ∙ sym (ap (option_map (λ (c : PendingAt). let id : CallId = record { process = p; nth = (world_of v).begun p - 1 } in id)) (pend c.0 c.1)))
 
 pub none_isn't_some : {A : Type 0} (o : Option A) → o ≡ None → IsSome o → ⊥
 none_isn't_some None e h = let f : false ≡ true = h in cc

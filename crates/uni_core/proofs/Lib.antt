@@ -6,7 +6,7 @@ pub mod Shown
 pub mod Steppable
 pub mod Begin
 pub mod Stepped
-pub mod Readers
+pub mod Reading
 pub mod Runs
 mod Walk
 mod OpenedWorld

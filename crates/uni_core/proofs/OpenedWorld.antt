@@ -2,18 +2,19 @@
 use Rattle.std.proofs.Common.{◌≡◌, ◌∙◌, ℕ, zero, suc, ◌+◌, ◌*◌, ◌-◌, ◌<◌, ◌≤◌, ◌^◌, refl, sym, ap, subst, List, Option, Some, None, arith, length, slice_get, replicate}
 use Rattle.std.specs.Option.{option_map_or}
 use Rattle.std.proofs.lemmas.List.{length-replicate}
-use Rattle.cell_arena.specs.Rows.{processes_of, made_of}
+use Rattle.seq_object.specs.Sequential.{Sequential}
+use Rattle.cell_arena.specs.Arena.{processes_of, made_of}
 use Rattle.uni_model.specs.Places.{Memory, seq_of}
 use Rattle.uni_model.specs.Places.Name.{Anchor}
-use Rattle.uni_model.specs.Worlds.{WorldOf, anchored, opened}
+use Rattle.uni_model.specs.Worlds.{WorldOf, anchor_memory, opened_world}
 use Rattle.uni_model.specs.Helping.{HelpingInvariant}
 use Rattle.uni_model.specs.Bound.{CountsSteps}
-use Rattle.uni_model.proofs.Counted.{CountsSteps-opened}
-use Rattle.uni_model.proofs.Bounded.{HelpingInvariant-opened}
+use Rattle.uni_model.proofs.Counted.{CountsSteps-opened_world}
+use Rattle.uni_model.proofs.Bounded.{HelpingInvariant-opened_world}
 use Rattle.uni_core.specs.declared.local.Local.{Local}
 use Rattle.uni_core.specs.NewLocal.{new_local}
 use Rattle.uni_core.specs.Shared.{Shared, memory_of}
-use Rattle.uni_core.specs.Whole.{Whole, call_at, shown_at, shown, IsWorld}
+use Rattle.uni_core.specs.Whole.{Whole, call_at, world_at, world_of, IsWorld}
 
 -- a function of what a process keeps says of copies what it says where there is none, if it says so of what is copied
 of_copies : {A B : Type 0} (f : Option A → B) (a : A) → f (Some a) ≡ f None → (n p : ℕ) → f (slice_get (replicate n a) p) ≡ f None
@@ -21,39 +22,40 @@ of_copies f a e zero p = refl
 of_copies f a e (suc n) zero = e
 of_copies f a e (suc n) (suc p) = of_copies f a e n p
 
-pub shown_at-copies : {S I R : Type 0} (n count : ℕ) (m : Memory S I R) (s : S) (number : ℕ) → m ≡ anchored s number
-    → shown_at n m (replicate count new_local) ≡ opened n s number
-shown_at-copies n count m s number is i =
+pub world_at-copies : {S I R : Type 0} (n count : ℕ) (m : Memory S I R) (s : S) (number : ℕ) → m ≡ anchor_memory s number
+    → world_at n m (replicate count new_local) ≡ opened_world n s number
+world_at-copies n count m s number is i =
     record {
       n = n;
       memory = is i;
       call = λ p. of_copies (call_at n) new_local refl count p i;
       begun = λ p. of_copies (λ l. option_map_or (λ (x : Local). x.begun) l 0) new_local refl count p i;
+      first = λ p. 0;
       steps = λ p. of_copies (λ l. option_map_or (λ (x : Local). x.steps) l 0) new_local refl count p i;
       turns = λ p. of_copies (λ l. option_map_or (λ (x : Local). x.turns) l 0) new_local refl count p i;
     }
 
-module _ {O S I R : Type 0} (next : S → I → S) (answer : S → I → R) (object : O) (a : Shared S I R) (n k : ℕ) (s : S) (number : ℕ) (locals : List Local)
-    (copied : locals ≡ replicate n new_local) (memory : memory_of a ≡ anchored s number)
+module _ {O S I R : Type 0} (sequential : Sequential S I R) (object : O) (a : Shared S I R) (n k : ℕ) (s : S) (number : ℕ) (locals : List Local)
+    (copied : locals ≡ replicate n new_local) (memory : memory_of a ≡ anchor_memory s number)
     (shape : (processes_of a.cells ≡ n) × (a.cells.row ≡ k)) where
   abbrev pub first : Whole O S I R
   first = record { object = object; row = k; shared = a; locals = locals }
 
-  pub shown-first : shown first ≡ opened n s number
-  shown-first = ap (shown_at (processes_of a.cells) (memory_of a)) copied ∙ shown_at-copies (processes_of a.cells) n (memory_of a) s number memory
-      ∙ ap (λ j. opened j s number) shape.0
+  pub world_of-first : world_of first ≡ opened_world n s number
+  world_of-first = ap (world_at (processes_of a.cells) (memory_of a)) copied ∙ world_at-copies (processes_of a.cells) n (memory_of a) s number memory
+      ∙ ap (λ j. opened_world j s number) shape.0
 
-  pub IsWorld-first : n ≤ 16 → ((p : ℕ) → made_of a.cells p ≡ 0) → 1 ≤ number → number + n * k < 2 ^ 48 → IsWorld next answer first
+  pub IsWorld-first : n ≤ 16 → ((p : ℕ) → made_of a.cells p ≡ 0) → 1 ≤ number → number + n * k < 2 ^ 48 → IsWorld sequential first
   IsWorld-first few made positive fits =
       record {
         locals = ap length copied ∙ length-replicate n new_local ∙ sym shape.0;
         few = subst (λ j. j ≤ 16) (sym shape.0) few;
         row = sym shape.1;
-        begun = λ p below. ap (λ (w : WorldOf S I R). w.begun p) shown-first ∙ sym (made p);
-        room = λ p. subst (λ j. j ≤ k) (sym (ap (λ (w : WorldOf S I R). w.begun p) shown-first)) (omega arith);
+        made = λ p below. let none : (world_of first).begun p ≡ 0 = ap (λ (w : WorldOf S I R). w.begun p) world_of-first in let empty = made p in omega arith;
+        room = λ p. let none : (world_of first).begun p ≡ 0 = ap (λ (w : WorldOf S I R). w.begun p) world_of-first in omega arith;
         numbers = subst (λ (m : Memory S I R). seq_of m Anchor + processes_of a.cells * k < 2 ^ 48) (sym memory) (subst (λ j. number + j * k < 2 ^ 48) (sym shape.0) fits);
-        sound = subst (λ w. HelpingInvariant next answer w) (sym shown-first) (HelpingInvariant-opened next answer n s number positive);
-        counts = subst CountsSteps (sym shown-first) (CountsSteps-opened next answer n s number);
+        sound = subst (λ w. HelpingInvariant sequential w) (sym world_of-first) (HelpingInvariant-opened_world sequential n s number positive);
+        counts = subst CountsSteps (sym world_of-first) (CountsSteps-opened_world sequential n s number);
       }
 
 -- a number that is low enough leaves room for that many after it

@@ -5,31 +5,34 @@ use Rattle.std.proofs.lemmas.Bool.{cases_lt}
 use Rattle.std.proofs.Math.Seq.{take-suc, take-length}
 use Rattle.std.specs.Option.{option_map_or}
 use Rattle.std.specs.Result.{IsErrOf}
+use Rattle.seq_object.specs.Sequential.{Sequential}
 use Rattle.seq_object.specs.declared.call_id.CallId.{CallId}
 use Rattle.uni_model.specs.Stages.{Pending}
-use Rattle.uni_model.specs.Worlds.{WorldOf, Event, happened, replayed}
+use Rattle.uni_model.specs.Worlds.{WorldOf, Event, AreAccepted, calls_in_era, world_after, world_after_all}
+use Rattle.uni_model.specs.Growth.{EndNoEra}
 use Rattle.uni_model.specs.AtomicObject.{Act}
-use Rattle.uni_model.specs.History.{Shows, acts_of, history_of}
+use Rattle.uni_model.specs.History.{acts_of, history_of}
 use Rattle.uni_model.proofs.LawProofs.{AcceptsAll-append}
 use Rattle.uni_core.specs.declared.command.Command.{Command}
+use Rattle.uni_core.specs.declared.command.Command.TheVariants.{Call, Step}
 use Rattle.uni_core.specs.declared.command.Refusal.{Refusal}
 use Rattle.uni_core.specs.declared.command.Outcome.{Outcome}
-use Rattle.uni_core.specs.declared.command.Outcome.TheVariants.{Refused}
+use Rattle.uni_core.specs.declared.command.Outcome.TheVariants.{Called, Went, Returned, Refused}
 use Rattle.uni_core.specs.declared.fault.BeginFault.{BeginFault}
 use Rattle.uni_core.specs.declared.fault.BeginFault.TheVariants as begin
 use Rattle.uni_core.specs.declared.fault.StepFault.{StepFault}
 use Rattle.uni_core.specs.declared.fault.StepFault.TheVariants as step
 use Rattle.uni_core.specs.declared.fault.Progress.TheVariants.{Going, Done}
-use Rattle.uni_core.specs.Whole.{Whole, shown, current_of, progress_of, Follows, MayNeedMemory}
-use Rattle.uni_core.specs.Commands.{CanCall, IsOutcome, event_of, events_of, AreOutcomes, TakesCommand}
+use Rattle.uni_core.specs.Whole.{Whole, world_of, current_of, progress_of, Follows, MayNeedMemory}
+use Rattle.uni_core.specs.Commands.{CanCall, IsOutcome, after_command, event_of, events_of, AreOutcomes, TakesCommand}
 
 -- a command that is refused leaves the world as it was
-pub TakesCommand-refused : {O S I R : Type 0} (next : S → I → S) (answer : S → I → R) (old new : Whole O S I R) (row : ℕ) (command : Command I) (why : Refusal) → new ≡ old
-    → IsOutcome (shown old) row command (Refused why) → TakesCommand next answer (shown old) row command (Refused why) (shown new)
-TakesCommand-refused next answer old new row command why same is = record {
+pub TakesCommand-refused : {O S I R : Type 0} (object : Sequential S I R) (old new : Whole O S I R) (row : ℕ) (command : Command I) (why : Refusal) → new ≡ old
+    → IsOutcome (world_of old) row command (Refused why) → TakesCommand object (world_of old) row command (Refused why) (world_of new)
+TakesCommand-refused object old new row command why same is = record {
   is = is;
-  left = ap shown same;
-  accepted = λ a shows. (a, subst (λ w. Shows (shown w) a) (sym same) shows, refl);
+  left = ap world_of same;
+  accepted = λ a shows. (a, shows, refl);
 }
 
 -- which error a result has
@@ -43,13 +46,13 @@ pub Ok-IsErrOf : {T E : Type 0} (x : T) (e : E) → IsErrOf (Ok x) e → ⊥
 Ok-IsErrOf x e is = cc
 
 -- a process that isn't refused a call can begin one
-can_call : {S I R : Type 0} (w : WorldOf S I R) (row p : ℕ) → w.begun p ≤ row → (w.n ≤ p → ⊥) → ((p < w.n) × IsSome (w.call p) → ⊥) → ((p < w.n) × (w.call p ≡ None) × (w.begun p ≡ row) → ⊥)
+can_call : {S I R : Type 0} (w : WorldOf S I R) (row p : ℕ) → calls_in_era w p ≤ row → (w.n ≤ p → ⊥) → ((p < w.n) × IsSome (w.call p) → ⊥) → ((p < w.n) × (w.call p ≡ None) × (calls_in_era w p ≡ row) → ⊥)
     → CanCall w row p
 can_call w row p room process busy full = elim (cases_lt p w.n) [
   | inl below ↦ (
     below,
     idle below (w.call p) refl,
-    elim (cases_lt (w.begun p) row) [
+    elim (cases_lt (calls_in_era w p) row) [
       | inl less ↦ less
       | inr more ↦ absurd (full (below, idle below (w.call p) refl, omega (arith, more, room)))
     ],
@@ -61,8 +64,8 @@ can_call w row p room process busy full = elim (cases_lt p w.n) [
   idle below (Some c) e = absurd (busy (below, rw e refl))
 
 -- a call that has begun, or that is refused memory alone, could begin
-pub begun_can_call : {S I R : Type 0} (w : WorldOf S I R) (row p : ℕ) (r : Result CallId BeginFault) → ((e : BeginFault) → r ≡ Err e → e ≡ begin.Memory) → w.begun p ≤ row → (w.n ≤ p → IsErrOf r begin.BadProcess)
-    → ((p < w.n) × IsSome (w.call p) → IsErrOf r (begin.Busy p)) → ((p < w.n) × (w.call p ≡ None) × (w.begun p ≡ row) → IsErrOf r (begin.RowFull p)) → CanCall w row p
+pub begun_can_call : {S I R : Type 0} (w : WorldOf S I R) (row p : ℕ) (r : Result CallId BeginFault) → ((e : BeginFault) → r ≡ Err e → e ≡ begin.Memory) → calls_in_era w p ≤ row → (w.n ≤ p → IsErrOf r begin.BadProcess)
+    → ((p < w.n) × IsSome (w.call p) → IsErrOf r (begin.Busy p)) → ((p < w.n) × (w.call p ≡ None) × (calls_in_era w p ≡ row) → IsErrOf r (begin.RowFull p)) → CanCall w row p
 begun_can_call w row p r memory room process busy full = can_call w row p room
     (λ h. let f : begin.BadProcess ≡ begin.Memory = memory begin.BadProcess (process h) in cc)
     (λ h. let f : begin.Busy p ≡ begin.Memory = memory (begin.Busy p) (busy h) in cc)
@@ -112,57 +115,85 @@ memory_needed w p e below there (inr (inl h)) process idle memory =
 memory_needed w p e below there (inr (inr h)) process idle memory = memory (IsErrOf-Err e step.Memory h)
 
 -- Lists of events and one event more.
-module _ {S I R : Type 0} (next : S → I → S) (answer : S → I → R) where
+module _ {S I R : Type 0} (object : Sequential S I R) where
   replay-event : (w : WorldOf S I R) (o : Option (Event I)) (es : List (Event I))
-      → replayed next answer w (option_map_or (λ e. e ∷ es) o es) ≡ replayed next answer (option_map_or (happened next answer w) o w) es
+      → world_after_all object w (option_map_or (λ e. e ∷ es) o es) ≡ world_after_all object (option_map_or (world_after object w) o w) es
   replay-event w None es = refl
   replay-event w (Some e) es = refl
 
   history-event : (w : WorldOf S I R) (o : Option (Event I)) (es : List (Event I))
-      → history_of next answer w (option_map_or (λ e. e ∷ es) o es)
-      ≡ option_map_or (acts_of next answer w) o [] ++ history_of next answer (option_map_or (happened next answer w) o w) es
+      → history_of object w (option_map_or (λ e. e ∷ es) o es)
+      ≡ option_map_or (acts_of object w) o [] ++ history_of object (option_map_or (world_after object w) o w) es
   history-event w None es = refl
   history-event w (Some e) es = refl
 
-  Follows-append : (w later last : WorldOf S I R) (xs ys : List (Act I R)) → Follows next answer w later xs → Follows next answer later last ys → Follows next answer w last (xs ++ ys)
+  Follows-append : (w later last : WorldOf S I R) (xs ys : List (Act I R)) → Follows object w later xs → Follows object later last ys → Follows object w last (xs ++ ys)
   Follows-append w later last xs ys first rest a shows =
       let b = first a shows in
       let c = rest b.0 b.1 in
-      (c.0, c.1, AcceptsAll-append next answer a b.0 c.0 xs ys b.2 c.2)
+      (c.0, c.1, AcceptsAll-append object a b.0 c.0 xs ys b.2 c.2)
+
+-- no era ends by commands
+pub EndNoEra-events_of : {I R : Type 0} (commands : List (Command I)) (outcomes : List (Outcome R)) → EndNoEra (events_of commands outcomes)
+EndNoEra-events_of [] outcomes = tt
+EndNoEra-events_of (command ∷ commands) [] = tt
+EndNoEra-events_of (command ∷ commands) (outcome ∷ outcomes) = by_event _ command outcome (EndNoEra-events_of commands outcomes) where
+  by_event : {I R : Type 0} (rest : List (Event I)) (c : Command I) (o : Outcome R) → EndNoEra rest → EndNoEra (option_map_or (λ e. e ∷ rest) (event_of c o) rest)
+  by_event rest (Call p i) (Refused why) stay = stay
+  by_event rest (Step p) (Refused why) stay = stay
+  by_event rest (Call p i) _ stay = (tt, stay)
+  by_event rest (Step p) _ stay = (tt, stay)
 
 -- A world has taken these commands with these outcomes, and is w then.
-pub record Ran {S I R : Type 0} (next : S → I → S) (answer : S → I → R) (first : WorldOf S I R) (row : ℕ) (commands : List (Command I)) (outcomes : List (Outcome R)) (w : WorldOf S I R) : Type 0 where
-  pub are : AreOutcomes next answer first row commands outcomes
-  pub ran : w ≡ replayed next answer first (events_of commands outcomes)
-  pub accepted : Follows next answer first w (history_of next answer first (events_of commands outcomes))
+pub record Ran {S I R : Type 0} (object : Sequential S I R) (first : WorldOf S I R) (row : ℕ) (commands : List (Command I)) (outcomes : List (Outcome R)) (w : WorldOf S I R) : Type 0 where
+  pub are : AreOutcomes object first row commands outcomes
+  pub ran : w ≡ world_after_all object first (events_of commands outcomes)
+  pub accepted : Follows object first w (history_of object first (events_of commands outcomes))
+  pub events : AreAccepted object first (events_of commands outcomes)
 
-module _ {S I R : Type 0} (next : S → I → S) (answer : S → I → R) (row : ℕ) where
-  Ran-nothing : (w : WorldOf S I R) → Ran next answer w row [] [] w
-  Ran-nothing w = record { are = tt; ran = refl; accepted = λ a shows. (a, shows, refl) }
+module _ {S I R : Type 0} (object : Sequential S I R) (row : ℕ) where
+  Ran-nothing : (w : WorldOf S I R) → Ran object w row [] [] w
+  Ran-nothing w = record { are = tt; ran = refl; accepted = λ a shows. (a, shows, refl); events = tt }
+
+  -- the event of a command that wasn't refused can come
+  IsAccepted-event_of : (w : WorldOf S I R) (command : Command I) (outcome : Outcome R) → IsOutcome w row command outcome → (rest : List (Event I))
+      → AreAccepted object (after_command object w command outcome) rest → AreAccepted object w (option_map_or (λ e. e ∷ rest) (event_of command outcome) rest)
+  IsAccepted-event_of w (Call p i) (Called id) is rest ok = ((is.0.0, is.0.1), ok)
+  IsAccepted-event_of w (Call p i) (Refused why) is rest ok = ok
+  IsAccepted-event_of w (Call p i) Went is rest ok = absurd is
+  IsAccepted-event_of w (Call p i) (Returned id r) is rest ok = absurd is
+  IsAccepted-event_of w (Step p) (Called id) is rest ok = absurd is
+  IsAccepted-event_of w (Step p) (Refused why) is rest ok = ok
+  IsAccepted-event_of w (Step p) Went is rest ok = (is.0.1, ok)
+  IsAccepted-event_of w (Step p) (Returned id r) is rest ok = (has_call (w.call p) is.1, ok) where
+    has_call : (o : Option Pending) → option_map (λ (c : Pending). let call : CallId = record { process = p; nth = w.begun p - 1 } in call) o ≡ Some id → IsSome o
+    has_call None e = cc
+    has_call (Some c) e = refl
 
   -- one command, and then these
   Ran-then : (w w' last : WorldOf S I R) (command : Command I) (outcome : Outcome R) (commands : List (Command I)) (outcomes : List (Outcome R))
-      → TakesCommand next answer w row command outcome w' → Ran next answer w' row commands outcomes last → Ran next answer w row (command ∷ commands) (outcome ∷ outcomes) last
+      → TakesCommand object w row command outcome w' → Ran object w' row commands outcomes last → Ran object w row (command ∷ commands) (outcome ∷ outcomes) last
   Ran-then w w' last command outcome commands outcomes takes rest =
       let event : Option (Event I) = event_of command outcome in
       record {
-        are = (takes.is, subst (λ x. AreOutcomes next answer x row commands outcomes) takes.left rest.are);
-        ran = rest.ran ∙ ap (λ x. replayed next answer x (events_of commands outcomes)) takes.left ∙ sym (replay-event next answer w event (events_of commands outcomes));
-        accepted = subst (Follows next answer w last) (
-            ap (λ x. option_map_or (acts_of next answer w) event [] ++ history_of next answer x (events_of commands outcomes)) takes.left ∙ sym (history-event next answer w event (events_of commands outcomes)))
-            (Follows-append next answer w w' last (option_map_or (acts_of next answer w) event []) (history_of next answer w' (events_of commands outcomes)) takes.accepted rest.accepted);
+        are = (takes.is, subst (λ x. AreOutcomes object x row commands outcomes) takes.left rest.are);
+        ran = rest.ran ∙ ap (λ x. world_after_all object x (events_of commands outcomes)) takes.left ∙ sym (replay-event object w event (events_of commands outcomes));
+        accepted = subst (Follows object w last) (
+            ap (λ x. option_map_or (acts_of object w) event [] ++ history_of object x (events_of commands outcomes)) takes.left ∙ sym (history-event object w event (events_of commands outcomes)))
+            (Follows-append object w w' last (option_map_or (acts_of object w) event []) (history_of object w' (events_of commands outcomes)) (subst (λ x. Follows object w x (option_map_or (acts_of object w) (event_of command outcome) [])) (sym takes.left) takes.accepted) rest.accepted);
+        events = IsAccepted-event_of w command outcome takes.is (events_of commands outcomes) (subst (λ x. AreAccepted object x (events_of commands outcomes)) takes.left rest.events);
       }
 
   -- From where it began, the world has taken these commands with these outcomes, and whatever it takes from here on comes after them.
   pub record Leads (first : WorldOf S I R) (commands : List (Command I)) (outcomes : List (Outcome R)) (w : WorldOf S I R) : Type 0 where
-    pub onward : (later : List (Command I)) (outcomes_later : List (Outcome R)) (last : WorldOf S I R) → Ran next answer w row later outcomes_later last
-        → Ran next answer first row (commands ++ later) (outcomes ++ outcomes_later) last
+    pub onward : (later : List (Command I)) (outcomes_later : List (Outcome R)) (last : WorldOf S I R) → Ran object w row later outcomes_later last
+        → Ran object first row (commands ++ later) (outcomes ++ outcomes_later) last
 
   pub Leads-nothing : (w : WorldOf S I R) → Leads w [] [] w
   Leads-nothing w = record { onward = λ later outcomes last ran. ran }
 
   Leads-further : (first w w' : WorldOf S I R) (commands : List (Command I)) (outcomes : List (Outcome R)) (command : Command I) (outcome : Outcome R)
-      → Leads first commands outcomes w → TakesCommand next answer w row command outcome w' → Leads first (commands ++ command ∷ []) (outcomes ++ outcome ∷ []) w'
+      → Leads first commands outcomes w → TakesCommand object w row command outcome w' → Leads first (commands ++ command ∷ []) (outcomes ++ outcome ∷ []) w'
   Leads-further first w w' commands outcomes command outcome leads takes = record {
     onward = λ later outcomes_later last ran.
         rw (append_assoc commands (command ∷ []) later, append_assoc outcomes (outcome ∷ []) outcomes_later)
@@ -171,14 +202,14 @@ module _ {S I R : Type 0} (next : S → I → S) (answer : S → I → R) (row :
 
   -- after the first commands of a list, the next one is taken
   pub Leads-next : (first w w' : WorldOf S I R) (all : List (Command I)) (index : ℕ) (outcomes : List (Outcome R)) (command : Command I) (outcome : Outcome R) → index < length all → command ≡ get_or all index command
-      → Leads first (take index all) outcomes w → TakesCommand next answer w row command outcome w' → Leads first (take (index + 1) all) (outcomes ++ outcome ∷ []) w'
+      → Leads first (take index all) outcomes w → TakesCommand object w row command outcome w' → Leads first (take (index + 1) all) (outcomes ++ outcome ∷ []) w'
   Leads-next first w w' all index outcomes command outcome within is leads takes =
       let more : suc index ≡ index + 1 = omega arith in
       let longer : take (suc index) all ≡ take index all ++ command ∷ [] = take-suc all index command within ∙ ap (λ c. take index all ++ c ∷ []) (sym is) in
       subst (λ commands. Leads first commands (outcomes ++ outcome ∷ []) w') (sym longer ∙ ap (λ k. take k all) more) (Leads-further first w w' (take index all) outcomes command outcome leads takes)
 
   -- and after the last, all have been
-  pub Ran-all : (first w : WorldOf S I R) (all : List (Command I)) (index : ℕ) (outcomes : List (Outcome R)) → index ≤ length all → length all ≤ index → Leads first (take index all) outcomes w → Ran next answer first row all outcomes w
+  pub Ran-all : (first w : WorldOf S I R) (all : List (Command I)) (index : ℕ) (outcomes : List (Outcome R)) → index ≤ length all → length all ≤ index → Leads first (take index all) outcomes w → Ran object first row all outcomes w
   Ran-all first w all index outcomes within past leads =
       let same : index ≡ length all = omega arith in
       let whole = leads.onward [] [] w (Ran-nothing w) in

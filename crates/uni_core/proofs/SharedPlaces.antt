@@ -2,20 +2,20 @@
 use Rattle.std.proofs.Common.{◌≡◌, ◌∙◌, ℕ, ◌<◌, ◌≤◌, refl, sym, ap, subst, List, Option, Some, None, option_map, IsSome, arith, true, false, length, slice_get, slice_set, unwrap_or, replicate, zero, suc, inl, inr}
 use Rattle.std.specs.Option.{option_map_or}
 use Rattle.cell_arena.specs.CellRecord.{CellRecord, index_of, ChangesOnly, with_seq, with_before, with_after, with_new, fresh, settled, anchor_with, HasOnlyAnchor}
-use Rattle.cell_arena.specs.Rows.{Rows, processes_of, made_of, cell_of}
-use Rattle.uni_model.specs.Places.{Name, Place, Content, written, after_of, new_of}
+use Rattle.cell_arena.specs.Arena.{Arena, processes_of, made_of, cell_of}
+use Rattle.uni_model.specs.Places.{Name, Place, Content, memory_with, after_of, new_of}
 use Rattle.uni_model.specs.Places.Name.{Anchor, Of}
 use Rattle.uni_model.specs.Places.Place.{Announced, HeadOf, InvOf, SeqOf, AfterOf, NewOf, BeforeOf}
 use Rattle.uni_model.specs.Places.Content.{CellName, Invocation, Number, Link, Settled}
-use Rattle.uni_model.specs.Transition.{decided}
-use Rattle.uni_model.specs.Worlds.{anchored}
+use Rattle.uni_model.specs.Transition.{decision}
+use Rattle.uni_model.specs.Worlds.{anchor_memory}
 use Rattle.uni_model.proofs.Written.{number_cases, lt_cases}
 use Rattle.uni_core.specs.Shared.{Shared, name_of, cell_named, memory_at, memory_of}
 use Rattle.uni_core.proofs.Named.{cell_named-name_of}
 use Rattle.uni_core.proofs.Written.{memory_at-with_seq, memory_at-with_before, memory_at-with_after, memory_at-with_new, memory_at-made, memory_at-announce, memory_at-head}
 
 module _ {S I R : Type 0} (a now : Shared S I R) (view : a ≡ now) where
-  module _ (cells' : Rows S I R) (positive : 1 ≤ processes_of a.cells) (same : processes_of cells' ≡ processes_of a.cells) where
+  module _ (cells' : Arena S I R) (positive : 1 ≤ processes_of a.cells) (same : processes_of cells' ≡ processes_of a.cells) where
     -- the number of processes as it was
     counted : (announce heads : List ℕ) → memory_of (record { cells = cells'; announce = announce; heads = heads }) ≡ memory_at (processes_of a.cells) (cell_of cells') announce heads
     counted announce heads = ap (λ k. memory_at k (cell_of cells') announce heads) same
@@ -25,22 +25,22 @@ module _ {S I R : Type 0} (a now : Shared S I R) (view : a ≡ now) where
       here = subst (λ v. IsSome (cell_of v.cells id)) (sym view) there
 
       pub seq_written : (s : ℕ) → ChangesOnly (cell_of a.cells) (cell_of cells') id (option_map (with_seq s) (cell_of a.cells id))
-          → memory_of (record { cells = cells'; announce = a.announce; heads = a.heads }) ≡ written (memory_of now) (SeqOf (name_of (processes_of now.cells) id)) (Number s)
-      seq_written s changes = subst (λ v. memory_of (record { cells = cells'; announce = a.announce; heads = a.heads }) ≡ written (memory_of v) (SeqOf (name_of (processes_of v.cells) id)) (Number s)) view
+          → memory_of (record { cells = cells'; announce = a.announce; heads = a.heads }) ≡ memory_with (memory_of now) (SeqOf (name_of (processes_of now.cells) id)) (Number s)
+      seq_written s changes = subst (λ v. memory_of (record { cells = cells'; announce = a.announce; heads = a.heads }) ≡ memory_with (memory_of v) (SeqOf (name_of (processes_of v.cells) id)) (Number s)) view
           (counted a.announce a.heads ∙ memory_at-with_seq (processes_of a.cells) positive (cell_of a.cells) (cell_of cells') a.announce a.heads id here s changes)
 
       pub before_written : (b : ℕ) → ChangesOnly (cell_of a.cells) (cell_of cells') id (option_map (with_before b) (cell_of a.cells id))
-          → memory_of (record { cells = cells'; announce = a.announce; heads = a.heads }) ≡ written (memory_of now) (BeforeOf (name_of (processes_of now.cells) id)) (Link (Some (name_of (processes_of now.cells) b)))
-      before_written b changes = subst (λ v. memory_of (record { cells = cells'; announce = a.announce; heads = a.heads }) ≡ written (memory_of v) (BeforeOf (name_of (processes_of v.cells) id)) (Link (Some (name_of (processes_of v.cells) b)))) view
+          → memory_of (record { cells = cells'; announce = a.announce; heads = a.heads }) ≡ memory_with (memory_of now) (BeforeOf (name_of (processes_of now.cells) id)) (Link (Some (name_of (processes_of now.cells) b)))
+      before_written b changes = subst (λ v. memory_of (record { cells = cells'; announce = a.announce; heads = a.heads }) ≡ memory_with (memory_of v) (BeforeOf (name_of (processes_of v.cells) id)) (Link (Some (name_of (processes_of v.cells) b)))) view
           (counted a.announce a.heads ∙ memory_at-with_before (processes_of a.cells) positive (cell_of a.cells) (cell_of cells') a.announce a.heads id here b changes)
 
       -- what is settled after a proposal, by name
       decided_name : (n next d : ℕ) (o : Option (CellRecord S I R)) → IsSome o → option_map (λ (c : CellRecord S I R). settled c.after next) o ≡ Some d
           → (unwrap_or (option_map_or (λ (c : CellRecord S I R). option_map (name_of n) c.after) o None) (name_of n next) ≡ name_of n d)
-          × (decided (option_map_or (λ (c : CellRecord S I R). option_map (name_of n) c.after) o None) (Some (name_of n next)) ≡ Some (name_of n d))
+          × (decision (option_map_or (λ (c : CellRecord S I R). option_map (name_of n) c.after) o None) (Some (name_of n next)) ≡ Some (name_of n d))
       decided_name n next d None some e = absurd (let f : false ≡ true = some in cc)
       decided_name n next d (Some c) some e = by_after c.after (let same : settled c.after next ≡ d = cc in same) where
-        by_after : (o : Option ℕ) → settled o next ≡ d → (unwrap_or (option_map (name_of n) o) (name_of n next) ≡ name_of n d) × (decided (option_map (name_of n) o) (Some (name_of n next)) ≡ Some (name_of n d))
+        by_after : (o : Option ℕ) → settled o next ≡ d → (unwrap_or (option_map (name_of n) o) (name_of n next) ≡ name_of n d) × (decision (option_map (name_of n) o) (Some (name_of n next)) ≡ Some (name_of n d))
         by_after None f = (ap (name_of n) f, ap (λ k. Some (name_of n k)) f)
         by_after (Some x) f = (ap (name_of n) f, ap (λ k. Some (name_of n k)) f)
 
@@ -51,29 +51,29 @@ module _ {S I R : Type 0} (a now : Shared S I R) (view : a ≡ now) where
 
       pub after_written : (next d : ℕ) → option_map (λ (c : CellRecord S I R). settled c.after next) (cell_of a.cells id) ≡ Some d
           → ChangesOnly (cell_of a.cells) (cell_of cells') id (option_map (with_after next) (cell_of a.cells id))
-          → memory_of (record { cells = cells'; announce = a.announce; heads = a.heads }) ≡ written (memory_of now) (AfterOf (name_of (processes_of now.cells) id))
-          (Link (decided (after_of (memory_of now) (name_of (processes_of now.cells) id)) (Some (name_of (processes_of now.cells) next))))
-      after_written next d answer changes = subst (λ v. memory_of (record { cells = cells'; announce = a.announce; heads = a.heads }) ≡ written (memory_of v) (AfterOf (name_of (processes_of v.cells) id))
-          (Link (decided (after_of (memory_of v) (name_of (processes_of v.cells) id)) (Some (name_of (processes_of v.cells) next))))) view
+          → memory_of (record { cells = cells'; announce = a.announce; heads = a.heads }) ≡ memory_with (memory_of now) (AfterOf (name_of (processes_of now.cells) id))
+          (Link (decision (after_of (memory_of now) (name_of (processes_of now.cells) id)) (Some (name_of (processes_of now.cells) next))))
+      after_written next d answer changes = subst (λ v. memory_of (record { cells = cells'; announce = a.announce; heads = a.heads }) ≡ memory_with (memory_of v) (AfterOf (name_of (processes_of v.cells) id))
+          (Link (decision (after_of (memory_of v) (name_of (processes_of v.cells) id)) (Some (name_of (processes_of v.cells) next))))) view
           (rw (cell_named-name_of (processes_of a.cells) positive (cell_of a.cells) id, (decided_name (processes_of a.cells) next d (cell_of a.cells id) here answer).1)
           (counted a.announce a.heads ∙ memory_at-with_after (processes_of a.cells) positive (cell_of a.cells) (cell_of cells') a.announce a.heads id here next changes d answer))
 
-      decided_settled : {A : Type 0} (o : Option A) (x : A) → decided o (Some x) ≡ Some (settled o x)
+      decided_settled : {A : Type 0} (o : Option A) (x : A) → decision o (Some x) ≡ Some (settled o x)
       decided_settled None x = refl
       decided_settled (Some y) x = refl
 
       pub new_written : (new : S × Option R) → ChangesOnly (cell_of a.cells) (cell_of cells') id (option_map (with_new new) (cell_of a.cells id))
-          → memory_of (record { cells = cells'; announce = a.announce; heads = a.heads }) ≡ written (memory_of now) (NewOf (name_of (processes_of now.cells) id))
-          (Settled (decided (new_of (memory_of now) (name_of (processes_of now.cells) id)) (Some new)))
-      new_written new changes = subst (λ v. memory_of (record { cells = cells'; announce = a.announce; heads = a.heads }) ≡ written (memory_of v) (NewOf (name_of (processes_of v.cells) id))
-          (Settled (decided (new_of (memory_of v) (name_of (processes_of v.cells) id)) (Some new)))) view
+          → memory_of (record { cells = cells'; announce = a.announce; heads = a.heads }) ≡ memory_with (memory_of now) (NewOf (name_of (processes_of now.cells) id))
+          (Settled (decision (new_of (memory_of now) (name_of (processes_of now.cells) id)) (Some new)))
+      new_written new changes = subst (λ v. memory_of (record { cells = cells'; announce = a.announce; heads = a.heads }) ≡ memory_with (memory_of v) (NewOf (name_of (processes_of v.cells) id))
+          (Settled (decision (new_of (memory_of v) (name_of (processes_of v.cells) id)) (Some new)))) view
           (rw (cell_named-name_of (processes_of a.cells) positive (cell_of a.cells) id, decided_settled)
           (counted a.announce a.heads ∙ memory_at-with_new (processes_of a.cells) positive (cell_of a.cells) (cell_of cells') a.announce a.heads id here new changes))
 
     pub made_written : (p : ℕ) → p < processes_of now.cells → (IsSome (cell_of a.cells (index_of (processes_of a.cells) p (made_of a.cells p))) → made_of a.cells p < made_of a.cells p) → (i : I) (id : ℕ) → id ≡ index_of (processes_of a.cells) p (made_of a.cells p)
         → ChangesOnly (cell_of a.cells) (cell_of cells') id (Some (fresh i))
-        → memory_of (record { cells = cells'; announce = a.announce; heads = a.heads }) ≡ written (memory_of now) (InvOf (Of p (made_of now.cells p))) (Invocation (Some i))
-    made_written p below there i id its changes = subst (λ v. memory_of (record { cells = cells'; announce = a.announce; heads = a.heads }) ≡ written (memory_of v) (InvOf (Of p (made_of v.cells p))) (Invocation (Some i))) view
+        → memory_of (record { cells = cells'; announce = a.announce; heads = a.heads }) ≡ memory_with (memory_of now) (InvOf (Of p (made_of now.cells p))) (Invocation (Some i))
+    made_written p below there i id its changes = subst (λ v. memory_of (record { cells = cells'; announce = a.announce; heads = a.heads }) ≡ memory_with (memory_of v) (InvOf (Of p (made_of v.cells p))) (Invocation (Some i))) view
         (counted a.announce a.heads
         ∙ memory_at-made (processes_of a.cells) positive (cell_of a.cells) (cell_of cells') a.announce a.heads p (made_of a.cells p) (subst (λ v. p < processes_of v.cells) (sym view) below)
         (absent (cell_of a.cells (index_of (processes_of a.cells) p (made_of a.cells p))) refl) i (subst (λ j. ChangesOnly (cell_of a.cells) (cell_of cells') j (Some (fresh i))) its changes)) where
@@ -82,13 +82,13 @@ module _ {S I R : Type 0} (a now : Shared S I R) (view : a ≡ now) where
           absent (Some c) e = absurd (let less = there (rw e refl) in omega arith)
 
   pub announce_written : (p id : ℕ) → p < processes_of now.cells → length a.announce ≡ processes_of a.cells
-      → memory_of (record { cells = a.cells; announce = slice_set a.announce p id; heads = a.heads }) ≡ written (memory_of now) (Announced p) (CellName (name_of (processes_of now.cells) id))
-  announce_written p id below long = subst (λ v. memory_of (record { cells = a.cells; announce = slice_set a.announce p id; heads = a.heads }) ≡ written (memory_of v) (Announced p) (CellName (name_of (processes_of v.cells) id))) view
+      → memory_of (record { cells = a.cells; announce = slice_set a.announce p id; heads = a.heads }) ≡ memory_with (memory_of now) (Announced p) (CellName (name_of (processes_of now.cells) id))
+  announce_written p id below long = subst (λ v. memory_of (record { cells = a.cells; announce = slice_set a.announce p id; heads = a.heads }) ≡ memory_with (memory_of v) (Announced p) (CellName (name_of (processes_of v.cells) id))) view
       (memory_at-announce (processes_of a.cells) (cell_of a.cells) p id a.announce a.heads (subst (λ k. p < k) (sym long) (subst (λ v. p < processes_of v.cells) (sym view) below)))
 
   pub head_written : (p id : ℕ) → p < processes_of now.cells → length a.heads ≡ processes_of a.cells
-      → memory_of (record { cells = a.cells; announce = a.announce; heads = slice_set a.heads p id }) ≡ written (memory_of now) (HeadOf p) (CellName (name_of (processes_of now.cells) id))
-  head_written p id below long = subst (λ v. memory_of (record { cells = a.cells; announce = a.announce; heads = slice_set a.heads p id }) ≡ written (memory_of v) (HeadOf p) (CellName (name_of (processes_of v.cells) id))) view
+      → memory_of (record { cells = a.cells; announce = a.announce; heads = slice_set a.heads p id }) ≡ memory_with (memory_of now) (HeadOf p) (CellName (name_of (processes_of now.cells) id))
+  head_written p id below long = subst (λ v. memory_of (record { cells = a.cells; announce = a.announce; heads = slice_set a.heads p id }) ≡ memory_with (memory_of v) (HeadOf p) (CellName (name_of (processes_of v.cells) id))) view
       (memory_at-head (processes_of a.cells) (cell_of a.cells) p id a.announce a.heads (subst (λ k. p < k) (sym long) (subst (λ v. p < processes_of v.cells) (sym view) below)))
 
 -- the anchor alone, which every entry names
@@ -107,9 +107,9 @@ module _ {S I R : Type 0} (n : ℕ) (cell : ℕ → Option (CellRecord S I R)) (
   entry (suc m) zero = refl
   entry (suc m) (suc p) = entry m p
 
-  pub memory_at-opened : (m k : ℕ) → memory_at n cell (replicate m 0) (replicate k 0) ≡ anchored state seq
-  memory_at-opened m k = λ i x. at_place x i where
-    at_place : (x : Place) → memory_at n cell (replicate m 0) (replicate k 0) x ≡ anchored {S = S} {I = I} {R = R} state seq x
+  pub memory_at-opened_world : (m k : ℕ) → memory_at n cell (replicate m 0) (replicate k 0) ≡ anchor_memory state seq
+  memory_at-opened_world m k = λ i x. at_place x i where
+    at_place : (x : Place) → memory_at n cell (replicate m 0) (replicate k 0) x ≡ anchor_memory {S = S} {I = I} {R = R} state seq x
     at_place (Announced p) = ap (λ (y : Name). let c : Content S I R = CellName y in c) (entry m p)
     at_place (HeadOf p) = ap (λ (y : Name). let c : Content S I R = CellName y in c) (entry k p)
     at_place (InvOf Anchor) = rw (alone 0) refl

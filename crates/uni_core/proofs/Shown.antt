@@ -1,33 +1,34 @@
 -- The world that is shown, after a process's own data changed.
-use Rattle.std.proofs.Common.{◌≡◌, ◌≢◌, ◌∙◌, ℕ, ◌+◌, ◌*◌, ◌<◌, ◌≤◌, ◌^◌, inl, inr, refl, sym, ap, subst, List, Option, Some, None, option_map, arith, length, slice_get, slice_set}
+use Rattle.std.proofs.Common.{◌≡◌, ◌∙◌, ℕ, ◌+◌, ◌-◌, ◌*◌, ◌<◌, ◌≤◌, ◌^◌, inl, inr, refl, sym, ap, subst, List, Option, Some, None, option_map, arith, length, slice_get, slice_set}
 use Rattle.std.specs.Option.{option_map_or}
 use Rattle.std.proofs.Math.ListN.{length-set}
+use Rattle.seq_object.specs.Sequential.{Sequential}
 use Rattle.cell_arena.proofs.Lists.{slice_get-set_same, slice_get-set_other}
-use Rattle.cell_arena.specs.Rows.{processes_of, made_of}
+use Rattle.cell_arena.specs.Arena.{processes_of, made_of}
 use Rattle.cell_arena.specs.CellRecord.{ChangesOnly}
-use Rattle.uni_model.specs.Places.{Memory, written, set_at, seq_of}
+use Rattle.uni_model.specs.Places.{Memory, memory_with, set_at, seq_of}
 use Rattle.uni_model.specs.Places.Name.{Anchor, Of}
 use Rattle.uni_model.specs.Places.Place.{InvOf}
 use Rattle.uni_model.specs.Places.Content.{Invocation}
 use Rattle.uni_model.specs.Stages.{Stage as at, Pending as PendingAt}
 use Rattle.uni_model.specs.Transition.{place_of, turn_of}
-use Rattle.uni_model.specs.Worlds.{WorldOf, call_begun, stepped, call_after, happened, IsAccepted}
+use Rattle.uni_model.specs.Worlds.{WorldOf, world_after_call, world_after_step, call_after, world_after, IsAccepted}
 use Rattle.uni_model.specs.Worlds.Event.{Call, Step}
 use Rattle.uni_model.specs.Settled.{Grows}
 use Rattle.uni_model.specs.Invariant.{Invariant}
 use Rattle.uni_model.specs.Helping.{HelpingInvariant}
 use Rattle.uni_model.specs.Bound.{CountsSteps}
 use Rattle.uni_model.proofs.Written.{number_cases}
-use Rattle.uni_model.proofs.Kept.{Invariant-stepped}
-use Rattle.uni_model.proofs.Counted.{CountsSteps-happened}
-use Rattle.uni_model.proofs.Bounded.{HelpingInvariant-happened}
+use Rattle.uni_model.proofs.Kept.{Invariant-world_after_step}
+use Rattle.uni_model.proofs.Counted.{CountsSteps-world_after}
+use Rattle.uni_model.proofs.Bounded.{HelpingInvariant-world_after}
 use Rattle.uni_core.specs.declared.local.Local.{Local}
 use Rattle.uni_core.specs.declared.stage.Stage.{Stage}
 use Rattle.uni_core.specs.declared.stage.Stage.TheVariants as stages
 use Rattle.uni_core.specs.declared.stage.Pending.{Pending}
 use Rattle.uni_core.specs.Shared.{Shared, name_of, memory_of}
 use Rattle.uni_core.specs.Standing.{stage_of, pending_of, Takes}
-use Rattle.uni_core.specs.Whole.{Whole, call_at, shown_at, shown, IsWorld}
+use Rattle.uni_core.specs.Whole.{Whole, call_at, world_at, world_of, IsWorld}
 
 -- what is read of a process's own data, after that of one process changed
 pub read-slice_set : {A : Type 0} (g : Option Local → A) (locals : List Local) (p : ℕ) (l : Local) → p < length locals
@@ -40,20 +41,22 @@ read-slice_set {A} g locals p l inside = λ i q. at_process q i where
   ]
 
 -- the world that is shown then
-pub shown_at-slice_set : {S I R : Type 0} (n : ℕ) (m : Memory S I R) (locals : List Local) (p : ℕ) (l : Local) → p < length locals
-    → shown_at n m (slice_set locals p l) ≡ record {
+pub world_at-slice_set : {S I R : Type 0} (n : ℕ) (m : Memory S I R) (locals : List Local) (p : ℕ) (l : Local) → p < length locals
+    → world_at n m (slice_set locals p l) ≡ record {
       n = n;
       memory = m;
       call = set_at (λ q. call_at n (slice_get locals q)) p (call_at n (Some l));
       begun = set_at (λ q. option_map_or (λ (l : Local). l.begun) (slice_get locals q) 0) p l.begun;
+      first = λ q. 0;
       steps = set_at (λ q. option_map_or (λ (l : Local). l.steps) (slice_get locals q) 0) p l.steps;
       turns = set_at (λ q. option_map_or (λ (l : Local). l.turns) (slice_get locals q) 0) p l.turns;
     }
-shown_at-slice_set n m locals p l inside = λ i. record {
+world_at-slice_set n m locals p l inside = λ i. record {
   n = n;
   memory = m;
   call = read-slice_set (call_at n) locals p l inside i;
   begun = read-slice_set (λ o. option_map_or (λ (l : Local). l.begun) o 0) locals p l inside i;
+  first = λ q. 0;
   steps = read-slice_set (λ o. option_map_or (λ (l : Local). l.steps) o 0) locals p l inside i;
   turns = read-slice_set (λ o. option_map_or (λ (l : Local). l.turns) o 0) locals p l inside i;
 }
@@ -67,70 +70,72 @@ set_at-same f p v e = λ i q. at_number q i where
   at_number : (q : ℕ) → set_at f p v q ≡ f q
   at_number q = elim (number_cases q p) [ inl h ↦ rw h.1 (sym (ap f h.0 ∙ e)) | inr h ↦ rw h.1 refl ]
 
-module _ {O S I R : Type 0} (next : S → I → S) (answer : S → I → R) (v : Whole O S I R) (is : IsWorld next answer v) (p : ℕ) (l : Local) (here : slice_get v.locals p ≡ Some l) (below : p < processes_of v.shared.cells) where
+module _ {O S I R : Type 0} (object : Sequential S I R) (v : Whole O S I R) (is : IsWorld object v) (p : ℕ) (l : Local) (here : slice_get v.locals p ≡ Some l) (below : p < processes_of v.shared.cells) where
   long : p < length v.locals
   long = subst (λ k. p < k) (sym is.locals) below
 
   module _ (a' : Shared S I R) (i : I) (mine : ℕ) (name : name_of (processes_of v.shared.cells) mine ≡ Of p l.begun) (count : processes_of a'.cells ≡ processes_of v.shared.cells)
-      (wrote : memory_of a' ≡ written (memory_of v.shared) (InvOf (Of p l.begun)) (Invocation (Some i))) (idle : l.call ≡ None) where
+      (wrote : memory_of a' ≡ memory_with (memory_of v.shared) (InvOf (Of p l.begun)) (Invocation (Some i))) (idle : l.call ≡ None) where
     abbrev pub begun_local : Local
     begun_local = record { call = Some (record { mine = mine; stage = stages.Announce }); begun = l.begun + 1; steps = 0; turns = 0 }
 
     abbrev pub begun_whole : Whole O S I R
     begun_whole = record { object = v.object; row = v.row; shared = a'; locals = slice_set v.locals p begun_local }
 
-    begun_is : (shown v).begun p ≡ l.begun
+    begun_is : (world_of v).begun p ≡ l.begun
     begun_is = rw here refl
 
-    pub shown-begun : shown begun_whole ≡ call_begun (shown v) p i
-    shown-begun =
-        ap (λ k. shown_at k (memory_of a') (slice_set v.locals p begun_local)) count
-        ∙ ap (λ m. shown_at (processes_of v.shared.cells) m (slice_set v.locals p begun_local)) wrote
-        ∙ shown_at-slice_set (processes_of v.shared.cells) (written (memory_of v.shared) (InvOf (Of p l.begun)) (Invocation (Some i))) v.locals p begun_local long
+    pub world_of-begun : world_of begun_whole ≡ world_after_call (world_of v) p i
+    world_of-begun =
+        ap (λ k. world_at k (memory_of a') (slice_set v.locals p begun_local)) count
+        ∙ ap (λ m. world_at (processes_of v.shared.cells) m (slice_set v.locals p begun_local)) wrote
+        ∙ world_at-slice_set (processes_of v.shared.cells) (memory_with (memory_of v.shared) (InvOf (Of p l.begun)) (Invocation (Some i))) v.locals p begun_local long
         ∙ ap (λ x. let w : WorldOf S I R = record {
           n = processes_of v.shared.cells;
-          memory = written (memory_of v.shared) (InvOf (Of p l.begun)) (Invocation (Some i));
-          call = set_at (shown v).call p (Some (record { mine = x; stage = at.Announce }));
-          begun = set_at (shown v).begun p (l.begun + 1);
-          steps = set_at (shown v).steps p 0;
-          turns = set_at (shown v).turns p 0;
+          memory = memory_with (memory_of v.shared) (InvOf (Of p l.begun)) (Invocation (Some i));
+          call = set_at (world_of v).call p (Some (record { mine = x; stage = at.Announce }));
+          begun = set_at (world_of v).begun p (l.begun + 1);
+          first = λ q. 0;
+          steps = set_at (world_of v).steps p 0;
+          turns = set_at (world_of v).turns p 0;
         } in w) name
         ∙ ap (λ b. let w : WorldOf S I R = record {
           n = processes_of v.shared.cells;
-          memory = written (memory_of v.shared) (InvOf (Of p b)) (Invocation (Some i));
-          call = set_at (shown v).call p (Some (record { mine = Of p b; stage = at.Announce }));
-          begun = set_at (shown v).begun p (b + 1);
-          steps = set_at (shown v).steps p 0;
-          turns = set_at (shown v).turns p 0;
+          memory = memory_with (memory_of v.shared) (InvOf (Of p b)) (Invocation (Some i));
+          call = set_at (world_of v).call p (Some (record { mine = Of p b; stage = at.Announce }));
+          begun = set_at (world_of v).begun p (b + 1);
+          first = λ q. 0;
+          steps = set_at (world_of v).steps p 0;
+          turns = set_at (world_of v).turns p 0;
         } in w) (sym begun_is)
 
-    idle_is : (shown v).call p ≡ None
+    idle_is : (world_of v).call p ≡ None
     idle_is = rw here (rw idle refl)
 
-    begun_later : (q : ℕ) → (shown begun_whole).begun q ≡ set_at (shown v).begun p ((shown v).begun p + 1) q
-    begun_later q = ap (λ (w : WorldOf S I R). w.begun q) shown-begun
+    begun_later : (q : ℕ) → (world_of begun_whole).begun q ≡ set_at (world_of v).begun p ((world_of v).begun p + 1) q
+    begun_later q = ap (λ (w : WorldOf S I R). w.begun q) world_of-begun
 
-    pub IsWorld-begun : a'.cells.row ≡ v.shared.cells.row → ChangesOnly (made_of v.shared.cells) (made_of a'.cells) p (made_of v.shared.cells p + 1) → l.begun ≢ v.row
-        → IsWorld next answer begun_whole
+    pub IsWorld-begun : a'.cells.row ≡ v.shared.cells.row → ChangesOnly (made_of v.shared.cells) (made_of a'.cells) p (made_of v.shared.cells p + 1) → made_of v.shared.cells p < v.shared.cells.row
+        → IsWorld object begun_whole
     IsWorld-begun row made free = record {
       locals = length-slice_set v.locals p begun_local ∙ is.locals ∙ sym count;
       few = subst (λ k. k ≤ 16) (sym count) is.few;
       row = is.row ∙ sym row;
-      begun = λ q inside. begun_later q ∙ (elim (number_cases q p) [
-        | inl h ↦ rw h.1 (ap (λ k. k + 1) (is.begun p below) ∙ sym (made q ∙ rw h.1 refl))
-        | inr h ↦ rw h.1 (is.begun q (subst (λ k. q < k) count inside) ∙ sym (made q ∙ rw h.1 refl))
+      made = λ q inside. begun_later q ∙ (elim (number_cases q p) [
+        | inl h ↦ rw h.1 (let was : (world_of v).begun p ≡ 0 + made_of v.shared.cells p = is.made p below in let now : made_of a'.cells q ≡ made_of v.shared.cells p + 1 = made q ∙ rw h.1 refl in omega arith)
+        | inr h ↦ rw h.1 (is.made q (subst (λ k. q < k) count inside) ∙ ap (λ k. 0 + k) (sym (made q ∙ rw h.1 refl)))
       ]);
-      room = λ q. subst (λ k. k ≤ v.row) (sym (begun_later q)) (elim (number_cases q p) [
-        | inl h ↦ rw h.1 (let bound : (shown v).begun p ≤ v.row = is.room p in let e : (shown v).begun p ≡ l.begun = begun_is in let f = free in omega arith)
+      room = λ q. subst (λ k. k - 0 ≤ v.row) (sym (begun_later q)) (elim (number_cases q p) [
+        | inl h ↦ rw h.1 (let e : (world_of v).begun p ≡ l.begun = begun_is in let was : (world_of v).begun p ≡ 0 + made_of v.shared.cells p = is.made p below in let rows : v.row ≡ v.shared.cells.row = is.row in let f = free in omega arith)
         | inr h ↦ rw h.1 (is.room q)
       ]);
       numbers = subst (λ k. seq_of (memory_of a') Anchor + k * v.row < 2 ^ 48) (sym count) (subst (λ (m : Memory S I R). seq_of m Anchor + processes_of v.shared.cells * v.row < 2 ^ 48) (sym wrote) is.numbers);
-      sound = subst (λ w. HelpingInvariant next answer w) (sym shown-begun) (HelpingInvariant-happened next answer (shown v) (Call p i) (below, idle_is) is.counts is.sound);
-      counts = subst CountsSteps (sym shown-begun) (CountsSteps-happened next answer (shown v) (Call p i) (below, idle_is) (is.sound.0, is.sound.1, is.sound.2) is.counts);
+      sound = subst (λ w. HelpingInvariant object w) (sym world_of-begun) (HelpingInvariant-world_after object (world_of v) (Call p i) (below, idle_is) is.counts is.sound);
+      counts = subst CountsSteps (sym world_of-begun) (CountsSteps-world_after object (world_of v) (Call p i) (below, idle_is) (is.sound.0, is.sound.1, is.sound.2) is.counts);
     }
 
-  module _ (a' : Shared S I R) (call : Pending) (pending : l.call ≡ Some call) (to : Option Stage)
-      (takes : Takes next answer p (name_of (processes_of v.shared.cells) call.mine) (stage_of (processes_of v.shared.cells) call.stage) v.shared a' (option_map (stage_of (processes_of v.shared.cells)) to))
+  module _ (a' : Shared S I R) (call : Pending) (pending : l.call ≡ Some call) (to : Option Stage) (response : Option R)
+      (takes : Takes object p (name_of (processes_of v.shared.cells) call.mine) (stage_of (processes_of v.shared.cells) call.stage) v.shared a' (option_map (stage_of (processes_of v.shared.cells)) to) response)
       (steps turns : ℕ) (steps_is : steps ≡ l.steps + 1)
       (turns_is : turns ≡ l.turns + turn_of (stage_of (processes_of v.shared.cells) call.stage) (memory_of v.shared (place_of (processes_of v.shared.cells) p (name_of (processes_of v.shared.cells) call.mine) (stage_of (processes_of v.shared.cells) call.stage)))) where
     abbrev pub stepped_local : Local
@@ -139,7 +144,7 @@ module _ {O S I R : Type 0} (next : S → I → S) (answer : S → I → R) (v :
     abbrev pub stepped_whole : Whole O S I R
     stepped_whole = record { object = v.object; row = v.row; shared = a'; locals = slice_set v.locals p stepped_local }
 
-    pub pending_is : (shown v).call p ≡ Some (pending_of (processes_of v.shared.cells) call)
+    pub pending_is : (world_of v).call p ≡ Some (pending_of (processes_of v.shared.cells) call)
     pending_is = rw here (rw pending refl)
 
     call_later : (o : Option Stage) → call_at (processes_of v.shared.cells) (Some (record { call = option_map (λ s. record { mine = call.mine; stage = s }) o; begun = l.begun; steps = steps; turns = turns }))
@@ -149,55 +154,56 @@ module _ {O S I R : Type 0} (next : S → I → S) (answer : S → I → R) (v :
 
     -- the step of a process whose call is this
     abbrev pub step_of : Option PendingAt → WorldOf S I R
-    step_of o = stepped next answer (shown v) p o
+    step_of o = world_after_step object (world_of v) p o
 
-    stepped_call : set_at (shown v).call p (call_at (processes_of v.shared.cells) (Some stepped_local)) ≡ (step_of (Some (pending_of (processes_of v.shared.cells) call))).call
-    stepped_call = ap (λ o. set_at (shown v).call p o) (call_later to ∙ ap (call_after (name_of (processes_of v.shared.cells) call.mine)) takes.stage)
+    stepped_call : set_at (world_of v).call p (call_at (processes_of v.shared.cells) (Some stepped_local)) ≡ (step_of (Some (pending_of (processes_of v.shared.cells) call))).call
+    stepped_call = ap (λ o. set_at (world_of v).call p o) (call_later to ∙ ap (call_after (name_of (processes_of v.shared.cells) call.mine)) takes.stage)
 
-    stepped_begun : set_at (shown v).begun p l.begun ≡ (shown v).begun
-    stepped_begun = set_at-same (shown v).begun p l.begun (rw here refl)
+    stepped_begun : set_at (world_of v).begun p l.begun ≡ (world_of v).begun
+    stepped_begun = set_at-same (world_of v).begun p l.begun (rw here refl)
 
-    stepped_steps : set_at (shown v).steps p steps ≡ (step_of (Some (pending_of (processes_of v.shared.cells) call))).steps
-    stepped_steps = ap (λ k. set_at (shown v).steps p k) (steps_is ∙ later_steps) where
-      later_steps : l.steps + 1 ≡ (shown v).steps p + 1
+    stepped_steps : set_at (world_of v).steps p steps ≡ (step_of (Some (pending_of (processes_of v.shared.cells) call))).steps
+    stepped_steps = ap (λ k. set_at (world_of v).steps p k) (steps_is ∙ later_steps) where
+      later_steps : l.steps + 1 ≡ (world_of v).steps p + 1
       later_steps = rw here refl
 
-    stepped_turns : set_at (shown v).turns p turns ≡ (step_of (Some (pending_of (processes_of v.shared.cells) call))).turns
-    stepped_turns = ap (λ k. set_at (shown v).turns p k) (turns_is ∙ ap (λ k. k + turned) now_turns) where
+    stepped_turns : set_at (world_of v).turns p turns ≡ (step_of (Some (pending_of (processes_of v.shared.cells) call))).turns
+    stepped_turns = ap (λ k. set_at (world_of v).turns p k) (turns_is ∙ ap (λ k. k + turned) now_turns) where
       turned : ℕ
       turned = turn_of (stage_of (processes_of v.shared.cells) call.stage) (memory_of v.shared (place_of (processes_of v.shared.cells) p (name_of (processes_of v.shared.cells) call.mine) (stage_of (processes_of v.shared.cells) call.stage)))
 
-      now_turns : l.turns ≡ (shown v).turns p
+      now_turns : l.turns ≡ (world_of v).turns p
       now_turns = rw here refl
 
     -- the world after the step
-    pub shown-stepped : shown stepped_whole ≡ happened next answer (shown v) (Step p)
-    shown-stepped =
-        ap (λ k. shown_at k (memory_of a') (slice_set v.locals p stepped_local)) takes.shape.processes
-        ∙ ap (λ m. shown_at (processes_of v.shared.cells) m (slice_set v.locals p stepped_local)) takes.memory
-        ∙ shown_at-slice_set (processes_of v.shared.cells) _ v.locals p stepped_local long
+    pub world_of-world_after_step : world_of stepped_whole ≡ world_after object (world_of v) (Step p)
+    world_of-world_after_step =
+        ap (λ k. world_at k (memory_of a') (slice_set v.locals p stepped_local)) takes.shape.processes
+        ∙ ap (λ m. world_at (processes_of v.shared.cells) m (slice_set v.locals p stepped_local)) takes.memory
+        ∙ world_at-slice_set (processes_of v.shared.cells) _ v.locals p stepped_local long
         ∙ (λ i. record {
           n = processes_of v.shared.cells;
           memory = (step_of (Some (pending_of (processes_of v.shared.cells) call))).memory;
           call = stepped_call i;
           begun = stepped_begun i;
+          first = λ q. 0;
           steps = stepped_steps i;
           turns = stepped_turns i;
         })
         ∙ ap step_of (sym pending_is)
 
-    begun_kept : (o : Option PendingAt) (q : ℕ) → (step_of o).begun q ≡ (shown v).begun q
+    begun_kept : (o : Option PendingAt) (q : ℕ) → (step_of o).begun q ≡ (world_of v).begun q
     begun_kept None q = refl
     begun_kept (Some c) q = refl
 
-    begun_stays : (q : ℕ) → (shown stepped_whole).begun q ≡ (shown v).begun q
-    begun_stays q = ap (λ (w : WorldOf S I R). w.begun q) shown-stepped ∙ begun_kept ((shown v).call p) q
+    begun_stays : (q : ℕ) → (world_of stepped_whole).begun q ≡ (world_of v).begun q
+    begun_stays q = ap (λ (w : WorldOf S I R). w.begun q) world_of-world_after_step ∙ begun_kept ((world_of v).call p) q
 
-    kept : Invariant next answer (stepped next answer (shown v) p (Some (pending_of (processes_of v.shared.cells) call)))
-        × Grows (memory_of v.shared) (stepped next answer (shown v) p (Some (pending_of (processes_of v.shared.cells) call))).memory
-    kept = Invariant-stepped next answer (shown v) p (pending_of (processes_of v.shared.cells) call) pending_is (is.sound.0, is.sound.1, is.sound.2)
+    kept : Invariant object (world_after_step object (world_of v) p (Some (pending_of (processes_of v.shared.cells) call)))
+        × Grows (memory_of v.shared) (world_after_step object (world_of v) p (Some (pending_of (processes_of v.shared.cells) call))).memory
+    kept = Invariant-world_after_step object (world_of v) p (pending_of (processes_of v.shared.cells) call) pending_is (is.sound.0, is.sound.1, is.sound.2)
 
-    accepted : IsAccepted (shown v) (Step p)
+    accepted : IsAccepted (world_of v) (Step p)
     accepted = rw pending_is refl
 
     anchor_stays : seq_of (memory_of a') Anchor ≡ seq_of (memory_of v.shared) Anchor
@@ -205,15 +211,15 @@ module _ {O S I R : Type 0} (next : S → I → S) (answer : S → I → R) (v :
         let positive : 1 ≤ seq_of (memory_of v.shared) Anchor = subst (λ k. 1 ≤ k) is.sound.2.numbered.anchor is.sound.2.numbered.first in
         ap (λ (m : Memory S I R). seq_of m Anchor) takes.memory ∙ kept.1.seq Anchor positive
 
-    pub IsWorld-stepped : IsWorld next answer stepped_whole
-    IsWorld-stepped = record {
+    pub IsWorld-world_after_step : IsWorld object stepped_whole
+    IsWorld-world_after_step = record {
       locals = length-slice_set v.locals p stepped_local ∙ is.locals ∙ sym takes.shape.processes;
       few = subst (λ k. k ≤ 16) (sym takes.shape.processes) is.few;
       row = is.row ∙ sym takes.shape.row;
-      begun = λ q inside. begun_stays q ∙ is.begun q (subst (λ k. q < k) takes.shape.processes inside) ∙ sym (takes.shape.made q);
-      room = λ q. subst (λ k. k ≤ v.row) (sym (begun_stays q)) (is.room q);
+      made = λ q inside. begun_stays q ∙ is.made q (subst (λ k. q < k) takes.shape.processes inside) ∙ ap (λ k. 0 + k) (sym (takes.shape.made q));
+      room = λ q. subst (λ k. k - 0 ≤ v.row) (sym (begun_stays q)) (is.room q);
       numbers = subst (λ k. seq_of (memory_of a') Anchor + k * v.row < 2 ^ 48) (sym takes.shape.processes)
           (subst (λ k. k + processes_of v.shared.cells * v.row < 2 ^ 48) (sym anchor_stays) is.numbers);
-      sound = subst (λ w. HelpingInvariant next answer w) (sym shown-stepped) (HelpingInvariant-happened next answer (shown v) (Step p) accepted is.counts is.sound);
-      counts = subst CountsSteps (sym shown-stepped) (CountsSteps-happened next answer (shown v) (Step p) accepted (is.sound.0, is.sound.1, is.sound.2) is.counts);
+      sound = subst (λ w. HelpingInvariant object w) (sym world_of-world_after_step) (HelpingInvariant-world_after object (world_of v) (Step p) accepted is.counts is.sound);
+      counts = subst CountsSteps (sym world_of-world_after_step) (CountsSteps-world_after object (world_of v) (Step p) accepted (is.sound.0, is.sound.1, is.sound.2) is.counts);
     }

@@ -1,8 +1,9 @@
 -- Where a call is pending, its next step can be taken, and its last step finds a response.
-use Rattle.std.proofs.Common.{◌≡◌, ◌∙◌, ℕ, zero, suc, ◌+◌, ◌*◌, ◌<◌, ◌≤◌, ◌^◌, ◌%◌, ◌⊎◌, inl, inr, refl, sym, ap, subst, Option, Some, None, option_map, option_and_then, IsSome, arith, Bool, true, false, cond, nat_eq, nat_lt}
+use Rattle.std.proofs.Common.{◌≡◌, ◌∙◌, ℕ, zero, suc, ◌+◌, ◌-◌, ◌*◌, ◌<◌, ◌≤◌, ◌^◌, ◌%◌, ◌⊎◌, inl, inr, refl, sym, ap, subst, Option, Some, None, option_map, IsSome, arith, Bool, true, false, cond, nat_eq, nat_lt}
 use Rattle.std.specs.Option.{option_map_or}
+use Rattle.seq_object.specs.Sequential.{Sequential}
 use Rattle.cell_arena.specs.CellRecord.{CellRecord}
-use Rattle.cell_arena.specs.Rows.{processes_of, cell_of}
+use Rattle.cell_arena.specs.Arena.{processes_of, cell_of}
 use Rattle.uni_model.specs.Places.{Name, Content, number_in, seq_of, inv_of, after_of}
 use Rattle.uni_model.specs.Places.Name.{Anchor, Of}
 use Rattle.uni_model.specs.Stages.{Stage as at}
@@ -16,8 +17,8 @@ use Rattle.uni_core.specs.declared.stage.Stage.{Stage}
 use Rattle.uni_core.specs.declared.stage.Stage.TheVariants.{Announce, ScanHead, ScanSeq, WriteScan, Test, ReadAnnounce, ReadHelpSeq, DecideAfter, DecideNew, WriteBefore, WriteSeq, WriteHead, Finish}
 use Rattle.uni_core.specs.Shared.{Shared, name_of, memory_of}
 use Rattle.uni_core.specs.Standing.{stage_of, CanStep, IsThere, effect_at, turns_to}
-use Rattle.uni_model.specs.Transition.{place_of, turn_of, effect_of, better}
-use Rattle.uni_core.specs.Whole.{Whole, shown, IsWorld, response_at_stage}
+use Rattle.uni_model.specs.Transition.{place_of, turn_of, stage_after, best_of}
+use Rattle.uni_core.specs.Whole.{Whole, world_of, IsWorld}
 use Rattle.uni_core.proofs.Named.{cell_named-name_of}
 
 Has-IsSome : {A : Type 0} (o : Option A) → Has o → IsSome o
@@ -44,12 +45,12 @@ module _ {S I R : Type 0} (a : Shared S I R) (positive : 1 ≤ processes_of a.ce
     by_cell None g = absurd (let e : None ≡ Some g.0 = g.1 in cc)
     by_cell (Some c) g = refl
 
-module _ {O S I R : Type 0} (next : S → I → S) (answer : S → I → R) (v : Whole O S I R) (is : IsWorld next answer v) (p : ℕ) (below : p < processes_of v.shared.cells) where
+module _ {O S I R : Type 0} (object : Sequential S I R) (v : Whole O S I R) (is : IsWorld object v) (p : ℕ) (below : p < processes_of v.shared.cells) where
   positive : 1 ≤ processes_of v.shared.cells
   positive = omega (arith, below)
 
   -- where p stands in a call that is pending
-  module _ (mine : ℕ) (stage : Stage) (pending : (shown v).call p ≡ Some (record { mine = name_of (processes_of v.shared.cells) mine; stage = stage_of (processes_of v.shared.cells) stage })) where
+  module _ (mine : ℕ) (stage : Stage) (pending : (world_of v).call p ≡ Some (record { mine = name_of (processes_of v.shared.cells) mine; stage = stage_of (processes_of v.shared.cells) stage })) where
     stands : Stands (memory_of v.shared) is.sound.0 (processes_of v.shared.cells) p (name_of (processes_of v.shared.cells) mine) (stage_of (processes_of v.shared.cells) stage)
     stands = is.sound.2.stands p (record { mine = name_of (processes_of v.shared.cells) mine; stage = stage_of (processes_of v.shared.cells) stage }) pending
 
@@ -60,23 +61,23 @@ module _ {O S I R : Type 0} (next : S → I → S) (answer : S → I → R) (v :
 
     head_there : (c s : ℕ) → AtHead (memory_of v.shared) p (name_of (processes_of v.shared.cells) c) s → IsThere v.shared c
     head_there c s h = there_seq v.shared positive c
-        (head_number next answer (shown v) is.sound.0 is.sound.1 is.sound.2 p (name_of (processes_of v.shared.cells) mine) (stage_of (processes_of v.shared.cells) stage) pending (name_of (processes_of v.shared.cells) c) s h).0
+        (head_number object (world_of v) is.sound.0 is.sound.1 is.sound.2 p (name_of (processes_of v.shared.cells) mine) (stage_of (processes_of v.shared.cells) stage) pending (name_of (processes_of v.shared.cells) c) s h).0
 
     -- a number of p's head leaves room for the next
     head_small : (c s : ℕ) → AtHead (memory_of v.shared) p (name_of (processes_of v.shared.cells) c) s → s < 2 ^ 48
     head_small c s h =
         let number : s ≡ is.sound.0 (name_of (processes_of v.shared.cells) c)
-        = (head_number next answer (shown v) is.sound.0 is.sound.1 is.sound.2 p (name_of (processes_of v.shared.cells) mine) (stage_of (processes_of v.shared.cells) stage) pending (name_of (processes_of v.shared.cells) c) s h).1 in
+        = (head_number object (world_of v) is.sound.0 is.sound.1 is.sound.2 p (name_of (processes_of v.shared.cells) mine) (stage_of (processes_of v.shared.cells) stage) pending (name_of (processes_of v.shared.cells) c) s h).1 in
         let top : is.sound.0 (name_of (processes_of v.shared.cells) c) ≤ is.sound.1 = is.sound.2.numbered.greatest (name_of (processes_of v.shared.cells) c) in
-        let all : is.sound.1 ≤ is.sound.0 Anchor + calls_begun (shown v) = enough next answer (shown v) is.sound.0 is.sound.1 is.sound.2 in
-        let each : calls_begun (shown v) ≤ processes_of v.shared.cells * v.row = sum_below-bound (processes_of v.shared.cells) v.row (shown v).begun is.room in
+        let all : is.sound.1 ≤ is.sound.0 Anchor + calls_begun (world_of v) = enough object (world_of v) is.sound.0 is.sound.1 is.sound.2 in
+        let each : calls_begun (world_of v) ≤ processes_of v.shared.cells * v.row = sum_below-bound (processes_of v.shared.cells) v.row (world_of v).begun (λ q. let room : (world_of v).begun q - 0 ≤ v.row = is.room q in omega arith) in
         let anchor : is.sound.0 Anchor ≡ seq_of (memory_of v.shared) Anchor = is.sound.2.numbered.anchor in
         let fits : seq_of (memory_of v.shared) Anchor + processes_of v.shared.cells * v.row < 2 ^ 48 = is.numbers in
         omega arith
 
     linked : (c s d : ℕ) → AtHead (memory_of v.shared) p (name_of (processes_of v.shared.cells) c) s
         → after_of (memory_of v.shared) (name_of (processes_of v.shared.cells) c) ≡ Some (name_of (processes_of v.shared.cells) d) → Has (inv_of (memory_of v.shared) (name_of (processes_of v.shared.cells) d))
-    linked c s d h link = linked_call next answer (shown v) is.sound.0 is.sound.1 is.sound.2 p (name_of (processes_of v.shared.cells) mine) (stage_of (processes_of v.shared.cells) stage) pending
+    linked c s d h link = linked_call object (world_of v) is.sound.0 is.sound.1 is.sound.2 p (name_of (processes_of v.shared.cells) mine) (stage_of (processes_of v.shared.cells) stage) pending
         (name_of (processes_of v.shared.cells) c) s (name_of (processes_of v.shared.cells) d) h link
 
   help_there : (help q : ℕ) → (name_of (processes_of v.shared.cells) help ≡ Anchor) ⊎ IsCellOf (memory_of v.shared) q (name_of (processes_of v.shared.cells) help) → IsThere v.shared help
@@ -85,8 +86,17 @@ module _ {O S I R : Type 0} (next : S → I → S) (answer : S → I → R) (v :
     | inr cell ↦ there_inv v.shared positive help (cell.2.0, ap (inv_of (memory_of v.shared)) cell.1 ∙ cell.2.1)
   ]
 
+  -- the last step finds a response
+  response-finish : (mine s t : ℕ) → (world_of v).call p ≡ Some (record { mine = name_of (processes_of v.shared.cells) mine; stage = at.Finish s t }) → IsSome (response_in (memory_of v.shared) (name_of (processes_of v.shared.cells) mine))
+  response-finish mine s t e =
+      let h = is.sound.2.stands p (record { mine = name_of (processes_of v.shared.cells) mine; stage = at.Finish s t }) e in
+      let its = is.sound.2.calls.mine p (record { mine = name_of (processes_of v.shared.cells) mine; stage = at.Finish s t }) e in
+      let threaded : 1 ≤ seq_of (memory_of v.shared) (Of p its.0) = subst (λ x. 1 ≤ seq_of (memory_of v.shared) x) its.1 (subst (λ k. 1 ≤ k) (sym h.2) h.1) in
+      let settled = response-settled object (memory_of v.shared) is.sound.0 is.sound.2.values is.sound.2.back p its.0 threaded in
+      Has-IsSome _ (settled.0, ap (response_in (memory_of v.shared)) its.1 ∙ settled.1)
+
   -- the step of each stage can be taken
-  pub CanStep-pending : (mine : ℕ) (stage : Stage) → (shown v).call p ≡ Some (record { mine = name_of (processes_of v.shared.cells) mine; stage = stage_of (processes_of v.shared.cells) stage }) → CanStep v.shared mine stage
+  pub CanStep-pending : (mine : ℕ) (stage : Stage) → (world_of v).call p ≡ Some (record { mine = name_of (processes_of v.shared.cells) mine; stage = stage_of (processes_of v.shared.cells) stage }) → CanStep v.shared mine stage
   CanStep-pending mine Announce e = tt
   CanStep-pending mine (ScanHead q best s) e = (stands mine (ScanHead q best s) e).0
   CanStep-pending mine (ScanSeq q best s head) e = let h = stands mine (ScanSeq q best s head) e in (h.0, there_seq v.shared positive head h.2)
@@ -98,21 +108,12 @@ module _ {O S I R : Type 0} (next : S → I → S) (answer : S → I → R) (v :
   CanStep-pending mine (DecideNew c s d) e =
       let h = stands mine (DecideNew c s d) e in
       let inv = linked mine (DecideNew c s d) e c s d h.0 h.1 in
-      let threaded = (head_number next answer (shown v) is.sound.0 is.sound.1 is.sound.2 p (name_of (processes_of v.shared.cells) mine) (stage_of (processes_of v.shared.cells) (DecideNew c s d)) e (name_of (processes_of v.shared.cells) c) s h.0).0 in
+      let threaded = (head_number object (world_of v) is.sound.0 is.sound.1 is.sound.2 p (name_of (processes_of v.shared.cells) mine) (stage_of (processes_of v.shared.cells) (DecideNew c s d)) e (name_of (processes_of v.shared.cells) c) s h.0).0 in
       (head_there mine (DecideNew c s d) e c s h.0, there_inv v.shared positive d inv, Has-IsSome _ (is.sound.2.values.threaded (name_of (processes_of v.shared.cells) c) threaded), Has-IsSome _ inv)
   CanStep-pending mine (WriteBefore c s d) e = let h = stands mine (WriteBefore c s d) e in there_inv v.shared positive d (linked mine (WriteBefore c s d) e c s d h.0 h.1)
   CanStep-pending mine (WriteSeq c s d) e = let h = stands mine (WriteSeq c s d) e in (there_inv v.shared positive d (linked mine (WriteSeq c s d) e c s d h.0 h.1), head_small mine (WriteSeq c s d) e c s h.0)
   CanStep-pending mine (WriteHead c s d) e = head_small mine (WriteHead c s d) e c s (stands mine (WriteHead c s d) e).0
-  CanStep-pending mine (Finish s t) e = mine_there mine (Finish s t) e
-
-  -- the last step finds a response
-  pub response-finish : (mine s t : ℕ) → (shown v).call p ≡ Some (record { mine = name_of (processes_of v.shared.cells) mine; stage = at.Finish s t }) → IsSome (response_in (memory_of v.shared) (name_of (processes_of v.shared.cells) mine))
-  response-finish mine s t e =
-      let h = is.sound.2.stands p (record { mine = name_of (processes_of v.shared.cells) mine; stage = at.Finish s t }) e in
-      let its = is.sound.2.calls.mine p (record { mine = name_of (processes_of v.shared.cells) mine; stage = at.Finish s t }) e in
-      let threaded : 1 ≤ seq_of (memory_of v.shared) (Of p its.0) = subst (λ x. 1 ≤ seq_of (memory_of v.shared) x) its.1 (subst (λ k. 1 ≤ k) (sym h.2) h.1) in
-      let settled = response-settled next answer (memory_of v.shared) is.sound.0 is.sound.2.values is.sound.2.back p its.0 threaded in
-      Has-IsSome _ (settled.0, ap (response_in (memory_of v.shared)) its.1 ∙ settled.1)
+  CanStep-pending mine (Finish s t) e = (mine_there mine (Finish s t) e, response-finish mine s t e)
 
 -- how many turns begin with a stage of the definitions
 abbrev pub turns_at : Option at → ℕ
@@ -136,72 +137,30 @@ turns_to-stage_of n (Some (WriteHead c s d)) = refl
 turns_to-stage_of n (Some (Finish s t)) = refl
 
 -- how many turns a step adds, told by where the process stands then
-turn_of-effect : {S I R : Type 0} (next : S → I → S) (answer : S → I → R) (n : ℕ) (mine : Name) (stage : at) (v : Content S I R) (inv : Option I) (new : Option (S × Option R))
-    → turn_of stage v ≡ turns_at (effect_of next answer n mine stage v inv new).stage
-turn_of-effect next answer n mine at.Announce v inv new = refl
-turn_of-effect next answer n mine (at.ScanHead q best s) v inv new = refl
-turn_of-effect next answer n mine (at.ScanSeq q best s head) v inv new = by_test (nat_lt (q + 1) n) where
-  by_test : (b : Bool) → 0 ≡ turns_at (Some (cond b (at.ScanHead (q + 1) (better s (number_in v) head best) (better s (number_in v) (number_in v) s)) (at.WriteScan (better s (number_in v) head best) (better s (number_in v) (number_in v) s))))
+turn_of-stage_after : {S I R : Type 0} (n : ℕ) (mine : Name) (stage : at) (v : Content S I R)
+    → turn_of stage v ≡ turns_at (stage_after n mine stage v)
+turn_of-stage_after n mine at.Announce v = refl
+turn_of-stage_after n mine (at.ScanHead q best s) v = refl
+turn_of-stage_after n mine (at.ScanSeq q best s head) v = by_test (nat_lt (q + 1) n) where
+  by_test : (b : Bool) → 0 ≡ turns_at (Some (cond b (at.ScanHead (q + 1) (best_of s (number_in v) head best) (best_of s (number_in v) (number_in v) s)) (at.WriteScan (best_of s (number_in v) head best) (best_of s (number_in v) (number_in v) s))))
   by_test true = refl
   by_test false = refl
-turn_of-effect next answer n mine (at.WriteScan best s) v inv new = refl
-turn_of-effect next answer n mine (at.Test c s) v inv new = by_test (nat_eq (number_in v) 0) where
+turn_of-stage_after n mine (at.WriteScan best s) v = refl
+turn_of-stage_after n mine (at.Test c s) v = by_test (nat_eq (number_in v) 0) where
   by_test : (b : Bool) → cond b 1 0 ≡ turns_at (Some (cond b (at.ReadAnnounce c s) (at.Finish s (number_in v))))
   by_test true = refl
   by_test false = refl
-turn_of-effect next answer n mine (at.ReadAnnounce c s) v inv new = refl
-turn_of-effect next answer n mine (at.ReadHelpSeq c s help) v inv new = refl
-turn_of-effect next answer n mine (at.DecideAfter c s prefer) v inv new = refl
-turn_of-effect next answer n mine (at.DecideNew c s d) v inv new = refl
-turn_of-effect next answer n mine (at.WriteBefore c s d) v inv new = refl
-turn_of-effect next answer n mine (at.WriteSeq c s d) v inv new = refl
-turn_of-effect next answer n mine (at.WriteHead c s d) v inv new = refl
-turn_of-effect next answer n mine (at.Finish s t) v inv new = refl
+turn_of-stage_after n mine (at.ReadAnnounce c s) v = refl
+turn_of-stage_after n mine (at.ReadHelpSeq c s help) v = refl
+turn_of-stage_after n mine (at.DecideAfter c s prefer) v = refl
+turn_of-stage_after n mine (at.DecideNew c s d) v = refl
+turn_of-stage_after n mine (at.WriteBefore c s d) v = refl
+turn_of-stage_after n mine (at.WriteSeq c s d) v = refl
+turn_of-stage_after n mine (at.WriteHead c s d) v = refl
+turn_of-stage_after n mine (at.Finish s t) v = refl
 
-pub turns_to-effect : {S I R : Type 0} (next : S → I → S) (answer : S → I → R) (a : Shared S I R) (p : ℕ) (mine : Name) (stage : at) (to : Option Stage)
-    → option_map (stage_of (processes_of a.cells)) to ≡ (effect_at next answer a p mine stage).stage
+pub turns_to-effect : {S I R : Type 0} (object : Sequential S I R) (a : Shared S I R) (p : ℕ) (mine : Name) (stage : at) (to : Option Stage)
+    → option_map (stage_of (processes_of a.cells)) to ≡ (effect_at object a p mine stage).stage
     → turns_to to ≡ turn_of stage (memory_of a (place_of (processes_of a.cells) p mine stage))
-turns_to-effect next answer a p mine stage to e =
-    turns_to-stage_of (processes_of a.cells) to ∙ ap turns_at e ∙ sym (turn_of-effect next answer (processes_of a.cells) mine stage _ _ _)
-
--- a cell whose response is settled is there
-pub there_response : {S I R : Type 0} (a : Shared S I R) (positive : 1 ≤ processes_of a.cells) (id : ℕ) → IsSome (response_in (memory_of a) (name_of (processes_of a.cells) id)) → IsThere a id
-there_response {S = S} {I = I} {R = R} a positive id h =
-    by_cell (cell_of a.cells id) (subst (λ o. IsSome (option_and_then (λ (new : S × Option R). new.1) (option_map_or (λ (c : CellRecord S I R). c.new) o None))) (cell_named-name_of (processes_of a.cells) positive (cell_of a.cells) id) h) where
-      by_cell : (o : Option (CellRecord S I R)) → IsSome (option_and_then (λ (new : S × Option R). new.1) (option_map_or (λ (c : CellRecord S I R). c.new) o None)) → IsSome o
-      by_cell None g = absurd (let f : false ≡ true = g in cc)
-      by_cell (Some c) g = refl
-
--- a step after which the process goes on has no response
-pub goes_on : {S I R : Type 0} (next : S → I → S) (answer : S → I → R) (a : Shared S I R) (p : ℕ) (mine : Name) (stage : at) (s : at) (r : Option R)
-    → Some s ≡ (effect_at next answer a p mine stage).stage → response_at_stage r stage ≡ None
-goes_on next answer a p mine at.Announce s r e = refl
-goes_on next answer a p mine (at.ScanHead q best t) s r e = refl
-goes_on next answer a p mine (at.ScanSeq q best t head) s r e = refl
-goes_on next answer a p mine (at.WriteScan best t) s r e = refl
-goes_on next answer a p mine (at.Test c t) s r e = refl
-goes_on next answer a p mine (at.ReadAnnounce c t) s r e = refl
-goes_on next answer a p mine (at.ReadHelpSeq c t help) s r e = refl
-goes_on next answer a p mine (at.DecideAfter c t prefer) s r e = refl
-goes_on next answer a p mine (at.DecideNew c t d) s r e = refl
-goes_on next answer a p mine (at.WriteBefore c t d) s r e = refl
-goes_on next answer a p mine (at.WriteSeq c t d) s r e = refl
-goes_on next answer a p mine (at.WriteHead c t d) s r e = refl
-goes_on next answer a p mine (at.Finish c t) s r e = cc
-
--- a step that ends the call is the last kind
-pub ends_at : {S I R : Type 0} (next : S → I → S) (answer : S → I → R) (a : Shared S I R) (p : ℕ) (mine : Name) (stage : at)
-    → None ≡ (effect_at next answer a p mine stage).stage → (s : ℕ) × (t : ℕ) × (stage ≡ at.Finish s t)
-ends_at next answer a p mine at.Announce e = cc
-ends_at next answer a p mine (at.ScanHead q best t) e = cc
-ends_at next answer a p mine (at.ScanSeq q best t head) e = cc
-ends_at next answer a p mine (at.WriteScan best t) e = cc
-ends_at next answer a p mine (at.Test c t) e = cc
-ends_at next answer a p mine (at.ReadAnnounce c t) e = cc
-ends_at next answer a p mine (at.ReadHelpSeq c t help) e = cc
-ends_at next answer a p mine (at.DecideAfter c t prefer) e = cc
-ends_at next answer a p mine (at.DecideNew c t d) e = cc
-ends_at next answer a p mine (at.WriteBefore c t d) e = cc
-ends_at next answer a p mine (at.WriteSeq c t d) e = cc
-ends_at next answer a p mine (at.WriteHead c t d) e = cc
-ends_at next answer a p mine (at.Finish s t) e = (s, t, refl)
+turns_to-effect object a p mine stage to e =
+    turns_to-stage_of (processes_of a.cells) to ∙ ap turns_at e ∙ sym (turn_of-stage_after (processes_of a.cells) mine stage _)

@@ -1,26 +1,30 @@
 -- What a step leaves.
-use Rattle.std.proofs.Common.{◌≡◌, ◌∙◌, ℕ, ◌+◌, ◌*◌, ◌^◌, ◌<◌, ◌≤◌, refl, sym, ap, subst, Option, Some, None, option_map, is_some, IsSome, arith, Bool, true, false, slice_get, slice_set, get_or, Result, Ok, Err, OnErr}
-use Rattle.cell_arena.specs.Rows.{processes_of, cell_of}
-use Rattle.uni_model.specs.Places.{Memory}
-use Rattle.uni_model.specs.Stages.{Stage as at, Pending as PendingAt}
+use Rattle.std.proofs.Common.{◌≡◌, ◌∙◌, ℕ, ◌+◌, ◌*◌, ◌^◌, ◌<◌, ◌≤◌, refl, sym, ap, subst, Option, Some, None, option_map, IsSome, arith, slice_get, slice_set, get_or, Result, Ok, Err, OnErr}
+use Rattle.cell_arena.proofs.Lists.{slice_get-set_same}
+use Rattle.seq_object.specs.Sequential.{Sequential}
+use Rattle.cell_arena.specs.Arena.{processes_of}
+use Rattle.uni_model.specs.Stages.{Pending as PendingAt}
 use Rattle.uni_model.specs.Transition.{place_of, turn_of}
-use Rattle.uni_model.specs.Chain.{response_in}
-use Rattle.uni_model.specs.Worlds.{happened}
+use Rattle.uni_model.specs.Worlds.{world_after, response_of_step}
 use Rattle.uni_model.specs.Worlds.Event.{Step}
 use Rattle.uni_model.specs.Bound.{IsBounded, IsWithinBound}
-use Rattle.uni_model.specs.History.{Shows, acts_of}
+use Rattle.uni_model.specs.Settled.{SeesSettled}
+use Rattle.uni_model.proofs.Seen.{SeesSettled-held}
 use Rattle.uni_model.proofs.Simulation.{step_accepted}
 use Rattle.uni_model.proofs.Bounded.{IsBounded-held}
 use Rattle.uni_core.specs.declared.local.Local.{Local}
 use Rattle.uni_core.specs.declared.stage.Stage.{Stage}
 use Rattle.uni_core.specs.declared.stage.Stage.TheVariants.{Announce, ScanHead, ScanSeq, WriteScan, Test, ReadAnnounce, ReadHelpSeq, DecideAfter, DecideNew, WriteBefore, WriteSeq, WriteHead, Finish}
 use Rattle.uni_core.specs.declared.stage.Pending.{Pending}
+use Rattle.uni_core.specs.declared.transition.After.{After}
+use Rattle.uni_core.specs.declared.transition.After.TheVariants.{At, Ended}
+use Rattle.uni_core.specs.declared.fault.Progress.TheVariants.{Going, Done}
 use Rattle.uni_core.specs.Shared.{Shared, name_of, memory_of}
-use Rattle.uni_core.specs.Standing.{stage_of, pending_of, Takes, CanStep, MayBeRefused, turns_to}
-use Rattle.uni_core.specs.Whole.{Whole, shown, IsWorld, Follows, MayNeedMemory, MayNeedMemoryAt, response_of_step}
+use Rattle.uni_core.specs.Standing.{stage_of, stage_told, response_told, pending_of, Takes, CanStep, MayBeRefused, turns_to}
+use Rattle.uni_core.specs.Whole.{Whole, world_of, IsWorld, TakesEffect, MayNeedMemory, MayNeedMemoryAt, progress_of}
 use Rattle.uni_core.proofs.Begin.{inside_count, local_here}
-use Rattle.uni_core.proofs.Shown.{stepped_whole, stepped_local, shown-stepped, IsWorld-stepped}
-use Rattle.uni_core.proofs.Steppable.{CanStep-pending, turns_to-effect, response-finish, there_response, goes_on, ends_at}
+use Rattle.uni_core.proofs.Shown.{stepped_whole, stepped_local, world_of-world_after_step, IsWorld-world_after_step}
+use Rattle.uni_core.proofs.Steppable.{CanStep-pending, turns_to-effect}
 
 refused_at : {S I R : Type 0} (a : Shared S I R) (stage : Stage) → MayBeRefused a stage → MayNeedMemoryAt (memory_of a) (stage_of (processes_of a.cells) stage)
 refused_at a (DecideNew c s d) h = h
@@ -37,7 +41,7 @@ refused_at a (WriteSeq c s d) h = h
 refused_at a (WriteHead c s d) h = h
 refused_at a (Finish s t) h = h
 
-module _ {O S I R : Type 0} (next : S → I → S) (answer : S → I → R) (v now : Whole O S I R) (view : v ≡ now) (is : IsWorld next answer v) (p k : ℕ) (l : Local)
+module _ {O S I R : Type 0} (object : Sequential S I R) (v now : Whole O S I R) (view : v ≡ now) (is : IsWorld object v) (p k : ℕ) (l : Local)
     (count : k ≡ processes_of v.shared.cells) (below : p < k) (read : l ≡ get_or v.locals p l) (call : Pending) (pending : l.call ≡ Some call) where
   abbrev pub at_v : PendingAt
   at_v = pending_of (processes_of v.shared.cells) call
@@ -46,132 +50,111 @@ module _ {O S I R : Type 0} (next : S → I → S) (answer : S → I → R) (v n
   inside = inside_count (processes_of v.shared.cells) k p count below
 
   pub here : slice_get v.locals p ≡ Some l
-  here = local_here next answer v is p l inside read
+  here = local_here object v is p l inside read
 
-  pend : (shown v).call p ≡ Some at_v
+  pend : (world_of v).call p ≡ Some at_v
   pend = rw here (rw pending refl)
 
   pub can_step : CanStep v.shared call.mine call.stage
-  can_step = CanStep-pending next answer v is p inside call.mine call.stage pend
+  can_step = CanStep-pending object v is p inside call.mine call.stage pend
 
-  bounded : ((shown v).turns p ≤ processes_of v.shared.cells + 1) × ((shown v).steps p < 10 * processes_of v.shared.cells + 12)
+  bounded : ((world_of v).turns p ≤ processes_of v.shared.cells + 1) × ((world_of v).steps p < 10 * processes_of v.shared.cells + 12)
   bounded =
-      let all : IsBounded (shown v) = IsBounded-held next answer (shown v) is.counts is.sound in
-      let own : IsWithinBound (processes_of v.shared.cells) ((shown v).call p) ((shown v).begun p) ((shown v).steps p) ((shown v).turns p) = all p in
+      let all : IsBounded (world_of v) = IsBounded-held object (world_of v) is.counts is.sound in
+      let own : IsWithinBound (processes_of v.shared.cells) ((world_of v).call p) ((world_of v).begun p) ((world_of v).steps p) ((world_of v).turns p) = all p in
       rw pend at own
 
   pub steps_fit : l.steps < 2 ^ 32
   steps_fit =
       let few : processes_of v.shared.cells ≤ 16 = is.few in
-      let steps : (shown v).steps p ≡ l.steps = rw here refl in
-      let bound : (shown v).steps p < 10 * processes_of v.shared.cells + 12 = bounded.1 in
+      let steps : (world_of v).steps p ≡ l.steps = rw here refl in
+      let bound : (world_of v).steps p < 10 * processes_of v.shared.cells + 12 = bounded.1 in
       omega arith
 
   pub turns_fit : l.turns < 2 ^ 32
   turns_fit =
       let few : processes_of v.shared.cells ≤ 16 = is.few in
-      let turns : (shown v).turns p ≡ l.turns = rw here refl in
-      let bound : (shown v).turns p ≤ processes_of v.shared.cells + 1 = bounded.0 in
+      let turns : (world_of v).turns p ≡ l.turns = rw here refl in
+      let bound : (world_of v).turns p ≤ processes_of v.shared.cells + 1 = bounded.0 in
       omega arith
 
-  pub not_idle : (shown now).call p ≡ None → ⊥
-  not_idle e = let f = subst (λ (x : Whole O S I R). (shown x).call p ≡ Some at_v) view pend in cc
+  pub not_idle : (world_of now).call p ≡ None → ⊥
+  not_idle e = let f = subst (λ (x : Whole O S I R). (world_of x).call p ≡ Some at_v) view pend in cc
 
-  pub may_need : MayBeRefused v.shared call.stage → MayNeedMemory (shown now) p
-  may_need h = subst (λ (x : Whole O S I R). MayNeedMemory (shown x) p) view (rw pend (refused_at v.shared call.stage h))
+  pub may_need : MayBeRefused v.shared call.stage → MayNeedMemory (world_of now) p
+  may_need h = subst (λ (x : Whole O S I R). MayNeedMemory (world_of x) p) view (rw pend (refused_at v.shared call.stage h))
 
-  module _ (a' : Shared S I R) (to : Option Stage)
-      (takes : Takes next answer p (name_of (processes_of v.shared.cells) call.mine) (stage_of (processes_of v.shared.cells) call.stage) v.shared a' (option_map (stage_of (processes_of v.shared.cells)) to))
+  module _ (a' : Shared S I R) (told : After R)
+      (taken : Takes object p (name_of (processes_of v.shared.cells) call.mine) (stage_of (processes_of v.shared.cells) call.stage) v.shared a' (stage_told (processes_of v.shared.cells) told) (response_told told))
+      (to : Option Stage) (to_is : (n : ℕ) → option_map (stage_of n) to ≡ stage_told n told)
       (after : Local) (call_is : after.call ≡ option_map (λ s. record { mine = call.mine; stage = s }) to) (begun_is : after.begun ≡ l.begun)
       (steps_is : after.steps ≡ l.steps + 1) (turns_is : after.turns ≡ l.turns + turns_to to) where
+    takes : Takes object p (name_of (processes_of v.shared.cells) call.mine) (stage_of (processes_of v.shared.cells) call.stage) v.shared a' (option_map (stage_of (processes_of v.shared.cells)) to) (response_told told)
+    takes = subst (λ s. Takes object p (name_of (processes_of v.shared.cells) call.mine) (stage_of (processes_of v.shared.cells) call.stage) v.shared a' s (response_told told)) (sym (to_is (processes_of v.shared.cells))) taken
+
     turns_counted : after.turns ≡ l.turns + turn_of (stage_of (processes_of v.shared.cells) call.stage) (memory_of v.shared (place_of (processes_of v.shared.cells) p (name_of (processes_of v.shared.cells) call.mine) (stage_of (processes_of v.shared.cells) call.stage)))
-    turns_counted = turns_is ∙ ap (λ t. l.turns + t) (turns_to-effect next answer v.shared p (name_of (processes_of v.shared.cells) call.mine) (stage_of (processes_of v.shared.cells) call.stage) to takes.stage)
+    turns_counted = turns_is ∙ ap (λ t. l.turns + t) (turns_to-effect object v.shared p (name_of (processes_of v.shared.cells) call.mine) (stage_of (processes_of v.shared.cells) call.stage) to takes.stage)
 
     abbrev pub left : Whole O S I R
     left = record { object = v.object; row = v.row; shared = a'; locals = slice_set v.locals p after }
 
-    same_local : stepped_local next answer v is p l here inside a' call pending to takes after.steps after.turns steps_is turns_counted ≡ after
+    same_local : stepped_local object v is p l here inside a' call pending to (response_told told) takes after.steps after.turns steps_is turns_counted ≡ after
     same_local = λ i. record { call = sym call_is i; begun = sym begun_is i; steps = after.steps; turns = after.turns }
 
-    same_whole : stepped_whole next answer v is p l here inside a' call pending to takes after.steps after.turns steps_is turns_counted ≡ left
+    same_whole : stepped_whole object v is p l here inside a' call pending to (response_told told) takes after.steps after.turns steps_is turns_counted ≡ left
     same_whole = ap (λ (x : Local). let w : Whole O S I R = record { object = v.object; row = v.row; shared = a'; locals = slice_set v.locals p x } in w) same_local
 
-    pub IsWorld-left : IsWorld next answer left
-    IsWorld-left = subst (λ w. IsWorld next answer w) same_whole (IsWorld-stepped next answer v is p l here inside a' call pending to takes after.steps after.turns steps_is turns_counted)
+    pub IsWorld-left : IsWorld object left
+    IsWorld-left = subst (λ w. IsWorld object w) same_whole (IsWorld-world_after_step object v is p l here inside a' call pending to (response_told told) takes after.steps after.turns steps_is turns_counted)
 
-    pub IsBounded-left : IsBounded (shown left)
-    IsBounded-left = let world = IsWorld-left in IsBounded-held next answer (shown left) world.counts world.sound
+    pub IsBounded-left : IsBounded (world_of left)
+    IsBounded-left = let world = IsWorld-left in IsBounded-held object (world_of left) world.counts world.sound
 
-    pub shown-left : shown left ≡ happened next answer (shown now) (Step p)
-    shown-left = sym (ap shown same_whole) ∙ shown-stepped next answer v is p l here inside a' call pending to takes after.steps after.turns steps_is turns_counted
-        ∙ ap (λ (x : Whole O S I R). happened next answer (shown x) (Step p)) view
+    pub world_of-left : world_of left ≡ world_after object (world_of now) (Step p)
+    world_of-left = sym (ap world_of same_whole) ∙ world_of-world_after_step object v is p l here inside a' call pending to (response_told told) takes after.steps after.turns steps_is turns_counted
+        ∙ ap (λ (x : Whole O S I R). world_after object (world_of x) (Step p)) view
 
-    pub Follows-left : Follows next answer (shown now) (shown left) (acts_of next answer (shown now) (Step p))
+    Follows-left : TakesEffect object (world_of now) (Step p)
     Follows-left a shows =
-        let sound = subst (λ (x : Whole O S I R). IsWorld next answer x) view is in
-        let pend_now : (shown now).call p ≡ Some at_v = subst (λ (x : Whole O S I R). (shown x).call p ≡ Some at_v) view pend in
-        let accepted = step_accepted next answer (shown now) sound.sound.0 sound.sound.1 sound.sound.2 p at_v.mine a shows at_v.stage pend_now in
-        (accepted.0, subst (λ w. Shows w accepted.0) (sym shown-left) accepted.1, accepted.2)
+        let sound = subst (λ (x : Whole O S I R). IsWorld object x) view is in
+        let pend_now : (world_of now).call p ≡ Some at_v = subst (λ (x : Whole O S I R). (world_of x).call p ≡ Some at_v) view pend in
+        step_accepted object (world_of now) sound.sound.0 sound.sound.1 sound.sound.2 p at_v.mine a shows at_v.stage pend_now
 
-    -- the same for the functions of the object, as a contract has them
-    module _ (o : O) (nexts : O → S → I → S) (answers : O → S → I → R) (next_is : next ≡ nexts v.object) (answer_is : answer ≡ answers v.object) where
+    pub SeesSettled-left : SeesSettled (world_of now) p
+    SeesSettled-left =
+        let sound = subst (λ (x : Whole O S I R). IsWorld object x) view is in
+        SeesSettled-held object (world_of now) (sound.sound.0, sound.sound.1, sound.sound.2) p
+
+    -- the same for the meaning of the object, as a contract has it
+    module _ (o : O) (sequential : O → Sequential S I R) (is_object : object ≡ sequential v.object) where
       abbrev pub left_with : Whole O S I R
       left_with = record { object = o; row = v.row; shared = a'; locals = slice_set v.locals p after }
 
-      pub shown-left_with : shown left_with ≡ happened (nexts now.object) (answers now.object) (shown now) (Step p)
-      shown-left_with = shown-left ∙ ap (λ f. happened f answer (shown now) (Step p)) next_is
-          ∙ ap (λ f. happened (nexts v.object) f (shown now) (Step p)) answer_is
-          ∙ ap (λ (x : Whole O S I R). happened (nexts x.object) (answers x.object) (shown now) (Step p)) view
+      pub world_of-left_with : world_of left_with ≡ world_after (sequential now.object) (world_of now) (Step p)
+      world_of-left_with = world_of-left ∙ ap (λ f. world_after f (world_of now) (Step p)) is_object
+          ∙ ap (λ (x : Whole O S I R). world_after (sequential x.object) (world_of now) (Step p)) view
 
-      pub Follows-left_with : Follows (nexts now.object) (answers now.object) (shown now) (shown left_with) (acts_of (nexts now.object) (answers now.object) (shown now) (Step p))
-      Follows-left_with =
-          let at_next = subst (λ f. Follows f answer (shown now) (shown left) (acts_of f answer (shown now) (Step p))) next_is Follows-left in
-          let at_answer = subst (λ f. Follows (nexts v.object) f (shown now) (shown left) (acts_of (nexts v.object) f (shown now) (Step p))) answer_is at_next in
-          subst (λ (x : Whole O S I R). Follows (nexts x.object) (answers x.object) (shown now) (shown left) (acts_of (nexts x.object) (answers x.object) (shown now) (Step p))) view at_answer
+      pub Follows-left_with : TakesEffect (sequential now.object) (world_of now) (Step p)
+      Follows-left_with = subst (λ (x : Whole O S I R). TakesEffect (sequential x.object) (world_of now) (Step p)) view (subst (λ f. TakesEffect f (world_of now) (Step p)) is_object Follows-left)
 
     -- what the step answers
-    pub responds : (s : ℕ) (t : ℕ) → stage_of (processes_of v.shared.cells) call.stage ≡ at.Finish s t
-        → response_of_step (shown now) p ≡ response_in (memory_of a') (name_of (processes_of a'.cells) call.mine)
-    responds s t e =
-        let wrote = subst (λ x. Takes next answer p (name_of (processes_of v.shared.cells) call.mine) x v.shared a' (option_map (stage_of (processes_of v.shared.cells)) to)) e takes in
-        subst (λ (x : Whole O S I R). response_of_step (shown x) p ≡ response_in (memory_of a') (name_of (processes_of a'.cells) call.mine)) view
-        (rw (pend, e) (
-        ap (λ (m : Memory S I R). response_in m (name_of (processes_of v.shared.cells) call.mine)) (sym wrote.memory)
-        ∙ ap (λ j. response_in (memory_of a') (name_of j call.mine)) (sym takes.shape.processes)))
+    pub answers : progress_of (response_told told) ≡ progress_of (response_of_step (world_of now) p)
+    answers = subst (λ (x : Whole O S I R). progress_of (response_told told) ≡ progress_of (response_of_step (world_of x) p)) view (rw pend (ap progress_of taken.told))
 
-    pub response_left : (s : ℕ) (t : ℕ) → stage_of (processes_of v.shared.cells) call.stage ≡ at.Finish s t
-        → IsSome (response_in (memory_of a') (name_of (processes_of a'.cells) call.mine))
-    response_left s t e =
-        let there = response-finish next answer v is p inside call.mine s t (pend ∙ ap (λ x. Some (record { mine = name_of (processes_of v.shared.cells) call.mine; stage = x })) e) in
-        let wrote = subst (λ x. Takes next answer p (name_of (processes_of v.shared.cells) call.mine) x v.shared a' (option_map (stage_of (processes_of v.shared.cells)) to)) e takes in
-        subst (λ o. IsSome o) (
-        ap (λ (m : Memory S I R). response_in m (name_of (processes_of v.shared.cells) call.mine)) (sym wrote.memory)
-        ∙ ap (λ j. response_in (memory_of a') (name_of j call.mine)) (sym takes.shape.processes)) there
+    pub still_pending : progress_of (response_told told) ≡ Going → IsSome ((world_of left).call p)
+    still_pending going = rw (slice_get-same) (rw call_is (some_to told (to_is 0) going)) where
+      slice_get-same : slice_get (slice_set v.locals p after) p ≡ Some after
+      slice_get-same = slice_get-set_same v.locals p after (subst (λ k. p < k) (sym is.locals) inside)
 
-    pub ended : to ≡ None → (s : ℕ) × (t : ℕ) × (stage_of (processes_of v.shared.cells) call.stage ≡ at.Finish s t)
-    ended none = ends_at next answer v.shared p (name_of (processes_of v.shared.cells) call.mine) (stage_of (processes_of v.shared.cells) call.stage)
-        (ap (option_map (stage_of (processes_of v.shared.cells))) (sym none) ∙ takes.stage)
+      some_to : (x : After R) → option_map (stage_of 0) to ≡ stage_told 0 x → progress_of (response_told x) ≡ Going
+          → IsSome (option_map (pending_of (processes_of a'.cells)) (option_map (λ s. record { mine = call.mine; stage = s }) to))
+      some_to (At s) e going = by_stage to e where
+        by_stage : (o : Option Stage) → option_map (stage_of 0) o ≡ Some (stage_of 0 s) → IsSome (option_map (pending_of (processes_of a'.cells)) (option_map (λ s. record { mine = call.mine; stage = s }) o))
+        by_stage None f = absurd (let g : None ≡ Some (stage_of 0 s) = f in cc)
+        by_stage (Some x) f = refl
+      some_to (Ended r) e going = absurd (let f : Done r ≡ Going = going in cc)
 
-    pub cell_left : to ≡ None → IsSome (cell_of a'.cells call.mine)
-    cell_left none =
-        let finish = ended none in
-        there_response a' (subst (λ j. 1 ≤ j) (sym takes.shape.processes) (let below_n = inside in omega arith)) call.mine (response_left finish.0 finish.1 finish.2)
-
-    pub still_going : (to' : Stage) → to ≡ Some to' → response_of_step (shown now) p ≡ None
-    still_going to' some =
-        subst (λ (x : Whole O S I R). response_of_step (shown x) p ≡ None) view
-        (rw pend (goes_on next answer v.shared p (name_of (processes_of v.shared.cells) call.mine) (stage_of (processes_of v.shared.cells) call.stage) (stage_of (processes_of v.shared.cells) to') _
-        (ap (option_map (stage_of (processes_of v.shared.cells))) (sym some) ∙ takes.stage)))
-
--- whether there is a value, and which
-pub some_of : {A : Type 0} (o : Option A) (b : Bool) → b ≡ is_some o → b ≡ true → (x : A) × (o ≡ Some x)
-some_of None b e f = absurd (let g : false ≡ true = sym e ∙ f in cc)
-some_of (Some x) b e f = (x, refl)
-
-pub none_of : {A : Type 0} (o : Option A) (b : Bool) → b ≡ is_some o → b ≡ false → o ≡ None
-none_of None b e f = refl
-none_of (Some x) b e f = absurd (let g : true ≡ false = sym e ∙ f in cc)
-
+-- a call that is refused
 pub if_not_ok : {A E P : Type 0} (r : Result A E) → ((x : A) → r ≡ Ok x → ⊥) → OnErr r P → P
 if_not_ok (Ok x) never h = absurd (never x refl)
 if_not_ok (Err e) never h = h

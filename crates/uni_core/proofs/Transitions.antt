@@ -2,14 +2,16 @@
 use Rattle.std.proofs.Common.{◌≡◌, ◌∙◌, ℕ, refl, sym, ap, subst, Option, Some, None, is_some, IsSome, arith, true, false, ◌<◌, ◌≤◌, ◌⊎◌, inl, inr, ◌%◌, ◌==◌, if◌then◌else◌, unwrap_or}
 use Rattle.std.specs.Option.{option_copied}
 use Rattle.std.specs.Borrow.{Bor}
-use Rattle.uni_model.specs.Places.{Name, Content, written, new_of, announced, head_of, seq_of, after_of}
+use Rattle.seq_object.specs.Sequential.{Sequential}
+use Rattle.uni_model.specs.Places.{Name, Content, memory_with, new_of, announce_of, head_of, seq_of, after_of}
 use Rattle.uni_model.specs.Places.Place.{NewOf}
 use Rattle.uni_model.specs.Places.Content.{Settled}
 use Rattle.uni_model.specs.Places.Place.{HeadOf, AfterOf}
 use Rattle.uni_model.specs.Places.Content.{CellName, Link}
 use Rattle.uni_model.specs.Stages.{Stage as at}
-use Rattle.uni_model.specs.Transition.{decided, applied, place_of, scanned}
-use Rattle.cell_arena.specs.Rows.{Rows, processes_of, made_of}
+use Rattle.uni_model.specs.Chain.{response_in}
+use Rattle.uni_model.specs.Transition.{decision, value_after, place_of, stage_after_scan}
+use Rattle.cell_arena.specs.Arena.{Arena, processes_of, made_of}
 use Rattle.uni_model.proofs.Written.{written_same, lt_cases}
 use Rattle.uni_core.specs.Shared.{Shared, name_of, memory_of, HasShapeOf}
 use Rattle.uni_core.specs.Standing.{Takes, effect_at, stage_of}
@@ -18,18 +20,18 @@ use Rattle.uni_core.specs.declared.stage.Stage.{Stage}
 module _ {S I R : Type 0} (a : Shared S I R) (d : Name) where
   -- what is settled stays, whatever is proposed
   pub settled_kept : (proposal : Option (S × Option R)) → IsSome (new_of (memory_of a) d)
-      → memory_of a ≡ written (memory_of a) (NewOf d) (Settled (decided (new_of (memory_of a) d) proposal))
+      → memory_of a ≡ memory_with (memory_of a) (NewOf d) (Settled (decision (new_of (memory_of a) d) proposal))
   settled_kept proposal some = by_new (new_of (memory_of a) d) refl some where
-    by_new : (o : Option (S × Option R)) → new_of (memory_of a) d ≡ o → IsSome o → memory_of a ≡ written (memory_of a) (NewOf d) (Settled (decided (new_of (memory_of a) d) proposal))
+    by_new : (o : Option (S × Option R)) → new_of (memory_of a) d ≡ o → IsSome o → memory_of a ≡ memory_with (memory_of a) (NewOf d) (Settled (decision (new_of (memory_of a) d) proposal))
     by_new None e h = absurd (let f : false ≡ true = h in cc)
     by_new (Some v) e h =
-        subst (λ x. memory_of a ≡ written (memory_of a) (NewOf d) (Settled (decided x proposal))) (sym e)
-        (subst (λ x. memory_of a ≡ written (memory_of a) (NewOf d) x) (ap (λ (x : Option (S × Option R)). let c : Content S I R = Settled x in c) e) (sym (written_same (memory_of a) (NewOf d))))
+        subst (λ x. memory_of a ≡ memory_with (memory_of a) (NewOf d) (Settled (decision x proposal))) (sym e)
+        (subst (λ x. memory_of a ≡ memory_with (memory_of a) (NewOf d) x) (ap (λ (x : Option (S × Option R)). let c : Content S I R = Settled x in c) e) (sym (written_same (memory_of a) (NewOf d))))
 
 -- the object applied to what is there
-pub applied_there : {S I R : Type 0} (next : S → I → S) (answer : S → I → R) (new_c : Option (S × Option R)) (inv_d : Option I) (before : S × Option R) (inv : I) (state : S) (response : R)
-    → new_c ≡ Some before → inv_d ≡ Some inv → state ≡ next before.0 inv → response ≡ answer before.0 inv → applied next answer new_c inv_d ≡ Some (state, Some response)
-applied_there next answer new_c inv_d before inv state response ec ed es er = rw (ec, ed, es, er) refl
+pub applied_there : {S I R : Type 0} (object : Sequential S I R) (new_c : Option (S × Option R)) (inv_d : Option I) (before : S × Option R) (inv : I) (state : S) (response : R)
+    → new_c ≡ Some before → inv_d ≡ Some inv → state ≡ object.next before.0 inv → response ≡ object.answer before.0 inv → value_after object new_c inv_d ≡ Some (state, Some response)
+applied_there object new_c inv_d before inv state response ec ed es er = rw (ec, ed, es, er) refl
 
 pub copied_some : {A : Type 0} (r : Option (Bor A)) → is_some r ≡ true → IsSome (option_copied r)
 copied_some None e = absurd (let f : false ≡ true = e in cc)
@@ -37,80 +39,83 @@ copied_some (Some x) e = refl
 
 -- one proposal for another that is the same
 pub proposed_same : {S I R : Type 0} (a a' : Shared S I R) (d : Name) (p q : Option (S × Option R)) → p ≡ q
-    → memory_of a' ≡ written (memory_of a) (NewOf d) (Settled (decided (new_of (memory_of a) d) q))
-    → memory_of a' ≡ written (memory_of a) (NewOf d) (Settled (decided (new_of (memory_of a) d) p))
-proposed_same a a' d p q e h = subst (λ x. memory_of a' ≡ written (memory_of a) (NewOf d) (Settled (decided (new_of (memory_of a) d) x))) (sym e) h
+    → memory_of a' ≡ memory_with (memory_of a) (NewOf d) (Settled (decision (new_of (memory_of a) d) q))
+    → memory_of a' ≡ memory_with (memory_of a) (NewOf d) (Settled (decision (new_of (memory_of a) d) p))
+proposed_same a a' d p q e h = subst (λ x. memory_of a' ≡ memory_with (memory_of a) (NewOf d) (Settled (decision (new_of (memory_of a) d) x))) (sym e) h
 
 -- the same cells have the same shape
-pub HasShapeOf-same : {S I R : Type 0} (old new : Rows S I R) → new ≡ old → HasShapeOf old new
+pub HasShapeOf-same : {S I R : Type 0} (old new : Arena S I R) → new ≡ old → HasShapeOf old new
 HasShapeOf-same old new same = record { processes = ap processes_of same; row = ap (λ r. r.row) same; made = λ p. ap (λ r. made_of r p) same }
 
 -- a step that only reads its place
-pub Takes-read : {S I R : Type 0} (next : S → I → S) (answer : S → I → R) (p : ℕ) (mine : Name) (from : at) (a : Shared S I R) (to : Option at)
-    → (effect_at next answer a p mine from).content ≡ memory_of a (place_of (processes_of a.cells) p mine from)
-    → to ≡ (effect_at next answer a p mine from).stage → Takes next answer p mine from a a to
-Takes-read next answer p mine from a to same stage = record {
+pub Takes-read : {S I R : Type 0} (object : Sequential S I R) (p : ℕ) (mine : Name) (from : at) (a : Shared S I R) (to : Option at) (response : Option R)
+    → (effect_at object a p mine from).content ≡ memory_of a (place_of (processes_of a.cells) p mine from)
+    → to ≡ (effect_at object a p mine from).stage → response ≡ (effect_at object a p mine from).response → Takes object p mine from a a to response
+Takes-read object p mine from a to response same stage told = record {
   shape = HasShapeOf-same a.cells a.cells refl;
-  memory = subst (λ v. memory_of a ≡ written (memory_of a) (place_of (processes_of a.cells) p mine from) v) (sym same) (sym (written_same (memory_of a) (place_of (processes_of a.cells) p mine from)));
+  memory = subst (λ v. memory_of a ≡ memory_with (memory_of a) (place_of (processes_of a.cells) p mine from) v) (sym same) (sym (written_same (memory_of a) (place_of (processes_of a.cells) p mine from)));
   stage = stage;
+  told = told;
 }
 
 -- what the last step writes
-pub Takes-finish : {S I R : Type 0} (next : S → I → S) (answer : S → I → R) (p : ℕ) (mine : Name) (s t : ℕ) (a a' : Shared S I R)
-    → ((s < t) × HasShapeOf a.cells a'.cells × (memory_of a' ≡ written (memory_of a) (HeadOf p) (CellName mine))) ⊎ ((t ≤ s) × (a' ≡ a))
-    → Takes next answer p mine (at.Finish s t) a a' None
-Takes-finish next answer p mine s t a a' (inl wrote) = record {
+pub Takes-finish : {S I R : Type 0} (object : Sequential S I R) (p : ℕ) (mine : Name) (s t : ℕ) (a a' : Shared S I R) (r : R) → response_in (memory_of a) mine ≡ Some r
+    → ((s < t) × HasShapeOf a.cells a'.cells × (memory_of a' ≡ memory_with (memory_of a) (HeadOf p) (CellName mine))) ⊎ ((t ≤ s) × (a' ≡ a))
+    → Takes object p mine (at.Finish s t) a a' None (Some r)
+Takes-finish object p mine s t a a' r responds (inl wrote) = record {
   shape = wrote.1;
   memory = elim (lt_cases s t) [ inl less ↦ rw less.1 wrote.2 | inr more ↦ absurd (let x = more.0 in let y = wrote.0 in omega arith) ];
   stage = refl;
+  told = sym responds;
 }
-Takes-finish next answer p mine s t a a' (inr kept) = elim (lt_cases s t) [
+Takes-finish object p mine s t a a' r responds (inr kept) = elim (lt_cases s t) [
   | inl less ↦ absurd (let x = less.0 in let y = kept.0 in omega arith)
-  | inr more ↦ subst (λ b. Takes next answer p mine (at.Finish s t) a b None) (sym kept.1) (Takes-read next answer p mine (at.Finish s t) a None (rw more.1 refl) refl)
+  | inr more ↦ subst (λ b. Takes object p mine (at.Finish s t) a b None (Some r)) (sym kept.1) (Takes-read object p mine (at.Finish s t) a None (Some r) (rw more.1 refl) refl (sym responds))
 ]
 
 -- Each step that only reads its place, of n processes.
-module _ {S I R : Type 0} (next : S → I → S) (answer : S → I → R) (p : ℕ) (mine : Name) (a : Shared S I R) where
+module _ {S I R : Type 0} (object : Sequential S I R) (p : ℕ) (mine : Name) (a : Shared S I R) where
   pub Takes-scan_head : (q : ℕ) (best : Name) (s head : ℕ) → name_of (processes_of a.cells) head ≡ head_of (memory_of a) q
-      → Takes next answer p mine (at.ScanHead q best s) a a (Some (at.ScanSeq q best s (name_of (processes_of a.cells) head)))
-  Takes-scan_head q best s head e = Takes-read next answer p mine (at.ScanHead q best s) a _ refl (ap (λ x. Some (at.ScanSeq q best s x)) e)
+      → Takes object p mine (at.ScanHead q best s) a a (Some (at.ScanSeq q best s (name_of (processes_of a.cells) head))) None
+  Takes-scan_head q best s head e = Takes-read object p mine (at.ScanHead q best s) a _ None refl (ap (λ x. Some (at.ScanSeq q best s x)) e) refl
 
-  pub Takes-scan_seq : (q best s head : ℕ) (k seq : ℕ) (r : Stage) → k ≡ processes_of a.cells → stage_of k r ≡ scanned k q (name_of k best) s (name_of k head) seq
+  pub Takes-scan_seq : (q best s head : ℕ) (k seq : ℕ) (r : Stage) → k ≡ processes_of a.cells → stage_of k r ≡ stage_after_scan k q (name_of k best) s (name_of k head) seq
       → seq ≡ seq_of (memory_of a) (name_of (processes_of a.cells) head)
-      → Takes next answer p mine (at.ScanSeq q (name_of (processes_of a.cells) best) s (name_of (processes_of a.cells) head)) a a (Some (stage_of (processes_of a.cells) r))
+      → Takes object p mine (at.ScanSeq q (name_of (processes_of a.cells) best) s (name_of (processes_of a.cells) head)) a a (Some (stage_of (processes_of a.cells) r)) None
   Takes-scan_seq q best s head k seq r count e is_seq =
-      Takes-read next answer p mine (at.ScanSeq q (name_of (processes_of a.cells) best) s (name_of (processes_of a.cells) head)) a _ refl
-      (ap Some (subst (λ j. stage_of j r ≡ scanned j q (name_of j best) s (name_of j head) seq) count e
-      ∙ ap (λ t. scanned (processes_of a.cells) q (name_of (processes_of a.cells) best) s (name_of (processes_of a.cells) head) t) is_seq))
+      Takes-read object p mine (at.ScanSeq q (name_of (processes_of a.cells) best) s (name_of (processes_of a.cells) head)) a _ None refl
+      (ap Some (subst (λ j. stage_of j r ≡ stage_after_scan j q (name_of j best) s (name_of j head) seq) count e
+      ∙ ap (λ t. stage_after_scan (processes_of a.cells) q (name_of (processes_of a.cells) best) s (name_of (processes_of a.cells) head) t) is_seq)) refl
 
   pub Takes-test : (c s seq : ℕ) (r : Stage) → ((k : ℕ) → stage_of k r ≡ (if seq == 0 then at.ReadAnnounce (name_of k c) s else at.Finish s seq))
-      → seq ≡ seq_of (memory_of a) mine → Takes next answer p mine (at.Test (name_of (processes_of a.cells) c) s) a a (Some (stage_of (processes_of a.cells) r))
+      → seq ≡ seq_of (memory_of a) mine → Takes object p mine (at.Test (name_of (processes_of a.cells) c) s) a a (Some (stage_of (processes_of a.cells) r)) None
   Takes-test c s seq r e is_seq =
-      Takes-read next answer p mine (at.Test (name_of (processes_of a.cells) c) s) a _ refl
-      (ap Some (e (processes_of a.cells) ∙ ap (λ t. if t == 0 then at.ReadAnnounce (name_of (processes_of a.cells) c) s else at.Finish s t) is_seq))
+      Takes-read object p mine (at.Test (name_of (processes_of a.cells) c) s) a _ None refl
+      (ap Some (e (processes_of a.cells) ∙ ap (λ t. if t == 0 then at.ReadAnnounce (name_of (processes_of a.cells) c) s else at.Finish s t) is_seq)) refl
 
-  pub Takes-read_announce : (c s help k : ℕ) → k ≡ processes_of a.cells → name_of (processes_of a.cells) help ≡ announced (memory_of a) (s % k)
-      → Takes next answer p mine (at.ReadAnnounce (name_of (processes_of a.cells) c) s) a a (Some (at.ReadHelpSeq (name_of (processes_of a.cells) c) s (name_of (processes_of a.cells) help)))
+  pub Takes-read_announce : (c s help k : ℕ) → k ≡ processes_of a.cells → name_of (processes_of a.cells) help ≡ announce_of (memory_of a) (s % k)
+      → Takes object p mine (at.ReadAnnounce (name_of (processes_of a.cells) c) s) a a (Some (at.ReadHelpSeq (name_of (processes_of a.cells) c) s (name_of (processes_of a.cells) help))) None
   Takes-read_announce c s help k count e =
-      Takes-read next answer p mine (at.ReadAnnounce (name_of (processes_of a.cells) c) s) a _ refl
-      (ap (λ x. Some (at.ReadHelpSeq (name_of (processes_of a.cells) c) s x)) (e ∙ ap (λ j. announced (memory_of a) (s % j)) count))
+      Takes-read object p mine (at.ReadAnnounce (name_of (processes_of a.cells) c) s) a _ None refl
+      (ap (λ x. Some (at.ReadHelpSeq (name_of (processes_of a.cells) c) s x)) (e ∙ ap (λ j. announce_of (memory_of a) (s % j)) count)) refl
 
   pub Takes-read_help_seq : (c s help own seq prefer : ℕ) → mine ≡ name_of (processes_of a.cells) own
       → ((k : ℕ) → name_of k prefer ≡ (if seq == 0 then name_of k help else name_of k own)) → seq ≡ seq_of (memory_of a) (name_of (processes_of a.cells) help)
-      → Takes next answer p mine (at.ReadHelpSeq (name_of (processes_of a.cells) c) s (name_of (processes_of a.cells) help)) a a
-      (Some (at.DecideAfter (name_of (processes_of a.cells) c) s (name_of (processes_of a.cells) prefer)))
+      → Takes object p mine (at.ReadHelpSeq (name_of (processes_of a.cells) c) s (name_of (processes_of a.cells) help)) a a
+      (Some (at.DecideAfter (name_of (processes_of a.cells) c) s (name_of (processes_of a.cells) prefer))) None
   Takes-read_help_seq c s help own seq prefer is_mine e is_seq =
-      Takes-read next answer p mine (at.ReadHelpSeq (name_of (processes_of a.cells) c) s (name_of (processes_of a.cells) help)) a _ refl
+      Takes-read object p mine (at.ReadHelpSeq (name_of (processes_of a.cells) c) s (name_of (processes_of a.cells) help)) a _ None refl
       (ap (λ x. Some (at.DecideAfter (name_of (processes_of a.cells) c) s x))
       (e (processes_of a.cells) ∙ ap (λ t. if t == 0 then name_of (processes_of a.cells) help else name_of (processes_of a.cells) own) is_seq
-      ∙ ap (λ y. if seq_of (memory_of a) (name_of (processes_of a.cells) help) == 0 then name_of (processes_of a.cells) help else y) (sym is_mine)))
+      ∙ ap (λ y. if seq_of (memory_of a) (name_of (processes_of a.cells) help) == 0 then name_of (processes_of a.cells) help else y) (sym is_mine))) refl
 
   pub Takes-decide_after : (c s prefer d : ℕ) (a' : Shared S I R) → HasShapeOf a.cells a'.cells
-      → memory_of a' ≡ written (memory_of a) (AfterOf (name_of (processes_of a.cells) c)) (Link (decided (after_of (memory_of a) (name_of (processes_of a.cells) c)) (Some (name_of (processes_of a.cells) prefer))))
+      → memory_of a' ≡ memory_with (memory_of a) (AfterOf (name_of (processes_of a.cells) c)) (Link (decision (after_of (memory_of a) (name_of (processes_of a.cells) c)) (Some (name_of (processes_of a.cells) prefer))))
       → name_of (processes_of a.cells) d ≡ unwrap_or (after_of (memory_of a) (name_of (processes_of a.cells) c)) (name_of (processes_of a.cells) prefer)
-      → Takes next answer p mine (at.DecideAfter (name_of (processes_of a.cells) c) s (name_of (processes_of a.cells) prefer)) a a' (Some (at.DecideNew (name_of (processes_of a.cells) c) s (name_of (processes_of a.cells) d)))
+      → Takes object p mine (at.DecideAfter (name_of (processes_of a.cells) c) s (name_of (processes_of a.cells) prefer)) a a' (Some (at.DecideNew (name_of (processes_of a.cells) c) s (name_of (processes_of a.cells) d))) None
   Takes-decide_after c s prefer d a' shape wrote e = record {
     shape = shape;
     memory = wrote;
     stage = ap (λ x. Some (at.DecideNew (name_of (processes_of a.cells) c) s x)) e;
+    told = refl;
   }

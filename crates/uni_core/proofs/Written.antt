@@ -2,7 +2,7 @@
 use Rattle.std.proofs.Common.{◌≡◌, ◌∙◌, ℕ, ◌<◌, ◌≤◌, inl, inr, refl, sym, ap, List, Option, Some, None, option_map, IsSome, cond, Bool, true, false, nat_eq, length, slice_get, slice_set}
 use Rattle.std.specs.Option.{option_map_or}
 use Rattle.cell_arena.specs.CellRecord.{CellRecord, index_of, ChangesOnly, with_seq, with_before, with_after, with_new, fresh, settled}
-use Rattle.uni_model.specs.Places.{Name, Place, Content, name_eq, written}
+use Rattle.uni_model.specs.Places.{Name, Place, Content, name_eq, memory_with}
 use Rattle.uni_model.specs.Places.Name.{Of}
 use Rattle.uni_model.specs.Places.Place.{Announced, HeadOf, InvOf, SeqOf, AfterOf, NewOf, BeforeOf}
 use Rattle.uni_model.specs.Places.Content.{CellName, Invocation, Number, Link, Settled}
@@ -47,13 +47,13 @@ module _ {S I R : Type 0} (n : ℕ) (positive : 1 ≤ n) (cell cell' : ℕ → O
 -- Each writer of the arena.
 module _ {S I R : Type 0} (n : ℕ) (positive : 1 ≤ n) (cell cell' : ℕ → Option (CellRecord S I R)) (announce heads : List ℕ) (id : ℕ) (there : IsSome (cell id)) where
   pub memory_at-with_seq : (s : ℕ) → ChangesOnly cell cell' id (option_map (with_seq s) (cell id))
-      → memory_at n cell' announce heads ≡ written (memory_at n cell announce heads) (SeqOf (name_of n id)) (Number s)
+      → memory_at n cell' announce heads ≡ memory_with (memory_at n cell announce heads) (SeqOf (name_of n id)) (Number s)
   memory_at-with_seq s changes = λ i x. at_place x i where
     by_cell : (o : Option (CellRecord S I R)) → IsSome o → option_map_or (λ (c : CellRecord S I R). c.seq) (option_map (with_seq s) o) 0 ≡ s
     by_cell None some = absurd (let f : false ≡ true = some in cc)
     by_cell (Some c) some = refl
 
-    at_place : (x : Place) → memory_at n cell' announce heads x ≡ written (memory_at n cell announce heads) (SeqOf (name_of n id)) (Number s) x
+    at_place : (x : Place) → memory_at n cell' announce heads x ≡ memory_with (memory_at n cell announce heads) (SeqOf (name_of n id)) (Number s) x
     at_place (Announced p) = refl
     at_place (HeadOf p) = refl
     at_place (InvOf x) = ap Invocation (kept n positive cell cell' announce heads id there (with_seq s) changes (λ c. c.inv) None (λ c. refl) x)
@@ -64,13 +64,13 @@ module _ {S I R : Type 0} (n : ℕ) (positive : 1 ≤ n) (cell cell' : ℕ → O
     at_place (BeforeOf x) = ap Link (kept n positive cell cell' announce heads id there (with_seq s) changes (λ c. option_map (name_of n) c.before) None (λ c. refl) x)
 
   pub memory_at-with_before : (b : ℕ) → ChangesOnly cell cell' id (option_map (with_before b) (cell id))
-      → memory_at n cell' announce heads ≡ written (memory_at n cell announce heads) (BeforeOf (name_of n id)) (Link (Some (name_of n b)))
+      → memory_at n cell' announce heads ≡ memory_with (memory_at n cell announce heads) (BeforeOf (name_of n id)) (Link (Some (name_of n b)))
   memory_at-with_before b changes = λ i x. at_place x i where
     by_cell : (o : Option (CellRecord S I R)) → IsSome o → option_map_or (λ (c : CellRecord S I R). option_map (name_of n) c.before) (option_map (with_before b) o) None ≡ Some (name_of n b)
     by_cell None some = absurd (let f : false ≡ true = some in cc)
     by_cell (Some c) some = refl
 
-    at_place : (x : Place) → memory_at n cell' announce heads x ≡ written (memory_at n cell announce heads) (BeforeOf (name_of n id)) (Link (Some (name_of n b))) x
+    at_place : (x : Place) → memory_at n cell' announce heads x ≡ memory_with (memory_at n cell announce heads) (BeforeOf (name_of n id)) (Link (Some (name_of n b))) x
     at_place (Announced p) = refl
     at_place (HeadOf p) = refl
     at_place (InvOf x) = ap Invocation (kept n positive cell cell' announce heads id there (with_before b) changes (λ c. c.inv) None (λ c. refl) x)
@@ -81,14 +81,14 @@ module _ {S I R : Type 0} (n : ℕ) (positive : 1 ≤ n) (cell cell' : ℕ → O
         (changed n positive cell cell' announce heads id there (with_before b) changes (λ c. option_map (name_of n) c.before) None (Some (name_of n b)) (by_cell (cell id) there) x)
 
   pub memory_at-with_after : (next : ℕ) → ChangesOnly cell cell' id (option_map (with_after next) (cell id)) → (d : ℕ) → option_map (λ (c : CellRecord S I R). settled c.after next) (cell id) ≡ Some d
-      → memory_at n cell' announce heads ≡ written (memory_at n cell announce heads) (AfterOf (name_of n id)) (Link (Some (name_of n d)))
+      → memory_at n cell' announce heads ≡ memory_with (memory_at n cell announce heads) (AfterOf (name_of n id)) (Link (Some (name_of n d)))
   memory_at-with_after next changes d answer = λ i x. at_place x i where
     by_cell : (o : Option (CellRecord S I R)) → IsSome o → option_map (λ (c : CellRecord S I R). settled c.after next) o ≡ Some d
         → option_map_or (λ (c : CellRecord S I R). option_map (name_of n) c.after) (option_map (with_after next) o) None ≡ Some (name_of n d)
     by_cell None some e = absurd (let f : false ≡ true = some in cc)
     by_cell (Some c) some e = let same : settled c.after next ≡ d = cc in ap (λ k. Some (name_of n k)) same
 
-    at_place : (x : Place) → memory_at n cell' announce heads x ≡ written (memory_at n cell announce heads) (AfterOf (name_of n id)) (Link (Some (name_of n d))) x
+    at_place : (x : Place) → memory_at n cell' announce heads x ≡ memory_with (memory_at n cell announce heads) (AfterOf (name_of n id)) (Link (Some (name_of n d))) x
     at_place (Announced p) = refl
     at_place (HeadOf p) = refl
     at_place (InvOf x) = ap Invocation (kept n positive cell cell' announce heads id there (with_after next) changes (λ c. c.inv) None (λ c. refl) x)
@@ -99,13 +99,13 @@ module _ {S I R : Type 0} (n : ℕ) (positive : 1 ≤ n) (cell cell' : ℕ → O
     at_place (BeforeOf x) = ap Link (kept n positive cell cell' announce heads id there (with_after next) changes (λ c. option_map (name_of n) c.before) None (λ c. refl) x)
 
   pub memory_at-with_new : (new : S × Option R) → ChangesOnly cell cell' id (option_map (with_new new) (cell id))
-      → memory_at n cell' announce heads ≡ written (memory_at n cell announce heads) (NewOf (name_of n id)) (Settled (Some (settled (option_map_or (λ (c : CellRecord S I R). c.new) (cell id) None) new)))
+      → memory_at n cell' announce heads ≡ memory_with (memory_at n cell announce heads) (NewOf (name_of n id)) (Settled (Some (settled (option_map_or (λ (c : CellRecord S I R). c.new) (cell id) None) new)))
   memory_at-with_new new changes = λ i x. at_place x i where
     by_cell : (o : Option (CellRecord S I R)) → IsSome o → option_map_or (λ (c : CellRecord S I R). c.new) (option_map (with_new new) o) None ≡ Some (settled (option_map_or (λ (c : CellRecord S I R). c.new) o None) new)
     by_cell None some = absurd (let f : false ≡ true = some in cc)
     by_cell (Some c) some = refl
 
-    at_place : (x : Place) → memory_at n cell' announce heads x ≡ written (memory_at n cell announce heads) (NewOf (name_of n id)) (Settled (Some (settled (option_map_or (λ (c : CellRecord S I R). c.new) (cell id) None) new))) x
+    at_place : (x : Place) → memory_at n cell' announce heads x ≡ memory_with (memory_at n cell announce heads) (NewOf (name_of n id)) (Settled (Some (settled (option_map_or (λ (c : CellRecord S I R). c.new) (cell id) None) new))) x
     at_place (Announced p) = refl
     at_place (HeadOf p) = refl
     at_place (InvOf x) = ap Invocation (kept n positive cell cell' announce heads id there (with_new new) changes (λ c. c.inv) None (λ c. refl) x)
@@ -138,9 +138,9 @@ module _ {S I R : Type 0} (n : ℕ) (positive : 1 ≤ n) (cell cell' : ℕ → O
   inside true u v w e = ap Invocation e
   inside false u v w e = ap Invocation e
 
-  pub memory_at-made : memory_at n cell' announce heads ≡ written (memory_at n cell announce heads) (InvOf (Of p k)) (Invocation (Some i))
+  pub memory_at-made : memory_at n cell' announce heads ≡ memory_with (memory_at n cell announce heads) (InvOf (Of p k)) (Invocation (Some i))
   memory_at-made = λ j x. at_place x j where
-    at_place : (x : Place) → memory_at n cell' announce heads x ≡ written (memory_at n cell announce heads) (InvOf (Of p k)) (Invocation (Some i)) x
+    at_place : (x : Place) → memory_at n cell' announce heads x ≡ memory_with (memory_at n cell announce heads) (InvOf (Of p k)) (Invocation (Some i)) x
     at_place (Announced q) = refl
     at_place (HeadOf q) = refl
     at_place (InvOf x) = inside (name_eq x (Of p k)) _ (Some i) _ (made_inv x)
@@ -162,9 +162,9 @@ module _ {S I R : Type 0} (n : ℕ) (cell : ℕ → Option (CellRecord S I R)) (
   named false u v w e = ap CellName e
 
   pub memory_at-announce : (announce heads : List ℕ) → p < length announce
-      → memory_at n cell (slice_set announce p id) heads ≡ written (memory_at n cell announce heads) (Announced p) (CellName (name_of n id))
+      → memory_at n cell (slice_set announce p id) heads ≡ memory_with (memory_at n cell announce heads) (Announced p) (CellName (name_of n id))
   memory_at-announce announce heads inside = λ j x. at_place x j where
-    at_place : (x : Place) → memory_at n cell (slice_set announce p id) heads x ≡ written (memory_at n cell announce heads) (Announced p) (CellName (name_of n id)) x
+    at_place : (x : Place) → memory_at n cell (slice_set announce p id) heads x ≡ memory_with (memory_at n cell announce heads) (Announced p) (CellName (name_of n id)) x
     at_place (Announced q) = named (nat_eq q p) _ _ _ (entry_written announce inside q)
     at_place (HeadOf q) = refl
     at_place (InvOf x) = refl
@@ -174,9 +174,9 @@ module _ {S I R : Type 0} (n : ℕ) (cell : ℕ → Option (CellRecord S I R)) (
     at_place (BeforeOf x) = refl
 
   pub memory_at-head : (announce heads : List ℕ) → p < length heads
-      → memory_at n cell announce (slice_set heads p id) ≡ written (memory_at n cell announce heads) (HeadOf p) (CellName (name_of n id))
+      → memory_at n cell announce (slice_set heads p id) ≡ memory_with (memory_at n cell announce heads) (HeadOf p) (CellName (name_of n id))
   memory_at-head announce heads inside = λ j x. at_place x j where
-    at_place : (x : Place) → memory_at n cell announce (slice_set heads p id) x ≡ written (memory_at n cell announce heads) (HeadOf p) (CellName (name_of n id)) x
+    at_place : (x : Place) → memory_at n cell announce (slice_set heads p id) x ≡ memory_with (memory_at n cell announce heads) (HeadOf p) (CellName (name_of n id)) x
     at_place (Announced q) = refl
     at_place (HeadOf q) = named (nat_eq q p) _ _ _ (entry_written heads inside q)
     at_place (InvOf x) = refl

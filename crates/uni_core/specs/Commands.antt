@@ -1,7 +1,8 @@
 -- What commands to a world answer, which events they are, and the run of a list of them.
 use Rattle.std.specs.Prelude.{◌≡◌, ℕ, ◌<◌, ◌≤◌, List, [], ◌∷◌, Option, Some, None, IsSome, refl}
 use Rattle.std.specs.Option.{option_map_or}
-use Rattle.uni_model.specs.Worlds.{WorldOf, Event, happened, replayed, opened}
+use Rattle.seq_object.specs.Sequential.{Sequential}
+use Rattle.uni_model.specs.Worlds.{WorldOf, Event, world_after, world_after_all, response_of_step, calls_in_era, opened_world}
 use Rattle.uni_model.specs.Worlds.{Event as event}
 use Rattle.uni_model.specs.AtomicObject.Act.{Invoke}
 use Rattle.uni_model.specs.History.{acts_of, history_of}
@@ -11,11 +12,11 @@ use Rattle.uni_core.specs.declared.command.Refusal.{Refusal}
 use Rattle.uni_core.specs.declared.command.Refusal.TheVariants.{BadProcess, Busy, RowFull, Idle, Memory}
 use Rattle.uni_core.specs.declared.command.Outcome.{Outcome}
 use Rattle.uni_core.specs.declared.command.Outcome.TheVariants.{Called, Went, Returned, Refused}
-use Rattle.uni_core.specs.Whole.{current_of, response_of_step, Follows, MayNeedMemory}
+use Rattle.uni_core.specs.Whole.{current_of, Follows, MayNeedMemory}
 
 -- a process can begin a call: it has none pending, and room in its row
 abbrev pub CanCall : {S I R : Type 0} → WorldOf S I R → (row p : ℕ) → Type 0
-CanCall w row p = (p < w.n) × (w.call p ≡ None) × (w.begun p < row)
+CanCall w row p = (p < w.n) × (w.call p ≡ None) × (calls_in_era w p < row)
 
 -- a process has a step to take
 abbrev pub CanGo : {S I R : Type 0} → WorldOf S I R → (p : ℕ) → Type 0
@@ -25,7 +26,7 @@ CanGo w p = (p < w.n) × IsSome (w.call p)
 abbrev pub IsCallRefused : {S I R : Type 0} → WorldOf S I R → (row p : ℕ) → Refusal → Type 0
 IsCallRefused w row p BadProcess = w.n ≤ p
 IsCallRefused w row p (Busy q) = (q ≡ p) × (p < w.n) × IsSome (w.call p)
-IsCallRefused w row p (RowFull q) = (q ≡ p) × (p < w.n) × (w.call p ≡ None) × (w.begun p ≡ row)
+IsCallRefused w row p (RowFull q) = (q ≡ p) × (p < w.n) × (w.call p ≡ None) × (calls_in_era w p ≡ row)
 IsCallRefused w row p (Idle q) = ⊥
 IsCallRefused w row p Memory = CanCall w row p
 
@@ -60,27 +61,31 @@ events_of (command ∷ commands) [] = []
 events_of (command ∷ commands) (outcome ∷ outcomes) = option_map_or (λ e. e ∷ events_of commands outcomes) (event_of command outcome) (events_of commands outcomes)
 
 -- the world after a command with this outcome
-abbrev pub after_command : {S I R : Type 0} → (next : S → I → S) → (answer : S → I → R) → WorldOf S I R → Command I → Outcome R → WorldOf S I R
-after_command next answer w command outcome = option_map_or (happened next answer w) (event_of command outcome) w
+abbrev pub after_command : {S I R : Type 0} → Sequential S I R → WorldOf S I R → Command I → Outcome R → WorldOf S I R
+after_command object w command outcome = option_map_or (world_after object w) (event_of command outcome) w
 
 -- one outcome for each command, at the world that the commands before it have left
-abbrev pub AreOutcomes : {S I R : Type 0} → (next : S → I → S) → (answer : S → I → R) → WorldOf S I R → (row : ℕ) → List (Command I) → List (Outcome R) → Type 0
-AreOutcomes next answer w row [] [] = Unit {0}
-AreOutcomes next answer w row [] (outcome ∷ outcomes) = ⊥
-AreOutcomes next answer w row (command ∷ commands) [] = ⊥
-AreOutcomes next answer w row (command ∷ commands) (outcome ∷ outcomes) =
+abbrev pub AreOutcomes : {S I R : Type 0} → Sequential S I R → WorldOf S I R → (row : ℕ) → List (Command I) → List (Outcome R) → Type 0
+AreOutcomes object w row [] [] = Unit {0}
+AreOutcomes object w row [] (outcome ∷ outcomes) = ⊥
+AreOutcomes object w row (command ∷ commands) [] = ⊥
+AreOutcomes object w row (command ∷ commands) (outcome ∷ outcomes) =
     IsOutcome w row command outcome
-    × AreOutcomes next answer (after_command next answer w command outcome) row commands outcomes
+    × AreOutcomes object (after_command object w command outcome) row commands outcomes
 
 -- a world takes a command with this outcome, and is w' then
-pub record TakesCommand {S I R : Type 0} (next : S → I → S) (answer : S → I → R) (w : WorldOf S I R) (row : ℕ) (command : Command I) (outcome : Outcome R) (w' : WorldOf S I R) : Type 0 where
+pub record TakesCommand {S I R : Type 0} (object : Sequential S I R) (w : WorldOf S I R) (row : ℕ) (command : Command I) (outcome : Outcome R) (w' : WorldOf S I R) : Type 0 where
   pub is : IsOutcome w row command outcome
-  pub left : w' ≡ after_command next answer w command outcome
-  pub accepted : Follows next answer w w' (option_map_or (acts_of next answer w) (event_of command outcome) [])
+  pub left : w' ≡ after_command object w command outcome
+  pub accepted : Follows object w (after_command object w command outcome) (option_map_or (acts_of object w) (event_of command outcome) [])
 
--- An object that keeps the last number, and answers the one before; two processes over 9. Process 0 calls; 1 is idle; 0 steps.
+-- an object that keeps the last number, and answers the one before
+abbrev last_number : Sequential ℕ ℕ ℕ
+last_number = record { initial = 0; next = λ s i. i; answer = λ s i. s }
+
+-- two processes over 9: process 0 calls; 1 is idle; 0 steps
 abbrev sample : WorldOf ℕ ℕ ℕ
-sample = opened 2 9 1
+sample = opened_world 2 9 1
 
 abbrev sample_commands : List (Command ℕ)
 sample_commands = Call 0 5 ∷ Step 1 ∷ Step 0 ∷ []
@@ -91,8 +96,8 @@ sample_outcomes = Called (record { process = 0; nth = 0 }) ∷ Refused (Idle 1) 
 sample_events : events_of sample_commands sample_outcomes ≡ event.Call 0 5 ∷ event.Step 0 ∷ []
 sample_events = refl
 
-sample_steps : (replayed (λ s i. i) (λ s i. s) sample (event.Call 0 5 ∷ event.Step 0 ∷ [])).steps 0 ≡ 1
+sample_steps : (world_after_all last_number sample (event.Call 0 5 ∷ event.Step 0 ∷ [])).steps 0 ≡ 1
 sample_steps = refl
 
-sample_acts : history_of (λ s i. i) (λ s i. s) sample (event.Call 0 5 ∷ event.Step 0 ∷ []) ≡ Invoke 0 0 5 ∷ []
+sample_acts : history_of last_number sample (event.Call 0 5 ∷ event.Step 0 ∷ []) ≡ Invoke 0 0 5 ∷ []
 sample_acts = refl

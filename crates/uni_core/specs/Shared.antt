@@ -2,7 +2,7 @@
 use Rattle.std.specs.Prelude.{◌≡◌, ℕ, zero, suc, ◌/◌, ◌%◌, List, Option, None, if◌then◌else◌, nat_lt, option_map, slice_get}
 use Rattle.std.specs.Option.{option_map_or}
 use Rattle.cell_arena.specs.CellRecord.{CellRecord, index_of}
-use Rattle.cell_arena.specs.Rows.{Rows, processes_of, made_of, cell_of}
+use Rattle.cell_arena.specs.Arena.{Arena, processes_of, made_of, cell_of}
 use Rattle.uni_model.specs.Places.{Name, Memory}
 use Rattle.uni_model.specs.Places.Name.{Anchor, Of}
 use Rattle.uni_model.specs.Places.Place.{Announced, HeadOf, InvOf, SeqOf, AfterOf, NewOf, BeforeOf}
@@ -10,7 +10,7 @@ use Rattle.uni_model.specs.Places.Content.{CellName, Invocation, Number, Link, S
 
 -- the shared places as the code has them: the cells, and the entries of announce and head by process
 pub record Shared (S I R : Type 0) : Type 0 where
-  pub cells : Rows S I R
+  pub cells : Arena S I R
   pub announce : List ℕ
   pub heads : List ℕ
 
@@ -42,7 +42,7 @@ abbrev pub memory_of : {S I R : Type 0} → Shared S I R → Memory S I R
 memory_of a = memory_at (processes_of a.cells) (cell_of a.cells) a.announce a.heads
 
 -- the same processes, rows and counts of cells
-pub record HasShapeOf {S I R : Type 0} (old new : Rows S I R) : Type 0 where
+pub record HasShapeOf {S I R : Type 0} (old new : Arena S I R) : Type 0 where
   pub processes : processes_of new ≡ processes_of old
   pub row : new.row ≡ old.row
   pub made : (p : ℕ) → made_of new p ≡ made_of old p

@@ -1,13 +1,17 @@
 -- Where a process stands, as the code has it and as the definitions do; and the transition of each stage.
 use Rattle.std.specs.Prelude.{◌≡◌, ℕ, ◌<◌, ◌^◌, Option, Some, None, IsSome}
-use Rattle.cell_arena.specs.Rows.{processes_of, cell_of}
-use Rattle.uni_model.specs.Places.{Name, written, inv_of, new_of}
+use Rattle.seq_object.specs.Sequential.{Sequential}
+use Rattle.cell_arena.specs.Arena.{processes_of, cell_of}
+use Rattle.uni_model.specs.Places.{Name, memory_with, inv_of, new_of}
 use Rattle.uni_model.specs.Stages.{Pending as PendingAt}
 use Rattle.uni_model.specs.Stages.{Stage as at}
-use Rattle.uni_model.specs.Transition.{Effect, place_of, effect_of, c_of, d_of}
+use Rattle.uni_model.specs.Chain.{response_in}
+use Rattle.uni_model.specs.Transition.{Effect, place_of, beside, effect_of}
 use Rattle.uni_core.specs.declared.stage.Stage.{Stage}
 use Rattle.uni_core.specs.declared.stage.Stage.TheVariants.{Announce, ScanHead, ScanSeq, WriteScan, Test, ReadAnnounce, ReadHelpSeq, DecideAfter, DecideNew, WriteBefore, WriteSeq, WriteHead, Finish}
 use Rattle.uni_core.specs.declared.stage.Pending.{Pending}
+use Rattle.uni_core.specs.declared.transition.After.{After}
+use Rattle.uni_core.specs.declared.transition.After.TheVariants.{At, Ended}
 use Rattle.uni_core.specs.Shared.{Shared, name_of, memory_of, HasShapeOf}
 
 -- the stage, with names for indices
@@ -29,17 +33,26 @@ stage_of n (Finish c_seq mine_seq) = at.Finish c_seq mine_seq
 abbrev pub pending_of : (n : ℕ) → Pending → PendingAt
 pending_of n call = record { mine = name_of n call.mine; stage = stage_of n call.stage }
 
--- what the step of a process does to these shared places
-abbrev pub effect_at : {S I R : Type 0} → (next : S → I → S) → (answer : S → I → R) → Shared S I R → (p : ℕ) → (mine : Name) → at → Effect S I R
-effect_at next answer a p mine stage =
-    effect_of next answer (processes_of a.cells) mine stage (memory_of a (place_of (processes_of a.cells) p mine stage))
-    (inv_of (memory_of a) (d_of stage)) (new_of (memory_of a) (c_of stage))
+-- what the step of a process comes to at these shared places
+abbrev pub effect_at : {S I R : Type 0} → Sequential S I R → Shared S I R → (p : ℕ) → (mine : Name) → at → Effect S I R
+effect_at object a p mine stage =
+    effect_of object (processes_of a.cells) mine stage (memory_of a (place_of (processes_of a.cells) p mine stage)) (beside (memory_of a) mine stage)
 
--- the process has taken the step of its stage: one place is written, and it stands where it stands after it
-pub record Takes {S I R : Type 0} (next : S → I → S) (answer : S → I → R) (p : ℕ) (mine : Name) (from : at) (old new : Shared S I R) (to : Option at) : Type 0 where
+-- where the process stands after a step, and the response, where its call has ended
+abbrev pub stage_told : {R : Type 0} → (n : ℕ) → After R → Option at
+stage_told n (At stage) = Some (stage_of n stage)
+stage_told n (Ended response) = None
+
+abbrev pub response_told : {R : Type 0} → After R → Option R
+response_told (At stage) = None
+response_told (Ended response) = Some response
+
+-- the process has taken the step of its stage: one place is written, it stands where it stands after it, and has this response
+pub record Takes {S I R : Type 0} (object : Sequential S I R) (p : ℕ) (mine : Name) (from : at) (old new : Shared S I R) (to : Option at) (response : Option R) : Type 0 where
   pub shape : HasShapeOf old.cells new.cells
-  pub memory : memory_of new ≡ written (memory_of old) (place_of (processes_of old.cells) p mine from) (effect_at next answer old p mine from).content
-  pub stage : to ≡ (effect_at next answer old p mine from).stage
+  pub memory : memory_of new ≡ memory_with (memory_of old) (place_of (processes_of old.cells) p mine from) (effect_at object old p mine from).content
+  pub stage : to ≡ (effect_at object old p mine from).stage
+  pub told : response ≡ (effect_at object old p mine from).response
 
 -- there is a cell at the index
 abbrev pub IsThere : {S I R : Type 0} → Shared S I R → ℕ → Type 0
@@ -59,7 +72,7 @@ CanStep a mine (DecideNew c c_seq d) = IsThere a c × IsThere a d × IsSome (new
 CanStep a mine (WriteBefore c c_seq d) = IsThere a d
 CanStep a mine (WriteSeq c c_seq d) = IsThere a d × (c_seq < 2 ^ 48)
 CanStep a mine (WriteHead c c_seq d) = c_seq < 2 ^ 48
-CanStep a mine (Finish c_seq mine_seq) = IsThere a mine
+CanStep a mine (Finish c_seq mine_seq) = IsThere a mine × IsSome (response_in (memory_of a) (name_of (processes_of a.cells) mine))
 
 -- the step may be refused memory: it has to apply the object
 abbrev pub MayBeRefused : {S I R : Type 0} → Shared S I R → Stage → Type 0

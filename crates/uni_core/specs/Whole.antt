@@ -1,18 +1,20 @@
 -- A world of the code, and the world that it shows.
-use Rattle.std.specs.Prelude.{◌≡◌, ℕ, ◌+◌, ◌-◌, ◌*◌, ◌<◌, ◌≤◌, ◌^◌, List, Option, Some, None, option_map, option_and_then, slice_get, length, IfSome}
+use Rattle.std.specs.Prelude.{◌≡◌, ℕ, ◌+◌, ◌-◌, ◌*◌, ◌<◌, ◌≤◌, ◌^◌, List, Option, Some, None, option_map, option_and_then, slice_get, length, IfSome, ◌⊎◌, IsSome}
 use Rattle.std.specs.Option.{option_map_or}
-use Rattle.cell_arena.specs.Rows.{processes_of, made_of}
-use Rattle.uni_model.specs.Places.{Memory, seq_of, new_of}
+use Rattle.seq_object.specs.Sequential.{Sequential}
+use Rattle.cell_arena.specs.Arena.{processes_of, made_of}
+use Rattle.uni_model.specs.Places.{Memory as Contents, seq_of, new_of}
 use Rattle.uni_model.specs.Places.Name.{Anchor}
 use Rattle.uni_model.specs.Stages.{Stage as at, Pending as PendingAt}
-use Rattle.uni_model.specs.Chain.{response_in}
-use Rattle.uni_model.specs.Worlds.{WorldOf}
+use Rattle.uni_model.specs.Worlds.{WorldOf, Event, world_after, response_of_step, calls_in_era}
 use Rattle.uni_model.specs.AtomicObject.{Atomic, Act, AcceptsAll}
-use Rattle.uni_model.specs.History.{Shows}
+use Rattle.uni_model.specs.History.{Shows, acts_of}
 use Rattle.uni_model.specs.Helping.{HelpingInvariant}
 use Rattle.uni_model.specs.Bound.{CountsSteps}
 use Rattle.seq_object.specs.declared.call_id.CallId.{CallId}
 use Rattle.uni_core.specs.declared.local.Local.{Local}
+use Rattle.uni_core.specs.declared.fault.StepFault.{StepFault}
+use Rattle.uni_core.specs.declared.fault.StepFault.TheVariants.{BadProcess, Idle, Memory}
 use Rattle.uni_core.specs.declared.fault.Progress.{Progress}
 use Rattle.uni_core.specs.declared.fault.Progress.TheVariants.{Going, Done}
 use Rattle.uni_core.specs.Shared.{Shared, memory_of}
@@ -30,43 +32,36 @@ abbrev pub call_at : (n : ℕ) → Option Local → Option PendingAt
 call_at n local = option_and_then (λ l. option_map (pending_of n) l.call) local
 
 -- the world of n processes that these places and locals show
-abbrev pub shown_at : {S I R : Type 0} → (n : ℕ) → Memory S I R → List Local → WorldOf S I R
-shown_at n memory locals =
+abbrev pub world_at : {S I R : Type 0} → (n : ℕ) → Contents S I R → List Local → WorldOf S I R
+world_at n memory locals =
     record {
       n = n;
       memory = memory;
       call = λ p. call_at n (slice_get locals p);
       begun = λ p. option_map_or (λ l. l.begun) (slice_get locals p) 0;
+      first = λ p. 0;
       steps = λ p. option_map_or (λ l. l.steps) (slice_get locals p) 0;
       turns = λ p. option_map_or (λ l. l.turns) (slice_get locals p) 0;
     }
 
 -- the world that is shown
-abbrev pub shown : {O S I R : Type 0} → Whole O S I R → WorldOf S I R
-shown v = shown_at (processes_of v.shared.cells) (memory_of v.shared) v.locals
+abbrev pub world_of : {O S I R : Type 0} → Whole O S I R → WorldOf S I R
+world_of v = world_at (processes_of v.shared.cells) (memory_of v.shared) v.locals
 
 -- what every world keeps
-pub record IsWorld {O S I R : Type 0} (next : S → I → S) (answer : S → I → R) (v : Whole O S I R) : Type 0 where
+pub record IsWorld {O S I R : Type 0} (object : Sequential S I R) (v : Whole O S I R) : Type 0 where
   pub locals : length v.locals ≡ processes_of v.shared.cells
   pub few : processes_of v.shared.cells ≤ 16
   pub row : v.row ≡ v.shared.cells.row
-  pub begun : (p : ℕ) → p < processes_of v.shared.cells → (shown v).begun p ≡ made_of v.shared.cells p
-  pub room : (p : ℕ) → (shown v).begun p ≤ v.row
+  pub made : (p : ℕ) → p < processes_of v.shared.cells → (world_of v).begun p ≡ (world_of v).first p + made_of v.shared.cells p
+  pub room : (p : ℕ) → calls_in_era (world_of v) p ≤ v.row
   pub numbers : seq_of (memory_of v.shared) Anchor + processes_of v.shared.cells * v.row < 2 ^ 48
-  pub sound : HelpingInvariant next answer (shown v)
-  pub counts : CountsSteps (shown v)
+  pub sound : HelpingInvariant object (world_of v)
+  pub counts : CountsSteps (world_of v)
 
 -- the pending call of a process: the latest that it has begun
 abbrev pub current_of : {S I R : Type 0} → WorldOf S I R → ℕ → Option CallId
 current_of w p = option_map (λ (c : PendingAt). record { process = p; nth = w.begun p - 1 }) (w.call p)
-
--- the response of a step: that of its call, where it is the last one
-abbrev pub response_at_stage : {R : Type 0} → Option R → at → Option R
-response_at_stage r (at.Finish c_seq mine_seq) = r
-response_at_stage r _ = None
-
-abbrev pub response_of_step : {S I R : Type 0} → WorldOf S I R → ℕ → Option R
-response_of_step w p = option_and_then (λ (c : PendingAt). response_at_stage (response_in w.memory c.mine) c.stage) (w.call p)
 
 -- what a step answers, with or without a response
 abbrev pub progress_of : {R : Type 0} → Option R → Progress R
@@ -74,8 +69,28 @@ progress_of None = Going
 progress_of (Some r) = Done r
 
 -- from each atomic object that w shows, the acts lead to one that w' shows
-abbrev pub Follows : {S I R : Type 0} → (next : S → I → S) → (answer : S → I → R) → (w w' : WorldOf S I R) → List (Act I R) → Type 0
-Follows {S} {I} next answer w w' acts = (a : Atomic S I) → Shows w a → (b : Atomic S I) × Shows w' b × AcceptsAll next answer a acts b
+abbrev pub Follows : {S I R : Type 0} → Sequential S I R → (w w' : WorldOf S I R) → List (Act I R) → Type 0
+Follows {S} {I} object w w' acts = (a : Atomic S I) → Shows w a → (b : Atomic S I) × Shows w' b × AcceptsAll object a acts b
+
+-- the atomic object takes the acts of an event, from each that w shows to one that the world after it shows
+abbrev pub TakesEffect : {S I R : Type 0} → Sequential S I R → WorldOf S I R → Event I → Type 0
+TakesEffect object w e = Follows object w (world_after object w e) (acts_of object w e)
+
+-- a process that there is has no call pending
+abbrev pub IsIdle : {S I R : Type 0} → WorldOf S I R → ℕ → Type 0
+IsIdle w p = (p < w.n) × (w.call p ≡ None)
+
+-- the faults of a step of process p
+abbrev pub IsStepFault : ℕ → StepFault → Type 0
+IsStepFault p e = (e ≡ BadProcess) ⊎ (e ≡ Idle p) ⊎ (e ≡ Memory)
+
+-- what the next step of a process answers: its response, where it is the last one of its call
+abbrev pub IsProgress : {S I R : Type 0} → WorldOf S I R → ℕ → Progress R → Type 0
+IsProgress w p progress = progress ≡ progress_of (response_of_step w p)
+
+-- where the answer is that the call goes on, it is pending afterwards
+abbrev pub GoesOn : {S I R : Type 0} → WorldOf S I R → ℕ → Progress R → Type 0
+GoesOn w p progress = progress ≡ Going → IsSome (w.call p)
 
 -- what a call never changes
 pub record KeepsFixed {O S I R : Type 0} (old new : Whole O S I R) : Type 0 where
@@ -83,7 +98,7 @@ pub record KeepsFixed {O S I R : Type 0} (old new : Whole O S I R) : Type 0 wher
   pub row : new.row ≡ old.row
 
 -- a step may need memory: it decides the state and the response of a cell that has none yet
-abbrev pub MayNeedMemoryAt : {S I R : Type 0} → Memory S I R → at → Type 0
+abbrev pub MayNeedMemoryAt : {S I R : Type 0} → Contents S I R → at → Type 0
 MayNeedMemoryAt m (at.DecideNew c c_seq d) = new_of m d ≡ None
 MayNeedMemoryAt m _ = ⊥
 

@@ -5,6 +5,7 @@
 mod command;
 mod fault;
 mod local;
+mod readers;
 mod run;
 mod shared;
 mod stage;
@@ -15,5 +16,6 @@ mod world;
 
 pub use command::{Command, Outcome, Refusal};
 pub use fault::{BeginFault, OpenFault, Progress, StepFault};
+pub use shared::WorldCells;
 pub use stage::{Place, StepKind};
 pub use world::World;

@@ -2,9 +2,10 @@
 
 ghost use Rattle.std.specs.Prelude.{◌≡◌, IfOk, OnOk, OnErr};
 ghost use Rattle.uni_model.specs.Bound.{IsBounded};
-ghost use Rattle.uni_model.specs.Worlds.{replayed};
+ghost use Rattle.uni_model.specs.Worlds.{AreAccepted, world_after_all};
+ghost use Rattle.uni_model.specs.Laws.{LogGrows};
 ghost use Rattle.uni_model.specs.History.{history_of};
-ghost use Rattle.uni_core.specs.Whole.{shown, Follows, KeepsFixed};
+ghost use Rattle.uni_core.specs.Whole.{world_of, Follows, KeepsFixed};
 ghost use Rattle.uni_core.specs.Commands.{TakesCommand, AreOutcomes, events_of};
 ghost use Rattle.uni_core.specs.declared.command.Command.TheVariants.{Call, Step};
 
@@ -17,7 +18,7 @@ use std::alloc::{AllocError, Global};
 impl<O: SeqObject> World<O> {
     /// Process `p` is asked to begin a call.
     fn take_call(&mut self, alloc: Global, p: u64, inv: &O::Inv) -> Outcome<O::Resp>
-        ensures takes { TakesCommand (O.next self.old.object) (O.answer self.old.object) (shown self.old) self.old.row (Call p inv.now) result (shown self.new) }
+        ensures takes { TakesCommand (O.sequential self.old.object) (world_of self.old) self.old.row (Call p inv.now) result (world_of self.new) }
         ensures fixed { KeepsFixed self.old self.new }
     {
         self.shape();
@@ -32,7 +33,7 @@ impl<O: SeqObject> World<O> {
 
     /// Process `p` is asked to take a step.
     fn take_step(&mut self, alloc: Global, p: u64) -> Outcome<O::Resp>
-        ensures takes { TakesCommand (O.next self.old.object) (O.answer self.old.object) (shown self.old) self.old.row (Step p) result (shown self.new) }
+        ensures takes { TakesCommand (O.sequential self.old.object) (world_of self.old) self.old.row (Step p) result (world_of self.new) }
         ensures fixed { KeepsFixed self.old self.new }
     {
         if p >= self.processes() {
@@ -50,7 +51,7 @@ impl<O: SeqObject> World<O> {
 
     /// The world takes a command.
     fn take(&mut self, alloc: Global, command: &Command<O::Inv>) -> Outcome<O::Resp>
-        ensures takes { TakesCommand (O.next self.old.object) (O.answer self.old.object) (shown self.old) self.old.row command.now result (shown self.new) }
+        ensures takes { TakesCommand (O.sequential self.old.object) (world_of self.old) self.old.row command.now result (world_of self.new) }
         ensures fixed { KeepsFixed self.old self.new }
     {
         match command {
@@ -68,14 +69,17 @@ impl<O: SeqObject> World<O> {
         alloc: Global,
         commands: &[Command<O::Inv>],
     ) -> Result<Vec<Outcome<O::Resp>>, AllocError>
-        ensures outcomes { IfOk result (λ outcomes. AreOutcomes (O.next self.old.object) (O.answer self.old.object) (shown self.old) self.old.row commands.now outcomes.items) }
-        ensures ran { IfOk result (λ outcomes. shown self.new ≡ replayed (O.next self.old.object) (O.answer self.old.object) (shown self.old) (events_of commands.now outcomes.items)) }
-        ensures accepted { IfOk result (λ outcomes. Follows (O.next self.old.object) (O.answer self.old.object) (shown self.old) (shown self.new)
-            (history_of (O.next self.old.object) (O.answer self.old.object) (shown self.old) (events_of commands.now outcomes.items))) }
-        ensures bounded { OnOk result (IsBounded (shown self.new)) }
+        ensures outcomes { IfOk result (λ outcomes. AreOutcomes (O.sequential self.old.object) (world_of self.old) self.old.row commands.now outcomes.items) }
+        ensures ran { IfOk result (λ outcomes. world_of self.new ≡ world_after_all (O.sequential self.old.object) (world_of self.old) (events_of commands.now outcomes.items)) }
+        ensures accepted { IfOk result (λ outcomes. Follows (O.sequential self.old.object) (world_of self.old) (world_of self.new)
+            (history_of (O.sequential self.old.object) (world_of self.old) (events_of commands.now outcomes.items))) }
+        ensures events { IfOk result (λ outcomes. AreAccepted (O.sequential self.old.object) (world_of self.old) (events_of commands.now outcomes.items)) }
+        ensures log { IfOk result (λ outcomes. LogGrows (O.sequential self.old.object) (world_of self.old) (events_of commands.now outcomes.items)) }
+        ensures bounded { OnOk result (IsBounded (world_of self.new)) }
         ensures fixed { KeepsFixed self.old self.new }
         ensures unchanged { OnErr result (self.new ≡ self.old) }
     {
+        self.shape();
         let mut outcomes = Vec::with_capacity(alloc, commands.len())?;
         for command in commands {
             let outcome = self.take(alloc, command);

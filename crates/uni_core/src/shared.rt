@@ -1,34 +1,37 @@
 //! The shared places: the cells, and the entries of announce and head.
 
-ghost use Rattle.std.specs.Prelude.{◌≡◌, ◌+◌, ◌<◌, ◌≤◌, ◌⊎◌, ◌↔◌, ℕ, IfOk, OnOk, OnErr, IfErr, IsErrAnd, IsSome, Some, None, option_map, unwrap_or};
+ghost use Rattle.std.specs.Prelude.{◌≡◌, ◌+◌, ◌-◌, ◌<◌, ◌≤◌, ◌⊎◌, ◌↔◌, ℕ, IfOk, OnOk, OnErr, IfErr, IsErrAnd, IsSome, Some, None, option_map, unwrap_or};
 ghost use Rattle.std.specs.Option.{option_copied};
 ghost use Rattle.cell_arena.specs.CellRecord.{ChangesOnly, index_of};
-ghost use Rattle.cell_arena.specs.Rows.{processes_of, made_of, cell_of};
-ghost use Rattle.uni_model.specs.Places.{written, announced, head_of, inv_of, seq_of, after_of, new_of, before_of};
+ghost use Rattle.cell_arena.specs.Arena.{processes_of, made_of, cell_of};
+ghost use Rattle.uni_model.specs.Places.{memory_with, announce_of, head_of, inv_of, seq_of, after_of, new_of, before_of};
 ghost use Rattle.uni_model.specs.Places.Place.{Announced, HeadOf, InvOf, SeqOf, AfterOf, NewOf, BeforeOf};
 ghost use Rattle.uni_model.specs.Places.Content.{CellName, Invocation, Number, Link, Settled};
 ghost use Rattle.uni_model.specs.Places.Name.{Of};
 ghost use Rattle.uni_model.specs.Chain.{response_in};
-ghost use Rattle.uni_model.specs.Transition.{decided};
-ghost use Rattle.uni_model.specs.Worlds.{anchored};
+ghost use Rattle.uni_model.specs.Transition.{decision};
+ghost use Rattle.uni_model.specs.Worlds.{anchor_memory};
 ghost use Rattle.uni_core.specs.Shared.{name_of, memory_of, HasShapeOf};
 
-use cell_arena::{ArenaFault, CellId, Cells, RowCells};
+use cell_arena::{CellId, Cells, ColumnCells};
 use consensus_cell::Own;
 use std::alloc::{AllocError, Global};
 use std::marker::Model;
 
+/// The form of arena that a world keeps its cells in.
+pub type WorldCells<S, I, R> = ColumnCells<S, I, R>;
+
 /// The shared places. A contract sees what each of them contains.
 #[derive(Drop)]
 pub(crate) struct Shared<S, I, R> {
-    cells: RowCells<S, I, R>,
+    cells: WorldCells<S, I, R>,
     announce: Vec<Own<CellId>>,
     heads: Vec<Own<CellId>>,
 }
 
 impl<S, I, R> Model for Shared<S, I, R> {
     ghost use Rattle.std.specs.Prelude.{◌≡◌, length};
-    ghost use Rattle.cell_arena.specs.Rows.{processes_of};
+    ghost use Rattle.cell_arena.specs.Arena.{processes_of};
     ghost use Rattle.uni_core.specs.Shared.{Shared as Entries};
 
     ghost Value = { Entries S I R };
@@ -51,11 +54,11 @@ impl<S: Drop, I: Drop, R: Copy> Shared<S, I, R> {
         requires processes { (1 ≤ n) × (n ≤ 64) }
         requires row { (1 ≤ k) × (k ≤ 4096) }
         requires threaded { 1 ≤ seq }
-        ensures memory { IfOk result (λ a. memory_of a ≡ anchored state seq) }
+        ensures memory { IfOk result (λ a. memory_of a ≡ anchor_memory state seq) }
         ensures shape { IfOk result (λ a. (processes_of a.cells ≡ n) × (a.cells.row ≡ k)) }
         ensures made { IfOk result (λ a. (p : ℕ) → made_of a.cells p ≡ 0) }
     {
-        let cells = RowCells::opened(alloc, n, k, state, seq)?;
+        let cells = WorldCells::opened(alloc, n, k, state, seq)?;
         let entry = Own::new(CellId::anchor());
         Ok(Shared {
             cells,
@@ -72,34 +75,40 @@ impl<S: Drop, I: Drop, R: Copy> Shared<S, I, R> {
     }
 
     /// The cells.
-    pub(crate) fn cells(&self) -> &RowCells<S, I, R>
+    pub(crate) fn cells(&self) -> &WorldCells<S, I, R>
         ensures { result.now ≡ self.now.cells }
     {
         &self.cells
     }
 
-    /// Makes the next cell of process `p`, whose `RowFull` and `Memory` it answers.
-    pub(crate) fn make(&mut self, alloc: Global, p: u64, inv: I) -> Result<CellId, ArenaFault>
-        requires { p < processes_of self.old.cells }
-        ensures id { IfOk result (λ id. id ≡ index_of (processes_of self.old.cells) p (made_of self.old.cells p)) }
-        ensures memory { OnOk result (memory_of self.new ≡ written (memory_of self.old) (InvOf (Of p (made_of self.old.cells p))) (Invocation (Some inv))) }
-        ensures made { OnOk result (ChangesOnly (made_of self.old.cells) (made_of self.new.cells) p (made_of self.old.cells p + 1)) }
+    /// How many cells process `p` can still make in this era.
+    pub(crate) fn room(&self, p: u64) -> u64
+        requires { p < processes_of self.now.cells }
+        ensures { result ≡ self.now.cells.row - made_of self.now.cells p }
+    {
+        self.cells.room(p)
+    }
+
+    /// Makes the next cell of process `p`, in whose row there is room.
+    pub(crate) fn make(&mut self, alloc: Global, p: u64, inv: I) -> CellId
+        requires process { p < processes_of self.old.cells }
+        requires room { made_of self.old.cells p < self.old.cells.row }
+        ensures id { result ≡ index_of (processes_of self.old.cells) p (made_of self.old.cells p) }
+        ensures memory { memory_of self.new ≡ memory_with (memory_of self.old) (InvOf (Of p (made_of self.old.cells p))) (Invocation (Some inv)) }
+        ensures made { ChangesOnly (made_of self.old.cells) (made_of self.new.cells) p (made_of self.old.cells p + 1) }
         ensures shape { (processes_of self.new.cells ≡ processes_of self.old.cells) × (self.new.cells.row ≡ self.old.cells.row) }
-        ensures full { IsErrAnd result (λ e. e ≡ ArenaFault.RowFull p) ↔ (made_of self.old.cells p ≡ self.old.cells.row) }
-        ensures fault { IfErr result (λ e. (e ≡ ArenaFault.RowFull p) ⊎ (e ≡ ArenaFault.Memory)) }
-        ensures unchanged { OnErr result (self.new ≡ self.old) }
     {
         self.cells.shape();
         match self.cells.make(alloc, p, inv) {
-            Ok(id) => Ok(id),
-            Err((fault, _)) => Err(fault),
+            Ok(id) => id,
+            Err((_, _)) => unreachable!(),
         }
     }
 
     /// The cell that process `q` announces.
     pub(crate) fn announced(&self, q: u64) -> CellId
         requires { q < processes_of self.now.cells }
-        ensures { name_of (processes_of self.now.cells) result ≡ announced (memory_of self.now) q }
+        ensures { name_of (processes_of self.now.cells) result ≡ announce_of (memory_of self.now) q }
     {
         self.announce[q as usize].read()
     }
@@ -108,7 +117,7 @@ impl<S: Drop, I: Drop, R: Copy> Shared<S, I, R> {
     pub(crate) fn announce(&mut self, p: u64, id: CellId)
         requires { p < processes_of self.old.cells }
         ensures cells { self.new.cells ≡ self.old.cells }
-        ensures memory { memory_of self.new ≡ written (memory_of self.old) (Announced p) (CellName (name_of (processes_of self.old.cells) id)) }
+        ensures memory { memory_of self.new ≡ memory_with (memory_of self.old) (Announced p) (CellName (name_of (processes_of self.old.cells) id)) }
     {
         self.announce[p as usize].write(id);
     }
@@ -125,7 +134,7 @@ impl<S: Drop, I: Drop, R: Copy> Shared<S, I, R> {
     pub(crate) fn set_head(&mut self, p: u64, id: CellId)
         requires { p < processes_of self.old.cells }
         ensures cells { self.new.cells ≡ self.old.cells }
-        ensures memory { memory_of self.new ≡ written (memory_of self.old) (HeadOf p) (CellName (name_of (processes_of self.old.cells) id)) }
+        ensures memory { memory_of self.new ≡ memory_with (memory_of self.old) (HeadOf p) (CellName (name_of (processes_of self.old.cells) id)) }
     {
         self.heads[p as usize].write(id);
     }
@@ -143,17 +152,26 @@ impl<S: Drop, I: Drop, R: Copy> Shared<S, I, R> {
     pub(crate) fn set_seq(&mut self, id: CellId, seq: u64)
         requires { IsSome (cell_of self.old.cells id) }
         ensures shape { HasShapeOf self.old.cells self.new.cells }
-        ensures memory { memory_of self.new ≡ written (memory_of self.old) (SeqOf (name_of (processes_of self.old.cells) id)) (Number seq) }
+        ensures memory { memory_of self.new ≡ memory_with (memory_of self.old) (SeqOf (name_of (processes_of self.old.cells) id)) (Number seq) }
     {
         self.cells.shape();
         self.cells.set_seq(id, seq);
+    }
+
+    /// The cell before a cell; `None` where none was written.
+    pub(crate) fn before(&self, id: CellId) -> Option<CellId>
+        requires { IsSome (cell_of self.now.cells id) }
+        ensures { option_map (name_of (processes_of self.now.cells)) result ≡ before_of (memory_of self.now) (name_of (processes_of self.now.cells) id) }
+    {
+        self.cells.shape();
+        self.cells.before(id)
     }
 
     /// Writes which cell is before a cell.
     pub(crate) fn set_before(&mut self, id: CellId, before: CellId)
         requires { IsSome (cell_of self.old.cells id) }
         ensures shape { HasShapeOf self.old.cells self.new.cells }
-        ensures memory { memory_of self.new ≡ written (memory_of self.old) (BeforeOf (name_of (processes_of self.old.cells) id))
+        ensures memory { memory_of self.new ≡ memory_with (memory_of self.old) (BeforeOf (name_of (processes_of self.old.cells) id))
             (Link (Some (name_of (processes_of self.old.cells) before))) }
     {
         self.cells.shape();
@@ -175,8 +193,8 @@ impl<S: Drop, I: Drop, R: Copy> Shared<S, I, R> {
         ensures shape { HasShapeOf self.old.cells self.new.cells }
         ensures answer { name_of (processes_of self.old.cells) result
             ≡ unwrap_or (after_of (memory_of self.old) (name_of (processes_of self.old.cells) id)) (name_of (processes_of self.old.cells) next) }
-        ensures memory { memory_of self.new ≡ written (memory_of self.old) (AfterOf (name_of (processes_of self.old.cells) id))
-            (Link (decided (after_of (memory_of self.old) (name_of (processes_of self.old.cells) id)) (Some (name_of (processes_of self.old.cells) next)))) }
+        ensures memory { memory_of self.new ≡ memory_with (memory_of self.old) (AfterOf (name_of (processes_of self.old.cells) id))
+            (Link (decision (after_of (memory_of self.old) (name_of (processes_of self.old.cells) id)) (Some (name_of (processes_of self.old.cells) next)))) }
     {
         self.cells.shape();
         self.cells.decide_after(id, next)
@@ -204,11 +222,11 @@ impl<S: Drop, I: Drop, R: Copy> Shared<S, I, R> {
     pub(crate) fn decide_new(&mut self, id: CellId, new: (S, Option<R>))
         requires { IsSome (cell_of self.old.cells id) }
         ensures shape { HasShapeOf self.old.cells self.new.cells }
-        ensures memory { memory_of self.new ≡ written (memory_of self.old) (NewOf (name_of (processes_of self.old.cells) id))
-            (Settled (decided (new_of (memory_of self.old) (name_of (processes_of self.old.cells) id)) (Some new))) }
+        ensures memory { memory_of self.new ≡ memory_with (memory_of self.old) (NewOf (name_of (processes_of self.old.cells) id))
+            (Settled (decision (new_of (memory_of self.old) (name_of (processes_of self.old.cells) id)) (Some new))) }
     {
         self.cells.shape();
-        self.cells.decide_new(id, new);
+        let _ = self.cells.decide_new(id, new);
     }
 
     /// The response that is settled in a cell, where one is.

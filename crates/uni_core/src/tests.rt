@@ -4,52 +4,16 @@ use crate::{
     BeginFault, Command, OpenFault, Outcome, Place, Progress, Refusal, StepFault, StepKind, World,
 };
 use cell_arena::{CellId, Cells};
-use seq_object::{CallId, SeqObject};
+use seq_object::{CallId, SwapRegister};
 use std::alloc::{AllocError, Global};
 use std::process::Abort;
 use std::test::Fail;
-
-/// Keeps the last number; the response is the number before.
-#[derive(Drop)]
-struct Last;
-
-impl SeqObject for Last {
-    ghost use Rattle.seq_object.specs.Exact.{nat_eq_exact};
-
-    type State = u32;
-
-    type Inv = u32;
-
-    type Resp = u32;
-
-    ghost initial = { λ _. 0 };
-
-    ghost next = { λ _ _ number. number };
-
-    ghost answer = { λ _ before _. before };
-
-    ghost same_inv = { nat_eq_exact };
-
-    ghost same_resp = { nat_eq_exact };
-
-    fn start(&self, _alloc: Global) -> Result<u32, AllocError> {
-        Ok(0)
-    }
-
-    fn apply(&self, _alloc: Global, before: &u32, number: &u32) -> Result<(u32, u32), AllocError> {
-        Ok((*number, *before))
-    }
-
-    fn copy_inv(_alloc: Global, number: &u32) -> Result<u32, AllocError> {
-        Ok(*number)
-    }
-}
 
 /// Takes so many steps of a process whose call goes on after each.
 fn goes(
     rt: &impl Abort,
     alloc: Global,
-    world: &mut World<Last>,
+    world: &mut World<SwapRegister>,
     p: u64,
     count: u64,
 ) -> Result<(), Fail> {
@@ -63,7 +27,7 @@ fn goes(
 }
 
 /// Takes steps of a process to the end of its call, and answers the response.
-fn finishes(alloc: Global, world: &mut World<Last>, p: u64) -> Result<u32, Fail> {
+fn finishes(alloc: Global, world: &mut World<SwapRegister>, p: u64) -> Result<u32, Fail> {
     for _ in 0..200 {
         match world.step(alloc, p) {
             Ok(Progress::Going) => {}
@@ -75,7 +39,7 @@ fn finishes(alloc: Global, world: &mut World<Last>, p: u64) -> Result<u32, Fail>
 }
 
 /// The own steps and the turns of a process's latest call.
-fn counts(world: &World<Last>, p: u64) -> Option<(u64, u64)> {
+fn counts(world: &World<SwapRegister>, p: u64) -> Option<(u64, u64)> {
     if p >= world.processes() {
         return None;
     }
@@ -83,7 +47,7 @@ fn counts(world: &World<Last>, p: u64) -> Option<(u64, u64)> {
 }
 
 /// How many calls a process has begun.
-fn begun(world: &World<Last>, p: u64) -> Option<u64> {
+fn begun(world: &World<SwapRegister>, p: u64) -> Option<u64> {
     if p >= world.processes() {
         return None;
     }
@@ -91,7 +55,7 @@ fn begun(world: &World<Last>, p: u64) -> Option<u64> {
 }
 
 /// The pending call of a process.
-fn pending(world: &World<Last>, p: u64) -> Option<CallId> {
+fn pending(world: &World<SwapRegister>, p: u64) -> Option<CallId> {
     if p >= world.processes() {
         return None;
     }
@@ -99,7 +63,7 @@ fn pending(world: &World<Last>, p: u64) -> Option<CallId> {
 }
 
 /// The numbers of the heads of processes 0 and 1, and the frontier.
-fn heads(world: &World<Last>) -> Option<(u64, u64, u64)> {
+fn heads(world: &World<SwapRegister>) -> Option<(u64, u64, u64)> {
     if world.processes() < 2 {
         return None;
     }
@@ -107,7 +71,7 @@ fn heads(world: &World<Last>) -> Option<(u64, u64, u64)> {
 }
 
 /// The kind and the place of a process's next step.
-fn next(world: &World<Last>, p: u64) -> Option<(StepKind, Place)> {
+fn next(world: &World<SwapRegister>, p: u64) -> Option<(StepKind, Place)> {
     if p >= world.processes() {
         return None;
     }
@@ -118,8 +82,10 @@ fn next(world: &World<Last>, p: u64) -> Option<(StepKind, Place)> {
 }
 
 /// A world of so many processes with rows of 8 cells.
-fn opened(alloc: Global, n: u64) -> Result<World<Last>, Fail> {
-    World::open(alloc, Last, n, 8).map_err(|_| Fail::from("no world was opened"))
+fn opened(alloc: Global, n: u64) -> Result<World<SwapRegister>, Fail> {
+    World::open(alloc, SwapRegister { start: 0 }, n, 8).map_err(|_| Fail::from(
+        "no world was opened",
+    ))
 }
 
 #[test]
@@ -201,30 +167,42 @@ fn a_stopped_process_is_helped(rt: HostRuntime) -> Result<(), Fail> {
 fn refusals_come_in_order(rt: HostRuntime) -> Result<(), Fail> {
     assert!(rt;
         matches!(
-            World::open(rt.alloc(), Last, 0, 0),
+            World::open(rt.alloc(), SwapRegister { start: 0 }, 0, 0),
             Err(OpenFault::BadCount)
         )
     );
     assert!(rt;
         matches!(
-            World::open(rt.alloc(), Last, 17, 8),
+            World::open(rt.alloc(), SwapRegister { start: 0 }, 17, 8),
             Err(OpenFault::BadCount)
         )
     );
-    assert!(rt; matches!(World::open(rt.alloc(), Last, 2, 0), Err(OpenFault::BadRow)));
     assert!(rt;
         matches!(
-            World::open(rt.alloc(), Last, 2, 4097),
+            World::open(rt.alloc(), SwapRegister { start: 0 }, 2, 0),
             Err(OpenFault::BadRow)
         )
     );
     assert!(rt;
         matches!(
-            World::open_at(rt.alloc(), Last, 1, 1, 5, 281_474_976_710_655),
+            World::open(rt.alloc(), SwapRegister { start: 0 }, 2, 4097),
+            Err(OpenFault::BadRow)
+        )
+    );
+    assert!(rt;
+        matches!(
+            World::open_at(
+                rt.alloc(),
+                SwapRegister { start: 0 },
+                1,
+                1,
+                5,
+                281_474_976_710_655
+            ),
             Err(OpenFault::SeqFull)
         )
     );
-    let mut world = World::open(rt.alloc(), Last, 1, 1).map_err(|_| Fail::from(
+    let mut world = World::open(rt.alloc(), SwapRegister { start: 0 }, 1, 1).map_err(|_| Fail::from(
         "no world was opened",
     ))?;
     assert_eq!(rt; world.begin(rt.alloc(), 1, &5), Err(BeginFault::BadProcess));
@@ -263,7 +241,7 @@ fn a_process_stopped_after_its_scan_is_helped(rt: HostRuntime) -> Result<(), Fai
 
 #[test]
 fn a_busy_process_with_a_full_row_is_busy(rt: HostRuntime) -> Result<(), Fail> {
-    let mut world = World::open(rt.alloc(), Last, 2, 1).map_err(|_| Fail::from(
+    let mut world = World::open(rt.alloc(), SwapRegister { start: 0 }, 2, 1).map_err(|_| Fail::from(
         "no world was opened",
     ))?;
     assert_eq!(rt;
@@ -279,10 +257,27 @@ fn a_busy_process_with_a_full_row_is_busy(rt: HostRuntime) -> Result<(), Fail> {
 
 #[test]
 fn the_greatest_number_is_used(rt: HostRuntime) {
-    assert!(rt; World::open_at(rt.alloc(), Last, 2, 4, 5, 281_474_976_710_647).is_ok());
+    assert!(rt;
+        World::open_at(
+            rt.alloc(),
+            SwapRegister { start: 0 },
+            2,
+            4,
+            5,
+            281_474_976_710_647
+        )
+        .is_ok()
+    );
     assert!(rt;
         matches!(
-            World::open_at(rt.alloc(), Last, 2, 4, 5, 281_474_976_710_648),
+            World::open_at(
+                rt.alloc(),
+                SwapRegister { start: 0 },
+                2,
+                4,
+                5,
+                281_474_976_710_648
+            ),
             Err(OpenFault::SeqFull)
         )
     );
@@ -405,9 +400,66 @@ fn a_run_passes_over_what_is_refused(rt: HostRuntime) -> Result<(), Fail> {
     want.push(Outcome::Returned(call, 0))?;
     want.push(Outcome::Refused(Refusal::Idle(0)))?;
     want.push(Outcome::Refused(Refusal::RowFull(0)))?;
-    let mut world = World::open(alloc, Last, 2, 1).map_err(|_| Fail::from("no world was opened"))?;
+    let mut world = World::open(alloc, SwapRegister { start: 0 }, 2, 1).map_err(|_| Fail::from(
+        "no world was opened",
+    ))?;
     let outcomes = world.run(alloc, commands.as_slice())?;
     assert_eq!(rt; outcomes.as_slice(), want.as_slice());
     assert_eq!(rt; counts(&world, 0), Some((16, 1)));
+    Ok(())
+}
+
+#[test]
+fn a_run_meets_the_bound(rt: HostRuntime) -> Result<(), Fail> {
+    let alloc = rt.alloc();
+    let mut commands = vec![in alloc; Command::Call(0, 10)]?;
+    add_steps(&mut commands, 0, 10)?;
+    commands.push(Command::Call(1, 30))?;
+    add_steps(&mut commands, 1, 14)?;
+    add_steps(&mut commands, 0, 6)?;
+    commands.push(Command::Call(0, 20))?;
+    add_steps(&mut commands, 0, 1)?;
+    add_steps(&mut commands, 1, 18)?;
+    let mut expected = vec![in alloc; Outcome::Called(CallId { process: 0, nth: 0 })]?;
+    add_went(&mut expected, 10)?;
+    expected.push(Outcome::Called(CallId { process: 1, nth: 0 }))?;
+    add_went(&mut expected, 14 + 5)?;
+    expected.push(Outcome::Returned(CallId { process: 0, nth: 0 }, 0))?;
+    expected.push(Outcome::Called(CallId { process: 0, nth: 1 }))?;
+    add_went(&mut expected, 1 + 17)?;
+    expected.push(Outcome::Returned(CallId { process: 1, nth: 0 }, 20))?;
+    let mut world = opened(alloc, 2)?;
+    assert_eq!(rt;
+        world.run(alloc, &commands)?.as_slice(),
+        expected.as_slice()
+    );
+    assert_eq!(rt; counts(&world, 1), Some((32, 3)));
+    Ok(())
+}
+
+#[test]
+fn a_run_finishes_where_another_stopped_at_a_settled_value(rt: HostRuntime) -> Result<(), Fail> {
+    let alloc = rt.alloc();
+    let mut commands = vec![in alloc; Command::Call(0, 10)]?;
+    add_steps(&mut commands, 0, 11)?;
+    commands.push(Command::Call(1, 30))?;
+    add_steps(&mut commands, 1, 24)?;
+    add_steps(&mut commands, 0, 5)?;
+    let mut expected = vec![in alloc; Outcome::Called(CallId { process: 0, nth: 0 })]?;
+    add_went(&mut expected, 11)?;
+    expected.push(Outcome::Called(CallId { process: 1, nth: 0 }))?;
+    add_went(&mut expected, 23)?;
+    expected.push(Outcome::Returned(CallId { process: 1, nth: 0 }, 10))?;
+    add_went(&mut expected, 4)?;
+    expected.push(Outcome::Returned(CallId { process: 0, nth: 0 }, 0))?;
+    let mut world = opened(alloc, 2)?;
+    assert_eq!(rt;
+        world.run(alloc, &commands)?.as_slice(),
+        expected.as_slice()
+    );
+    assert_eq!(rt;
+        (counts(&world, 0), counts(&world, 1)),
+        (Some((16, 1)), Some((24, 2)))
+    );
     Ok(())
 }

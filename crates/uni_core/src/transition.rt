@@ -2,15 +2,16 @@
 //! its process stands then.
 
 ghost use Rattle.std.specs.Prelude.{◌≡◌, ◌+◌, ◌<◌, ◌^◌, ◌==◌, if◌then◌else◌, ℕ, IsSome, Some, None, OnOk, IfOk, OnErr, option_map};
-ghost use Rattle.cell_arena.specs.Rows.{processes_of, cell_of};
-ghost use Rattle.uni_model.specs.Places.{new_of, inv_of, written};
+ghost use Rattle.cell_arena.specs.Arena.{processes_of, cell_of};
+ghost use Rattle.uni_model.specs.Places.{new_of, inv_of, memory_with};
 ghost use Rattle.uni_model.specs.Places.Place.{NewOf};
 ghost use Rattle.uni_model.specs.Places.Content.{Settled};
 ghost use Rattle.uni_model.specs.Stages.{Stage as at};
-ghost use Rattle.uni_model.specs.Transition.{scanned, decided, applied};
+ghost use Rattle.uni_model.specs.Transition.{stage_after_scan, decision, value_after};
 ghost use Rattle.uni_core.specs.Shared.{name_of, memory_of, HasShapeOf};
-ghost use Rattle.uni_core.specs.Standing.{stage_of, Takes, CanStep, MayBeRefused};
+ghost use Rattle.uni_core.specs.Standing.{stage_of, stage_told, response_told, Takes, CanStep, MayBeRefused};
 
+use crate::fault::Progress;
 use crate::shared::Shared;
 use crate::stage::Stage;
 use cell_arena::CellId;
@@ -21,7 +22,7 @@ use std::alloc::{AllocError, Global};
 /// process `q`.
 fn after_comparing(n: u64, q: u64, best: (CellId, u64), head: (CellId, u64)) -> Stage
     requires { q < n }
-    ensures { stage_of n result ≡ scanned n q (name_of n best.0) best.1 (name_of n head.0) head.1 }
+    ensures { stage_of n result ≡ stage_after_scan n q (name_of n best.0) best.1 (name_of n head.0) head.1 }
 {
     let (best, best_seq) = if best.1 < head.1 { head } else { best };
     if q + 1 < n {
@@ -52,6 +53,39 @@ fn preferred(help: CellId, help_seq: u64, mine: CellId) -> CellId
     if help_seq == 0 { help } else { mine }
 }
 
+/// What a step comes to for its process.
+#[derive(Clone, Copy, Debug)]
+pub(crate) enum After<R> {
+    /// The process stands at this stage.
+    At(Stage),
+    /// Its call has ended with this response.
+    Ended(R),
+}
+
+impl<R: Copy> After<R> {
+    ghost use Rattle.uni_core.specs.Whole.{progress_of};
+
+    /// Where the process stands; `None` where its call has ended.
+    pub(crate) fn stage(&self) -> Option<Stage>
+        ensures { (n : ℕ) → option_map (stage_of n) result ≡ stage_told n self.now }
+    {
+        match self {
+            After::At(stage) => Some(*stage),
+            After::Ended(_) => None,
+        }
+    }
+
+    /// What the step answers.
+    pub(crate) fn progress(&self) -> Progress<R>
+        ensures { result ≡ progress_of (response_told self.now) }
+    {
+        match self {
+            After::At(_) => Progress::Going,
+            After::Ended(response) => Progress::Done(*response),
+        }
+    }
+}
+
 /// The object and the shared places.
 #[derive(Drop)]
 pub(crate) struct Machine<O: SeqObject> {
@@ -67,9 +101,9 @@ impl<O: SeqObject> Machine<O> {
         requires state { IsSome (new_of (memory_of self.old.shared) (name_of (processes_of self.old.shared.cells) c)) }
         requires inv { IsSome (inv_of (memory_of self.old.shared) (name_of (processes_of self.old.shared.cells) d)) }
         ensures shape { HasShapeOf self.old.shared.cells self.new.shared.cells }
-        ensures memory { OnOk result (memory_of self.new.shared ≡ written (memory_of self.old.shared) (NewOf (name_of (processes_of self.old.shared.cells) d))
-            (Settled (decided (new_of (memory_of self.old.shared) (name_of (processes_of self.old.shared.cells) d))
-            (applied (O.next self.old.object) (O.answer self.old.object) (new_of (memory_of self.old.shared) (name_of (processes_of self.old.shared.cells) c))
+        ensures memory { OnOk result (memory_of self.new.shared ≡ memory_with (memory_of self.old.shared) (NewOf (name_of (processes_of self.old.shared.cells) d))
+            (Settled (decision (new_of (memory_of self.old.shared) (name_of (processes_of self.old.shared.cells) d))
+            (value_after (O.sequential self.old.object) (new_of (memory_of self.old.shared) (name_of (processes_of self.old.shared.cells) c))
             (inv_of (memory_of self.old.shared) (name_of (processes_of self.old.shared.cells) d)))))) }
         ensures refused { OnErr result (new_of (memory_of self.old.shared) (name_of (processes_of self.old.shared.cells) d) ≡ None) }
         ensures object { self.new.object ≡ self.old.object }
@@ -87,7 +121,8 @@ impl<O: SeqObject> Machine<O> {
     }
 
     /// Takes the next step of process `p`, which stands at `stage` in the call of cell `mine`: it
-    /// touches the one place of that step. The answer is where the process stands then, or `None` where its call has ended.
+    /// touches the one place of that step. The answer is where the process stands then, or the
+    /// response with which its call has ended.
     ///
     /// An `Err` says that the object's apply was refused memory; nothing is changed then.
     pub(crate) fn take_step(
@@ -96,11 +131,12 @@ impl<O: SeqObject> Machine<O> {
         p: u64,
         mine: CellId,
         stage: Stage,
-    ) -> Result<Option<Stage>, AllocError>
+    ) -> Result<After<O::Resp>, AllocError>
         requires process { p < processes_of self.old.shared.cells }
         requires step { CanStep self.old.shared mine stage }
-        ensures taken { IfOk result (λ next. Takes (O.next self.old.object) (O.answer self.old.object) p (name_of (processes_of self.old.shared.cells) mine)
-            (stage_of (processes_of self.old.shared.cells) stage) self.old.shared self.new.shared (option_map (stage_of (processes_of self.old.shared.cells)) next)) }
+        ensures taken { IfOk result (λ after. Takes (O.sequential self.old.object) p (name_of (processes_of self.old.shared.cells) mine)
+            (stage_of (processes_of self.old.shared.cells) stage) self.old.shared self.new.shared
+            (stage_told (processes_of self.old.shared.cells) after) (response_told after)) }
         ensures refused { OnErr result (MayBeRefused self.old.shared stage) }
         ensures object { self.new.object ≡ self.old.object }
         ensures unchanged { OnErr result (self.new.shared ≡ self.old.shared) }
@@ -170,12 +206,13 @@ impl<O: SeqObject> Machine<O> {
                 }
             }
             Stage::Finish { c_seq, mine_seq } => {
+                let response = self.shared.response(mine);
                 if c_seq < mine_seq {
                     self.shared.set_head(p, mine);
                 }
-                return Ok(None);
+                return Ok(After::Ended(response));
             }
         };
-        Ok(Some(next))
+        Ok(After::At(next))
     }
 }

@@ -2,27 +2,28 @@
 
 ghost use Rattle.std.specs.Prelude.{ℕ, ◌≡◌, ◌+◌, ◌*◌, ◌<◌, ◌≤◌, ◌^◌, ◌⊎◌, ◌↔◌, IsSome, IfOk, OnOk, OnErr, IfErr, IsErrOf, IfSome, None, replicate, option_map};
 ghost use Rattle.cell_arena.specs.CellRecord.{index_of};
-ghost use Rattle.cell_arena.specs.Rows.{made_of, cell_of};
+ghost use Rattle.cell_arena.specs.Arena.{made_of, cell_of};
 ghost use Rattle.uni_model.specs.Places.{seq_of, head_seq, after_of};
 ghost use Rattle.uni_model.specs.Places.Name.{Anchor, Of};
 ghost use Rattle.uni_model.specs.Invariant.{Invariant};
 ghost use Rattle.uni_model.specs.Frontier.{frontier};
-ghost use Rattle.uni_model.specs.Bound.{IsBounded};
-ghost use Rattle.uni_model.specs.Worlds.{opened, happened, last_cell, IsQuiescent};
+ghost use Rattle.uni_model.specs.Bound.{IsBounded, CountsSteps};
+ghost use Rattle.uni_model.specs.Helping.{HelpingInvariant};
+ghost use Rattle.uni_model.specs.OneList.{HasOneList, HasLegalLog};
+ghost use Rattle.uni_model.specs.Worlds.{opened_world, world_after, calls_in_era, last_cell, IsQuiescent};
 ghost use Rattle.uni_model.specs.Worlds.Event.{Call, Step};
-ghost use Rattle.uni_model.specs.History.{acts_of};
+ghost use Rattle.uni_model.specs.Settled.{SeesSettled};
 ghost use Rattle.uni_model.specs.Transition.{place_of};
 ghost use Rattle.uni_core.specs.Shared.{name_of};
 ghost use Rattle.uni_core.specs.Standing.{pending_of};
 ghost use Rattle.uni_core.specs.Readers.{call_of_name, kind_of, place_named};
-ghost use Rattle.uni_core.specs.Whole.{shown, current_of, response_of_step, progress_of, Follows, KeepsFixed, MayNeedMemory};
+ghost use Rattle.uni_core.specs.Whole.{world_of, current_of, TakesEffect, IsIdle, IsStepFault, IsProgress, GoesOn, KeepsFixed, MayNeedMemory};
 
 use crate::fault::{BeginFault, OpenFault, Progress, StepFault};
 use crate::local::Local;
 use crate::shared::Shared;
-use crate::stage::{Pending, Place, Stage, StepKind};
+use crate::stage::{Pending, Stage};
 use crate::transition::Machine;
-use cell_arena::{CellId, Cells, RowCells};
 use seq_object::{CallId, SeqObject};
 use std::alloc::{AllocError, Global};
 use std::marker::Model;
@@ -38,12 +39,12 @@ const MAX_SEQ: u64 = 281_474_976_710_655;
 
 /// Processes that share an object, of which each takes its steps one at a time.
 ///
-/// A contract sees it through `shown`, as a world of the definitions.
+/// A contract sees it through `world_of`, as a world of the definitions.
 #[derive(Drop)]
 pub struct World<O: SeqObject> {
-    machine: Machine<O>,
-    row: u64,
-    locals: Vec<Local>,
+    pub(crate) machine: Machine<O>,
+    pub(crate) row: u64,
+    pub(crate) locals: Vec<Local>,
 }
 
 impl<O: SeqObject> Model for World<O> {
@@ -53,7 +54,7 @@ impl<O: SeqObject> Model for World<O> {
 
     ghost view = { λ w. record { object = w.machine.object; row = w.row; shared = w.machine.shared; locals = w.locals.items } };
 
-    ghost invariant = { λ w. IsWorld (O.next w.machine.object) (O.answer w.machine.object)
+    ghost invariant = { λ w. IsWorld (O.sequential w.machine.object)
         (record { object = w.machine.object; row = w.row; shared = w.machine.shared; locals = w.locals.items }) };
 }
 
@@ -95,7 +96,7 @@ impl<O: SeqObject> World<O> {
         ensures count { IsErrOf result OpenFault.BadCount ↔ ((n ≡ 0) ⊎ (16 < n)) }
         ensures row { IsErrOf result OpenFault.BadRow ↔ ((1 ≤ n) × (n ≤ 16) × ((k ≡ 0) ⊎ (4096 < k))) }
         ensures fits { IsErrOf result OpenFault.SeqFull → ⊥ }
-        ensures opened { IfOk result (λ w. shown w ≡ opened n (O.initial object) 1) }
+        ensures opened { IfOk result (λ w. world_of w ≡ opened_world n ((O.sequential object).initial) 1) }
         ensures fixed { IfOk result (λ w. (w.object ≡ object) × (w.row ≡ k)) }
     {
         counts_fit(n, k)?;
@@ -123,7 +124,7 @@ impl<O: SeqObject> World<O> {
         ensures count { IsErrOf result OpenFault.BadCount ↔ ((n ≡ 0) ⊎ (16 < n)) }
         ensures row { IsErrOf result OpenFault.BadRow ↔ ((1 ≤ n) × (n ≤ 16) × ((k ≡ 0) ⊎ (4096 < k))) }
         ensures numbers { IsErrOf result OpenFault.SeqFull ↔ ((1 ≤ n) × (n ≤ 16) × (1 ≤ k) × (k ≤ 4096) × (2 ^ 48 ≤ seq + n * k)) }
-        ensures opened { IfOk result (λ w. shown w ≡ opened n state seq) }
+        ensures opened { IfOk result (λ w. world_of w ≡ opened_world n state seq) }
         ensures fixed { IfOk result (λ w. (w.object ≡ object) × (w.row ≡ k)) }
     {
         counts_fit(n, k)?;
@@ -148,17 +149,17 @@ impl<O: SeqObject> World<O> {
     ///
     /// Errors, in this order: `BadProcess` where there is no process `p`; `Busy(p)` where it has a
     /// call pending; `RowFull(p)` where it has made as many calls in this era as a row has; `Memory`
-    /// where the copy of the invocation or the cell was refused memory. After each nothing is changed.
+    /// only where the copy of the invocation was refused memory, since the cells of an era are
+    /// reserved when it opens. After each nothing is changed.
     pub fn begin(&mut self, alloc: Global, p: u64, inv: &O::Inv) -> Result<CallId, BeginFault>
-        ensures process { IsErrOf result BeginFault.BadProcess ↔ ((shown self.old).n ≤ p) }
-        ensures busy { IsErrOf result (BeginFault.Busy p) ↔ ((p < (shown self.old).n) × IsSome ((shown self.old).call p)) }
+        ensures process { IsErrOf result BeginFault.BadProcess ↔ ((world_of self.old).n ≤ p) }
+        ensures busy { IsErrOf result (BeginFault.Busy p) ↔ ((p < (world_of self.old).n) × IsSome ((world_of self.old).call p)) }
         ensures full { IsErrOf result (BeginFault.RowFull p) ↔
-            ((p < (shown self.old).n) × ((shown self.old).call p ≡ None) × ((shown self.old).begun p ≡ self.old.row)) }
+            ((p < (world_of self.old).n) × ((world_of self.old).call p ≡ None) × (calls_in_era (world_of self.old) p ≡ self.old.row)) }
         ensures others { IfErr result (λ e. (e ≡ BeginFault.BadProcess) ⊎ (e ≡ BeginFault.Busy p) ⊎ (e ≡ BeginFault.RowFull p) ⊎ (e ≡ BeginFault.Memory)) }
-        ensures id { IfOk result (λ call. (call.process ≡ p) × (call.nth ≡ (shown self.old).begun p)) }
-        ensures begun { OnOk result (shown self.new ≡ happened (O.next self.old.object) (O.answer self.old.object) (shown self.old) (Call p inv.now)) }
-        ensures accepted { OnOk result (Follows (O.next self.old.object) (O.answer self.old.object) (shown self.old) (shown self.new)
-            (acts_of (O.next self.old.object) (O.answer self.old.object) (shown self.old) (Call p inv.now))) }
+        ensures id { IfOk result (λ call. (call.process ≡ p) × (call.nth ≡ (world_of self.old).begun p)) }
+        ensures begun { OnOk result (world_of self.new ≡ world_after (O.sequential self.old.object) (world_of self.old) (Call p inv.now)) }
+        ensures accepted { OnOk result (TakesEffect (O.sequential self.old.object) (world_of self.old) (Call p inv.now)) }
         ensures fixed { KeepsFixed self.old self.new }
         ensures unchanged { OnErr result (self.new ≡ self.old) }
     {
@@ -169,15 +170,13 @@ impl<O: SeqObject> World<O> {
         if local.call.is_some() {
             return Err(BeginFault::Busy(p));
         }
-        if local.begun == self.row {
+        if self.machine.shared.room(p) == 0 {
             return Err(BeginFault::RowFull(p));
         }
         let Ok(inv) = O::copy_inv(alloc, inv) else {
             return Err(BeginFault::Memory);
         };
-        let Ok(mine) = self.machine.shared.make(alloc, p, inv) else {
-            return Err(BeginFault::Memory);
-        };
+        let mine = self.machine.shared.make(alloc, p, inv);
         self.locals[p as usize] = Local {
             call: Some(Pending {
                 mine,
@@ -200,16 +199,16 @@ impl<O: SeqObject> World<O> {
     /// that has none yet, where the object's apply was refused memory. After each nothing is changed,
     /// and the step may be asked again.
     pub fn step(&mut self, alloc: Global, p: u64) -> Result<Progress<O::Resp>, StepFault>
-        ensures process { IsErrOf result StepFault.BadProcess ↔ ((shown self.old).n ≤ p) }
-        ensures idle { IsErrOf result (StepFault.Idle p) ↔ ((p < (shown self.old).n) × ((shown self.old).call p ≡ None)) }
-        ensures memory { IsErrOf result StepFault.Memory → MayNeedMemory (shown self.old) p }
-        ensures others { IfErr result (λ e. (e ≡ StepFault.BadProcess) ⊎ (e ≡ StepFault.Idle p) ⊎ (e ≡ StepFault.Memory)) }
-        ensures step { OnOk result (shown self.new ≡ happened (O.next self.old.object) (O.answer self.old.object) (shown self.old) (Step p)) }
-        ensures bounded { OnOk result (IsBounded (shown self.new)) }
-        ensures pending { IfOk result (λ progress. progress ≡ Progress.Going → IsSome ((shown self.new).call p)) }
-        ensures progress { IfOk result (λ progress. progress ≡ progress_of (response_of_step (shown self.old) p)) }
-        ensures accepted { OnOk result (Follows (O.next self.old.object) (O.answer self.old.object) (shown self.old) (shown self.new)
-            (acts_of (O.next self.old.object) (O.answer self.old.object) (shown self.old) (Step p))) }
+        ensures process { IsErrOf result StepFault.BadProcess ↔ ((world_of self.old).n ≤ p) }
+        ensures idle { IsErrOf result (StepFault.Idle p) ↔ IsIdle (world_of self.old) p }
+        ensures memory { IsErrOf result StepFault.Memory → MayNeedMemory (world_of self.old) p }
+        ensures others { IfErr result (IsStepFault p) }
+        ensures step { OnOk result (world_of self.new ≡ world_after (O.sequential self.old.object) (world_of self.old) (Step p)) }
+        ensures progress { IfOk result (IsProgress (world_of self.old) p) }
+        ensures pending { IfOk result (GoesOn (world_of self.new) p) }
+        ensures accepted { OnOk result (TakesEffect (O.sequential self.old.object) (world_of self.old) (Step p)) }
+        ensures bounded { OnOk result (IsBounded (world_of self.new)) }
+        ensures beside { OnOk result (SeesSettled (world_of self.old) p) }
         ensures fixed { KeepsFixed self.old self.new }
         ensures unchanged { OnErr result (self.new ≡ self.old) }
     {
@@ -221,220 +220,10 @@ impl<O: SeqObject> World<O> {
             return Err(StepFault::Idle(p));
         };
         let mine = call.mine;
-        let Ok(next) = self.machine.take_step(alloc, p, mine, call.stage) else {
+        let Ok(after) = self.machine.take_step(alloc, p, mine, call.stage) else {
             return Err(StepFault::Memory);
         };
-        let after = local.after(mine, next);
-        self.locals[p as usize] = after;
-        if next.is_some() {
-            return Ok(Progress::Going);
-        }
-        Ok(Progress::Done(self.machine.shared.response(mine)))
-    }
-
-    /// The pending call of process `p`, where it has one: the latest that it has begun.
-    pub fn current(&self, p: u64) -> Option<CallId>
-        requires { p < (shown self.now).n }
-        ensures { result ≡ current_of (shown self.now) p }
-    {
-        let local = self.locals[p as usize];
-        if local.call.is_none() {
-            return None;
-        }
-        Some(CallId {
-            process: p as u32,
-            nth: local.begun - 1,
-        })
-    }
-
-    /// How many processes there are.
-    pub fn processes(&self) -> u64
-        ensures { result ≡ (shown self.now).n }
-    {
-        self.machine.shared.processes()
-    }
-
-    /// How many calls a process can make in an era.
-    pub fn row(&self) -> u64
-        ensures { result ≡ self.now.row }
-    {
-        self.row
-    }
-
-    /// How many own steps the latest call of process `p` has taken, pending or returned; 0 where it
-    /// has made none. A call of `n` processes that is pending has taken fewer than `10 n + 12`; one
-    /// that has returned took `2 n + 4`, and eight for each turn.
-    pub fn steps(&self, p: u64) -> u64
-        requires { p < (shown self.now).n }
-        ensures value { result ≡ (shown self.now).steps p }
-        ensures pending { IsSome ((shown self.now).call p) → result < 10 * (shown self.now).n + 12 }
-        ensures returned { (shown self.now).call p ≡ None → 1 ≤ (shown self.now).begun p → result ≡ 2 * (shown self.now).n + 4 + 8 * (shown self.now).turns p }
-    {
-        self.shape();
-        self.locals[p as usize].steps
-    }
-
-    /// How many turns the latest call of process `p` has taken, pending or returned; 0 where it has
-    /// made none. They are at most `n + 1`.
-    pub fn turns(&self, p: u64) -> u64
-        requires { p < (shown self.now).n }
-        ensures value { result ≡ (shown self.now).turns p }
-        ensures bound { result ≤ (shown self.now).n + 1 }
-    {
-        self.shape();
-        self.locals[p as usize].turns
-    }
-
-    /// The pending call of process `p`, with where it stands.
-    fn standing(&self, p: u64) -> Option<Pending>
-        requires { p < (shown self.now).n }
-        ensures { option_map (pending_of (shown self.now).n) result ≡ (shown self.now).call p }
-    {
-        self.locals[p as usize].pending()
-    }
-
-    /// The kind of the next step of process `p`; `None` where it has no call pending.
-    pub fn next_kind(&self, p: u64) -> Option<StepKind>
-        requires { p < (shown self.now).n }
-        ensures { result ≡ option_map (λ c. kind_of c.stage) ((shown self.now).call p) }
-    {
-        let Some(call) = self.standing(p) else {
-            return None;
-        };
-        Some(call.stage.kind())
-    }
-
-    /// The one shared place that the next step of process `p` touches; `None` where it has no call
-    /// pending.
-    pub fn next_place(&self, p: u64) -> Option<Place>
-        requires { p < (shown self.now).n }
-        ensures { option_map (place_named (shown self.now).n) result ≡ option_map (λ c. place_of (shown self.now).n p c.mine c.stage) ((shown self.now).call p) }
-    {
-        let Some(call) = self.standing(p) else {
-            return None;
-        };
-        Some(call.stage.place(self.processes(), p, call.mine))
-    }
-
-    /// The number of the cell that the head of process `p` names.
-    pub fn head_seq(&self, p: u64) -> u64
-        requires { p < (shown self.now).n }
-        ensures { result ≡ head_seq (shown self.now).memory p }
-    {
-        self.machine.shared.seq(self.machine.shared.head(p))
-    }
-
-    /// The frontier: the greatest number that the cell of a head has.
-    pub fn frontier(&self) -> u64
-        ensures { result ≡ frontier (shown self.now) }
-    {
-        let mut greatest = 0;
-        for p in 0..self.processes() {
-            greatest = greatest.max(self.head_seq(p));
-        }
-        greatest
-    }
-
-    /// The least process that has a call pending; `None` where no process has one.
-    pub fn pending(&self) -> Option<u64>
-        ensures least { IfSome result (λ p. (p < (shown self.now).n) × IsSome ((shown self.now).call p) × ((q : ℕ) → q < p → (shown self.now).call q ≡ None)) }
-        ensures none { (result ≡ None) ↔ IsQuiescent (shown self.now) }
-    {
-        for p in 0..self.processes() {
-            if self.standing(p).is_some() {
-                return Some(p);
-            }
-        }
-        None
-    }
-
-    /// How many calls process `p` has begun since the opening.
-    pub fn begun(&self, p: u64) -> u64
-        requires { p < (shown self.now).n }
-        ensures { result ≡ (shown self.now).begun p }
-    {
-        self.locals[p as usize].begun
-    }
-
-    /// The cell of a call; `None` where no such call was begun.
-    pub fn cell_of(&self, call: CallId) -> Option<CellId>
-        ensures begun { IsSome result ↔ ((call.process < (shown self.now).n) × (call.nth < (shown self.now).begun call.process)) }
-        ensures index { IfSome result (λ cell. cell ≡ index_of (shown self.now).n call.process call.nth) }
-        ensures name { IfSome result (λ cell. name_of (shown self.now).n cell ≡ Of call.process call.nth) }
-        ensures there { IfSome result (λ cell. IsSome (cell_of self.now.shared.cells cell)) }
-    {
-        self.shape();
-        self.cells().shape();
-        let p = u64::from(call.process);
-        if p >= self.processes() || call.nth >= self.begun(p) {
-            return None;
-        }
-        Some(CellId::of(self.processes(), p, call.nth))
-    }
-
-    /// The cell that is linked after a cell of the arena; `None` where none is.
-    pub fn after(&self, cell: CellId) -> Option<CellId>
-        requires { IsSome (cell_of self.now.shared.cells cell) }
-        ensures link { option_map (name_of (shown self.now).n) result ≡ after_of (shown self.now).memory (name_of (shown self.now).n cell) }
-        ensures there { IfSome result (λ next. IsSome (cell_of self.now.shared.cells next)) }
-    {
-        self.shape();
-        self.machine.shared.after(cell)
-    }
-
-    /// The last linked cell, or the anchor. It goes along the whole list.
-    pub fn last(&self) -> CellId
-        ensures last { name_of (shown self.now).n result ≡ last_cell (shown self.now) }
-        ensures there { IsSome (cell_of self.now.shared.cells result) }
-    {
-        self.shape();
-        let mut last = CellId::anchor();
-        for _ in 0..self.processes() * self.row() {
-            let Some(next) = self.after(last) else {
-                return last;
-            };
-            last = next;
-        }
-        last
-    }
-
-    /// The cells of the present era, to be read.
-    pub fn cells(&self) -> &RowCells<O::State, O::Inv, O::Resp>
-        ensures { result.now ≡ self.now.shared.cells }
-    {
-        self.machine.shared.cells()
-    }
-
-    /// The call that a cell of the arena was made for; `None` of the anchor.
-    pub fn call_of(&self, cell: CellId) -> Option<CallId>
-        requires { IsSome (cell_of self.now.shared.cells cell) }
-        ensures { result ≡ call_of_name (name_of (shown self.now).n cell) }
-    {
-        self.shape();
-        let n = self.machine.shared.processes();
-        match u64::from(cell.index()) {
-            0 => None,
-            index => Some(CallId {
-                process: ((index - 1) % n) as u32,
-                nth: (index - 1) / n,
-            }),
-        }
-    }
-
-    /// What every world keeps, for proofs: the call does nothing. What is shown has the invariant of
-    /// the definitions. There are 1 to 16 processes. A row has at most 4096 cells, and no process has
-    /// begun more calls; the arena has as many cells of a process as it has begun calls. The anchor's
-    /// number, and one more for each cell that there can be, stay below 2^48. The latest call of each
-    /// process is within the bound of its own steps and turns.
-    pub fn shape(&self)
-        ensures sound { Invariant (O.next self.now.object) (O.answer self.now.object) (shown self.now) }
-        ensures few { (1 ≤ (shown self.now).n) × ((shown self.now).n ≤ 16) }
-        ensures row { (self.now.shared.cells.row ≡ self.now.row) × (self.now.row ≤ 4096) }
-        ensures room { (p : ℕ) → (shown self.now).begun p ≤ self.now.row }
-        ensures made { (p : ℕ) → p < (shown self.now).n → made_of self.now.shared.cells p ≡ (shown self.now).begun p }
-        ensures numbers { seq_of (shown self.now).memory Anchor + (shown self.now).n * self.now.row < 2 ^ 48 }
-        ensures bounded { IsBounded (shown self.now) }
-    {
-        self.machine.shared.cells().shape();
+        self.locals[p as usize] = local.after(mine, after.stage());
+        Ok(after.progress())
     }
 }

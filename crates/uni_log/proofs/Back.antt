@@ -1,20 +1,14 @@
 -- The walk back from a cell.
-use Rattle.std.proofs.Common.{◌≡◌, ◌∙◌, ℕ, zero, suc, ◌+◌, ◌<◌, ◌≤◌, refl, ap, subst, List, [], ◌∷◌, ◌++◌, Option, Some, None, option_map, IfSome, slice_get, reverse, length, length-append, take, arith}
+use Rattle.std.proofs.Common.{◌≡◌, ◌∙◌, ℕ, zero, suc, ◌+◌, ◌<◌, ◌≤◌, refl, ap, subst, List, [], ◌∷◌, ◌++◌, Option, Some, None, slice_get, reverse, length, length-append, take, arith}
 use Rattle.std.specs.Option.{option_map_or}
 use Rattle.std.proofs.lemmas.List.{reverse-append}
-use Rattle.cell_arena.specs.CellRecord.{CellRecord}
-use Rattle.cell_arena.specs.Rows.{processes_of, cell_of}
+use Rattle.seq_object.specs.Sequential.{Sequential}
 use Rattle.uni_model.specs.Places.{Name, Memory, seq_of, after_of, before_of}
 use Rattle.uni_model.specs.Places.Name.{Anchor, Of}
 use Rattle.uni_model.specs.Chain.{cells_from}
 use Rattle.uni_model.specs.Worlds.{WorldOf, calls_begun, chain}
 use Rattle.uni_model.specs.Invariant.{Invariant}
 use Rattle.uni_model.proofs.Simulation.{enough}
-use Rattle.uni_core.specs.Shared.{name_of, memory_of}
-use Rattle.uni_core.specs.Standing.{IsThere}
-use Rattle.uni_core.specs.Whole.{Whole, shown}
-use Rattle.uni_core.proofs.Named.{cell_named-name_of}
-use Rattle.uni_core.proofs.Steppable.{there_seq}
 
 -- fewer of the cells after x are the first of them
 cells_from-take : {S I R : Type 0} (m : Memory S I R) (a b : ℕ) (x : Name) → a ≤ b → cells_from a m x ≡ take a (cells_from b m x)
@@ -40,7 +34,7 @@ module _ {S I R : Type 0} (w : WorldOf S I R) (from : Name) where
   pub IsBack-first : 1 ≤ seq_of w.memory from → IsBack w from from (from ∷ [])
   IsBack-first threaded = record { threaded = threaded; more = 0; count = refl; number = omega arith; reversed = refl }
 
-  module _ (next : S → I → S) (answer : S → I → R) (inv : Invariant next answer w) (at : Name) (names : List Name) (back : IsBack w from at names) where
+  module _ (object : Sequential S I R) (inv : Invariant object w) (at : Name) (names : List Name) (back : IsBack w from at names) where
     -- the cell before it has the number before its own
     number_before : (y : Name) → before_of w.memory at ≡ Some y → (1 ≤ seq_of w.memory y) × (seq_of w.memory y + 1 ≡ seq_of w.memory at)
     number_before y e =
@@ -80,29 +74,11 @@ module _ {S I R : Type 0} (w : WorldOf S I R) (from : Name) where
       by_anchor x is b =
           let its : seq_of w.memory from ≡ inv.0 from = inv.2.numbered.seq from (let h = b.threaded in let m = b.number in omega arith) in
           let top : inv.0 from ≤ inv.1 = inv.2.numbered.greatest from in
-          let all : inv.1 ≤ inv.0 Anchor + calls_begun w = enough next answer w inv.0 inv.1 inv.2 in
+          let all : inv.1 ≤ inv.0 Anchor + calls_begun w = enough object w inv.0 inv.1 inv.2 in
           let anchor : inv.0 Anchor ≡ seq_of w.memory Anchor = inv.2.numbered.anchor in
           let number : seq_of w.memory Anchor + b.more ≡ seq_of w.memory from = subst (λ y. seq_of w.memory y + b.more ≡ seq_of w.memory from) is b.number in
           let bound : b.more ≤ calls_begun w = omega arith in
           b.reversed ∙ rw (is, b.count) (ap (λ ys. Anchor ∷ ys) (cells_from-take w.memory b.more (calls_begun w) Anchor bound))
-
--- the cell before a cell, as it is read, is there
-pub before_there : {O S I R : Type 0} (next : S → I → S) (answer : S → I → R) (now : Whole O S I R) → Invariant next answer (shown now) → 1 ≤ processes_of now.shared.cells
-    → (at : ℕ) (o : Option ℕ) → option_map (λ (c : CellRecord S I R). c.before) (cell_of now.shared.cells at) ≡ Some o → IfSome o (λ id. IsThere now.shared id)
-before_there next answer now inv positive at None read = tt
-before_there {O} {S} {I} {R} next answer now inv positive at (Some id) read =
-    let x : Name = name_of (processes_of now.shared.cells) at in
-    let y : Name = name_of (processes_of now.shared.cells) id in
-    let after = inv.2.back.link y x (rw (cell_named-name_of (processes_of now.shared.cells) positive (cell_of now.shared.cells) at) (by_cell (cell_of now.shared.cells at) read)) in
-    let linked = inv.2.numbered.link y x after in
-    let top : inv.0 x ≤ inv.1 = inv.2.numbered.greatest x in
-    let n : inv.0 x ≡ inv.0 y + 1 = linked.1 in
-    let number : seq_of (memory_of now.shared) y ≡ inv.0 y = inv.2.numbered.threaded y linked.0 (omega arith) in
-    there_seq now.shared positive id (let h = linked.0 in omega arith) where
-      by_cell : (c : Option (CellRecord S I R)) → option_map (λ (c : CellRecord S I R). c.before) c ≡ Some (Some id)
-          → option_map_or (λ (c : CellRecord S I R). option_map (name_of (processes_of now.shared.cells)) c.before) c None ≡ Some (name_of (processes_of now.shared.cells) id)
-      by_cell None e = cc
-      by_cell (Some c) e = let f : c.before ≡ Some id = cc in ap (option_map (name_of (processes_of now.shared.cells))) f
 
 -- what is pushed leaves the first one
 pub first_kept : {A : Type 0} (xs ys : List A) (x : A) → slice_get xs 0 ≡ Some x → slice_get (xs ++ ys) 0 ≡ Some x

@@ -1,5 +1,6 @@
 -- The walk along the chain, cell by cell.
-use Rattle.std.proofs.Common.{◌≡◌, ◌∙◌, ℕ, zero, suc, ◌+◌, ◌*◌, ◌<◌, ◌≤◌, ◌^◌, refl, sym, ap, List, [], ◌∷◌, ◌++◌, append_assoc, Some, None, arith}
+use Rattle.std.proofs.Common.{◌≡◌, ◌∙◌, ℕ, zero, suc, ◌+◌, ◌<◌, ◌≤◌, ◌^◌, length, refl, sym, ap, List, [], ◌∷◌, ◌++◌, append_assoc, Some, None, arith}
+use Rattle.seq_object.specs.Sequential.{Sequential}
 use Rattle.uni_model.specs.Places.{Name, seq_of, after_of, inv_of}
 use Rattle.uni_model.specs.Places.Name.{Anchor, Of}
 use Rattle.uni_model.specs.Chain.{cells_from, invoked_at}
@@ -7,7 +8,7 @@ use Rattle.uni_model.specs.Worlds.{WorldOf, calls_begun, chain}
 use Rattle.uni_model.specs.Invariant.{Has, IsNumbered, Invariant}
 use Rattle.uni_model.proofs.Chains.{invoked_past_anchor}
 use Rattle.uni_model.proofs.Simulation.{enough}
-use Rattle.uni_core.proofs.Steppable.{sum_below-bound}
+use Rattle.uni_model.proofs.OneLists.{length-chain}
 
 -- The walk stands at a cell of the chain, with its number, and these cells come after it.
 pub record IsAlong {S I R : Type 0} (w : WorldOf S I R) (at : Name) (seq : ℕ) (rest : List Name) : Type 0 where
@@ -28,22 +29,20 @@ walked-further so_far rest later y rest_is whole = append_assoc so_far (y ∷ []
 
 module _ {S I R : Type 0} (w : WorldOf S I R) where
   -- it begins at the anchor
-  pub IsAlong-anchor : (next : S → I → S) (answer : S → I → R) → Invariant next answer w → (row : ℕ) → ((p : ℕ) → w.begun p ≤ row)
-      → seq_of w.memory Anchor + w.n * row < 2 ^ 48 → (seq : ℕ) → seq ≡ seq_of w.memory Anchor → IsAlong w Anchor seq (chain w)
-  IsAlong-anchor next answer inv row room numbers seq is = record {
+  pub IsAlong-anchor : (object : Sequential S I R) → Invariant object w → seq_of w.memory Anchor + length (chain w) < 2 ^ 48 → (seq : ℕ) → seq ≡ seq_of w.memory Anchor → IsAlong w Anchor seq (chain w)
+  IsAlong-anchor object inv fits seq is = record {
     num = inv.0;
     last = inv.1;
     numbered = inv.2.numbered;
     calls = inv.2.calls.linked;
     low =
-        let all : inv.1 ≤ inv.0 Anchor + calls_begun w = enough next answer w inv.0 inv.1 inv.2 in
-        let each : calls_begun w ≤ w.n * row = sum_below-bound w.n row w.begun room in
+        let end : inv.0 Anchor + length (chain w) ≡ inv.1 = length-chain object w inv.0 inv.1 inv.2 in
         let anchor : inv.0 Anchor ≡ seq_of w.memory Anchor = inv.2.numbered.anchor in
         omega arith;
     linked = inv.2.numbered.first;
     number = is ∙ sym inv.2.numbered.anchor;
     most = calls_begun w;
-    enough = enough next answer w inv.0 inv.1 inv.2;
+    enough = enough object w inv.0 inv.1 inv.2;
     rest_is = refl;
   }
 

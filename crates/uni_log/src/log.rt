@@ -2,20 +2,20 @@
 
 ghost use Rattle.std.specs.Prelude.{◌≡◌, ◌+◌, ◌<◌, ◌≤◌, ℕ, ◌∷◌, IfOk, IfSome, IsSome, IsSomeAnd, Some, None, length, map, option_map, position, reverse, slice_get, take};
 ghost use Rattle.std.specs.Option.{option_copied};
-ghost use Rattle.cell_arena.specs.Rows.{cell_of};
+ghost use Rattle.cell_arena.specs.Arena.{cell_of};
 ghost use Rattle.seq_object.specs.History.{IsLegal, state_after};
 ghost use Rattle.uni_model.specs.Places.{before_of, new_of, seq_of, name_eq};
 ghost use Rattle.uni_model.specs.Places.Name.{Anchor, Of};
 ghost use Rattle.uni_model.specs.Worlds.{chain};
 ghost use Rattle.uni_model.specs.Chain.{invoked_at, response_in};
-ghost use Rattle.uni_model.specs.History.{log};
+ghost use Rattle.uni_model.specs.History.{log, invocations_of};
 ghost use Rattle.uni_core.specs.Shared.{name_of};
-ghost use Rattle.uni_core.specs.Whole.{shown};
+ghost use Rattle.uni_core.specs.Whole.{world_of};
 ghost use Rattle.uni_log.specs.Shown.{entry_shown, call_shown};
-ghost use Rattle.uni_log.specs.States.{state_settled_at, invocations_of};
+ghost use Rattle.uni_log.specs.States.{state_settled_at};
 
 use crate::entry::Entry;
-use cell_arena::{CellId, Cells};
+use cell_arena::CellId;
 use seq_object::{CallId, SeqObject};
 use std::alloc::{AllocError, Global};
 use std::marker::Model;
@@ -40,7 +40,7 @@ impl<'a, O: SeqObject> Model for Log<'a, O> {
 /// Whether a cell was made for a call.
 fn is_cell_of<O: SeqObject>(world: &World<O>, id: CellId, call: CallId) -> bool
     requires { IsSome (cell_of world.now.shared.cells id) }
-    ensures { result ≡ name_eq (Of call.process call.nth) (name_of (shown world.now).n id) }
+    ensures { result ≡ name_eq (Of call.process call.nth) (name_of (world_of world.now).n id) }
 {
     match world.call_of(id) {
         Some(made) => call.process == made.process && call.nth == made.nth,
@@ -58,16 +58,14 @@ fn entry_at<O: SeqObject>(
     seq: u64,
 ) -> Result<Entry<O::Inv, O::Resp>, AllocError>
     requires there { IsSome (cell_of world.now.shared.cells id) }
-    requires call { IsSome (invoked_at (shown world.now).memory (name_of (shown world.now).n id)) }
+    requires call { IsSome (invoked_at (world_of world.now).memory (name_of (world_of world.now).n id)) }
     ensures seq { IfOk result (λ e. (entry_shown e).number ≡ seq) }
-    ensures call { IfOk result (λ e. invoked_at (shown world.now).memory (name_of (shown world.now).n id) ≡ Some (entry_shown e).call) }
-    ensures reply { IfOk result (λ e. (entry_shown e).response ≡ response_in (shown world.now).memory (name_of (shown world.now).n id)) }
+    ensures call { IfOk result (λ e. invoked_at (world_of world.now).memory (name_of (world_of world.now).n id) ≡ Some (entry_shown e).call) }
+    ensures reply { IfOk result (λ e. (entry_shown e).response ≡ response_in (world_of world.now).memory (name_of (world_of world.now).n id)) }
 {
-    world.shape();
-    let cells = world.cells();
     let call = world.call_of(id).unwrap();
-    let inv = O::copy_inv(alloc, cells.inv(id).unwrap())?;
-    let reply = match cells.new_of(id) {
+    let inv = O::copy_inv(alloc, world.inv(id).unwrap())?;
+    let reply = match world.new_of(id) {
         Some((_, reply)) => *reply,
         None => None,
     };
@@ -82,23 +80,12 @@ fn entry_at<O: SeqObject>(
 /// The state that is settled in a cell of the arena, or `None`.
 fn state_in<'a, O: SeqObject>(world: &'a World<O>, id: CellId) -> Option<&'a O::State>
     requires { IsSome (cell_of world.now.shared.cells id) }
-    ensures { option_copied result ≡ option_map (λ new. new.0) (new_of (shown world.now).memory (name_of (shown world.now).n id)) }
+    ensures { option_copied result ≡ option_map (λ new. new.0) (new_of (world_of world.now).memory (name_of (world_of world.now).n id)) }
 {
-    world.shape();
-    match world.cells().new_of(id) {
+    match world.new_of(id) {
         Some((state, _)) => Some(state),
         None => None,
     }
-}
-
-/// The cell before a cell of the arena; `None` where none was written.
-fn cell_before<O: SeqObject>(world: &World<O>, id: CellId) -> Option<CellId>
-    requires { IsSome (cell_of world.now.shared.cells id) }
-    ensures link { option_map (name_of (shown world.now).n) result ≡ before_of (shown world.now).memory (name_of (shown world.now).n id) }
-    ensures there { IfSome result (λ before. IsSome (cell_of world.now.shared.cells before)) }
-{
-    world.shape();
-    world.cells().before(id)
 }
 
 impl<'a, O: SeqObject> Log<'a, O> {
@@ -116,17 +103,17 @@ impl<'a, O: SeqObject> Log<'a, O> {
     ///
     /// An `Err` says that memory was refused.
     pub fn entries(&self, alloc: Global) -> Result<Vec<Entry<O::Inv, O::Resp>>, AllocError>
-        ensures log { IfOk result (λ entries. map entry_shown entries.items ≡ log (shown self.now)) }
+        ensures log { IfOk result (λ entries. map entry_shown entries.items ≡ log (world_of self.now)) }
         ensures settled { IfOk result (λ entries. (i : ℕ) → i + 1 < length entries.items
             → IsSomeAnd (slice_get entries.items i) (λ e. IsSome e.reply)) }
-        ensures legal { IfOk result (λ entries. (state : O.State) → new_of (shown self.now).memory Anchor ≡ Some (state, None)
-            → IsLegal (O.next self.now.object) (O.answer self.now.object) state (map call_shown entries.items)) }
+        ensures legal { IfOk result (λ entries. (state : O.State) → new_of (world_of self.now).memory Anchor ≡ Some (state, None)
+            → IsLegal (O.sequential self.now.object) state (map call_shown entries.items)) }
     {
         let world = self.world;
         world.shape();
         let mut entries = Vec::new(alloc);
         let mut at = CellId::anchor();
-        let mut seq = world.cells().seq(at);
+        let mut seq = world.seq(at);
         while let Some(next) = world.after(at) {
             seq += 1;
             entries.push(entry_at(alloc, world, next, seq)?)?;
@@ -135,16 +122,17 @@ impl<'a, O: SeqObject> Log<'a, O> {
         Ok(entries)
     }
 
-    /// The cells of the list, in its order, from the one after the anchor on.
+    /// The cells of the list, in its order: the anchor first, and then those of the calls.
     ///
     /// An `Err` says that memory was refused.
     pub fn cells_forward(&self, alloc: Global) -> Result<Vec<CellId>, AllocError>
-        ensures { IfOk result (λ cells. map (name_of (shown self.now).n) cells.items ≡ chain (shown self.now)) }
+        ensures { IfOk result (λ cells. map (name_of (world_of self.now).n) cells.items ≡ Anchor ∷ chain (world_of self.now)) }
     {
         let world = self.world;
         world.shape();
         let mut forward = Vec::new(alloc);
         let mut at = CellId::anchor();
+        forward.push(at)?;
         while let Some(next) = world.after(at) {
             forward.push(next)?;
             at = next;
@@ -155,7 +143,7 @@ impl<'a, O: SeqObject> Log<'a, O> {
     /// The place of a call in the order in which the calls of the present era took effect, from 0;
     /// `None` where the list doesn't have it.
     pub fn place_of(&self, call: CallId) -> Option<u64>
-        ensures { result ≡ position (name_eq (Of call.process call.nth)) (chain (shown self.now)) }
+        ensures { result ≡ position (name_eq (Of call.process call.nth)) (chain (world_of self.now)) }
     {
         let world = self.world;
         world.shape();
@@ -174,9 +162,9 @@ impl<'a, O: SeqObject> Log<'a, O> {
     /// The state after so many entries of the present era: that of the anchor after none. `None`
     /// where it isn't settled yet, or the list has no such entry.
     pub fn state_at(&self, place: u64) -> Option<&O::State>
-        ensures settled { option_copied result ≡ state_settled_at (shown self.now) place }
-        ensures folded { IfSome result (λ state. (start : O.State) → new_of (shown self.now).memory Anchor ≡ Some (start, None)
-            → state.now ≡ state_after (O.next self.now.object) start (take place (invocations_of (shown self.now)))) }
+        ensures settled { option_copied result ≡ state_settled_at (world_of self.now) place }
+        ensures folded { IfSome result (λ state. (start : O.State) → new_of (world_of self.now).memory Anchor ≡ Some (start, None)
+            → state.now ≡ state_after (O.sequential self.now.object) start (take place (invocations_of (world_of self.now)))) }
     {
         let world = self.world;
         world.shape();
@@ -192,21 +180,21 @@ impl<'a, O: SeqObject> Log<'a, O> {
 
     /// The cells of the list from a cell back to the anchor, each found as the one before: the
     /// reverse of the list from the anchor up to that cell. The cell has to be threaded, that is
-    /// its number, which `cells().seq` tells, isn't 0.
+    /// its number, which `World::seq` tells, isn't 0.
     ///
     /// An `Err` says that memory was refused.
     pub fn cells_back(&self, alloc: Global, from: CellId) -> Result<Vec<CellId>, AllocError>
         requires there { IsSome (cell_of self.now.shared.cells from) }
-        requires threaded { 1 ≤ seq_of (shown self.now).memory (name_of (shown self.now).n from) }
+        requires threaded { 1 ≤ seq_of (world_of self.now).memory (name_of (world_of self.now).n from) }
         ensures first { IfOk result (λ cells. slice_get cells.items 0 ≡ Some from) }
-        ensures reversed { IfOk result (λ cells. reverse (map (name_of (shown self.now).n) cells.items) ≡ take (length cells.items) (Anchor ∷ chain (shown self.now))) }
+        ensures reversed { IfOk result (λ cells. reverse (map (name_of (world_of self.now).n) cells.items) ≡ take (length cells.items) (Anchor ∷ chain (world_of self.now))) }
     {
         let world = self.world;
         world.shape();
         let mut back = Vec::new(alloc);
         back.push(from)?;
         let mut at = from;
-        while let Some(before) = cell_before(world, at) {
+        while let Some(before) = world.before(at) {
             back.push(before)?;
             at = before;
         }

@@ -2,55 +2,21 @@
 
 use crate::{Entry, Log};
 use cell_arena::{CellId, Cells};
-use seq_object::{CallId, SeqObject};
+use seq_object::{CallId, SwapRegister};
 use std::alloc::{AllocError, Global};
 use std::process::Abort;
 use std::test::Fail;
 use uni_core::{Command, Outcome, Progress, World};
 
-/// Keeps the last number; the response is the number before.
-#[derive(Drop)]
-struct Last;
-
-impl SeqObject for Last {
-    ghost use Rattle.seq_object.specs.Exact.{nat_eq_exact};
-
-    type State = u32;
-
-    type Inv = u32;
-
-    type Resp = u32;
-
-    ghost initial = { λ _. 0 };
-
-    ghost next = { λ _ _ number. number };
-
-    ghost answer = { λ _ before _. before };
-
-    ghost same_inv = { nat_eq_exact };
-
-    ghost same_resp = { nat_eq_exact };
-
-    fn start(&self, _alloc: Global) -> Result<u32, AllocError> {
-        Ok(0)
-    }
-
-    fn apply(&self, _alloc: Global, before: &u32, number: &u32) -> Result<(u32, u32), AllocError> {
-        Ok((*number, *before))
-    }
-
-    fn copy_inv(_alloc: Global, number: &u32) -> Result<u32, AllocError> {
-        Ok(*number)
-    }
-}
-
 /// A world of so many processes with rows of 8 cells.
-fn opened(alloc: Global, n: u64) -> Result<World<Last>, Fail> {
-    World::open(alloc, Last, n, 8).map_err(|_| Fail::from("no world was opened"))
+fn opened(alloc: Global, n: u64) -> Result<World<SwapRegister>, Fail> {
+    World::open(alloc, SwapRegister { start: 0 }, n, 8).map_err(|_| Fail::from(
+        "no world was opened",
+    ))
 }
 
 /// A process begins a call.
-fn begins(alloc: Global, world: &mut World<Last>, p: u64, number: u32) -> Result<(), Fail> {
+fn begins(alloc: Global, world: &mut World<SwapRegister>, p: u64, number: u32) -> Result<(), Fail> {
     match world.begin(alloc, p, &number) {
         Ok(_) => Ok(()),
         Err(_) => Err(Fail::from("the call should have begun")),
@@ -58,7 +24,7 @@ fn begins(alloc: Global, world: &mut World<Last>, p: u64, number: u32) -> Result
 }
 
 /// Takes so many steps of a process whose call goes on after each.
-fn goes(alloc: Global, world: &mut World<Last>, p: u64, count: u64) -> Result<(), Fail> {
+fn goes(alloc: Global, world: &mut World<SwapRegister>, p: u64, count: u64) -> Result<(), Fail> {
     for _ in 0..count {
         match world.step(alloc, p) {
             Ok(Progress::Going) => {}
@@ -69,7 +35,7 @@ fn goes(alloc: Global, world: &mut World<Last>, p: u64, count: u64) -> Result<()
 }
 
 /// Takes steps of a process to the end of its call.
-fn finishes(alloc: Global, world: &mut World<Last>, p: u64) -> Result<(), Fail> {
+fn finishes(alloc: Global, world: &mut World<SwapRegister>, p: u64) -> Result<(), Fail> {
     for _ in 0..200 {
         match world.step(alloc, p) {
             Ok(Progress::Going) => {}
@@ -94,7 +60,7 @@ fn entry(seq: u64, process: u32, nth: u64, inv: u32, reply: Option<u32>) -> Entr
 fn has_log(
     rt: &impl Abort,
     alloc: Global,
-    world: &World<Last>,
+    world: &World<SwapRegister>,
     want: &[Entry<u32, u32>],
 ) -> Result<(), Fail> {
     let entries = Log::of(world).entries(alloc)?;
@@ -103,7 +69,7 @@ fn has_log(
 }
 
 /// Two processes, of which 1 has returned after both calls of 0 took effect.
-fn with_a_slow_call(alloc: Global) -> Result<World<Last>, Fail> {
+fn with_a_slow_call(alloc: Global) -> Result<World<SwapRegister>, Fail> {
     let mut world = opened(alloc, 2)?;
     begins(alloc, &mut world, 0, 10)?;
     goes(alloc, &mut world, 0, 10)?;
@@ -135,6 +101,7 @@ fn a_slow_call_comes_last(rt: HostRuntime) -> Result<(), Fail> {
     assert_eq!(rt;
         cells.as_slice(),
         [
+            CellId::anchor(),
             CellId::of(2, 0, 0),
             CellId::of(2, 0, 1),
             CellId::of(2, 1, 0)
@@ -181,9 +148,9 @@ fn a_helped_call_comes_first(rt: HostRuntime) -> Result<(), Fail> {
 #[test]
 fn numbers_go_on_from_the_anchors(rt: HostRuntime) -> Result<(), Fail> {
     let alloc = rt.alloc();
-    let mut world = World::open_at(alloc, Last, 1, 1, 9, 5).map_err(|_| Fail::from(
-        "no world was opened",
-    ))?;
+    let mut world = World::open_at(alloc, SwapRegister { start: 0 }, 1, 1, 9, 5).map_err(
+        |_| Fail::from("no world was opened"),
+    )?;
     begins(alloc, &mut world, 0, 7)?;
     finishes(alloc, &mut world, 0)?;
     has_log(&rt, alloc, &world, &[entry(6, 0, 0, 7, Some(9))])
@@ -199,9 +166,9 @@ fn indices(alloc: Global, cells: &[CellId]) -> Result<Vec<u32>, AllocError> {
 }
 
 /// The indices of the cells back from the last one.
-fn back_from_last(alloc: Global, world: &World<Last>) -> Result<Vec<u32>, Fail> {
+fn back_from_last(alloc: Global, world: &World<SwapRegister>) -> Result<Vec<u32>, Fail> {
     let last = world.last();
-    if world.cells().seq(last) < 1 {
+    if world.seq(last) < 1 {
         return Err(Fail::from("the last cell should be threaded"));
     }
     let cells = Log::of(world).cells_back(alloc, last)?;
@@ -215,7 +182,7 @@ fn back_is_forward_reversed(rt: HostRuntime) -> Result<(), Fail> {
     let forward = Log::of(&world).cells_forward(alloc)?;
     assert_eq!(rt;
         indices(alloc, forward.as_slice())?.as_slice(),
-        [1, 3, 2].as_slice()
+        [0, 1, 3, 2].as_slice()
     );
     assert_eq!(rt;
         back_from_last(alloc, &world)?.as_slice(),

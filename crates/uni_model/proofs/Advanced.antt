@@ -1,17 +1,18 @@
 -- What the step of a process does for its own call, and what the process considers then.
 use Rattle.std.proofs.Common.{◌≡◌, ◌≢◌, ◌∙◌, ℕ, ◌+◌, ◌<◌, ◌≤◌, ◌%◌, inl, inr, refl, sym, ap, subst, Option, Some, None, arith, if◌then◌else◌, nat_lt}
-use Rattle.uni_model.specs.Places.{Name, Memory, written, announced, head_of, head_seq, seq_of, new_of, inv_of}
+use Rattle.seq_object.specs.Sequential.{Sequential}
+use Rattle.uni_model.specs.Places.{Name, Memory, memory_with, announce_of, head_of, head_seq, seq_of}
 use Rattle.uni_model.specs.Places.Name.{Anchor, Of}
 use Rattle.uni_model.specs.Places.Place.{Announced, HeadOf, SeqOf}
 use Rattle.uni_model.specs.Places.Content.{CellName}
 use Rattle.uni_model.specs.Stages.{Stage, Pending}
 use Rattle.uni_model.specs.Stages.Stage.{Announce, ScanHead, ScanSeq, WriteScan, Test, ReadAnnounce, ReadHelpSeq, DecideAfter, DecideNew, WriteBefore, WriteSeq, WriteHead, Finish}
-use Rattle.uni_model.specs.Transition.{place_of, effect_of, turn_of, scanned, better, c_of, d_of}
+use Rattle.uni_model.specs.Transition.{place_of, effect_of, turn_of, stage_after_scan, best_of, beside}
 use Rattle.uni_model.specs.Worlds.{WorldOf}
 use Rattle.uni_model.specs.Settled.{Grows}
 use Rattle.uni_model.specs.Invariant.{AtHead, IsPast, Stands, IsSound}
 use Rattle.uni_model.specs.Bound.{HasTurns}
-use Rattle.uni_model.proofs.Written.{number_cases, lt_cases, head_of-written, announced-written, written_same}
+use Rattle.uni_model.proofs.Written.{number_cases, lt_cases, head_of-memory_with, announce_of-memory_with, written_same}
 use Rattle.uni_model.proofs.Grows.{NumbersGrow, head_seq-at}
 use Rattle.uni_model.proofs.Numbered.{IsPast-threaded}
 use Rattle.uni_model.specs.Helping.{SomeHead, Finds, Announces, CountsOwnHead, IsAhead, OfConsidered, IsHelped, IsFairToAll, Helps}
@@ -32,10 +33,10 @@ abbrev pub AdvancesTo : {S I R : Type 0} (w : WorldOf S I R) (num : Name → ℕ
 AdvancesTo w num p mine from m num' None turns = turns ≤ w.n + 1
 AdvancesTo w num p mine from m num' (Some stage) turns = Advances w num p mine from m num' stage turns
 
-module _ {S I R : Type 0} (next : S → I → S) (answer : S → I → R) (w : WorldOf S I R) (num : Name → ℕ) (last : ℕ) (sound : IsSound next answer w num last) (helps : Helps w num last)
+module _ {S I R : Type 0} (object : Sequential S I R) (w : WorldOf S I R) (num : Name → ℕ) (last : ℕ) (sound : IsSound object w num last) (helps : Helps w num last)
     (p : ℕ) (mine : Name) where
   -- what another process has announced is fair to all
-  fair_announced : (c : Name) (s : ℕ) → p < w.n → AtHead w.memory p c s → IsFairToAll w num s (announced w.memory (s % w.n))
+  fair_announced : (c : Name) (s : ℕ) → p < w.n → AtHead w.memory p c s → IsFairToAll w num s (announce_of w.memory (s % w.n))
   fair_announced c s inside h q d pending = record {
     unknown = λ first same.
         let its = sound.calls.mine q d pending in
@@ -45,12 +46,12 @@ module _ {S I R : Type 0} (next : S → I → S) (answer : S → I → R) (w : W
           | inr cell ↦
               let e : Of (s % w.n) cell.0 ≡ Of q its.0 = sym cell.1 ∙ same ∙ its.1 in
               let here : s % w.n ≡ q = (let f = e in cc) in
-              let apart : announced w.memory q ≢ d.mine = subst (λ k. Announces w.memory q d.mine k) first (helps.each q d pending).announced in
-              apart (ap (announced w.memory) (sym here) ∙ same)
+              let apart : announce_of w.memory q ≢ d.mine = subst (λ k. Announces w.memory q d.mine k) first (helps.each q d pending).announced in
+              apart (ap (announce_of w.memory) (sym here) ∙ same)
         ];
     help = λ none other its_turn. elim (Announces-cases w.memory q d.mine d.stage (helps.each q d pending).announced) [
       | inl first ↦ subst (λ k. Finds w.memory w.n k (w.turns q) s) (sym first) found
-      | inr there ↦ absurd (other (ap (announced w.memory) its_turn ∙ there))
+      | inr there ↦ absurd (other (ap (announce_of w.memory) its_turn ∙ there))
     ];
   } where
     number : head_seq w.memory p ≡ s
@@ -83,8 +84,8 @@ module _ {S I R : Type 0} (next : S → I → S) (answer : S → I → R) (w : W
     past : (c : Name) (s : ℕ) → AtHead w.memory p c s → IsPast num mine s → IsPast num' mine s
     past c s h is = IsPast-later w.memory num num' numbers p threaded mine s (head_seq-at w.memory p c s h) is
 
-    better-le : (b s : ℕ) → (b ≤ better b s s b) × (s ≤ better b s s b)
-    better-le b s = elim (lt_cases b s) [
+    best_of-le : (b s : ℕ) → (b ≤ best_of b s s b) × (s ≤ best_of b s s b)
+    best_of-le b s = elim (lt_cases b s) [
       | inl less ↦ rw less.1 (omega arith, omega arith)
       | inr more ↦ rw more.1 (omega arith, omega arith)
     ]
@@ -133,12 +134,12 @@ module _ {S I R : Type 0} (next : S → I → S) (answer : S → I → R) (w : W
     pub advances : (stage : Stage) → w.call p ≡ Some (record { mine = mine; stage = stage }) → Stands w.memory num w.n p mine stage
         → IsHelped w.memory num last w.n p mine stage (w.turns p) → HasTurns stage (w.turns p)
         → let place = place_of w.n p mine stage in
-        let e = effect_of next answer w.n mine stage (w.memory place) (inv_of w.memory (d_of stage)) (new_of w.memory (c_of stage)) in
-        AdvancesTo w num p mine stage (written w.memory place e.content) num' e.stage (w.turns p + turn_of stage (w.memory place))
+        let e = effect_of object w.n mine stage (w.memory place) (beside w.memory mine stage) in
+        AdvancesTo w num p mine stage (memory_with w.memory place e.content) num' e.stage (w.turns p + turn_of stage (w.memory place))
     advances Announce is stands h turns = record {
       later = λ e. cc;
       finds = λ s found. inr found;
-      announced = elim (announced-written w.memory p p mine) [ inl own ↦ own.1 | inr other ↦ absurd (other.0 refl) ];
+      announced = elim (announce_of-memory_with w.memory p p mine) [ inl own ↦ own.1 | inr other ↦ absurd (other.0 refl) ];
       own_head = λ passed. absurd (omega arith);
       ahead = tt;
       fair = tt;
@@ -159,8 +160,8 @@ module _ {S I R : Type 0} (next : S → I → S) (answer : S → I → R) (w : W
           fair = tt;
         })
     advances (ScanSeq q best b x) is stands h turns =
-        subst (λ m. Advances w num p mine (ScanSeq q best b x) m num' (scanned w.n q best b x (seq_of w.memory x)) (w.turns p + 0)) (sym (written_same w.memory (SeqOf x)))
-        (scans_on q best b x stands.0 h _ _ (better-le b (seq_of w.memory x)).0 (better-le b (seq_of w.memory x)).1)
+        subst (λ m. Advances w num p mine (ScanSeq q best b x) m num' (stage_after_scan w.n q best b x (seq_of w.memory x)) (w.turns p + 0)) (sym (written_same w.memory (SeqOf x)))
+        (scans_on q best b x stands.0 h _ _ (best_of-le b (seq_of w.memory x)).0 (best_of-le b (seq_of w.memory x)).1)
     advances (WriteScan best b) is stands h turns = record {
       later = λ e. cc;
       finds = λ s found. omega arith;
@@ -189,7 +190,7 @@ module _ {S I R : Type 0} (next : S → I → S) (answer : S → I → R) (w : W
       })
     ]
     advances (ReadAnnounce c s) is stands h turns =
-        subst (λ m. Advances w num p mine (ReadAnnounce c s) m num' (ReadHelpSeq c s (announced w.memory (s % w.n))) (w.turns p + 0)) (sym (written_same w.memory (Announced (s % w.n)))) (record {
+        subst (λ m. Advances w num p mine (ReadAnnounce c s) m num' (ReadHelpSeq c s (announce_of w.memory (s % w.n))) (w.turns p + 0)) (sym (written_same w.memory (Announced (s % w.n)))) (record {
           later = λ e. cc;
           finds = λ k found. omega arith;
           announced = h.announced;
@@ -260,14 +261,14 @@ module _ {S I R : Type 0} (next : S → I → S) (answer : S → I → R) (w : W
     becomes : (x : Name) → head_of m p ≡ x → 1 ≤ seq_of w.memory x → head_seq w.memory p ≤ seq_of w.memory x → head_seq w.memory p ≤ head_seq m p
     becomes x is positive more = let number : head_seq m p ≡ seq_of w.memory x = ap (seq_of m) is ∙ grows.seq x positive in omega arith
 
-  own_head : (x : Name) → head_of (written w.memory (HeadOf p) (CellName x)) p ≡ x
-  own_head x = elim (head_of-written w.memory p p x) [ inl h ↦ h.1 | inr h ↦ absurd (h.0 refl) ]
+  own_head : (x : Name) → head_of (memory_with w.memory (HeadOf p) (CellName x)) p ≡ x
+  own_head x = elim (head_of-memory_with w.memory p p x) [ inl h ↦ h.1 | inr h ↦ absurd (h.0 refl) ]
 
   -- the number of p's head doesn't fall
   pub head_rises : (threaded : 1 ≤ head_seq w.memory p) (stage : Stage) → Stands w.memory num w.n p mine stage → CountsOwnHead w.memory p stage
       → let place = place_of w.n p mine stage in
-      let e = effect_of next answer w.n mine stage (w.memory place) (inv_of w.memory (d_of stage)) (new_of w.memory (c_of stage)) in
-      Grows w.memory (written w.memory place e.content) → head_seq w.memory p ≤ head_seq (written w.memory place e.content) p
+      let e = effect_of object w.n mine stage (w.memory place) (beside w.memory mine stage) in
+      Grows w.memory (memory_with w.memory place e.content) → head_seq w.memory p ≤ head_seq (memory_with w.memory place e.content) p
   head_rises threaded Announce stands own grows = omega arith
   head_rises threaded (ScanHead q best b) stands own grows = still _ grows threaded (ap (λ k. head_of k p) (written_same w.memory (HeadOf q)))
   head_rises threaded (ScanSeq q best b x) stands own grows = still _ grows threaded refl

@@ -1,9 +1,10 @@
 -- A world of the anchor alone has the invariant.
 use Rattle.std.proofs.Common.{◌≡◌, ℕ, ◌<◌, ◌≤◌, inl, refl, Option, Some, None, arith}
+use Rattle.seq_object.specs.Sequential.{Sequential}
 use Rattle.uni_model.specs.Places.{Name, seq_of, after_of, new_of}
 use Rattle.uni_model.specs.Places.Name.{Anchor, Of}
 use Rattle.uni_model.specs.Stages.{Pending}
-use Rattle.uni_model.specs.Worlds.{anchored}
+use Rattle.uni_model.specs.Worlds.{anchor_memory}
 use Rattle.uni_model.specs.Invariant.{Has, IsNumbered, HasValues, LeadsBack, IsSound}
 
 -- the number of the anchor, where it stands alone
@@ -11,8 +12,8 @@ abbrev pub alone : ℕ → Name → ℕ
 alone number Anchor = number
 alone number (Of p k) = 0
 
-module _ {S I R : Type 0} (next : S → I → S) (answer : S → I → R) (s : S) (number : ℕ) (positive : 1 ≤ number) where
-  numbered : IsNumbered {S = S} {I = I} {R = R} (anchored s number) (alone number) number
+module _ {S I R : Type 0} (object : Sequential S I R) (s : S) (number : ℕ) (positive : 1 ≤ number) where
+  numbered : IsNumbered {S = S} {I = I} {R = R} (anchor_memory s number) (alone number) number
   numbered = record {
     anchor = refl;
     first = positive;
@@ -37,35 +38,35 @@ module _ {S I R : Type 0} (next : S → I → S) (answer : S → I → R) (s : S
     one_each Anchor (Of q j) h e = absurd (omega arith)
     one_each (Of p k) y h e = absurd (omega arith)
 
-    goes_on : (x : Name) → 1 ≤ alone number x → alone number x < number → Has (after_of {S = S} {I = I} {R = R} (anchored s number) x)
+    goes_on : (x : Name) → 1 ≤ alone number x → alone number x < number → Has (after_of {S = S} {I = I} {R = R} (anchor_memory s number) x)
     goes_on Anchor h less = absurd (omega arith)
     goes_on (Of p k) h less = absurd (omega arith)
 
-    seq : (x : Name) → 1 ≤ seq_of {S = S} {I = I} {R = R} (anchored s number) x → seq_of {S = S} {I = I} {R = R} (anchored s number) x ≡ alone number x
+    seq : (x : Name) → 1 ≤ seq_of {S = S} {I = I} {R = R} (anchor_memory s number) x → seq_of {S = S} {I = I} {R = R} (anchor_memory s number) x ≡ alone number x
     seq Anchor h = refl
     seq (Of p k) h = refl
 
-    threaded : (x : Name) → 1 ≤ alone number x → alone number x < number → seq_of {S = S} {I = I} {R = R} (anchored s number) x ≡ alone number x
+    threaded : (x : Name) → 1 ≤ alone number x → alone number x < number → seq_of {S = S} {I = I} {R = R} (anchor_memory s number) x ≡ alone number x
     threaded Anchor h less = refl
     threaded (Of p k) h less = refl
 
-  values : HasValues next answer (anchored s number) (alone number)
+  values : HasValues object (anchor_memory s number) (alone number)
   values = record { anchor = (s, refl); none = none; threaded = threaded; after = λ x y v e settled. absurd (let f : None ≡ Some y = e in cc) } where
-    none : (x : Name) → alone number x ≡ 0 → new_of {S = S} {I = I} {R = R} (anchored s number) x ≡ None
+    none : (x : Name) → alone number x ≡ 0 → new_of {S = S} {I = I} {R = R} (anchor_memory s number) x ≡ None
     none Anchor e = absurd (omega arith)
     none (Of p k) e = refl
 
-    threaded : (x : Name) → 1 ≤ seq_of {S = S} {I = I} {R = R} (anchored s number) x → Has (new_of {S = S} {I = I} {R = R} (anchored s number) x)
+    threaded : (x : Name) → 1 ≤ seq_of {S = S} {I = I} {R = R} (anchor_memory s number) x → Has (new_of {S = S} {I = I} {R = R} (anchor_memory s number) x)
     threaded Anchor h = (_, refl)
     threaded (Of p k) h = absurd (omega arith)
 
-  back : LeadsBack {S = S} {I = I} {R = R} (anchored s number)
+  back : LeadsBack {S = S} {I = I} {R = R} (anchor_memory s number)
   back = record { link = λ x y e. absurd (let f : None ≡ Some x = e in cc); threaded = λ p k h. absurd (omega arith) }
 
   -- nobody has a call pending
-  pub IsSound-anchored : (n : ℕ) (call : ℕ → Option Pending) (begun steps turns : ℕ → ℕ) → ((p : ℕ) → call p ≡ None)
-      → IsSound next answer (record { n = n; memory = anchored s number; call = call; begun = begun; steps = steps; turns = turns }) (alone number) number
-  IsSound-anchored n call begun steps turns idle = record {
+  pub IsSound-anchor_memory : (n : ℕ) (call : ℕ → Option Pending) (begun first steps turns : ℕ → ℕ) → ((p : ℕ) → call p ≡ None)
+      → IsSound object (record { n = n; memory = anchor_memory s number; call = call; begun = begun; first = first; steps = steps; turns = turns }) (alone number) number
+  IsSound-anchor_memory n call begun first steps turns idle = record {
     numbered = numbered;
     values = values;
     back = back;
@@ -78,6 +79,7 @@ module _ {S I R : Type 0} (next : S → I → S) (answer : S → I → R) (s : S
       threaded = λ p k made. absurd (let e : None ≡ Some made.0 = made.1 in cc);
       announced = λ p h. inl refl;
       head = λ p h. positive;
+      order = λ p k j less linked other. absurd (omega arith);
     };
     stands = λ p c e. absurd (let f = idle p in cc);
     count = omega arith;

@@ -1,26 +1,28 @@
 -- A pending call has a floor exactly where it has been announced.
 use Rattle.std.proofs.Common.{◌≡◌, ◌≢◌, ◌∙◌, ℕ, ◌⊎◌, inl, inr, refl, sym, ap, subst, List, [], ◌∷◌, Option, Some, None, IsSome, Bool, true, false, cond}
-use Rattle.uni_model.specs.Places.{Name, name_eq}
+use Rattle.seq_object.specs.Sequential.{Sequential}
+use Rattle.std.specs.Option.{option_map_or}
+use Rattle.uni_model.specs.Places.{Name, name_eq, seq_of, new_of}
 use Rattle.uni_model.specs.Places.Name.{Of}
 use Rattle.uni_model.specs.Stages.{Stage, Pending}
 use Rattle.uni_model.specs.Stages.Stage.{Announce}
-use Rattle.uni_model.specs.Worlds.{WorldOf, Event, call_after, stepped, opened, happened, replayed}
+use Rattle.uni_model.specs.Worlds.{WorldOf, Event, call_after, anchor_memory, last_cell, world_after_step, opened_world, world_after, world_after_all}
 use Rattle.uni_model.specs.Worlds.Event.{Call, Step, Trim}
 use Rattle.uni_model.specs.Frontier.{frontier, announces, announces_at, floor_of}
 use Rattle.uni_model.specs.Bound.{CountsSteps}
 use Rattle.uni_model.specs.Helping.{HelpingInvariant}
 use Rattle.uni_model.specs.Laws.{HasFloorOnceAnnounced}
 use Rattle.uni_model.proofs.Written.{name_eq_same, number_cases}
-use Rattle.uni_model.proofs.Counted.{CountsSteps-opened}
-use Rattle.uni_model.proofs.Bounded.{HelpingInvariant-opened, HelpingInvariant-replayed}
+use Rattle.uni_model.proofs.Counted.{CountsSteps-opened_world}
+use Rattle.uni_model.proofs.Bounded.{HelpingInvariant-opened_world, HelpingInvariant-world_after_all}
 use Rattle.uni_model.proofs.Soon.{FloorInvariant-floor}
 
-module _ {S I R : Type 0} (next : S → I → S) (answer : S → I → R) where
+module _ {S I R : Type 0} (object : Sequential S I R) where
   -- a pending call that has been announced by the end of a run was so at its start, or the run gives it its floor
-  floor_or_announced : (w : WorldOf S I R) (es : List (Event I)) (p : ℕ) (x : Name) (c : Pending) → (replayed next answer w es).call p ≡ Some c → c.mine ≡ x → c.stage ≢ Announce
-      → IsSome (floor_of next answer x w es) ⊎ ((d : Pending) × (w.call p ≡ Some d) × (d.mine ≡ x) × (d.stage ≢ Announce))
+  floor_or_announced : (w : WorldOf S I R) (es : List (Event I)) (p : ℕ) (x : Name) (c : Pending) → (world_after_all object w es).call p ≡ Some c → c.mine ≡ x → c.stage ≢ Announce
+      → IsSome (floor_of object x w es) ⊎ ((d : Pending) × (w.call p ≡ Some d) × (d.mine ≡ x) × (d.stage ≢ Announce))
   floor_or_announced w [] p x c pending its past = inr (c, pending, its, past)
-  floor_or_announced w (Call o i ∷ es) p x c pending its past = elim (floor_or_announced (happened next answer w (Call o i)) es p x c pending its past) [
+  floor_or_announced w (Call o i ∷ es) p x c pending its past = elim (floor_or_announced (world_after object w (Call o i)) es p x c pending its past) [
     | inl some ↦ inl some
     | inr was ↦ elim (number_cases p o) [
       | inl here ↦ absurd (
@@ -29,9 +31,15 @@ module _ {S I R : Type 0} (next : S → I → S) (answer : S → I → R) where
       | inr other ↦ inr (was.0, rw other.1 at was.1, was.2, was.3)
     ]
   ]
-  floor_or_announced w (Trim ∷ es) p x c pending its past = floor_or_announced (happened next answer w Trim) es p x c pending its past
-  floor_or_announced w (Step o ∷ es) p x c pending its past = by_test (floor_or_announced (happened next answer w (Step o)) es p x c pending its past) (announces x (w.call o)) refl where
-    at_call : (call : Option Pending) → w.call o ≡ call → announces x call ≡ false → (d : Pending) → (stepped next answer w o call).call p ≡ Some d → d.mine ≡ x → d.stage ≢ Announce
+  floor_or_announced w (Trim ∷ es) p x c pending its past = elim (floor_or_announced (world_after object w Trim) es p x c pending its past) [
+    | inl some ↦ inl some
+    | inr was ↦ inr (was.0, sym (call-world_after_trim (new_of w.memory (last_cell w)) p) ∙ was.1, was.2, was.3)
+  ] where
+    call-world_after_trim : (o : Option (S × Option R)) (q : ℕ) → (option_map_or (λ new. record w { first = w.begun; memory = anchor_memory new.0 (seq_of w.memory (last_cell w)) }) o w).call q ≡ w.call q
+    call-world_after_trim None q = refl
+    call-world_after_trim (Some new) q = refl
+  floor_or_announced w (Step o ∷ es) p x c pending its past = by_test (floor_or_announced (world_after object w (Step o)) es p x c pending its past) (announces x (w.call o)) refl where
+    at_call : (call : Option Pending) → w.call o ≡ call → announces x call ≡ false → (d : Pending) → (world_after_step object w o call).call p ≡ Some d → d.mine ≡ x → d.stage ≢ Announce
         → (d : Pending) × (w.call p ≡ Some d) × (d.mine ≡ x) × (d.stage ≢ Announce)
     at_call None is silent d pending its past = (d, pending, its, past)
     at_call (Some e) is silent d pending its past = elim (number_cases p o) [
@@ -53,32 +61,32 @@ module _ {S I R : Type 0} (next : S → I → S) (answer : S → I → R) where
                 cc,
           )
 
-    by_test : IsSome (floor_of next answer x (happened next answer w (Step o)) es) ⊎ ((d : Pending) × ((happened next answer w (Step o)).call p ≡ Some d) × (d.mine ≡ x) × (d.stage ≢ Announce))
+    by_test : IsSome (floor_of object x (world_after object w (Step o)) es) ⊎ ((d : Pending) × ((world_after object w (Step o)).call p ≡ Some d) × (d.mine ≡ x) × (d.stage ≢ Announce))
         → (b : Bool) → announces x (w.call o) ≡ b
-        → IsSome (cond b (Some (frontier w)) (floor_of next answer x (happened next answer w (Step o)) es)) ⊎ ((d : Pending) × (w.call p ≡ Some d) × (d.mine ≡ x) × (d.stage ≢ Announce))
+        → IsSome (cond b (Some (frontier w)) (floor_of object x (world_after object w (Step o)) es)) ⊎ ((d : Pending) × (w.call p ≡ Some d) × (d.mine ≡ x) × (d.stage ≢ Announce))
     by_test rest true announcing = inl refl
     by_test rest false silent = elim rest [
       | inl some ↦ inl some
       | inr was ↦ inr (at_call (w.call o) refl silent was.0 was.1 was.2 was.3)
     ]
 
-  pub HasFloorOnceAnnounced-holds : (n : ℕ) (start : S) (number : ℕ) (events : List (Event I)) → HasFloorOnceAnnounced next answer n start number events
-  HasFloorOnceAnnounced-holds n start number events positive ok p c pending = (floored (floor_of next answer c.mine (opened n start number) events) refl, announced) where
-    counts : CountsSteps (opened {S = S} {I = I} {R = R} n start number)
-    counts = CountsSteps-opened next answer n start number
+  pub HasFloorOnceAnnounced-holds : (n : ℕ) (start : S) (number : ℕ) (events : List (Event I)) → HasFloorOnceAnnounced object n start number events
+  HasFloorOnceAnnounced-holds n start number events positive ok p c pending = (floored (floor_of object c.mine (opened_world n start number) events) refl, announced) where
+    counts : CountsSteps (opened_world {S = S} {I = I} {R = R} n start number)
+    counts = CountsSteps-opened_world object n start number
 
-    held : HelpingInvariant next answer (opened {S = S} {I = I} {R = R} n start number)
-    held = HelpingInvariant-opened next answer n start number positive
+    held : HelpingInvariant object (opened_world {S = S} {I = I} {R = R} n start number)
+    held = HelpingInvariant-opened_world object n start number positive
 
-    floored : (o : Option ℕ) → floor_of next answer c.mine (opened n start number) events ≡ o → IsSome o → c.stage ≢ Announce
+    floored : (o : Option ℕ) → floor_of object c.mine (opened_world n start number) events ≡ o → IsSome o → c.stage ≢ Announce
     floored None e some = absurd (let f : false ≡ true = some in cc)
     floored (Some floor) e some =
-        let its = (HelpingInvariant-replayed next answer (opened n start number) events ok counts held).2.calls.mine p c pending in
-        let inv = FloorInvariant-floor next answer (opened n start number) events ok counts held p its.0 floor (ap (λ x. floor_of next answer x (opened n start number) events) (sym its.1) ∙ e) in
+        let its = (HelpingInvariant-world_after_all object (opened_world n start number) events ok counts held).2.calls.mine p c pending in
+        let inv = FloorInvariant-floor object (opened_world n start number) events ok counts held p its.0 floor (ap (λ x. floor_of object x (opened_world n start number) events) (sym its.1) ∙ e) in
         inv.2 c pending its.1
 
-    announced : c.stage ≢ Announce → IsSome (floor_of next answer c.mine (opened n start number) events)
-    announced past = elim (floor_or_announced (opened n start number) events p c.mine c pending refl past) [
+    announced : c.stage ≢ Announce → IsSome (floor_of object c.mine (opened_world n start number) events)
+    announced past = elim (floor_or_announced (opened_world n start number) events p c.mine c pending refl past) [
       | inl some ↦ some
       | inr was ↦ absurd (let f : None ≡ Some was.0 = was.1 in cc)
     ]

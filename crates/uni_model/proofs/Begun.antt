@@ -1,20 +1,21 @@
 -- A call that is begun keeps the invariant.
 use Rattle.std.proofs.Common.{◌≡◌, ◌≢◌, ◌∙◌, ℕ, ◌+◌, ◌<◌, ◌≤◌, ◌⊎◌, inl, inr, refl, sym, ap, subst, Option, Some, None, arith}
 use Rattle.std.proofs.lemmas.Bool.{cases_lt}
-use Rattle.uni_model.specs.Places.{Name, Memory, written, set_at, inv_of}
+use Rattle.seq_object.specs.Sequential.{Sequential}
+use Rattle.uni_model.specs.Places.{Name, Memory, memory_with, set_at, inv_of}
 use Rattle.uni_model.specs.Places.Name.{Anchor, Of}
 use Rattle.uni_model.specs.Places.Place.{InvOf}
 use Rattle.uni_model.specs.Places.Content.{Invocation}
 use Rattle.uni_model.specs.Stages.{Pending}
 use Rattle.uni_model.specs.Stages.Stage.{Announce}
-use Rattle.uni_model.specs.Worlds.{WorldOf, call_begun, sum_below}
+use Rattle.uni_model.specs.Worlds.{WorldOf, world_after_call, sum_below}
 use Rattle.uni_model.specs.Invariant.{Has, Stands, IsSound, can_be_linked}
-use Rattle.uni_model.proofs.Written.{set_at-cases, number_cases, inv_of-written}
+use Rattle.uni_model.proofs.Written.{set_at-cases, number_cases, inv_of-memory_with}
 use Rattle.uni_model.specs.Settled.{Grows}
 use Rattle.uni_model.proofs.Grows.{Has-inv, Stands-grows}
 use Rattle.uni_model.proofs.Sums.{sum_below-le}
 
-module _ {S I R : Type 0} (next : S → I → S) (answer : S → I → R) (w : WorldOf S I R) (num : Name → ℕ) (last : ℕ) (sound : IsSound next answer w num last)
+module _ {S I R : Type 0} (object : Sequential S I R) (w : WorldOf S I R) (num : Name → ℕ) (last : ℕ) (sound : IsSound object w num last)
     (p : ℕ) (i : I) (inside : p < w.n) (idle : w.call p ≡ None) where
   -- the new cell
   mine : Name
@@ -33,29 +34,29 @@ module _ {S I R : Type 0} (next : S → I → S) (answer : S → I → R) (w : W
   ]
 
   memory : Memory S I R
-  memory = written w.memory (InvOf (Of p (w.begun p))) (Invocation (Some i))
+  memory = memory_with w.memory (InvOf (Of p (w.begun p))) (Invocation (Some i))
 
-  pub Grows-begun : Grows w.memory (written w.memory (InvOf (Of p (w.begun p))) (Invocation (Some i)))
+  pub Grows-begun : Grows w.memory (memory_with w.memory (InvOf (Of p (w.begun p))) (Invocation (Some i)))
   Grows-begun = record {
     seq = λ x h. refl;
     after = λ x y e. e;
     new = λ x v e. e;
     before = λ x y e. e;
-    inv = λ x j e. elim (inv_of-written w.memory (Of p (w.begun p)) x (Some i)) [
+    inv = λ x j e. elim (inv_of-memory_with w.memory (Of p (w.begun p)) x (Some i)) [
       | inl h ↦ absurd (let f = ap (inv_of w.memory) h.0 in let g = fresh in cc)
       | inr h ↦ h.1 ∙ e
     ];
   }
 
   later : WorldOf S I R
-  later = call_begun w p i
+  later = world_after_call w p i
 
-  own_inv : inv_of (written w.memory (InvOf (Of p (w.begun p))) (Invocation (Some i))) (Of p (w.begun p)) ≡ Some i
-  own_inv = elim (inv_of-written w.memory (Of p (w.begun p)) (Of p (w.begun p)) (Some i)) [ inl h ↦ h.1 | inr h ↦ absurd (h.0 refl) ]
+  own_inv : inv_of (memory_with w.memory (InvOf (Of p (w.begun p))) (Invocation (Some i))) (Of p (w.begun p)) ≡ Some i
+  own_inv = elim (inv_of-memory_with w.memory (Of p (w.begun p)) (Of p (w.begun p)) (Some i)) [ inl h ↦ h.1 | inr h ↦ absurd (h.0 refl) ]
 
   -- a cell that is there was there, or is the new one
-  was_there : (q k : ℕ) → Has (inv_of (written w.memory (InvOf (Of p (w.begun p))) (Invocation (Some i))) (Of q k)) → ((q ≡ p) × (k ≡ w.begun p)) ⊎ Has (inv_of w.memory (Of q k))
-  was_there q k made = elim (inv_of-written w.memory (Of p (w.begun p)) (Of q k) (Some i)) [
+  was_there : (q k : ℕ) → Has (inv_of (memory_with w.memory (InvOf (Of p (w.begun p))) (Invocation (Some i))) (Of q k)) → ((q ≡ p) × (k ≡ w.begun p)) ⊎ Has (inv_of w.memory (Of q k))
+  was_there q k made = elim (inv_of-memory_with w.memory (Of p (w.begun p)) (Of q k) (Some i)) [
     | inl h ↦ inl (process_of h.0, nth_of h.0)
     | inr h ↦ inr (made.0, sym h.1 ∙ made.1)
   ] where
@@ -91,7 +92,7 @@ module _ {S I R : Type 0} (next : S → I → S) (answer : S → I → R) (w : W
     | inr h ↦ rw h.1 (omega arith)
   ]
 
-  pub IsSound-begun : IsSound next answer (call_begun w p i) num last
+  pub IsSound-begun : IsSound object (world_after_call w p i) num last
   IsSound-begun = record {
     numbered = record {
       anchor = sound.numbered.anchor;
@@ -113,7 +114,7 @@ module _ {S I R : Type 0} (next : S → I → S) (answer : S → I → R) (w : W
     };
     back = record { link = sound.back.link; threaded = sound.back.threaded };
     calls = record {
-      anchor = elim (inv_of-written w.memory (Of p (w.begun p)) Anchor (Some i)) [ inl h ↦ absurd (let e = h.0 in cc) | inr h ↦ h.1 ∙ sound.calls.anchor ];
+      anchor = elim (inv_of-memory_with w.memory (Of p (w.begun p)) Anchor (Some i)) [ inl h ↦ absurd (let e = h.0 in cc) | inr h ↦ h.1 ∙ sound.calls.anchor ];
       linked = λ q k linked. Has-inv w.memory _ Grows-begun (Of q k) (sound.calls.linked q k linked);
       begun = λ q k made. elim (was_there q k made) [
         | inl new ↦ (let e = new.0 in subst (λ r. r < w.n) (sym e) inside, (let more = begun_here q new.0 in let k_is = new.1 in omega arith))
@@ -125,7 +126,7 @@ module _ {S I R : Type 0} (next : S → I → S) (answer : S → I → R) (w : W
           w.begun p,
           ap (λ (x : Pending). x.mine) new.1 ∙ ap (λ r. Of r (w.begun p)) (sym new.0),
           begun_here q new.0,
-          (i, ap (λ r. inv_of (written w.memory (InvOf (Of p (w.begun p))) (Invocation (Some i))) (Of r (w.begun p))) new.0 ∙ own_inv),
+          (i, ap (λ r. inv_of (memory_with w.memory (InvOf (Of p (w.begun p))) (Invocation (Some i))) (Of r (w.begun p))) new.0 ∙ own_inv),
         )
         | inr old ↦
             let its = sound.calls.mine q c old.1 in
@@ -154,9 +155,10 @@ module _ {S I R : Type 0} (next : S → I → S) (answer : S → I → R) (w : W
         | inr cell ↦ inr (cell.0, cell.1, Has-inv w.memory _ Grows-begun (Of q cell.0) cell.2)
       ];
       head = sound.calls.head;
+      order = sound.calls.order;
     };
     stands = λ q c e. elim (was_pending q c e) [
-      | inl new ↦ subst (λ (x : Pending). Stands (written w.memory (InvOf (Of p (w.begun p))) (Invocation (Some i))) num w.n q x.mine x.stage) (sym new.1) tt
+      | inl new ↦ subst (λ (x : Pending). Stands (memory_with w.memory (InvOf (Of p (w.begun p))) (Invocation (Some i))) num w.n q x.mine x.stage) (sym new.1) tt
       | inr old ↦ Stands-grows w.memory _ Grows-begun num num (λ x. inl refl) q refl (sound.calls.head q (sound.calls.process q c old.1)) w.n c.mine c.stage (sound.stands q c old.1)
     ];
     count =

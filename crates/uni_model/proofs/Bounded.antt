@@ -1,20 +1,21 @@
 -- Every event that is accepted goes on helping each pending call; so each call ends within n + 1 turns.
 use Rattle.std.proofs.Common.{◌≡◌, ℕ, ◌+◌, ◌*◌, ◌<◌, ◌≤◌, refl, sym, subst, List, [], ◌∷◌, Option, Some, None, arith}
 use Rattle.std.specs.Option.{option_map_or}
-use Rattle.uni_model.specs.Places.{Name, Memory, written, set_at, head_seq, seq_of, new_of, inv_of}
+use Rattle.seq_object.specs.Sequential.{Sequential}
+use Rattle.uni_model.specs.Places.{Name, Memory, memory_with, set_at, head_seq, seq_of, new_of}
 use Rattle.uni_model.specs.Stages.{Stage, Pending}
 use Rattle.uni_model.specs.Stages.Stage.{Announce, ScanHead, ScanSeq, WriteScan, Test, ReadAnnounce, ReadHelpSeq, DecideAfter, DecideNew, WriteBefore, WriteSeq, WriteHead, Finish}
-use Rattle.uni_model.specs.Transition.{place_of, effect_of, turn_of, c_of, d_of}
-use Rattle.uni_model.specs.Worlds.{WorldOf, Event, call_begun, stepped, opened, anchored, trimmed, last_cell, happened, replayed, IsAccepted, AreAccepted, IsQuiescent}
+use Rattle.uni_model.specs.Transition.{place_of, effect_of, turn_of, beside}
+use Rattle.uni_model.specs.Worlds.{WorldOf, Event, world_after_call, world_after_step, opened_world, anchor_memory, world_after_trim, last_cell, world_after, world_after_all, IsAccepted, AreAccepted, IsQuiescent}
 use Rattle.uni_model.specs.Worlds.Event.{Call, Step, Trim}
 use Rattle.uni_model.specs.Invariant.{Stands}
 use Rattle.uni_model.specs.Bound.{steps_at, IsCounted, CountsSteps, IsWithinBound, IsBounded}
 use Rattle.uni_model.proofs.Moves.{IsSound-moved}
 use Rattle.uni_model.proofs.Steps.{leads}
-use Rattle.uni_model.proofs.Anchored.{alone, IsSound-anchored}
+use Rattle.uni_model.proofs.Anchored.{alone, IsSound-anchor_memory}
 use Rattle.uni_model.proofs.Begun.{IsSound-begun}
 use Rattle.uni_model.proofs.Kept.{idle_when_quiescent, last_cell_threaded}
-use Rattle.uni_model.proofs.Counted.{IsCounted-pending, CountsSteps-happened}
+use Rattle.uni_model.proofs.Counted.{IsCounted-pending, CountsSteps-world_after}
 use Rattle.uni_model.specs.Helping.{Helps, HelpingInvariant}
 use Rattle.uni_model.proofs.Turns.{turns-le}
 use Rattle.uni_model.proofs.Advanced.{advances, head_rises}
@@ -22,38 +23,38 @@ use Rattle.uni_model.proofs.HelpedStep.{Helps-moved}
 use Rattle.uni_model.proofs.HelpedCall.{Helps-begun}
 
 -- with no call pending nobody waits for help
-pub Helps-anchored : {S I R : Type 0} (s : S) (number n : ℕ) (call : ℕ → Option Pending) (begun steps turns : ℕ → ℕ) → ((p : ℕ) → call p ≡ None) → ((p : ℕ) → turns p ≤ n + 1)
-    → Helps {S = S} {I = I} {R = R} (record { n = n; memory = anchored s number; call = call; begun = begun; steps = steps; turns = turns }) (alone number) number
-Helps-anchored s number n call begun steps turns idle few = record {
+pub Helps-anchor_memory : {S I R : Type 0} (s : S) (number n : ℕ) (call : ℕ → Option Pending) (begun first steps turns : ℕ → ℕ) → ((p : ℕ) → call p ≡ None) → ((p : ℕ) → turns p ≤ n + 1)
+    → Helps {S = S} {I = I} {R = R} (record { n = n; memory = anchor_memory s number; call = call; begun = begun; first = first; steps = steps; turns = turns }) (alone number) number
+Helps-anchor_memory s number n call begun first steps turns idle few = record {
   each = λ p c e. absurd (let f = idle p in cc);
   fair = λ o d e. absurd (let f = idle o in cc);
   heads = λ k from below. absurd (omega arith);
   returned = λ p e. few p;
 }
 
-module _ {S I R : Type 0} (next : S → I → S) (answer : S → I → R) where
-  abbrev pub HelpingInvariant-stepped : (w : WorldOf S I R) (p : ℕ) (c : Pending) → w.call p ≡ Some c → CountsSteps w → HelpingInvariant next answer w → HelpingInvariant next answer (stepped next answer w p (Some c))
-  HelpingInvariant-stepped w p c is counts inv =
-      let moved = leads next answer w inv.0 inv.1 inv.2 p c.mine c.stage is c.stage (inv.2.stands p c is) in
+module _ {S I R : Type 0} (object : Sequential S I R) where
+  abbrev pub HelpingInvariant-world_after_step : (w : WorldOf S I R) (p : ℕ) (c : Pending) → w.call p ≡ Some c → CountsSteps w → HelpingInvariant object w → HelpingInvariant object (world_after_step object w p (Some c))
+  HelpingInvariant-world_after_step w p c is counts inv =
+      let moved = leads object w inv.0 inv.1 inv.2 p c.mine c.stage is c.stage (inv.2.stands p c is) in
       let own = IsCounted-pending w counts p c is in
       let place = place_of w.n p c.mine c.stage in
-      let e = effect_of next answer w.n c.mine c.stage (w.memory place) (inv_of w.memory (d_of c.stage)) (new_of w.memory (c_of c.stage)) in
+      let e = effect_of object w.n c.mine c.stage (w.memory place) (beside w.memory c.mine c.stage) in
       let inside : p < w.n = inv.2.calls.process p c is in
       let threaded : 1 ≤ head_seq w.memory p = inv.2.calls.head p inside in
       let helped = inv.3.each p c is in (
         moved.0,
         moved.1,
-        IsSound-moved next answer w inv.0 inv.1 inv.2 p c.mine c.stage is (written w.memory place e.content) moved.0 moved.1 e.stage moved.3
+        IsSound-moved object w inv.0 inv.1 inv.2 p c.mine c.stage is (memory_with w.memory place e.content) moved.0 moved.1 e.stage moved.3
             (set_at w.steps p (w.steps p + 1)) (set_at w.turns p (w.turns p + turn_of c.stage (w.memory place))),
-        Helps-moved next answer w inv.0 inv.1 inv.2 inv.3 p c.mine c.stage is (written w.memory place e.content) moved.0 moved.1 e.stage moved.3 moved.2
-            (head_rises next answer w inv.0 inv.1 inv.2 inv.3 p c.mine threaded c.stage (inv.2.stands p c is) helped.own_head moved.3.grows)
+        Helps-moved object w inv.0 inv.1 inv.2 inv.3 p c.mine c.stage is (memory_with w.memory place e.content) moved.0 moved.1 e.stage moved.3 moved.2
+            (head_rises object w inv.0 inv.1 inv.2 inv.3 p c.mine threaded c.stage (inv.2.stands p c is) helped.own_head moved.3.grows)
             (w.turns p + turn_of c.stage (w.memory place))
-            (advances next answer w inv.0 inv.1 inv.2 inv.3 p c.mine inside threaded moved.0 moved.3.numbers c.stage is (inv.2.stands p c is) helped own.0)
+            (advances object w inv.0 inv.1 inv.2 inv.3 p c.mine inside threaded moved.0 moved.3.numbers c.stage is (inv.2.stands p c is) helped own.0)
             (set_at w.steps p (w.steps p + 1)),
       )
 
   -- every process's latest call has taken at most n + 1 turns
-  pub turns_bounded : (w : WorldOf S I R) → CountsSteps w → HelpingInvariant next answer w → (p : ℕ) → w.turns p ≤ w.n + 1
+  pub turns_bounded : (w : WorldOf S I R) → CountsSteps w → HelpingInvariant object w → (p : ℕ) → w.turns p ≤ w.n + 1
   turns_bounded w counts inv p = by_call (w.call p) refl where
     by_call : (o : Option Pending) → w.call p ≡ o → w.turns p ≤ w.n + 1
     by_call None is = inv.3.returned p is
@@ -63,45 +64,45 @@ module _ {S I R : Type 0} (next : S → I → S) (answer : S → I → R) where
         turns-le w.memory inv.0 inv.1 inv.2.numbered w.n p inside (inv.2.calls.head p inside) c.mine (w.turns p) c.stage (inv.2.stands p c is) own.0 (inv.3.each p c is)
 
   -- the list is replaced by one anchor with the state s
-  abbrev pub HelpingInvariant-anchored : (w : WorldOf S I R) (s : S) → IsQuiescent w → CountsSteps w → HelpingInvariant next answer w
-      → HelpingInvariant next answer (record w { memory = anchored s (seq_of w.memory (last_cell w)) })
-  HelpingInvariant-anchored w s quiet counts inv =
-      let idle : (p : ℕ) → w.call p ≡ None = idle_when_quiescent next answer w inv.0 inv.1 inv.2 quiet in (
+  abbrev pub HelpingInvariant-anchor_memory : (w : WorldOf S I R) (s : S) → IsQuiescent w → CountsSteps w → HelpingInvariant object w
+      → HelpingInvariant object (record w { first = w.begun; memory = anchor_memory s (seq_of w.memory (last_cell w)) })
+  HelpingInvariant-anchor_memory w s quiet counts inv =
+      let idle : (p : ℕ) → w.call p ≡ None = idle_when_quiescent object w inv.0 inv.1 inv.2 quiet in (
         alone (seq_of w.memory (last_cell w)),
         seq_of w.memory (last_cell w),
-        IsSound-anchored next answer s (seq_of w.memory (last_cell w)) (last_cell_threaded next answer w inv.0 inv.1 inv.2 quiet) w.n w.call w.begun w.steps w.turns idle,
-        Helps-anchored s (seq_of w.memory (last_cell w)) w.n w.call w.begun w.steps w.turns idle (turns_bounded w counts inv),
+        IsSound-anchor_memory object s (seq_of w.memory (last_cell w)) (last_cell_threaded object w inv.0 inv.1 inv.2 quiet) w.n w.call w.begun w.begun w.steps w.turns idle,
+        Helps-anchor_memory s (seq_of w.memory (last_cell w)) w.n w.call w.begun w.begun w.steps w.turns idle (turns_bounded w counts inv),
       )
 
-  HelpingInvariant-trimmed : (w : WorldOf S I R) → IsQuiescent w → CountsSteps w → HelpingInvariant next answer w → HelpingInvariant next answer (trimmed w)
-  HelpingInvariant-trimmed w quiet counts inv = by_new (new_of w.memory (last_cell w)) where
-    by_new : (o : Option (S × Option R)) → HelpingInvariant next answer (record w { memory = option_map_or (λ new. anchored new.0 (seq_of w.memory (last_cell w))) o w.memory })
+  HelpingInvariant-world_after_trim : (w : WorldOf S I R) → IsQuiescent w → CountsSteps w → HelpingInvariant object w → HelpingInvariant object (world_after_trim w)
+  HelpingInvariant-world_after_trim w quiet counts inv = by_new (new_of w.memory (last_cell w)) where
+    by_new : (o : Option (S × Option R)) → HelpingInvariant object (option_map_or (λ new. record w { first = w.begun; memory = anchor_memory new.0 (seq_of w.memory (last_cell w)) }) o w)
     by_new None = inv
-    by_new (Some new) = HelpingInvariant-anchored w new.0 quiet counts inv
+    by_new (Some new) = HelpingInvariant-anchor_memory w new.0 quiet counts inv
 
-  abbrev pub HelpingInvariant-begun : (w : WorldOf S I R) (p : ℕ) (i : I) → p < w.n → w.call p ≡ None → HelpingInvariant next answer w → HelpingInvariant next answer (call_begun w p i)
+  abbrev pub HelpingInvariant-begun : (w : WorldOf S I R) (p : ℕ) (i : I) → p < w.n → w.call p ≡ None → HelpingInvariant object w → HelpingInvariant object (world_after_call w p i)
   HelpingInvariant-begun w p i inside idle inv =
-      (inv.0, inv.1, IsSound-begun next answer w inv.0 inv.1 inv.2 p i inside idle, Helps-begun next answer w inv.0 inv.1 inv.2 inv.3 p i inside idle)
+      (inv.0, inv.1, IsSound-begun object w inv.0 inv.1 inv.2 p i inside idle, Helps-begun object w inv.0 inv.1 inv.2 inv.3 p i inside idle)
 
-  pub HelpingInvariant-happened : (w : WorldOf S I R) (e : Event I) → IsAccepted w e → CountsSteps w → HelpingInvariant next answer w → HelpingInvariant next answer (happened next answer w e)
-  HelpingInvariant-happened w (Call p i) ok counts inv = HelpingInvariant-begun w p i ok.0 ok.1 inv
-  HelpingInvariant-happened w (Step p) ok counts inv = by_call (w.call p) refl where
-    by_call : (o : Option Pending) → w.call p ≡ o → HelpingInvariant next answer (stepped next answer w p o)
+  pub HelpingInvariant-world_after : (w : WorldOf S I R) (e : Event I) → IsAccepted w e → CountsSteps w → HelpingInvariant object w → HelpingInvariant object (world_after object w e)
+  HelpingInvariant-world_after w (Call p i) ok counts inv = HelpingInvariant-begun w p i ok.0 ok.1 inv
+  HelpingInvariant-world_after w (Step p) ok counts inv = by_call (w.call p) refl where
+    by_call : (o : Option Pending) → w.call p ≡ o → HelpingInvariant object (world_after_step object w p o)
     by_call None is = inv
-    by_call (Some c) is = HelpingInvariant-stepped w p c is counts inv
-  HelpingInvariant-happened w Trim ok counts inv = HelpingInvariant-trimmed w ok counts inv
+    by_call (Some c) is = HelpingInvariant-world_after_step w p c is counts inv
+  HelpingInvariant-world_after w Trim ok counts inv = HelpingInvariant-world_after_trim w ok counts inv
 
-  pub HelpingInvariant-replayed : (w : WorldOf S I R) (es : List (Event I)) → AreAccepted next answer w es → CountsSteps w → HelpingInvariant next answer w → HelpingInvariant next answer (replayed next answer w es)
-  HelpingInvariant-replayed w [] ok counts inv = inv
-  HelpingInvariant-replayed w (e ∷ es) ok counts inv =
-      HelpingInvariant-replayed (happened next answer w e) es ok.1 (CountsSteps-happened next answer w e ok.0 (inv.0, inv.1, inv.2) counts) (HelpingInvariant-happened w e ok.0 counts inv)
+  pub HelpingInvariant-world_after_all : (w : WorldOf S I R) (es : List (Event I)) → AreAccepted object w es → CountsSteps w → HelpingInvariant object w → HelpingInvariant object (world_after_all object w es)
+  HelpingInvariant-world_after_all w [] ok counts inv = inv
+  HelpingInvariant-world_after_all w (e ∷ es) ok counts inv =
+      HelpingInvariant-world_after_all (world_after object w e) es ok.1 (CountsSteps-world_after object w e ok.0 (inv.0, inv.1, inv.2) counts) (HelpingInvariant-world_after w e ok.0 counts inv)
 
-  pub HelpingInvariant-opened : (n : ℕ) (s : S) (number : ℕ) → 1 ≤ number → HelpingInvariant next answer (opened {S = S} {I = I} {R = R} n s number)
-  HelpingInvariant-opened n s number positive = (
+  pub HelpingInvariant-opened_world : (n : ℕ) (s : S) (number : ℕ) → 1 ≤ number → HelpingInvariant object (opened_world {S = S} {I = I} {R = R} n s number)
+  HelpingInvariant-opened_world n s number positive = (
     alone number,
     number,
-    IsSound-anchored next answer s number positive n (λ p. None) (λ p. 0) (λ p. 0) (λ p. 0) (λ p. refl),
-    Helps-anchored s number n (λ p. None) (λ p. 0) (λ p. 0) (λ p. 0) (λ p. refl) (λ p. omega arith),
+    IsSound-anchor_memory object s number positive n (λ p. None) (λ p. 0) (λ p. 0) (λ p. 0) (λ p. 0) (λ p. refl),
+    Helps-anchor_memory s number n (λ p. None) (λ p. 0) (λ p. 0) (λ p. 0) (λ p. 0) (λ p. refl) (λ p. omega arith),
   )
 
   -- the own steps of a pending call with at most n + 1 turns
@@ -120,7 +121,7 @@ module _ {S I R : Type 0} (next : S → I → S) (answer : S → I → R) where
   steps_at-lt m num n p mine (WriteHead c s d) turns h few = omega arith
   steps_at-lt m num n p mine (Finish s k) turns h few = omega arith
 
-  pub IsBounded-held : (w : WorldOf S I R) → CountsSteps w → HelpingInvariant next answer w → IsBounded w
+  pub IsBounded-held : (w : WorldOf S I R) → CountsSteps w → HelpingInvariant object w → IsBounded w
   IsBounded-held w counts inv p = by_call (w.call p) refl (counts p) where
     by_call : (o : Option Pending) → w.call p ≡ o → IsCounted w.n o (w.begun p) (w.steps p) (w.turns p) → IsWithinBound w.n o (w.begun p) (w.steps p) (w.turns p)
     by_call None is counted = (turns_bounded w counts inv p, counted)

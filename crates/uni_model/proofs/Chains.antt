@@ -3,14 +3,15 @@ use Rattle.std.proofs.Common.{◌≡◌, ◌≢◌, ◌∙◌, ℕ, zero, suc, �
 use Rattle.std.proofs.lemmas.Bool.{cases_lt}
 use Rattle.std.specs.Option.{option_map_or}
 use Rattle.std.specs.List.{AllByRecursion}
+use Rattle.seq_object.specs.Sequential.{Sequential}
 use Rattle.seq_object.specs.History.{response_at}
-use Rattle.uni_model.specs.Places.{Name, Memory, written, seq_of, after_of, new_of, inv_of}
+use Rattle.uni_model.specs.Places.{Name, Memory, memory_with, seq_of, after_of, new_of, inv_of}
 use Rattle.uni_model.specs.Places.Name.{Anchor, Of}
 use Rattle.uni_model.specs.Places.Place.{AfterOf}
 use Rattle.uni_model.specs.Places.Content.{Link}
 use Rattle.uni_model.specs.Chain.{cells_from, Invoked, invoked_at, Entry, entries_from, response_in}
 use Rattle.uni_model.specs.Invariant.{Has, IsNumbered, HasValues}
-use Rattle.uni_model.proofs.Written.{after_of-written}
+use Rattle.uni_model.proofs.Written.{after_of-memory_with}
 use Rattle.uni_model.proofs.Numbered.{end_number}
 
 -- the calls of these cells
@@ -160,12 +161,12 @@ module _ {S I R : Type 0} (m : Memory S I R) where
           rw (more.1, call.1) (slice_get-calls_at most more.0 y place (omega arith) (omega arith) (omega arith))
 
       -- what is settled in a cell is the response at its place, from the state that is settled in x on
-      pub response_at-calls_at : (next : S → I → S) (answer : S → I → R) → HasValues next answer m num → inv_of m Anchor ≡ None
+      pub response_at-calls_at : (object : Sequential S I R) → HasValues object m num → inv_of m Anchor ≡ None
           → (most : ℕ) (x y : Name) (place : ℕ) (u v : S × Option R) → 1 ≤ num x → num y ≡ num x + (place + 1) → num y ≤ num x + most
           → new_of m x ≡ Some u → new_of m y ≡ Some v
-          → response_at next answer u.0 (map (λ (c : Invoked I). c.inv) (calls_at m (cells_from most m x))) place ≡ v.1
-      response_at-calls_at next answer values no_inv zero x y place u v h at bound settled_x settled_y = absurd (omega arith)
-      response_at-calls_at next answer values no_inv (suc most) x y zero u v h at bound settled_x settled_y =
+          → response_at object u.0 (map (λ (c : Invoked I). c.inv) (calls_at m (cells_from most m x))) place ≡ v.1
+      response_at-calls_at object values no_inv zero x y place u v h at bound settled_x settled_y = absurd (omega arith)
+      response_at-calls_at object values no_inv (suc most) x y zero u v h at bound settled_x settled_y =
           let top : num y ≤ last = numbered.greatest y in
           let more = numbered.goes_on x h (omega arith) in
           let n : num more.0 ≡ num x + 1 = next_number x more.0 more.1 in
@@ -176,7 +177,7 @@ module _ {S I R : Type 0} (m : Memory S I R) where
           rw (more.1, call.1) (rw (call.2, state) (sym (ap (λ (t : S × Option R). t.1) after.value))) where
             not_anchor : (z : Name) (i : I) → inv_of m z ≡ Some i → z ≢ Anchor
             not_anchor z i e same = let f = ap (inv_of m) same in cc
-      response_at-calls_at next answer values no_inv (suc most) x y (suc place) u v h at bound settled_x settled_y =
+      response_at-calls_at object values no_inv (suc most) x y (suc place) u v h at bound settled_x settled_y =
           let top : num y ≤ last = numbered.greatest y in
           let more = numbered.goes_on x h (omega arith) in
           let n : num more.0 ≡ num x + 1 = next_number x more.0 more.1 in
@@ -185,8 +186,8 @@ module _ {S I R : Type 0} (m : Memory S I R) where
           let after = values.after x more.0 settled.0 more.1 settled.1 in
           let state : u ≡ after.before = (let e = after.new_of_x in cc) in
           let call = invoked_at-inv more.0 after.inv after.inv_of_y (not_anchor more.0 after.inv after.inv_of_y) in
-          let next_state : next u.0 call.0.inv ≡ settled.0.0 = rw (call.2, state) (sym (ap (λ (t : S × Option R). t.0) after.value)) in
-          rw (more.1, call.1) (rw next_state (response_at-calls_at next answer values no_inv most more.0 y place settled.0 v (omega arith) (omega arith) (omega arith) settled.1 settled_y)) where
+          let next_state : object.next u.0 call.0.inv ≡ settled.0.0 = rw (call.2, state) (sym (ap (λ (t : S × Option R). t.0) after.value)) in
+          rw (more.1, call.1) (rw next_state (response_at-calls_at object values no_inv most more.0 y place settled.0 v (omega arith) (omega arith) (omega arith) settled.1 settled_y)) where
             not_anchor : (z : Name) (i : I) → inv_of m z ≡ Some i → z ≢ Anchor
             not_anchor z i e same = let f = ap (inv_of m) same in cc
 
@@ -211,9 +212,9 @@ module _ {S I R : Type 0} (m : Memory S I R) where
     -- a cell that is linked at the end goes to the chain's end
     module _ (c y : Name) (threaded : 1 ≤ seq_of m c) (at_end : after_of m c ≡ None) (outside : num y ≡ 0) (nothing : after_of m y ≡ None) where
       pub cells_from-link : (most : ℕ) (x : Name) → 1 ≤ num x → last + 1 ≤ num x + most
-          → cells_from most (written m (AfterOf c) (Link (Some y))) x ≡ cells_from most m x ++ y ∷ []
+          → cells_from most (memory_with m (AfterOf c) (Link (Some y))) x ≡ cells_from most m x ++ y ∷ []
       cells_from-link zero x h bound = absurd (let top = numbered.greatest x in omega arith)
-      cells_from-link (suc most) x h bound = elim (after_of-written m c x (Some y)) [
+      cells_from-link (suc most) x h bound = elim (after_of-memory_with m c x (Some y)) [
         | inl at_c ↦
             let none : after_of m x ≡ None = ap (after_of m) at_c.0 ∙ at_end in
             rw (at_c.1, none) (ap (λ ys. y ∷ ys) (alone most))
@@ -223,9 +224,9 @@ module _ {S I R : Type 0} (m : Memory S I R) where
             let n : num more.0 ≡ num x + 1 = next_number x more.0 more.1 in
             rw (other.1, more.1) (ap (λ ys. more.0 ∷ ys) (cells_from-link most more.0 (omega arith) (omega arith)))
       ] where
-        alone : (k : ℕ) → cells_from k (written m (AfterOf c) (Link (Some y))) y ≡ []
+        alone : (k : ℕ) → cells_from k (memory_with m (AfterOf c) (Link (Some y))) y ≡ []
         alone zero = refl
-        alone (suc k) = elim (after_of-written m c y (Some y)) [
+        alone (suc k) = elim (after_of-memory_with m c y (Some y)) [
           | inl same ↦ absurd (
               let e : num y ≡ num c = ap num same.0 in
               let number : seq_of m c ≡ num c = numbered.seq c threaded in omega arith)

@@ -1,20 +1,22 @@
 -- Own steps are counted by the stage and the turns.
 use Rattle.std.proofs.Common.{◌≡◌, ℕ, ◌+◌, ◌<◌, inl, inr, refl, subst, List, [], ◌∷◌, Option, Some, None, arith}
-use Rattle.uni_model.specs.Places.{Name, Content, Memory, number_in, new_of, inv_of}
+use Rattle.std.specs.Option.{option_map_or}
+use Rattle.seq_object.specs.Sequential.{Sequential}
+use Rattle.uni_model.specs.Places.{Name, Content, Memory, number_in, seq_of, new_of}
 use Rattle.uni_model.specs.Stages.{Stage, Pending}
 use Rattle.uni_model.specs.Stages.Stage.{Announce, ScanHead, ScanSeq, WriteScan, Test, ReadAnnounce, ReadHelpSeq, DecideAfter, DecideNew, WriteBefore, WriteSeq, WriteHead, Finish}
-use Rattle.uni_model.specs.Transition.{place_of, effect_of, turn_of, c_of, d_of}
-use Rattle.uni_model.specs.Worlds.{WorldOf, Event, opened, stepped, call_begun, call_after, happened, replayed, IsAccepted, AreAccepted}
+use Rattle.uni_model.specs.Transition.{place_of, effect_of, turn_of, Beside, beside}
+use Rattle.uni_model.specs.Worlds.{WorldOf, Event, anchor_memory, last_cell, opened_world, world_after_step, world_after_call, call_after, world_after, world_after_all, IsAccepted, AreAccepted}
 use Rattle.uni_model.specs.Worlds.Event.{Call, Step, Trim}
 use Rattle.uni_model.specs.Invariant.{Stands, Invariant}
 use Rattle.uni_model.specs.Bound.{steps_at, HasTurns, IsCounted, CountsSteps}
 use Rattle.uni_model.proofs.Written.{number_cases, lt_cases}
-use Rattle.uni_model.proofs.Kept.{Invariant-happened}
+use Rattle.uni_model.proofs.Kept.{Invariant-world_after}
 
-module _ {S I R : Type 0} (next : S → I → S) (answer : S → I → R) (m : Memory S I R) (num : Name → ℕ) (n p : ℕ) (mine : Name) (v : Content S I R) (inv_d : Option I) (new_c : Option (S × Option R)) (begun u t : ℕ) where
+module _ {S I R : Type 0} (object : Sequential S I R) (m : Memory S I R) (num : Name → ℕ) (n p : ℕ) (mine : Name) (v : Content S I R) (seen : Beside S I R) (begun u t : ℕ) where
   -- each kind of step
   pub IsCounted-effect : (stage : Stage) → Stands m num n p mine stage → HasTurns stage t → u ≡ steps_at n stage t
-      → IsCounted n (call_after mine (effect_of next answer n mine stage v inv_d new_c).stage) begun (u + 1) (t + turn_of stage v)
+      → IsCounted n (call_after mine (effect_of object n mine stage v seen).stage) begun (u + 1) (t + turn_of stage v)
   IsCounted-effect Announce h turns e = (omega arith, omega arith)
   IsCounted-effect (ScanHead q best s) h turns e = (omega arith, omega arith)
   IsCounted-effect (ScanSeq q best s x) h turns e =
@@ -40,36 +42,39 @@ module _ {S I R : Type 0} (next : S → I → S) (answer : S → I → R) (m : M
 pub IsCounted-pending : {S I R : Type 0} (w : WorldOf S I R) → CountsSteps w → (p : ℕ) (c : Pending) → w.call p ≡ Some c → IsCounted w.n (Some c) (w.begun p) (w.steps p) (w.turns p)
 IsCounted-pending w counts p c is = subst (λ o. IsCounted w.n o (w.begun p) (w.steps p) (w.turns p)) is (counts p)
 
-module _ {S I R : Type 0} (next : S → I → S) (answer : S → I → R) where
-  CountsSteps-begun : (w : WorldOf S I R) (p : ℕ) (i : I) → CountsSteps w → CountsSteps (call_begun w p i)
+module _ {S I R : Type 0} (object : Sequential S I R) where
+  CountsSteps-begun : (w : WorldOf S I R) (p : ℕ) (i : I) → CountsSteps w → CountsSteps (world_after_call w p i)
   CountsSteps-begun w p i counts q = elim (number_cases q p) [
     | inl here ↦ rw here.1 (refl, refl)
     | inr other ↦ rw other.1 (counts q)
   ]
 
-  CountsSteps-stepped : (w : WorldOf S I R) (num : Name → ℕ) (p : ℕ) (c : Pending) → w.call p ≡ Some c → Stands w.memory num w.n p c.mine c.stage
-      → CountsSteps w → CountsSteps (stepped next answer w p (Some c))
-  CountsSteps-stepped w num p c is stands counts q =
+  CountsSteps-world_after_step : (w : WorldOf S I R) (num : Name → ℕ) (p : ℕ) (c : Pending) → w.call p ≡ Some c → Stands w.memory num w.n p c.mine c.stage
+      → CountsSteps w → CountsSteps (world_after_step object w p (Some c))
+  CountsSteps-world_after_step w num p c is stands counts q =
       let own = IsCounted-pending w counts p c is in
       elim (number_cases q p) [
-        | inl here ↦ rw here.1 (IsCounted-effect next answer w.memory num w.n p c.mine (w.memory (place_of w.n p c.mine c.stage)) (inv_of w.memory (d_of c.stage)) (new_of w.memory (c_of c.stage))
+        | inl here ↦ rw here.1 (IsCounted-effect object w.memory num w.n p c.mine (w.memory (place_of w.n p c.mine c.stage)) (beside w.memory c.mine c.stage)
             (w.begun q) (w.steps p) (w.turns p) c.stage stands own.0 own.1)
         | inr other ↦ rw other.1 (counts q)
       ]
 
-  pub CountsSteps-happened : (w : WorldOf S I R) (e : Event I) → IsAccepted w e → Invariant next answer w → CountsSteps w → CountsSteps (happened next answer w e)
-  CountsSteps-happened w (Call p i) ok inv counts = CountsSteps-begun w p i counts
-  CountsSteps-happened w (Step p) ok inv counts = by_call (w.call p) refl where
-    by_call : (o : Option Pending) → w.call p ≡ o → CountsSteps (stepped next answer w p o)
+  pub CountsSteps-world_after : (w : WorldOf S I R) (e : Event I) → IsAccepted w e → Invariant object w → CountsSteps w → CountsSteps (world_after object w e)
+  CountsSteps-world_after w (Call p i) ok inv counts = CountsSteps-begun w p i counts
+  CountsSteps-world_after w (Step p) ok inv counts = by_call (w.call p) refl where
+    by_call : (o : Option Pending) → w.call p ≡ o → CountsSteps (world_after_step object w p o)
     by_call None is = counts
-    by_call (Some c) is = CountsSteps-stepped w inv.0 p c is (inv.2.stands p c is) counts
-  CountsSteps-happened w Trim ok inv counts = counts
+    by_call (Some c) is = CountsSteps-world_after_step w inv.0 p c is (inv.2.stands p c is) counts
+  CountsSteps-world_after w Trim ok inv counts = by_new (new_of w.memory (last_cell w)) where
+    by_new : (o : Option (S × Option R)) → CountsSteps (option_map_or (λ new. record w { first = w.begun; memory = anchor_memory new.0 (seq_of w.memory (last_cell w)) }) o w)
+    by_new None = counts
+    by_new (Some new) = counts
 
-  pub CountsSteps-replayed : (w : WorldOf S I R) (es : List (Event I)) → AreAccepted next answer w es → Invariant next answer w → CountsSteps w → CountsSteps (replayed next answer w es)
-  CountsSteps-replayed w [] ok inv counts = counts
-  CountsSteps-replayed w (e ∷ es) ok inv counts =
-      CountsSteps-replayed (happened next answer w e) es ok.1 (Invariant-happened next answer w e ok.0 inv) (CountsSteps-happened w e ok.0 inv counts)
+  pub CountsSteps-world_after_all : (w : WorldOf S I R) (es : List (Event I)) → AreAccepted object w es → Invariant object w → CountsSteps w → CountsSteps (world_after_all object w es)
+  CountsSteps-world_after_all w [] ok inv counts = counts
+  CountsSteps-world_after_all w (e ∷ es) ok inv counts =
+      CountsSteps-world_after_all (world_after object w e) es ok.1 (Invariant-world_after object w e ok.0 inv) (CountsSteps-world_after w e ok.0 inv counts)
 
   -- no process has called yet
-  pub CountsSteps-opened : (n : ℕ) (start : S) (number : ℕ) → CountsSteps (opened {S = S} {I = I} {R = R} n start number)
-  CountsSteps-opened n start number p begun = absurd (omega arith)
+  pub CountsSteps-opened_world : (n : ℕ) (start : S) (number : ℕ) → CountsSteps (opened_world {S = S} {I = I} {R = R} n start number)
+  CountsSteps-opened_world n start number p begun = absurd (omega arith)

@@ -2,15 +2,16 @@
 use Rattle.std.proofs.Common.{◌≡◌, ◌∙◌, ℕ, zero, suc, max, ◌+◌, ◌<◌, ◌≤◌, inl, inr, ap, subst, Some, arith}
 use Rattle.std.proofs.lemmas.Bool.{cases_lt}
 use Rattle.std.proofs.Math.Nat.{le-max_left, le-max_right}
+use Rattle.seq_object.specs.Sequential.{Sequential}
 use Rattle.uni_model.specs.Places.{Name, set_at, head_seq}
 use Rattle.uni_model.specs.Places.Name.{Of}
 use Rattle.uni_model.specs.Stages.{Pending}
 use Rattle.uni_model.specs.Stages.Stage.{Announce}
-use Rattle.uni_model.specs.Worlds.{WorldOf, call_begun}
+use Rattle.uni_model.specs.Worlds.{WorldOf, world_after_call}
 use Rattle.uni_model.specs.Frontier.{greatest_below, frontier}
 use Rattle.uni_model.specs.Invariant.{IsSound}
 use Rattle.uni_model.specs.Helping.{SomeHead, OfConsidered, IsFairToAll, Helps}
-use Rattle.uni_model.specs.Floored.{IsBelowFloor, Waits, HasFloor, IsAnnounced}
+use Rattle.uni_model.proofs.Floored.{IsBelowFloor, Waits, HasFloor, IsAnnounced}
 use Rattle.uni_model.proofs.Written.{number_cases}
 use Rattle.uni_model.proofs.Helped.{OfConsidered-map}
 
@@ -31,7 +32,7 @@ SomeHead-le w s head =
     let number : s ≤ head_seq w.memory head.0 = head.3 in
     omega arith
 
-module _ {S I R : Type 0} (next : S → I → S) (answer : S → I → R) (w : WorldOf S I R) (num : Name → ℕ) (last : ℕ) (sound : IsSound next answer w num last) (helps : Helps w num last) where
+module _ {S I R : Type 0} (object : Sequential S I R) (w : WorldOf S I R) (num : Name → ℕ) (last : ℕ) (sound : IsSound object w num last) (helps : Helps w num last) where
   -- just before the step that announces a call the frontier is its floor
   module _ (p k : ℕ) (is : w.call p ≡ Some (record { mine = Of p k; stage = Announce })) where
     waits : Waits w num last p (Of p k) (frontier w)
@@ -69,7 +70,7 @@ module _ {S I R : Type 0} (w : WorldOf S I R) (num : Name → ℕ) (last : ℕ) 
     | inr other ↦ rw other.1 at e
   ]
 
-  Waits-begun : Waits w num last q (Of q k) floor → Waits (call_begun w p i) num last q (Of q k) floor
+  Waits-begun : Waits w num last q (Of q k) floor → Waits (world_after_call w p i) num last q (Of q k) floor
   Waits-begun waits = record {
     anchor = waits.anchor;
     unlinked = waits.unlinked;
@@ -81,7 +82,7 @@ module _ {S I R : Type 0} (w : WorldOf S I R) (num : Name → ℕ) (last : ℕ) 
     ];
   }
 
-  pub HasFloor-begun : HasFloor (call_begun w p i) num last q k floor
+  pub HasFloor-begun : HasFloor (world_after_call w p i) num last q k floor
   HasFloor-begun = record {
     begun = elim (number_cases q p) [
       | inl here ↦ rw here.1 (let below : k < w.begun q = has.begun in let begun : w.begun q ≡ w.begun p = ap w.begun here.0 in omega arith)
@@ -91,5 +92,5 @@ module _ {S I R : Type 0} (w : WorldOf S I R) (num : Name → ℕ) (last : ℕ) 
     waits = λ c e its. Waits-begun (has.waits c (was_pending c e its) its);
   }
 
-  pub IsAnnounced-begun : IsAnnounced w q k → IsAnnounced (call_begun w p i) q k
-  IsAnnounced-begun announced c e its = announced c (was_pending c e its) its
+  pub IsAnnounced-begun : IsAnnounced w q k → IsAnnounced (world_after_call w p i) q k
+  IsAnnounced-begun announce_of c e its = announce_of c (was_pending c e its) its

@@ -1,14 +1,15 @@
 -- A step keeps the floor of a call.
 use Rattle.std.proofs.Common.{◌≡◌, ◌≢◌, ◌∙◌, ℕ, ◌+◌, ◌<◌, ◌≤◌, ◌%◌, ◌⊎◌, inl, inr, sym, ap, subst, Option, Some, None, arith}
-use Rattle.uni_model.specs.Places.{Name, Memory, set_at, announced, seq_of, new_of, inv_of}
+use Rattle.seq_object.specs.Sequential.{Sequential}
+use Rattle.uni_model.specs.Places.{Name, Memory, set_at, announce_of, seq_of}
 use Rattle.uni_model.specs.Places.Name.{Anchor, Of}
 use Rattle.uni_model.specs.Stages.{Stage, Pending}
 use Rattle.uni_model.specs.Stages.Stage.{Announce, ScanHead, ScanSeq, WriteScan, Test, ReadAnnounce, ReadHelpSeq, DecideAfter, DecideNew, WriteBefore, WriteSeq, WriteHead, Finish}
-use Rattle.uni_model.specs.Transition.{place_of, effect_of, c_of, d_of}
+use Rattle.uni_model.specs.Transition.{place_of, effect_of, beside}
 use Rattle.uni_model.specs.Worlds.{WorldOf, call_after}
 use Rattle.uni_model.specs.Invariant.{IsSound}
 use Rattle.uni_model.specs.Helping.{OfConsidered, Helps}
-use Rattle.uni_model.specs.Floored.{IsBelowFloor, Waits, HasFloor, IsAnnounced}
+use Rattle.uni_model.proofs.Floored.{IsBelowFloor, Waits, HasFloor, IsAnnounced}
 use Rattle.uni_model.proofs.Written.{number_cases, lt_cases}
 use Rattle.uni_model.proofs.Moves.{Moves, Extends, was_pending}
 use Rattle.uni_model.proofs.Longer.{IsLonger, numbers-cases, anchor_stays, not_linked_before, below-cases}
@@ -29,19 +30,19 @@ last-le w num last p x floor inside waits none =
     let near : last ≤ found.0 + w.n = found.2 in
     omega arith
 
-module _ {S I R : Type 0} (next : S → I → S) (answer : S → I → R) (w : WorldOf S I R) (num : Name → ℕ) (last : ℕ) (sound : IsSound next answer w num last)
+module _ {S I R : Type 0} (object : Sequential S I R) (w : WorldOf S I R) (num : Name → ℕ) (last : ℕ) (sound : IsSound object w num last)
     (p : ℕ) (mine : Name) (q : ℕ) (x : Name) (floor : ℕ) where
   -- Where it is q's turn, what p may link after its step is x, or comes after a number that isn't past the floor: in q's entry
   -- of announce p finds x.
-  pub considers_below : (stage : Stage) → (stage ≢ Announce → announced w.memory q ≡ x) → OfConsidered stage (IsBelowFloor num w.n q x floor)
-      → OfNext (effect_of next answer w.n mine stage (w.memory (place_of w.n p mine stage)) (inv_of w.memory (d_of stage)) (new_of w.memory (c_of stage))).stage
+  pub considers_below : (stage : Stage) → (stage ≢ Announce → announce_of w.memory q ≡ x) → OfConsidered stage (IsBelowFloor num w.n q x floor)
+      → OfNext (effect_of object w.n mine stage (w.memory (place_of w.n p mine stage)) (beside w.memory mine stage)).stage
       (IsBelowFloor num w.n q x floor)
   considers_below Announce known h = tt
   considers_below (ScanHead r best b) known h = tt
   considers_below (ScanSeq r best b y) known h = elim (lt_cases (r + 1) w.n) [ inl more ↦ rw more.1 tt | inr done ↦ rw done.1 tt ]
   considers_below (WriteScan best b) known h = tt
   considers_below (Test c s) known h = elim (number_cases (seq_of w.memory mine) 0) [ inl none ↦ rw none.1 tt | inr some ↦ rw some.1 tt ]
-  considers_below (ReadAnnounce c s) known h = λ none other its_turn. absurd (other (ap (announced w.memory) its_turn ∙ known (λ e. cc)))
+  considers_below (ReadAnnounce c s) known h = λ none other its_turn. absurd (other (ap (announce_of w.memory) its_turn ∙ known (λ e. cc)))
   considers_below (ReadHelpSeq c s help) known h = elim (number_cases (seq_of w.memory help) 0) [
     | inl none ↦ rw none.1 h
     | inr some ↦ rw some.1 (λ absent other its_turn.
@@ -59,13 +60,13 @@ module _ {S I R : Type 0} (next : S → I → S) (answer : S → I → R) (w : W
   considers_below (WriteHead c s d) known h = tt
   considers_below (Finish s k) known h = tt
 
-module _ {S I R : Type 0} (next : S → I → S) (answer : S → I → R) (w : WorldOf S I R) (num : Name → ℕ) (last : ℕ) (sound : IsSound next answer w num last) (helps : Helps w num last)
+module _ {S I R : Type 0} (object : Sequential S I R) (w : WorldOf S I R) (num : Name → ℕ) (last : ℕ) (sound : IsSound object w num last) (helps : Helps w num last)
     (p : ℕ) (mine : Name) (from : Stage) (is : w.call p ≡ Some (record { mine = mine; stage = from }))
-    (m : Memory S I R) (num' : Name → ℕ) (last' : ℕ) (to : Option Stage) (moves : Moves next answer w num p mine m num' last' to)
+    (m : Memory S I R) (num' : Name → ℕ) (last' : ℕ) (to : Option Stage) (moves : Moves object w num p mine m num' last' to)
     (extends : Extends num last num' last' from) (t : ℕ) (advances : AdvancesTo w num p mine from m num' to t)
     (q k floor : ℕ) (has : HasFloor w num last q k floor)
     (known : (c : Pending) → w.call q ≡ Some c → c.mine ≡ Of q k → (c.stage ≢ Announce) ⊎ (q ≡ p))
-    (considers : (from ≢ Announce → announced w.memory q ≡ Of q k) → OfConsidered from (IsBelowFloor num w.n q (Of q k) floor) → OfNext to (IsBelowFloor num w.n q (Of q k) floor)) where
+    (considers : (from ≢ Announce → announce_of w.memory q ≡ Of q k) → OfConsidered from (IsBelowFloor num w.n q (Of q k) floor) → OfNext to (IsBelowFloor num w.n q (Of q k) floor)) where
   -- a cell that is linked now is one that p proposes
   abbrev IsProposed : Name → Type 0
   IsProposed x = (c : Name) × (from ≡ DecideAfter c last x)
@@ -81,7 +82,7 @@ module _ {S I R : Type 0} (next : S → I → S) (answer : S → I → R) (w : W
     waits = has.waits c pending its
 
     -- q has announced it, but for the step that does so
-    announces : from ≢ Announce → announced w.memory q ≡ Of q k
+    announces : from ≢ Announce → announce_of w.memory q ≡ Of q k
     announces past = elim (Announces-cases w.memory q c.mine c.stage (helps.each q c pending).announced) [
       | inl first ↦ absurd (elim (known c pending its) [
         | inl not_first ↦ not_first first
@@ -119,7 +120,7 @@ module _ {S I R : Type 0} (next : S → I → S) (answer : S → I → R) (w : W
     ]
 
     Waits-moved : (steps : ℕ → ℕ)
-        → Waits (record { n = w.n; memory = m; call = set_at w.call p (call_after mine to); begun = w.begun; steps = steps; turns = set_at w.turns p t }) num' last' q (Of q k) floor
+        → Waits (record { n = w.n; memory = m; call = set_at w.call p (call_after mine to); begun = w.begun; first = w.first; steps = steps; turns = set_at w.turns p t }) num' last' q (Of q k) floor
     Waits-moved steps = record {
       anchor = subst (λ j. j ≤ floor) (sym (anchor_stays num last num' last' IsProposed longer sound.numbered.first)) waits.anchor;
       unlinked = unlinked_later;
@@ -141,17 +142,17 @@ module _ {S I R : Type 0} (next : S → I → S) (answer : S → I → R) (w : W
       ]
 
   pub HasFloor-moved : (steps : ℕ → ℕ)
-      → HasFloor (record { n = w.n; memory = m; call = set_at w.call p (call_after mine to); begun = w.begun; steps = steps; turns = set_at w.turns p t }) num' last' q k floor
+      → HasFloor (record { n = w.n; memory = m; call = set_at w.call p (call_after mine to); begun = w.begun; first = w.first; steps = steps; turns = set_at w.turns p t }) num' last' q k floor
   HasFloor-moved steps = record {
     begun = has.begun;
     linked = linked_later;
     waits = λ c e its.
-        let was = was_pending next answer w num last sound p mine from is m num' last' to moves q c e in
+        let was = was_pending object w num last sound p mine from is m num' last' to moves q c e in
         Waits-moved was.0 was.1 (sym was.2 ∙ its) steps;
   }
 
   pub IsAnnounced-moved : (steps : ℕ → ℕ)
-      → IsAnnounced (record { n = w.n; memory = m; call = set_at w.call p (call_after mine to); begun = w.begun; steps = steps; turns = set_at w.turns p t }) q k
+      → IsAnnounced (record { n = w.n; memory = m; call = set_at w.call p (call_after mine to); begun = w.begun; first = w.first; steps = steps; turns = set_at w.turns p t }) q k
   IsAnnounced-moved steps c e its = elim (number_cases q p) [
     | inl here ↦ at_stage to advances (rw here.1 at e)
     | inr other ↦ elim (known c (rw other.1 at e) its) [ inl past ↦ past | inr here ↦ absurd (other.0 here) ]

@@ -1,6 +1,6 @@
 -- What holds of a process that takes no step, and of what one considers, holds later.
 use Rattle.std.proofs.Common.{◌≡◌, ◌∙◌, ℕ, ◌+◌, ◌<◌, ◌≤◌, ◌⊎◌, inl, inr, refl, sym, subst, arith}
-use Rattle.uni_model.specs.Places.{Name, Memory, announced, head_of, head_seq}
+use Rattle.uni_model.specs.Places.{Name, Memory, announce_of, head_of, head_seq}
 use Rattle.uni_model.specs.Stages.{Stage}
 use Rattle.uni_model.specs.Stages.Stage.{Announce, ScanHead, ScanSeq, WriteScan, Test, ReadAnnounce, ReadHelpSeq, DecideAfter, DecideNew, WriteBefore, WriteSeq, WriteHead, Finish}
 use Rattle.uni_model.specs.Settled.{Grows}
@@ -24,7 +24,7 @@ OfConsidered-map (WriteHead c s d) Was Is each h = tt
 OfConsidered-map (Finish s t) Was Is each h = tt
 
 -- p is in its first step, or has announced its cell
-pub Announces-cases : {S I R : Type 0} (m : Memory S I R) (p : ℕ) (mine : Name) (stage : Stage) → Announces m p mine stage → (stage ≡ Announce) ⊎ (announced m p ≡ mine)
+pub Announces-cases : {S I R : Type 0} (m : Memory S I R) (p : ℕ) (mine : Name) (stage : Stage) → Announces m p mine stage → (stage ≡ Announce) ⊎ (announce_of m p ≡ mine)
 Announces-cases m p mine Announce h = inl refl
 Announces-cases m p mine (ScanHead q best s) h = inr h
 Announces-cases m p mine (ScanSeq q best s x) h = inr h
@@ -70,7 +70,7 @@ module _ {S I R : Type 0} (m m' : Memory S I R) (n : ℕ) (heads : (r : ℕ) →
   Finds-grows grows num p mine (Finish b k) turns s stands h = h
 
 module _ {S I R : Type 0} (m m' : Memory S I R) (p : ℕ) where
-  pub Announces-same : announced m' p ≡ announced m p → (mine : Name) (stage : Stage) → Announces m p mine stage → Announces m' p mine stage
+  pub Announces-same : announce_of m' p ≡ announce_of m p → (mine : Name) (stage : Stage) → Announces m p mine stage → Announces m' p mine stage
   Announces-same same mine Announce h = λ e. h (sym same ∙ e)
   Announces-same same mine (ScanHead q best s) h = same ∙ h
   Announces-same same mine (ScanSeq q best s x) h = same ∙ h

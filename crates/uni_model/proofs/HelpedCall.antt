@@ -1,10 +1,11 @@
 -- A call that is begun is helped from its start on.
 use Rattle.std.proofs.Common.{◌≡◌, ◌≢◌, ◌∙◌, ℕ, ◌<◌, ◌≤◌, ◌⊎◌, inl, inr, refl, sym, ap, subst, Some, None, arith}
-use Rattle.uni_model.specs.Places.{Name, set_at, announced, head_of, head_seq, inv_of}
+use Rattle.seq_object.specs.Sequential.{Sequential}
+use Rattle.uni_model.specs.Places.{Name, set_at, announce_of, head_of, head_seq, inv_of}
 use Rattle.uni_model.specs.Places.Name.{Anchor, Of}
 use Rattle.uni_model.specs.Stages.{Stage, Pending}
 use Rattle.uni_model.specs.Stages.Stage.{Announce, ScanHead, ScanSeq, WriteScan, Test, ReadAnnounce, ReadHelpSeq, DecideAfter, DecideNew, WriteBefore, WriteSeq, WriteHead, Finish}
-use Rattle.uni_model.specs.Worlds.{WorldOf, call_begun}
+use Rattle.uni_model.specs.Worlds.{WorldOf, world_after_call}
 use Rattle.uni_model.specs.Invariant.{Has, AtHead, IsCellOf, Stands, IsSound}
 use Rattle.uni_model.proofs.Written.{number_cases}
 use Rattle.uni_model.proofs.Begun.{fresh, not_linked, Grows-begun}
@@ -13,7 +14,7 @@ use Rattle.uni_model.specs.Helping.{SomeHead, OfConsidered, IsHelped, IsFair, Is
 use Rattle.uni_model.proofs.Helped.{OfConsidered-map}
 use Rattle.uni_model.proofs.Later.{heads_later, IsFair-later, Finds-waiting, IsHelped-waiting}
 
-module _ {S I R : Type 0} (next : S → I → S) (answer : S → I → R) (w : WorldOf S I R) (num : Name → ℕ) (last : ℕ) (sound : IsSound next answer w num last) where
+module _ {S I R : Type 0} (object : Sequential S I R) (w : WorldOf S I R) (num : Name → ℕ) (last : ℕ) (sound : IsSound object w num last) where
   -- x is there, and some process has a head with at least the number s
   abbrev pub IsThere : (s : ℕ) → (x : Name) → Type 0
   IsThere s x = SomeHead w.memory w.n 0 s × ((x ≡ Anchor) ⊎ Has (inv_of w.memory x))
@@ -51,7 +52,7 @@ module _ {S I R : Type 0} (next : S → I → S) (answer : S → I → R) (w : W
     apart x known same = elim known [
       | inl anchor ↦ (let e : Anchor ≡ Of p (w.begun p) = sym anchor ∙ same in cc)
       | inr made ↦
-          let none : inv_of w.memory x ≡ None = ap (inv_of w.memory) same ∙ fresh next answer w num last sound p i inside idle in
+          let none : inv_of w.memory x ≡ None = ap (inv_of w.memory) same ∙ fresh object w num last sound p i inside idle in
           let some = made.1 in cc
     ]
 
@@ -62,68 +63,68 @@ module _ {S I R : Type 0} (next : S → I → S) (answer : S → I → R) (w : W
         let least : num Anchor ≤ num (head_of w.memory p) = sound.numbered.least (head_of w.memory p) (omega arith) in
         (p, omega arith, inside, omega arith)
 
-    own : IsHelped (call_begun w p i).memory num last w.n p (Of p (w.begun p)) Announce 0
+    own : IsHelped (world_after_call w p i).memory num last w.n p (Of p (w.begun p)) Announce 0
     own = record {
       announced = λ same. elim (sound.calls.announced p inside) [
-        | inl anchor ↦ apart (announced w.memory p) (inl anchor) same
-        | inr cell ↦ apart (announced w.memory p) (inr (subst (λ y. Has (inv_of w.memory y)) (sym cell.1) cell.2)) same
+        | inl anchor ↦ apart (announce_of w.memory p) (inl anchor) same
+        | inr cell ↦ apart (announce_of w.memory p) (inr (subst (λ y. Has (inv_of w.memory y)) (sym cell.1) cell.2)) same
       ];
       own_head = tt;
       ahead = tt;
       anchor = first_head;
       unlinked = λ none s its_turn from below. helps.heads s from below;
-      linked = (num Anchor, first_head, (let none : num (Of p (w.begun p)) ≡ 0 = not_linked next answer w num last sound p i inside idle in omega arith));
+      linked = (num Anchor, first_head, (let none : num (Of p (w.begun p)) ≡ 0 = not_linked object w num last sound p i inside idle in omega arith));
     }
 
-    own_fair : (s : ℕ) (x : Name) → IsThere s x → IsFair (call_begun w p i).memory num w.n p (Of p (w.begun p)) Announce 0 s x
+    own_fair : (s : ℕ) (x : Name) → IsThere s x → IsFair (world_after_call w p i).memory num w.n p (Of p (w.begun p)) Announce 0 s x
     own_fair s x known = record { unknown = λ first. apart x known.1; help = λ none other its_turn. known.0 }
 
-    rise : (r : ℕ) → r < w.n → head_seq w.memory r ≤ head_seq (call_begun w p i).memory r
+    rise : (r : ℕ) → r < w.n → head_seq w.memory r ≤ head_seq (world_after_call w p i).memory r
     rise r below = omega arith
 
-    waiting : (q : ℕ) (c : Pending) → w.call q ≡ Some c → IsHelped (call_begun w p i).memory num last w.n q c.mine c.stage (w.turns q)
-    waiting q c was = IsHelped-waiting next answer w num last sound helps (call_begun w p i).memory num last (inl (refl, refl)) (Grows-begun next answer w num last sound p i inside idle)
+    waiting : (q : ℕ) (c : Pending) → w.call q ≡ Some c → IsHelped (world_after_call w p i).memory num last w.n q c.mine c.stage (w.turns q)
+    waiting q c was = IsHelped-waiting object w num last sound helps (world_after_call w p i).memory num last (inl (refl, refl)) (Grows-begun object w num last sound p i inside idle)
         rise (λ x. inl refl) q c was refl refl
 
     each_later : (q : ℕ) (c : Pending) → set_at w.call p (Some (record { mine = Of p (w.begun p); stage = Announce })) q ≡ Some c
-        → IsHelped (call_begun w p i).memory num last w.n q c.mine c.stage (set_at w.turns p 0 q)
+        → IsHelped (world_after_call w p i).memory num last w.n q c.mine c.stage (set_at w.turns p 0 q)
     each_later q c e = elim (number_cases q p) [
       | inl here ↦
           let same : record { mine = Of p (w.begun p); stage = Announce } ≡ c = (let f = rw here.1 at e in cc) in
-          rw here.1 (subst (λ r. IsHelped (call_begun w p i).memory num last w.n r c.mine c.stage 0) (sym here.0)
-          (subst (λ (x : Pending). IsHelped (call_begun w p i).memory num last w.n p x.mine x.stage 0) same own))
+          rw here.1 (subst (λ r. IsHelped (world_after_call w p i).memory num last w.n r c.mine c.stage 0) (sym here.0)
+          (subst (λ (x : Pending). IsHelped (world_after_call w p i).memory num last w.n p x.mine x.stage 0) same own))
       | inr other ↦ rw other.1 (waiting q c (rw other.1 at e))
     ]
 
-    all_fair_later : (s : ℕ) (x : Name) → IsFairToAll w num s x × IsThere s x → IsFairToAll (call_begun w p i) num s x
+    all_fair_later : (s : ℕ) (x : Name) → IsFairToAll w num s x × IsThere s x → IsFairToAll (world_after_call w p i) num s x
     all_fair_later s x fair q c e = elim (number_cases q p) [
       | inl here ↦
           let same : record { mine = Of p (w.begun p); stage = Announce } ≡ c = (let f = rw here.1 at e in cc) in
-          rw here.1 (subst (λ r. IsFair (call_begun w p i).memory num w.n r c.mine c.stage 0 s x) (sym here.0)
-          (subst (λ (y : Pending). IsFair (call_begun w p i).memory num w.n p y.mine y.stage 0 s x) same (own_fair s x fair.1)))
+          rw here.1 (subst (λ r. IsFair (world_after_call w p i).memory num w.n r c.mine c.stage 0 s x) (sym here.0)
+          (subst (λ (y : Pending). IsFair (world_after_call w p i).memory num w.n p y.mine y.stage 0 s x) same (own_fair s x fair.1)))
       | inr other ↦ rw other.1 (
           let was : w.call q ≡ Some c = rw other.1 at e in
-          IsFair-later next answer w num last sound helps (call_begun w p i).memory num last (inl (refl, refl)) q c was c.stage (w.turns q)
-          (Finds-waiting next answer w num last sound helps (call_begun w p i).memory num last (inl (refl, refl)) (Grows-begun next answer w num last sound p i inside idle) rise (λ y. inl refl) q c was)
+          IsFair-later object w num last sound helps (world_after_call w p i).memory num last (inl (refl, refl)) q c was c.stage (w.turns q)
+          (Finds-waiting object w num last sound helps (world_after_call w p i).memory num last (inl (refl, refl)) (Grows-begun object w num last sound p i inside idle) rise (λ y. inl refl) q c was)
           (λ first. first) s x (fair.0 q c was))
     ]
 
     fair_later : (o : ℕ) (c : Pending) → set_at w.call p (Some (record { mine = Of p (w.begun p); stage = Announce })) o ≡ Some c
-        → OfConsidered c.stage (λ s x. IsFairToAll (call_begun w p i) num s x)
+        → OfConsidered c.stage (λ s x. IsFairToAll (world_after_call w p i) num s x)
     fair_later o c e = elim (number_cases o p) [
       | inl here ↦
           let same : record { mine = Of p (w.begun p); stage = Announce } ≡ c = (let f = rw here.1 at e in cc) in
-          subst (λ (y : Pending). OfConsidered y.stage (λ s x. IsFairToAll (call_begun w p i) num s x)) same tt
+          subst (λ (y : Pending). OfConsidered y.stage (λ s x. IsFairToAll (world_after_call w p i) num s x)) same tt
       | inr other ↦
           let was : w.call o ≡ Some c = rw other.1 at e in
           OfConsidered-map c.stage (λ s x. IsFairToAll w num s x × IsThere s x) _ all_fair_later (considered (λ s x. IsFairToAll w num s x) o c was (helps.fair o c was))
     ]
 
-    pub Helps-begun : Helps (call_begun w p i) num last
+    pub Helps-begun : Helps (world_after_call w p i) num last
     Helps-begun = record {
       each = each_later;
       fair = fair_later;
-      heads = heads_later next answer w num last sound helps (call_begun w p i).memory num last (inl (refl, refl)) rise;
+      heads = heads_later object w num last sound helps (world_after_call w p i).memory num last (inl (refl, refl)) rise;
       returned = λ q e. elim (number_cases q p) [
         | inl here ↦ rw here.1 (omega arith)
         | inr other ↦ rw other.1 (helps.returned q (rw other.1 at e))

@@ -1,5 +1,6 @@
 -- A step goes on helping every call that is pending.
 use Rattle.std.proofs.Common.{◌≡◌, ◌≢◌, ◌∙◌, ℕ, ◌+◌, ◌<◌, ◌≤◌, inl, inr, sym, ap, subst, Option, Some, None, arith}
+use Rattle.seq_object.specs.Sequential.{Sequential}
 use Rattle.uni_model.specs.Places.{Name, Memory, set_at, head_of, head_seq, seq_of}
 use Rattle.uni_model.specs.Stages.{Stage, Pending}
 use Rattle.uni_model.specs.Stages.Stage.{DecideAfter}
@@ -13,9 +14,9 @@ use Rattle.uni_model.proofs.Helped.{OfConsidered-map}
 use Rattle.uni_model.proofs.Advanced.{AdvancesTo}
 use Rattle.uni_model.proofs.Later.{GrowFairly, heads_later, IsHelped-later, IsFair-later, Finds-waiting, IsHelped-waiting}
 
-module _ {S I R : Type 0} (next : S → I → S) (answer : S → I → R) (w : WorldOf S I R) (num : Name → ℕ) (last : ℕ) (sound : IsSound next answer w num last) (helps : Helps w num last)
+module _ {S I R : Type 0} (object : Sequential S I R) (w : WorldOf S I R) (num : Name → ℕ) (last : ℕ) (sound : IsSound object w num last) (helps : Helps w num last)
     (p : ℕ) (mine : Name) (from : Stage) (is : w.call p ≡ Some (record { mine = mine; stage = from }))
-    (m : Memory S I R) (num' : Name → ℕ) (last' : ℕ) (to : Option Stage) (moves : Moves next answer w num p mine m num' last' to)
+    (m : Memory S I R) (num' : Name → ℕ) (last' : ℕ) (to : Option Stage) (moves : Moves object w num p mine m num' last' to)
     (extends : Extends num last num' last' from) (head : head_seq w.memory p ≤ head_seq m p) (t : ℕ) (advances : AdvancesTo w num p mine from m num' to t) where
   inside : p < w.n
   inside = sound.calls.process p (record { mine = mine; stage = from }) is
@@ -45,7 +46,7 @@ module _ {S I R : Type 0} (next : S → I → S) (answer : S → I → R) (w : W
   ]
 
   waiting : (q : ℕ) (c : Pending) → q ≢ p → w.call q ≡ Some c → IsHelped m num' last' w.n q c.mine c.stage (w.turns q)
-  waiting q c other pending = IsHelped-waiting next answer w num last sound helps m num' last' grow moves.grows rise moves.numbers q c pending (moves.heads q other)
+  waiting q c other pending = IsHelped-waiting object w num last sound helps m num' last' grow moves.grows rise moves.numbers q c pending (moves.heads q other)
       (elim (moves.announced q) [ inl same ↦ same | inr own ↦ absurd (other own.0) ])
 
   -- p's own call, if it goes on
@@ -56,7 +57,7 @@ module _ {S I R : Type 0} (next : S → I → S) (answer : S → I → R) (w : W
     at_stage (Some k) on f =
         let same : record { mine = mine; stage = k } ≡ c = cc in
         subst (λ (x : Pending). IsHelped m num' last' w.n p x.mine x.stage t) same
-        (IsHelped-later next answer w num last sound helps m num' last' grow p (record { mine = mine; stage = from }) is k t on.finds on.announced on.own_head on.ahead)
+        (IsHelped-later object w num last sound helps m num' last' grow p (record { mine = mine; stage = from }) is k t on.finds on.announced on.own_head on.ahead)
 
   own_fair : (c : Pending) → call_after mine to ≡ Some c → (s : ℕ) (x : Name) → IsFairToAll w num s x → IsFair m num' w.n p c.mine c.stage t s x
   own_fair c e s x fair = at_stage to advances e where
@@ -65,7 +66,7 @@ module _ {S I R : Type 0} (next : S → I → S) (answer : S → I → R) (w : W
     at_stage (Some k) on f =
         let same : record { mine = mine; stage = k } ≡ c = cc in
         subst (λ (y : Pending). IsFair m num' w.n p y.mine y.stage t s x) same
-        (IsFair-later next answer w num last sound helps m num' last' grow p (record { mine = mine; stage = from }) is k t on.finds (λ first. absurd (on.later first)) s x
+        (IsFair-later object w num last sound helps m num' last' grow p (record { mine = mine; stage = from }) is k t on.finds (λ first. absurd (on.later first)) s x
         (fair p (record { mine = mine; stage = from }) is))
 
   own_considered : (c : Pending) → call_after mine to ≡ Some c → OfConsidered c.stage (λ s x. IsFairToAll w num s x)
@@ -85,7 +86,7 @@ module _ {S I R : Type 0} (next : S → I → S) (answer : S → I → R) (w : W
     | inl here ↦ rw here.1 (subst (λ r. IsFair m num' w.n r c.mine c.stage t s x) (sym here.0) (own_fair c (rw here.1 at e) s x fair))
     | inr other ↦ rw other.1 (
         let was : w.call q ≡ Some c = rw other.1 at e in
-        IsFair-later next answer w num last sound helps m num' last' grow q c was c.stage (w.turns q) (Finds-waiting next answer w num last sound helps m num' last' grow moves.grows rise moves.numbers q c was)
+        IsFair-later object w num last sound helps m num' last' grow q c was c.stage (w.turns q) (Finds-waiting object w num last sound helps m num' last' grow moves.grows rise moves.numbers q c was)
         (λ first. first) s x (fair q c was))
   ]
 
@@ -102,11 +103,11 @@ module _ {S I R : Type 0} (next : S → I → S) (answer : S → I → R) (w : W
     at_stage (Some k) on f = cc
 
   pub Helps-moved : (steps : ℕ → ℕ)
-      → Helps (record { n = w.n; memory = m; call = set_at w.call p (call_after mine to); begun = w.begun; steps = steps; turns = set_at w.turns p t }) num' last'
+      → Helps (record { n = w.n; memory = m; call = set_at w.call p (call_after mine to); begun = w.begun; first = w.first; steps = steps; turns = set_at w.turns p t }) num' last'
   Helps-moved steps = record {
     each = each_later;
     fair = λ o c e. OfConsidered-map c.stage (λ s x. IsFairToAll w num s x) _ all_fair_later (considered_later o c e);
-    heads = heads_later next answer w num last sound helps m num' last' grow rise;
+    heads = heads_later object w num last sound helps m num' last' grow rise;
     returned = λ q e. elim (number_cases q p) [
       | inl here ↦ rw here.1 (done (rw here.1 at e))
       | inr other ↦ rw other.1 (helps.returned q (rw other.1 at e))

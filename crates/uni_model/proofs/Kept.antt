@@ -1,44 +1,46 @@
 -- Every event that is accepted keeps the invariant, and in its era what is settled stays.
-use Rattle.std.proofs.Common.{◌≡◌, ℕ, zero, suc, ◌+◌, ◌<◌, ◌≤◌, inl, inr, refl, subst, List, [], ◌∷◌, Option, Some, None, arith, IsSome}
+use Rattle.std.proofs.Common.{◌≡◌, ℕ, zero, suc, ◌+◌, ◌<◌, ◌≤◌, inl, inr, refl, subst, List, [], ◌∷◌, Option, Some, None, arith, IsSome, true, false}
 use Rattle.std.specs.Option.{option_map_or}
-use Rattle.uni_model.specs.Places.{Name, Memory, written, set_at, seq_of, after_of, new_of, inv_of}
+use Rattle.seq_object.specs.Sequential.{Sequential}
+use Rattle.uni_model.specs.Places.{Name, Memory, memory_with, set_at, seq_of, after_of, new_of}
 use Rattle.uni_model.specs.Places.Name.{Anchor, Of}
 use Rattle.uni_model.specs.Stages.{Pending}
-use Rattle.uni_model.specs.Transition.{place_of, effect_of, turn_of, c_of, d_of}
+use Rattle.uni_model.specs.Transition.{place_of, effect_of, turn_of, beside}
 use Rattle.uni_model.specs.Chain.{cells_from, last_of}
-use Rattle.uni_model.specs.Worlds.{WorldOf, Event, stepped, call_begun, opened, anchored, trimmed, happened, replayed, last_cell, calls_begun, IsAccepted, AreAccepted, IsQuiescent}
+use Rattle.uni_model.specs.Worlds.{WorldOf, Event, world_after_step, world_after_call, opened_world, anchor_memory, world_after_trim, world_after, world_after_all, last_cell, calls_begun, IsAccepted, AreAccepted, IsQuiescent}
 use Rattle.uni_model.specs.Worlds.Event.{Call, Step, Trim}
 use Rattle.uni_model.specs.Invariant.{IsNumbered, IsSound, Invariant}
+use Rattle.uni_model.specs.Growth.{EndsNoEra}
 use Rattle.uni_model.specs.Settled.{Grows}
 use Rattle.uni_model.proofs.Moves.{IsSound-moved}
 use Rattle.uni_model.proofs.Steps.{leads}
-use Rattle.uni_model.proofs.Anchored.{alone, IsSound-anchored}
+use Rattle.uni_model.proofs.Anchored.{alone, IsSound-anchor_memory}
 use Rattle.uni_model.proofs.Begun.{IsSound-begun, Grows-begun}
 
-module _ {S I R : Type 0} (next : S → I → S) (answer : S → I → R) where
+module _ {S I R : Type 0} (object : Sequential S I R) where
   -- the facts of a step
-  pub Invariant-stepped : (w : WorldOf S I R) (p : ℕ) (c : Pending) → w.call p ≡ Some c → Invariant next answer w
-      → Invariant next answer (stepped next answer w p (Some c)) × Grows w.memory (stepped next answer w p (Some c)).memory
-  Invariant-stepped w p c is inv =
-      let moved = leads next answer w inv.0 inv.1 inv.2 p c.mine c.stage is c.stage (inv.2.stands p c is) in
+  pub Invariant-world_after_step : (w : WorldOf S I R) (p : ℕ) (c : Pending) → w.call p ≡ Some c → Invariant object w
+      → Invariant object (world_after_step object w p (Some c)) × Grows w.memory (world_after_step object w p (Some c)).memory
+  Invariant-world_after_step w p c is inv =
+      let moved = leads object w inv.0 inv.1 inv.2 p c.mine c.stage is c.stage (inv.2.stands p c is) in
       let place = place_of w.n p c.mine c.stage in
-      let e = effect_of next answer w.n c.mine c.stage (w.memory place) (inv_of w.memory (d_of c.stage)) (new_of w.memory (c_of c.stage)) in (
+      let e = effect_of object w.n c.mine c.stage (w.memory place) (beside w.memory c.mine c.stage) in (
         (
           moved.0,
           moved.1,
-          IsSound-moved next answer w inv.0 inv.1 inv.2 p c.mine c.stage is (written w.memory place e.content) moved.0 moved.1 e.stage moved.3
+          IsSound-moved object w inv.0 inv.1 inv.2 p c.mine c.stage is (memory_with w.memory place e.content) moved.0 moved.1 e.stage moved.3
               (set_at w.steps p (w.steps p + 1)) (set_at w.turns p (w.turns p + turn_of c.stage (w.memory place))),
         ),
         moved.3.grows,
       )
 
-  pub Invariant-begun : (w : WorldOf S I R) (p : ℕ) (i : I) → p < w.n → w.call p ≡ None → Invariant next answer w
-      → Invariant next answer (call_begun w p i) × Grows w.memory (call_begun w p i).memory
+  pub Invariant-begun : (w : WorldOf S I R) (p : ℕ) (i : I) → p < w.n → w.call p ≡ None → Invariant object w
+      → Invariant object (world_after_call w p i) × Grows w.memory (world_after_call w p i).memory
   Invariant-begun w p i inside idle inv =
-      ((inv.0, inv.1, IsSound-begun next answer w inv.0 inv.1 inv.2 p i inside idle), Grows-begun next answer w inv.0 inv.1 inv.2 p i inside idle)
+      ((inv.0, inv.1, IsSound-begun object w inv.0 inv.1 inv.2 p i inside idle), Grows-begun object w inv.0 inv.1 inv.2 p i inside idle)
 
-  pub Invariant-opened : (n : ℕ) (s : S) (number : ℕ) → 1 ≤ number → Invariant next answer (opened {S = S} {I = I} {R = R} n s number)
-  Invariant-opened n s number positive = (alone number, number, IsSound-anchored next answer s number positive n (λ p. None) (λ p. 0) (λ p. 0) (λ p. 0) (λ p. refl))
+  pub Invariant-opened_world : (n : ℕ) (s : S) (number : ℕ) → 1 ≤ number → Invariant object (opened_world {S = S} {I = I} {R = R} n s number)
+  Invariant-opened_world n s number positive = (alone number, number, IsSound-anchor_memory object s number positive n (λ p. None) (λ p. 0) (λ p. 0) (λ p. 0) (λ p. 0) (λ p. refl))
 
   -- the last cell is in the chain
   last_in_chain : (m : Memory S I R) (num : Name → ℕ) (last : ℕ) → IsNumbered m num last → (most : ℕ) (x : Name) → 1 ≤ num x → 1 ≤ num (last_of x (cells_from most m x))
@@ -51,43 +53,52 @@ module _ {S I R : Type 0} (next : S → I → S) (answer : S → I → R) where
         by_after rest (Some y) e = rest y (let link = (numbered.link x y e).1 in omega arith)
 
   -- where no call is pending, the cells of the chain are threaded
-  threaded_when_quiescent : (w : WorldOf S I R) (num : Name → ℕ) (last : ℕ) → IsSound next answer w num last → IsQuiescent w → (x : Name) → 1 ≤ num x → 1 ≤ seq_of w.memory x
+  threaded_when_quiescent : (w : WorldOf S I R) (num : Name → ℕ) (last : ℕ) → IsSound object w num last → IsQuiescent w → (x : Name) → 1 ≤ num x → 1 ≤ seq_of w.memory x
   threaded_when_quiescent w num last sound quiet Anchor h = subst (λ t. 1 ≤ t) sound.numbered.anchor h
   threaded_when_quiescent w num last sound quiet (Of p k) h = elim (sound.calls.threaded p k (sound.calls.linked p k h)) [
     | inl threaded ↦ threaded
     | inr pending ↦ absurd (let none = quiet p (sound.calls.process p pending.0 pending.1) in let some = pending.1 in cc)
   ]
 
-  pub idle_when_quiescent : (w : WorldOf S I R) (num : Name → ℕ) (last : ℕ) → IsSound next answer w num last → IsQuiescent w → (p : ℕ) → w.call p ≡ None
+  pub idle_when_quiescent : (w : WorldOf S I R) (num : Name → ℕ) (last : ℕ) → IsSound object w num last → IsQuiescent w → (p : ℕ) → w.call p ≡ None
   idle_when_quiescent w num last sound quiet p = by_call (w.call p) refl where
     by_call : (o : Option Pending) → w.call p ≡ o → w.call p ≡ None
     by_call None e = e
     by_call (Some c) e = quiet p (sound.calls.process p c e)
 
-  pub last_cell_threaded : (w : WorldOf S I R) (num : Name → ℕ) (last : ℕ) → IsSound next answer w num last → IsQuiescent w → 1 ≤ seq_of w.memory (last_cell w)
+  pub last_cell_threaded : (w : WorldOf S I R) (num : Name → ℕ) (last : ℕ) → IsSound object w num last → IsQuiescent w → 1 ≤ seq_of w.memory (last_cell w)
   last_cell_threaded w num last sound quiet = threaded_when_quiescent w num last sound quiet (last_cell w)
       (last_in_chain w.memory num last sound.numbered (calls_begun w) Anchor sound.numbered.first)
 
-  pub Invariant-trimmed : (w : WorldOf S I R) → IsQuiescent w → Invariant next answer w → Invariant next answer (trimmed w)
-  Invariant-trimmed w quiet inv = by_new (new_of w.memory (last_cell w)) refl where
+  pub Invariant-world_after_trim : (w : WorldOf S I R) → IsQuiescent w → Invariant object w → Invariant object (world_after_trim w)
+  Invariant-world_after_trim w quiet inv = by_new (new_of w.memory (last_cell w)) refl where
     by_new : (o : Option (S × Option R)) → new_of w.memory (last_cell w) ≡ o
-        → Invariant next answer (record w { memory = option_map_or (λ new. anchored new.0 (seq_of w.memory (last_cell w))) o w.memory })
+        → Invariant object (option_map_or (λ new. record w { first = w.begun; memory = anchor_memory new.0 (seq_of w.memory (last_cell w)) }) o w)
     by_new None e = inv
     by_new (Some new) e = (
       alone (seq_of w.memory (last_cell w)),
       seq_of w.memory (last_cell w),
-      IsSound-anchored next answer new.0 (seq_of w.memory (last_cell w)) (last_cell_threaded w inv.0 inv.1 inv.2 quiet) w.n w.call w.begun w.steps w.turns
+      IsSound-anchor_memory object new.0 (seq_of w.memory (last_cell w)) (last_cell_threaded w inv.0 inv.1 inv.2 quiet) w.n w.call w.begun w.begun w.steps w.turns
           (idle_when_quiescent w inv.0 inv.1 inv.2 quiet),
     )
 
-  pub Invariant-happened : (w : WorldOf S I R) (e : Event I) → IsAccepted w e → Invariant next answer w → Invariant next answer (happened next answer w e)
-  Invariant-happened w (Call p i) ok inv = (Invariant-begun w p i ok.0 ok.1 inv).0
-  Invariant-happened w (Step p) ok inv = by_call (w.call p) refl ok where
-    by_call : (o : Option Pending) → w.call p ≡ o → IsSome o → Invariant next answer (stepped next answer w p o)
+  pub Invariant-world_after : (w : WorldOf S I R) (e : Event I) → IsAccepted w e → Invariant object w → Invariant object (world_after object w e)
+  Invariant-world_after w (Call p i) ok inv = (Invariant-begun w p i ok.0 ok.1 inv).0
+  Invariant-world_after w (Step p) ok inv = by_call (w.call p) refl ok where
+    by_call : (o : Option Pending) → w.call p ≡ o → IsSome o → Invariant object (world_after_step object w p o)
     by_call None is some = inv
-    by_call (Some c) is some = (Invariant-stepped w p c is inv).0
-  Invariant-happened w Trim ok inv = Invariant-trimmed w ok inv
+    by_call (Some c) is some = (Invariant-world_after_step w p c is inv).0
+  Invariant-world_after w Trim ok inv = Invariant-world_after_trim w ok inv
 
-  pub Invariant-replayed : (w : WorldOf S I R) (es : List (Event I)) → AreAccepted next answer w es → Invariant next answer w → Invariant next answer (replayed next answer w es)
-  Invariant-replayed w [] ok inv = inv
-  Invariant-replayed w (e ∷ es) ok inv = Invariant-replayed (happened next answer w e) es ok.1 (Invariant-happened w e ok.0 inv)
+  pub Invariant-world_after_all : (w : WorldOf S I R) (es : List (Event I)) → AreAccepted object w es → Invariant object w → Invariant object (world_after_all object w es)
+  Invariant-world_after_all w [] ok inv = inv
+  Invariant-world_after_all w (e ∷ es) ok inv = Invariant-world_after_all (world_after object w e) es ok.1 (Invariant-world_after w e ok.0 inv)
+
+  -- in its era, what is settled stays through an event
+  pub Grows-world_after : (w : WorldOf S I R) (e : Event I) → Invariant object w → IsAccepted w e → EndsNoEra e → Grows w.memory (world_after object w e).memory
+  Grows-world_after w (Call p i) inv ok other = (Invariant-begun w p i ok.0 ok.1 inv).1
+  Grows-world_after w (Step p) inv ok other = by_call (w.call p) refl ok where
+    by_call : (o : Option Pending) → w.call p ≡ o → IsSome o → Grows w.memory (world_after_step object w p o).memory
+    by_call None is some = absurd (let e : false ≡ true = some in cc)
+    by_call (Some call) is some = (Invariant-world_after_step w p call is inv).1
+  Grows-world_after w Trim inv ok other = absurd other

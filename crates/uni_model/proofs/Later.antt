@@ -1,6 +1,7 @@
 -- What helps a pending call helps it later too.
 use Rattle.std.proofs.Common.{◌≡◌, ◌≢◌, ◌∙◌, ℕ, ◌+◌, ◌<◌, ◌≤◌, ◌%◌, inl, inr, sym, ap, subst, Some, arith}
-use Rattle.uni_model.specs.Places.{Name, Memory, announced, head_of, head_seq, seq_of}
+use Rattle.seq_object.specs.Sequential.{Sequential}
+use Rattle.uni_model.specs.Places.{Name, Memory, announce_of, head_of, head_seq, seq_of}
 use Rattle.uni_model.specs.Places.Name.{Anchor}
 use Rattle.uni_model.specs.Stages.{Stage, Pending}
 use Rattle.uni_model.specs.Stages.Stage.{Announce}
@@ -17,7 +18,7 @@ use Rattle.uni_model.proofs.Helped.{SomeHead-grows, Finds-grows, Announces-same,
 abbrev pub GrowFairly : {S I R : Type 0} → WorldOf S I R → (num : Name → ℕ) (last : ℕ) (num' : Name → ℕ) (last' : ℕ) → Type 0
 GrowFairly w num last num' last' = IsLonger num last num' last' (λ x. IsFairToAll w num last x × SomeHead w.memory w.n 0 last)
 
-module _ {S I R : Type 0} (next : S → I → S) (answer : S → I → R) (w : WorldOf S I R) (num : Name → ℕ) (last : ℕ) (sound : IsSound next answer w num last) (helps : Helps w num last)
+module _ {S I R : Type 0} (object : Sequential S I R) (w : WorldOf S I R) (num : Name → ℕ) (last : ℕ) (sound : IsSound object w num last) (helps : Helps w num last)
     (m : Memory S I R) (num' : Name → ℕ) (last' : ℕ) (grow : GrowFairly w num last num' last') where
   -- what holds of a cell that is linked now
   abbrev pub IsFairLast : Name → Type 0
@@ -62,8 +63,8 @@ module _ {S I R : Type 0} (next : S → I → S) (answer : S → I → R) (w : W
     ]
 
     pub IsHelped-later : Announces m q d.mine stage → CountsOwnHead m q stage → IsAhead num' d.mine stage turns → IsHelped m num' last' w.n q d.mine stage turns
-    IsHelped-later announced own_head ahead = record {
-      announced = announced;
+    IsHelped-later announce_of own_head ahead = record {
+      announced = announce_of;
       own_head = own_head;
       ahead = ahead;
       anchor = finds (num' Anchor) (subst (λ k. Finds w.memory w.n d.stage (w.turns q) k) (sym (anchor_stays num last num' last' IsFairLast grow sound.numbered.first)) was.anchor);
@@ -83,7 +84,7 @@ module _ {S I R : Type 0} (next : S → I → S) (answer : S → I → R) (w : W
     pub Finds-waiting : (s : ℕ) → Finds w.memory w.n d.stage (w.turns q) s → Finds m w.n d.stage (w.turns q) s
     Finds-waiting s found = Finds-grows w.memory m w.n rise grows num q d.mine d.stage (w.turns q) s (sound.stands q d pending) found
 
-    pub IsHelped-waiting : head_of m q ≡ head_of w.memory q → announced m q ≡ announced w.memory q → IsHelped m num' last' w.n q d.mine d.stage (w.turns q)
+    pub IsHelped-waiting : head_of m q ≡ head_of w.memory q → announce_of m q ≡ announce_of w.memory q → IsHelped m num' last' w.n q d.mine d.stage (w.turns q)
     IsHelped-waiting head same =
         let old : IsHelped w.memory num last w.n q d.mine d.stage (w.turns q) = helps.each q d pending in
         let threaded : 1 ≤ head_seq w.memory q = sound.calls.head q (sound.calls.process q d pending) in

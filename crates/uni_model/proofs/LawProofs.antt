@@ -1,27 +1,29 @@
 -- The laws over every list of accepted events.
 use Rattle.std.proofs.Common.{◌≡◌, ◌≢◌, ℕ, zero, suc, map, ◌+◌, inl, inr, refl, sym, ap, subst, List, [], ◌∷◌, ◌++◌, Option, Some, None, IsSome, Bool, true, false, cond}
-use Rattle.uni_model.specs.Places.{Place, Content, Memory, written, place_eq, set_at}
+use Rattle.seq_object.specs.Sequential.{Sequential}
+use Rattle.uni_model.specs.Places.{Place, Content, Memory, memory_with, place_eq, set_at}
 use Rattle.uni_model.specs.Places.Name.{Anchor}
 use Rattle.uni_model.specs.Chain.{cells_from, Entry, entries_from}
 use Rattle.uni_model.specs.Stages.{Pending}
 use Rattle.uni_model.specs.Transition.{place_of}
-use Rattle.uni_model.specs.Worlds.{WorldOf, Event, opened, anchored, calls_begun, happened, replayed, stepped, IsAccepted, AreAccepted}
+use Rattle.uni_model.specs.Worlds.{WorldOf, Event, opened_world, anchor_memory, calls_begun, world_after, world_after_all, world_after_step, IsAccepted, AreAccepted}
 use Rattle.uni_model.specs.Worlds.Event.{Call, Step, Trim}
 use Rattle.uni_model.specs.AtomicObject.{Atomic, Act, AcceptsAll, at_start}
 use Rattle.uni_model.specs.History.{Shows, history_of, acts_of}
-use Rattle.uni_model.specs.Settled.{Grows, ChangesOnly}
+use Rattle.uni_model.specs.Growth.{EndsNoEra, EndNoEra}
+use Rattle.uni_model.specs.Settled.{ChangesOnly}
 use Rattle.uni_model.specs.Invariant.{Invariant}
-use Rattle.uni_model.specs.Laws.{HasNoTrim, IsReached, StepIsLocal, SettledStays, Simulates, IsLinearizable}
+use Rattle.uni_model.specs.Laws.{IsReached, StepIsLocal, SettledStays, Simulates, IsLinearizable}
 use Rattle.uni_model.proofs.Written.{set_at-cases, place_eq_true}
-use Rattle.uni_model.proofs.Kept.{Invariant-stepped, Invariant-begun, Invariant-opened, Invariant-replayed, Invariant-happened}
+use Rattle.uni_model.proofs.Kept.{Invariant-opened_world, Invariant-world_after_all, Invariant-world_after, Grows-world_after}
 use Rattle.uni_model.specs.Bound.{CountsSteps, IsBounded}
-use Rattle.uni_model.proofs.Counted.{CountsSteps-opened, CountsSteps-replayed}
+use Rattle.uni_model.proofs.Counted.{CountsSteps-opened_world, CountsSteps-world_after_all}
 use Rattle.uni_model.specs.Helping.{HelpingInvariant}
-use Rattle.uni_model.proofs.Bounded.{HelpingInvariant-opened, HelpingInvariant-replayed, IsBounded-held}
+use Rattle.uni_model.proofs.Bounded.{HelpingInvariant-opened_world, HelpingInvariant-world_after_all, IsBounded-held}
 use Rattle.uni_model.proofs.Simulation.{step_accepted, call_accepted}
 
 -- a place that isn't written
-pub written_elsewhere : {S I R : Type 0} (m : Memory S I R) (place : Place) (v : Content S I R) (x : Place) → x ≢ place → written m place v x ≡ m x
+pub written_elsewhere : {S I R : Type 0} (m : Memory S I R) (place : Place) (v : Content S I R) (x : Place) → x ≢ place → memory_with m place v x ≡ m x
 written_elsewhere m place v x apart = by_test (place_eq x place) refl where
   by_test : (b : Bool) → place_eq x place ≡ b → cond b v (m x) ≡ m x
   by_test true e = absurd (apart (place_eq_true x place e))
@@ -30,8 +32,8 @@ written_elsewhere m place v x apart = by_test (place_eq x place) refl where
 pub set_at_elsewhere : {A : Type 0} (f : ℕ → A) (p : ℕ) (v : A) (q : ℕ) → q ≢ p → set_at f p v q ≡ f q
 set_at_elsewhere f p v q apart = elim (set_at-cases f p v q) [ inl h ↦ absurd (apart h.0) | inr h ↦ h.1 ]
 
-module _ {S I R : Type 0} (next : S → I → S) (answer : S → I → R) where
-  local_step : (w : WorldOf S I R) (p : ℕ) (call : Pending) → ChangesOnly (place_of w.n p call.mine call.stage) p w (stepped next answer w p (Some call))
+module _ {S I R : Type 0} (object : Sequential S I R) where
+  local_step : (w : WorldOf S I R) (p : ℕ) (call : Pending) → ChangesOnly (place_of w.n p call.mine call.stage) p w (world_after_step object w p (Some call))
   local_step w p call = record {
     n = refl;
     places = λ x apart. written_elsewhere w.memory (place_of w.n p call.mine call.stage) _ x apart;
@@ -41,68 +43,60 @@ module _ {S I R : Type 0} (next : S → I → S) (answer : S → I → R) where
     turns = λ q apart. set_at_elsewhere w.turns p _ q apart;
   }
 
-  pub StepIsLocal-holds : (w : WorldOf S I R) (p : ℕ) (call : Pending) → StepIsLocal next answer w p call
+  pub StepIsLocal-holds : (w : WorldOf S I R) (p : ℕ) (call : Pending) → StepIsLocal object w p call
   StepIsLocal-holds w p call is =
-      subst (λ o. ChangesOnly (place_of w.n p call.mine call.stage) p w (stepped next answer w p o)) (sym is) (local_step w p call)
+      subst (λ o. ChangesOnly (place_of w.n p call.mine call.stage) p w (world_after_step object w p o)) (sym is) (local_step w p call)
 
-  pub Invariant-reached : (w : WorldOf S I R) → IsReached next answer w → Invariant next answer w
-  Invariant-reached w r = subst (λ v. Invariant next answer v) r.reached
-      (Invariant-replayed next answer (opened r.n r.start r.number) r.events r.accepted (Invariant-opened next answer r.n r.start r.number r.positive))
+  pub Invariant-reached : (w : WorldOf S I R) → IsReached object w → Invariant object w
+  Invariant-reached w r = subst (λ v. Invariant object v) r.reached
+      (Invariant-world_after_all object (opened_world r.n r.start r.number) r.events r.accepted (Invariant-opened_world object r.n r.start r.number r.positive))
 
-  pub CountsSteps-reached : (w : WorldOf S I R) → IsReached next answer w → CountsSteps w
+  pub CountsSteps-reached : (w : WorldOf S I R) → IsReached object w → CountsSteps w
   CountsSteps-reached w r = subst (λ v. CountsSteps v) r.reached
-      (CountsSteps-replayed next answer (opened r.n r.start r.number) r.events r.accepted (Invariant-opened next answer r.n r.start r.number r.positive) (CountsSteps-opened next answer r.n r.start r.number))
+      (CountsSteps-world_after_all object (opened_world r.n r.start r.number) r.events r.accepted (Invariant-opened_world object r.n r.start r.number r.positive) (CountsSteps-opened_world object r.n r.start r.number))
 
-  pub IsBounded-reached : (w : WorldOf S I R) → IsReached next answer w → IsBounded w
-  IsBounded-reached w r = IsBounded-held next answer w (CountsSteps-reached w r) (subst (λ v. HelpingInvariant next answer v) r.reached
-      (HelpingInvariant-replayed next answer (opened r.n r.start r.number) r.events r.accepted (CountsSteps-opened next answer r.n r.start r.number) (HelpingInvariant-opened next answer r.n r.start r.number r.positive)))
+  pub IsBounded-reached : (w : WorldOf S I R) → IsReached object w → IsBounded w
+  IsBounded-reached w r = IsBounded-held object w (CountsSteps-reached w r) (subst (λ v. HelpingInvariant object v) r.reached
+      (HelpingInvariant-world_after_all object (opened_world r.n r.start r.number) r.events r.accepted (CountsSteps-opened_world object r.n r.start r.number) (HelpingInvariant-opened_world object r.n r.start r.number r.positive)))
 
-  pub grows : (w : WorldOf S I R) (e : Event I) → Invariant next answer w → IsAccepted w e → e ≢ Trim → Grows w.memory (happened next answer w e).memory
-  grows w (Call p i) inv ok other = (Invariant-begun next answer w p i ok.0 ok.1 inv).1
-  grows w (Step p) inv ok other = by_call (w.call p) refl ok where
-    by_call : (o : Option Pending) → w.call p ≡ o → IsSome o → Grows w.memory (stepped next answer w p o).memory
-    by_call None is some = absurd (let e : false ≡ true = some in cc)
-    by_call (Some call) is some = (Invariant-stepped next answer w p call is inv).1
-  grows w Trim inv ok other = absurd (other refl)
+  pub SettledStays-holds : (w : WorldOf S I R) (e : Event I) → SettledStays object w e
+  SettledStays-holds w e reached ok other = Grows-world_after object w e (Invariant-reached w reached) ok other
 
-  pub SettledStays-holds : (w : WorldOf S I R) (e : Event I) → SettledStays next answer w e
-  SettledStays-holds w e reached ok other = grows w e (Invariant-reached w reached) ok other
-
-  pub accepts : (w : WorldOf S I R) (e : Event I) → Invariant next answer w → IsAccepted w e → e ≢ Trim → (a : Atomic S I) → Shows w a
-      → (b : Atomic S I) × Shows (happened next answer w e) b × AcceptsAll next answer a (acts_of next answer w e) b
-  accepts w (Call p i) inv ok other a shows = call_accepted next answer w inv.0 inv.1 inv.2 p i ok.0 ok.1 a shows
+  pub accepts : (w : WorldOf S I R) (e : Event I) → Invariant object w → IsAccepted w e → EndsNoEra e → (a : Atomic S I) → Shows w a
+      → (b : Atomic S I) × Shows (world_after object w e) b × AcceptsAll object a (acts_of object w e) b
+  accepts w (Call p i) inv ok other a shows = call_accepted object w inv.0 inv.1 inv.2 p i ok.0 ok.1 a shows
   accepts w (Step p) inv ok other a shows = by_call (w.call p) refl ok where
-    by_call : (o : Option Pending) → w.call p ≡ o → IsSome o → (b : Atomic S I) × Shows (happened next answer w (Step p)) b × AcceptsAll next answer a (acts_of next answer w (Step p)) b
+    by_call : (o : Option Pending) → w.call p ≡ o → IsSome o → (b : Atomic S I) × Shows (world_after object w (Step p)) b × AcceptsAll object a (acts_of object w (Step p)) b
     by_call None is some = absurd (let e : false ≡ true = some in cc)
-    by_call (Some call) is some = step_accepted next answer w inv.0 inv.1 inv.2 p call.mine a shows call.stage is
-  accepts w Trim inv ok other a shows = absurd (other refl)
+    by_call (Some call) is some = step_accepted object w inv.0 inv.1 inv.2 p call.mine a shows call.stage is
+  accepts w Trim inv ok other a shows = absurd other
 
-  pub Simulates-holds : (w : WorldOf S I R) (e : Event I) → Simulates next answer w e
+  pub Simulates-holds : (w : WorldOf S I R) (e : Event I) → Simulates object w e
   Simulates-holds w e reached ok other a shows = accepts w e (Invariant-reached w reached) ok other a shows
 
   -- acts, and further acts
-  pub AcceptsAll-append : (a b c : Atomic S I) (xs ys : List (Act I R)) → AcceptsAll next answer a xs b → AcceptsAll next answer b ys c → AcceptsAll next answer a (xs ++ ys) c
-  AcceptsAll-append a b c [] ys first rest = subst (λ x. AcceptsAll next answer x ys c) first rest
+  pub AcceptsAll-append : (a b c : Atomic S I) (xs ys : List (Act I R)) → AcceptsAll object a xs b → AcceptsAll object b ys c → AcceptsAll object a (xs ++ ys) c
+  AcceptsAll-append a b c [] ys first rest = subst (λ x. AcceptsAll object x ys c) first rest
   AcceptsAll-append a b c (x ∷ xs) ys first rest = (first.0, first.1, AcceptsAll-append first.0 b c xs ys first.2 rest)
 
-  accepts_run : (w : WorldOf S I R) (es : List (Event I)) → Invariant next answer w → AreAccepted next answer w es → HasNoTrim es → (a : Atomic S I) → Shows w a
-      → (b : Atomic S I) × Shows (replayed next answer w es) b × AcceptsAll next answer a (history_of next answer w es) b
+  accepts_run : (w : WorldOf S I R) (es : List (Event I)) → Invariant object w → AreAccepted object w es → EndNoEra es → (a : Atomic S I) → Shows w a
+      → (b : Atomic S I) × Shows (world_after_all object w es) b × AcceptsAll object a (history_of object w es) b
   accepts_run w [] inv ok none a shows = (a, shows, refl)
   accepts_run w (Call p i ∷ es) inv ok none a shows =
-      let first = accepts w (Call p i) inv ok.0 (λ e. cc) a shows in
-      let rest = accepts_run (happened next answer w (Call p i)) es (Invariant-happened next answer w (Call p i) ok.0 inv) ok.1 none first.0 first.1 in
-      (rest.0, rest.1, AcceptsAll-append a first.0 rest.0 (acts_of next answer w (Call p i)) _ first.2 rest.2)
+      let first = accepts w (Call p i) inv ok.0 tt a shows in
+      let rest = accepts_run (world_after object w (Call p i)) es (Invariant-world_after object w (Call p i) ok.0 inv) ok.1 none.1 first.0 first.1 in
+      (rest.0, rest.1, AcceptsAll-append a first.0 rest.0 (acts_of object w (Call p i)) _ first.2 rest.2)
   accepts_run w (Step p ∷ es) inv ok none a shows =
-      let first = accepts w (Step p) inv ok.0 (λ e. cc) a shows in
-      let rest = accepts_run (happened next answer w (Step p)) es (Invariant-happened next answer w (Step p) ok.0 inv) ok.1 none first.0 first.1 in
-      (rest.0, rest.1, AcceptsAll-append a first.0 rest.0 (acts_of next answer w (Step p)) _ first.2 rest.2)
-  accepts_run w (Trim ∷ es) inv ok none a shows = absurd none
+      let first = accepts w (Step p) inv ok.0 tt a shows in
+      let rest = accepts_run (world_after object w (Step p)) es (Invariant-world_after object w (Step p) ok.0 inv) ok.1 none.1 first.0 first.1 in
+      (rest.0, rest.1, AcceptsAll-append a first.0 rest.0 (acts_of object w (Step p)) _ first.2 rest.2)
+  accepts_run w (Trim ∷ es) inv ok none a shows = absurd none.0
 
-  none_linked : (start : S) (number most : ℕ) → cells_from {S = S} {I = I} {R = R} most (anchored start number) Anchor ≡ []
+  none_linked : (start : S) (number most : ℕ) → cells_from {S = S} {I = I} {R = R} most (anchor_memory start number) Anchor ≡ []
   none_linked start number zero = refl
   none_linked start number (suc most) = refl
 
-  pub IsLinearizable-holds : (n : ℕ) (start : S) (number : ℕ) (events : List (Event I)) → IsLinearizable next answer n start number events
+  pub IsLinearizable-holds : (n : ℕ) (start : S) (number : ℕ) (events : List (Event I)) → IsLinearizable object n start number events
   IsLinearizable-holds n start number events positive ok none =
-      accepts_run (opened n start number) events (Invariant-opened next answer n start number positive) ok none (at_start start)
-      (record { start = refl; agreed = ap (λ xs. map (λ (e : Entry I R). e.call) (entries_from (anchored start number) (number + 1) xs)) (none_linked start number (calls_begun (opened {S = S} {I = I} {R = R} n start number))); open_call = λ p. refl; next_nth = λ p. refl })
+      accepts_run (opened_world n start number) events (Invariant-opened_world object n start number positive) ok none (at_start start)
+      (record { start = refl; agreed = ap (λ xs. map (λ (e : Entry I R). e.call) (entries_from (anchor_memory start number) (number + 1) xs)) (none_linked start number (calls_begun (opened_world {S = S} {I = I} {R = R} n start number))); open_call = λ p. refl; next_nth = λ p. refl })

@@ -10,9 +10,14 @@ pub mod Begun
 pub mod Kept
 pub mod Chains
 pub mod Simulation
+pub mod Logged
+pub mod OneLists
+pub mod Growing
+pub mod Seen
 pub mod Counted
 pub mod Longer
 pub mod Residues
+pub mod Floored
 pub mod Helped
 pub mod Turns
 pub mod Advanced
@@ -26,3 +31,7 @@ pub mod Floors
 pub mod Soon
 pub mod Announced
 pub mod LawProofs
+pub mod Indices
+pub mod SamePlace
+pub mod Ranges
+pub mod SameLog

@@ -1,6 +1,7 @@
 -- A step of one process: what has to be shown of it, so that the invariant holds after it.
-use Rattle.std.proofs.Common.{◌≡◌, ◌≢◌, ◌∙◌, ℕ, ◌+◌, ◌-◌, ◌≤◌, ◌⊎◌, inl, inr, refl, sym, ap, subst, Option, Some, None, arith, cond, Bool, true, false, nat_eq}
-use Rattle.uni_model.specs.Places.{Name, Memory, set_at, head_of, head_seq, announced, seq_of, inv_of}
+use Rattle.std.proofs.Common.{◌≡◌, ◌≢◌, ◌∙◌, ℕ, ◌+◌, ◌-◌, ◌<◌, ◌≤◌, ◌⊎◌, inl, inr, refl, sym, ap, subst, Option, Some, None, arith, cond, Bool, true, false, nat_eq}
+use Rattle.seq_object.specs.Sequential.{Sequential}
+use Rattle.uni_model.specs.Places.{Name, Memory, set_at, head_of, head_seq, announce_of, seq_of, inv_of}
 use Rattle.uni_model.specs.Places.Name.{Anchor, Of}
 use Rattle.uni_model.specs.Stages.{Stage, Pending}
 use Rattle.uni_model.specs.Stages.Stage.{DecideAfter}
@@ -24,23 +25,23 @@ Extends num last num' last' stage =
     ⊎ ((c : Name) × (x : Name) × (stage ≡ DecideAfter c last x) × (num x ≡ 0) × (num' ≡ numbered_last num last x) × (last' ≡ last + 1))
 
 -- p, whose cell is mine, leads from the memory of w to m and goes on at this stage
-pub record Moves {S I R : Type 0} (next : S → I → S) (answer : S → I → R) (w : WorldOf S I R) (num : Name → ℕ) (p : ℕ) (mine : Name) (m : Memory S I R) (num' : Name → ℕ) (last' : ℕ) (stage : Option Stage) : Type 0 where
+pub record Moves {S I R : Type 0} (object : Sequential S I R) (w : WorldOf S I R) (num : Name → ℕ) (p : ℕ) (mine : Name) (m : Memory S I R) (num' : Name → ℕ) (last' : ℕ) (stage : Option Stage) : Type 0 where
   pub numbered : IsNumbered m num' last'
-  pub values : HasValues next answer m num'
+  pub values : HasValues object m num'
   pub back : LeadsBack m
   pub grows : Grows w.memory m
   pub numbers : NumbersGrow w.memory num num'
   pub heads : (q : ℕ) → q ≢ p → head_of m q ≡ head_of w.memory q
   pub head : 1 ≤ head_seq m p
-  pub announced : (q : ℕ) → (announced m q ≡ announced w.memory q) ⊎ ((q ≡ p) × (announced m q ≡ mine))
+  pub announced : (q : ℕ) → (announce_of m q ≡ announce_of w.memory q) ⊎ ((q ≡ p) × (announce_of m q ≡ mine))
   pub inv : (x : Name) → inv_of m x ≡ inv_of w.memory x
   pub linked : (q k : ℕ) → 1 ≤ num' (Of q k) → Has (inv_of w.memory (Of q k))
   pub stands : StandsNext m num' w.n p mine stage
   pub count : last' ≤ num' Anchor + sum_below w.n (λ q. can_be_linked num' (w.call q) (w.begun q))
 
-module _ {S I R : Type 0} (next : S → I → S) (answer : S → I → R) (w : WorldOf S I R) (num : Name → ℕ) (last : ℕ) (sound : IsSound next answer w num last)
+module _ {S I R : Type 0} (object : Sequential S I R) (w : WorldOf S I R) (num : Name → ℕ) (last : ℕ) (sound : IsSound object w num last)
     (p : ℕ) (mine : Name) (from : Stage) (is : w.call p ≡ Some (record { mine = mine; stage = from }))
-    (m : Memory S I R) (num' : Name → ℕ) (last' : ℕ) (stage : Option Stage) (moves : Moves next answer w num p mine m num' last' stage) where
+    (m : Memory S I R) (num' : Name → ℕ) (last' : ℕ) (stage : Option Stage) (moves : Moves object w num p mine m num' last' stage) where
   call_later : ℕ → Option Pending
   call_later = set_at w.call p (call_after mine stage)
 
@@ -77,7 +78,32 @@ module _ {S I R : Type 0} (next : S → I → S) (answer : S → I → R) (w : W
     at_stage (Some k') on e its = inr (record { mine = mine; stage = k' }, e, its)
 
   later : WorldOf S I R
-  later = record { n = w.n; memory = m; call = set_at w.call p (call_after mine stage); begun = w.begun; steps = w.steps; turns = w.turns }
+  later = record { n = w.n; memory = m; call = set_at w.call p (call_after mine stage); begun = w.begun; first = w.first; steps = w.steps; turns = w.turns }
+
+  -- a cell that is linked now and wasn't threaded has a call that is pending, so it is the last one of its process
+  linked_before : (q k j : ℕ) → k < j → Has (inv_of w.memory (Of q j)) → Has (inv_of w.memory (Of q k)) → 1 ≤ seq_of w.memory (Of q k)
+  linked_before q k j less later earlier = elim (sound.calls.threaded q k earlier) [
+    | inl threaded ↦ threaded
+    | inr pending ↦ absurd (
+        let its = sound.calls.mine q pending.0 pending.1 in
+        let same : its.0 ≡ k = (let e = sym its.1 ∙ pending.2 in cc) in
+        let begun : w.begun q ≡ its.0 + 1 = its.2 in
+        let below : j < w.begun q = (sound.calls.begun q j later).1 in
+        omega arith)
+  ]
+
+  order_later : (q k j : ℕ) → k < j → 1 ≤ num' (Of q k) → 1 ≤ num' (Of q j) → num' (Of q k) < num' (Of q j)
+  order_later q k j less linked_k linked_j =
+      let threaded : 1 ≤ seq_of w.memory (Of q k) = linked_before q k j less (moves.linked q j linked_j) (moves.linked q k linked_k) in
+      let number : seq_of m (Of q k) ≡ seq_of w.memory (Of q k) = moves.grows.seq (Of q k) threaded in
+      let now : seq_of m (Of q k) ≡ num' (Of q k) = moves.numbered.seq (Of q k) (positive (Of q k) threaded) in
+      let was : seq_of w.memory (Of q k) ≡ num (Of q k) = sound.numbered.seq (Of q k) threaded in
+      elim (moves.numbers (Of q j)) [
+        | inl old ↦
+            let before : num (Of q k) < num (Of q j) = sound.calls.order q k j less (omega arith) (omega arith) in
+            omega arith
+        | inr new ↦ let past : seq_of w.memory (Of q k) < num' (Of q j) = new (Of q k) threaded in omega arith
+      ]
 
   calls_later : AreCalls later num'
   unfolding later call_later
@@ -111,6 +137,7 @@ module _ {S I R : Type 0} (next : S → I → S) (answer : S → I → R) (w : W
       | inl at_p ↦ subst (λ r. 1 ≤ head_seq m r) (sym at_p.0) moves.head
       | inr other ↦ subst (λ x. 1 ≤ seq_of m x) (sym (moves.heads q other.0)) (positive (head_of w.memory q) (sound.calls.head q inside))
     ];
+    order = order_later;
   }
 
   stands_later : (q : ℕ) (c : Pending) → set_at w.call p (call_after mine stage) q ≡ Some c → Stands m num' w.n q c.mine c.stage
@@ -143,7 +170,7 @@ module _ {S I R : Type 0} (next : S → I → S) (answer : S → I → R) (w : W
 
   -- the invariant holds after the step
   pub IsSound-moved : (steps turns : ℕ → ℕ)
-      → IsSound next answer (record { n = w.n; memory = m; call = set_at w.call p (call_after mine stage); begun = w.begun; steps = steps; turns = turns }) num' last'
+      → IsSound object (record { n = w.n; memory = m; call = set_at w.call p (call_after mine stage); begun = w.begun; first = w.first; steps = steps; turns = turns }) num' last'
   unfolding later
   IsSound-moved steps turns = record {
     numbered = moves.numbered;
@@ -158,6 +185,7 @@ module _ {S I R : Type 0} (next : S → I → S) (answer : S → I → R) (w : W
       threaded = calls_later.threaded;
       announced = calls_later.announced;
       head = calls_later.head;
+      order = calls_later.order;
     };
     stands = stands_later;
     count =

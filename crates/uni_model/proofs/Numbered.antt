@@ -1,12 +1,12 @@
 -- The numbers of the chain's cells, through each kind of write.
 use Rattle.std.proofs.Common.{◌≡◌, ◌≢◌, ◌∙◌, ℕ, ◌+◌, ◌<◌, ◌≤◌, ◌⊎◌, inl, inr, refl, sym, ap, subst, if◌then◌else◌, Some, None, arith}
 use Rattle.std.proofs.lemmas.Bool.{cases_lt}
-use Rattle.uni_model.specs.Places.{Name, Memory, name_eq, written, seq_of, after_of}
+use Rattle.uni_model.specs.Places.{Name, Memory, name_eq, memory_with, seq_of, after_of}
 use Rattle.uni_model.specs.Places.Name.{Anchor}
 use Rattle.uni_model.specs.Places.Place.{SeqOf, AfterOf}
 use Rattle.uni_model.specs.Places.Content.{Number, Link}
 use Rattle.uni_model.specs.Invariant.{Has, IsNumbered, IsPast}
-use Rattle.uni_model.proofs.Written.{name_cases, seq_of-written, after_of-written}
+use Rattle.uni_model.proofs.Written.{name_cases, seq_of-memory_with, after_of-memory_with}
 
 -- the numbers after a cell y is linked at the end
 abbrev pub numbered_last : (Name → ℕ) → ℕ → Name → Name → ℕ
@@ -36,20 +36,20 @@ module _ {S I R : Type 0} (m : Memory S I R) (num : Name → ℕ) (last : ℕ) (
       ]
 
   -- a cell that is linked with the number that it is given
-  pub IsNumbered-seq : (d : Name) (s : ℕ) → num d ≡ s → IsNumbered (written m (SeqOf d) (Number s)) num last
+  pub IsNumbered-seq : (d : Name) (s : ℕ) → num d ≡ s → IsNumbered (memory_with m (SeqOf d) (Number s)) num last
   IsNumbered-seq d s number = record {
-    anchor = elim (seq_of-written m d Anchor s) [ inl h ↦ ap num h.0 ∙ number ∙ sym h.1 | inr h ↦ old.anchor ∙ sym h.1 ];
+    anchor = elim (seq_of-memory_with m d Anchor s) [ inl h ↦ ap num h.0 ∙ number ∙ sym h.1 | inr h ↦ old.anchor ∙ sym h.1 ];
     first = old.first;
     least = old.least;
     greatest = old.greatest;
     one_each = old.one_each;
     link = old.link;
     goes_on = old.goes_on;
-    seq = λ x threaded. elim (seq_of-written m d x s) [
+    seq = λ x threaded. elim (seq_of-memory_with m d x s) [
       | inl h ↦ h.1 ∙ sym number ∙ ap num (sym h.0)
       | inr h ↦ h.1 ∙ old.seq x (subst (λ t. 1 ≤ t) h.1 threaded)
     ];
-    threaded = λ x linked inside. elim (seq_of-written m d x s) [
+    threaded = λ x linked inside. elim (seq_of-memory_with m d x s) [
       | inl h ↦ h.1 ∙ sym number ∙ ap num (sym h.0)
       | inr h ↦ h.1 ∙ old.threaded x linked inside
     ];
@@ -86,9 +86,9 @@ module _ {S I R : Type 0} (m : Memory S I R) (num : Name → ℕ) (last : ℕ) (
           ]
         ]
 
-    new_link : (x z : Name) → after_of (written m (AfterOf c) (Link (Some y))) x ≡ Some z → (1 ≤ numbered_last num last y x) × (numbered_last num last y z ≡ numbered_last num last y x + 1)
+    new_link : (x z : Name) → after_of (memory_with m (AfterOf c) (Link (Some y))) x ≡ Some z → (1 ≤ numbered_last num last y x) × (numbered_last num last y z ≡ numbered_last num last y x + 1)
     new_link x z e =
-        elim (after_of-written m c x (Some y)) [
+        elim (after_of-memory_with m c x (Some y)) [
           | inl h ↦
               let is_y : z ≡ y = (let f = h.1 in cc) in
               let is_c : num x ≡ last = ap num h.0 ∙ end_number in
@@ -105,9 +105,9 @@ module _ {S I R : Type 0} (m : Memory S I R) (num : Name → ℕ) (last : ℕ) (
               (omega arith, omega arith)
         ]
 
-    new_goes_on : (x : Name) → 1 ≤ numbered_last num last y x → numbered_last num last y x < last + 1 → Has (after_of (written m (AfterOf c) (Link (Some y))) x)
+    new_goes_on : (x : Name) → 1 ≤ numbered_last num last y x → numbered_last num last y x < last + 1 → Has (after_of (memory_with m (AfterOf c) (Link (Some y))) x)
     new_goes_on x linked inside =
-        elim (after_of-written m c x (Some y)) [
+        elim (after_of-memory_with m c x (Some y)) [
           | inl h ↦ (y, h.1)
           | inr h ↦
               elim (numbered_last-cases num last y x) [
@@ -142,7 +142,7 @@ module _ {S I R : Type 0} (m : Memory S I R) (num : Name → ℕ) (last : ℕ) (
         ]
 
     -- a cell is linked at the end
-    pub IsNumbered-link : IsNumbered (written m (AfterOf c) (Link (Some y))) (numbered_last num last y) (last + 1)
+    pub IsNumbered-link : IsNumbered (memory_with m (AfterOf c) (Link (Some y))) (numbered_last num last y) (last + 1)
     IsNumbered-link =
         let number_anchor : numbered_last num last y Anchor ≡ num Anchor = kept Anchor old.first in
         record {

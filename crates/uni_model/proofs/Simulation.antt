@@ -4,22 +4,23 @@ use Rattle.std.specs.Option.{option_map_or}
 use Rattle.std.proofs.lemmas.Bool.{cases_lt}
 use Rattle.std.proofs.lemmas.Option.{slice_get-map}
 use Rattle.std.proofs.lemmas.List.Elements.{All-contains, All-from_recursion}
+use Rattle.seq_object.specs.Sequential.{Sequential}
 use Rattle.seq_object.specs.History.{response_at, state_after}
-use Rattle.uni_model.specs.Places.{Name, Memory, written, set_at, seq_of, after_of, new_of, inv_of}
+use Rattle.uni_model.specs.Places.{Name, Memory, memory_with, set_at, seq_of, after_of, new_of, inv_of}
 use Rattle.uni_model.specs.Places.Name.{Anchor, Of}
 use Rattle.uni_model.specs.Places.Place.{AfterOf, InvOf}
 use Rattle.uni_model.specs.Places.Content.{Invocation, Link}
 use Rattle.uni_model.specs.Stages.{Stage, Pending}
 use Rattle.uni_model.specs.Stages.Stage.{Announce, ScanHead, ScanSeq, WriteScan, Test, ReadAnnounce, ReadHelpSeq, DecideAfter, DecideNew, WriteBefore, WriteSeq, WriteHead, Finish}
-use Rattle.uni_model.specs.Transition.{place_of, effect_of, decided, turn_of, c_of, d_of}
+use Rattle.uni_model.specs.Transition.{place_of, effect_of, decision, turn_of, beside, response_after}
 use Rattle.uni_model.specs.Chain.{Invoked, invoked_at, response_in}
-use Rattle.uni_model.specs.Worlds.{WorldOf, stepped, call_begun, call_after, chain, calls_begun, sum_below, happened}
+use Rattle.uni_model.specs.Worlds.{WorldOf, effect_in, world_after_step, world_after_call, call_after, chain, calls_begun, sum_below, world_after}
 use Rattle.uni_model.specs.Worlds.Event.{Call, Step}
 use Rattle.uni_model.specs.AtomicObject.{Atomic, Act, AcceptsAll}
 use Rattle.uni_model.specs.AtomicObject.Act.{Linearize}
 use Rattle.uni_model.specs.History.{calls_of, open_at, Shows, responses_of, acts_of}
 use Rattle.uni_model.specs.Invariant.{Has, IsSound, can_be_linked, AtHead, IsPast, IsCellOf}
-use Rattle.uni_model.proofs.Written.{set_at-cases, inv_of-written, after_of-written, number_cases}
+use Rattle.uni_model.proofs.Written.{set_at-cases, inv_of-memory_with, after_of-memory_with, number_cases}
 use Rattle.uni_model.proofs.Moves.{Moves, IsSound-moved}
 use Rattle.uni_model.proofs.Steps.{leads, links, outside, nothing_after, threaded_c, number_later, proposed}
 use Rattle.uni_model.proofs.Numbered.{numbered_last-cases}
@@ -41,7 +42,7 @@ drop_length-append : {A : Type 0} (xs ys : List A) → drop (length xs) (xs ++ y
 drop_length-append [] ys = refl
 drop_length-append (x ∷ xs) ys = drop_length-append xs ys
 
-module _ {S I R : Type 0} (next : S → I → S) (answer : S → I → R) (w : WorldOf S I R) (num : Name → ℕ) (last : ℕ) (sound : IsSound next answer w num last) where
+module _ {S I R : Type 0} (object : Sequential S I R) (w : WorldOf S I R) (num : Name → ℕ) (last : ℕ) (sound : IsSound object w num last) where
   -- all calls that were begun are enough to go along the chain
   pub enough : last ≤ num Anchor + calls_begun w
   enough =
@@ -55,7 +56,7 @@ module _ {S I R : Type 0} (next : S → I → S) (answer : S → I → R) (w : W
           by_test true = omega arith
           by_test false = omega arith
 
-module _ {S I R : Type 0} (next : S → I → S) (answer : S → I → R) (w : WorldOf S I R) (num : Name → ℕ) (last : ℕ) (sound : IsSound next answer w num last) where
+module _ {S I R : Type 0} (object : Sequential S I R) (w : WorldOf S I R) (num : Name → ℕ) (last : ℕ) (sound : IsSound object w num last) where
   open_call_of : (q : ℕ) (c : Pending) → w.call q ≡ Some c → (k : ℕ) × (i : I) × (c.mine ≡ Of q k) × (inv_of w.memory (Of q k) ≡ Some i)
   open_call_of q c e = let its = sound.calls.mine q c e in (its.0, its.3.0, its.1, its.3.1)
 
@@ -71,9 +72,9 @@ module _ {S I R : Type 0} (next : S → I → S) (answer : S → I → R) (w : W
     own_open =
         sym (shows.open_call p) ∙ (ap (open_at w.memory) is ∙ rw (own_invoked own.0 own.1 own.2 own.3) refl)
 
-    module _ (m : Memory S I R) (num' : Name → ℕ) (last' : ℕ) (stage : Option Stage) (moves : Moves next answer w num p mine m num' last' stage) (steps turns : ℕ → ℕ) where
+    module _ (m : Memory S I R) (num' : Name → ℕ) (last' : ℕ) (stage : Option Stage) (moves : Moves object w num p mine m num' last' stage) (steps turns : ℕ → ℕ) where
       abbrev pub later : WorldOf S I R
-      later = record { n = w.n; memory = m; call = set_at w.call p (call_after mine stage); begun = w.begun; steps = steps; turns = turns }
+      later = record { n = w.n; memory = m; call = set_at w.call p (call_after mine stage); begun = w.begun; first = w.first; steps = steps; turns = turns }
 
       invoked_kept : (x : Name) → invoked_at m x ≡ invoked_at w.memory x
       invoked_kept = invoked_at-same w.memory m moves.inv
@@ -104,21 +105,21 @@ module _ {S I R : Type 0} (next : S → I → S) (answer : S → I → R) (w : W
 
       -- the acts of a step
       abbrev pub acts : List (Act I R)
-      acts = map Linearize (drop (length (calls_of w)) (calls_of later)) ++ responses_of m p (Some (record { mine = mine; stage = from })) (set_at w.call p (call_after mine stage) p)
+      acts = map Linearize (drop (length (calls_of w)) (calls_of later)) ++ responses_of w.memory p mine (response_after from (beside w.memory mine from))
 
       -- a step that links nothing and ends nothing
-      pub silent : ((x : Name) → after_of m x ≡ after_of w.memory x) → (k : Stage) → stage ≡ Some k
-          → (b : Atomic S I) × Shows later b × AcceptsAll next answer a acts b
-      silent same k on = (
+      pub silent : ((x : Name) → after_of m x ≡ after_of w.memory x) → (k : Stage) → stage ≡ Some k → response_after from (beside w.memory mine from) ≡ None
+          → (b : Atomic S I) × Shows later b × AcceptsAll object a acts b
+      silent same k on nothing = (
         a,
         record { start = start_kept; agreed = calls_kept same ∙ shows.agreed; open_call = open_kept k on; next_nth = shows.next_nth },
-        rw (calls_kept same, set_at_same w.call p (call_after mine stage), on, drop_length (calls_of w)) refl,
+        rw (calls_kept same, drop_length (calls_of w), nothing) refl,
       )
 
       -- the last step of a call
-      pub ends : ((x : Name) → after_of m x ≡ after_of w.memory x) → stage ≡ None → 1 ≤ seq_of w.memory mine
-          → (b : Atomic S I) × Shows later b × AcceptsAll next answer a acts b
-      ends same done threaded =
+      pub ends : ((x : Name) → after_of m x ≡ after_of w.memory x) → stage ≡ None → response_after from (beside w.memory mine from) ≡ response_in w.memory mine → 1 ≤ seq_of w.memory mine
+          → (b : Atomic S I) × Shows later b × AcceptsAll object a acts b
+      ends same done responds threaded =
           let number : seq_of w.memory mine ≡ num mine = sound.numbered.seq mine threaded in
           let least : num Anchor ≤ num mine = sound.numbered.least mine (omega arith) in
           let first : 1 ≤ num Anchor = sound.numbered.first in
@@ -128,15 +129,15 @@ module _ {S I R : Type 0} (next : S → I → S) (answer : S → I → R) (w : W
           ] in
           let place : ℕ = num mine - num Anchor - 1 in
           let top : num mine ≤ last = sound.numbered.greatest mine in
-          let steps_enough : last ≤ num Anchor + calls_begun w = enough next answer w num last sound in
+          let steps_enough : last ≤ num Anchor + calls_begun w = enough object w num last sound in
           let settled = sound.values.threaded mine threaded in
           let call = own_invoked own.0 own.1 own.2 own.3 in
           let stands : slice_get (calls_at w.memory (chain w)) place ≡ Some (record { process = p; nth = own.0; inv = own.1 })
           = slice_get-calls_at w.memory num last sound.numbered sound.calls.linked (calls_begun w) Anchor mine place first (omega arith) (omega arith) ∙ call in
-          let response : response_at next answer a.start (map (λ (c : Invoked I). c.inv) (calls_at w.memory (chain w))) place ≡ settled.0.1
-          = response_at-calls_at w.memory num last sound.numbered sound.calls.linked next answer sound.values sound.calls.anchor (calls_begun w) Anchor mine place
+          let response : response_at object a.start (map (λ (c : Invoked I). c.inv) (calls_at w.memory (chain w))) place ≡ settled.0.1
+          = response_at-calls_at w.memory num last sound.numbered sound.calls.linked object sound.values sound.calls.anchor (calls_begun w) Anchor mine place
           (a.start, None) settled.0 first (omega arith) (omega arith) shows.start settled.1 in
-          finished place (moves.grows.new mine settled.0 settled.1) stands response where
+          finished place settled.1 stands response where
             agreed_is : a.agreed ≡ calls_at w.memory (chain w)
             agreed_is = sym shows.agreed ∙ calls_of-calls_at w
 
@@ -146,22 +147,22 @@ module _ {S I R : Type 0} (next : S → I → S) (answer : S → I → R) (w : W
               | inr other ↦ rw other.1 (open_at-kept (w.call q) ∙ shows.open_call q ∙ (elim (set_at-cases a.open_call p None q) [ inl h ↦ absurd (other.0 h.0) | inr h ↦ sym h.1 ]))
             ]
 
-            finished : (place : ℕ) → {v : S × Option R} → new_of m mine ≡ Some v
+            finished : (place : ℕ) → {v : S × Option R} → new_of w.memory mine ≡ Some v
                 → slice_get (calls_at w.memory (chain w)) place ≡ Some (record { process = p; nth = own.0; inv = own.1 })
-                → response_at next answer a.start (map (λ (c : Invoked I). c.inv) (calls_at w.memory (chain w))) place ≡ v.1
-                → (b : Atomic S I) × Shows later b × AcceptsAll next answer a acts b
+                → response_at object a.start (map (λ (c : Invoked I). c.inv) (calls_at w.memory (chain w))) place ≡ v.1
+                → (b : Atomic S I) × Shows later b × AcceptsAll object a acts b
             finished place {v} settled stands response =
                 let at_place : slice_get (map (λ (c : Invoked I). c.inv) (calls_at w.memory (chain w))) place ≡ Some own.1
                 = slice_get-map (λ (c : Invoked I). c.inv) (calls_at w.memory (chain w)) place ∙ ap (option_map (λ (c : Invoked I). c.inv)) stands in
-                let r : R = answer (state_after next a.start (take place (map (λ (c : Invoked I). c.inv) (calls_at w.memory (chain w))))) own.1 in
-                let is_r : response_at next answer a.start (map (λ (c : Invoked I). c.inv) (calls_at w.memory (chain w))) place ≡ Some r = rw at_place refl in
-                let told : response_in m mine ≡ Some r = rw settled (sym response ∙ is_r) in
-                let call : invoked_at m mine ≡ Some (record { process = p; nth = own.0; inv = own.1 }) = invoked_kept mine ∙ own_invoked own.0 own.1 own.2 own.3 in (
+                let r : R = object.answer (state_after object a.start (take place (map (λ (c : Invoked I). c.inv) (calls_at w.memory (chain w))))) own.1 in
+                let is_r : response_at object a.start (map (λ (c : Invoked I). c.inv) (calls_at w.memory (chain w))) place ≡ Some r = rw at_place refl in
+                let told : response_after from (beside w.memory mine from) ≡ Some r = responds ∙ rw settled (sym response ∙ is_r) in
+                let call : invoked_at w.memory mine ≡ Some (record { process = p; nth = own.0; inv = own.1 }) = own_invoked own.0 own.1 own.2 own.3 in (
                   record a { open_call = set_at a.open_call p None },
                   record { start = start_kept; agreed = calls_kept same ∙ shows.agreed; open_call = open_later; next_nth = shows.next_nth },
-                  rw (calls_kept same, set_at_same w.call p (call_after mine stage), done, drop_length (calls_of w), call, told) (
+                  rw (calls_kept same, drop_length (calls_of w), told, call) (
                     record a { open_call = set_at a.open_call p None },
-                    ((own.1, place, own_open, (ap (λ cs. slice_get cs place) agreed_is ∙ stands), (ap (λ cs. response_at next answer a.start (map (λ (c : Invoked I). c.inv) cs) place) agreed_is ∙ is_r)), refl),
+                    ((own.1, place, own_open, (ap (λ cs. slice_get cs place) agreed_is ∙ stands), (ap (λ cs. response_at object a.start (map (λ (c : Invoked I). c.inv) cs) place) agreed_is ∙ is_r)), refl),
                     refl,
                   ),
                 )
@@ -170,34 +171,34 @@ module _ {S I R : Type 0} (next : S → I → S) (answer : S → I → R) (w : W
     module _ (c : Name) (s : ℕ) (prefer : Name) (h : AtHead w.memory p c s) (past : IsPast num prefer s) (cell : (prefer ≡ mine) ⊎ IsCellOf w.memory (s % w.n) prefer)
         (at_end : after_of w.memory c ≡ None) (steps turns : ℕ → ℕ) where
       abbrev pub linked_memory : Memory S I R
-      linked_memory = written w.memory (AfterOf c) (Link (Some prefer))
+      linked_memory = memory_with w.memory (AfterOf c) (Link (Some prefer))
 
-      abbrev pub moves_link : Moves next answer w num p mine linked_memory (number_later next answer w num last sound p mine from is c s prefer h past cell at_end) (last + 1) (Some (DecideNew c s prefer))
-      moves_link = links next answer w num last sound p mine from is c s prefer h past cell at_end
+      abbrev pub moves_link : Moves object w num p mine linked_memory (number_later object w num last sound p mine from is c s prefer h past cell at_end) (last + 1) (Some (DecideNew c s prefer))
+      moves_link = links object w num last sound p mine from is c s prefer h past cell at_end
 
       abbrev pub its : (o : ℕ) × (k : ℕ) × (prefer ≡ Of o k) × Has (inv_of w.memory (Of o k))
-      its = proposed next answer w num last sound p mine from is s prefer cell
+      its = proposed object w num last sound p mine from is s prefer cell
 
       abbrev pub its_call : Invoked I
       its_call = record { process = its.0; nth = its.1; inv = its.3.0 }
 
       outside_chain : num prefer ≡ 0
-      outside_chain = outside next answer w num last sound p mine from is c s prefer h past cell at_end
+      outside_chain = outside object w num last sound p mine from is c s prefer h past cell at_end
 
-      anchor_number : number_later next answer w num last sound p mine from is c s prefer h past cell at_end Anchor ≡ num Anchor
+      anchor_number : number_later object w num last sound p mine from is c s prefer h past cell at_end Anchor ≡ num Anchor
       anchor_number = elim (numbered_last-cases num last prefer Anchor) [
         | inl same ↦ absurd (let none : num prefer ≡ 0 = outside_chain in let first : 1 ≤ num Anchor = sound.numbered.first in let e : num Anchor ≡ num prefer = ap num same.0 in omega arith)
         | inr other ↦ other.1
       ]
 
       abbrev pub linked_world : WorldOf S I R
-      linked_world = record { n = w.n; memory = linked_memory; call = set_at w.call p (call_after mine (Some (DecideNew c s prefer))); begun = w.begun; steps = steps; turns = turns }
+      linked_world = record { n = w.n; memory = linked_memory; call = set_at w.call p (call_after mine (Some (DecideNew c s prefer))); begun = w.begun; first = w.first; steps = steps; turns = turns }
 
       linked_enough : last + 1 ≤ num Anchor + calls_begun w
       linked_enough =
           let anchor = anchor_number in
-          let all : last + 1 ≤ number_later next answer w num last sound p mine from is c s prefer h past cell at_end Anchor + calls_begun w
-          = enough next answer linked_world _ (last + 1) (IsSound-moved next answer w num last sound p mine from is linked_memory _ (last + 1) (Some (DecideNew c s prefer)) moves_link steps turns) in
+          let all : last + 1 ≤ number_later object w num last sound p mine from is c s prefer h past cell at_end Anchor + calls_begun w
+          = enough object linked_world _ (last + 1) (IsSound-moved object w num last sound p mine from is linked_memory _ (last + 1) (Some (DecideNew c s prefer)) moves_link steps turns) in
           omega arith
 
       its_invoked : invoked_at w.memory prefer ≡ Some its_call
@@ -208,8 +209,8 @@ module _ {S I R : Type 0} (next : S → I → S) (answer : S → I → R) (w : W
           calls_of-calls_at linked_world
           ∙ calls_at-kept w.memory linked_memory (invoked_at-same w.memory linked_memory (λ x. refl)) (chain linked_world)
           ∙ ap (calls_at w.memory) (cells_from-link w.memory num last sound.numbered c prefer
-          (threaded_c next answer w num last sound p mine from is c s prefer h past cell at_end) at_end outside_chain
-          (nothing_after next answer w num last sound p mine from is c s prefer h past cell at_end) (calls_begun w) Anchor sound.numbered.first linked_enough)
+          (threaded_c object w num last sound p mine from is c s prefer h past cell at_end) at_end outside_chain
+          (nothing_after object w num last sound p mine from is c s prefer h past cell at_end) (calls_begun w) Anchor sound.numbered.first linked_enough)
           ∙ calls_at-append w.memory num last sound.numbered sound.calls.linked (calls_begun w) Anchor (prefer ∷ []) sound.numbered.first
           ∙ ap (λ o. calls_at w.memory (chain w) ++ option_map_or (λ (call : Invoked I). call ∷ []) o []) its_invoked
           ∙ ap (λ cs. cs ++ its_call ∷ []) (sym (calls_of-calls_at w))
@@ -232,9 +233,9 @@ module _ {S I R : Type 0} (next : S → I → S) (answer : S → I → R) (w : W
           let zero : num (Of its.0 its.1) ≡ 0 = subst (λ x. num x ≡ 0) its.2 outside_chain in
           omega arith
 
-      pub linearizes : (b : Atomic S I) × Shows linked_world b
-          × AcceptsAll next answer a (acts linked_memory _ (last + 1) (Some (DecideNew c s prefer)) moves_link steps turns) b
-      linearizes = (
+      pub linearizes : response_after from (beside w.memory mine from) ≡ None → (b : Atomic S I) × Shows linked_world b
+          × AcceptsAll object a (acts linked_memory _ (last + 1) (Some (DecideNew c s prefer)) moves_link steps turns) b
+      linearizes nothing = (
         record a { agreed = a.agreed ++ its_call ∷ [] },
         record {
           start = shows.start;
@@ -242,102 +243,102 @@ module _ {S I R : Type 0} (next : S → I → S) (answer : S → I → R) (w : W
           open_call = open_kept linked_memory _ (last + 1) (Some (DecideNew c s prefer)) moves_link steps turns (DecideNew c s prefer) refl;
           next_nth = shows.next_nth;
         },
-        rw (calls_linked, set_at_same w.call p (call_after mine (Some (DecideNew c s prefer))), drop_length-append (calls_of w) (its_call ∷ []))
+        rw (calls_linked, drop_length-append (calls_of w) (its_call ∷ []), nothing)
             (record a { agreed = a.agreed ++ its_call ∷ [] }, (its_open, its_new, refl), refl),
       )
 
     -- what is to be shown of a step that leaves this memory and this stage: the world then shows what the atomic object is after the acts
     abbrev pub Outcome : Memory S I R → Option Stage → Type 0
     Outcome m stage = let steps = set_at w.steps p (w.steps p + 1) in let turns = set_at w.turns p (w.turns p + turn_of from (w.memory (place_of w.n p mine from))) in
-        let later : WorldOf S I R = record { n = w.n; memory = m; call = set_at w.call p (call_after mine stage); begun = w.begun; steps = steps; turns = turns } in
+        let later : WorldOf S I R = record { n = w.n; memory = m; call = set_at w.call p (call_after mine stage); begun = w.begun; first = w.first; steps = steps; turns = turns } in
         (b : Atomic S I) × Shows later b
-        × AcceptsAll next answer a (map Linearize (drop (length (calls_of w)) (calls_of later)) ++ responses_of m p (Some (record { mine = mine; stage = from })) (set_at w.call p (call_after mine stage) p)) b
+        × AcceptsAll object a (map Linearize (drop (length (calls_of w)) (calls_of later)) ++ responses_of w.memory p mine (response_after from (beside w.memory mine from))) b
 
   abbrev pub SimulatesAt : (p : ℕ) → Atomic S I → Option Pending → Type 0
   SimulatesAt p a call =
-      let later = stepped next answer w p call in
-      (b : Atomic S I) × Shows later b × AcceptsAll next answer a (map Linearize (drop (length (calls_of w)) (calls_of later)) ++ responses_of later.memory p call (later.call p)) b
+      let later = world_after_step object w p call in
+      (b : Atomic S I) × Shows later b × AcceptsAll object a (map Linearize (drop (length (calls_of w)) (calls_of later)) ++ option_map_or (λ (c : Pending). responses_of w.memory p c.mine (effect_in object w p c).response) call []) b
 
   module _ (p : ℕ) (mine : Name) (a : Atomic S I) (shows : Shows w a) where
     quiet : (stage : Stage) → w.call p ≡ Some (record { mine = mine; stage = stage })
         → let place = place_of w.n p mine stage in
-        let e = effect_of next answer w.n mine stage (w.memory place) (inv_of w.memory (d_of stage)) (new_of w.memory (c_of stage)) in
-        ((x : Name) → after_of (written w.memory place e.content) x ≡ after_of w.memory x) → (k : Stage) → e.stage ≡ Some k
+        let e = effect_of object w.n mine stage (w.memory place) (beside w.memory mine stage) in
+        ((x : Name) → after_of (memory_with w.memory place e.content) x ≡ after_of w.memory x) → (k : Stage) → e.stage ≡ Some k → e.response ≡ None
         → SimulatesAt p a (Some (record { mine = mine; stage = stage }))
-    quiet stage is same k on =
+    quiet stage is same k on nothing =
         let place = place_of w.n p mine stage in
-        let e = effect_of next answer w.n mine stage (w.memory place) (inv_of w.memory (d_of stage)) (new_of w.memory (c_of stage)) in
-        let moved = leads next answer w num last sound p mine stage is stage (sound.stands p (record { mine = mine; stage = stage }) is) in
-        silent p mine stage is a shows (written w.memory place e.content) moved.0 moved.1 e.stage moved.3
-        (set_at w.steps p (w.steps p + 1)) (set_at w.turns p (w.turns p + turn_of stage (w.memory place))) same k on
+        let e = effect_of object w.n mine stage (w.memory place) (beside w.memory mine stage) in
+        let moved = leads object w num last sound p mine stage is stage (sound.stands p (record { mine = mine; stage = stage }) is) in
+        silent p mine stage is a shows (memory_with w.memory place e.content) moved.0 moved.1 e.stage moved.3
+        (set_at w.steps p (w.steps p + 1)) (set_at w.turns p (w.turns p + turn_of stage (w.memory place))) same k on nothing
 
     decides : (c : Name) (s : ℕ) (prefer : Name) → w.call p ≡ Some (record { mine = mine; stage = DecideAfter c s prefer })
         → (o : Option Name) → after_of w.memory c ≡ o → SimulatesAt p a (Some (record { mine = mine; stage = DecideAfter c s prefer }))
-    decides c s prefer is (Some d) link = quiet (DecideAfter c s prefer) is same (DecideNew c s (unwrap_or (after_of w.memory c) prefer)) refl where
-      same : (x : Name) → after_of (written w.memory (AfterOf c) (Link (decided (after_of w.memory c) (Some prefer)))) x ≡ after_of w.memory x
-      same x = elim (after_of-written w.memory c x (decided (after_of w.memory c) (Some prefer))) [
+    decides c s prefer is (Some d) link = quiet (DecideAfter c s prefer) is same (DecideNew c s (unwrap_or (after_of w.memory c) prefer)) refl refl where
+      same : (x : Name) → after_of (memory_with w.memory (AfterOf c) (Link (decision (after_of w.memory c) (Some prefer)))) x ≡ after_of w.memory x
+      same x = elim (after_of-memory_with w.memory c x (decision (after_of w.memory c) (Some prefer))) [
         | inl h ↦ h.1 ∙ (rw link refl ∙ sym link) ∙ ap (after_of w.memory) (sym h.0)
         | inr h ↦ h.1
       ]
     decides c s prefer is None at_end =
         let h = sound.stands p (record { mine = mine; stage = DecideAfter c s prefer }) is in
-        subst (λ o. Outcome p mine (DecideAfter c s prefer) is a shows (written w.memory (AfterOf c) (Link (decided o (Some prefer)))) (Some (DecideNew c s (unwrap_or o prefer)))) (sym at_end)
+        subst (λ o. Outcome p mine (DecideAfter c s prefer) is a shows (memory_with w.memory (AfterOf c) (Link (decision o (Some prefer)))) (Some (DecideNew c s (unwrap_or o prefer)))) (sym at_end)
         (linearizes p mine (DecideAfter c s prefer) is a shows c s prefer h.0 h.1 h.2 at_end
-        (set_at w.steps p (w.steps p + 1)) (set_at w.turns p (w.turns p + 0)))
+        (set_at w.steps p (w.steps p + 1)) (set_at w.turns p (w.turns p + 0)) refl)
 
     finishing : (s t : ℕ) → w.call p ≡ Some (record { mine = mine; stage = Finish s t }) → SimulatesAt p a (Some (record { mine = mine; stage = Finish s t }))
     finishing s t is =
         let h = sound.stands p (record { mine = mine; stage = Finish s t }) is in
         let place = place_of w.n p mine (Finish s t) in
-        let e = effect_of next answer w.n mine (Finish s t) (w.memory place) (inv_of w.memory Anchor) (new_of w.memory Anchor) in
-        let moved = leads next answer w num last sound p mine (Finish s t) is (Finish s t) h in
-        ends p mine (Finish s t) is a shows (written w.memory place e.content) moved.0 moved.1 e.stage moved.3
-        (set_at w.steps p (w.steps p + 1)) (set_at w.turns p (w.turns p + 0)) (λ x. refl) refl (subst (λ k. 1 ≤ k) (sym h.2) h.1)
+        let e = effect_of object w.n mine (Finish s t) (w.memory place) (beside w.memory mine (Finish s t)) in
+        let moved = leads object w num last sound p mine (Finish s t) is (Finish s t) h in
+        ends p mine (Finish s t) is a shows (memory_with w.memory place e.content) moved.0 moved.1 e.stage moved.3
+        (set_at w.steps p (w.steps p + 1)) (set_at w.turns p (w.turns p + 0)) (λ x. refl) refl refl (subst (λ k. 1 ≤ k) (sym h.2) h.1)
 
     simulates : (stage : Stage) → w.call p ≡ Some (record { mine = mine; stage = stage }) → SimulatesAt p a (Some (record { mine = mine; stage = stage }))
-    simulates Announce is = quiet Announce is (λ x. refl) _ refl
-    simulates (ScanHead q best s) is = quiet (ScanHead q best s) is (λ x. refl) _ refl
-    simulates (ScanSeq q best s y) is = quiet (ScanSeq q best s y) is (λ x. refl) _ refl
-    simulates (WriteScan best s) is = quiet (WriteScan best s) is (λ x. refl) _ refl
-    simulates (Test c s) is = quiet (Test c s) is (λ x. refl) _ refl
-    simulates (ReadAnnounce c s) is = quiet (ReadAnnounce c s) is (λ x. refl) _ refl
-    simulates (ReadHelpSeq c s help) is = quiet (ReadHelpSeq c s help) is (λ x. refl) _ refl
+    simulates Announce is = quiet Announce is (λ x. refl) _ refl refl
+    simulates (ScanHead q best s) is = quiet (ScanHead q best s) is (λ x. refl) _ refl refl
+    simulates (ScanSeq q best s y) is = quiet (ScanSeq q best s y) is (λ x. refl) _ refl refl
+    simulates (WriteScan best s) is = quiet (WriteScan best s) is (λ x. refl) _ refl refl
+    simulates (Test c s) is = quiet (Test c s) is (λ x. refl) _ refl refl
+    simulates (ReadAnnounce c s) is = quiet (ReadAnnounce c s) is (λ x. refl) _ refl refl
+    simulates (ReadHelpSeq c s help) is = quiet (ReadHelpSeq c s help) is (λ x. refl) _ refl refl
     simulates (DecideAfter c s prefer) is = decides c s prefer is (after_of w.memory c) refl
-    simulates (DecideNew c s d) is = quiet (DecideNew c s d) is (λ x. refl) _ refl
-    simulates (WriteBefore c s d) is = quiet (WriteBefore c s d) is (λ x. refl) _ refl
-    simulates (WriteSeq c s d) is = quiet (WriteSeq c s d) is (λ x. refl) _ refl
-    simulates (WriteHead c s d) is = quiet (WriteHead c s d) is (λ x. refl) _ refl
+    simulates (DecideNew c s d) is = quiet (DecideNew c s d) is (λ x. refl) _ refl refl
+    simulates (WriteBefore c s d) is = quiet (WriteBefore c s d) is (λ x. refl) _ refl refl
+    simulates (WriteSeq c s d) is = quiet (WriteSeq c s d) is (λ x. refl) _ refl refl
+    simulates (WriteHead c s d) is = quiet (WriteHead c s d) is (λ x. refl) _ refl refl
     simulates (Finish s t) is = finishing s t is
 
     -- the atomic object accepts the acts of a step
     pub step_accepted : (stage : Stage) → w.call p ≡ Some (record { mine = mine; stage = stage })
-        → (b : Atomic S I) × Shows (happened next answer w (Step p)) b × AcceptsAll next answer a (acts_of next answer w (Step p)) b
+        → (b : Atomic S I) × Shows (world_after object w (Step p)) b × AcceptsAll object a (acts_of object w (Step p)) b
     step_accepted stage is = subst (λ o. SimulatesAt p a o) (sym is) (simulates stage is)
 
   module _ (p : ℕ) (i : I) (inside : p < w.n) (idle : w.call p ≡ None) (a : Atomic S I) (shows : Shows w a) where
     abbrev pub begun_memory : Memory S I R
-    begun_memory = written w.memory (InvOf (Of p (w.begun p))) (Invocation (Some i))
+    begun_memory = memory_with w.memory (InvOf (Of p (w.begun p))) (Invocation (Some i))
 
     -- cells other than the new one keep their calls
     invoked_elsewhere : (x : Name) → x ≢ Of p (w.begun p) → invoked_at begun_memory x ≡ invoked_at w.memory x
     invoked_elsewhere Anchor apart = refl
-    invoked_elsewhere (Of q k) apart = elim (inv_of-written w.memory (Of p (w.begun p)) (Of q k) (Some i)) [
+    invoked_elsewhere (Of q k) apart = elim (inv_of-memory_with w.memory (Of p (w.begun p)) (Of q k) (Some i)) [
       | inl h ↦ absurd (apart h.0)
       | inr h ↦ ap (option_map (λ (j : I). record { process = q; nth = k; inv = j })) h.1
     ]
 
     invoked_new : invoked_at begun_memory (Of p (w.begun p)) ≡ Some (record { process = p; nth = w.begun p; inv = i })
-    invoked_new = elim (inv_of-written w.memory (Of p (w.begun p)) (Of p (w.begun p)) (Some i)) [ inl h ↦ rw h.1 refl | inr h ↦ absurd (h.0 refl) ]
+    invoked_new = elim (inv_of-memory_with w.memory (Of p (w.begun p)) (Of p (w.begun p)) (Some i)) [ inl h ↦ rw h.1 refl | inr h ↦ absurd (h.0 refl) ]
 
     invoked_linked : (x : Name) → 1 ≤ num x → invoked_at begun_memory x ≡ invoked_at w.memory x
-    invoked_linked x linked = invoked_elsewhere x (λ same. let e : num x ≡ num (Of p (w.begun p)) = ap num same in let none = not_linked next answer w num last sound p i inside idle in omega arith)
+    invoked_linked x linked = invoked_elsewhere x (λ same. let e : num x ≡ num (Of p (w.begun p)) = ap num same in let none = not_linked object w num last sound p i inside idle in omega arith)
 
-    calls_same : calls_of (call_begun w p i) ≡ calls_of w
+    calls_same : calls_of (world_after_call w p i) ≡ calls_of w
     calls_same =
-        calls_of-calls_at (call_begun w p i)
-        ∙ ap (calls_at begun_memory) (cells_from-same w.memory begun_memory (λ x. refl) (calls_begun (call_begun w p i)) Anchor)
-        ∙ ap (calls_at begun_memory) (cells_from-enough w.memory num last sound.numbered (calls_begun (call_begun w p i)) (calls_begun w) Anchor
-        (enough next answer (call_begun w p i) num last (IsSound-begun next answer w num last sound p i inside idle)) (enough next answer w num last sound))
+        calls_of-calls_at (world_after_call w p i)
+        ∙ ap (calls_at begun_memory) (cells_from-same w.memory begun_memory (λ x. refl) (calls_begun (world_after_call w p i)) Anchor)
+        ∙ ap (calls_at begun_memory) (cells_from-enough w.memory num last sound.numbered (calls_begun (world_after_call w p i)) (calls_begun w) Anchor
+        (enough object (world_after_call w p i) num last (IsSound-begun object w num last sound p i inside idle)) (enough object w num last sound))
         ∙ calls_at-same w.memory num last sound.numbered begun_memory invoked_linked (calls_begun w) Anchor
         ∙ sym (calls_of-calls_at w)
 
@@ -349,7 +350,7 @@ module _ {S I R : Type 0} (next : S → I → S) (answer : S → I → R) (w : W
         (invoked_elsewhere c.mine (λ same. apart (let name = its.2 in cc)))
 
     -- the atomic object accepts a call that is begun
-    pub call_accepted : (b : Atomic S I) × Shows (call_begun w p i) b × AcceptsAll next answer a (acts_of next answer w (Call p i)) b
+    pub call_accepted : (b : Atomic S I) × Shows (world_after_call w p i) b × AcceptsAll object a (acts_of object w (Call p i)) b
     call_accepted =
         let b : Atomic S I = record a { open_call = set_at a.open_call p (Some (record { nth = w.begun p; inv = i })); next_nth = set_at a.next_nth p (w.begun p + 1) } in (
           b,

@@ -2,24 +2,25 @@
 use Rattle.std.proofs.Common.{◌≡◌, ◌∙◌, ℕ, ◌+◌, ◌-◌, ◌<◌, ◌≤◌, inl, inr, refl, sym, ap, subst, List, [], ◌∷◌, length, slice_get, Contains, Option, Some, None, arith, Bool, true, false, cond}
 use Rattle.std.proofs.lemmas.Bool.{cases_lt}
 use Rattle.std.proofs.lemmas.Option.{slice_get_within, get_or_from_slice_get}
+use Rattle.seq_object.specs.Sequential.{Sequential}
 use Rattle.uni_model.specs.Places.{Name, name_eq, seq_of}
 use Rattle.uni_model.specs.Places.Name.{Anchor, Of}
 use Rattle.uni_model.specs.Stages.{Stage, Pending}
 use Rattle.uni_model.specs.Stages.Stage.{Announce}
-use Rattle.uni_model.specs.Worlds.{WorldOf, Event, chain, calls_begun, stepped, opened, happened, replayed, AreAccepted}
+use Rattle.uni_model.specs.Worlds.{WorldOf, Event, chain, calls_begun, world_after_step, opened_world, world_after, world_after_all, AreAccepted}
 use Rattle.uni_model.specs.Worlds.Event.{Call, Step, Trim}
 use Rattle.uni_model.specs.Frontier.{frontier, announces, announces_at, floor_of}
 use Rattle.uni_model.specs.Bound.{CountsSteps}
 use Rattle.uni_model.specs.Helping.{HelpingInvariant}
-use Rattle.uni_model.specs.Floored.{FloorInvariant}
+use Rattle.uni_model.proofs.Floored.{FloorInvariant}
 use Rattle.uni_model.specs.Laws.{IsLinkedSoon, LinksSoon}
 use Rattle.uni_model.proofs.Written.{name_eq_true}
 use Rattle.uni_model.proofs.Chains.{number_at, slice_get-cells_from, length-cells_from}
 use Rattle.uni_model.proofs.FloorStep.{last-le}
 use Rattle.uni_model.proofs.Simulation.{enough}
-use Rattle.uni_model.proofs.Counted.{CountsSteps-opened, CountsSteps-happened}
-use Rattle.uni_model.proofs.Bounded.{HelpingInvariant-opened, HelpingInvariant-happened}
-use Rattle.uni_model.proofs.Floors.{FloorInvariant-announced, FloorInvariant-replayed}
+use Rattle.uni_model.proofs.Counted.{CountsSteps-opened_world, CountsSteps-world_after}
+use Rattle.uni_model.proofs.Bounded.{HelpingInvariant-opened_world, HelpingInvariant-world_after}
+use Rattle.uni_model.proofs.Floors.{FloorInvariant-announced, FloorInvariant-world_after_all}
 
 announces_at_true : (same : Bool) (stage : Stage) → announces_at same stage ≡ true → (stage ≡ Announce) × (same ≡ true)
 announces_at_true same Announce e = (refl, e)
@@ -35,14 +36,14 @@ announces_true x (Some c) e =
 Contains-slice_get : {A : Type 0} (xs : List A) (place : ℕ) (x : A) → slice_get xs place ≡ Some x → Contains xs x
 Contains-slice_get xs place x e = (place, slice_get_within xs place x e, get_or_from_slice_get xs place x x e)
 
-module _ {S I R : Type 0} (next : S → I → S) (answer : S → I → R) where
-  IsLinkedSoon-held : (w : WorldOf S I R) (p k floor : ℕ) → FloorInvariant next answer w p k floor → IsLinkedSoon w p k floor
+module _ {S I R : Type 0} (object : Sequential S I R) where
+  IsLinkedSoon-held : (w : WorldOf S I R) (p k floor : ℕ) → FloorInvariant object w p k floor → IsLinkedSoon w p k floor
   IsLinkedSoon-held w p k floor inv =
       let num = inv.0.0 in
       let last = inv.0.1 in
       let numbered = inv.0.2.numbered in
       let anchor : num Anchor ≡ seq_of w.memory Anchor = numbered.anchor in
-      let long_enough : last ≤ num Anchor + calls_begun w = enough next answer w num last inv.0.2 in
+      let long_enough : last ≤ num Anchor + calls_begun w = enough object w num last inv.0.2 in
       record {
         linked = λ place e.
             let number : num (Of p k) ≡ num Anchor + (place + 1) = number_at w.memory num last numbered (calls_begun w) Anchor (Of p k) place e in
@@ -68,23 +69,23 @@ module _ {S I R : Type 0} (next : S → I → S) (answer : S → I → R) where
       }
 
   -- a call with a floor has it in the world that is reached
-  pub FloorInvariant-floor : (w : WorldOf S I R) (es : List (Event I)) → AreAccepted next answer w es → CountsSteps w → HelpingInvariant next answer w
-      → (p k floor : ℕ) → floor_of next answer (Of p k) w es ≡ Some floor → FloorInvariant next answer (replayed next answer w es) p k floor
+  pub FloorInvariant-floor : (w : WorldOf S I R) (es : List (Event I)) → AreAccepted object w es → CountsSteps w → HelpingInvariant object w
+      → (p k floor : ℕ) → floor_of object (Of p k) w es ≡ Some floor → FloorInvariant object (world_after_all object w es) p k floor
   FloorInvariant-floor w [] ok counts inv p k floor e = cc
   FloorInvariant-floor w (Call o i ∷ es) ok counts inv p k floor e =
-      FloorInvariant-floor (happened next answer w (Call o i)) es ok.1 (CountsSteps-happened next answer w (Call o i) ok.0 (inv.0, inv.1, inv.2) counts)
-      (HelpingInvariant-happened next answer w (Call o i) ok.0 counts inv) p k floor e
+      FloorInvariant-floor (world_after object w (Call o i)) es ok.1 (CountsSteps-world_after object w (Call o i) ok.0 (inv.0, inv.1, inv.2) counts)
+      (HelpingInvariant-world_after object w (Call o i) ok.0 counts inv) p k floor e
   FloorInvariant-floor w (Trim ∷ es) ok counts inv p k floor e =
-      FloorInvariant-floor (happened next answer w Trim) es ok.1 (CountsSteps-happened next answer w Trim ok.0 (inv.0, inv.1, inv.2) counts)
-      (HelpingInvariant-happened next answer w Trim ok.0 counts inv) p k floor e
+      FloorInvariant-floor (world_after object w Trim) es ok.1 (CountsSteps-world_after object w Trim ok.0 (inv.0, inv.1, inv.2) counts)
+      (HelpingInvariant-world_after object w Trim ok.0 counts inv) p k floor e
   FloorInvariant-floor w (Step o ∷ es) ok counts inv p k floor e =
-      let counts' : CountsSteps (happened next answer w (Step o)) = CountsSteps-happened next answer w (Step o) ok.0 (inv.0, inv.1, inv.2) counts in
-      by_test counts' (λ f. FloorInvariant-floor (happened next answer w (Step o)) es ok.1 counts' (HelpingInvariant-happened next answer w (Step o) ok.0 counts inv) p k floor f)
+      let counts' : CountsSteps (world_after object w (Step o)) = CountsSteps-world_after object w (Step o) ok.0 (inv.0, inv.1, inv.2) counts in
+      by_test counts' (λ f. FloorInvariant-floor (world_after object w (Step o)) es ok.1 counts' (HelpingInvariant-world_after object w (Step o) ok.0 counts inv) p k floor f)
       (announces (Of p k) (w.call o)) refl e where
-        by_test : CountsSteps (happened next answer w (Step o))
-            → (floor_of next answer (Of p k) (happened next answer w (Step o)) es ≡ Some floor → FloorInvariant next answer (replayed next answer (happened next answer w (Step o)) es) p k floor)
-            → (b : Bool) → announces (Of p k) (w.call o) ≡ b → cond b (Some (frontier w)) (floor_of next answer (Of p k) (happened next answer w (Step o)) es) ≡ Some floor
-            → FloorInvariant next answer (replayed next answer (happened next answer w (Step o)) es) p k floor
+        by_test : CountsSteps (world_after object w (Step o))
+            → (floor_of object (Of p k) (world_after object w (Step o)) es ≡ Some floor → FloorInvariant object (world_after_all object (world_after object w (Step o)) es) p k floor)
+            → (b : Bool) → announces (Of p k) (w.call o) ≡ b → cond b (Some (frontier w)) (floor_of object (Of p k) (world_after object w (Step o)) es) ≡ Some floor
+            → FloorInvariant object (world_after_all object (world_after object w (Step o)) es) p k floor
         by_test counts' rest false announcing f = rest f
         by_test counts' rest true announcing f =
             let pending : w.call o ≡ Some (record { mine = Of p k; stage = Announce }) = announces_true (Of p k) (w.call o) announcing in
@@ -93,14 +94,14 @@ module _ {S I R : Type 0} (next : S → I → S) (answer : S → I → R) where
             let here : o ≡ p = (let g = name in cc) in
             let same : frontier w ≡ floor = (let g = f in cc) in
             let at_p : w.call p ≡ Some (record { mine = Of p k; stage = Announce }) = ap w.call (sym here) ∙ pending in
-            let now : FloorInvariant next answer (stepped next answer w p (Some (record { mine = Of p k; stage = Announce }))) p k (frontier w) = FloorInvariant-announced next answer w p k at_p counts inv in
-            let after : FloorInvariant next answer (happened next answer w (Step o)) p k floor
-            = subst (λ r. FloorInvariant next answer (happened next answer w (Step r)) p k floor) (sym here)
-            (subst (λ j. FloorInvariant next answer (stepped next answer w p (w.call p)) p k j) same
-            (subst (λ call. FloorInvariant next answer (stepped next answer w p call) p k (frontier w)) (sym at_p) now)) in
-            FloorInvariant-replayed next answer (happened next answer w (Step o)) es ok.1 counts' p k floor after
+            let now : FloorInvariant object (world_after_step object w p (Some (record { mine = Of p k; stage = Announce }))) p k (frontier w) = FloorInvariant-announced object w p k at_p counts inv in
+            let after : FloorInvariant object (world_after object w (Step o)) p k floor
+            = subst (λ r. FloorInvariant object (world_after object w (Step r)) p k floor) (sym here)
+            (subst (λ j. FloorInvariant object (world_after_step object w p (w.call p)) p k j) same
+            (subst (λ call. FloorInvariant object (world_after_step object w p call) p k (frontier w)) (sym at_p) now)) in
+            FloorInvariant-world_after_all object (world_after object w (Step o)) es ok.1 counts' p k floor after
 
-  pub LinksSoon-holds : (n : ℕ) (start : S) (number : ℕ) (events : List (Event I)) → LinksSoon next answer n start number events
+  pub LinksSoon-holds : (n : ℕ) (start : S) (number : ℕ) (events : List (Event I)) → LinksSoon object n start number events
   LinksSoon-holds n start number events positive ok p k floor e =
-      IsLinkedSoon-held (replayed next answer (opened n start number) events) p k floor
-      (FloorInvariant-floor (opened n start number) events ok (CountsSteps-opened next answer n start number) (HelpingInvariant-opened next answer n start number positive) p k floor e)
+      IsLinkedSoon-held (world_after_all object (opened_world n start number) events) p k floor
+      (FloorInvariant-floor (opened_world n start number) events ok (CountsSteps-opened_world object n start number) (HelpingInvariant-opened_world object n start number positive) p k floor e)

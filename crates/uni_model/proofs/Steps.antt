@@ -1,23 +1,24 @@
 -- Each kind of step keeps the invariant.
 use Rattle.std.proofs.Common.{◌≡◌, ◌∙◌, ℕ, ◌+◌, ◌-◌, ◌<◌, ◌≤◌, ◌%◌, ◌⊎◌, inl, inr, refl, sym, ap, subst, Option, Some, None, arith, cond, Bool, true, false, nat_eq, nat_lt, unwrap_or, if◌then◌else◌}
 use Rattle.std.proofs.lemmas.Bool.{cases_lt}
-use Rattle.uni_model.specs.Places.{Name, Place, Content, written, head_of, head_seq, announced, seq_of, after_of, new_of, before_of, inv_of, link_in, settled_in}
+use Rattle.seq_object.specs.Sequential.{Sequential}
+use Rattle.uni_model.specs.Places.{Name, Place, Content, memory_with, head_of, head_seq, announce_of, seq_of, after_of, new_of, before_of, inv_of, link_in, settled_in}
 use Rattle.uni_model.specs.Places.Name.{Anchor, Of}
 use Rattle.uni_model.specs.Places.Place.{Announced, HeadOf, SeqOf, AfterOf, NewOf, BeforeOf}
 use Rattle.uni_model.specs.Places.Content.{CellName, Invocation, Number, Link, Settled}
 use Rattle.uni_model.specs.Stages.{Stage, Pending}
 use Rattle.uni_model.specs.Stages.Stage.{Announce, ScanHead, ScanSeq, WriteScan, Test, ReadAnnounce, ReadHelpSeq, DecideAfter, DecideNew, WriteBefore, WriteSeq, WriteHead, Finish}
-use Rattle.uni_model.specs.Transition.{place_of, effect_of, decided, applied, scanned, better, c_of, d_of}
+use Rattle.uni_model.specs.Transition.{place_of, effect_of, decision, value_after, stage_after_scan, best_of, beside}
 use Rattle.uni_model.specs.Worlds.{WorldOf, sum_below}
 use Rattle.uni_model.specs.Invariant.{Has, HasBest, AtHead, IsPast, IsCellOf, Stands, IsSound, can_be_linked}
-use Rattle.uni_model.proofs.Written.{number_cases, head_of-written, announced-written, written_same, lt_cases, after_of-written, seq_of-written, new_of-written, before_of-written}
+use Rattle.uni_model.proofs.Written.{number_cases, head_of-memory_with, announce_of-memory_with, written_same, lt_cases, after_of-memory_with, seq_of-memory_with, new_of-memory_with, before_of-memory_with}
 use Rattle.uni_model.specs.Settled.{Grows}
 use Rattle.uni_model.proofs.Sums.{sum_below-lt}
 use Rattle.uni_model.proofs.Numbered.{IsPast-threaded, IsNumbered-seq, IsNumbered-link, end_number, numbered_last, numbered_last-cases}
 use Rattle.uni_model.proofs.Values.{Grows-seq, HasValues-seq, LeadsBack-seq, Grows-link, HasValues-link, LeadsBack-link, Grows-new, HasValues-new, Grows-before, LeadsBack-before, not_anchor}
 use Rattle.uni_model.proofs.Moves.{Moves, StandsNext, Extends}
 
-module _ {S I R : Type 0} (next : S → I → S) (answer : S → I → R) (w : WorldOf S I R) (num : Name → ℕ) (last : ℕ) (sound : IsSound next answer w num last)
+module _ {S I R : Type 0} (object : Sequential S I R) (w : WorldOf S I R) (num : Name → ℕ) (last : ℕ) (sound : IsSound object w num last)
     (p : ℕ) (mine : Name) (from : Stage) (is : w.call p ≡ Some (record { mine = mine; stage = from })) where
   inside : p < w.n
   inside = sound.calls.process p (record { mine = mine; stage = from }) is
@@ -27,7 +28,7 @@ module _ {S I R : Type 0} (next : S → I → S) (answer : S → I → R) (w : W
   threaded_head = sound.calls.head p inside
 
   -- a step that changes no place
-  still : (stage : Option Stage) → StandsNext w.memory num w.n p mine stage → Moves next answer w num p mine w.memory num last stage
+  still : (stage : Option Stage) → StandsNext w.memory num w.n p mine stage → Moves object w num p mine w.memory num last stage
   still stage stands = record {
     numbered = sound.numbered;
     values = sound.values;
@@ -44,8 +45,8 @@ module _ {S I R : Type 0} (next : S → I → S) (answer : S → I → R) (w : W
   }
 
   -- p's head becomes a threaded cell
-  heads : (x : Name) → 1 ≤ seq_of w.memory x → (stage : Option Stage) → StandsNext (written w.memory (HeadOf p) (CellName x)) num w.n p mine stage
-      → Moves next answer w num p mine (written w.memory (HeadOf p) (CellName x)) num last stage
+  heads : (x : Name) → 1 ≤ seq_of w.memory x → (stage : Option Stage) → StandsNext (memory_with w.memory (HeadOf p) (CellName x)) num w.n p mine stage
+      → Moves object w num p mine (memory_with w.memory (HeadOf p) (CellName x)) num last stage
   heads x threaded stage stands = record {
     numbered = record {
       anchor = sound.numbered.anchor;
@@ -68,8 +69,8 @@ module _ {S I R : Type 0} (next : S → I → S) (answer : S → I → R) (w : W
     back = record { link = sound.back.link; threaded = sound.back.threaded };
     grows = record { seq = λ y h. refl; after = λ y z e. e; new = λ y v e. e; before = λ y z e. e; inv = λ y i e. e };
     numbers = λ y. inl refl;
-    heads = λ q other. elim (head_of-written w.memory p q x) [ inl h ↦ absurd (other h.0) | inr h ↦ h.1 ];
-    head = elim (head_of-written w.memory p p x) [ inl h ↦ subst (λ y. 1 ≤ seq_of w.memory y) (sym h.1) threaded | inr h ↦ absurd (h.0 refl) ];
+    heads = λ q other. elim (head_of-memory_with w.memory p q x) [ inl h ↦ absurd (other h.0) | inr h ↦ h.1 ];
+    head = elim (head_of-memory_with w.memory p p x) [ inl h ↦ subst (λ y. 1 ≤ seq_of w.memory y) (sym h.1) threaded | inr h ↦ absurd (h.0 refl) ];
     announced = λ q. inl refl;
     inv = λ y. refl;
     linked = sound.calls.linked;
@@ -77,11 +78,11 @@ module _ {S I R : Type 0} (next : S → I → S) (answer : S → I → R) (w : W
     count = sound.count;
   }
 
-  pub head_of-own : (x : Name) → head_of (written w.memory (HeadOf p) (CellName x)) p ≡ x
-  head_of-own x = elim (head_of-written w.memory p p x) [ inl h ↦ h.1 | inr h ↦ absurd (h.0 refl) ]
+  pub head_of-own : (x : Name) → head_of (memory_with w.memory (HeadOf p) (CellName x)) p ≡ x
+  head_of-own x = elim (head_of-memory_with w.memory p p x) [ inl h ↦ h.1 | inr h ↦ absurd (h.0 refl) ]
 
   -- p announces its cell
-  announces : Moves next answer w num p mine (written w.memory (Announced p) (CellName mine)) num last (Some (ScanHead 0 Anchor 0))
+  announces : Moves object w num p mine (memory_with w.memory (Announced p) (CellName mine)) num last (Some (ScanHead 0 Anchor 0))
   announces = record {
     numbered = record {
       anchor = sound.numbered.anchor;
@@ -106,7 +107,7 @@ module _ {S I R : Type 0} (next : S → I → S) (answer : S → I → R) (w : W
     numbers = λ y. inl refl;
     heads = λ q other. refl;
     head = threaded_head;
-    announced = λ q. elim (announced-written w.memory p q mine) [ inl h ↦ inr (h.0, h.1) | inr h ↦ inl h.1 ];
+    announced = λ q. elim (announce_of-memory_with w.memory p q mine) [ inl h ↦ inr (h.0, h.1) | inr h ↦ inl h.1 ];
     inv = λ y. refl;
     linked = sound.calls.linked;
     stands = (omega (arith, inside), inl (refl, refl));
@@ -115,7 +116,7 @@ module _ {S I R : Type 0} (next : S → I → S) (answer : S → I → R) (w : W
 
   -- what the scan stands at after it has compared the number of one more head
   scans_on : (q : ℕ) (best : Name) (s : ℕ) (h : Name) → HasBest w.memory q best s → 1 ≤ seq_of w.memory h
-      → StandsNext w.memory num w.n p mine (Some (scanned w.n q best s h (seq_of w.memory h)))
+      → StandsNext w.memory num w.n p mine (Some (stage_after_scan w.n q best s h (seq_of w.memory h)))
   scans_on q best s h has threaded = on (better_stands (nat_lt s (seq_of w.memory h)) refl) where
     better_stands : (b : Bool) → nat_lt s (seq_of w.memory h) ≡ b
         → (1 ≤ cond b (seq_of w.memory h) s) × (seq_of w.memory (cond b h best) ≡ cond b (seq_of w.memory h) s)
@@ -125,8 +126,8 @@ module _ {S I R : Type 0} (next : S → I → S) (answer : S → I → R) (w : W
       | inr some ↦ some
     ]
 
-    on : (1 ≤ better s (seq_of w.memory h) (seq_of w.memory h) s) × (seq_of w.memory (better s (seq_of w.memory h) h best) ≡ better s (seq_of w.memory h) (seq_of w.memory h) s)
-        → StandsNext w.memory num w.n p mine (Some (scanned w.n q best s h (seq_of w.memory h)))
+    on : (1 ≤ best_of s (seq_of w.memory h) (seq_of w.memory h) s) × (seq_of w.memory (best_of s (seq_of w.memory h) h best) ≡ best_of s (seq_of w.memory h) (seq_of w.memory h) s)
+        → StandsNext w.memory num w.n p mine (Some (stage_after_scan w.n q best s h (seq_of w.memory h)))
     on found = elim (lt_cases (q + 1) w.n) [
       | inl more ↦ rw more.1 (more.0, inr found)
       | inr done ↦ rw done.1 found
@@ -153,7 +154,7 @@ module _ {S I R : Type 0} (next : S → I → S) (answer : S → I → R) (w : W
   ]
 
   reads_announce : (c : Name) (s : ℕ) → AtHead w.memory p c s → IsPast num mine s
-      → StandsNext w.memory num w.n p mine (Some (ReadHelpSeq c s (announced w.memory (s % w.n))))
+      → StandsNext w.memory num w.n p mine (Some (ReadHelpSeq c s (announce_of w.memory (s % w.n))))
   reads_announce c s h past = (h, past, sound.calls.announced (s % w.n) (let below = inside in omega arith))
 
   prefers : (c : Name) (s : ℕ) (help : Name) → AtHead w.memory p c s → IsPast num mine s → (help ≡ Anchor) ⊎ IsCellOf w.memory (s % w.n) help
@@ -242,10 +243,10 @@ module _ {S I R : Type 0} (next : S → I → S) (answer : S → I → R) (w : W
           | inr some ↦ absurd (some.0 zero)
         ])
 
-    pub links : Moves next answer w num p mine (written w.memory (AfterOf c) (Link (Some prefer))) number_later (last + 1) (Some (DecideNew c s prefer))
+    pub links : Moves object w num p mine (memory_with w.memory (AfterOf c) (Link (Some prefer))) number_later (last + 1) (Some (DecideNew c s prefer))
     links = record {
       numbered = IsNumbered-link w.memory num last sound.numbered c prefer threaded_c at_end outside nothing_after;
-      values = HasValues-link w.memory c prefer at_end next answer num last outside sound.values;
+      values = HasValues-link w.memory c prefer at_end object num last outside sound.values;
       back = LeadsBack-link w.memory c prefer at_end sound.back;
       grows = Grows-link w.memory c prefer at_end;
       numbers = λ x. elim (numbered_last-cases num last prefer x) [
@@ -282,8 +283,8 @@ module _ {S I R : Type 0} (next : S → I → S) (answer : S → I → R) (w : W
           ]) in
           omega arith;
     } where
-      own_link : after_of (written w.memory (AfterOf c) (Link (Some prefer))) c ≡ Some prefer
-      own_link = elim (after_of-written w.memory c c (Some prefer)) [ inl e ↦ e.1 | inr e ↦ absurd (e.0 refl) ]
+      own_link : after_of (memory_with w.memory (AfterOf c) (Link (Some prefer))) c ≡ Some prefer
+      own_link = elim (after_of-memory_with w.memory c c (Some prefer)) [ inl e ↦ e.1 | inr e ↦ absurd (e.0 refl) ]
 
   module _ (c : Name) (s : ℕ) (d : Name) (h : AtHead w.memory p c s) (link : after_of w.memory c ≡ Some d) where
     -- d is the cell of a call
@@ -298,7 +299,7 @@ module _ {S I R : Type 0} (next : S → I → S) (answer : S → I → R) (w : W
 
     -- the value that is settled in d
     settles : (u : S × Option R) (i : I) → new_of w.memory c ≡ Some u → inv_of w.memory d ≡ Some i → new_of w.memory d ≡ None
-        → Moves next answer w num p mine (written w.memory (NewOf d) (Settled (Some (next u.0 i, Some (answer u.0 i))))) num last (Some (WriteBefore c s d))
+        → Moves object w num p mine (memory_with w.memory (NewOf d) (Settled (Some (object.next u.0 i, Some (object.answer u.0 i))))) num last (Some (WriteBefore c s d))
     settles u i settled inv unsettled = record {
       numbered = record {
         anchor = sound.numbered.anchor;
@@ -311,7 +312,7 @@ module _ {S I R : Type 0} (next : S → I → S) (answer : S → I → R) (w : W
         seq = sound.numbered.seq;
         threaded = sound.numbered.threaded;
       };
-      values = HasValues-new w.memory d _ unsettled next answer num last sound.numbered sound.values c link u i settled inv refl;
+      values = HasValues-new w.memory d _ unsettled object num last sound.numbered sound.values c link u i settled inv refl;
       back = record { link = sound.back.link; threaded = sound.back.threaded };
       grows = Grows-new w.memory d _ unsettled;
       numbers = λ x. inl refl;
@@ -323,11 +324,11 @@ module _ {S I R : Type 0} (next : S → I → S) (answer : S → I → R) (w : W
       stands = (record { head = h.head; seq = h.seq }, link, own);
       count = sound.count;
     } where
-      own : Has (new_of (written w.memory (NewOf d) (Settled (Some (next u.0 i, Some (answer u.0 i))))) d)
-      own = elim (new_of-written w.memory d d (Some (next u.0 i, Some (answer u.0 i)))) [ inl e ↦ (_, e.1) | inr e ↦ absurd (e.0 refl) ]
+      own : Has (new_of (memory_with w.memory (NewOf d) (Settled (Some (object.next u.0 i, Some (object.answer u.0 i))))) d)
+      own = elim (new_of-memory_with w.memory d d (Some (object.next u.0 i, Some (object.answer u.0 i)))) [ inl e ↦ (_, e.1) | inr e ↦ absurd (e.0 refl) ]
 
     -- the way back is written
-    leads_back : Has (new_of w.memory d) → Moves next answer w num p mine (written w.memory (BeforeOf d) (Link (Some c))) num last (Some (WriteSeq c s d))
+    leads_back : Has (new_of w.memory d) → Moves object w num p mine (memory_with w.memory (BeforeOf d) (Link (Some c))) num last (Some (WriteSeq c s d))
     leads_back settled = record {
       numbered = record {
         anchor = sound.numbered.anchor;
@@ -358,15 +359,15 @@ module _ {S I R : Type 0} (next : S → I → S) (answer : S → I → R) (w : W
       stands = (record { head = h.head; seq = h.seq }, link, settled, own);
       count = sound.count;
     } where
-      own : before_of (written w.memory (BeforeOf d) (Link (Some c))) d ≡ Some c
-      own = elim (before_of-written w.memory d d (Some c)) [ inl e ↦ e.1 | inr e ↦ absurd (e.0 refl) ]
+      own : before_of (memory_with w.memory (BeforeOf d) (Link (Some c))) d ≡ Some c
+      own = elim (before_of-memory_with w.memory d d (Some c)) [ inl e ↦ e.1 | inr e ↦ absurd (e.0 refl) ]
 
     -- the number of d is written
     numbers_d : Has (new_of w.memory d) → before_of w.memory d ≡ Some c
-        → Moves next answer w num p mine (written w.memory (SeqOf d) (Number (s + 1))) num last (Some (WriteHead c s d))
+        → Moves object w num p mine (memory_with w.memory (SeqOf d) (Number (s + 1))) num last (Some (WriteHead c s d))
     numbers_d settled back = record {
       numbered = IsNumbered-seq w.memory num last sound.numbered d (s + 1) (number_after c d s h link);
-      values = HasValues-seq w.memory d (s + 1) next answer num sound.values settled;
+      values = HasValues-seq w.memory d (s + 1) object num sound.values settled;
       back = LeadsBack-seq w.memory d (s + 1) sound.back (c, back);
       grows = grows;
       numbers = λ x. inl refl;
@@ -378,26 +379,26 @@ module _ {S I R : Type 0} (next : S → I → S) (answer : S → I → R) (w : W
       stands = (record { head = h.head; seq = grows.seq c (head_number c s h).0 ∙ h.seq }, link, own);
       count = sound.count;
     } where
-      grows : Grows w.memory (written w.memory (SeqOf d) (Number (s + 1)))
+      grows : Grows w.memory (memory_with w.memory (SeqOf d) (Number (s + 1)))
       grows = Grows-seq w.memory d (s + 1) (λ threaded. sound.numbered.seq d threaded ∙ number_after c d s h link)
 
-      own : seq_of (written w.memory (SeqOf d) (Number (s + 1))) d ≡ s + 1
-      own = elim (seq_of-written w.memory d d (s + 1)) [ inl e ↦ e.1 | inr e ↦ absurd (e.0 refl) ]
+      own : seq_of (memory_with w.memory (SeqOf d) (Number (s + 1))) d ≡ s + 1
+      own = elim (seq_of-memory_with w.memory d d (s + 1)) [ inl e ↦ e.1 | inr e ↦ absurd (e.0 refl) ]
 
     -- p's head becomes d
-    moves_on : seq_of w.memory d ≡ s + 1 → Moves next answer w num p mine (written w.memory (HeadOf p) (CellName d)) num last (Some (Test d (s + 1)))
+    moves_on : seq_of w.memory d ≡ s + 1 → Moves object w num p mine (memory_with w.memory (HeadOf p) (CellName d)) num last (Some (Test d (s + 1)))
     moves_on number = heads d (subst (λ t. 1 ≤ t) (sym number) (omega arith)) (Some (Test d (s + 1))) (record { head = head_of-own d; seq = number })
 
   -- what the effect of a step leaves, and where p stands then
   abbrev pub Leads : (was : Stage) → Content S I R → Option Stage → Place → Type 0
   Leads was content stage place =
-      (num' : Name → ℕ) × (last' : ℕ) × Extends num last num' last' was × Moves next answer w num p mine (written w.memory place content) num' last' stage
+      (num' : Name → ℕ) × (last' : ℕ) × Extends num last num' last' was × Moves object w num p mine (memory_with w.memory place content) num' last' stage
 
   -- a place to which its own content is written
   reads : {was : Stage} (place : Place) (content : Content S I R) → w.memory place ≡ content → (stage : Option Stage) → StandsNext w.memory num w.n p mine stage → Leads was content stage place
   reads {was} place content same stage stands =
-      subst (λ v. (num' : Name → ℕ) × (last' : ℕ) × Extends num last num' last' was × Moves next answer w num p mine (written w.memory place v) num' last' stage) same
-      (subst (λ m. (num' : Name → ℕ) × (last' : ℕ) × Extends num last num' last' was × Moves next answer w num p mine m num' last' stage) (sym (written_same w.memory place)) (num, last, inl (refl, refl), still stage stands))
+      subst (λ v. (num' : Name → ℕ) × (last' : ℕ) × Extends num last num' last' was × Moves object w num p mine (memory_with w.memory place v) num' last' stage) same
+      (subst (λ m. (num' : Name → ℕ) × (last' : ℕ) × Extends num last num' last' was × Moves object w num p mine m num' last' stage) (sym (written_same w.memory place)) (num, last, inl (refl, refl), still stage stands))
 
   links_on : (c : Name) (s : ℕ) (prefer : Name) → AtHead w.memory p c s → IsPast num prefer s → (prefer ≡ mine) ⊎ IsCellOf w.memory (s % w.n) prefer
       → after_of w.memory c ≡ None → Leads (DecideAfter c s prefer) (Link (Some prefer)) (Some (DecideNew c s prefer)) (AfterOf c)
@@ -408,7 +409,7 @@ module _ {S I R : Type 0} (next : S → I → S) (answer : S → I → R) (w : W
       (_, _, inr (c, prefer, ap (λ k. DecideAfter c k prefer) number, outside c s prefer h past cell at_end, refl, refl), links c s prefer h past cell at_end)
 
   decides_after : (c : Name) (s : ℕ) (prefer : Name) → AtHead w.memory p c s → IsPast num prefer s → (prefer ≡ mine) ⊎ IsCellOf w.memory (s % w.n) prefer
-      → (v : Content S I R) → w.memory (AfterOf c) ≡ v → Leads (DecideAfter c s prefer) (Link (decided (link_in v) (Some prefer))) (Some (DecideNew c s (unwrap_or (link_in v) prefer))) (AfterOf c)
+      → (v : Content S I R) → w.memory (AfterOf c) ≡ v → Leads (DecideAfter c s prefer) (Link (decision (link_in v) (Some prefer))) (Some (DecideNew c s (unwrap_or (link_in v) prefer))) (AfterOf c)
   decides_after c s prefer h past cell (Link (Some d)) is_v = reads (AfterOf c) (Link (Some d)) is_v (Some (DecideNew c s d)) (h, ap link_in is_v)
   decides_after c s prefer h past cell (Link None) is_v = links_on c s prefer h past cell (ap link_in is_v)
   decides_after c s prefer h past cell (CellName x) is_v = links_on c s prefer h past cell (ap link_in is_v)
@@ -417,14 +418,14 @@ module _ {S I R : Type 0} (next : S → I → S) (answer : S → I → R) (w : W
   decides_after c s prefer h past cell (Settled x) is_v = links_on c s prefer h past cell (ap link_in is_v)
 
   settles_new : (c : Name) (s : ℕ) (d : Name) → AtHead w.memory p c s → after_of w.memory c ≡ Some d → new_of w.memory d ≡ None
-      → Leads (DecideNew c s d) (Settled (decided None (applied next answer (new_of w.memory c) (inv_of w.memory d)))) (Some (WriteBefore c s d)) (NewOf d)
+      → Leads (DecideNew c s d) (Settled (decision None (value_after object (new_of w.memory c) (inv_of w.memory d)))) (Some (WriteBefore c s d)) (NewOf d)
   settles_new c s d h link unsettled =
       let u = sound.values.threaded c (head_number c s h).0 in
       let i = linked_call c s d h link in
       rw (u.1, i.1) (num, last, inl (refl, refl), settles c s d h link u.0 i.0 u.1 i.1 unsettled)
 
   decides_new : (c : Name) (s : ℕ) (d : Name) → AtHead w.memory p c s → after_of w.memory c ≡ Some d
-      → (v : Content S I R) → w.memory (NewOf d) ≡ v → Leads (DecideNew c s d) (Settled (decided (settled_in v) (applied next answer (new_of w.memory c) (inv_of w.memory d)))) (Some (WriteBefore c s d)) (NewOf d)
+      → (v : Content S I R) → w.memory (NewOf d) ≡ v → Leads (DecideNew c s d) (Settled (decision (settled_in v) (value_after object (new_of w.memory c) (inv_of w.memory d)))) (Some (WriteBefore c s d)) (NewOf d)
   decides_new c s d h link (Settled (Some u)) is_v = reads (NewOf d) (Settled (Some u)) is_v (Some (WriteBefore c s d)) (h, link, (u, ap settled_in is_v))
   decides_new c s d h link (Settled None) is_v = settles_new c s d h link (ap settled_in is_v)
   decides_new c s d h link (CellName x) is_v = settles_new c s d h link (ap settled_in is_v)
@@ -443,11 +444,11 @@ module _ {S I R : Type 0} (next : S → I → S) (answer : S → I → R) (w : W
 
   -- each kind of step
   pub leads : (stage : Stage) → Stands w.memory num w.n p mine stage
-      → let e = effect_of next answer w.n mine stage (w.memory (place_of w.n p mine stage)) (inv_of w.memory (d_of stage)) (new_of w.memory (c_of stage)) in
+      → let e = effect_of object w.n mine stage (w.memory (place_of w.n p mine stage)) (beside w.memory mine stage) in
       Leads stage e.content e.stage (place_of w.n p mine stage)
   leads Announce h = (num, last, inl (refl, refl), announces)
   leads (ScanHead q best s) h = reads (HeadOf q) _ refl (Some (ScanSeq q best s (head_of w.memory q))) (h.0, h.1, sound.calls.head q h.0)
-  leads (ScanSeq q best s x) h = reads (SeqOf x) _ refl (Some (scanned w.n q best s x (seq_of w.memory x))) (scans_on q best s x h.1 h.2)
+  leads (ScanSeq q best s x) h = reads (SeqOf x) _ refl (Some (stage_after_scan w.n q best s x (seq_of w.memory x))) (scans_on q best s x h.1 h.2)
   leads (WriteScan best s) h = (num, last, inl (refl, refl), heads best (subst (λ t. 1 ≤ t) (sym h.1) h.0) (Some (Test best s)) (record { head = head_of-own best; seq = h.1 }))
   leads (Test c s) h = reads (SeqOf mine) _ refl _ (tests c s h)
   leads (ReadAnnounce c s) h = reads (Announced (s % w.n)) _ refl _ (reads_announce c s h.0 h.1)

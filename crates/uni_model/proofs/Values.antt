@@ -1,12 +1,13 @@
 -- What is settled in the chain's cells, and the way back, through each kind of write.
 use Rattle.std.proofs.Common.{◌≡◌, ◌≢◌, ◌∙◌, ℕ, ◌+◌, ◌≤◌, inl, inr, refl, sym, ap, subst, Option, Some, None, arith}
-use Rattle.uni_model.specs.Places.{Name, Memory, written, seq_of, after_of, new_of, before_of, inv_of}
+use Rattle.seq_object.specs.Sequential.{Sequential}
+use Rattle.uni_model.specs.Places.{Name, Memory, memory_with, seq_of, after_of, new_of, before_of, inv_of}
 use Rattle.uni_model.specs.Places.Name.{Anchor, Of}
 use Rattle.uni_model.specs.Places.Place.{SeqOf, AfterOf, NewOf, BeforeOf}
 use Rattle.uni_model.specs.Places.Content.{Number, Link, Settled}
 use Rattle.uni_model.specs.Chain.{response_in}
 use Rattle.uni_model.specs.Invariant.{Has, IsNumbered, HasValues, LeadsBack}
-use Rattle.uni_model.proofs.Written.{seq_of-written, after_of-written, new_of-written, before_of-written}
+use Rattle.uni_model.proofs.Written.{seq_of-memory_with, after_of-memory_with, new_of-memory_with, before_of-memory_with}
 use Rattle.uni_model.proofs.Numbered.{numbered_last, numbered_last-cases}
 use Rattle.uni_model.specs.Settled.{Grows}
 
@@ -31,9 +32,9 @@ module _ {S I R : Type 0} (m : Memory S I R) (num : Name → ℕ) (last : ℕ) (
 
 -- a number is written to the cell that c leads to
 module _ {S I R : Type 0} (m : Memory S I R) (d : Name) (s : ℕ) where
-  pub Grows-seq : (1 ≤ seq_of m d → seq_of m d ≡ s) → Grows m (written m (SeqOf d) (Number s))
+  pub Grows-seq : (1 ≤ seq_of m d → seq_of m d ≡ s) → Grows m (memory_with m (SeqOf d) (Number s))
   Grows-seq same = record {
-    seq = λ x threaded. elim (seq_of-written m d x s) [
+    seq = λ x threaded. elim (seq_of-memory_with m d x s) [
       | inl h ↦ h.1 ∙ sym (ap (seq_of m) h.0 ∙ same (subst (λ y. 1 ≤ seq_of m y) h.0 threaded))
       | inr h ↦ h.1
     ];
@@ -43,12 +44,12 @@ module _ {S I R : Type 0} (m : Memory S I R) (d : Name) (s : ℕ) where
     inv = λ x i e. e;
   }
 
-  pub HasValues-seq : (next : S → I → S) (answer : S → I → R) (num : Name → ℕ) → HasValues next answer m num → Has (new_of m d)
-      → HasValues next answer (written m (SeqOf d) (Number s)) num
-  HasValues-seq next answer num old settled = record {
+  pub HasValues-seq : (object : Sequential S I R) (num : Name → ℕ) → HasValues object m num → Has (new_of m d)
+      → HasValues object (memory_with m (SeqOf d) (Number s)) num
+  HasValues-seq object num old settled = record {
     anchor = old.anchor;
     none = old.none;
-    threaded = λ x threaded. elim (seq_of-written m d x s) [
+    threaded = λ x threaded. elim (seq_of-memory_with m d x s) [
       | inl h ↦ (settled.0, ap (new_of m) h.0 ∙ settled.1)
       | inr h ↦ old.threaded x (subst (λ t. 1 ≤ t) h.1 threaded)
     ];
@@ -56,10 +57,10 @@ module _ {S I R : Type 0} (m : Memory S I R) (d : Name) (s : ℕ) where
         record { before = was.before; inv = was.inv; new_of_x = was.new_of_x; inv_of_y = was.inv_of_y; value = was.value };
   }
 
-  pub LeadsBack-seq : LeadsBack m → Has (before_of m d) → LeadsBack (written m (SeqOf d) (Number s))
+  pub LeadsBack-seq : LeadsBack m → Has (before_of m d) → LeadsBack (memory_with m (SeqOf d) (Number s))
   LeadsBack-seq old back = record {
     link = old.link;
-    threaded = λ p k threaded. elim (seq_of-written m d (Of p k) s) [
+    threaded = λ p k threaded. elim (seq_of-memory_with m d (Of p k) s) [
       | inl h ↦ (back.0, ap (before_of m) h.0 ∙ back.1)
       | inr h ↦ old.threaded p k (subst (λ t. 1 ≤ t) h.1 threaded)
     ];
@@ -67,10 +68,10 @@ module _ {S I R : Type 0} (m : Memory S I R) (d : Name) (s : ℕ) where
 
 -- a cell is linked at the end
 module _ {S I R : Type 0} (m : Memory S I R) (c y : Name) (at_end : after_of m c ≡ None) where
-  pub Grows-link : Grows m (written m (AfterOf c) (Link (Some y)))
+  pub Grows-link : Grows m (memory_with m (AfterOf c) (Link (Some y)))
   Grows-link = record {
     seq = λ x threaded. refl;
-    after = λ x z e. elim (after_of-written m c x (Some y)) [
+    after = λ x z e. elim (after_of-memory_with m c x (Some y)) [
       | inl h ↦ absurd (let f = ap (after_of m) h.0 in cc)
       | inr h ↦ h.1 ∙ e
     ];
@@ -79,16 +80,16 @@ module _ {S I R : Type 0} (m : Memory S I R) (c y : Name) (at_end : after_of m c
     inv = λ x i e. e;
   }
 
-  pub HasValues-link : (next : S → I → S) (answer : S → I → R) (num : Name → ℕ) (last : ℕ) → num y ≡ 0 → HasValues next answer m num
-      → HasValues next answer (written m (AfterOf c) (Link (Some y))) (numbered_last num last y)
-  HasValues-link next answer num last outside old = record {
+  pub HasValues-link : (object : Sequential S I R) (num : Name → ℕ) (last : ℕ) → num y ≡ 0 → HasValues object m num
+      → HasValues object (memory_with m (AfterOf c) (Link (Some y))) (numbered_last num last y)
+  HasValues-link object num last outside old = record {
     anchor = old.anchor;
     none = λ x none. elim (numbered_last-cases num last y x) [
       | inl h ↦ absurd (let e = h.1 in omega arith)
       | inr h ↦ old.none x (sym h.1 ∙ none)
     ];
     threaded = old.threaded;
-    after = λ x z v e settled. elim (after_of-written m c x (Some y)) [
+    after = λ x z v e settled. elim (after_of-memory_with m c x (Some y)) [
       | inl h ↦ absurd (
           let is_y : z ≡ y = (let f = h.1 in cc) in
           let unset : new_of m z ≡ None = ap (new_of m) is_y ∙ old.none y outside in cc)
@@ -97,31 +98,31 @@ module _ {S I R : Type 0} (m : Memory S I R) (c y : Name) (at_end : after_of m c
     ];
   }
 
-  pub LeadsBack-link : LeadsBack m → LeadsBack (written m (AfterOf c) (Link (Some y)))
+  pub LeadsBack-link : LeadsBack m → LeadsBack (memory_with m (AfterOf c) (Link (Some y)))
   LeadsBack-link old = record { link = λ x z e. Grows-link.after x z (old.link x z e); threaded = old.threaded }
 
 -- a value is settled in the cell d that c leads to
 module _ {S I R : Type 0} (m : Memory S I R) (d : Name) (v : S × Option R) (unsettled : new_of m d ≡ None) where
-  pub settled_elsewhere : (x : Name) (u : S × Option R) → new_of m x ≡ Some u → new_of (written m (NewOf d) (Settled (Some v))) x ≡ Some u
-  settled_elsewhere x u e = elim (new_of-written m d x (Some v)) [
+  pub settled_elsewhere : (x : Name) (u : S × Option R) → new_of m x ≡ Some u → new_of (memory_with m (NewOf d) (Settled (Some v))) x ≡ Some u
+  settled_elsewhere x u e = elim (new_of-memory_with m d x (Some v)) [
     | inl h ↦ absurd (let f = ap (new_of m) h.0 in cc)
     | inr h ↦ h.1 ∙ e
   ]
 
-  pub Grows-new : Grows m (written m (NewOf d) (Settled (Some v)))
+  pub Grows-new : Grows m (memory_with m (NewOf d) (Settled (Some v)))
   Grows-new = record { seq = λ x threaded. refl; after = λ x y e. e; new = settled_elsewhere; before = λ x y e. e; inv = λ x i e. e }
 
-  pub HasValues-new : (next : S → I → S) (answer : S → I → R) (num : Name → ℕ) (last : ℕ) → IsNumbered m num last → HasValues next answer m num
+  pub HasValues-new : (object : Sequential S I R) (num : Name → ℕ) (last : ℕ) → IsNumbered m num last → HasValues object m num
       → (c : Name) → after_of m c ≡ Some d → (u : S × Option R) (i : I) → new_of m c ≡ Some u → inv_of m d ≡ Some i
-      → v ≡ (next u.0 i, Some (answer u.0 i)) → HasValues next answer (written m (NewOf d) (Settled (Some v))) num
-  HasValues-new next answer num last numbered old c link u i settled_c inv value = record {
+      → v ≡ (object.next u.0 i, Some (object.answer u.0 i)) → HasValues object (memory_with m (NewOf d) (Settled (Some v))) num
+  HasValues-new object num last numbered old c link u i settled_c inv value = record {
     anchor = (old.anchor.0, settled_elsewhere Anchor _ old.anchor.1);
-    none = λ x none. elim (new_of-written m d x (Some v)) [
+    none = λ x none. elim (new_of-memory_with m d x (Some v)) [
       | inl h ↦ absurd (let number = (numbered.link c d link).1 in let same = ap num h.0 in omega arith)
       | inr h ↦ h.1 ∙ old.none x none
     ];
     threaded = λ x threaded. let was = old.threaded x threaded in (was.0, settled_elsewhere x was.0 was.1);
-    after = λ x y w e settled. elim (new_of-written m d y (Some v)) [
+    after = λ x y w e settled. elim (new_of-memory_with m d y (Some v)) [
       | inl h ↦
           let is_c : x ≡ c = same_before m num last numbered x c d (e ∙ ap Some h.0) link in
           let is_v : w ≡ v = (let f = h.1 in cc) in
@@ -139,35 +140,35 @@ module _ {S I R : Type 0} (m : Memory S I R) (d : Name) (v : S × Option R) (uns
 
 -- the way back is written from the cell d that c leads to
 module _ {S I R : Type 0} (m : Memory S I R) (num : Name → ℕ) (last : ℕ) (numbered : IsNumbered m num last) (old : LeadsBack m) (c d : Name) (link : after_of m c ≡ Some d) where
-  pub Grows-before : Grows m (written m (BeforeOf d) (Link (Some c)))
+  pub Grows-before : Grows m (memory_with m (BeforeOf d) (Link (Some c)))
   Grows-before = record {
     seq = λ x threaded. refl;
     after = λ x y e. e;
     new = λ x v e. e;
-    before = λ x y e. elim (before_of-written m d x (Some c)) [
+    before = λ x y e. elim (before_of-memory_with m d x (Some c)) [
       | inl h ↦ h.1 ∙ ap Some (sym (same_before m num last numbered y c d (old.link y x e ∙ ap Some h.0) link))
       | inr h ↦ h.1 ∙ e
     ];
     inv = λ x i e. e;
   }
 
-  pub LeadsBack-before : LeadsBack (written m (BeforeOf d) (Link (Some c)))
+  pub LeadsBack-before : LeadsBack (memory_with m (BeforeOf d) (Link (Some c)))
   LeadsBack-before = record {
-    link = λ x y e. elim (before_of-written m d y (Some c)) [
+    link = λ x y e. elim (before_of-memory_with m d y (Some c)) [
       | inl h ↦ (let is_c : x ≡ c = (let f = h.1 in cc) in ap (after_of m) is_c ∙ link ∙ ap Some (sym h.0))
       | inr h ↦ old.link x y (sym h.1 ∙ e)
     ];
-    threaded = λ p k threaded. elim (before_of-written m d (Of p k) (Some c)) [
+    threaded = λ p k threaded. elim (before_of-memory_with m d (Of p k) (Some c)) [
       | inl h ↦ (c, h.1)
       | inr h ↦ let was = old.threaded p k threaded in (was.0, h.1 ∙ was.1)
     ];
   }
 
 -- a threaded cell of a call has its response settled
-pub response-settled : {S I R : Type 0} (next : S → I → S) (answer : S → I → R) (m : Memory S I R) (num : Name → ℕ) → HasValues next answer m num → LeadsBack m
+pub response-settled : {S I R : Type 0} (object : Sequential S I R) (m : Memory S I R) (num : Name → ℕ) → HasValues object m num → LeadsBack m
     → (p k : ℕ) → 1 ≤ seq_of m (Of p k) → Has (response_in m (Of p k))
-response-settled {S = S} {R = R} next answer m num values back p k threaded =
+response-settled {S = S} {R = R} object m num values back p k threaded =
     let before = back.threaded p k threaded in
     let new = values.threaded (Of p k) threaded in
     let after = values.after before.0 (Of p k) new.0 (back.link before.0 (Of p k) before.1) new.1 in
-    (answer after.before.0 after.inv, rw new.1 (ap (λ (t : S × Option R). t.1) after.value))
+    (object.answer after.before.0 after.inv, rw new.1 (ap (λ (t : S × Option R). t.1) after.value))

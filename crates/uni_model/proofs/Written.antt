@@ -1,7 +1,7 @@
 -- What a memory contains after one place is written.
 use Rattle.std.proofs.Common.{◌≡◌, ◌≢◌, ℕ, Bool, true, false, cond, ◌⊎◌, inl, inr, refl, Option, arith, nat_eq, nat_lt, ◌<◌, ◌≤◌, ap, sym}
 use Rattle.std.proofs.lemmas.Bool.Decides.{nat_tests}
-use Rattle.uni_model.specs.Places.{Name, Place, Memory, name_eq, place_eq, written, set_at, seq_of, after_of, new_of, before_of, inv_of, head_of, announced}
+use Rattle.uni_model.specs.Places.{Name, Place, Memory, name_eq, place_eq, memory_with, set_at, seq_of, after_of, new_of, before_of, inv_of, head_of, announce_of}
 use Rattle.uni_model.specs.Places.Name.{Anchor, Of}
 use Rattle.uni_model.specs.Places.Place.{Announced, HeadOf, InvOf, SeqOf, AfterOf, NewOf, BeforeOf}
 use Rattle.uni_model.specs.Places.Content.{CellName, Invocation, Number, Link, Settled}
@@ -28,20 +28,20 @@ name_cases x y = by_test (name_eq x y) refl where
 
 -- Each kind of place, after another content was written to one place of that kind.
 module _ {S I R : Type 0} (m : Memory S I R) (d x : Name) where
-  pub seq_of-written : (s : ℕ) → ((x ≡ d) × (seq_of (written m (SeqOf d) (Number s)) x ≡ s)) ⊎ ((x ≢ d) × (seq_of (written m (SeqOf d) (Number s)) x ≡ seq_of m x))
-  seq_of-written s = elim (name_cases x d) [ inl h ↦ inl (h.0, rw h.1 refl) | inr h ↦ inr (h.0, rw h.1 refl) ]
+  pub seq_of-memory_with : (s : ℕ) → ((x ≡ d) × (seq_of (memory_with m (SeqOf d) (Number s)) x ≡ s)) ⊎ ((x ≢ d) × (seq_of (memory_with m (SeqOf d) (Number s)) x ≡ seq_of m x))
+  seq_of-memory_with s = elim (name_cases x d) [ inl h ↦ inl (h.0, rw h.1 refl) | inr h ↦ inr (h.0, rw h.1 refl) ]
 
-  pub after_of-written : (l : Option Name) → ((x ≡ d) × (after_of (written m (AfterOf d) (Link l)) x ≡ l)) ⊎ ((x ≢ d) × (after_of (written m (AfterOf d) (Link l)) x ≡ after_of m x))
-  after_of-written l = elim (name_cases x d) [ inl h ↦ inl (h.0, rw h.1 refl) | inr h ↦ inr (h.0, rw h.1 refl) ]
+  pub after_of-memory_with : (l : Option Name) → ((x ≡ d) × (after_of (memory_with m (AfterOf d) (Link l)) x ≡ l)) ⊎ ((x ≢ d) × (after_of (memory_with m (AfterOf d) (Link l)) x ≡ after_of m x))
+  after_of-memory_with l = elim (name_cases x d) [ inl h ↦ inl (h.0, rw h.1 refl) | inr h ↦ inr (h.0, rw h.1 refl) ]
 
-  pub before_of-written : (l : Option Name) → ((x ≡ d) × (before_of (written m (BeforeOf d) (Link l)) x ≡ l)) ⊎ ((x ≢ d) × (before_of (written m (BeforeOf d) (Link l)) x ≡ before_of m x))
-  before_of-written l = elim (name_cases x d) [ inl h ↦ inl (h.0, rw h.1 refl) | inr h ↦ inr (h.0, rw h.1 refl) ]
+  pub before_of-memory_with : (l : Option Name) → ((x ≡ d) × (before_of (memory_with m (BeforeOf d) (Link l)) x ≡ l)) ⊎ ((x ≢ d) × (before_of (memory_with m (BeforeOf d) (Link l)) x ≡ before_of m x))
+  before_of-memory_with l = elim (name_cases x d) [ inl h ↦ inl (h.0, rw h.1 refl) | inr h ↦ inr (h.0, rw h.1 refl) ]
 
-  pub new_of-written : (v : Option (S × Option R)) → ((x ≡ d) × (new_of (written m (NewOf d) (Settled v)) x ≡ v)) ⊎ ((x ≢ d) × (new_of (written m (NewOf d) (Settled v)) x ≡ new_of m x))
-  new_of-written v = elim (name_cases x d) [ inl h ↦ inl (h.0, rw h.1 refl) | inr h ↦ inr (h.0, rw h.1 refl) ]
+  pub new_of-memory_with : (v : Option (S × Option R)) → ((x ≡ d) × (new_of (memory_with m (NewOf d) (Settled v)) x ≡ v)) ⊎ ((x ≢ d) × (new_of (memory_with m (NewOf d) (Settled v)) x ≡ new_of m x))
+  new_of-memory_with v = elim (name_cases x d) [ inl h ↦ inl (h.0, rw h.1 refl) | inr h ↦ inr (h.0, rw h.1 refl) ]
 
-  pub inv_of-written : (i : Option I) → ((x ≡ d) × (inv_of (written m (InvOf d) (Invocation i)) x ≡ i)) ⊎ ((x ≢ d) × (inv_of (written m (InvOf d) (Invocation i)) x ≡ inv_of m x))
-  inv_of-written i = elim (name_cases x d) [ inl h ↦ inl (h.0, rw h.1 refl) | inr h ↦ inr (h.0, rw h.1 refl) ]
+  pub inv_of-memory_with : (i : Option I) → ((x ≡ d) × (inv_of (memory_with m (InvOf d) (Invocation i)) x ≡ i)) ⊎ ((x ≢ d) × (inv_of (memory_with m (InvOf d) (Invocation i)) x ≡ inv_of m x))
+  inv_of-memory_with i = elim (name_cases x d) [ inl h ↦ inl (h.0, rw h.1 refl) | inr h ↦ inr (h.0, rw h.1 refl) ]
 
 -- two numbers are one, or they aren't
 pub number_cases : (q p : ℕ) → ((q ≡ p) × (nat_eq q p ≡ true)) ⊎ ((q ≢ p) × (nat_eq q p ≡ false))
@@ -51,11 +51,11 @@ number_cases q p = by_test (nat_eq q p) refl where
   by_test false e = inr (grind (arith, nat_tests), e)
 
 module _ {S I R : Type 0} (m : Memory S I R) (p q : ℕ) (x : Name) where
-  pub head_of-written : ((q ≡ p) × (head_of (written m (HeadOf p) (CellName x)) q ≡ x)) ⊎ ((q ≢ p) × (head_of (written m (HeadOf p) (CellName x)) q ≡ head_of m q))
-  head_of-written = elim (number_cases q p) [ inl h ↦ inl (h.0, rw h.1 refl) | inr h ↦ inr (h.0, rw h.1 refl) ]
+  pub head_of-memory_with : ((q ≡ p) × (head_of (memory_with m (HeadOf p) (CellName x)) q ≡ x)) ⊎ ((q ≢ p) × (head_of (memory_with m (HeadOf p) (CellName x)) q ≡ head_of m q))
+  head_of-memory_with = elim (number_cases q p) [ inl h ↦ inl (h.0, rw h.1 refl) | inr h ↦ inr (h.0, rw h.1 refl) ]
 
-  pub announced-written : ((q ≡ p) × (announced (written m (Announced p) (CellName x)) q ≡ x)) ⊎ ((q ≢ p) × (announced (written m (Announced p) (CellName x)) q ≡ announced m q))
-  announced-written = elim (number_cases q p) [ inl h ↦ inl (h.0, rw h.1 refl) | inr h ↦ inr (h.0, rw h.1 refl) ]
+  pub announce_of-memory_with : ((q ≡ p) × (announce_of (memory_with m (Announced p) (CellName x)) q ≡ x)) ⊎ ((q ≢ p) × (announce_of (memory_with m (Announced p) (CellName x)) q ≡ announce_of m q))
+  announce_of-memory_with = elim (number_cases q p) [ inl h ↦ inl (h.0, rw h.1 refl) | inr h ↦ inr (h.0, rw h.1 refl) ]
 
 pub set_at-cases : {A : Type 0} (f : ℕ → A) (p : ℕ) (v : A) (q : ℕ) → ((q ≡ p) × (set_at f p v q ≡ v)) ⊎ ((q ≢ p) × (set_at f p v q ≡ f q))
 set_at-cases f p v q = elim (number_cases q p) [ inl h ↦ inl (h.0, rw h.1 refl) | inr h ↦ inr (h.0, rw h.1 refl) ]
@@ -79,11 +79,11 @@ place_eq_true _ _ e = cc
 
 -- a place to which is written what it contains
 module _ {S I R : Type 0} (m : Memory S I R) (place : Place) where
-  same_at : (x : Place) → written m place (m place) x ≡ m x
+  same_at : (x : Place) → memory_with m place (m place) x ≡ m x
   same_at x = by_test (place_eq x place) refl where
     by_test : (b : Bool) → place_eq x place ≡ b → cond b (m place) (m x) ≡ m x
     by_test true e = ap m (sym (place_eq_true x place e))
     by_test false e = refl
 
-  pub written_same : written m place (m place) ≡ m
+  pub written_same : memory_with m place (m place) ≡ m
   written_same = λ i x. same_at x i

@@ -1,5 +1,6 @@
 -- The atomic object: a machine that knows no list of cells, no helping, no number and no trim.
 use Rattle.std.specs.Prelude.{◌≡◌, ℕ, ◌+◌, List, [], ◌∷◌, ◌++◌, Option, None, Some, map, slice_get, Contains}
+use Rattle.seq_object.specs.Sequential.{Sequential}
 use Rattle.seq_object.specs.History.{response_at}
 use Rattle.uni_model.specs.Places.{set_at}
 use Rattle.uni_model.specs.Chain.{Invoked}
@@ -28,24 +29,24 @@ pub data Act (I R : Type 0) : Type 0 where
   Respond : (process nth : ℕ) → R → Act I R
 
 -- from a the atomic object may take the act, and it is b then
-abbrev pub Accepts : {S I R : Type 0} → (next : S → I → S) → (answer : S → I → R) → Atomic S I → Act I R → Atomic S I → Type 0
+abbrev pub Accepts : {S I R : Type 0} → Sequential S I R → Atomic S I → Act I R → Atomic S I → Type 0
 -- a process begins a call only where it has none open, with its next number
-Accepts next answer a (Invoke p k i) b =
+Accepts object a (Invoke p k i) b =
     (a.open_call p ≡ None) × (a.next_nth p ≡ k)
     × (b ≡ record a { open_call = set_at a.open_call p (Some (record { nth = k; inv = i })); next_nth = set_at a.next_nth p (k + 1) })
 -- an open call takes effect once, after all that took effect before
-Accepts next answer a (Linearize c) b =
+Accepts object a (Linearize c) b =
     (a.open_call c.process ≡ Some (record { nth = c.nth; inv = c.inv })) × (¬ (Contains a.agreed c))
     × (b ≡ record a { agreed = a.agreed ++ c ∷ [] })
 -- it ends after it took effect, and its response is the object's at its place
-Accepts {S} {I} {R} next answer a (Respond p k r) b =
+Accepts {S} {I} {R} object a (Respond p k r) b =
     ((i : I) × (place : ℕ)
     × (a.open_call p ≡ Some (record { nth = k; inv = i }))
     × (slice_get a.agreed place ≡ Some (record { process = p; nth = k; inv = i }))
-    × (response_at next answer a.start (map (λ c. c.inv) a.agreed) place ≡ Some r))
+    × (response_at object a.start (map (λ c. c.inv) a.agreed) place ≡ Some r))
     × (b ≡ record a { open_call = set_at a.open_call p None })
 
 -- one act after another
-abbrev pub AcceptsAll : {S I R : Type 0} → (next : S → I → S) → (answer : S → I → R) → Atomic S I → List (Act I R) → Atomic S I → Type 0
-AcceptsAll next answer a [] b = b ≡ a
-AcceptsAll {S} {I} {R} next answer a (act ∷ acts) b = (c : Atomic S I) × Accepts next answer a act c × AcceptsAll next answer c acts b
+abbrev pub AcceptsAll : {S I R : Type 0} → Sequential S I R → Atomic S I → List (Act I R) → Atomic S I → Type 0
+AcceptsAll object a [] b = b ≡ a
+AcceptsAll {S} {I} {R} object a (act ∷ acts) b = (c : Atomic S I) × Accepts object a act c × AcceptsAll object c acts b

@@ -1,9 +1,10 @@
 -- The frontier of a world, and the floor of a call.
 use Rattle.std.specs.Prelude.{ℕ, zero, suc, max, List, [], ◌∷◌, Option, None, Some, Bool, false, if◌then◌else◌}
+use Rattle.seq_object.specs.Sequential.{Sequential}
 use Rattle.uni_model.specs.Places.{Name, name_eq, head_seq}
 use Rattle.uni_model.specs.Stages.{Stage, Pending}
 use Rattle.uni_model.specs.Stages.Stage.{Announce}
-use Rattle.uni_model.specs.Worlds.{WorldOf, Event, happened}
+use Rattle.uni_model.specs.Worlds.{WorldOf, Event, world_after}
 use Rattle.uni_model.specs.Worlds.Event.{Step}
 
 -- the greatest of f below n, or 0
@@ -25,8 +26,8 @@ announces x None = false
 announces x (Some call) = announces_at (name_eq x call.mine) call.stage
 
 -- the floor of the call that a cell was made for: the frontier at the step that announces it; nothing before that
-abbrev pub floor_of : {S I R : Type 0} → (next : S → I → S) → (answer : S → I → R) → Name → WorldOf S I R → List (Event I) → Option ℕ
-floor_of next answer x w [] = None
-floor_of next answer x w (Step p ∷ es) =
-    if announces x (w.call p) then Some (frontier w) else floor_of next answer x (happened next answer w (Step p)) es
-floor_of next answer x w (e ∷ es) = floor_of next answer x (happened next answer w e) es
+abbrev pub floor_of : {S I R : Type 0} → Sequential S I R → Name → WorldOf S I R → List (Event I) → Option ℕ
+floor_of object x w [] = None
+floor_of object x w (Step p ∷ es) =
+    if announces x (w.call p) then Some (frontier w) else floor_of object x (world_after object w (Step p)) es
+floor_of object x w (e ∷ es) = floor_of object x (world_after object w e) es

@@ -1,6 +1,7 @@
 -- How calls are helped: what every world that is reached keeps besides the invariant, so that no call takes many turns.
 use Rattle.std.specs.Prelude.{◌≡◌, ◌≢◌, ℕ, ◌+◌, ◌<◌, ◌≤◌, ◌%◌, ◌⊎◌, None, Some}
-use Rattle.uni_model.specs.Places.{Name, Memory, announced, head_of, head_seq, seq_of}
+use Rattle.seq_object.specs.Sequential.{Sequential}
+use Rattle.uni_model.specs.Places.{Name, Memory, announce_of, head_of, head_seq, seq_of}
 use Rattle.uni_model.specs.Places.Name.{Anchor}
 use Rattle.uni_model.specs.Stages.{Stage, Pending}
 use Rattle.uni_model.specs.Stages.Stage.{Announce, ScanHead, ScanSeq, WriteScan, Test, ReadAnnounce, ReadHelpSeq, DecideAfter, DecideNew, WriteBefore, WriteSeq, WriteHead, Finish}
@@ -30,8 +31,8 @@ Finds m n (Finish c_seq mine_seq) turns s = s + turns ≤ c_seq
 
 -- p announces its cell in its first step
 abbrev pub Announces : {S I R : Type 0} → Memory S I R → (p : ℕ) → (mine : Name) → Stage → Type 0
-Announces m p mine Announce = announced m p ≢ mine
-Announces m p mine _ = announced m p ≡ mine
+Announces m p mine Announce = announce_of m p ≢ mine
+Announces m p mine _ = announce_of m p ≡ mine
 
 -- once the scan of p has come past p's own head, it has found at least its number
 abbrev pub CountsOwnHead : {S I R : Type 0} → Memory S I R → (p : ℕ) → Stage → Type 0
@@ -86,5 +87,5 @@ pub record Helps {S I R : Type 0} (w : WorldOf S I R) (num : Name → ℕ) (last
   pub returned : (p : ℕ) → w.call p ≡ None → w.turns p ≤ w.n + 1
 
 -- the invariant, with what helps each pending call, for the same numbers
-abbrev pub HelpingInvariant : {S I R : Type 0} → (next : S → I → S) → (answer : S → I → R) → WorldOf S I R → Type 0
-HelpingInvariant next answer w = (num : Name → ℕ) × (last : ℕ) × IsSound next answer w num last × Helps w num last
+abbrev pub HelpingInvariant : {S I R : Type 0} → Sequential S I R → WorldOf S I R → Type 0
+HelpingInvariant object w = (num : Name → ℕ) × (last : ℕ) × IsSound object w num last × Helps w num last

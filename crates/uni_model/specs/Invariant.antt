@@ -1,6 +1,7 @@
 -- What every world that is reached keeps, stated over what places contain.
 use Rattle.std.specs.Prelude.{◌≡◌, ℕ, ◌+◌, ◌-◌, ◌<◌, ◌≤◌, ◌%◌, ◌==◌, ◌⊎◌, Option, None, Some, if◌then◌else◌}
-use Rattle.uni_model.specs.Places.{Name, Memory, announced, head_of, head_seq, inv_of, seq_of, after_of, new_of, before_of}
+use Rattle.seq_object.specs.Sequential.{Sequential}
+use Rattle.uni_model.specs.Places.{Name, Memory, announce_of, head_of, head_seq, inv_of, seq_of, after_of, new_of, before_of}
 use Rattle.uni_model.specs.Places.Name.{Anchor, Of}
 use Rattle.uni_model.specs.Stages.{Stage, Pending}
 use Rattle.uni_model.specs.Stages.Stage.{Announce, ScanHead, ScanSeq, WriteScan, Test, ReadAnnounce, ReadHelpSeq, DecideAfter, DecideNew, WriteBefore, WriteSeq, WriteHead, Finish}
@@ -24,20 +25,20 @@ pub record IsNumbered {S I R : Type 0} (m : Memory S I R) (num : Name → ℕ) (
   pub threaded : (x : Name) → 1 ≤ num x → num x < last → seq_of m x ≡ num x
 
 -- v is the state and the response of the call of y after the state that is settled in x
-pub record IsAfter {S I R : Type 0} (next : S → I → S) (answer : S → I → R) (m : Memory S I R) (x y : Name) (v : S × Option R) : Type 0 where
+pub record IsAfter {S I R : Type 0} (object : Sequential S I R) (m : Memory S I R) (x y : Name) (v : S × Option R) : Type 0 where
   pub before : S × Option R
   pub inv : I
   pub new_of_x : new_of m x ≡ Some before
   pub inv_of_y : inv_of m y ≡ Some inv
-  pub value : v ≡ (next before.0 inv, Some (answer before.0 inv))
+  pub value : v ≡ (object.next before.0 inv, Some (object.answer before.0 inv))
 
 -- What is settled in the cells of the chain: a state in the anchor, and in each other cell the state and the response after
 -- the one in front of it. A threaded cell has its value settled; a cell outside the chain has none.
-pub record HasValues {S I R : Type 0} (next : S → I → S) (answer : S → I → R) (m : Memory S I R) (num : Name → ℕ) : Type 0 where
+pub record HasValues {S I R : Type 0} (object : Sequential S I R) (m : Memory S I R) (num : Name → ℕ) : Type 0 where
   pub anchor : (s : S) × (new_of m Anchor ≡ Some (s, None))
   pub none : (x : Name) → num x ≡ 0 → new_of m x ≡ None
   pub threaded : (x : Name) → 1 ≤ seq_of m x → Has (new_of m x)
-  pub after : (x y : Name) (v : S × Option R) → after_of m x ≡ Some y → new_of m y ≡ Some v → IsAfter next answer m x y v
+  pub after : (x y : Name) (v : S × Option R) → after_of m x ≡ Some y → new_of m y ≡ Some v → IsAfter object m x y v
 
 -- `before` leads back; a threaded cell other than the anchor has it
 pub record LeadsBack {S I R : Type 0} (m : Memory S I R) : Type 0 where
@@ -48,7 +49,8 @@ pub record LeadsBack {S I R : Type 0} (m : Memory S I R) : Type 0 where
 abbrev pub IsCellOf : {S I R : Type 0} → Memory S I R → ℕ → Name → Type 0
 IsCellOf m p x = (k : ℕ) × (x ≡ Of p k) × Has (inv_of m (Of p k))
 
--- The cells are those of calls that were begun. Each is threaded, or its call is pending.
+-- The cells are those of calls that were begun. Each is threaded, or its call is pending. The calls of one process are linked
+-- in their order.
 pub record AreCalls {S I R : Type 0} (w : WorldOf S I R) (num : Name → ℕ) : Type 0 where
   pub anchor : inv_of w.memory Anchor ≡ None
   pub linked : (p k : ℕ) → 1 ≤ num (Of p k) → Has (inv_of w.memory (Of p k))
@@ -56,8 +58,9 @@ pub record AreCalls {S I R : Type 0} (w : WorldOf S I R) (num : Name → ℕ) : 
   pub process : (p : ℕ) (c : Pending) → w.call p ≡ Some c → p < w.n
   pub mine : (p : ℕ) (c : Pending) → w.call p ≡ Some c → (k : ℕ) × (c.mine ≡ Of p k) × (w.begun p ≡ k + 1) × Has (inv_of w.memory (Of p k))
   pub threaded : (p k : ℕ) → Has (inv_of w.memory (Of p k)) → (1 ≤ seq_of w.memory (Of p k)) ⊎ ((c : Pending) × (w.call p ≡ Some c) × (c.mine ≡ Of p k))
-  pub announced : (p : ℕ) → p < w.n → (announced w.memory p ≡ Anchor) ⊎ IsCellOf w.memory p (announced w.memory p)
+  pub announced : (p : ℕ) → p < w.n → (announce_of w.memory p ≡ Anchor) ⊎ IsCellOf w.memory p (announce_of w.memory p)
   pub head : (p : ℕ) → p < w.n → 1 ≤ head_seq w.memory p
+  pub order : (p k j : ℕ) → k < j → 1 ≤ num (Of p k) → 1 ≤ num (Of p j) → num (Of p k) < num (Of p j)
 
 -- the scan's best cell so far, which there is after the first head
 abbrev pub HasBest : {S I R : Type 0} → Memory S I R → (q : ℕ) → (best : Name) → (best_seq : ℕ) → Type 0
@@ -94,14 +97,14 @@ can_be_linked num None begun = begun
 can_be_linked num (Some c) begun = if num c.mine == 0 then begun - 1 else begun
 
 -- the invariant of a world, for the numbers of its cells
-pub record IsSound {S I R : Type 0} (next : S → I → S) (answer : S → I → R) (w : WorldOf S I R) (num : Name → ℕ) (last : ℕ) : Type 0 where
+pub record IsSound {S I R : Type 0} (object : Sequential S I R) (w : WorldOf S I R) (num : Name → ℕ) (last : ℕ) : Type 0 where
   pub numbered : IsNumbered w.memory num last
-  pub values : HasValues next answer w.memory num
+  pub values : HasValues object w.memory num
   pub back : LeadsBack w.memory
   pub calls : AreCalls w num
   pub stands : (p : ℕ) (c : Pending) → w.call p ≡ Some c → Stands w.memory num w.n p c.mine c.stage
   pub count : last ≤ num Anchor + sum_below w.n (λ p. can_be_linked num (w.call p) (w.begun p))
 
 -- the invariant of a world
-abbrev pub Invariant : {S I R : Type 0} → (next : S → I → S) → (answer : S → I → R) → WorldOf S I R → Type 0
-Invariant next answer w = (num : Name → ℕ) × (last : ℕ) × IsSound next answer w num last
+abbrev pub Invariant : {S I R : Type 0} → Sequential S I R → WorldOf S I R → Type 0
+Invariant object w = (num : Name → ℕ) × (last : ℕ) × IsSound object w num last

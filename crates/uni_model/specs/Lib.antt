@@ -6,10 +6,12 @@ pub mod Worlds
 pub mod AtomicObject
 pub mod History
 pub mod Frontier
-pub mod Settled
 pub mod Invariant
+pub mod Settled
+pub mod OneList
+pub mod Growth
 pub mod Helping
-pub mod Floored
 pub mod Bound
-pub mod Rows
+pub mod Examples
 pub mod Laws
+pub mod Indices

@@ -47,8 +47,8 @@ place_eq (BeforeOf x) (BeforeOf y) = name_eq x y
 place_eq _ _ = false
 
 -- the memory with another content in one place
-abbrev pub written : {S I R : Type 0} → Memory S I R → Place → Content S I R → Memory S I R
-written m place v x = if place_eq x place then v else m x
+abbrev pub memory_with : {S I R : Type 0} → Memory S I R → Place → Content S I R → Memory S I R
+memory_with m place v x = if place_eq x place then v else m x
 
 -- a function with another value at a number
 abbrev pub set_at : {A : Type 0} → (ℕ → A) → ℕ → A → ℕ → A
@@ -76,8 +76,8 @@ settled_in (Settled x) = x
 settled_in _ = None
 
 -- Each shared place, read.
-abbrev pub announced : {S I R : Type 0} → Memory S I R → ℕ → Name
-announced m p = name_in (m (Announced p))
+abbrev pub announce_of : {S I R : Type 0} → Memory S I R → ℕ → Name
+announce_of m p = name_in (m (Announced p))
 
 abbrev pub head_of : {S I R : Type 0} → Memory S I R → ℕ → Name
 head_of m p = name_in (m (HeadOf p))

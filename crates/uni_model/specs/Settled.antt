@@ -1,7 +1,12 @@
 -- What stays in an era, and what a step leaves alone.
-use Rattle.std.specs.Prelude.{◌≡◌, ◌≢◌, ℕ, ◌≤◌, Option, Some}
+use Rattle.std.specs.Prelude.{◌≡◌, ◌≢◌, ℕ, ◌≤◌, List, Option, Some, IfSome}
+use Rattle.std.specs.List.{AllByRecursion}
 use Rattle.uni_model.specs.Places.{Name, Place, Memory, inv_of, seq_of, after_of, new_of, before_of}
+use Rattle.uni_model.specs.Places.Place.{InvOf, SeqOf, AfterOf, NewOf, BeforeOf}
+use Rattle.uni_model.specs.Stages.{Stage}
+use Rattle.uni_model.specs.Transition.{beside, places_beside}
 use Rattle.uni_model.specs.Worlds.{WorldOf}
+use Rattle.uni_model.specs.Invariant.{Has}
 
 -- m' is m at a later time of one era: a written number, a settled `after` or `new`, a written `before` and an invocation stay
 pub record Grows {S I R : Type 0} (m m' : Memory S I R) : Type 0 where
@@ -19,3 +24,23 @@ pub record ChangesOnly {S I R : Type 0} (place : Place) (p : ℕ) (w w' : WorldO
   pub begun : w'.begun ≡ w.begun
   pub steps : (q : ℕ) → q ≢ p → w'.steps q ≡ w.steps q
   pub turns : (q : ℕ) → q ≢ p → w'.turns q ≡ w.turns q
+
+-- what a place contains can't change again in its era: an invocation, a written number or `before`, a settled `after` or `new`
+abbrev pub IsSettledPlace : {S I R : Type 0} → Memory S I R → Place → Type 0
+IsSettledPlace m (InvOf x) = Has (inv_of m x)
+IsSettledPlace m (SeqOf x) = 1 ≤ seq_of m x
+IsSettledPlace m (AfterOf x) = Has (after_of m x)
+IsSettledPlace m (NewOf x) = Has (new_of m x)
+IsSettledPlace m (BeforeOf x) = Has (before_of m x)
+IsSettledPlace m _ = ⊥
+
+abbrev pub AreSettledPlaces : {S I R : Type 0} → Memory S I R → List Place → Type 0
+AreSettledPlaces m places = AllByRecursion (IsSettledPlace m) places
+
+-- the next step of a process reads, beside its one place, only places that are settled
+abbrev pub SeesSettled : {S I R : Type 0} → WorldOf S I R → ℕ → Type 0
+SeesSettled w p = IfSome (w.call p) (λ call. AreSettledPlaces w.memory (places_beside call.mine call.stage))
+
+-- what a step sees beside its place is told by these places
+abbrev pub SeesOnly : {S I R : Type 0} → Memory S I R → Memory S I R → Name → Stage → Type 0
+SeesOnly m m' mine stage = AllByRecursion (λ place. m' place ≡ m place) (places_beside mine stage) → beside m' mine stage ≡ beside m mine stage

@@ -1,8 +1,9 @@
 -- The transition of each kind of step: the one place that it touches, and what it does there (Herlihy 1991, section 4).
-use Rattle.std.specs.Prelude.{ℕ, ◌+◌, ◌%◌, Option, None, Some, if◌then◌else◌, ◌==◌, nat_lt, unwrap_or}
-use Rattle.uni_model.specs.Places.{Name, Place, Content, name_in, number_in, link_in, settled_in}
+use Rattle.std.specs.Prelude.{ℕ, ◌+◌, ◌%◌, List, [], ◌∷◌, Option, None, Some, option_and_then, if◌then◌else◌, ◌==◌, nat_lt, unwrap_or}
+use Rattle.seq_object.specs.Sequential.{Sequential}
+use Rattle.uni_model.specs.Places.{Name, Place, Content, Memory, name_in, number_in, link_in, settled_in, inv_of, new_of}
 use Rattle.uni_model.specs.Places.Name.{Anchor}
-use Rattle.uni_model.specs.Places.Place.{Announced, HeadOf, SeqOf, AfterOf, NewOf, BeforeOf}
+use Rattle.uni_model.specs.Places.Place.{Announced, HeadOf, InvOf, SeqOf, AfterOf, NewOf, BeforeOf}
 use Rattle.uni_model.specs.Places.Content.{CellName, Number, Link, Settled}
 use Rattle.uni_model.specs.Stages.{Stage}
 use Rattle.uni_model.specs.Stages.Stage.{Announce, ScanHead, ScanSeq, WriteScan, Test, ReadAnnounce, ReadHelpSeq, DecideAfter, DecideNew, WriteBefore, WriteSeq, WriteHead, Finish}
@@ -23,63 +24,95 @@ place_of n p mine (WriteSeq c c_seq d) = SeqOf d
 place_of n p mine (WriteHead c c_seq d) = HeadOf p
 place_of n p mine (Finish c_seq mine_seq) = HeadOf p
 
--- what a step leaves: the content of its place, and where its process stands then; after the last step that is nowhere
+-- What a step reads beside its one place: only what can't change again. The step that decides the value of a cell d after c
+-- reads what d's call asks for and the value that is settled in c; the last step reads the one in the process's own cell.
+pub data Beside (S I R : Type 0) : Type 0 where
+  Nothing : Beside S I R
+  ForValue : (inv : Option I) (before : Option (S × Option R)) → Beside S I R
+  ForResponse : (own : Option (S × Option R)) → Beside S I R
+
+abbrev pub beside : {S I R : Type 0} → Memory S I R → (mine : Name) → Stage → Beside S I R
+beside m mine (DecideNew c c_seq d) = ForValue (inv_of m d) (new_of m c)
+beside m mine (Finish c_seq mine_seq) = ForResponse (new_of m mine)
+beside m mine _ = Nothing
+
+-- the places that these are
+abbrev pub places_beside : (mine : Name) → Stage → List Place
+places_beside mine (DecideNew c c_seq d) = InvOf d ∷ NewOf c ∷ []
+places_beside mine (Finish c_seq mine_seq) = NewOf mine ∷ []
+places_beside mine _ = []
+
+-- the first proposal stands
+abbrev pub decision : {A : Type 0} → Option A → Option A → Option A
+decision (Some x) proposal = Some x
+decision None proposal = proposal
+
+-- the object applied to an invocation, after a settled state
+abbrev pub value_after : {S I R : Type 0} → Sequential S I R → Option (S × Option R) → Option I → Option (S × Option R)
+value_after object (Some s) (Some i) = Some (object.next s.0 i, Some (object.answer s.0 i))
+value_after object _ _ = None
+
+-- the best cell so far, h with the number s, or the one before it
+abbrev pub best_of : {A : Type 0} → (best_seq s : ℕ) → A → A → A
+best_of best_seq s new old = if nat_lt best_seq s then new else old
+
+-- after the scan has read the number s of the head h of process q
+abbrev pub stage_after_scan : (n q : ℕ) → (best : Name) → (best_seq : ℕ) → (h : Name) → (s : ℕ) → Stage
+stage_after_scan n q best best_seq h s =
+    if nat_lt (q + 1) n then ScanHead (q + 1) (best_of best_seq s h best) (best_of best_seq s s best_seq)
+    else WriteScan (best_of best_seq s h best) (best_of best_seq s s best_seq)
+
+-- Where a process stands after the step of a stage, whose place contained v; nowhere after the last one. That depends on
+-- neither the object nor what is settled.
+abbrev pub stage_after : {S I R : Type 0} → (n : ℕ) → (mine : Name) → Stage → (v : Content S I R) → Option Stage
+stage_after n mine Announce v = Some (ScanHead 0 Anchor 0)
+stage_after n mine (ScanHead q best best_seq) v = Some (ScanSeq q best best_seq (name_in v))
+stage_after n mine (ScanSeq q best best_seq h) v = Some (stage_after_scan n q best best_seq h (number_in v))
+stage_after n mine (WriteScan best best_seq) v = Some (Test best best_seq)
+stage_after n mine (Test c c_seq) v = Some (if number_in v == 0 then ReadAnnounce c c_seq else Finish c_seq (number_in v))
+stage_after n mine (ReadAnnounce c c_seq) v = Some (ReadHelpSeq c c_seq (name_in v))
+stage_after n mine (ReadHelpSeq c c_seq help) v = Some (DecideAfter c c_seq (if number_in v == 0 then help else mine))
+stage_after n mine (DecideAfter c c_seq prefer) v = Some (DecideNew c c_seq (unwrap_or (link_in v) prefer))
+stage_after n mine (DecideNew c c_seq d) v = Some (WriteBefore c c_seq d)
+stage_after n mine (WriteBefore c c_seq d) v = Some (WriteSeq c c_seq d)
+stage_after n mine (WriteSeq c c_seq d) v = Some (WriteHead c c_seq d)
+stage_after n mine (WriteHead c c_seq d) v = Some (Test d (c_seq + 1))
+stage_after n mine (Finish c_seq mine_seq) v = None
+
+-- the value that the object gives for what was read beside the place
+abbrev pub value_of : {S I R : Type 0} → Sequential S I R → Beside S I R → Option (S × Option R)
+value_of object (ForValue inv before) = value_after object before inv
+value_of object _ = None
+
+-- what the step writes to its place, which contained v; where it only reads, that is v
+abbrev pub content_after : {S I R : Type 0} → Sequential S I R → (mine : Name) → Stage → (v : Content S I R) → Beside S I R → Content S I R
+content_after object mine Announce v seen = CellName mine
+content_after object mine (WriteScan best best_seq) v seen = CellName best
+content_after object mine (DecideAfter c c_seq prefer) v seen = Link (decision (link_in v) (Some prefer))
+content_after object mine (DecideNew c c_seq d) v seen = Settled (decision (settled_in v) (value_of object seen))
+content_after object mine (WriteBefore c c_seq d) v seen = Link (Some c)
+content_after object mine (WriteSeq c c_seq d) v seen = Number (c_seq + 1)
+content_after object mine (WriteHead c c_seq d) v seen = CellName d
+content_after object mine (Finish c_seq mine_seq) v seen = if nat_lt c_seq mine_seq then CellName mine else v
+content_after object mine _ v seen = v
+
+-- the response of the last step: the one that is settled in the process's own cell
+abbrev pub response_after : {S I R : Type 0} → Stage → Beside S I R → Option R
+response_after (Finish c_seq mine_seq) (ForResponse own) = option_and_then (λ new. new.1) own
+response_after _ seen = None
+
+-- what a step comes to: what its place contains then, where its process stands, and the response, where the call ends
 pub record Effect (S I R : Type 0) : Type 0 where
   pub content : Content S I R
   pub stage : Option Stage
+  pub response : Option R
 
-abbrev pub to : {S I R : Type 0} → Content S I R → Stage → Effect S I R
-to v stage = record { content = v; stage = Some stage }
-
--- the first proposal stands
-abbrev pub decided : {A : Type 0} → Option A → Option A → Option A
-decided (Some x) proposal = Some x
-decided None proposal = proposal
-
--- the object applied to an invocation, after a settled state
-abbrev pub applied : {S I R : Type 0} → (next : S → I → S) → (answer : S → I → R) → Option (S × Option R) → Option I → Option (S × Option R)
-applied next answer (Some s) (Some i) = Some (next s.0 i, Some (answer s.0 i))
-applied next answer _ _ = None
-
--- the best cell so far, h with the number s, or the one before it
-abbrev pub better : {A : Type 0} → (best_seq s : ℕ) → A → A → A
-better best_seq s new old = if nat_lt best_seq s then new else old
-
--- after the scan has read the number s of the head h of process q
-abbrev pub scanned : (n q : ℕ) → (best : Name) → (best_seq : ℕ) → (h : Name) → (s : ℕ) → Stage
-scanned n q best best_seq h s =
-    if nat_lt (q + 1) n then ScanHead (q + 1) (better best_seq s h best) (better best_seq s s best_seq)
-    else WriteScan (better best_seq s h best) (better best_seq s s best_seq)
-
--- The step of a process whose cell is mine, where its place contains v. Of other places it may see two that can't change
--- again: the invocation of d and the settled `new` of c.
-abbrev pub effect_of : {S I R : Type 0} → (next : S → I → S) → (answer : S → I → R) → (n : ℕ) → (mine : Name) → Stage → (v : Content S I R) → (inv_d : Option I) → (new_c : Option (S × Option R)) → Effect S I R
-effect_of next answer n mine Announce v inv_d new_c = to (CellName mine) (ScanHead 0 Anchor 0)
-effect_of next answer n mine (ScanHead q best best_seq) v inv_d new_c = to v (ScanSeq q best best_seq (name_in v))
-effect_of next answer n mine (ScanSeq q best best_seq h) v inv_d new_c = to v (scanned n q best best_seq h (number_in v))
-effect_of next answer n mine (WriteScan best best_seq) v inv_d new_c = to (CellName best) (Test best best_seq)
-effect_of next answer n mine (Test c c_seq) v inv_d new_c = to v (if number_in v == 0 then ReadAnnounce c c_seq else Finish c_seq (number_in v))
-effect_of next answer n mine (ReadAnnounce c c_seq) v inv_d new_c = to v (ReadHelpSeq c c_seq (name_in v))
-effect_of next answer n mine (ReadHelpSeq c c_seq help) v inv_d new_c = to v (DecideAfter c c_seq (if number_in v == 0 then help else mine))
-effect_of next answer n mine (DecideAfter c c_seq prefer) v inv_d new_c =
-    to (Link (decided (link_in v) (Some prefer))) (DecideNew c c_seq (unwrap_or (link_in v) prefer))
-effect_of next answer n mine (DecideNew c c_seq d) v inv_d new_c =
-    to (Settled (decided (settled_in v) (applied next answer new_c inv_d))) (WriteBefore c c_seq d)
-effect_of next answer n mine (WriteBefore c c_seq d) v inv_d new_c = to (Link (Some c)) (WriteSeq c c_seq d)
-effect_of next answer n mine (WriteSeq c c_seq d) v inv_d new_c = to (Number (c_seq + 1)) (WriteHead c c_seq d)
-effect_of next answer n mine (WriteHead c c_seq d) v inv_d new_c = to (CellName d) (Test d (c_seq + 1))
-effect_of next answer n mine (Finish c_seq mine_seq) v inv_d new_c = record { content = (if nat_lt c_seq mine_seq then CellName mine else v); stage = None }
+-- the step of a process whose cell is mine, where its place contains v, with what it sees beside it
+abbrev pub effect_of : {S I R : Type 0} → Sequential S I R → (n : ℕ) → (mine : Name) → Stage → (v : Content S I R) → Beside S I R → Effect S I R
+effect_of object n mine stage v seen =
+    record { content = content_after object mine stage v seen; stage = stage_after n mine stage v; response = response_after stage seen }
 
 -- how many turns a step adds: one, where it is a test that finds no number yet
 abbrev pub turn_of : {S I R : Type 0} → Stage → Content S I R → ℕ
 turn_of (Test c c_seq) v = if number_in v == 0 then 1 else 0
 turn_of _ v = 0
-
--- the cells whose settled places a step may read besides its own place
-abbrev pub c_of : Stage → Name
-c_of (DecideNew c c_seq d) = c
-c_of _ = Anchor
-
-abbrev pub d_of : Stage → Name
-d_of (DecideNew c c_seq d) = d
-d_of _ = Anchor

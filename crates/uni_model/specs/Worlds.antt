@@ -1,22 +1,24 @@
 -- Worlds, events, and the replay of a list of events.
-use Rattle.std.specs.Prelude.{◌≡◌, ℕ, zero, suc, ◌+◌, ◌<◌, List, [], ◌∷◌, Option, None, Some, option_map, IsSome}
+use Rattle.std.specs.Prelude.{◌≡◌, ℕ, zero, suc, ◌+◌, ◌-◌, ◌<◌, List, [], ◌∷◌, Option, None, Some, option_map, option_and_then, IsSome}
 use Rattle.std.specs.Option.{option_map_or}
-use Rattle.uni_model.specs.Places.{Name, Memory, written, set_at, inv_of, seq_of, new_of}
+use Rattle.seq_object.specs.Sequential.{Sequential}
+use Rattle.uni_model.specs.Places.{Name, Memory, memory_with, set_at, seq_of, new_of}
 use Rattle.uni_model.specs.Places.Name.{Anchor, Of}
 use Rattle.uni_model.specs.Places.Place.{Announced, HeadOf, InvOf, SeqOf, AfterOf, NewOf, BeforeOf}
 use Rattle.uni_model.specs.Places.Content.{CellName, Invocation, Number, Link, Settled}
 use Rattle.uni_model.specs.Stages.{Stage, Pending}
 use Rattle.uni_model.specs.Stages.Stage.{Announce}
 use Rattle.uni_model.specs.Chain.{cells_from, last_of}
-use Rattle.uni_model.specs.Transition.{place_of, effect_of, turn_of, c_of, d_of}
+use Rattle.uni_model.specs.Transition.{Effect, place_of, beside, effect_of, turn_of, response_after}
 
--- n processes: the shared places; of each process its pending call, how many calls it has begun since the opening, and the
--- own steps and turns of its latest call
+-- n processes: the shared places; of each process its pending call, how many calls it has begun since the opening, the
+-- number of its first call of the present era, and the own steps and turns of its latest call
 pub record WorldOf (S I R : Type 0) : Type 0 where
   pub n : ℕ
   pub memory : Memory S I R
   pub call : ℕ → Option Pending
   pub begun : ℕ → ℕ
+  pub first : ℕ → ℕ
   pub steps : ℕ → ℕ
   pub turns : ℕ → ℕ
 
@@ -27,13 +29,14 @@ pub data Event (I : Type 0) : Type 0 where
   Trim : Event I
 
 -- a process begins a call: it makes a cell that no other process knows yet
-abbrev pub call_begun : {S I R : Type 0} → WorldOf S I R → ℕ → I → WorldOf S I R
-call_begun w p i =
+abbrev pub world_after_call : {S I R : Type 0} → WorldOf S I R → ℕ → I → WorldOf S I R
+world_after_call w p i =
     record {
       n = w.n;
-      memory = written w.memory (InvOf (Of p (w.begun p))) (Invocation (Some i));
+      memory = memory_with w.memory (InvOf (Of p (w.begun p))) (Invocation (Some i));
       call = set_at w.call p (Some (record { mine = Of p (w.begun p); stage = Announce }));
       begun = set_at w.begun p (w.begun p + 1);
+      first = w.first;
       steps = set_at w.steps p 0;
       turns = set_at w.turns p 0;
     }
@@ -41,36 +44,49 @@ call_begun w p i =
 abbrev pub call_after : Name → Option Stage → Option Pending
 call_after mine stage = option_map (λ k. record { mine = mine; stage = k }) stage
 
+-- what the next step of a process comes to, whose call is pending
+abbrev pub effect_in : {S I R : Type 0} → Sequential S I R → WorldOf S I R → ℕ → Pending → Effect S I R
+effect_in object w p call =
+    effect_of object w.n call.mine call.stage (w.memory (place_of w.n p call.mine call.stage)) (beside w.memory call.mine call.stage)
+
 -- a process whose call is pending takes a step: it touches one place, and moves to its next stage
-abbrev pub stepped : {S I R : Type 0} → (next : S → I → S) → (answer : S → I → R) → WorldOf S I R → ℕ → Option Pending → WorldOf S I R
-stepped next answer w p None = w
-stepped next answer w p (Some call) =
+abbrev pub world_after_step : {S I R : Type 0} → Sequential S I R → WorldOf S I R → ℕ → Option Pending → WorldOf S I R
+world_after_step object w p None = w
+world_after_step object w p (Some call) =
     let place = place_of w.n p call.mine call.stage in
-    let effect = effect_of next answer w.n call.mine call.stage (w.memory place) (inv_of w.memory (d_of call.stage)) (new_of w.memory (c_of call.stage)) in
     record {
       n = w.n;
-      memory = written w.memory place effect.content;
-      call = set_at w.call p (call_after call.mine effect.stage);
+      memory = memory_with w.memory place (effect_in object w p call).content;
+      call = set_at w.call p (call_after call.mine (effect_in object w p call).stage);
       begun = w.begun;
+      first = w.first;
       steps = set_at w.steps p (w.steps p + 1);
       turns = set_at w.turns p (w.turns p + turn_of call.stage (w.memory place));
     }
 
+-- the response of the next step of a process, where it is the last one of its call
+abbrev pub response_of_step : {S I R : Type 0} → WorldOf S I R → ℕ → Option R
+response_of_step w p = option_and_then (λ (call : Pending). response_after call.stage (beside w.memory call.mine call.stage)) (w.call p)
+
 -- the anchor alone, with a state and a number: all announce and head entries name it
-abbrev pub anchored : {S I R : Type 0} → S → ℕ → Memory S I R
-anchored s number (Announced p) = CellName Anchor
-anchored s number (HeadOf p) = CellName Anchor
-anchored s number (SeqOf Anchor) = Number number
-anchored s number (NewOf Anchor) = Settled (Some (s, None))
-anchored s number (InvOf x) = Invocation None
-anchored s number (SeqOf x) = Number 0
-anchored s number (NewOf x) = Settled None
-anchored s number (AfterOf x) = Link None
-anchored s number (BeforeOf x) = Link None
+abbrev pub anchor_memory : {S I R : Type 0} → S → ℕ → Memory S I R
+anchor_memory s number (Announced p) = CellName Anchor
+anchor_memory s number (HeadOf p) = CellName Anchor
+anchor_memory s number (SeqOf Anchor) = Number number
+anchor_memory s number (NewOf Anchor) = Settled (Some (s, None))
+anchor_memory s number (InvOf x) = Invocation None
+anchor_memory s number (SeqOf x) = Number 0
+anchor_memory s number (NewOf x) = Settled None
+anchor_memory s number (AfterOf x) = Link None
+anchor_memory s number (BeforeOf x) = Link None
 
 -- n processes of which none has called, over a state and a first number
-abbrev pub opened : {S I R : Type 0} → ℕ → S → ℕ → WorldOf S I R
-opened n s number = record { n = n; memory = anchored s number; call = λ p. None; begun = λ p. 0; steps = λ p. 0; turns = λ p. 0 }
+abbrev pub opened_world : {S I R : Type 0} → ℕ → S → ℕ → WorldOf S I R
+opened_world n s number = record { n = n; memory = anchor_memory s number; call = λ p. None; begun = λ p. 0; first = λ p. 0; steps = λ p. 0; turns = λ p. 0 }
+
+-- how many calls of a process the present era has
+abbrev pub calls_in_era : {S I R : Type 0} → WorldOf S I R → ℕ → ℕ
+calls_in_era w p = w.begun p - w.first p
 
 -- f below n, added up
 abbrev pub sum_below : ℕ → (ℕ → ℕ) → ℕ
@@ -90,19 +106,20 @@ abbrev pub last_cell : {S I R : Type 0} → WorldOf S I R → Name
 last_cell w = last_of Anchor (chain w)
 
 -- the list is replaced by one anchor, with the last cell's state and number; numbers of calls go on
-abbrev pub trimmed : {S I R : Type 0} → WorldOf S I R → WorldOf S I R
-trimmed w = record w { memory = option_map_or (λ new. anchored new.0 (seq_of w.memory (last_cell w))) (new_of w.memory (last_cell w)) w.memory }
+abbrev pub world_after_trim : {S I R : Type 0} → WorldOf S I R → WorldOf S I R
+world_after_trim w =
+    option_map_or (λ new. record w { first = w.begun; memory = anchor_memory new.0 (seq_of w.memory (last_cell w)) }) (new_of w.memory (last_cell w)) w
 
 -- an event
-abbrev pub happened : {S I R : Type 0} → (next : S → I → S) → (answer : S → I → R) → WorldOf S I R → Event I → WorldOf S I R
-happened next answer w (Call p i) = call_begun w p i
-happened next answer w (Step p) = stepped next answer w p (w.call p)
-happened next answer w Trim = trimmed w
+abbrev pub world_after : {S I R : Type 0} → Sequential S I R → WorldOf S I R → Event I → WorldOf S I R
+world_after object w (Call p i) = world_after_call w p i
+world_after object w (Step p) = world_after_step object w p (w.call p)
+world_after object w Trim = world_after_trim w
 
 -- the events, the first of them first
-abbrev pub replayed : {S I R : Type 0} → (next : S → I → S) → (answer : S → I → R) → WorldOf S I R → List (Event I) → WorldOf S I R
-replayed next answer w [] = w
-replayed next answer w (e ∷ es) = replayed next answer (happened next answer w e) es
+abbrev pub world_after_all : {S I R : Type 0} → Sequential S I R → WorldOf S I R → List (Event I) → WorldOf S I R
+world_after_all object w [] = w
+world_after_all object w (e ∷ es) = world_after_all object (world_after object w e) es
 
 -- no call is pending
 abbrev pub IsQuiescent : {S I R : Type 0} → WorldOf S I R → Type 0
@@ -114,9 +131,9 @@ IsAccepted w (Call p i) = (p < w.n) × (w.call p ≡ None)
 IsAccepted w (Step p) = IsSome (w.call p)
 IsAccepted w Trim = IsQuiescent w
 
-abbrev pub AreAccepted : {S I R : Type 0} → (next : S → I → S) → (answer : S → I → R) → WorldOf S I R → List (Event I) → Type 0
-AreAccepted next answer w [] = Unit {0}
-AreAccepted next answer w (e ∷ es) = IsAccepted w e × AreAccepted next answer (happened next answer w e) es
+abbrev pub AreAccepted : {S I R : Type 0} → Sequential S I R → WorldOf S I R → List (Event I) → Type 0
+AreAccepted object w [] = Unit {0}
+AreAccepted object w (e ∷ es) = IsAccepted w e × AreAccepted object (world_after object w e) es
 
 -- the events without the trims
 abbrev pub without_trims : {I : Type 0} → List (Event I) → List (Event I)

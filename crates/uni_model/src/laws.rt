@@ -1,11 +1,14 @@
 //! The laws, each the contract of a function with an empty body.
 
 ghost use Rattle.std.specs.Prelude.{ℕ, List};
-ghost use Rattle.uni_model.specs.Stages.{Pending};
+ghost use Rattle.uni_model.specs.Places.{Name, Memory};
+ghost use Rattle.uni_model.specs.Stages.{Stage, Pending};
+ghost use Rattle.uni_model.specs.Settled.{SeesSettled, SeesOnly};
 ghost use Rattle.uni_model.specs.Worlds.{WorldOf, Event};
 ghost use Rattle.uni_model.specs.Invariant.{Invariant};
 ghost use Rattle.uni_model.specs.Bound.{CountsSteps, IsBounded};
-ghost use Rattle.uni_model.specs.Laws.{IsReached, StepIsLocal, SettledStays, Simulates, IsLinearizable, LinksSoon, HasFloorOnceAnnounced};
+ghost use Rattle.uni_model.specs.OneList.{HasOneList, HasLegalLog};
+ghost use Rattle.uni_model.specs.Laws.{IsReached, KeepsInvariant, KeepsHelping, KeepsSettled, IsAtomic, KeepsLog, KeepsLogAlong, OpensSound, StepIsLocal, SettledStays, Simulates, IsLinearizable, LinksSoon, HasFloorOnceAnnounced};
 
 use seq_object::SeqObject;
 
@@ -13,27 +16,83 @@ use seq_object::SeqObject;
 /// steps and turns, and nothing else.
 pub fn changes_one_place<O: SeqObject>()
     ensures { (object : O) (w : WorldOf O.State O.Inv O.Resp) (p : ℕ) (call : Pending) →
-        StepIsLocal (O.next object) (O.answer object) w p call }
+        StepIsLocal (O.sequential object) w p call }
+{}
+
+/// Beside its one place a step sees only places that are settled, those that the definitions name
+/// for its stage: what a call asks for, and settled values.
+pub fn step_sees_settled<O: SeqObject>()
+    ensures settled { (object : O) (w : WorldOf O.State O.Inv O.Resp) (p : ℕ) → Invariant (O.sequential object) w → SeesSettled w p }
+    ensures only { (m later : Memory O.State O.Inv O.Resp) (mine : Name) (stage : Stage) → SeesOnly m later mine stage }
+{}
+
+/// Every opening has the invariant, with the facts of helping and the counts of own steps.
+pub fn opening_is_sound<O: SeqObject>()
+    ensures { (object : O) (n : ℕ) (start : O.State) (number : ℕ) → OpensSound (O.sequential object) n start number }
+{}
+
+/// Each accepted event keeps the invariant, whichever world it comes to: a call that is begun, a
+/// step, a trim.
+pub fn event_keeps_invariant<O: SeqObject>()
+    ensures { (object : O) (w : WorldOf O.State O.Inv O.Resp) (e : Event O.Inv) → KeepsInvariant (O.sequential object) w e }
+{}
+
+/// Each accepted event keeps the facts of helping and the counts of own steps, by which no call
+/// takes many turns.
+pub fn event_keeps_helping<O: SeqObject>()
+    ensures { (object : O) (w : WorldOf O.State O.Inv O.Resp) (e : Event O.Inv) → KeepsHelping (O.sequential object) w e }
+{}
+
+/// Each accepted event that ends no era leaves what is settled: a decided `after` or `new`, a
+/// written `seq` or `before`, an invocation.
+pub fn event_keeps_settled<O: SeqObject>()
+    ensures { (object : O) (w : WorldOf O.State O.Inv O.Resp) (e : Event O.Inv) → KeepsSettled (O.sequential object) w e }
+{}
+
+/// Each accepted event that ends no era is what the atomic object does, from what the world shows
+/// before it to what it shows afterwards.
+pub fn event_is_atomic<O: SeqObject>()
+    ensures { (object : O) (w : WorldOf O.State O.Inv O.Resp) (e : Event O.Inv) → IsAtomic (O.sequential object) w e }
+{}
+
+/// While no era ends the log only grows: the log before an accepted event is a front of the log
+/// after it, but that a response that is missing in its last entry may be there then; and so is the
+/// log after each front of a list of them a front of the log after all.
+pub fn log_only_grows<O: SeqObject>()
+    ensures event { (object : O) (w : WorldOf O.State O.Inv O.Resp) (e : Event O.Inv) → KeepsLog (O.sequential object) w e }
+    ensures events { (object : O) (w : WorldOf O.State O.Inv O.Resp) (es : List (Event O.Inv)) → KeepsLogAlong (O.sequential object) w es }
+{}
+
+/// The cells of every world that has the invariant are one list: none twice, with their numbers,
+/// their values and the way back.
+pub fn is_one_list<O: SeqObject>()
+    ensures { (object : O) (w : WorldOf O.State O.Inv O.Resp) → Invariant (O.sequential object) w → HasOneList (O.sequential object) w }
+{}
+
+/// The log of every world that has the invariant is a legal history of the object from the anchor's
+/// state, and only its last entry can lack its response.
+pub fn log_is_legal<O: SeqObject>()
+    ensures { (object : O) (w : WorldOf O.State O.Inv O.Resp) → Invariant (O.sequential object) w → HasLegalLog (O.sequential object) w }
 {}
 
 /// A place that is settled never changes again in its era: a decided `after` or `new`, a written
 /// `seq` or `before`, an invocation.
 pub fn keeps_settled<O: SeqObject>()
     ensures { (object : O) (w : WorldOf O.State O.Inv O.Resp) (e : Event O.Inv) →
-        SettledStays (O.next object) (O.answer object) w e }
+        SettledStays (O.sequential object) w e }
 {}
 
 /// Every world that is reached from an opening has the invariant.
 pub fn keeps_invariant<O: SeqObject>()
     ensures { (object : O) (w : WorldOf O.State O.Inv O.Resp) →
-        IsReached (O.next object) (O.answer object) w → Invariant (O.next object) (O.answer object) w }
+        IsReached (O.sequential object) w → Invariant (O.sequential object) w }
 {}
 
 /// Each call that is begun and each step is what the atomic object does, from what the world shows
 /// before it to what it shows afterwards.
 pub fn simulates<O: SeqObject>()
     ensures { (object : O) (w : WorldOf O.State O.Inv O.Resp) (e : Event O.Inv) →
-        Simulates (O.next object) (O.answer object) w e }
+        Simulates (O.sequential object) w e }
 {}
 
 /// The construction is linearizable: for every number of processes and every list of accepted
@@ -41,21 +100,21 @@ pub fn simulates<O: SeqObject>()
 /// once between its start and its reply (Herlihy and Wing 1990).
 pub fn is_linearizable<O: SeqObject>()
     ensures { (object : O) (n : ℕ) (start : O.State) (number : ℕ) (events : List (Event O.Inv)) →
-        IsLinearizable (O.next object) (O.answer object) n start number events }
+        IsLinearizable (O.sequential object) n start number events }
 {}
 
 /// The own steps of a call follow from where its process stands and from its turns: 2n + 2 before
 /// the first turn, eight a turn, and two after the last one.
 pub fn counts_steps<O: SeqObject>()
     ensures { (object : O) (w : WorldOf O.State O.Inv O.Resp) →
-        IsReached (O.next object) (O.answer object) w → CountsSteps w }
+        IsReached (O.sequential object) w → CountsSteps w }
 {}
 
 /// Each call ends within a known number of its own steps, whatever the others do (Herlihy 1991,
 /// section 4): at most n + 1 turns, so fewer than 10n + 12 own steps while it is pending.
 pub fn is_bounded<O: SeqObject>()
     ensures { (object : O) (w : WorldOf O.State O.Inv O.Resp) →
-        IsReached (O.next object) (O.answer object) w → IsBounded w }
+        IsReached (O.sequential object) w → IsBounded w }
 {}
 
 /// A call is linked soon after it is announced, whatever its own process does then (Herlihy 1991,
@@ -63,12 +122,12 @@ pub fn is_bounded<O: SeqObject>()
 /// pending and not linked, the last number is at most n past that frontier.
 pub fn links_soon<O: SeqObject>()
     ensures { (object : O) (n : ℕ) (start : O.State) (number : ℕ) (events : List (Event O.Inv)) →
-        LinksSoon (O.next object) (O.answer object) n start number events }
+        LinksSoon (O.sequential object) n start number events }
 {}
 
 /// A pending call has a floor, the frontier at the step that announces it, exactly where it has
 /// taken that step.
 pub fn has_floor<O: SeqObject>()
     ensures { (object : O) (n : ℕ) (start : O.State) (number : ℕ) (events : List (Event O.Inv)) →
-        HasFloorOnceAnnounced (O.next object) (O.answer object) n start number events }
+        HasFloorOnceAnnounced (O.sequential object) n start number events }
 {}

@@ -2,6 +2,7 @@
 use Rattle.std.proofs.Common.{◌≡◌, ◌≢◌, ◌↔◌, ◌∙◌, ℕ, ◌==◌, Bool, true, false, if◌then◌else◌, List, [], ◌∷◌, ◌++◌, Option, Some, None, IfSome, map, take, length, slice_get, eq-eqb, refl, sym, ap, subst}
 use Rattle.std.specs.Option.{option_map_or}
 use Rattle.std.proofs.lemmas.Bool.{eqb-true}
+use Rattle.seq_object.specs.Sequential.{Sequential}
 use Rattle.seq_object.specs.History.{IsLegal}
 use Rattle.uni_log.specs.declared.entry.Entry.{Entry}
 use Rattle.uni_log.specs.Shown.{call_shown}
@@ -26,24 +27,24 @@ module _ {R : Type 0} (same : R → R → Bool) (exact : (r s : R) → (same r s
   abbrev IsNext : {I : Type 0} → List (Entry I R) → Entry I R → Type 0
   IsNext earlier entry = entry.call.nth ≡ calls_of entry.call.process earlier
 
-  module _ {S I : Type 0} (next : S → I → S) (answer : S → I → R) where
-    pub entries_agree : (state : S) (earlier later : List (Entry I R)) → entries_verdict same next answer state earlier later ≡ Agrees
-        → IsLegal next answer state (map call_shown later) × EachAfter IsNext earlier later
+  module _ {S I : Type 0} (object : Sequential S I R) where
+    pub entries_agree : (state : S) (earlier later : List (Entry I R)) → entries_verdict same object state earlier later ≡ Agrees
+        → IsLegal object state (map call_shown later) × EachAfter IsNext earlier later
     entries_agree state earlier [] e = (tt, EachAfter-none IsNext earlier)
     entries_agree state earlier (entry ∷ later) e =
-        let both = first-agrees (entry_verdict same answer state earlier entry) _ e in
+        let both = first-agrees (entry_verdict same object state earlier entry) _ e in
         let call = passed (entry.call.nth == calls_of entry.call.process earlier) _ (BadCall (length earlier)) (λ f. absurd (cc)) both.0 in
-        let rest = entries_agree (next state entry.inv) (earlier ++ entry ∷ []) later both.1 in
-        ((reply_agrees (answer state entry.inv) (length earlier) entry.reply call.1, rest.0), EachAfter-cons IsNext earlier entry later (eqb-true _ _ call.0) rest.1)
+        let rest = entries_agree (object.next state entry.inv) (earlier ++ entry ∷ []) later both.1 in
+        ((reply_agrees (object.answer state entry.inv) (length earlier) entry.reply call.1, rest.0), EachAfter-cons IsNext earlier entry later (eqb-true _ _ call.0) rest.1)
 
-    pub agree_entries : (state : S) (earlier later : List (Entry I R)) → IsLegal next answer state (map call_shown later) → EachAfter IsNext earlier later
-        → entries_verdict same next answer state earlier later ≡ Agrees
+    pub agree_entries : (state : S) (earlier later : List (Entry I R)) → IsLegal object state (map call_shown later) → EachAfter IsNext earlier later
+        → entries_verdict same object state earlier later ≡ Agrees
     agree_entries state earlier [] legal numbered = refl
     agree_entries state earlier (entry ∷ later) legal numbered =
         let parts = EachAfter-parts IsNext earlier entry later numbered in
         let call : (entry.call.nth == calls_of entry.call.process earlier) ≡ true = eq-eqb _ _ parts.0 in
-        let rest = agree_entries (next state entry.inv) (earlier ++ entry ∷ []) later legal.1 parts.1 in
-        rw (call, reply_right (answer state entry.inv) (length earlier) entry.reply legal.0, rest) refl
+        let rest = agree_entries (object.next state entry.inv) (earlier ++ entry ∷ []) later legal.1 parts.1 in
+        rw (call, reply_right (object.answer state entry.inv) (length earlier) entry.reply legal.0, rest) refl
 
   module _ {I : Type 0} (entries : List (Entry I R)) where
     abbrev IsReplied : List (Return R) → Return R → Type 0
@@ -78,11 +79,11 @@ module _ {R : Type 0} (same : R → R → Bool) (exact : (r s : R) → (same r s
         let parts = EachAfter-parts IsReplied earlier returned later replied in
         rw (agree_return earlier returned parts.0, agree_returns (earlier ++ returned ∷ []) later parts.1) refl
 
-module _ {S I R : Type 0} (same : R → R → Bool) (exact : (r s : R) → (same r s ≡ true) ↔ (r ≡ s)) (next : S → I → S) (answer : S → I → R) (start : S) (entries : List (Entry I R)) (returns : List (Return R)) where
-  pub audited : verdict_of same next answer start entries returns ≡ Agrees → IsAudited next answer start entries returns
+module _ {S I R : Type 0} (same : R → R → Bool) (exact : (r s : R) → (same r s ≡ true) ↔ (r ≡ s)) (object : Sequential S I R) (entries : List (Entry I R)) (returns : List (Return R)) where
+  pub audited : verdict_of same object entries returns ≡ Agrees → IsAudited object entries returns
   audited e =
-      let both = first-agrees (entries_verdict same next answer start [] entries) _ e in
-      let good = entries_agree same exact next answer start [] entries both.0 in
+      let both = first-agrees (entries_verdict same object object.initial [] entries) _ e in
+      let good = entries_agree same exact object object.initial [] entries both.0 in
       let replied = returns_agree same exact entries [] returns both.1 in
       record {
         legal = good.0;
@@ -94,9 +95,9 @@ module _ {S I R : Type 0} (same : R → R → Bool) (exact : (r s : R) → (same
         replied = λ i r at. reply_from r.call r.reply entries (replied i r at).1;
       }
 
-  pub audited_agrees : IsAudited next answer start entries returns → verdict_of same next answer start entries returns ≡ Agrees
+  pub audited_agrees : IsAudited object entries returns → verdict_of same object entries returns ≡ Agrees
   audited_agrees a =
-      let good = agree_entries same exact next answer start [] entries a.legal a.numbered in
+      let good = agree_entries same exact object object.initial [] entries a.legal a.numbered in
       let replied = agree_returns same exact entries [] returns (λ i r at. (not_before i r at, reply_there r (a.replied i r at))) in
       rw (good, replied) refl where
         not_before : (i : ℕ) (r : Return R) → slice_get returns i ≡ Some r → has_returned r.call (take i returns) ≡ false
@@ -110,5 +111,5 @@ module _ {S I R : Type 0} (same : R → R → Bool) (exact : (r s : R) → (same
             let first = reply_at entries place entry at (λ i e less there. one_entry entries a.numbered i place e entry less there at) in
             subst (λ c. reply_to c entries ≡ Some r.reply) call (first ∙ reply)
 
-  pub agrees_means : (verdict : Verdict) → verdict ≡ verdict_of same next answer start entries returns → (verdict ≡ Agrees) ↔ IsAudited next answer start entries returns
+  pub agrees_means : (verdict : Verdict) → verdict ≡ verdict_of same object entries returns → (verdict ≡ Agrees) ↔ IsAudited object entries returns
   agrees_means verdict is = (λ e. audited (sym is ∙ e), λ a. is ∙ audited_agrees a)

@@ -3,55 +3,56 @@ use Rattle.std.proofs.Common.{◌≡◌, ◌≢◌, ◌∙◌, ℕ, ◌+◌, ◌
 use Rattle.std.specs.Option.{option_map_or}
 use Rattle.std.proofs.lemmas.List.{at_drop_more, length-take-le, take_more}
 use Rattle.std.proofs.lemmas.Bool.{ne_eqb}
+use Rattle.seq_object.specs.Sequential.{Sequential}
 use Rattle.uni_log.specs.declared.entry.Entry.{Entry}
 use Rattle.uni_record.specs.declared.verdict.Verdict.{Verdict}
 use Rattle.uni_record.specs.declared.verdict.Verdict.TheVariants.{Agrees, BadCall, BadReply}
 use Rattle.uni_record.specs.Verdicts.{calls_of, first, entry_verdict, entries_verdict}
 
-module _ {S I R : Type 0} (same : R → R → Bool) (next : S → I → S) (answer : S → I → R) where
+module _ {S I R : Type 0} (same : R → R → Bool) (object : Sequential S I R) where
   -- the verdict from a place on is that on the entry there, and then on those after it
   pub entries_verdict-at : (state : S) (entries : List (Entry I R)) (i : ℕ) (entry : Entry I R) → i < length entries → entry ≡ get_or entries i entry
-      → entries_verdict same next answer state (take i entries) (drop i entries)
-      ≡ first (entry_verdict same answer state (take i entries) entry) (entries_verdict same next answer (next state entry.inv) (take (i + 1) entries) (drop (i + 1) entries))
+      → entries_verdict same object state (take i entries) (drop i entries)
+      ≡ first (entry_verdict same object state (take i entries) entry) (entries_verdict same object (object.next state entry.inv) (take (i + 1) entries) (drop (i + 1) entries))
   entries_verdict-at state entries i entry within is =
-      at_drop_more (entries_verdict same next answer state (take i entries)) entries i entry within
-      ∙ ap (λ e. entries_verdict same next answer state (take i entries) (e ∷ drop (i + 1) entries)) (sym is)
-      ∙ ap (λ earlier. first (entry_verdict same answer state (take i entries) entry) (entries_verdict same next answer (next state entry.inv) earlier (drop (i + 1) entries)))
+      at_drop_more (entries_verdict same object state (take i entries)) entries i entry within
+      ∙ ap (λ e. entries_verdict same object state (take i entries) (e ∷ drop (i + 1) entries)) (sym is)
+      ∙ ap (λ earlier. first (entry_verdict same object state (take i entries) entry) (entries_verdict same object (object.next state entry.inv) earlier (drop (i + 1) entries)))
       (sym (take_more entries i entry within ∙ ap (λ e. take i entries ++ e ∷ []) (sym is)))
 
   pub bad_call_at : (state : S) (entries : List (Entry I R)) (place i : ℕ) (entry : Entry I R) (whole : Verdict) → i < length entries → entry ≡ get_or entries i entry → place ≡ i
-      → entries_verdict same next answer state (take i entries) (drop i entries) ≡ whole → entry.call.nth ≢ calls_of entry.call.process (take place entries) → BadCall place ≡ whole
+      → entries_verdict same object state (take i entries) (drop i entries) ≡ whole → entry.call.nth ≢ calls_of entry.call.process (take place entries) → BadCall place ≡ whole
   bad_call_at state entries place i entry whole within is at rest other =
       let test : (entry.call.nth == calls_of entry.call.process (take i entries)) ≡ false = ne_eqb _ _ (rw at at other) in
       let long : length (take i entries) ≡ i = length-take-le i entries (omega arith) in
       rw (at, ← rest, entries_verdict-at state entries i entry within is, test, long) refl
 
   pub bad_reply_at : (state : S) (entries : List (Entry I R)) (place i : ℕ) (entry : Entry I R) (whole : Verdict) → i < length entries → entry ≡ get_or entries i entry → place ≡ i
-      → entries_verdict same next answer state (take i entries) (drop i entries) ≡ whole → entry.call.nth ≡ calls_of entry.call.process (take place entries)
-      → option_map_or (λ reply. same reply (answer state entry.inv)) entry.reply true ≡ false → BadReply place ≡ whole
+      → entries_verdict same object state (take i entries) (drop i entries) ≡ whole → entry.call.nth ≡ calls_of entry.call.process (take place entries)
+      → option_map_or (λ reply. same reply (object.answer state entry.inv)) entry.reply true ≡ false → BadReply place ≡ whole
   bad_reply_at state entries place i entry whole within is at rest call wrong =
       let test : (entry.call.nth == calls_of entry.call.process (take i entries)) ≡ true = eq-eqb _ _ (rw at at call) in
       let long : length (take i entries) ≡ i = length-take-le i entries (omega arith) in
       rw (at, ← rest, entries_verdict-at state entries i entry within is, test, long) (sym (by_reply entry.reply wrong)) where
-        by_reply : (o : Option R) → option_map_or (λ reply. same reply (answer state entry.inv)) o true ≡ false
-            → first (option_map_or (λ reply. if same reply (answer state entry.inv) then Agrees else BadReply i) o Agrees)
-            (entries_verdict same next answer (next state entry.inv) (take (i + 1) entries) (drop (i + 1) entries))
+        by_reply : (o : Option R) → option_map_or (λ reply. same reply (object.answer state entry.inv)) o true ≡ false
+            → first (option_map_or (λ reply. if same reply (object.answer state entry.inv) then Agrees else BadReply i) o Agrees)
+            (entries_verdict same object (object.next state entry.inv) (take (i + 1) entries) (drop (i + 1) entries))
             ≡ BadReply i
         by_reply None e = absurd (cc)
         by_reply (Some reply) e = rw e refl
 
   pub good_at : (state : S) (entries : List (Entry I R)) (place i : ℕ) (entry : Entry I R) (whole : Verdict) → i < length entries → entry ≡ get_or entries i entry → place ≡ i
-      → entries_verdict same next answer state (take i entries) (drop i entries) ≡ whole → entry.call.nth ≡ calls_of entry.call.process (take place entries)
-      → option_map_or (λ reply. same reply (answer state entry.inv)) entry.reply true ≡ true
-      → entries_verdict same next answer (next state entry.inv) (take (i + 1) entries) (drop (i + 1) entries) ≡ whole
+      → entries_verdict same object state (take i entries) (drop i entries) ≡ whole → entry.call.nth ≡ calls_of entry.call.process (take place entries)
+      → option_map_or (λ reply. same reply (object.answer state entry.inv)) entry.reply true ≡ true
+      → entries_verdict same object (object.next state entry.inv) (take (i + 1) entries) (drop (i + 1) entries) ≡ whole
   good_at state entries place i entry whole within is at rest call right =
       let test : (entry.call.nth == calls_of entry.call.process (take i entries)) ≡ true = eq-eqb _ _ (rw at at call) in
-      let step : first (entry_verdict same answer state (take i entries) entry) (entries_verdict same next answer (next state entry.inv) (take (i + 1) entries) (drop (i + 1) entries)) ≡ whole =
+      let step : first (entry_verdict same object state (take i entries) entry) (entries_verdict same object (object.next state entry.inv) (take (i + 1) entries) (drop (i + 1) entries)) ≡ whole =
       sym (entries_verdict-at state entries i entry within is) ∙ rest in
       sym (by_reply entry.reply right) ∙ (rw test at step) where
-        by_reply : (o : Option R) → option_map_or (λ reply. same reply (answer state entry.inv)) o true ≡ true
-            → first (option_map_or (λ reply. if same reply (answer state entry.inv) then Agrees else BadReply (length (take i entries))) o Agrees)
-            (entries_verdict same next answer (next state entry.inv) (take (i + 1) entries) (drop (i + 1) entries))
-            ≡ entries_verdict same next answer (next state entry.inv) (take (i + 1) entries) (drop (i + 1) entries)
+        by_reply : (o : Option R) → option_map_or (λ reply. same reply (object.answer state entry.inv)) o true ≡ true
+            → first (option_map_or (λ reply. if same reply (object.answer state entry.inv) then Agrees else BadReply (length (take i entries))) o Agrees)
+            (entries_verdict same object (object.next state entry.inv) (take (i + 1) entries) (drop (i + 1) entries))
+            ≡ entries_verdict same object (object.next state entry.inv) (take (i + 1) entries) (drop (i + 1) entries)
         by_reply None e = refl
         by_reply (Some reply) e = rw e refl

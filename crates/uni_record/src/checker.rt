@@ -73,7 +73,7 @@ fn entries_verdict<O: SeqObject>(
     object: &O,
     entries: &[Entry<O::Inv, O::Resp>],
 ) -> Result<Verdict, AllocError>
-    ensures { IfOk result (λ v. v ≡ entries_verdict O.Resp.eq (O.next object.now) (O.answer object.now) (O.initial object.now) [] entries.now) }
+    ensures { IfOk result (λ v. v ≡ entries_verdict O.Resp.eq (O.sequential object.now) ((O.sequential object.now).initial) [] entries.now) }
 {
     let mut state = object.start(alloc)?;
     let mut place = 0;
@@ -136,8 +136,8 @@ pub fn audit<O: SeqObject>(
     entries: &[Entry<O::Inv, O::Resp>],
     returns: &[Return<O::Resp>],
 ) -> Result<Verdict, AllocError>
-    ensures verdict { IfOk result (λ v. v ≡ verdict_of O.Resp.eq (O.next object.now) (O.answer object.now) (O.initial object.now) entries.now returns.now) }
-    ensures agrees { IfOk result (λ v. (v ≡ Agrees) ↔ IsAudited (O.next object.now) (O.answer object.now) (O.initial object.now) entries.now returns.now) }
+    ensures verdict { IfOk result (λ v. v ≡ verdict_of O.Resp.eq (O.sequential object.now) entries.now returns.now) }
+    ensures agrees { IfOk result (λ v. (v ≡ Agrees) ↔ IsAudited (O.sequential object.now) entries.now returns.now) }
 {
     let verdict = entries_verdict(alloc, object, entries)?;
     let Verdict::Agrees = verdict else {

@@ -1,46 +1,10 @@
 //! Lists whose verdicts were worked out by hand.
 
 use crate::{Return, Verdict, audit};
-use seq_object::{CallId, SeqObject};
+use seq_object::{CallId, SwapRegister};
 use std::alloc::{AllocError, Global};
 use std::test::Fail;
 use uni_log::Entry;
-
-/// Keeps the last number, at first 9; the response is the number before.
-#[derive(Drop)]
-struct Last;
-
-impl SeqObject for Last {
-    ghost use Rattle.seq_object.specs.Exact.{nat_eq_exact};
-
-    type State = u32;
-
-    type Inv = u32;
-
-    type Resp = u32;
-
-    ghost initial = { λ _. 9 };
-
-    ghost next = { λ _ _ number. number };
-
-    ghost answer = { λ _ before _. before };
-
-    ghost same_inv = { nat_eq_exact };
-
-    ghost same_resp = { nat_eq_exact };
-
-    fn start(&self, _alloc: Global) -> Result<u32, AllocError> {
-        Ok(9)
-    }
-
-    fn apply(&self, _alloc: Global, before: &u32, number: &u32) -> Result<(u32, u32), AllocError> {
-        Ok((*number, *before))
-    }
-
-    fn copy_inv(_alloc: Global, number: &u32) -> Result<u32, AllocError> {
-        Ok(*number)
-    }
-}
 
 /// Is refused memory for each invocation, of which the response would be 9.
 #[derive(Drop)]
@@ -55,11 +19,7 @@ impl SeqObject for Refused {
 
     type Resp = u32;
 
-    ghost initial = { λ _. 9 };
-
-    ghost next = { λ _ state _. state };
-
-    ghost answer = { λ _ _ _. 9 };
+    ghost sequential = { λ _. record { initial = 9; next = λ state _. state; answer = λ _ _. 9 } };
 
     ghost same_inv = { nat_eq_exact };
 
@@ -104,21 +64,21 @@ fn returned(reply: u32) -> Return<u32> {
 #[test]
 fn what_the_object_answers_agrees(rt: HostRuntime) -> Result<(), Fail> {
     let entries = [entry(2, call(0, 0), Some(9))];
-    let verdict = audit(rt.alloc(), &Last, &entries, &[returned(9)])?;
+    let verdict = audit(rt.alloc(), &SwapRegister { start: 9 }, &entries, &[returned(9)])?;
     assert_eq!(rt; verdict, Verdict::Agrees);
     Ok(())
 }
 
 #[test]
 fn nothing_agrees(rt: HostRuntime) -> Result<(), Fail> {
-    assert_eq!(rt; audit(rt.alloc(), &Last, &[], &[])?, Verdict::Agrees);
+    assert_eq!(rt; audit(rt.alloc(), &SwapRegister { start: 9 }, &[], &[])?, Verdict::Agrees);
     Ok(())
 }
 
 #[test]
 fn last_entry_needs_no_reply(rt: HostRuntime) -> Result<(), Fail> {
     let entries = [entry(2, call(0, 0), Some(9)), entry(3, call(1, 0), None)];
-    let verdict = audit(rt.alloc(), &Last, &entries, &[returned(9)])?;
+    let verdict = audit(rt.alloc(), &SwapRegister { start: 9 }, &entries, &[returned(9)])?;
     assert_eq!(rt; verdict, Verdict::Agrees);
     Ok(())
 }
@@ -126,7 +86,7 @@ fn last_entry_needs_no_reply(rt: HostRuntime) -> Result<(), Fail> {
 #[test]
 fn reply_that_the_object_does_not_give(rt: HostRuntime) -> Result<(), Fail> {
     let entries = [entry(2, call(0, 0), Some(5))];
-    let verdict = audit(rt.alloc(), &Last, &entries, &[returned(9)])?;
+    let verdict = audit(rt.alloc(), &SwapRegister { start: 9 }, &entries, &[returned(9)])?;
     assert_eq!(rt; verdict, Verdict::BadReply(0));
     Ok(())
 }
@@ -134,10 +94,10 @@ fn reply_that_the_object_does_not_give(rt: HostRuntime) -> Result<(), Fail> {
 #[test]
 fn state_goes_on_from_entry_to_entry(rt: HostRuntime) -> Result<(), Fail> {
     let entries = [entry(2, call(0, 0), Some(9)), entry(3, call(1, 0), Some(7))];
-    assert_eq!(rt; audit(rt.alloc(), &Last, &entries, &[])?, Verdict::Agrees);
+    assert_eq!(rt; audit(rt.alloc(), &SwapRegister { start: 9 }, &entries, &[])?, Verdict::Agrees);
     let entries = [entry(2, call(0, 0), Some(9)), entry(3, call(1, 0), Some(9))];
     assert_eq!(rt;
-        audit(rt.alloc(), &Last, &entries, &[])?,
+        audit(rt.alloc(), &SwapRegister { start: 9 }, &entries, &[])?,
         Verdict::BadReply(1)
     );
     Ok(())
@@ -146,14 +106,14 @@ fn state_goes_on_from_entry_to_entry(rt: HostRuntime) -> Result<(), Fail> {
 #[test]
 fn call_that_is_not_the_next_one(rt: HostRuntime) -> Result<(), Fail> {
     let entries = [entry(2, call(0, 1), Some(9))];
-    let verdict = audit(rt.alloc(), &Last, &entries, &[returned(9)])?;
+    let verdict = audit(rt.alloc(), &SwapRegister { start: 9 }, &entries, &[returned(9)])?;
     assert_eq!(rt; verdict, Verdict::BadCall(0));
     Ok(())
 }
 
 #[test]
 fn return_with_no_entry(rt: HostRuntime) -> Result<(), Fail> {
-    let verdict = audit(rt.alloc(), &Last, &[], &[returned(9)])?;
+    let verdict = audit(rt.alloc(), &SwapRegister { start: 9 }, &[], &[returned(9)])?;
     assert_eq!(rt; verdict, Verdict::Missing(call(0, 0)));
     Ok(())
 }
@@ -161,7 +121,7 @@ fn return_with_no_entry(rt: HostRuntime) -> Result<(), Fail> {
 #[test]
 fn return_whose_entry_has_no_reply(rt: HostRuntime) -> Result<(), Fail> {
     let entries = [entry(2, call(0, 0), None)];
-    let verdict = audit(rt.alloc(), &Last, &entries, &[returned(9)])?;
+    let verdict = audit(rt.alloc(), &SwapRegister { start: 9 }, &entries, &[returned(9)])?;
     assert_eq!(rt; verdict, Verdict::Missing(call(0, 0)));
     Ok(())
 }
@@ -169,7 +129,7 @@ fn return_whose_entry_has_no_reply(rt: HostRuntime) -> Result<(), Fail> {
 #[test]
 fn return_of_another_reply(rt: HostRuntime) -> Result<(), Fail> {
     let entries = [entry(2, call(0, 0), Some(9))];
-    let verdict = audit(rt.alloc(), &Last, &entries, &[returned(5)])?;
+    let verdict = audit(rt.alloc(), &SwapRegister { start: 9 }, &entries, &[returned(5)])?;
     assert_eq!(rt; verdict, Verdict::BadReturn(call(0, 0)));
     Ok(())
 }
@@ -177,7 +137,7 @@ fn return_of_another_reply(rt: HostRuntime) -> Result<(), Fail> {
 #[test]
 fn call_that_returned_twice(rt: HostRuntime) -> Result<(), Fail> {
     let entries = [entry(2, call(0, 0), Some(9))];
-    let verdict = audit(rt.alloc(), &Last, &entries, &[returned(9), returned(9)])?;
+    let verdict = audit(rt.alloc(), &SwapRegister { start: 9 }, &entries, &[returned(9), returned(9)])?;
     assert_eq!(rt; verdict, Verdict::Twice(call(0, 0)));
     Ok(())
 }
@@ -187,16 +147,16 @@ fn first_fault_is_answered(rt: HostRuntime) -> Result<(), Fail> {
     // on one entry the call comes before the reply
     let entries = [entry(2, call(0, 1), Some(5))];
     assert_eq!(rt;
-        audit(rt.alloc(), &Last, &entries, &[])?,
+        audit(rt.alloc(), &SwapRegister { start: 9 }, &entries, &[])?,
         Verdict::BadCall(0)
     );
     // on one return the second time comes before the reply, which is wrong there
     let entries = [entry(2, call(0, 0), Some(9))];
-    let verdict = audit(rt.alloc(), &Last, &entries, &[returned(9), returned(5)])?;
+    let verdict = audit(rt.alloc(), &SwapRegister { start: 9 }, &entries, &[returned(9), returned(5)])?;
     assert_eq!(rt; verdict, Verdict::Twice(call(0, 0)));
     // and entries come before returns
     let entries = [entry(2, call(0, 0), Some(5))];
-    let verdict = audit(rt.alloc(), &Last, &entries, &[returned(9), returned(9)])?;
+    let verdict = audit(rt.alloc(), &SwapRegister { start: 9 }, &entries, &[returned(9), returned(9)])?;
     assert_eq!(rt; verdict, Verdict::BadReply(0));
     Ok(())
 }

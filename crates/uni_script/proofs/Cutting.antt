@@ -4,7 +4,7 @@ use Rattle.std.proofs.lemmas.Bool.Decides.{nat_tests}
 use Rattle.std.specs.List.{position, position_or_len}
 use Rattle.uni_script.specs.declared.script.Stop.{Stop}
 use Rattle.uni_script.specs.declared.script.Stop.TheVariants.{End, Failed, TooLong, TooMany}
-use Rattle.uni_script.specs.Reading.{lines_read}
+use Rattle.uni_script.specs.Reading.{lines_of_read}
 use Rattle.uni_script.specs.Script.{Cut, with_first, after_byte, cut, last_line, lines_of}
 
 abbrev ends : ℕ → Bool
@@ -173,33 +173,33 @@ none_is bytes e = tested (nat_lt (end_of bytes) (length bytes)) refl e
     tested false t f = grind (arith, nat_tests)
 
 -- the lines that are read begin with the first one that ends
-pub lines_read-at_end : (stop : Stop) (bytes : List ℕ) (at : ℕ) → Some at ≡ position ends bytes → lines_read stop bytes ≡ take at bytes ∷ lines_read stop (drop (at + 1) bytes)
-lines_read-at_end stop bytes at e = rw (end_is bytes at e).1 (kind stop)
+pub lines_of_read-at_end : (stop : Stop) (bytes : List ℕ) (at : ℕ) → Some at ≡ position ends bytes → lines_of_read stop bytes ≡ take at bytes ∷ lines_of_read stop (drop (at + 1) bytes)
+lines_of_read-at_end stop bytes at e = rw (end_is bytes at e).1 (kind stop)
   where
     whole : cut_is (cut bytes) (take (end_of bytes) bytes ∷ (cut (drop (end_of bytes + 1) bytes)).whole) (cut (drop (end_of bytes + 1) bytes)).tail
     whole = cut-at_end bytes (end_is bytes at e).0
 
-    kind : (s : Stop) → lines_read s bytes ≡ take (end_of bytes) bytes ∷ lines_read s (drop (end_of bytes + 1) bytes)
-    kind End = rw (whole, lines_read) refl
-    kind Failed = rw (whole, lines_read) refl
-    kind TooLong = rw (whole, lines_read) refl
-    kind TooMany = rw (whole, lines_read) refl
+    kind : (s : Stop) → lines_of_read s bytes ≡ take (end_of bytes) bytes ∷ lines_of_read s (drop (end_of bytes + 1) bytes)
+    kind End = rw (whole, lines_of_read) refl
+    kind Failed = rw (whole, lines_of_read) refl
+    kind TooLong = rw (whole, lines_of_read) refl
+    kind TooMany = rw (whole, lines_of_read) refl
 
 -- where no line ends, only the end of the text makes the bytes a line
-pub lines_read-at_none : (stop : Stop) (bytes : List ℕ) → None ≡ position ends bytes → (stop ≡ End → ⊥) → lines_read stop bytes ≡ []
-lines_read-at_none End bytes e other = absurd (other refl)
-lines_read-at_none Failed bytes e other = rw (cut-at_none bytes (none_is bytes e), lines_read) refl
-lines_read-at_none TooLong bytes e other = rw (cut-at_none bytes (none_is bytes e), lines_read) refl
-lines_read-at_none TooMany bytes e other = rw (cut-at_none bytes (none_is bytes e), lines_read) refl
+pub lines_of_read-at_none : (stop : Stop) (bytes : List ℕ) → None ≡ position ends bytes → (stop ≡ End → ⊥) → lines_of_read stop bytes ≡ []
+lines_of_read-at_none End bytes e other = absurd (other refl)
+lines_of_read-at_none Failed bytes e other = rw (cut-at_none bytes (none_is bytes e), lines_of_read) refl
+lines_of_read-at_none TooLong bytes e other = rw (cut-at_none bytes (none_is bytes e), lines_of_read) refl
+lines_of_read-at_none TooMany bytes e other = rw (cut-at_none bytes (none_is bytes e), lines_of_read) refl
 
-pub lines_read-nil : (stop : Stop) → lines_read stop [] ≡ []
-lines_read-nil End = refl
-lines_read-nil Failed = refl
-lines_read-nil TooLong = refl
-lines_read-nil TooMany = refl
+pub lines_of_read-nil : (stop : Stop) → lines_of_read stop [] ≡ []
+lines_of_read-nil End = refl
+lines_of_read-nil Failed = refl
+lines_of_read-nil TooLong = refl
+lines_of_read-nil TooMany = refl
 
-pub lines_read-last : (bytes : List ℕ) → None ≡ position ends bytes → (bytes ≡ [] → ⊥) → lines_read End bytes ≡ bytes ∷ []
-lines_read-last bytes e some = rw (cut-at_none bytes (none_is bytes e)) (last bytes some)
+pub lines_of_read-last : (bytes : List ℕ) → None ≡ position ends bytes → (bytes ≡ [] → ⊥) → lines_of_read End bytes ≡ bytes ∷ []
+lines_of_read-last bytes e some = rw (cut-at_none bytes (none_is bytes e)) (last bytes some)
   where
     last : (l : List ℕ) → (l ≡ [] → ⊥) → last_line l ≡ l ∷ []
     last [] h = absurd (h refl)

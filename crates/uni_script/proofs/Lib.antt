@@ -1,8 +1,9 @@
 pub mod Written
 pub mod Stepping
-pub mod Made
+pub mod Results
 pub mod Cutting
 pub mod Running
 pub mod ByteByByte
 pub mod Replaying
 pub mod LogLines
+pub mod Finishing

@@ -12,14 +12,14 @@ use Rattle.std.specs.List.{list_all}
 use Rattle.ready_objects.specs.Words.{words_of_text}
 use Rattle.uni_script.specs.Answers.{end_text}
 use Rattle.uni_script.specs.Script.{cut, lines_of, is_plain_byte, is_note, header_of_words, command_of_words}
-use Rattle.uni_script.specs.Meaning.{Language, Bench, AnyBench, any_opened, made, went_on, Outcome, queue, directory, book, sticky, command_run, faulted, and_then, and_then_from, words_run, line_run, lines_run, end_run, script_run}
-use Rattle.uni_script.specs.Meaning.AnyBench.{OfQueue, OfDirectory, OfBook, OfSticky}
-use Rattle.uni_script.specs.Reading.{lines_read, stop_run, read_run, StopsAt, IsRead, EndsAs}
+use Rattle.uni_script.specs.Objects.{SpokenObject, spoken_of}
+use Rattle.uni_script.specs.Meaning.{Bench, ScriptBench, bench_of_header, result_of_command, outcome_of_text, Outcome, script_bench, outcome_of_command, outcome_of_fault, and_then, and_then_from, outcome_of_words, outcome_of_line, outcome_of_lines, outcome_of_end, outcome_of_script}
+use Rattle.uni_script.specs.Reading.{lines_of_read, outcome_of_stop, outcome_of_read, outcome_of_rest, StopsAt, IsRead, EndsAs}
 use Rattle.uni_script.specs.declared.summary.Summary.{Summary}
-use Rattle.uni_script.specs.Summaries.{any_summary_of}
+use Rattle.uni_script.specs.Summaries.{summary_of_bench}
 use Rattle.uni_script.specs.Replays.{IsInput, IsReplay, IsSummary, IsPartOfReplay, HasAnswered, IsFaultOfScript, text_of_script}
 use Rattle.uni_script.proofs.Cutting.{GoesOn-start, GoesOn-start_other, GoesOn-after, lines_of-append}
-use Rattle.uni_script.proofs.Running.{after_text, and_then-same, and_then-assoc, and_then-none, and_then-some, lines_run-append, lines_run-too_long, lines_run-too_many}
+use Rattle.uni_script.proofs.Running.{after_text, and_then-same, and_then-assoc, and_then-none, and_then-some, outcome_of_lines-append, outcome_of_lines-too_long, outcome_of_lines-too_many}
 use Rattle.uni_script.proofs.ByteByByte.{other_byte}
 use Rattle.uni_script.proofs.Written.{IsWritten-start}
 
@@ -28,13 +28,13 @@ abbrev FaultsOnly : (BenchFault → Type 0) → Outcome → Type 0
 FaultsOnly P outcome = (e : BenchFault) → outcome.fault ≡ Some e → P e
 
 module _ (P : BenchFault → Type 0) where
-  FaultsOnly-faulted : (b : Option AnyBench) (f : BenchFault) → P f → FaultsOnly P (faulted b f)
-  FaultsOnly-faulted b f p e q = subst P (same q) p
+  FaultsOnly-outcome_of_fault : (b : Option ScriptBench) (f : BenchFault) → P f → FaultsOnly P (outcome_of_fault b f)
+  FaultsOnly-outcome_of_fault b f p e q = subst P (same q) p
     where
       same : Some f ≡ Some e → f ≡ e
       same q = cc
 
-  FaultsOnly-none : (b : Option AnyBench) (text : List ℕ) → FaultsOnly P (record { bench = b; text = text; fault = None })
+  FaultsOnly-none : (b : Option ScriptBench) (text : List ℕ) → FaultsOnly P (record { bench = b; text = text; fault = None })
   FaultsOnly-none b text e q = absurd (let f : None ≡ Some e = q in cc)
 
   FaultsOnly-if : (c : Bool) (x y : Outcome) → FaultsOnly P x → FaultsOnly P y → FaultsOnly P (if c then x else y)
@@ -45,89 +45,86 @@ module _ (P : BenchFault → Type 0) where
   FaultsOnly-map_or f None x p q = q
   FaultsOnly-map_or f (Some a) x p q = p a
 
-  FaultsOnly-and_then : (first : Outcome) (rest : Option AnyBench → Outcome) → FaultsOnly P first → ((b : Option AnyBench) → FaultsOnly P (rest b)) → FaultsOnly P (and_then first rest)
+  FaultsOnly-and_then : (first : Outcome) (rest : Option ScriptBench → Outcome) → FaultsOnly P first → ((b : Option ScriptBench) → FaultsOnly P (rest b)) → FaultsOnly P (and_then first rest)
   FaultsOnly-and_then first rest p q = at first.fault refl
     where
       at : (f : Option BenchFault) → first.fault ≡ f → FaultsOnly P (and_then_from first (rest first.bench) f)
       at None e = q first.bench
       at (Some f) e = p
 
-FaultsOnly-command_run : {S I R : Type 0} (o : Language S I R) (inside : Bench S I R → AnyBench) (number : ℕ) (b : Bench S I R) (words : List (List ℕ)) → FaultsOnly IsFaultOfScript (command_run o inside number b words)
-FaultsOnly-command_run o inside number b words =
-    FaultsOnly-map_or IsFaultOfScript (λ command. went_on (inside (made o b command).bench) (made o b command).text) (command_of_words o.inv_of_words words) (faulted (Some (inside b)) (fault.BadLine number))
-    (λ command. FaultsOnly-none IsFaultOfScript (Some (inside (made o b command).bench)) (made o b command).text) (FaultsOnly-faulted IsFaultOfScript (Some (inside b)) (fault.BadLine number) tt)
+FaultsOnly-outcome_of_command : {S I R : Type 0} (o : SpokenObject S I R) (inside : Bench S I R → ScriptBench) (number : ℕ) (b : Bench S I R) (words : List (List ℕ)) → FaultsOnly IsFaultOfScript (outcome_of_command o inside number b words)
+FaultsOnly-outcome_of_command o inside number b words =
+    FaultsOnly-map_or IsFaultOfScript (λ command. outcome_of_text (inside (result_of_command o b command).bench) (result_of_command o b command).text) (command_of_words o.language.inv_of_words words) (outcome_of_fault (Some (inside b)) (fault.BadLine number))
+    (λ command. FaultsOnly-none IsFaultOfScript (Some (inside (result_of_command o b command).bench)) (result_of_command o b command).text) (FaultsOnly-outcome_of_fault IsFaultOfScript (Some (inside b)) (fault.BadLine number) tt)
 
-FaultsOnly-words_run : (number : ℕ) (b : Option AnyBench) (words : List (List ℕ)) → FaultsOnly IsFaultOfScript (words_run number b words)
-FaultsOnly-words_run number None words =
-    FaultsOnly-map_or IsFaultOfScript (λ header. went_on (any_opened header) []) (header_of_words words) (faulted None (fault.BadHeader number))
-    (λ header. FaultsOnly-none IsFaultOfScript (Some (any_opened header)) []) (FaultsOnly-faulted IsFaultOfScript None (fault.BadHeader number) tt)
-FaultsOnly-words_run number (Some (OfQueue b)) words = FaultsOnly-command_run queue OfQueue number b words
-FaultsOnly-words_run number (Some (OfDirectory b)) words = FaultsOnly-command_run directory OfDirectory number b words
-FaultsOnly-words_run number (Some (OfBook b)) words = FaultsOnly-command_run book OfBook number b words
-FaultsOnly-words_run number (Some (OfSticky b)) words = FaultsOnly-command_run sticky OfSticky number b words
+FaultsOnly-outcome_of_words : (number : ℕ) (b : Option ScriptBench) (words : List (List ℕ)) → FaultsOnly IsFaultOfScript (outcome_of_words number b words)
+FaultsOnly-outcome_of_words number None words =
+    FaultsOnly-map_or IsFaultOfScript (λ header. outcome_of_text (bench_of_header header) []) (header_of_words words) (outcome_of_fault None (fault.BadHeader number))
+    (λ header. FaultsOnly-none IsFaultOfScript (Some (bench_of_header header)) []) (FaultsOnly-outcome_of_fault IsFaultOfScript None (fault.BadHeader number) tt)
+FaultsOnly-outcome_of_words number (Some b) words = FaultsOnly-outcome_of_command (spoken_of b.object) (script_bench b.object) number b.bench words
 
-FaultsOnly-line_run : (number : ℕ) (b : Option AnyBench) (line : List ℕ) → FaultsOnly IsFaultOfScript (line_run number b line)
-FaultsOnly-line_run number b line =
-    let worded : Outcome = words_run number b (words_of_text line) in
+FaultsOnly-outcome_of_line : (number : ℕ) (b : Option ScriptBench) (line : List ℕ) → FaultsOnly IsFaultOfScript (outcome_of_line number b line)
+FaultsOnly-outcome_of_line number b line =
+    let worded : Outcome = outcome_of_words number b (words_of_text line) in
     let noted : Outcome = record { bench = b; text = []; fault = None } in
     let plain : Outcome = if is_note line then noted else worded in
-    let short : Outcome = if not (list_all is_plain_byte line) then faulted b (fault.BadByte number) else plain in
-    let counted : Outcome = if nat_lt 200 (length line) then faulted b (fault.TooLong number) else short in
-    FaultsOnly-if IsFaultOfScript (nat_lt 100000 number) (faulted b fault.TooMany) counted (FaultsOnly-faulted IsFaultOfScript b fault.TooMany tt)
-    (FaultsOnly-if IsFaultOfScript (nat_lt 200 (length line)) (faulted b (fault.TooLong number)) short (FaultsOnly-faulted IsFaultOfScript b (fault.TooLong number) tt)
-    (FaultsOnly-if IsFaultOfScript (not (list_all is_plain_byte line)) (faulted b (fault.BadByte number)) plain (FaultsOnly-faulted IsFaultOfScript b (fault.BadByte number) tt)
-    (FaultsOnly-if IsFaultOfScript (is_note line) noted worded (FaultsOnly-none IsFaultOfScript b []) (FaultsOnly-words_run number b (words_of_text line)))))
+    let short : Outcome = if not (list_all is_plain_byte line) then outcome_of_fault b (fault.BadByte number) else plain in
+    let counted : Outcome = if nat_lt 200 (length line) then outcome_of_fault b (fault.TooLong number) else short in
+    FaultsOnly-if IsFaultOfScript (nat_lt 100000 number) (outcome_of_fault b fault.TooMany) counted (FaultsOnly-outcome_of_fault IsFaultOfScript b fault.TooMany tt)
+    (FaultsOnly-if IsFaultOfScript (nat_lt 200 (length line)) (outcome_of_fault b (fault.TooLong number)) short (FaultsOnly-outcome_of_fault IsFaultOfScript b (fault.TooLong number) tt)
+    (FaultsOnly-if IsFaultOfScript (not (list_all is_plain_byte line)) (outcome_of_fault b (fault.BadByte number)) plain (FaultsOnly-outcome_of_fault IsFaultOfScript b (fault.BadByte number) tt)
+    (FaultsOnly-if IsFaultOfScript (is_note line) noted worded (FaultsOnly-none IsFaultOfScript b []) (FaultsOnly-outcome_of_words number b (words_of_text line)))))
 
-FaultsOnly-lines_run : (number : ℕ) (b : Option AnyBench) (lines : List (List ℕ)) → FaultsOnly IsFaultOfScript (lines_run number b lines)
-FaultsOnly-lines_run number b [] = FaultsOnly-none IsFaultOfScript b []
-FaultsOnly-lines_run number b (line ∷ lines) =
-    FaultsOnly-and_then IsFaultOfScript (line_run number b line) (λ after. lines_run (number + 1) after lines) (FaultsOnly-line_run number b line) (λ after. FaultsOnly-lines_run (number + 1) after lines)
+FaultsOnly-outcome_of_lines : (number : ℕ) (b : Option ScriptBench) (lines : List (List ℕ)) → FaultsOnly IsFaultOfScript (outcome_of_lines number b lines)
+FaultsOnly-outcome_of_lines number b [] = FaultsOnly-none IsFaultOfScript b []
+FaultsOnly-outcome_of_lines number b (line ∷ lines) =
+    FaultsOnly-and_then IsFaultOfScript (outcome_of_line number b line) (λ after. outcome_of_lines (number + 1) after lines) (FaultsOnly-outcome_of_line number b line) (λ after. FaultsOnly-outcome_of_lines (number + 1) after lines)
 
-FaultsOnly-end_run : (lines : ℕ) (b : Option AnyBench) → FaultsOnly IsFaultOfScript (end_run lines b)
-FaultsOnly-end_run lines None = FaultsOnly-faulted IsFaultOfScript None (NoHeader (lines + 1)) tt
-FaultsOnly-end_run lines (Some b) = FaultsOnly-none IsFaultOfScript (Some b) end_text
+FaultsOnly-outcome_of_end : (lines : ℕ) (b : Option ScriptBench) → FaultsOnly IsFaultOfScript (outcome_of_end lines b)
+FaultsOnly-outcome_of_end lines None = FaultsOnly-outcome_of_fault IsFaultOfScript None (NoHeader (lines + 1)) tt
+FaultsOnly-outcome_of_end lines (Some b) = FaultsOnly-none IsFaultOfScript (Some b) end_text
 
 -- a line that ends the run
-run_stopped : (before : List (List ℕ)) (line : List ℕ) (lines : List (List ℕ)) (f : BenchFault) (rest : Option AnyBench → Outcome)
-    → ((b : Option AnyBench) → lines_run (1 + length before) b (line ∷ lines) ≡ faulted b f)
-    → and_then (lines_run 1 None (before ++ line ∷ lines)) rest ≡ and_then (lines_run 1 None before) (λ b. faulted b f)
+run_stopped : (before : List (List ℕ)) (line : List ℕ) (lines : List (List ℕ)) (f : BenchFault) (rest : Option ScriptBench → Outcome)
+    → ((b : Option ScriptBench) → outcome_of_lines (1 + length before) b (line ∷ lines) ≡ outcome_of_fault b f)
+    → and_then (outcome_of_lines 1 None (before ++ line ∷ lines)) rest ≡ and_then (outcome_of_lines 1 None before) (λ b. outcome_of_fault b f)
 run_stopped before line lines f rest stops =
-    ap (λ run. and_then run rest) (lines_run-append 1 None before (line ∷ lines))
-    ∙ and_then-assoc (lines_run 1 None before) (λ b. lines_run (1 + length before) b (line ∷ lines)) rest
-    ∙ and_then-same (lines_run 1 None before) (λ b. and_then (lines_run (1 + length before) b (line ∷ lines)) rest) (λ b. faulted b f) (λ b. ap (λ run. and_then run rest) (stops b))
+    ap (λ run. and_then run rest) (outcome_of_lines-append 1 None before (line ∷ lines))
+    ∙ and_then-assoc (outcome_of_lines 1 None before) (λ b. outcome_of_lines (1 + length before) b (line ∷ lines)) rest
+    ∙ and_then-same (outcome_of_lines 1 None before) (λ b. and_then (outcome_of_lines (1 + length before) b (line ∷ lines)) rest) (λ b. outcome_of_fault b f) (λ b. ap (λ run. and_then run rest) (stops b))
 
 -- a script that was read to its end, or to a byte that it may not have, comes to what was read of it
-pub script_run-read : (stop : Stop) (bytes past : List ℕ) (left : Option (List ℕ)) → StopsAt stop bytes past left → (stop ≡ Failed → ⊥) → script_run (bytes ++ past) ≡ read_run stop bytes
-script_run-read End bytes past left at other = rw at.0 (rw (append-nil bytes) refl)
-script_run-read Failed bytes past left at other = absurd (other refl)
-script_run-read TooLong bytes past left at other =
+pub outcome_of_script-read : (stop : Stop) (bytes past : List ℕ) (left : Option (List ℕ)) → StopsAt stop bytes past left → (stop ≡ Failed → ⊥) → outcome_of_script (bytes ++ past) ≡ outcome_of_read stop bytes
+outcome_of_script-read End bytes past left at other = rw at.0 (rw (append-nil bytes) refl)
+outcome_of_script-read Failed bytes past left at other = absurd (other refl)
+outcome_of_script-read TooLong bytes past left at other =
     let few = at.0 in
     let wide = at.1 in
     let g = GoesOn-after bytes (at.2.0 ∷ at.2.1) 1 (GoesOn-start_other at.2.0 at.2.1 (other_byte at.2.0 at.2.3)) in
     let long = g.long in
     let next : 1 + length (cut bytes).whole ≡ length (cut bytes).whole + 1 = omega arith in
-    ap (λ p. script_run (bytes ++ p)) at.2.2
-    ∙ ap (λ lines. and_then (lines_run 1 None lines) (λ after. end_run (length lines) after)) g.cut_as
-    ∙ run_stopped (cut bytes).whole g.line g.lines (fault.TooLong (length (cut bytes).whole + 1)) (λ after. end_run (length ((cut bytes).whole ++ g.line ∷ g.lines)) after)
-    (λ b. rw next (lines_run-too_long (length (cut bytes).whole + 1) b g.line g.lines (omega arith) (omega arith)))
-script_run-read TooMany bytes past left at other =
+    ap (λ p. outcome_of_script (bytes ++ p)) at.2.2
+    ∙ ap (λ lines. and_then (outcome_of_lines 1 None lines) (λ after. outcome_of_end (length lines) after)) g.cut_as
+    ∙ run_stopped (cut bytes).whole g.line g.lines (fault.TooLong (length (cut bytes).whole + 1)) (λ after. outcome_of_end (length ((cut bytes).whole ++ g.line ∷ g.lines)) after)
+    (λ b. rw next (outcome_of_lines-too_long (length (cut bytes).whole + 1) b g.line g.lines (omega arith) (omega arith)))
+outcome_of_script-read TooMany bytes past left at other =
     let g = GoesOn-after bytes (at.1.0 ∷ at.1.1) 0 (GoesOn-start at.1.0 at.1.1) in
     let many = at.0 in
     let next : 1 + length (cut bytes).whole ≡ 100001 = omega arith in
-    ap (λ p. script_run (bytes ++ p)) at.1.2
-    ∙ ap (λ lines. and_then (lines_run 1 None lines) (λ after. end_run (length lines) after)) g.cut_as
-    ∙ run_stopped (cut bytes).whole g.line g.lines fault.TooMany (λ after. end_run (length ((cut bytes).whole ++ g.line ∷ g.lines)) after) (λ b. rw next (lines_run-too_many b g.line g.lines))
+    ap (λ p. outcome_of_script (bytes ++ p)) at.1.2
+    ∙ ap (λ lines. and_then (outcome_of_lines 1 None lines) (λ after. outcome_of_end (length lines) after)) g.cut_as
+    ∙ run_stopped (cut bytes).whole g.line g.lines fault.TooMany (λ after. outcome_of_end (length ((cut bytes).whole ++ g.line ∷ g.lines)) after) (λ b. rw next (outcome_of_lines-too_many b g.line g.lines))
 
 -- a script goes on after its whole lines
-script_run-whole : (bytes past : List ℕ) → (rest : Option AnyBench → Outcome) × (script_run (bytes ++ past) ≡ and_then (lines_run 1 None (cut bytes).whole) rest)
-script_run-whole bytes past =
+outcome_of_script-whole : (bytes past : List ℕ) → (rest : Option ScriptBench → Outcome) × (outcome_of_script (bytes ++ past) ≡ and_then (outcome_of_lines 1 None (cut bytes).whole) rest)
+outcome_of_script-whole bytes past =
     let more = lines_of ((cut bytes).tail ++ past) in
     let number = 1 + length (cut bytes).whole in
-    let finish : Option AnyBench → Outcome = λ after. end_run (length ((cut bytes).whole ++ more)) after in (
-      (λ b. and_then (lines_run number b more) finish),
-      ap (λ lines. and_then (lines_run 1 None lines) (λ after. end_run (length lines) after)) (lines_of-append bytes past)
-          ∙ ap (λ run. and_then run finish) (lines_run-append 1 None (cut bytes).whole more)
-          ∙ and_then-assoc (lines_run 1 None (cut bytes).whole) (λ b. lines_run number b more) finish,
+    let finish : Option ScriptBench → Outcome = λ after. outcome_of_end (length ((cut bytes).whole ++ more)) after in (
+      (λ b. and_then (outcome_of_lines number b more) finish),
+      ap (λ lines. and_then (outcome_of_lines 1 None lines) (λ after. outcome_of_end (length lines) after)) (lines_of-append bytes past)
+          ∙ ap (λ run. and_then run finish) (outcome_of_lines-append 1 None (cut bytes).whole more)
+          ∙ and_then-assoc (outcome_of_lines 1 None (cut bytes).whole) (λ b. outcome_of_lines number b more) finish,
     )
 
 -- the bytes that a reader had, where it gave these ones: with what is left, where that is known
@@ -176,46 +173,46 @@ is_failed TooLong = inr (λ e. cc)
 is_failed TooMany = inr (λ e. cc)
 
 -- the outcome of the whole lines of some bytes
-abbrev whole_run : List ℕ → Outcome
-whole_run bytes = lines_run 1 None (cut bytes).whole
+abbrev outcome_of_whole_lines : List ℕ → Outcome
+outcome_of_whole_lines bytes = outcome_of_lines 1 None (cut bytes).whole
 
 -- where the reader failed: the whole lines have the fault, or have none
-failed_run : (bytes : List ℕ) → ((whole_run bytes).fault ≡ None) × (read_run Failed bytes ≡ after_text (whole_run bytes).text (faulted (whole_run bytes).bench Read))
-    ⊎ (e : BenchFault) × ((whole_run bytes).fault ≡ Some e) × (read_run Failed bytes ≡ whole_run bytes)
-failed_run bytes = at (whole_run bytes).fault refl
+outcome_of_failed_read : (bytes : List ℕ) → ((outcome_of_whole_lines bytes).fault ≡ None) × (outcome_of_read Failed bytes ≡ after_text (outcome_of_whole_lines bytes).text (outcome_of_fault (outcome_of_whole_lines bytes).bench Read))
+    ⊎ (e : BenchFault) × ((outcome_of_whole_lines bytes).fault ≡ Some e) × (outcome_of_read Failed bytes ≡ outcome_of_whole_lines bytes)
+outcome_of_failed_read bytes = at (outcome_of_whole_lines bytes).fault refl
   where
-    at : (f : Option BenchFault) → (whole_run bytes).fault ≡ f
-        → ((whole_run bytes).fault ≡ None) × (read_run Failed bytes ≡ after_text (whole_run bytes).text (faulted (whole_run bytes).bench Read))
-        ⊎ (e : BenchFault) × ((whole_run bytes).fault ≡ Some e) × (read_run Failed bytes ≡ whole_run bytes)
-    at None e = inl (e, and_then-none (whole_run bytes) (λ b. faulted b Read) e)
-    at (Some f) e = inr (f, e, and_then-some (whole_run bytes) (λ b. faulted b Read) f e)
+    at : (f : Option BenchFault) → (outcome_of_whole_lines bytes).fault ≡ f
+        → ((outcome_of_whole_lines bytes).fault ≡ None) × (outcome_of_read Failed bytes ≡ after_text (outcome_of_whole_lines bytes).text (outcome_of_fault (outcome_of_whole_lines bytes).bench Read))
+        ⊎ (e : BenchFault) × ((outcome_of_whole_lines bytes).fault ≡ Some e) × (outcome_of_read Failed bytes ≡ outcome_of_whole_lines bytes)
+    at None e = inl (e, and_then-none (outcome_of_whole_lines bytes) (λ b. outcome_of_fault b Read) e)
+    at (Some f) e = inr (f, e, and_then-some (outcome_of_whole_lines bytes) (λ b. outcome_of_fault b Read) f e)
 
 -- a fault that reading a script or running it can have
 abbrev IsFaultOfRead : BenchFault → Type 0
 IsFaultOfRead e = IsFaultOfScript e ⊎ (e ≡ Read)
 
-FaultsOnly-read_run : (stop : Stop) (bytes : List ℕ) → FaultsOnly IsFaultOfRead (read_run stop bytes)
-FaultsOnly-read_run stop bytes =
-    let lines = lines_read stop bytes in
-    FaultsOnly-and_then IsFaultOfRead (lines_run 1 None lines) (λ after. stop_run stop (length lines) after) (λ e q. inl (FaultsOnly-lines_run 1 None lines e q)) (at stop (length lines))
+FaultsOnly-outcome_of_read : (stop : Stop) (bytes : List ℕ) → FaultsOnly IsFaultOfRead (outcome_of_read stop bytes)
+FaultsOnly-outcome_of_read stop bytes =
+    let lines = lines_of_read stop bytes in
+    FaultsOnly-and_then IsFaultOfRead (outcome_of_lines 1 None lines) (λ after. outcome_of_stop stop (length lines) after) (λ e q. inl (FaultsOnly-outcome_of_lines 1 None lines e q)) (at stop (length lines))
   where
-    at : (s : Stop) (n : ℕ) (b : Option AnyBench) → FaultsOnly IsFaultOfRead (stop_run s n b)
-    at End n b = λ e q. inl (FaultsOnly-end_run n b e q)
-    at Failed n b = FaultsOnly-faulted IsFaultOfRead b Read (inr refl)
-    at TooLong n b = FaultsOnly-faulted IsFaultOfRead b (fault.TooLong (n + 1)) (inl tt)
-    at TooMany n b = FaultsOnly-faulted IsFaultOfRead b fault.TooMany (inl tt)
+    at : (s : Stop) (n : ℕ) (b : Option ScriptBench) → FaultsOnly IsFaultOfRead (outcome_of_stop s n b)
+    at End n b = λ e q. inl (FaultsOnly-outcome_of_end n b e q)
+    at Failed n b = FaultsOnly-outcome_of_fault IsFaultOfRead b Read (inr refl)
+    at TooLong n b = FaultsOnly-outcome_of_fault IsFaultOfRead b (fault.TooLong (n + 1)) (inl tt)
+    at TooMany n b = FaultsOnly-outcome_of_fault IsFaultOfRead b fault.TooMany (inl tt)
 
-FaultsOnly-script_run : (bytes : List ℕ) → FaultsOnly IsFaultOfScript (script_run bytes)
-FaultsOnly-script_run bytes =
-    FaultsOnly-and_then IsFaultOfScript (lines_run 1 None (lines_of bytes)) (λ after. end_run (length (lines_of bytes)) after) (FaultsOnly-lines_run 1 None (lines_of bytes))
-    (λ b. FaultsOnly-end_run (length (lines_of bytes)) b)
+FaultsOnly-outcome_of_script : (bytes : List ℕ) → FaultsOnly IsFaultOfScript (outcome_of_script bytes)
+FaultsOnly-outcome_of_script bytes =
+    FaultsOnly-and_then IsFaultOfScript (outcome_of_lines 1 None (lines_of bytes)) (λ after. outcome_of_end (length (lines_of bytes)) after) (FaultsOnly-outcome_of_lines 1 None (lines_of bytes))
+    (λ b. FaultsOnly-outcome_of_end (length (lines_of bytes)) b)
 
 -- only a script that was read to its end has no fault
-end_of_run : (stop : Stop) (bytes : List ℕ) → (read_run stop bytes).fault ≡ None → stop ≡ End
-end_of_run stop bytes none = at (lines_run 1 None (lines_read stop bytes)).fault refl stop (length (lines_read stop bytes)) none
+end_of_run : (stop : Stop) (bytes : List ℕ) → (outcome_of_read stop bytes).fault ≡ None → stop ≡ End
+end_of_run stop bytes none = at (outcome_of_lines 1 None (lines_of_read stop bytes)).fault refl stop (length (lines_of_read stop bytes)) none
   where
-    at : (f : Option BenchFault) → (lines_run 1 None (lines_read stop bytes)).fault ≡ f → (s : Stop) (n : ℕ)
-        → (and_then_from (lines_run 1 None (lines_read stop bytes)) (stop_run s n (lines_run 1 None (lines_read stop bytes)).bench) f).fault ≡ None → s ≡ End
+    at : (f : Option BenchFault) → (outcome_of_lines 1 None (lines_of_read stop bytes)).fault ≡ f → (s : Stop) (n : ℕ)
+        → (and_then_from (outcome_of_lines 1 None (lines_of_read stop bytes)) (outcome_of_stop s n (outcome_of_lines 1 None (lines_of_read stop bytes)).bench) f).fault ≡ None → s ≡ End
     at None g End n e = refl
     at None g Failed n e = absurd (let h : Some Read ≡ None = e in cc)
     at None g TooLong n e = absurd (let h : Some (fault.TooLong (n + 1)) ≡ None = e in cc)
@@ -232,25 +229,25 @@ module _ (left left_after : Option (List ℕ)) (stop : Stop) (bytes : List ℕ) 
   is_input : IsInput left script
   is_input = IsInput-with_left left left_after (bytes ++ is.past) is.consumed
 
-  same_run : (stop ≡ Failed → ⊥) → script_run script ≡ read_run stop bytes
+  same_run : (stop ≡ Failed → ⊥) → outcome_of_script script ≡ outcome_of_read stop bytes
   same_run other =
-      ap (λ s. script_run s) script_is
-      ∙ script_run-read stop bytes (past_left is.past left_after) left_after (StopsAt-past_left stop bytes is.past left_after is.stops other) other
+      ap (λ s. outcome_of_script s) script_is
+      ∙ outcome_of_script-read stop bytes (past_left is.past left_after) left_after (StopsAt-past_left stop bytes is.past left_after is.stops other) other
 
   -- the whole script goes on after the whole lines
-  goes_on : (rest : Option AnyBench → Outcome) × (script_run script ≡ and_then (whole_run bytes) rest)
-  goes_on = let whole = script_run-whole bytes (past_left is.past left_after) in (whole.0, ap (λ s. script_run s) script_is ∙ whole.1)
+  goes_on : (rest : Option ScriptBench → Outcome) × (outcome_of_script script ≡ and_then (outcome_of_whole_lines bytes) rest)
+  goes_on = let whole = outcome_of_script-whole bytes (past_left is.past left_after) in (whole.0, ap (λ s. outcome_of_script s) script_is ∙ whole.1)
 
-  read_failed : stop ≡ Failed → read_run stop bytes ≡ read_run Failed bytes
-  read_failed failed = ap (λ s. read_run s bytes) failed
+  read_failed : stop ≡ Failed → outcome_of_read stop bytes ≡ outcome_of_read Failed bytes
+  read_failed failed = ap (λ s. outcome_of_read s bytes) failed
 
   -- what was read has a fault of the script: the script has it, after the same answers
-  same_fault : (e : BenchFault) → (read_run stop bytes).fault ≡ Some e → IsFaultOfScript e → script_run script ≡ read_run stop bytes
+  same_fault : (e : BenchFault) → (outcome_of_read stop bytes).fault ≡ Some e → IsFaultOfScript e → outcome_of_script script ≡ outcome_of_read stop bytes
   same_fault e has own = elim (is_failed stop) [
     | inr other ↦ same_run other
-    | inl failed ↦ elim (failed_run bytes) [
+    | inl failed ↦ elim (outcome_of_failed_read bytes) [
       | inl clean ↦ absurd (subst IsFaultOfScript (let h : Some Read ≡ Some e = sym (ap fault_of (read_failed failed ∙ clean.1)) ∙ has in same h) own)
-      | inr some ↦ goes_on.1 ∙ and_then-some (whole_run bytes) goes_on.0 some.0 some.1 ∙ sym (read_failed failed ∙ some.2)
+      | inr some ↦ goes_on.1 ∙ and_then-some (outcome_of_whole_lines bytes) goes_on.0 some.0 some.1 ∙ sym (read_failed failed ∙ some.2)
     ]
   ]
     where
@@ -261,26 +258,26 @@ module _ (left left_after : Option (List ℕ)) (stop : Stop) (bytes : List ℕ) 
       same h = cc
 
   -- the answers to what was read are the first of the script's
-  pub part_of : (old new : Option (List ℕ)) → AppendsFront old new (read_run stop bytes).text → IsPartOfReplay left old new
+  pub part_of : (old new : Option (List ℕ)) → AppendsFront old new (outcome_of_read stop bytes).text → IsPartOfReplay left old new
   part_of old new front = (
     script,
     is_input,
     elim (is_failed stop) [
       | inr other ↦ subst (λ (o : Outcome). AppendsFront old new o.text) (sym (same_run other)) front
-      | inl failed ↦ elim (failed_run bytes) [
+      | inl failed ↦ elim (outcome_of_failed_read bytes) [
         | inl clean ↦
-            let whole = subst (AppendsFront old new) (ap (λ (o : Outcome). o.text) (read_failed failed ∙ clean.1) ∙ append-nil (whole_run bytes).text) front in
-            subst (λ (o : Outcome). AppendsFront old new o.text) (sym (goes_on.1 ∙ and_then-none (whole_run bytes) goes_on.0 clean.0))
-            (AppendsFront-more old new (whole_run bytes).text (goes_on.0 (whole_run bytes).bench).text whole)
+            let whole = subst (AppendsFront old new) (ap (λ (o : Outcome). o.text) (read_failed failed ∙ clean.1) ∙ append-nil (outcome_of_whole_lines bytes).text) front in
+            subst (λ (o : Outcome). AppendsFront old new o.text) (sym (goes_on.1 ∙ and_then-none (outcome_of_whole_lines bytes) goes_on.0 clean.0))
+            (AppendsFront-more old new (outcome_of_whole_lines bytes).text (goes_on.0 (outcome_of_whole_lines bytes).bench).text whole)
         | inr some ↦
-            subst (λ (o : Outcome). AppendsFront old new o.text) (read_failed failed ∙ some.2 ∙ sym (goes_on.1 ∙ and_then-some (whole_run bytes) goes_on.0 some.0 some.1)) front
+            subst (λ (o : Outcome). AppendsFront old new o.text) (read_failed failed ∙ some.2 ∙ sym (goes_on.1 ∙ and_then-some (outcome_of_whole_lines bytes) goes_on.0 some.0 some.1)) front
       ]
     ],
   )
 
   -- the script has this outcome, and the text of its answers was written
-  replayed_as : (old new : Option (List ℕ)) (answers : List ℕ) (f : Option BenchFault) → script_run script ≡ read_run stop bytes → (read_run stop bytes).fault ≡ f
-      → answers ≡ (read_run stop bytes).text → Appends old new answers → IsReplay left old new f
+  replayed_as : (old new : Option (List ℕ)) (answers : List ℕ) (f : Option BenchFault) → outcome_of_script script ≡ outcome_of_read stop bytes → (outcome_of_read stop bytes).fault ≡ f
+      → answers ≡ (outcome_of_read stop bytes).text → Appends old new answers → IsReplay left old new f
   replayed_as old new answers f same has text appends = (
     script,
     is_input,
@@ -288,10 +285,10 @@ module _ (left left_after : Option (List ℕ)) (stop : Stop) (bytes : List ℕ) 
     subst (Appends old new) (text ∙ sym (ap (λ (o : Outcome). o.text) same)) appends,
   )
 
-  not_failed : (read_run stop bytes).fault ≡ None → stop ≡ Failed → ⊥
+  not_failed : (outcome_of_read stop bytes).fault ≡ None → stop ≡ Failed → ⊥
   not_failed none failed = let e = end_of_run stop bytes none in let f : End ≡ Failed = sym e ∙ failed in cc
 
-  pub ended-replayed : {A : Type 0} (answers : List ℕ) (result : Result A BenchFault) → EndsAs (read_run stop bytes) [] answers result
+  pub ended-replayed : {A : Type 0} (answers : List ℕ) (result : Result A BenchFault) → EndsAs (outcome_of_read stop bytes) [] answers result
       → (old new : Option (List ℕ)) → Appends old new answers → OnOk result (IsReplay left old new None)
   ended-replayed answers (Ok x) ends old new appends = replayed_as old new answers None (same_run (not_failed ends.0)) ends.0 ends.1 appends
   ended-replayed answers (Err e) ends old new appends = tt
@@ -299,72 +296,88 @@ module _ (left left_after : Option (List ℕ)) (stop : Stop) (bytes : List ℕ) 
   script_whole : stop ≡ End → script ≡ bytes
   script_whole e = script_is ∙ ap (λ p. bytes ++ p) (past_left-end bytes is.past left_after (subst (λ s. StopsAt s bytes is.past left_after) e is.stops)) ∙ append-nil bytes
 
-  pub ended-summary : (answers : List ℕ) (result : Result Summary BenchFault) → EndsAs (read_run stop bytes) [] answers result
-      → IfOk result (λ s. option_map (any_summary_of (length (lines_read stop bytes))) (read_run stop bytes).bench ≡ Some s) → IfOk result (IsSummary left)
+  pub ended-summary : (answers : List ℕ) (result : Result Summary BenchFault) → EndsAs (outcome_of_read stop bytes) [] answers result
+      → IfOk result (λ s. option_map (summary_of_bench (length (lines_of_read stop bytes))) (outcome_of_read stop bytes).bench ≡ Some s) → IfOk result (IsSummary left)
   ended-summary answers (Ok s) ends has =
       let whole = end_of_run stop bytes ends.0 in
-      let lines : length (lines_of script) ≡ length (lines_read stop bytes) = ap (λ t. length (lines_of t)) (script_whole whole) ∙ ap (λ k. length (lines_read k bytes)) (sym whole) in (
+      let lines : length (lines_of script) ≡ length (lines_of_read stop bytes) = ap (λ t. length (lines_of t)) (script_whole whole) ∙ ap (λ k. length (lines_of_read k bytes)) (sym whole) in (
         script,
         is_input,
-        ap (λ (o : Outcome). option_map (any_summary_of (length (lines_of script))) o.bench) (same_run (not_failed ends.0)) ∙ ap (λ n. option_map (any_summary_of n) (read_run stop bytes).bench) lines ∙ has,
+        ap (λ (o : Outcome). option_map (summary_of_bench (length (lines_of script))) o.bench) (same_run (not_failed ends.0)) ∙ ap (λ n. option_map (summary_of_bench n) (outcome_of_read stop bytes).bench) lines ∙ has,
       )
   ended-summary answers (Err e) ends has = tt
 
-  pub ended-all_read : {A : Type 0} (answers : List ℕ) (result : Result A BenchFault) → EndsAs (read_run stop bytes) [] answers result → OnOk result (stop ≡ End)
+  pub ended-all_read : {A : Type 0} (answers : List ℕ) (result : Result A BenchFault) → EndsAs (outcome_of_read stop bytes) [] answers result → OnOk result (stop ≡ End)
   ended-all_read answers (Ok x) ends = end_of_run stop bytes ends.0
   ended-all_read answers (Err e) ends = tt
 
-  pub ended-fault : {A : Type 0} (answers : List ℕ) (result : Result A BenchFault) → EndsAs (read_run stop bytes) [] answers result
+  pub ended-fault : {A : Type 0} (answers : List ℕ) (result : Result A BenchFault) → EndsAs (outcome_of_read stop bytes) [] answers result
       → (old new : Option (List ℕ)) → Appends old new answers → IfErr result (λ e. IsFaultOfScript e → IsReplay left old new (Some e))
   ended-fault answers (Ok x) ends old new appends = tt
   ended-fault answers (Err e) (inl memory) old new appends = λ own. absurd (subst IsFaultOfScript memory own)
   ended-fault answers (Err e) (inr has) old new appends = λ own. replayed_as old new answers (Some e) (same_fault e has.0 own) has.0 has.1 appends
 
-  pub ended-part : {A : Type 0} (answers : List ℕ) (result : Result A BenchFault) → EndsAs (read_run stop bytes) [] answers result
+  pub ended-part : {A : Type 0} (answers : List ℕ) (result : Result A BenchFault) → EndsAs (outcome_of_read stop bytes) [] answers result
       → (old new : Option (List ℕ)) → (result ≡ Err Memory → ⊥) → AppendsFront old new answers → IsPartOfReplay left old new
   ended-part answers (Ok x) ends old new other front = part_of old new (subst (AppendsFront old new) ends.1 front)
   ended-part answers (Err e) (inl memory) old new other front = absurd (other (ap Err memory))
   ended-part answers (Err e) (inr has) old new other front = part_of old new (subst (AppendsFront old new) has.1 front)
 
-  pub read_fault : {A : Type 0} (answers : List ℕ) (result : Result A BenchFault) → EndsAs (read_run stop bytes) [] answers result → (e : BenchFault) → result ≡ Err e → (e ≡ Memory → ⊥)
-      → ((read_run stop bytes).fault ≡ Some e) × (answers ≡ (read_run stop bytes).text)
+  pub read_fault : {A : Type 0} (answers : List ℕ) (result : Result A BenchFault) → EndsAs (outcome_of_read stop bytes) [] answers result → (e : BenchFault) → result ≡ Err e → (e ≡ Memory → ⊥)
+      → ((outcome_of_read stop bytes).fault ≡ Some e) × (answers ≡ (outcome_of_read stop bytes).text)
   read_fault answers (Ok x) ends e is_err other = absurd (let f : Ok x ≡ Err e = is_err in cc)
   read_fault answers (Err f) (inl memory) e is_err other = absurd (let g : Err f ≡ Err e = is_err in other cc)
-  read_fault answers (Err f) (inr has) e is_err other = (let g : Err f ≡ Err e = is_err in let h : f ≡ e = cc in subst (λ x. (read_run stop bytes).fault ≡ Some x) h has.0, has.1)
+  read_fault answers (Err f) (inr has) e is_err other = (let g : Err f ≡ Err e = is_err in let h : f ≡ e = cc in subst (λ x. (outcome_of_read stop bytes).fault ≡ Some x) h has.0, has.1)
 
-  not_own : (e : BenchFault) → (read_run stop bytes).fault ≡ Some e → (IsFaultOfScript e → ⊥) → e ≡ Read
-  not_own e has other = elim (FaultsOnly-read_run stop bytes e has) [ inl own ↦ absurd (other own) | inr read ↦ read ]
+  not_own : (e : BenchFault) → (outcome_of_read stop bytes).fault ≡ Some e → (IsFaultOfScript e → ⊥) → e ≡ Read
+  not_own e has other = elim (FaultsOnly-outcome_of_read stop bytes e has) [ inl own ↦ absurd (other own) | inr read ↦ read ]
 
-  pub ended-writer : {A : Type 0} (answers : List ℕ) (result : Result A BenchFault) → EndsAs (read_run stop bytes) [] answers result → result ≡ Err Write → ⊥
+  pub ended-writer : {A : Type 0} (answers : List ℕ) (result : Result A BenchFault) → EndsAs (outcome_of_read stop bytes) [] answers result → result ≡ Err Write → ⊥
   ended-writer answers result ends e =
       let has = read_fault answers result ends Write e (λ f. cc) in
       let f : Write ≡ Read = not_own Write has.0 (λ own. own) in cc
 
-  pub ended-reader : {A : Type 0} (answers : List ℕ) (result : Result A BenchFault) → EndsAs (read_run stop bytes) [] answers result → result ≡ Err Read → stop ≡ Failed
+  pub ended-reader : {A : Type 0} (answers : List ℕ) (result : Result A BenchFault) → EndsAs (outcome_of_read stop bytes) [] answers result → result ≡ Err Read → stop ≡ Failed
   ended-reader answers result ends e = elim (is_failed stop) [
     | inl failed ↦ failed
     | inr other ↦ absurd (own_fault (read_fault answers result ends Read e (λ f. cc)).0 (same_run other))
   ]
     where
-      own_fault : (read_run stop bytes).fault ≡ Some Read → script_run script ≡ read_run stop bytes → ⊥
-      own_fault has same = FaultsOnly-script_run script Read (ap (λ (o : Outcome). o.fault) same ∙ has)
+      own_fault : (outcome_of_read stop bytes).fault ≡ Some Read → outcome_of_script script ≡ outcome_of_read stop bytes → ⊥
+      own_fault has same = FaultsOnly-outcome_of_script script Read (ap (λ (o : Outcome). o.fault) same ∙ has)
 
-  pub ended-read : {A : Type 0} (answers : List ℕ) (result : Result A BenchFault) → EndsAs (read_run stop bytes) [] answers result
+  pub ended-read : {A : Type 0} (answers : List ℕ) (result : Result A BenchFault) → EndsAs (outcome_of_read stop bytes) [] answers result
       → (old new : Option (List ℕ)) → Appends old new answers → result ≡ Err Read → HasAnswered left left_after old new
   ended-read answers result ends old new appends e =
       let failed = ended-reader answers result ends e in
       let has = read_fault answers result ends Read e (λ f. cc) in
       let nothing_past = subst (λ s. StopsAt s bytes is.past left_after) failed is.stops in
       let given = subst (Consumes left left_after) (ap (λ p. bytes ++ p) nothing_past ∙ append-nil bytes) is.consumed in
-      elim (failed_run bytes) [
-        | inl clean ↦ (bytes, given, clean.0, subst (Appends old new) (has.1 ∙ ap (λ (o : Outcome). o.text) (read_failed failed ∙ clean.1) ∙ append-nil (whole_run bytes).text) appends)
-        | inr some ↦ absurd (FaultsOnly-lines_run 1 None (cut bytes).whole Read (sym (ap (λ (o : Outcome). o.fault) (read_failed failed ∙ some.2)) ∙ has.0))
+      elim (outcome_of_failed_read bytes) [
+        | inl clean ↦ (bytes, given, clean.0, subst (Appends old new) (has.1 ∙ ap (λ (o : Outcome). o.text) (read_failed failed ∙ clean.1) ∙ append-nil (outcome_of_whole_lines bytes).text) appends)
+        | inr some ↦ absurd (FaultsOnly-outcome_of_lines 1 None (cut bytes).whole Read (sym (ap (λ (o : Outcome). o.fault) (read_failed failed ∙ some.2)) ∙ has.0))
       ]
 
+-- the run from the first line on is the run of all that was read
+no_lines_before : (lines : ℕ) → 0 + lines ≡ lines
+no_lines_before lines = omega arith
+
+outcome_of_rest-all : (stop : Stop) (bytes : List ℕ) → outcome_of_rest stop 0 None bytes ≡ outcome_of_read stop bytes
+outcome_of_rest-all stop bytes = ap (λ n. and_then (outcome_of_lines 1 None (lines_of_read stop bytes)) (λ after. outcome_of_stop stop n after)) (no_lines_before (length (lines_of_read stop bytes)))
+
 pub EndsAs-from : {A : Type 0} (stop : Stop) (bytes slice old answers : List ℕ) (result : Result A BenchFault) → slice ≡ bytes → old ≡ []
-    → EndsAs (read_run stop slice) old answers result → EndsAs (read_run stop bytes) [] answers result
+    → EndsAs (outcome_of_rest stop 0 None slice) old answers result → EndsAs (outcome_of_read stop bytes) [] answers result
 EndsAs-from stop bytes slice old answers result e f ends =
-    subst (λ b. EndsAs (read_run stop b) [] answers result) e (subst (λ o. EndsAs (read_run stop slice) o answers result) f ends)
+    subst (λ b. EndsAs (outcome_of_read stop b) [] answers result) e
+    (subst (λ o. EndsAs (outcome_of_read stop slice) o answers result) f (subst (λ (o : Outcome). EndsAs o old answers result) (outcome_of_rest-all stop slice) ends))
+
+pub summary-from : (stop : Stop) (bytes slice : List ℕ) (result : Result Summary BenchFault) → slice ≡ bytes
+    → IfOk result (λ s. option_map (summary_of_bench (0 + length (lines_of_read stop slice))) (outcome_of_rest stop 0 None slice).bench ≡ Some s)
+    → IfOk result (λ s. option_map (summary_of_bench (length (lines_of_read stop bytes))) (outcome_of_read stop bytes).bench ≡ Some s)
+summary-from stop bytes slice result e has =
+    subst (λ b. IfOk result (λ s. option_map (summary_of_bench (length (lines_of_read stop b))) (outcome_of_read stop b).bench ≡ Some s)) e
+    (subst (λ n. IfOk result (λ s. option_map (summary_of_bench n) (outcome_of_read stop slice).bench ≡ Some s)) (no_lines_before (length (lines_of_read stop slice)))
+    (subst (λ (o : Outcome). IfOk result (λ s. option_map (summary_of_bench (0 + length (lines_of_read stop slice))) o.bench ≡ Some s)) (outcome_of_rest-all stop slice) has))
 
 pub IfErr-always : {A E : Type 0} (result : Result A E) (P : Type 0) → P → IfErr result (λ e. P)
 IfErr-always (Ok x) P p = tt

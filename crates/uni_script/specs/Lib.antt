@@ -1,9 +1,11 @@
 pub mod Ends
 pub mod Script
 pub mod Answers
+pub mod Objects
 pub mod Meaning
-pub mod AnyWorlds
 pub mod Reading
 pub mod Summaries
 pub mod Replays
 pub mod Scripts
+pub mod Finishes
+pub mod Faults

@@ -8,7 +8,7 @@ use Rattle.uni_script.specs.declared.fault.BenchFault.TheVariants as fault
 use Rattle.uni_script.specs.declared.script.Stop.{Stop}
 use Rattle.uni_script.specs.declared.script.Stop.TheVariants.{End, Failed, TooLong, TooMany}
 use Rattle.uni_script.specs.Script.{cut, lines_of}
-use Rattle.uni_script.specs.Meaning.{AnyBench, Outcome, faulted, and_then, lines_run, end_run}
+use Rattle.uni_script.specs.Meaning.{ScriptBench, Outcome, outcome_of_fault, and_then, outcome_of_lines, outcome_of_end}
 
 -- whether reading stops at a byte after so many whole lines, and so many bytes of the line after them
 abbrev pub stop_of_byte : (lines column byte : ℕ) → Option Stop
@@ -53,20 +53,25 @@ pub record IsRead (old new : Option (List ℕ)) (stop : Stop) (bytes : List ℕ)
   pub stops : StopsAt stop bytes past new
 
 -- the lines that are run of what was read: the last one may lack its end only where the whole script was read
-abbrev pub lines_read : Stop → List ℕ → List (List ℕ)
-lines_read End bytes = lines_of bytes
-lines_read _ bytes = (cut bytes).whole
+abbrev pub lines_of_read : Stop → List ℕ → List (List ℕ)
+lines_of_read End bytes = lines_of bytes
+lines_of_read _ bytes = (cut bytes).whole
 
 -- what comes after those lines
-abbrev pub stop_run : Stop → (lines : ℕ) → Option AnyBench → Outcome
-stop_run End lines b = end_run lines b
-stop_run Failed lines b = faulted b Read
-stop_run TooLong lines b = faulted b (fault.TooLong (lines + 1))
-stop_run TooMany lines b = faulted b fault.TooMany
+abbrev pub outcome_of_stop : Stop → (lines : ℕ) → Option ScriptBench → Outcome
+outcome_of_stop End lines b = outcome_of_end lines b
+outcome_of_stop Failed lines b = outcome_of_fault b Read
+outcome_of_stop TooLong lines b = outcome_of_fault b (fault.TooLong (lines + 1))
+outcome_of_stop TooMany lines b = outcome_of_fault b fault.TooMany
+
+-- the run of what is left of it after so many lines, which have left this bench
+abbrev pub outcome_of_rest : Stop → (lines : ℕ) → Option ScriptBench → List ℕ → Outcome
+outcome_of_rest stop lines b bytes =
+    and_then (outcome_of_lines (lines + 1) b (lines_of_read stop bytes)) (λ after. outcome_of_stop stop (lines + length (lines_of_read stop bytes)) after)
 
 -- the run of what was read
-abbrev pub read_run : Stop → List ℕ → Outcome
-read_run stop bytes = and_then (lines_run 1 None (lines_read stop bytes)) (λ after. stop_run stop (length (lines_read stop bytes)) after)
+abbrev pub outcome_of_read : Stop → List ℕ → Outcome
+outcome_of_read stop bytes = and_then (outcome_of_lines 1 None (lines_of_read stop bytes)) (λ after. outcome_of_stop stop (length (lines_of_read stop bytes)) after)
 
 -- a call ended as the outcome says, and a text grew by its text; or memory was refused
 abbrev pub EndsAs : {A : Type 0} → Outcome → (old new : List ℕ) → Result A BenchFault → Type 0

@@ -6,16 +6,16 @@ use Rattle.uni_script.specs.declared.fault.BenchFault.TheVariants.{NoHeader, Bad
 use Rattle.uni_script.specs.Ends.{AppendsFront}
 use Rattle.uni_script.specs.Script.{cut}
 use Rattle.uni_script.specs.declared.summary.Summary.{Summary}
-use Rattle.uni_script.specs.Meaning.{lines_run, script_run}
+use Rattle.uni_script.specs.Meaning.{outcome_of_lines, outcome_of_script}
 use Rattle.uni_script.specs.Summaries.{summary_of_script}
 
 -- the text that a script's answers make, up to its first fault
 abbrev pub text_of_script : List ℕ → List ℕ
-text_of_script script = (script_run script).text
+text_of_script script = (outcome_of_script script).text
 
 -- the first fault of a script, if it has one
 abbrev pub fault_of_script : List ℕ → Option BenchFault
-fault_of_script script = (script_run script).fault
+fault_of_script script = (outcome_of_script script).fault
 
 -- where a reader's bytes are known, they are these
 abbrev pub IsInput : Option (List ℕ) → List ℕ → Type 0
@@ -35,10 +35,10 @@ IsPartOfReplay left old new = (script : List ℕ) × IsInput left script × Appe
 
 -- what the whole lines of some bytes come to
 abbrev pub text_of_whole_lines : List ℕ → List ℕ
-text_of_whole_lines bytes = (lines_run 1 None (cut bytes).whole).text
+text_of_whole_lines bytes = (outcome_of_lines 1 None (cut bytes).whole).text
 
 abbrev pub fault_of_whole_lines : List ℕ → Option BenchFault
-fault_of_whole_lines bytes = (lines_run 1 None (cut bytes).whole).fault
+fault_of_whole_lines bytes = (outcome_of_lines 1 None (cut bytes).whole).fault
 
 -- the reader gave some bytes whose whole lines have no fault, and the text of their answers was written
 abbrev pub HasAnswered : (left left_after old new : Option (List ℕ)) → Type 0

@@ -1,5 +1,5 @@
 -- The lines of a script, and what each of them means.
-use Rattle.std.specs.Prelude.{◌≡◌, ℕ, ◌==◌, nat_le, ◌&&◌, if◌then◌else◌, Bool, true, List, [], ◌∷◌, ◌++◌, Option, Some, None, option_map, option_and_then, codes, refl}
+use Rattle.std.specs.Prelude.{◌≡◌, ◌≤◌, ℕ, ◌==◌, nat_le, ◌&&◌, if◌then◌else◌, Bool, true, List, [], ◌∷◌, ◌++◌, Option, Some, None, option_map, option_and_then, codes, refl}
 use Rattle.std.specs.Str.{bytes_eq}
 use Rattle.ready_objects.specs.Number.{number_of_word}
 use Rattle.ready_objects.specs.Queue.{queue_inv_of_words}
@@ -59,6 +59,10 @@ object_of_word word =
 -- the header of so many processes, 1 to 16, with rows of so many cells, 1 to 4096
 abbrev pub header_with : ObjectName → (n k : ℕ) → Option Header
 header_with object n k = if nat_le 1 n && nat_le n 16 && nat_le 1 k && nat_le k 4096 then Some (record { object = object; processes = n; row = k }) else None
+
+-- the numbers of a header are in range
+abbrev pub IsInRange : Header → Type 0
+IsInRange header = (1 ≤ header.processes) × (header.processes ≤ 16) × (1 ≤ header.row) × (header.row ≤ 4096)
 
 -- a header, where its three parts are read
 abbrev pub header_of : Option ObjectName → Option ℕ → Option ℕ → Option Header

@@ -3,7 +3,7 @@ use Rattle.std.specs.Prelude.{◌≡◌, ℕ, List, [], ◌∷◌, ◌++◌, rep
 use Rattle.std.specs.Fmt.{digits}
 use Rattle.ready_objects.specs.Number.{number_of_word}
 use Rattle.uni_script.specs.declared.fault.BenchFault.TheVariants.{NoHeader, BadHeader, TooLong, BadByte, BadLine, TooMany}
-use Rattle.uni_script.specs.Meaning.{line_run, faulted}
+use Rattle.uni_script.specs.Meaning.{outcome_of_line, outcome_of_fault}
 use Rattle.uni_script.specs.Summaries.{summary_of_script}
 use Rattle.uni_script.specs.Replays.{text_of_script, fault_of_script}
 
@@ -105,7 +105,7 @@ unfolding digits number_of_word
 too_long_comes_first = refl
 
 -- and line 100001 is one too many before it is too long
-too_many_comes_first : line_run 100001 None (replicate 201 9) ≡ faulted None TooMany
+too_many_comes_first : outcome_of_line 100001 None (replicate 201 9) ≡ outcome_of_fault None TooMany
 too_many_comes_first = refl
 
 -- what is refused is answered, and changes nothing

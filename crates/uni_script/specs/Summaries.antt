@@ -4,8 +4,7 @@ use Rattle.uni_model.specs.Stages.{Pending}
 use Rattle.uni_model.specs.Worlds.{WorldOf, sum_below, calls_begun}
 use Rattle.uni_script.specs.declared.summary.Summary.{Summary}
 use Rattle.uni_script.specs.Script.{lines_of}
-use Rattle.uni_script.specs.Meaning.{Bench, AnyBench, script_run}
-use Rattle.uni_script.specs.Meaning.AnyBench.{OfQueue, OfDirectory, OfBook, OfSticky}
+use Rattle.uni_script.specs.Meaning.{Bench, ScriptBench, outcome_of_script}
 
 -- how many of the calls that a process has begun have returned: all but the pending one
 abbrev pub returned_of : Option Pending → (begun : ℕ) → ℕ
@@ -20,12 +19,9 @@ calls_returned w = sum_below w.n (λ p. returned_of (w.call p) (w.begun p))
 abbrev pub summary_of : {S I R : Type 0} → (lines : ℕ) → Bench S I R → Summary
 summary_of lines b = record { lines = lines; calls = calls_begun b.world; returns = calls_returned b.world }
 
-abbrev pub any_summary_of : (lines : ℕ) → AnyBench → Summary
-any_summary_of lines (OfQueue b) = summary_of lines b
-any_summary_of lines (OfDirectory b) = summary_of lines b
-any_summary_of lines (OfBook b) = summary_of lines b
-any_summary_of lines (OfSticky b) = summary_of lines b
+abbrev pub summary_of_bench : (lines : ℕ) → ScriptBench → Summary
+summary_of_bench lines b = summary_of lines b.bench
 
 -- the summary of a script that opens a world
 abbrev pub summary_of_script : List ℕ → Option Summary
-summary_of_script script = option_map (any_summary_of (length (lines_of script))) (script_run script).bench
+summary_of_script script = option_map (summary_of_bench (length (lines_of script))) (outcome_of_script script).bench

@@ -4,30 +4,33 @@ ghost use Rattle.std.specs.Prelude.{◌≡◌, ◌<◌, ◌≤◌, ◌++◌, IfO
 ghost use Rattle.std.specs.Option.{option_map_or};
 ghost use Rattle.ready_objects.specs.Words.{text_of_words};
 ghost use Rattle.uni_model.specs.Places.{head_seq};
-ghost use Rattle.uni_core.specs.Whole.{shown};
+ghost use Rattle.uni_core.specs.Whole.{world_of};
 ghost use Rattle.uni_log.specs.Shown.{entry_shown};
+ghost use Rattle.uni_script.specs.Script.{IsInRange};
 ghost use Rattle.uni_script.specs.Answers.{answer_text, numbers_text, heads_text, entry_text, IsOver};
-ghost use Rattle.uni_script.specs.Meaning.{bench_of, bench_opened, language_of, made, call_made, step_made, steps_taken, most_steps, log_text};
+ghost use Rattle.uni_script.specs.Meaning.{bench_of, opened_bench, result_of_command, result_of_call, result_of_steps, outcome_of_steps, most_steps, log_text};
 
 use crate::answer::{Answer, Refusal, push_answer};
 use crate::grammar::{Command, Header};
 use ready_objects::Spoken;
 use std::alloc::{AllocError, Global};
 use std::io::Write;
-use uni_core::{BeginFault, Progress, World};
+use uni_core::{BeginFault, OpenFault, Progress, StepFault, World};
 use uni_log::{Entry, Log};
 
 /// Opens the world of a header, for processes that share this object.
 ///
 /// An `Err` says that memory was refused.
 pub fn open<O: Spoken>(alloc: Global, object: O, header: Header) -> Result<World<O>, AllocError>
-    ensures bench { IfOk result (λ world. bench_of world ≡ bench_opened (language_of O.initial O.next O.answer O.inv_of_words O.inv_words O.resp_bytes object) header) }
+    requires { IsInRange header }
+    ensures bench { IfOk result (λ world. bench_of world ≡ opened_bench (record { object = O.sequential object; language = O.language }) header) }
     ensures object { IfOk result (λ world. world.object ≡ object) }
 {
-    // The numbers of a header are in range, so that memory alone is refused.
     match World::open(alloc, object, header.processes, header.row) {
         Ok(world) => Ok(world),
-        Err(_) => Err(AllocError),
+        Err(OpenFault::Memory) => Err(AllocError),
+        // The numbers of a header are in range.
+        Err(OpenFault::BadCount | OpenFault::BadRow | OpenFault::SeqFull) => unreachable!(),
     }
 }
 
@@ -41,8 +44,8 @@ pub fn make<O: Spoken>(
     text: &mut Vec<u8>,
 ) -> Result<(), AllocError>
     ensures object { world.new.object ≡ world.old.object }
-    ensures bench { OnOk result (bench_of world.new ≡ (made (language_of O.initial O.next O.answer O.inv_of_words O.inv_words O.resp_bytes world.old.object) (bench_of world.old) command).bench) }
-    ensures text { OnOk result (text.new.items ≡ text.old.items ++ (made (language_of O.initial O.next O.answer O.inv_of_words O.inv_words O.resp_bytes world.old.object) (bench_of world.old) command).text) }
+    ensures bench { OnOk result (bench_of world.new ≡ (result_of_command (record { object = O.sequential world.old.object; language = O.language }) (bench_of world.old) command).bench) }
+    ensures text { OnOk result (text.new.items ≡ text.old.items ++ (result_of_command (record { object = O.sequential world.old.object; language = O.language }) (bench_of world.old) command).text) }
 {
     match command {
         Command::Call { process, inv } => {
@@ -72,8 +75,8 @@ fn call<O: Spoken>(
     inv: &O::Inv,
 ) -> Result<Answer, AllocError>
     ensures object { world.new.object ≡ world.old.object }
-    ensures bench { OnOk result (bench_of world.new ≡ (call_made (language_of O.initial O.next O.answer O.inv_of_words O.inv_words O.resp_bytes world.old.object) (bench_of world.old) process inv.now).bench) }
-    ensures answer { IfOk result (λ answer. answer_text answer ≡ (call_made (language_of O.initial O.next O.answer O.inv_of_words O.inv_words O.resp_bytes world.old.object) (bench_of world.old) process inv.now).text) }
+    ensures bench { OnOk result (bench_of world.new ≡ (result_of_call (record { object = O.sequential world.old.object; language = O.language }) (bench_of world.old) process inv.now).bench) }
+    ensures answer { IfOk result (λ answer. answer_text answer ≡ (result_of_call (record { object = O.sequential world.old.object; language = O.language }) (bench_of world.old) process inv.now).text) }
 {
     match world.begin(alloc, process, inv) {
         Ok(call) => Ok(Answer::Called(call)),
@@ -94,8 +97,8 @@ fn finish<O: Spoken>(
     process: u64,
 ) -> Result<Answer, AllocError>
     ensures object { world.new.object ≡ world.old.object }
-    ensures bench { OnOk result (bench_of world.new ≡ (step_made (language_of O.initial O.next O.answer O.inv_of_words O.inv_words O.resp_bytes world.old.object) (bench_of world.old) process (most_steps (shown world.old).n)).bench) }
-    ensures answer { IfOk result (λ answer. answer_text answer ≡ (step_made (language_of O.initial O.next O.answer O.inv_of_words O.inv_words O.resp_bytes world.old.object) (bench_of world.old) process (most_steps (shown world.old).n)).text) }
+    ensures bench { OnOk result (bench_of world.new ≡ (result_of_steps (record { object = O.sequential world.old.object; language = O.language }) (bench_of world.old) process (most_steps (world_of world.old).n)).bench) }
+    ensures answer { IfOk result (λ answer. answer_text answer ≡ (result_of_steps (record { object = O.sequential world.old.object; language = O.language }) (bench_of world.old) process (most_steps (world_of world.old).n)).text) }
     ensures over { IfOk result IsOver }
 {
     world.shape();
@@ -114,9 +117,9 @@ fn step<O: Spoken>(
     most: u64,
 ) -> Result<Answer, AllocError>
     ensures object { world.new.object ≡ world.old.object }
-    ensures bench { OnOk result (bench_of world.new ≡ (step_made (language_of O.initial O.next O.answer O.inv_of_words O.inv_words O.resp_bytes world.old.object) (bench_of world.old) process most).bench) }
-    ensures answer { IfOk result (λ answer. answer_text answer ≡ (step_made (language_of O.initial O.next O.answer O.inv_of_words O.inv_words O.resp_bytes world.old.object) (bench_of world.old) process most).text) }
-    ensures over { IfOk result (λ answer. most_steps (shown world.old).n ≤ most → IsOver answer) }
+    ensures bench { OnOk result (bench_of world.new ≡ (result_of_steps (record { object = O.sequential world.old.object; language = O.language }) (bench_of world.old) process most).bench) }
+    ensures answer { IfOk result (λ answer. answer_text answer ≡ (result_of_steps (record { object = O.sequential world.old.object; language = O.language }) (bench_of world.old) process most).text) }
+    ensures over { IfOk result (λ answer. most_steps (world_of world.old).n ≤ most → IsOver answer) }
 {
     if process >= world.processes() {
         return Ok(Answer::Refused(Refusal::Process(process)));
@@ -149,19 +152,20 @@ fn step_on<O: Spoken>(
     process: u64,
     most: u64,
 ) -> Result<Option<O::Resp>, AllocError>
-    requires process { process < (shown world.old).n }
-    requires pending { IsSome ((shown world.old).call process) }
-    ensures stepped { IfOk result (λ response. record { world = shown world.new; response = response } ≡ steps_taken (language_of O.initial O.next O.answer O.inv_of_words O.inv_words O.resp_bytes world.old.object) most (shown world.old) process) }
+    requires process { process < (world_of world.old).n }
+    requires pending { IsSome ((world_of world.old).call process) }
+    ensures stepped { IfOk result (λ response. record { world = world_of world.new; response = response } ≡ outcome_of_steps (record { object = O.sequential world.old.object; language = O.language }) most (world_of world.old) process) }
     ensures object { world.new.object ≡ world.old.object }
-    ensures kept { (world.new.row ≡ world.old.row) × ((shown world.new).n ≡ (shown world.old).n) }
-    ensures over { IfOk result (λ response. most_steps (shown world.old).n ≤ most → IsSome response) }
+    ensures kept { (world.new.row ≡ world.old.row) × ((world_of world.new).n ≡ (world_of world.old).n) }
+    ensures over { IfOk result (λ response. most_steps (world_of world.old).n ≤ most → IsSome response) }
 {
     for _ in 0..most {
         match world.step(alloc, process) {
             Ok(Progress::Done(response)) => return Ok(Some(response)),
             Ok(Progress::Going) => {}
-            // The process has a call, so that memory alone is refused.
-            Err(_) => return Err(AllocError),
+            Err(StepFault::Memory) => return Err(AllocError),
+            // There is such a process, and it has a call.
+            Err(StepFault::BadProcess | StepFault::Idle(_)) => unreachable!(),
         }
     }
     world.shape();
@@ -172,7 +176,7 @@ fn step_on<O: Spoken>(
 ///
 /// An `Err` says that memory was refused.
 fn push_heads<O: Spoken>(world: &World<O>, text: &mut Vec<u8>) -> Result<(), AllocError>
-    ensures { OnOk result (text.new.items ≡ text.old.items ++ heads_text (shown world.now).n (head_seq (shown world.now).memory)) }
+    ensures { OnOk result (text.new.items ≡ text.old.items ++ heads_text (world_of world.now).n (head_seq (world_of world.now).memory)) }
 {
     write!(text, "heads").map_err(|_| AllocError)?;
     push_numbers(world, text)?;
@@ -183,7 +187,7 @@ fn push_heads<O: Spoken>(world: &World<O>, text: &mut Vec<u8>) -> Result<(), All
 ///
 /// An `Err` says that memory was refused.
 fn push_numbers<O: Spoken>(world: &World<O>, text: &mut Vec<u8>) -> Result<(), AllocError>
-    ensures { OnOk result (text.new.items ≡ text.old.items ++ numbers_text (shown world.now).n (head_seq (shown world.now).memory)) }
+    ensures { OnOk result (text.new.items ≡ text.old.items ++ numbers_text (world_of world.now).n (head_seq (world_of world.now).memory)) }
 {
     for process in 0..world.processes() {
         write!(text, " {}", world.head_seq(process)).map_err(|_| AllocError)?;
@@ -199,7 +203,7 @@ fn push_log<O: Spoken>(
     alloc: Global,
     text: &mut Vec<u8>,
 ) -> Result<(), AllocError>
-    ensures { OnOk result (text.new.items ≡ text.old.items ++ log_text (language_of O.initial O.next O.answer O.inv_of_words O.inv_words O.resp_bytes world.now.object) (shown world.now)) }
+    ensures { OnOk result (text.new.items ≡ text.old.items ++ log_text (record { object = O.sequential world.now.object; language = O.language }) (world_of world.now)) }
 {
     let entries = Log::of(world).entries(alloc)?;
     for entry in &entries {
@@ -216,7 +220,7 @@ fn push_entry<O: Spoken>(
     alloc: Global,
     entry: &Entry<O::Inv, O::Resp>,
 ) -> Result<(), AllocError>
-    ensures { OnOk result (text.new.items ≡ text.old.items ++ entry_text (λ inv. text_of_words (O.inv_words inv)) O.resp_bytes (entry_shown entry.now)) }
+    ensures { OnOk result (text.new.items ≡ text.old.items ++ entry_text (λ inv. text_of_words (O.language.inv_words inv)) O.language.resp_text (entry_shown entry.now)) }
 {
     let inv = O::inv_text(alloc, &entry.inv)?;
     let reply = reply_of::<O>(alloc, entry.reply)?;
@@ -231,7 +235,7 @@ fn push_entry<O: Spoken>(
 ///
 /// An `Err` says that memory was refused.
 fn reply_of<O: Spoken>(alloc: Global, reply: Option<O::Resp>) -> Result<Vec<u8>, AllocError>
-    ensures { IfOk result (λ text. text.items ≡ option_map_or O.resp_bytes reply (codes "?")) }
+    ensures { IfOk result (λ text. text.items ≡ option_map_or O.language.resp_text reply (codes "?")) }
 {
     match reply {
         Some(response) => O::resp_text(alloc, response),

@@ -1,35 +1,61 @@
 //! What can go wrong with a script.
 
-use thiserror::Error;
+ghost use Rattle.std.specs.Prelude.{◌≡◌, ◌++◌, OnOk, Some};
+ghost use Rattle.uni_script.specs.Faults.{fault_text, fault_line};
+
+use std::alloc::AllocError;
+use std::error::Error;
+use std::fmt;
+use std::io::Write;
 
 /// Why the run of a script ended early. Lines are counted from 1.
-#[derive(Clone, Copy, Debug, PartialEq, Eq, Error)]
+#[derive(Clone, Copy, Debug, PartialEq, Eq)]
 pub enum BenchFault {
     /// The script ended without a header; the number is that of its lines plus 1.
-    #[error("line {0}: no header")]
     NoHeader(u64),
     /// The first line that isn't a note is no header.
-    #[error("line {0}: bad header")]
     BadHeader(u64),
     /// A line has more than 200 bytes.
-    #[error("line {0}: too long")]
     TooLong(u64),
     /// A line has a byte that isn't from 32 to 126.
-    #[error("line {0}: bad byte")]
     BadByte(u64),
     /// A line after the header is no command.
-    #[error("line {0}: bad line")]
     BadLine(u64),
     /// There are more than 100,000 lines.
-    #[error("line 100001: too many lines")]
     TooMany,
     /// The reader answered an error.
-    #[error("cannot read")]
     Read,
     /// The writer answered an error, or took no byte of some.
-    #[error("cannot write")]
     Write,
     /// Memory was refused.
-    #[error("out of memory")]
     Memory,
+}
+
+impl fmt::Display for BenchFault {
+    ghost output = { λ fault. Some (fault_text fault) };
+
+    fn fmt<W: fmt::Write>(&self, f: &mut fmt::Formatter<W>) -> fmt::Result {
+        match self {
+            BenchFault::NoHeader(line) => write!(f, "line {line}: no header"),
+            BenchFault::BadHeader(line) => write!(f, "line {line}: bad header"),
+            BenchFault::TooLong(line) => write!(f, "line {line}: too long"),
+            BenchFault::BadByte(line) => write!(f, "line {line}: bad byte"),
+            BenchFault::BadLine(line) => write!(f, "line {line}: bad line"),
+            BenchFault::TooMany => write!(f, "line 100001: too many lines"),
+            BenchFault::Read => write!(f, "cannot read"),
+            BenchFault::Write => write!(f, "cannot write"),
+            BenchFault::Memory => write!(f, "out of memory"),
+        }
+    }
+}
+
+impl Error for BenchFault {}
+
+/// Writes the text of a fault and the end of its line after a text.
+///
+/// An `Err` says that memory was refused.
+pub fn push_fault(text: &mut Vec<u8>, fault: BenchFault) -> Result<(), AllocError>
+    ensures { OnOk result (text.new.items ≡ text.old.items ++ fault_line fault) }
+{
+    writeln!(text, "{fault}").map_err(|_| AllocError)
 }

@@ -1,11 +1,11 @@
 //! The lines of a script: notes, the header and commands.
 
-ghost use Rattle.std.specs.Prelude.{◌≡◌, IfOk};
+ghost use Rattle.std.specs.Prelude.{◌≡◌, IfOk, IfSome};
 ghost use Rattle.std.specs.List.{list_all};
 ghost use Rattle.std.specs.Str.{bytes_eq};
 ghost use Rattle.ready_objects.specs.Number.{number_of_word};
 ghost use Rattle.ready_objects.specs.Words.{bytes_of, words_of_text};
-ghost use Rattle.uni_script.specs.Script.{is_plain_byte, is_note, object_of_word, header_with, header_of_words, count_of_number, command_of_words};
+ghost use Rattle.uni_script.specs.Script.{is_plain_byte, is_note, object_of_word, header_with, IsInRange, header_of_words, count_of_number, command_of_words};
 
 use ready_objects::{Amount, Spoken};
 use std::alloc::{AllocError, Global};
@@ -90,7 +90,8 @@ pub fn words_of(alloc: Global, line: &[u8]) -> Result<Vec<&[u8]>, AllocError>
 
 /// The header that words are; `None` where they are none.
 pub fn header_of(words: &[&[u8]]) -> Option<Header>
-    ensures { result ≡ header_of_words (bytes_of words.now) }
+    ensures header { result ≡ header_of_words (bytes_of words.now) }
+    ensures range { IfSome result IsInRange }
 {
     let [name, version, object, processes, row] = words else {
         return None;
@@ -122,7 +123,8 @@ fn object_of(word: &[u8]) -> Option<ObjectName>
 /// The header of this many processes with rows of this many cells; `None` where they aren't from 1
 /// to 16 and from 1 to 4096.
 fn header_with(object: ObjectName, processes: u64, row: u64) -> Option<Header>
-    ensures { result ≡ header_with object processes row }
+    ensures header { result ≡ header_with object processes row }
+    ensures range { IfSome result IsInRange }
 {
     if processes >= 1 && processes <= 16 && row >= 1 && row <= 4096 {
         Some(Header {
@@ -137,7 +139,7 @@ fn header_with(object: ObjectName, processes: u64, row: u64) -> Option<Header>
 
 /// The command that words are; `None` where they are none.
 pub fn command_of<O: Spoken>(words: &[&[u8]]) -> Option<Command<O::Inv>>
-    ensures { result ≡ command_of_words O.inv_of_words (bytes_of words.now) }
+    ensures { result ≡ command_of_words O.language.inv_of_words (bytes_of words.now) }
 {
     match words {
         [name] if is_text(name, "log") => Some(Command::Log),

@@ -1,15 +1,16 @@
 //! Scripts of calls on an object that processes share: what a script means, and the bench that runs
 //! one on the wait-free universal construction and writes what each call answers.
 //!
-//! What a script means is `script_run` in `specs/`, a definition over worlds of the definitions.
+//! What a script means is `outcome_of_script` in `specs/`, a definition over worlds of the definitions.
 #![tactic(auto)]
 
 mod answer;
-mod any_world;
 mod commands;
 mod ends;
 mod fault;
 mod grammar;
+mod laws;
+mod objects;
 mod replay;
 mod script;
 mod summary;
@@ -17,6 +18,7 @@ mod summary;
 mod tests;
 
 pub use ends::{Checked, Failed, TextIn, TextOut, write_all};
-pub use fault::BenchFault;
+pub use fault::{BenchFault, push_fault};
+pub use laws::finish_returns;
 pub use replay::{Options, bench};
 pub use summary::Summary;

@@ -1,22 +1,26 @@
 //! The replay of a script.
 
-ghost use Rattle.std.specs.Prelude.{◌≡◌, ◌<◌, ◌≤◌, ◌↔◌, ◌∷◌, [], true, false, length, ◌==◌, None, Some, IfSome, IfNone, IfOk, IfErr, OnOk, IsErrOf, option_map};
+ghost use Rattle.std.specs.Prelude.{◌≡◌, ◌+◌, ◌<◌, ◌≤◌, ◌↔◌, ◌⊎◌, ◌∷◌, [], true, false, length, ◌==◌, None, Some, IfSome, IfNone, IfOk, IfErr, OnOk, IsErrOf, option_map};
 ghost use Rattle.std.specs.Io.KnownBytes.{IsAtEnd};
 ghost use Rattle.std.specs.List.{list_all, position};
-ghost use Rattle.uni_script.specs.AnyWorlds.{any_bench_of};
-ghost use Rattle.uni_script.specs.Meaning.{short_line_run};
-ghost use Rattle.uni_script.specs.Reading.{is_short, lines_read, read_run, EndsAs};
-ghost use Rattle.uni_script.specs.Summaries.{any_summary_of};
+ghost use Rattle.ready_objects.specs.Words.{bytes_of};
+ghost use Rattle.uni_script.specs.Meaning.{bench_of, opened_bench, bench_of_header, outcome_of_text, outcome_of_fault, outcome_of_command, outcome_of_short_line};
+ghost use Rattle.uni_script.specs.Script.{IsInRange};
+ghost use Rattle.uni_script.specs.Reading.{is_short, lines_of_read, outcome_of_rest, EndsAs};
+ghost use Rattle.uni_script.specs.Summaries.{summary_of_bench};
 ghost use Rattle.uni_script.specs.Replays.{IsReplay, IsSummary, HasAnswered, IsPartOfReplay, IsFaultOfScript};
 
 use crate::answer::{Answer, push_answer};
-use crate::any_world::{AnyWorld, open_any, run_any};
+use crate::commands::{make, open};
 use crate::ends::{TextIn, TextOut, write_all};
 use crate::fault::BenchFault;
-use crate::grammar::{header_of, is_note, is_plain, words_of};
+use crate::grammar::{Header, ObjectName, command_of, header_of, is_note, is_plain, words_of};
+use crate::objects::Shared;
 use crate::script::{Stop, read_script};
-use crate::summary::{Summary, any_summary_of};
-use std::alloc::Global;
+use crate::summary::{Summary, summary_of};
+use ready_objects::{BookObject, DirectoryObject, QueueObject, StickyObject};
+use std::alloc::{AllocError, Global};
+use uni_core::World;
 
 /// What a run of the bench can be told. There is nothing yet.
 #[derive(Clone, Copy, Debug, PartialEq, Eq)]
@@ -72,37 +76,145 @@ fn run_script(
     stop: Stop,
     text: &mut Vec<u8>,
 ) -> Result<Summary, BenchFault>
-    requires short { list_all is_short (lines_read stop bytes.now) ≡ true }
-    requires few { length (lines_read stop bytes.now) ≤ 100000 }
-    ensures outcome { EndsAs (read_run stop bytes.now) text.old.items text.new.items result }
-    ensures summary { IfOk result (λ summary. option_map (any_summary_of (length (lines_read stop bytes.now))) (read_run stop bytes.now).bench ≡ Some summary) }
+    requires short { list_all is_short (lines_of_read stop bytes.now) ≡ true }
+    requires few { length (lines_of_read stop bytes.now) ≤ 100000 }
+    ensures outcome { EndsAs (outcome_of_rest stop 0 None bytes.now) text.old.items text.new.items result }
+    ensures summary { IfOk result (λ summary. option_map (summary_of_bench (0 + length (lines_of_read stop bytes.now))) (outcome_of_rest stop 0 None bytes.now).bench ≡ Some summary) }
 {
-    let mut world = None;
-    let mut number: u64 = 0;
+    let mut lines: u64 = 0;
     let mut rest = bytes;
     while let Some((line, after)) = split_line(rest, stop) {
-        number += 1;
-        world = run_line(alloc, world, number, line, text)?;
+        lines += 1;
+        rest = after;
+        if let Some(header) = read_header(alloc, lines, line)? {
+            return run_header(alloc, header, lines, rest, stop, text);
+        }
+    }
+    match stop {
+        Stop::End => Err(BenchFault::NoHeader(lines + 1)),
+        Stop::Failed => Err(BenchFault::Read),
+        Stop::TooLong => Err(BenchFault::TooLong(lines + 1)),
+        Stop::TooMany => Err(BenchFault::TooMany),
+    }
+}
+
+/// Reads a line before the header, with its number; the answer is the header, where the line isn't a
+/// note.
+///
+/// `Memory` where memory was refused; any other `Err` is the fault of the line.
+fn read_header(alloc: Global, number: u64, line: &[u8]) -> Result<Option<Header>, BenchFault>
+    ensures note { IfOk result (λ header. IfNone header (outcome_of_short_line number None line.now ≡ record { bench = None; text = []; fault = None })) }
+    ensures header { IfOk result (λ header. IfSome header (λ h. outcome_of_short_line number None line.now ≡ outcome_of_text (bench_of_header h) [])) }
+    ensures range { IfOk result (λ header. IfSome header IsInRange) }
+    ensures fault { IfErr result (λ e. (e ≡ BenchFault.Memory) ⊎ (outcome_of_short_line number None line.now ≡ outcome_of_fault None e)) }
+{
+    if !is_plain(line) {
+        return Err(BenchFault::BadByte(number));
+    }
+    if is_note(line) {
+        return Ok(None);
+    }
+    let Ok(words) = words_of(alloc, line) else {
+        return Err(BenchFault::Memory);
+    };
+    match header_of(words.as_slice()) {
+        Some(header) => Ok(Some(header)),
+        None => Err(BenchFault::BadHeader(number)),
+    }
+}
+
+/// Runs the lines after a header, of which so many came before.
+///
+/// `Memory` where memory was refused; any other `Err` is the first fault of what was read.
+fn run_header(
+    alloc: Global,
+    header: Header,
+    lines: u64,
+    bytes: &[u8],
+    stop: Stop,
+    text: &mut Vec<u8>,
+) -> Result<Summary, BenchFault>
+    requires range { IsInRange header }
+    requires short { list_all is_short (lines_of_read stop bytes.now) ≡ true }
+    requires few { lines + length (lines_of_read stop bytes.now) ≤ 100000 }
+    ensures outcome { EndsAs (outcome_of_rest stop lines (Some (bench_of_header header)) bytes.now) text.old.items text.new.items result }
+    ensures summary { IfOk result (λ summary. option_map (summary_of_bench (lines + length (lines_of_read stop bytes.now))) (outcome_of_rest stop lines (Some (bench_of_header header)) bytes.now).bench ≡ Some summary) }
+{
+    match header.object {
+        ObjectName::Queue => run_object(alloc, QueueObject, header, lines, bytes, stop, text),
+        ObjectName::Directory => {
+            run_object(alloc, DirectoryObject, header, lines, bytes, stop, text)
+        }
+        ObjectName::Book => run_object(alloc, BookObject, header, lines, bytes, stop, text),
+        ObjectName::Sticky => run_object(alloc, StickyObject, header, lines, bytes, stop, text),
+    }
+}
+
+/// Opens the world of a header for processes that share this object, and runs the lines after it.
+///
+/// `Memory` where memory was refused; any other `Err` is the first fault of what was read.
+fn run_object<O: Shared>(
+    alloc: Global,
+    object: O,
+    header: Header,
+    lines: u64,
+    bytes: &[u8],
+    stop: Stop,
+    text: &mut Vec<u8>,
+) -> Result<Summary, BenchFault>
+    requires range { IsInRange header }
+    requires short { list_all is_short (lines_of_read stop bytes.now) ≡ true }
+    requires few { lines + length (lines_of_read stop bytes.now) ≤ 100000 }
+    ensures outcome { EndsAs (outcome_of_rest stop lines (Some (O.bench (opened_bench (record { object = O.sequential object; language = O.language }) header))) bytes.now) text.old.items text.new.items result }
+    ensures summary { IfOk result (λ summary. option_map (summary_of_bench (lines + length (lines_of_read stop bytes.now)))
+        (outcome_of_rest stop lines (Some (O.bench (opened_bench (record { object = O.sequential object; language = O.language }) header))) bytes.now).bench ≡ Some summary) }
+{
+    let Ok(world) = open(alloc, object, header) else {
+        return Err(BenchFault::Memory);
+    };
+    run_commands(alloc, world, lines, bytes, stop, text)
+}
+
+/// Runs the commands of what was read on a world, of which so many lines came before, and writes the
+/// answers after a text.
+///
+/// `Memory` where memory was refused; any other `Err` is the first fault of what was read.
+fn run_commands<O: Shared>(
+    alloc: Global,
+    mut world: World<O>,
+    mut lines: u64,
+    bytes: &[u8],
+    stop: Stop,
+    text: &mut Vec<u8>,
+) -> Result<Summary, BenchFault>
+    requires short { list_all is_short (lines_of_read stop bytes.now) ≡ true }
+    requires few { lines + length (lines_of_read stop bytes.now) ≤ 100000 }
+    ensures outcome { EndsAs (outcome_of_rest stop lines (Some (O.bench (bench_of world))) bytes.now) text.old.items text.new.items result }
+    ensures summary { IfOk result (λ summary. option_map (summary_of_bench (lines + length (lines_of_read stop bytes.now))) (outcome_of_rest stop lines (Some (O.bench (bench_of world))) bytes.now).bench ≡ Some summary) }
+{
+    let mut rest = bytes;
+    while let Some((line, after)) = split_line(rest, stop) {
+        lines += 1;
+        run_line(alloc, &mut world, lines, line, text)?;
         rest = after;
     }
-    match (stop, world) {
-        (Stop::Failed, _) => Err(BenchFault::Read),
-        (Stop::TooLong, _) => Err(BenchFault::TooLong(number + 1)),
-        (Stop::TooMany, _) => Err(BenchFault::TooMany),
-        (Stop::End, None) => Err(BenchFault::NoHeader(number + 1)),
-        (Stop::End, Some(world)) => match push_answer(text, &Answer::End) {
-            Ok(()) => Ok(any_summary_of(&world, number)),
-            Err(_) => Err(BenchFault::Memory),
+    match stop {
+        Stop::End => match push_answer(text, &Answer::End) {
+            Ok(()) => Ok(summary_of(&world, lines)),
+            Err(AllocError) => Err(BenchFault::Memory),
         },
+        Stop::Failed => Err(BenchFault::Read),
+        Stop::TooLong => Err(BenchFault::TooLong(lines + 1)),
+        Stop::TooMany => Err(BenchFault::TooMany),
     }
 }
 
 /// The first line of what was read, without its end, and what follows it. A last line that lacks
 /// its end is one where the reading stopped at the end of the text.
 fn split_line(bytes: &[u8], stop: Stop) -> Option<(&[u8], &[u8])>
-    ensures line { IfSome result (λ cut. lines_read stop bytes.now ≡ cut.0.now ∷ lines_read stop cut.1.now) }
+    ensures line { IfSome result (λ cut. lines_of_read stop bytes.now ≡ cut.0.now ∷ lines_of_read stop cut.1.now) }
     ensures shorter { IfSome result (λ cut. length cut.1.now < length bytes.now) }
-    ensures end { IfNone result (lines_read stop bytes.now ≡ []) }
+    ensures end { IfNone result (lines_of_read stop bytes.now ≡ []) }
 {
     match end_of_line(bytes) {
         Some(at) => Some((&bytes[..at], &bytes[at + 1..])),
@@ -121,42 +233,49 @@ fn end_of_line(bytes: &[u8]) -> Option<usize>
     bytes.iter().position(|byte| *byte == b'\n')
 }
 
-/// Runs a line on the world, where the header has opened it, and writes its answer after a text.
-/// The answer is the world after it.
+/// Runs a line after the header, with its number, on a world, and writes its answer after a text.
 ///
 /// `Memory` where memory was refused; any other `Err` is the fault of the line.
-fn run_line(
+fn run_line<O: Shared>(
     alloc: Global,
-    world: Option<AnyWorld>,
+    world: &mut World<O>,
     number: u64,
     line: &[u8],
     text: &mut Vec<u8>,
-) -> Result<Option<AnyWorld>, BenchFault>
-    ensures outcome { EndsAs (short_line_run number (option_map any_bench_of world) line.now) text.old.items text.new.items result }
-    ensures world { IfOk result (λ after. option_map any_bench_of after ≡ (short_line_run number (option_map any_bench_of world) line.now).bench) }
+) -> Result<(), BenchFault>
+    ensures outcome { EndsAs (outcome_of_short_line number (Some (O.bench (bench_of world.old))) line.now) text.old.items text.new.items result }
+    ensures bench { OnOk result (Some (O.bench (bench_of world.new)) ≡ (outcome_of_short_line number (Some (O.bench (bench_of world.old))) line.now).bench) }
 {
     if !is_plain(line) {
         return Err(BenchFault::BadByte(number));
     }
     if is_note(line) {
-        return Ok(world);
+        return Ok(());
     }
     let Ok(words) = words_of(alloc, line) else {
         return Err(BenchFault::Memory);
     };
-    match world {
-        None => {
-            let Some(header) = header_of(words.as_slice()) else {
-                return Err(BenchFault::BadHeader(number));
-            };
-            let Ok(world) = open_any(alloc, header) else {
-                return Err(BenchFault::Memory);
-            };
-            Ok(Some(world))
-        }
-        Some(mut world) => {
-            run_any(alloc, &mut world, number, words.as_slice(), text)?;
-            Ok(Some(world))
-        }
+    run_words(alloc, world, number, words.as_slice(), text)
+}
+
+/// Makes the command that words are, and writes its answer after a text.
+///
+/// `Memory` where memory was refused; `BadLine` where the words are no command.
+fn run_words<O: Shared>(
+    alloc: Global,
+    world: &mut World<O>,
+    number: u64,
+    words: &[&[u8]],
+    text: &mut Vec<u8>,
+) -> Result<(), BenchFault>
+    ensures outcome { EndsAs (outcome_of_command (record { object = O.sequential world.old.object; language = O.language }) O.bench number (bench_of world.old) (bytes_of words.now)) text.old.items text.new.items result }
+    ensures bench { OnOk result (Some (O.bench (bench_of world.new)) ≡ (outcome_of_command (record { object = O.sequential world.old.object; language = O.language }) O.bench number (bench_of world.old) (bytes_of words.now)).bench) }
+{
+    let Some(command) = command_of::<O>(words) else {
+        return Err(BenchFault::BadLine(number));
+    };
+    match make(world, alloc, command, text) {
+        Ok(()) => Ok(()),
+        Err(AllocError) => Err(BenchFault::Memory),
     }
 }

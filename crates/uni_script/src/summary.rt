@@ -1,11 +1,9 @@
 //! How much a script has done.
 
 ghost use Rattle.std.specs.Prelude.{◌≡◌};
-ghost use Rattle.uni_script.specs.AnyWorlds.{any_bench_of};
 ghost use Rattle.uni_script.specs.Meaning.{bench_of};
-ghost use Rattle.uni_script.specs.Summaries.{summary_of, any_summary_of};
+ghost use Rattle.uni_script.specs.Summaries.{summary_of};
 
-use crate::any_world::AnyWorld;
 use ready_objects::Spoken;
 use uni_core::World;
 
@@ -21,7 +19,7 @@ pub struct Summary {
 }
 
 /// The summary of a script of so many lines that has left this world.
-fn summary_of<O: Spoken>(world: &World<O>, lines: u64) -> Summary
+pub fn summary_of<O: Spoken>(world: &World<O>, lines: u64) -> Summary
     ensures { result ≡ summary_of lines (bench_of world.now) }
 {
     world.shape();
@@ -40,17 +38,5 @@ fn summary_of<O: Spoken>(world: &World<O>, lines: u64) -> Summary
         lines,
         calls,
         returns,
-    }
-}
-
-/// The summary of a script of so many lines that has left this world.
-pub fn any_summary_of(world: &AnyWorld, lines: u64) -> Summary
-    ensures { result ≡ any_summary_of lines (any_bench_of world.now) }
-{
-    match world {
-        AnyWorld::Queue(world) => summary_of(world, lines),
-        AnyWorld::Directory(world) => summary_of(world, lines),
-        AnyWorld::Book(world) => summary_of(world, lines),
-        AnyWorld::Sticky(world) => summary_of(world, lines),
     }
 }

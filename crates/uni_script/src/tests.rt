@@ -1,7 +1,10 @@
 //! Tests of the bench over memory, and of objects that processes share through a world.
 
-use crate::{BenchFault, Checked, Failed, Options, Summary, TextIn, TextOut, bench, write_all};
-use ready_objects::{Amount, StickyInv, StickyObject, StickyResp};
+use crate::{
+    BenchFault, Checked, Failed, Options, Summary, TextIn, TextOut, bench, finish_returns,
+    push_fault, write_all,
+};
+use ready_objects::{Amount, QueueObject, StickyInv, StickyObject, StickyResp};
 use seq_object::CallId;
 use std::alloc::Global;
 use std::io;
@@ -70,6 +73,7 @@ fn scripts(rt: HostRuntime) {
 
 #[test]
 fn schedules_of_two_processes(rt: HostRuntime) {
+    finish_returns::<QueueObject>();
     let rows = [
         // One process meets the bound, of 32 steps and 3 turns. Then a head isn't lowered.
         (
@@ -205,6 +209,26 @@ fn summaries(rt: HostRuntime) {
             returns,
         };
         assert_eq!(rt; ended, Ok(summary), "{script}");
+    }
+}
+
+#[test]
+fn texts_of_faults(rt: HostRuntime) {
+    let rows = [
+        (BenchFault::NoHeader(1), "line 1: no header\n"),
+        (BenchFault::BadHeader(2), "line 2: bad header\n"),
+        (BenchFault::TooLong(30), "line 30: too long\n"),
+        (BenchFault::BadByte(100_000), "line 100000: bad byte\n"),
+        (BenchFault::BadLine(12), "line 12: bad line\n"),
+        (BenchFault::TooMany, "line 100001: too many lines\n"),
+        (BenchFault::Read, "cannot read\n"),
+        (BenchFault::Write, "cannot write\n"),
+        (BenchFault::Memory, "out of memory\n"),
+    ];
+    for (fault, want) in rows {
+        let mut text = Vec::new(rt.alloc());
+        assert!(rt; push_fault(&mut text, fault).is_ok());
+        assert_eq!(rt; text.as_slice(), want.as_bytes());
     }
 }
 

@@ -4,15 +4,17 @@ ghost use Rattle.std.specs.Prelude.{◌≡◌, ◌≢◌, ◌≤◌, ◌⊎◌, 
 ghost use Rattle.clap.specs.Words.{FailsBy};
 ghost use Rattle.unibench.specs.CommandLine.{faults_of_words, AsksForReplay, MayAskForHelp};
 ghost use Rattle.uni_script.specs.Replays.{IsReplay, IsBadReplay, IsPartOfReplay, HasAnswered};
-ghost use Rattle.unibench.specs.Statuses.{status_of};
+ghost use Rattle.std.specs.Io.KnownBytes.{Appends};
+ghost use Rattle.uni_script.specs.Ends.{AppendsFront};
+ghost use Rattle.unibench.specs.Statuses.{status_of, IsStatusOf, TellsFault};
 
 use clap::Command;
 use clap::error::ErrorKind;
-use std::alloc::Global;
+use std::alloc::{AllocError, Global};
 use std::convert::AsStr;
 use std::fmt::{Display, Write};
 use std::{fmt, io};
-use uni_script::{BenchFault, Failed, Options, TextIn, TextOut, bench, write_all};
+use uni_script::{BenchFault, Failed, Options, TextIn, TextOut, bench, push_fault, write_all};
 
 /// What the command line asks for.
 #[derive(Clone, Copy, Debug, PartialEq, Eq)]
@@ -65,20 +67,26 @@ pub fn run<S: AsStr, I: TextIn, O: TextOut, F: TextOut>(
     ensures read { AsksForReplay (map S.text words.now) → result ≡ 3 → O.has_failed output.new ≡ false
         → HasAnswered (I.remaining input.old) (I.remaining input.new) (O.contents output.old) (O.contents output.new) }
     ensures part { AsksForReplay (map S.text words.now) → IsPartOfReplay (I.remaining input.old) (O.contents output.old) (O.contents output.new) }
+    ensures silent { AsksForReplay (map S.text words.now) → result ≡ 0 → faults.new ≡ faults.old }
+    ensures told { AsksForReplay (map S.text words.now) → result ≢ 0 → TellsFault (F.contents faults.old) (F.contents faults.new) (F.has_failed faults.new) result }
     ensures unread { (AsksForReplay (map S.text words.now) → ⊥) → input.new ≡ input.old }
     ensures refused { (AsksForReplay (map S.text words.now) → ⊥) → (MayAskForHelp (map S.text words.now) → ⊥)
         → ((result ≡ 2) ⊎ (result ≡ 4)) × (output.new ≡ output.old) }
 {
     match read_words(alloc, words) {
         Ok(Request::Replay) => replay(alloc, input, output, faults),
-        Err(error) if error.kind() == ErrorKind::OutOfMemory => report(BenchFault::Memory, faults),
+        Err(error) if error.kind() == ErrorKind::OutOfMemory => report(
+            alloc,
+            BenchFault::Memory,
+            faults,
+        ),
         Err(error) if error.use_stderr() => {
             let _ = print(faults, &error);
             2
         }
         Err(error) => match print(output, &error) {
             Ok(()) => 0,
-            Err(Failed) => report(BenchFault::Write, faults),
+            Err(Failed) => report(alloc, BenchFault::Write, faults),
         },
     }
 }
@@ -103,17 +111,20 @@ fn replay<I: TextIn, O: TextOut, F: TextOut>(
     ensures good { result ≡ 0 → (I.has_failed input.new ≡ false) × (O.has_failed output.new ≡ false) }
     ensures written { O.has_failed output.new ≡ true → result ≡ 3 }
     ensures ends { result ≡ 3 → (I.has_failed input.new ≡ true) ⊎ (O.has_failed output.new ≡ true) }
+    ensures silent { result ≡ 0 → faults.new ≡ faults.old }
+    ensures told { result ≢ 0 → TellsFault (F.contents faults.old) (F.contents faults.new) (F.has_failed faults.new) result }
 {
     match bench(alloc, input, output, &Options {}) {
         Ok(_) => 0,
-        Err(fault) => report(fault, faults),
+        Err(fault) => report(alloc, fault, faults),
     }
 }
 
-/// The status with which the program ends: 2 for a bad script, 3 for input and output, 4 for memory.
-fn status(fault: BenchFault) -> u8
-    ensures value { result ≡ status_of fault }
-    ensures range { (2 ≤ result) × (result ≤ 4) }
+/// Says what went wrong, as far as the end takes it; the answer is the status. Where the text of a
+/// fault of a line is refused memory, that is what is told, with its status.
+fn report<F: TextOut>(alloc: Global, fault: BenchFault, faults: &mut F) -> u8
+    ensures status { IsStatusOf fault result }
+    ensures told { TellsFault (F.contents faults.old) (F.contents faults.new) (F.has_failed faults.new) result }
 {
     match fault {
         BenchFault::NoHeader(_)
@@ -121,19 +132,47 @@ fn status(fault: BenchFault) -> u8
         | BenchFault::TooLong(_)
         | BenchFault::BadByte(_)
         | BenchFault::BadLine(_)
-        | BenchFault::TooMany => 2,
-        BenchFault::Read | BenchFault::Write => 3,
-        BenchFault::Memory => 4,
+        | BenchFault::TooMany => report_script(alloc, fault, faults),
+        BenchFault::Read => {
+            tell(faults, b"cannot read\n");
+            3
+        }
+        BenchFault::Write => {
+            tell(faults, b"cannot write\n");
+            3
+        }
+        BenchFault::Memory => {
+            tell(faults, b"out of memory\n");
+            4
+        }
     }
 }
 
-/// Says what went wrong, as far as the end takes it; the answer is the status.
-fn report<F: TextOut>(fault: BenchFault, faults: &mut F) -> u8
-    ensures { result ≡ status_of fault }
+/// Says which fault a script has, or that memory was refused to its text.
+fn report_script<F: TextOut>(alloc: Global, fault: BenchFault, faults: &mut F) -> u8
+    requires { status_of fault ≡ 2 }
+    ensures status { (result ≡ 2) ⊎ (result ≡ 4) }
+    ensures told { TellsFault (F.contents faults.old) (F.contents faults.new) (F.has_failed faults.new) result }
 {
-    let _ = print(faults, &fault);
-    let _ = write_all(faults, b"\n");
-    status(fault)
+    let mut text = Vec::new(alloc);
+    match push_fault(&mut text, fault) {
+        Ok(()) => {
+            tell(faults, text.as_slice());
+            2
+        }
+        Err(AllocError) => {
+            tell(faults, b"out of memory\n");
+            4
+        }
+    }
+}
+
+/// Writes a line, as far as the end takes it.
+fn tell<F: TextOut>(faults: &mut F, line: &[u8])
+    ensures front { AppendsFront (F.contents faults.old) (F.contents faults.new) line.now }
+    ensures whole { F.has_failed faults.new ≡ false → Appends (F.contents faults.old) (F.contents faults.new) line.now }
+{
+    let _ = write_all(faults, line);
 }
 
 /// Says why the argument texts can't be had; the answer is the status.

@@ -7,16 +7,16 @@ use Rattle.uni_record.proofs.checker.entries_verdict.Goals as goal
 pub returns-then-entry-calls_of : goal.returns-then-entry-calls_of
 returns-then-entry-calls_of g c =
     let other : c.entry-item.result.call.nth ≢ calls_of c.entry-item.result.call.process (take c.loop-entry.place c.args.entries.now) = λ e. c.if-entry-calls_of.true (e ∙ sym c.calls_of.ensures) in
-    bad_call_at g.O.Resp.PartialEq.eq (g.O.SeqObject.next c.args.object.now) (g.O.SeqObject.answer c.args.object.now) c.loop-entry.state c.args.entries.now c.loop-entry.place c.loop-entry.entry-index c.entry-item.result (entries_verdict g.O.Resp.PartialEq.eq (g.O.SeqObject.next c.args.object.now) (g.O.SeqObject.answer c.args.object.now) (g.O.SeqObject.initial c.args.object.now) [] c.args.entries.now)
+    bad_call_at g.O.Resp.PartialEq.eq (g.O.SeqObject.sequential c.args.object.now) c.loop-entry.state c.args.entries.now c.loop-entry.place c.loop-entry.entry-index c.entry-item.result (entries_verdict g.O.Resp.PartialEq.eq (g.O.SeqObject.sequential c.args.object.now) ((g.O.SeqObject.sequential c.args.object.now).initial) [] c.args.entries.now)
     c.loop-entry-test.true c.entry-item.is c.loop-entry.invariant.place c.loop-entry.invariant.rest other
 
 pub returns-then-not-is_answered : goal.returns-then-not-is_answered
 returns-then-not-is_answered g c =
     let call : c.entry-item.result.call.nth ≡ calls_of c.entry-item.result.call.process (take c.loop-entry.place c.args.entries.now) = c.if-entry-calls_of.false ∙ c.calls_of.ensures in
     let test : option_map_or (λ r. g.O.Resp.PartialEq.eq r c.in_ok-after.answer) c.entry-item.result.reply true ≡ false = sym c.is_answered.ensures ∙ c.if-not-is_answered.true in
-    bad_reply_at g.O.Resp.PartialEq.eq (g.O.SeqObject.next c.args.object.now) (g.O.SeqObject.answer c.args.object.now) c.loop-entry.state c.args.entries.now c.loop-entry.place c.loop-entry.entry-index c.entry-item.result (entries_verdict g.O.Resp.PartialEq.eq (g.O.SeqObject.next c.args.object.now) (g.O.SeqObject.answer c.args.object.now) (g.O.SeqObject.initial c.args.object.now) [] c.args.entries.now)
+    bad_reply_at g.O.Resp.PartialEq.eq (g.O.SeqObject.sequential c.args.object.now) c.loop-entry.state c.args.entries.now c.loop-entry.place c.loop-entry.entry-index c.entry-item.result (entries_verdict g.O.Resp.PartialEq.eq (g.O.SeqObject.sequential c.args.object.now) ((g.O.SeqObject.sequential c.args.object.now).initial) [] c.args.entries.now)
     c.loop-entry-test.true c.entry-item.is c.loop-entry.invariant.place c.loop-entry.invariant.rest call
-    (rw c.in_ok-after.ensures.answer at test)
+    (rw c.in_ok-after.ensures.response at test)
 
 pub loop-entry-preserved : goal.loop-entry-preserved
 loop-entry-preserved g c =
@@ -24,7 +24,7 @@ loop-entry-preserved g c =
     let test : option_map_or (λ r. g.O.Resp.PartialEq.eq r c.in_ok-after.answer) c.entry-item.result.reply true ≡ true = sym c.is_answered.ensures ∙ c.if-not-is_answered.false in
     record {
       place = ap (λ k. k + 1) c.loop-entry.invariant.place;
-      rest = rw c.in_ok-after.ensures.next (good_at g.O.Resp.PartialEq.eq (g.O.SeqObject.next c.args.object.now) (g.O.SeqObject.answer c.args.object.now) c.loop-entry.state c.args.entries.now c.loop-entry.place c.loop-entry.entry-index c.entry-item.result (entries_verdict g.O.Resp.PartialEq.eq (g.O.SeqObject.next c.args.object.now) (g.O.SeqObject.answer c.args.object.now) (g.O.SeqObject.initial c.args.object.now) [] c.args.entries.now)
+      rest = rw c.in_ok-after.ensures.state (good_at g.O.Resp.PartialEq.eq (g.O.SeqObject.sequential c.args.object.now) c.loop-entry.state c.args.entries.now c.loop-entry.place c.loop-entry.entry-index c.entry-item.result (entries_verdict g.O.Resp.PartialEq.eq (g.O.SeqObject.sequential c.args.object.now) ((g.O.SeqObject.sequential c.args.object.now).initial) [] c.args.entries.now)
           c.loop-entry-test.true c.entry-item.is
-          c.loop-entry.invariant.place c.loop-entry.invariant.rest call (rw c.in_ok-after.ensures.answer at test));
+          c.loop-entry.invariant.place c.loop-entry.invariant.rest call (rw c.in_ok-after.ensures.response at test));
     }

@@ -5,6 +5,6 @@ use Rattle.uni_record.proofs.checker.entries_verdict.Given as goal
 abbrev pub invariant-loop-entry : goal.invariant-loop-entry
 invariant-loop-entry g l = record {
   place : l.place ≡ l.entry-index;
-  rest : entries_verdict g.O.Resp.PartialEq.eq (g.O.SeqObject.next l.object) (g.O.SeqObject.answer l.object) l.state (take l.entry-index l.entries) (drop l.entry-index l.entries)
-      ≡ entries_verdict g.O.Resp.PartialEq.eq (g.O.SeqObject.next l.object) (g.O.SeqObject.answer l.object) (g.O.SeqObject.initial l.object) [] l.entries;
+  rest : entries_verdict g.O.Resp.PartialEq.eq (g.O.SeqObject.sequential l.object) l.state (take l.entry-index l.entries) (drop l.entry-index l.entries)
+      ≡ entries_verdict g.O.Resp.PartialEq.eq (g.O.SeqObject.sequential l.object) ((g.O.SeqObject.sequential l.object).initial) [] l.entries;
 }

@@ -1,15 +1,16 @@
 use Rattle.std.proofs.Common.{◌≡◌, ◌≤◌, ◌∙◌, sym, ap, IsSome, None}
-use Rattle.uni_core.specs.Whole.{shown}
-use Rattle.uni_script.specs.Meaning.{bench_of, language_of, Made}
-use Rattle.uni_script.proofs.Made.{bench_is, begun_inside, none_refused-call, call_made-begun}
+use Rattle.uni_model.specs.Worlds.{calls_in_era}
+use Rattle.uni_core.specs.Whole.{world_of}
+use Rattle.uni_script.specs.Meaning.{bench_of, CommandResult}
+use Rattle.uni_script.proofs.Results.{bench_is, begun_inside, none_refused-call, result_of_call-begun}
 use Rattle.uni_script.proofs.commands.call.Goals as goal
 
 pub returns-in-Ok-clause-bench : goal.returns-in-Ok-clause-bench
 returns-in-Ok-clause-bench g c =
-    let inside : (shown c.args.world.now).n ≤ c.args.process → ⊥ = λ h. let e = c.in-Ok.ensures.process.1 h in cc in
-    let idle : IsSome ((shown c.args.world.now).call c.args.process) → ⊥ = λ h. let e = c.in-Ok.ensures.busy.1 (begun_inside _ _ inside, h) in cc in
-    let room : (shown c.args.world.now).call c.args.process ≡ None → (shown c.args.world.now).begun c.args.process ≡ c.args.world.now.row → ⊥ =
+    let inside : (world_of c.args.world.now).n ≤ c.args.process → ⊥ = λ h. let e = c.in-Ok.ensures.process.1 h in cc in
+    let idle : IsSome ((world_of c.args.world.now).call c.args.process) → ⊥ = λ h. let e = c.in-Ok.ensures.busy.1 (begun_inside _ _ inside, h) in cc in
+    let room : (world_of c.args.world.now).call c.args.process ≡ None → calls_in_era (world_of c.args.world.now) c.args.process ≡ c.args.world.now.row → ⊥ =
     λ none h. let e = c.in-Ok.ensures.full.1 (begun_inside _ _ inside, none, h) in cc in
     bench_is _ _ c.in-Ok.ensures.fixed.row c.in-Ok.ensures.begun
-    ∙ sym (ap (λ (m : Made _ _ _). m.bench) (call_made-begun (language_of g.O.SeqObject.initial g.O.SeqObject.next g.O.SeqObject.answer g.O.Spoken.inv_of_words g.O.Spoken.inv_words g.O.Spoken.resp_bytes c.args.world.now.object) (bench_of c.args.world.now) c.args.process c.args.inv.now
+    ∙ sym (ap (λ (m : CommandResult _ _ _). m.bench) (result_of_call-begun (record { object = g.O.SeqObject.sequential c.args.world.now.object; language = g.O.Spoken.language }) (bench_of c.args.world.now) c.args.process c.args.inv.now
     (none_refused-call (bench_of c.args.world.now) c.args.process inside idle room)))

@@ -1,4 +1,4 @@
-use Rattle.uni_script.proofs.Made.{bench_is}
+use Rattle.uni_script.proofs.Results.{bench_is}
 use Rattle.uni_script.proofs.commands.open.Goals as goal
 
 pub returns-in-Ok-clause-bench : goal.returns-in-Ok-clause-bench

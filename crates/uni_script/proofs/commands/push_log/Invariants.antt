@@ -6,4 +6,4 @@ use Rattle.uni_script.specs.Answers.{entry_text}
 use Rattle.uni_script.proofs.commands.push_log.Given as goal
 
 abbrev pub invariant-loop-entry : goal.invariant-loop-entry
-invariant-loop-entry g l = l.text.items ≡ l.initial.text.items ++ concat (map (λ e. entry_text (λ inv. text_of_words (g.O.Spoken.inv_words inv)) g.O.Spoken.resp_bytes (entry_shown e)) (take l.entry-index l.entry-items))
+invariant-loop-entry g l = l.text.items ≡ l.initial.text.items ++ concat (map (λ e. entry_text (λ inv. text_of_words (g.O.Spoken.language.inv_words inv)) g.O.Spoken.language.resp_text (entry_shown e)) (take l.entry-index l.entry-items))

@@ -1,8 +1,8 @@
 use Rattle.std.proofs.Common.{◌≡◌, ◌++◌}
 use Rattle.uni_model.specs.Places.{head_seq}
-use Rattle.uni_core.specs.Whole.{shown}
+use Rattle.uni_core.specs.Whole.{world_of}
 use Rattle.uni_script.specs.Answers.{numbers_text}
 use Rattle.uni_script.proofs.commands.push_numbers.Given as goal
 
 abbrev pub invariant-loop-process : goal.invariant-loop-process
-invariant-loop-process g l = l.text.items ≡ l.initial.text.items ++ numbers_text l.process (head_seq (shown l.world).memory)
+invariant-loop-process g l = l.text.items ≡ l.initial.text.items ++ numbers_text l.process (head_seq (world_of l.world).memory)

@@ -1,9 +1,7 @@
-use Rattle.std.proofs.Common.{◌≡◌, ◌∙◌, sym, subst, length, option_map, Some, IfOk}
+use Rattle.std.proofs.Common.{◌∙◌, sym, subst}
 use Rattle.std.specs.Io.KnownBytes.{Appends}
 use Rattle.uni_script.specs.Ends.{AppendsFront}
-use Rattle.uni_script.specs.Reading.{lines_read, read_run}
-use Rattle.uni_script.specs.Summaries.{any_summary_of}
-use Rattle.uni_script.proofs.Replaying.{IsPartOfReplay-start, EndsAs-from, IfErr-always, true_isn't_false, ended-replayed, ended-summary, ended-fault, ended-part, ended-read, ended-reader, ended-writer}
+use Rattle.uni_script.proofs.Replaying.{IsPartOfReplay-start, EndsAs-from, summary-from, IfErr-always, true_isn't_false, ended-replayed, ended-summary, ended-fault, ended-part, ended-read, ended-reader, ended-writer}
 use Rattle.uni_script.proofs.replay.bench.Goals as goal
 
 pub returns-in_default-clause-part : goal.returns-in_default-clause-part
@@ -61,4 +59,4 @@ pub returns-clause-summary : goal.returns-clause-summary
 returns-clause-summary g c =
     ended-summary _ _ c.in-Ok.stop c.in-Ok.script.bytes.items _ _ c.in-Ok.ensures.read c.run_script-outcome.new.text.items c.run_script-outcome.result
     (EndsAs-from c.in-Ok.stop c.in-Ok.script.bytes.items c.as_slice.result.now c.new-answers.result.items _ c.run_script-outcome.result c.as_slice.ensures.value c.new-answers.ensures.items c.run_script-outcome.ensures.outcome)
-    (subst (λ bytes. IfOk c.run_script-outcome.result (λ s. option_map (any_summary_of (length (lines_read c.in-Ok.stop bytes))) (read_run c.in-Ok.stop bytes).bench ≡ Some s)) c.as_slice.ensures.value c.run_script-outcome.ensures.summary)
+    (summary-from c.in-Ok.stop c.in-Ok.script.bytes.items c.as_slice.result.now c.run_script-outcome.result c.as_slice.ensures.value c.run_script-outcome.ensures.summary)

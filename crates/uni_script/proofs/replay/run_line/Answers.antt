@@ -1,12 +1,20 @@
-use Rattle.std.proofs.Common.{◌∙◌, sym, ap, Some}
+use Rattle.std.proofs.Common.{◌≡◌, ◌∙◌, sym, subst, ap, Some, OnOk}
 use Rattle.ready_objects.specs.Words.{bytes_of}
-use Rattle.uni_script.specs.Script.{header_of_words}
-use Rattle.uni_script.proofs.Running.{short_line_run-opened}
+use Rattle.uni_script.specs.Meaning.{Outcome, bench_of}
+use Rattle.uni_script.specs.Reading.{EndsAs}
+use Rattle.uni_script.proofs.Running.{outcome_of_short_line-words}
 use Rattle.uni_script.proofs.replay.run_line.Goals as goal
 
-pub returns-in-None-clause-world : goal.returns-in-None-clause-world
-returns-in-None-clause-world c =
-    rw c.in-None.is (
-    ap Some c.in-Ok-open_any.ensures
-    ∙ sym (short_line_run-opened c.args.number c.args.line.now c.in-Some-header_of.header (sym c.if-not-is_plain.ensures) (sym c.if-is_note.ensures)
-    (sym (c.in-Some-header_of.ensures ∙ ap header_of_words (ap bytes_of c.as_slice.ensures.value ∙ c.in-Ok.ensures)))))
+pub returns-clause-outcome : goal.returns-clause-outcome
+returns-clause-outcome g c =
+    subst (λ (o : Outcome). EndsAs o c.args.text.now.items c.run_words.new.text.items c.run_words.result)
+    (sym (g.met.O.Shared.words c.args.world.now.object c.args.number (bench_of c.args.world.now) (bytes_of c.as_slice.result.now))
+    ∙ sym (outcome_of_short_line-words c.args.number _ c.args.line.now (bytes_of c.as_slice.result.now) (sym c.if-not-is_plain.ensures) (sym c.if-is_note.ensures) (ap bytes_of c.as_slice.ensures.value ∙ c.in-Ok.ensures)))
+    c.run_words.ensures.outcome
+
+pub returns-clause-bench : goal.returns-clause-bench
+returns-clause-bench g c =
+    subst (λ (o : Outcome). OnOk c.run_words.result (Some (g.O.Shared.bench (bench_of c.run_words.new.world)) ≡ o.bench))
+    (sym (g.met.O.Shared.words c.args.world.now.object c.args.number (bench_of c.args.world.now) (bytes_of c.as_slice.result.now))
+    ∙ sym (outcome_of_short_line-words c.args.number _ c.args.line.now (bytes_of c.as_slice.result.now) (sym c.if-not-is_plain.ensures) (sym c.if-is_note.ensures) (ap bytes_of c.as_slice.ensures.value ∙ c.in-Ok.ensures)))
+    c.run_words.ensures.bench

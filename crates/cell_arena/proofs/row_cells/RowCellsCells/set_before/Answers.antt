@@ -1,9 +1,14 @@
 use Rattle.std.proofs.Common.{◌∙◌, Some, ap, sym, refl}
 use Rattle.cell_arena.specs.CellRecord.{with_before}
-use Rattle.cell_arena.proofs.Changes.{ChangesOnly-by}
+use Rattle.cell_arena.proofs.ArenaOf.{ChangesOnly-by_cell, made_of-with_cell}
 use Rattle.cell_arena.proofs.row_cells.RowCellsCells.set_before.Goals as goal
 
 pub returns-clause-cell : goal.returns-clause-cell
 returns-clause-cell g c =
-    ChangesOnly-by (with_before c.args.before) c.args.self.now c.args.id _ _
-    (c.cell_mut-cell.ensures.cell ∙ ap Some (sym c.cell.view_is)) (rw c.write.ensures refl)
+    rw (← c.self.view_is)
+    (ChangesOnly-by_cell (with_before c.args.before) c.self.inside.rows c.cell_mut-cell.ensures.shape c.args.id _ _
+    (c.cell_mut-cell.ensures.stored ∙ ap Some (sym c.cell.view_is)) (rw c.write.ensures refl))
+
+pub returns-clause-made : goal.returns-clause-made
+returns-clause-made g c p =
+    rw (← c.self.view_is) (made_of-with_cell c.self.inside.rows c.args.id _ _ c.cell_mut-cell.ensures.stored p)

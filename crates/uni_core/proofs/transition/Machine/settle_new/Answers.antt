@@ -1,7 +1,7 @@
 use Rattle.std.proofs.Common.{◌∙◌, sym, ap, subst, IsSome}
 use Rattle.std.specs.Option.{option_copied}
 use Rattle.uni_core.specs.Shared.{name_of}
-use Rattle.cell_arena.specs.Rows.{processes_of}
+use Rattle.cell_arena.specs.Arena.{processes_of}
 use Rattle.uni_core.proofs.Transitions.{settled_kept, applied_there, copied_some, proposed_same}
 use Rattle.uni_core.proofs.transition.Machine.settle_new.Goals as goal
 
@@ -13,6 +13,6 @@ returns-then-is_some-clause-memory g c =
 pub returns-clause-memory : goal.returns-clause-memory
 returns-clause-memory g c =
     proposed_same c.args.self.now.shared c.decide_new.new.self (name_of (processes_of c.args.self.now.shared.cells) c.args.d) _ _
-    (applied_there (g.O.SeqObject.next c.args.self.now.object) (g.O.SeqObject.answer c.args.self.now.object) _ _ c.in-Some-Some.before.now c.in-Some-Some.inv.now c.in_ok-state.state c.in_ok-state.response
-    (sym c.new_of-2.ensures ∙ ap option_copied c.in-Some-Some.is-0) (sym c.inv.ensures ∙ ap option_copied c.in-Some-Some.is-1) c.in_ok-state.ensures.next c.in_ok-state.ensures.answer)
+    (applied_there (g.O.SeqObject.sequential c.args.self.now.object) _ _ c.in-Some-Some.before.now c.in-Some-Some.inv.now c.in_ok-state.state c.in_ok-state.response
+    (sym c.new_of-2.ensures ∙ ap option_copied c.in-Some-Some.is-0) (sym c.inv.ensures ∙ ap option_copied c.in-Some-Some.is-1) c.in_ok-state.ensures.state c.in_ok-state.ensures.response)
     c.decide_new.ensures.memory

@@ -1,5 +1,5 @@
-use Rattle.uni_core.proofs.Readers.{linked_there}
+use Rattle.uni_core.proofs.Reading.{linked_there}
 use Rattle.uni_core.proofs.world.World.after.Goals as goal
 
 pub returns-clause-there : goal.returns-clause-there
-returns-clause-there g c = linked_there _ _ _ _ c.self.view_is c.self.invariant c.shape.ensures.few.0 _ c.after.result c.after.ensures
+returns-clause-there g c = linked_there _ _ _ c.self.view_is c.self.invariant c.shape.ensures.few.0 _ c.after.result c.after.ensures

@@ -1,5 +1,5 @@
 use Rattle.std.proofs.Common.{arith}
-use Rattle.uni_core.proofs.Readers.{name_of-counted}
+use Rattle.uni_core.proofs.Reading.{name_of-counted}
 use Rattle.uni_core.proofs.world.World.cell_of.Goals as goal
 
 pub returns-clause-name : goal.returns-clause-name

@@ -1,8 +1,8 @@
 use Rattle.std.proofs.Common.{◌≡◌}
 use Rattle.uni_model.specs.Places.{head_seq}
 use Rattle.uni_model.specs.Frontier.{greatest_below}
-use Rattle.uni_core.specs.Whole.{shown}
+use Rattle.uni_core.specs.Whole.{world_of}
 use Rattle.uni_core.proofs.world.World.frontier.Given as goal
 
 abbrev pub invariant-loop-p : goal.invariant-loop-p
-invariant-loop-p g l = l.greatest ≡ greatest_below l.p (head_seq (shown l.self).memory)
+invariant-loop-p g l = l.greatest ≡ greatest_below l.p (head_seq (world_of l.self).memory)

@@ -2,7 +2,7 @@ use Rattle.uni_core.proofs.Walk.{leads_at_first, last_at_end, leads_later}
 use Rattle.uni_core.proofs.world.World.last.Goals as goal
 
 pub loop-init : goal.loop-init
-loop-init g c = leads_at_first c.args.self.now _ _ _ c.shape.ensures.sound c.shape.ensures.room c.anchor-last.ensures
+loop-init g c = leads_at_first c.args.self.now _ _ c.shape.ensures.sound c.shape.ensures.room c.shape.ensures.anchor c.anchor-last.ensures
 
 pub returns-in_default-clause-last : goal.returns-in_default-clause-last
 returns-in_default-clause-last g c = last_at_end c.args.self.now c.loop.last c.after.result c.loop.invariant.0.0 c.loop.invariant.0.2 c.after.ensures.link c.in_default.is

@@ -1,6 +1,7 @@
 use Rattle.std.proofs.Common.{◌≡◌, ◌∙◌, ◌+◌, length, length-append, refl, arith}
-use Rattle.uni_core.specs.Whole.{shown}
-use Rattle.uni_core.proofs.Runs.{Leads-nothing, Leads-next, Ran-all}
+use Rattle.uni_core.specs.Whole.{world_of}
+use Rattle.uni_core.proofs.Runs.{Leads-nothing, Leads-next, Ran-all, EndNoEra-events_of}
+use Rattle.uni_model.proofs.Growing.{log-fronts}
 use Rattle.uni_core.proofs.world.World.run.Goals as goal
 
 pub loop-command-init : goal.loop-command-init
@@ -8,7 +9,7 @@ loop-command-init g c = record {
   counted = rw c.in_ok-outcomes.ensures.items refl;
   has_room = c.in_ok-outcomes.ensures.capacity;
   fixed = record { object = refl; row = refl };
-  leads = rw c.in_ok-outcomes.ensures.items (Leads-nothing _ _ _ (shown c.args.self.now));
+  leads = rw c.in_ok-outcomes.ensures.items (Leads-nothing _ _ (world_of c.args.self.now));
 }
 
 pub loop-command-preserved : goal.loop-command-preserved
@@ -20,18 +21,28 @@ loop-command-preserved g c =
       has_room = rw c.push_reserved.ensures.capacity c.loop-command.invariant.has_room;
       fixed = record { object = c.take-outcome.ensures.fixed.object ∙ c.loop-command.invariant.fixed.object; row = c.take-outcome.ensures.fixed.row ∙ c.loop-command.invariant.fixed.row };
       leads = rw c.push_reserved.ensures.items
-          (Leads-next _ _ _ (shown c.args.self.now) (shown c.loop-command.self) (shown c.take-outcome.new.self) c.args.commands.now c.loop-command.command-index c.loop-command.outcomes.items c.command-item.result c.take-outcome.result
+          (Leads-next _ _ (world_of c.args.self.now) (world_of c.loop-command.self) (world_of c.take-outcome.new.self) c.args.commands.now c.loop-command.command-index c.loop-command.outcomes.items c.command-item.result c.take-outcome.result
           c.loop-command-test.true c.command-item.is c.loop-command.invariant.leads takes);
     }
 
 pub returns-clause-outcomes : goal.returns-clause-outcomes
-returns-clause-outcomes g c = (Ran-all _ _ _ (shown c.args.self.now) (shown c.loop-command.self) c.args.commands.now c.loop-command.command-index c.loop-command.outcomes.items
+returns-clause-outcomes g c = (Ran-all _ _ (world_of c.args.self.now) (world_of c.loop-command.self) c.args.commands.now c.loop-command.command-index c.loop-command.outcomes.items
     (omega arith) c.loop-command-test.false c.loop-command.invariant.leads).are
 
 pub returns-clause-ran : goal.returns-clause-ran
-returns-clause-ran g c = (Ran-all _ _ _ (shown c.args.self.now) (shown c.loop-command.self) c.args.commands.now c.loop-command.command-index c.loop-command.outcomes.items
+returns-clause-ran g c = (Ran-all _ _ (world_of c.args.self.now) (world_of c.loop-command.self) c.args.commands.now c.loop-command.command-index c.loop-command.outcomes.items
     (omega arith) c.loop-command-test.false c.loop-command.invariant.leads).ran
 
 pub returns-clause-accepted : goal.returns-clause-accepted
-returns-clause-accepted g c = (Ran-all _ _ _ (shown c.args.self.now) (shown c.loop-command.self) c.args.commands.now c.loop-command.command-index c.loop-command.outcomes.items
+returns-clause-accepted g c = (Ran-all _ _ (world_of c.args.self.now) (world_of c.loop-command.self) c.args.commands.now c.loop-command.command-index c.loop-command.outcomes.items
     (omega arith) c.loop-command-test.false c.loop-command.invariant.leads).accepted
+
+pub returns-clause-events : goal.returns-clause-events
+returns-clause-events g c = (Ran-all _ _ (world_of c.args.self.now) (world_of c.loop-command.self) c.args.commands.now c.loop-command.command-index c.loop-command.outcomes.items
+    (omega arith) c.loop-command-test.false c.loop-command.invariant.leads).events
+
+pub returns-clause-log : goal.returns-clause-log
+returns-clause-log g c =
+    let ran = Ran-all _ _ (world_of c.args.self.now) (world_of c.loop-command.self) c.args.commands.now c.loop-command.command-index c.loop-command.outcomes.items
+    (omega arith) c.loop-command-test.false c.loop-command.invariant.leads in
+    log-fronts _ (world_of c.args.self.now) _ c.shape.ensures.sound ran.events (EndNoEra-events_of c.args.commands.now c.loop-command.outcomes.items)

@@ -1,5 +1,5 @@
 use Rattle.std.proofs.Common.{◌≡◌, ◌≤◌, length, take, vec_capacity}
-use Rattle.uni_core.specs.Whole.{shown, KeepsFixed}
+use Rattle.uni_core.specs.Whole.{world_of, KeepsFixed}
 use Rattle.uni_core.proofs.Runs.{Leads}
 use Rattle.uni_core.proofs.world.World.run.Given as goal
 
@@ -8,5 +8,5 @@ invariant-loop-command g l = record {
   counted : length l.outcomes.items ≡ l.command-index;
   has_room : length l.commands ≤ vec_capacity l.outcomes;
   fixed : KeepsFixed l.fn.self l.self;
-  leads : Leads (g.O.SeqObject.next l.fn.self.object) (g.O.SeqObject.answer l.fn.self.object) l.fn.self.row (shown l.fn.self) (take l.command-index l.commands) l.outcomes.items (shown l.self);
+  leads : Leads (g.O.SeqObject.sequential l.fn.self.object) l.fn.self.row (world_of l.fn.self) (take l.command-index l.commands) l.outcomes.items (world_of l.self);
 }

@@ -1,8 +1,8 @@
 use Rattle.std.proofs.Common.{◌≡◌, IsSome, Some, slice_get, map}
-use Rattle.cell_arena.specs.Rows.{cell_of}
+use Rattle.cell_arena.specs.Arena.{cell_of}
 use Rattle.uni_model.specs.Places.{seq_of}
 use Rattle.uni_core.specs.Shared.{name_of}
-use Rattle.uni_core.specs.Whole.{shown}
+use Rattle.uni_core.specs.Whole.{world_of}
 use Rattle.uni_log.proofs.Back.{IsBack}
 use Rattle.uni_log.proofs.log.Log.cells_back.Given as goal
 
@@ -10,8 +10,8 @@ abbrev pub invariant-loop-before : goal.invariant-loop-before
 invariant-loop-before g l = record {
   there : IsSome (cell_of l.world.shared.cells l.at);
   first : slice_get l.back.items 0 ≡ Some l.fn.from;
-  back : IsBack (shown l.world) (name_of (shown l.world).n l.fn.from) (name_of (shown l.world).n l.at) (map (name_of (shown l.world).n) l.back.items);
+  back : IsBack (world_of l.world) (name_of (world_of l.world).n l.fn.from) (name_of (world_of l.world).n l.at) (map (name_of (world_of l.world).n) l.back.items);
 }
 
 abbrev pub decreases-loop-before : goal.decreases-loop-before
-decreases-loop-before g l = seq_of (shown l.world).memory (name_of (shown l.world).n l.at)
+decreases-loop-before g l = seq_of (world_of l.world).memory (name_of (world_of l.world).n l.at)

@@ -1,20 +1,21 @@
-use Rattle.std.proofs.Common.{sym, ◌≡◌, ◌+◌, refl, subst, true, length, length-append, arith}
+use Rattle.std.proofs.Common.{sym, ◌≡◌, ◌+◌, ◌-◌, refl, subst, length, length-append, arith}
 use Rattle.std.proofs.lemmas.List.{map-append, append-nil}
 use Rattle.uni_model.specs.Places.{seq_of}
 use Rattle.uni_model.specs.Places.Name.{Anchor}
 use Rattle.uni_model.specs.Worlds.{chain}
 use Rattle.uni_core.specs.Shared.{name_of}
-use Rattle.uni_core.specs.Whole.{shown}
+use Rattle.uni_core.specs.Whole.{world_of}
 use Rattle.uni_log.proofs.Walk.{IsAlong, IsAlong-anchor, along-end, along-next, walked-further}
 use Rattle.uni_log.proofs.log.Log.cells_forward.Goals as goal
 
 pub loop-next-init : goal.loop-next-init
 loop-next-init g c =
-    rw (c.anchor-at.ensures, c.new-forward.ensures.items) (record {
-      there = refl {a = true};
-      rest = chain (shown c.self.inside.world.now);
-      along = IsAlong-anchor (shown c.self.inside.world.now) (g.O.SeqObject.next c.self.inside.world.now.object) (g.O.SeqObject.answer c.self.inside.world.now.object)
-          c.shape.ensures.sound c.self.inside.world.now.row c.shape.ensures.room c.shape.ensures.numbers _ (omega arith);
+    rw (c.in_ok-push.ensures.items, c.new-forward.ensures.items, c.anchor-at.ensures) (record {
+      some = omega arith;
+      there = c.shape.ensures.anchor;
+      rest = chain (world_of c.self.inside.world.now);
+      along = IsAlong-anchor (world_of c.self.inside.world.now) (g.O.SeqObject.sequential c.self.inside.world.now.object)
+          c.shape.ensures.sound c.shape.ensures.fits _ (omega arith);
       whole = refl;
     })
 
@@ -24,13 +25,15 @@ after-requires g c = c.loop-next.invariant.there
 pub loop-next-preserved : goal.loop-next-preserved
 loop-next-preserved g c =
     let on = along-next _ _ _ _ c.loop-next.invariant.along _ (sym c.in-Some.ensures.link) in
-    let longer : length c.push.new.self.items ≡ length c.loop-next.forward.items + 1 = rw c.in_ok-push.ensures.items (length-append _ _) in
-    let seq : length c.loop-next.forward.items + seq_of (shown c.self.inside.world.now).memory Anchor + 1 ≡ length c.push.new.self.items + seq_of (shown c.self.inside.world.now).memory Anchor = omega arith in
+    let some = c.loop-next.invariant.some in
+    let longer : length c.push-in-Some.new.self.items ≡ length c.loop-next.forward.items + 1 = rw c.in_ok-push-2.ensures.items (length-append _ _) in
+    let seq : length c.loop-next.forward.items - 1 + seq_of (world_of c.self.inside.world.now).memory Anchor + 1 ≡ length c.push-in-Some.new.self.items - 1 + seq_of (world_of c.self.inside.world.now).memory Anchor = omega arith in
     record {
+      some = omega arith;
       there = c.in-Some.ensures.there;
       rest = on.0;
-      along = subst (λ k. IsAlong (shown c.self.inside.world.now) (name_of (shown c.self.inside.world.now).n c.in-Some.next) k on.0) seq on.2;
-      whole = rw (c.in_ok-push.ensures.items, map-append) (walked-further _ c.loop-next.invariant.rest on.0 (name_of (shown c.self.inside.world.now).n c.in-Some.next) on.1 c.loop-next.invariant.whole);
+      along = subst (λ k. IsAlong (world_of c.self.inside.world.now) (name_of (world_of c.self.inside.world.now).n c.in-Some.next) k on.0) seq on.2;
+      whole = rw (c.in_ok-push-2.ensures.items, map-append) (walked-further _ c.loop-next.invariant.rest on.0 (name_of (world_of c.self.inside.world.now).n c.in-Some.next) on.1 c.loop-next.invariant.whole);
     }
 
 pub returns : goal.returns

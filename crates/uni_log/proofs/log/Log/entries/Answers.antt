@@ -4,7 +4,7 @@ use Rattle.uni_model.specs.Places.{seq_of}
 use Rattle.uni_model.specs.Places.Name.{Anchor}
 use Rattle.uni_model.specs.Chain.{entries_from}
 use Rattle.uni_model.specs.Worlds.{chain}
-use Rattle.uni_core.specs.Whole.{shown}
+use Rattle.uni_core.specs.Whole.{world_of}
 use Rattle.uni_log.specs.Shown.{entry_shown}
 use Rattle.uni_log.proofs.Walk.{IsAlong-anchor, along-call, along-next}
 use Rattle.uni_log.proofs.Entries.{entries_from-further, log_reached}
@@ -14,14 +14,13 @@ use Rattle.uni_log.proofs.log.Log.entries.Goals as goal
 
 pub loop-next-init : goal.loop-next-init
 loop-next-init g c =
-    let read = rw (c.cells.ensures, c.anchor-at.ensures) at c.seq-seq.ensures in
-    let seq : c.seq-seq.result ≡ seq_of (shown c.self.inside.world.now).memory Anchor = cc in
+    let seq : c.seq-seq.result ≡ seq_of (world_of c.self.inside.world.now).memory Anchor = rw c.anchor-at.ensures at c.seq-seq.ensures in
     rw (c.anchor-at.ensures, c.new-entries.ensures.items) (record {
-      there = refl {a = true};
-      rest = chain (shown c.self.inside.world.now);
-      along = IsAlong-anchor (shown c.self.inside.world.now) (g.O.SeqObject.next c.self.inside.world.now.object) (g.O.SeqObject.answer c.self.inside.world.now.object)
-          c.shape.ensures.sound c.self.inside.world.now.row c.shape.ensures.room c.shape.ensures.numbers c.seq-seq.result seq;
-      whole = ap (λ k. entries_from (shown c.self.inside.world.now).memory (k + 1) (chain (shown c.self.inside.world.now))) seq;
+      there = c.shape.ensures.anchor;
+      rest = chain (world_of c.self.inside.world.now);
+      along = IsAlong-anchor (world_of c.self.inside.world.now) (g.O.SeqObject.sequential c.self.inside.world.now.object)
+          c.shape.ensures.sound c.shape.ensures.fits c.seq-seq.result seq;
+      whole = ap (λ k. entries_from (world_of c.self.inside.world.now).memory (k + 1) (chain (world_of c.self.inside.world.now))) seq;
     })
 
 pub entry_at-requires-clause-there : goal.entry_at-requires-clause-there
@@ -41,17 +40,17 @@ loop-next-preserved g c =
       rest = on.0;
       along = on.2;
       whole = rw (c.in_ok-push.ensures.items, map-append)
-          (entries_from-further (shown c.self.inside.world.now).memory (c.loop-next.seq + 1) _ (entry_shown c.in_ok-entry_at.field-0) c.in_ok-entry_at.ensures.seq c.in_ok-entry_at.ensures.call c.in_ok-entry_at.ensures.reply _ _ _ on.1 c.loop-next.invariant.whole);
+          (entries_from-further (world_of c.self.inside.world.now).memory (c.loop-next.seq + 1) _ (entry_shown c.in_ok-entry_at.field-0) c.in_ok-entry_at.ensures.seq c.in_ok-entry_at.ensures.call c.in_ok-entry_at.ensures.reply _ _ _ on.1 c.loop-next.invariant.whole);
     }
 
 pub returns-clause-log : goal.returns-clause-log
 returns-clause-log g c = rw (← c.self.view_is) (log_reached _ _ _ _ c.loop-next.invariant.along (sym c.in_default.ensures.link) _ c.loop-next.invariant.whole)
 
 pub returns-clause-settled : goal.returns-clause-settled
-returns-clause-settled g c = settled_but_last (g.O.SeqObject.next c.self.inside.world.now.object) (g.O.SeqObject.answer c.self.inside.world.now.object) _ c.shape.ensures.sound _
+returns-clause-settled g c = settled_but_last (g.O.SeqObject.sequential c.self.inside.world.now.object) _ c.shape.ensures.sound _
     (log_reached _ _ _ _ c.loop-next.invariant.along (sym c.in_default.ensures.link) _ c.loop-next.invariant.whole)
 
 pub returns-clause-legal : goal.returns-clause-legal
 returns-clause-legal g c = rw (← c.self.view_is)
-    (legal_log (g.O.SeqObject.next c.self.inside.world.now.object) (g.O.SeqObject.answer c.self.inside.world.now.object) _ c.shape.ensures.sound _
+    (legal_log (g.O.SeqObject.sequential c.self.inside.world.now.object) _ c.shape.ensures.sound _
     (log_reached _ _ _ _ c.loop-next.invariant.along (sym c.in_default.ensures.link) _ c.loop-next.invariant.whole))

@@ -1,10 +1,10 @@
 use Rattle.std.proofs.Common.{◌≡◌, ◌+◌, ◌-◌, ◌^◌, List, ◌++◌, IsSome, map}
-use Rattle.cell_arena.specs.Rows.{cell_of}
+use Rattle.cell_arena.specs.Arena.{cell_of}
 use Rattle.uni_model.specs.Places.{Name}
 use Rattle.uni_model.specs.Chain.{entries_from}
 use Rattle.uni_model.specs.History.{log}
 use Rattle.uni_core.specs.Shared.{name_of}
-use Rattle.uni_core.specs.Whole.{shown}
+use Rattle.uni_core.specs.Whole.{world_of}
 use Rattle.uni_log.specs.Shown.{entry_shown}
 use Rattle.uni_log.proofs.Walk.{IsAlong}
 use Rattle.uni_log.proofs.log.Log.entries.Given as goal
@@ -13,8 +13,8 @@ abbrev pub invariant-loop-next : goal.invariant-loop-next
 invariant-loop-next g l = record {
   there : IsSome (cell_of l.world.shared.cells l.at);
   rest : List Name;
-  along : IsAlong (shown l.world) (name_of (shown l.world).n l.at) l.seq rest;
-  whole : map entry_shown l.entries.items ++ entries_from (shown l.world).memory (l.seq + 1) rest ≡ log (shown l.world);
+  along : IsAlong (world_of l.world) (name_of (world_of l.world).n l.at) l.seq rest;
+  whole : map entry_shown l.entries.items ++ entries_from (world_of l.world).memory (l.seq + 1) rest ≡ log (world_of l.world);
 }
 
 abbrev pub decreases-loop-next : goal.decreases-loop-next

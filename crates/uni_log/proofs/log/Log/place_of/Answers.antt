@@ -1,21 +1,21 @@
-use Rattle.std.proofs.Common.{refl, sym, subst, true, arith}
+use Rattle.std.proofs.Common.{sym, subst, arith}
 use Rattle.std.proofs.lemmas.Iterator.Adapters.{position_from-zero}
 use Rattle.uni_model.specs.Places.{name_eq}
 use Rattle.uni_model.specs.Places.Name.{Of}
 use Rattle.uni_model.specs.Worlds.{chain}
 use Rattle.uni_core.specs.Shared.{name_of}
-use Rattle.uni_core.specs.Whole.{shown}
+use Rattle.uni_core.specs.Whole.{world_of}
 use Rattle.uni_log.proofs.Walk.{IsAlong, IsAlong-anchor, along-end, along-next}
 use Rattle.uni_log.proofs.log.Log.place_of.Goals as goal
 
 pub loop-next-init : goal.loop-next-init
 loop-next-init g c =
     rw c.anchor-at.ensures (record {
-      there = refl {a = true};
-      rest = chain (shown c.self.inside.world.now);
-      along = IsAlong-anchor (shown c.self.inside.world.now) (g.O.SeqObject.next c.self.inside.world.now.object) (g.O.SeqObject.answer c.self.inside.world.now.object)
-          c.shape.ensures.sound c.self.inside.world.now.row c.shape.ensures.room c.shape.ensures.numbers _ (omega arith);
-      whole = sym (position_from-zero (name_eq (Of c.args.call.process c.args.call.nth)) (chain (shown c.self.inside.world.now)));
+      there = c.shape.ensures.anchor;
+      rest = chain (world_of c.self.inside.world.now);
+      along = IsAlong-anchor (world_of c.self.inside.world.now) (g.O.SeqObject.sequential c.self.inside.world.now.object)
+          c.shape.ensures.sound c.shape.ensures.fits _ (omega arith);
+      whole = sym (position_from-zero (name_eq (Of c.args.call.process c.args.call.nth)) (chain (world_of c.self.inside.world.now)));
     })
 
 pub is_cell_of-requires : goal.is_cell_of-requires
@@ -33,7 +33,7 @@ loop-next-preserved g c =
     record {
       there = c.in-Some.ensures.there;
       rest = on.0;
-      along = subst (λ k. IsAlong (shown c.self.inside.world.now) (name_of (shown c.self.inside.world.now).n c.in-Some.next) k on.0) (omega arith) on.2;
+      along = subst (λ k. IsAlong (world_of c.self.inside.world.now) (name_of (world_of c.self.inside.world.now).n c.in-Some.next) k on.0) (omega arith) on.2;
       whole = rw (on.1, ← c.is_cell_of.ensures, c.if-is_cell_of.false) at c.loop-next.invariant.whole;
     }
 

@@ -1,10 +1,10 @@
 use Rattle.std.proofs.Common.{◌≡◌, ◌+◌, ℕ, List, ◌∷◌, IsSome, slice_get}
-use Rattle.cell_arena.specs.Rows.{cell_of}
+use Rattle.cell_arena.specs.Arena.{cell_of}
 use Rattle.uni_model.specs.Places.{Name, seq_of}
 use Rattle.uni_model.specs.Places.Name.{Anchor}
 use Rattle.uni_model.specs.Worlds.{chain}
 use Rattle.uni_core.specs.Shared.{name_of}
-use Rattle.uni_core.specs.Whole.{shown}
+use Rattle.uni_core.specs.Whole.{world_of}
 use Rattle.uni_log.proofs.Walk.{IsAlong}
 use Rattle.uni_log.proofs.log.Log.state_at.Given as goal
 
@@ -12,6 +12,6 @@ abbrev pub invariant-loop : goal.invariant-loop
 invariant-loop g l = record {
   there : IsSome (cell_of l.world.shared.cells l.at);
   rest : List Name;
-  along : IsAlong (shown l.world) (name_of (shown l.world).n l.at) (l.counter + seq_of (shown l.world).memory Anchor) rest;
-  whole : (j : ℕ) → slice_get (Anchor ∷ chain (shown l.world)) (l.counter + j) ≡ slice_get (name_of (shown l.world).n l.at ∷ rest) j;
+  along : IsAlong (world_of l.world) (name_of (world_of l.world).n l.at) (l.counter + seq_of (world_of l.world).memory Anchor) rest;
+  whole : (j : ℕ) → slice_get (Anchor ∷ chain (world_of l.world)) (l.counter + j) ≡ slice_get (name_of (world_of l.world).n l.at ∷ rest) j;
 }

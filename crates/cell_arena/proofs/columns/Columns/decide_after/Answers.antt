@@ -1,0 +1,19 @@
+use Rattle.std.proofs.Common.{◌∙◌, ap, sym, arith}
+use Rattle.cell_arena.proofs.CellsIn.{columns, after-read, cells_in-after}
+use Rattle.cell_arena.specs.CellRecord.{settled}
+use Rattle.cell_arena.proofs.columns.Columns.decide_after.Goals as goal
+
+pub index_mut-after-requires : goal.index_mut-after-requires
+index_mut-after-requires g c =
+    let within = rw (← c.self.view_is) at c.requires in
+    grind (arith, columns)
+
+pub returns-clause-answer : goal.returns-clause-answer
+returns-clause-answer g c =
+    let read = after-read _ c.self.invariant c.args.at (rw (← c.self.view_is) at c.requires) c.index_mut-after.result.now c.index_mut-after.ensures.value in
+    rw (← c.self.view_is) (c.decide.ensures.answer ∙ ap (λ o. settled o c.args.next) (sym read))
+
+pub returns-clause-cell : goal.returns-clause-cell
+returns-clause-cell g c =
+    let read = after-read _ c.self.invariant c.args.at (rw (← c.self.view_is) at c.requires) c.index_mut-after.result.now c.index_mut-after.ensures.value in
+    rw (← c.self.view_is, read, c.decide.follows.holds-at-none) (cells_in-after _ c.self.invariant c.args.at (rw (← c.self.view_is) at c.requires) _)

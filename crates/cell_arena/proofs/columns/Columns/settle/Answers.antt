@@ -1,0 +1,13 @@
+use Rattle.std.proofs.Common.{arith}
+use Rattle.cell_arena.proofs.CellsIn.{columns, new-read, cells_in-new}
+use Rattle.cell_arena.proofs.columns.Columns.settle.Goals as goal
+
+pub index_mut-settle-requires : goal.index_mut-settle-requires
+index_mut-settle-requires g c =
+    let within = rw (← c.self.view_is) at c.requires in
+    grind (arith, columns)
+
+pub returns : goal.returns
+returns g c =
+    let read = new-read _ c.self.invariant c.args.at (rw (← c.self.view_is) at c.requires) c.index_mut-settle.result.now c.index_mut-settle.ensures.value in
+    rw (← c.self.view_is, read, c.decide.follows.holds-at-none) (cells_in-new _ c.self.invariant c.args.at (rw (← c.self.view_is) at c.requires) _)

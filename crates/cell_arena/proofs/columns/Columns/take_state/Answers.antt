@@ -1,0 +1,17 @@
+use Rattle.std.proofs.Common.{refl, arith}
+use Rattle.cell_arena.proofs.CellsIn.{columns, new-read, cells_in-new}
+use Rattle.cell_arena.proofs.columns.Columns.take_state.Goals as goal
+
+pub index_mut-requires : goal.index_mut-requires
+index_mut-requires g c =
+    let within = rw (← c.self.view_is) at c.requires.within in
+    grind (arith, columns)
+
+pub returns-clause-state : goal.returns-clause-state
+returns-clause-state g c =
+    let read = new-read _ c.self.invariant c.args.at (rw (← c.self.view_is) at c.requires.within) c.index_mut.result.now c.index_mut.ensures.value in
+    rw (← c.self.view_is, read, ← c.replace-settled.ensures.value, ← c.into_inner.ensures, c.unwrap-state.ensures) refl
+
+pub returns-clause-cell : goal.returns-clause-cell
+returns-clause-cell g c =
+    rw (← c.self.view_is, c.replace-settled.ensures.after, c.new.ensures) (cells_in-new _ c.self.invariant c.args.at (rw (← c.self.view_is) at c.requires.within) _)

@@ -1,6 +1,0 @@
-use Rattle.std.proofs.Common.{◌≡◌, length}
-use Rattle.cell_arena.specs.Rows.{AreEmpty}
-use Rattle.cell_arena.proofs.row_cells.empty_rows.Given as goal
-
-abbrev pub invariant-loop : goal.invariant-loop
-invariant-loop g l = (length l.rows.items ≡ l.counter) × AreEmpty l.rows.items

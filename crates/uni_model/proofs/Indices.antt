@@ -1,0 +1,23 @@
+-- Cells by name and by index.
+use Rattle.std.proofs.Common.{◌≡◌, ◌∙◌, ℕ, zero, suc, ◌*◌, ◌+◌, ◌/◌, ◌%◌, ◌<◌, refl, sym, ap, arith}
+use Rattle.std.proofs.lemmas.Nat.{div-mul-add, mod-mul-add, div-add-mod'}
+use Rattle.uni_model.specs.Places.Name.{Of}
+use Rattle.uni_model.specs.Indices.{index_of, name_of}
+
+pub name_of-index_of : (n p k : ℕ) → p < n → name_of n (index_of n p k) ≡ Of p k
+name_of-index_of n p k below =
+    let same : index_of n p k ≡ suc (k * n + p) = omega arith in
+    rw same (rw (mod-mul-add k n p below, div-mul-add k n p below) refl)
+
+pub index_of-name : (n i : ℕ) → index_of n (i % n) (i / n) ≡ suc i
+index_of-name n i = let whole : i / n * n + i % n ≡ i = div-add-mod' i n in omega arith
+
+-- two indices of one name are one
+pub same_index : (n i j : ℕ) → name_of n i ≡ name_of n j → i ≡ j
+same_index n zero zero e = refl
+same_index n zero (suc j) e = cc
+same_index n (suc i) zero e = cc
+same_index n (suc i) (suc j) e =
+    let process : i % n ≡ j % n = cc in
+    let nth : i / n ≡ j / n = cc in
+    sym (index_of-name n i) ∙ ap (λ p. index_of n p (i / n)) process ∙ ap (index_of n (j % n)) nth ∙ index_of-name n j

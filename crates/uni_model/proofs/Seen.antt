@@ -1,0 +1,53 @@
+-- What a step reads beside its one place is settled, and is told by the places that the definitions name.
+use Rattle.std.proofs.Common.{◌≡◌, ◌∙◌, ℕ, ◌≤◌, refl, sym, ap, subst, Option, Some, None, IfSome}
+use Rattle.seq_object.specs.Sequential.{Sequential}
+use Rattle.uni_model.specs.Places.{Name, Memory, inv_of, new_of, invocation_in, settled_in}
+use Rattle.uni_model.specs.Stages.{Stage, Pending}
+use Rattle.uni_model.specs.Stages.Stage.{Announce, ScanHead, ScanSeq, WriteScan, Test, ReadAnnounce, ReadHelpSeq, DecideAfter, DecideNew, WriteBefore, WriteSeq, WriteHead, Finish}
+use Rattle.uni_model.specs.Transition.{Beside, places_beside}
+use Rattle.uni_model.specs.Transition.Beside.{ForValue, ForResponse}
+use Rattle.uni_model.specs.Worlds.{WorldOf}
+use Rattle.uni_model.specs.Invariant.{IsSound, Invariant, Stands}
+use Rattle.uni_model.specs.Settled.{AreSettledPlaces, SeesSettled, SeesOnly}
+use Rattle.uni_model.proofs.Steps.{head_number, linked_call}
+
+module _ {S I R : Type 0} (object : Sequential S I R) (w : WorldOf S I R) (num : Name → ℕ) (last : ℕ) (sound : IsSound object w num last) (p : ℕ) (mine : Name) where
+  settled_beside : (stage : Stage) → w.call p ≡ Some (record { mine = mine; stage = stage }) → Stands w.memory num w.n p mine stage → AreSettledPlaces w.memory (places_beside mine stage)
+  settled_beside Announce is h = tt
+  settled_beside (ScanHead q best s) is h = tt
+  settled_beside (ScanSeq q best s x) is h = tt
+  settled_beside (WriteScan best s) is h = tt
+  settled_beside (Test c s) is h = tt
+  settled_beside (ReadAnnounce c s) is h = tt
+  settled_beside (ReadHelpSeq c s help) is h = tt
+  settled_beside (DecideAfter c s prefer) is h = tt
+  settled_beside (DecideNew c s d) is h = (
+    linked_call object w num last sound p mine (DecideNew c s d) is c s d h.0 h.1,
+    (sound.values.threaded c (head_number object w num last sound p mine (DecideNew c s d) is c s h.0).0, tt),
+  )
+  settled_beside (WriteBefore c s d) is h = tt
+  settled_beside (WriteSeq c s d) is h = tt
+  settled_beside (WriteHead c s d) is h = tt
+  settled_beside (Finish s t) is h = (sound.values.threaded mine (subst (λ k. 1 ≤ k) (sym h.2) h.1), tt)
+
+pub SeesSettled-held : {S I R : Type 0} (object : Sequential S I R) (w : WorldOf S I R) → Invariant object w → (p : ℕ) → SeesSettled w p
+SeesSettled-held object w inv p = by_call (w.call p) refl where
+  by_call : (o : Option Pending) → w.call p ≡ o → IfSome o (λ (c : Pending). AreSettledPlaces w.memory (places_beside c.mine c.stage))
+  by_call None is = tt
+  by_call (Some c) is = settled_beside object w inv.0 inv.1 inv.2 p c.mine c.stage is (inv.2.stands p c is)
+
+pub SeesOnly-holds : {S I R : Type 0} (m m' : Memory S I R) (mine : Name) (stage : Stage) → SeesOnly m m' mine stage
+SeesOnly-holds m m' mine Announce same = refl
+SeesOnly-holds m m' mine (ScanHead q best s) same = refl
+SeesOnly-holds m m' mine (ScanSeq q best s x) same = refl
+SeesOnly-holds m m' mine (WriteScan best s) same = refl
+SeesOnly-holds m m' mine (Test c s) same = refl
+SeesOnly-holds m m' mine (ReadAnnounce c s) same = refl
+SeesOnly-holds m m' mine (ReadHelpSeq c s help) same = refl
+SeesOnly-holds m m' mine (DecideAfter c s prefer) same = refl
+SeesOnly-holds {S} {I} {R} m m' mine (DecideNew c s d) same =
+    ap (λ o. let b : Beside S I R = ForValue o (new_of m' c) in b) (ap invocation_in same.0) ∙ ap (λ o. let b : Beside S I R = ForValue (inv_of m d) o in b) (ap settled_in same.1.0)
+SeesOnly-holds m m' mine (WriteBefore c s d) same = refl
+SeesOnly-holds m m' mine (WriteSeq c s d) same = refl
+SeesOnly-holds m m' mine (WriteHead c s d) same = refl
+SeesOnly-holds {S} {I} {R} m m' mine (Finish s t) same = ap (λ o. let b : Beside S I R = ForResponse o in b) (ap settled_in same.0)

@@ -1,0 +1,215 @@
+-- Worked examples: what the definitions compute over a queue of numbers.
+use Rattle.std.specs.Prelude.{◌≡◌, refl, ℕ, zero, suc, ◌+◌, List, [], ◌∷◌, ◌++◌, length, Option, None, Some, map}
+use Rattle.seq_object.specs.Sequential.{Sequential}
+use Rattle.uni_model.specs.Places.{Name, seq_of, head_seq}
+use Rattle.uni_model.specs.Places.Name.{Anchor, Of}
+use Rattle.uni_model.specs.Stages.Stage.{Announce, ScanHead, Test, WriteHead, Finish}
+use Rattle.uni_model.specs.Bound.{steps_at}
+use Rattle.uni_model.specs.Chain.{Entry}
+use Rattle.uni_model.specs.Frontier.{floor_of}
+use Rattle.uni_model.specs.Worlds.{WorldOf, Event, chain, opened_world, world_after_all}
+use Rattle.uni_model.specs.Worlds.Event.{Call, Step, Trim}
+use Rattle.uni_model.specs.AtomicObject.Act.{Invoke, Linearize, Respond}
+use Rattle.uni_model.specs.History.{log, history_of}
+
+data QueueCall : Type 0 where
+  Enq : ℕ → QueueCall
+  Deq : QueueCall
+
+data QueueReply : Type 0 where
+  Ok : QueueReply
+  Value : ℕ → QueueReply
+  Empty : QueueReply
+
+abbrev queue_next : List ℕ → QueueCall → List ℕ
+queue_next xs (Enq v) = xs ++ v ∷ []
+queue_next [] Deq = []
+queue_next (x ∷ xs) Deq = xs
+
+abbrev queue_answer : List ℕ → QueueCall → QueueReply
+queue_answer xs (Enq v) = Ok
+queue_answer [] Deq = Empty
+queue_answer (x ∷ xs) Deq = Value x
+
+-- a queue of numbers
+abbrev queue : Sequential (List ℕ) QueueCall QueueReply
+queue = record { initial = []; next = queue_next; answer = queue_answer }
+
+-- so many steps of a process
+abbrev steps : ℕ → ℕ → List (Event QueueCall)
+steps p zero = []
+steps p (suc m) = Step p ∷ steps p m
+
+-- a run of n processes over an empty queue, from number 1
+abbrev run : ℕ → List (Event QueueCall) → WorldOf (List ℕ) QueueCall QueueReply
+run n events = world_after_all queue (opened_world n [] 1) events
+
+abbrev heads : WorldOf (List ℕ) QueueCall QueueReply → List ℕ → List ℕ
+heads w ps = map (head_seq w.memory) ps
+
+-- the floor that a run of n processes gives the call of a cell
+abbrev floor : ℕ → Name → List (Event QueueCall) → Option ℕ
+floor n x events = floor_of queue x (opened_world {R = QueueReply} n [] 1) events
+
+-- the number of the last linked cell, or of the anchor
+abbrev last_number : WorldOf (List ℕ) QueueCall QueueReply → ℕ
+last_number w = seq_of w.memory Anchor + length (chain w)
+
+abbrev entry : ℕ → ℕ → ℕ → QueueCall → QueueReply → Entry QueueCall QueueReply
+entry number p k i r = record { number = number; call = record { process = p; nth = k; inv = i }; response = Some r }
+
+-- the least case: one process helps itself
+alone : List (Event QueueCall)
+alone = Call 0 (Enq 7) ∷ steps 0 14
+
+alone-log : log (run 1 alone) ≡ entry 2 0 0 (Enq 7) Ok ∷ []
+unfolding alone
+alone-log = refl
+
+alone-head : heads (run 1 alone) (0 ∷ []) ≡ 2 ∷ []
+unfolding alone
+alone-head = refl
+
+alone-steps : (run 1 alone).steps 0 ≡ 14
+unfolding alone
+alone-steps = refl
+
+alone-turns : (run 1 alone).turns 0 ≡ 1
+unfolding alone
+alone-turns = refl
+
+alone-history : history_of queue (opened_world 1 [] 1) alone
+    ≡ Invoke 0 0 (Enq 7) ∷ Linearize (record { process = 0; nth = 0; inv = Enq 7 }) ∷ Respond 0 0 Ok ∷ []
+unfolding alone
+alone-history = refl
+
+-- two processes, of which one meets the bound of steps and turns: 32 and 3
+bound_met : List (Event QueueCall)
+bound_met = Call 0 (Enq 10) ∷ (steps 0 10 ++ Call 1 Deq ∷ (steps 1 14 ++ (steps 0 6 ++ Call 0 (Enq 20) ∷ Step 0 ∷ steps 1 18)))
+
+bound_met-log : log (run 2 bound_met) ≡ entry 2 0 0 (Enq 10) Ok ∷ entry 3 0 1 (Enq 20) Ok ∷ entry 4 1 0 Deq (Value 10) ∷ []
+unfolding bound_met
+bound_met-log = refl
+
+bound_met-heads : heads (run 2 bound_met) (0 ∷ 1 ∷ []) ≡ 2 ∷ 4 ∷ []
+unfolding bound_met
+bound_met-heads = refl
+
+bound_met-steps : (run 2 bound_met).steps 1 ≡ 32
+unfolding bound_met
+bound_met-steps = refl
+
+bound_met-turns : (run 2 bound_met).turns 1 ≡ 3
+unfolding bound_met
+bound_met-turns = refl
+
+-- the call's number, 4, is n + 1 past its floor
+bound_met-floor : floor 2 (Of 1 0) bound_met ≡ Some 1
+unfolding bound_met
+bound_met-floor = refl
+
+bound_met-chain : chain (run 2 bound_met) ≡ Of 0 0 ∷ Of 0 1 ∷ Of 1 0 ∷ []
+unfolding bound_met
+bound_met-chain = refl
+
+-- the same run while that call waits: the last number, 3, is n past its floor
+bound_waiting : List (Event QueueCall)
+bound_waiting = Call 0 (Enq 10) ∷ (steps 0 10 ++ Call 1 Deq ∷ (steps 1 14 ++ (steps 0 6 ++ Call 0 (Enq 20) ∷ Step 0 ∷ steps 1 8)))
+
+bound_waiting-call : (run 2 bound_waiting).call 1 ≡ Some (record { mine = Of 1 0; stage = Test (Of 0 1) 3 })
+unfolding bound_waiting
+bound_waiting-call = refl
+
+bound_waiting-floor : floor 2 (Of 1 0) bound_waiting ≡ Some 1
+unfolding bound_waiting
+bound_waiting-floor = refl
+
+bound_waiting-last : last_number (run 2 bound_waiting) ≡ 3
+unfolding bound_waiting
+bound_waiting-last = refl
+
+-- the same run before its last step: the call is pending, and has taken 31 steps, one less than the bound
+bound_pending : List (Event QueueCall)
+bound_pending = Call 0 (Enq 10) ∷ (steps 0 10 ++ Call 1 Deq ∷ (steps 1 14 ++ (steps 0 6 ++ Call 0 (Enq 20) ∷ Step 0 ∷ steps 1 17)))
+
+bound_pending-call : (run 2 bound_pending).call 1 ≡ Some (record { mine = Of 1 0; stage = Finish 4 4 })
+unfolding bound_pending
+bound_pending-call = refl
+
+bound_pending-steps : (run 2 bound_pending).steps 1 ≡ 31
+unfolding bound_pending
+bound_pending-steps = refl
+
+-- process 1 announces and stops; process 0 places its call
+helped : List (Event QueueCall)
+helped = Call 1 (Enq 5) ∷ Step 1 ∷ Call 0 (Enq 6) ∷ steps 0 24
+
+helped-log : log (run 2 helped) ≡ entry 2 1 0 (Enq 5) Ok ∷ entry 3 0 0 (Enq 6) Ok ∷ []
+unfolding helped
+helped-log = refl
+
+helped-heads : heads (run 2 helped) (0 ∷ 1 ∷ []) ≡ 3 ∷ 1 ∷ []
+unfolding helped
+helped-heads = refl
+
+helped-steps : (run 2 helped).steps 0 ≡ 24
+unfolding helped
+helped-steps = refl
+
+helped-turns : (run 2 helped).turns 0 ≡ 2
+unfolding helped
+helped-turns = refl
+
+-- the call that process 1 announced at the frontier 1 gets the next number
+helped-floor : floor 2 (Of 1 0) helped ≡ Some 1
+unfolding helped
+helped-floor = refl
+
+helped-chain : chain (run 2 helped) ≡ Of 1 0 ∷ Of 0 0 ∷ []
+unfolding helped
+helped-chain = refl
+
+-- before its first step a call has no floor
+helped-no_floor : floor 2 (Of 1 0) (Call 1 (Enq 5) ∷ []) ≡ None
+helped-no_floor = refl
+
+-- numbers go on after a trim, so the turns of processes do
+trimmed_between : List (Event QueueCall)
+trimmed_between = Call 0 (Enq 1) ∷ (steps 0 16 ++ Trim ∷ Call 1 (Enq 2) ∷ Step 1 ∷ Call 0 Deq ∷ steps 0 16)
+
+trimmed_between-log : log (run 2 trimmed_between) ≡ entry 3 0 1 Deq (Value 1) ∷ []
+unfolding trimmed_between
+trimmed_between-log = refl
+
+trimmed_between-heads : heads (run 2 trimmed_between) (0 ∷ 1 ∷ []) ≡ 3 ∷ 2 ∷ []
+unfolding trimmed_between
+trimmed_between-heads = refl
+
+-- so does the frontier
+trimmed_between-floor : floor 2 (Of 1 0) trimmed_between ≡ Some 2
+unfolding trimmed_between
+trimmed_between-floor = refl
+
+trimmed_between-steps : (run 2 trimmed_between).steps 0 ≡ 16
+unfolding trimmed_between
+trimmed_between-steps = refl
+
+trimmed_between-turns : (run 2 trimmed_between).turns 0 ≡ 1
+unfolding trimmed_between
+trimmed_between-turns = refl
+
+-- of two processes: the announcement, the first head, the first test, the end of a turn, the end of three
+steps_at-announce : steps_at 2 Announce 0 ≡ 0
+steps_at-announce = refl
+
+steps_at-second_head : steps_at 2 (ScanHead 1 Anchor 1) 0 ≡ 3
+steps_at-second_head = refl
+
+steps_at-test : steps_at 2 (Test Anchor 1) 1 ≡ 14
+steps_at-test = refl
+
+steps_at-write_head : steps_at 2 (WriteHead Anchor 1 Anchor) 1 ≡ 13
+steps_at-write_head = refl
+
+steps_at-finish : steps_at 2 (Finish 4 4) 3 ≡ 31
+steps_at-finish = refl

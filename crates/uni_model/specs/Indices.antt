@@ -1,0 +1,20 @@
+-- Cells in a row: the anchor at 0, then the cells of the first calls of all processes, those of the second ones, and so on.
+use Rattle.std.specs.Prelude.{◌≡◌, ℕ, zero, suc, ◌+◌, ◌*◌, ◌/◌, ◌%◌, refl}
+use Rattle.uni_model.specs.Places.{Name}
+use Rattle.uni_model.specs.Places.Name.{Anchor, Of}
+
+-- the index of the cell of a call, among n processes
+abbrev pub index_of : (n process nth : ℕ) → ℕ
+index_of n p k = 1 + k * n + p
+
+-- the name of the cell at an index
+abbrev pub name_of : (n index : ℕ) → Name
+name_of n zero = Anchor
+name_of n (suc i) = Of (i % n) (i / n)
+
+-- of two processes: the second call of process 1
+sample_index : index_of 2 1 1 ≡ 4
+sample_index = refl
+
+sample_name : name_of 2 4 ≡ Of 1 1
+sample_name = refl

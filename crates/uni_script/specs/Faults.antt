@@ -1,0 +1,25 @@
+-- The texts of faults.
+use Rattle.std.specs.Prelude.{◌≡◌, ℕ, List, [], ◌∷◌, ◌++◌, codes, refl}
+use Rattle.std.specs.Fmt.{decimal, digits}
+use Rattle.uni_script.specs.declared.fault.BenchFault.{BenchFault}
+use Rattle.uni_script.specs.declared.fault.BenchFault.TheVariants.{NoHeader, BadHeader, TooLong, BadByte, BadLine, TooMany, Read, Write, Memory}
+
+-- the text of a fault
+abbrev pub fault_text : BenchFault → List ℕ
+fault_text (NoHeader line) = codes "line " ++ decimal line ++ codes ": no header"
+fault_text (BadHeader line) = codes "line " ++ decimal line ++ codes ": bad header"
+fault_text (TooLong line) = codes "line " ++ decimal line ++ codes ": too long"
+fault_text (BadByte line) = codes "line " ++ decimal line ++ codes ": bad byte"
+fault_text (BadLine line) = codes "line " ++ decimal line ++ codes ": bad line"
+fault_text TooMany = codes "line 100001: too many lines"
+fault_text Read = codes "cannot read"
+fault_text Write = codes "cannot write"
+fault_text Memory = codes "out of memory"
+
+-- its line
+abbrev pub fault_line : BenchFault → List ℕ
+fault_line fault = fault_text fault ++ 10 ∷ []
+
+line_12_is_no_command : fault_line (BadLine 12) ≡ codes "line 12: bad line" ++ 10 ∷ []
+unfolding digits
+line_12_is_no_command = refl

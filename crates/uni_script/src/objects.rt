@@ -1,0 +1,72 @@
+//! The objects that a script can share. The one place of the code that tells them apart is
+//! `run_header`.
+
+ghost use Rattle.std.specs.Prelude.{ℕ, List};
+
+use ready_objects::{BookObject, DirectoryObject, QueueObject, Spoken, StickyObject};
+
+/// An object that a script can share. The trait has no call: it tells which bench of a script is
+/// one of the object.
+pub trait Shared: Spoken {
+    ghost use Rattle.std.specs.Prelude.{◌≡◌, Some};
+    ghost use Rattle.uni_script.specs.Meaning.{Bench, ScriptBench, outcome_of_words, outcome_of_command};
+    ghost use Rattle.uni_script.specs.Summaries.{summary_of, summary_of_bench};
+
+    /// The bench of a script of which this is the bench of the object.
+    ghost bench: { Bench Self.State Self.Inv Self.Resp → ScriptBench };
+
+    /// On it words are a command of the object.
+    ghost words: { (object : Self) (number : ℕ) (b : Bench Self.State Self.Inv Self.Resp) (words : List (List ℕ)) →
+        outcome_of_words number (Some (bench b)) words ≡ outcome_of_command (record { object = Self.sequential object; language = Self.language }) bench number b words };
+
+    /// It has done as much as that of the object.
+    ghost summary: { (lines : ℕ) (b : Bench Self.State Self.Inv Self.Resp) → summary_of_bench lines (bench b) ≡ summary_of lines b };
+}
+
+impl Shared for QueueObject {
+    ghost use Rattle.std.specs.Prelude.{refl};
+    ghost use Rattle.uni_script.specs.Meaning.{script_bench};
+    ghost use Rattle.uni_script.specs.declared.grammar.ObjectName.TheVariants.{Queue};
+
+    ghost bench = { script_bench Queue };
+
+    ghost words = { λ object number b words. refl };
+
+    ghost summary = { λ lines b. refl };
+}
+
+impl Shared for DirectoryObject {
+    ghost use Rattle.std.specs.Prelude.{refl};
+    ghost use Rattle.uni_script.specs.Meaning.{script_bench};
+    ghost use Rattle.uni_script.specs.declared.grammar.ObjectName.TheVariants.{Directory};
+
+    ghost bench = { script_bench Directory };
+
+    ghost words = { λ object number b words. refl };
+
+    ghost summary = { λ lines b. refl };
+}
+
+impl Shared for BookObject {
+    ghost use Rattle.std.specs.Prelude.{refl};
+    ghost use Rattle.uni_script.specs.Meaning.{script_bench};
+    ghost use Rattle.uni_script.specs.declared.grammar.ObjectName.TheVariants.{Book};
+
+    ghost bench = { script_bench Book };
+
+    ghost words = { λ object number b words. refl };
+
+    ghost summary = { λ lines b. refl };
+}
+
+impl Shared for StickyObject {
+    ghost use Rattle.std.specs.Prelude.{refl};
+    ghost use Rattle.uni_script.specs.Meaning.{script_bench};
+    ghost use Rattle.uni_script.specs.declared.grammar.ObjectName.TheVariants.{Sticky};
+
+    ghost bench = { script_bench Sticky };
+
+    ghost words = { λ object number b words. refl };
+
+    ghost summary = { λ lines b. refl };
+}

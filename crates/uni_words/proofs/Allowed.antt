@@ -1,0 +1,157 @@
+-- What the functions of the word steps ask, in parts.
+use Rattle.std.proofs.Common.{◌≡◌, ◌≢◌, ◌∙◌, ℕ, zero, suc, ◌+◌, ◌*◌, ◌<◌, ◌≤◌, inl, inr, refl, sym, ap, subst, Option, Some, None, option_map, unwrap_or, arith, nat_lt, eqb, if◌then◌else◌}
+use prog.Atomic.{either}
+use Rattle.atomic_table.specs.Table.{Me, Step, Allows}
+use Rattle.atomic_table.proofs.Lists.{exchanged}
+use Rattle.seq_object.specs.Sequential.{Sequential}
+use Rattle.uni_model.specs.Places.{Name, Content}
+use Rattle.uni_model.specs.Places.Name.{Of}
+use Rattle.uni_model.specs.Places.Place.{InvOf}
+use Rattle.uni_model.specs.Places.Content.{Link}
+use Rattle.uni_model.specs.Stages.{Stage, Pending}
+use Rattle.uni_model.specs.Stages.Stage.{Announce}
+use Rattle.uni_model.specs.Transition.{Beside, decision, place_of, content_after, turn_of}
+use Rattle.uni_model.proofs.Written.{lt_cases}
+use Rattle.uni_model.specs.Indices.{index_of, name_of}
+use Rattle.uni_model.proofs.Indices.{name_of-index_of}
+use Rattle.uni_words.specs.Words.{cells_of, start_of, index_in, link_of, word_of, content_of}
+use Rattle.uni_model.specs.Worlds.{call_after}
+use Rattle.uni_words.specs.Views.{Known, Reading, stage_found, moved_at, looked_at, begun_by}
+use Rattle.uni_words.specs.Seats.{HasMoved, HasLooked, Moved, IsWithin}
+use Rattle.uni_words.specs.Standing.{StandsAt, GoesBy, IsIdle}
+use Rattle.uni_words.specs.Rule.{Rule}
+use Rattle.uni_words.specs.declared.view.View.{View}
+use Rattle.uni_words.specs.declared.rule.Setup.{Setup}
+use Rattle.uni_words.proofs.Columns.{index_in-name_of}
+use Rattle.uni_words.proofs.Moving.{GoesOn, moves}
+
+-- what the table was told is what the log has
+pub may_move : {O : Type 0} (meaning : O → Sequential ℕ ℕ ℕ) (told setup : Setup O) → told ≡ setup
+    → (slots id i : ℕ) (st : Step ℕ) (me : Me ℕ View) (f said : ℕ → ℕ) → me.0.known.count ≡ 1 → (c : Pending) → me.0.known.call ≡ Some c → GoesOn c.stage
+    → word_of setup.n setup.k (place_of setup.n me.0.known.first c.mine c.stage) ≡ Some i
+    → ((found : ℕ) (seen : Beside ℕ ℕ ℕ) → content_of setup.n (place_of setup.n me.0.known.first c.mine c.stage) (f found)
+    ≡ content_after (meaning setup.object) c.mine c.stage (content_of setup.n (place_of setup.n me.0.known.first c.mine c.stage) found) seen)
+    → ((found : ℕ) → moved_at me.0.known c found ≡ moved_at me.0.known c (said found))
+    → ((found : ℕ) → IsWithin setup.n setup.k (place_of setup.n me.0.known.first c.mine c.stage) found → IsWithin setup.n setup.k (place_of setup.n me.0.known.first c.mine c.stage) (f found) → IsWithin setup.n setup.k (place_of setup.n me.0.known.first c.mine c.stage) (said found))
+    → Allows (Rule meaning told) slots id me i f (λ found me'. Moved st me (said found) me')
+may_move meaning told setup same slots id i st me f said single c pending goes word writes stays small =
+    subst (λ key. Allows (Rule meaning key) slots id me i f (λ found me'. Moved st me (said found) me')) (sym same)
+    (moves (meaning setup.object) setup.k setup.n slots id i st me f said single c pending goes word writes stays small)
+
+pub by_key : {O : Type 0} (meaning : O → Sequential ℕ ℕ ℕ) (told setup : Setup O) → told ≡ setup
+    → (slots id : ℕ) (me : Me ℕ View) (i : ℕ) (f : ℕ → ℕ) (says : ℕ → Me ℕ View → Type 0)
+    → Allows (Rule meaning setup) slots id me i f says → Allows (Rule meaning told) slots id me i f says
+by_key meaning told setup same slots id me i f says allowed =
+    subst (λ key. Allows (Rule meaning key) slots id me i f says) (sym same) allowed
+
+pub cell_word : (n row column cell i : ℕ) → 1 ≤ n → cell < cells_of n row → i ≡ start_of n row column + cell
+    → option_map (λ j. start_of n row column + j) (index_in n row (name_of n cell)) ≡ Some i
+cell_word n row column cell i positive inside word = ap (option_map (λ j. start_of n row column + j)) (index_in-name_of n row cell positive inside) ∙ ap Some (sym word)
+
+pub process_word : (n row column q i : ℕ) → q < n → i ≡ start_of n row column + q → option_map (λ j. start_of n row column + j) (if nat_lt q n then Some q else None) ≡ Some i
+process_word n row column q i inside word = elim (lt_cases q n) [
+  | inl below ↦ rw below.1 (ap Some (sym word))
+  | inr above ↦ absurd (let h = above.0 in omega arith)
+]
+
+pub first_word : (n row column first p i : ℕ) → p < n → first ≡ p → i ≡ start_of n row column + p → option_map (λ j. start_of n row column + j) (if nat_lt first n then Some first else None) ≡ Some i
+first_word n row column first p i inside same word =
+    subst (λ q. option_map (λ j. start_of n row column + j) (if nat_lt q n then Some q else None) ≡ Some i) (sym same) (process_word n row column p i inside word)
+
+abbrev link : Option Name → Content ℕ ℕ ℕ
+link o = Link o
+
+link_to : (n prefer : ℕ) → link_of n (prefer + 1) ≡ Some (name_of n prefer)
+link_to n prefer = let e : prefer + 1 ≡ suc prefer = omega arith in ap (link_of n) e
+
+pub link_is : (n c : ℕ) → link (link_of n (1 + c)) ≡ link (Some (name_of n c))
+link_is n c = let e : 1 + c ≡ suc c = omega arith in ap (λ x. link (link_of n x)) e
+
+pub link_decided : (n prefer found : ℕ) → link (link_of n (either (eqb found 0) (prefer + 1) found)) ≡ link (decision (link_of n found) (Some (name_of n prefer)))
+link_decided n prefer zero = ap link (link_to n prefer)
+link_decided n prefer (suc found) = exchanged (suc found) 0 (prefer + 1) (λ x. link (link_of n x) ≡ link (decision (link_of n (suc found)) (Some (name_of n prefer)))) (λ e. absurd (omega arith)) (λ apart. refl)
+
+-- where a seat stands after a step
+pub stands_next : (n row p : ℕ) (mine : Name) (stage next : Stage) (found : ℕ) (me me' : Me ℕ View) → StandsAt n row p mine stage me → HasMoved me (record { mine = mine; stage = stage }) found me'
+    → stage_found n p mine stage found ≡ Some next → StandsAt n row p mine next me'
+stands_next n row p mine stage next found me me' stands moved goes =
+    let same : stage_found me.0.known.n me.0.known.first mine stage found ≡ Some next = rw (stands.processes, stands.first) goes in
+    let now : me'.0.known ≡ moved_at me.0.known (record { mine = mine; stage = stage }) found = ap (λ (x : Me ℕ View). x.0.known) moved.view in
+    rw now (record { processes = stands.processes; calls = stands.calls; first = stands.first; alone = stands.alone; call = ap (call_after mine) same })
+
+pub called_word : (n row first begun p nth i : ℕ) → p < n → nth < row → first ≡ p → begun ≡ nth → i ≡ 2 * n + 0 * (n * row + 1) + index_of n p nth → word_of n row (InvOf (Of first begun)) ≡ Some i
+called_word n row first begun p nth i inside room same_p same_k word =
+    subst (λ q. word_of n row (InvOf (Of q begun)) ≡ Some i) (sym same_p) (subst (λ k. word_of n row (InvOf (Of p k)) ≡ Some i) (sym same_k)
+    (elim (lt_cases p n) [
+      | inl a ↦ elim (lt_cases nth row) [ inl b ↦ rw (a.1, b.1) (ap Some (sym word)) | inr b ↦ absurd (let h = b.0 in omega arith) ]
+      | inr a ↦ absurd (let h = a.0 in omega arith)
+    ]))
+
+pub goes_one : (me : Me ℕ View) (c : Pending) (found t : ℕ) (me' : Me ℕ View) → HasMoved me c found me' → turn_of c.stage (content_of me.0.known.n (place_of me.0.known.n me.0.known.first c.mine c.stage) found) ≡ t → GoesBy me me' 1 t
+goes_one me c found t me' moved turn =
+    let now : me'.0.known ≡ moved_at me.0.known c found = ap (λ (x : Me ℕ View). x.0.known) moved.view in
+    record {
+      word_steps = ap (λ (k : Known). k.word_steps) now;
+      turns = ap (λ (k : Known). k.turns) now ∙ ap (λ x. me.0.known.turns + x) turn;
+      inv = ap (λ (k : Known). k.inv) now;
+      begun = ap (λ (k : Known). k.begun) now;
+      own = ap (λ (k : Known). k.own) now;
+      carried = ap (λ (x : Me ℕ View). x.1) moved.view;
+    }
+
+pub GoesBy-trans : (a b c : Me ℕ View) (w t w' t' : ℕ) → GoesBy a b w t → GoesBy b c w' t' → GoesBy a c (w + w') (t + t')
+GoesBy-trans a b c w t w' t' first rest = record {
+  word_steps = (let x = first.word_steps in let y = rest.word_steps in omega arith);
+  turns = (let x = first.turns in let y = rest.turns in omega arith);
+  inv = rest.inv ∙ first.inv;
+  begun = rest.begun ∙ first.begun;
+  own = rest.own ∙ first.own;
+  carried = rest.carried ∙ first.carried;
+}
+
+pub within_here : (n row p : ℕ) (mine : Name) (stage : Stage) (found : ℕ) (me me' : Me ℕ View) → HasMoved me (record { mine = mine; stage = stage }) found me' → StandsAt n row p mine stage me → IsWithin n row (place_of n p mine stage) found
+within_here n row p mine stage found me me' moved stands =
+    subst (λ k. IsWithin k row (place_of k p mine stage) found) stands.processes
+    (subst (λ r. IsWithin me.0.known.n r (place_of me.0.known.n p mine stage) found) stands.calls
+    (subst (λ q. IsWithin me.0.known.n me.0.known.row (place_of me.0.known.n q mine stage) found) stands.first moved.within))
+
+pub few_turns : (n row p : ℕ) (mine : Name) (stage : Stage) (found : ℕ) (me me' : Me ℕ View) → HasMoved me (record { mine = mine; stage = stage }) found me' → StandsAt n row p mine stage me → me'.0.known.turns ≤ n + 1
+few_turns n row p mine stage found me me' moved stands = subst (λ k. me'.0.known.turns ≤ k + 1) stands.processes moved.turns
+
+-- a read of a settled word changes nothing else
+pub stands_still : (n row p : ℕ) (mine : Name) (stage : Stage) (read : Reading) (me me' : Me ℕ View) → StandsAt n row p mine stage me → HasLooked me read me' → StandsAt n row p mine stage me'
+stands_still n row p mine stage read me me' stands looked =
+    let now : me'.0.known ≡ looked_at me.0.known read = ap (λ (x : Me ℕ View). x.0.known) looked in
+    rw now (record { processes = stands.processes; calls = stands.calls; first = stands.first; alone = stands.alone; call = stands.call })
+
+pub goes_still : (read : Reading) (me me' : Me ℕ View) → HasLooked me read me' → GoesBy me me' 1 0
+goes_still read me me' looked =
+    let now : me'.0.known ≡ looked_at me.0.known read = ap (λ (x : Me ℕ View). x.0.known) looked in
+    record {
+      word_steps = ap (λ (k : Known). k.word_steps) now;
+      turns = (let t = ap (λ (k : Known). k.turns) now in omega arith);
+      inv = ap (λ (k : Known). k.inv) now;
+      begun = ap (λ (k : Known). k.begun) now;
+      own = ap (λ (k : Known). k.own) now;
+      carried = ap (λ (x : Me ℕ View). x.1) looked;
+    }
+
+pub read_is : (read : Reading) (me me' : Me ℕ View) → HasLooked me read me' → me'.0.known.read ≡ read
+read_is read me me' looked = ap (λ (x : Me ℕ View). x.0.known.read) looked
+
+-- the cell that is settled after c
+pub settled_after : (n found prefer d : ℕ) → (found ≡ 0 → d ≡ prefer) → (found ≢ 0 → d + 1 ≡ found) → unwrap_or (link_of n found) (name_of n prefer) ≡ name_of n d
+settled_after n zero prefer d none some = ap (name_of n) (sym (none refl))
+settled_after n (suc found) prefer d none some = let e : d + 1 ≡ suc found = some (λ f. omega arith) in ap (name_of n) (omega arith)
+
+pub stands_begun : (n row p nth mine inv : ℕ) (me me' : Me ℕ View) → p < n → mine ≡ index_of n p nth → IsIdle n row p nth me → me' ≡ (record { known = begun_by me.0.known inv }, me.1) → StandsAt n row p (name_of n mine) Announce me'
+stands_begun n row p nth mine inv me me' inside cell idle begun =
+    let now : me'.0.known ≡ begun_by me.0.known inv = ap (λ (x : Me ℕ View). x.0.known) begun in
+    let name : name_of n mine ≡ Of p nth = ap (name_of n) cell ∙ name_of-index_of n p nth inside in
+    rw now (record {
+      processes = idle.0;
+      calls = idle.1;
+      first = idle.2;
+      alone = idle.3;
+      call = ap (λ x. Some (record { mine = x; stage = Announce })) (ap (λ q. Of q me.0.known.begun) idle.2 ∙ ap (Of p) idle.4 ∙ sym name);
+    })

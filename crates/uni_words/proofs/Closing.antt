@@ -1,0 +1,119 @@
+-- What the words of a closed table show.
+use Rattle.std.proofs.Common.{◌≡◌, ◌∙◌, ℕ, ◌+◌, ◌*◌, ◌<◌, ◌≤◌, inl, inr, refl, sym, ap, subst, map, slice_get, Some, None, option_map, arith, true}
+use Rattle.atomic_table.specs.Table.{State}
+use Rattle.seq_object.specs.Sequential.{Sequential}
+use Rattle.seq_object.specs.History.{IsLegal}
+use Rattle.uni_model.specs.Places.{Name, Memory, inv_of, seq_of, after_of}
+use Rattle.uni_model.specs.Places.Name.{Anchor, Of}
+use Rattle.uni_model.specs.Chain.{cells_from, entries_from, invoked_at, response_in}
+use Rattle.uni_model.specs.History.{logged_call}
+use Rattle.uni_model.specs.Worlds.{WorldOf, calls_begun}
+use Rattle.uni_model.specs.Invariant.{IsNumbered, IsSound}
+use Rattle.uni_model.proofs.Chains.{cells_from-same, number_at}
+use Rattle.uni_model.proofs.Logged.{legal_from}
+use Rattle.uni_model.proofs.Ranges.{sum_below-bound}
+use Rattle.uni_model.proofs.SameLog.{entries_from-same}
+use Rattle.uni_model.proofs.Simulation.{enough}
+use Rattle.uni_model.proofs.Written.{lt_cases}
+use Rattle.uni_words.specs.Log.{IsChained, is_call_cell, log_of, told_memory}
+use Rattle.uni_words.specs.Shown.{IsShown}
+use Rattle.uni_words.specs.Words.{memory_of}
+use Rattle.uni_words.specs.declared.view.View.{View}
+
+module _ (object : Sequential ℕ ℕ ℕ) (row : ℕ) (w : WorldOf ℕ ℕ ℕ) (s : State ℕ View) (is : IsShown object row w s) where
+  abbrev told : Memory ℕ ℕ ℕ
+  told = told_memory w.n row s.words
+
+  abbrev num : Name → ℕ
+  num = is.sound.0
+
+  sound : IsSound object w is.sound.0 is.sound.1
+  sound = is.sound.2
+
+  first_number : num Anchor ≡ 1
+  first_number = sound.numbered.anchor ∙ is.number
+
+  few : is.sound.1 ≤ w.n * row + 1
+  few =
+      let all = enough object w is.sound.0 is.sound.1 sound in
+      let each : calls_begun w ≤ w.n * row = sum_below-bound w.n row w.begun is.room in
+      let anchor = first_number in
+      omega arith
+
+  shown_numbered : IsNumbered (memory_of w.n row s.words w.begun) num is.sound.1
+  shown_numbered = subst (λ m. IsNumbered m num is.sound.1) is.memory sound.numbered
+
+  told_numbered : IsNumbered told num is.sound.1
+  told_numbered = record {
+    anchor = shown_numbered.anchor;
+    first = shown_numbered.first;
+    least = shown_numbered.least;
+    greatest = shown_numbered.greatest;
+    one_each = shown_numbered.one_each;
+    link = shown_numbered.link;
+    goes_on = shown_numbered.goes_on;
+    seq = shown_numbered.seq;
+    threaded = shown_numbered.threaded;
+  }
+
+  begun_in_table : (p k : ℕ) → 1 ≤ num (Of p k) → (p < w.n) × (k < w.begun p)
+  begun_in_table p k linked = sound.calls.begun p k (sound.calls.linked p k linked)
+
+  pub shows_chain : IsChained w.n row s.words
+  shows_chain = record {
+    num = num;
+    last = is.sound.1;
+    wide = is.wide;
+    numbered = told_numbered;
+    first = first_number;
+    linked = λ p k linked. let h = begun_in_table p k linked in let room = is.room p in (h.0, let b = h.1 in omega arith);
+    few = few;
+  }
+
+  -- the invocation of a linked cell is told by its word, whatever else has begun
+  told_inv : (p k : ℕ) → 1 ≤ num (Of p k) → inv_of told (Of p k) ≡ inv_of w.memory (Of p k)
+  told_inv p k linked =
+      let h = begun_in_table p k linked in
+      let room = is.room p in
+      elim (lt_cases k row) [
+        | inl a ↦ elim (lt_cases k (w.begun p)) [
+          | inl b ↦ sym (ap (λ m. inv_of m (Of p k)) is.memory ∙ rw b.1 (rw a.1 refl))
+          | inr b ↦ absurd (let x = b.0 in let y = h.1 in omega arith)
+        ]
+        | inr a ↦ absurd (let x = a.0 in let y = h.1 in omega arith)
+      ]
+
+  told_call : (x : Name) → 1 ≤ num x → invoked_at told x ≡ invoked_at w.memory x
+  told_call Anchor linked = refl
+  told_call (Of p k) linked = ap (option_map (λ (i : ℕ). record { process = p; nth = k; inv = i })) (told_inv p k linked)
+
+  told_response : (x : Name) → 1 ≤ num x → response_in told x ≡ response_in w.memory x
+  told_response x linked = sym (ap (λ m. response_in m x) is.memory)
+
+  told_after : (x : Name) → after_of told x ≡ after_of w.memory x
+  told_after x = sym (ap (λ m. after_of m x) is.memory)
+
+  -- the log is that of the world, along the same cells
+  pub log_is : log_of w.n row s.words ≡ entries_from w.memory 2 (cells_from (w.n * row) w.memory Anchor)
+  log_is = ap (λ k. entries_from told (k + 1) (cells_from (w.n * row) told Anchor)) (sym (ap (λ m. seq_of m Anchor) is.memory) ∙ is.number)
+      ∙ ap (entries_from told 2) (cells_from-same w.memory told told_after (w.n * row) Anchor)
+      ∙ entries_from-same w.memory told num is.sound.1 sound.numbered told_call told_response (w.n * row) 2 Anchor
+
+  pub legal_log : IsLegal object object.initial (map logged_call (log_of w.n row s.words))
+  legal_log = subst (λ l. IsLegal object object.initial (map logged_call l)) (sym log_is)
+      (legal_from object w is.sound.0 is.sound.1 sound (w.n * row) Anchor 2 (object.initial, None) sound.numbered.first is.state)
+
+  pub call_cells : (place : ℕ) (x : Name) → slice_get (cells_from (w.n * row) told Anchor) place ≡ Some x → is_call_cell w.n row x ≡ true
+  call_cells place x at = by_name x (number_at told num is.sound.1 told_numbered (w.n * row) Anchor x place at) where
+    by_name : (x : Name) → num x ≡ num Anchor + (place + 1) → is_call_cell w.n row x ≡ true
+    by_name Anchor e = absurd (omega arith)
+    by_name (Of p k) e =
+        let h = begun_in_table p k (omega arith) in
+        let room = is.room p in
+        elim (lt_cases p w.n) [
+          | inl a ↦ elim (lt_cases k row) [
+            | inl b ↦ rw (a.1, b.1) refl
+            | inr b ↦ absurd (let x = b.0 in let y = h.1 in omega arith)
+          ]
+          | inr a ↦ absurd (let x = a.0 in let y = h.0 in omega arith)
+        ]

@@ -1,0 +1,92 @@
+-- The exchange of `new`, which is always tried.
+use Rattle.std.proofs.Common.{◌≡◌, ◌≢◌, ◌∙◌, ℕ, zero, suc, ◌+◌, ◌*◌, ◌<◌, ◌^◌, inl, inr, refl, sym, ap, subst, slice_index, Option, Some, arith, eqb}
+use prog.Atomic.{either}
+use Rattle.atomic_table.specs.Table.{Me, Step, keeps, Allows}
+use Rattle.atomic_table.proofs.Lists.{exchanged}
+use Rattle.seq_object.specs.Sequential.{Sequential}
+use Rattle.uni_model.specs.Places.{Name, Content, inv_of, new_of, settled_in}
+use Rattle.uni_model.specs.Places.Name.{Anchor, Of}
+use Rattle.uni_model.specs.Places.Place.{NewOf}
+use Rattle.uni_model.specs.Places.Content.{Settled}
+use Rattle.uni_model.specs.Stages.{Stage, Pending}
+use Rattle.uni_model.specs.Stages.Stage.{DecideNew, WriteBefore}
+use Rattle.uni_model.specs.Transition.{decision, value_after}
+use Rattle.uni_model.specs.Worlds.{WorldOf}
+use Rattle.uni_model.proofs.Written.{new_of-memory_with}
+use Rattle.uni_model.proofs.Values.{not_anchor}
+use Rattle.uni_words.specs.Words.{settled_word, settled_at, content_of, word_of}
+use Rattle.uni_words.specs.Views.{Known, moved_at, stage_found}
+use Rattle.uni_words.specs.Views.Reading.{Applied}
+use Rattle.uni_words.specs.Seats.{HasMoved, Moved}
+use Rattle.uni_words.specs.Shown.{HasRead, IsShown, ShowsWorld}
+use Rattle.uni_words.specs.declared.view.View.{View}
+use Rattle.uni_words.proofs.Codes.{settled_at-word}
+use Rattle.uni_words.proofs.Within.{within}
+use Rattle.uni_words.proofs.Happens.{effect, later, there}
+use Rattle.uni_words.proofs.Moving.{moved_kept, moved_told}
+use Rattle.uni_words.proofs.Looks.{stands, underway}
+
+-- the word after the exchange is what is decision
+exchanged_is : (d : Name) → d ≢ Anchor → (state reply : ℕ) → reply < 2 ^ 31 → (found : ℕ)
+    → settled_at d (either (eqb found 0) (settled_word state reply) found) ≡ decision (settled_at d found) (Some (state, Some reply))
+exchanged_is Anchor apart state reply small found = absurd (apart refl)
+exchanged_is (Of q k) apart state reply small zero = settled_at-word q k state reply small
+exchanged_is (Of q k) apart state reply small (suc found) = exchanged (suc found) 0 (settled_word state reply)
+    (λ x. settled_at (Of q k) x ≡ decision (settled_at (Of q k) (suc found)) (Some (state, Some reply))) (λ e. absurd (omega arith)) (λ apart'. refl)
+
+module _ (object : Sequential ℕ ℕ ℕ) (row : ℕ) where
+  pub decides : (n slots id i : ℕ) (st : Step ℕ) (me : Me ℕ View) → me.0.known.count ≡ 1 → (mine c d : Name) (c_seq inv state : ℕ)
+      → me.0.known.call ≡ Some (record { mine = mine; stage = DecideNew c c_seq d }) → me.0.known.read ≡ Applied inv state
+      → object.next state inv < 2 ^ 31 → object.answer state inv < 2 ^ 31 → word_of n row (NewOf d) ≡ Some i
+      → Allows (ShowsWorld object n row) slots id me i (λ found. either (eqb found 0) (settled_word (object.next state inv) (object.answer state inv)) found) (λ found me'. Moved st me found me')
+  decides n slots id i st me single mine c d c_seq inv state pending read next_fits answer_fits word_n s shown deep at small =
+      let w : WorldOf ℕ ℕ ℕ = shown.0 in
+      let is : IsShown object row w s = shown.2 in
+      let word : word_of w.n row (NewOf d) ≡ Some i = subst (λ k. word_of k row (NewOf d) ≡ Some i) (sym shown.1) word_n in
+      let found : ℕ = slice_index s.words i in
+      let v : Known = me.0.known in
+      let stage : Stage = DecideNew c c_seq d in
+      let call : Pending = record { mine = mine; stage = stage } in
+      let h = stands object row w s is id v at single mine stage pending in
+      let apart : d ≢ Anchor = not_anchor w.memory is.sound.0 is.sound.1 is.sound.2.numbered c d h.1 in
+      let under = underway object row w s is id v at single mine stage pending in
+      let had : HasRead w.memory mine stage (Applied inv state) = subst (λ r. HasRead w.memory mine stage r) read under.1 in
+      let x : ℕ = either (eqb found 0) (settled_word (object.next state inv) (object.answer state inv)) found in
+      let value : Option (ℕ × Option ℕ) = decision (settled_in (w.memory (NewOf d))) (value_after object (new_of w.memory c) (inv_of w.memory d)) in
+      let is_there : w.memory (NewOf d) ≡ content_of w.n (NewOf d) found = there object row w s is id v at single call pending i word in
+      let value_is : settled_at d x ≡ value
+      = exchanged_is d apart (object.next state inv) (object.answer state inv) answer_fits found
+      ∙ ap (λ (u : Content ℕ ℕ ℕ). decision (settled_in u) (Some (object.next state inv, Some (object.answer state inv)))) (sym is_there)
+      ∙ ap (λ o. decision (settled_in (w.memory (NewOf d))) o) (sym (ap (λ o. value_after object o (inv_of w.memory d)) had.1.1 ∙ ap (λ o. value_after object (Some (state, had.1.0)) o) had.0)) in
+      let writes : content_of w.n (NewOf d) x ≡ (effect object row w s is id v at single call pending).content = ap (λ o. Settled o) value_is in
+      let after : WorldOf ℕ ℕ ℕ = later object row w s is id v at single call pending in
+      let fits : (y : Name) (u : ℕ × Option ℕ) → new_of after.memory y ≡ Some u → u.0 < 2 ^ 31
+      = (λ y u e. elim (new_of-memory_with w.memory d y value) [
+        | inl here ↦ decision_fits found d (object.next state inv) (object.answer state inv) next_fits (is.fits d) (ap settled_in (sym is_there)) u
+            (sym (exchanged_is d apart (object.next state inv) (object.answer state inv) answer_fits found) ∙ value_is ∙ sym here.1 ∙ e)
+        | inr other ↦ is.fits y u (sym other.1 ∙ e)
+      ]) in
+      let on : (k : Stage) × (stage_found v.n v.first mine stage found ≡ Some k) = (WriteBefore c c_seq d, refl) in
+      let shown_after = moved_kept object row w s is id v at single call pending i word on x writes fits in
+      let moved = moved_told object row w s is id v at single call pending i word on x writes found shown_after me.1 refl (within object row w s is (NewOf d) i word) in (
+        record { known = moved_at v call found },
+        keeps,
+        tt,
+        (after, shown.1, shown_after),
+        λ o other. (let e : call ≡ o = (let g = sym pending ∙ other in cc) in subst (λ (k : Pending). HasMoved me k found (record { known = moved_at v call found }, me.1)) e moved),
+      )
+    where
+      decision_fits : (found : ℕ) (d : Name) (state reply : ℕ) → state < 2 ^ 31 → {m' : Option (ℕ × Option ℕ)} → ((u : ℕ × Option ℕ) → m' ≡ Some u → u.0 < 2 ^ 31) → settled_at d found ≡ m'
+          → (u : ℕ × Option ℕ) → decision (settled_at d found) (Some (state, Some reply)) ≡ Some u → u.0 < 2 ^ 31
+      decision_fits zero d state reply below old same u e = let f : (state, Some reply) ≡ u = cc in subst (λ (k : ℕ × Option ℕ). k.0 < 2 ^ 31) f below
+      decision_fits (suc found) d state reply below old same u e = old u (sym same ∙ e)
+
+  -- the same, of the numbers that the code has
+  pub decides_word : (n slots id i : ℕ) (st : Step ℕ) (me : Me ℕ View) → me.0.known.count ≡ 1 → (mine c d : Name) (c_seq inv state new_state reply : ℕ)
+      → me.0.known.call ≡ Some (record { mine = mine; stage = DecideNew c c_seq d }) → me.0.known.read ≡ Applied inv state
+      → new_state ≡ object.next state inv → new_state < 2 ^ 31 → reply ≡ object.answer state inv → reply < 2 ^ 31 → word_of n row (NewOf d) ≡ Some i
+      → Allows (ShowsWorld object n row) slots id me i (λ found. either (eqb found 0) (1 + 2 * reply + 4294967296 * new_state) found) (λ found me'. Moved st me found me')
+  decides_word n slots id i st me single mine c d c_seq inv state new_state reply pending read state_is state_fits reply_is reply_fits word =
+      subst (λ u. Allows (ShowsWorld object n row) slots id me i (λ found. either (eqb found 0) (1 + 2 * u + 4294967296 * new_state) found) (λ found me'. Moved st me found me')) (sym reply_is)
+      (subst (λ u. Allows (ShowsWorld object n row) slots id me i (λ found. either (eqb found 0) (1 + 2 * object.answer state inv + 4294967296 * u) found) (λ found me'. Moved st me found me')) (sym state_is)
+      (decides n slots id i st me single mine c d c_seq inv state pending read (subst (λ u. u < 2 ^ 31) state_is state_fits) (subst (λ u. u < 2 ^ 31) reply_is reply_fits) word))

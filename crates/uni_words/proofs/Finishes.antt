@@ -1,0 +1,166 @@
+-- The last step of a call.
+use Rattle.std.proofs.Common.{◌≡◌, ◌∙◌, ℕ, zero, suc, ◌+◌, ◌<◌, ◌≤◌, ◌⊎◌, inl, inr, refl, sym, ap, subst, List, [], ◌∷◌, ◌++◌, length, length-append, slice_get, slice_index, slice_set, Option, Some, None, arith, length-set}
+use Rattle.std.proofs.lemmas.List.{set-get_or}
+use mathlib.Core.Option.{some}
+use lib.ListN.{get_elem?}
+use Rattle.atomic_table.specs.Table.{State, Me, Step, keeps, Allows}
+use Rattle.seq_object.specs.Sequential.{Sequential}
+use Rattle.uni_model.specs.Indices.{name_of}
+use Rattle.uni_model.specs.Places.{Name, Content, memory_with}
+use Rattle.uni_model.specs.Places.Name.{Of}
+use Rattle.uni_model.specs.Places.Place.{HeadOf, NewOf}
+use Rattle.uni_model.specs.Places.Content.{CellName}
+use Rattle.uni_model.specs.Stages.{Pending}
+use Rattle.uni_model.specs.Stages.Stage.{Finish}
+use Rattle.uni_model.specs.Chain.{response_in}
+use Rattle.uni_model.specs.Settled.{Grows}
+use Rattle.uni_model.specs.Worlds.{WorldOf}
+use Rattle.uni_model.proofs.Simulation.{set_at_same}
+use Rattle.uni_model.proofs.Written.{lt_cases, written_same}
+use Rattle.uni_words.specs.Words.{reply_in, content_of, word_of, memory_of}
+use Rattle.uni_words.specs.Views.{Known, finished_by}
+use Rattle.uni_words.specs.Views.Reading.{Reply}
+use Rattle.uni_words.specs.Seats.{HasFinished, TellsReply}
+use Rattle.uni_words.specs.Shown.{HasReturned, HasRead, IsLocal, IsShown, ShowsWorld, pending_count}
+use Rattle.uni_words.specs.declared.view.View.{View}
+use Rattle.uni_words.proofs.Underway.{HasReturned-grows}
+use Rattle.uni_words.proofs.Happens.{own_local, effect, later, memory_grows, memory_set, kept}
+use Rattle.uni_words.proofs.Looks.{stands, underway, reply_told, looks_reply}
+
+pub last_of_list : {A : Type 0} (xs : List A) (x : A) (j : ℕ) (y : A) → slice_get (xs ++ x ∷ []) j ≡ Some y → (slice_get xs j ≡ Some y) ⊎ ((j ≡ length xs) × (x ≡ y))
+last_of_list [] x zero y e = inr (refl, (let f : Some x ≡ Some y = e in cc))
+last_of_list [] x (suc j) y e = absurd (let f : None ≡ Some y = e in cc)
+last_of_list (z ∷ zs) x zero y e = inl e
+last_of_list (z ∷ zs) x (suc j) y e = elim (last_of_list zs x j y e) [ inl h ↦ inl h | inr h ↦ inr (ap suc h.0, h.1) ]
+
+abbrev some_call : Pending → Option Pending
+some_call c = Some c
+
+one_finish : (x y : Name) (a b c d : ℕ) → some_call (record { mine = x; stage = Finish a b }) ≡ some_call (record { mine = y; stage = Finish c d }) → (a ≡ c) × (b ≡ d)
+one_finish x y a b c d e =
+    let call : record { mine = x; stage = Finish a b } ≡ record { mine = y; stage = Finish c d } = cc in
+    let stage : Finish a b ≡ Finish c d = ap (λ (k : Pending). k.stage) call in
+    (first stage, second stage) where
+      first : Finish a b ≡ Finish c d → a ≡ c
+      first f = cc
+
+      second : Finish a b ≡ Finish c d → b ≡ d
+      second f = cc
+
+module _ (object : Sequential ℕ ℕ ℕ) (row : ℕ) where
+  -- the words afterwards show the memory after the last step
+  module _ (w : WorldOf ℕ ℕ ℕ) (s : State ℕ View) (is : IsShown object row w s)
+      (id : ℕ) (v : Known) (at : get_elem? s.views id ≡ some (record { known = v })) (single : v.count ≡ 1) (mine : Name) (c_seq mine_seq : ℕ)
+      (pending : v.call ≡ Some (record { mine = mine; stage = Finish c_seq mine_seq })) where
+    abbrev call : Pending
+    call = record { mine = mine; stage = Finish c_seq mine_seq }
+
+    abbrev pub last_content : Content ℕ ℕ ℕ
+    last_content = (effect object row w s is id v at single call pending).content
+
+    abbrev pub ended : WorldOf ℕ ℕ ℕ
+    ended = later object row w s is id v at single call pending
+
+    module _ (words' : List ℕ) (long : length words' ≡ length s.words) (memory_is : ended.memory ≡ memory_of w.n row words' w.begun)
+        (reply : ℕ) (replied : response_in w.memory mine ≡ Some reply) where
+      before : IsLocal w is.owner id v.first v
+      before = own_local object row w s is id v at single
+
+      grows : Grows w.memory ended.memory
+      grows = memory_grows object row w s is id v at single call pending
+
+      counted : v.begun ≡ length v.own + 1
+      counted = subst (λ o. v.begun ≡ length v.own + pending_count o) pending before.counted
+
+      -- the call that returns is the next one of the seat's own
+      mine_is : mine ≡ Of v.first (length v.own)
+      mine_is =
+          let its = is.sound.2.calls.mine v.first call (before.call ∙ pending) in
+          let same : its.0 ≡ length v.own = (let a = its.2 in let b = before.begun in let d = counted in omega arith) in
+          its.1 ∙ ap (Of v.first) same
+
+      returned : HasReturned ended.memory (Of v.first (length v.own)) v.inv reply
+      returned =
+          let h = stands object row w s is id v at single mine (Finish c_seq mine_seq) pending in
+          let under = underway object row w s is id v at single mine (Finish c_seq mine_seq) pending in
+          let was : HasReturned w.memory mine v.inv reply = record { inv_is = under.0; threaded = subst (λ t. 1 ≤ t) (sym h.2) h.1; reply_is = replied } in
+          subst (λ x. HasReturned ended.memory x v.inv reply) mine_is (HasReturned-grows w.memory ended.memory grows mine v.inv reply was)
+
+      tells : IsLocal ended is.owner id v.first (finished_by v reply)
+      tells = record {
+        inside = before.inside;
+        seat = before.seat;
+        call = set_at_same w.call v.first None;
+        begun = before.begun;
+        steps = set_at_same w.steps v.first (w.steps v.first + 1) ∙ ap (λ k. k + 1) before.steps;
+        turns = set_at_same w.turns v.first (w.turns v.first + 0) ∙ (let t = before.turns in omega arith);
+        underway = tt;
+        counted = (let l : length (v.own ++ (v.inv, reply) ∷ []) ≡ length v.own + 1 = length-append v.own ((v.inv, reply) ∷ []) in let d = counted in omega arith);
+        own = λ k c e. elim (last_of_list v.own (v.inv, reply) k c e) [
+          | inl old ↦ HasReturned-grows w.memory ended.memory grows (Of v.first k) c.0 c.1 (before.own k c old)
+          | inr new ↦ subst (λ (y : ℕ × ℕ). HasReturned ended.memory (Of v.first k) y.0 y.1) new.1 (subst (λ j. HasReturned ended.memory (Of v.first j) v.inv reply) (sym new.0) returned)
+        ];
+      }
+
+      pub finished_kept : IsShown object row ended (record { words = words'; homes = s.homes; views = slice_set s.views id (record { known = finished_by v reply }) })
+      finished_kept = kept object row w s is id v at single call pending words' long memory_is (finished_by v reply)
+          (is.seats id (record { known = v }) at).processes (is.seats id (record { known = v }) at).calls refl single tells is.fits
+
+    -- by a store of the head, after the reply was read
+    pub stored_kept : c_seq < mine_seq → (i x : ℕ) → word_of w.n row (HeadOf v.first) ≡ Some i → name_of w.n x ≡ mine → (reply : ℕ) → v.read ≡ Reply reply
+        → IsShown object row ended (record { words = slice_set s.words i x; homes = s.homes; views = slice_set s.views id (record { known = finished_by v reply }) })
+    stored_kept less i x word named reply read =
+        let under = underway object row w s is id v at single mine (Finish c_seq mine_seq) pending in
+        let had : response_in w.memory mine ≡ Some reply = subst (λ r. HasRead w.memory mine (Finish c_seq mine_seq) r) read under.1 in
+        let writes : content_of w.n (HeadOf v.first) x ≡ last_content
+        = elim (lt_cases c_seq mine_seq) [ inl a ↦ rw a.1 (ap CellName named) | inr a ↦ absurd (let h = a.0 in omega arith) ] in
+        finished_kept (slice_set s.words i x) (length-set s.words i x) (memory_set object row w s is id v at single call pending i word x writes) reply had
+
+    -- by the load of the reply, where the head stays
+    pub loaded_kept : mine_seq ≤ c_seq → (i : ℕ) → word_of w.n row (NewOf mine) ≡ Some i
+        → IsShown object row ended (record { words = slice_set s.words i (slice_index s.words i); homes = s.homes; views = slice_set s.views id (record { known = finished_by v (reply_in (slice_index s.words i)) }) })
+    loaded_kept more i word =
+        let found : ℕ = slice_index s.words i in
+        let stays : last_content ≡ w.memory (HeadOf v.first)
+        = elim (lt_cases c_seq mine_seq) [ inl a ↦ absurd (let h = a.0 in omega arith) | inr a ↦ rw a.1 refl ] in
+        let same : slice_set s.words i found ≡ s.words = set-get_or s.words i 0 in
+        let memory_is : ended.memory ≡ memory_of w.n row (slice_set s.words i found) w.begun
+        = ap (memory_with w.memory (HeadOf v.first)) stays ∙ (written_same w.memory (HeadOf v.first) ∙ (is.memory ∙ ap (λ ws. memory_of w.n row ws w.begun) (sym same))) in
+        finished_kept (slice_set s.words i found) (length-set s.words i found) memory_is (reply_in found) (reply_told object row w s is id v at single mine c_seq mine_seq pending i word)
+
+  pub ends : (n slots id i : ℕ) (me : Me ℕ View) → me.0.known.count ≡ 1 → (mine c_seq mine_seq reply : ℕ)
+      → me.0.known.call ≡ Some (record { mine = name_of n mine; stage = Finish c_seq mine_seq }) → me.0.known.read ≡ Reply reply → c_seq < mine_seq → word_of n row (HeadOf me.0.known.first) ≡ Some i
+      → Allows (ShowsWorld object n row) slots id me i (λ x. mine) (λ found me'. HasFinished me reply me')
+  ends n slots id i me single mine c_seq mine_seq reply pending read less word_n s shown deep at small =
+      let v : Known = me.0.known in
+      let w : WorldOf ℕ ℕ ℕ = shown.0 in
+      let word : word_of w.n row (HeadOf v.first) ≡ Some i = subst (λ k. word_of k row (HeadOf v.first) ≡ Some i) (sym shown.1) word_n in (
+        record { known = finished_by v reply },
+        keeps,
+        tt,
+        (
+          ended w s shown.2 id v at single (name_of n mine) c_seq mine_seq pending,
+          shown.1,
+          stored_kept w s shown.2 id v at single (name_of n mine) c_seq mine_seq pending less i mine word (ap (λ k. name_of k mine) shown.1) reply read,
+        ),
+        refl,
+      )
+
+  pub told_reply : (n slots id i : ℕ) (st : Step ℕ) (me : Me ℕ View) → me.0.known.count ≡ 1 → (mine : Name) (c_seq mine_seq : ℕ)
+      → me.0.known.call ≡ Some (record { mine = mine; stage = Finish c_seq mine_seq }) → word_of n row (NewOf mine) ≡ Some i
+      → Allows (ShowsWorld object n row) slots id me i (λ x. x) (λ found me'. TellsReply st me found me')
+  unfolding looks_reply
+  told_reply n slots id i st me single mine c_seq mine_seq pending word_n s shown deep at small = elim (lt_cases c_seq mine_seq) [
+    | inl less ↦
+        let h = looks_reply object row n slots id i me single mine c_seq mine_seq pending word_n s shown deep at small in
+        (h.0, h.1, h.2, h.3, λ other c m e. (let same = one_finish mine other c_seq mine_seq c m (sym pending ∙ e) in (λ yes. h.4, λ no. absurd (let a = same.0 in let b = same.1 in let d = less.0 in omega arith))))
+    | inr more ↦
+        let v : Known = me.0.known in
+        let word : word_of shown.0.n row (NewOf mine) ≡ Some i = subst (λ k. word_of k row (NewOf mine) ≡ Some i) (sym shown.1) word_n in (
+          record { known = finished_by v (reply_in (slice_index s.words i)) },
+          keeps,
+          tt,
+          (ended shown.0 s shown.2 id v at single mine c_seq mine_seq pending, shown.1, loaded_kept shown.0 s shown.2 id v at single mine c_seq mine_seq pending more.0 i word),
+          λ other c m e. (let same = one_finish mine other c_seq mine_seq c m (sym pending ∙ e) in (λ yes. absurd (let a = same.0 in let b = same.1 in let d = more.0 in omega arith), λ no. refl)),
+        )
+  ]

@@ -1,0 +1,177 @@
+-- A word step keeps the rule: what has to be shown of it, and of a step that is an event.
+use Rattle.std.proofs.Common.{◌≡◌, ◌≢◌, ◌∙◌, ℕ, zero, suc, ◌+◌, ◌<◌, ◌≤◌, ◌^◌, inl, inr, ⊎_elim, refl, sym, ap, subst, List, [], ◌∷◌, length, slice_index, slice_set, Option, Some, None, IsSome, arith, set}
+use mathlib.Core.Option.{some, some-injective, some-ne-none}
+use lib.ListN.{get_elem?}
+use Rattle.atomic_table.specs.Table.{State}
+use Rattle.atomic_table.proofs.Lists.{at_set, set_else}
+use Rattle.seq_object.specs.Sequential.{Sequential}
+use Rattle.uni_model.specs.Places.{Name, Place, memory_with, new_of}
+use Rattle.uni_model.specs.Places.Name.{Anchor, Of}
+use Rattle.uni_model.specs.Stages.{Pending}
+use Rattle.uni_model.specs.Transition.{Effect, place_of, turn_of}
+use Rattle.uni_model.specs.Worlds.{WorldOf, effect_in, world_after_step, world_after, call_after}
+use Rattle.uni_model.specs.Worlds.Event.{Step}
+use Rattle.uni_model.specs.Helping.{HelpingInvariant}
+use Rattle.uni_model.specs.Bound.{CountsSteps}
+use Rattle.uni_model.specs.Settled.{Grows}
+use Rattle.uni_model.proofs.Written.{number_cases}
+use Rattle.uni_model.proofs.LawProofs.{set_at_elsewhere}
+use Rattle.uni_model.proofs.Kept.{Invariant-world_after_step}
+use Rattle.uni_model.proofs.Bounded.{HelpingInvariant-world_after_step}
+use Rattle.uni_model.proofs.Counted.{CountsSteps-world_after}
+use Rattle.uni_words.specs.Words.{content_of, word_of, memory_of, words_of}
+use Rattle.uni_words.specs.Views.{Known}
+use Rattle.uni_words.specs.Shown.{IsLocal, Tells, IsAmong, IsShown}
+use Rattle.uni_words.specs.declared.view.View.{View}
+use Rattle.uni_words.proofs.Locality.{memory_at, word_here, words_written}
+use Rattle.uni_words.proofs.Underway.{HasReturned-grows, IsUnderway-grows, place_shared}
+
+pub set_there : {A : Type 0} (l : List A) (i : ℕ) (a b : A) → get_elem? l i ≡ some a → get_elem? (set l i b) i ≡ some b
+set_there [] i a b e = absurd (some-ne-none a (sym e))
+set_there (x ∷ xs) zero a b e = refl
+set_there (x ∷ xs) (suc i) a b e = set_there xs i a b e
+
+-- One word is written and one seat, which has one process, gets another view: what has to be shown for the rule to hold after it.
+module _ (object : Sequential ℕ ℕ ℕ) (row : ℕ) (w : WorldOf ℕ ℕ ℕ) (s : State ℕ View) (is : IsShown object row w s)
+    (id : ℕ) (v : Known) (at : get_elem? s.views id ≡ some (record { known = v })) (single : v.count ≡ 1) where
+  pub own_local : IsLocal w is.owner id v.first v
+  own_local = (is.seats id (record { known = v }) at).each v.first (omega arith) (let one = single in omega arith)
+
+  -- the world afterwards is as before but for the seat's process and the memory
+  pub record OthersStay (w' : WorldOf ℕ ℕ ℕ) : Type 0 where
+    pub n : w'.n ≡ w.n
+    pub call : (q : ℕ) → q ≢ v.first → w'.call q ≡ w.call q
+    pub begun : (q : ℕ) → q ≢ v.first → w'.begun q ≡ w.begun q
+    pub steps : (q : ℕ) → q ≢ v.first → w'.steps q ≡ w.steps q
+    pub turns : (q : ℕ) → q ≢ v.first → w'.turns q ≡ w.turns q
+
+  module _ (words' : List ℕ) (w' : WorldOf ℕ ℕ ℕ) (long : length words' ≡ length s.words) (stay : OthersStay w')
+      (grows : Grows w.memory w'.memory) (memory_is : w'.memory ≡ memory_of w'.n row words' w'.begun)
+      (v' : Known) (n_is : v'.n ≡ w.n) (row_is : v'.row ≡ row) (first_is : v'.first ≡ v.first) (count_is : v'.count ≡ 1)
+      (tells : IsLocal w' is.owner id v.first v')
+      (room : w'.begun v.first ≤ row)
+      (fits : (y : Name) (u : ℕ × Option ℕ) → new_of w'.memory y ≡ Some u → u.0 < 2 ^ 31)
+      (sound : HelpingInvariant object w') (counts : CountsSteps w') where
+    only_p : (q : ℕ) → v'.first ≤ q → q < v'.first + v'.count → q ≡ v.first
+    only_p q from below = let a = first_is in let b = count_is in omega arith
+
+    -- another process, of whichever seat
+    other_local : (j q : ℕ) (u : Known) → q ≢ v.first → IsLocal w is.owner j q u → IsLocal w' is.owner j q u
+    other_local j q u apart h = record {
+      inside = subst (λ k. q < k) (sym stay.n) h.inside;
+      seat = h.seat;
+      call = stay.call q apart ∙ h.call;
+      begun = stay.begun q apart ∙ h.begun;
+      steps = stay.steps q apart ∙ h.steps;
+      turns = stay.turns q apart ∙ h.turns;
+      underway = IsUnderway-grows _ _ grows u.call u.inv u.read h.underway;
+      counted = h.counted;
+      own = λ k call e. HasReturned-grows _ _ grows (Of q k) call.0 call.1 (h.own k call e);
+    }
+
+    seats_later : (j : ℕ) (u : View) → get_elem? (set s.views id (record { known = v' })) j ≡ some u → Tells w' is.owner row j u.known
+    seats_later j u e = ⊎_elim
+        (λ (h : (j ≡ id) × (record { known = v' } ≡ u)).
+        subst (λ (z : View). Tells w' is.owner row j z.known) h.1
+        (record {
+          processes = n_is ∙ sym stay.n;
+          calls = row_is;
+          each = λ q from below.
+              subst (λ k. IsLocal w' is.owner k q v') (sym h.0)
+              (subst (λ k. IsLocal w' is.owner id k v') (sym (only_p q from below)) tells);
+        }))
+        (λ (h : (j ≢ id) × (get_elem? s.views j ≡ some u)).
+        let told = is.seats j u h.1 in
+        record {
+          processes = told.processes ∙ sym stay.n;
+          calls = told.calls;
+          each = λ q from below.
+              let local = told.each q from below in
+              other_local j q u.known (λ same. h.0 (sym local.seat ∙ (ap is.owner same ∙ own_local.seat))) local;
+        })
+        (at_set s.views id j (record { known = v' }) u e)
+
+    seated_later : (q : ℕ) → q < w.n → (u : View) × (get_elem? (set s.views id (record { known = v' })) (is.owner q) ≡ some u) × IsAmong q u.known
+    seated_later q inside =
+        let was = is.seated q inside in
+        elim (number_cases (is.owner q) id) [
+          | inl here ↦
+              let same : was.0 ≡ record { known = v } = some-injective _ _ (sym (subst (λ k. get_elem? s.views k ≡ some was.0) here.0 was.1) ∙ at) in
+              let among : IsAmong q v = subst (λ (z : View). IsAmong q z.known) same was.2 in (
+                record { known = v' },
+                subst (λ k. get_elem? (set s.views id (record { known = v' })) k ≡ some (record { known = v' })) (sym here.0) (set_there s.views id (record { known = v }) (record { known = v' }) at),
+                (let a = first_is in let b = among.0 in omega arith, let a = first_is in let b = count_is in let d = among.1 in let e = single in omega arith),
+              )
+          | inr other ↦ (was.0, set_else s.views id (is.owner q) (record { known = v' }) other.0 ∙ was.1, was.2)
+        ]
+
+    pub keeps_rule : IsShown object row w' (record { words = words'; homes = s.homes; views = set s.views id (record { known = v' }) })
+    keeps_rule = record {
+      owner = is.owner;
+      wide = long ∙ is.wide ∙ ap (λ k. words_of k row) (sym stay.n);
+      memory = memory_is;
+      seats = seats_later;
+      seated = λ q inside. seated_later q (subst (λ k. q < k) stay.n inside);
+      number = grows.seq Anchor (subst (λ t. 1 ≤ t) (sym is.number) (omega arith)) ∙ is.number;
+      state = grows.new Anchor (object.initial, None) is.state;
+      room = λ q. elim (number_cases q v.first) [
+        | inl here ↦ subst (λ k. w'.begun k ≤ row) (sym here.0) room
+        | inr other ↦ subst (λ k. k ≤ row) (sym (stay.begun q other.0)) (is.room q)
+      ];
+      fits = fits;
+      sound = sound;
+      counts = counts;
+    }
+
+module _ (object : Sequential ℕ ℕ ℕ) (row : ℕ) (w : WorldOf ℕ ℕ ℕ) (s : State ℕ View) (is : IsShown object row w s)
+    (id : ℕ) (v : Known) (at : get_elem? s.views id ≡ some (record { known = v })) (single : v.count ≡ 1) (c : Pending) (pending : v.call ≡ Some c) where
+  abbrev p : ℕ
+  p = v.first
+
+  abbrev pub place : Place
+  place = place_of w.n p c.mine c.stage
+
+  pub own_call : w.call p ≡ Some c
+  own_call = (own_local object row w s is id v at single).call ∙ pending
+
+  abbrev pub effect : Effect ℕ ℕ ℕ
+  effect = effect_in object w p c
+
+  -- the world after the event
+  abbrev pub later : WorldOf ℕ ℕ ℕ
+  later = world_after_step object w p (Some c)
+
+  pub later_is : later ≡ world_after object w (Step p)
+  later_is = ap (world_after_step object w p) (sym own_call)
+
+  pub memory_grows : Grows w.memory later.memory
+  memory_grows = (Invariant-world_after_step object w p c own_call (is.sound.0, is.sound.1, is.sound.2)).1
+
+  -- the words afterwards show the memory after the event; what the seat knows then, and that no state that is settled passes 31 bits
+  pub kept : (words' : List ℕ) → length words' ≡ length s.words → later.memory ≡ memory_of w.n row words' w.begun
+      → (v' : Known) → v'.n ≡ w.n → v'.row ≡ row → v'.first ≡ p → v'.count ≡ 1
+      → IsLocal later is.owner id p v'
+      → ((y : Name) (u : ℕ × Option ℕ) → new_of later.memory y ≡ Some u → u.0 < 2 ^ 31)
+      → IsShown object row later (record { words = words'; homes = s.homes; views = set s.views id (record { known = v' }) })
+  kept words' long memory_is v' n_is row_is first_is count_is tells fits = keeps_rule object row w s is id v at single words' later long
+      (record {
+        n = refl;
+        call = λ q apart. set_at_elsewhere w.call p (call_after c.mine effect.stage) q apart;
+        begun = λ q apart. refl;
+        steps = λ q apart. set_at_elsewhere w.steps p (w.steps p + 1) q apart;
+        turns = λ q apart. set_at_elsewhere w.turns p (w.turns p + turn_of c.stage (w.memory place)) q apart;
+      })
+      memory_grows memory_is v' n_is row_is first_is count_is tells (is.room p) fits
+      (HelpingInvariant-world_after_step object w p c own_call is.counts is.sound)
+      (subst (λ o. CountsSteps (world_after_step object w p o)) own_call
+      (CountsSteps-world_after object w (Step p) (subst IsSome (sym own_call) refl) (is.sound.0, is.sound.1, is.sound.2) is.counts))
+
+  -- the word of the place, and what it becomes
+  module _ (i : ℕ) (word : word_of w.n row place ≡ Some i) where
+    pub there : w.memory place ≡ content_of w.n place (slice_index s.words i)
+    there = ap (λ m. m place) is.memory ∙ (memory_at w.n row s.words w.begun place (place_shared w.n p c.mine c.stage) ∙ ap (content_of w.n place) (word_here w.n row s.words is.wide place i word))
+
+    pub memory_set : (x : ℕ) → content_of w.n place x ≡ effect.content → later.memory ≡ memory_of w.n row (slice_set s.words i x) w.begun
+    memory_set x writes = ap (λ m. memory_with m place effect.content) is.memory
+        ∙ (ap (memory_with (memory_of w.n row s.words w.begun) place) (sym writes)
+        ∙ sym (words_written w.n row s.words is.wide place i word x w.begun (place_shared w.n p c.mine c.stage)))

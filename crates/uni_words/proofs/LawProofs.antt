@@ -1,0 +1,72 @@
+-- The laws of the word steps.
+use Rattle.std.proofs.Common.{◌≡◌, ◌∙◌, ℕ, ◌<◌, ◌^◌, sym, ap, subst, slice_index, Option, Some, arith}
+use mathlib.Core.Option.{some}
+use lib.ListN.{get_elem?}
+use Rattle.atomic_table.specs.Table.{State}
+use Rattle.seq_object.specs.Sequential.{Sequential}
+use Rattle.uni_model.specs.Places.{Name, new_of}
+use Rattle.uni_model.specs.Stages.{Stage, Pending}
+use Rattle.uni_model.specs.Stages.Stage.{DecideNew, Finish}
+use Rattle.uni_model.specs.Worlds.{WorldOf}
+use Rattle.uni_model.proofs.Steps.{linked_call, head_number}
+use Rattle.uni_words.specs.Laws.{IsLoad, after_word, StoreBegins, WordStepMoves, StoreEnds, LoadEnds, LoadKeeps, OwnCallsRise}
+use Rattle.uni_words.specs.Shown.{HasRead, IsShown}
+use Rattle.uni_words.specs.Views.{Known, Reading, moved_at, finished_by}
+use Rattle.uni_words.specs.Views.Reading.{Nothing, Invocation, Applied, Reply}
+use Rattle.uni_words.specs.Words.{reply_in, reply_at}
+use Rattle.uni_words.specs.declared.view.View.{View}
+use Rattle.uni_words.proofs.Begins.{begun_kept}
+use Rattle.uni_words.proofs.Finishes.{stored_kept, loaded_kept}
+use Rattle.uni_words.proofs.Happens.{own_local, later_is}
+use Rattle.uni_words.proofs.Looks.{stands, underway, inv_told, state_told, reply_told, looked_kept}
+use Rattle.uni_words.proofs.Moving.{moved_kept}
+use Rattle.uni_words.proofs.Rising.{own_rises}
+
+module _ (object : Sequential ℕ ℕ ℕ) (row : ℕ) (w : WorldOf ℕ ℕ ℕ) (s : State ℕ View) (id : ℕ) (v : Known) where
+  pub StoreBegins-holds : (word inv : ℕ) → StoreBegins object row w s id v word inv
+  StoreBegins-holds word inv is seat idle room there = begun_kept object row w s is id v seat.0 seat.1 idle room word there inv
+
+  pub WordStepMoves-holds : (c : Pending) (next : Stage) (word x : ℕ) → WordStepMoves object row w s id v c next word x
+  WordStepMoves-holds c next word x is seat pending there goes writes fits =
+      let happens = later_is object row w s is id v seat.0 seat.1 c pending in
+      subst (λ u. IsShown object row u (after_word s word x id (moved_at v c (slice_index s.words word)))) happens
+      (moved_kept object row w s is id v seat.0 seat.1 c pending word there (next, goes) x writes
+      (subst (λ (u : WorldOf ℕ ℕ ℕ). (y : Name) (k : ℕ × Option ℕ) → new_of u.memory y ≡ Some k → k.0 < 2 ^ 31) (sym happens) fits))
+
+  pub StoreEnds-holds : (mine : Name) (c_seq mine_seq reply word x : ℕ) → StoreEnds object row w s id v mine c_seq mine_seq reply word x
+  StoreEnds-holds mine c_seq mine_seq reply word x is seat pending less read there named =
+      subst (λ u. IsShown object row u (after_word s word x id (finished_by v reply))) (later_is object row w s is id v seat.0 seat.1 _ pending)
+      (stored_kept object row w s is id v seat.0 seat.1 mine c_seq mine_seq pending less word x there named reply read)
+
+  pub LoadEnds-holds : (mine : Name) (c_seq mine_seq word : ℕ) → LoadEnds object row w s id v mine c_seq mine_seq word
+  LoadEnds-holds mine c_seq mine_seq word is seat pending more there =
+      subst (λ u. IsShown object row u (after_word s word (slice_index s.words word) id (finished_by v (reply_in (slice_index s.words word))))) (later_is object row w s is id v seat.0 seat.1 _ pending)
+      (loaded_kept object row w s is id v seat.0 seat.1 mine c_seq mine_seq pending more word there)
+
+  -- what is read is settled so
+  loaded : (is : IsShown object row w s) → (at : get_elem? s.views id ≡ some (record { known = v })) → (single : v.count ≡ 1) → (mine : Name) (stage : Stage) (pending : v.call ≡ Some (record { mine = mine; stage = stage })) (word : ℕ) (read : Reading)
+      → IsLoad w.n row v mine stage word (slice_index s.words word) read → HasRead w.memory mine stage read
+  loaded is at single mine (DecideNew c c_seq d) pending word (Invocation inv) load =
+      let h = stands object row w s is id v at single mine (DecideNew c c_seq d) pending in
+      let own = own_local object row w s is id v at single in
+      let has = linked_call object w is.sound.0 is.sound.1 is.sound.2 v.first mine (DecideNew c c_seq d) (own.call ∙ pending) c c_seq d h.0 h.1 in
+      inv_told object row w s is d word load.0 has ∙ ap Some (sym load.1)
+  loaded is at single mine (DecideNew c c_seq d) pending word (Applied inv state) load =
+      let h = stands object row w s is id v at single mine (DecideNew c c_seq d) pending in
+      let own = own_local object row w s is id v at single in
+      let number = head_number object w is.sound.0 is.sound.1 is.sound.2 v.first mine (DecideNew c c_seq d) (own.call ∙ pending) c c_seq h.0 in
+      let told = state_told object row w s is c word load.0 (is.sound.2.values.threaded c number.0) in
+      let under = underway object row w s is id v at single mine (DecideNew c c_seq d) pending in
+      (subst (λ r. HasRead w.memory mine (DecideNew c c_seq d) r) load.1 under.1, (reply_at c (reply_in (slice_index s.words word)), told.1 ∙ ap (λ k. Some (k, reply_at c (reply_in (slice_index s.words word)))) (sym load.2)))
+  loaded is at single mine (Finish c_seq mine_seq) pending word (Reply reply) load =
+      reply_told object row w s is id v at single mine c_seq mine_seq pending word load.0 ∙ ap Some (sym load.1)
+  loaded is at single mine stage pending word Nothing load = tt
+  loaded is at single mine _ pending word _ load = absurd load
+
+  pub LoadKeeps-holds : (c : Pending) (word : ℕ) (read : Reading) → LoadKeeps object row w s id v c word read
+  LoadKeeps-holds c word read is seat pending load =
+      looked_kept object row w s is id v seat.0 seat.1 c.mine c.stage pending word read (loaded is seat.0 seat.1 c.mine c.stage pending word read load)
+
+  pub OwnCallsRise-holds : (j k : ℕ) (a b : ℕ × ℕ) → OwnCallsRise object row w s id v j k a b
+  OwnCallsRise-holds j k a b is seat less first second =
+      own_rises object row w s is id (record { known = v }) seat.0 (let one = seat.1 in omega arith) j k a b less first second

@@ -1,0 +1,189 @@
+-- The word steps that are events, all but those of `new` and of the last step of a call.
+use Rattle.std.proofs.Common.{◌≡◌, ◌∙◌, ℕ, ◌+◌, ◌<◌, ◌≤◌, ◌^◌, refl, sym, ap, subst, List, length, slice_index, slice_set, Option, Some, length-set, get_or-set_same}
+use mathlib.Core.Option.{some}
+use lib.ListN.{get_elem?}
+use Rattle.atomic_table.specs.Table.{State, Me, Step, keeps, Allows}
+use Rattle.seq_object.specs.Sequential.{Sequential}
+use Rattle.uni_model.specs.Places.{Name, Place, Content, Memory, memory_with, new_of}
+use Rattle.uni_model.specs.Places.Name.{Of}
+use Rattle.uni_model.specs.Places.Place.{Announced, HeadOf, InvOf, SeqOf, AfterOf, NewOf, BeforeOf}
+use Rattle.uni_model.specs.Stages.{Stage, Pending}
+use Rattle.uni_model.specs.Stages.Stage.{Announce, ScanHead, ScanSeq, WriteScan, Test, ReadAnnounce, ReadHelpSeq, DecideAfter, DecideNew, WriteBefore, WriteSeq, WriteHead, Finish}
+use Rattle.uni_model.specs.Transition.{Effect, Beside, place_of, beside, stage_after, content_after, turn_of}
+use Rattle.uni_model.specs.Worlds.{WorldOf, call_after}
+use Rattle.uni_model.specs.Settled.{Grows}
+use Rattle.uni_model.proofs.Bounded.{turns_bounded}
+use Rattle.uni_model.proofs.Simulation.{set_at_same}
+use Rattle.uni_words.specs.Words.{content_of, word_of}
+use Rattle.uni_words.specs.Views.{Known, stage_found, moved_at}
+use Rattle.uni_words.specs.Views.Reading.{Nothing}
+use Rattle.uni_words.specs.Seats.{IsWithin, HasMoved, Moved}
+use Rattle.uni_words.specs.Shown.{IsUnderway, IsLocal, IsShown, ShowsWorld, pending_count}
+use Rattle.uni_words.specs.declared.view.View.{View}
+use Rattle.uni_words.proofs.Columns.{word_below}
+use Rattle.uni_words.proofs.Underway.{HasReturned-grows}
+use Rattle.uni_words.proofs.Within.{within}
+use Rattle.uni_words.proofs.Happens.{own_local, effect, there, memory_set, memory_grows, later, kept}
+
+abbrev IsNotNew : Place → Type 0
+IsNotNew (NewOf x) = ⊥
+IsNotNew _ = Unit {0}
+
+new_elsewhere : (m : Memory ℕ ℕ ℕ) (place : Place) (u : Content ℕ ℕ ℕ) (x : Name) → IsNotNew place → new_of (memory_with m place u) x ≡ new_of m x
+new_elsewhere m (Announced p) u x h = refl
+new_elsewhere m (HeadOf p) u x h = refl
+new_elsewhere m (InvOf y) u x h = refl
+new_elsewhere m (SeqOf y) u x h = refl
+new_elsewhere m (AfterOf y) u x h = refl
+new_elsewhere m (NewOf y) u x h = absurd h
+new_elsewhere m (BeforeOf y) u x h = refl
+
+-- the steps of this file: the call goes on after them, and they don't touch `new`
+abbrev pub GoesOn : Stage → Type 0
+GoesOn (DecideNew c s d) = ⊥
+GoesOn (Finish s t) = ⊥
+GoesOn _ = Unit {0}
+
+not_new : (n p : ℕ) (mine : Name) (stage : Stage) → GoesOn stage → IsNotNew (place_of n p mine stage)
+not_new n p mine Announce h = tt
+not_new n p mine (ScanHead q best s) h = tt
+not_new n p mine (ScanSeq q best s x) h = tt
+not_new n p mine (WriteScan best s) h = tt
+not_new n p mine (Test c s) h = tt
+not_new n p mine (ReadAnnounce c s) h = tt
+not_new n p mine (ReadHelpSeq c s help) h = tt
+not_new n p mine (DecideAfter c s prefer) h = tt
+not_new n p mine (DecideNew c s d) h = absurd h
+not_new n p mine (WriteBefore c s d) h = tt
+not_new n p mine (WriteSeq c s d) h = tt
+not_new n p mine (WriteHead c s d) h = tt
+not_new n p mine (Finish s t) h = absurd h
+
+goes_on : (n p : ℕ) (mine : Name) (stage : Stage) (found : ℕ) → GoesOn stage → (k : Stage) × (stage_found n p mine stage found ≡ Some k)
+goes_on n p mine Announce found h = (_, refl)
+goes_on n p mine (ScanHead q best s) found h = (_, refl)
+goes_on n p mine (ScanSeq q best s x) found h = (_, refl)
+goes_on n p mine (WriteScan best s) found h = (_, refl)
+goes_on n p mine (Test c s) found h = (_, refl)
+goes_on n p mine (ReadAnnounce c s) found h = (_, refl)
+goes_on n p mine (ReadHelpSeq c s help) found h = (_, refl)
+goes_on n p mine (DecideAfter c s prefer) found h = (_, refl)
+goes_on n p mine (DecideNew c s d) found h = absurd h
+goes_on n p mine (WriteBefore c s d) found h = (_, refl)
+goes_on n p mine (WriteSeq c s d) found h = (_, refl)
+goes_on n p mine (WriteHead c s d) found h = (_, refl)
+goes_on n p mine (Finish s t) found h = absurd h
+
+module _ (object : Sequential ℕ ℕ ℕ) (row : ℕ) where
+  -- a step after which the call goes on, whatever the word of its place becomes
+  module _ (w : WorldOf ℕ ℕ ℕ) (s : State ℕ View) (is : IsShown object row w s)
+      (id : ℕ) (v : Known) (at : get_elem? s.views id ≡ some (record { known = v })) (single : v.count ≡ 1) (c : Pending) (pending : v.call ≡ Some c)
+      (i : ℕ) (word : word_of w.n row (place_of w.n v.first c.mine c.stage) ≡ Some i)
+      (on : (k : Stage) × (stage_found v.n v.first c.mine c.stage (slice_index s.words i) ≡ Some k)) where
+    abbrev place : Place
+    place = place_of w.n v.first c.mine c.stage
+
+    abbrev found : ℕ
+    found = slice_index s.words i
+
+    abbrev does : Effect ℕ ℕ ℕ
+    does = effect object row w s is id v at single c pending
+
+    abbrev after : WorldOf ℕ ℕ ℕ
+    after = later object row w s is id v at single c pending
+
+    is_there : w.memory place ≡ content_of w.n place found
+    is_there = there object row w s is id v at single c pending i word
+
+    processes : v.n ≡ w.n
+    processes = (is.seats id (record { known = v }) at).processes
+
+    stage_is : does.stage ≡ stage_found v.n v.first c.mine c.stage found
+    stage_is = ap (stage_after w.n c.mine c.stage) is_there ∙ ap (λ k. stage_found k v.first c.mine c.stage found) (sym processes)
+
+    turn_is : turn_of c.stage (w.memory place) ≡ turn_of c.stage (content_of v.n (place_of v.n v.first c.mine c.stage) found)
+    turn_is = ap (turn_of c.stage) is_there ∙ ap (λ k. turn_of c.stage (content_of k (place_of k v.first c.mine c.stage) found)) (sym processes)
+
+    before : IsLocal w is.owner id v.first v
+    before = own_local object row w s is id v at single
+
+    grows : Grows w.memory after.memory
+    grows = memory_grows object row w s is id v at single c pending
+
+    tells : IsLocal after is.owner id v.first (moved_at v c found)
+    tells =
+        let underway : IsUnderway w.memory (Some c) v.inv v.read = subst (λ o. IsUnderway w.memory o v.inv v.read) pending before.underway in
+        let counted : v.begun ≡ length v.own + pending_count (Some c) = subst (λ o. v.begun ≡ length v.own + pending_count o) pending before.counted in
+        record {
+          inside = before.inside;
+          seat = before.seat;
+          call = set_at_same w.call v.first (call_after c.mine does.stage) ∙ ap (call_after c.mine) stage_is;
+          begun = before.begun;
+          steps = set_at_same w.steps v.first (w.steps v.first + 1) ∙ ap (λ k. k + 1) before.steps;
+          turns = set_at_same w.turns v.first (w.turns v.first + turn_of c.stage (w.memory place))
+              ∙ ap (λ k. k + turn_of c.stage (w.memory place)) before.turns ∙ ap (λ k. v.turns + k) turn_is;
+          underway = subst (λ o. IsUnderway after.memory (call_after c.mine o) v.inv Nothing) (sym on.1) (grows.inv c.mine v.inv underway.0, tt);
+          counted = subst (λ o. v.begun ≡ length v.own + pending_count (call_after c.mine o)) (sym on.1) counted;
+          own = λ k call e. HasReturned-grows w.memory after.memory grows (Of v.first k) call.0 call.1 (before.own k call e);
+        }
+
+    module _ (x : ℕ) (writes : content_of w.n place x ≡ does.content) where
+      pub moved_kept : ((y : Name) (u : ℕ × Option ℕ) → new_of after.memory y ≡ Some u → u.0 < 2 ^ 31)
+          → IsShown object row after (record { words = slice_set s.words i x; homes = s.homes; views = slice_set s.views id (record { known = moved_at v c found }) })
+      moved_kept fits = kept object row w s is id v at single c pending (slice_set s.words i x) (length-set s.words i x)
+          (memory_set object row w s is id v at single c pending i word x writes) (moved_at v c found) processes
+          (is.seats id (record { known = v }) at).calls refl single tells fits
+
+      -- where the step doesn't touch `new`
+      pub fits_elsewhere : GoesOn c.stage → (y : Name) (u : ℕ × Option ℕ) → new_of after.memory y ≡ Some u → u.0 < 2 ^ 31
+      fits_elsewhere goes y u e = is.fits y u (sym (new_elsewhere w.memory place does.content y (not_new w.n v.first c.mine c.stage goes)) ∙ e)
+
+      -- what the step tells the seat, of what it found
+      pub moved_told : (said : ℕ) → (shown : IsShown object row after (record { words = slice_set s.words i x; homes = s.homes; views = slice_set s.views id (record { known = moved_at v c found }) }))
+          → (carried : List (ℕ × ℕ)) → moved_at v c found ≡ moved_at v c said → IsWithin w.n row place said
+          → HasMoved (record { known = v }, carried) c said (record { known = moved_at v c found }, carried)
+      moved_told said shown carried same small =
+          let v' : Known = moved_at v c found in
+          let told = is.seats id (record { known = v }) at in
+          let few : after.turns v.first ≤ w.n + 1 = turns_bounded object after shown.counts shown.sound v.first in
+          record {
+            view = ap (λ (k : Known). (record { known = k }, carried)) same;
+            within = subst (λ k. IsWithin k v.row (place_of k v.first c.mine c.stage) said) (sym told.processes)
+                (subst (λ r. IsWithin w.n r (place_of w.n v.first c.mine c.stage) said) (sym told.calls) small);
+            turns = subst (λ k. v'.turns ≤ k + 1) (sym told.processes) (subst (λ t. t ≤ w.n + 1) tells.turns few);
+          }
+
+  -- The seat may take the step, by which the word becomes f of what it was, and it is told so of what it found.
+  pub moves : (n slots id i : ℕ) (st : Step ℕ) (me : Me ℕ View) (f said : ℕ → ℕ) → me.0.known.count ≡ 1 → (c : Pending) → me.0.known.call ≡ Some c → GoesOn c.stage
+      → word_of n row (place_of n me.0.known.first c.mine c.stage) ≡ Some i
+      → ((found : ℕ) (seen : Beside ℕ ℕ ℕ) → content_of n (place_of n me.0.known.first c.mine c.stage) (f found)
+      ≡ content_after object c.mine c.stage (content_of n (place_of n me.0.known.first c.mine c.stage) found) seen)
+      → ((found : ℕ) → moved_at me.0.known c found ≡ moved_at me.0.known c (said found))
+      → ((found : ℕ) → IsWithin n row (place_of n me.0.known.first c.mine c.stage) found → IsWithin n row (place_of n me.0.known.first c.mine c.stage) (f found) → IsWithin n row (place_of n me.0.known.first c.mine c.stage) (said found))
+      → Allows (ShowsWorld object n row) slots id me i f (λ found me'. Moved st me (said found) me')
+  moves n slots id i st me f said single c pending goes word_n writes_n same small_n s shown deep at fits =
+      let w : WorldOf ℕ ℕ ℕ = shown.0 in
+      let is : IsShown object row w s = shown.2 in
+      let found : ℕ = slice_index s.words i in
+      let v : Known = me.0.known in
+      let seen : Beside ℕ ℕ ℕ = beside w.memory c.mine c.stage in
+      let place : Place = place_of w.n v.first c.mine c.stage in
+      let word : word_of w.n row place ≡ Some i = subst (λ k. word_of k row (place_of k v.first c.mine c.stage) ≡ Some i) (sym shown.1) word_n in
+      let writes : content_of w.n place (f found) ≡ content_after object c.mine c.stage (content_of w.n place found) seen
+      = subst (λ k. content_of k (place_of k v.first c.mine c.stage) (f found) ≡ content_after object c.mine c.stage (content_of k (place_of k v.first c.mine c.stage) found) seen) (sym shown.1) (writes_n found seen) in
+      let small : IsWithin w.n row place found → IsWithin w.n row place (f found) → IsWithin w.n row place (said found)
+      = subst (λ k. IsWithin k row (place_of k v.first c.mine c.stage) found → IsWithin k row (place_of k v.first c.mine c.stage) (f found) → IsWithin k row (place_of k v.first c.mine c.stage) (said found)) (sym shown.1) (small_n found) in
+      let on = goes_on v.n v.first c.mine c.stage found goes in
+      let writes_it : content_of w.n place (f found) ≡ (effect object row w s is id v at single c pending).content
+      = writes ∙ ap (λ u. content_after object c.mine c.stage u seen) (sym (there object row w s is id v at single c pending i word)) in
+      let after : IsShown object row (later object row w s is id v at single c pending) (record { words = slice_set s.words i (f found); homes = s.homes; views = slice_set s.views id (record { known = moved_at v c found }) })
+      = moved_kept w s is id v at single c pending i word on (f found) writes_it (fits_elsewhere w s is id v at single c pending i word on (f found) writes_it goes) in
+      let moved = moved_told w s is id v at single c pending i word on (f found) writes_it (said found) after me.1 (same found) (small (within object row w s is place i word)
+      (subst (λ x. IsWithin w.n row place x) (get_or-set_same s.words i (f found) 0 (subst (λ l. i < l) (sym is.wide) (word_below w.n row place i word)))
+      (within object row (later object row w s is id v at single c pending) (record { words = slice_set s.words i (f found); homes = s.homes; views = slice_set s.views id (record { known = moved_at v c found }) }) after place i word))) in (
+        record { known = moved_at v c found },
+        keeps,
+        tt,
+        (later object row w s is id v at single c pending, shown.1, after),
+        λ d other. (let e : c ≡ d = (let g = sym pending ∙ other in cc) in subst (λ (k : Pending). HasMoved me k (said found) (record { known = moved_at v c found }, me.1)) e moved),
+      )

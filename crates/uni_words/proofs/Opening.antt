@@ -1,0 +1,120 @@
+-- The table at the start meets the rule.
+use Rattle.std.proofs.Common.{◌≡◌, ◌∙◌, ℕ, zero, suc, ◌+◌, ◌*◌, ◌<◌, ◌^◌, inl, inr, refl, sym, ap, subst, List, [], ◌∷◌, length, slice_get, slice_index, slice_set, replicate, length-set, Option, Some, None, arith}
+use Rattle.std.specs.Option.{option_map_or}
+use Rattle.std.proofs.lemmas.Nat.{div-mul-add}
+use Rattle.std.proofs.lemmas.List.{length-replicate}
+use lib.ListN.{get_elem?}
+use mathlib.Core.Option.{some, some-injective, some-ne-none}
+use Rattle.atomic_table.specs.Table.{opening}
+use Rattle.seq_object.specs.Sequential.{Sequential}
+use Rattle.uni_model.specs.Indices.{name_of}
+use Rattle.uni_model.specs.Places.{Name, Place, memory_with, new_of}
+use Rattle.uni_model.specs.Places.Name.{Anchor, Of}
+use Rattle.uni_model.specs.Places.Place.{Announced, HeadOf, InvOf, SeqOf, AfterOf, NewOf, BeforeOf}
+use Rattle.uni_model.specs.Places.Content.{CellName, Number, Link, Settled}
+use Rattle.uni_model.specs.Worlds.{WorldOf, opened_world, anchor_memory}
+use Rattle.uni_model.proofs.Written.{lt_cases}
+use Rattle.uni_model.proofs.Bounded.{HelpingInvariant-opened_world}
+use Rattle.uni_model.proofs.Counted.{CountsSteps-opened_world}
+use Rattle.uni_words.specs.Words.{settled_word, settled_at, state_in, link_of, content_of, start_of, word_of, words_of, word_at, memory_of}
+use Rattle.uni_words.specs.Views.{everyone}
+use Rattle.uni_words.specs.Seats.{first_view}
+use Rattle.uni_words.specs.Shown.{IsLocal, Tells, IsShown, ShowsWorld}
+use Rattle.uni_words.specs.declared.view.View.{View}
+use Rattle.uni_words.proofs.Locality.{words_written}
+
+anchor_code : (s : ℕ) → settled_at Anchor (settled_word s 0) ≡ Some (s, None)
+anchor_code s =
+    let whole : settled_word s 0 ≡ s * 4294967296 + 1 = omega arith in
+    let state : state_in (settled_word s 0) ≡ s = rw whole (div-mul-add s 4294967296 1 (omega arith)) in
+    let positive : settled_word s 0 ≡ suc (4294967296 * s) = omega arith in
+    subst (λ x. settled_at Anchor x ≡ Some (state_in x, None)) (sym positive) refl ∙ ap (λ (x : ℕ). Some (x, None)) state
+
+zero_at : (l k : ℕ) → slice_index (replicate l 0) k ≡ 0
+zero_at zero k = refl
+zero_at (suc l) zero = refl
+zero_at (suc l) (suc k) = zero_at l k
+
+module _ (object : Sequential ℕ ℕ ℕ) (n row : ℕ) (below : object.initial < 2 ^ 31)
+    (i j : ℕ) (seq_word : word_of n row (SeqOf Anchor) ≡ Some i) (new_word : word_of n row (NewOf Anchor) ≡ Some j) where
+  abbrev words : List ℕ
+  words = slice_set (slice_set (replicate (words_of n row) 0) i 1) j (settled_word object.initial 0)
+
+  at_zero : (x : Place) → word_at n row (replicate (words_of n row) 0) x ≡ 0
+  at_zero x = by_word (word_of n row x) where
+    by_word : (o : Option ℕ) → option_map_or (slice_index (replicate (words_of n row) 0)) o 0 ≡ 0
+    by_word None = refl
+    by_word (Some k) = zero_at (words_of n row) k
+
+  long : length {A = ℕ} (replicate (words_of n row) 0) ≡ words_of n row
+  long = length-replicate {A = ℕ} (words_of n row) 0
+
+  opened_memory : memory_of n row words (λ p. 0) ≡ anchor_memory object.initial 1
+  opened_memory = words_written n row (slice_set (replicate (words_of n row) 0) i 1) (length-set _ i 1 ∙ long) (NewOf Anchor) j new_word (settled_word object.initial 0) (λ p. 0) tt
+      ∙ (ap (λ m. memory_with m (NewOf Anchor) (content_of n (NewOf Anchor) (settled_word object.initial 0)))
+      (words_written n row (replicate (words_of n row) 0) long (SeqOf Anchor) i seq_word 1 (λ p. 0) tt)
+      ∙ (λ k x. at_place x k)) where
+        at_place : (x : Place) → memory_with (memory_with (memory_of n row (replicate (words_of n row) 0) (λ p. 0)) (SeqOf Anchor) (Number 1)) (NewOf Anchor) (Settled (settled_at Anchor (settled_word object.initial 0))) x
+            ≡ anchor_memory object.initial 1 x
+        at_place (Announced p) = ap (λ u. CellName (name_of n u)) (at_zero (Announced p))
+        at_place (HeadOf p) = ap (λ u. CellName (name_of n u)) (at_zero (HeadOf p))
+        at_place (InvOf Anchor) = refl
+        at_place (InvOf (Of p k)) = elim (lt_cases k 0) [ inl a ↦ absurd (let h = a.0 in omega arith) | inr a ↦ rw a.1 refl ]
+        at_place (SeqOf Anchor) = refl
+        at_place (SeqOf (Of p k)) = ap (λ u. Number u) (at_zero (SeqOf (Of p k)))
+        at_place (AfterOf x) = ap (λ u. Link (link_of n u)) (at_zero (AfterOf x))
+        at_place (NewOf Anchor) = ap (λ o. Settled o) (anchor_code object.initial)
+        at_place (NewOf (Of p k)) = ap (λ u. Settled (settled_at (Of p k) u)) (at_zero (NewOf (Of p k)))
+        at_place (BeforeOf x) = ap (λ u. Link (link_of n u)) (at_zero (BeforeOf x))
+
+  -- the world that is shown
+  abbrev world : WorldOf ℕ ℕ ℕ
+  world = opened_world n object.initial 1
+
+  new_fits : (y : Name) (u : ℕ × Option ℕ) → new_of (anchor_memory {S = ℕ} {I = ℕ} {R = ℕ} object.initial 1) y ≡ Some u → u.0 < 2 ^ 31
+  new_fits Anchor u e = let f : (object.initial, None) ≡ u = cc in subst (λ (k : ℕ × Option ℕ). k.0 < 2 ^ 31) f below
+  new_fits (Of p k) u e = absurd (let f : None ≡ Some u = e in cc)
+
+  nothing_there : {A B : Type 0} (k : ℕ) (c : A) → slice_get [] k ≡ Some c → B
+  nothing_there k c e = absurd (let f : None ≡ Some c = e in cc)
+
+  first_local : (q : ℕ) → q < n → IsLocal world (λ p. 0) 0 q (everyone n row)
+  first_local q inside = record { inside = inside; seat = refl; call = refl; begun = refl; steps = refl; turns = refl; underway = tt; counted = refl; own = λ k c e. nothing_there k c e }
+
+  only_seat : (id : ℕ) (v : View) → get_elem? (first_view n row ∷ []) id ≡ some v → (id ≡ 0) × (first_view n row ≡ v)
+  only_seat zero v e = (refl, some-injective _ _ e)
+  only_seat (suc id) v e = absurd (some-ne-none v (sym e))
+
+  pub opening_shown : IsShown object row world (opening {S = ℕ} words [] (first_view n row))
+  opening_shown = record {
+    owner = λ p. 0;
+    wide = length-set _ j (settled_word object.initial 0) ∙ (length-set _ i 1 ∙ long);
+    memory = sym opened_memory;
+    seats = λ id v e. let h = only_seat id v e in
+        subst (λ k. Tells world (λ p. 0) row k v.known) (sym h.0)
+        (subst (λ (z : View). Tells world (λ p. 0) row 0 z.known) h.1
+        (record { processes = refl; calls = refl; each = λ q from to. first_local q (omega arith) }));
+    seated = λ p inside. (first_view n row, refl, (omega arith, omega arith));
+    number = refl;
+    state = refl;
+    room = λ p. omega arith;
+    fits = new_fits;
+    sound = HelpingInvariant-opened_world object n object.initial 1 (omega arith);
+    counts = CountsSteps-opened_world object n object.initial 1;
+  }
+
+  pub opening_shows : ShowsWorld object n row (opening {S = ℕ} words [] (first_view n row))
+  opening_shows = (world, refl, opening_shown)
+
+-- the words as the code writes them
+pub words_made : (xs : List ℕ) (n row s start : ℕ) → xs ≡ replicate (words_of n row) 0 → s ≡ start
+    → slice_set (slice_set xs (2 * n + (n * row + 1)) 1) (2 * n + 4 * (n * row + 1)) (1 + 4294967296 * s)
+    ≡ slice_set (slice_set (replicate (words_of n row) 0) (start_of n row 3 + 0) 1) (start_of n row 6 + 0) (settled_word start 0)
+words_made xs n row s start e f =
+    let i : 2 * n + (n * row + 1) ≡ start_of n row 3 + 0 = omega arith in
+    let j : 2 * n + 4 * (n * row + 1) ≡ start_of n row 6 + 0 = omega arith in
+    let v : 1 + 4294967296 * s ≡ settled_word start 0 = omega (arith, f) in
+    ap (λ ys. slice_set (slice_set ys (2 * n + (n * row + 1)) 1) (2 * n + 4 * (n * row + 1)) (1 + 4294967296 * s)) e
+    ∙ ap (λ x. slice_set (slice_set (replicate (words_of n row) 0) x 1) (2 * n + 4 * (n * row + 1)) (1 + 4294967296 * s)) i
+    ∙ ap (λ x. slice_set (slice_set (replicate (words_of n row) 0) (start_of n row 3 + 0) 1) x (1 + 4294967296 * s)) j
+    ∙ ap (λ x. slice_set (slice_set (replicate (words_of n row) 0) (start_of n row 3 + 0) 1) (start_of n row 6 + 0) x) v

@@ -1,0 +1,166 @@
+-- A seat of several processes is cut in two.
+use Rattle.std.proofs.Common.{◌≡◌, ◌≢◌, ◌∙◌, ℕ, zero, suc, ◌+◌, ◌-◌, ◌<◌, ◌≤◌, ◌⊎◌, inl, inr, refl, sym, ap, subst, List, [], ◌∷◌, ◌++◌, length, arith, set, length-set}
+use mathlib.Core.Option.{some, some-injective, some-ne-none}
+use lib.ListN.{get_elem?}
+use Rattle.atomic_table.specs.Table.{State, Splits}
+use Rattle.atomic_table.proofs.Lists.{at_set, at_longer, at_last, set_else}
+use Rattle.seq_object.specs.Sequential.{Sequential}
+use Rattle.uni_model.specs.Places.{set_at}
+use Rattle.uni_model.specs.Worlds.{WorldOf}
+use Rattle.uni_model.proofs.Simulation.{set_at_same}
+use Rattle.uni_model.proofs.Written.{number_cases}
+use Rattle.uni_model.proofs.LawProofs.{set_at_elsewhere}
+use Rattle.uni_words.specs.Views.{Known}
+use Rattle.uni_words.specs.Seats.{first_alone, others}
+use Rattle.uni_words.specs.Shown.{IsLocal, Tells, IsAmong, IsShown, ShowsWorld}
+use Rattle.uni_words.specs.declared.view.View.{View}
+use Rattle.uni_words.proofs.Happens.{set_there}
+
+-- an element of a list with one more at its end
+at_end : {A : Type 0} (l : List A) (a b : A) (j : ℕ) → get_elem? (l ++ a ∷ []) j ≡ some b → (get_elem? l j ≡ some b) ⊎ ((j ≡ length l) × (a ≡ b))
+at_end [] a b zero e = inr (refl, some-injective a b e)
+at_end [] a b (suc j) e = absurd (some-ne-none b (sym e))
+at_end (x ∷ xs) a b zero e = inl e
+at_end (x ∷ xs) a b (suc j) e = elim (at_end xs a b j e) [ inl h ↦ inl h | inr h ↦ inr (ap suc h.0, h.1) ]
+
+at_below : {A : Type 0} (l : List A) (j : ℕ) (b : A) → get_elem? l j ≡ some b → j < length l
+at_below [] j b e = absurd (some-ne-none b (sym e))
+at_below (x ∷ xs) zero b e = omega arith
+at_below (x ∷ xs) (suc j) b e = let h = at_below xs j b e in omega arith
+
+module _ (object : Sequential ℕ ℕ ℕ) (row id : ℕ) (v : View) (some_left : 1 ≤ v.known.count) where
+  module _ (w : WorldOf ℕ ℕ ℕ) (s : State ℕ View) (is : IsShown object row w s) (at : get_elem? s.views id ≡ some v) where
+    abbrev seat_of : ℕ → ℕ
+    seat_of = set_at is.owner v.known.first (length s.views)
+
+    abbrev views' : List View
+    views' = set s.views id (others v) ++ first_alone v ∷ []
+
+    told : Tells w is.owner row id v.known
+    told = is.seats id v at
+
+    first_local : IsLocal w is.owner id v.known.first v.known
+    first_local = told.each v.known.first (omega arith) (omega (arith, some_left))
+
+    -- a process that isn't the one that leaves has its seat as before
+    stays : (j q : ℕ) (u : Known) → q ≢ v.known.first → IsLocal w is.owner j q u → IsLocal w seat_of j q u
+    stays j q u apart h = record {
+      inside = h.inside;
+      seat = set_at_elsewhere is.owner v.known.first (length s.views) q apart ∙ h.seat;
+      call = h.call;
+      begun = h.begun;
+      steps = h.steps;
+      turns = h.turns;
+      underway = h.underway;
+      counted = h.counted;
+      own = h.own;
+    }
+
+    -- the number of a seat's first process, and how many it has, say nothing of each of them
+    with_range : (l : ℕ → ℕ) (j q : ℕ) (first count : ℕ) → IsLocal w l j q v.known
+        → IsLocal w l j q (record v.known { first = first; count = count })
+    with_range l j q first count h = record {
+      inside = h.inside;
+      seat = h.seat;
+      call = h.call;
+      begun = h.begun;
+      steps = h.steps;
+      turns = h.turns;
+      underway = h.underway;
+      counted = h.counted;
+      own = h.own;
+    }
+
+    moved_seat : (l : ℕ → ℕ) (j : ℕ) (h : IsLocal w is.owner id v.known.first v.known) → j ≡ length s.views
+        → IsLocal w seat_of j v.known.first v.known
+    moved_seat l j h e = record {
+      inside = h.inside;
+      seat = set_at_same is.owner v.known.first (length s.views) ∙ sym e;
+      call = h.call;
+      begun = h.begun;
+      steps = h.steps;
+      turns = h.turns;
+      underway = h.underway;
+      counted = h.counted;
+      own = h.own;
+    }
+
+    seats_later : (j : ℕ) (u : View) → get_elem? views' j ≡ some u → Tells w seat_of row j u.known
+    seats_later j u e = elim (at_end (set s.views id (others v)) (first_alone v) u j e) [
+      | inl old ↦ elim (at_set s.views id j (others v) u old) [
+        | inl mine ↦
+            subst (λ (z : View). Tells w seat_of row j z.known) mine.1
+            (subst (λ k. Tells w seat_of row k (others v).known) (sym mine.0)
+            (record {
+              processes = told.processes;
+              calls = told.calls;
+              each = λ q from to.
+                  with_range seat_of id q (v.known.first + 1) (v.known.count - 1) (stays id q v.known (λ same. omega (arith, same, from)) (told.each q (omega (arith, from)) (omega (arith, to, some_left))));
+            }))
+        | inr other ↦
+            let its = is.seats j u other.1 in
+            record {
+              processes = its.processes;
+              calls = its.calls;
+              each = λ q from to.
+                  let local = its.each q from to in
+                  stays j q u.known (λ same. other.0 (sym local.seat ∙ (ap is.owner same ∙ first_local.seat))) local;
+            }
+      ]
+      | inr new ↦
+          let place : j ≡ length s.views = new.0 ∙ length-set s.views id (others v) in
+          subst (λ (z : View). Tells w seat_of row j z.known) new.1
+          (record {
+            processes = told.processes;
+            calls = told.calls;
+            each = λ q from to.
+                let same : v.known.first ≡ q = omega (arith, from, to) in
+                subst (λ k. IsLocal w seat_of j k (first_alone v).known) same (with_range seat_of j v.known.first v.known.first 1 (moved_seat seat_of j first_local place));
+          })
+    ]
+
+    seated_later : (q : ℕ) → q < w.n → (u : View) × (get_elem? views' (seat_of q) ≡ some u) × IsAmong q u.known
+    seated_later q inside = elim (number_cases q v.known.first) [
+      | inl here ↦ (
+        first_alone v,
+        at_last (set s.views id (others v)) (first_alone v) (seat_of q) (length-set s.views id (others v) ∙ sym (ap seat_of here.0 ∙ set_at_same is.owner v.known.first (length s.views))),
+        (let e = here.0 in omega arith, let e = here.0 in omega arith),
+      )
+      | inr other ↦
+          let was = is.seated q inside in
+          let own : seat_of q ≡ is.owner q = set_at_elsewhere is.owner v.known.first (length s.views) q other.0 in
+          elim (number_cases (is.owner q) id) [
+            | inl mine ↦
+                let same : was.0 ≡ v = some-injective _ _ (sym (subst (λ k. get_elem? s.views k ≡ some was.0) mine.0 was.1) ∙ at) in
+                let among : IsAmong q v.known = subst (λ (z : View). IsAmong q z.known) same was.2 in (
+                  others v,
+                  at_longer (set s.views id (others v)) (first_alone v ∷ []) (seat_of q) (others v)
+                      (subst (λ k. get_elem? (set s.views id (others v)) k ≡ some (others v)) (sym (own ∙ mine.0)) (set_there s.views id v (others v) at)),
+                  (let a = among.0 in let b = other.0 in omega arith, let a = among.1 in omega (arith, some_left)),
+                )
+            | inr else ↦ (
+              was.0,
+              at_longer (set s.views id (others v)) (first_alone v ∷ []) (seat_of q) was.0
+                  (ap (get_elem? (set s.views id (others v))) own ∙ (set_else s.views id (is.owner q) (others v) else.0 ∙ was.1)),
+              was.2,
+            )
+          ]
+    ]
+
+    pub split_kept : IsShown object row w (record { words = s.words; homes = s.homes; views = views' })
+    split_kept = record {
+      owner = seat_of;
+      wide = is.wide;
+      memory = is.memory;
+      seats = seats_later;
+      seated = seated_later;
+      number = is.number;
+      state = is.state;
+      room = is.room;
+      fits = is.fits;
+      sound = is.sound;
+      counts = is.counts;
+    }
+
+  pub splits : (n : ℕ) → Splits (ShowsWorld object n row) id v (others v) (first_alone v)
+  splits n s shown at = (shown.0, shown.1, split_kept shown.0 s shown.2 at)

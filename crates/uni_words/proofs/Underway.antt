@@ -1,0 +1,53 @@
+-- What a seat knows stays while the memory grows.
+use Rattle.std.proofs.Common.{◌≡◌, ◌∙◌, ℕ, ◌≤◌, refl, sym, subst, Option, Some, None, option_and_then, ap}
+use Rattle.uni_model.specs.Places.{Name, Memory, new_of}
+use Rattle.uni_model.specs.Stages.{Stage, Pending}
+use Rattle.uni_model.specs.Stages.Stage.{Announce, ScanHead, ScanSeq, WriteScan, Test, ReadAnnounce, ReadHelpSeq, DecideAfter, DecideNew, WriteBefore, WriteSeq, WriteHead, Finish}
+use Rattle.uni_model.specs.Chain.{response_in}
+use Rattle.uni_model.specs.Transition.{place_of}
+use Rattle.uni_model.specs.Settled.{Grows}
+use Rattle.uni_words.specs.Words.{IsShared}
+use Rattle.uni_words.specs.Views.{Reading}
+use Rattle.uni_words.specs.Views.Reading.{Nothing, Invocation, Applied, Reply}
+use Rattle.uni_words.specs.Shown.{HasReturned, HasRead, IsUnderway}
+
+module _ (m m' : Memory ℕ ℕ ℕ) (grows : Grows m m') where
+  pub response-grows : (x : Name) (r : ℕ) → response_in m x ≡ Some r → response_in m' x ≡ Some r
+  response-grows x r e = by_new (new_of m x) refl e where
+    by_new : (o : Option (ℕ × Option ℕ)) → new_of m x ≡ o → option_and_then (λ (new : ℕ × Option ℕ). new.1) o ≡ Some r → response_in m' x ≡ Some r
+    by_new None is f = cc
+    by_new (Some v) is f = ap (λ o. option_and_then (λ (new : ℕ × Option ℕ). new.1) o) (grows.new x v is) ∙ f
+
+  pub HasReturned-grows : (x : Name) (inv reply : ℕ) → HasReturned m x inv reply → HasReturned m' x inv reply
+  HasReturned-grows x inv reply h = record {
+    inv_is = grows.inv x inv h.inv_is;
+    threaded = subst (λ t. 1 ≤ t) (sym (grows.seq x h.threaded)) h.threaded;
+    reply_is = response-grows x reply h.reply_is;
+  }
+
+  pub HasRead-grows : (mine : Name) (stage : Stage) (read : Reading) → HasRead m mine stage read → HasRead m' mine stage read
+  HasRead-grows mine stage Nothing h = tt
+  HasRead-grows mine (DecideNew c s d) (Invocation inv) h = grows.inv d inv h
+  HasRead-grows mine (DecideNew c s d) (Applied inv state) h = (grows.inv d inv h.0, (h.1.0, grows.new c (state, h.1.0) h.1.1))
+  HasRead-grows mine (Finish s t) (Reply reply) h = response-grows mine reply h
+  HasRead-grows mine _ _ h = absurd h
+
+  pub IsUnderway-grows : (call : Option Pending) (inv : ℕ) (read : Reading) → IsUnderway m call inv read → IsUnderway m' call inv read
+  IsUnderway-grows None inv read h = tt
+  IsUnderway-grows (Some c) inv read h = (grows.inv c.mine inv h.0, HasRead-grows c.mine c.stage read h.1)
+
+-- a step touches no invocation
+pub place_shared : (n p : ℕ) (mine : Name) (stage : Stage) → IsShared (place_of n p mine stage)
+place_shared n p mine Announce = tt
+place_shared n p mine (ScanHead q best s) = tt
+place_shared n p mine (ScanSeq q best s h) = tt
+place_shared n p mine (WriteScan best s) = tt
+place_shared n p mine (Test c s) = tt
+place_shared n p mine (ReadAnnounce c s) = tt
+place_shared n p mine (ReadHelpSeq c s help) = tt
+place_shared n p mine (DecideAfter c s prefer) = tt
+place_shared n p mine (DecideNew c s d) = tt
+place_shared n p mine (WriteBefore c s d) = tt
+place_shared n p mine (WriteSeq c s d) = tt
+place_shared n p mine (WriteHead c s d) = tt
+place_shared n p mine (Finish s t) = tt

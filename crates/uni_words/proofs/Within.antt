@@ -1,0 +1,67 @@
+-- What the words of a table that meets the rule can be.
+use Rattle.std.proofs.Common.{◌≡◌, ◌∙◌, ℕ, zero, suc, ◌*◌, ◌/◌, ◌%◌, ◌<◌, ◌≤◌, ◌^◌, ◌⊎◌, inl, inr, sym, ap, subst, slice_index, Some, arith}
+use Rattle.atomic_table.specs.Table.{State}
+use Rattle.seq_object.specs.Sequential.{Sequential}
+use Rattle.uni_model.specs.Indices.{name_of}
+use Rattle.uni_model.specs.Places.{Name, Place, announce_of, head_of, seq_of, after_of, before_of, new_of, inv_of}
+use Rattle.uni_model.specs.Places.Name.{Anchor}
+use Rattle.uni_model.specs.Places.Place.{Announced, HeadOf, InvOf, SeqOf, AfterOf, NewOf, BeforeOf}
+use Rattle.uni_model.specs.Worlds.{WorldOf, calls_begun}
+use Rattle.uni_model.specs.Invariant.{Has, IsSound}
+use Rattle.uni_model.proofs.Ranges.{sum_below-bound, announced_cell, head_cell, after_cell, before_cell, seq_bound}
+use Rattle.uni_words.specs.Words.{cells_of, link_of, settled_at, state_in, word_of}
+use Rattle.uni_words.specs.Shown.{IsShown}
+use Rattle.uni_words.specs.Seats.{IsWithin}
+use Rattle.uni_words.specs.declared.view.View.{View}
+use Rattle.uni_words.proofs.Columns.{index_in-there, process_below, head_below}
+use Rattle.uni_words.proofs.Locality.{word_here}
+
+module _ (object : Sequential ℕ ℕ ℕ) (row : ℕ) (w : WorldOf ℕ ℕ ℕ) (s : State ℕ View) (is : IsShown object row w s) where
+  sound : IsSound object w is.sound.0 is.sound.1
+  sound = is.sound.2
+
+  -- a cell that is there has an index
+  indexed : (j : ℕ) → (name_of w.n j ≡ Anchor) ⊎ Has (inv_of w.memory (name_of w.n j)) → j < cells_of w.n row
+  indexed zero h = omega arith
+  indexed (suc j) h = elim h [
+    | inl e ↦ cc
+    | inr has ↦ (let call = sound.calls.begun (j % w.n) (j / w.n) has in let room = is.room (j % w.n) in index_in-there w.n row j call.0 (let a = call.1 in omega arith))
+  ]
+
+  seq_small : (x : Name) → seq_of w.memory x ≤ cells_of w.n row
+  seq_small x =
+      let top = seq_bound object w is.sound.0 is.sound.1 sound x in
+      let each : calls_begun w ≤ w.n * row = sum_below-bound w.n row w.begun is.room in
+      let anchor = is.number in
+      omega arith
+
+  link_small : (x : Name) (v : ℕ) → link_of w.n v ≡ after_of w.memory x → v ≤ cells_of w.n row
+  link_small x zero e = omega arith
+  link_small x (suc v) e =
+      let below : v < cells_of w.n row = indexed v (after_cell object w is.sound.0 is.sound.1 sound x (name_of w.n v) (sym e)) in
+      omega arith
+
+  back_small : (y : Name) (v : ℕ) → link_of w.n v ≡ before_of w.memory y → v ≤ cells_of w.n row
+  back_small y zero e = omega arith
+  back_small y (suc v) e =
+      let below : v < cells_of w.n row = indexed v (before_cell object w is.sound.0 is.sound.1 sound (name_of w.n v) y (sym e)) in
+      omega arith
+
+  new_small : (x : Name) (v : ℕ) → settled_at x v ≡ new_of w.memory x → state_in v < 2 ^ 31
+  new_small x zero e = omega arith
+  new_small x (suc v) e = is.fits x _ (sym e)
+
+  pub within : (place : Place) (i : ℕ) → word_of w.n row place ≡ Some i → IsWithin w.n row place (slice_index s.words i)
+  within (Announced p) i e =
+      let at : announce_of w.memory p ≡ name_of w.n (slice_index s.words i) = ap (λ m. announce_of m p) is.memory ∙ ap (λ v. name_of w.n v) (word_here w.n row s.words is.wide (Announced p) i e) in
+      indexed (slice_index s.words i)
+      (subst (λ x. (x ≡ Anchor) ⊎ Has (inv_of w.memory x)) at (announced_cell object w is.sound.0 is.sound.1 sound p (process_below w.n row p i e)))
+  within (HeadOf p) i e =
+      let at : head_of w.memory p ≡ name_of w.n (slice_index s.words i) = ap (λ m. head_of m p) is.memory ∙ ap (λ v. name_of w.n v) (word_here w.n row s.words is.wide (HeadOf p) i e) in
+      indexed (slice_index s.words i)
+      (subst (λ x. (x ≡ Anchor) ⊎ Has (inv_of w.memory x)) at (head_cell object w is.sound.0 is.sound.1 sound p (head_below w.n row p i e)))
+  within (InvOf x) i e = tt
+  within (SeqOf x) i e = subst (λ t. t ≤ cells_of w.n row) (ap (λ m. seq_of m x) is.memory ∙ word_here w.n row s.words is.wide (SeqOf x) i e) (seq_small x)
+  within (AfterOf x) i e = link_small x (slice_index s.words i) (ap (link_of w.n) (sym (word_here w.n row s.words is.wide (AfterOf x) i e)) ∙ ap (λ m. after_of m x) (sym is.memory))
+  within (NewOf x) i e = new_small x (slice_index s.words i) (ap (settled_at x) (sym (word_here w.n row s.words is.wide (NewOf x) i e)) ∙ ap (λ m. new_of m x) (sym is.memory))
+  within (BeforeOf x) i e = back_small x (slice_index s.words i) (ap (link_of w.n) (sym (word_here w.n row s.words is.wide (BeforeOf x) i e)) ∙ ap (λ m. before_of m x) (sym is.memory))

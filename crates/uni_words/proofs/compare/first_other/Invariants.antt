@@ -1,0 +1,7 @@
+use Rattle.std.proofs.Common.{map}
+use Rattle.uni_words.specs.Log.{entry_shown}
+use Rattle.uni_words.proofs.Comparing.{AreTold}
+use Rattle.uni_words.proofs.compare.first_other.Given as goal
+
+abbrev pub invariant-loop-place : goal.invariant-loop-place
+invariant-loop-place l = AreTold l.process (map entry_shown l.entries) l.own l.place l.at

@@ -1,0 +1,26 @@
+use Rattle.std.proofs.Common.{refl}
+use Rattle.uni_model.specs.Indices.{name_of}
+use Rattle.uni_model.specs.Stages.Stage.{Test}
+use Rattle.uni_words.proofs.Allowed.{stands_next, goes_one, within_here, few_turns}
+use Rattle.uni_words.proofs.log.WordLog.test.Goals as goal
+
+pub load_seq-requires : goal.load_seq-requires
+load_seq-requires g c =
+    let n = c.args.self.now.setup.n in
+    record {
+      table = c.requires.table;
+      inside = c.requires.inside;
+      before = record { pending = record { mine = name_of n c.args.mine; stage = Test (name_of n c.args.c) c.args.c_seq }; stands = c.requires.stands; loads = refl };
+    }
+
+pub returns-clause-stands : goal.returns-clause-stands
+returns-clause-stands g c = stands_next _ _ _ _ _ _ _ _ _ c.requires.stands (c.load_seq.ensures.moved _ c.requires.stands.call) refl
+
+pub returns-clause-goes : goal.returns-clause-goes
+returns-clause-goes g c = goes_one _ _ _ _ _ (c.load_seq.ensures.moved _ c.requires.stands.call) refl
+
+pub returns-clause-within : goal.returns-clause-within
+returns-clause-within g c = within_here _ _ _ _ _ _ _ _ (c.load_seq.ensures.moved _ c.requires.stands.call) c.requires.stands
+
+pub returns-clause-bound : goal.returns-clause-bound
+returns-clause-bound g c = few_turns _ _ _ _ _ _ _ _ (c.load_seq.ensures.moved _ c.requires.stands.call) c.requires.stands

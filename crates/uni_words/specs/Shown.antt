@@ -1,0 +1,84 @@
+-- The rule of the table: its words and the views of its seats show a world of the definitions.
+use Rattle.std.specs.Prelude.{◌≡◌, ℕ, ◌+◌, ◌<◌, ◌≤◌, ◌^◌, Option, None, Some, length, slice_get}
+use mathlib.Core.Option.{some}
+use lib.ListN.{get_elem?}
+use Rattle.atomic_table.specs.Table.{State}
+use Rattle.seq_object.specs.Sequential.{Sequential}
+use Rattle.uni_model.specs.Places.{Name, Memory, seq_of, inv_of, new_of}
+use Rattle.uni_model.specs.Places.Name.{Anchor, Of}
+use Rattle.uni_model.specs.Stages.{Stage, Pending}
+use Rattle.uni_model.specs.Stages.Stage.{DecideNew, Finish}
+use Rattle.uni_model.specs.Chain.{response_in}
+use Rattle.uni_model.specs.Worlds.{WorldOf}
+use Rattle.uni_model.specs.Helping.{HelpingInvariant}
+use Rattle.uni_model.specs.Bound.{CountsSteps}
+use Rattle.uni_words.specs.Words.{words_of, memory_of}
+use Rattle.uni_words.specs.Views.{Known, Reading}
+use Rattle.uni_words.specs.Views.Reading.{Nothing, Invocation, Applied, Reply}
+use Rattle.uni_words.specs.declared.view.View.{View}
+
+-- the call of a cell has returned: it is threaded, with this invocation and this reply
+pub record HasReturned (m : Memory ℕ ℕ ℕ) (x : Name) (inv reply : ℕ) : Type 0 where
+  pub inv_is : inv_of m x ≡ Some inv
+  pub threaded : 1 ≤ seq_of m x
+  pub reply_is : response_in m x ≡ Some reply
+
+-- what a process that stands at a stage has read of settled words
+abbrev pub HasRead : Memory ℕ ℕ ℕ → (mine : Name) → Stage → Reading → Type 0
+HasRead m mine stage Nothing = Unit {0}
+HasRead m mine (DecideNew c c_seq d) (Invocation inv) = inv_of m d ≡ Some inv
+HasRead m mine (DecideNew c c_seq d) (Applied inv state) = (inv_of m d ≡ Some inv) × ((r : Option ℕ) × (new_of m c ≡ Some (state, r)))
+HasRead m mine (Finish c_seq mine_seq) (Reply reply) = response_in m mine ≡ Some reply
+HasRead m mine _ _ = ⊥
+
+-- of a pending call, its invocation and what has been read
+abbrev pub IsUnderway : Memory ℕ ℕ ℕ → Option Pending → (inv : ℕ) → Reading → Type 0
+IsUnderway m None inv read = Unit {0}
+IsUnderway m (Some c) inv read = (inv_of m c.mine ≡ Some inv) × HasRead m c.mine c.stage read
+
+abbrev pub pending_count : Option Pending → ℕ
+pending_count None = 0
+pending_count (Some c) = 1
+
+-- what the seat id knows of one of its processes
+pub record IsLocal (w : WorldOf ℕ ℕ ℕ) (seat_of : ℕ → ℕ) (id p : ℕ) (v : Known) : Type 0 where
+  pub inside : p < w.n
+  pub seat : seat_of p ≡ id
+  pub call : w.call p ≡ v.call
+  pub begun : w.begun p ≡ v.begun
+  pub steps : w.steps p ≡ v.steps
+  pub turns : w.turns p ≡ v.turns
+  pub underway : IsUnderway w.memory v.call v.inv v.read
+  -- its own calls are those that it has begun, but for the pending one
+  pub counted : v.begun ≡ length v.own + pending_count v.call
+  pub own : (j : ℕ) (c : ℕ × ℕ) → slice_get v.own j ≡ Some c → HasReturned w.memory (Of p j) c.0 c.1
+
+-- what the seat id knows
+pub record Tells (w : WorldOf ℕ ℕ ℕ) (seat_of : ℕ → ℕ) (row id : ℕ) (v : Known) : Type 0 where
+  pub processes : v.n ≡ w.n
+  pub calls : v.row ≡ row
+  pub each : (p : ℕ) → v.first ≤ p → p < v.first + v.count → IsLocal w seat_of id p v
+
+-- the process is one of this seat's
+abbrev pub IsAmong : ℕ → Known → Type 0
+IsAmong p v = (v.first ≤ p) × (p < v.first + v.count)
+
+-- The words and the views show the world w, whose processes have rows of so many calls: the words are its memory; each view
+-- tells the locals of its seat's processes, and each process has one seat; the anchor has number 1 and the start state, and
+-- no state passes 31 bits. The world has the invariant, with what helps each pending call, and own steps are counted.
+pub record IsShown (object : Sequential ℕ ℕ ℕ) (row : ℕ) (w : WorldOf ℕ ℕ ℕ) (s : State ℕ View) : Type 0 where
+  pub owner : ℕ → ℕ
+  pub wide : length s.words ≡ words_of w.n row
+  pub memory : w.memory ≡ memory_of w.n row s.words w.begun
+  pub seats : (id : ℕ) (v : View) → get_elem? s.views id ≡ some v → Tells w owner row id v.known
+  pub seated : (p : ℕ) → p < w.n → (v : View) × (get_elem? s.views (owner p) ≡ some v) × IsAmong p v.known
+  pub number : seq_of w.memory Anchor ≡ 1
+  pub state : new_of w.memory Anchor ≡ Some (object.initial, None)
+  pub room : (p : ℕ) → w.begun p ≤ row
+  pub fits : (x : Name) (v : ℕ × Option ℕ) → new_of w.memory x ≡ Some v → v.0 < 2 ^ 31
+  pub sound : HelpingInvariant object w
+  pub counts : CountsSteps w
+
+-- The rule: some world of n processes is shown.
+abbrev pub ShowsWorld : (object : Sequential ℕ ℕ ℕ) → (n row : ℕ) → State ℕ View → Type 0
+ShowsWorld object n row s = (w : WorldOf ℕ ℕ ℕ) × (w.n ≡ n) × IsShown object row w s

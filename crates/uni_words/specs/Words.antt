@@ -1,0 +1,134 @@
+-- The shared places as words of one table: announce, the heads, and five columns over the cells.
+use Rattle.std.specs.Prelude.{◌≡◌, ℕ, zero, suc, ◌+◌, ◌*◌, ◌/◌, ◌%◌, List, [], ◌∷◌, ◌&&◌, Option, None, Some, option_map, if◌then◌else◌, nat_lt, slice_index, refl}
+use Rattle.std.specs.Option.{option_map_or}
+use Rattle.uni_model.specs.Places.{Name, Place, Content, Memory}
+use Rattle.uni_model.specs.Places.Name.{Anchor, Of}
+use Rattle.uni_model.specs.Places.Place.{Announced, HeadOf, InvOf, SeqOf, AfterOf, NewOf, BeforeOf}
+use Rattle.uni_model.specs.Indices.{index_of, name_of}
+use Rattle.uni_model.specs.Places.Content.{CellName, Invocation, Number, Link, Settled}
+
+-- how many cells there are, where each of n processes can make so many calls
+abbrev pub cells_of : (n row : ℕ) → ℕ
+cells_of n row = n * row + 1
+
+-- the index of a cell, where there is room for it
+abbrev pub index_in : (n row : ℕ) → Name → Option ℕ
+index_in n row Anchor = Some 0
+index_in n row (Of p k) = if nat_lt p n && nat_lt k row then Some (index_of n p k) else None
+
+-- the columns of the table, from the first on: announce, the heads, and of each cell inv, seq, before, after, new
+abbrev pub column_of : Place → ℕ
+column_of (Announced p) = 0
+column_of (HeadOf p) = 1
+column_of (InvOf x) = 2
+column_of (SeqOf x) = 3
+column_of (BeforeOf x) = 4
+column_of (AfterOf x) = 5
+column_of (NewOf x) = 6
+
+-- where a column begins
+abbrev pub start_of : (n row column : ℕ) → ℕ
+start_of n row zero = 0
+start_of n row (suc zero) = n
+start_of n row (suc (suc f)) = 2 * n + f * cells_of n row
+
+-- where a place stands in its column
+abbrev pub row_of : (n row : ℕ) → Place → Option ℕ
+row_of n row (Announced p) = if nat_lt p n then Some p else None
+row_of n row (HeadOf p) = if nat_lt p n then Some p else None
+row_of n row (InvOf x) = index_in n row x
+row_of n row (SeqOf x) = index_in n row x
+row_of n row (BeforeOf x) = index_in n row x
+row_of n row (AfterOf x) = index_in n row x
+row_of n row (NewOf x) = index_in n row x
+
+-- the word that a place is
+abbrev pub word_of : (n row : ℕ) → Place → Option ℕ
+word_of n row place = option_map (λ j. start_of n row (column_of place) + j) (row_of n row place)
+
+abbrev pub words_of : (n row : ℕ) → ℕ
+words_of n row = 2 * n + 5 * cells_of n row
+
+-- a link: 0 for none, and the index plus 1 otherwise
+abbrev pub link_of : (n word : ℕ) → Option Name
+link_of n zero = None
+link_of n (suc i) = Some (name_of n i)
+
+-- what is settled in `new`: 0 for nothing, and 1 + 2 * reply + 2^32 * state otherwise
+abbrev pub settled_word : (state reply : ℕ) → ℕ
+settled_word s r = 1 + 2 * r + 4294967296 * s
+
+abbrev pub state_in : ℕ → ℕ
+state_in word = word / 4294967296
+
+abbrev pub reply_in : ℕ → ℕ
+reply_in word = (word % 4294967296) / 2
+
+-- the anchor has no reply
+abbrev pub reply_at : Name → ℕ → Option ℕ
+reply_at Anchor r = None
+reply_at (Of p k) r = Some r
+
+abbrev pub settled_at : Name → (word : ℕ) → Option (ℕ × Option ℕ)
+settled_at x zero = None
+settled_at x (suc w) = Some (state_in (suc w), reply_at x (reply_in (suc w)))
+
+-- what a word is at its place
+abbrev pub content_of : (n : ℕ) → Place → (word : ℕ) → Content ℕ ℕ ℕ
+content_of n (Announced p) v = CellName (name_of n v)
+content_of n (HeadOf p) v = CellName (name_of n v)
+content_of n (InvOf x) v = Invocation (Some v)
+content_of n (SeqOf x) v = Number v
+content_of n (AfterOf x) v = Link (link_of n v)
+content_of n (BeforeOf x) v = Link (link_of n v)
+content_of n (NewOf x) v = Settled (settled_at x v)
+
+-- the word of a place; 0 where the table has none
+abbrev pub word_at : (n row : ℕ) → List ℕ → Place → ℕ
+word_at n row words place = option_map_or (slice_index words) (word_of n row place) 0
+
+-- the invocation of a call is there once the call has begun
+abbrev pub inv_at : (n row : ℕ) → List ℕ → (begun : ℕ → ℕ) → Name → Option ℕ
+inv_at n row words begun Anchor = None
+inv_at n row words begun (Of p k) = if nat_lt k (begun p) then Some (word_at n row words (InvOf (Of p k))) else None
+
+-- what the shared places contain
+abbrev pub memory_of : (n row : ℕ) → List ℕ → (begun : ℕ → ℕ) → Memory ℕ ℕ ℕ
+memory_of n row words begun (InvOf x) = Invocation (inv_at n row words begun x)
+memory_of n row words begun (Announced p) = content_of n (Announced p) (word_at n row words (Announced p))
+memory_of n row words begun (HeadOf p) = content_of n (HeadOf p) (word_at n row words (HeadOf p))
+memory_of n row words begun (SeqOf x) = content_of n (SeqOf x) (word_at n row words (SeqOf x))
+memory_of n row words begun (AfterOf x) = content_of n (AfterOf x) (word_at n row words (AfterOf x))
+memory_of n row words begun (NewOf x) = content_of n (NewOf x) (word_at n row words (NewOf x))
+memory_of n row words begun (BeforeOf x) = content_of n (BeforeOf x) (word_at n row words (BeforeOf x))
+
+-- the places that steps touch: all but invocations
+abbrev pub IsShared : Place → Type 0
+IsShared (InvOf x) = ⊥
+IsShared _ = Unit {0}
+
+-- two processes with rows of three calls: the `new` of the second call of process 1
+sample_new : word_of 2 3 (NewOf (Of 1 1)) ≡ Some 36
+sample_new = refl
+
+sample_settled : settled_at (Of 0 0) (settled_word 5 7) ≡ Some (5, Some 7)
+sample_settled = refl
+
+-- of one process with rows of one call: the words of a log in which its call has the invocation 5
+sample_words : List ℕ
+sample_words = 1 ∷ 1 ∷ 0 ∷ 5 ∷ 1 ∷ 2 ∷ 0 ∷ 1 ∷ 2 ∷ 0 ∷ 1 ∷ 21474836481 ∷ []
+
+sample_count : words_of 1 1 ≡ 12
+sample_count = refl
+
+sample_after : memory_of 1 1 sample_words (λ p. 1) (AfterOf Anchor) ≡ Link (Some (Of 0 0))
+unfolding sample_words
+sample_after = refl
+
+sample_inv : memory_of 1 1 sample_words (λ p. 1) (InvOf (Of 0 0)) ≡ Invocation (Some 5)
+unfolding sample_words
+sample_inv = refl
+
+sample_settled_state : memory_of 1 1 sample_words (λ p. 1) (NewOf (Of 0 0)) ≡ Settled (Some (5, Some 0))
+unfolding sample_words
+sample_settled_state = refl

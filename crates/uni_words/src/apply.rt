@@ -1,0 +1,167 @@
+//! A call from its start to its reply.
+ghost use Rattle.std.specs.Prelude.{◌≡◌, ◌↔◌, ◌+◌, ◌*◌, ◌<◌, ◌≤◌, ◌^◌, ◌++◌, ◌∷◌, [], IsErr, IfOk, OnOk, OnErr};
+ghost use Rattle.uni_words.specs.Standing.{StandsAt, GoesBy, IsIdle, IsCountOf};
+ghost use Rattle.uni_model.specs.Indices.{name_of};
+ghost use Rattle.uni_words.specs.Words.{cells_of};
+ghost use Rattle.uni_words.specs.Belongs.{IsSeatOf, processes_of, row_of, process_of, calls_made, own_calls, latest_turns, word_steps_of};
+ghost use Rattle.uni_model.specs.Places.Name.{Anchor};
+ghost use Rattle.uni_model.specs.Stages.Stage.{ScanHead, WriteScan, Test, ReadAnnounce, Finish};
+
+use crate::log::WordLog;
+use crate::object::WordObject;
+use crate::steps::WordSeat;
+use crate::view::View;
+use atomic_table::Seat;
+
+/// What a call answers: its reply, and how many turns it took.
+#[derive(Debug, Clone, Copy, PartialEq, Eq, Drop)]
+pub struct Answer {
+    pub reply: u32,
+    pub turns: u32,
+}
+
+/// The seat has made all the calls that it can make.
+#[derive(Debug, Clone, Copy, PartialEq, Eq, Drop)]
+pub struct RowFull;
+
+impl<O: WordObject> WordLog<O> {
+    /// The scan of the heads: the greatest cell that it finds, and its number.
+    pub(crate) fn scan(&self, seat: &mut Seat<u8, View>, p: u64, mine: u64) -> (u64, u64)
+        requires table { seat.old.table_id ≡ self.now.table.shared.table_id }
+        requires stands { StandsAt self.now.setup.n self.now.setup.k p (name_of self.now.setup.n mine) (ScanHead 0 Anchor 0) seat.old.me }
+        ensures same { (seat.new.table_id ≡ seat.old.table_id) × (seat.new.id ≡ seat.old.id) }
+        ensures stands { StandsAt self.now.setup.n self.now.setup.k p (name_of self.now.setup.n mine) (WriteScan (name_of self.now.setup.n result.0) result.1) seat.new.me }
+        ensures goes { GoesBy seat.old.me seat.new.me (2 * self.now.setup.n) 0 }
+        ensures within { (result.0 < cells_of self.now.setup.n self.now.setup.k) × (result.1 ≤ cells_of self.now.setup.n self.now.setup.k) }
+    {
+        let mut best = 0;
+        let mut best_seq = 0;
+        for q in 0..self.setup.n {
+            let h = self.scan_head(seat, p, mine, q, best, best_seq);
+            let s = self.scan_seq(seat, p, mine, q, best, best_seq, h);
+            if s > best_seq {
+                best = h;
+                best_seq = s;
+            }
+        }
+        (best, best_seq)
+    }
+
+    /// A turn, after a test that found no number: the cell after c, which is the process's head then.
+    pub(crate) fn turn(
+        &self,
+        seat: &mut Seat<u8, View>,
+        p: u64,
+        mine: u64,
+        c: u64,
+        c_seq: u64,
+    ) -> u64
+        requires table { seat.old.table_id ≡ self.now.table.shared.table_id }
+        requires inside { (p < self.now.setup.n) × (mine < cells_of self.now.setup.n self.now.setup.k) × (c < cells_of self.now.setup.n self.now.setup.k) × (c_seq ≤ cells_of self.now.setup.n self.now.setup.k) }
+        requires stands { StandsAt self.now.setup.n self.now.setup.k p (name_of self.now.setup.n mine) (ReadAnnounce (name_of self.now.setup.n c) c_seq) seat.old.me }
+        ensures same { (seat.new.table_id ≡ seat.old.table_id) × (seat.new.id ≡ seat.old.id) }
+        ensures stands { StandsAt self.now.setup.n self.now.setup.k p (name_of self.now.setup.n mine) (Test (name_of self.now.setup.n result) (c_seq + 1)) seat.new.me }
+        ensures goes { GoesBy seat.old.me seat.new.me 9 0 }
+        ensures within { (result < cells_of self.now.setup.n self.now.setup.k) × (c_seq + 1 ≤ cells_of self.now.setup.n self.now.setup.k) }
+    {
+        let help = self.read_announce(seat, p, mine, c, c_seq);
+        let help_seq = self.read_help_seq(seat, p, mine, c, c_seq, help);
+        let prefer = if help_seq == 0 { help } else { mine };
+        let found = self.decide_after(seat, p, mine, c, c_seq, prefer);
+        let d = if found == 0 { prefer } else { found - 1 };
+        let inv = self.load_inv(seat, p, mine, c, c_seq, d);
+        let new = self.load_new(seat, p, mine, c, c_seq, d, inv);
+        let state = (new / 4_294_967_296) as u32;
+        self.decide_new(seat, p, mine, c, c_seq, d, inv, state);
+        self.write_before(seat, p, mine, c, c_seq, d);
+        self.write_seq(seat, p, mine, c, c_seq, d);
+        self.write_head(seat, p, mine, c, c_seq, d);
+        d
+    }
+
+    /// Turns until `mine` has a number: how many there were, the number of the process's head, and that of `mine`.
+    pub(crate) fn turns(
+        &self,
+        seat: &mut Seat<u8, View>,
+        p: u64,
+        mine: u64,
+        best: u64,
+        best_seq: u64,
+    ) -> (u64, u64, u64)
+        requires table { seat.old.table_id ≡ self.now.table.shared.table_id }
+        requires inside { (p < self.now.setup.n) × (mine < cells_of self.now.setup.n self.now.setup.k) × (best < cells_of self.now.setup.n self.now.setup.k) × (best_seq ≤ cells_of self.now.setup.n self.now.setup.k) }
+        requires stands { StandsAt self.now.setup.n self.now.setup.k p (name_of self.now.setup.n mine) (Test (name_of self.now.setup.n best) best_seq) seat.old.me }
+        requires first { seat.old.me.0.known.turns ≡ 0 }
+        ensures same { (seat.new.table_id ≡ seat.old.table_id) × (seat.new.id ≡ seat.old.id) }
+        ensures stands { StandsAt self.now.setup.n self.now.setup.k p (name_of self.now.setup.n mine) (Finish result.1 result.2) seat.new.me }
+        ensures goes { GoesBy seat.old.me seat.new.me (10 * result.0 + 1) result.0 }
+        ensures bound { result.0 ≤ self.now.setup.n + 1 }
+    {
+        let mut c = best;
+        let mut c_seq = best_seq;
+        for turns in 0..self.setup.n + 2 {
+            let found = self.test(seat, p, mine, c, c_seq);
+            if found != 0 {
+                return (turns, c_seq, found);
+            }
+            c = self.turn(seat, p, mine, c, c_seq);
+            c_seq += 1;
+        }
+        unreachable!()
+    }
+
+    /// The call number `nth` of process p, from its start to its reply.
+    pub(crate) fn call(&self, seat: &mut Seat<u8, View>, p: u64, nth: u64, inv: u64) -> Answer
+        requires table { seat.old.table_id ≡ self.now.table.shared.table_id }
+        requires inside { (p < self.now.setup.n) × (nth < self.now.setup.k) }
+        requires idle { IsIdle self.now.setup.n self.now.setup.k p nth seat.old.me }
+        ensures same { (seat.new.table_id ≡ seat.old.table_id) × (seat.new.id ≡ seat.old.id) }
+        ensures idle { IsIdle self.now.setup.n self.now.setup.k p (nth + 1) seat.new.me }
+        ensures own { seat.new.me.0.known.own ≡ seat.old.me.0.known.own ++ (inv, result.reply) ∷ [] }
+        ensures turns { (seat.new.me.0.known.turns ≡ result.turns) × (result.turns ≤ self.now.setup.n + 1) }
+        ensures steps { IsCountOf self.now.setup.n result.turns seat.old.me.0.known.word_steps seat.new.me.0.known.word_steps }
+    {
+        let mine = self.cell(p, nth);
+        self.store_inv(seat, p, nth, mine, inv);
+        self.announce(seat, p, mine);
+        let (best, best_seq) = self.scan(seat, p, mine);
+        self.write_scan(seat, p, mine, best, best_seq);
+        let (turns, c_seq, mine_seq) = self.turns(seat, p, mine, best, best_seq);
+        let word = self.load_reply(seat, p, mine, c_seq, mine_seq);
+        let reply = (word % 4_294_967_296 / 2) as u32;
+        if mine_seq > c_seq {
+            self.finish(seat, p, mine, c_seq, mine_seq, reply);
+        }
+        Answer {
+            reply,
+            turns: turns as u32,
+        }
+    }
+}
+
+impl WordSeat {
+    /// Applies the invocation: the reply, and how many turns it took. It returns after a known
+    /// number of word steps, whatever the other seats do, and takes no memory and no lock. The seat
+    /// is one of this log's.
+    ///
+    /// The error says that the seat has made all the calls that it can make; nothing is changed then.
+    pub fn apply<O: WordObject>(&mut self, log: &WordLog<O>, inv: u64) -> Result<Answer, RowFull>
+        requires seat { IsSeatOf log.now self.old }
+        ensures kept { IsSeatOf log.now self.new × (process_of self.new ≡ process_of self.old) }
+        ensures full { IsErr result ↔ (calls_made self.old ≡ row_of log.now) }
+        ensures unchanged { OnErr result (self.new ≡ self.old) }
+        ensures own { IfOk result (λ answer. own_calls self.new ≡ own_calls self.old ++ (inv, answer.reply) ∷ []) }
+        ensures made { OnOk result (calls_made self.new ≡ calls_made self.old + 1) }
+        ensures turns { IfOk result (λ answer. latest_turns self.new ≡ answer.turns) }
+        ensures few_turns { IfOk result (λ answer. answer.turns ≤ processes_of log.now + 1) }
+        ensures steps { IfOk result (λ answer. IsCountOf (processes_of log.now) answer.turns (word_steps_of self.old) (word_steps_of self.new)) }
+        ensures few_steps { OnOk result (word_steps_of self.new ≤ word_steps_of self.old + (12 * processes_of log.now + 16)) }
+    {
+        if self.made == self.k {
+            return Err(RowFull);
+        }
+        let answer = log.call(&mut self.seat, self.p, self.made, inv);
+        self.made += 1;
+        Ok(answer)
+    }
+}

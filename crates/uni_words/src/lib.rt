@@ -1,0 +1,29 @@
+//! The wait-free universal construction on the words of an `atomic_table`.
+#![tactic(auto)]
+
+mod apply;
+mod calls;
+mod close;
+mod compare;
+mod laws;
+mod log;
+mod object;
+mod objects;
+mod open;
+mod read;
+mod rule;
+mod steps;
+#[cfg(test)]
+mod tests;
+mod view;
+mod words;
+
+pub use apply::{Answer, RowFull};
+pub use compare::differs;
+pub use laws::{load_ends, load_keeps, own_calls_rise, store_begins, store_ends, word_step_moves};
+pub use log::{WordLog, WordOpenFault};
+pub use object::WordObject;
+pub use objects::{WordSticky, WordTally};
+pub use read::{WordEntry, read_log};
+pub use steps::WordSeat;
+pub use words::Words;

@@ -1,0 +1,96 @@
+//! The rule of the table, and what its steps tell.
+use crate::object::WordObject;
+use crate::view::View;
+use atomic_table::{Play, Split, Table, TableRule};
+use std::alloc::Global;
+use std::marker::PhantomData;
+
+/// What the table is told once: the object, how many processes there are, and how many calls each can make.
+#[derive(Drop)]
+pub struct Setup<O: WordObject> {
+    pub object: O,
+    pub n: u64,
+    pub k: u64,
+}
+
+/// The rule of the table: its words and the views of its seats show a world of the construction.
+pub struct Universal<O> {
+    object: PhantomData<O>,
+}
+
+impl<O: WordObject> TableRule<u8, View, Setup<O>> for Universal<O> {
+    ghost use Rattle.uni_words.specs.Shown.{ShowsWorld};
+    ghost use Rattle.uni_words.specs.Seats.{first_view};
+
+    ghost holds = { λ key. ShowsWorld (O.sequential key.object) key.n key.k };
+
+    ghost first = { λ key. first_view key.n key.k };
+}
+
+/// A step that is an event of the world.
+pub struct Moves;
+
+impl Play<u8, View> for Moves {
+    ghost use Rattle.uni_words.specs.Seats.{Moved};
+
+    ghost then = { Moved };
+}
+
+/// A step that begins a call.
+pub struct Begins;
+
+impl Play<u8, View> for Begins {
+    ghost use Rattle.uni_words.specs.Seats.{HasBegun};
+
+    ghost then = { HasBegun };
+}
+
+/// A read of an invocation.
+pub struct LooksInv;
+
+impl Play<u8, View> for LooksInv {
+    ghost use Rattle.uni_words.specs.Seats.{TellsInv};
+
+    ghost then = { TellsInv };
+}
+
+/// A read of a settled state.
+pub struct LooksNew;
+
+impl Play<u8, View> for LooksNew {
+    ghost use Rattle.uni_words.specs.Seats.{TellsState};
+
+    ghost then = { TellsState };
+}
+
+/// A read of the reply, which is the last step of a call where the head stays.
+pub struct LooksReply;
+
+impl Play<u8, View> for LooksReply {
+    ghost use Rattle.uni_words.specs.Seats.{TellsReply};
+
+    ghost then = { TellsReply };
+}
+
+/// A store of the head, which ends a call where it is its last step.
+pub struct StoresHead;
+
+impl Play<u8, View> for StoresHead {
+    ghost use Rattle.uni_words.specs.Standing.{HeadIsStored};
+
+    ghost then = { HeadIsStored };
+}
+
+/// The first process apart from the others.
+pub struct First;
+
+impl Split<View> for First {
+    ghost use Rattle.uni_words.specs.Seats.{others, first_alone};
+
+    ghost left = { others };
+
+    ghost right = { first_alone };
+}
+
+/// The table of a log: it has no slots.
+pub type WordTable<O> = Table<u8, View, Setup<O>, Universal<O>, Global>;
