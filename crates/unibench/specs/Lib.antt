@@ -1,2 +1,3 @@
 pub mod Statuses
 pub mod CommandLine
+pub mod Runs

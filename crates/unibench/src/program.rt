@@ -6,6 +6,7 @@ ghost use Rattle.unibench.specs.CommandLine.{faults_of_words, AsksForReplay, May
 ghost use Rattle.uni_script.specs.Replays.{IsReplay, IsBadReplay, IsPartOfReplay, HasAnswered};
 ghost use Rattle.std.specs.Io.KnownBytes.{Appends};
 ghost use Rattle.uni_script.specs.Ends.{AppendsFront};
+ghost use Rattle.unibench.specs.Runs.{IsStatusOfEnds, IsReplayRun};
 ghost use Rattle.unibench.specs.Statuses.{status_of, IsStatusOf, TellsFault};
 
 use clap::Command;
@@ -59,14 +60,9 @@ pub fn run<S: AsStr, I: TextIn, O: TextOut, F: TextOut>(
     requires output { O.has_failed output.old ≡ false }
     requires faults { F.has_failed faults.old ≡ false }
     ensures statuses { (result ≤ 4) × (result ≢ 1) }
-    ensures good { result ≡ 0 → (I.has_failed input.new ≡ false) × (O.has_failed output.new ≡ false) }
-    ensures written { O.has_failed output.new ≡ true → result ≡ 3 }
-    ensures ends { result ≡ 3 → (I.has_failed input.new ≡ true) ⊎ (O.has_failed output.new ≡ true) }
-    ensures replayed { AsksForReplay (map S.text words.now) → result ≡ 0 → IsReplay (I.remaining input.old) (O.contents output.old) (O.contents output.new) None }
-    ensures bad { AsksForReplay (map S.text words.now) → result ≡ 2 → IsBadReplay (I.remaining input.old) (O.contents output.old) (O.contents output.new) }
-    ensures read { AsksForReplay (map S.text words.now) → result ≡ 3 → O.has_failed output.new ≡ false
-        → HasAnswered (I.remaining input.old) (I.remaining input.new) (O.contents output.old) (O.contents output.new) }
-    ensures part { AsksForReplay (map S.text words.now) → IsPartOfReplay (I.remaining input.old) (O.contents output.old) (O.contents output.new) }
+    ensures ends { IsStatusOfEnds (I.has_failed input.new) (O.has_failed output.new) result }
+    ensures replay { AsksForReplay (map S.text words.now)
+        → IsReplayRun (I.remaining input.old) (I.remaining input.new) (O.contents output.old) (O.contents output.new) (O.has_failed output.new) result }
     ensures silent { AsksForReplay (map S.text words.now) → result ≡ 0 → faults.new ≡ faults.old }
     ensures told { AsksForReplay (map S.text words.now) → result ≢ 0 → TellsFault (F.contents faults.old) (F.contents faults.new) (F.has_failed faults.new) result }
     ensures unread { (AsksForReplay (map S.text words.now) → ⊥) → input.new ≡ input.old }
