@@ -1,4 +1,4 @@
-//! The twin of `step.rt` in plain Rust: the same words, the same steps, and the same answer. The
+//! The twin of `program.txt` in plain Rust: the same words, the same steps, and the same answer. The
 //! cells of a world stand in one vector, and a cell names another by its index.
 
 use std::env;
