@@ -1,7 +1,7 @@
 //! Lists whose verdicts were worked out by hand.
 
 use crate::{Return, Verdict, audit};
-use seq_object::{CallId, SwapRegister};
+use seq_object::{CallId, SeqObject, SwapRegister};
 use std::alloc::{AllocError, Global};
 use std::test::Fail;
 use uni_log::Entry;
@@ -64,21 +64,34 @@ fn returned(reply: u32) -> Return<u32> {
 #[test]
 fn what_the_object_answers_agrees(rt: HostRuntime) -> Result<(), Fail> {
     let entries = [entry(2, call(0, 0), Some(9))];
-    let verdict = audit(rt.alloc(), &SwapRegister { start: 9 }, &entries, &[returned(9)])?;
+    let verdict = audit(
+        rt.alloc(),
+        &SwapRegister { start: 9 },
+        &entries,
+        &[returned(9)],
+    )?;
     assert_eq!(rt; verdict, Verdict::Agrees);
     Ok(())
 }
 
 #[test]
 fn nothing_agrees(rt: HostRuntime) -> Result<(), Fail> {
-    assert_eq!(rt; audit(rt.alloc(), &SwapRegister { start: 9 }, &[], &[])?, Verdict::Agrees);
+    assert_eq!(rt;
+        audit(rt.alloc(), &SwapRegister { start: 9 }, &[], &[])?,
+        Verdict::Agrees
+    );
     Ok(())
 }
 
 #[test]
 fn last_entry_needs_no_reply(rt: HostRuntime) -> Result<(), Fail> {
     let entries = [entry(2, call(0, 0), Some(9)), entry(3, call(1, 0), None)];
-    let verdict = audit(rt.alloc(), &SwapRegister { start: 9 }, &entries, &[returned(9)])?;
+    let verdict = audit(
+        rt.alloc(),
+        &SwapRegister { start: 9 },
+        &entries,
+        &[returned(9)],
+    )?;
     assert_eq!(rt; verdict, Verdict::Agrees);
     Ok(())
 }
@@ -86,7 +99,12 @@ fn last_entry_needs_no_reply(rt: HostRuntime) -> Result<(), Fail> {
 #[test]
 fn reply_that_the_object_does_not_give(rt: HostRuntime) -> Result<(), Fail> {
     let entries = [entry(2, call(0, 0), Some(5))];
-    let verdict = audit(rt.alloc(), &SwapRegister { start: 9 }, &entries, &[returned(9)])?;
+    let verdict = audit(
+        rt.alloc(),
+        &SwapRegister { start: 9 },
+        &entries,
+        &[returned(9)],
+    )?;
     assert_eq!(rt; verdict, Verdict::BadReply(0));
     Ok(())
 }
@@ -94,7 +112,10 @@ fn reply_that_the_object_does_not_give(rt: HostRuntime) -> Result<(), Fail> {
 #[test]
 fn state_goes_on_from_entry_to_entry(rt: HostRuntime) -> Result<(), Fail> {
     let entries = [entry(2, call(0, 0), Some(9)), entry(3, call(1, 0), Some(7))];
-    assert_eq!(rt; audit(rt.alloc(), &SwapRegister { start: 9 }, &entries, &[])?, Verdict::Agrees);
+    assert_eq!(rt;
+        audit(rt.alloc(), &SwapRegister { start: 9 }, &entries, &[])?,
+        Verdict::Agrees
+    );
     let entries = [entry(2, call(0, 0), Some(9)), entry(3, call(1, 0), Some(9))];
     assert_eq!(rt;
         audit(rt.alloc(), &SwapRegister { start: 9 }, &entries, &[])?,
@@ -106,7 +127,12 @@ fn state_goes_on_from_entry_to_entry(rt: HostRuntime) -> Result<(), Fail> {
 #[test]
 fn call_that_is_not_the_next_one(rt: HostRuntime) -> Result<(), Fail> {
     let entries = [entry(2, call(0, 1), Some(9))];
-    let verdict = audit(rt.alloc(), &SwapRegister { start: 9 }, &entries, &[returned(9)])?;
+    let verdict = audit(
+        rt.alloc(),
+        &SwapRegister { start: 9 },
+        &entries,
+        &[returned(9)],
+    )?;
     assert_eq!(rt; verdict, Verdict::BadCall(0));
     Ok(())
 }
@@ -121,7 +147,12 @@ fn return_with_no_entry(rt: HostRuntime) -> Result<(), Fail> {
 #[test]
 fn return_whose_entry_has_no_reply(rt: HostRuntime) -> Result<(), Fail> {
     let entries = [entry(2, call(0, 0), None)];
-    let verdict = audit(rt.alloc(), &SwapRegister { start: 9 }, &entries, &[returned(9)])?;
+    let verdict = audit(
+        rt.alloc(),
+        &SwapRegister { start: 9 },
+        &entries,
+        &[returned(9)],
+    )?;
     assert_eq!(rt; verdict, Verdict::Missing(call(0, 0)));
     Ok(())
 }
@@ -129,7 +160,12 @@ fn return_whose_entry_has_no_reply(rt: HostRuntime) -> Result<(), Fail> {
 #[test]
 fn return_of_another_reply(rt: HostRuntime) -> Result<(), Fail> {
     let entries = [entry(2, call(0, 0), Some(9))];
-    let verdict = audit(rt.alloc(), &SwapRegister { start: 9 }, &entries, &[returned(5)])?;
+    let verdict = audit(
+        rt.alloc(),
+        &SwapRegister { start: 9 },
+        &entries,
+        &[returned(5)],
+    )?;
     assert_eq!(rt; verdict, Verdict::BadReturn(call(0, 0)));
     Ok(())
 }
@@ -137,7 +173,12 @@ fn return_of_another_reply(rt: HostRuntime) -> Result<(), Fail> {
 #[test]
 fn call_that_returned_twice(rt: HostRuntime) -> Result<(), Fail> {
     let entries = [entry(2, call(0, 0), Some(9))];
-    let verdict = audit(rt.alloc(), &SwapRegister { start: 9 }, &entries, &[returned(9), returned(9)])?;
+    let verdict = audit(
+        rt.alloc(),
+        &SwapRegister { start: 9 },
+        &entries,
+        &[returned(9), returned(9)],
+    )?;
     assert_eq!(rt; verdict, Verdict::Twice(call(0, 0)));
     Ok(())
 }
@@ -152,11 +193,21 @@ fn first_fault_is_answered(rt: HostRuntime) -> Result<(), Fail> {
     );
     // on one return the second time comes before the reply, which is wrong there
     let entries = [entry(2, call(0, 0), Some(9))];
-    let verdict = audit(rt.alloc(), &SwapRegister { start: 9 }, &entries, &[returned(9), returned(5)])?;
+    let verdict = audit(
+        rt.alloc(),
+        &SwapRegister { start: 9 },
+        &entries,
+        &[returned(9), returned(5)],
+    )?;
     assert_eq!(rt; verdict, Verdict::Twice(call(0, 0)));
     // and entries come before returns
     let entries = [entry(2, call(0, 0), Some(5))];
-    let verdict = audit(rt.alloc(), &SwapRegister { start: 9 }, &entries, &[returned(9), returned(9)])?;
+    let verdict = audit(
+        rt.alloc(),
+        &SwapRegister { start: 9 },
+        &entries,
+        &[returned(9), returned(9)],
+    )?;
     assert_eq!(rt; verdict, Verdict::BadReply(0));
     Ok(())
 }
