@@ -12,13 +12,14 @@ use Rattle.uni_model.specs.Worlds.{world_after_call, calls_in_era}
 use Rattle.uni_model.specs.Worlds.Event.{Call}
 use Rattle.uni_model.proofs.Simulation.{call_accepted}
 use Rattle.uni_core.specs.declared.local.Local.{Local}
-use Rattle.uni_core.specs.Shared.{Shared, name_of, memory_of}
+use Rattle.uni_model.specs.Indices.{name_of}
+use Rattle.uni_core.specs.Shared.{Shared, memory_of}
 use Rattle.uni_core.specs.declared.stage.Pending.{Pending}
 use Rattle.uni_core.specs.Standing.{pending_of}
 use Rattle.uni_model.specs.Stages.{Pending as PendingAt}
 use Rattle.seq_object.specs.declared.call_id.CallId.{CallId}
 use Rattle.uni_core.specs.Whole.{Whole, world_of, call_at, current_of, IsWorld, TakesEffect}
-use Rattle.uni_core.proofs.Named.{name_of-index_of}
+use Rattle.uni_model.proofs.Indices.{name_of-index_of}
 use Rattle.uni_core.proofs.Shown.{begun_whole, world_of-begun, IsWorld-begun}
 
 -- a process that there is, by the count of processes as it was read

@@ -1,29 +1,13 @@
--- Cells by name and by index.
+-- The cells of names, by their indices.
 use Rattle.std.proofs.Common.{◌≡◌, ◌≢◌, ◌∙◌, ℕ, zero, suc, ◌+◌, ◌*◌, ◌/◌, ◌%◌, ◌<◌, ◌≤◌, ◌⊎◌, inl, inr, refl, sym, ap, Option, arith}
 use Rattle.std.proofs.lemmas.Nat.{div-mul-add, mod-mul-add, div-add-mod', mod_below}
 use Rattle.cell_arena.specs.CellRecord.{CellRecord, index_of, ChangesOnly}
 use Rattle.uni_model.specs.Places.{Name}
 use Rattle.uni_model.specs.Places.Name.{Anchor, Of}
 use Rattle.uni_model.proofs.Written.{number_cases, lt_cases}
-use Rattle.uni_core.specs.Shared.{name_of, cell_named}
-
-pub name_of-index_of : (n p k : ℕ) → p < n → name_of n (index_of n p k) ≡ Of p k
-name_of-index_of n p k below =
-    let same : index_of n p k ≡ suc (k * n + p) = omega arith in
-    rw same (rw (mod-mul-add k n p below, div-mul-add k n p below) refl)
-
-pub index_of-name : (n i : ℕ) → index_of n (i % n) (i / n) ≡ suc i
-index_of-name n i = let whole : i / n * n + i % n ≡ i = div-add-mod' i n in omega arith
-
--- two indices of one name are one
-pub same_index : (n i j : ℕ) → name_of n i ≡ name_of n j → i ≡ j
-same_index n zero zero e = refl
-same_index n zero (suc j) e = cc
-same_index n (suc i) zero e = cc
-same_index n (suc i) (suc j) e =
-    let process : i % n ≡ j % n = cc in
-    let nth : i / n ≡ j / n = cc in
-    sym (index_of-name n i) ∙ ap (λ p. index_of n p (i / n)) process ∙ ap (index_of n (j % n)) nth ∙ index_of-name n j
+use Rattle.uni_model.proofs.Indices.{name_of-index_of, index_of-name, same_index}
+use Rattle.uni_model.specs.Indices.{name_of}
+use Rattle.uni_core.specs.Shared.{cell_named}
 
 module _ {S I R : Type 0} (n : ℕ) (positive : 1 ≤ n) (cell : ℕ → Option (CellRecord S I R)) where
   pub cell_named-name_of : (i : ℕ) → cell_named n cell (name_of n i) ≡ cell i

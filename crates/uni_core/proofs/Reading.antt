@@ -5,16 +5,16 @@ use Rattle.cell_arena.specs.CellRecord.{index_of}
 use Rattle.cell_arena.specs.Arena.{processes_of}
 use Rattle.uni_model.specs.Places.{Name, head_of, seq_of, after_of, inv_of, before_of}
 use Rattle.uni_model.specs.Places.Name.{Anchor, Of}
-use Rattle.uni_model.specs.Worlds.{chain, calls_begun}
+use Rattle.uni_model.specs.Worlds.{chain}
 use Rattle.uni_model.specs.Invariant.{Has}
-use Rattle.uni_model.proofs.Simulation.{enough}
 use Rattle.uni_model.proofs.OneLists.{length-chain}
-use Rattle.uni_core.specs.Shared.{name_of, memory_of}
+use Rattle.uni_model.specs.Indices.{name_of}
+use Rattle.uni_core.specs.Shared.{memory_of}
 use Rattle.uni_core.specs.Standing.{IsThere}
 use Rattle.uni_core.specs.Whole.{Whole, world_of, IsWorld}
-use Rattle.uni_core.proofs.Named.{name_of-index_of}
+use Rattle.uni_model.proofs.Indices.{name_of-index_of}
 use Rattle.uni_core.proofs.Begin.{inside_view}
-use Rattle.uni_core.proofs.Steppable.{sum_below-bound, there_seq, there_inv}
+use Rattle.uni_core.proofs.Steppable.{last_small, there_seq, there_inv}
 
 -- what every world keeps, of the world as a contract has it
 module _ {O S I R : Type 0} (v now : Whole O S I R) (view : v ≡ now) (sequential : O → Sequential S I R) where
@@ -52,10 +52,8 @@ name_of-counted n j p q k id counted processes process below =
 pub numbers_fit : {O S I R : Type 0} (object : Sequential S I R) (v : Whole O S I R) → IsWorld object v → seq_of (memory_of v.shared) Anchor + length (chain (world_of v)) < 2 ^ 48
 numbers_fit object v is =
     let end : is.sound.0 Anchor + length (chain (world_of v)) ≡ is.sound.1 = length-chain object (world_of v) is.sound.0 is.sound.1 is.sound.2 in
-    let all : is.sound.1 ≤ is.sound.0 Anchor + calls_begun (world_of v) = enough object (world_of v) is.sound.0 is.sound.1 is.sound.2 in
-    let each : calls_begun (world_of v) ≤ processes_of v.shared.cells * v.row = sum_below-bound (processes_of v.shared.cells) v.row (world_of v).begun (λ q. let room : (world_of v).begun q - 0 ≤ v.row = is.room q in omega arith) in
     let anchor : is.sound.0 Anchor ≡ seq_of (memory_of v.shared) Anchor = is.sound.2.numbered.anchor in
-    let fits : seq_of (memory_of v.shared) Anchor + processes_of v.shared.cells * v.row < 2 ^ 48 = is.numbers in
+    let small = last_small object v is in
     omega arith
 
 -- the cell before a cell is there

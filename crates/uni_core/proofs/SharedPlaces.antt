@@ -10,7 +10,8 @@ use Rattle.uni_model.specs.Places.Content.{CellName, Invocation, Number, Link, S
 use Rattle.uni_model.specs.Transition.{decision}
 use Rattle.uni_model.specs.Worlds.{anchor_memory}
 use Rattle.uni_model.proofs.Written.{number_cases, lt_cases}
-use Rattle.uni_core.specs.Shared.{Shared, name_of, cell_named, memory_at, memory_of}
+use Rattle.uni_model.specs.Indices.{name_of}
+use Rattle.uni_core.specs.Shared.{Shared, cell_named, memory_at, memory_of}
 use Rattle.uni_core.proofs.Named.{cell_named-name_of}
 use Rattle.uni_core.proofs.Written.{memory_at-with_seq, memory_at-with_before, memory_at-with_after, memory_at-with_new, memory_at-made, memory_at-announce, memory_at-head}
 

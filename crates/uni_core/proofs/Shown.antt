@@ -26,7 +26,8 @@ use Rattle.uni_core.specs.declared.local.Local.{Local}
 use Rattle.uni_core.specs.declared.stage.Stage.{Stage}
 use Rattle.uni_core.specs.declared.stage.Stage.TheVariants as stages
 use Rattle.uni_core.specs.declared.stage.Pending.{Pending}
-use Rattle.uni_core.specs.Shared.{Shared, name_of, memory_of}
+use Rattle.uni_model.specs.Indices.{name_of}
+use Rattle.uni_core.specs.Shared.{Shared, memory_of}
 use Rattle.uni_core.specs.Standing.{stage_of, pending_of, Takes}
 use Rattle.uni_core.specs.Whole.{Whole, call_at, world_at, world_of, IsWorld}
 

@@ -13,9 +13,11 @@ use Rattle.uni_model.specs.Invariant.{Has, AtHead, IsCellOf, Stands}
 use Rattle.uni_model.proofs.Steps.{linked_call, head_number}
 use Rattle.uni_model.proofs.Values.{response-settled}
 use Rattle.uni_model.proofs.Simulation.{enough}
+use Rattle.uni_model.proofs.Ranges.{sum_below-bound}
 use Rattle.uni_core.specs.declared.stage.Stage.{Stage}
 use Rattle.uni_core.specs.declared.stage.Stage.TheVariants.{Announce, ScanHead, ScanSeq, WriteScan, Test, ReadAnnounce, ReadHelpSeq, DecideAfter, DecideNew, WriteBefore, WriteSeq, WriteHead, Finish}
-use Rattle.uni_core.specs.Shared.{Shared, name_of, memory_of}
+use Rattle.uni_model.specs.Indices.{name_of}
+use Rattle.uni_core.specs.Shared.{Shared, memory_of}
 use Rattle.uni_core.specs.Standing.{stage_of, CanStep, IsThere, effect_at, turns_to}
 use Rattle.uni_model.specs.Transition.{place_of, turn_of, stage_after, best_of}
 use Rattle.uni_core.specs.Whole.{Whole, world_of, IsWorld}
@@ -25,11 +27,13 @@ Has-IsSome : {A : Type 0} (o : Option A) → Has o → IsSome o
 Has-IsSome None h = absurd (let e = h.1 in cc)
 Has-IsSome (Some x) h = refl
 
-pub sum_below-bound : (n bound : ℕ) (f : ℕ → ℕ) → ((p : ℕ) → f p ≤ bound) → sum_below n f ≤ n * bound
-sum_below-bound zero bound f each = omega arith
-sum_below-bound (suc n) bound f each =
-    let rest : sum_below n f ≤ n * bound = sum_below-bound n bound f each in
-    let here : f n ≤ bound = each n in
+-- the last number is at most the anchor's and one for each cell that there can be, which is small
+pub last_small : {O S I R : Type 0} (object : Sequential S I R) (v : Whole O S I R) (is : IsWorld object v) → is.sound.1 < 2 ^ 48
+last_small object v is =
+    let all : is.sound.1 ≤ is.sound.0 Anchor + calls_begun (world_of v) = enough object (world_of v) is.sound.0 is.sound.1 is.sound.2 in
+    let each : calls_begun (world_of v) ≤ processes_of v.shared.cells * v.row = sum_below-bound (processes_of v.shared.cells) v.row (world_of v).begun (λ q. let room : (world_of v).begun q - 0 ≤ v.row = is.room q in omega arith) in
+    let anchor : is.sound.0 Anchor ≡ seq_of (memory_of v.shared) Anchor = is.sound.2.numbered.anchor in
+    let fits : seq_of (memory_of v.shared) Anchor + processes_of v.shared.cells * v.row < 2 ^ 48 = is.numbers in
     omega arith
 
 module _ {S I R : Type 0} (a : Shared S I R) (positive : 1 ≤ processes_of a.cells) where
@@ -69,10 +73,7 @@ module _ {O S I R : Type 0} (object : Sequential S I R) (v : Whole O S I R) (is 
         let number : s ≡ is.sound.0 (name_of (processes_of v.shared.cells) c)
         = (head_number object (world_of v) is.sound.0 is.sound.1 is.sound.2 p (name_of (processes_of v.shared.cells) mine) (stage_of (processes_of v.shared.cells) stage) pending (name_of (processes_of v.shared.cells) c) s h).1 in
         let top : is.sound.0 (name_of (processes_of v.shared.cells) c) ≤ is.sound.1 = is.sound.2.numbered.greatest (name_of (processes_of v.shared.cells) c) in
-        let all : is.sound.1 ≤ is.sound.0 Anchor + calls_begun (world_of v) = enough object (world_of v) is.sound.0 is.sound.1 is.sound.2 in
-        let each : calls_begun (world_of v) ≤ processes_of v.shared.cells * v.row = sum_below-bound (processes_of v.shared.cells) v.row (world_of v).begun (λ q. let room : (world_of v).begun q - 0 ≤ v.row = is.room q in omega arith) in
-        let anchor : is.sound.0 Anchor ≡ seq_of (memory_of v.shared) Anchor = is.sound.2.numbered.anchor in
-        let fits : seq_of (memory_of v.shared) Anchor + processes_of v.shared.cells * v.row < 2 ^ 48 = is.numbers in
+        let small = last_small object v is in
         omega arith
 
     linked : (c s d : ℕ) → AtHead (memory_of v.shared) p (name_of (processes_of v.shared.cells) c) s

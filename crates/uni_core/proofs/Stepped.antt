@@ -19,7 +19,8 @@ use Rattle.uni_core.specs.declared.stage.Pending.{Pending}
 use Rattle.uni_core.specs.declared.transition.After.{After}
 use Rattle.uni_core.specs.declared.transition.After.TheVariants.{At, Ended}
 use Rattle.uni_core.specs.declared.fault.Progress.TheVariants.{Going, Done}
-use Rattle.uni_core.specs.Shared.{Shared, name_of, memory_of}
+use Rattle.uni_model.specs.Indices.{name_of}
+use Rattle.uni_core.specs.Shared.{Shared, memory_of}
 use Rattle.uni_core.specs.Standing.{stage_of, stage_told, response_told, pending_of, Takes, CanStep, MayBeRefused, turns_to}
 use Rattle.uni_core.specs.Whole.{Whole, world_of, IsWorld, TakesEffect, MayNeedMemory, MayNeedMemoryAt, progress_of}
 use Rattle.uni_core.proofs.Begin.{inside_count, local_here}

@@ -13,7 +13,8 @@ use Rattle.uni_model.specs.Chain.{response_in}
 use Rattle.uni_model.specs.Transition.{decision, value_after, place_of, stage_after_scan}
 use Rattle.cell_arena.specs.Arena.{Arena, processes_of, made_of}
 use Rattle.uni_model.proofs.Written.{written_same, lt_cases}
-use Rattle.uni_core.specs.Shared.{Shared, name_of, memory_of, HasShapeOf}
+use Rattle.uni_model.specs.Indices.{name_of}
+use Rattle.uni_core.specs.Shared.{Shared, memory_of, HasShapeOf}
 use Rattle.uni_core.specs.Standing.{Takes, effect_at, stage_of}
 use Rattle.uni_core.specs.declared.stage.Stage.{Stage}
 

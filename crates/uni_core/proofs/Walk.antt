@@ -10,9 +10,10 @@ use Rattle.uni_model.specs.Worlds.{WorldOf, calls_begun, calls_in_era, last_cell
 use Rattle.uni_model.specs.Invariant.{Invariant}
 use Rattle.uni_model.proofs.Simulation.{enough}
 use Rattle.uni_model.proofs.Chains.{cells_from-enough}
-use Rattle.uni_core.specs.Shared.{name_of, memory_of}
+use Rattle.uni_model.proofs.Ranges.{sum_below-bound}
+use Rattle.uni_model.specs.Indices.{name_of}
+use Rattle.uni_core.specs.Shared.{memory_of}
 use Rattle.uni_core.specs.Whole.{Whole, world_of}
-use Rattle.uni_core.proofs.Steppable.{sum_below-bound}
 
 -- from a cell the last one is found within so many steps
 abbrev pub LeadsToLast : {S I R : Type 0} → (w : WorldOf S I R) → (x : Name) → (rest : ℕ) → Type 0

@@ -7,8 +7,10 @@ use Rattle.uni_model.specs.Places.Name.{Of}
 use Rattle.uni_model.specs.Places.Place.{Announced, HeadOf, InvOf, SeqOf, AfterOf, NewOf, BeforeOf}
 use Rattle.uni_model.specs.Places.Content.{CellName, Invocation, Number, Link, Settled}
 use Rattle.uni_model.proofs.Written.{name_cases, number_cases}
-use Rattle.uni_core.specs.Shared.{name_of, cell_named, entry_name, memory_at}
-use Rattle.uni_core.proofs.Named.{cell_named-name_of, changed_named, name_of-index_of}
+use Rattle.uni_model.specs.Indices.{name_of}
+use Rattle.uni_core.specs.Shared.{cell_named, entry_name, memory_at}
+use Rattle.uni_model.proofs.Indices.{name_of-index_of}
+use Rattle.uni_core.proofs.Named.{cell_named-name_of, changed_named}
 use Rattle.cell_arena.proofs.Lists.{slice_get-set_same, slice_get-set_other}
 
 -- one field of one cell changes, by f; the cell is there

@@ -10,7 +10,7 @@ use Rattle.uni_core.specs.declared.stage.StepKind.{StepKind}
 use Rattle.uni_core.specs.declared.stage.StepKind.TheVariants as kinds
 use Rattle.uni_core.specs.declared.stage.Place.{Place as PlaceById}
 use Rattle.uni_core.specs.declared.stage.Place.TheVariants as by_id
-use Rattle.uni_core.specs.Shared.{name_of}
+use Rattle.uni_model.specs.Indices.{name_of}
 
 -- the call that a cell was made for; nothing of the anchor
 abbrev pub call_of_name : Name → Option CallId

@@ -5,6 +5,7 @@ use Rattle.cell_arena.specs.CellRecord.{CellRecord, index_of}
 use Rattle.cell_arena.specs.Arena.{Arena, processes_of, made_of, cell_of}
 use Rattle.uni_model.specs.Places.{Name, Memory}
 use Rattle.uni_model.specs.Places.Name.{Anchor, Of}
+use Rattle.uni_model.specs.Indices.{name_of}
 use Rattle.uni_model.specs.Places.Place.{Announced, HeadOf, InvOf, SeqOf, AfterOf, NewOf, BeforeOf}
 use Rattle.uni_model.specs.Places.Content.{CellName, Invocation, Number, Link, Settled}
 
@@ -13,11 +14,6 @@ pub record Shared (S I R : Type 0) : Type 0 where
   pub cells : Arena S I R
   pub announce : List ℕ
   pub heads : List ℕ
-
--- the name of the cell at an index, among n processes
-abbrev pub name_of : (n index : ℕ) → Name
-name_of n zero = Anchor
-name_of n (suc i) = Of (i % n) (i / n)
 
 -- the cell of a name, of the cells that stand at indices
 abbrev pub cell_named : {S I R : Type 0} → (n : ℕ) → (ℕ → Option (CellRecord S I R)) → Name → Option (CellRecord S I R)

@@ -12,7 +12,8 @@ use Rattle.uni_core.specs.declared.stage.Stage.TheVariants.{Announce, ScanHead, 
 use Rattle.uni_core.specs.declared.stage.Pending.{Pending}
 use Rattle.uni_core.specs.declared.transition.After.{After}
 use Rattle.uni_core.specs.declared.transition.After.TheVariants.{At, Ended}
-use Rattle.uni_core.specs.Shared.{Shared, name_of, memory_of, HasShapeOf}
+use Rattle.uni_model.specs.Indices.{name_of}
+use Rattle.uni_core.specs.Shared.{Shared, memory_of, HasShapeOf}
 
 -- the stage, with names for indices
 abbrev pub stage_of : (n : ℕ) → Stage → at

@@ -11,7 +11,8 @@ ghost use Rattle.uni_model.specs.Places.Name.{Of};
 ghost use Rattle.uni_model.specs.Chain.{response_in};
 ghost use Rattle.uni_model.specs.Transition.{decision};
 ghost use Rattle.uni_model.specs.Worlds.{anchor_memory};
-ghost use Rattle.uni_core.specs.Shared.{name_of, memory_of, HasShapeOf};
+ghost use Rattle.uni_model.specs.Indices.{name_of};
+ghost use Rattle.uni_core.specs.Shared.{memory_of, HasShapeOf};
 
 use cell_arena::{CellId, Cells, ColumnCells};
 use consensus_cell::Own;

@@ -2,7 +2,7 @@
 
 ghost use Rattle.std.specs.Prelude.{◌≡◌, ◌<◌, ℕ};
 ghost use Rattle.uni_model.specs.Transition.{place_of};
-ghost use Rattle.uni_core.specs.Shared.{name_of};
+ghost use Rattle.uni_model.specs.Indices.{name_of};
 
 use cell_arena::CellId;
 

@@ -8,7 +8,8 @@ ghost use Rattle.uni_model.specs.Places.Place.{NewOf};
 ghost use Rattle.uni_model.specs.Places.Content.{Settled};
 ghost use Rattle.uni_model.specs.Stages.{Stage as at};
 ghost use Rattle.uni_model.specs.Transition.{stage_after_scan, decision, value_after};
-ghost use Rattle.uni_core.specs.Shared.{name_of, memory_of, HasShapeOf};
+ghost use Rattle.uni_model.specs.Indices.{name_of};
+ghost use Rattle.uni_core.specs.Shared.{memory_of, HasShapeOf};
 ghost use Rattle.uni_core.specs.Standing.{stage_of, stage_told, response_told, Takes, CanStep, MayBeRefused};
 
 use crate::fault::Progress;

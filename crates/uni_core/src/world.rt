@@ -14,7 +14,7 @@ ghost use Rattle.uni_model.specs.Worlds.{opened_world, world_after, calls_in_era
 ghost use Rattle.uni_model.specs.Worlds.Event.{Call, Step};
 ghost use Rattle.uni_model.specs.Settled.{SeesSettled};
 ghost use Rattle.uni_model.specs.Transition.{place_of};
-ghost use Rattle.uni_core.specs.Shared.{name_of};
+ghost use Rattle.uni_model.specs.Indices.{name_of};
 ghost use Rattle.uni_core.specs.Standing.{pending_of};
 ghost use Rattle.uni_core.specs.Readers.{call_of_name, kind_of, place_named};
 ghost use Rattle.uni_core.specs.Whole.{world_of, current_of, TakesEffect, IsIdle, IsStepFault, IsProgress, GoesOn, KeepsFixed, MayNeedMemory};

@@ -1,6 +1,6 @@
 use Rattle.std.proofs.Common.{◌∙◌, sym, ap, subst, IsSome}
 use Rattle.std.specs.Option.{option_copied}
-use Rattle.uni_core.specs.Shared.{name_of}
+use Rattle.uni_model.specs.Indices.{name_of}
 use Rattle.cell_arena.specs.Arena.{processes_of}
 use Rattle.uni_core.proofs.Transitions.{settled_kept, applied_there, copied_some, proposed_same}
 use Rattle.uni_core.proofs.transition.Machine.settle_new.Goals as goal

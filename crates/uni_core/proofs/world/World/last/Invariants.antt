@@ -1,6 +1,6 @@
 use Rattle.std.proofs.Common.{◌≡◌, ◌+◌, ◌*◌, ℕ, IsSome}
 use Rattle.cell_arena.specs.Arena.{cell_of}
-use Rattle.uni_core.specs.Shared.{name_of}
+use Rattle.uni_model.specs.Indices.{name_of}
 use Rattle.uni_core.specs.Whole.{world_of}
 use Rattle.uni_core.proofs.Walk.{LeadsToLast}
 use Rattle.uni_core.proofs.world.World.last.Given as goal
