@@ -6,8 +6,8 @@ use Rattle.uni_model.specs.Places.Name.{Anchor}
 use Rattle.uni_model.specs.Chain.{cells_from, Entry, entries_from}
 use Rattle.uni_model.specs.Stages.{Pending}
 use Rattle.uni_model.specs.Transition.{place_of}
-use Rattle.uni_model.specs.Worlds.{WorldOf, Event, opened_world, anchor_memory, calls_begun, world_after, world_after_all, world_after_step, IsAccepted, AreAccepted}
-use Rattle.uni_model.specs.Worlds.Event.{Call, Step, Trim}
+use Rattle.uni_model.specs.Worlds.{WorldOf, Event, opened_world, anchor_memory, era_calls, world_after, world_after_all, world_after_step, IsAccepted, AreAccepted}
+use Rattle.uni_model.specs.Worlds.Event.{Call, Step, Trim, Reshape}
 use Rattle.uni_model.specs.AtomicObject.{Atomic, Act, AcceptsAll, at_start}
 use Rattle.uni_model.specs.History.{Shows, history_of, acts_of}
 use Rattle.uni_model.specs.Growth.{EndsNoEra, EndNoEra}
@@ -70,6 +70,7 @@ module _ {S I R : Type 0} (object : Sequential S I R) where
     by_call None is some = absurd (let e : false ≡ true = some in cc)
     by_call (Some call) is some = step_accepted object w inv.0 inv.1 inv.2 p call.mine a shows call.stage is
   accepts w Trim inv ok other a shows = absurd other
+  accepts w (Reshape n) inv ok other a shows = absurd other
 
   pub Simulates-holds : (w : WorldOf S I R) (e : Event I) → Simulates object w e
   Simulates-holds w e reached ok other a shows = accepts w e (Invariant-reached w reached) ok other a shows
@@ -91,6 +92,7 @@ module _ {S I R : Type 0} (object : Sequential S I R) where
       let rest = accepts_run (world_after object w (Step p)) es (Invariant-world_after object w (Step p) ok.0 inv) ok.1 none.1 first.0 first.1 in
       (rest.0, rest.1, AcceptsAll-append a first.0 rest.0 (acts_of object w (Step p)) _ first.2 rest.2)
   accepts_run w (Trim ∷ es) inv ok none a shows = absurd none.0
+  accepts_run w (Reshape n ∷ es) inv ok none a shows = absurd none.0
 
   none_linked : (start : S) (number most : ℕ) → cells_from {S = S} {I = I} {R = R} most (anchor_memory start number) Anchor ≡ []
   none_linked start number zero = refl
@@ -99,4 +101,4 @@ module _ {S I R : Type 0} (object : Sequential S I R) where
   pub IsLinearizable-holds : (n : ℕ) (start : S) (number : ℕ) (events : List (Event I)) → IsLinearizable object n start number events
   IsLinearizable-holds n start number events positive ok none =
       accepts_run (opened_world n start number) events (Invariant-opened_world object n start number positive) ok none (at_start start)
-      (record { start = refl; agreed = ap (λ xs. map (λ (e : Entry I R). e.call) (entries_from (anchor_memory start number) (number + 1) xs)) (none_linked start number (calls_begun (opened_world {S = S} {I = I} {R = R} n start number))); open_call = λ p. refl; next_nth = λ p. refl })
+      (record { start = refl; agreed = ap (λ xs. map (λ (e : Entry I R). e.call) (entries_from (anchor_memory start number) (number + 1) xs)) (none_linked start number (era_calls (opened_world {S = S} {I = I} {R = R} n start number))); open_call = λ p. refl; next_nth = λ p. refl })
