@@ -75,6 +75,7 @@ module _ {S I R : Type 0} (object : Sequential S I R) (s : S) (number : ℕ) (po
       linked = λ p k h. absurd (omega arith);
       begun = λ p k made. absurd (let e : None ≡ Some made.0 = made.1 in cc);
       first = λ p. omega arith;
+      made = λ p k since before. absurd (omega arith);
       process = λ p c e. absurd (let f = idle p in cc);
       mine = λ p c e. absurd (let f = idle p in cc);
       threaded = λ p k made. absurd (let e : None ≡ Some made.0 = made.1 in cc);

@@ -121,6 +121,15 @@ module _ {S I R : Type 0} (object : Sequential S I R) (w : WorldOf S I R) (num :
         | inr old ↦ let was = sound.calls.begun q k old in (was.0, was.1, (let less = was.2 in let more = begun_more q in omega arith))
       ];
       first = λ q. let since = sound.calls.first q in let more = begun_more q in omega arith;
+      made = λ q k since before. elim (set_at-cases w.begun p (w.begun p + 1) q) [
+        | inl here ↦ elim (cases_lt k (w.begun p)) [
+          | inl old ↦ Has-inv w.memory _ Grows-begun (Of q k) (sound.calls.made q k since (let same : w.begun q ≡ w.begun p = ap w.begun here.0 in omega arith))
+          | inr late ↦
+              let last : k ≡ w.begun p = (let less : k < set_at w.begun p (w.begun p + 1) q = before in let now : set_at w.begun p (w.begun p + 1) q ≡ w.begun p + 1 = here.1 in omega arith) in
+              (i, ap (inv_of (memory_with w.memory (InvOf (Of p (w.begun p))) (Invocation (Some i)))) (ap (λ r. Of r k) here.0 ∙ ap (Of p) last) ∙ own_inv)
+        ]
+        | inr other ↦ Has-inv w.memory _ Grows-begun (Of q k) (sound.calls.made q k since (let less : k < set_at w.begun p (w.begun p + 1) q = before in let now : set_at w.begun p (w.begun p + 1) q ≡ w.begun q = other.1 in omega arith))
+      ];
       process = λ q c e. elim (was_pending q c e) [ inl new ↦ subst (λ r. r < w.n) (sym new.0) inside | inr old ↦ sound.calls.process q c old.1 ];
       mine = λ q c e. elim (was_pending q c e) [
         | inl new ↦ (

@@ -35,3 +35,4 @@ pub mod Indices
 pub mod SamePlace
 pub mod Ranges
 pub mod SameLog
+pub mod AllLinked

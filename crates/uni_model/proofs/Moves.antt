@@ -112,6 +112,7 @@ module _ {S I R : Type 0} (object : Sequential S I R) (w : WorldOf S I R) (num :
     linked = λ q k linked. let was = moves.linked q k linked in (was.0, moves.inv (Of q k) ∙ was.1);
     begun = λ q k made. sound.calls.begun q k (has_inv (Of q k) made);
     first = sound.calls.first;
+    made = λ q k since before. let was = sound.calls.made q k since before in (was.0, moves.inv (Of q k) ∙ was.1);
     process = λ q c e. let was = was_pending q c e in sound.calls.process q was.0 was.1;
     mine = λ q c e.
         let was = was_pending q c e in
@@ -182,6 +183,7 @@ module _ {S I R : Type 0} (object : Sequential S I R) (w : WorldOf S I R) (num :
       linked = calls_later.linked;
       begun = calls_later.begun;
       first = calls_later.first;
+      made = calls_later.made;
       process = calls_later.process;
       mine = calls_later.mine;
       threaded = calls_later.threaded;

@@ -49,13 +49,14 @@ pub record LeadsBack {S I R : Type 0} (m : Memory S I R) : Type 0 where
 abbrev pub IsCellOf : {S I R : Type 0} → Memory S I R → ℕ → Name → Type 0
 IsCellOf m p x = (k : ℕ) × (x ≡ Of p k) × Has (inv_of m (Of p k))
 
--- The cells are those of calls that were begun in this era. Each is threaded, or its call is pending. The calls of one process are linked
+-- The cells are those of the calls that were begun in this era, each of which has one. Each is threaded, or its call is pending. The calls of one process are linked
 -- in their order.
 pub record AreCalls {S I R : Type 0} (w : WorldOf S I R) (num : Name → ℕ) : Type 0 where
   pub anchor : inv_of w.memory Anchor ≡ None
   pub linked : (p k : ℕ) → 1 ≤ num (Of p k) → Has (inv_of w.memory (Of p k))
   pub begun : (p k : ℕ) → Has (inv_of w.memory (Of p k)) → (p < w.n) × (w.first p ≤ k) × (k < w.begun p)
   pub first : (p : ℕ) → w.first p ≤ w.begun p
+  pub made : (p k : ℕ) → w.first p ≤ k → k < w.begun p → Has (inv_of w.memory (Of p k))
   pub process : (p : ℕ) (c : Pending) → w.call p ≡ Some c → p < w.n
   pub mine : (p : ℕ) (c : Pending) → w.call p ≡ Some c → (k : ℕ) × (c.mine ≡ Of p k) × (w.begun p ≡ k + 1) × Has (inv_of w.memory (Of p k))
   pub threaded : (p k : ℕ) → Has (inv_of w.memory (Of p k)) → (1 ≤ seq_of w.memory (Of p k)) ⊎ ((c : Pending) × (w.call p ≡ Some c) × (c.mine ≡ Of p k))

@@ -32,8 +32,8 @@ loop-next-preserved g c =
       some = omega arith;
       there = c.in-Some.ensures.there;
       rest = on.0;
-      along = subst (λ k. IsAlong (world_of c.self.inside.world.now) (name_of (world_of c.self.inside.world.now).n c.in-Some.next) k on.0) seq on.2;
-      whole = rw (c.in_ok-push-2.ensures.items, map-append) (walked-further _ c.loop-next.invariant.rest on.0 (name_of (world_of c.self.inside.world.now).n c.in-Some.next) on.1 c.loop-next.invariant.whole);
+      along = subst (λ k. IsAlong (world_of c.self.inside.world.now) (name_in (world_of c.self.inside.world.now) c.in-Some.next) k on.0) seq on.2;
+      whole = rw (c.in_ok-push-2.ensures.items, map-append) (walked-further _ c.loop-next.invariant.rest on.0 (name_in (world_of c.self.inside.world.now) c.in-Some.next) on.1 c.loop-next.invariant.whole);
     }
 
 pub returns : goal.returns

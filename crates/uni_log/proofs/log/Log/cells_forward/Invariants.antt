@@ -13,8 +13,8 @@ invariant-loop-next g l = record {
   some : 1 ≤ length l.forward.items;
   there : IsSome (cell_of l.world.shared.cells l.at);
   rest : List Name;
-  along : IsAlong (world_of l.world) (name_of (world_of l.world).n l.at) (length l.forward.items - 1 + seq_of (world_of l.world).memory Anchor) rest;
-  whole : map (name_of (world_of l.world).n) l.forward.items ++ rest ≡ Anchor ∷ chain (world_of l.world);
+  along : IsAlong (world_of l.world) (name_in (world_of l.world) l.at) (length l.forward.items - 1 + seq_of (world_of l.world).memory Anchor) rest;
+  whole : map (name_in (world_of l.world)) l.forward.items ++ rest ≡ Anchor ∷ chain (world_of l.world);
 }
 
 abbrev pub decreases-loop-next : goal.decreases-loop-next

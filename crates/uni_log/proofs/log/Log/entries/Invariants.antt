@@ -13,7 +13,7 @@ abbrev pub invariant-loop-next : goal.invariant-loop-next
 invariant-loop-next g l = record {
   there : IsSome (cell_of l.world.shared.cells l.at);
   rest : List Name;
-  along : IsAlong (world_of l.world) (name_of (world_of l.world).n l.at) l.seq rest;
+  along : IsAlong (world_of l.world) (name_in (world_of l.world) l.at) l.seq rest;
   whole : map entry_shown l.entries.items ++ entries_from (world_of l.world).memory (l.seq + 1) rest ≡ log (world_of l.world);
 }
 

@@ -33,7 +33,7 @@ loop-next-preserved g c =
     record {
       there = c.in-Some.ensures.there;
       rest = on.0;
-      along = subst (λ k. IsAlong (world_of c.self.inside.world.now) (name_of (world_of c.self.inside.world.now).n c.in-Some.next) k on.0) (omega arith) on.2;
+      along = subst (λ k. IsAlong (world_of c.self.inside.world.now) (name_in (world_of c.self.inside.world.now) c.in-Some.next) k on.0) (omega arith) on.2;
       whole = rw (on.1, ← c.is_cell_of.ensures, c.if-is_cell_of.false) at c.loop-next.invariant.whole;
     }
 

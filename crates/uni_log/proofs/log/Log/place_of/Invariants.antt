@@ -13,7 +13,7 @@ abbrev pub invariant-loop-next : goal.invariant-loop-next
 invariant-loop-next g l = record {
   there : IsSome (cell_of l.world.shared.cells l.at);
   rest : List Name;
-  along : IsAlong (world_of l.world) (name_of (world_of l.world).n l.at) (l.place + seq_of (world_of l.world).memory Anchor) rest;
+  along : IsAlong (world_of l.world) (name_in (world_of l.world) l.at) (l.place + seq_of (world_of l.world).memory Anchor) rest;
   whole : position_from (name_eq (Of l.call.process l.call.nth)) l.place rest ≡ position (name_eq (Of l.call.process l.call.nth)) (chain (world_of l.world));
 }
 

@@ -31,7 +31,7 @@ loop-preserved g c =
     record {
       there = c.in-Some.ensures.there;
       rest = on.0;
-      along = subst (λ k. IsAlong (world_of c.self.inside.world.now) (name_of (world_of c.self.inside.world.now).n c.in-Some.next) k on.0) (omega arith) on.2;
+      along = subst (λ k. IsAlong (world_of c.self.inside.world.now) (name_in (world_of c.self.inside.world.now) c.in-Some.next) k on.0) (omega arith) on.2;
       whole = place_further (Anchor ∷ chain (world_of c.self.inside.world.now)) c.loop.invariant.rest on.0 _ _ c.loop.counter c.loop.invariant.whole on.1;
     }
 
