@@ -1,7 +1,7 @@
 -- The shared places after each call of the arena and of the entries.
-use Rattle.std.proofs.Common.{◌≡◌, ◌∙◌, ℕ, ◌<◌, ◌≤◌, refl, sym, ap, subst, List, Option, Some, None, option_map, IsSome, arith, true, false, length, slice_get, slice_set, unwrap_or, replicate, zero, suc, inl, inr, ◌+◌, ◌-◌}
+use Rattle.std.proofs.Common.{◌≡◌, ◌∙◌, ℕ, ◌<◌, ◌≤◌, refl, sym, ap, subst, List, Option, Some, None, option_map, IsSome, arith, true, false, length, slice_get, slice_set, unwrap_or, replicate, zero, suc, inl, inr, ◌+◌, ◌-◌, IfSome}
 use Rattle.std.specs.Option.{option_map_or}
-use Rattle.cell_arena.specs.CellRecord.{CellRecord, index_of, ChangesOnly, with_seq, with_before, with_after, with_new, fresh, settled, anchor_with, HasOnlyAnchor}
+use Rattle.cell_arena.specs.CellRecord.{CellRecord, index_of, ChangesOnly, with_seq, with_before, with_after, with_new, fresh, settled, anchor_with, anchor_for, HasOnlyAnchor}
 use Rattle.cell_arena.specs.Arena.{Arena, processes_of, made_of, cell_of}
 use Rattle.uni_model.specs.Places.{Name, Place, Content, memory_with, after_of, new_of}
 use Rattle.uni_model.specs.Places.Name.{Anchor, Of}
@@ -11,7 +11,7 @@ use Rattle.uni_model.specs.Transition.{decision}
 use Rattle.uni_model.specs.Worlds.{anchor_memory}
 use Rattle.uni_model.proofs.Written.{number_cases, lt_cases}
 use Rattle.uni_model.specs.Indices.{name_from}
-use Rattle.uni_core.specs.Shared.{Shared, first_of, named, cell_named, memory_at, memory_of}
+use Rattle.uni_core.specs.Shared.{Shared, first_of, named, cell_named, memory_at, memory_of, IsRenewed}
 use Rattle.uni_core.proofs.Named.{cell_named-name_from}
 use Rattle.uni_core.proofs.Written.{memory_at-with_seq, memory_at-with_before, memory_at-with_after, memory_at-with_new, memory_at-made, memory_at-announce, memory_at-head}
 
@@ -126,3 +126,13 @@ module _ {S I R : Type 0} (n : ℕ) (first : ℕ → ℕ) (cell : ℕ → Option
     at_place (NewOf (Of p j)) = rw (no_cell p j) refl
     at_place (BeforeOf Anchor) = rw (alone 0) refl
     at_place (BeforeOf (Of p j)) = rw (no_cell p j) refl
+
+-- the anchor that stands for a cell
+pub memory_at-renewed : {S I R : Type 0} (n : ℕ) (first : ℕ → ℕ) (cell : ℕ → Option (CellRecord S I R)) (m k : ℕ) (last : Option (CellRecord S I R)) → HasOnlyAnchor cell (option_map anchor_for last)
+    → IsRenewed last (memory_at n first cell (replicate m 0) (replicate k 0))
+memory_at-renewed n first cell m k None alone = tt
+memory_at-renewed {S} {I} {R} n first cell m k (Some c) alone = by_new c.new refl where
+  by_new : (o : Option (S × Option R)) → c.new ≡ o → IfSome o (λ new. memory_at n first cell (replicate m 0) (replicate k 0) ≡ anchor_memory new.0 c.seq)
+  by_new None e = tt
+  by_new (Some new) e = memory_at-opened_world n first cell new.0 c.seq
+      (subst (λ o. HasOnlyAnchor cell (Some (let a : CellRecord S I R = record { inv = None; seq = c.seq; before = None; after = None; new = option_map (λ v. (v.0, None)) o } in a))) e alone) m k

@@ -1,10 +1,11 @@
 -- What the shared places of a world contain, read from its arena and its entries.
-use Rattle.std.specs.Prelude.{◌≡◌, ℕ, zero, suc, ◌/◌, ◌%◌, List, Option, None, if◌then◌else◌, nat_lt, option_map, slice_get, slice_index_or, ◌&&◌, ◌+◌, ◌-◌}
+use Rattle.std.specs.Prelude.{◌≡◌, ℕ, zero, suc, ◌/◌, ◌%◌, List, Option, None, if◌then◌else◌, nat_lt, option_map, slice_get, IfSome, slice_index_or, ◌&&◌, ◌+◌, ◌-◌}
 use Rattle.std.specs.Option.{option_map_or}
 use Rattle.cell_arena.specs.CellRecord.{CellRecord, index_of}
 use Rattle.cell_arena.specs.Arena.{Arena, processes_of, made_of, cell_of}
 use Rattle.uni_model.specs.Places.{Name, Memory}
 use Rattle.uni_model.specs.Places.Name.{Anchor, Of}
+use Rattle.uni_model.specs.Worlds.{anchor_memory}
 use Rattle.uni_model.specs.Indices.{name_from}
 use Rattle.uni_model.specs.Places.Place.{Announced, HeadOf, InvOf, SeqOf, AfterOf, NewOf, BeforeOf}
 use Rattle.uni_model.specs.Places.Content.{CellName, Invocation, Number, Link, Settled}
@@ -53,3 +54,7 @@ pub record HasShapeOf {S I R : Type 0} (old new : Shared S I R) : Type 0 where
   pub row : new.cells.row ≡ old.cells.row
   pub made : (p : ℕ) → made_of new.cells p ≡ made_of old.cells p
   pub first : new.first ≡ old.first
+
+-- the memory is the anchor alone, with the state and the number of a cell
+abbrev pub IsRenewed : {S I R : Type 0} → Option (CellRecord S I R) → Memory S I R → Type 0
+IsRenewed last m = IfSome last (λ c. IfSome c.new (λ new. m ≡ anchor_memory new.0 c.seq))

@@ -1,6 +1,6 @@
 //! The shared places: the cells, and the entries of announce and head.
 
-ghost use Rattle.std.specs.Prelude.{◌≡◌, ◌+◌, ◌-◌, ◌<◌, ◌≤◌, ◌⊎◌, ◌↔◌, ℕ, IfOk, OnOk, OnErr, IfErr, IsErrAnd, IsSome, Some, None, option_map, unwrap_or, replicate};
+ghost use Rattle.std.specs.Prelude.{◌≡◌, ◌+◌, ◌-◌, ◌<◌, ◌≤◌, ◌⊎◌, ◌↔◌, ℕ, IfOk, OnOk, OnErr, IfErr, IsErrAnd, IsSome, Some, None, IsSomeAnd, length, slice_index_or, option_map, unwrap_or, replicate};
 ghost use Rattle.std.specs.Option.{option_copied};
 ghost use Rattle.cell_arena.specs.CellRecord.{ChangesOnly, index_of};
 ghost use Rattle.cell_arena.specs.Arena.{processes_of, made_of, cell_of};
@@ -11,8 +11,10 @@ ghost use Rattle.uni_model.specs.Places.Name.{Of};
 ghost use Rattle.uni_model.specs.Chain.{response_in};
 ghost use Rattle.uni_model.specs.Transition.{decision};
 ghost use Rattle.uni_model.specs.Worlds.{anchor_memory};
-ghost use Rattle.uni_core.specs.Shared.{named, first_of, memory_of, HasShapeOf};
+ghost use Rattle.uni_core.specs.Shared.{named, first_of, memory_of, HasShapeOf, IsRenewed};
+ghost use Rattle.uni_core.specs.NewLocal.{new_local};
 
+use crate::local::Local;
 use cell_arena::{CellId, Cells, ColumnCells};
 use consensus_cell::Own;
 use std::alloc::{AllocError, Global};
@@ -40,6 +42,17 @@ impl<S, I, R> Model for Shared<S, I, R> {
     ghost view = { λ a. record { cells = a.cells; announce = a.announce.items; heads = a.heads.items; first = a.first.items } };
 
     ghost invariant = { λ a. (length a.announce.items ≡ processes_of a.cells) × (length a.heads.items ≡ processes_of a.cells) × (processes_of a.cells ≤ length a.first.items) };
+}
+
+/// The next call of each process becomes its first of an era.
+fn take_begun(first: &mut Vec<u64>, locals: &[Local])
+    requires { length first.old.items ≡ length locals.now }
+    ensures long { length first.new.items ≡ length first.old.items }
+    ensures first { (p : ℕ) → slice_index_or first.new.items p 0 ≡ (slice_index_or locals.now p new_local).begun }
+{
+    for p in 0..locals.len() {
+        first[p] = locals[p].begun;
+    }
 }
 
 impl<S: Drop, I: Drop, R: Copy> Shared<S, I, R> {
@@ -90,6 +103,57 @@ impl<S: Drop, I: Drop, R: Copy> Shared<S, I, R> {
         ensures { result ≡ first_of self.now p }
     {
         self.first[p as usize]
+    }
+
+    /// Ends the era: leaves one cell, the anchor, with the state and the number of `last`. Every entry
+    /// names it, and the next call of each process is its first of the era.
+    ///
+    /// `last` has to be threaded, that is its number isn't 0, and its state settled.
+    pub(crate) fn renew(&mut self, last: CellId, locals: &[Local])
+        requires last { IsSomeAnd (cell_of self.old.cells last) (λ c. (0 < c.seq) × IsSome c.new) }
+        requires locals { length self.old.first ≡ length locals.now }
+        ensures memory { IsRenewed (cell_of self.old.cells last) (memory_of self.new) }
+        ensures first { (p : ℕ) → first_of self.new p ≡ (slice_index_or locals.now p new_local).begun }
+        ensures long { length self.new.first ≡ length locals.now }
+        ensures shape { (processes_of self.new.cells ≡ processes_of self.old.cells) × (self.new.cells.row ≡ self.old.cells.row) }
+        ensures made { (p : ℕ) → made_of self.new.cells p ≡ 0 }
+    {
+        let entry = Own::new(CellId::anchor());
+        take_begun(&mut self.first, locals);
+        self.cells.clear_to(last);
+        self.announce.fill(entry);
+        self.heads.fill(entry);
+    }
+
+    /// What `renew` does, for `m` processes, 1 to 64. An `Err` says that memory was refused: nothing
+    /// is changed then.
+    pub(crate) fn renew_for(
+        &mut self,
+        alloc: Global,
+        last: CellId,
+        locals: &[Local],
+        m: u64,
+    ) -> Result<(), AllocError>
+        requires last { IsSomeAnd (cell_of self.old.cells last) (λ c. (0 < c.seq) × IsSome c.new) }
+        requires processes { (1 ≤ m) × (m ≤ 64) }
+        requires locals { m ≤ length locals.now }
+        ensures memory { OnOk result (IsRenewed (cell_of self.old.cells last) (memory_of self.new)) }
+        ensures first { OnOk result ((p : ℕ) → first_of self.new p ≡ (slice_index_or locals.now p new_local).begun) }
+        ensures long { OnOk result (length self.new.first ≡ length locals.now) }
+        ensures shape { OnOk result ((processes_of self.new.cells ≡ m) × (self.new.cells.row ≡ self.old.cells.row)) }
+        ensures made { OnOk result ((p : ℕ) → made_of self.new.cells p ≡ 0) }
+        ensures unchanged { OnErr result (self.new ≡ self.old) }
+    {
+        let entry = Own::new(CellId::anchor());
+        let announce = vec![in alloc; entry; m as usize]?;
+        let heads = vec![in alloc; entry; m as usize]?;
+        let mut first = vec![in alloc; 0; locals.len()]?;
+        self.cells.clear_for(alloc, last, m)?;
+        take_begun(&mut first, locals);
+        self.announce = announce;
+        self.heads = heads;
+        self.first = first;
+        Ok(())
     }
 
     /// How many cells process `p` can still make in this era.

@@ -463,3 +463,26 @@ fn a_run_finishes_where_another_stopped_at_a_settled_value(rt: HostRuntime) -> R
     );
     Ok(())
 }
+
+/// A thousand times a call of the one process, and the end of its era.
+#[test]
+fn a_thousand_eras_of_one_call(rt: HostRuntime) -> Result<(), Fail> {
+    let mut world = World::open(rt.alloc(), SwapRegister { start: 7 }, 1, 1).map_err(|_| Fail::from(
+        "no world was opened",
+    ))?;
+    for round in 0..1000 {
+        assert_eq!(rt;
+            world.begin(rt.alloc(), 0, &(round as u32)),
+            Ok(CallId {
+                process: 0,
+                nth: round
+            })
+        );
+        let before = if round == 0 { 7 } else { round as u32 - 1 };
+        assert_eq!(rt; finishes(rt.alloc(), &mut world, 0)?, before);
+        assert_eq!(rt; world.begin(rt.alloc(), 0, &0), Err(BeginFault::RowFull(0)));
+        world.renew();
+    }
+    assert_eq!(rt; (world.seq(CellId::anchor()), begun(&world, 0)), (1001, Some(1000)));
+    Ok(())
+}

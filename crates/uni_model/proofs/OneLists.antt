@@ -41,7 +41,7 @@ module _ {S I R : Type 0} (object : Sequential S I R) (w : WorldOf S I R) (num :
   length-chain = length-cells_from w.memory num last sound.numbered (era_calls w) Anchor sound.numbered.first (enough object w num last sound)
 
   -- the last cell has the last number
-  number-last_of : (most : ℕ) (x : Name) → 1 ≤ num x → last ≤ num x + most → num (last_of x (cells_from most w.memory x)) ≡ last
+  pub number-last_of : (most : ℕ) (x : Name) → 1 ≤ num x → last ≤ num x + most → num (last_of x (cells_from most w.memory x)) ≡ last
   number-last_of zero x linked bound = let top : num x ≤ last = sound.numbered.greatest x in omega arith
   number-last_of (suc most) x linked bound = by_after (λ y h b. number-last_of most y h b) (after_of w.memory x) refl where
     by_after : ((y : Name) → 1 ≤ num y → last ≤ num y + most → num (last_of y (cells_from most w.memory y)) ≡ last) → (o : Option Name) → after_of w.memory x ≡ o
