@@ -1,4 +1,5 @@
 pub mod Written
+pub mod Drawing
 pub mod Stepping
 pub mod Results
 pub mod Cutting

@@ -2,6 +2,7 @@ pub mod Ends
 pub mod Script
 pub mod Answers
 pub mod Objects
+pub mod Schedules
 pub mod Meaning
 pub mod Reading
 pub mod Summaries

@@ -12,6 +12,7 @@ mod grammar;
 mod laws;
 mod objects;
 mod replay;
+mod schedules;
 mod script;
 mod summary;
 #[cfg(test)]
@@ -19,6 +20,8 @@ mod tests;
 
 pub use ends::{Checked, Failed, TextIn, TextOut, write_all};
 pub use fault::{BenchFault, push_fault};
+pub use grammar::ObjectName;
 pub use laws::finish_returns;
 pub use replay::{Options, bench};
+pub use schedules::{Drawn, Plan, schedule};
 pub use summary::Summary;

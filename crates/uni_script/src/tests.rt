@@ -1,9 +1,11 @@
 //! Tests of the bench over memory, and of objects that processes share through a world.
 
 use crate::{
-    BenchFault, Checked, Failed, Options, Summary, TextIn, TextOut, bench, finish_returns,
-    push_fault, write_all,
+    BenchFault, Checked, Drawn, Failed, ObjectName, Options, Plan, Summary, TextIn, TextOut, bench,
+    finish_returns, push_fault, schedule, write_all,
 };
+use rand_xoshiro::Xoshiro256PlusPlus;
+use rand_xoshiro::rand_core::SeedableRng;
 use ready_objects::{Amount, QueueObject, StickyInv, StickyObject, StickyResp};
 use seq_object::CallId;
 use std::alloc::Global;
@@ -358,5 +360,156 @@ fn three_processes_share_the_first_proposal(rt: HostRuntime) -> Result<(), Fail>
         reply: Some(StickyResp::Settled(five)),
     });
     assert_eq!(rt; entries.as_slice(), want.as_slice());
+    Ok(())
+}
+
+/// A source of the words of a list, and then of zeros.
+#[derive(Drop)]
+struct Listed<'a> {
+    words: &'a [u64],
+}
+
+impl Drawn for Listed<'_> {
+    ghost use Rattle.uni_script.specs.Schedules.{listed};
+
+    ghost word = { λ source. listed source.words.now };
+
+    fn draw(&mut self) -> u64 {
+        match self.words {
+            [] => 0,
+            [first, rest @ ..] => {
+                self.words = rest;
+                *first
+            }
+        }
+    }
+}
+
+#[test]
+fn four_words_make_three_events(rt: HostRuntime) {
+    let plan = Plan {
+        object: ObjectName::Queue,
+        processes: 2,
+        row: 8,
+        events: 3,
+    };
+    let words = [33, 22, 20, 16, 5];
+    let mut source = Listed {
+        words: words.as_slice(),
+    };
+    let mut text = Vec::new(rt.alloc());
+    let mut writer = Checked::new(&mut text);
+    let outcome = schedule(rt.alloc(), &mut source, &mut writer, &plan);
+    assert_eq!(rt; outcome, Ok(()));
+    assert_eq!(rt;
+        text.as_slice(),
+        b"universal 1 queue 2 8\ncall 0 enq 7\nstep 1\ntrim\nfinish 0\nfinish 1\nlog\n".as_slice()
+    );
+    // The fifth word was not drawn.
+    assert_eq!(rt; source.draw(), 5);
+
+    let mut room = [0; 4];
+    let mut writer = Checked::new(room.as_mut_slice());
+    let outcome = schedule(
+        rt.alloc(),
+        &mut Listed {
+            words: words.as_slice(),
+        },
+        &mut writer,
+        &plan,
+    );
+    assert_eq!(rt; outcome, Err(BenchFault::Write));
+    assert!(rt; writer.failed());
+    assert_eq!(rt; room, *b"univ");
+}
+
+#[test]
+fn headers_of_schedules(rt: HostRuntime) {
+    let rows = [
+        (
+            ObjectName::Directory,
+            1,
+            4096,
+            "universal 1 directory 1 4096\n",
+        ),
+        (ObjectName::Book, 16, 1, "universal 1 book 16 1\n"),
+        (ObjectName::Sticky, 17, 2, "universal 2 sticky 17 2\n"),
+        (ObjectName::Queue, 64, 2, "universal 2 queue 64 2\n"),
+    ];
+    for (object, processes, row, want) in rows {
+        let plan = Plan {
+            object,
+            processes,
+            row,
+            events: 1,
+        };
+        let mut text = Vec::new(rt.alloc());
+        let outcome = schedule(
+            rt.alloc(),
+            &mut Listed { words: &[] },
+            &mut Checked::new(&mut text),
+            &plan,
+        );
+        assert_eq!(rt; outcome, Ok(()));
+        assert!(rt; text.starts_with(want.as_bytes()), "{want}");
+    }
+}
+
+#[test]
+fn words_of_xoshiro(rt: HostRuntime) {
+    let mut source = Xoshiro256PlusPlus::seed_from_u64(1);
+    for word in [
+        14_971_601_782_005_023_387,
+        13_781_649_495_232_077_965,
+        1_847_458_086_238_483_744,
+        13_765_271_635_752_736_470,
+        3_406_718_355_780_431_780,
+    ] {
+        assert_eq!(rt; source.draw(), word);
+    }
+}
+
+#[test]
+fn schedules_are_scripts(rt: HostRuntime) -> Result<(), Fail> {
+    for object in [
+        ObjectName::Queue,
+        ObjectName::Directory,
+        ObjectName::Book,
+        ObjectName::Sticky,
+    ] {
+        for processes in [1, 2, 3, 16] {
+            let plan = Plan {
+                object,
+                processes,
+                row: 64,
+                events: 1000,
+            };
+            let mut drawn = Vec::new(rt.alloc());
+            let outcome = schedule(
+                rt.alloc(),
+                &mut Xoshiro256PlusPlus::seed_from_u64(1),
+                &mut Checked::new(&mut drawn),
+                &plan,
+            );
+            assert_eq!(rt; outcome, Ok(()));
+            // The bench has no command `trim` yet.
+            let mut script = Vec::new(rt.alloc());
+            for line in drawn.as_slice().split(|byte| *byte == b'\n') {
+                if line != b"trim".as_slice() && !line.is_empty() {
+                    script.extend_from_slice(line)?;
+                    script.push(b'\n')?;
+                }
+            }
+            let mut text = Vec::new(rt.alloc());
+            let ended = bench(
+                rt.alloc(),
+                &mut Checked::new(script.as_slice()),
+                &mut Checked::new(&mut text),
+                &Options {},
+            );
+            assert!(rt; ended.is_ok(), "{object} {processes}");
+            assert!(rt; text.ends_with(b"\nend\n"), "{object} {processes}");
+        }
+    }
     Ok(())
 }
