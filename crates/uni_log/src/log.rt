@@ -9,7 +9,7 @@ ghost use Rattle.uni_model.specs.Places.Name.{Anchor, Of};
 ghost use Rattle.uni_model.specs.Worlds.{chain};
 ghost use Rattle.uni_model.specs.Chain.{invoked_at, response_in};
 ghost use Rattle.uni_model.specs.History.{log, invocations_of};
-ghost use Rattle.uni_core.specs.Whole.{world_of};
+ghost use Rattle.uni_core.specs.Whole.{world_of, name_in};
 ghost use Rattle.uni_log.specs.Shown.{entry_shown, call_shown};
 ghost use Rattle.uni_log.specs.States.{state_settled_at};
 

@@ -7,7 +7,7 @@ use Rattle.uni_model.specs.Places.{Name, Memory, inv_of, seq_of, after_of}
 use Rattle.uni_model.specs.Places.Name.{Anchor, Of}
 use Rattle.uni_model.specs.Chain.{cells_from, entries_from, invoked_at, response_in}
 use Rattle.uni_model.specs.History.{logged_call}
-use Rattle.uni_model.specs.Worlds.{WorldOf, calls_begun}
+use Rattle.uni_model.specs.Worlds.{WorldOf, calls_in_era, era_calls}
 use Rattle.uni_model.specs.Invariant.{IsNumbered, IsSound}
 use Rattle.uni_model.proofs.Chains.{cells_from-same, number_at}
 use Rattle.uni_model.proofs.Logged.{legal_from, settled_from}
@@ -36,7 +36,7 @@ module _ (object : Sequential ℕ ℕ ℕ) (row : ℕ) (w : WorldOf ℕ ℕ ℕ)
   few : is.sound.1 ≤ w.n * row + 1
   few =
       let all = enough object w is.sound.0 is.sound.1 sound in
-      let each : calls_begun w ≤ w.n * row = sum_below-bound w.n row w.begun is.room in
+      let each : era_calls w ≤ w.n * row = sum_below-bound w.n row (calls_in_era w) (λ q. let few = is.room q in omega arith) in
       let anchor = first_number in
       omega arith
 
@@ -57,7 +57,7 @@ module _ (object : Sequential ℕ ℕ ℕ) (row : ℕ) (w : WorldOf ℕ ℕ ℕ)
   }
 
   begun_in_table : (p k : ℕ) → 1 ≤ num (Of p k) → (p < w.n) × (k < w.begun p)
-  begun_in_table p k linked = sound.calls.begun p k (sound.calls.linked p k linked)
+  begun_in_table p k linked = let its = sound.calls.begun p k (sound.calls.linked p k linked) in (its.0, its.2)
 
   pub shows_chain : IsChained w.n row s.words
   shows_chain = record {
