@@ -66,8 +66,8 @@ module _ {S I R : Type 0} (object : Sequential S I R) where
     by_new None = counts
     by_new (Some new) = λ p. subst (λ o. IsCounted n o (w.begun p) (w.among p) (w.steps p) (w.turns p)) (sym (idle p))
         (subst (λ o. IsCounted w.n o (w.begun p) (w.among p) (w.steps p) (w.turns p)) (idle p) (counts p)) where
-      idle : (p : ℕ) → w.call p ≡ None
-      idle = idle_when_quiescent object w inv.0 inv.1 inv.2 quiet
+          idle : (p : ℕ) → w.call p ≡ None
+          idle = idle_when_quiescent object w inv.0 inv.1 inv.2 quiet
 
   pub CountsSteps-world_after : (w : WorldOf S I R) (e : Event I) → IsAccepted w e → Invariant object w → CountsSteps w → CountsSteps (world_after object w e)
   CountsSteps-world_after w (Call p i) ok inv counts = CountsSteps-begun w p i counts

@@ -48,7 +48,7 @@ module _ {S I R : Type 0} (m : Memory S I R) where
 
 module _ {S I R : Type 0} (object : Sequential S I R) (w : WorldOf S I R) (num : Name → ℕ) (last : ℕ) (sound : IsSound object w num last) where
   -- each cell of the chain is that of a call
-  all_invoked : (most : ℕ) (x : Name) → 1 ≤ num x → AllByRecursion (λ y. Has (invoked_at w.memory y)) (cells_from most w.memory x)
+  pub all_invoked : (most : ℕ) (x : Name) → 1 ≤ num x → AllByRecursion (λ y. Has (invoked_at w.memory y)) (cells_from most w.memory x)
   all_invoked zero x linked = tt
   all_invoked (suc most) x linked = by_after (λ y h. all_invoked most y h) (after_of w.memory x) refl where
     by_after : ((y : Name) → 1 ≤ num y → AllByRecursion (λ z. Has (invoked_at w.memory z)) (cells_from most w.memory y)) → (o : Option Name) → after_of w.memory x ≡ o

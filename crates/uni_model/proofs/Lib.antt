@@ -36,3 +36,7 @@ pub mod SamePlace
 pub mod Ranges
 pub mod SameLog
 pub mod AllLinked
+pub mod Appended
+pub mod Behind
+pub mod Ended
+pub mod Linearized

@@ -7,7 +7,7 @@ use Rattle.uni_model.specs.Places.{Name, Memory, seq_of, new_of}
 use Rattle.uni_model.specs.Places.Name.{Anchor}
 use Rattle.uni_model.specs.Stages.{Pending}
 use Rattle.uni_model.specs.Chain.{Invoked, Entry, entries_from, invoked_at}
-use Rattle.uni_model.specs.Worlds.{WorldOf, Event, chain, effect_in, world_after}
+use Rattle.uni_model.specs.Worlds.{WorldOf, Event, chain, effect_in, world_after, world_after_all}
 use Rattle.uni_model.specs.Worlds.Event.{Call, Step, Trim, Reshape}
 use Rattle.uni_model.specs.AtomicObject.{Atomic, Open, Act}
 use Rattle.uni_model.specs.AtomicObject.Act.{Invoke, Linearize, Respond}
@@ -65,3 +65,11 @@ acts_of object w (Reshape n) = []
 abbrev pub history_of : {S I R : Type 0} → Sequential S I R → WorldOf S I R → List (Event I) → List (Act I R)
 history_of object w [] = []
 history_of object w (e ∷ es) = acts_of object w e ++ history_of object (world_after object w e) es
+
+-- A run from w shows this atomic object, from a state on: its calls are those of all eras, and its open calls and next numbers
+-- are those of the last world.
+pub record RunShows {S I R : Type 0} (object : Sequential S I R) (s : S) (w : WorldOf S I R) (events : List (Event I)) (a : Atomic S I) : Type 0 where
+  pub start : a.start ≡ s
+  pub agreed : map (λ e. e.call) (log_of_run object w events) ≡ a.agreed
+  pub open_call : (p : ℕ) → open_at (world_after_all object w events).memory ((world_after_all object w events).call p) ≡ a.open_call p
+  pub next_nth : (p : ℕ) → (world_after_all object w events).begun p ≡ a.next_nth p

@@ -96,8 +96,9 @@ pub fn simulates<O: SeqObject>()
 {}
 
 /// The construction is linearizable: for every number of processes and every list of accepted
-/// events without a trim, calls and replies are those of an atomic object that places each call
-/// once between its start and its reply (Herlihy and Wing 1990).
+/// events, whichever eras end in it, calls and replies are those of an atomic object that places
+/// each call once between its start and its reply, in the order of the joined log (Herlihy and Wing
+/// 1990).
 pub fn is_linearizable<O: SeqObject>()
     ensures { (object : O) (n : ℕ) (start : O.State) (number : ℕ) (events : List (Event O.Inv)) →
         IsLinearizable (O.sequential object) n start number events }
