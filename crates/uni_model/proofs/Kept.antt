@@ -53,7 +53,7 @@ module _ {S I R : Type 0} (object : Sequential S I R) where
         by_after rest (Some y) e = rest y (let link = (numbered.link x y e).1 in omega arith)
 
   -- where no call is pending, the cells of the chain are threaded
-  threaded_when_quiescent : (w : WorldOf S I R) (num : Name → ℕ) (last : ℕ) → IsSound object w num last → IsQuiescent w → (x : Name) → 1 ≤ num x → 1 ≤ seq_of w.memory x
+  pub threaded_when_quiescent : (w : WorldOf S I R) (num : Name → ℕ) (last : ℕ) → IsSound object w num last → IsQuiescent w → (x : Name) → 1 ≤ num x → 1 ≤ seq_of w.memory x
   threaded_when_quiescent w num last sound quiet Anchor h = subst (λ t. 1 ≤ t) sound.numbered.anchor h
   threaded_when_quiescent w num last sound quiet (Of p k) h = elim (sound.calls.threaded p k (sound.calls.linked p k h)) [
     | inl threaded ↦ threaded

@@ -39,4 +39,8 @@ pub mod AllLinked
 pub mod Appended
 pub mod Behind
 pub mod Ended
+pub mod Eras
 pub mod Linearized
+pub mod Fronts
+pub mod Joined
+pub mod Ordered

@@ -1,14 +1,13 @@
 -- Every run is what an atomic object does, whichever eras end in it.
-use Rattle.std.proofs.Common.{◌≡◌, ◌∙◌, ℕ, zero, suc, ◌+◌, ◌<◌, ◌≤◌, inl, inr, refl, sym, ap, subst, List, [], ◌∷◌, ◌++◌, map, length, Option, Some, None, Contains, arith}
+use Rattle.std.proofs.Common.{◌≡◌, ◌∙◌, ℕ, zero, suc, ◌+◌, ◌<◌, ◌≤◌, inl, inr, refl, sym, ap, subst, List, [], ◌∷◌, ◌++◌, map, length, Some, None, Contains, arith}
 use Rattle.std.proofs.lemmas.List.{append_assoc, append-nil, map-append}
 use Rattle.std.proofs.lemmas.List.Elements.{All-contains, All-from_recursion, Contains-append_cases}
 use Rattle.seq_object.specs.Sequential.{Sequential}
 use Rattle.seq_object.specs.History.{state_after}
 use Rattle.uni_model.specs.Places.{Name, Memory, seq_of}
 use Rattle.uni_model.specs.Places.Name.{Anchor, Of}
-use Rattle.uni_model.specs.Stages.{Pending}
 use Rattle.uni_model.specs.Chain.{Invoked, Entry, cells_from}
-use Rattle.uni_model.specs.Worlds.{WorldOf, Event, IsQuiescent, anchor_memory, chain, era_calls, opened_world, world_after, world_after_step, world_after_era, world_after_all, AreAccepted}
+use Rattle.uni_model.specs.Worlds.{WorldOf, Event, IsQuiescent, anchor_memory, chain, era_calls, opened_world, world_after, world_after_era, world_after_all, AreAccepted}
 use Rattle.uni_model.specs.Worlds.Event.{Call, Step, Trim, Reshape}
 use Rattle.uni_model.specs.AtomicObject.{Atomic, AcceptsAll, at_start}
 use Rattle.uni_model.specs.History.{Shows, open_at, log, log_of_run, calls_of, invocations_of, history_of, acts_of}
@@ -20,6 +19,7 @@ use Rattle.uni_model.proofs.Kept.{Invariant-opened_world, Invariant-world_after,
 use Rattle.uni_model.proofs.LawProofs.{accepts, AcceptsAll-append}
 use Rattle.uni_model.proofs.Behind.{behind, IsBehind, AcceptsAll-behind}
 use Rattle.uni_model.proofs.Ended.{world_after_era-quiet}
+use Rattle.uni_model.proofs.Eras.{first-world_after_step}
 use Rattle.uni_model.proofs.Appended.{state_after-append}
 
 module _ {S I R : Type 0} (start : S) (number : ℕ) where
@@ -91,10 +91,6 @@ module _ {S I R : Type 0} (object : Sequential S I R) where
         × (front ++ map (λ (e : Entry I R). e.call) (log_of_run object w es) ≡ b.agreed)
         × ((p : ℕ) → open_at last.memory (last.call p) ≡ b.open_call p) × ((p : ℕ) → last.begun p ≡ b.next_nth p)
 
-    first-world_after_step : (w : WorldOf S I R) (p : ℕ) (o : Option Pending) → (world_after_step object w p o).first ≡ w.first
-    first-world_after_step w p None = refl
-    first-world_after_step w p (Some c) = refl
-
     era_ended : (w : WorldOf S I R) (n : ℕ) (es : List (Event I)) (front : List (Invoked I)) (a : Atomic S I) → Shows w a
         → Outcome (world_after_era w n) es (front ++ a.agreed) (behind object start (front ++ a.agreed) (restarted a))
         → (behind object start (front ++ a.agreed) (restarted a) ≡ behind object start front a)
@@ -125,7 +121,7 @@ module _ {S I R : Type 0} (object : Sequential S I R) where
         let first = accepts object w (Step p) inv ok.0 tt a shows in
         let moved = AcceptsAll-behind object start front w.first a (acts_of object w (Step p)) first.0 h first.2 in
         let rest = run_accepted (world_after object w (Step p)) es (Invariant-world_after object w (Step p) ok.0 inv) ok.1 front first.0 first.1
-        (subst (λ f. IsBehind object start front f first.0) (sym (first-world_after_step w p (w.call p))) moved.0) in
+        (subst (λ f. IsBehind object start front f first.0) (sym (first-world_after_step object w p (w.call p))) moved.0) in
         (rest.0, AcceptsAll-append object _ (behind object start front first.0) rest.0 (acts_of object w (Step p)) _ moved.1 rest.1, rest.2, rest.3, rest.4, rest.5)
     run_accepted w (Trim ∷ es) inv ok front a shows h =
         era_ended w w.n es front a shows

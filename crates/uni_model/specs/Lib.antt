@@ -10,6 +10,7 @@ pub mod Invariant
 pub mod Settled
 pub mod OneList
 pub mod Growth
+pub mod Eras
 pub mod Helping
 pub mod Bound
 pub mod Examples

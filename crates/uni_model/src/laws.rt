@@ -8,6 +8,7 @@ ghost use Rattle.uni_model.specs.Worlds.{WorldOf, Event};
 ghost use Rattle.uni_model.specs.Invariant.{Invariant};
 ghost use Rattle.uni_model.specs.Bound.{CountsSteps, IsBounded};
 ghost use Rattle.uni_model.specs.OneList.{HasOneList, HasLegalLog};
+ghost use Rattle.uni_model.specs.Eras.{EraLeaves, EraOfRunLeaves, JoinsLegalLogs, JoinedLogGrows, KeepsRealTime};
 ghost use Rattle.uni_model.specs.Laws.{IsReached, KeepsInvariant, KeepsHelping, KeepsSettled, IsAtomic, KeepsLog, KeepsLogAlong, OpensSound, StepIsLocal, SettledStays, Simulates, IsLinearizable, LinksSoon, HasFloorOnceAnnounced};
 
 use seq_object::SeqObject;
@@ -102,6 +103,39 @@ pub fn simulates<O: SeqObject>()
 pub fn is_linearizable<O: SeqObject>()
     ensures { (object : O) (n : ℕ) (start : O.State) (number : ℕ) (events : List (Event O.Inv)) →
         IsLinearizable (O.sequential object) n start number events }
+{}
+
+/// The end of an era, where nobody has a call pending, leaves the anchor alone, with the state after
+/// all calls of the era and the number of its last cell; the counts of all processes stay, and the
+/// next call of each is its first one of the new era. After a run from the opening that is the state
+/// after all calls of the joined log, and the number of its last entry.
+pub fn era_leaves_anchor<O: SeqObject>()
+    ensures era { (object : O) (w : WorldOf O.State O.Inv O.Resp) (n : ℕ) → EraLeaves (O.sequential object) w n }
+    ensures run { (object : O) (n : ℕ) (start : O.State) (number : ℕ) (events : List (Event O.Inv)) (next_n : ℕ) →
+        EraOfRunLeaves (O.sequential object) n start number events next_n }
+{}
+
+/// The joined log of every run from an opening, the logs of its eras one after another, is a legal
+/// history of the object from the start state; no call stands in it twice, its numbers go on by one
+/// through all eras, and only its last entry can lack its response.
+pub fn joined_log_is_legal<O: SeqObject>()
+    ensures { (object : O) (n : ℕ) (start : O.State) (number : ℕ) (events : List (Event O.Inv)) →
+        JoinsLegalLogs (O.sequential object) n start number events }
+{}
+
+/// The joined log only grows, whichever eras end: after each front of a run's events it is a front of
+/// the joined log after all of them, but that a response that is missing in its last entry may be
+/// there then.
+pub fn joined_log_only_grows<O: SeqObject>()
+    ensures { (object : O) (n : ℕ) (start : O.State) (number : ℕ) (events : List (Event O.Inv)) →
+        JoinedLogGrows (O.sequential object) n start number events }
+{}
+
+/// The joined log keeps real-time order: a call that has returned before another one is begun stands
+/// before it.
+pub fn keeps_real_time<O: SeqObject>()
+    ensures { (object : O) (n : ℕ) (start : O.State) (number : ℕ) (events : List (Event O.Inv)) →
+        KeepsRealTime (O.sequential object) n start number events }
 {}
 
 /// The own steps of a call follow from where its process stands and from its turns: 2n + 2 before
