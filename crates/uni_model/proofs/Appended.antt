@@ -1,5 +1,5 @@
 -- Lists that are appended: their places, what the object makes of them, and legal histories.
-use Rattle.std.proofs.Common.{◌≡◌, ◌∙◌, ℕ, suc, ◌+◌, ◌⊎◌, inl, inr, refl, ap, List, [], ◌∷◌, ◌++◌, map, length, slice_get, Some, arith, zero}
+use Rattle.std.proofs.Common.{◌≡◌, ◌∙◌, ℕ, suc, ◌+◌, ◌<◌, ◌≤◌, ◌⊎◌, inl, inr, refl, ap, List, [], ◌∷◌, ◌++◌, map, length, slice_get, take, Some, arith, zero}
 use Rattle.seq_object.specs.Sequential.{Sequential}
 use Rattle.seq_object.specs.History.{Call, state_after, response_at, IsLegal}
 
@@ -40,3 +40,28 @@ module _ {S I R : Type 0} (object : Sequential S I R) where
   pub IsLegal-append : (s : S) (xs ys : List (Call I R)) → IsLegal object s xs → IsLegal object (state_after object s (map (λ (c : Call I R). c.inv) xs)) ys → IsLegal object s (xs ++ ys)
   IsLegal-append s [] ys first rest = rest
   IsLegal-append s (x ∷ xs) ys first rest = (first.0, IsLegal-append (object.next s x.inv) xs ys first.1 rest)
+
+module _ {A : Type 0} where
+  -- lists with the same elements at the same places
+  pub same_elements : (xs ys : List A) → length xs ≡ length ys → ((j : ℕ) (y : A) → slice_get ys j ≡ Some y → slice_get xs j ≡ Some y) → xs ≡ ys
+  same_elements [] [] long same = refl
+  same_elements [] (y ∷ ys) long same = absurd (omega arith)
+  same_elements (x ∷ xs) [] long same = absurd (omega arith)
+  same_elements (x ∷ xs) (y ∷ ys) long same =
+      let first : x ≡ y = (let e : Some x ≡ Some y = same 0 y refl in cc) in
+      rw first (ap (λ zs. y ∷ zs) (same_elements xs ys (omega arith) (λ j z at. same (suc j) z at)))
+
+  -- a list is a front and what stands behind it
+  pub take-split : (k : ℕ) (xs ys : List A) → length xs ≡ k + length ys → ((j : ℕ) (y : A) → slice_get ys j ≡ Some y → slice_get xs (k + j) ≡ Some y) → xs ≡ take k xs ++ ys
+  take-split zero xs ys long same = same_elements xs ys (omega arith) (λ j y at. let e : j ≡ 0 + j = omega arith in ap (slice_get xs) e ∙ same j y at)
+  take-split (suc k) [] ys long same = absurd (omega arith)
+  take-split (suc k) (x ∷ xs) ys long same =
+      ap (λ zs. x ∷ zs) (take-split k xs ys (omega arith) (λ j y at. let e : suc (k + j) ≡ suc k + j = omega arith in ap (slice_get (x ∷ xs)) e ∙ same j y at))
+
+  pub take-same : (k : ℕ) (xs ys : List A) → k ≤ length xs → k ≤ length ys → ((j : ℕ) (x : A) → j < k → slice_get xs j ≡ Some x → slice_get ys j ≡ Some x) → take k xs ≡ take k ys
+  take-same zero xs ys long_x long_y same = refl
+  take-same (suc k) [] ys long_x long_y same = absurd (omega arith)
+  take-same (suc k) (x ∷ xs) [] long_x long_y same = absurd (omega arith)
+  take-same (suc k) (x ∷ xs) (y ∷ ys) long_x long_y same =
+      let first : y ≡ x = (let e : Some y ≡ Some x = same 0 x (omega arith) refl in cc) in
+      rw first (ap (λ zs. x ∷ zs) (take-same k xs ys (omega arith) (omega arith) (λ j z less at. same (suc j) z (omega arith) at)))

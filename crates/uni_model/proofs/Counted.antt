@@ -49,7 +49,7 @@ module _ {S I R : Type 0} (object : Sequential S I R) where
     | inr other ↦ rw other.1 (counts q)
   ]
 
-  CountsSteps-world_after_step : (w : WorldOf S I R) (num : Name → ℕ) (p : ℕ) (c : Pending) → w.call p ≡ Some c → Stands w.memory num w.n p c.mine c.stage
+  pub CountsSteps-world_after_step : (w : WorldOf S I R) (num : Name → ℕ) (p : ℕ) (c : Pending) → w.call p ≡ Some c → Stands w.memory num w.n p c.mine c.stage
       → CountsSteps w → CountsSteps (world_after_step object w p (Some c))
   CountsSteps-world_after_step w num p c is stands counts q =
       let own = IsCounted-pending w counts p c is in

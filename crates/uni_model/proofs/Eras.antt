@@ -105,7 +105,7 @@ module _ {S I R : Type 0} (object : Sequential S I R) (w : WorldOf S I R) (num :
           let made : record { number = seq_of w.memory Anchor + 1 + j; call = record { process = p; nth = k; inv = i }; response = response_in w.memory (Of p k) } ≡ e = cc in
           subst (λ d. IsEntryAt j d) made (record { cell = is; number = omega arith; response = refl })
 
-  number_of_entry : (j : ℕ) (e : Entry I R) → slice_get (log w) j ≡ Some e → num (Of e.call.process e.call.nth) ≡ num Anchor + (j + 1)
+  pub number_of_entry : (j : ℕ) (e : Entry I R) → slice_get (log w) j ≡ Some e → num (Of e.call.process e.call.nth) ≡ num Anchor + (j + 1)
   number_of_entry j e at = number_at w.memory num last sound.numbered (era_calls w) Anchor (Of e.call.process e.call.nth) j (entry_at j e at).cell
 
   -- it is a call of the era

@@ -22,7 +22,7 @@ module _ {S I R : Type 0} (object : Sequential S I R) (w : WorldOf S I R) (num :
   inside = sound.calls.process p (record { mine = mine; stage = from }) is
 
   -- no head falls
-  rise : (r : ℕ) → r < w.n → head_seq w.memory r ≤ head_seq m r
+  pub rise : (r : ℕ) → r < w.n → head_seq w.memory r ≤ head_seq m r
   rise r below = elim (number_cases r p) [
     | inl here ↦ subst (λ k. head_seq w.memory k ≤ head_seq m k) (sym here.0) head
     | inr other ↦

@@ -44,3 +44,10 @@ pub mod Linearized
 pub mod Fronts
 pub mod Joined
 pub mod Ordered
+pub mod Renamed
+pub mod RenamedStep
+pub mod Reached
+pub mod RenamedWorld
+pub mod RenamedChain
+pub mod RenamedEra
+pub mod RenamedRun

@@ -9,6 +9,7 @@ ghost use Rattle.uni_model.specs.Invariant.{Invariant};
 ghost use Rattle.uni_model.specs.Bound.{CountsSteps, IsBounded};
 ghost use Rattle.uni_model.specs.OneList.{HasOneList, HasLegalLog};
 ghost use Rattle.uni_model.specs.Eras.{EraLeaves, EraOfRunLeaves, JoinsLegalLogs, JoinedLogGrows, KeepsRealTime};
+ghost use Rattle.uni_model.specs.Trims.{TrimsChangeNothing};
 ghost use Rattle.uni_model.specs.Laws.{IsReached, KeepsInvariant, KeepsHelping, KeepsSettled, IsAtomic, KeepsLog, KeepsLogAlong, OpensSound, StepIsLocal, SettledStays, Simulates, IsLinearizable, LinksSoon, HasFloorOnceAnnounced};
 
 use seq_object::SeqObject;
@@ -136,6 +137,15 @@ pub fn joined_log_only_grows<O: SeqObject>()
 pub fn keeps_real_time<O: SeqObject>()
     ensures { (object : O) (n : ℕ) (start : O.State) (number : ℕ) (events : List (Event O.Inv)) →
         KeepsRealTime (O.sequential object) n start number events }
+{}
+
+/// Trims change nothing that a run shows: the same events without the trims are accepted too, and lead
+/// to a world with the same counts, the same calls pending, each before a step of the same kind and
+/// with the same response where that step is its last, and the same frontier. The joined log and the
+/// history are the same.
+pub fn trims_change_nothing<O: SeqObject>()
+    ensures { (object : O) (n : ℕ) (start : O.State) (number : ℕ) (events : List (Event O.Inv)) →
+        TrimsChangeNothing (O.sequential object) n start number events }
 {}
 
 /// The own steps of a call follow from where its process stands and from its turns: 2n + 2 before

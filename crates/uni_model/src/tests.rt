@@ -5,7 +5,7 @@ use crate::{
     event_keeps_invariant, event_keeps_settled, has_floor, is_bounded, is_linearizable,
     is_one_list, joined_log_is_legal, joined_log_only_grows, keeps_invariant, keeps_real_time,
     keeps_settled, links_soon, log_is_legal, log_only_grows, opening_is_sound, simulates,
-    step_sees_settled,
+    step_sees_settled, trims_change_nothing,
 };
 use seq_object::SwapRegister;
 
@@ -33,4 +33,5 @@ fn laws_hold_of_an_object() {
     opening_is_sound::<SwapRegister>();
     simulates::<SwapRegister>();
     step_sees_settled::<SwapRegister>();
+    trims_change_nothing::<SwapRegister>();
 }
