@@ -51,3 +51,4 @@ pub mod RenamedWorld
 pub mod RenamedChain
 pub mod RenamedEra
 pub mod RenamedRun
+pub mod Universal

@@ -7,7 +7,7 @@ use Rattle.uni_model.specs.Stages.Stage.{Announce, ScanHead, Test, WriteHead, Fi
 use Rattle.uni_model.specs.Bound.{steps_at}
 use Rattle.uni_model.specs.Chain.{Entry}
 use Rattle.uni_model.specs.Frontier.{floor_of}
-use Rattle.uni_model.specs.Worlds.{WorldOf, Event, chain, opened_world, world_after_all}
+use Rattle.uni_model.specs.Worlds.{WorldOf, Event, chain, opened_world, world_after_all, without_trims}
 use Rattle.uni_model.specs.Worlds.Event.{Call, Step, Trim, Reshape}
 use Rattle.uni_model.specs.AtomicObject.Act.{Invoke, Linearize, Respond}
 use Rattle.uni_model.specs.History.{log, log_of_run, history_of}
@@ -213,6 +213,10 @@ trimmed m = Call 1 (Enq 5) ∷ (steps 1 16 ++ Trim ∷ Call 0 Deq ∷ steps 0 m)
 
 untrimmed : ℕ → List (Event QueueCall)
 untrimmed m = Call 1 (Enq 5) ∷ (steps 1 16 ++ Call 0 Deq ∷ steps 0 m)
+
+trimmed-untrimmed : without_trims (trimmed 3) ≡ untrimmed 3
+unfolding trimmed untrimmed
+trimmed-untrimmed = refl
 
 trimmed-scan : (run 2 (trimmed 3)).call 0 ≡ Some (record { mine = Of 0 0; stage = ScanHead 1 Anchor 2 })
 unfolding trimmed

@@ -12,6 +12,7 @@ pub mod OneList
 pub mod Growth
 pub mod Eras
 pub mod Trims
+pub mod Universal
 pub mod Helping
 pub mod Bound
 pub mod Examples

@@ -10,9 +10,19 @@ ghost use Rattle.uni_model.specs.Bound.{CountsSteps, IsBounded};
 ghost use Rattle.uni_model.specs.OneList.{HasOneList, HasLegalLog};
 ghost use Rattle.uni_model.specs.Eras.{EraLeaves, EraOfRunLeaves, JoinsLegalLogs, JoinedLogGrows, KeepsRealTime};
 ghost use Rattle.uni_model.specs.Trims.{TrimsChangeNothing};
+ghost use Rattle.uni_model.specs.Universal.{RunIsUniversal};
 ghost use Rattle.uni_model.specs.Laws.{IsReached, KeepsInvariant, KeepsHelping, KeepsSettled, IsAtomic, KeepsLog, KeepsLogAlong, OpensSound, StepIsLocal, SettledStays, Simulates, IsLinearizable, LinksSoon, HasFloorOnceAnnounced};
 
 use seq_object::SeqObject;
+
+/// The main law. For every object, every number of processes and every list of accepted events, with
+/// the ends of eras among them: calls and replies are those of an atomic object; no call takes more
+/// than n + 1 turns, and a pending one has taken fewer than 10n + 12 own steps; and the run without its
+/// trims is accepted too, and shows the same (Herlihy 1991, section 4).
+pub fn is_universal<O: SeqObject>()
+    ensures { (object : O) (n : ℕ) (start : O.State) (number : ℕ) (events : List (Event O.Inv)) →
+        RunIsUniversal (O.sequential object) n start number events }
+{}
 
 /// A step touches the one place that its process's stage names; it changes that process's stage,
 /// steps and turns, and nothing else.
