@@ -273,7 +273,8 @@ impl<O: SeqObject> World<O> {
     /// What every world keeps, for proofs: the call does nothing. What it shows has the invariant of
     /// the definitions, with the facts of helping and the counts of own steps; its cells are one
     /// list, and its log is a legal history. There are 1 to 64 processes. A row has at most 4096 cells, and no process has
-    /// begun more calls; the arena has as many cells of a process as it has begun calls. The anchor's
+    /// begun more calls in the era; the arena has as many cells of a process as it has begun calls in
+    /// the era. A process had begun no more calls before it than the anchor's number. The anchor's
     /// number, and one more for each cell that there can be, stay below 2^48. The latest call of each
     /// process is within the bound of its own steps and turns.
     pub fn shape(&self)
@@ -287,6 +288,7 @@ impl<O: SeqObject> World<O> {
         ensures room { (p : ℕ) → calls_in_era (world_of self.now) p ≤ self.now.row }
         ensures anchor { IsSome (cell_of self.now.shared.cells 0) }
         ensures made { (p : ℕ) → p < (world_of self.now).n → made_of self.now.shared.cells p ≡ calls_in_era (world_of self.now) p }
+        ensures early { (p : ℕ) → (world_of self.now).first p ≤ seq_of (world_of self.now).memory Anchor }
         ensures numbers { seq_of (world_of self.now).memory Anchor + (world_of self.now).n * self.now.row < 2 ^ 48 }
         ensures fits { seq_of (world_of self.now).memory Anchor + length (chain (world_of self.now)) < 2 ^ 48 }
         ensures bounded { IsBounded (world_of self.now) }
