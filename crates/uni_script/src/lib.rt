@@ -10,10 +10,10 @@ mod ends;
 mod fault;
 mod grammar;
 mod laws;
+mod lines;
 mod objects;
 mod replay;
 mod schedules;
-mod script;
 mod summary;
 #[cfg(test)]
 mod tests;

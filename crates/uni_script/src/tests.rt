@@ -9,6 +9,7 @@ use rand_xoshiro::rand_core::SeedableRng;
 use ready_objects::{Amount, QueueObject, StickyInv, StickyObject, StickyResp};
 use seq_object::CallId;
 use std::alloc::Global;
+use std::cell::Cell;
 use std::io;
 use std::io::{ErrorKind, Read, Write};
 use std::process::Abort;
@@ -512,4 +513,159 @@ fn schedules_are_scripts(rt: HostRuntime) -> Result<(), Fail> {
         }
     }
     Ok(())
+}
+
+/// A reader that gives at most so many bytes of a text at a time.
+#[derive(Drop)]
+struct Pieces<'a> {
+    text: &'a [u8],
+    most: usize,
+}
+
+impl Read for Pieces<'_> {
+    fn read(&mut self, buffer: &mut [u8]) -> io::Result<usize> {
+        let count = self.text.len().min(self.most).min(buffer.len());
+        buffer[..count].copy_from_slice(&self.text[..count]);
+        self.text = &self.text[count..];
+        Ok(count)
+    }
+}
+
+#[test]
+fn pieces_of_any_size(rt: HostRuntime) -> Result<(), Fail> {
+    // Many lines, so that some lie across the end of a piece, and the last one lacks its end.
+    let mut script = Vec::new(rt.alloc());
+    let mut want = Vec::new(rt.alloc());
+    writeln!(script, "universal 1 queue 1 4096")?;
+    for number in 0..500_u64 {
+        writeln!(script, "# a note of some length\ncall 0 enq 7\nfinish 0")?;
+        writeln!(
+            want,
+            "called 0.{number}\nreturned 0.{number} ok steps 14 turns 1"
+        )?;
+    }
+    write!(script, "heads")?;
+    writeln!(want, "heads 501\nend")?;
+    for most in [1, 2, 7, 5000] {
+        let mut text = Vec::new(rt.alloc());
+        let ended = bench(
+            rt.alloc(),
+            &mut Checked::new(Pieces {
+                text: script.as_slice(),
+                most,
+            }),
+            &mut Checked::new(&mut text),
+            &Options {},
+        );
+        let summary = Summary {
+            lines: 1502,
+            calls: 500,
+            returns: 500,
+        };
+        assert_eq!(rt; ended, Ok(summary));
+        assert_eq!(rt; text.as_slice(), want.as_slice());
+    }
+    Ok(())
+}
+
+/// A reader that gives the same bytes again and again.
+#[derive(Drop)]
+struct Endless<'a> {
+    text: &'a [u8],
+}
+
+impl Read for Endless<'_> {
+    fn read(&mut self, buffer: &mut [u8]) -> io::Result<usize> {
+        let count = self.text.len().min(buffer.len());
+        buffer[..count].copy_from_slice(&self.text[..count]);
+        Ok(count)
+    }
+}
+
+#[test]
+fn readers_without_an_end(rt: HostRuntime) {
+    let rows = [
+        (b"#\n".as_slice(), BenchFault::TooMany),
+        (b"a".as_slice(), BenchFault::TooLong(1)),
+        (b"\n#".as_slice(), BenchFault::TooMany),
+    ];
+    for (text, fault) in rows {
+        let mut answers = Vec::new(rt.alloc());
+        let ended = bench(
+            rt.alloc(),
+            &mut Checked::new(Endless { text }),
+            &mut Checked::new(&mut answers),
+            &Options {},
+        );
+        assert_eq!(rt; ended, Err(fault));
+        assert_eq!(rt; answers.len(), 0);
+    }
+}
+
+/// A reader that gives the text of each row at a read, where that many bytes were written before, and
+/// fails where they weren't.
+#[derive(Drop)]
+struct Asking<'a> {
+    rows: &'a [(usize, &'a [u8])],
+    written: &'a Cell<usize>,
+}
+
+impl Read for Asking<'_> {
+    fn read(&mut self, buffer: &mut [u8]) -> io::Result<usize> {
+        match self.rows {
+            [(want, text), rest @ ..] if self.written.get() == *want => {
+                let count = text.len().min(buffer.len());
+                buffer[..count].copy_from_slice(&text[..count]);
+                self.rows = rest;
+                Ok(count)
+            }
+            _ => Err(io::Error::from(ErrorKind::Other)),
+        }
+    }
+}
+
+/// A writer that counts its bytes.
+#[derive(Drop)]
+struct Counting<'a> {
+    written: &'a Cell<usize>,
+}
+
+impl Write for Counting<'_> {
+    fn write(&mut self, bytes: &[u8]) -> io::Result<usize> {
+        self.written
+            .set(self.written.get().saturating_add(bytes.len()));
+        Ok(bytes.len())
+    }
+
+    fn flush(&mut self) -> io::Result<()> {
+        Ok(())
+    }
+}
+
+#[test]
+fn answers_come_before_the_next_line_is_read(rt: HostRuntime) {
+    let written = Cell::new(0);
+    let rows = [
+        (0, b"universal 1 queue 1 8\n".as_slice()),
+        (0, b"call 0 enq 7\n"),
+        (11, b"finish 0\n"),
+        (44, b"log\n"),
+        (62, b""),
+    ];
+    let ended = bench(
+        rt.alloc(),
+        &mut Checked::new(Asking {
+            rows: rows.as_slice(),
+            written: &written,
+        }),
+        &mut Checked::new(Counting { written: &written }),
+        &Options {},
+    );
+    let summary = Summary {
+        lines: 4,
+        calls: 1,
+        returns: 1,
+    };
+    assert_eq!(rt; ended, Ok(summary));
+    assert_eq!(rt; written.get(), 66);
 }
