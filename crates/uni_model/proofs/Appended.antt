@@ -43,7 +43,7 @@ module _ {S I R : Type 0} (object : Sequential S I R) where
 
 module _ {A : Type 0} where
   -- lists with the same elements at the same places
-  pub same_elements : (xs ys : List A) → length xs ≡ length ys → ((j : ℕ) (y : A) → slice_get ys j ≡ Some y → slice_get xs j ≡ Some y) → xs ≡ ys
+  same_elements : (xs ys : List A) → length xs ≡ length ys → ((j : ℕ) (y : A) → slice_get ys j ≡ Some y → slice_get xs j ≡ Some y) → xs ≡ ys
   same_elements [] [] long same = refl
   same_elements [] (y ∷ ys) long same = absurd (omega arith)
   same_elements (x ∷ xs) [] long same = absurd (omega arith)

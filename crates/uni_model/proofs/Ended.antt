@@ -18,7 +18,7 @@ use Rattle.uni_model.proofs.OneLists.{length-chain, number-last_of}
 use Rattle.uni_model.proofs.Growing.{all_invoked}
 use Rattle.uni_model.proofs.Kept.{last_cell_threaded}
 
-pub slice_get-last_of : {A : Type 0} (x : A) (xs : List A) → slice_get (x ∷ xs) (length xs) ≡ Some (last_of x xs)
+slice_get-last_of : {A : Type 0} (x : A) (xs : List A) → slice_get (x ∷ xs) (length xs) ≡ Some (last_of x xs)
 slice_get-last_of x [] = refl
 slice_get-last_of x (y ∷ ys) = slice_get-last_of y ys
 
@@ -39,7 +39,7 @@ module _ {S I R : Type 0} (object : Sequential S I R) (w : WorldOf S I R) (num :
   length-log = length-entries_from w.memory (seq_of w.memory Anchor + 1) (chain w) (all_invoked object w num last sound (era_calls w) Anchor sound.numbered.first)
 
   module _ (quiet : IsQuiescent w) where
-    pub seq_of-last_cell : seq_of w.memory (last_cell w) ≡ seq_of w.memory Anchor + length (log w)
+    seq_of-last_cell : seq_of w.memory (last_cell w) ≡ seq_of w.memory Anchor + length (log w)
     seq_of-last_cell =
         let own : seq_of w.memory (last_cell w) ≡ num (last_cell w) = sound.numbered.seq (last_cell w) (last_cell_threaded object w num last sound quiet) in
         let top : num (last_cell w) ≡ last = number-last_of object w num last sound (era_calls w) Anchor sound.numbered.first (enough object w num last sound) in
@@ -49,7 +49,7 @@ module _ {S I R : Type 0} (object : Sequential S I R) (w : WorldOf S I R) (num :
         omega arith
 
     module _ (start : S) (anchor : new_of w.memory Anchor ≡ Some (start, None)) where
-      pub new_of-last_cell : (v : S × Option R) × (new_of w.memory (last_cell w) ≡ Some v) × (v.0 ≡ state_after object start (invocations_of w))
+      new_of-last_cell : (v : S × Option R) × (new_of w.memory (last_cell w) ≡ Some v) × (v.0 ≡ state_after object start (invocations_of w))
       new_of-last_cell =
           let settled = sound.values.threaded (last_cell w) (last_cell_threaded object w num last sound quiet) in
           let invs : List I = map (λ (c : Invoked I). c.inv) (calls_at w.memory (chain w)) in

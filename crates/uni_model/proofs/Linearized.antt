@@ -28,12 +28,12 @@ module _ {S I R : Type 0} (start : S) (number : ℕ) where
   none_linked m alone zero = refl
   none_linked m alone (suc most) = rw alone refl
 
-  pub calls_of-anchor : (w : WorldOf S I R) → w.memory ≡ anchor_memory start number → calls_of w ≡ []
+  calls_of-anchor : (w : WorldOf S I R) → w.memory ≡ anchor_memory start number → calls_of w ≡ []
   calls_of-anchor w alone = calls_of-calls_at w ∙ ap (calls_at w.memory) (none_linked w.memory alone (era_calls w))
 
 module _ {S I R : Type 0} (object : Sequential S I R) where
   -- the calls of an era are those of cells that were begun in it
-  pub begun_of_call : (w : WorldOf S I R) (num : Name → ℕ) (last : ℕ) → IsSound object w num last → (c : Invoked I) → Contains (calls_of w) c
+  begun_of_call : (w : WorldOf S I R) (num : Name → ℕ) (last : ℕ) → IsSound object w num last → (c : Invoked I) → Contains (calls_of w) c
       → (w.first c.process ≤ c.nth) × (c.nth < w.begun c.process)
   begun_of_call w num last sound c there =
       let in_chain : Contains (calls_at w.memory (chain w)) c = subst (λ cs. Contains cs c) (calls_of-calls_at w) there in
@@ -58,7 +58,7 @@ module _ {S I R : Type 0} (object : Sequential S I R) where
       ended_is = world_after_era-quiet object w inv.0 inv.1 inv.2 quiet a.start shows.start n
 
       -- the world shows the object that has started anew
-      pub Shows-ended : Shows (world_after_era w n) (restarted a)
+      Shows-ended : Shows (world_after_era w n) (restarted a)
       Shows-ended = subst (λ v. Shows v (restarted a)) (sym ended_is) (record {
         start = ap (λ (cs : List (Invoked I)). Some (state_after object a.start (map (λ (c : Invoked I). c.inv) cs), None)) shows.agreed;
         agreed = calls_of-anchor (state_after object a.start (invocations_of w)) (seq_of w.memory Anchor + length (log w)) ended refl;
@@ -67,7 +67,7 @@ module _ {S I R : Type 0} (object : Sequential S I R) where
       })
 
       -- and that object goes on behind the calls of the era
-      pub IsBehind-ended : IsBehind object start front w.first a → IsBehind object start (front ++ a.agreed) (world_after_era w n).first (restarted a)
+      IsBehind-ended : IsBehind object start front w.first a → IsBehind object start (front ++ a.agreed) (world_after_era w n).first (restarted a)
       IsBehind-ended h = subst (λ v. IsBehind object start (front ++ a.agreed) v.first (restarted a)) (sym ended_is) (record {
         state =
             ap (state_after object start) (map-append (λ (c : Invoked I). c.inv) front a.agreed)
@@ -81,7 +81,7 @@ module _ {S I R : Type 0} (object : Sequential S I R) where
         next_nth = λ p. let e : w.begun p ≡ a.next_nth p = shows.next_nth p in omega arith;
       })
 
-      pub behind-ended : behind object start (front ++ a.agreed) (restarted a) ≡ behind object start front a
+      behind-ended : behind object start (front ++ a.agreed) (restarted a) ≡ behind object start front a
       behind-ended = ap (λ cs. let x : Atomic S I = record a { start = start; agreed = cs } in x) (append-nil (front ++ a.agreed))
 
     -- the run shows the object behind the calls of the eras that ended before it

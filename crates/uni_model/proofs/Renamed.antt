@@ -94,14 +94,14 @@ module _ {S I R : Type 0} (m' m : Memory S I R) (n : ℕ) (rename : Name → Nam
       elim new [ inl none ↦ omega arith | inr past ↦ omega arith ]
 
   -- only a new cell has its own name
-  pub rename-new : (x d : Name) → IsNew m base d → rename x ≡ d → x ≡ d
+  rename-new : (x d : Name) → IsNew m base d → rename x ≡ d → x ≡ d
   rename-new x d new is = elim (era_cases m base x) [
     | inl its_own ↦ sym (r.new_name x its_own) ∙ is
     | inr old ↦ absurd (new_not_anchor d new (sym is ∙ r.old x old.0 old.1))
   ]
 
   -- recent cells have names of their own
-  pub rename-one : (x y : Name) → IsRecent m base x → IsRecent m base y → rename x ≡ rename y → x ≡ y
+  rename-one : (x y : Name) → IsRecent m base x → IsRecent m base y → rename x ≡ rename y → x ≡ y
   rename-one x y recent_x recent_y same = elim (era_cases m base y) [
     | inl new ↦ rename-new x y new (same ∙ r.new_name y new)
     | inr old_y ↦ elim (era_cases m base x) [

@@ -36,14 +36,14 @@ module _ {S I R : Type 0} (object : Sequential S I R) (u : WorldOf S I R) (num :
   number_of_end : num end ≡ base
   number_of_end = let some = positive in let is : seq_of u.memory end ≡ base = r.at_base.1 in let own : seq_of u.memory end ≡ num end = sound.numbered.seq end (omega arith) in omega arith
 
-  pub seq_of-anchor : seq_of m Anchor ≡ base
+  seq_of-anchor : seq_of m Anchor ≡ base
   seq_of-anchor = ap (seq_of m) (sym end_is_anchor) ∙ r.seq end ∙ ap (at_least base) r.at_base.1 ∙ at_least-past base base (omega arith) positive
 
   recent_end : IsRecent u.memory base end
   recent_end = inr (subst (λ k. base ≤ k) (sym r.at_base.1) (omega arith))
 
   -- past base, a cell is new
-  pub new_past : (x : Name) → base < num x → IsNew u.memory base x
+  new_past : (x : Name) → base < num x → IsNew u.memory base x
   new_past x past = elim (era_cases u.memory base x) [
     | inl new ↦ new
     | inr old ↦ absurd (let own = sound.numbered.seq x old.0 in let most = old.1 in omega arith)
@@ -101,7 +101,7 @@ module _ {S I R : Type 0} (object : Sequential S I R) (u : WorldOf S I R) (num :
     abbrev w : WorldOf S I R
     w = world_renamed u m first rename base
 
-    pub chain_renamed : chain w ≡ cells_from (era_calls w) u.memory end
+    chain_renamed : chain w ≡ cells_from (era_calls w) u.memory end
     chain_renamed = ap (cells_from (era_calls w) m) (sym end_is_anchor) ∙ cells_renamed (era_calls w) end recent_end
 
     last_cell_is : last_cell w ≡ rename (last_of end (cells_from (era_calls w) u.memory end))
@@ -127,7 +127,7 @@ module _ {S I R : Type 0} (object : Sequential S I R) (u : WorldOf S I R) (num :
         = ap (last_of end) whole ∙ sound.numbered.one_each (last_of end (cells_from last u.memory end)) (last_cell u) (omega arith) (omega arith) in
         (last_cell_is ∙ ap rename same, subst (λ x. IsRecent u.memory base x) same (last_renamed (era_calls w) end recent_end).1)
 
-    pub length-chain-renamed : base + length (chain w) ≡ last
+    length-chain-renamed : base + length (chain w) ≡ last
     length-chain-renamed =
         let some = positive in
         let number = number_of_end in
@@ -139,7 +139,7 @@ module _ {S I R : Type 0} (object : Sequential S I R) (u : WorldOf S I R) (num :
     abbrev pub ended_entries : ℕ
     ended_entries = base - seq_of u.memory Anchor
 
-    pub length-log-renamed : length (log u) ≡ ended_entries + length (log w)
+    length-log-renamed : length (log u) ≡ ended_entries + length (log w)
     length-log-renamed =
         let of_u : length (log u) ≡ length (chain u) = length-log object u num last sound in
         let of_w : length (log w) ≡ length (chain w) = length-log object w inv.0 inv.1 inv.2 in

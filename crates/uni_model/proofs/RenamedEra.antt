@@ -29,7 +29,7 @@ module _ {S I R : Type 0} (m : Memory S I R) where
 
 module _ {S I R : Type 0} (start : S) (number : ℕ) (positive : 1 ≤ number) where
   -- the anchor alone keeps its name
-  pub IsRenamed-anchor_memory : (n : ℕ) → IsRenamed {S = S} {I = I} {R = R} (anchor_memory start number) (anchor_memory start number) n (λ x. x) number
+  IsRenamed-anchor_memory : (n : ℕ) → IsRenamed {S = S} {I = I} {R = R} (anchor_memory start number) (anchor_memory start number) n (λ x. x) number
   IsRenamed-anchor_memory n = record {
     first = positive;
     anchor = omega arith;
@@ -81,7 +81,7 @@ module _ {S I R : Type 0} (object : Sequential S I R) (u : WorldOf S I R) (num :
   number_of_last : num (last_cell u) ≡ last
   number_of_last = number-last_of object u num last sound (era_calls u) Anchor sound.numbered.first (enough object u num last sound)
 
-  pub seq_of-last : seq_of u.memory (last_cell u) ≡ last
+  seq_of-last : seq_of u.memory (last_cell u) ≡ last
   seq_of-last = sound.numbered.seq (last_cell u) (last_cell_threaded object u num last sound quiet) ∙ number_of_last
 
   pub settled_last : Has (new_of u.memory (last_cell u))

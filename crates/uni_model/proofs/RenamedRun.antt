@@ -87,9 +87,6 @@ module _ {S I R : Type 0} (object : Sequential S I R) where
     calls_are : calls_of u ≡ map (λ (e : Entry I R). e.call) front ++ calls_of w
     calls_are = ap (map (λ (e : Entry I R). e.call)) log_is ∙ map-append (λ (e : Entry I R). e.call) front (log w)
 
-    own_new : (p : ℕ) (c : Pending) → u.call p ≡ Some c → IsNew u.memory base c.mine
-    own_new = f.keeps.mine
-
     head_seq-renamed : (p : ℕ) → p < u.n → head_seq m p ≡ at_least base (head_seq u.memory p)
     head_seq-renamed p below = ap (seq_of m) (f.keeps.memory.head p below) ∙ f.keeps.memory.seq (head_of u.memory p)
 

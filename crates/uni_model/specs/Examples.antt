@@ -1,7 +1,7 @@
 -- Worked examples: what the definitions compute over a queue of numbers.
 use Rattle.std.specs.Prelude.{◌≡◌, refl, ℕ, zero, suc, ◌+◌, List, [], ◌∷◌, ◌++◌, length, Option, None, Some, map}
 use Rattle.seq_object.specs.Sequential.{Sequential}
-use Rattle.uni_model.specs.Places.{Name, seq_of, head_seq}
+use Rattle.uni_model.specs.Places.{Name, seq_of, new_of, head_of, head_seq}
 use Rattle.uni_model.specs.Places.Name.{Anchor, Of}
 use Rattle.uni_model.specs.Stages.Stage.{Announce, ScanHead, Test, WriteHead, Finish}
 use Rattle.uni_model.specs.Bound.{steps_at}
@@ -249,6 +249,31 @@ trimmed-joined = refl
 untrimmed-log : log (run 2 (untrimmed 16)) ≡ entry 2 1 0 (Enq 5) Ok ∷ entry 3 0 0 Deq (Value 5) ∷ []
 unfolding untrimmed
 untrimmed-log = refl
+
+-- what the end of that era leaves: the anchor alone, with the state and the number of the last cell; the next call of process 1
+-- is its second one
+ended : List (Event QueueCall)
+ended = Call 1 (Enq 5) ∷ (steps 1 16 ++ Trim ∷ [])
+
+ended-state : new_of (run 2 ended).memory Anchor ≡ Some (5 ∷ [], None)
+unfolding ended
+ended-state = refl
+
+ended-number : seq_of (run 2 ended).memory Anchor ≡ 2
+unfolding ended
+ended-number = refl
+
+ended-head : head_of (run 2 ended).memory 1 ≡ Anchor
+unfolding ended
+ended-head = refl
+
+ended-cell : seq_of (run 2 ended).memory (Of 1 0) ≡ 0
+unfolding ended
+ended-cell = refl
+
+ended-first : (run 2 ended).first 1 ≡ 1
+unfolding ended
+ended-first = refl
 
 -- two processes are made three, and turns go by three: at the number 2 it is the turn of process 2 to be helped
 reshaped : List (Event QueueCall)
