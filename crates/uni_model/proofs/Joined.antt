@@ -122,7 +122,8 @@ module _ {S I R : Type 0} (object : Sequential S I R) where
       → x.call.process ≡ y.call.process → x.call.nth ≡ y.call.nth → i ≡ j
   once_run w [] start run i j x y at_i at_j process nth = place_of_entry object w run.inv.0 run.inv.1 run.inv.2 i j x y at_i at_j process nth
   once_run w (e ∷ es) start run i j x y at_i at_j process nth = elim (run_cases w e es start run) [
-    | inl on ↦ once_run (world_after object w e) es start on.1 i j x y (subst (λ xs. slice_get xs i ≡ Some x) (on.0.joined es) at_i) (subst (λ xs. slice_get xs j ≡ Some y) (on.0.joined es) at_j) process nth
+    | inl on ↦ once_run (world_after object w e) es start on.1 i j x y (subst (λ xs. slice_get xs i ≡ Some x) (on.0.joined es) at_i)
+        (subst (λ xs. slice_get xs j ≡ Some y) (on.0.joined es) at_j) process nth
     | inr end ↦
         let later = world_after object w e in
         let next = state_after object start (invocations_of w) in

@@ -23,7 +23,10 @@ at_least-cases base s = elim (number_cases s 0) [
 ]
 
 pub at_least-past : (base s : ℕ) → base ≤ s → 1 ≤ s → at_least base s ≡ s
-at_least-past base s past some = elim (at_least-cases base s) [ inl none ↦ absurd (let e = none.0 in omega arith) | inr rest ↦ elim rest [ inl less ↦ absurd (let e = less.1 in omega arith) | inr more ↦ more.2 ] ]
+at_least-past base s past some = elim (at_least-cases base s) [
+  | inl none ↦ absurd (let e = none.0 in omega arith)
+  | inr rest ↦ elim rest [ inl less ↦ absurd (let e = less.1 in omega arith) | inr more ↦ more.2 ]
+]
 
 -- where a process stands, with its cells renamed
 abbrev pub stage_renamed : (Name → Name) → (base : ℕ) → Stage → Stage

@@ -91,8 +91,8 @@ module _ {S I R : Type 0} (object : Sequential S I R) (u : WorldOf S I R) (num :
     by_after None e = refl
     by_after (Some y) e = absurd (let n = (sound.numbered.link x y e).1 in let top = sound.numbered.greatest y in omega arith)
   complete (suc a) (suc b) x none bound = by_after (λ y e g. complete a b y e g) (after_of u.memory x) refl none where
-    by_after : ((y : Name) → after_of u.memory (last_of y (cells_from a u.memory y)) ≡ None → last ≤ num y + b → cells_from a u.memory y ≡ cells_from b u.memory y) → (o : Option Name) → after_of u.memory x ≡ o
-        → after_of u.memory (last_of x (option_map_or (λ y. y ∷ cells_from a u.memory y) o [])) ≡ None
+    by_after : ((y : Name) → after_of u.memory (last_of y (cells_from a u.memory y)) ≡ None → last ≤ num y + b → cells_from a u.memory y ≡ cells_from b u.memory y)
+        → (o : Option Name) → after_of u.memory x ≡ o → after_of u.memory (last_of x (option_map_or (λ y. y ∷ cells_from a u.memory y) o [])) ≡ None
         → option_map_or (λ y. y ∷ cells_from a u.memory y) o [] ≡ option_map_or (λ y. y ∷ cells_from b u.memory y) o []
     by_after rest None e h = refl
     by_after rest (Some y) e h = let n = (sound.numbered.link x y e).1 in ap (λ ys. y ∷ ys) (rest y h (omega arith))

@@ -206,7 +206,8 @@ module _ {S I R : Type 0} (object : Sequential S I R) (u : WorldOf S I R) (num :
     -- both worlds are left the same anchor
     pub world_after_era-renamed : (n : ℕ) → world_after_era w n ≡ record w { n = n; first = u.begun; memory = anchor_memory settled_last.0.0 last }
     world_after_era-renamed n = by_new (new_of m (last_cell w)) refl value_of_last where
-      by_new : (o : Option (S × Option R)) → new_of m (last_cell w) ≡ o → state_in o ≡ Some settled_last.0.0 → world_after_era w n ≡ record w { n = n; first = u.begun; memory = anchor_memory settled_last.0.0 last }
+      by_new : (o : Option (S × Option R)) → new_of m (last_cell w) ≡ o → state_in o ≡ Some settled_last.0.0
+          → world_after_era w n ≡ record w { n = n; first = u.begun; memory = anchor_memory settled_last.0.0 last }
       by_new None is e = cc
       by_new (Some v) is e =
           let same : v.0 ≡ settled_last.0.0 = cc in

@@ -281,7 +281,8 @@ module _ {S I R : Type 0} (object : Sequential S I R) where
           let on = Alike-reached es rest _ u (anchor_memory state f.inv.1) u.begun (threaded_to_anchor u.memory) f.inv.1 later same ok.1 (log u) (take_all (f.inv.1 - seq_of u.memory Anchor) (log u) short) in
           record { accepted = on.accepted; shown = on.shown; joined = joined_later _ ∙ on.joined; history = on.history }
 
-      reshape_alike : (n : ℕ) → AreAccepted object (world_renamed u m first rename base) (Reshape n ∷ es) → Alike (world_renamed u m first rename base) u (Reshape n ∷ es) (front u m first rename base f)
+      reshape_alike : (n : ℕ) → AreAccepted object (world_renamed u m first rename base) (Reshape n ∷ es)
+          → Alike (world_renamed u m first rename base) u (Reshape n ∷ es) (front u m first rename base f)
       reshape_alike n ok =
           let same = era_ended n (λ x. x) in
           let own : world_after_era u n ≡ record u { n = n; first = u.begun; memory = anchor_memory state f.inv.1 } = world_after_era-own object u f.inv.0 f.inv.1 f.inv.2 quiet n in

@@ -80,7 +80,8 @@ module _ {S I R : Type 0} (object : Sequential S I R) (u : WorldOf S I R) (inv :
         (u.turns p + turn_of c.stage (u.memory place))
         (advances object u inv.0 inv.1 inv.2 inv.3 p c.mine inside threaded moved.0 moved.3.numbers c.stage is (inv.2.stands p c is) helped own.1)
 
-    own_finds : (o : Option Stage) (t : ℕ) (num' : Name → ℕ) → AdvancesTo u inv.0 p c.mine c.stage later.memory num' o t → (d : Pending) → call_after c.mine o ≡ Some d → Finds later.memory u.n d.stage t base
+    own_finds : (o : Option Stage) (t : ℕ) (num' : Name → ℕ) → AdvancesTo u inv.0 p c.mine c.stage later.memory num' o t
+        → (d : Pending) → call_after c.mine o ≡ Some d → Finds later.memory u.n d.stage t base
     own_finds None t num' on d e = cc
     own_finds (Some k) t num' on d e =
         let same : record { mine = c.mine; stage = k } ≡ d = cc in
