@@ -1,4 +1,5 @@
 use Rattle.std.proofs.Common.{rules, ◌≡◌, ◌∙◌, ◌+◌, ◌++◌, ◌∷◌, [], Some, Err, refl, sym, ap, subst}
+use Rattle.std.proofs.lemmas.Result.{err_from_is_err_and}
 use Rattle.uni_script.specs.declared.fault.BenchFault.TheVariants.{Read, TooLong, TooMany}
 use Rattle.uni_script.specs.declared.lines.Stop.TheVariants as stop
 use Rattle.uni_script.specs.Meaning.{bench_of, outcome_of_fault, outcome_of_end}
@@ -33,7 +34,7 @@ returns-in_err-answer_line-in-Ok-clause-run g c = λ old written taken run.
     let took = c.in-Ok.ensures in
     let now = c.loop-world.invariant.3 old written taken run in
     let has = subst (λ l. HasTaken old (g.I.TextIn.remaining c.take.new.reader) c.take.new.self (now.0 ++ l ∷ [])) (sym c.line.ensures) (took.line old now.0 now.1.reading) in
-    let e : c.from_residual.result ≡ Err c.in_err-answer_line-in-Ok.field-0.0 = search rules in
+    let e : c.from_residual.result ≡ Err c.in_err-answer_line-in-Ok.field-0.0 = (let gave = err_from_is_err_and c.from_residual.result c.from_residual.ensures.1 in gave.1 ∙ ap Err gave.2) in
     subst (λ r. HasEnded old (g.I.TextIn.remaining c.take.new.reader) written (g.W.TextOut.contents c.answer_line.new.writer) r) (sym e)
     (HasEnded-line old _ c.loop-world.lines written _ now.0 (Some (g.O.Shared.bench (bench_of c.loop-world.world))) now.1 _ c.take.new.self c.line.result.now has
     (ap (λ l. is_short l) c.line.ensures ∙ is_short-line c.take.new.self took.held) took.held.count c.in_err-answer_line-in-Ok.field-0.0 _ c.in_err-answer_line-in-Ok.ensures.outcome)
