@@ -1,5 +1,5 @@
 -- The cells of names, by their indices.
-use Rattle.std.proofs.Common.{◌≡◌, ◌≢◌, ◌∙◌, ℕ, zero, suc, ◌+◌, ◌-◌, ◌*◌, ◌/◌, ◌%◌, ◌<◌, ◌≤◌, ◌⊎◌, inl, inr, refl, sym, ap, Option, arith}
+use Rattle.std.proofs.Common.{◌≡◌, ◌≢◌, ◌∙◌, ℕ, zero, suc, ◌+◌, ◌-◌, ◌/◌, ◌%◌, ◌<◌, ◌≤◌, ◌⊎◌, inl, inr, refl, sym, ap, Option, arith}
 use Rattle.std.proofs.lemmas.Nat.{mod_below}
 use Rattle.cell_arena.specs.CellRecord.{CellRecord, index_of, ChangesOnly}
 use Rattle.uni_model.specs.Places.{Name}

@@ -1,13 +1,12 @@
 -- The world that is shown after the end of an era.
-use Rattle.std.proofs.Common.{◌≡◌, ◌∙◌, ℕ, zero, suc, ◌+◌, ◌-◌, ◌*◌, ◌<◌, ◌≤◌, ◌^◌, refl, sym, ap, subst, List, [], ◌∷◌, Option, Some, None, option_map, IsSome, IsSomeAnd, IfSome, arith, length, slice_get, slice_index_or}
+use Rattle.std.proofs.Common.{◌≡◌, ◌∙◌, ℕ, zero, suc, ◌+◌, ◌*◌, ◌<◌, ◌≤◌, ◌^◌, refl, sym, ap, subst, List, [], ◌∷◌, Option, Some, None, option_map, IsSome, IsSomeAnd, IfSome, arith, length, slice_get, slice_index_or}
 use Rattle.std.specs.Option.{option_map_or}
 use Rattle.seq_object.specs.Sequential.{Sequential}
 use Rattle.cell_arena.specs.CellRecord.{CellRecord}
 use Rattle.cell_arena.specs.Arena.{processes_of, made_of, cell_of}
 use Rattle.uni_model.specs.Places.{Name, Memory, seq_of, new_of}
 use Rattle.uni_model.specs.Places.Name.{Anchor}
-use Rattle.uni_model.specs.Stages.{Pending as PendingAt}
-use Rattle.uni_model.specs.Worlds.{WorldOf, anchor_memory, last_cell, era_calls, calls_in_era, world_after, world_after_era, IsQuiescent}
+use Rattle.uni_model.specs.Worlds.{anchor_memory, last_cell, era_calls, calls_in_era, world_after_era, IsQuiescent}
 use Rattle.uni_model.specs.Worlds.Event.{Reshape}
 use Rattle.uni_model.specs.Invariant.{Has}
 use Rattle.uni_model.specs.Helping.{HelpingInvariant}
@@ -23,7 +22,7 @@ use Rattle.uni_core.specs.declared.stage.Pending.{Pending}
 use Rattle.uni_core.specs.Standing.{pending_of}
 use Rattle.uni_core.specs.NewLocal.{new_local}
 use Rattle.uni_core.specs.Shared.{Shared, first_of, named, memory_of, IsRenewed}
-use Rattle.uni_core.specs.Whole.{Whole, call_at, world_at, world_of, IsWorld}
+use Rattle.uni_core.specs.Whole.{Whole, call_at, world_of, IsWorld}
 use Rattle.uni_core.proofs.Named.{cell_named-name_from}
 
 -- what a process keeps for itself is read at its place, or is what a new process has

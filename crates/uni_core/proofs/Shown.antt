@@ -132,16 +132,16 @@ module _ {O S I R : Type 0} (object : Sequential S I R) (v : Whole O S I R) (is 
       row = is.row ∙ sym row;
       made = λ q. begun_later q ∙ made_later q;
       room = λ q. subst (λ k. k - first_of a' q ≤ v.row) (sym (begun_later q)) (
-        let all = made_later q in
-        let rows : v.row ≡ v.shared.cells.row = is.row in
-        elim (number_cases q p) [
-          | inl h ↦ let now : made_of a'.cells q ≡ made_of v.shared.cells p + 1 = made q ∙ rw h.1 refl in let f = free in omega arith
-          | inr h ↦
-              let now : made_of a'.cells q ≡ made_of v.shared.cells q = made q ∙ rw h.1 refl in
-              let was : (world_of v).begun q ≡ first_of v.shared q + made_of v.shared.cells q = is.made q in
-              let few : (world_of v).begun q - first_of v.shared q ≤ v.row = is.room q in
-              omega arith
-        ]);
+          let all = made_later q in
+          let rows : v.row ≡ v.shared.cells.row = is.row in
+          elim (number_cases q p) [
+            | inl h ↦ let now : made_of a'.cells q ≡ made_of v.shared.cells p + 1 = made q ∙ rw h.1 refl in let f = free in omega arith
+            | inr h ↦
+                let now : made_of a'.cells q ≡ made_of v.shared.cells q = made q ∙ rw h.1 refl in
+                let was : (world_of v).begun q ≡ first_of v.shared q + made_of v.shared.cells q = is.made q in
+                let few : (world_of v).begun q - first_of v.shared q ≤ v.row = is.room q in
+                omega arith
+          ]);
       early = λ q. let since = first_same q in let was : first_of v.shared q ≤ seq_of (memory_of v.shared) Anchor = is.early q in let anchor : seq_of (memory_of a') Anchor ≡ seq_of (memory_of v.shared) Anchor = ap (λ (m : Memory S I R). seq_of m Anchor) wrote in omega arith;
       numbers = subst (λ k. seq_of (memory_of a') Anchor + k * v.row < 2 ^ 48) (sym count) (subst (λ (m : Memory S I R). seq_of m Anchor + processes_of v.shared.cells * v.row < 2 ^ 48) (sym wrote) is.numbers);
       sound = subst (λ w. HelpingInvariant object w) (sym world_of-begun) (HelpingInvariant-world_after object (world_of v) (Call p i) (below, idle_is) is.counts is.sound);

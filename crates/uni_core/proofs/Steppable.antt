@@ -1,5 +1,5 @@
 -- Where a call is pending, its next step can be taken, and its last step finds a response.
-use Rattle.std.proofs.Common.{◌≡◌, ◌∙◌, ℕ, zero, suc, ◌+◌, ◌-◌, ◌*◌, ◌<◌, ◌≤◌, ◌^◌, ◌%◌, ◌⊎◌, inl, inr, refl, sym, ap, subst, Option, Some, None, option_map, IsSome, arith, Bool, true, false, cond, nat_eq, nat_lt}
+use Rattle.std.proofs.Common.{◌≡◌, ◌∙◌, ℕ, ◌+◌, ◌*◌, ◌<◌, ◌≤◌, ◌^◌, ◌%◌, ◌⊎◌, inl, inr, refl, sym, ap, subst, Option, Some, None, option_map, IsSome, arith, Bool, true, false, cond, nat_eq, nat_lt}
 use Rattle.std.specs.Option.{option_map_or}
 use Rattle.seq_object.specs.Sequential.{Sequential}
 use Rattle.cell_arena.specs.CellRecord.{CellRecord}
@@ -8,7 +8,7 @@ use Rattle.uni_model.specs.Places.{Name, Content, number_in, seq_of, inv_of, aft
 use Rattle.uni_model.specs.Places.Name.{Anchor, Of}
 use Rattle.uni_model.specs.Stages.{Stage as at}
 use Rattle.uni_model.specs.Chain.{response_in}
-use Rattle.uni_model.specs.Worlds.{sum_below, calls_in_era, era_calls}
+use Rattle.uni_model.specs.Worlds.{calls_in_era, era_calls}
 use Rattle.uni_model.specs.Invariant.{Has, AtHead, IsCellOf, Stands}
 use Rattle.uni_model.proofs.Steps.{linked_call, head_number}
 use Rattle.uni_model.proofs.Values.{response-settled}

@@ -11,7 +11,7 @@ use Rattle.uni_model.specs.Places.Content.{CellName, Link}
 use Rattle.uni_model.specs.Stages.{Stage as at}
 use Rattle.uni_model.specs.Chain.{response_in}
 use Rattle.uni_model.specs.Transition.{decision, value_after, place_of, stage_after_scan}
-use Rattle.cell_arena.specs.Arena.{Arena, processes_of, made_of}
+use Rattle.cell_arena.specs.Arena.{processes_of}
 use Rattle.uni_model.proofs.Written.{written_same, lt_cases}
 use Rattle.uni_core.specs.Shared.{Shared, named, memory_of, HasShapeOf}
 use Rattle.uni_core.specs.Standing.{Takes, effect_at, stage_of}

@@ -1,5 +1,5 @@
 -- What the shared places of a world contain, read from its arena and its entries.
-use Rattle.std.specs.Prelude.{◌≡◌, ℕ, zero, suc, ◌/◌, ◌%◌, List, Option, None, if◌then◌else◌, nat_lt, option_map, slice_get, IfSome, slice_index_or, ◌&&◌, ◌+◌, ◌-◌}
+use Rattle.std.specs.Prelude.{◌≡◌, ℕ, List, Option, None, if◌then◌else◌, nat_lt, option_map, slice_get, IfSome, slice_index_or, ◌&&◌, ◌+◌, ◌-◌}
 use Rattle.std.specs.Option.{option_map_or}
 use Rattle.cell_arena.specs.CellRecord.{CellRecord, index_of}
 use Rattle.cell_arena.specs.Arena.{Arena, processes_of, made_of, cell_of}

@@ -1,5 +1,5 @@
 -- When an era of a world can end.
-use Rattle.std.specs.Prelude.{◌≡◌, ℕ, ◌+◌, ◌*◌, ◌<◌, ◌≤◌, ◌^◌, IsSome, None}
+use Rattle.std.specs.Prelude.{◌≡◌, ℕ, ◌+◌, ◌*◌, ◌<◌, ◌^◌, IsSome, None}
 use Rattle.uni_model.specs.Places.{seq_of}
 use Rattle.uni_model.specs.Worlds.{WorldOf, last_cell}
 

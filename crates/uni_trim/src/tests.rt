@@ -110,13 +110,16 @@ fn a_trim_waits_for_no_call(rt: HostRuntime) -> Result<(), Fail> {
     assert!(rt; world.step(alloc, 1).is_ok());
     begins(alloc, &mut world, 0, &QueueInv::Enq(amount(6)?), 0)?;
     assert_eq!(rt; ends(alloc, &mut world, 0, 24, 2)?, QueueResp::Added);
-    assert_eq!(rt; heads(\&world), (Some(3), Some(1)));
+    assert_eq!(rt; heads(&world), (Some(3), Some(1)));
     assert_eq!(rt; trim(&mut world), Err(TrimFault::Pending(1)));
-    assert_eq!(rt; heads(\&world), (Some(3), Some(1)));
+    assert_eq!(rt; heads(&world), (Some(3), Some(1)));
     assert_eq!(rt; ends(alloc, &mut world, 1, 8, 0)?, QueueResp::Added);
-    assert_eq!(rt; heads(\&world), (Some(3), Some(3)));
+    assert_eq!(rt; heads(&world), (Some(3), Some(3)));
     assert_eq!(rt; trim(&mut world), Ok(3));
-    assert_eq!(rt; (heads(&world), world.last()), ((Some(3), Some(3)), CellId::anchor()));
+    assert_eq!(rt;
+        (heads(&world), world.last()),
+        ((Some(3), Some(3)), CellId::anchor())
+    );
     Ok(())
 }
 
@@ -131,7 +134,10 @@ fn numbers_and_the_state_go_on(rt: HostRuntime) -> Result<(), Fail> {
     begins(alloc, &mut world, 1, &QueueInv::Enq(amount(2)?), 0)?;
     assert!(rt; world.step(alloc, 1).is_ok());
     begins(alloc, &mut world, 0, &QueueInv::Deq, 1)?;
-    assert_eq!(rt; ends(alloc, &mut world, 0, 16, 1)?, QueueResp::Taken(amount(1)?));
+    assert_eq!(rt;
+        ends(alloc, &mut world, 0, 16, 1)?,
+        QueueResp::Taken(amount(1)?)
+    );
     has_one_entry(
         &rt,
         alloc,
@@ -161,7 +167,10 @@ fn a_row_is_empty_again(rt: HostRuntime) -> Result<(), Fail> {
         Err(BeginFault::RowFull(0))
     );
     begins(alloc, &mut world, 1, &QueueInv::Deq, 0)?;
-    assert_eq!(rt; ends(alloc, &mut world, 1, 16, 1)?, QueueResp::Taken(amount(1)?));
+    assert_eq!(rt;
+        ends(alloc, &mut world, 1, 16, 1)?,
+        QueueResp::Taken(amount(1)?)
+    );
     assert_eq!(rt; trim(&mut world), Ok(3));
     begins(alloc, &mut world, 0, &QueueInv::Enq(amount(2)?), 1)?;
     assert_eq!(rt; ends(alloc, &mut world, 0, 16, 1)?, QueueResp::Added);
@@ -185,12 +194,16 @@ fn numbers_that_would_pass_the_greatest_are_refused(rt: HostRuntime) -> Result<(
         4,
         5,
         281_474_976_710_647,
-    ).map_err(|_| Fail::from("no world was opened"))?;
+    )
+    .map_err(|_| Fail::from("no world was opened"))?;
     begins(alloc, &mut world, 0, &9, 0)?;
     assert_eq!(rt; ends(alloc, &mut world, 0, 16, 1)?, 5);
     assert_eq!(rt; trim(&mut world), Err(TrimFault::SeqFull));
     assert_eq!(rt; reshape(alloc, &mut world, 2), Err(ReshapeFault::SeqFull));
-    assert_eq!(rt; (world.pending(), world.last()), (None, CellId::of(2, 0, 0)));
+    assert_eq!(rt;
+        (world.pending(), world.last()),
+        (None, CellId::of(2, 0, 0))
+    );
     assert_eq!(rt; reshape(alloc, &mut world, 1), Ok(281_474_976_710_648));
     Ok(())
 }
@@ -202,10 +215,16 @@ fn a_second_process_joins(rt: HostRuntime) -> Result<(), Fail> {
     begins(alloc, &mut world, 0, &QueueInv::Enq(amount(7)?), 0)?;
     assert_eq!(rt; ends(alloc, &mut world, 0, 14, 1)?, QueueResp::Added);
     assert_eq!(rt; reshape(alloc, &mut world, 2), Ok(2));
-    assert_eq!(rt; heads(\&world), (Some(2), Some(2)));
-    assert_eq!(rt; (counts(&world, 0), calls(&world, 0)), (Some((14, 1)), Some((1, 1))));
+    assert_eq!(rt; heads(&world), (Some(2), Some(2)));
+    assert_eq!(rt;
+        (counts(&world, 0), calls(&world, 0)),
+        (Some((14, 1)), Some((1, 1)))
+    );
     begins(alloc, &mut world, 1, &QueueInv::Deq, 0)?;
-    assert_eq!(rt; ends(alloc, &mut world, 1, 16, 1)?, QueueResp::Taken(amount(7)?));
+    assert_eq!(rt;
+        ends(alloc, &mut world, 1, 16, 1)?,
+        QueueResp::Taken(amount(7)?)
+    );
     has_one_entry(
         &rt,
         alloc,
@@ -222,7 +241,10 @@ fn a_process_leaves_and_joins_again(rt: HostRuntime) -> Result<(), Fail> {
     let mut world = queue(alloc, 2, 8)?;
     begins(alloc, &mut world, 1, &QueueInv::Enq(amount(5)?), 0)?;
     assert_eq!(rt; reshape(alloc, &mut world, 65), Err(ReshapeFault::BadCount));
-    assert_eq!(rt; reshape(alloc, &mut world, 1), Err(ReshapeFault::Pending(1)));
+    assert_eq!(rt;
+        reshape(alloc, &mut world, 1),
+        Err(ReshapeFault::Pending(1))
+    );
     assert_eq!(rt; ends(alloc, &mut world, 1, 16, 1)?, QueueResp::Added);
     assert_eq!(rt; reshape(alloc, &mut world, 0), Err(ReshapeFault::BadCount));
     assert_eq!(rt; reshape(alloc, &mut world, 1), Ok(2));
@@ -231,9 +253,15 @@ fn a_process_leaves_and_joins_again(rt: HostRuntime) -> Result<(), Fail> {
         Err(BeginFault::BadProcess)
     );
     begins(alloc, &mut world, 0, &QueueInv::Deq, 0)?;
-    assert_eq!(rt; ends(alloc, &mut world, 0, 14, 1)?, QueueResp::Taken(amount(5)?));
+    assert_eq!(rt;
+        ends(alloc, &mut world, 0, 14, 1)?,
+        QueueResp::Taken(amount(5)?)
+    );
     assert_eq!(rt; reshape(alloc, &mut world, 2), Ok(3));
-    assert_eq!(rt; (calls(&world, 0), calls(&world, 1)), (Some((1, 1)), Some((1, 2))));
+    assert_eq!(rt;
+        (calls(&world, 0), calls(&world, 1)),
+        (Some((1, 1)), Some((1, 2)))
+    );
     begins(alloc, &mut world, 1, &QueueInv::Deq, 1)?;
     assert_eq!(rt; ends(alloc, &mut world, 1, 16, 1)?, QueueResp::Empty);
     has_one_entry(
@@ -272,6 +300,9 @@ fn a_thousand_eras_of_one_call(rt: HostRuntime) -> Result<(), Fail> {
         assert_eq!(rt; ends(alloc, &mut world, 0, 14, 1)?, before);
         assert_eq!(rt; trim(&mut world), Ok(round + 2));
     }
-    assert_eq!(rt; (head(&world, 0), calls(&world, 0)), (Some(1001), Some((1000, 1))));
+    assert_eq!(rt;
+        (head(&world, 0), calls(&world, 0)),
+        (Some(1001), Some((1000, 1)))
+    );
     Ok(())
 }
