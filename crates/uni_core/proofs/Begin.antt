@@ -12,14 +12,13 @@ use Rattle.uni_model.specs.Worlds.{world_after_call, calls_in_era}
 use Rattle.uni_model.specs.Worlds.Event.{Call}
 use Rattle.uni_model.proofs.Simulation.{call_accepted}
 use Rattle.uni_core.specs.declared.local.Local.{Local}
-use Rattle.uni_model.specs.Indices.{name_of}
-use Rattle.uni_core.specs.Shared.{Shared, memory_of}
+use Rattle.uni_core.specs.Shared.{Shared, first_of, named, memory_of}
 use Rattle.uni_core.specs.declared.stage.Pending.{Pending}
 use Rattle.uni_core.specs.Standing.{pending_of}
 use Rattle.uni_model.specs.Stages.{Pending as PendingAt}
 use Rattle.seq_object.specs.declared.call_id.CallId.{CallId}
 use Rattle.uni_core.specs.Whole.{Whole, world_of, call_at, current_of, IsWorld, TakesEffect}
-use Rattle.uni_model.proofs.Indices.{name_of-index_of}
+use Rattle.uni_model.proofs.Indices.{name_from-index_of}
 use Rattle.uni_core.proofs.Shown.{begun_whole, world_of-begun, IsWorld-begun}
 
 -- a process that there is, by the count of processes as it was read
@@ -37,7 +36,7 @@ room_left row made room is some = omega (arith, is, some)
 -- what a process keeps for itself, where it stands in the list
 pub local_here : {O S I R : Type 0} (object : Sequential S I R) (v : Whole O S I R) → IsWorld object v → (p : ℕ) (l : Local)
     → p < processes_of v.shared.cells → l ≡ get_or v.locals p l → slice_get v.locals p ≡ Some l
-local_here object v is p l inside read = slice_get_read v.locals (length v.locals) p l refl (subst (λ j. p < j) (sym is.locals) inside) read
+local_here object v is p l inside read = slice_get_read v.locals (length v.locals) p l refl (let all : processes_of v.shared.cells ≤ length v.locals = is.locals in let below : p < processes_of v.shared.cells = inside in omega arith) read
 
 module _ {O S I R : Type 0} (object : Sequential S I R) (v now : Whole O S I R) (view : v ≡ now) (is : IsWorld object v) (p : ℕ) (l : Local)
     (inside : p < processes_of v.shared.cells) (read : l ≡ get_or v.locals p l) where
@@ -62,7 +61,7 @@ module _ {O S I R : Type 0} (object : Sequential S I R) (v now : Whole O S I R) 
 
   -- the era has as many of its calls as there are cells
   era_is : calls_in_era (world_of v) p ≡ made_of v.shared.cells p
-  era_is = let all : (world_of v).begun p ≡ 0 + made_of v.shared.cells p = is.made p inside in omega arith
+  era_is = let all : (world_of v).begun p ≡ first_of v.shared p + made_of v.shared.cells p = is.made p in omega arith
 
   -- a row that is full
   pub full_now : (room : ℕ) → room ≡ v.shared.cells.row - made_of v.shared.cells p → room ≡ 0 → calls_in_era (world_of now) p ≡ now.row
@@ -74,17 +73,17 @@ module _ {O S I R : Type 0} (object : Sequential S I R) (v now : Whole O S I R) 
 
   module _ (a' : Shared S I R) (i j : I) (same : i ≡ j) (mine : ℕ) (b : Bool) (tested : b ≡ is_some l.call) (none : b ≡ false) (free : made_of v.shared.cells p < v.shared.cells.row)
       (mine_is : mine ≡ index_of (processes_of v.shared.cells) p (made_of v.shared.cells p))
-      (wrote : memory_of a' ≡ memory_with (memory_of v.shared) (InvOf (Of p (made_of v.shared.cells p))) (Invocation (Some i)))
-      (shape : (processes_of a'.cells ≡ processes_of v.shared.cells) × (a'.cells.row ≡ v.shared.cells.row))
-      (made : ChangesOnly (made_of v.shared.cells) (made_of a'.cells) p (made_of v.shared.cells p + 1)) where
+      (wrote : memory_of a' ≡ memory_with (memory_of v.shared) (InvOf (Of p (first_of v.shared p + made_of v.shared.cells p))) (Invocation (Some i)))
+      (shape : (processes_of a'.cells ≡ processes_of v.shared.cells) × (a'.cells.row ≡ v.shared.cells.row) × (a'.first ≡ v.shared.first))
+      (made : ChangesOnly (made_of v.shared.cells) (made_of a'.cells) p (made_of v.shared.cells p + 1)) (among : ℕ) (among_is : among ≡ processes_of v.shared.cells) where
     pub idle : l.call ≡ None
     idle = no_call b (sym tested) none
 
-    made_is : made_of v.shared.cells p ≡ l.begun
-    made_is = let all : (world_of v).begun p ≡ 0 + made_of v.shared.cells p = is.made p inside in let own = begun_is in omega arith
+    made_is : first_of v.shared p + made_of v.shared.cells p ≡ l.begun
+    made_is = sym (is.made p) ∙ begun_is
 
-    pub name : name_of (processes_of v.shared.cells) mine ≡ Of p l.begun
-    name = ap (name_of (processes_of v.shared.cells)) mine_is ∙ name_of-index_of (processes_of v.shared.cells) p (made_of v.shared.cells p) inside ∙ ap (Of p) made_is
+    pub name : named v.shared mine ≡ Of p l.begun
+    name = ap (named v.shared) mine_is ∙ name_from-index_of (processes_of v.shared.cells) (first_of v.shared) p (made_of v.shared.cells p) inside ∙ ap (Of p) made_is
 
     pub wrote_begun : memory_of a' ≡ memory_with (memory_of v.shared) (InvOf (Of p l.begun)) (Invocation (Some i))
     wrote_begun = wrote ∙ ap (λ c. memory_with (memory_of v.shared) (InvOf (Of p c)) (Invocation (Some i))) made_is
@@ -92,11 +91,11 @@ module _ {O S I R : Type 0} (object : Sequential S I R) (v now : Whole O S I R) 
     pub idle_now : (world_of now).call p ≡ None
     idle_now = no_call_now idle
 
-    pub IsWorld-call : IsWorld object (begun_whole object v is p l here inside a' i mine name shape.0 wrote_begun idle)
-    IsWorld-call = IsWorld-begun object v is p l here inside a' i mine name shape.0 wrote_begun idle shape.1 made free
+    pub IsWorld-call : IsWorld object (begun_whole object v is p l here inside a' i mine name shape.0 shape.2 among among_is wrote_begun idle)
+    IsWorld-call = IsWorld-begun object v is p l here inside a' i mine name shape.0 shape.2 among among_is wrote_begun idle shape.1 made free
 
-    pub world_of-call : world_of (begun_whole object v is p l here inside a' i mine name shape.0 wrote_begun idle) ≡ world_after_call (world_of now) p j
-    world_of-call = world_of-begun object v is p l here inside a' i mine name shape.0 wrote_begun idle
+    pub world_of-call : world_of (begun_whole object v is p l here inside a' i mine name shape.0 shape.2 among among_is wrote_begun idle) ≡ world_after_call (world_of now) p j
+    world_of-call = world_of-begun object v is p l here inside a' i mine name shape.0 shape.2 among among_is wrote_begun idle
         ∙ ap (λ (x : Whole O S I R). world_after_call (world_of x) p i) view ∙ ap (world_after_call (world_of now) p) same
 
     pub Follows-call : TakesEffect object (world_of now) (Call p j)
@@ -106,10 +105,10 @@ module _ {O S I R : Type 0} (object : Sequential S I R) (v now : Whole O S I R) 
         accepted
 
   -- the call that is pending is the latest that its process has begun
-  pend : (call : Pending) → l.call ≡ Some call → (world_of v).call p ≡ Some (pending_of (processes_of v.shared.cells) call)
-  pend call e = ap (call_at (processes_of v.shared.cells)) here ∙ ap (option_map (pending_of (processes_of v.shared.cells))) e
+  pend : (call : Pending) → l.call ≡ Some call → (world_of v).call p ≡ Some (pending_of (named v.shared) call)
+  pend call e = ap (call_at (named v.shared)) here ∙ ap (option_map (pending_of (named v.shared))) e
 
-  pub few_enough : p < 16
+  pub few_enough : p < 64
   few_enough = let few = is.few in omega arith
 
   module _ (b : Bool) (tested : is_some l.call ≡ not b) (is_false : b ≡ false) where
@@ -120,7 +119,7 @@ module _ {O S I R : Type 0} (object : Sequential S I R) (v now : Whole O S I R) 
     pub begun_one : 1 ≤ l.begun
     begun_one =
         let c = has_call l.call tested in
-        let mine = is.sound.2.calls.mine p (pending_of (processes_of v.shared.cells) c.0) (pend c.0 c.1) in
+        let mine = is.sound.2.calls.mine p (pending_of (named v.shared) c.0) (pend c.0 c.1) in
         subst (λ k. 1 ≤ k) (sym mine.2 ∙ begun_is) (omega arith)
 
     pub current_now : Some (record { process = p; nth = l.begun - 1 }) ≡ current_of (world_of now) p

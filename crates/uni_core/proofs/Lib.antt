@@ -10,3 +10,4 @@ pub mod Reading
 pub mod Runs
 mod Walk
 mod OpenedWorld
+pub mod Renewed

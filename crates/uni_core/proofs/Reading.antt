@@ -1,5 +1,5 @@
 -- What the readers of a world answer.
-use Rattle.std.proofs.Common.{◌≡◌, ◌∙◌, ℕ, ◌+◌, ◌-◌, ◌*◌, ◌^◌, ◌<◌, ◌≤◌, length, sym, ap, subst, Option, Some, None, option_map, IfSome, arith}
+use Rattle.std.proofs.Common.{◌≡◌, ◌∙◌, ℕ, ◌+◌, ◌-◌, ◌^◌, ◌<◌, ◌≤◌, length, sym, ap, subst, Option, Some, None, option_map, IfSome, arith}
 use Rattle.seq_object.specs.Sequential.{Sequential}
 use Rattle.cell_arena.specs.CellRecord.{index_of}
 use Rattle.cell_arena.specs.Arena.{processes_of}
@@ -8,11 +8,10 @@ use Rattle.uni_model.specs.Places.Name.{Anchor, Of}
 use Rattle.uni_model.specs.Worlds.{chain}
 use Rattle.uni_model.specs.Invariant.{Has}
 use Rattle.uni_model.proofs.OneLists.{length-chain}
-use Rattle.uni_model.specs.Indices.{name_of}
-use Rattle.uni_core.specs.Shared.{memory_of}
+use Rattle.uni_core.specs.Shared.{first_of, named, memory_of}
 use Rattle.uni_core.specs.Standing.{IsThere}
 use Rattle.uni_core.specs.Whole.{Whole, world_of, IsWorld}
-use Rattle.uni_model.proofs.Indices.{name_of-index_of}
+use Rattle.uni_model.proofs.Indices.{name_from-index_of}
 use Rattle.uni_core.proofs.Begin.{inside_view}
 use Rattle.uni_core.proofs.Steppable.{last_small, there_seq, there_inv}
 
@@ -24,29 +23,33 @@ module _ {O S I R : Type 0} (v now : Whole O S I R) (view : v ≡ now) (sequenti
 -- cells that are there
 module _ {O S I R : Type 0} (object : Sequential S I R) (v now : Whole O S I R) (view : v ≡ now) (is : IsWorld object v) where
   -- the one that a head entry names
-  pub head_there : (p id : ℕ) → p < processes_of now.shared.cells → name_of (processes_of v.shared.cells) id ≡ head_of (memory_of v.shared) p → IsThere v.shared id
+  pub head_there : (p id : ℕ) → p < processes_of now.shared.cells → named v.shared id ≡ head_of (memory_of v.shared) p → IsThere v.shared id
   head_there p id below named =
       let inside = inside_view v now p view below in
       there_seq v.shared (omega (arith, inside)) id (subst (λ x. 1 ≤ seq_of (memory_of v.shared) x) (sym named) (is.sound.2.calls.head p inside))
 
   -- the one that is linked after a cell
-  pub linked_there : 1 ≤ processes_of now.shared.cells → (x : Name) (o : Option ℕ) → option_map (name_of (processes_of v.shared.cells)) o ≡ after_of (memory_of v.shared) x
+  pub linked_there : 1 ≤ processes_of now.shared.cells → (x : Name) (o : Option ℕ) → option_map (named v.shared) o ≡ after_of (memory_of v.shared) x
       → IfSome o (λ id. IsThere now.shared id)
   linked_there positive x None link = tt
   linked_there positive x (Some id) link =
       let at_v = subst (λ (y : Whole O S I R). 1 ≤ processes_of y.shared.cells) (sym view) positive in
-      let step = is.sound.2.numbered.link x (name_of (processes_of v.shared.cells) id) (sym link) in
+      let step = is.sound.2.numbered.link x (named v.shared id) (sym link) in
       let least : is.sound.0 Anchor ≤ is.sound.0 x = is.sound.2.numbered.least x step.0 in
       let number = step.1 in
-      subst (λ (y : Whole O S I R). IsThere y.shared id) view (there_inv v.shared at_v id (has_inv (name_of (processes_of v.shared.cells) id) (omega arith))) where
+      subst (λ (y : Whole O S I R). IsThere y.shared id) view (there_inv v.shared at_v id (has_inv (named v.shared id) (omega arith))) where
         has_inv : (y : Name) → is.sound.0 Anchor < is.sound.0 y → Has (inv_of (memory_of v.shared) y)
         has_inv Anchor past = absurd (omega arith)
         has_inv (Of p k) past = is.sound.2.calls.linked p k (omega arith)
 
 -- the name of a cell whose index was counted
-pub name_of-counted : (n j p q k id : ℕ) → id ≡ index_of j q k → j ≡ n → q ≡ p → p < n → name_of n id ≡ Of p k
-name_of-counted n j p q k id counted processes process below =
-    ap (name_of n) (counted ∙ ap (λ i. index_of i q k) processes ∙ ap (λ i. index_of n i k) process) ∙ name_of-index_of n p k below
+pub named-counted : {O S I R : Type 0} (v now : Whole O S I R) → v ≡ now → (j p q k b id : ℕ) → b ≡ first_of v.shared q → b ≤ k → id ≡ index_of j q (k - b)
+    → j ≡ processes_of now.shared.cells → q ≡ p → p < processes_of now.shared.cells → named now.shared id ≡ Of p k
+named-counted {O} {S} {I} {R} v now view j p q k b id b_is since counted processes process below =
+    let first : b ≡ first_of now.shared p = b_is ∙ ap (first_of v.shared) process ∙ ap (λ (x : Whole O S I R). first_of x.shared p) view in
+    let nth : first_of now.shared p + (k - b) ≡ k = omega arith in
+    ap (named now.shared) (counted ∙ ap (λ i. index_of i q (k - b)) processes ∙ ap (λ i. index_of (processes_of now.shared.cells) i (k - b)) process)
+    ∙ name_from-index_of (processes_of now.shared.cells) (first_of now.shared) p (k - b) below ∙ ap (Of p) nth
 
 -- the cells of a world have numbers that fit
 pub numbers_fit : {O S I R : Type 0} (object : Sequential S I R) (v : Whole O S I R) → IsWorld object v → seq_of (memory_of v.shared) Anchor + length (chain (world_of v)) < 2 ^ 48
@@ -58,11 +61,11 @@ numbers_fit object v is =
 
 -- the cell before a cell is there
 pub before_there : {O S I R : Type 0} (object : Sequential S I R) (v now : Whole O S I R) → v ≡ now → IsWorld object v → 1 ≤ processes_of now.shared.cells → (x : Name) (o : Option ℕ)
-    → option_map (name_of (processes_of v.shared.cells)) o ≡ before_of (memory_of v.shared) x → IfSome o (λ id. IsThere now.shared id)
+    → option_map (named v.shared) o ≡ before_of (memory_of v.shared) x → IfSome o (λ id. IsThere now.shared id)
 before_there object v now view is positive x None read = tt
 before_there {O} {S} {I} {R} object v now view is positive x (Some id) read =
     let at_v = subst (λ (y : Whole O S I R). 1 ≤ processes_of y.shared.cells) (sym view) positive in
-    let y : Name = name_of (processes_of v.shared.cells) id in
+    let y : Name = named v.shared id in
     let linked = is.sound.2.numbered.link y x (is.sound.2.back.link y x (sym read)) in
     let top : is.sound.0 x ≤ is.sound.1 = is.sound.2.numbered.greatest x in
     let n : is.sound.0 x ≡ is.sound.0 y + 1 = linked.1 in

@@ -1,5 +1,5 @@
 -- The world that is shown, after a process's own data changed.
-use Rattle.std.proofs.Common.{◌≡◌, ◌∙◌, ℕ, ◌+◌, ◌-◌, ◌*◌, ◌<◌, ◌≤◌, ◌^◌, inl, inr, refl, sym, ap, subst, List, Option, Some, None, option_map, arith, length, slice_get, slice_set}
+use Rattle.std.proofs.Common.{◌≡◌, ◌∙◌, ℕ, ◌+◌, ◌-◌, ◌*◌, ◌<◌, ◌≤◌, ◌^◌, inl, inr, refl, sym, ap, subst, List, Option, Some, None, option_map, arith, length, slice_get, slice_set, slice_index_or}
 use Rattle.std.specs.Option.{option_map_or}
 use Rattle.std.proofs.Math.ListN.{length-set}
 use Rattle.seq_object.specs.Sequential.{Sequential}
@@ -26,8 +26,8 @@ use Rattle.uni_core.specs.declared.local.Local.{Local}
 use Rattle.uni_core.specs.declared.stage.Stage.{Stage}
 use Rattle.uni_core.specs.declared.stage.Stage.TheVariants as stages
 use Rattle.uni_core.specs.declared.stage.Pending.{Pending}
-use Rattle.uni_model.specs.Indices.{name_of}
-use Rattle.uni_core.specs.Shared.{Shared, memory_of}
+use Rattle.uni_model.specs.Indices.{name_from}
+use Rattle.uni_core.specs.Shared.{Shared, first_of, named, memory_of}
 use Rattle.uni_core.specs.Standing.{stage_of, pending_of, Takes}
 use Rattle.uni_core.specs.Whole.{Whole, call_at, world_at, world_of, IsWorld}
 
@@ -42,22 +42,24 @@ read-slice_set {A} g locals p l inside = λ i q. at_process q i where
   ]
 
 -- the world that is shown then
-pub world_at-slice_set : {S I R : Type 0} (n : ℕ) (m : Memory S I R) (locals : List Local) (p : ℕ) (l : Local) → p < length locals
-    → world_at n m (slice_set locals p l) ≡ record {
+pub world_at-slice_set : {S I R : Type 0} (n : ℕ) (first : ℕ → ℕ) (m : Memory S I R) (locals : List Local) (p : ℕ) (l : Local) → p < length locals
+    → world_at n first m (slice_set locals p l) ≡ record {
       n = n;
       memory = m;
-      call = set_at (λ q. call_at n (slice_get locals q)) p (call_at n (Some l));
+      call = set_at (λ q. call_at (name_from n first) (slice_get locals q)) p (call_at (name_from n first) (Some l));
       begun = set_at (λ q. option_map_or (λ (l : Local). l.begun) (slice_get locals q) 0) p l.begun;
-      first = λ q. 0;
+      first = first;
+      among = set_at (λ q. option_map_or (λ (l : Local). l.among) (slice_get locals q) 0) p l.among;
       steps = set_at (λ q. option_map_or (λ (l : Local). l.steps) (slice_get locals q) 0) p l.steps;
       turns = set_at (λ q. option_map_or (λ (l : Local). l.turns) (slice_get locals q) 0) p l.turns;
     }
-world_at-slice_set n m locals p l inside = λ i. record {
+world_at-slice_set n first m locals p l inside = λ i. record {
   n = n;
   memory = m;
-  call = read-slice_set (call_at n) locals p l inside i;
+  call = read-slice_set (call_at (name_from n first)) locals p l inside i;
   begun = read-slice_set (λ o. option_map_or (λ (l : Local). l.begun) o 0) locals p l inside i;
-  first = λ q. 0;
+  first = first;
+  among = read-slice_set (λ o. option_map_or (λ (l : Local). l.among) o 0) locals p l inside i;
   steps = read-slice_set (λ o. option_map_or (λ (l : Local). l.steps) o 0) locals p l inside i;
   turns = read-slice_set (λ o. option_map_or (λ (l : Local). l.turns) o 0) locals p l inside i;
 }
@@ -73,12 +75,13 @@ set_at-same f p v e = λ i q. at_number q i where
 
 module _ {O S I R : Type 0} (object : Sequential S I R) (v : Whole O S I R) (is : IsWorld object v) (p : ℕ) (l : Local) (here : slice_get v.locals p ≡ Some l) (below : p < processes_of v.shared.cells) where
   long : p < length v.locals
-  long = subst (λ k. p < k) (sym is.locals) below
+  long = let all : processes_of v.shared.cells ≤ length v.locals = is.locals in let inside : p < processes_of v.shared.cells = below in omega arith
 
-  module _ (a' : Shared S I R) (i : I) (mine : ℕ) (name : name_of (processes_of v.shared.cells) mine ≡ Of p l.begun) (count : processes_of a'.cells ≡ processes_of v.shared.cells)
+  module _ (a' : Shared S I R) (i : I) (mine : ℕ) (name : named v.shared mine ≡ Of p l.begun) (count : processes_of a'.cells ≡ processes_of v.shared.cells)
+      (firsts : a'.first ≡ v.shared.first) (among : ℕ) (among_is : among ≡ processes_of v.shared.cells)
       (wrote : memory_of a' ≡ memory_with (memory_of v.shared) (InvOf (Of p l.begun)) (Invocation (Some i))) (idle : l.call ≡ None) where
     abbrev pub begun_local : Local
-    begun_local = record { call = Some (record { mine = mine; stage = stages.Announce }); begun = l.begun + 1; steps = 0; turns = 0 }
+    begun_local = record { call = Some (record { mine = mine; stage = stages.Announce }); begun = l.begun + 1; among = among; steps = 0; turns = 0 }
 
     abbrev pub begun_whole : Whole O S I R
     begun_whole = record { object = v.object; row = v.row; shared = a'; locals = slice_set v.locals p begun_local }
@@ -88,15 +91,17 @@ module _ {O S I R : Type 0} (object : Sequential S I R) (v : Whole O S I R) (is 
 
     pub world_of-begun : world_of begun_whole ≡ world_after_call (world_of v) p i
     world_of-begun =
-        ap (λ k. world_at k (memory_of a') (slice_set v.locals p begun_local)) count
-        ∙ ap (λ m. world_at (processes_of v.shared.cells) m (slice_set v.locals p begun_local)) wrote
-        ∙ world_at-slice_set (processes_of v.shared.cells) (memory_with (memory_of v.shared) (InvOf (Of p l.begun)) (Invocation (Some i))) v.locals p begun_local long
+        ap (λ k. world_at k (first_of a') (memory_of a') (slice_set v.locals p begun_local)) count
+        ∙ ap (λ fs. world_at (processes_of v.shared.cells) (λ q. slice_index_or fs q 0) (memory_of a') (slice_set v.locals p begun_local)) firsts
+        ∙ ap (λ m. world_at (processes_of v.shared.cells) (first_of v.shared) m (slice_set v.locals p begun_local)) wrote
+        ∙ world_at-slice_set (processes_of v.shared.cells) (first_of v.shared) (memory_with (memory_of v.shared) (InvOf (Of p l.begun)) (Invocation (Some i))) v.locals p begun_local long
         ∙ ap (λ x. let w : WorldOf S I R = record {
           n = processes_of v.shared.cells;
           memory = memory_with (memory_of v.shared) (InvOf (Of p l.begun)) (Invocation (Some i));
           call = set_at (world_of v).call p (Some (record { mine = x; stage = at.Announce }));
           begun = set_at (world_of v).begun p (l.begun + 1);
-          first = λ q. 0;
+          first = first_of v.shared;
+          among = set_at (world_of v).among p among;
           steps = set_at (world_of v).steps p 0;
           turns = set_at (world_of v).turns p 0;
         } in w) name
@@ -105,10 +110,12 @@ module _ {O S I R : Type 0} (object : Sequential S I R) (v : Whole O S I R) (is 
           memory = memory_with (memory_of v.shared) (InvOf (Of p b)) (Invocation (Some i));
           call = set_at (world_of v).call p (Some (record { mine = Of p b; stage = at.Announce }));
           begun = set_at (world_of v).begun p (b + 1);
-          first = λ q. 0;
+          first = first_of v.shared;
+          among = set_at (world_of v).among p among;
           steps = set_at (world_of v).steps p 0;
           turns = set_at (world_of v).turns p 0;
         } in w) (sym begun_is)
+        ∙ ap (λ k. let w : WorldOf S I R = record (world_after_call (world_of v) p i) { among = set_at (world_of v).among p k } in w) among_is
 
     idle_is : (world_of v).call p ≡ None
     idle_is = rw here (rw idle refl)
@@ -119,37 +126,58 @@ module _ {O S I R : Type 0} (object : Sequential S I R) (v : Whole O S I R) (is 
     pub IsWorld-begun : a'.cells.row ≡ v.shared.cells.row → ChangesOnly (made_of v.shared.cells) (made_of a'.cells) p (made_of v.shared.cells p + 1) → made_of v.shared.cells p < v.shared.cells.row
         → IsWorld object begun_whole
     IsWorld-begun row made free = record {
-      locals = length-slice_set v.locals p begun_local ∙ is.locals ∙ sym count;
-      few = subst (λ k. k ≤ 16) (sym count) is.few;
+      locals = let all : processes_of v.shared.cells ≤ length v.locals = is.locals in let same = length-slice_set v.locals p begun_local in let n : processes_of a'.cells ≡ processes_of v.shared.cells = count in omega arith;
+      firsts = ap length firsts ∙ is.firsts ∙ sym (length-slice_set v.locals p begun_local);
+      few = subst (λ k. k ≤ 64) (sym count) is.few;
       row = is.row ∙ sym row;
-      made = λ q inside. begun_later q ∙ (elim (number_cases q p) [
-        | inl h ↦ rw h.1 (let was : (world_of v).begun p ≡ 0 + made_of v.shared.cells p = is.made p below in let now : made_of a'.cells q ≡ made_of v.shared.cells p + 1 = made q ∙ rw h.1 refl in omega arith)
-        | inr h ↦ rw h.1 (is.made q (subst (λ k. q < k) count inside) ∙ ap (λ k. 0 + k) (sym (made q ∙ rw h.1 refl)))
-      ]);
-      room = λ q. subst (λ k. k - 0 ≤ v.row) (sym (begun_later q)) (elim (number_cases q p) [
-        | inl h ↦ rw h.1 (let e : (world_of v).begun p ≡ l.begun = begun_is in let was : (world_of v).begun p ≡ 0 + made_of v.shared.cells p = is.made p below in let rows : v.row ≡ v.shared.cells.row = is.row in let f = free in omega arith)
-        | inr h ↦ rw h.1 (is.room q)
-      ]);
+      made = λ q. begun_later q ∙ made_later q;
+      room = λ q. subst (λ k. k - first_of a' q ≤ v.row) (sym (begun_later q)) (
+          let all = made_later q in
+          let rows : v.row ≡ v.shared.cells.row = is.row in
+          elim (number_cases q p) [
+            | inl h ↦ let now : made_of a'.cells q ≡ made_of v.shared.cells p + 1 = made q ∙ rw h.1 refl in let f = free in omega arith
+            | inr h ↦
+                let now : made_of a'.cells q ≡ made_of v.shared.cells q = made q ∙ rw h.1 refl in
+                let was : (world_of v).begun q ≡ first_of v.shared q + made_of v.shared.cells q = is.made q in
+                let few : (world_of v).begun q - first_of v.shared q ≤ v.row = is.room q in
+                omega arith
+          ]);
+      early = λ q. let since = first_same q in let was : first_of v.shared q ≤ seq_of (memory_of v.shared) Anchor = is.early q in let anchor : seq_of (memory_of a') Anchor ≡ seq_of (memory_of v.shared) Anchor = ap (λ (m : Memory S I R). seq_of m Anchor) wrote in omega arith;
       numbers = subst (λ k. seq_of (memory_of a') Anchor + k * v.row < 2 ^ 48) (sym count) (subst (λ (m : Memory S I R). seq_of m Anchor + processes_of v.shared.cells * v.row < 2 ^ 48) (sym wrote) is.numbers);
       sound = subst (λ w. HelpingInvariant object w) (sym world_of-begun) (HelpingInvariant-world_after object (world_of v) (Call p i) (below, idle_is) is.counts is.sound);
       counts = subst CountsSteps (sym world_of-begun) (CountsSteps-world_after object (world_of v) (Call p i) (below, idle_is) (is.sound.0, is.sound.1, is.sound.2) is.counts);
-    }
+    } where
+      first_same : (q : ℕ) → first_of a' q ≡ first_of v.shared q
+      first_same q = ap (λ fs. slice_index_or fs q 0) firsts
+
+      made_later : (q : ℕ) → set_at (world_of v).begun p ((world_of v).begun p + 1) q ≡ first_of a' q + made_of a'.cells q
+      made_later q =
+          let first = first_same q in
+          let was : (world_of v).begun q ≡ first_of v.shared q + made_of v.shared.cells q = is.made q in
+          elim (number_cases q p) [
+            | inl h ↦ rw h.1 (
+                let now : made_of a'.cells q ≡ made_of v.shared.cells p + 1 = made q ∙ rw h.1 refl in
+                let same : made_of v.shared.cells q ≡ made_of v.shared.cells p = ap (made_of v.shared.cells) h.0 in
+                let begun : (world_of v).begun q ≡ (world_of v).begun p = ap (world_of v).begun h.0 in
+                omega arith)
+            | inr h ↦ rw h.1 (let now : made_of a'.cells q ≡ made_of v.shared.cells q = made q ∙ rw h.1 refl in omega arith)
+          ]
 
   module _ (a' : Shared S I R) (call : Pending) (pending : l.call ≡ Some call) (to : Option Stage) (response : Option R)
-      (takes : Takes object p (name_of (processes_of v.shared.cells) call.mine) (stage_of (processes_of v.shared.cells) call.stage) v.shared a' (option_map (stage_of (processes_of v.shared.cells)) to) response)
+      (takes : Takes object p (named v.shared call.mine) (stage_of (named v.shared) call.stage) v.shared a' (option_map (stage_of (named v.shared)) to) response)
       (steps turns : ℕ) (steps_is : steps ≡ l.steps + 1)
-      (turns_is : turns ≡ l.turns + turn_of (stage_of (processes_of v.shared.cells) call.stage) (memory_of v.shared (place_of (processes_of v.shared.cells) p (name_of (processes_of v.shared.cells) call.mine) (stage_of (processes_of v.shared.cells) call.stage)))) where
+      (turns_is : turns ≡ l.turns + turn_of (stage_of (named v.shared) call.stage) (memory_of v.shared (place_of (processes_of v.shared.cells) p (named v.shared call.mine) (stage_of (named v.shared) call.stage)))) where
     abbrev pub stepped_local : Local
-    stepped_local = record { call = option_map (λ s. record { mine = call.mine; stage = s }) to; begun = l.begun; steps = steps; turns = turns }
+    stepped_local = record { call = option_map (λ s. record { mine = call.mine; stage = s }) to; begun = l.begun; among = l.among; steps = steps; turns = turns }
 
     abbrev pub stepped_whole : Whole O S I R
     stepped_whole = record { object = v.object; row = v.row; shared = a'; locals = slice_set v.locals p stepped_local }
 
-    pub pending_is : (world_of v).call p ≡ Some (pending_of (processes_of v.shared.cells) call)
+    pub pending_is : (world_of v).call p ≡ Some (pending_of (named v.shared) call)
     pending_is = rw here (rw pending refl)
 
-    call_later : (o : Option Stage) → call_at (processes_of v.shared.cells) (Some (record { call = option_map (λ s. record { mine = call.mine; stage = s }) o; begun = l.begun; steps = steps; turns = turns }))
-        ≡ call_after (name_of (processes_of v.shared.cells) call.mine) (option_map (stage_of (processes_of v.shared.cells)) o)
+    call_later : (o : Option Stage) → call_at (named v.shared) (Some (record { call = option_map (λ s. record { mine = call.mine; stage = s }) o; begun = l.begun; among = l.among; steps = steps; turns = turns }))
+        ≡ call_after (named v.shared call.mine) (option_map (stage_of (named v.shared)) o)
     call_later None = refl
     call_later (Some s) = refl
 
@@ -157,21 +185,24 @@ module _ {O S I R : Type 0} (object : Sequential S I R) (v : Whole O S I R) (is 
     abbrev pub step_of : Option PendingAt → WorldOf S I R
     step_of o = world_after_step object (world_of v) p o
 
-    stepped_call : set_at (world_of v).call p (call_at (processes_of v.shared.cells) (Some stepped_local)) ≡ (step_of (Some (pending_of (processes_of v.shared.cells) call))).call
-    stepped_call = ap (λ o. set_at (world_of v).call p o) (call_later to ∙ ap (call_after (name_of (processes_of v.shared.cells) call.mine)) takes.stage)
+    stepped_call : set_at (world_of v).call p (call_at (named v.shared) (Some stepped_local)) ≡ (step_of (Some (pending_of (named v.shared) call))).call
+    stepped_call = ap (λ o. set_at (world_of v).call p o) (call_later to ∙ ap (call_after (named v.shared call.mine)) takes.stage)
 
     stepped_begun : set_at (world_of v).begun p l.begun ≡ (world_of v).begun
     stepped_begun = set_at-same (world_of v).begun p l.begun (rw here refl)
 
-    stepped_steps : set_at (world_of v).steps p steps ≡ (step_of (Some (pending_of (processes_of v.shared.cells) call))).steps
+    stepped_among : set_at (world_of v).among p l.among ≡ (world_of v).among
+    stepped_among = set_at-same (world_of v).among p l.among (rw here refl)
+
+    stepped_steps : set_at (world_of v).steps p steps ≡ (step_of (Some (pending_of (named v.shared) call))).steps
     stepped_steps = ap (λ k. set_at (world_of v).steps p k) (steps_is ∙ later_steps) where
       later_steps : l.steps + 1 ≡ (world_of v).steps p + 1
       later_steps = rw here refl
 
-    stepped_turns : set_at (world_of v).turns p turns ≡ (step_of (Some (pending_of (processes_of v.shared.cells) call))).turns
+    stepped_turns : set_at (world_of v).turns p turns ≡ (step_of (Some (pending_of (named v.shared) call))).turns
     stepped_turns = ap (λ k. set_at (world_of v).turns p k) (turns_is ∙ ap (λ k. k + turned) now_turns) where
       turned : ℕ
-      turned = turn_of (stage_of (processes_of v.shared.cells) call.stage) (memory_of v.shared (place_of (processes_of v.shared.cells) p (name_of (processes_of v.shared.cells) call.mine) (stage_of (processes_of v.shared.cells) call.stage)))
+      turned = turn_of (stage_of (named v.shared) call.stage) (memory_of v.shared (place_of (processes_of v.shared.cells) p (named v.shared call.mine) (stage_of (named v.shared) call.stage)))
 
       now_turns : l.turns ≡ (world_of v).turns p
       now_turns = rw here refl
@@ -179,15 +210,17 @@ module _ {O S I R : Type 0} (object : Sequential S I R) (v : Whole O S I R) (is 
     -- the world after the step
     pub world_of-world_after_step : world_of stepped_whole ≡ world_after object (world_of v) (Step p)
     world_of-world_after_step =
-        ap (λ k. world_at k (memory_of a') (slice_set v.locals p stepped_local)) takes.shape.processes
-        ∙ ap (λ m. world_at (processes_of v.shared.cells) m (slice_set v.locals p stepped_local)) takes.memory
-        ∙ world_at-slice_set (processes_of v.shared.cells) _ v.locals p stepped_local long
+        ap (λ k. world_at k (first_of a') (memory_of a') (slice_set v.locals p stepped_local)) takes.shape.processes
+        ∙ ap (λ fs. world_at (processes_of v.shared.cells) (λ q. slice_index_or fs q 0) (memory_of a') (slice_set v.locals p stepped_local)) takes.shape.first
+        ∙ ap (λ m. world_at (processes_of v.shared.cells) (first_of v.shared) m (slice_set v.locals p stepped_local)) takes.memory
+        ∙ world_at-slice_set (processes_of v.shared.cells) (first_of v.shared) _ v.locals p stepped_local long
         ∙ (λ i. record {
           n = processes_of v.shared.cells;
-          memory = (step_of (Some (pending_of (processes_of v.shared.cells) call))).memory;
+          memory = (step_of (Some (pending_of (named v.shared) call))).memory;
           call = stepped_call i;
           begun = stepped_begun i;
-          first = λ q. 0;
+          first = first_of v.shared;
+          among = stepped_among i;
           steps = stepped_steps i;
           turns = stepped_turns i;
         })
@@ -200,9 +233,9 @@ module _ {O S I R : Type 0} (object : Sequential S I R) (v : Whole O S I R) (is 
     begun_stays : (q : ℕ) → (world_of stepped_whole).begun q ≡ (world_of v).begun q
     begun_stays q = ap (λ (w : WorldOf S I R). w.begun q) world_of-world_after_step ∙ begun_kept ((world_of v).call p) q
 
-    kept : Invariant object (world_after_step object (world_of v) p (Some (pending_of (processes_of v.shared.cells) call)))
-        × Grows (memory_of v.shared) (world_after_step object (world_of v) p (Some (pending_of (processes_of v.shared.cells) call))).memory
-    kept = Invariant-world_after_step object (world_of v) p (pending_of (processes_of v.shared.cells) call) pending_is (is.sound.0, is.sound.1, is.sound.2)
+    kept : Invariant object (world_after_step object (world_of v) p (Some (pending_of (named v.shared) call)))
+        × Grows (memory_of v.shared) (world_after_step object (world_of v) p (Some (pending_of (named v.shared) call))).memory
+    kept = Invariant-world_after_step object (world_of v) p (pending_of (named v.shared) call) pending_is (is.sound.0, is.sound.1, is.sound.2)
 
     accepted : IsAccepted (world_of v) (Step p)
     accepted = rw pending_is refl
@@ -214,11 +247,13 @@ module _ {O S I R : Type 0} (object : Sequential S I R) (v : Whole O S I R) (is 
 
     pub IsWorld-world_after_step : IsWorld object stepped_whole
     IsWorld-world_after_step = record {
-      locals = length-slice_set v.locals p stepped_local ∙ is.locals ∙ sym takes.shape.processes;
-      few = subst (λ k. k ≤ 16) (sym takes.shape.processes) is.few;
+      locals = let all : processes_of v.shared.cells ≤ length v.locals = is.locals in let same = length-slice_set v.locals p stepped_local in let n : processes_of a'.cells ≡ processes_of v.shared.cells = takes.shape.processes in omega arith;
+      firsts = ap length takes.shape.first ∙ is.firsts ∙ sym (length-slice_set v.locals p stepped_local);
+      few = subst (λ k. k ≤ 64) (sym takes.shape.processes) is.few;
       row = is.row ∙ sym takes.shape.row;
-      made = λ q inside. begun_stays q ∙ is.made q (subst (λ k. q < k) takes.shape.processes inside) ∙ ap (λ k. 0 + k) (sym (takes.shape.made q));
-      room = λ q. subst (λ k. k - 0 ≤ v.row) (sym (begun_stays q)) (is.room q);
+      made = λ q. begun_stays q ∙ is.made q ∙ ap (λ fs. slice_index_or fs q 0 + made_of v.shared.cells q) (sym takes.shape.first) ∙ ap (λ k. first_of a' q + k) (sym (takes.shape.made q));
+      room = λ q. subst (λ k. k - first_of a' q ≤ v.row) (sym (begun_stays q)) (subst (λ fs. (world_of v).begun q - slice_index_or fs q 0 ≤ v.row) (sym takes.shape.first) (is.room q));
+      early = λ q. let since : first_of a' q ≡ first_of v.shared q = ap (λ fs. slice_index_or fs q 0) takes.shape.first in let was : first_of v.shared q ≤ seq_of (memory_of v.shared) Anchor = is.early q in let anchor = anchor_stays in omega arith;
       numbers = subst (λ k. seq_of (memory_of a') Anchor + k * v.row < 2 ^ 48) (sym takes.shape.processes)
           (subst (λ k. k + processes_of v.shared.cells * v.row < 2 ^ 48) (sym anchor_stays) is.numbers);
       sound = subst (λ w. HelpingInvariant object w) (sym world_of-world_after_step) (HelpingInvariant-world_after object (world_of v) (Step p) accepted is.counts is.sound);

@@ -1,5 +1,5 @@
 -- Where a call is pending, its next step can be taken, and its last step finds a response.
-use Rattle.std.proofs.Common.{◌≡◌, ◌∙◌, ℕ, zero, suc, ◌+◌, ◌-◌, ◌*◌, ◌<◌, ◌≤◌, ◌^◌, ◌%◌, ◌⊎◌, inl, inr, refl, sym, ap, subst, Option, Some, None, option_map, IsSome, arith, Bool, true, false, cond, nat_eq, nat_lt}
+use Rattle.std.proofs.Common.{◌≡◌, ◌∙◌, ℕ, ◌+◌, ◌*◌, ◌<◌, ◌≤◌, ◌^◌, ◌%◌, ◌⊎◌, inl, inr, refl, sym, ap, subst, Option, Some, None, option_map, IsSome, arith, Bool, true, false, cond, nat_eq, nat_lt}
 use Rattle.std.specs.Option.{option_map_or}
 use Rattle.seq_object.specs.Sequential.{Sequential}
 use Rattle.cell_arena.specs.CellRecord.{CellRecord}
@@ -8,7 +8,7 @@ use Rattle.uni_model.specs.Places.{Name, Content, number_in, seq_of, inv_of, aft
 use Rattle.uni_model.specs.Places.Name.{Anchor, Of}
 use Rattle.uni_model.specs.Stages.{Stage as at}
 use Rattle.uni_model.specs.Chain.{response_in}
-use Rattle.uni_model.specs.Worlds.{sum_below, calls_begun}
+use Rattle.uni_model.specs.Worlds.{calls_in_era, era_calls}
 use Rattle.uni_model.specs.Invariant.{Has, AtHead, IsCellOf, Stands}
 use Rattle.uni_model.proofs.Steps.{linked_call, head_number}
 use Rattle.uni_model.proofs.Values.{response-settled}
@@ -16,12 +16,11 @@ use Rattle.uni_model.proofs.Simulation.{enough}
 use Rattle.uni_model.proofs.Ranges.{sum_below-bound}
 use Rattle.uni_core.specs.declared.stage.Stage.{Stage}
 use Rattle.uni_core.specs.declared.stage.Stage.TheVariants.{Announce, ScanHead, ScanSeq, WriteScan, Test, ReadAnnounce, ReadHelpSeq, DecideAfter, DecideNew, WriteBefore, WriteSeq, WriteHead, Finish}
-use Rattle.uni_model.specs.Indices.{name_of}
-use Rattle.uni_core.specs.Shared.{Shared, memory_of}
+use Rattle.uni_core.specs.Shared.{Shared, first_of, named, memory_of}
 use Rattle.uni_core.specs.Standing.{stage_of, CanStep, IsThere, effect_at, turns_to}
 use Rattle.uni_model.specs.Transition.{place_of, turn_of, stage_after, best_of}
 use Rattle.uni_core.specs.Whole.{Whole, world_of, IsWorld}
-use Rattle.uni_core.proofs.Named.{cell_named-name_of}
+use Rattle.uni_core.proofs.Named.{cell_named-name_from}
 
 Has-IsSome : {A : Type 0} (o : Option A) → Has o → IsSome o
 Has-IsSome None h = absurd (let e = h.1 in cc)
@@ -30,21 +29,21 @@ Has-IsSome (Some x) h = refl
 -- the last number is at most the anchor's and one for each cell that there can be, which is small
 pub last_small : {O S I R : Type 0} (object : Sequential S I R) (v : Whole O S I R) (is : IsWorld object v) → is.sound.1 < 2 ^ 48
 last_small object v is =
-    let all : is.sound.1 ≤ is.sound.0 Anchor + calls_begun (world_of v) = enough object (world_of v) is.sound.0 is.sound.1 is.sound.2 in
-    let each : calls_begun (world_of v) ≤ processes_of v.shared.cells * v.row = sum_below-bound (processes_of v.shared.cells) v.row (world_of v).begun (λ q. let room : (world_of v).begun q - 0 ≤ v.row = is.room q in omega arith) in
+    let all : is.sound.1 ≤ is.sound.0 Anchor + era_calls (world_of v) = enough object (world_of v) is.sound.0 is.sound.1 is.sound.2 in
+    let each : era_calls (world_of v) ≤ processes_of v.shared.cells * v.row = sum_below-bound (processes_of v.shared.cells) v.row (calls_in_era (world_of v)) is.room in
     let anchor : is.sound.0 Anchor ≡ seq_of (memory_of v.shared) Anchor = is.sound.2.numbered.anchor in
     let fits : seq_of (memory_of v.shared) Anchor + processes_of v.shared.cells * v.row < 2 ^ 48 = is.numbers in
     omega arith
 
 module _ {S I R : Type 0} (a : Shared S I R) (positive : 1 ≤ processes_of a.cells) where
-  pub there_seq : (id : ℕ) → 1 ≤ seq_of (memory_of a) (name_of (processes_of a.cells) id) → IsThere a id
-  there_seq id h = by_cell (cell_of a.cells id) (subst (λ o. 1 ≤ option_map_or (λ (c : CellRecord S I R). c.seq) o 0) (cell_named-name_of (processes_of a.cells) positive (cell_of a.cells) id) h) where
+  pub there_seq : (id : ℕ) → 1 ≤ seq_of (memory_of a) (named a id) → IsThere a id
+  there_seq id h = by_cell (cell_of a.cells id) (subst (λ o. 1 ≤ option_map_or (λ (c : CellRecord S I R). c.seq) o 0) (cell_named-name_from (processes_of a.cells) (first_of a) positive (cell_of a.cells) id) h) where
     by_cell : (o : Option (CellRecord S I R)) → 1 ≤ option_map_or (λ (c : CellRecord S I R). c.seq) o 0 → IsSome o
     by_cell None g = absurd (omega arith)
     by_cell (Some c) g = refl
 
-  pub there_inv : (id : ℕ) → Has (inv_of (memory_of a) (name_of (processes_of a.cells) id)) → IsThere a id
-  there_inv id h = by_cell (cell_of a.cells id) (subst (λ o. Has (option_map_or (λ (c : CellRecord S I R). c.inv) o None)) (cell_named-name_of (processes_of a.cells) positive (cell_of a.cells) id) h) where
+  pub there_inv : (id : ℕ) → Has (inv_of (memory_of a) (named a id)) → IsThere a id
+  there_inv id h = by_cell (cell_of a.cells id) (subst (λ o. Has (option_map_or (λ (c : CellRecord S I R). c.inv) o None)) (cell_named-name_from (processes_of a.cells) (first_of a) positive (cell_of a.cells) id) h) where
     by_cell : (o : Option (CellRecord S I R)) → Has (option_map_or (λ (c : CellRecord S I R). c.inv) o None) → IsSome o
     by_cell None g = absurd (let e : None ≡ Some g.0 = g.1 in cc)
     by_cell (Some c) g = refl
@@ -54,50 +53,50 @@ module _ {O S I R : Type 0} (object : Sequential S I R) (v : Whole O S I R) (is 
   positive = omega (arith, below)
 
   -- where p stands in a call that is pending
-  module _ (mine : ℕ) (stage : Stage) (pending : (world_of v).call p ≡ Some (record { mine = name_of (processes_of v.shared.cells) mine; stage = stage_of (processes_of v.shared.cells) stage })) where
-    stands : Stands (memory_of v.shared) is.sound.0 (processes_of v.shared.cells) p (name_of (processes_of v.shared.cells) mine) (stage_of (processes_of v.shared.cells) stage)
-    stands = is.sound.2.stands p (record { mine = name_of (processes_of v.shared.cells) mine; stage = stage_of (processes_of v.shared.cells) stage }) pending
+  module _ (mine : ℕ) (stage : Stage) (pending : (world_of v).call p ≡ Some (record { mine = named v.shared mine; stage = stage_of (named v.shared) stage })) where
+    stands : Stands (memory_of v.shared) is.sound.0 (processes_of v.shared.cells) p (named v.shared mine) (stage_of (named v.shared) stage)
+    stands = is.sound.2.stands p (record { mine = named v.shared mine; stage = stage_of (named v.shared) stage }) pending
 
     mine_there : IsThere v.shared mine
     mine_there =
-        let its = is.sound.2.calls.mine p (record { mine = name_of (processes_of v.shared.cells) mine; stage = stage_of (processes_of v.shared.cells) stage }) pending in
+        let its = is.sound.2.calls.mine p (record { mine = named v.shared mine; stage = stage_of (named v.shared) stage }) pending in
         there_inv v.shared positive mine (its.3.0, ap (inv_of (memory_of v.shared)) its.1 ∙ its.3.1)
 
-    head_there : (c s : ℕ) → AtHead (memory_of v.shared) p (name_of (processes_of v.shared.cells) c) s → IsThere v.shared c
+    head_there : (c s : ℕ) → AtHead (memory_of v.shared) p (named v.shared c) s → IsThere v.shared c
     head_there c s h = there_seq v.shared positive c
-        (head_number object (world_of v) is.sound.0 is.sound.1 is.sound.2 p (name_of (processes_of v.shared.cells) mine) (stage_of (processes_of v.shared.cells) stage) pending (name_of (processes_of v.shared.cells) c) s h).0
+        (head_number object (world_of v) is.sound.0 is.sound.1 is.sound.2 p (named v.shared mine) (stage_of (named v.shared) stage) pending (named v.shared c) s h).0
 
     -- a number of p's head leaves room for the next
-    head_small : (c s : ℕ) → AtHead (memory_of v.shared) p (name_of (processes_of v.shared.cells) c) s → s < 2 ^ 48
+    head_small : (c s : ℕ) → AtHead (memory_of v.shared) p (named v.shared c) s → s < 2 ^ 48
     head_small c s h =
-        let number : s ≡ is.sound.0 (name_of (processes_of v.shared.cells) c)
-        = (head_number object (world_of v) is.sound.0 is.sound.1 is.sound.2 p (name_of (processes_of v.shared.cells) mine) (stage_of (processes_of v.shared.cells) stage) pending (name_of (processes_of v.shared.cells) c) s h).1 in
-        let top : is.sound.0 (name_of (processes_of v.shared.cells) c) ≤ is.sound.1 = is.sound.2.numbered.greatest (name_of (processes_of v.shared.cells) c) in
+        let number : s ≡ is.sound.0 (named v.shared c)
+        = (head_number object (world_of v) is.sound.0 is.sound.1 is.sound.2 p (named v.shared mine) (stage_of (named v.shared) stage) pending (named v.shared c) s h).1 in
+        let top : is.sound.0 (named v.shared c) ≤ is.sound.1 = is.sound.2.numbered.greatest (named v.shared c) in
         let small = last_small object v is in
         omega arith
 
-    linked : (c s d : ℕ) → AtHead (memory_of v.shared) p (name_of (processes_of v.shared.cells) c) s
-        → after_of (memory_of v.shared) (name_of (processes_of v.shared.cells) c) ≡ Some (name_of (processes_of v.shared.cells) d) → Has (inv_of (memory_of v.shared) (name_of (processes_of v.shared.cells) d))
-    linked c s d h link = linked_call object (world_of v) is.sound.0 is.sound.1 is.sound.2 p (name_of (processes_of v.shared.cells) mine) (stage_of (processes_of v.shared.cells) stage) pending
-        (name_of (processes_of v.shared.cells) c) s (name_of (processes_of v.shared.cells) d) h link
+    linked : (c s d : ℕ) → AtHead (memory_of v.shared) p (named v.shared c) s
+        → after_of (memory_of v.shared) (named v.shared c) ≡ Some (named v.shared d) → Has (inv_of (memory_of v.shared) (named v.shared d))
+    linked c s d h link = linked_call object (world_of v) is.sound.0 is.sound.1 is.sound.2 p (named v.shared mine) (stage_of (named v.shared) stage) pending
+        (named v.shared c) s (named v.shared d) h link
 
-  help_there : (help q : ℕ) → (name_of (processes_of v.shared.cells) help ≡ Anchor) ⊎ IsCellOf (memory_of v.shared) q (name_of (processes_of v.shared.cells) help) → IsThere v.shared help
+  help_there : (help q : ℕ) → (named v.shared help ≡ Anchor) ⊎ IsCellOf (memory_of v.shared) q (named v.shared help) → IsThere v.shared help
   help_there help q h = elim h [
     | inl anchor ↦ there_seq v.shared positive help (subst (λ x. 1 ≤ seq_of (memory_of v.shared) x) (sym anchor) (subst (λ k. 1 ≤ k) is.sound.2.numbered.anchor is.sound.2.numbered.first))
     | inr cell ↦ there_inv v.shared positive help (cell.2.0, ap (inv_of (memory_of v.shared)) cell.1 ∙ cell.2.1)
   ]
 
   -- the last step finds a response
-  response-finish : (mine s t : ℕ) → (world_of v).call p ≡ Some (record { mine = name_of (processes_of v.shared.cells) mine; stage = at.Finish s t }) → IsSome (response_in (memory_of v.shared) (name_of (processes_of v.shared.cells) mine))
+  response-finish : (mine s t : ℕ) → (world_of v).call p ≡ Some (record { mine = named v.shared mine; stage = at.Finish s t }) → IsSome (response_in (memory_of v.shared) (named v.shared mine))
   response-finish mine s t e =
-      let h = is.sound.2.stands p (record { mine = name_of (processes_of v.shared.cells) mine; stage = at.Finish s t }) e in
-      let its = is.sound.2.calls.mine p (record { mine = name_of (processes_of v.shared.cells) mine; stage = at.Finish s t }) e in
+      let h = is.sound.2.stands p (record { mine = named v.shared mine; stage = at.Finish s t }) e in
+      let its = is.sound.2.calls.mine p (record { mine = named v.shared mine; stage = at.Finish s t }) e in
       let threaded : 1 ≤ seq_of (memory_of v.shared) (Of p its.0) = subst (λ x. 1 ≤ seq_of (memory_of v.shared) x) its.1 (subst (λ k. 1 ≤ k) (sym h.2) h.1) in
       let settled = response-settled object (memory_of v.shared) is.sound.0 is.sound.2.values is.sound.2.back p its.0 threaded in
       Has-IsSome _ (settled.0, ap (response_in (memory_of v.shared)) its.1 ∙ settled.1)
 
   -- the step of each stage can be taken
-  pub CanStep-pending : (mine : ℕ) (stage : Stage) → (world_of v).call p ≡ Some (record { mine = name_of (processes_of v.shared.cells) mine; stage = stage_of (processes_of v.shared.cells) stage }) → CanStep v.shared mine stage
+  pub CanStep-pending : (mine : ℕ) (stage : Stage) → (world_of v).call p ≡ Some (record { mine = named v.shared mine; stage = stage_of (named v.shared) stage }) → CanStep v.shared mine stage
   CanStep-pending mine Announce e = tt
   CanStep-pending mine (ScanHead q best s) e = (stands mine (ScanHead q best s) e).0
   CanStep-pending mine (ScanSeq q best s head) e = let h = stands mine (ScanSeq q best s head) e in (h.0, there_seq v.shared positive head h.2)
@@ -109,8 +108,8 @@ module _ {O S I R : Type 0} (object : Sequential S I R) (v : Whole O S I R) (is 
   CanStep-pending mine (DecideNew c s d) e =
       let h = stands mine (DecideNew c s d) e in
       let inv = linked mine (DecideNew c s d) e c s d h.0 h.1 in
-      let threaded = (head_number object (world_of v) is.sound.0 is.sound.1 is.sound.2 p (name_of (processes_of v.shared.cells) mine) (stage_of (processes_of v.shared.cells) (DecideNew c s d)) e (name_of (processes_of v.shared.cells) c) s h.0).0 in
-      (head_there mine (DecideNew c s d) e c s h.0, there_inv v.shared positive d inv, Has-IsSome _ (is.sound.2.values.threaded (name_of (processes_of v.shared.cells) c) threaded), Has-IsSome _ inv)
+      let threaded = (head_number object (world_of v) is.sound.0 is.sound.1 is.sound.2 p (named v.shared mine) (stage_of (named v.shared) (DecideNew c s d)) e (named v.shared c) s h.0).0 in
+      (head_there mine (DecideNew c s d) e c s h.0, there_inv v.shared positive d inv, Has-IsSome _ (is.sound.2.values.threaded (named v.shared c) threaded), Has-IsSome _ inv)
   CanStep-pending mine (WriteBefore c s d) e = let h = stands mine (WriteBefore c s d) e in there_inv v.shared positive d (linked mine (WriteBefore c s d) e c s d h.0 h.1)
   CanStep-pending mine (WriteSeq c s d) e = let h = stands mine (WriteSeq c s d) e in (there_inv v.shared positive d (linked mine (WriteSeq c s d) e c s d h.0 h.1), head_small mine (WriteSeq c s d) e c s h.0)
   CanStep-pending mine (WriteHead c s d) e = head_small mine (WriteHead c s d) e c s (stands mine (WriteHead c s d) e).0
@@ -121,21 +120,21 @@ abbrev pub turns_at : Option at → ℕ
 turns_at (Some (at.ReadAnnounce c c_seq)) = 1
 turns_at _ = 0
 
-turns_to-stage_of : (n : ℕ) (to : Option Stage) → turns_to to ≡ turns_at (option_map (stage_of n) to)
-turns_to-stage_of n None = refl
-turns_to-stage_of n (Some Announce) = refl
-turns_to-stage_of n (Some (ScanHead q best s)) = refl
-turns_to-stage_of n (Some (ScanSeq q best s head)) = refl
-turns_to-stage_of n (Some (WriteScan best s)) = refl
-turns_to-stage_of n (Some (Test c s)) = refl
-turns_to-stage_of n (Some (ReadAnnounce c s)) = refl
-turns_to-stage_of n (Some (ReadHelpSeq c s help)) = refl
-turns_to-stage_of n (Some (DecideAfter c s prefer)) = refl
-turns_to-stage_of n (Some (DecideNew c s d)) = refl
-turns_to-stage_of n (Some (WriteBefore c s d)) = refl
-turns_to-stage_of n (Some (WriteSeq c s d)) = refl
-turns_to-stage_of n (Some (WriteHead c s d)) = refl
-turns_to-stage_of n (Some (Finish s t)) = refl
+turns_to-stage_of : (name : ℕ → Name) (to : Option Stage) → turns_to to ≡ turns_at (option_map (stage_of name) to)
+turns_to-stage_of name None = refl
+turns_to-stage_of name (Some Announce) = refl
+turns_to-stage_of name (Some (ScanHead q best s)) = refl
+turns_to-stage_of name (Some (ScanSeq q best s head)) = refl
+turns_to-stage_of name (Some (WriteScan best s)) = refl
+turns_to-stage_of name (Some (Test c s)) = refl
+turns_to-stage_of name (Some (ReadAnnounce c s)) = refl
+turns_to-stage_of name (Some (ReadHelpSeq c s help)) = refl
+turns_to-stage_of name (Some (DecideAfter c s prefer)) = refl
+turns_to-stage_of name (Some (DecideNew c s d)) = refl
+turns_to-stage_of name (Some (WriteBefore c s d)) = refl
+turns_to-stage_of name (Some (WriteSeq c s d)) = refl
+turns_to-stage_of name (Some (WriteHead c s d)) = refl
+turns_to-stage_of name (Some (Finish s t)) = refl
 
 -- how many turns a step adds, told by where the process stands then
 turn_of-stage_after : {S I R : Type 0} (n : ℕ) (mine : Name) (stage : at) (v : Content S I R)
@@ -161,7 +160,7 @@ turn_of-stage_after n mine (at.WriteHead c s d) v = refl
 turn_of-stage_after n mine (at.Finish s t) v = refl
 
 pub turns_to-effect : {S I R : Type 0} (object : Sequential S I R) (a : Shared S I R) (p : ℕ) (mine : Name) (stage : at) (to : Option Stage)
-    → option_map (stage_of (processes_of a.cells)) to ≡ (effect_at object a p mine stage).stage
+    → option_map (stage_of (named a)) to ≡ (effect_at object a p mine stage).stage
     → turns_to to ≡ turn_of stage (memory_of a (place_of (processes_of a.cells) p mine stage))
 turns_to-effect object a p mine stage to e =
-    turns_to-stage_of (processes_of a.cells) to ∙ ap turns_at e ∙ sym (turn_of-stage_after (processes_of a.cells) mine stage _)
+    turns_to-stage_of (named a) to ∙ ap turns_at e ∙ sym (turn_of-stage_after (processes_of a.cells) mine stage _)

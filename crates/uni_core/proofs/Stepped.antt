@@ -1,5 +1,5 @@
 -- What a step leaves.
-use Rattle.std.proofs.Common.{◌≡◌, ◌∙◌, ℕ, ◌+◌, ◌*◌, ◌^◌, ◌<◌, ◌≤◌, refl, sym, ap, subst, Option, Some, None, option_map, IsSome, arith, slice_get, slice_set, get_or, Result, Ok, Err, OnErr}
+use Rattle.std.proofs.Common.{◌≡◌, ◌∙◌, ℕ, ◌+◌, ◌*◌, ◌^◌, ◌<◌, ◌≤◌, refl, sym, ap, subst, Option, Some, None, option_map, IsSome, arith, length, slice_get, slice_set, get_or, Result, Ok, Err, OnErr}
 use Rattle.cell_arena.proofs.Lists.{slice_get-set_same}
 use Rattle.seq_object.specs.Sequential.{Sequential}
 use Rattle.cell_arena.specs.Arena.{processes_of}
@@ -19,15 +19,15 @@ use Rattle.uni_core.specs.declared.stage.Pending.{Pending}
 use Rattle.uni_core.specs.declared.transition.After.{After}
 use Rattle.uni_core.specs.declared.transition.After.TheVariants.{At, Ended}
 use Rattle.uni_core.specs.declared.fault.Progress.TheVariants.{Going, Done}
-use Rattle.uni_model.specs.Indices.{name_of}
-use Rattle.uni_core.specs.Shared.{Shared, memory_of}
+use Rattle.uni_model.specs.Places.{Name}
+use Rattle.uni_core.specs.Shared.{Shared, named, memory_of}
 use Rattle.uni_core.specs.Standing.{stage_of, stage_told, response_told, pending_of, Takes, CanStep, MayBeRefused, turns_to}
 use Rattle.uni_core.specs.Whole.{Whole, world_of, IsWorld, TakesEffect, MayNeedMemory, MayNeedMemoryAt, progress_of}
 use Rattle.uni_core.proofs.Begin.{inside_count, local_here}
 use Rattle.uni_core.proofs.Shown.{stepped_whole, stepped_local, world_of-world_after_step, IsWorld-world_after_step}
 use Rattle.uni_core.proofs.Steppable.{CanStep-pending, turns_to-effect}
 
-refused_at : {S I R : Type 0} (a : Shared S I R) (stage : Stage) → MayBeRefused a stage → MayNeedMemoryAt (memory_of a) (stage_of (processes_of a.cells) stage)
+refused_at : {S I R : Type 0} (a : Shared S I R) (stage : Stage) → MayBeRefused a stage → MayNeedMemoryAt (memory_of a) (stage_of (named a) stage)
 refused_at a (DecideNew c s d) h = h
 refused_at a Announce h = h
 refused_at a (ScanHead q best s) h = h
@@ -45,7 +45,7 @@ refused_at a (Finish s t) h = h
 module _ {O S I R : Type 0} (object : Sequential S I R) (v now : Whole O S I R) (view : v ≡ now) (is : IsWorld object v) (p k : ℕ) (l : Local)
     (count : k ≡ processes_of v.shared.cells) (below : p < k) (read : l ≡ get_or v.locals p l) (call : Pending) (pending : l.call ≡ Some call) where
   abbrev pub at_v : PendingAt
-  at_v = pending_of (processes_of v.shared.cells) call
+  at_v = pending_of (named v.shared) call
 
   pub inside : p < processes_of v.shared.cells
   inside = inside_count (processes_of v.shared.cells) k p count below
@@ -62,19 +62,20 @@ module _ {O S I R : Type 0} (object : Sequential S I R) (v now : Whole O S I R) 
   bounded : ((world_of v).turns p ≤ processes_of v.shared.cells + 1) × ((world_of v).steps p < 10 * processes_of v.shared.cells + 12)
   bounded =
       let all : IsBounded (world_of v) = IsBounded-held object (world_of v) is.counts is.sound in
-      let own : IsWithinBound (processes_of v.shared.cells) ((world_of v).call p) ((world_of v).begun p) ((world_of v).steps p) ((world_of v).turns p) = all p in
-      rw pend at own
+      let own : IsWithinBound (processes_of v.shared.cells) ((world_of v).call p) ((world_of v).begun p) ((world_of v).among p) ((world_of v).steps p) ((world_of v).turns p) = all p in
+      let within : IsWithinBound (processes_of v.shared.cells) (Some at_v) ((world_of v).begun p) ((world_of v).among p) ((world_of v).steps p) ((world_of v).turns p) = rw pend at own in
+      (within.1, within.2)
 
   pub steps_fit : l.steps < 2 ^ 32
   steps_fit =
-      let few : processes_of v.shared.cells ≤ 16 = is.few in
+      let few : processes_of v.shared.cells ≤ 64 = is.few in
       let steps : (world_of v).steps p ≡ l.steps = rw here refl in
       let bound : (world_of v).steps p < 10 * processes_of v.shared.cells + 12 = bounded.1 in
       omega arith
 
   pub turns_fit : l.turns < 2 ^ 32
   turns_fit =
-      let few : processes_of v.shared.cells ≤ 16 = is.few in
+      let few : processes_of v.shared.cells ≤ 64 = is.few in
       let turns : (world_of v).turns p ≡ l.turns = rw here refl in
       let bound : (world_of v).turns p ≤ processes_of v.shared.cells + 1 = bounded.0 in
       omega arith
@@ -86,21 +87,21 @@ module _ {O S I R : Type 0} (object : Sequential S I R) (v now : Whole O S I R) 
   may_need h = subst (λ (x : Whole O S I R). MayNeedMemory (world_of x) p) view (rw pend (refused_at v.shared call.stage h))
 
   module _ (a' : Shared S I R) (told : After R)
-      (taken : Takes object p (name_of (processes_of v.shared.cells) call.mine) (stage_of (processes_of v.shared.cells) call.stage) v.shared a' (stage_told (processes_of v.shared.cells) told) (response_told told))
-      (to : Option Stage) (to_is : (n : ℕ) → option_map (stage_of n) to ≡ stage_told n told)
-      (after : Local) (call_is : after.call ≡ option_map (λ s. record { mine = call.mine; stage = s }) to) (begun_is : after.begun ≡ l.begun)
+      (taken : Takes object p (named v.shared call.mine) (stage_of (named v.shared) call.stage) v.shared a' (stage_told (named v.shared) told) (response_told told))
+      (to : Option Stage) (to_is : (name : ℕ → Name) → option_map (stage_of name) to ≡ stage_told name told)
+      (after : Local) (call_is : after.call ≡ option_map (λ s. record { mine = call.mine; stage = s }) to) (begun_is : after.begun ≡ l.begun) (among_is : after.among ≡ l.among)
       (steps_is : after.steps ≡ l.steps + 1) (turns_is : after.turns ≡ l.turns + turns_to to) where
-    takes : Takes object p (name_of (processes_of v.shared.cells) call.mine) (stage_of (processes_of v.shared.cells) call.stage) v.shared a' (option_map (stage_of (processes_of v.shared.cells)) to) (response_told told)
-    takes = subst (λ s. Takes object p (name_of (processes_of v.shared.cells) call.mine) (stage_of (processes_of v.shared.cells) call.stage) v.shared a' s (response_told told)) (sym (to_is (processes_of v.shared.cells))) taken
+    takes : Takes object p (named v.shared call.mine) (stage_of (named v.shared) call.stage) v.shared a' (option_map (stage_of (named v.shared)) to) (response_told told)
+    takes = subst (λ s. Takes object p (named v.shared call.mine) (stage_of (named v.shared) call.stage) v.shared a' s (response_told told)) (sym (to_is (named v.shared))) taken
 
-    turns_counted : after.turns ≡ l.turns + turn_of (stage_of (processes_of v.shared.cells) call.stage) (memory_of v.shared (place_of (processes_of v.shared.cells) p (name_of (processes_of v.shared.cells) call.mine) (stage_of (processes_of v.shared.cells) call.stage)))
-    turns_counted = turns_is ∙ ap (λ t. l.turns + t) (turns_to-effect object v.shared p (name_of (processes_of v.shared.cells) call.mine) (stage_of (processes_of v.shared.cells) call.stage) to takes.stage)
+    turns_counted : after.turns ≡ l.turns + turn_of (stage_of (named v.shared) call.stage) (memory_of v.shared (place_of (processes_of v.shared.cells) p (named v.shared call.mine) (stage_of (named v.shared) call.stage)))
+    turns_counted = turns_is ∙ ap (λ t. l.turns + t) (turns_to-effect object v.shared p (named v.shared call.mine) (stage_of (named v.shared) call.stage) to takes.stage)
 
     abbrev pub left : Whole O S I R
     left = record { object = v.object; row = v.row; shared = a'; locals = slice_set v.locals p after }
 
     same_local : stepped_local object v is p l here inside a' call pending to (response_told told) takes after.steps after.turns steps_is turns_counted ≡ after
-    same_local = λ i. record { call = sym call_is i; begun = sym begun_is i; steps = after.steps; turns = after.turns }
+    same_local = λ i. record { call = sym call_is i; begun = sym begun_is i; among = sym among_is i; steps = after.steps; turns = after.turns }
 
     same_whole : stepped_whole object v is p l here inside a' call pending to (response_told told) takes after.steps after.turns steps_is turns_counted ≡ left
     same_whole = ap (λ (x : Local). let w : Whole O S I R = record { object = v.object; row = v.row; shared = a'; locals = slice_set v.locals p x } in w) same_local
@@ -143,15 +144,15 @@ module _ {O S I R : Type 0} (object : Sequential S I R) (v now : Whole O S I R) 
     answers = subst (λ (x : Whole O S I R). progress_of (response_told told) ≡ progress_of (response_of_step (world_of x) p)) view (rw pend (ap progress_of taken.told))
 
     pub still_pending : progress_of (response_told told) ≡ Going → IsSome ((world_of left).call p)
-    still_pending going = rw (slice_get-same) (rw call_is (some_to told (to_is 0) going)) where
+    still_pending going = rw (slice_get-same) (rw call_is (some_to told (to_is (named v.shared)) going)) where
       slice_get-same : slice_get (slice_set v.locals p after) p ≡ Some after
-      slice_get-same = slice_get-set_same v.locals p after (subst (λ k. p < k) (sym is.locals) inside)
+      slice_get-same = slice_get-set_same v.locals p after (let all : processes_of v.shared.cells ≤ length v.locals = is.locals in let below : p < processes_of v.shared.cells = inside in omega arith)
 
-      some_to : (x : After R) → option_map (stage_of 0) to ≡ stage_told 0 x → progress_of (response_told x) ≡ Going
-          → IsSome (option_map (pending_of (processes_of a'.cells)) (option_map (λ s. record { mine = call.mine; stage = s }) to))
+      some_to : (x : After R) → option_map (stage_of (named v.shared)) to ≡ stage_told (named v.shared) x → progress_of (response_told x) ≡ Going
+          → IsSome (option_map (pending_of (named a')) (option_map (λ s. record { mine = call.mine; stage = s }) to))
       some_to (At s) e going = by_stage to e where
-        by_stage : (o : Option Stage) → option_map (stage_of 0) o ≡ Some (stage_of 0 s) → IsSome (option_map (pending_of (processes_of a'.cells)) (option_map (λ s. record { mine = call.mine; stage = s }) o))
-        by_stage None f = absurd (let g : None ≡ Some (stage_of 0 s) = f in cc)
+        by_stage : (o : Option Stage) → option_map (stage_of (named v.shared)) o ≡ Some (stage_of (named v.shared) s) → IsSome (option_map (pending_of (named a')) (option_map (λ s. record { mine = call.mine; stage = s }) o))
+        by_stage None f = absurd (let g : None ≡ Some (stage_of (named v.shared) s) = f in cc)
         by_stage (Some x) f = refl
       some_to (Ended r) e going = absurd (let f : Done r ≡ Going = going in cc)
 

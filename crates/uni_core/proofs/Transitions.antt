@@ -11,10 +11,9 @@ use Rattle.uni_model.specs.Places.Content.{CellName, Link}
 use Rattle.uni_model.specs.Stages.{Stage as at}
 use Rattle.uni_model.specs.Chain.{response_in}
 use Rattle.uni_model.specs.Transition.{decision, value_after, place_of, stage_after_scan}
-use Rattle.cell_arena.specs.Arena.{Arena, processes_of, made_of}
+use Rattle.cell_arena.specs.Arena.{processes_of}
 use Rattle.uni_model.proofs.Written.{written_same, lt_cases}
-use Rattle.uni_model.specs.Indices.{name_of}
-use Rattle.uni_core.specs.Shared.{Shared, memory_of, HasShapeOf}
+use Rattle.uni_core.specs.Shared.{Shared, named, memory_of, HasShapeOf}
 use Rattle.uni_core.specs.Standing.{Takes, effect_at, stage_of}
 use Rattle.uni_core.specs.declared.stage.Stage.{Stage}
 
@@ -44,16 +43,16 @@ pub proposed_same : {S I R : Type 0} (a a' : Shared S I R) (d : Name) (p q : Opt
     → memory_of a' ≡ memory_with (memory_of a) (NewOf d) (Settled (decision (new_of (memory_of a) d) p))
 proposed_same a a' d p q e h = subst (λ x. memory_of a' ≡ memory_with (memory_of a) (NewOf d) (Settled (decision (new_of (memory_of a) d) x))) (sym e) h
 
--- the same cells have the same shape
-pub HasShapeOf-same : {S I R : Type 0} (old new : Arena S I R) → new ≡ old → HasShapeOf old new
-HasShapeOf-same old new same = record { processes = ap processes_of same; row = ap (λ r. r.row) same; made = λ p. ap (λ r. made_of r p) same }
+-- the shape of what is unchanged
+pub HasShapeOf-same : {S I R : Type 0} (a : Shared S I R) → HasShapeOf a a
+HasShapeOf-same a = record { processes = refl; row = refl; made = λ p. refl; first = refl }
 
 -- a step that only reads its place
 pub Takes-read : {S I R : Type 0} (object : Sequential S I R) (p : ℕ) (mine : Name) (from : at) (a : Shared S I R) (to : Option at) (response : Option R)
     → (effect_at object a p mine from).content ≡ memory_of a (place_of (processes_of a.cells) p mine from)
     → to ≡ (effect_at object a p mine from).stage → response ≡ (effect_at object a p mine from).response → Takes object p mine from a a to response
 Takes-read object p mine from a to response same stage told = record {
-  shape = HasShapeOf-same a.cells a.cells refl;
+  shape = HasShapeOf-same a;
   memory = subst (λ v. memory_of a ≡ memory_with (memory_of a) (place_of (processes_of a.cells) p mine from) v) (sym same) (sym (written_same (memory_of a) (place_of (processes_of a.cells) p mine from)));
   stage = stage;
   told = told;
@@ -61,7 +60,7 @@ Takes-read object p mine from a to response same stage told = record {
 
 -- what the last step writes
 pub Takes-finish : {S I R : Type 0} (object : Sequential S I R) (p : ℕ) (mine : Name) (s t : ℕ) (a a' : Shared S I R) (r : R) → response_in (memory_of a) mine ≡ Some r
-    → ((s < t) × HasShapeOf a.cells a'.cells × (memory_of a' ≡ memory_with (memory_of a) (HeadOf p) (CellName mine))) ⊎ ((t ≤ s) × (a' ≡ a))
+    → ((s < t) × HasShapeOf a a' × (memory_of a' ≡ memory_with (memory_of a) (HeadOf p) (CellName mine))) ⊎ ((t ≤ s) × (a' ≡ a))
     → Takes object p mine (at.Finish s t) a a' None (Some r)
 Takes-finish object p mine s t a a' r responds (inl wrote) = record {
   shape = wrote.1;
@@ -76,47 +75,47 @@ Takes-finish object p mine s t a a' r responds (inr kept) = elim (lt_cases s t) 
 
 -- Each step that only reads its place, of n processes.
 module _ {S I R : Type 0} (object : Sequential S I R) (p : ℕ) (mine : Name) (a : Shared S I R) where
-  pub Takes-scan_head : (q : ℕ) (best : Name) (s head : ℕ) → name_of (processes_of a.cells) head ≡ head_of (memory_of a) q
-      → Takes object p mine (at.ScanHead q best s) a a (Some (at.ScanSeq q best s (name_of (processes_of a.cells) head))) None
+  pub Takes-scan_head : (q : ℕ) (best : Name) (s head : ℕ) → named a head ≡ head_of (memory_of a) q
+      → Takes object p mine (at.ScanHead q best s) a a (Some (at.ScanSeq q best s (named a head))) None
   Takes-scan_head q best s head e = Takes-read object p mine (at.ScanHead q best s) a _ None refl (ap (λ x. Some (at.ScanSeq q best s x)) e) refl
 
-  pub Takes-scan_seq : (q best s head : ℕ) (k seq : ℕ) (r : Stage) → k ≡ processes_of a.cells → stage_of k r ≡ stage_after_scan k q (name_of k best) s (name_of k head) seq
-      → seq ≡ seq_of (memory_of a) (name_of (processes_of a.cells) head)
-      → Takes object p mine (at.ScanSeq q (name_of (processes_of a.cells) best) s (name_of (processes_of a.cells) head)) a a (Some (stage_of (processes_of a.cells) r)) None
+  pub Takes-scan_seq : (q best s head : ℕ) (k seq : ℕ) (r : Stage) → k ≡ processes_of a.cells → ((name : ℕ → Name) → stage_of name r ≡ stage_after_scan k q (name best) s (name head) seq)
+      → seq ≡ seq_of (memory_of a) (named a head)
+      → Takes object p mine (at.ScanSeq q (named a best) s (named a head)) a a (Some (stage_of (named a) r)) None
   Takes-scan_seq q best s head k seq r count e is_seq =
-      Takes-read object p mine (at.ScanSeq q (name_of (processes_of a.cells) best) s (name_of (processes_of a.cells) head)) a _ None refl
-      (ap Some (subst (λ j. stage_of j r ≡ stage_after_scan j q (name_of j best) s (name_of j head) seq) count e
-      ∙ ap (λ t. stage_after_scan (processes_of a.cells) q (name_of (processes_of a.cells) best) s (name_of (processes_of a.cells) head) t) is_seq)) refl
+      Takes-read object p mine (at.ScanSeq q (named a best) s (named a head)) a _ None refl
+      (ap Some (subst (λ j. stage_of (named a) r ≡ stage_after_scan j q (named a best) s (named a head) seq) count (e (named a))
+      ∙ ap (λ t. stage_after_scan (processes_of a.cells) q (named a best) s (named a head) t) is_seq)) refl
 
-  pub Takes-test : (c s seq : ℕ) (r : Stage) → ((k : ℕ) → stage_of k r ≡ (if seq == 0 then at.ReadAnnounce (name_of k c) s else at.Finish s seq))
-      → seq ≡ seq_of (memory_of a) mine → Takes object p mine (at.Test (name_of (processes_of a.cells) c) s) a a (Some (stage_of (processes_of a.cells) r)) None
+  pub Takes-test : (c s seq : ℕ) (r : Stage) → ((name : ℕ → Name) → stage_of name r ≡ (if seq == 0 then at.ReadAnnounce (name c) s else at.Finish s seq))
+      → seq ≡ seq_of (memory_of a) mine → Takes object p mine (at.Test (named a c) s) a a (Some (stage_of (named a) r)) None
   Takes-test c s seq r e is_seq =
-      Takes-read object p mine (at.Test (name_of (processes_of a.cells) c) s) a _ None refl
-      (ap Some (e (processes_of a.cells) ∙ ap (λ t. if t == 0 then at.ReadAnnounce (name_of (processes_of a.cells) c) s else at.Finish s t) is_seq)) refl
+      Takes-read object p mine (at.Test (named a c) s) a _ None refl
+      (ap Some (e (named a) ∙ ap (λ t. if t == 0 then at.ReadAnnounce (named a c) s else at.Finish s t) is_seq)) refl
 
-  pub Takes-read_announce : (c s help k : ℕ) → k ≡ processes_of a.cells → name_of (processes_of a.cells) help ≡ announce_of (memory_of a) (s % k)
-      → Takes object p mine (at.ReadAnnounce (name_of (processes_of a.cells) c) s) a a (Some (at.ReadHelpSeq (name_of (processes_of a.cells) c) s (name_of (processes_of a.cells) help))) None
+  pub Takes-read_announce : (c s help k : ℕ) → k ≡ processes_of a.cells → named a help ≡ announce_of (memory_of a) (s % k)
+      → Takes object p mine (at.ReadAnnounce (named a c) s) a a (Some (at.ReadHelpSeq (named a c) s (named a help))) None
   Takes-read_announce c s help k count e =
-      Takes-read object p mine (at.ReadAnnounce (name_of (processes_of a.cells) c) s) a _ None refl
-      (ap (λ x. Some (at.ReadHelpSeq (name_of (processes_of a.cells) c) s x)) (e ∙ ap (λ j. announce_of (memory_of a) (s % j)) count)) refl
+      Takes-read object p mine (at.ReadAnnounce (named a c) s) a _ None refl
+      (ap (λ x. Some (at.ReadHelpSeq (named a c) s x)) (e ∙ ap (λ j. announce_of (memory_of a) (s % j)) count)) refl
 
-  pub Takes-read_help_seq : (c s help own seq prefer : ℕ) → mine ≡ name_of (processes_of a.cells) own
-      → ((k : ℕ) → name_of k prefer ≡ (if seq == 0 then name_of k help else name_of k own)) → seq ≡ seq_of (memory_of a) (name_of (processes_of a.cells) help)
-      → Takes object p mine (at.ReadHelpSeq (name_of (processes_of a.cells) c) s (name_of (processes_of a.cells) help)) a a
-      (Some (at.DecideAfter (name_of (processes_of a.cells) c) s (name_of (processes_of a.cells) prefer))) None
+  pub Takes-read_help_seq : (c s help own seq prefer : ℕ) → mine ≡ named a own
+      → ((name : ℕ → Name) → name prefer ≡ (if seq == 0 then name help else name own)) → seq ≡ seq_of (memory_of a) (named a help)
+      → Takes object p mine (at.ReadHelpSeq (named a c) s (named a help)) a a
+      (Some (at.DecideAfter (named a c) s (named a prefer))) None
   Takes-read_help_seq c s help own seq prefer is_mine e is_seq =
-      Takes-read object p mine (at.ReadHelpSeq (name_of (processes_of a.cells) c) s (name_of (processes_of a.cells) help)) a _ None refl
-      (ap (λ x. Some (at.DecideAfter (name_of (processes_of a.cells) c) s x))
-      (e (processes_of a.cells) ∙ ap (λ t. if t == 0 then name_of (processes_of a.cells) help else name_of (processes_of a.cells) own) is_seq
-      ∙ ap (λ y. if seq_of (memory_of a) (name_of (processes_of a.cells) help) == 0 then name_of (processes_of a.cells) help else y) (sym is_mine))) refl
+      Takes-read object p mine (at.ReadHelpSeq (named a c) s (named a help)) a _ None refl
+      (ap (λ x. Some (at.DecideAfter (named a c) s x))
+      (e (named a) ∙ ap (λ t. if t == 0 then named a help else named a own) is_seq
+      ∙ ap (λ y. if seq_of (memory_of a) (named a help) == 0 then named a help else y) (sym is_mine))) refl
 
-  pub Takes-decide_after : (c s prefer d : ℕ) (a' : Shared S I R) → HasShapeOf a.cells a'.cells
-      → memory_of a' ≡ memory_with (memory_of a) (AfterOf (name_of (processes_of a.cells) c)) (Link (decision (after_of (memory_of a) (name_of (processes_of a.cells) c)) (Some (name_of (processes_of a.cells) prefer))))
-      → name_of (processes_of a.cells) d ≡ unwrap_or (after_of (memory_of a) (name_of (processes_of a.cells) c)) (name_of (processes_of a.cells) prefer)
-      → Takes object p mine (at.DecideAfter (name_of (processes_of a.cells) c) s (name_of (processes_of a.cells) prefer)) a a' (Some (at.DecideNew (name_of (processes_of a.cells) c) s (name_of (processes_of a.cells) d))) None
+  pub Takes-decide_after : (c s prefer d : ℕ) (a' : Shared S I R) → HasShapeOf a a'
+      → memory_of a' ≡ memory_with (memory_of a) (AfterOf (named a c)) (Link (decision (after_of (memory_of a) (named a c)) (Some (named a prefer))))
+      → named a d ≡ unwrap_or (after_of (memory_of a) (named a c)) (named a prefer)
+      → Takes object p mine (at.DecideAfter (named a c) s (named a prefer)) a a' (Some (at.DecideNew (named a c) s (named a d))) None
   Takes-decide_after c s prefer d a' shape wrote e = record {
     shape = shape;
     memory = wrote;
-    stage = ap (λ x. Some (at.DecideNew (name_of (processes_of a.cells) c) s x)) e;
+    stage = ap (λ x. Some (at.DecideNew (named a c) s x)) e;
     told = refl;
   }

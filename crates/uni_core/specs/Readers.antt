@@ -40,21 +40,21 @@ kind_of (WriteSeq c c_seq d) = kinds.WriteSeq
 kind_of (WriteHead c c_seq d) = kinds.WriteHead
 kind_of (Finish c_seq mine_seq) = kinds.Finish
 
--- a place that names its cell by index, with the cell's name among n processes
-abbrev pub place_named : (n : ℕ) → PlaceById → Place
-place_named n (by_id.Announced p) = Announced p
-place_named n (by_id.HeadOf p) = HeadOf p
-place_named n (by_id.SeqOf c) = SeqOf (name_of n c)
-place_named n (by_id.AfterOf c) = AfterOf (name_of n c)
-place_named n (by_id.NewOf c) = NewOf (name_of n c)
-place_named n (by_id.BeforeOf c) = BeforeOf (name_of n c)
+-- a place that names its cell by index, with the cell's name
+abbrev pub place_named : (name : ℕ → Name) → PlaceById → Place
+place_named name (by_id.Announced p) = Announced p
+place_named name (by_id.HeadOf p) = HeadOf p
+place_named name (by_id.SeqOf c) = SeqOf (name c)
+place_named name (by_id.AfterOf c) = AfterOf (name c)
+place_named name (by_id.NewOf c) = NewOf (name c)
+place_named name (by_id.BeforeOf c) = BeforeOf (name c)
 
 kind_of_last : kind_of (Finish 1 2) ≡ kinds.Finish
 kind_of_last = refl
 
 -- the number of the cell at 6, and what is decided after the anchor
-place_of_cell_6 : place_named 3 (by_id.SeqOf 6) ≡ SeqOf (Of 2 1)
+place_of_cell_6 : place_named (name_of 3) (by_id.SeqOf 6) ≡ SeqOf (Of 2 1)
 place_of_cell_6 = refl
 
-place_of_anchor : place_named 3 (by_id.AfterOf 0) ≡ AfterOf Anchor
+place_of_anchor : place_named (name_of 3) (by_id.AfterOf 0) ≡ AfterOf Anchor
 place_of_anchor = refl

@@ -12,27 +12,26 @@ use Rattle.uni_core.specs.declared.stage.Stage.TheVariants.{Announce, ScanHead, 
 use Rattle.uni_core.specs.declared.stage.Pending.{Pending}
 use Rattle.uni_core.specs.declared.transition.After.{After}
 use Rattle.uni_core.specs.declared.transition.After.TheVariants.{At, Ended}
-use Rattle.uni_model.specs.Indices.{name_of}
-use Rattle.uni_core.specs.Shared.{Shared, memory_of, HasShapeOf}
+use Rattle.uni_core.specs.Shared.{Shared, named, memory_of, HasShapeOf}
 
 -- the stage, with names for indices
-abbrev pub stage_of : (n : ℕ) → Stage → at
-stage_of n Announce = at.Announce
-stage_of n (ScanHead q best best_seq) = at.ScanHead q (name_of n best) best_seq
-stage_of n (ScanSeq q best best_seq head) = at.ScanSeq q (name_of n best) best_seq (name_of n head)
-stage_of n (WriteScan best best_seq) = at.WriteScan (name_of n best) best_seq
-stage_of n (Test c c_seq) = at.Test (name_of n c) c_seq
-stage_of n (ReadAnnounce c c_seq) = at.ReadAnnounce (name_of n c) c_seq
-stage_of n (ReadHelpSeq c c_seq help) = at.ReadHelpSeq (name_of n c) c_seq (name_of n help)
-stage_of n (DecideAfter c c_seq prefer) = at.DecideAfter (name_of n c) c_seq (name_of n prefer)
-stage_of n (DecideNew c c_seq d) = at.DecideNew (name_of n c) c_seq (name_of n d)
-stage_of n (WriteBefore c c_seq d) = at.WriteBefore (name_of n c) c_seq (name_of n d)
-stage_of n (WriteSeq c c_seq d) = at.WriteSeq (name_of n c) c_seq (name_of n d)
-stage_of n (WriteHead c c_seq d) = at.WriteHead (name_of n c) c_seq (name_of n d)
-stage_of n (Finish c_seq mine_seq) = at.Finish c_seq mine_seq
+abbrev pub stage_of : (name : ℕ → Name) → Stage → at
+stage_of name Announce = at.Announce
+stage_of name (ScanHead q best best_seq) = at.ScanHead q (name best) best_seq
+stage_of name (ScanSeq q best best_seq head) = at.ScanSeq q (name best) best_seq (name head)
+stage_of name (WriteScan best best_seq) = at.WriteScan (name best) best_seq
+stage_of name (Test c c_seq) = at.Test (name c) c_seq
+stage_of name (ReadAnnounce c c_seq) = at.ReadAnnounce (name c) c_seq
+stage_of name (ReadHelpSeq c c_seq help) = at.ReadHelpSeq (name c) c_seq (name help)
+stage_of name (DecideAfter c c_seq prefer) = at.DecideAfter (name c) c_seq (name prefer)
+stage_of name (DecideNew c c_seq d) = at.DecideNew (name c) c_seq (name d)
+stage_of name (WriteBefore c c_seq d) = at.WriteBefore (name c) c_seq (name d)
+stage_of name (WriteSeq c c_seq d) = at.WriteSeq (name c) c_seq (name d)
+stage_of name (WriteHead c c_seq d) = at.WriteHead (name c) c_seq (name d)
+stage_of name (Finish c_seq mine_seq) = at.Finish c_seq mine_seq
 
-abbrev pub pending_of : (n : ℕ) → Pending → PendingAt
-pending_of n call = record { mine = name_of n call.mine; stage = stage_of n call.stage }
+abbrev pub pending_of : (name : ℕ → Name) → Pending → PendingAt
+pending_of name call = record { mine = name call.mine; stage = stage_of name call.stage }
 
 -- what the step of a process comes to at these shared places
 abbrev pub effect_at : {S I R : Type 0} → Sequential S I R → Shared S I R → (p : ℕ) → (mine : Name) → at → Effect S I R
@@ -40,9 +39,9 @@ effect_at object a p mine stage =
     effect_of object (processes_of a.cells) mine stage (memory_of a (place_of (processes_of a.cells) p mine stage)) (beside (memory_of a) mine stage)
 
 -- where the process stands after a step, and the response, where its call has ended
-abbrev pub stage_told : {R : Type 0} → (n : ℕ) → After R → Option at
-stage_told n (At stage) = Some (stage_of n stage)
-stage_told n (Ended response) = None
+abbrev pub stage_told : {R : Type 0} → (name : ℕ → Name) → After R → Option at
+stage_told name (At stage) = Some (stage_of name stage)
+stage_told name (Ended response) = None
 
 abbrev pub response_told : {R : Type 0} → After R → Option R
 response_told (At stage) = None
@@ -50,7 +49,7 @@ response_told (Ended response) = Some response
 
 -- the process has taken the step of its stage: one place is written, it stands where it stands after it, and has this response
 pub record Takes {S I R : Type 0} (object : Sequential S I R) (p : ℕ) (mine : Name) (from : at) (old new : Shared S I R) (to : Option at) (response : Option R) : Type 0 where
-  pub shape : HasShapeOf old.cells new.cells
+  pub shape : HasShapeOf old new
   pub memory : memory_of new ≡ memory_with (memory_of old) (place_of (processes_of old.cells) p mine from) (effect_at object old p mine from).content
   pub stage : to ≡ (effect_at object old p mine from).stage
   pub told : response ≡ (effect_at object old p mine from).response
@@ -69,15 +68,15 @@ CanStep a mine (Test c c_seq) = IsThere a mine
 CanStep a mine (ReadAnnounce c c_seq) = Unit {0}
 CanStep a mine (ReadHelpSeq c c_seq help) = IsThere a help
 CanStep a mine (DecideAfter c c_seq prefer) = IsThere a c
-CanStep a mine (DecideNew c c_seq d) = IsThere a c × IsThere a d × IsSome (new_of (memory_of a) (name_of (processes_of a.cells) c)) × IsSome (inv_of (memory_of a) (name_of (processes_of a.cells) d))
+CanStep a mine (DecideNew c c_seq d) = IsThere a c × IsThere a d × IsSome (new_of (memory_of a) (named a c)) × IsSome (inv_of (memory_of a) (named a d))
 CanStep a mine (WriteBefore c c_seq d) = IsThere a d
 CanStep a mine (WriteSeq c c_seq d) = IsThere a d × (c_seq < 2 ^ 48)
 CanStep a mine (WriteHead c c_seq d) = c_seq < 2 ^ 48
-CanStep a mine (Finish c_seq mine_seq) = IsThere a mine × IsSome (response_in (memory_of a) (name_of (processes_of a.cells) mine))
+CanStep a mine (Finish c_seq mine_seq) = IsThere a mine × IsSome (response_in (memory_of a) (named a mine))
 
 -- the step may be refused memory: it has to apply the object
 abbrev pub MayBeRefused : {S I R : Type 0} → Shared S I R → Stage → Type 0
-MayBeRefused a (DecideNew c c_seq d) = new_of (memory_of a) (name_of (processes_of a.cells) d) ≡ None
+MayBeRefused a (DecideNew c c_seq d) = new_of (memory_of a) (named a d) ≡ None
 MayBeRefused a _ = ⊥
 
 -- how many turns begin with this stage

@@ -3,7 +3,7 @@ use Rattle.std.specs.Prelude.{◌≡◌, ℕ, ◌+◌, ◌-◌, ◌*◌, ◌<◌
 use Rattle.std.specs.Option.{option_map_or}
 use Rattle.seq_object.specs.Sequential.{Sequential}
 use Rattle.cell_arena.specs.Arena.{processes_of, made_of}
-use Rattle.uni_model.specs.Places.{Memory as Contents, seq_of, new_of}
+use Rattle.uni_model.specs.Places.{Name, Memory as Contents, seq_of, new_of}
 use Rattle.uni_model.specs.Places.Name.{Anchor}
 use Rattle.uni_model.specs.Stages.{Stage as at, Pending as PendingAt}
 use Rattle.uni_model.specs.Worlds.{WorldOf, Event, world_after, response_of_step, calls_in_era}
@@ -17,7 +17,8 @@ use Rattle.uni_core.specs.declared.fault.StepFault.{StepFault}
 use Rattle.uni_core.specs.declared.fault.StepFault.TheVariants.{BadProcess, Idle, Memory}
 use Rattle.uni_core.specs.declared.fault.Progress.{Progress}
 use Rattle.uni_core.specs.declared.fault.Progress.TheVariants.{Going, Done}
-use Rattle.uni_core.specs.Shared.{Shared, memory_of}
+use Rattle.uni_core.specs.Shared.{Shared, first_of, memory_of}
+use Rattle.uni_model.specs.Indices.{name_from}
 use Rattle.uni_core.specs.Standing.{pending_of}
 
 -- a world as the code has it: the object, how many calls a row has, the shared places, and what each process keeps for itself
@@ -28,33 +29,40 @@ pub record Whole (O S I R : Type 0) : Type 0 where
   pub locals : List Local
 
 -- the pending call of a process that keeps this for itself
-abbrev pub call_at : (n : ℕ) → Option Local → Option PendingAt
-call_at n local = option_and_then (λ l. option_map (pending_of n) l.call) local
+abbrev pub call_at : (name : ℕ → Name) → Option Local → Option PendingAt
+call_at name local = option_and_then (λ l. option_map (pending_of name) l.call) local
 
--- the world of n processes that these places and locals show
-abbrev pub world_at : {S I R : Type 0} → (n : ℕ) → Contents S I R → List Local → WorldOf S I R
-world_at n memory locals =
+-- the world of n processes, with these first calls of the era, that these places and locals show
+abbrev pub world_at : {S I R : Type 0} → (n : ℕ) → (first : ℕ → ℕ) → Contents S I R → List Local → WorldOf S I R
+world_at n first memory locals =
     record {
       n = n;
       memory = memory;
-      call = λ p. call_at n (slice_get locals p);
+      call = λ p. call_at (name_from n first) (slice_get locals p);
       begun = λ p. option_map_or (λ l. l.begun) (slice_get locals p) 0;
-      first = λ p. 0;
+      first = first;
+      among = λ p. option_map_or (λ l. l.among) (slice_get locals p) 0;
       steps = λ p. option_map_or (λ l. l.steps) (slice_get locals p) 0;
       turns = λ p. option_map_or (λ l. l.turns) (slice_get locals p) 0;
     }
 
 -- the world that is shown
 abbrev pub world_of : {O S I R : Type 0} → Whole O S I R → WorldOf S I R
-world_of v = world_at (processes_of v.shared.cells) (memory_of v.shared) v.locals
+world_of v = world_at (processes_of v.shared.cells) (first_of v.shared) (memory_of v.shared) v.locals
+
+-- the name of the cell at an index of the arena
+abbrev pub name_in : {S I R : Type 0} → WorldOf S I R → ℕ → Name
+name_in w = name_from w.n w.first
 
 -- what every world keeps
 pub record IsWorld {O S I R : Type 0} (object : Sequential S I R) (v : Whole O S I R) : Type 0 where
-  pub locals : length v.locals ≡ processes_of v.shared.cells
-  pub few : processes_of v.shared.cells ≤ 16
+  pub locals : processes_of v.shared.cells ≤ length v.locals
+  pub firsts : length v.shared.first ≡ length v.locals
+  pub few : processes_of v.shared.cells ≤ 64
   pub row : v.row ≡ v.shared.cells.row
-  pub made : (p : ℕ) → p < processes_of v.shared.cells → (world_of v).begun p ≡ (world_of v).first p + made_of v.shared.cells p
+  pub made : (p : ℕ) → (world_of v).begun p ≡ (world_of v).first p + made_of v.shared.cells p
   pub room : (p : ℕ) → calls_in_era (world_of v) p ≤ v.row
+  pub early : (p : ℕ) → (world_of v).first p ≤ seq_of (memory_of v.shared) Anchor
   pub numbers : seq_of (memory_of v.shared) Anchor + processes_of v.shared.cells * v.row < 2 ^ 48
   pub sound : HelpingInvariant object (world_of v)
   pub counts : CountsSteps (world_of v)

@@ -3,7 +3,7 @@
 /// Why no world was opened. Where several hold, the first of these is told.
 #[derive(Clone, Copy, Debug, PartialEq, Eq)]
 pub enum OpenFault {
-    /// The number of processes isn't from 1 to 16.
+    /// The number of processes isn't from 1 to 64.
     BadCount,
     /// The row isn't from 1 to 4096.
     BadRow,

@@ -6,6 +6,7 @@ mod command;
 mod fault;
 mod local;
 mod readers;
+mod renew;
 mod run;
 mod shared;
 mod stage;

@@ -7,11 +7,13 @@ use crate::stage::{Pending, Stage};
 use cell_arena::CellId;
 
 /// What a process keeps for itself: its pending call, how many calls it has begun since the
-/// opening, and the own steps and turns of its latest call.
+/// opening, and of its latest call among how many processes it ran (0 where it has begun none), its
+/// own steps and its turns.
 #[derive(Clone, Copy, Debug)]
 pub(crate) struct Local {
     pub(crate) call: Option<Pending>,
     pub(crate) begun: u64,
+    pub(crate) among: u64,
     pub(crate) steps: u64,
     pub(crate) turns: u64,
 }
@@ -26,6 +28,7 @@ impl Local {
         Local {
             call: None,
             begun: 0,
+            among: 0,
             steps: 0,
             turns: 0,
         }
@@ -45,6 +48,7 @@ impl Local {
         requires turns { self.now.turns < 2 ^ 32 }
         ensures call { result.call ≡ option_map (λ stage. record { mine = mine; stage = stage }) next }
         ensures begun { result.begun ≡ self.now.begun }
+        ensures among { result.among ≡ self.now.among }
         ensures steps { result.steps ≡ self.now.steps + 1 }
         ensures turns { result.turns ≡ self.now.turns + turns_to next }
     {
@@ -55,6 +59,7 @@ impl Local {
         Local {
             call: next.map(|stage| Pending { mine, stage }),
             begun: self.begun,
+            among: self.among,
             steps: self.steps + 1,
             turns: self.turns + turn,
         }

@@ -1,7 +1,7 @@
 //! What can be read of a world.
 
 ghost use Rattle.std.specs.Option.{option_copied};
-ghost use Rattle.std.specs.Prelude.{length, ℕ, ◌≡◌, ◌+◌, ◌*◌, ◌<◌, ◌≤◌, ◌^◌, ◌⊎◌, ◌↔◌, IsSome, IfOk, OnOk, OnErr, IfErr, IsErrOf, IfSome, None, replicate, option_map};
+ghost use Rattle.std.specs.Prelude.{length, ℕ, ◌≡◌, ◌+◌, ◌-◌, ◌*◌, ◌<◌, ◌≤◌, ◌^◌, ◌⊎◌, ◌↔◌, IsSome, IfOk, OnOk, OnErr, IfErr, IsErrOf, IfSome, None, replicate, option_map};
 ghost use Rattle.cell_arena.specs.CellRecord.{index_of};
 ghost use Rattle.cell_arena.specs.Arena.{made_of, cell_of};
 ghost use Rattle.uni_model.specs.Places.{seq_of, head_seq, inv_of, after_of, new_of, before_of};
@@ -15,10 +15,9 @@ ghost use Rattle.uni_model.specs.Worlds.{chain, opened_world, world_after, calls
 ghost use Rattle.uni_model.specs.Worlds.Event.{Call, Step};
 ghost use Rattle.uni_model.specs.Settled.{SeesSettled};
 ghost use Rattle.uni_model.specs.Transition.{place_of};
-ghost use Rattle.uni_model.specs.Indices.{name_of};
 ghost use Rattle.uni_core.specs.Standing.{pending_of};
 ghost use Rattle.uni_core.specs.Readers.{call_of_name, kind_of, place_named};
-ghost use Rattle.uni_core.specs.Whole.{world_of, current_of, TakesEffect, IsIdle, IsStepFault, IsProgress, GoesOn, KeepsFixed, MayNeedMemory};
+ghost use Rattle.uni_core.specs.Whole.{world_of, name_in, current_of, TakesEffect, IsIdle, IsStepFault, IsProgress, GoesOn, KeepsFixed, MayNeedMemory};
 
 use crate::shared::WorldCells;
 use crate::stage::{Pending, Place, StepKind};
@@ -57,33 +56,45 @@ impl<O: SeqObject> World<O> {
     }
 
     /// How many own steps the latest call of process `p` has taken, pending or returned; 0 where it
-    /// has made none. A call of `n` processes that is pending has taken fewer than `10 n + 12`; one
-    /// that has returned took `2 n + 4`, and eight for each turn.
+    /// has made none. A call that is pending has taken fewer than `10 n + 12`; one that has returned
+    /// took `2 n + 4`, and eight for each turn, for the `n` processes among which it ran.
     pub fn steps(&self, p: u64) -> u64
         requires { p < (world_of self.now).n }
         ensures value { result ≡ (world_of self.now).steps p }
         ensures pending { IsSome ((world_of self.now).call p) → result < 10 * (world_of self.now).n + 12 }
-        ensures returned { (world_of self.now).call p ≡ None → 1 ≤ (world_of self.now).begun p → result ≡ 2 * (world_of self.now).n + 4 + 8 * (world_of self.now).turns p }
+        ensures returned { (world_of self.now).call p ≡ None → 1 ≤ (world_of self.now).begun p → result ≡ 2 * (world_of self.now).among p + 4 + 8 * (world_of self.now).turns p }
     {
         self.shape();
         self.locals[p as usize].steps
     }
 
     /// How many turns the latest call of process `p` has taken, pending or returned; 0 where it has
-    /// made none. They are at most `n + 1`.
+    /// made none. They are at most `n + 1`, for the `n` processes among which it ran.
     pub fn turns(&self, p: u64) -> u64
         requires { p < (world_of self.now).n }
         ensures value { result ≡ (world_of self.now).turns p }
-        ensures bound { result ≤ (world_of self.now).n + 1 }
+        ensures bound { result ≤ (world_of self.now).among p + 1 }
+        ensures pending { IsSome ((world_of self.now).call p) → result ≤ (world_of self.now).n + 1 }
     {
         self.shape();
         self.locals[p as usize].turns
     }
 
+    /// Among how many processes the latest call of process `p` ran, pending or returned: as many as
+    /// there were when it began. 0 where it has made none.
+    pub fn among(&self, p: u64) -> u64
+        requires { p < (world_of self.now).n }
+        ensures value { result ≡ (world_of self.now).among p }
+        ensures pending { IsSome ((world_of self.now).call p) → result ≡ (world_of self.now).n }
+    {
+        self.shape();
+        self.locals[p as usize].among
+    }
+
     /// The pending call of process `p`, with where it stands.
     fn standing(&self, p: u64) -> Option<Pending>
         requires { p < (world_of self.now).n }
-        ensures { option_map (pending_of (world_of self.now).n) result ≡ (world_of self.now).call p }
+        ensures { option_map (pending_of (name_in (world_of self.now))) result ≡ (world_of self.now).call p }
     {
         self.locals[p as usize].pending()
     }
@@ -103,7 +114,7 @@ impl<O: SeqObject> World<O> {
     /// pending.
     pub fn next_place(&self, p: u64) -> Option<Place>
         requires { p < (world_of self.now).n }
-        ensures { option_map (place_named (world_of self.now).n) result ≡ option_map (λ c. place_of (world_of self.now).n p c.mine c.stage) ((world_of self.now).call p) }
+        ensures { option_map (place_named (name_in (world_of self.now))) result ≡ option_map (λ c. place_of (world_of self.now).n p c.mine c.stage) ((world_of self.now).call p) }
     {
         let Some(call) = self.standing(p) else {
             return None;
@@ -151,11 +162,12 @@ impl<O: SeqObject> World<O> {
         self.locals[p as usize].begun
     }
 
-    /// The cell of a call; `None` where no such call was begun.
+    /// The cell of a call of this era; `None` where no such call was begun in it.
     pub fn cell_of(&self, call: CallId) -> Option<CellId>
-        ensures begun { IsSome result ↔ ((call.process < (world_of self.now).n) × (call.nth < (world_of self.now).begun call.process)) }
-        ensures index { IfSome result (λ cell. cell ≡ index_of (world_of self.now).n call.process call.nth) }
-        ensures name { IfSome result (λ cell. name_of (world_of self.now).n cell ≡ Of call.process call.nth) }
+        ensures begun { IsSome result ↔ ((call.process < (world_of self.now).n)
+            × ((world_of self.now).first call.process ≤ call.nth) × (call.nth < (world_of self.now).begun call.process)) }
+        ensures index { IfSome result (λ cell. cell ≡ index_of (world_of self.now).n call.process (call.nth - (world_of self.now).first call.process)) }
+        ensures name { IfSome result (λ cell. name_in (world_of self.now) cell ≡ Of call.process call.nth) }
         ensures there { IfSome result (λ cell. IsSome (cell_of self.now.shared.cells cell)) }
     {
         self.shape();
@@ -164,13 +176,17 @@ impl<O: SeqObject> World<O> {
         if p >= self.processes() || call.nth >= self.begun(p) {
             return None;
         }
-        Some(CellId::of(self.processes(), p, call.nth))
+        let first = self.machine.shared.first(p);
+        if call.nth < first {
+            return None;
+        }
+        Some(CellId::of(self.processes(), p, call.nth - first))
     }
 
     /// The number of a cell of the arena; 0 while it isn't threaded.
     pub fn seq(&self, cell: CellId) -> u64
         requires { IsSome (cell_of self.now.shared.cells cell) }
-        ensures { result ≡ seq_of (world_of self.now).memory (name_of (world_of self.now).n cell) }
+        ensures { result ≡ seq_of (world_of self.now).memory (name_in (world_of self.now) cell) }
     {
         self.machine.shared.seq(cell)
     }
@@ -178,7 +194,7 @@ impl<O: SeqObject> World<O> {
     /// What the call of a cell of the arena asks for; `None` of the anchor.
     pub fn inv(&self, cell: CellId) -> Option<&O::Inv>
         requires { IsSome (cell_of self.now.shared.cells cell) }
-        ensures { option_copied result ≡ inv_of (world_of self.now).memory (name_of (world_of self.now).n cell) }
+        ensures { option_copied result ≡ inv_of (world_of self.now).memory (name_in (world_of self.now) cell) }
     {
         self.machine.shared.inv(cell)
     }
@@ -187,7 +203,7 @@ impl<O: SeqObject> World<O> {
     /// response is `None`.
     pub fn new_of(&self, cell: CellId) -> Option<&(O::State, Option<O::Resp>)>
         requires { IsSome (cell_of self.now.shared.cells cell) }
-        ensures { option_copied result ≡ new_of (world_of self.now).memory (name_of (world_of self.now).n cell) }
+        ensures { option_copied result ≡ new_of (world_of self.now).memory (name_in (world_of self.now) cell) }
     {
         self.machine.shared.new_of(cell)
     }
@@ -195,7 +211,7 @@ impl<O: SeqObject> World<O> {
     /// The cell before a cell of the arena; `None` where none was written.
     pub fn before(&self, cell: CellId) -> Option<CellId>
         requires { IsSome (cell_of self.now.shared.cells cell) }
-        ensures link { option_map (name_of (world_of self.now).n) result ≡ before_of (world_of self.now).memory (name_of (world_of self.now).n cell) }
+        ensures link { option_map (name_in (world_of self.now)) result ≡ before_of (world_of self.now).memory (name_in (world_of self.now) cell) }
         ensures there { IfSome result (λ before. IsSome (cell_of self.now.shared.cells before)) }
     {
         self.shape();
@@ -205,7 +221,7 @@ impl<O: SeqObject> World<O> {
     /// The cell that is linked after a cell of the arena; `None` where none is.
     pub fn after(&self, cell: CellId) -> Option<CellId>
         requires { IsSome (cell_of self.now.shared.cells cell) }
-        ensures link { option_map (name_of (world_of self.now).n) result ≡ after_of (world_of self.now).memory (name_of (world_of self.now).n cell) }
+        ensures link { option_map (name_in (world_of self.now)) result ≡ after_of (world_of self.now).memory (name_in (world_of self.now) cell) }
         ensures there { IfSome result (λ next. IsSome (cell_of self.now.shared.cells next)) }
     {
         self.shape();
@@ -214,7 +230,7 @@ impl<O: SeqObject> World<O> {
 
     /// The last linked cell, or the anchor. It goes along the whole list.
     pub fn last(&self) -> CellId
-        ensures last { name_of (world_of self.now).n result ≡ last_cell (world_of self.now) }
+        ensures last { name_in (world_of self.now) result ≡ last_cell (world_of self.now) }
         ensures there { IsSome (cell_of self.now.shared.cells result) }
     {
         self.shape();
@@ -238,23 +254,27 @@ impl<O: SeqObject> World<O> {
     /// The call that a cell of the arena was made for; `None` of the anchor.
     pub fn call_of(&self, cell: CellId) -> Option<CallId>
         requires { IsSome (cell_of self.now.shared.cells cell) }
-        ensures { result ≡ call_of_name (name_of (world_of self.now).n cell) }
+        ensures { result ≡ call_of_name (name_in (world_of self.now) cell) }
     {
         self.shape();
         let n = self.machine.shared.processes();
         match u64::from(cell.index()) {
             0 => None,
-            index => Some(CallId {
-                process: ((index - 1) % n) as u32,
-                nth: (index - 1) / n,
-            }),
+            index => {
+                let p = (index - 1) % n;
+                Some(CallId {
+                    process: p as u32,
+                    nth: self.machine.shared.first(p) + (index - 1) / n,
+                })
+            }
         }
     }
 
     /// What every world keeps, for proofs: the call does nothing. What it shows has the invariant of
     /// the definitions, with the facts of helping and the counts of own steps; its cells are one
-    /// list, and its log is a legal history. There are 1 to 16 processes. A row has at most 4096 cells, and no process has
-    /// begun more calls; the arena has as many cells of a process as it has begun calls. The anchor's
+    /// list, and its log is a legal history. There are 1 to 64 processes. A row has at most 4096 cells, and no process has
+    /// begun more calls in the era; the arena has as many cells of a process as it has begun calls in
+    /// the era. A process had begun no more calls before it than the anchor's number. The anchor's
     /// number, and one more for each cell that there can be, stay below 2^48. The latest call of each
     /// process is within the bound of its own steps and turns.
     pub fn shape(&self)
@@ -263,11 +283,12 @@ impl<O: SeqObject> World<O> {
         ensures counts { CountsSteps (world_of self.now) }
         ensures list { HasOneList (O.sequential self.now.object) (world_of self.now) }
         ensures log { HasLegalLog (O.sequential self.now.object) (world_of self.now) }
-        ensures few { (1 ≤ (world_of self.now).n) × ((world_of self.now).n ≤ 16) }
+        ensures few { (1 ≤ (world_of self.now).n) × ((world_of self.now).n ≤ 64) }
         ensures row { (self.now.shared.cells.row ≡ self.now.row) × (self.now.row ≤ 4096) }
         ensures room { (p : ℕ) → calls_in_era (world_of self.now) p ≤ self.now.row }
         ensures anchor { IsSome (cell_of self.now.shared.cells 0) }
         ensures made { (p : ℕ) → p < (world_of self.now).n → made_of self.now.shared.cells p ≡ calls_in_era (world_of self.now) p }
+        ensures early { (p : ℕ) → (world_of self.now).first p ≤ seq_of (world_of self.now).memory Anchor }
         ensures numbers { seq_of (world_of self.now).memory Anchor + (world_of self.now).n * self.now.row < 2 ^ 48 }
         ensures fits { seq_of (world_of self.now).memory Anchor + length (chain (world_of self.now)) < 2 ^ 48 }
         ensures bounded { IsBounded (world_of self.now) }

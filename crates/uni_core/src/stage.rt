@@ -2,7 +2,7 @@
 
 ghost use Rattle.std.specs.Prelude.{◌≡◌, ◌<◌, ℕ};
 ghost use Rattle.uni_model.specs.Transition.{place_of};
-ghost use Rattle.uni_model.specs.Indices.{name_of};
+ghost use Rattle.uni_model.specs.Places.{Name};
 
 use cell_arena::CellId;
 
@@ -123,7 +123,7 @@ impl Stage {
 
     /// The kind of the next step.
     pub(crate) fn kind(self) -> StepKind
-        ensures { (n : ℕ) → result ≡ kind_of (stage_of n self) }
+        ensures { (name : ℕ → Name) → result ≡ kind_of (stage_of name self) }
     {
         match self {
             Stage::Announce => StepKind::Announce,
@@ -146,7 +146,7 @@ impl Stage {
     /// cell `mine`.
     pub(crate) fn place(self, n: u64, p: u64, mine: CellId) -> Place
         requires { p < n }
-        ensures { place_named n result ≡ place_of n p (name_of n mine) (stage_of n self) }
+        ensures { (name : ℕ → Name) → place_named name result ≡ place_of n p (name mine) (stage_of name self) }
     {
         match self {
             Stage::Announce => Place::Announced(p),

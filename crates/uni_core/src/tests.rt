@@ -173,7 +173,7 @@ fn refusals_come_in_order(rt: HostRuntime) -> Result<(), Fail> {
     );
     assert!(rt;
         matches!(
-            World::open(rt.alloc(), SwapRegister { start: 0 }, 17, 8),
+            World::open(rt.alloc(), SwapRegister { start: 0 }, 65, 8),
             Err(OpenFault::BadCount)
         )
     );
@@ -460,6 +460,98 @@ fn a_run_finishes_where_another_stopped_at_a_settled_value(rt: HostRuntime) -> R
     assert_eq!(rt;
         (counts(&world, 0), counts(&world, 1)),
         (Some((16, 1)), Some((24, 2)))
+    );
+    Ok(())
+}
+
+/// Among how many processes a process's latest call ran.
+fn among(world: &World<SwapRegister>, p: u64) -> Option<u64> {
+    if p >= world.processes() {
+        return None;
+    }
+    Some(world.among(p))
+}
+
+/// Ends the era of a world where its numbers are low, for `m` processes, or for as many as before.
+fn renews(alloc: Global, world: &mut World<SwapRegister>, m: Option<u64>) -> Result<(), Fail> {
+    world.shape();
+    let processes = m.unwrap_or(world.processes());
+    let fits = processes >= 1
+        && processes <= 64
+        && world.seq(world.last()) <= 281_474_976_710_655 - processes * world.row();
+    if !fits || world.pending().is_some() {
+        return Err(Fail::from("the era should end"));
+    }
+    match m {
+        Some(m) => world.renew_for(alloc, m).map_err(Fail::from),
+        None => {
+            world.renew();
+            Ok(())
+        }
+    }
+}
+
+#[test]
+fn an_era_ends(rt: HostRuntime) -> Result<(), Fail> {
+    let alloc = rt.alloc();
+    let mut world = opened(alloc, 2)?;
+    assert_eq!(rt; among(&world, 1), Some(0));
+    assert_eq!(rt;
+        world.begin(alloc, 1, &5),
+        Ok(CallId { process: 1, nth: 0 })
+    );
+    assert_eq!(rt; (among(&world, 0), among(&world, 1)), (Some(0), Some(2)));
+    assert_eq!(rt; finishes(alloc, &mut world, 1)?, 0);
+    renews(alloc, &mut world, None)?;
+    assert_eq!(rt; heads(&world), Some((2, 2, 2)));
+    assert_eq!(rt;
+        (world.last(), begun(&world, 1)),
+        (CellId::anchor(), Some(1))
+    );
+    assert_eq!(rt; world.cell_of(CallId { process: 1, nth: 0 }), None);
+    assert_eq!(rt;
+        world.begin(alloc, 1, &6),
+        Ok(CallId { process: 1, nth: 1 })
+    );
+    let second = world.cell_of(CallId { process: 1, nth: 1 });
+    assert_eq!(rt; second, Some(CellId::of(2, 1, 0)));
+    assert_eq!(rt; finishes(alloc, &mut world, 1)?, 5);
+    let last = world.last();
+    assert_eq!(rt; world.call_of(last), Some(CallId { process: 1, nth: 1 }));
+    assert_eq!(rt; world.seq(last), 3);
+    Ok(())
+}
+
+#[test]
+fn an_era_ends_for_others(rt: HostRuntime) -> Result<(), Fail> {
+    let alloc = rt.alloc();
+    let mut world = opened(alloc, 2)?;
+    assert_eq!(rt;
+        world.begin(alloc, 1, &5),
+        Ok(CallId { process: 1, nth: 0 })
+    );
+    assert_eq!(rt; finishes(alloc, &mut world, 1)?, 0);
+    renews(alloc, &mut world, Some(3))?;
+    assert_eq!(rt; (world.processes(), heads(&world)), (3, Some((2, 2, 2))));
+    assert_eq!(rt;
+        (counts(&world, 1), among(&world, 1)),
+        (Some((16, 1)), Some(2))
+    );
+    assert_eq!(rt;
+        world.begin(alloc, 2, &6),
+        Ok(CallId { process: 2, nth: 0 })
+    );
+    assert_eq!(rt; finishes(alloc, &mut world, 2)?, 5);
+    assert_eq!(rt;
+        (counts(&world, 2), among(&world, 2)),
+        (Some((18, 1)), Some(3))
+    );
+    renews(alloc, &mut world, Some(1))?;
+    assert_eq!(rt; world.begin(alloc, 1, &7), Err(BeginFault::BadProcess));
+    renews(alloc, &mut world, Some(2))?;
+    assert_eq!(rt;
+        world.begin(alloc, 1, &7),
+        Ok(CallId { process: 1, nth: 1 })
     );
     Ok(())
 }

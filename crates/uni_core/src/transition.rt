@@ -3,13 +3,12 @@
 
 ghost use Rattle.std.specs.Prelude.{◌≡◌, ◌+◌, ◌<◌, ◌^◌, ◌==◌, if◌then◌else◌, ℕ, IsSome, Some, None, OnOk, IfOk, OnErr, option_map};
 ghost use Rattle.cell_arena.specs.Arena.{processes_of, cell_of};
-ghost use Rattle.uni_model.specs.Places.{new_of, inv_of, memory_with};
+ghost use Rattle.uni_model.specs.Places.{Name, new_of, inv_of, memory_with};
 ghost use Rattle.uni_model.specs.Places.Place.{NewOf};
 ghost use Rattle.uni_model.specs.Places.Content.{Settled};
 ghost use Rattle.uni_model.specs.Stages.{Stage as at};
 ghost use Rattle.uni_model.specs.Transition.{stage_after_scan, decision, value_after};
-ghost use Rattle.uni_model.specs.Indices.{name_of};
-ghost use Rattle.uni_core.specs.Shared.{memory_of, HasShapeOf};
+ghost use Rattle.uni_core.specs.Shared.{named, memory_of, HasShapeOf};
 ghost use Rattle.uni_core.specs.Standing.{stage_of, stage_told, response_told, Takes, CanStep, MayBeRefused};
 
 use crate::fault::Progress;
@@ -23,7 +22,7 @@ use std::alloc::{AllocError, Global};
 /// process `q`.
 fn after_comparing(n: u64, q: u64, best: (CellId, u64), head: (CellId, u64)) -> Stage
     requires { q < n }
-    ensures { stage_of n result ≡ stage_after_scan n q (name_of n best.0) best.1 (name_of n head.0) head.1 }
+    ensures { (name : ℕ → Name) → stage_of name result ≡ stage_after_scan n q (name best.0) best.1 (name head.0) head.1 }
 {
     let (best, best_seq) = if best.1 < head.1 { head } else { best };
     if q + 1 < n {
@@ -39,7 +38,7 @@ fn after_comparing(n: u64, q: u64, best: (CellId, u64), head: (CellId, u64)) -> 
 
 /// Where a process stands after it has tested the number of its cell: a turn begins where that is 0.
 fn after_test(c: CellId, c_seq: u64, mine_seq: u64) -> Stage
-    ensures { (n : ℕ) → stage_of n result ≡ (if mine_seq == 0 then at.ReadAnnounce (name_of n c) c_seq else at.Finish c_seq mine_seq) }
+    ensures { (name : ℕ → Name) → stage_of name result ≡ (if mine_seq == 0 then at.ReadAnnounce (name c) c_seq else at.Finish c_seq mine_seq) }
 {
     match mine_seq {
         0 => Stage::ReadAnnounce { c, c_seq },
@@ -49,7 +48,7 @@ fn after_test(c: CellId, c_seq: u64, mine_seq: u64) -> Stage
 
 /// The cell that is proposed: the one to be helped where it has no number yet, and else one's own.
 fn preferred(help: CellId, help_seq: u64, mine: CellId) -> CellId
-    ensures { (n : ℕ) → name_of n result ≡ (if help_seq == 0 then name_of n help else name_of n mine) }
+    ensures { (name : ℕ → Name) → name result ≡ (if help_seq == 0 then name help else name mine) }
 {
     if help_seq == 0 { help } else { mine }
 }
@@ -68,7 +67,7 @@ impl<R: Copy> After<R> {
 
     /// Where the process stands; `None` where its call has ended.
     pub(crate) fn stage(&self) -> Option<Stage>
-        ensures { (n : ℕ) → option_map (stage_of n) result ≡ stage_told n self.now }
+        ensures { (name : ℕ → Name) → option_map (stage_of name) result ≡ stage_told name self.now }
     {
         match self {
             After::At(stage) => Some(*stage),
@@ -99,14 +98,14 @@ impl<O: SeqObject> Machine<O> {
     fn settle_new(&mut self, alloc: Global, c: CellId, d: CellId) -> Result<(), AllocError>
         requires c { IsSome (cell_of self.old.shared.cells c) }
         requires d { IsSome (cell_of self.old.shared.cells d) }
-        requires state { IsSome (new_of (memory_of self.old.shared) (name_of (processes_of self.old.shared.cells) c)) }
-        requires inv { IsSome (inv_of (memory_of self.old.shared) (name_of (processes_of self.old.shared.cells) d)) }
-        ensures shape { HasShapeOf self.old.shared.cells self.new.shared.cells }
-        ensures memory { OnOk result (memory_of self.new.shared ≡ memory_with (memory_of self.old.shared) (NewOf (name_of (processes_of self.old.shared.cells) d))
-            (Settled (decision (new_of (memory_of self.old.shared) (name_of (processes_of self.old.shared.cells) d))
-            (value_after (O.sequential self.old.object) (new_of (memory_of self.old.shared) (name_of (processes_of self.old.shared.cells) c))
-            (inv_of (memory_of self.old.shared) (name_of (processes_of self.old.shared.cells) d)))))) }
-        ensures refused { OnErr result (new_of (memory_of self.old.shared) (name_of (processes_of self.old.shared.cells) d) ≡ None) }
+        requires state { IsSome (new_of (memory_of self.old.shared) (named self.old.shared c)) }
+        requires inv { IsSome (inv_of (memory_of self.old.shared) (named self.old.shared d)) }
+        ensures shape { HasShapeOf self.old.shared self.new.shared }
+        ensures memory { OnOk result (memory_of self.new.shared ≡ memory_with (memory_of self.old.shared) (NewOf (named self.old.shared d))
+            (Settled (decision (new_of (memory_of self.old.shared) (named self.old.shared d))
+            (value_after (O.sequential self.old.object) (new_of (memory_of self.old.shared) (named self.old.shared c))
+            (inv_of (memory_of self.old.shared) (named self.old.shared d)))))) }
+        ensures refused { OnErr result (new_of (memory_of self.old.shared) (named self.old.shared d) ≡ None) }
         ensures object { self.new.object ≡ self.old.object }
         ensures unchanged { OnErr result (self.new.shared ≡ self.old.shared) }
     {
@@ -135,9 +134,9 @@ impl<O: SeqObject> Machine<O> {
     ) -> Result<After<O::Resp>, AllocError>
         requires process { p < processes_of self.old.shared.cells }
         requires step { CanStep self.old.shared mine stage }
-        ensures taken { IfOk result (λ after. Takes (O.sequential self.old.object) p (name_of (processes_of self.old.shared.cells) mine)
-            (stage_of (processes_of self.old.shared.cells) stage) self.old.shared self.new.shared
-            (stage_told (processes_of self.old.shared.cells) after) (response_told after)) }
+        ensures taken { IfOk result (λ after. Takes (O.sequential self.old.object) p (named self.old.shared mine)
+            (stage_of (named self.old.shared) stage) self.old.shared self.new.shared
+            (stage_told (named self.old.shared) after) (response_told after)) }
         ensures refused { OnErr result (MayBeRefused self.old.shared stage) }
         ensures object { self.new.object ≡ self.old.object }
         ensures unchanged { OnErr result (self.new.shared ≡ self.old.shared) }

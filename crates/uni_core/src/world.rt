@@ -14,10 +14,9 @@ ghost use Rattle.uni_model.specs.Worlds.{opened_world, world_after, calls_in_era
 ghost use Rattle.uni_model.specs.Worlds.Event.{Call, Step};
 ghost use Rattle.uni_model.specs.Settled.{SeesSettled};
 ghost use Rattle.uni_model.specs.Transition.{place_of};
-ghost use Rattle.uni_model.specs.Indices.{name_of};
 ghost use Rattle.uni_core.specs.Standing.{pending_of};
 ghost use Rattle.uni_core.specs.Readers.{call_of_name, kind_of, place_named};
-ghost use Rattle.uni_core.specs.Whole.{world_of, current_of, TakesEffect, IsIdle, IsStepFault, IsProgress, GoesOn, KeepsFixed, MayNeedMemory};
+ghost use Rattle.uni_core.specs.Whole.{world_of, name_in, current_of, TakesEffect, IsIdle, IsStepFault, IsProgress, GoesOn, KeepsFixed, MayNeedMemory};
 
 use crate::fault::{BeginFault, OpenFault, Progress, StepFault};
 use crate::local::Local;
@@ -29,7 +28,7 @@ use std::alloc::{AllocError, Global};
 use std::marker::Model;
 
 /// The greatest number of processes.
-const MAX_PROCESSES: u64 = 16;
+const MAX_PROCESSES: u64 = 64;
 
 /// The greatest number of calls of a process in an era.
 const MAX_ROW: u64 = 4096;
@@ -59,12 +58,12 @@ impl<O: SeqObject> Model for World<O> {
 }
 
 /// Whether there can be `n` processes with rows of `k` calls. Errors, in this order: `BadCount` where
-/// `n` isn't from 1 to 16; `BadRow` where `k` isn't from 1 to 4096.
+/// `n` isn't from 1 to 64; `BadRow` where `k` isn't from 1 to 4096.
 fn counts_fit(n: u64, k: u64) -> Result<(), OpenFault>
-    ensures count { IsErrOf result OpenFault.BadCount ↔ ((n ≡ 0) ⊎ (16 < n)) }
-    ensures row { IsErrOf result OpenFault.BadRow ↔ ((1 ≤ n) × (n ≤ 16) × ((k ≡ 0) ⊎ (4096 < k))) }
+    ensures count { IsErrOf result OpenFault.BadCount ↔ ((n ≡ 0) ⊎ (64 < n)) }
+    ensures row { IsErrOf result OpenFault.BadRow ↔ ((1 ≤ n) × (n ≤ 64) × ((k ≡ 0) ⊎ (4096 < k))) }
     ensures others { IfErr result (λ e. (e ≡ OpenFault.BadCount) ⊎ (e ≡ OpenFault.BadRow)) }
-    ensures fits { OnOk result ((1 ≤ n) × (n ≤ 16) × (1 ≤ k) × (k ≤ 4096)) }
+    ensures fits { OnOk result ((1 ≤ n) × (n ≤ 64) × (1 ≤ k) × (k ≤ 4096)) }
 {
     if n < 1 || n > MAX_PROCESSES {
         return Err(OpenFault::BadCount);
@@ -90,11 +89,11 @@ impl<O: SeqObject> World<O> {
     /// A world of `n` processes over the object's start state, from number 1; each process can make
     /// `k` calls in an era.
     ///
-    /// Errors, in this order: `BadCount` where `n` isn't from 1 to 16; `BadRow` where `k` isn't from 1
+    /// Errors, in this order: `BadCount` where `n` isn't from 1 to 64; `BadRow` where `k` isn't from 1
     /// to 4096; `SeqFull` never, since 1 is low enough; `Memory`. After each the object is dropped.
     pub fn open(alloc: Global, object: O, n: u64, k: u64) -> Result<World<O>, OpenFault>
-        ensures count { IsErrOf result OpenFault.BadCount ↔ ((n ≡ 0) ⊎ (16 < n)) }
-        ensures row { IsErrOf result OpenFault.BadRow ↔ ((1 ≤ n) × (n ≤ 16) × ((k ≡ 0) ⊎ (4096 < k))) }
+        ensures count { IsErrOf result OpenFault.BadCount ↔ ((n ≡ 0) ⊎ (64 < n)) }
+        ensures row { IsErrOf result OpenFault.BadRow ↔ ((1 ≤ n) × (n ≤ 64) × ((k ≡ 0) ⊎ (4096 < k))) }
         ensures fits { IsErrOf result OpenFault.SeqFull → ⊥ }
         ensures opened { IfOk result (λ w. world_of w ≡ opened_world n ((O.sequential object).initial) 1) }
         ensures fixed { IfOk result (λ w. (w.object ≡ object) × (w.row ≡ k)) }
@@ -109,7 +108,7 @@ impl<O: SeqObject> World<O> {
     /// A world of `n` processes over a state, from number `seq`, which is at least 1; each process can
     /// make `k` calls in an era.
     ///
-    /// Errors, in this order: `BadCount` where `n` isn't from 1 to 16; `BadRow` where `k` isn't from 1
+    /// Errors, in this order: `BadCount` where `n` isn't from 1 to 64; `BadRow` where `k` isn't from 1
     /// to 4096; `SeqFull` where `seq + n * k` passes 2^48 - 1; `Memory`. After each the object and the
     /// state are dropped.
     pub fn open_at(
@@ -121,9 +120,9 @@ impl<O: SeqObject> World<O> {
         seq: u64,
     ) -> Result<World<O>, OpenFault>
         requires { 1 ≤ seq }
-        ensures count { IsErrOf result OpenFault.BadCount ↔ ((n ≡ 0) ⊎ (16 < n)) }
-        ensures row { IsErrOf result OpenFault.BadRow ↔ ((1 ≤ n) × (n ≤ 16) × ((k ≡ 0) ⊎ (4096 < k))) }
-        ensures numbers { IsErrOf result OpenFault.SeqFull ↔ ((1 ≤ n) × (n ≤ 16) × (1 ≤ k) × (k ≤ 4096) × (2 ^ 48 ≤ seq + n * k)) }
+        ensures count { IsErrOf result OpenFault.BadCount ↔ ((n ≡ 0) ⊎ (64 < n)) }
+        ensures row { IsErrOf result OpenFault.BadRow ↔ ((1 ≤ n) × (n ≤ 64) × ((k ≡ 0) ⊎ (4096 < k))) }
+        ensures numbers { IsErrOf result OpenFault.SeqFull ↔ ((1 ≤ n) × (n ≤ 64) × (1 ≤ k) × (k ≤ 4096) × (2 ^ 48 ≤ seq + n * k)) }
         ensures opened { IfOk result (λ w. world_of w ≡ opened_world n state seq) }
         ensures fixed { IfOk result (λ w. (w.object ≡ object) × (w.row ≡ k)) }
     {
@@ -163,7 +162,8 @@ impl<O: SeqObject> World<O> {
         ensures fixed { KeepsFixed self.old self.new }
         ensures unchanged { OnErr result (self.new ≡ self.old) }
     {
-        if p >= self.machine.shared.processes() {
+        let n = self.machine.shared.processes();
+        if p >= n {
             return Err(BeginFault::BadProcess);
         }
         let local = self.locals[p as usize];
@@ -183,6 +183,7 @@ impl<O: SeqObject> World<O> {
                 stage: Stage::Announce,
             }),
             begun: local.begun + 1,
+            among: n,
             steps: 0,
             turns: 0,
         };

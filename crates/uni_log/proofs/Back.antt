@@ -6,7 +6,7 @@ use Rattle.seq_object.specs.Sequential.{Sequential}
 use Rattle.uni_model.specs.Places.{Name, Memory, seq_of, after_of, before_of}
 use Rattle.uni_model.specs.Places.Name.{Anchor, Of}
 use Rattle.uni_model.specs.Chain.{cells_from}
-use Rattle.uni_model.specs.Worlds.{WorldOf, calls_begun, chain}
+use Rattle.uni_model.specs.Worlds.{WorldOf, era_calls, chain}
 use Rattle.uni_model.specs.Invariant.{Invariant}
 use Rattle.uni_model.proofs.Simulation.{enough}
 
@@ -74,11 +74,11 @@ module _ {S I R : Type 0} (w : WorldOf S I R) (from : Name) where
       by_anchor x is b =
           let its : seq_of w.memory from ≡ inv.0 from = inv.2.numbered.seq from (let h = b.threaded in let m = b.number in omega arith) in
           let top : inv.0 from ≤ inv.1 = inv.2.numbered.greatest from in
-          let all : inv.1 ≤ inv.0 Anchor + calls_begun w = enough object w inv.0 inv.1 inv.2 in
+          let all : inv.1 ≤ inv.0 Anchor + era_calls w = enough object w inv.0 inv.1 inv.2 in
           let anchor : inv.0 Anchor ≡ seq_of w.memory Anchor = inv.2.numbered.anchor in
           let number : seq_of w.memory Anchor + b.more ≡ seq_of w.memory from = subst (λ y. seq_of w.memory y + b.more ≡ seq_of w.memory from) is b.number in
-          let bound : b.more ≤ calls_begun w = omega arith in
-          b.reversed ∙ rw (is, b.count) (ap (λ ys. Anchor ∷ ys) (cells_from-take w.memory b.more (calls_begun w) Anchor bound))
+          let bound : b.more ≤ era_calls w = omega arith in
+          b.reversed ∙ rw (is, b.count) (ap (λ ys. Anchor ∷ ys) (cells_from-take w.memory b.more (era_calls w) Anchor bound))
 
 -- what is pushed leaves the first one
 pub first_kept : {A : Type 0} (xs ys : List A) (x : A) → slice_get xs 0 ≡ Some x → slice_get (xs ++ ys) 0 ≡ Some x

@@ -4,7 +4,7 @@ use Rattle.seq_object.specs.Sequential.{Sequential}
 use Rattle.seq_object.specs.History.{IsLegal}
 use Rattle.uni_model.specs.Places.{new_of}
 use Rattle.uni_model.specs.Places.Name.{Anchor}
-use Rattle.uni_model.specs.Worlds.{WorldOf, calls_begun}
+use Rattle.uni_model.specs.Worlds.{WorldOf, era_calls}
 use Rattle.uni_model.specs.Invariant.{Invariant}
 use Rattle.uni_model.specs.History.{log, logged_call}
 use Rattle.uni_model.proofs.Logged.{legal_from}
@@ -16,7 +16,7 @@ pub legal_log : {S I R : Type 0} (object : Sequential S I R) (w : WorldOf S I R)
     → (state : S) → new_of w.memory Anchor ≡ Some (state, None) → IsLegal object state (map call_shown entries)
 legal_log {I = I} {R = R} object w inv entries is state settled =
     subst (IsLegal object state) (ap (map logged_call) (sym is) ∙ each entries)
-    (legal_from object w inv.0 inv.1 inv.2 (calls_begun w) Anchor _ (state, None) inv.2.numbered.first settled) where
+    (legal_from object w inv.0 inv.1 inv.2 (era_calls w) Anchor _ (state, None) inv.2.numbered.first settled) where
       each : (es : List (Shown I R)) → map logged_call (map entry_shown es) ≡ map call_shown es
       each [] = refl
       each (e ∷ es) = ap (λ cs. call_shown e ∷ cs) (each es)

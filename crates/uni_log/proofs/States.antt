@@ -6,7 +6,7 @@ use Rattle.seq_object.specs.History.{state_after}
 use Rattle.uni_model.specs.Places.{Name, new_of}
 use Rattle.uni_model.specs.Places.Name.{Anchor}
 use Rattle.uni_model.specs.Chain.{Invoked}
-use Rattle.uni_model.specs.Worlds.{WorldOf, calls_begun, chain}
+use Rattle.uni_model.specs.Worlds.{WorldOf, era_calls, chain}
 use Rattle.uni_model.specs.History.{invocations_of}
 use Rattle.uni_model.specs.Invariant.{Invariant}
 use Rattle.uni_model.proofs.Simulation.{calls_of-calls_at}
@@ -22,7 +22,7 @@ state_folded {S} {I} {R} object w inv place state is start at_start = by_cell (s
   by_new y at None e h = cc
   by_new y at (Some v) e h =
       let value : state ≡ v.0 = cc in
-      value ∙ state_after-from object w inv.0 inv.1 inv.2 (calls_begun w) Anchor y place (start, None) v inv.2.numbered.first at at_start e
+      value ∙ state_after-from object w inv.0 inv.1 inv.2 (era_calls w) Anchor y place (start, None) v inv.2.numbered.first at at_start e
       ∙ ap (λ cs. state_after object start (take place (map (λ (c : Invoked I). c.inv) cs))) (sym (calls_of-calls_at w))
 
   by_cell : (o : Option Name) → slice_get (Anchor ∷ chain w) place ≡ o

@@ -4,7 +4,7 @@ use Rattle.seq_object.specs.Sequential.{Sequential}
 use Rattle.uni_model.specs.Places.{Name, seq_of, after_of, inv_of}
 use Rattle.uni_model.specs.Places.Name.{Anchor, Of}
 use Rattle.uni_model.specs.Chain.{cells_from, invoked_at}
-use Rattle.uni_model.specs.Worlds.{WorldOf, calls_begun, chain}
+use Rattle.uni_model.specs.Worlds.{WorldOf, era_calls, chain}
 use Rattle.uni_model.specs.Invariant.{Has, IsNumbered, Invariant}
 use Rattle.uni_model.proofs.Chains.{invoked_past_anchor}
 use Rattle.uni_model.proofs.Simulation.{enough}
@@ -41,7 +41,7 @@ module _ {S I R : Type 0} (w : WorldOf S I R) where
         omega arith;
     linked = inv.2.numbered.first;
     number = is ∙ sym inv.2.numbered.anchor;
-    most = calls_begun w;
+    most = era_calls w;
     enough = enough object w inv.0 inv.1 inv.2;
     rest_is = refl;
   }

@@ -9,8 +9,7 @@ ghost use Rattle.uni_model.specs.Places.Name.{Anchor, Of};
 ghost use Rattle.uni_model.specs.Worlds.{chain};
 ghost use Rattle.uni_model.specs.Chain.{invoked_at, response_in};
 ghost use Rattle.uni_model.specs.History.{log, invocations_of};
-ghost use Rattle.uni_model.specs.Indices.{name_of};
-ghost use Rattle.uni_core.specs.Whole.{world_of};
+ghost use Rattle.uni_core.specs.Whole.{world_of, name_in};
 ghost use Rattle.uni_log.specs.Shown.{entry_shown, call_shown};
 ghost use Rattle.uni_log.specs.States.{state_settled_at};
 
@@ -40,7 +39,7 @@ impl<'a, O: SeqObject> Model for Log<'a, O> {
 /// Whether a cell was made for a call.
 fn is_cell_of<O: SeqObject>(world: &World<O>, id: CellId, call: CallId) -> bool
     requires { IsSome (cell_of world.now.shared.cells id) }
-    ensures { result ≡ name_eq (Of call.process call.nth) (name_of (world_of world.now).n id) }
+    ensures { result ≡ name_eq (Of call.process call.nth) (name_in (world_of world.now) id) }
 {
     match world.call_of(id) {
         Some(made) => call.process == made.process && call.nth == made.nth,
@@ -58,10 +57,10 @@ fn entry_at<O: SeqObject>(
     seq: u64,
 ) -> Result<Entry<O::Inv, O::Resp>, AllocError>
     requires there { IsSome (cell_of world.now.shared.cells id) }
-    requires call { IsSome (invoked_at (world_of world.now).memory (name_of (world_of world.now).n id)) }
+    requires call { IsSome (invoked_at (world_of world.now).memory (name_in (world_of world.now) id)) }
     ensures seq { IfOk result (λ e. (entry_shown e).number ≡ seq) }
-    ensures call { IfOk result (λ e. invoked_at (world_of world.now).memory (name_of (world_of world.now).n id) ≡ Some (entry_shown e).call) }
-    ensures reply { IfOk result (λ e. (entry_shown e).response ≡ response_in (world_of world.now).memory (name_of (world_of world.now).n id)) }
+    ensures call { IfOk result (λ e. invoked_at (world_of world.now).memory (name_in (world_of world.now) id) ≡ Some (entry_shown e).call) }
+    ensures reply { IfOk result (λ e. (entry_shown e).response ≡ response_in (world_of world.now).memory (name_in (world_of world.now) id)) }
 {
     let call = world.call_of(id).unwrap();
     let inv = O::copy_inv(alloc, world.inv(id).unwrap())?;
@@ -80,7 +79,7 @@ fn entry_at<O: SeqObject>(
 /// The state that is settled in a cell of the arena, or `None`.
 fn state_in<'a, O: SeqObject>(world: &'a World<O>, id: CellId) -> Option<&'a O::State>
     requires { IsSome (cell_of world.now.shared.cells id) }
-    ensures { option_copied result ≡ option_map (λ new. new.0) (new_of (world_of world.now).memory (name_of (world_of world.now).n id)) }
+    ensures { option_copied result ≡ option_map (λ new. new.0) (new_of (world_of world.now).memory (name_in (world_of world.now) id)) }
 {
     match world.new_of(id) {
         Some((state, _)) => Some(state),
@@ -126,7 +125,7 @@ impl<'a, O: SeqObject> Log<'a, O> {
     ///
     /// An `Err` says that memory was refused.
     pub fn cells_forward(&self, alloc: Global) -> Result<Vec<CellId>, AllocError>
-        ensures { IfOk result (λ cells. map (name_of (world_of self.now).n) cells.items ≡ Anchor ∷ chain (world_of self.now)) }
+        ensures { IfOk result (λ cells. map (name_in (world_of self.now)) cells.items ≡ Anchor ∷ chain (world_of self.now)) }
     {
         let world = self.world;
         world.shape();
@@ -185,9 +184,9 @@ impl<'a, O: SeqObject> Log<'a, O> {
     /// An `Err` says that memory was refused.
     pub fn cells_back(&self, alloc: Global, from: CellId) -> Result<Vec<CellId>, AllocError>
         requires there { IsSome (cell_of self.now.shared.cells from) }
-        requires threaded { 1 ≤ seq_of (world_of self.now).memory (name_of (world_of self.now).n from) }
+        requires threaded { 1 ≤ seq_of (world_of self.now).memory (name_in (world_of self.now) from) }
         ensures first { IfOk result (λ cells. slice_get cells.items 0 ≡ Some from) }
-        ensures reversed { IfOk result (λ cells. reverse (map (name_of (world_of self.now).n) cells.items) ≡ take (length cells.items) (Anchor ∷ chain (world_of self.now))) }
+        ensures reversed { IfOk result (λ cells. reverse (map (name_in (world_of self.now)) cells.items) ≡ take (length cells.items) (Anchor ∷ chain (world_of self.now))) }
     {
         let world = self.world;
         world.shape();

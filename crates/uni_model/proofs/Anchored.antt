@@ -64,9 +64,9 @@ module _ {S I R : Type 0} (object : Sequential S I R) (s : S) (number : ℕ) (po
   back = record { link = λ x y e. absurd (let f : None ≡ Some x = e in cc); threaded = λ p k h. absurd (omega arith) }
 
   -- nobody has a call pending
-  pub IsSound-anchor_memory : (n : ℕ) (call : ℕ → Option Pending) (begun first steps turns : ℕ → ℕ) → ((p : ℕ) → call p ≡ None)
-      → IsSound object (record { n = n; memory = anchor_memory s number; call = call; begun = begun; first = first; steps = steps; turns = turns }) (alone number) number
-  IsSound-anchor_memory n call begun first steps turns idle = record {
+  pub IsSound-anchor_memory : (n : ℕ) (call : ℕ → Option Pending) (begun among steps turns : ℕ → ℕ) → ((p : ℕ) → call p ≡ None)
+      → IsSound object (record { n = n; memory = anchor_memory s number; call = call; begun = begun; first = begun; among = among; steps = steps; turns = turns }) (alone number) number
+  IsSound-anchor_memory n call begun among steps turns idle = record {
     numbered = numbered;
     values = values;
     back = back;
@@ -74,6 +74,8 @@ module _ {S I R : Type 0} (object : Sequential S I R) (s : S) (number : ℕ) (po
       anchor = refl;
       linked = λ p k h. absurd (omega arith);
       begun = λ p k made. absurd (let e : None ≡ Some made.0 = made.1 in cc);
+      first = λ p. omega arith;
+      made = λ p k since before. absurd (omega arith);
       process = λ p c e. absurd (let f = idle p in cc);
       mine = λ p c e. absurd (let f = idle p in cc);
       threaded = λ p k made. absurd (let e : None ≡ Some made.0 = made.1 in cc);

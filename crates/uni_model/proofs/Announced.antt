@@ -6,8 +6,8 @@ use Rattle.uni_model.specs.Places.{Name, name_eq, seq_of, new_of}
 use Rattle.uni_model.specs.Places.Name.{Of}
 use Rattle.uni_model.specs.Stages.{Stage, Pending}
 use Rattle.uni_model.specs.Stages.Stage.{Announce}
-use Rattle.uni_model.specs.Worlds.{WorldOf, Event, call_after, anchor_memory, last_cell, world_after_step, opened_world, world_after, world_after_all}
-use Rattle.uni_model.specs.Worlds.Event.{Call, Step, Trim}
+use Rattle.uni_model.specs.Worlds.{WorldOf, Event, call_after, anchor_memory, last_cell, world_after_step, opened_world, world_after, world_after_all, world_after_era}
+use Rattle.uni_model.specs.Worlds.Event.{Call, Step, Trim, Reshape}
 use Rattle.uni_model.specs.Frontier.{frontier, announces, announces_at, floor_of}
 use Rattle.uni_model.specs.Bound.{CountsSteps}
 use Rattle.uni_model.specs.Helping.{HelpingInvariant}
@@ -16,6 +16,13 @@ use Rattle.uni_model.proofs.Written.{name_eq_same, number_cases}
 use Rattle.uni_model.proofs.Counted.{CountsSteps-opened_world}
 use Rattle.uni_model.proofs.Bounded.{HelpingInvariant-opened_world, HelpingInvariant-world_after_all}
 use Rattle.uni_model.proofs.Soon.{FloorInvariant-floor}
+
+-- the end of an era begins and ends no call
+call-world_after_era : {S I R : Type 0} (w : WorldOf S I R) (n q : ℕ) → (world_after_era w n).call q ≡ w.call q
+call-world_after_era {S} {I} {R} w n q = by_new (new_of w.memory (last_cell w)) where
+  by_new : (o : Option (S × Option R)) → (option_map_or (λ new. record w { n = n; first = w.begun; memory = anchor_memory new.0 (seq_of w.memory (last_cell w)) }) o w).call q ≡ w.call q
+  by_new None = refl
+  by_new (Some new) = refl
 
 module _ {S I R : Type 0} (object : Sequential S I R) where
   -- a pending call that has been announced by the end of a run was so at its start, or the run gives it its floor
@@ -33,11 +40,12 @@ module _ {S I R : Type 0} (object : Sequential S I R) where
   ]
   floor_or_announced w (Trim ∷ es) p x c pending its past = elim (floor_or_announced (world_after object w Trim) es p x c pending its past) [
     | inl some ↦ inl some
-    | inr was ↦ inr (was.0, sym (call-world_after_trim (new_of w.memory (last_cell w)) p) ∙ was.1, was.2, was.3)
-  ] where
-    call-world_after_trim : (o : Option (S × Option R)) (q : ℕ) → (option_map_or (λ new. record w { first = w.begun; memory = anchor_memory new.0 (seq_of w.memory (last_cell w)) }) o w).call q ≡ w.call q
-    call-world_after_trim None q = refl
-    call-world_after_trim (Some new) q = refl
+    | inr was ↦ inr (was.0, sym (call-world_after_era w w.n p) ∙ was.1, was.2, was.3)
+  ]
+  floor_or_announced w (Reshape n ∷ es) p x c pending its past = elim (floor_or_announced (world_after object w (Reshape n)) es p x c pending its past) [
+    | inl some ↦ inl some
+    | inr was ↦ inr (was.0, sym (call-world_after_era w n p) ∙ was.1, was.2, was.3)
+  ]
   floor_or_announced w (Step o ∷ es) p x c pending its past = by_test (floor_or_announced (world_after object w (Step o)) es p x c pending its past) (announces x (w.call o)) refl where
     at_call : (call : Option Pending) → w.call o ≡ call → announces x call ≡ false → (d : Pending) → (world_after_step object w o call).call p ≡ Some d → d.mine ≡ x → d.stage ≢ Announce
         → (d : Pending) × (w.call p ≡ Some d) × (d.mine ≡ x) × (d.stage ≢ Announce)

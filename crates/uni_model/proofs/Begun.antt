@@ -1,5 +1,5 @@
 -- A call that is begun keeps the invariant.
-use Rattle.std.proofs.Common.{◌≡◌, ◌≢◌, ◌∙◌, ℕ, ◌+◌, ◌<◌, ◌≤◌, ◌⊎◌, inl, inr, refl, sym, ap, subst, Option, Some, None, arith}
+use Rattle.std.proofs.Common.{◌≡◌, ◌≢◌, ◌∙◌, ℕ, ◌+◌, ◌<◌, ◌≤◌, ◌⊎◌, inl, inr, refl, sym, ap, subst, Option, Some, None, arith, ◌-◌}
 use Rattle.std.proofs.lemmas.Bool.{cases_lt}
 use Rattle.seq_object.specs.Sequential.{Sequential}
 use Rattle.uni_model.specs.Places.{Name, Memory, memory_with, set_at, inv_of}
@@ -8,7 +8,7 @@ use Rattle.uni_model.specs.Places.Place.{InvOf}
 use Rattle.uni_model.specs.Places.Content.{Invocation}
 use Rattle.uni_model.specs.Stages.{Pending}
 use Rattle.uni_model.specs.Stages.Stage.{Announce}
-use Rattle.uni_model.specs.Worlds.{WorldOf, world_after_call, sum_below}
+use Rattle.uni_model.specs.Worlds.{WorldOf, world_after_call, sum_below, calls_in_era}
 use Rattle.uni_model.specs.Invariant.{Has, Stands, IsSound, can_be_linked}
 use Rattle.uni_model.proofs.Written.{set_at-cases, number_cases, inv_of-memory_with}
 use Rattle.uni_model.specs.Settled.{Grows}
@@ -25,7 +25,7 @@ module _ {S I R : Type 0} (object : Sequential S I R) (w : WorldOf S I R) (num :
   fresh = by_inv (inv_of w.memory (Of p (w.begun p))) refl where
     by_inv : (o : Option I) → inv_of w.memory (Of p (w.begun p)) ≡ o → o ≡ None
     by_inv None e = refl
-    by_inv (Some j) e = absurd (let below = (sound.calls.begun p (w.begun p) (j, e)).1 in omega arith)
+    by_inv (Some j) e = absurd (let below = (sound.calls.begun p (w.begun p) (j, e)).2 in omega arith)
 
   pub not_linked : num (Of p (w.begun p)) ≡ 0
   not_linked = elim (cases_lt 0 (num (Of p (w.begun p)))) [
@@ -82,8 +82,8 @@ module _ {S I R : Type 0} (object : Sequential S I R) (w : WorldOf S I R) (num :
   begun_here : (q : ℕ) → q ≡ p → set_at w.begun p (w.begun p + 1) q ≡ w.begun p + 1
   begun_here q same = elim (set_at-cases w.begun p (w.begun p + 1) q) [ inl h ↦ h.1 | inr h ↦ absurd (h.0 same) ]
 
-  count_kept : (q : ℕ) → can_be_linked num (w.call q) (w.begun q)
-      ≤ can_be_linked num (set_at w.call p (Some (record { mine = Of p (w.begun p); stage = Announce })) q) (set_at w.begun p (w.begun p + 1) q)
+  count_kept : (q : ℕ) → can_be_linked num (w.call q) (calls_in_era w q)
+      ≤ can_be_linked num (set_at w.call p (Some (record { mine = Of p (w.begun p); stage = Announce })) q) (set_at w.begun p (w.begun p + 1) q - w.first q)
   count_kept q = elim (number_cases q p) [
     | inl h ↦ rw (h.1, ap w.call h.0 ∙ idle, ap w.begun h.0) (elim (number_cases (num (Of p (w.begun p))) 0) [
       | inl none ↦ rw none.1 (omega arith)
@@ -117,8 +117,18 @@ module _ {S I R : Type 0} (object : Sequential S I R) (w : WorldOf S I R) (num :
       anchor = elim (inv_of-memory_with w.memory (Of p (w.begun p)) Anchor (Some i)) [ inl h ↦ absurd (let e = h.0 in cc) | inr h ↦ h.1 ∙ sound.calls.anchor ];
       linked = λ q k linked. Has-inv w.memory _ Grows-begun (Of q k) (sound.calls.linked q k linked);
       begun = λ q k made. elim (was_there q k made) [
-        | inl new ↦ (let e = new.0 in subst (λ r. r < w.n) (sym e) inside, (let more = begun_here q new.0 in let k_is = new.1 in omega arith))
-        | inr old ↦ let was = sound.calls.begun q k old in (was.0, (let less = was.1 in let more = begun_more q in omega arith))
+        | inl new ↦ (let e = new.0 in subst (λ r. r < w.n) (sym e) inside, subst (λ r. w.first r ≤ k) (sym new.0) (let since = sound.calls.first p in let k_is = new.1 in omega arith), (let more = begun_here q new.0 in let k_is = new.1 in omega arith))
+        | inr old ↦ let was = sound.calls.begun q k old in (was.0, was.1, (let less = was.2 in let more = begun_more q in omega arith))
+      ];
+      first = λ q. let since = sound.calls.first q in let more = begun_more q in omega arith;
+      made = λ q k since before. elim (set_at-cases w.begun p (w.begun p + 1) q) [
+        | inl here ↦ elim (cases_lt k (w.begun p)) [
+          | inl old ↦ Has-inv w.memory _ Grows-begun (Of q k) (sound.calls.made q k since (let same : w.begun q ≡ w.begun p = ap w.begun here.0 in omega arith))
+          | inr late ↦
+              let last : k ≡ w.begun p = (let less : k < set_at w.begun p (w.begun p + 1) q = before in let now : set_at w.begun p (w.begun p + 1) q ≡ w.begun p + 1 = here.1 in omega arith) in
+              (i, ap (inv_of (memory_with w.memory (InvOf (Of p (w.begun p))) (Invocation (Some i)))) (ap (λ r. Of r k) here.0 ∙ ap (Of p) last) ∙ own_inv)
+        ]
+        | inr other ↦ Has-inv w.memory _ Grows-begun (Of q k) (sound.calls.made q k since (let less : k < set_at w.begun p (w.begun p + 1) q = before in let now : set_at w.begun p (w.begun p + 1) q ≡ w.begun q = other.1 in omega arith))
       ];
       process = λ q c e. elim (was_pending q c e) [ inl new ↦ subst (λ r. r < w.n) (sym new.0) inside | inr old ↦ sound.calls.process q c old.1 ];
       mine = λ q c e. elim (was_pending q c e) [
@@ -162,9 +172,9 @@ module _ {S I R : Type 0} (object : Sequential S I R) (w : WorldOf S I R) (num :
       | inr old ↦ Stands-grows w.memory _ Grows-begun num num (λ x. inl refl) q refl (sound.calls.head q (sound.calls.process q c old.1)) w.n c.mine c.stage (sound.stands q c old.1)
     ];
     count =
-        let rising : sum_below w.n (λ q. can_be_linked num (w.call q) (w.begun q))
-        ≤ sum_below w.n (λ q. can_be_linked num (set_at w.call p (Some (record { mine = Of p (w.begun p); stage = Announce })) q) (set_at w.begun p (w.begun p + 1) q))
+        let rising : sum_below w.n (λ q. can_be_linked num (w.call q) (calls_in_era w q))
+        ≤ sum_below w.n (λ q. can_be_linked num (set_at w.call p (Some (record { mine = Of p (w.begun p); stage = Announce })) q) (set_at w.begun p (w.begun p + 1) q - w.first q))
         = sum_below-le w.n _ _ (λ q h. count_kept q) in
-        let was : last ≤ num Anchor + sum_below w.n (λ q. can_be_linked num (w.call q) (w.begun q)) = sound.count in
+        let was : last ≤ num Anchor + sum_below w.n (λ q. can_be_linked num (w.call q) (calls_in_era w q)) = sound.count in
         omega arith;
   }

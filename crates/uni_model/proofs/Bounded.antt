@@ -6,8 +6,8 @@ use Rattle.uni_model.specs.Places.{Name, Memory, memory_with, set_at, head_seq, 
 use Rattle.uni_model.specs.Stages.{Stage, Pending}
 use Rattle.uni_model.specs.Stages.Stage.{Announce, ScanHead, ScanSeq, WriteScan, Test, ReadAnnounce, ReadHelpSeq, DecideAfter, DecideNew, WriteBefore, WriteSeq, WriteHead, Finish}
 use Rattle.uni_model.specs.Transition.{place_of, effect_of, turn_of, beside}
-use Rattle.uni_model.specs.Worlds.{WorldOf, Event, world_after_call, world_after_step, opened_world, anchor_memory, world_after_trim, last_cell, world_after, world_after_all, IsAccepted, AreAccepted, IsQuiescent}
-use Rattle.uni_model.specs.Worlds.Event.{Call, Step, Trim}
+use Rattle.uni_model.specs.Worlds.{WorldOf, Event, world_after_call, world_after_step, opened_world, anchor_memory, world_after_era, last_cell, world_after, world_after_all, IsAccepted, AreAccepted, IsQuiescent}
+use Rattle.uni_model.specs.Worlds.Event.{Call, Step, Trim, Reshape}
 use Rattle.uni_model.specs.Invariant.{Stands}
 use Rattle.uni_model.specs.Bound.{steps_at, IsCounted, CountsSteps, IsWithinBound, IsBounded}
 use Rattle.uni_model.proofs.Moves.{IsSound-moved}
@@ -23,9 +23,9 @@ use Rattle.uni_model.proofs.HelpedStep.{Helps-moved}
 use Rattle.uni_model.proofs.HelpedCall.{Helps-begun}
 
 -- with no call pending nobody waits for help
-pub Helps-anchor_memory : {S I R : Type 0} (s : S) (number n : ℕ) (call : ℕ → Option Pending) (begun first steps turns : ℕ → ℕ) → ((p : ℕ) → call p ≡ None) → ((p : ℕ) → turns p ≤ n + 1)
-    → Helps {S = S} {I = I} {R = R} (record { n = n; memory = anchor_memory s number; call = call; begun = begun; first = first; steps = steps; turns = turns }) (alone number) number
-Helps-anchor_memory s number n call begun first steps turns idle few = record {
+pub Helps-anchor_memory : {S I R : Type 0} (s : S) (number n : ℕ) (call : ℕ → Option Pending) (begun among steps turns : ℕ → ℕ) → ((p : ℕ) → call p ≡ None) → ((p : ℕ) → turns p ≤ among p + 1)
+    → Helps {S = S} {I = I} {R = R} (record { n = n; memory = anchor_memory s number; call = call; begun = begun; first = begun; among = among; steps = steps; turns = turns }) (alone number) number
+Helps-anchor_memory s number n call begun among steps turns idle few = record {
   each = λ p c e. absurd (let f = idle p in cc);
   fair = λ o d e. absurd (let f = idle o in cc);
   heads = λ k from below. absurd (omega arith);
@@ -49,36 +49,37 @@ module _ {S I R : Type 0} (object : Sequential S I R) where
         Helps-moved object w inv.0 inv.1 inv.2 inv.3 p c.mine c.stage is (memory_with w.memory place e.content) moved.0 moved.1 e.stage moved.3 moved.2
             (head_rises object w inv.0 inv.1 inv.2 inv.3 p c.mine threaded c.stage (inv.2.stands p c is) helped.own_head moved.3.grows)
             (w.turns p + turn_of c.stage (w.memory place))
-            (advances object w inv.0 inv.1 inv.2 inv.3 p c.mine inside threaded moved.0 moved.3.numbers c.stage is (inv.2.stands p c is) helped own.0)
-            (set_at w.steps p (w.steps p + 1)),
+            (advances object w inv.0 inv.1 inv.2 inv.3 p c.mine inside threaded moved.0 moved.3.numbers c.stage is (inv.2.stands p c is) helped own.1)
+            (set_at w.steps p (w.steps p + 1)) own.0,
       )
 
-  -- every process's latest call has taken at most n + 1 turns
-  pub turns_bounded : (w : WorldOf S I R) → CountsSteps w → HelpingInvariant object w → (p : ℕ) → w.turns p ≤ w.n + 1
+  -- every process's latest call has taken at most n + 1 turns, of the n processes among which it ran
+  pub turns_bounded : (w : WorldOf S I R) → CountsSteps w → HelpingInvariant object w → (p : ℕ) → w.turns p ≤ w.among p + 1
   turns_bounded w counts inv p = by_call (w.call p) refl where
-    by_call : (o : Option Pending) → w.call p ≡ o → w.turns p ≤ w.n + 1
+    by_call : (o : Option Pending) → w.call p ≡ o → w.turns p ≤ w.among p + 1
     by_call None is = inv.3.returned p is
     by_call (Some c) is =
         let own = IsCounted-pending w counts p c is in
         let inside : p < w.n = inv.2.calls.process p c is in
-        turns-le w.memory inv.0 inv.1 inv.2.numbered w.n p inside (inv.2.calls.head p inside) c.mine (w.turns p) c.stage (inv.2.stands p c is) own.0 (inv.3.each p c is)
+        subst (λ n. w.turns p ≤ n + 1) (sym own.0)
+        (turns-le w.memory inv.0 inv.1 inv.2.numbered w.n p inside (inv.2.calls.head p inside) c.mine (w.turns p) c.stage (inv.2.stands p c is) own.1 (inv.3.each p c is))
 
   -- the list is replaced by one anchor with the state s
-  abbrev pub HelpingInvariant-anchor_memory : (w : WorldOf S I R) (s : S) → IsQuiescent w → CountsSteps w → HelpingInvariant object w
-      → HelpingInvariant object (record w { first = w.begun; memory = anchor_memory s (seq_of w.memory (last_cell w)) })
-  HelpingInvariant-anchor_memory w s quiet counts inv =
+  abbrev pub HelpingInvariant-anchor_memory : (w : WorldOf S I R) (n : ℕ) (s : S) → IsQuiescent w → CountsSteps w → HelpingInvariant object w
+      → HelpingInvariant object (record w { n = n; first = w.begun; memory = anchor_memory s (seq_of w.memory (last_cell w)) })
+  HelpingInvariant-anchor_memory w n s quiet counts inv =
       let idle : (p : ℕ) → w.call p ≡ None = idle_when_quiescent object w inv.0 inv.1 inv.2 quiet in (
         alone (seq_of w.memory (last_cell w)),
         seq_of w.memory (last_cell w),
-        IsSound-anchor_memory object s (seq_of w.memory (last_cell w)) (last_cell_threaded object w inv.0 inv.1 inv.2 quiet) w.n w.call w.begun w.begun w.steps w.turns idle,
-        Helps-anchor_memory s (seq_of w.memory (last_cell w)) w.n w.call w.begun w.begun w.steps w.turns idle (turns_bounded w counts inv),
+        IsSound-anchor_memory object s (seq_of w.memory (last_cell w)) (last_cell_threaded object w inv.0 inv.1 inv.2 quiet) n w.call w.begun w.among w.steps w.turns idle,
+        Helps-anchor_memory s (seq_of w.memory (last_cell w)) n w.call w.begun w.among w.steps w.turns idle (turns_bounded w counts inv),
       )
 
-  HelpingInvariant-world_after_trim : (w : WorldOf S I R) → IsQuiescent w → CountsSteps w → HelpingInvariant object w → HelpingInvariant object (world_after_trim w)
-  HelpingInvariant-world_after_trim w quiet counts inv = by_new (new_of w.memory (last_cell w)) where
-    by_new : (o : Option (S × Option R)) → HelpingInvariant object (option_map_or (λ new. record w { first = w.begun; memory = anchor_memory new.0 (seq_of w.memory (last_cell w)) }) o w)
+  HelpingInvariant-world_after_era : (w : WorldOf S I R) (n : ℕ) → IsQuiescent w → CountsSteps w → HelpingInvariant object w → HelpingInvariant object (world_after_era w n)
+  HelpingInvariant-world_after_era w n quiet counts inv = by_new (new_of w.memory (last_cell w)) where
+    by_new : (o : Option (S × Option R)) → HelpingInvariant object (option_map_or (λ new. record w { n = n; first = w.begun; memory = anchor_memory new.0 (seq_of w.memory (last_cell w)) }) o w)
     by_new None = inv
-    by_new (Some new) = HelpingInvariant-anchor_memory w new.0 quiet counts inv
+    by_new (Some new) = HelpingInvariant-anchor_memory w n new.0 quiet counts inv
 
   abbrev pub HelpingInvariant-begun : (w : WorldOf S I R) (p : ℕ) (i : I) → p < w.n → w.call p ≡ None → HelpingInvariant object w → HelpingInvariant object (world_after_call w p i)
   HelpingInvariant-begun w p i inside idle inv =
@@ -90,7 +91,8 @@ module _ {S I R : Type 0} (object : Sequential S I R) where
     by_call : (o : Option Pending) → w.call p ≡ o → HelpingInvariant object (world_after_step object w p o)
     by_call None is = inv
     by_call (Some c) is = HelpingInvariant-world_after_step w p c is counts inv
-  HelpingInvariant-world_after w Trim ok counts inv = HelpingInvariant-world_after_trim w ok counts inv
+  HelpingInvariant-world_after w Trim ok counts inv = HelpingInvariant-world_after_era w w.n ok counts inv
+  HelpingInvariant-world_after w (Reshape n) ok counts inv = HelpingInvariant-world_after_era w n ok.0 counts inv
 
   pub HelpingInvariant-world_after_all : (w : WorldOf S I R) (es : List (Event I)) → AreAccepted object w es → CountsSteps w → HelpingInvariant object w → HelpingInvariant object (world_after_all object w es)
   HelpingInvariant-world_after_all w [] ok counts inv = inv
@@ -123,9 +125,9 @@ module _ {S I R : Type 0} (object : Sequential S I R) where
 
   pub IsBounded-held : (w : WorldOf S I R) → CountsSteps w → HelpingInvariant object w → IsBounded w
   IsBounded-held w counts inv p = by_call (w.call p) refl (counts p) where
-    by_call : (o : Option Pending) → w.call p ≡ o → IsCounted w.n o (w.begun p) (w.steps p) (w.turns p) → IsWithinBound w.n o (w.begun p) (w.steps p) (w.turns p)
+    by_call : (o : Option Pending) → w.call p ≡ o → IsCounted w.n o (w.begun p) (w.among p) (w.steps p) (w.turns p) → IsWithinBound w.n o (w.begun p) (w.among p) (w.steps p) (w.turns p)
     by_call None is counted = (turns_bounded w counts inv p, counted)
     by_call (Some c) is counted =
-        let few : w.turns p ≤ w.n + 1 = turns_bounded w counts inv p in
+        let few : w.turns p ≤ w.n + 1 = subst (λ n. w.turns p ≤ n + 1) counted.0 (turns_bounded w counts inv p) in
         let less : steps_at w.n c.stage (w.turns p) < 10 * w.n + 12 = steps_at-lt w.memory inv.0 w.n p c.mine c.stage (w.turns p) (inv.2.stands p c is) few in
-        (few, subst (λ u. u < 10 * w.n + 12) (sym counted.1) less)
+        (counted.0, few, subst (λ u. u < 10 * w.n + 12) (sym counted.2) less)

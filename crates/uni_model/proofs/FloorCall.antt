@@ -15,7 +15,7 @@ use Rattle.uni_model.proofs.Floored.{IsBelowFloor, Waits, HasFloor, IsAnnounced}
 use Rattle.uni_model.proofs.Written.{number_cases}
 use Rattle.uni_model.proofs.Helped.{OfConsidered-map}
 
-le-greatest_below : (n : ℕ) (f : ℕ → ℕ) (r : ℕ) → r < n → f r ≤ greatest_below n f
+pub le-greatest_below : (n : ℕ) (f : ℕ → ℕ) (r : ℕ) → r < n → f r ≤ greatest_below n f
 le-greatest_below zero f r below = absurd (omega arith)
 le-greatest_below (suc n) f r below =
     let left : greatest_below n f ≤ max (greatest_below n f) (f n) = le-max_left (greatest_below n f) (f n) in

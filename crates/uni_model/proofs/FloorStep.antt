@@ -120,7 +120,7 @@ module _ {S I R : Type 0} (object : Sequential S I R) (w : WorldOf S I R) (num :
     ]
 
     Waits-moved : (steps : ℕ → ℕ)
-        → Waits (record { n = w.n; memory = m; call = set_at w.call p (call_after mine to); begun = w.begun; first = w.first; steps = steps; turns = set_at w.turns p t }) num' last' q (Of q k) floor
+        → Waits (record { n = w.n; memory = m; call = set_at w.call p (call_after mine to); begun = w.begun; first = w.first; among = w.among; steps = steps; turns = set_at w.turns p t }) num' last' q (Of q k) floor
     Waits-moved steps = record {
       anchor = subst (λ j. j ≤ floor) (sym (anchor_stays num last num' last' IsProposed longer sound.numbered.first)) waits.anchor;
       unlinked = unlinked_later;
@@ -142,7 +142,7 @@ module _ {S I R : Type 0} (object : Sequential S I R) (w : WorldOf S I R) (num :
       ]
 
   pub HasFloor-moved : (steps : ℕ → ℕ)
-      → HasFloor (record { n = w.n; memory = m; call = set_at w.call p (call_after mine to); begun = w.begun; first = w.first; steps = steps; turns = set_at w.turns p t }) num' last' q k floor
+      → HasFloor (record { n = w.n; memory = m; call = set_at w.call p (call_after mine to); begun = w.begun; first = w.first; among = w.among; steps = steps; turns = set_at w.turns p t }) num' last' q k floor
   HasFloor-moved steps = record {
     begun = has.begun;
     linked = linked_later;
@@ -152,7 +152,7 @@ module _ {S I R : Type 0} (object : Sequential S I R) (w : WorldOf S I R) (num :
   }
 
   pub IsAnnounced-moved : (steps : ℕ → ℕ)
-      → IsAnnounced (record { n = w.n; memory = m; call = set_at w.call p (call_after mine to); begun = w.begun; first = w.first; steps = steps; turns = set_at w.turns p t }) q k
+      → IsAnnounced (record { n = w.n; memory = m; call = set_at w.call p (call_after mine to); begun = w.begun; first = w.first; among = w.among; steps = steps; turns = set_at w.turns p t }) q k
   IsAnnounced-moved steps c e its = elim (number_cases q p) [
     | inl here ↦ at_stage to advances (rw here.1 at e)
     | inr other ↦ elim (known c (rw other.1 at e) its) [ inl past ↦ past | inr here ↦ absurd (other.0 here) ]

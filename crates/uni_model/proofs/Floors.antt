@@ -7,8 +7,8 @@ use Rattle.uni_model.specs.Places.Name.{Of}
 use Rattle.uni_model.specs.Stages.{Pending}
 use Rattle.uni_model.specs.Stages.Stage.{Announce}
 use Rattle.uni_model.specs.Transition.{place_of, effect_of, turn_of, beside}
-use Rattle.uni_model.specs.Worlds.{WorldOf, Event, world_after_step, anchor_memory, world_after_trim, last_cell, world_after, world_after_all, IsAccepted, AreAccepted, IsQuiescent}
-use Rattle.uni_model.specs.Worlds.Event.{Call, Step, Trim}
+use Rattle.uni_model.specs.Worlds.{WorldOf, Event, world_after_step, anchor_memory, world_after_era, last_cell, world_after, world_after_all, IsAccepted, AreAccepted, IsQuiescent}
+use Rattle.uni_model.specs.Worlds.Event.{Call, Step, Trim, Reshape}
 use Rattle.uni_model.specs.Frontier.{frontier}
 use Rattle.uni_model.specs.Bound.{CountsSteps}
 use Rattle.uni_model.specs.Helping.{HelpingInvariant}
@@ -32,7 +32,7 @@ module _ {S I R : Type 0} (object : Sequential S I R) where
       let place = place_of w.n p d.mine d.stage in
       let e = effect_of object w.n d.mine d.stage (w.memory place) (beside w.memory d.mine d.stage) in
       let inside = inv.2.calls.process p d is in
-      let on = advances object w inv.0 inv.1 inv.2 inv.3 p d.mine inside (inv.2.calls.head p inside) moved.0 moved.3.numbers d.stage is (inv.2.stands p d is) (inv.3.each p d is) own.0 in
+      let on = advances object w inv.0 inv.1 inv.2 inv.3 p d.mine inside (inv.2.calls.head p inside) moved.0 moved.3.numbers d.stage is (inv.2.stands p d is) (inv.3.each p d is) own.1 in
       let considers = considers_below object w inv.0 inv.1 inv.2 p d.mine q (Of q k) floor d.stage in (
         HelpingInvariant-world_after_step object w p d is counts inv,
         HasFloor-moved object w inv.0 inv.1 inv.2 inv.3 p d.mine d.stage is (memory_with w.memory place e.content) moved.0 moved.1 e.stage moved.3 moved.2
@@ -42,13 +42,13 @@ module _ {S I R : Type 0} (object : Sequential S I R) where
       )
 
   -- where no call is pending, none waits
-  FloorInvariant-world_after_trim : (w : WorldOf S I R) → IsQuiescent w → CountsSteps w → (q k floor : ℕ) → FloorInvariant object w q k floor → FloorInvariant object (world_after_trim w) q k floor
-  FloorInvariant-world_after_trim w quiet counts q k floor inv = by_new (new_of w.memory (last_cell w)) where
-    by_new : (o : Option (S × Option R)) → FloorInvariant object (option_map_or (λ new. record w { first = w.begun; memory = anchor_memory new.0 (seq_of w.memory (last_cell w)) }) o w) q k floor
+  FloorInvariant-world_after_era : (w : WorldOf S I R) (n : ℕ) → IsQuiescent w → CountsSteps w → (q k floor : ℕ) → FloorInvariant object w q k floor → FloorInvariant object (world_after_era w n) q k floor
+  FloorInvariant-world_after_era w n quiet counts q k floor inv = by_new (new_of w.memory (last_cell w)) where
+    by_new : (o : Option (S × Option R)) → FloorInvariant object (option_map_or (λ new. record w { n = n; first = w.begun; memory = anchor_memory new.0 (seq_of w.memory (last_cell w)) }) o w) q k floor
     by_new None = inv
     by_new (Some new) =
         let idle : (p : ℕ) → w.call p ≡ None = idle_when_quiescent object w inv.0.0 inv.0.1 inv.0.2 quiet in (
-          HelpingInvariant-anchor_memory object w new.0 quiet counts inv.0,
+          HelpingInvariant-anchor_memory object w n new.0 quiet counts inv.0,
           record { begun = inv.1.begun; linked = omega arith; waits = λ c e its. absurd (let f = idle q in cc) },
           λ c e its. absurd (let f = idle q in cc),
         )
@@ -63,7 +63,8 @@ module _ {S I R : Type 0} (object : Sequential S I R) where
     by_call : (o : Option Pending) → w.call p ≡ o → FloorInvariant object (world_after_step object w p o) q k floor
     by_call None is = inv
     by_call (Some c) is = FloorInvariant-world_after_step w p c is counts inv.0 q k floor inv.1 (λ d pending its. inl (inv.2 d pending its))
-  FloorInvariant-world_after w Trim ok counts q k floor inv = FloorInvariant-world_after_trim w ok counts q k floor inv
+  FloorInvariant-world_after w (Reshape n) ok counts q k floor inv = FloorInvariant-world_after_era w n ok.0 counts q k floor inv
+  FloorInvariant-world_after w Trim ok counts q k floor inv = FloorInvariant-world_after_era w w.n ok counts q k floor inv
 
   pub FloorInvariant-world_after_all : (w : WorldOf S I R) (es : List (Event I)) → AreAccepted object w es → CountsSteps w → (q k floor : ℕ) → FloorInvariant object w q k floor
       → FloorInvariant object (world_after_all object w es) q k floor

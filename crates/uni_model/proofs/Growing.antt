@@ -9,8 +9,8 @@ use Rattle.uni_model.specs.Places.{Name, Memory, seq_of, after_of, inv_of, new_o
 use Rattle.uni_model.specs.Places.Name.{Anchor, Of}
 use Rattle.uni_model.specs.Stages.{Pending}
 use Rattle.uni_model.specs.Chain.{cells_from, Invoked, invoked_at, Entry, entries_from, response_in}
-use Rattle.uni_model.specs.Worlds.{WorldOf, Event, chain, calls_begun, world_after, world_after_step, world_after_all, IsAccepted, AreAccepted}
-use Rattle.uni_model.specs.Worlds.Event.{Call, Step, Trim}
+use Rattle.uni_model.specs.Worlds.{WorldOf, Event, chain, era_calls, world_after, world_after_step, world_after_all, IsAccepted, AreAccepted, calls_in_era}
+use Rattle.uni_model.specs.Worlds.Event.{Call, Step, Trim, Reshape}
 use Rattle.uni_model.specs.History.{log}
 use Rattle.uni_model.specs.Settled.{Grows}
 use Rattle.uni_model.specs.Invariant.{Has, IsSound, Invariant}
@@ -48,7 +48,7 @@ module _ {S I R : Type 0} (m : Memory S I R) where
 
 module _ {S I R : Type 0} (object : Sequential S I R) (w : WorldOf S I R) (num : Name → ℕ) (last : ℕ) (sound : IsSound object w num last) where
   -- each cell of the chain is that of a call
-  all_invoked : (most : ℕ) (x : Name) → 1 ≤ num x → AllByRecursion (λ y. Has (invoked_at w.memory y)) (cells_from most w.memory x)
+  pub all_invoked : (most : ℕ) (x : Name) → 1 ≤ num x → AllByRecursion (λ y. Has (invoked_at w.memory y)) (cells_from most w.memory x)
   all_invoked zero x linked = tt
   all_invoked (suc most) x linked = by_after (λ y h. all_invoked most y h) (after_of w.memory x) refl where
     by_after : ((y : Name) → 1 ≤ num y → AllByRecursion (λ z. Has (invoked_at w.memory z)) (cells_from most w.memory y)) → (o : Option Name) → after_of w.memory x ≡ o
@@ -60,7 +60,7 @@ module _ {S I R : Type 0} (object : Sequential S I R) (w : WorldOf S I R) (num :
         (invoked_past_anchor w.memory num last sound.numbered sound.calls.linked y (omega arith), rest y (omega arith))
 
   pub slice_get-log : (j : ℕ) → slice_get (log w) j ≡ option_and_then (entry_of w.memory (seq_of w.memory Anchor + 1 + j)) (slice_get (chain w) j)
-  slice_get-log j = slice_get-entries_from w.memory (seq_of w.memory Anchor + 1) (chain w) (all_invoked (calls_begun w) Anchor sound.numbered.first) j
+  slice_get-log j = slice_get-entries_from w.memory (seq_of w.memory Anchor + 1) (chain w) (all_invoked (era_calls w) Anchor sound.numbered.first) j
 
 module _ {S I R : Type 0} (m m' : Memory S I R) (grows : Grows m m') where
   invoked_at-grows : (x : Name) (c : Invoked I) → invoked_at m x ≡ Some c → invoked_at m' x ≡ Some c
@@ -100,7 +100,7 @@ module _ {S I R : Type 0} (m m' : Memory S I R) (grows : Grows m m') where
         let made : record { number = k; call = c; response = response_in m x } ≡ e = cc in
         subst (λ d. (e' : Entry I R) × (entry_of m' k' x ≡ Some e') × ((e' ≡ d) ⊎ GetsResponse d e')) made (by_response c call (response_in m x) refl)
 
-module _ {S I R : Type 0} (object : Sequential S I R) (w w' : WorldOf S I R) (inv : Invariant object w) (inv' : Invariant object w') (grows : Grows w.memory w'.memory) (more : calls_begun w ≤ calls_begun w') where
+module _ {S I R : Type 0} (object : Sequential S I R) (w w' : WorldOf S I R) (inv : Invariant object w) (inv' : Invariant object w') (grows : Grows w.memory w'.memory) (more : era_calls w ≤ era_calls w') where
   entry_later : (j : ℕ) (e : Entry I R) → slice_get (log w) j ≡ Some e → (e' : Entry I R) × (slice_get (log w') j ≡ Some e') × ((e' ≡ e) ⊎ GetsResponse e e')
   entry_later j e at = by_cell (slice_get (chain w) j) refl (sym (slice_get-log object w inv.0 inv.1 inv.2 j) ∙ at) where
     anchor : seq_of w'.memory Anchor ≡ seq_of w.memory Anchor
@@ -111,7 +111,7 @@ module _ {S I R : Type 0} (object : Sequential S I R) (w w' : WorldOf S I R) (in
     by_cell None is f = cc
     by_cell (Some x) is f =
         let later = entry_of-grows w.memory w'.memory grows (seq_of w.memory Anchor + 1 + j) (seq_of w'.memory Anchor + 1 + j) (ap (λ k. k + 1 + j) anchor) x e f in
-        let stands : slice_get (chain w') j ≡ Some x = slice_get-cells_from-grows w.memory w'.memory grows (calls_begun w) (calls_begun w') Anchor x j more is in (
+        let stands : slice_get (chain w') j ≡ Some x = slice_get-cells_from-grows w.memory w'.memory grows (era_calls w) (era_calls w') Anchor x j more is in (
           later.0,
           slice_get-log object w' inv'.0 inv'.1 inv'.2 j ∙ ap (option_and_then (entry_of w'.memory (seq_of w'.memory Anchor + 1 + j))) stands ∙ later.1,
           later.2,
@@ -186,21 +186,22 @@ IsFrontOf-then a b c first second = record {
 }
 
 module _ {S I R : Type 0} (object : Sequential S I R) where
-  calls_begun-world_after : (w : WorldOf S I R) (e : Event I) → IsAccepted w e → EndsNoEra e → calls_begun w ≤ calls_begun (world_after object w e)
-  calls_begun-world_after w (Call p i) ok stays = sum_below-le w.n w.begun _ (λ q below. elim (set_at-cases w.begun p (w.begun p + 1) q) [
+  era_calls-world_after : (w : WorldOf S I R) (e : Event I) → IsAccepted w e → EndsNoEra e → era_calls w ≤ era_calls (world_after object w e)
+  era_calls-world_after w (Call p i) ok stays = sum_below-le w.n (calls_in_era w) _ (λ q below. elim (set_at-cases w.begun p (w.begun p + 1) q) [
     | inl here ↦ rw here.1 (let same : w.begun q ≡ w.begun p = ap w.begun here.0 in omega arith)
     | inr other ↦ rw other.1 (omega arith)
   ])
-  calls_begun-world_after w (Step p) ok stays = by_call (w.call p) where
-    by_call : (o : Option Pending) → calls_begun w ≤ calls_begun (world_after_step object w p o)
+  era_calls-world_after w (Step p) ok stays = by_call (w.call p) where
+    by_call : (o : Option Pending) → era_calls w ≤ era_calls (world_after_step object w p o)
     by_call None = omega arith
     by_call (Some c) = omega arith
-  calls_begun-world_after w Trim ok stays = absurd stays
+  era_calls-world_after w Trim ok stays = absurd stays
+  era_calls-world_after w (Reshape n) ok stays = absurd stays
 
   -- an accepted event that ends no era
   pub log-world_after : (w : WorldOf S I R) (e : Event I) → Invariant object w → IsAccepted w e → EndsNoEra e → IsFrontOf (log w) (log (world_after object w e))
   log-world_after w e inv ok stays =
-      IsFrontOf-grows object w (world_after object w e) inv (Invariant-world_after object w e ok inv) (Grows-world_after object w e inv ok stays) (calls_begun-world_after w e ok stays)
+      IsFrontOf-grows object w (world_after object w e) inv (Invariant-world_after object w e ok inv) (Grows-world_after object w e inv ok stays) (era_calls-world_after w e ok stays)
 
   -- accepted events that end no era, one after another
   pub log-world_after_all : (w : WorldOf S I R) (es : List (Event I)) → Invariant object w → AreAccepted object w es → EndNoEra es → IsFrontOf (log w) (log (world_after_all object w es))

@@ -22,7 +22,7 @@ module _ {S I R : Type 0} (object : Sequential S I R) (w : WorldOf S I R) (num :
   inside = sound.calls.process p (record { mine = mine; stage = from }) is
 
   -- no head falls
-  rise : (r : ℕ) → r < w.n → head_seq w.memory r ≤ head_seq m r
+  pub rise : (r : ℕ) → r < w.n → head_seq w.memory r ≤ head_seq m r
   rise r below = elim (number_cases r p) [
     | inl here ↦ subst (λ k. head_seq w.memory k ≤ head_seq m k) (sym here.0) head
     | inr other ↦
@@ -102,14 +102,14 @@ module _ {S I R : Type 0} (object : Sequential S I R) (w : WorldOf S I R) (num :
     at_stage None done f = done
     at_stage (Some k) on f = cc
 
-  pub Helps-moved : (steps : ℕ → ℕ)
-      → Helps (record { n = w.n; memory = m; call = set_at w.call p (call_after mine to); begun = w.begun; first = w.first; steps = steps; turns = set_at w.turns p t }) num' last'
-  Helps-moved steps = record {
+  pub Helps-moved : (steps : ℕ → ℕ) → w.among p ≡ w.n
+      → Helps (record { n = w.n; memory = m; call = set_at w.call p (call_after mine to); begun = w.begun; first = w.first; among = w.among; steps = steps; turns = set_at w.turns p t }) num' last'
+  Helps-moved steps among = record {
     each = each_later;
     fair = λ o c e. OfConsidered-map c.stage (λ s x. IsFairToAll w num s x) _ all_fair_later (considered_later o c e);
     heads = heads_later object w num last sound helps m num' last' grow rise;
     returned = λ q e. elim (number_cases q p) [
-      | inl here ↦ rw here.1 (done (rw here.1 at e))
+      | inl here ↦ subst (λ n. set_at w.turns p t q ≤ n + 1) (sym (ap w.among here.0 ∙ among)) (rw here.1 (done (rw here.1 at e)))
       | inr other ↦ rw other.1 (helps.returned q (rw other.1 at e))
     ];
   }

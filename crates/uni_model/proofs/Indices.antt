@@ -2,7 +2,7 @@
 use Rattle.std.proofs.Common.{◌≡◌, ◌∙◌, ℕ, zero, suc, ◌*◌, ◌+◌, ◌/◌, ◌%◌, ◌<◌, refl, sym, ap, arith}
 use Rattle.std.proofs.lemmas.Nat.{div-mul-add, mod-mul-add, div-add-mod'}
 use Rattle.uni_model.specs.Places.Name.{Of}
-use Rattle.uni_model.specs.Indices.{index_of, name_of}
+use Rattle.uni_model.specs.Indices.{index_of, name_of, name_from}
 
 pub name_of-index_of : (n p k : ℕ) → p < n → name_of n (index_of n p k) ≡ Of p k
 name_of-index_of n p k below =
@@ -21,3 +21,21 @@ same_index n (suc i) (suc j) e =
     let process : i % n ≡ j % n = cc in
     let nth : i / n ≡ j / n = cc in
     sym (index_of-name n i) ∙ ap (λ p. index_of n p (i / n)) process ∙ ap (index_of n (j % n)) nth ∙ index_of-name n j
+
+-- The same for names in a later era.
+module _ (n : ℕ) (first : ℕ → ℕ) where
+  pub name_from-index_of : (p k : ℕ) → p < n → name_from n first (index_of n p k) ≡ Of p (first p + k)
+  name_from-index_of p k below =
+      let same : index_of n p k ≡ suc (k * n + p) = omega arith in
+      rw same (rw (mod-mul-add k n p below, div-mul-add k n p below) refl)
+
+  pub same_index_from : (i j : ℕ) → name_from n first i ≡ name_from n first j → i ≡ j
+  same_index_from zero zero e = refl
+  same_index_from zero (suc j) e = cc
+  same_index_from (suc i) zero e = cc
+  same_index_from (suc i) (suc j) e =
+      let process : i % n ≡ j % n = cc in
+      let nth : first (i % n) + i / n ≡ first (j % n) + j / n = cc in
+      let begun : first (i % n) ≡ first (j % n) = ap first process in
+      let same : i / n ≡ j / n = omega arith in
+      sym (index_of-name n i) ∙ ap (λ p. index_of n p (i / n)) process ∙ ap (index_of n (j % n)) same ∙ index_of-name n j

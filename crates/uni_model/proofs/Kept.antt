@@ -7,8 +7,8 @@ use Rattle.uni_model.specs.Places.Name.{Anchor, Of}
 use Rattle.uni_model.specs.Stages.{Pending}
 use Rattle.uni_model.specs.Transition.{place_of, effect_of, turn_of, beside}
 use Rattle.uni_model.specs.Chain.{cells_from, last_of}
-use Rattle.uni_model.specs.Worlds.{WorldOf, Event, world_after_step, world_after_call, opened_world, anchor_memory, world_after_trim, world_after, world_after_all, last_cell, calls_begun, IsAccepted, AreAccepted, IsQuiescent}
-use Rattle.uni_model.specs.Worlds.Event.{Call, Step, Trim}
+use Rattle.uni_model.specs.Worlds.{WorldOf, Event, world_after_step, world_after_call, opened_world, anchor_memory, world_after_era, world_after, world_after_all, last_cell, era_calls, IsAccepted, AreAccepted, IsQuiescent}
+use Rattle.uni_model.specs.Worlds.Event.{Call, Step, Trim, Reshape}
 use Rattle.uni_model.specs.Invariant.{IsNumbered, IsSound, Invariant}
 use Rattle.uni_model.specs.Growth.{EndsNoEra}
 use Rattle.uni_model.specs.Settled.{Grows}
@@ -53,7 +53,7 @@ module _ {S I R : Type 0} (object : Sequential S I R) where
         by_after rest (Some y) e = rest y (let link = (numbered.link x y e).1 in omega arith)
 
   -- where no call is pending, the cells of the chain are threaded
-  threaded_when_quiescent : (w : WorldOf S I R) (num : Name → ℕ) (last : ℕ) → IsSound object w num last → IsQuiescent w → (x : Name) → 1 ≤ num x → 1 ≤ seq_of w.memory x
+  pub threaded_when_quiescent : (w : WorldOf S I R) (num : Name → ℕ) (last : ℕ) → IsSound object w num last → IsQuiescent w → (x : Name) → 1 ≤ num x → 1 ≤ seq_of w.memory x
   threaded_when_quiescent w num last sound quiet Anchor h = subst (λ t. 1 ≤ t) sound.numbered.anchor h
   threaded_when_quiescent w num last sound quiet (Of p k) h = elim (sound.calls.threaded p k (sound.calls.linked p k h)) [
     | inl threaded ↦ threaded
@@ -68,17 +68,17 @@ module _ {S I R : Type 0} (object : Sequential S I R) where
 
   pub last_cell_threaded : (w : WorldOf S I R) (num : Name → ℕ) (last : ℕ) → IsSound object w num last → IsQuiescent w → 1 ≤ seq_of w.memory (last_cell w)
   last_cell_threaded w num last sound quiet = threaded_when_quiescent w num last sound quiet (last_cell w)
-      (last_in_chain w.memory num last sound.numbered (calls_begun w) Anchor sound.numbered.first)
+      (last_in_chain w.memory num last sound.numbered (era_calls w) Anchor sound.numbered.first)
 
-  pub Invariant-world_after_trim : (w : WorldOf S I R) → IsQuiescent w → Invariant object w → Invariant object (world_after_trim w)
-  Invariant-world_after_trim w quiet inv = by_new (new_of w.memory (last_cell w)) refl where
+  pub Invariant-world_after_era : (w : WorldOf S I R) (n : ℕ) → IsQuiescent w → Invariant object w → Invariant object (world_after_era w n)
+  Invariant-world_after_era w n quiet inv = by_new (new_of w.memory (last_cell w)) refl where
     by_new : (o : Option (S × Option R)) → new_of w.memory (last_cell w) ≡ o
-        → Invariant object (option_map_or (λ new. record w { first = w.begun; memory = anchor_memory new.0 (seq_of w.memory (last_cell w)) }) o w)
+        → Invariant object (option_map_or (λ new. record w { n = n; first = w.begun; memory = anchor_memory new.0 (seq_of w.memory (last_cell w)) }) o w)
     by_new None e = inv
     by_new (Some new) e = (
       alone (seq_of w.memory (last_cell w)),
       seq_of w.memory (last_cell w),
-      IsSound-anchor_memory object new.0 (seq_of w.memory (last_cell w)) (last_cell_threaded w inv.0 inv.1 inv.2 quiet) w.n w.call w.begun w.begun w.steps w.turns
+      IsSound-anchor_memory object new.0 (seq_of w.memory (last_cell w)) (last_cell_threaded w inv.0 inv.1 inv.2 quiet) n w.call w.begun w.among w.steps w.turns
           (idle_when_quiescent w inv.0 inv.1 inv.2 quiet),
     )
 
@@ -88,7 +88,8 @@ module _ {S I R : Type 0} (object : Sequential S I R) where
     by_call : (o : Option Pending) → w.call p ≡ o → IsSome o → Invariant object (world_after_step object w p o)
     by_call None is some = inv
     by_call (Some c) is some = (Invariant-world_after_step w p c is inv).0
-  Invariant-world_after w Trim ok inv = Invariant-world_after_trim w ok inv
+  Invariant-world_after w Trim ok inv = Invariant-world_after_era w w.n ok inv
+  Invariant-world_after w (Reshape n) ok inv = Invariant-world_after_era w n ok.0 inv
 
   pub Invariant-world_after_all : (w : WorldOf S I R) (es : List (Event I)) → AreAccepted object w es → Invariant object w → Invariant object (world_after_all object w es)
   Invariant-world_after_all w [] ok inv = inv
@@ -102,3 +103,4 @@ module _ {S I R : Type 0} (object : Sequential S I R) where
     by_call None is some = absurd (let e : false ≡ true = some in cc)
     by_call (Some call) is some = (Invariant-world_after_step w p call is inv).1
   Grows-world_after w Trim inv ok other = absurd other
+  Grows-world_after w (Reshape n) inv ok other = absurd other

@@ -1,21 +1,19 @@
 -- The laws over every list of accepted events.
-use Rattle.std.proofs.Common.{◌≡◌, ◌≢◌, ℕ, zero, suc, map, ◌+◌, inl, inr, refl, sym, ap, subst, List, [], ◌∷◌, ◌++◌, Option, Some, None, IsSome, Bool, true, false, cond}
+use Rattle.std.proofs.Common.{◌≡◌, ◌≢◌, ℕ, inl, inr, refl, sym, subst, List, [], ◌∷◌, ◌++◌, Option, Some, None, IsSome, Bool, true, false, cond}
 use Rattle.seq_object.specs.Sequential.{Sequential}
 use Rattle.uni_model.specs.Places.{Place, Content, Memory, memory_with, place_eq, set_at}
-use Rattle.uni_model.specs.Places.Name.{Anchor}
-use Rattle.uni_model.specs.Chain.{cells_from, Entry, entries_from}
 use Rattle.uni_model.specs.Stages.{Pending}
 use Rattle.uni_model.specs.Transition.{place_of}
-use Rattle.uni_model.specs.Worlds.{WorldOf, Event, opened_world, anchor_memory, calls_begun, world_after, world_after_all, world_after_step, IsAccepted, AreAccepted}
-use Rattle.uni_model.specs.Worlds.Event.{Call, Step, Trim}
-use Rattle.uni_model.specs.AtomicObject.{Atomic, Act, AcceptsAll, at_start}
-use Rattle.uni_model.specs.History.{Shows, history_of, acts_of}
-use Rattle.uni_model.specs.Growth.{EndsNoEra, EndNoEra}
+use Rattle.uni_model.specs.Worlds.{WorldOf, Event, opened_world, world_after, world_after_step, IsAccepted}
+use Rattle.uni_model.specs.Worlds.Event.{Call, Step, Trim, Reshape}
+use Rattle.uni_model.specs.AtomicObject.{Atomic, Act, AcceptsAll}
+use Rattle.uni_model.specs.History.{Shows, acts_of}
+use Rattle.uni_model.specs.Growth.{EndsNoEra}
 use Rattle.uni_model.specs.Settled.{ChangesOnly}
 use Rattle.uni_model.specs.Invariant.{Invariant}
-use Rattle.uni_model.specs.Laws.{IsReached, StepIsLocal, SettledStays, Simulates, IsLinearizable}
+use Rattle.uni_model.specs.Laws.{IsReached, StepIsLocal, SettledStays, Simulates}
 use Rattle.uni_model.proofs.Written.{set_at-cases, place_eq_true}
-use Rattle.uni_model.proofs.Kept.{Invariant-opened_world, Invariant-world_after_all, Invariant-world_after, Grows-world_after}
+use Rattle.uni_model.proofs.Kept.{Invariant-opened_world, Invariant-world_after_all, Grows-world_after}
 use Rattle.uni_model.specs.Bound.{CountsSteps, IsBounded}
 use Rattle.uni_model.proofs.Counted.{CountsSteps-opened_world, CountsSteps-world_after_all}
 use Rattle.uni_model.specs.Helping.{HelpingInvariant}
@@ -70,6 +68,7 @@ module _ {S I R : Type 0} (object : Sequential S I R) where
     by_call None is some = absurd (let e : false ≡ true = some in cc)
     by_call (Some call) is some = step_accepted object w inv.0 inv.1 inv.2 p call.mine a shows call.stage is
   accepts w Trim inv ok other a shows = absurd other
+  accepts w (Reshape n) inv ok other a shows = absurd other
 
   pub Simulates-holds : (w : WorldOf S I R) (e : Event I) → Simulates object w e
   Simulates-holds w e reached ok other a shows = accepts w e (Invariant-reached w reached) ok other a shows
@@ -78,25 +77,3 @@ module _ {S I R : Type 0} (object : Sequential S I R) where
   pub AcceptsAll-append : (a b c : Atomic S I) (xs ys : List (Act I R)) → AcceptsAll object a xs b → AcceptsAll object b ys c → AcceptsAll object a (xs ++ ys) c
   AcceptsAll-append a b c [] ys first rest = subst (λ x. AcceptsAll object x ys c) first rest
   AcceptsAll-append a b c (x ∷ xs) ys first rest = (first.0, first.1, AcceptsAll-append first.0 b c xs ys first.2 rest)
-
-  accepts_run : (w : WorldOf S I R) (es : List (Event I)) → Invariant object w → AreAccepted object w es → EndNoEra es → (a : Atomic S I) → Shows w a
-      → (b : Atomic S I) × Shows (world_after_all object w es) b × AcceptsAll object a (history_of object w es) b
-  accepts_run w [] inv ok none a shows = (a, shows, refl)
-  accepts_run w (Call p i ∷ es) inv ok none a shows =
-      let first = accepts w (Call p i) inv ok.0 tt a shows in
-      let rest = accepts_run (world_after object w (Call p i)) es (Invariant-world_after object w (Call p i) ok.0 inv) ok.1 none.1 first.0 first.1 in
-      (rest.0, rest.1, AcceptsAll-append a first.0 rest.0 (acts_of object w (Call p i)) _ first.2 rest.2)
-  accepts_run w (Step p ∷ es) inv ok none a shows =
-      let first = accepts w (Step p) inv ok.0 tt a shows in
-      let rest = accepts_run (world_after object w (Step p)) es (Invariant-world_after object w (Step p) ok.0 inv) ok.1 none.1 first.0 first.1 in
-      (rest.0, rest.1, AcceptsAll-append a first.0 rest.0 (acts_of object w (Step p)) _ first.2 rest.2)
-  accepts_run w (Trim ∷ es) inv ok none a shows = absurd none.0
-
-  none_linked : (start : S) (number most : ℕ) → cells_from {S = S} {I = I} {R = R} most (anchor_memory start number) Anchor ≡ []
-  none_linked start number zero = refl
-  none_linked start number (suc most) = refl
-
-  pub IsLinearizable-holds : (n : ℕ) (start : S) (number : ℕ) (events : List (Event I)) → IsLinearizable object n start number events
-  IsLinearizable-holds n start number events positive ok none =
-      accepts_run (opened_world n start number) events (Invariant-opened_world object n start number positive) ok none (at_start start)
-      (record { start = refl; agreed = ap (λ xs. map (λ (e : Entry I R). e.call) (entries_from (anchor_memory start number) (number + 1) xs)) (none_linked start number (calls_begun (opened_world {S = S} {I = I} {R = R} n start number))); open_call = λ p. refl; next_nth = λ p. refl })

@@ -5,7 +5,7 @@ use Rattle.uni_model.specs.Places.{Name, Memory, set_at, head_of, head_seq, anno
 use Rattle.uni_model.specs.Places.Name.{Anchor, Of}
 use Rattle.uni_model.specs.Stages.{Stage, Pending}
 use Rattle.uni_model.specs.Stages.Stage.{DecideAfter}
-use Rattle.uni_model.specs.Worlds.{WorldOf, call_after, sum_below}
+use Rattle.uni_model.specs.Worlds.{WorldOf, call_after, sum_below, calls_in_era}
 use Rattle.uni_model.specs.Invariant.{Has, IsNumbered, HasValues, LeadsBack, AreCalls, Stands, IsSound, can_be_linked}
 use Rattle.uni_model.proofs.Written.{set_at-cases, number_cases}
 use Rattle.uni_model.specs.Settled.{Grows}
@@ -37,7 +37,7 @@ pub record Moves {S I R : Type 0} (object : Sequential S I R) (w : WorldOf S I R
   pub inv : (x : Name) → inv_of m x ≡ inv_of w.memory x
   pub linked : (q k : ℕ) → 1 ≤ num' (Of q k) → Has (inv_of w.memory (Of q k))
   pub stands : StandsNext m num' w.n p mine stage
-  pub count : last' ≤ num' Anchor + sum_below w.n (λ q. can_be_linked num' (w.call q) (w.begun q))
+  pub count : last' ≤ num' Anchor + sum_below w.n (λ q. can_be_linked num' (w.call q) (calls_in_era w q))
 
 module _ {S I R : Type 0} (object : Sequential S I R) (w : WorldOf S I R) (num : Name → ℕ) (last : ℕ) (sound : IsSound object w num last)
     (p : ℕ) (mine : Name) (from : Stage) (is : w.call p ≡ Some (record { mine = mine; stage = from }))
@@ -78,7 +78,7 @@ module _ {S I R : Type 0} (object : Sequential S I R) (w : WorldOf S I R) (num :
     at_stage (Some k') on e its = inr (record { mine = mine; stage = k' }, e, its)
 
   later : WorldOf S I R
-  later = record { n = w.n; memory = m; call = set_at w.call p (call_after mine stage); begun = w.begun; first = w.first; steps = w.steps; turns = w.turns }
+  later = record { n = w.n; memory = m; call = set_at w.call p (call_after mine stage); begun = w.begun; first = w.first; among = w.among; steps = w.steps; turns = w.turns }
 
   -- a cell that is linked now and wasn't threaded has a call that is pending, so it is the last one of its process
   linked_before : (q k j : ℕ) → k < j → Has (inv_of w.memory (Of q j)) → Has (inv_of w.memory (Of q k)) → 1 ≤ seq_of w.memory (Of q k)
@@ -88,7 +88,7 @@ module _ {S I R : Type 0} (object : Sequential S I R) (w : WorldOf S I R) (num :
         let its = sound.calls.mine q pending.0 pending.1 in
         let same : its.0 ≡ k = (let e = sym its.1 ∙ pending.2 in cc) in
         let begun : w.begun q ≡ its.0 + 1 = its.2 in
-        let below : j < w.begun q = (sound.calls.begun q j later).1 in
+        let below : j < w.begun q = (sound.calls.begun q j later).2 in
         omega arith)
   ]
 
@@ -111,6 +111,8 @@ module _ {S I R : Type 0} (object : Sequential S I R) (w : WorldOf S I R) (num :
     anchor = moves.inv Anchor ∙ sound.calls.anchor;
     linked = λ q k linked. let was = moves.linked q k linked in (was.0, moves.inv (Of q k) ∙ was.1);
     begun = λ q k made. sound.calls.begun q k (has_inv (Of q k) made);
+    first = sound.calls.first;
+    made = λ q k since before. let was = sound.calls.made q k since before in (was.0, moves.inv (Of q k) ∙ was.1);
     process = λ q c e. let was = was_pending q c e in sound.calls.process q was.0 was.1;
     mine = λ q c e.
         let was = was_pending q c e in
@@ -152,25 +154,25 @@ module _ {S I R : Type 0} (object : Sequential S I R) (w : WorldOf S I R) (num :
     at_stage None done f = cc
     at_stage (Some k) on f = let same : record { mine = mine; stage = k } ≡ c = cc in subst (λ (x : Pending). Stands m num' w.n p x.mine x.stage) same on
 
-  no_fewer : (q : ℕ) → can_be_linked num' (w.call q) (w.begun q) ≤ can_be_linked num' (set_at w.call p (call_after mine stage) q) (w.begun q)
+  no_fewer : (q : ℕ) → can_be_linked num' (w.call q) (calls_in_era w q) ≤ can_be_linked num' (set_at w.call p (call_after mine stage) q) (calls_in_era w q)
   no_fewer q = elim (set_at-cases w.call p (call_after mine stage) q) [
     | inl at_p ↦
         let was : w.call q ≡ Some (record { mine = mine; stage = from }) = ap w.call at_p.0 ∙ is in
-        subst (λ o. can_be_linked num' (w.call q) (w.begun q) ≤ can_be_linked num' o (w.begun q)) (sym at_p.1)
-        (subst (λ o. can_be_linked num' o (w.begun q) ≤ can_be_linked num' (call_after mine stage) (w.begun q)) (sym was) (at_stage stage))
-    | inr other ↦ subst (λ o. can_be_linked num' (w.call q) (w.begun q) ≤ can_be_linked num' o (w.begun q)) (sym other.1) (omega arith)
+        subst (λ o. can_be_linked num' (w.call q) (calls_in_era w q) ≤ can_be_linked num' o (calls_in_era w q)) (sym at_p.1)
+        (subst (λ o. can_be_linked num' o (calls_in_era w q) ≤ can_be_linked num' (call_after mine stage) (calls_in_era w q)) (sym was) (at_stage stage))
+    | inr other ↦ subst (λ o. can_be_linked num' (w.call q) (calls_in_era w q) ≤ can_be_linked num' o (calls_in_era w q)) (sym other.1) (omega arith)
   ] where
     fewer : (b : Bool) (x : ℕ) → cond b (x - 1) x ≤ x
     fewer true x = omega arith
     fewer false x = omega arith
 
-    at_stage : (k : Option Stage) → can_be_linked num' (Some (record { mine = mine; stage = from })) (w.begun q) ≤ can_be_linked num' (call_after mine k) (w.begun q)
-    at_stage None = fewer (nat_eq (num' mine) 0) (w.begun q)
+    at_stage : (k : Option Stage) → can_be_linked num' (Some (record { mine = mine; stage = from })) (calls_in_era w q) ≤ can_be_linked num' (call_after mine k) (calls_in_era w q)
+    at_stage None = fewer (nat_eq (num' mine) 0) (calls_in_era w q)
     at_stage (Some k) = omega arith
 
   -- the invariant holds after the step
   pub IsSound-moved : (steps turns : ℕ → ℕ)
-      → IsSound object (record { n = w.n; memory = m; call = set_at w.call p (call_after mine stage); begun = w.begun; first = w.first; steps = steps; turns = turns }) num' last'
+      → IsSound object (record { n = w.n; memory = m; call = set_at w.call p (call_after mine stage); begun = w.begun; first = w.first; among = w.among; steps = steps; turns = turns }) num' last'
   unfolding later
   IsSound-moved steps turns = record {
     numbered = moves.numbered;
@@ -180,6 +182,8 @@ module _ {S I R : Type 0} (object : Sequential S I R) (w : WorldOf S I R) (num :
       anchor = calls_later.anchor;
       linked = calls_later.linked;
       begun = calls_later.begun;
+      first = calls_later.first;
+      made = calls_later.made;
       process = calls_later.process;
       mine = calls_later.mine;
       threaded = calls_later.threaded;
@@ -189,8 +193,8 @@ module _ {S I R : Type 0} (object : Sequential S I R) (w : WorldOf S I R) (num :
     };
     stands = stands_later;
     count =
-        let rising : sum_below w.n (λ q. can_be_linked num' (w.call q) (w.begun q)) ≤ sum_below w.n (λ q. can_be_linked num' (set_at w.call p (call_after mine stage) q) (w.begun q))
+        let rising : sum_below w.n (λ q. can_be_linked num' (w.call q) (calls_in_era w q)) ≤ sum_below w.n (λ q. can_be_linked num' (set_at w.call p (call_after mine stage) q) (calls_in_era w q))
         = sum_below-le w.n _ _ (λ q h. no_fewer q) in
-        let was : last' ≤ num' Anchor + sum_below w.n (λ q. can_be_linked num' (w.call q) (w.begun q)) = moves.count in
+        let was : last' ≤ num' Anchor + sum_below w.n (λ q. can_be_linked num' (w.call q) (calls_in_era w q)) = moves.count in
         omega arith;
   }

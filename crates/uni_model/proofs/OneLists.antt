@@ -8,7 +8,7 @@ use Rattle.seq_object.specs.History.{state_after, response_at}
 use Rattle.uni_model.specs.Places.{Name, seq_of, after_of, new_of, before_of}
 use Rattle.uni_model.specs.Places.Name.{Anchor, Of}
 use Rattle.uni_model.specs.Chain.{cells_from, last_of, Invoked}
-use Rattle.uni_model.specs.Worlds.{WorldOf, chain, last_cell, calls_begun}
+use Rattle.uni_model.specs.Worlds.{WorldOf, chain, last_cell, era_calls}
 use Rattle.uni_model.specs.Invariant.{IsSound, Invariant}
 use Rattle.uni_model.specs.OneList.{value_at, IsOneList, HasOneList, IsLegalLog, HasLegalLog}
 use Rattle.uni_model.proofs.Chains.{calls_at, number_at, slice_get-cells_from, length-cells_from, slice_get-calls_at, invoked_past_anchor, response_at-calls_at}
@@ -19,7 +19,7 @@ module _ {S I R : Type 0} (object : Sequential S I R) (w : WorldOf S I R) (num :
   -- the number of the cell at a place
   number_at_place : (j : ℕ) (x : Name) → slice_get (Anchor ∷ chain w) j ≡ Some x → num x ≡ num Anchor + j
   number_at_place zero x at = let same : Anchor ≡ x = cc in let number : num Anchor ≡ num x = ap num same in omega arith
-  number_at_place (suc j) x at = let number = number_at w.memory num last sound.numbered (calls_begun w) Anchor x j at in omega arith
+  number_at_place (suc j) x at = let number = number_at w.memory num last sound.numbered (era_calls w) Anchor x j at in omega arith
 
   -- the cell with a number stands at its place
   place_of_number : (j : ℕ) (x : Name) → num x ≡ num Anchor + j → slice_get (Anchor ∷ chain w) j ≡ Some x
@@ -28,8 +28,8 @@ module _ {S I R : Type 0} (object : Sequential S I R) (w : WorldOf S I R) (num :
       ap (λ y. Some y) (sound.numbered.one_each Anchor x first (omega arith))
   place_of_number (suc j) x number =
       let top : num x ≤ last = sound.numbered.greatest x in
-      let bound : last ≤ num Anchor + calls_begun w = enough object w num last sound in
-      slice_get-cells_from w.memory num last sound.numbered (calls_begun w) Anchor x j sound.numbered.first (omega arith) (omega arith)
+      let bound : last ≤ num Anchor + era_calls w = enough object w num last sound in
+      slice_get-cells_from w.memory num last sound.numbered (era_calls w) Anchor x j sound.numbered.first (omega arith) (omega arith)
 
   -- each cell that has a number stands somewhere
   place_of_linked : (x : Name) → 1 ≤ num x → (j : ℕ) × (slice_get (Anchor ∷ chain w) j ≡ Some x)
@@ -38,10 +38,10 @@ module _ {S I R : Type 0} (object : Sequential S I R) (w : WorldOf S I R) (num :
       (num x - num Anchor, place_of_number (num x - num Anchor) x (omega arith))
 
   pub length-chain : num Anchor + length (chain w) ≡ last
-  length-chain = length-cells_from w.memory num last sound.numbered (calls_begun w) Anchor sound.numbered.first (enough object w num last sound)
+  length-chain = length-cells_from w.memory num last sound.numbered (era_calls w) Anchor sound.numbered.first (enough object w num last sound)
 
   -- the last cell has the last number
-  number-last_of : (most : ℕ) (x : Name) → 1 ≤ num x → last ≤ num x + most → num (last_of x (cells_from most w.memory x)) ≡ last
+  pub number-last_of : (most : ℕ) (x : Name) → 1 ≤ num x → last ≤ num x + most → num (last_of x (cells_from most w.memory x)) ≡ last
   number-last_of zero x linked bound = let top : num x ≤ last = sound.numbered.greatest x in omega arith
   number-last_of (suc most) x linked bound = by_after (λ y h b. number-last_of most y h b) (after_of w.memory x) refl where
     by_after : ((y : Name) → 1 ≤ num y → last ≤ num y + most → num (last_of y (cells_from most w.memory y)) ≡ last) → (o : Option Name) → after_of w.memory x ≡ o
@@ -57,7 +57,7 @@ module _ {S I R : Type 0} (object : Sequential S I R) (w : WorldOf S I R) (num :
     by_after : (o : Option Name) → after_of w.memory (last_cell w) ≡ o → o ≡ None
     by_after None e = refl
     by_after (Some y) e = absurd (
-        let number : num (last_cell w) ≡ last = number-last_of (calls_begun w) Anchor sound.numbered.first (enough object w num last sound) in
+        let number : num (last_cell w) ≡ last = number-last_of (era_calls w) Anchor sound.numbered.first (enough object w num last sound) in
         let n : num y ≡ num (last_cell w) + 1 = (sound.numbered.link (last_cell w) y e).1 in
         let top : num y ≤ last = sound.numbered.greatest y in
         omega arith)
@@ -76,17 +76,17 @@ module _ {S I R : Type 0} (object : Sequential S I R) (w : WorldOf S I R) (num :
     value_settled : (j : ℕ) (x : Name) (v : S × Option R) → slice_get (chain w) j ≡ Some x → new_of w.memory x ≡ Some v
         → value_at object start (map (λ (c : Invoked I). c.inv) (calls_at w.memory (chain w))) j ≡ Some v
     value_settled j x v at settled =
-        let number : num x ≡ num Anchor + (j + 1) = number_at w.memory num last sound.numbered (calls_begun w) Anchor x j at in
+        let number : num x ≡ num Anchor + (j + 1) = number_at w.memory num last sound.numbered (era_calls w) Anchor x j at in
         let top : num x ≤ last = sound.numbered.greatest x in
-        let bound : last ≤ num Anchor + calls_begun w = enough object w num last sound in
+        let bound : last ≤ num Anchor + era_calls w = enough object w num last sound in
         let call = invoked_past_anchor w.memory num last sound.numbered sound.calls.linked x (omega arith) in
-        let stands = slice_get-calls_at w.memory num last sound.numbered sound.calls.linked (calls_begun w) Anchor x j sound.numbered.first number (omega arith) in
+        let stands = slice_get-calls_at w.memory num last sound.numbered sound.calls.linked (era_calls w) Anchor x j sound.numbered.first number (omega arith) in
         let asked : slice_get (map (λ (c : Invoked I). c.inv) (calls_at w.memory (chain w))) j ≡ Some call.0.inv
         = slice_get-map (λ (c : Invoked I). c.inv) (calls_at w.memory (chain w)) j ∙ ap (option_map (λ (c : Invoked I). c.inv)) (stands ∙ call.1) in
         let state : v.0 ≡ state_after object start (take (suc j) (map (λ (c : Invoked I). c.inv) (calls_at w.memory (chain w))))
-        = state_after-from object w num last sound (calls_begun w) Anchor x (suc j) (start, None) v sound.numbered.first at anchor settled in
+        = state_after-from object w num last sound (era_calls w) Anchor x (suc j) (start, None) v sound.numbered.first at anchor settled in
         let response : response_at object start (map (λ (c : Invoked I). c.inv) (calls_at w.memory (chain w))) j ≡ v.1
-        = response_at-calls_at w.memory num last sound.numbered sound.calls.linked object sound.values sound.calls.anchor (calls_begun w) Anchor x j
+        = response_at-calls_at w.memory num last sound.numbered sound.calls.linked object sound.values sound.calls.anchor (era_calls w) Anchor x j
         (start, None) v sound.numbered.first number (omega arith) anchor settled in
         let more : j + 1 ≡ suc j = omega arith in
         rw asked (ap (λ s. Some (s, Some (object.answer (state_after object start (take j (map (λ (c : Invoked I). c.inv) (calls_at w.memory (chain w))))) call.0.inv)))
@@ -101,24 +101,24 @@ module _ {S I R : Type 0} (object : Sequential S I R) (w : WorldOf S I R) (num :
       number = λ j x at threaded.
           let number : seq_of w.memory x ≡ num x = sound.numbered.seq x threaded in
           let first : num Anchor ≡ seq_of w.memory Anchor = sound.numbered.anchor in
-          let place = number_at w.memory num last sound.numbered (calls_begun w) Anchor x j at in
+          let place = number_at w.memory num last sound.numbered (era_calls w) Anchor x j at in
           omega arith;
       written = λ j x at inside.
-          let place = number_at w.memory num last sound.numbered (calls_begun w) Anchor x j at in
+          let place = number_at w.memory num last sound.numbered (era_calls w) Anchor x j at in
           let all : num Anchor + length (chain w) ≡ last = length-chain in
           let number : seq_of w.memory x ≡ num x = sound.numbered.threaded x (omega arith) (omega arith) in
           omega arith;
       only = λ x threaded. place_of_linked x (subst (λ k. 1 ≤ k) (sound.numbered.seq x threaded) threaded);
       settled = λ j x at threaded. sound.values.threaded x threaded;
       value = λ j x v at settled. ap (λ cs. value_at object start (map (λ (c : Invoked I). c.inv) cs) j) (calls_of-calls_at w) ∙ value_settled j x v at settled;
-      before = λ j x at threaded. before_at j x (let place = number_at w.memory num last sound.numbered (calls_begun w) Anchor x j at in omega arith) threaded;
+      before = λ j x at threaded. before_at j x (let place = number_at w.memory num last sound.numbered (era_calls w) Anchor x j at in omega arith) threaded;
     }
 
     pub IsLegalLog-sound : IsLegalLog object w start
     IsLegalLog-sound = record {
       anchor = anchor;
-      legal = legal_from object w num last sound (calls_begun w) Anchor _ (start, None) sound.numbered.first anchor;
-      answered = λ j e at inside. rw at at (settled_from object w num last sound (calls_begun w) Anchor _ j sound.numbered.first inside);
+      legal = legal_from object w num last sound (era_calls w) Anchor _ (start, None) sound.numbered.first anchor;
+      answered = λ j e at inside. rw at at (settled_from object w num last sound (era_calls w) Anchor _ j sound.numbered.first inside);
     }
 
 module _ {S I R : Type 0} (object : Sequential S I R) (w : WorldOf S I R) (inv : Invariant object w) where

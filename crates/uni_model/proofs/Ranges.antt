@@ -3,7 +3,7 @@ use Rattle.std.proofs.Common.{◌≡◌, ℕ, zero, suc, ◌+◌, ◌*◌, ◌<�
 use Rattle.seq_object.specs.Sequential.{Sequential}
 use Rattle.uni_model.specs.Places.{Name, announce_of, head_of, inv_of, seq_of, after_of, before_of}
 use Rattle.uni_model.specs.Places.Name.{Anchor, Of}
-use Rattle.uni_model.specs.Worlds.{WorldOf, sum_below, calls_begun}
+use Rattle.uni_model.specs.Worlds.{WorldOf, sum_below, era_calls}
 use Rattle.uni_model.specs.Invariant.{Has, IsSound}
 use Rattle.uni_model.proofs.Simulation.{enough}
 
@@ -42,16 +42,16 @@ module _ {S I R : Type 0} (object : Sequential S I R) (w : WorldOf S I R) (num :
   before_cell x y e = let link = sound.numbered.link x y (sound.back.link x y e) in linked_cell x link.0
 
   -- a number is at most the anchor's and one for each call that was begun
-  pub number_bound : (x : Name) → num x ≤ seq_of w.memory Anchor + calls_begun w
+  pub number_bound : (x : Name) → num x ≤ seq_of w.memory Anchor + era_calls w
   number_bound x =
       let top : num x ≤ last = sound.numbered.greatest x in
-      let all : last ≤ num Anchor + calls_begun w = enough object w num last sound in
+      let all : last ≤ num Anchor + era_calls w = enough object w num last sound in
       let anchor : num Anchor ≡ seq_of w.memory Anchor = sound.numbered.anchor in
       omega arith
 
-  pub seq_bound : (x : Name) → seq_of w.memory x ≤ seq_of w.memory Anchor + calls_begun w
+  pub seq_bound : (x : Name) → seq_of w.memory x ≤ seq_of w.memory Anchor + era_calls w
   seq_bound x = by_number (seq_of w.memory x) refl where
-    by_number : (t : ℕ) → seq_of w.memory x ≡ t → t ≤ seq_of w.memory Anchor + calls_begun w
+    by_number : (t : ℕ) → seq_of w.memory x ≡ t → t ≤ seq_of w.memory Anchor + era_calls w
     by_number zero e = omega arith
     by_number (suc t) e =
         let is_num : seq_of w.memory x ≡ num x = sound.numbered.seq x (let f = e in omega arith) in

@@ -14,7 +14,7 @@ use Rattle.uni_model.specs.Stages.{Stage, Pending}
 use Rattle.uni_model.specs.Stages.Stage.{Announce, ScanHead, ScanSeq, WriteScan, Test, ReadAnnounce, ReadHelpSeq, DecideAfter, DecideNew, WriteBefore, WriteSeq, WriteHead, Finish}
 use Rattle.uni_model.specs.Transition.{place_of, effect_of, decision, turn_of, beside, response_after}
 use Rattle.uni_model.specs.Chain.{Invoked, invoked_at, response_in}
-use Rattle.uni_model.specs.Worlds.{WorldOf, effect_in, world_after_step, world_after_call, call_after, chain, calls_begun, sum_below, world_after}
+use Rattle.uni_model.specs.Worlds.{WorldOf, effect_in, world_after_step, world_after_call, call_after, chain, era_calls, sum_below, world_after, calls_in_era}
 use Rattle.uni_model.specs.Worlds.Event.{Call, Step}
 use Rattle.uni_model.specs.AtomicObject.{Atomic, Act, AcceptsAll}
 use Rattle.uni_model.specs.AtomicObject.Act.{Linearize}
@@ -43,16 +43,16 @@ drop_length-append [] ys = refl
 drop_length-append (x ∷ xs) ys = drop_length-append xs ys
 
 module _ {S I R : Type 0} (object : Sequential S I R) (w : WorldOf S I R) (num : Name → ℕ) (last : ℕ) (sound : IsSound object w num last) where
-  -- all calls that were begun are enough to go along the chain
-  pub enough : last ≤ num Anchor + calls_begun w
+  -- the calls of the era are enough to go along the chain
+  pub enough : last ≤ num Anchor + era_calls w
   enough =
-      let rising : sum_below w.n (λ q. can_be_linked num (w.call q) (w.begun q)) ≤ sum_below w.n w.begun = sum_below-le w.n _ _ (λ q h. at_most (w.call q) (w.begun q)) in
-      let was : last ≤ num Anchor + sum_below w.n (λ q. can_be_linked num (w.call q) (w.begun q)) = sound.count in
+      let rising : sum_below w.n (λ q. can_be_linked num (w.call q) (calls_in_era w q)) ≤ era_calls w = sum_below-le w.n _ _ (λ q h. at_most (w.call q) (calls_in_era w q)) in
+      let was : last ≤ num Anchor + sum_below w.n (λ q. can_be_linked num (w.call q) (calls_in_era w q)) = sound.count in
       omega arith where
-        at_most : (o : Option Pending) (begun : ℕ) → can_be_linked num o begun ≤ begun
-        at_most None begun = omega arith
-        at_most (Some c) begun = by_test (nat_eq (num c.mine) 0) where
-          by_test : (b : Bool) → cond b (begun - 1) begun ≤ begun
+        at_most : (o : Option Pending) (calls : ℕ) → can_be_linked num o calls ≤ calls
+        at_most None calls = omega arith
+        at_most (Some c) calls = by_test (nat_eq (num c.mine) 0) where
+          by_test : (b : Bool) → cond b (calls - 1) calls ≤ calls
           by_test true = omega arith
           by_test false = omega arith
 
@@ -74,7 +74,7 @@ module _ {S I R : Type 0} (object : Sequential S I R) (w : WorldOf S I R) (num :
 
     module _ (m : Memory S I R) (num' : Name → ℕ) (last' : ℕ) (stage : Option Stage) (moves : Moves object w num p mine m num' last' stage) (steps turns : ℕ → ℕ) where
       abbrev pub later : WorldOf S I R
-      later = record { n = w.n; memory = m; call = set_at w.call p (call_after mine stage); begun = w.begun; first = w.first; steps = steps; turns = turns }
+      later = record { n = w.n; memory = m; call = set_at w.call p (call_after mine stage); begun = w.begun; first = w.first; among = w.among; steps = steps; turns = turns }
 
       invoked_kept : (x : Name) → invoked_at m x ≡ invoked_at w.memory x
       invoked_kept = invoked_at-same w.memory m moves.inv
@@ -83,8 +83,8 @@ module _ {S I R : Type 0} (object : Sequential S I R) (w : WorldOf S I R) (num :
       calls_kept : ((x : Name) → after_of m x ≡ after_of w.memory x) → calls_of later ≡ calls_of w
       calls_kept same =
           calls_of-calls_at later
-          ∙ ap (calls_at m) (cells_from-same w.memory m same (calls_begun w) Anchor)
-          ∙ calls_at-same w.memory num last sound.numbered m (λ x h. invoked_kept x) (calls_begun w) Anchor
+          ∙ ap (calls_at m) (cells_from-same w.memory m same (era_calls w) Anchor)
+          ∙ calls_at-same w.memory num last sound.numbered m (λ x h. invoked_kept x) (era_calls w) Anchor
           ∙ sym (calls_of-calls_at w)
 
       start_kept : new_of m Anchor ≡ Some (a.start, None)
@@ -129,13 +129,13 @@ module _ {S I R : Type 0} (object : Sequential S I R) (w : WorldOf S I R) (num :
           ] in
           let place : ℕ = num mine - num Anchor - 1 in
           let top : num mine ≤ last = sound.numbered.greatest mine in
-          let steps_enough : last ≤ num Anchor + calls_begun w = enough object w num last sound in
+          let steps_enough : last ≤ num Anchor + era_calls w = enough object w num last sound in
           let settled = sound.values.threaded mine threaded in
           let call = own_invoked own.0 own.1 own.2 own.3 in
           let stands : slice_get (calls_at w.memory (chain w)) place ≡ Some (record { process = p; nth = own.0; inv = own.1 })
-          = slice_get-calls_at w.memory num last sound.numbered sound.calls.linked (calls_begun w) Anchor mine place first (omega arith) (omega arith) ∙ call in
+          = slice_get-calls_at w.memory num last sound.numbered sound.calls.linked (era_calls w) Anchor mine place first (omega arith) (omega arith) ∙ call in
           let response : response_at object a.start (map (λ (c : Invoked I). c.inv) (calls_at w.memory (chain w))) place ≡ settled.0.1
-          = response_at-calls_at w.memory num last sound.numbered sound.calls.linked object sound.values sound.calls.anchor (calls_begun w) Anchor mine place
+          = response_at-calls_at w.memory num last sound.numbered sound.calls.linked object sound.values sound.calls.anchor (era_calls w) Anchor mine place
           (a.start, None) settled.0 first (omega arith) (omega arith) shows.start settled.1 in
           finished place settled.1 stands response where
             agreed_is : a.agreed ≡ calls_at w.memory (chain w)
@@ -192,12 +192,12 @@ module _ {S I R : Type 0} (object : Sequential S I R) (w : WorldOf S I R) (num :
       ]
 
       abbrev pub linked_world : WorldOf S I R
-      linked_world = record { n = w.n; memory = linked_memory; call = set_at w.call p (call_after mine (Some (DecideNew c s prefer))); begun = w.begun; first = w.first; steps = steps; turns = turns }
+      linked_world = record { n = w.n; memory = linked_memory; call = set_at w.call p (call_after mine (Some (DecideNew c s prefer))); begun = w.begun; first = w.first; among = w.among; steps = steps; turns = turns }
 
-      linked_enough : last + 1 ≤ num Anchor + calls_begun w
+      linked_enough : last + 1 ≤ num Anchor + era_calls w
       linked_enough =
           let anchor = anchor_number in
-          let all : last + 1 ≤ number_later object w num last sound p mine from is c s prefer h past cell at_end Anchor + calls_begun w
+          let all : last + 1 ≤ number_later object w num last sound p mine from is c s prefer h past cell at_end Anchor + era_calls w
           = enough object linked_world _ (last + 1) (IsSound-moved object w num last sound p mine from is linked_memory _ (last + 1) (Some (DecideNew c s prefer)) moves_link steps turns) in
           omega arith
 
@@ -210,8 +210,8 @@ module _ {S I R : Type 0} (object : Sequential S I R) (w : WorldOf S I R) (num :
           ∙ calls_at-kept w.memory linked_memory (invoked_at-same w.memory linked_memory (λ x. refl)) (chain linked_world)
           ∙ ap (calls_at w.memory) (cells_from-link w.memory num last sound.numbered c prefer
           (threaded_c object w num last sound p mine from is c s prefer h past cell at_end) at_end outside_chain
-          (nothing_after object w num last sound p mine from is c s prefer h past cell at_end) (calls_begun w) Anchor sound.numbered.first linked_enough)
-          ∙ calls_at-append w.memory num last sound.numbered sound.calls.linked (calls_begun w) Anchor (prefer ∷ []) sound.numbered.first
+          (nothing_after object w num last sound p mine from is c s prefer h past cell at_end) (era_calls w) Anchor sound.numbered.first linked_enough)
+          ∙ calls_at-append w.memory num last sound.numbered sound.calls.linked (era_calls w) Anchor (prefer ∷ []) sound.numbered.first
           ∙ ap (λ o. calls_at w.memory (chain w) ++ option_map_or (λ (call : Invoked I). call ∷ []) o []) its_invoked
           ∙ ap (λ cs. cs ++ its_call ∷ []) (sym (calls_of-calls_at w))
 
@@ -229,7 +229,7 @@ module _ {S I R : Type 0} (object : Sequential S I R) (w : WorldOf S I R) (num :
       its_new there =
           let in_chain : Contains (calls_at w.memory (chain w)) its_call = subst (λ cs. Contains cs its_call) (sym shows.agreed ∙ calls_of-calls_at w) there in
           let linked : 1 ≤ num (Of its.0 its.1) = All-contains (λ (c : Invoked I). 1 ≤ num (Of c.process c.nth)) (calls_at w.memory (chain w)) its_call
-          (All-from_recursion (λ (c : Invoked I). 1 ≤ num (Of c.process c.nth)) (calls_at w.memory (chain w)) (linked_calls w.memory num last sound.numbered (calls_begun w) Anchor)) in_chain in
+          (All-from_recursion (λ (c : Invoked I). 1 ≤ num (Of c.process c.nth)) (calls_at w.memory (chain w)) (linked_calls w.memory num last sound.numbered (era_calls w) Anchor)) in_chain in
           let zero : num (Of its.0 its.1) ≡ 0 = subst (λ x. num x ≡ 0) its.2 outside_chain in
           omega arith
 
@@ -250,7 +250,7 @@ module _ {S I R : Type 0} (object : Sequential S I R) (w : WorldOf S I R) (num :
     -- what is to be shown of a step that leaves this memory and this stage: the world then shows what the atomic object is after the acts
     abbrev pub Outcome : Memory S I R → Option Stage → Type 0
     Outcome m stage = let steps = set_at w.steps p (w.steps p + 1) in let turns = set_at w.turns p (w.turns p + turn_of from (w.memory (place_of w.n p mine from))) in
-        let later : WorldOf S I R = record { n = w.n; memory = m; call = set_at w.call p (call_after mine stage); begun = w.begun; first = w.first; steps = steps; turns = turns } in
+        let later : WorldOf S I R = record { n = w.n; memory = m; call = set_at w.call p (call_after mine stage); begun = w.begun; first = w.first; among = w.among; steps = steps; turns = turns } in
         (b : Atomic S I) × Shows later b
         × AcceptsAll object a (map Linearize (drop (length (calls_of w)) (calls_of later)) ++ responses_of w.memory p mine (response_after from (beside w.memory mine from))) b
 
@@ -336,10 +336,10 @@ module _ {S I R : Type 0} (object : Sequential S I R) (w : WorldOf S I R) (num :
     calls_same : calls_of (world_after_call w p i) ≡ calls_of w
     calls_same =
         calls_of-calls_at (world_after_call w p i)
-        ∙ ap (calls_at begun_memory) (cells_from-same w.memory begun_memory (λ x. refl) (calls_begun (world_after_call w p i)) Anchor)
-        ∙ ap (calls_at begun_memory) (cells_from-enough w.memory num last sound.numbered (calls_begun (world_after_call w p i)) (calls_begun w) Anchor
+        ∙ ap (calls_at begun_memory) (cells_from-same w.memory begun_memory (λ x. refl) (era_calls (world_after_call w p i)) Anchor)
+        ∙ ap (calls_at begun_memory) (cells_from-enough w.memory num last sound.numbered (era_calls (world_after_call w p i)) (era_calls w) Anchor
         (enough object (world_after_call w p i) num last (IsSound-begun object w num last sound p i inside idle)) (enough object w num last sound))
-        ∙ calls_at-same w.memory num last sound.numbered begun_memory invoked_linked (calls_begun w) Anchor
+        ∙ calls_at-same w.memory num last sound.numbered begun_memory invoked_linked (era_calls w) Anchor
         ∙ sym (calls_of-calls_at w)
 
     open_others : (q : ℕ) → q ≢ p → (o : Option Pending) → w.call q ≡ o → open_at begun_memory o ≡ open_at w.memory o

@@ -7,8 +7,8 @@ use Rattle.uni_model.specs.Places.{Name, name_eq, seq_of}
 use Rattle.uni_model.specs.Places.Name.{Anchor, Of}
 use Rattle.uni_model.specs.Stages.{Stage, Pending}
 use Rattle.uni_model.specs.Stages.Stage.{Announce}
-use Rattle.uni_model.specs.Worlds.{WorldOf, Event, chain, calls_begun, world_after_step, opened_world, world_after, world_after_all, AreAccepted}
-use Rattle.uni_model.specs.Worlds.Event.{Call, Step, Trim}
+use Rattle.uni_model.specs.Worlds.{WorldOf, Event, chain, era_calls, world_after_step, opened_world, world_after, world_after_all, AreAccepted}
+use Rattle.uni_model.specs.Worlds.Event.{Call, Step, Trim, Reshape}
 use Rattle.uni_model.specs.Frontier.{frontier, announces, announces_at, floor_of}
 use Rattle.uni_model.specs.Bound.{CountsSteps}
 use Rattle.uni_model.specs.Helping.{HelpingInvariant}
@@ -43,14 +43,14 @@ module _ {S I R : Type 0} (object : Sequential S I R) where
       let last = inv.0.1 in
       let numbered = inv.0.2.numbered in
       let anchor : num Anchor ≡ seq_of w.memory Anchor = numbered.anchor in
-      let long_enough : last ≤ num Anchor + calls_begun w = enough object w num last inv.0.2 in
+      let long_enough : last ≤ num Anchor + era_calls w = enough object w num last inv.0.2 in
       record {
         linked = λ place e.
-            let number : num (Of p k) ≡ num Anchor + (place + 1) = number_at w.memory num last numbered (calls_begun w) Anchor (Of p k) place e in
+            let number : num (Of p k) ≡ num Anchor + (place + 1) = number_at w.memory num last numbered (era_calls w) Anchor (Of p k) place e in
             let bound : num (Of p k) ≤ floor + w.n + 1 = inv.1.linked in
             omega arith;
         waiting = λ c pending its outside.
-            let end : num Anchor + length (chain w) ≡ last = length-cells_from w.memory num last numbered (calls_begun w) Anchor numbered.first long_enough in
+            let end : num Anchor + length (chain w) ≡ last = length-cells_from w.memory num last numbered (era_calls w) Anchor numbered.first long_enough in
             elim (cases_lt 0 (num (Of p k))) [
               | inl linked ↦ absurd (outside (
                   let least : num Anchor ≤ num (Of p k) = numbered.least (Of p k) linked in
@@ -61,7 +61,7 @@ module _ {S I R : Type 0} (object : Sequential S I R) where
                     | inr more ↦ absurd (let same = numbered.one_each Anchor (Of p k) numbered.first (omega arith) in cc)
                   ] in
                   Contains-slice_get (chain w) place (Of p k)
-                  (slice_get-cells_from w.memory num last numbered (calls_begun w) Anchor (Of p k) place numbered.first (omega arith) (omega arith))))
+                  (slice_get-cells_from w.memory num last numbered (era_calls w) Anchor (Of p k) place numbered.first (omega arith) (omega arith))))
               | inr none ↦
                   let near : last ≤ floor + w.n = last-le w num last p (Of p k) floor (inv.0.2.calls.process p c pending) (inv.1.waits c pending its) (omega arith) in
                   omega arith
@@ -78,6 +78,9 @@ module _ {S I R : Type 0} (object : Sequential S I R) where
   FloorInvariant-floor w (Trim ∷ es) ok counts inv p k floor e =
       FloorInvariant-floor (world_after object w Trim) es ok.1 (CountsSteps-world_after object w Trim ok.0 (inv.0, inv.1, inv.2) counts)
       (HelpingInvariant-world_after object w Trim ok.0 counts inv) p k floor e
+  FloorInvariant-floor w (Reshape n ∷ es) ok counts inv p k floor e =
+      FloorInvariant-floor (world_after object w (Reshape n)) es ok.1 (CountsSteps-world_after object w (Reshape n) ok.0 (inv.0, inv.1, inv.2) counts)
+      (HelpingInvariant-world_after object w (Reshape n) ok.0 counts inv) p k floor e
   FloorInvariant-floor w (Step o ∷ es) ok counts inv p k floor e =
       let counts' : CountsSteps (world_after object w (Step o)) = CountsSteps-world_after object w (Step o) ok.0 (inv.0, inv.1, inv.2) counts in
       by_test counts' (λ f. FloorInvariant-floor (world_after object w (Step o)) es ok.1 counts' (HelpingInvariant-world_after object w (Step o) ok.0 counts inv) p k floor f)

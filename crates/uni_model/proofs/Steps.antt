@@ -9,7 +9,7 @@ use Rattle.uni_model.specs.Places.Content.{CellName, Invocation, Number, Link, S
 use Rattle.uni_model.specs.Stages.{Stage, Pending}
 use Rattle.uni_model.specs.Stages.Stage.{Announce, ScanHead, ScanSeq, WriteScan, Test, ReadAnnounce, ReadHelpSeq, DecideAfter, DecideNew, WriteBefore, WriteSeq, WriteHead, Finish}
 use Rattle.uni_model.specs.Transition.{place_of, effect_of, decision, value_after, stage_after_scan, best_of, beside}
-use Rattle.uni_model.specs.Worlds.{WorldOf, sum_below}
+use Rattle.uni_model.specs.Worlds.{WorldOf, sum_below, calls_in_era}
 use Rattle.uni_model.specs.Invariant.{Has, HasBest, AtHead, IsPast, IsCellOf, Stands, IsSound, can_be_linked}
 use Rattle.uni_model.proofs.Written.{number_cases, head_of-memory_with, announce_of-memory_with, written_same, lt_cases, after_of-memory_with, seq_of-memory_with, new_of-memory_with, before_of-memory_with}
 use Rattle.uni_model.specs.Settled.{Grows}
@@ -228,13 +228,15 @@ module _ {S I R : Type 0} (object : Sequential S I R) (w : WorldOf S I R) (num :
 
     -- one more cell of the process whose call is linked can be in the chain
     one_more : (o k : ℕ) → prefer ≡ Of o k → (d : Pending) → w.call o ≡ Some d → d.mine ≡ Of o k
-        → can_be_linked num (w.call o) (w.begun o) + 1 ≤ can_be_linked number_later (w.call o) (w.begun o)
+        → can_be_linked num (w.call o) (calls_in_era w o) + 1 ≤ can_be_linked number_later (w.call o) (calls_in_era w o)
     one_more o k its d pending its_mine =
         let same : d.mine ≡ prefer = its_mine ∙ sym its in
         let zero : num d.mine ≡ 0 = ap num same ∙ outside in
         let later : numbered_last num last prefer d.mine ≡ last + 1 = (elim (numbered_last-cases num last prefer d.mine) [ inl h ↦ h.1 | inr h ↦ absurd (h.0 same) ]) in
-        let begun : w.begun o ≡ (sound.calls.mine o d pending).0 + 1 = (sound.calls.mine o d pending).2 in
-        subst (λ call. can_be_linked num call (w.begun o) + 1 ≤ can_be_linked (numbered_last num last prefer) call (w.begun o)) (sym pending)
+        let own = sound.calls.mine o d pending in
+        let begun : w.begun o ≡ own.0 + 1 = own.2 in
+        let since : w.first o ≤ own.0 = (sound.calls.begun o own.0 own.3).1 in
+        subst (λ call. can_be_linked num call (calls_in_era w o) + 1 ≤ can_be_linked (numbered_last num last prefer) call (calls_in_era w o)) (sym pending)
         (elim (number_cases (num d.mine) 0) [
           | inl none ↦ elim (number_cases (numbered_last num last prefer d.mine) 0) [
             | inl absent ↦ absurd (let e = absent.0 in omega arith)
@@ -274,9 +276,9 @@ module _ {S I R : Type 0} (object : Sequential S I R) (w : WorldOf S I R) (num :
                 let zero : num (Of its.0 its.1) ≡ 0 = subst (λ x. num x ≡ 0) its.2 outside in omega arith)
             | inr d ↦ d
           ] in
-          let more : sum_below w.n (λ q. can_be_linked num (w.call q) (w.begun q)) + 1 ≤ sum_below w.n (λ q. can_be_linked (numbered_last num last prefer) (w.call q) (w.begun q))
-          = sum_below-lt w.n _ _ (λ q below. no_less (w.call q) (w.begun q)) its.0 (sound.calls.process its.0 pending.0 pending.1) (one_more its.0 its.1 its.2 pending.0 pending.1 pending.2) in
-          let was : last ≤ num Anchor + sum_below w.n (λ q. can_be_linked num (w.call q) (w.begun q)) = sound.count in
+          let more : sum_below w.n (λ q. can_be_linked num (w.call q) (calls_in_era w q)) + 1 ≤ sum_below w.n (λ q. can_be_linked (numbered_last num last prefer) (w.call q) (calls_in_era w q))
+          = sum_below-lt w.n _ _ (λ q below. no_less (w.call q) (calls_in_era w q)) its.0 (sound.calls.process its.0 pending.0 pending.1) (one_more its.0 its.1 its.2 pending.0 pending.1 pending.2) in
+          let was : last ≤ num Anchor + sum_below w.n (λ q. can_be_linked num (w.call q) (calls_in_era w q)) = sound.count in
           let anchor : numbered_last num last prefer Anchor ≡ num Anchor = (elim (numbered_last-cases num last prefer Anchor) [
             | inl same ↦ absurd (let none : num prefer ≡ 0 = outside in let first : 1 ≤ num Anchor = sound.numbered.first in let e : num Anchor ≡ num prefer = ap num same.0 in omega arith)
             | inr other ↦ other.1

@@ -38,21 +38,21 @@ HasTurns (WriteHead c c_seq d) turns = 1 ≤ turns
 HasTurns (Finish c_seq mine_seq) turns = Unit {0}
 
 -- the own steps of a process's latest call, by where the process stands and by the call's turns; once the call has
--- returned, 2n + 4 and eight for each turn
-abbrev pub IsCounted : (n : ℕ) → Option Pending → (begun steps turns : ℕ) → Type 0
-IsCounted n None begun steps turns = 1 ≤ begun → steps ≡ 2 * n + 4 + 8 * turns
-IsCounted n (Some c) begun steps turns = HasTurns c.stage turns × (steps ≡ steps_at n c.stage turns)
+-- returned, 2n + 4 and eight for each turn, for the n processes among which it ran
+abbrev pub IsCounted : (n : ℕ) → Option Pending → (begun among steps turns : ℕ) → Type 0
+IsCounted n None begun among steps turns = 1 ≤ begun → steps ≡ 2 * among + 4 + 8 * turns
+IsCounted n (Some c) begun among steps turns = (among ≡ n) × HasTurns c.stage turns × (steps ≡ steps_at n c.stage turns)
 
 -- the own steps of every process's latest call are counted so
 abbrev pub CountsSteps : {S I R : Type 0} → WorldOf S I R → Type 0
-CountsSteps w = (p : ℕ) → IsCounted w.n (w.call p) (w.begun p) (w.steps p) (w.turns p)
+CountsSteps w = (p : ℕ) → IsCounted w.n (w.call p) (w.begun p) (w.among p) (w.steps p) (w.turns p)
 
--- a process's latest call has taken at most n + 1 turns; while it is pending, fewer than 10n + 12 own steps, and once it has
--- returned, 2n + 4 and eight for each turn
-abbrev pub IsWithinBound : (n : ℕ) → Option Pending → (begun steps turns : ℕ) → Type 0
-IsWithinBound n None begun steps turns = (turns ≤ n + 1) × (1 ≤ begun → steps ≡ 2 * n + 4 + 8 * turns)
-IsWithinBound n (Some c) begun steps turns = (turns ≤ n + 1) × (steps < 10 * n + 12)
+-- a process's latest call has taken at most n + 1 turns, of the n processes among which it ran; while it is pending, fewer than
+-- 10n + 12 own steps, and once it has returned, 2n + 4 and eight for each turn
+abbrev pub IsWithinBound : (n : ℕ) → Option Pending → (begun among steps turns : ℕ) → Type 0
+IsWithinBound n None begun among steps turns = (turns ≤ among + 1) × (1 ≤ begun → steps ≡ 2 * among + 4 + 8 * turns)
+IsWithinBound n (Some c) begun among steps turns = (among ≡ n) × (turns ≤ n + 1) × (steps < 10 * n + 12)
 
 -- so has every process's latest call
 abbrev pub IsBounded : {S I R : Type 0} → WorldOf S I R → Type 0
-IsBounded w = (p : ℕ) → IsWithinBound w.n (w.call p) (w.begun p) (w.steps p) (w.turns p)
+IsBounded w = (p : ℕ) → IsWithinBound w.n (w.call p) (w.begun p) (w.among p) (w.steps p) (w.turns p)

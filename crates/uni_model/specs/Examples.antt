@@ -1,16 +1,16 @@
 -- Worked examples: what the definitions compute over a queue of numbers.
 use Rattle.std.specs.Prelude.{◌≡◌, refl, ℕ, zero, suc, ◌+◌, List, [], ◌∷◌, ◌++◌, length, Option, None, Some, map}
 use Rattle.seq_object.specs.Sequential.{Sequential}
-use Rattle.uni_model.specs.Places.{Name, seq_of, head_seq}
+use Rattle.uni_model.specs.Places.{Name, seq_of, new_of, head_of, head_seq}
 use Rattle.uni_model.specs.Places.Name.{Anchor, Of}
 use Rattle.uni_model.specs.Stages.Stage.{Announce, ScanHead, Test, WriteHead, Finish}
 use Rattle.uni_model.specs.Bound.{steps_at}
 use Rattle.uni_model.specs.Chain.{Entry}
 use Rattle.uni_model.specs.Frontier.{floor_of}
-use Rattle.uni_model.specs.Worlds.{WorldOf, Event, chain, opened_world, world_after_all}
-use Rattle.uni_model.specs.Worlds.Event.{Call, Step, Trim}
+use Rattle.uni_model.specs.Worlds.{WorldOf, Event, chain, opened_world, world_after_all, without_trims}
+use Rattle.uni_model.specs.Worlds.Event.{Call, Step, Trim, Reshape}
 use Rattle.uni_model.specs.AtomicObject.Act.{Invoke, Linearize, Respond}
-use Rattle.uni_model.specs.History.{log, history_of}
+use Rattle.uni_model.specs.History.{log, log_of_run, history_of}
 
 data QueueCall : Type 0 where
   Enq : ℕ → QueueCall
@@ -197,6 +197,95 @@ trimmed_between-steps = refl
 trimmed_between-turns : (run 2 trimmed_between).turns 0 ≡ 1
 unfolding trimmed_between
 trimmed_between-turns = refl
+
+-- the joined log of a run of n processes over an empty queue, from number 1
+abbrev joined : ℕ → List (Event QueueCall) → List (Entry QueueCall QueueReply)
+joined n events = log_of_run queue (opened_world n [] 1) events
+
+trimmed_between-joined : joined 2 trimmed_between ≡ entry 2 0 0 (Enq 1) Ok ∷ entry 3 0 1 Deq (Value 1) ∷ []
+unfolding trimmed_between
+trimmed_between-joined = refl
+
+-- one call, then a trim or none, then so many steps of another call: in its scan process 0 sees the number of the anchor
+-- there is, and another cell at the end of it; what it does next is the same
+trimmed : ℕ → List (Event QueueCall)
+trimmed m = Call 1 (Enq 5) ∷ (steps 1 16 ++ Trim ∷ Call 0 Deq ∷ steps 0 m)
+
+untrimmed : ℕ → List (Event QueueCall)
+untrimmed m = Call 1 (Enq 5) ∷ (steps 1 16 ++ Call 0 Deq ∷ steps 0 m)
+
+trimmed-untrimmed : without_trims (trimmed 3) ≡ untrimmed 3
+unfolding trimmed untrimmed
+trimmed-untrimmed = refl
+
+trimmed-scan : (run 2 (trimmed 3)).call 0 ≡ Some (record { mine = Of 0 0; stage = ScanHead 1 Anchor 2 })
+unfolding trimmed
+trimmed-scan = refl
+
+untrimmed-scan : (run 2 (untrimmed 3)).call 0 ≡ Some (record { mine = Of 0 0; stage = ScanHead 1 Anchor 1 })
+unfolding untrimmed
+untrimmed-scan = refl
+
+trimmed-test : (run 2 (trimmed 6)).call 0 ≡ Some (record { mine = Of 0 0; stage = Test Anchor 2 })
+unfolding trimmed
+trimmed-test = refl
+
+untrimmed-test : (run 2 (untrimmed 6)).call 0 ≡ Some (record { mine = Of 0 0; stage = Test (Of 1 0) 2 })
+unfolding untrimmed
+untrimmed-test = refl
+
+trimmed-heads : heads (run 2 (trimmed 16)) (0 ∷ 1 ∷ []) ≡ 3 ∷ 2 ∷ []
+unfolding trimmed
+trimmed-heads = refl
+
+untrimmed-heads : heads (run 2 (untrimmed 16)) (0 ∷ 1 ∷ []) ≡ 3 ∷ 2 ∷ []
+unfolding untrimmed
+untrimmed-heads = refl
+
+trimmed-joined : joined 2 (trimmed 16) ≡ entry 2 1 0 (Enq 5) Ok ∷ entry 3 0 0 Deq (Value 5) ∷ []
+unfolding trimmed
+trimmed-joined = refl
+
+untrimmed-log : log (run 2 (untrimmed 16)) ≡ entry 2 1 0 (Enq 5) Ok ∷ entry 3 0 0 Deq (Value 5) ∷ []
+unfolding untrimmed
+untrimmed-log = refl
+
+-- what the end of that era leaves: the anchor alone, with the state and the number of the last cell; the next call of process 1
+-- is its second one
+ended : List (Event QueueCall)
+ended = Call 1 (Enq 5) ∷ (steps 1 16 ++ Trim ∷ [])
+
+ended-state : new_of (run 2 ended).memory Anchor ≡ Some (5 ∷ [], None)
+unfolding ended
+ended-state = refl
+
+ended-number : seq_of (run 2 ended).memory Anchor ≡ 2
+unfolding ended
+ended-number = refl
+
+ended-head : head_of (run 2 ended).memory 1 ≡ Anchor
+unfolding ended
+ended-head = refl
+
+ended-cell : seq_of (run 2 ended).memory (Of 1 0) ≡ 0
+unfolding ended
+ended-cell = refl
+
+ended-first : (run 2 ended).first 1 ≡ 1
+unfolding ended
+ended-first = refl
+
+-- two processes are made three, and turns go by three: at the number 2 it is the turn of process 2 to be helped
+reshaped : List (Event QueueCall)
+reshaped = Call 0 (Enq 1) ∷ (steps 0 16 ++ Reshape 3 ∷ Call 2 Deq ∷ Step 2 ∷ Call 0 (Enq 9) ∷ steps 0 26)
+
+reshaped-joined : joined 2 reshaped ≡ entry 2 0 0 (Enq 1) Ok ∷ entry 3 2 0 Deq (Value 1) ∷ entry 4 0 1 (Enq 9) Ok ∷ []
+unfolding reshaped
+reshaped-joined = refl
+
+reshaped-turns : (run 2 reshaped).turns 0 ≡ 2
+unfolding reshaped
+reshaped-turns = refl
 
 -- of two processes: the announcement, the first head, the first test, the end of a turn, the end of three
 steps_at-announce : steps_at 2 Announce 0 ≡ 0

@@ -2,7 +2,7 @@
 use Rattle.std.specs.Prelude.{◌≡◌, ℕ, ◌+◌, ◌≤◌, ◌⊎◌, List, [], ◌∷◌, None, Some, length, slice_get}
 use Rattle.uni_model.specs.Chain.{Entry}
 use Rattle.uni_model.specs.Worlds.{Event}
-use Rattle.uni_model.specs.Worlds.Event.{Call, Step, Trim}
+use Rattle.uni_model.specs.Worlds.Event.{Call, Step, Trim, Reshape}
 
 -- the same call at the same number, whose response has come meanwhile
 pub record GetsResponse {I R : Type 0} (e e' : Entry I R) : Type 0 where
@@ -22,6 +22,7 @@ abbrev pub EndsNoEra : {I : Type 0} → Event I → Type 0
 EndsNoEra (Call p i) = Unit {0}
 EndsNoEra (Step p) = Unit {0}
 EndsNoEra Trim = ⊥
+EndsNoEra (Reshape n) = ⊥
 
 abbrev pub EndNoEra : {I : Type 0} → List (Event I) → Type 0
 EndNoEra [] = Unit {0}

@@ -84,7 +84,7 @@ pub record Helps {S I R : Type 0} (w : WorldOf S I R) (num : Name → ℕ) (last
   pub each : (p : ℕ) (c : Pending) → w.call p ≡ Some c → IsHelped w.memory num last w.n p c.mine c.stage (w.turns p)
   pub fair : (o : ℕ) (d : Pending) → w.call o ≡ Some d → OfConsidered d.stage (λ s x. IsFairToAll w num s x)
   pub heads : (s : ℕ) → num Anchor ≤ s → s < last → SomeHead w.memory w.n 0 s
-  pub returned : (p : ℕ) → w.call p ≡ None → w.turns p ≤ w.n + 1
+  pub returned : (p : ℕ) → w.call p ≡ None → w.turns p ≤ w.among p + 1
 
 -- the invariant, with what helps each pending call, for the same numbers
 abbrev pub HelpingInvariant : {S I R : Type 0} → Sequential S I R → WorldOf S I R → Type 0

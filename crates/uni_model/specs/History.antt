@@ -7,8 +7,8 @@ use Rattle.uni_model.specs.Places.{Name, Memory, seq_of, new_of}
 use Rattle.uni_model.specs.Places.Name.{Anchor}
 use Rattle.uni_model.specs.Stages.{Pending}
 use Rattle.uni_model.specs.Chain.{Invoked, Entry, entries_from, invoked_at}
-use Rattle.uni_model.specs.Worlds.{WorldOf, Event, chain, effect_in, world_after}
-use Rattle.uni_model.specs.Worlds.Event.{Call, Step, Trim}
+use Rattle.uni_model.specs.Worlds.{WorldOf, Event, chain, effect_in, world_after, world_after_all}
+use Rattle.uni_model.specs.Worlds.Event.{Call, Step, Trim, Reshape}
 use Rattle.uni_model.specs.AtomicObject.{Atomic, Open, Act}
 use Rattle.uni_model.specs.AtomicObject.Act.{Invoke, Linearize, Respond}
 
@@ -28,12 +28,13 @@ invocations_of w = map (λ c. c.inv) (calls_of w)
 abbrev pub logged_call : {I R : Type 0} → Entry I R → Answered I R
 logged_call e = record { inv = e.call.inv; response = e.response }
 
--- the entries of all eras of a run from w; a trim ends an era
+-- the entries of all eras of a run from w
 abbrev pub log_of_run : {S I R : Type 0} → Sequential S I R → WorldOf S I R → List (Event I) → List (Entry I R)
 log_of_run object w [] = log w
 log_of_run object w (Call p i ∷ es) = log_of_run object (world_after object w (Call p i)) es
 log_of_run object w (Step p ∷ es) = log_of_run object (world_after object w (Step p)) es
 log_of_run object w (Trim ∷ es) = log w ++ log_of_run object (world_after object w Trim) es
+log_of_run object w (Reshape n ∷ es) = log w ++ log_of_run object (world_after object w (Reshape n)) es
 
 -- the open call of a process
 abbrev pub open_at : {S I R : Type 0} → Memory S I R → Option Pending → Option (Open I)
@@ -58,8 +59,17 @@ acts_of object w (Step p) =
     map Linearize (drop (length (calls_of w)) (calls_of (world_after object w (Step p))))
     ++ option_map_or (λ call. responses_of w.memory p call.mine (effect_in object w p call).response) (w.call p) []
 acts_of object w Trim = []
+acts_of object w (Reshape n) = []
 
 -- the acts of a run
 abbrev pub history_of : {S I R : Type 0} → Sequential S I R → WorldOf S I R → List (Event I) → List (Act I R)
 history_of object w [] = []
 history_of object w (e ∷ es) = acts_of object w e ++ history_of object (world_after object w e) es
+
+-- A run from w shows this atomic object, from a state on: its calls are those of all eras, and its open calls and next numbers
+-- are those of the last world.
+pub record RunShows {S I R : Type 0} (object : Sequential S I R) (s : S) (w : WorldOf S I R) (events : List (Event I)) (a : Atomic S I) : Type 0 where
+  pub start : a.start ≡ s
+  pub agreed : map (λ e. e.call) (log_of_run object w events) ≡ a.agreed
+  pub open_call : (p : ℕ) → open_at (world_after_all object w events).memory ((world_after_all object w events).call p) ≡ a.open_call p
+  pub next_nth : (p : ℕ) → (world_after_all object w events).begun p ≡ a.next_nth p

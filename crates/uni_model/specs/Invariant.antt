@@ -5,7 +5,7 @@ use Rattle.uni_model.specs.Places.{Name, Memory, announce_of, head_of, head_seq,
 use Rattle.uni_model.specs.Places.Name.{Anchor, Of}
 use Rattle.uni_model.specs.Stages.{Stage, Pending}
 use Rattle.uni_model.specs.Stages.Stage.{Announce, ScanHead, ScanSeq, WriteScan, Test, ReadAnnounce, ReadHelpSeq, DecideAfter, DecideNew, WriteBefore, WriteSeq, WriteHead, Finish}
-use Rattle.uni_model.specs.Worlds.{WorldOf, sum_below}
+use Rattle.uni_model.specs.Worlds.{WorldOf, sum_below, calls_in_era}
 
 -- there is a value
 abbrev pub Has : {A : Type 0} → Option A → Type 0
@@ -49,12 +49,14 @@ pub record LeadsBack {S I R : Type 0} (m : Memory S I R) : Type 0 where
 abbrev pub IsCellOf : {S I R : Type 0} → Memory S I R → ℕ → Name → Type 0
 IsCellOf m p x = (k : ℕ) × (x ≡ Of p k) × Has (inv_of m (Of p k))
 
--- The cells are those of calls that were begun. Each is threaded, or its call is pending. The calls of one process are linked
+-- The cells are those of the calls that were begun in this era, each of which has one. Each is threaded, or its call is pending. The calls of one process are linked
 -- in their order.
 pub record AreCalls {S I R : Type 0} (w : WorldOf S I R) (num : Name → ℕ) : Type 0 where
   pub anchor : inv_of w.memory Anchor ≡ None
   pub linked : (p k : ℕ) → 1 ≤ num (Of p k) → Has (inv_of w.memory (Of p k))
-  pub begun : (p k : ℕ) → Has (inv_of w.memory (Of p k)) → (p < w.n) × (k < w.begun p)
+  pub begun : (p k : ℕ) → Has (inv_of w.memory (Of p k)) → (p < w.n) × (w.first p ≤ k) × (k < w.begun p)
+  pub first : (p : ℕ) → w.first p ≤ w.begun p
+  pub made : (p k : ℕ) → w.first p ≤ k → k < w.begun p → Has (inv_of w.memory (Of p k))
   pub process : (p : ℕ) (c : Pending) → w.call p ≡ Some c → p < w.n
   pub mine : (p : ℕ) (c : Pending) → w.call p ≡ Some c → (k : ℕ) × (c.mine ≡ Of p k) × (w.begun p ≡ k + 1) × Has (inv_of w.memory (Of p k))
   pub threaded : (p k : ℕ) → Has (inv_of w.memory (Of p k)) → (1 ≤ seq_of w.memory (Of p k)) ⊎ ((c : Pending) × (w.call p ≡ Some c) × (c.mine ≡ Of p k))
@@ -91,10 +93,10 @@ Stands m num n p mine (WriteSeq c c_seq d) = AtHead m p c c_seq × (after_of m c
 Stands m num n p mine (WriteHead c c_seq d) = AtHead m p c c_seq × (after_of m c ≡ Some d) × (seq_of m d ≡ c_seq + 1)
 Stands m num n p mine (Finish c_seq mine_seq) = (head_seq m p ≡ c_seq) × (1 ≤ mine_seq) × (seq_of m mine ≡ mine_seq)
 
--- how many cells of a process can be in the chain: all that it has begun, but for that of a pending call that isn't
-abbrev pub can_be_linked : (Name → ℕ) → Option Pending → ℕ → ℕ
-can_be_linked num None begun = begun
-can_be_linked num (Some c) begun = if num c.mine == 0 then begun - 1 else begun
+-- how many cells of a process can be in the chain: those of all its calls of the era, but for that of a pending call that isn't
+abbrev pub can_be_linked : (Name → ℕ) → Option Pending → (calls : ℕ) → ℕ
+can_be_linked num None calls = calls
+can_be_linked num (Some c) calls = if num c.mine == 0 then calls - 1 else calls
 
 -- the invariant of a world, for the numbers of its cells
 pub record IsSound {S I R : Type 0} (object : Sequential S I R) (w : WorldOf S I R) (num : Name → ℕ) (last : ℕ) : Type 0 where
@@ -103,7 +105,7 @@ pub record IsSound {S I R : Type 0} (object : Sequential S I R) (w : WorldOf S I
   pub back : LeadsBack w.memory
   pub calls : AreCalls w num
   pub stands : (p : ℕ) (c : Pending) → w.call p ≡ Some c → Stands w.memory num w.n p c.mine c.stage
-  pub count : last ≤ num Anchor + sum_below w.n (λ p. can_be_linked num (w.call p) (w.begun p))
+  pub count : last ≤ num Anchor + sum_below w.n (λ p. can_be_linked num (w.call p) (calls_in_era w p))
 
 -- the invariant of a world
 abbrev pub Invariant : {S I R : Type 0} → Sequential S I R → WorldOf S I R → Type 0

@@ -10,7 +10,7 @@ use Rattle.uni_model.specs.Worlds.{WorldOf, Event, chain, opened_world, world_af
 use Rattle.uni_model.specs.Worlds.Event.{Step}
 use Rattle.uni_model.specs.Frontier.{floor_of}
 use Rattle.uni_model.specs.AtomicObject.{Atomic, AcceptsAll, at_start}
-use Rattle.uni_model.specs.History.{Shows, log, history_of, acts_of}
+use Rattle.uni_model.specs.History.{Shows, RunShows, log, history_of, acts_of}
 use Rattle.uni_model.specs.Invariant.{Invariant}
 use Rattle.uni_model.specs.Helping.{HelpingInvariant}
 use Rattle.uni_model.specs.Bound.{CountsSteps}
@@ -79,11 +79,11 @@ module _ {S I R : Type 0} (object : Sequential S I R) where
   Simulates w e = IsReached w → IsAccepted w e → EndsNoEra e → (a : Atomic S I) → Shows w a
       → (b : Atomic S I) × Shows (world_after object w e) b × AcceptsAll object a (acts_of object w e) b
 
-  -- the history of a run from the opening is one of the atomic object, which the run's last world shows
+  -- the history of a run from the opening, whichever eras end in it, is one of the atomic object that the run shows
   abbrev pub IsLinearizable : (n : ℕ) → (start : S) → (number : ℕ) → List (Event I) → Type 0
   IsLinearizable n start number events =
-      1 ≤ number → AreAccepted object (opened_world n start number) events → EndNoEra events
-      → (b : Atomic S I) × Shows (world_after_all object (opened_world n start number) events) b
+      1 ≤ number → AreAccepted object (opened_world n start number) events
+      → (b : Atomic S I) × RunShows object start (opened_world n start number) events b
       × AcceptsAll object (at_start start) (history_of object (opened_world n start number) events) b
 
   -- in a run from the opening, each call that has a floor is linked soon

@@ -10,6 +10,9 @@ pub mod Invariant
 pub mod Settled
 pub mod OneList
 pub mod Growth
+pub mod Eras
+pub mod Trims
+pub mod Universal
 pub mod Helping
 pub mod Bound
 pub mod Examples

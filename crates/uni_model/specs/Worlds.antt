@@ -1,5 +1,5 @@
 -- Worlds, events, and the replay of a list of events.
-use Rattle.std.specs.Prelude.{◌≡◌, ℕ, zero, suc, ◌+◌, ◌-◌, ◌<◌, List, [], ◌∷◌, Option, None, Some, option_map, option_and_then, IsSome}
+use Rattle.std.specs.Prelude.{◌≡◌, ℕ, zero, suc, ◌+◌, ◌-◌, ◌<◌, ◌≤◌, List, [], ◌∷◌, Option, None, Some, option_map, option_and_then, IsSome}
 use Rattle.std.specs.Option.{option_map_or}
 use Rattle.seq_object.specs.Sequential.{Sequential}
 use Rattle.uni_model.specs.Places.{Name, Memory, memory_with, set_at, seq_of, new_of}
@@ -12,21 +12,25 @@ use Rattle.uni_model.specs.Chain.{cells_from, last_of}
 use Rattle.uni_model.specs.Transition.{Effect, place_of, beside, effect_of, turn_of, response_after}
 
 -- n processes: the shared places; of each process its pending call, how many calls it has begun since the opening, the
--- number of its first call of the present era, and the own steps and turns of its latest call
+-- number of its first call of the present era, and of its latest call among how many processes it ran (0 where it has begun
+-- none), its own steps and its turns
 pub record WorldOf (S I R : Type 0) : Type 0 where
   pub n : ℕ
   pub memory : Memory S I R
   pub call : ℕ → Option Pending
   pub begun : ℕ → ℕ
   pub first : ℕ → ℕ
+  pub among : ℕ → ℕ
   pub steps : ℕ → ℕ
   pub turns : ℕ → ℕ
 
--- a process begins a call, takes its next step, or the list is replaced by its last cell
+-- a process begins a call, or takes its next step; or an era ends: the list is replaced by its last cell, under as many processes
+-- as before or under others
 pub data Event (I : Type 0) : Type 0 where
   Call : (process : ℕ) → I → Event I
   Step : (process : ℕ) → Event I
   Trim : Event I
+  Reshape : (processes : ℕ) → Event I
 
 -- a process begins a call: it makes a cell that no other process knows yet
 abbrev pub world_after_call : {S I R : Type 0} → WorldOf S I R → ℕ → I → WorldOf S I R
@@ -37,6 +41,7 @@ world_after_call w p i =
       call = set_at w.call p (Some (record { mine = Of p (w.begun p); stage = Announce }));
       begun = set_at w.begun p (w.begun p + 1);
       first = w.first;
+      among = set_at w.among p w.n;
       steps = set_at w.steps p 0;
       turns = set_at w.turns p 0;
     }
@@ -60,6 +65,7 @@ world_after_step object w p (Some call) =
       call = set_at w.call p (call_after call.mine (effect_in object w p call).stage);
       begun = w.begun;
       first = w.first;
+      among = w.among;
       steps = set_at w.steps p (w.steps p + 1);
       turns = set_at w.turns p (w.turns p + turn_of call.stage (w.memory place));
     }
@@ -82,7 +88,7 @@ anchor_memory s number (BeforeOf x) = Link None
 
 -- n processes of which none has called, over a state and a first number
 abbrev pub opened_world : {S I R : Type 0} → ℕ → S → ℕ → WorldOf S I R
-opened_world n s number = record { n = n; memory = anchor_memory s number; call = λ p. None; begun = λ p. 0; first = λ p. 0; steps = λ p. 0; turns = λ p. 0 }
+opened_world n s number = record { n = n; memory = anchor_memory s number; call = λ p. None; begun = λ p. 0; first = λ p. 0; among = λ p. 0; steps = λ p. 0; turns = λ p. 0 }
 
 -- how many calls of a process the present era has
 abbrev pub calls_in_era : {S I R : Type 0} → WorldOf S I R → ℕ → ℕ
@@ -97,24 +103,30 @@ sum_below (suc p) f = sum_below p f + f p
 abbrev pub calls_begun : {S I R : Type 0} → WorldOf S I R → ℕ
 calls_begun w = sum_below w.n w.begun
 
+-- how many of them the present era has
+abbrev pub era_calls : {S I R : Type 0} → WorldOf S I R → ℕ
+era_calls w = sum_below w.n (calls_in_era w)
+
 -- the cells that are linked, in order
 abbrev pub chain : {S I R : Type 0} → WorldOf S I R → List Name
-chain w = cells_from (calls_begun w) w.memory Anchor
+chain w = cells_from (era_calls w) w.memory Anchor
 
 -- the last linked cell, or the anchor
 abbrev pub last_cell : {S I R : Type 0} → WorldOf S I R → Name
 last_cell w = last_of Anchor (chain w)
 
--- the list is replaced by one anchor, with the last cell's state and number; numbers of calls go on
-abbrev pub world_after_trim : {S I R : Type 0} → WorldOf S I R → WorldOf S I R
-world_after_trim w =
-    option_map_or (λ new. record w { first = w.begun; memory = anchor_memory new.0 (seq_of w.memory (last_cell w)) }) (new_of w.memory (last_cell w)) w
+-- an era ends: the list is replaced by one anchor, with the last cell's state and number, and there are n processes then;
+-- numbers of calls go on, also those of processes that there aren't then
+abbrev pub world_after_era : {S I R : Type 0} → WorldOf S I R → (n : ℕ) → WorldOf S I R
+world_after_era w n =
+    option_map_or (λ new. record w { n = n; first = w.begun; memory = anchor_memory new.0 (seq_of w.memory (last_cell w)) }) (new_of w.memory (last_cell w)) w
 
 -- an event
 abbrev pub world_after : {S I R : Type 0} → Sequential S I R → WorldOf S I R → Event I → WorldOf S I R
 world_after object w (Call p i) = world_after_call w p i
 world_after object w (Step p) = world_after_step object w p (w.call p)
-world_after object w Trim = world_after_trim w
+world_after object w Trim = world_after_era w w.n
+world_after object w (Reshape n) = world_after_era w n
 
 -- the events, the first of them first
 abbrev pub world_after_all : {S I R : Type 0} → Sequential S I R → WorldOf S I R → List (Event I) → WorldOf S I R
@@ -125,19 +137,22 @@ world_after_all object w (e ∷ es) = world_after_all object (world_after object
 abbrev pub IsQuiescent : {S I R : Type 0} → WorldOf S I R → Type 0
 IsQuiescent w = (p : ℕ) → p < w.n → w.call p ≡ None
 
--- which events can come: a call of a process that has none pending, a step of one that has, a trim where no call is pending
+-- which events can come: a call of a process that has none pending, a step of one that has, an end of the era where no call is
+-- pending, and only with a process left
 abbrev pub IsAccepted : {S I R : Type 0} → WorldOf S I R → Event I → Type 0
 IsAccepted w (Call p i) = (p < w.n) × (w.call p ≡ None)
 IsAccepted w (Step p) = IsSome (w.call p)
 IsAccepted w Trim = IsQuiescent w
+IsAccepted w (Reshape n) = IsQuiescent w × (1 ≤ n)
 
 abbrev pub AreAccepted : {S I R : Type 0} → Sequential S I R → WorldOf S I R → List (Event I) → Type 0
 AreAccepted object w [] = Unit {0}
 AreAccepted object w (e ∷ es) = IsAccepted w e × AreAccepted object (world_after object w e) es
 
--- the events without the trims
+-- the events without the trims; the reshapes stay
 abbrev pub without_trims : {I : Type 0} → List (Event I) → List (Event I)
 without_trims [] = []
 without_trims (Call p i ∷ es) = Call p i ∷ without_trims es
 without_trims (Step p ∷ es) = Step p ∷ without_trims es
 without_trims (Trim ∷ es) = without_trims es
+without_trims (Reshape n ∷ es) = Reshape n ∷ without_trims es

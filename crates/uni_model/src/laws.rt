@@ -8,9 +8,21 @@ ghost use Rattle.uni_model.specs.Worlds.{WorldOf, Event};
 ghost use Rattle.uni_model.specs.Invariant.{Invariant};
 ghost use Rattle.uni_model.specs.Bound.{CountsSteps, IsBounded};
 ghost use Rattle.uni_model.specs.OneList.{HasOneList, HasLegalLog};
+ghost use Rattle.uni_model.specs.Eras.{EraLeaves, EraOfRunLeaves, JoinsLegalLogs, JoinedLogGrows, KeepsRealTime};
+ghost use Rattle.uni_model.specs.Trims.{TrimsChangeNothing};
+ghost use Rattle.uni_model.specs.Universal.{RunIsUniversal};
 ghost use Rattle.uni_model.specs.Laws.{IsReached, KeepsInvariant, KeepsHelping, KeepsSettled, IsAtomic, KeepsLog, KeepsLogAlong, OpensSound, StepIsLocal, SettledStays, Simulates, IsLinearizable, LinksSoon, HasFloorOnceAnnounced};
 
 use seq_object::SeqObject;
+
+/// The main law. For every object, every number of processes and every list of accepted events, with
+/// the ends of eras among them: calls and replies are those of an atomic object; no call takes more
+/// than n + 1 turns, and a pending one has taken fewer than 10n + 12 own steps; and the run without its
+/// trims is accepted too, and shows the same (Herlihy 1991, section 4).
+pub fn is_universal<O: SeqObject>()
+    ensures { (object : O) (n : ℕ) (start : O.State) (number : ℕ) (events : List (Event O.Inv)) →
+        RunIsUniversal (O.sequential object) n start number events }
+{}
 
 /// A step touches the one place that its process's stage names; it changes that process's stage,
 /// steps and turns, and nothing else.
@@ -96,11 +108,54 @@ pub fn simulates<O: SeqObject>()
 {}
 
 /// The construction is linearizable: for every number of processes and every list of accepted
-/// events without a trim, calls and replies are those of an atomic object that places each call
-/// once between its start and its reply (Herlihy and Wing 1990).
+/// events, whichever eras end in it, calls and replies are those of an atomic object that places
+/// each call once between its start and its reply, in the order of the joined log (Herlihy and Wing
+/// 1990).
 pub fn is_linearizable<O: SeqObject>()
     ensures { (object : O) (n : ℕ) (start : O.State) (number : ℕ) (events : List (Event O.Inv)) →
         IsLinearizable (O.sequential object) n start number events }
+{}
+
+/// The end of an era, where nobody has a call pending, leaves the anchor alone, with the state after
+/// all calls of the era and the number of its last cell; the counts of all processes stay, and the
+/// next call of each is its first one of the new era. After a run from the opening that is the state
+/// after all calls of the joined log, and the number of its last entry.
+pub fn era_leaves_anchor<O: SeqObject>()
+    ensures era { (object : O) (w : WorldOf O.State O.Inv O.Resp) (n : ℕ) → EraLeaves (O.sequential object) w n }
+    ensures run { (object : O) (n : ℕ) (start : O.State) (number : ℕ) (events : List (Event O.Inv)) (next_n : ℕ) →
+        EraOfRunLeaves (O.sequential object) n start number events next_n }
+{}
+
+/// The joined log of every run from an opening, the logs of its eras one after another, is a legal
+/// history of the object from the start state; no call stands in it twice, its numbers go on by one
+/// through all eras, and only its last entry can lack its response.
+pub fn joined_log_is_legal<O: SeqObject>()
+    ensures { (object : O) (n : ℕ) (start : O.State) (number : ℕ) (events : List (Event O.Inv)) →
+        JoinsLegalLogs (O.sequential object) n start number events }
+{}
+
+/// The joined log only grows, whichever eras end: after each front of a run's events it is a front of
+/// the joined log after all of them, but that a response that is missing in its last entry may be
+/// there then.
+pub fn joined_log_only_grows<O: SeqObject>()
+    ensures { (object : O) (n : ℕ) (start : O.State) (number : ℕ) (events : List (Event O.Inv)) →
+        JoinedLogGrows (O.sequential object) n start number events }
+{}
+
+/// The joined log keeps real-time order: a call that has returned before another one is begun stands
+/// before it.
+pub fn keeps_real_time<O: SeqObject>()
+    ensures { (object : O) (n : ℕ) (start : O.State) (number : ℕ) (events : List (Event O.Inv)) →
+        KeepsRealTime (O.sequential object) n start number events }
+{}
+
+/// Trims change nothing that a run shows: the same events without the trims are accepted too, and lead
+/// to a world with the same counts, the same calls pending, each before a step of the same kind and
+/// with the same response where that step is its last, and the same frontier. The joined log and the
+/// history are the same.
+pub fn trims_change_nothing<O: SeqObject>()
+    ensures { (object : O) (n : ℕ) (start : O.State) (number : ℕ) (events : List (Event O.Inv)) →
+        TrimsChangeNothing (O.sequential object) n start number events }
 {}
 
 /// The own steps of a call follow from where its process stands and from its turns: 2n + 2 before

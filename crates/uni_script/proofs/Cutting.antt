@@ -1,54 +1,27 @@
 -- How a text is cut into lines.
-use Rattle.std.proofs.Common.{◌≡◌, ◌∙◌, ℕ, suc, ◌+◌, ◌<◌, ◌≤◌, ◌==◌, nat_lt, cond, Bool, true, false, List, [], ◌∷◌, ◌++◌, length, take, drop, None, Some, refl, sym, ap, arith, append_assoc}
+use Rattle.std.proofs.Common.{◌≡◌, ◌∙◌, ℕ, suc, ◌+◌, ◌<◌, ◌≤◌, ◌==◌, nat_lt, cond, Bool, true, false, List, [], ◌∷◌, ◌++◌, length, None, Some, refl, sym, ap, arith, append_assoc}
 use Rattle.std.proofs.lemmas.Bool.Decides.{nat_tests}
 use Rattle.std.specs.List.{position, position_or_len}
-use Rattle.uni_script.specs.declared.script.Stop.{Stop}
-use Rattle.uni_script.specs.declared.script.Stop.TheVariants.{End, Failed, TooLong, TooMany}
-use Rattle.uni_script.specs.Reading.{lines_of_read}
 use Rattle.uni_script.specs.Script.{Cut, with_first, after_byte, cut, last_line, lines_of}
 
 abbrev ends : ℕ → Bool
 ends b = b == 10
 
 -- where the first line ends: nowhere in the text, where this is its length
-abbrev end_of : List ℕ → ℕ
+abbrev pub end_of : List ℕ → ℕ
 end_of bytes = position_or_len ends bytes
 
-abbrev cut_is : Cut → (whole : List (List ℕ)) (tail : List ℕ) → Type 0
+abbrev pub cut_is : Cut → (whole : List (List ℕ)) (tail : List ℕ) → Type 0
 cut_is c whole tail = c ≡ record { whole = whole; tail = tail }
 
 after_other : (b : ℕ) (c : Cut) → (b == 10) ≡ false → after_byte b c ≡ with_first b c.whole c.tail
 after_other b c e = rw e refl
 
-end_of-end : (b : ℕ) (bytes : List ℕ) → (b == 10) ≡ true → end_of (b ∷ bytes) ≡ 0
+pub end_of-end : (b : ℕ) (bytes : List ℕ) → (b == 10) ≡ true → end_of (b ∷ bytes) ≡ 0
 end_of-end b bytes e = rw e refl
 
-end_of-other : (b : ℕ) (bytes : List ℕ) → (b == 10) ≡ false → end_of (b ∷ bytes) ≡ suc (end_of bytes)
+pub end_of-other : (b : ℕ) (bytes : List ℕ) → (b == 10) ≡ false → end_of (b ∷ bytes) ≡ suc (end_of bytes)
 end_of-other b bytes e = rw e (omega arith)
-
--- the first line, where it ends
-pub cut-at_end : (bytes : List ℕ) → end_of bytes < length bytes
-    → let rest = cut (drop (end_of bytes + 1) bytes) in cut_is (cut bytes) (take (end_of bytes) bytes ∷ rest.whole) rest.tail
-cut-at_end [] h = absurd (grind arith)
-cut-at_end (b ∷ bytes) h = at (b == 10) refl (cut-at_end bytes)
-  where
-    at : (q : Bool) → (b == 10) ≡ q
-        → (end_of bytes < length bytes → let rest = cut (drop (end_of bytes + 1) bytes) in cut_is (cut bytes) (take (end_of bytes) bytes ∷ rest.whole) rest.tail)
-        → let rest = cut (drop (end_of (b ∷ bytes) + 1) (b ∷ bytes)) in cut_is (cut (b ∷ bytes)) (take (end_of (b ∷ bytes)) (b ∷ bytes) ∷ rest.whole) rest.tail
-    at true e later = rw e refl
-    at false e later =
-        let k = end_of-other b bytes e in
-        let one_on : suc (end_of bytes) + 1 ≡ suc (end_of bytes + 1) = omega arith in
-        rw k (rw one_on (rw e (rw (later (omega arith)) refl)))
-
--- no line ends
-pub cut-at_none : (bytes : List ℕ) → length bytes ≤ end_of bytes → cut_is (cut bytes) [] bytes
-cut-at_none [] h = refl
-cut-at_none (b ∷ bytes) h = at (b == 10) refl (cut-at_none bytes)
-  where
-    at : (q : Bool) → (b == 10) ≡ q → (length bytes ≤ end_of bytes → cut_is (cut bytes) [] bytes) → cut_is (cut (b ∷ bytes)) [] (b ∷ bytes)
-    at true e later = absurd (let k = end_of-end b bytes e in omega arith)
-    at false e later = let k = end_of-other b bytes e in rw e (rw (later (omega arith)) refl)
 
 -- a text after another one goes on with its last line
 pub cut-append : (xs ys : List ℕ) → let rest = cut ((cut xs).tail ++ ys) in cut_is (cut (xs ++ ys)) ((cut xs).whole ++ rest.whole) rest.tail
@@ -64,32 +37,6 @@ cut-append (x ∷ xs) ys = rw (cut-append xs ys) (at (x == 10) refl (cut xs))
         first : (whole : List (List ℕ)) → let rest = cut (c.tail ++ ys) in let later = cut ((with_first x whole c.tail).tail ++ ys) in
             cut_is (with_first x (whole ++ rest.whole) rest.tail) ((with_first x whole c.tail).whole ++ later.whole) later.tail
         first [] = sym (after_other x (cut (c.tail ++ ys)) e)
-        first (line ∷ lines) = refl
-
--- a line end ends the last line
-pub cut-snoc_end : (xs : List ℕ) → cut_is (cut (xs ++ 10 ∷ [])) ((cut xs).whole ++ (cut xs).tail ∷ []) []
-cut-snoc_end [] = refl
-cut-snoc_end (x ∷ xs) = rw (cut-snoc_end xs) (at (x == 10) refl (cut xs))
-  where
-    at : (q : Bool) → (x == 10) ≡ q → (c : Cut) → cut_is (after_byte x (record { whole = c.whole ++ c.tail ∷ []; tail = [] })) ((after_byte x c).whole ++ (after_byte x c).tail ∷ []) []
-    at true e c = rw e refl
-    at false e c = rw e (first c.whole)
-      where
-        first : (whole : List (List ℕ)) → cut_is (with_first x (whole ++ c.tail ∷ []) []) ((with_first x whole c.tail).whole ++ (with_first x whole c.tail).tail ∷ []) []
-        first [] = refl
-        first (line ∷ lines) = refl
-
--- any other byte goes to the last line
-pub cut-snoc_other : (xs : List ℕ) (b : ℕ) → (b == 10) ≡ false → cut_is (cut (xs ++ b ∷ [])) (cut xs).whole ((cut xs).tail ++ b ∷ [])
-cut-snoc_other [] b other = rw other refl
-cut-snoc_other (x ∷ xs) b other = rw (cut-snoc_other xs b other) (at (x == 10) refl (cut xs))
-  where
-    at : (q : Bool) → (x == 10) ≡ q → (c : Cut) → cut_is (after_byte x (record { whole = c.whole; tail = c.tail ++ b ∷ [] })) (after_byte x c).whole ((after_byte x c).tail ++ b ∷ [])
-    at true e c = rw e refl
-    at false e c = rw e (first c.whole)
-      where
-        first : (whole : List (List ℕ)) → cut_is (with_first x whole (c.tail ++ b ∷ [])) (with_first x whole c.tail).whole ((with_first x whole c.tail).tail ++ b ∷ [])
-        first [] = refl
         first (line ∷ lines) = refl
 
 -- the lines of a text after another one
@@ -158,49 +105,16 @@ GoesOn-after (x ∷ xs) ys more start = at (x == 10) refl (GoesOn-after xs ys mo
         }
 
 -- where a line ends, and where none does
-end_is : (bytes : List ℕ) (at : ℕ) → Some at ≡ position ends bytes → (end_of bytes < length bytes) × (at ≡ end_of bytes)
+pub end_is : (bytes : List ℕ) (at : ℕ) → Some at ≡ position ends bytes → (end_of bytes < length bytes) × (at ≡ end_of bytes)
 end_is bytes at e = tested (nat_lt (end_of bytes) (length bytes)) refl e
   where
     tested : (q : Bool) → nat_lt (end_of bytes) (length bytes) ≡ q → Some at ≡ cond q (Some (end_of bytes)) None → (end_of bytes < length bytes) × (at ≡ end_of bytes)
     tested true t f = (grind (arith, nat_tests), cc)
     tested false t f = absurd (let g : Some at ≡ None = f in cc)
 
-none_is : (bytes : List ℕ) → None ≡ position ends bytes → length bytes ≤ end_of bytes
+pub none_is : (bytes : List ℕ) → None ≡ position ends bytes → length bytes ≤ end_of bytes
 none_is bytes e = tested (nat_lt (end_of bytes) (length bytes)) refl e
   where
     tested : (q : Bool) → nat_lt (end_of bytes) (length bytes) ≡ q → None ≡ cond q (Some (end_of bytes)) None → length bytes ≤ end_of bytes
     tested true t f = absurd (let g : None ≡ Some (end_of bytes) = f in cc)
     tested false t f = grind (arith, nat_tests)
-
--- the lines that are read begin with the first one that ends
-pub lines_of_read-at_end : (stop : Stop) (bytes : List ℕ) (at : ℕ) → Some at ≡ position ends bytes → lines_of_read stop bytes ≡ take at bytes ∷ lines_of_read stop (drop (at + 1) bytes)
-lines_of_read-at_end stop bytes at e = rw (end_is bytes at e).1 (kind stop)
-  where
-    whole : cut_is (cut bytes) (take (end_of bytes) bytes ∷ (cut (drop (end_of bytes + 1) bytes)).whole) (cut (drop (end_of bytes + 1) bytes)).tail
-    whole = cut-at_end bytes (end_is bytes at e).0
-
-    kind : (s : Stop) → lines_of_read s bytes ≡ take (end_of bytes) bytes ∷ lines_of_read s (drop (end_of bytes + 1) bytes)
-    kind End = rw (whole, lines_of_read) refl
-    kind Failed = rw (whole, lines_of_read) refl
-    kind TooLong = rw (whole, lines_of_read) refl
-    kind TooMany = rw (whole, lines_of_read) refl
-
--- where no line ends, only the end of the text makes the bytes a line
-pub lines_of_read-at_none : (stop : Stop) (bytes : List ℕ) → None ≡ position ends bytes → (stop ≡ End → ⊥) → lines_of_read stop bytes ≡ []
-lines_of_read-at_none End bytes e other = absurd (other refl)
-lines_of_read-at_none Failed bytes e other = rw (cut-at_none bytes (none_is bytes e), lines_of_read) refl
-lines_of_read-at_none TooLong bytes e other = rw (cut-at_none bytes (none_is bytes e), lines_of_read) refl
-lines_of_read-at_none TooMany bytes e other = rw (cut-at_none bytes (none_is bytes e), lines_of_read) refl
-
-pub lines_of_read-nil : (stop : Stop) → lines_of_read stop [] ≡ []
-lines_of_read-nil End = refl
-lines_of_read-nil Failed = refl
-lines_of_read-nil TooLong = refl
-lines_of_read-nil TooMany = refl
-
-pub lines_of_read-last : (bytes : List ℕ) → None ≡ position ends bytes → (bytes ≡ [] → ⊥) → lines_of_read End bytes ≡ bytes ∷ []
-lines_of_read-last bytes e some = rw (cut-at_none bytes (none_is bytes e)) (last bytes some)
-  where
-    last : (l : List ℕ) → (l ≡ [] → ⊥) → last_line l ≡ l ∷ []
-    last [] h = absurd (h refl)
-    last (x ∷ l) h = refl

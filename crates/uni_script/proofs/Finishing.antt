@@ -62,9 +62,9 @@ module _ {S I R : Type 0} (o : SpokenObject S I R) (p : ℕ) where
   returns_within : (most : ℕ) (w : WorldOf S I R) → CountsSteps w → HelpingInvariant o.object w → IsSome (w.call p) → most_steps w.n ≤ w.steps p + most → IsSome (outcome_of_steps o most w p).response
   returns_within zero w counts inv pending enough = at (w.call p) pending (IsBounded-held o.object w counts inv p)
     where
-      at : (call : Option Pending) → IsSome call → IsWithinBound w.n call (w.begun p) (w.steps p) (w.turns p) → IsSome (outcome_of_steps o zero w p).response
+      at : (call : Option Pending) → IsSome call → IsWithinBound w.n call (w.begun p) (w.among p) (w.steps p) (w.turns p) → IsSome (outcome_of_steps o zero w p).response
       at None h b = absurd (let e : false ≡ true = h in cc)
-      at (Some c) h b = absurd (let few : w.steps p < most_steps w.n = b.1 in omega arith)
+      at (Some c) h b = absurd (let few : w.steps p < most_steps w.n = b.2 in omega arith)
   returns_within (suc most) w counts inv pending enough =
       at (response_of_step w p) refl (λ silent.
       let n : after.n ≡ w.n = n-world_after_step o p w after refl in

@@ -1,9 +1,11 @@
 pub mod Written
+pub mod Drawing
 pub mod Stepping
 pub mod Results
 pub mod Cutting
 pub mod Running
-pub mod ByteByByte
+pub mod Taking
 pub mod Replaying
+pub mod RunningOn
 pub mod LogLines
 pub mod Finishing

@@ -1,12 +1,13 @@
 -- What was read of a script, and the whole script.
-use Rattle.std.proofs.Common.{◌≡◌, ◌∙◌, ◌⊎◌, inl, inr, ℕ, ◌+◌, nat_lt, not, if◌then◌else◌, Bool, true, false, List, [], ◌∷◌, ◌++◌, length, Option, None, Some, option_map, Result, Ok, Err, IfOk, IfErr, OnOk, refl, sym, ap, subst, arith, append_assoc, append-nil}
+use Rattle.std.proofs.Common.{◌≡◌, ◌∙◌, ◌⊎◌, inl, inr, ℕ, ◌+◌, ◌==◌, nat_lt, not, if◌then◌else◌, Bool, true, false, List, [], ◌∷◌, ◌++◌, length, Option, None, Some, option_map, Result, Ok, Err, IfOk, IfErr, OnOk, refl, sym, ap, subst, arith, append_assoc, append-nil}
+use Rattle.std.proofs.lemmas.Bool.Decides.{nat_tests}
 use Rattle.std.specs.Option.{option_map_or}
-use Rattle.std.specs.Io.KnownBytes.{Appends, Consumes}
+use Rattle.std.specs.Io.KnownBytes.{Appends, Consumes, IsAtEnd}
 use Rattle.uni_script.specs.declared.fault.BenchFault.{BenchFault}
 use Rattle.uni_script.specs.declared.fault.BenchFault.TheVariants.{NoHeader, Read, Write, Memory}
 use Rattle.uni_script.specs.declared.fault.BenchFault.TheVariants as fault
-use Rattle.uni_script.specs.declared.script.Stop.{Stop}
-use Rattle.uni_script.specs.declared.script.Stop.TheVariants.{End, Failed, TooLong, TooMany}
+use Rattle.uni_script.specs.declared.lines.Stop.{Stop}
+use Rattle.uni_script.specs.declared.lines.Stop.TheVariants.{End, Failed, TooLong, TooMany}
 use Rattle.uni_script.specs.Ends.{AppendsFront}
 use Rattle.std.specs.List.{list_all}
 use Rattle.ready_objects.specs.Words.{words_of_text}
@@ -14,14 +15,20 @@ use Rattle.uni_script.specs.Answers.{end_text}
 use Rattle.uni_script.specs.Script.{cut, lines_of, is_plain_byte, is_note, header_of_words, command_of_words}
 use Rattle.uni_script.specs.Objects.{SpokenObject, spoken_of}
 use Rattle.uni_script.specs.Meaning.{Bench, ScriptBench, bench_of_header, result_of_command, outcome_of_text, Outcome, script_bench, outcome_of_command, outcome_of_fault, and_then, and_then_from, outcome_of_words, outcome_of_line, outcome_of_lines, outcome_of_end, outcome_of_script}
-use Rattle.uni_script.specs.Reading.{lines_of_read, outcome_of_stop, outcome_of_read, outcome_of_rest, StopsAt, IsRead, EndsAs}
+use Rattle.uni_script.specs.Reading.{lines_of_read, outcome_of_stop, outcome_of_read, StopsAt, IsRead, HasEnded}
 use Rattle.uni_script.specs.declared.summary.Summary.{Summary}
 use Rattle.uni_script.specs.Summaries.{summary_of_bench}
 use Rattle.uni_script.specs.Replays.{IsInput, IsReplay, IsSummary, IsPartOfReplay, HasAnswered, IsFaultOfScript, text_of_script}
 use Rattle.uni_script.proofs.Cutting.{GoesOn-start, GoesOn-start_other, GoesOn-after, lines_of-append}
 use Rattle.uni_script.proofs.Running.{after_text, and_then-same, and_then-assoc, and_then-none, and_then-some, outcome_of_lines-append, outcome_of_lines-too_long, outcome_of_lines-too_many}
-use Rattle.uni_script.proofs.ByteByByte.{other_byte}
-use Rattle.uni_script.proofs.Written.{IsWritten-start}
+use Rattle.uni_script.proofs.Written.{IsWritten-start, AppendsFront-all, AppendsFront-more}
+
+other_byte : (b : ℕ) → (b ≡ 10 → ⊥) → (b == 10) ≡ false
+other_byte b h = at (b == 10) refl
+  where
+    at : (q : Bool) → (b == 10) ≡ q → q ≡ false
+    at true e = absurd (h (grind (arith, nat_tests)))
+    at false e = refl
 
 -- each fault that an outcome has is one of these
 abbrev FaultsOnly : (BenchFault → Type 0) → Outcome → Type 0
@@ -158,9 +165,6 @@ StopsAt-past_left Failed bytes past (Some left) at other = absurd (other refl)
 StopsAt-past_left TooLong bytes past (Some left) at other = (at.0, at.1, (at.2.0, at.2.1 ++ left, ap (λ p. p ++ left) at.2.2, at.2.3))
 StopsAt-past_left TooMany bytes past (Some left) at other = (at.0, (at.1.0, at.1.1 ++ left, ap (λ p. p ++ left) at.1.2))
 
-AppendsFront-more : (old new : Option (List ℕ)) (text more : List ℕ) → AppendsFront old new text → AppendsFront old new (text ++ more)
-AppendsFront-more old new text more f = (f.0 ++ more, record { front = f.1.front; cut = ap (λ t. t ++ more) f.1.cut ∙ append_assoc f.1.front f.0 more; taken = f.1.taken })
-
 -- before anything is written
 pub IsPartOfReplay-start : (left contents : Option (List ℕ)) → IsPartOfReplay left contents contents
 IsPartOfReplay-start None contents = ([], tt, (text_of_script [], IsWritten-start contents (text_of_script [])))
@@ -219,7 +223,7 @@ end_of_run stop bytes none = at (outcome_of_lines 1 None (lines_of_read stop byt
     at None g TooMany n e = absurd (let h : Some fault.TooMany ≡ None = e in cc)
     at (Some f) g s n e = absurd (let h : Some f ≡ None = sym g ∙ e in cc)
 
-module _ (left left_after : Option (List ℕ)) (stop : Stop) (bytes : List ℕ) (count width : ℕ) (is : IsRead left left_after stop bytes count width) where
+module _ (left left_after : Option (List ℕ)) (stop : Stop) (bytes : List ℕ) (is : IsRead left left_after stop bytes) where
   abbrev script : List ℕ
   script = with_left (bytes ++ is.past) left_after
 
@@ -276,112 +280,77 @@ module _ (left left_after : Option (List ℕ)) (stop : Stop) (bytes : List ℕ) 
   )
 
   -- the script has this outcome, and the text of its answers was written
-  replayed_as : (old new : Option (List ℕ)) (answers : List ℕ) (f : Option BenchFault) → outcome_of_script script ≡ outcome_of_read stop bytes → (outcome_of_read stop bytes).fault ≡ f
-      → answers ≡ (outcome_of_read stop bytes).text → Appends old new answers → IsReplay left old new f
-  replayed_as old new answers f same has text appends = (
+  replayed_as : (old new : Option (List ℕ)) (f : Option BenchFault) → outcome_of_script script ≡ outcome_of_read stop bytes → (outcome_of_read stop bytes).fault ≡ f
+      → Appends old new (outcome_of_read stop bytes).text → IsReplay left old new f
+  replayed_as old new f same has appends = (
     script,
     is_input,
     ap (λ (o : Outcome). o.fault) same ∙ has,
-    subst (Appends old new) (text ∙ sym (ap (λ (o : Outcome). o.text) same)) appends,
+    subst (Appends old new) (sym (ap (λ (o : Outcome). o.text) same)) appends,
   )
 
   not_failed : (outcome_of_read stop bytes).fault ≡ None → stop ≡ Failed → ⊥
   not_failed none failed = let e = end_of_run stop bytes none in let f : End ≡ Failed = sym e ∙ failed in cc
 
-  pub ended-replayed : {A : Type 0} (answers : List ℕ) (result : Result A BenchFault) → EndsAs (outcome_of_read stop bytes) [] answers result
-      → (old new : Option (List ℕ)) → Appends old new answers → OnOk result (IsReplay left old new None)
-  ended-replayed answers (Ok x) ends old new appends = replayed_as old new answers None (same_run (not_failed ends.0)) ends.0 ends.1 appends
-  ended-replayed answers (Err e) ends old new appends = tt
-
   script_whole : stop ≡ End → script ≡ bytes
   script_whole e = script_is ∙ ap (λ p. bytes ++ p) (past_left-end bytes is.past left_after (subst (λ s. StopsAt s bytes is.past left_after) e is.stops)) ∙ append-nil bytes
 
-  pub ended-summary : (answers : List ℕ) (result : Result Summary BenchFault) → EndsAs (outcome_of_read stop bytes) [] answers result
-      → IfOk result (λ s. option_map (summary_of_bench (length (lines_of_read stop bytes))) (outcome_of_read stop bytes).bench ≡ Some s) → IfOk result (IsSummary left)
-  ended-summary answers (Ok s) ends has =
-      let whole = end_of_run stop bytes ends.0 in
+  -- the summary of what was read to its end is that of the script
+  same_summary : (s : Summary) → (outcome_of_read stop bytes).fault ≡ None → option_map (summary_of_bench (length (lines_of_read stop bytes))) (outcome_of_read stop bytes).bench ≡ Some s → IsSummary left s
+  same_summary s none has =
+      let whole = end_of_run stop bytes none in
       let lines : length (lines_of script) ≡ length (lines_of_read stop bytes) = ap (λ t. length (lines_of t)) (script_whole whole) ∙ ap (λ k. length (lines_of_read k bytes)) (sym whole) in (
         script,
         is_input,
-        ap (λ (o : Outcome). option_map (summary_of_bench (length (lines_of script))) o.bench) (same_run (not_failed ends.0)) ∙ ap (λ n. option_map (summary_of_bench n) (outcome_of_read stop bytes).bench) lines ∙ has,
+        ap (λ (o : Outcome). option_map (summary_of_bench (length (lines_of script))) o.bench) (same_run (not_failed none)) ∙ ap (λ n. option_map (summary_of_bench n) (outcome_of_read stop bytes).bench) lines ∙ has,
       )
-  ended-summary answers (Err e) ends has = tt
 
-  pub ended-all_read : {A : Type 0} (answers : List ℕ) (result : Result A BenchFault) → EndsAs (outcome_of_read stop bytes) [] answers result → OnOk result (stop ≡ End)
-  ended-all_read answers (Ok x) ends = end_of_run stop bytes ends.0
-  ended-all_read answers (Err e) ends = tt
-
-  pub ended-fault : {A : Type 0} (answers : List ℕ) (result : Result A BenchFault) → EndsAs (outcome_of_read stop bytes) [] answers result
-      → (old new : Option (List ℕ)) → Appends old new answers → IfErr result (λ e. IsFaultOfScript e → IsReplay left old new (Some e))
-  ended-fault answers (Ok x) ends old new appends = tt
-  ended-fault answers (Err e) (inl memory) old new appends = λ own. absurd (subst IsFaultOfScript memory own)
-  ended-fault answers (Err e) (inr has) old new appends = λ own. replayed_as old new answers (Some e) (same_fault e has.0 own) has.0 has.1 appends
-
-  pub ended-part : {A : Type 0} (answers : List ℕ) (result : Result A BenchFault) → EndsAs (outcome_of_read stop bytes) [] answers result
-      → (old new : Option (List ℕ)) → (result ≡ Err Memory → ⊥) → AppendsFront old new answers → IsPartOfReplay left old new
-  ended-part answers (Ok x) ends old new other front = part_of old new (subst (AppendsFront old new) ends.1 front)
-  ended-part answers (Err e) (inl memory) old new other front = absurd (other (ap Err memory))
-  ended-part answers (Err e) (inr has) old new other front = part_of old new (subst (AppendsFront old new) has.1 front)
-
-  pub read_fault : {A : Type 0} (answers : List ℕ) (result : Result A BenchFault) → EndsAs (outcome_of_read stop bytes) [] answers result → (e : BenchFault) → result ≡ Err e → (e ≡ Memory → ⊥)
-      → ((outcome_of_read stop bytes).fault ≡ Some e) × (answers ≡ (outcome_of_read stop bytes).text)
-  read_fault answers (Ok x) ends e is_err other = absurd (let f : Ok x ≡ Err e = is_err in cc)
-  read_fault answers (Err f) (inl memory) e is_err other = absurd (let g : Err f ≡ Err e = is_err in other cc)
-  read_fault answers (Err f) (inr has) e is_err other = (let g : Err f ≡ Err e = is_err in let h : f ≡ e = cc in subst (λ x. (outcome_of_read stop bytes).fault ≡ Some x) h has.0, has.1)
-
-  not_own : (e : BenchFault) → (outcome_of_read stop bytes).fault ≡ Some e → (IsFaultOfScript e → ⊥) → e ≡ Read
-  not_own e has other = elim (FaultsOnly-outcome_of_read stop bytes e has) [ inl own ↦ absurd (other own) | inr read ↦ read ]
-
-  pub ended-writer : {A : Type 0} (answers : List ℕ) (result : Result A BenchFault) → EndsAs (outcome_of_read stop bytes) [] answers result → result ≡ Err Write → ⊥
-  ended-writer answers result ends e =
-      let has = read_fault answers result ends Write e (λ f. cc) in
-      let f : Write ≡ Read = not_own Write has.0 (λ own. own) in cc
-
-  pub ended-reader : {A : Type 0} (answers : List ℕ) (result : Result A BenchFault) → EndsAs (outcome_of_read stop bytes) [] answers result → result ≡ Err Read → stop ≡ Failed
-  ended-reader answers result ends e = elim (is_failed stop) [
-    | inl failed ↦ failed
-    | inr other ↦ absurd (own_fault (read_fault answers result ends Read e (λ f. cc)).0 (same_run other))
+  -- where the run of what was read ends with `Read`, the reader has failed after whole lines without a fault
+  answered : (old new : Option (List ℕ)) → (outcome_of_read stop bytes).fault ≡ Some Read → Appends old new (outcome_of_read stop bytes).text → HasAnswered left left_after old new
+  answered old new has appends = elim (is_failed stop) [
+    | inr other ↦ absurd (FaultsOnly-outcome_of_script script Read (ap (λ (o : Outcome). o.fault) (same_run other) ∙ has))
+    | inl failed ↦
+        let nothing_past = subst (λ s. StopsAt s bytes is.past left_after) failed is.stops in
+        let given = subst (Consumes left left_after) (ap (λ p. bytes ++ p) nothing_past ∙ append-nil bytes) is.consumed in
+        elim (outcome_of_failed_read bytes) [
+          | inl clean ↦ (bytes, given, clean.0, subst (Appends old new) (ap (λ (o : Outcome). o.text) (read_failed failed ∙ clean.1) ∙ append-nil (outcome_of_whole_lines bytes).text) appends)
+          | inr some ↦ absurd (FaultsOnly-outcome_of_lines 1 None (cut bytes).whole Read (sym (ap (λ (o : Outcome). o.fault) (read_failed failed ∙ some.2)) ∙ has))
+        ]
   ]
-    where
-      own_fault : (outcome_of_read stop bytes).fault ≡ Some Read → outcome_of_script script ≡ outcome_of_read stop bytes → ⊥
-      own_fault has same = FaultsOnly-outcome_of_script script Read (ap (λ (o : Outcome). o.fault) same ∙ has)
 
-  pub ended-read : {A : Type 0} (answers : List ℕ) (result : Result A BenchFault) → EndsAs (outcome_of_read stop bytes) [] answers result
-      → (old new : Option (List ℕ)) → Appends old new answers → result ≡ Err Read → HasAnswered left left_after old new
-  ended-read answers result ends old new appends e =
-      let failed = ended-reader answers result ends e in
-      let has = read_fault answers result ends Read e (λ f. cc) in
-      let nothing_past = subst (λ s. StopsAt s bytes is.past left_after) failed is.stops in
-      let given = subst (Consumes left left_after) (ap (λ p. bytes ++ p) nothing_past ∙ append-nil bytes) is.consumed in
-      elim (outcome_of_failed_read bytes) [
-        | inl clean ↦ (bytes, given, clean.0, subst (Appends old new) (has.1 ∙ ap (λ (o : Outcome). o.text) (read_failed failed ∙ clean.1) ∙ append-nil (outcome_of_whole_lines bytes).text) appends)
-        | inr some ↦ absurd (FaultsOnly-outcome_of_lines 1 None (cut bytes).whole Read (sym (ap (λ (o : Outcome). o.fault) (read_failed failed ∙ some.2)) ∙ has.0))
+-- what is told of a run that has ended
+module _ (left left_after old new : Option (List ℕ)) where
+  abbrev Ended : Result Summary BenchFault → Type 0
+  Ended result = HasEnded left left_after old new result
+
+  pub HasEnded-replayed : (result : Result Summary BenchFault) → Ended result → OnOk result (IsReplay left old new None)
+  HasEnded-replayed (Ok s) is = replayed_as left left_after is.stop is.bytes is.read old new None (same_run left left_after is.stop is.bytes is.read (not_failed left left_after is.stop is.bytes is.read is.ends.0)) is.ends.0 is.ends.1
+  HasEnded-replayed (Err e) is = tt
+
+  pub HasEnded-summary : (result : Result Summary BenchFault) → Ended result → IfOk result (IsSummary left)
+  HasEnded-summary (Ok s) is = same_summary left left_after is.stop is.bytes is.read s is.ends.0 is.summary
+  HasEnded-summary (Err e) is = tt
+
+  pub HasEnded-all_read : (result : Result Summary BenchFault) → Ended result → OnOk result (IsAtEnd left_after)
+  HasEnded-all_read (Ok s) is = (subst (λ s. StopsAt s is.bytes is.read.past left_after) (end_of_run is.stop is.bytes is.ends.0) is.read.stops).1
+  HasEnded-all_read (Err e) is = tt
+
+  pub HasEnded-fault : (result : Result Summary BenchFault) → Ended result → IfErr result (λ e. IsFaultOfScript e → IsReplay left old new (Some e))
+  HasEnded-fault (Ok s) is = tt
+  HasEnded-fault (Err e) is = λ own. elim is.ends [
+    | inl early ↦ absurd (elim early.0 [ inl memory ↦ subst IsFaultOfScript memory own | inr write ↦ subst IsFaultOfScript write own ])
+    | inr has ↦ replayed_as left left_after is.stop is.bytes is.read old new (Some e) (same_fault left left_after is.stop is.bytes is.read e has.0 own) has.0 has.1
+  ]
+
+  pub HasEnded-part : (result : Result Summary BenchFault) → Ended result → IfErr result (λ e. IsPartOfReplay left old new)
+  HasEnded-part (Ok s) is = tt
+  HasEnded-part (Err e) is = part_of left left_after is.stop is.bytes is.read old new (elim is.ends [ inl early ↦ early.1 | inr has ↦ AppendsFront-all old new _ has.1 ])
+
+  pub HasEnded-read : (result : Result Summary BenchFault) → Ended result → result ≡ Err Read → HasAnswered left left_after old new
+  HasEnded-read (Ok s) is bad = absurd (let f : Ok s ≡ Err Read = bad in cc)
+  HasEnded-read (Err e) is same =
+      let read : e ≡ Read = let f : Err e ≡ Err Read = same in cc in
+      elim is.ends [
+        | inl early ↦ absurd (elim early.0 [ inl memory ↦ (let f : Memory ≡ Read = sym memory ∙ read in cc) | inr write ↦ (let f : Write ≡ Read = sym write ∙ read in cc) ])
+        | inr has ↦ answered left left_after is.stop is.bytes is.read old new (has.0 ∙ ap Some read) has.1
       ]
-
--- the run from the first line on is the run of all that was read
-no_lines_before : (lines : ℕ) → 0 + lines ≡ lines
-no_lines_before lines = omega arith
-
-outcome_of_rest-all : (stop : Stop) (bytes : List ℕ) → outcome_of_rest stop 0 None bytes ≡ outcome_of_read stop bytes
-outcome_of_rest-all stop bytes = ap (λ n. and_then (outcome_of_lines 1 None (lines_of_read stop bytes)) (λ after. outcome_of_stop stop n after)) (no_lines_before (length (lines_of_read stop bytes)))
-
-pub EndsAs-from : {A : Type 0} (stop : Stop) (bytes slice old answers : List ℕ) (result : Result A BenchFault) → slice ≡ bytes → old ≡ []
-    → EndsAs (outcome_of_rest stop 0 None slice) old answers result → EndsAs (outcome_of_read stop bytes) [] answers result
-EndsAs-from stop bytes slice old answers result e f ends =
-    subst (λ b. EndsAs (outcome_of_read stop b) [] answers result) e
-    (subst (λ o. EndsAs (outcome_of_read stop slice) o answers result) f (subst (λ (o : Outcome). EndsAs o old answers result) (outcome_of_rest-all stop slice) ends))
-
-pub summary-from : (stop : Stop) (bytes slice : List ℕ) (result : Result Summary BenchFault) → slice ≡ bytes
-    → IfOk result (λ s. option_map (summary_of_bench (0 + length (lines_of_read stop slice))) (outcome_of_rest stop 0 None slice).bench ≡ Some s)
-    → IfOk result (λ s. option_map (summary_of_bench (length (lines_of_read stop bytes))) (outcome_of_read stop bytes).bench ≡ Some s)
-summary-from stop bytes slice result e has =
-    subst (λ b. IfOk result (λ s. option_map (summary_of_bench (length (lines_of_read stop b))) (outcome_of_read stop b).bench ≡ Some s)) e
-    (subst (λ n. IfOk result (λ s. option_map (summary_of_bench n) (outcome_of_read stop slice).bench ≡ Some s)) (no_lines_before (length (lines_of_read stop slice)))
-    (subst (λ (o : Outcome). IfOk result (λ s. option_map (summary_of_bench (0 + length (lines_of_read stop slice))) o.bench ≡ Some s)) (outcome_of_rest-all stop slice) has))
-
-pub IfErr-always : {A E : Type 0} (result : Result A E) (P : Type 0) → P → IfErr result (λ e. P)
-IfErr-always (Ok x) P p = tt
-IfErr-always (Err e) P p = p
-
-pub true_isn't_false : true ≡ false → ⊥
-true_isn't_false e = cc

@@ -1,5 +1,5 @@
 -- What a command comes to.
-use Rattle.std.proofs.Common.{◌≡◌, ℕ, ◌<◌, ◌≤◌, refl, Option, None, Some, Bool, true, false, nat_le, ◌==◌, is_none, IsSome, arith, option_map, if◌then◌else◌, Result, Ok, Err, OnOk}
+use Rattle.std.proofs.Common.{◌≡◌, ◌∙◌, ℕ, ◌<◌, ◌≤◌, refl, Option, None, Some, Bool, true, false, nat_le, ◌==◌, is_none, IsSome, arith, option_map, if◌then◌else◌, Result, Ok, Err, OnOk}
 use Rattle.std.proofs.lemmas.Bool.Decides.{nat_tests}
 use Rattle.seq_object.specs.declared.call_id.CallId.{CallId}
 use Rattle.uni_model.specs.Stages.{Pending}
@@ -80,6 +80,34 @@ module _ {S I R : Type 0} (o : SpokenObject S I R) (b : Bench S I R) (p : ℕ) w
           by_test true g = rw g refl
           by_test false g = rw g (rw is refl)
       by_call (Some x) is f = cc
+
+-- Where a call or a step is refused the bench stays as it was.
+module _ {S I R : Type 0} (o : SpokenObject S I R) (b b' : Bench S I R) (same : b' ≡ b) (p : ℕ) where
+  past : b.world.n ≤ p → nat_le b.world.n p ≡ true
+  past high = at (nat_le b.world.n p) refl
+    where
+      at : (t : Bool) → nat_le b.world.n p ≡ t → nat_le b.world.n p ≡ true
+      at true e = e
+      at false e = absurd (grind (arith, nat_tests))
+
+  inside : p < b.world.n → nat_le b.world.n p ≡ false
+  inside low = below b.world.n p (nat_le b.world.n p) refl (λ high. omega arith)
+
+  pub stays-call_past : (i : I) → b.world.n ≤ p → b' ≡ (result_of_call o b p i).bench
+  stays-call_past i high = same ∙ rw (past high) refl
+
+  pub stays-call_busy : (i : I) → (p < b.world.n) × IsSome (b.world.call p) → b' ≡ (result_of_call o b p i).bench
+  stays-call_busy i busy = same ∙ rw (inside busy.0) (rw busy.1 refl)
+
+  pub stays-call_full : (i : I) → (p < b.world.n) × (b.world.call p ≡ None) × (calls_in_era b.world p ≡ b.row) → b' ≡ (result_of_call o b p i).bench
+  stays-call_full i full = same ∙ rw (inside full.0) (rw full.1 (rw (at (calls_in_era b.world p == b.row) refl) refl))
+    where
+      at : (t : Bool) → (calls_in_era b.world p == b.row) ≡ t → (calls_in_era b.world p == b.row) ≡ true
+      at true e = e
+      at false e = absurd (let equal : calls_in_era b.world p ≡ b.row = full.2 in grind (arith, nat_tests))
+
+  pub stays-steps_past : (most : ℕ) → b.world.n ≤ p → b' ≡ (result_of_steps o b p most).bench
+  stays-steps_past most high = same ∙ rw (past high) refl
 
 -- a fact that holds of any result
 pub OnOk-always : {A E P : Type 0} (r : Result A E) → P → OnOk r P

@@ -1,5 +1,5 @@
 -- What lines come to, one after the other.
-use Rattle.std.proofs.Common.{◌≡◌, ◌∙◌, ℕ, ◌+◌, ◌<◌, ◌≤◌, nat_lt, ◌&&◌, Bool, true, false, List, [], ◌∷◌, ◌++◌, length, Option, None, Some, Result, Ok, Err, inl, inr, refl, sym, ap, arith, append_assoc}
+use Rattle.std.proofs.Common.{◌≡◌, ◌∙◌, ℕ, ◌+◌, ◌<◌, ◌≤◌, nat_lt, nat_le, Bool, true, false, List, [], ◌∷◌, ◌++◌, length, Option, None, Some, refl, sym, ap, arith, append_assoc}
 use Rattle.std.proofs.lemmas.Bool.Decides.{nat_tests}
 use Rattle.std.specs.List.{list_all}
 use Rattle.uni_script.specs.declared.fault.BenchFault.{BenchFault}
@@ -7,7 +7,10 @@ use Rattle.uni_script.specs.declared.fault.BenchFault.TheVariants.{TooLong, TooM
 use Rattle.ready_objects.specs.Words.{words_of_text}
 use Rattle.uni_script.specs.Script.{is_plain_byte, is_note}
 use Rattle.uni_script.specs.Meaning.{ScriptBench, Outcome, outcome_of_fault, and_then, and_then_from, outcome_of_line, outcome_of_words, outcome_of_short_line, outcome_of_lines}
-use Rattle.uni_script.specs.Reading.{is_short, EndsAs}
+
+-- a line that isn't too long
+abbrev pub is_short : List ℕ → Bool
+is_short line = nat_le (length line) 200
 
 -- an outcome with a text before its text
 abbrev pub after_text : List ℕ → Outcome → Outcome
@@ -35,12 +38,6 @@ and_then-none first rest none = rw none refl
 
 pub and_then-some : (first : Outcome) (rest : Option ScriptBench → Outcome) (e : BenchFault) → first.fault ≡ Some e → and_then first rest ≡ first
 and_then-some first rest e some = rw some refl
-
-pub after_text-after : (before text : List ℕ) (outcome : Outcome) → after_text before (after_text text outcome) ≡ after_text (before ++ text) outcome
-after_text-after before text outcome = ap (with_text outcome) (sym (append_assoc before text outcome.text))
-  where
-    with_text : Outcome → List ℕ → Outcome
-    with_text o t = record o { text = t }
 
 pub outcome_of_line-short : (number : ℕ) (b : Option ScriptBench) (line : List ℕ) → number ≤ 100000 → is_short line ≡ true → outcome_of_line number b line ≡ outcome_of_short_line number b line
 outcome_of_line-short number b line few short = at (nat_lt 100000 number) refl (nat_lt 200 (length line)) refl
@@ -73,53 +70,7 @@ outcome_of_lines-too_long number b line lines few long = at (nat_lt 100000 numbe
 pub outcome_of_lines-too_many : (b : Option ScriptBench) (line : List ℕ) (lines : List (List ℕ)) → outcome_of_lines 100001 b (line ∷ lines) ≡ outcome_of_fault b TooMany
 outcome_of_lines-too_many b line lines = refl
 
-module _ (number : ℕ) (b : Option ScriptBench) (line : List ℕ) (lines : List (List ℕ)) (stop : Option ScriptBench → Outcome) (few : number ≤ 100000) (short : is_short line ≡ true) where
-  abbrev rest_after : Option ScriptBench → Outcome
-  rest_after after = and_then (outcome_of_lines (number + 1) after lines) stop
-
-  run_line-first : and_then (outcome_of_lines number b (line ∷ lines)) stop ≡ and_then (outcome_of_short_line number b line) rest_after
-  run_line-first =
-      ap (λ run. and_then (and_then run (λ after. outcome_of_lines (number + 1) after lines)) stop) (outcome_of_line-short number b line few short)
-      ∙ and_then-assoc (outcome_of_short_line number b line) (λ after. outcome_of_lines (number + 1) after lines) stop
-
-  -- a line without a fault: what is left begins after it
-  pub outcome_of_lines-went : (before : List ℕ) (b' : Option ScriptBench) → (outcome_of_short_line number b line).fault ≡ None → b' ≡ (outcome_of_short_line number b line).bench
-      → after_text before (and_then (outcome_of_lines number b (line ∷ lines)) stop)
-      ≡ after_text (before ++ (outcome_of_short_line number b line).text) (and_then (outcome_of_lines (number + 1) b' lines) stop)
-  outcome_of_lines-went before b' none same =
-      ap (after_text before) (run_line-first ∙ and_then-none (outcome_of_short_line number b line) rest_after none)
-      ∙ after_text-after before (outcome_of_short_line number b line).text (rest_after (outcome_of_short_line number b line).bench)
-      ∙ ap (λ c. after_text (before ++ (outcome_of_short_line number b line).text) (rest_after c)) (sym same)
-
-  -- a line with a fault ends the run
-  pub outcome_of_lines-faulted : (e : BenchFault) → (outcome_of_short_line number b line).fault ≡ Some e → and_then (outcome_of_lines number b (line ∷ lines)) stop ≡ outcome_of_short_line number b line
-  outcome_of_lines-faulted e some = run_line-first ∙ and_then-some (outcome_of_short_line number b line) rest_after e some
-
--- a line without an answer and a fault: what is left begins after it
-pub outcome_of_lines-silent : (number : ℕ) (b b' : Option ScriptBench) (line : List ℕ) (lines : List (List ℕ)) (stop : Option ScriptBench → Outcome) → number ≤ 100000 → is_short line ≡ true
-    → outcome_of_short_line number b line ≡ record { bench = b'; text = []; fault = None }
-    → and_then (outcome_of_lines number b (line ∷ lines)) stop ≡ and_then (outcome_of_lines (number + 1) b' lines) stop
-outcome_of_lines-silent number b b' line lines stop few short is = run_line-first number b line lines stop few short ∙ ap (λ (o : Outcome). and_then o (rest_after number b line lines stop few short)) is
-
--- a run ends with the fault of its first line
-pub EndsAs-line : {A : Type 0} (number : ℕ) (b : Option ScriptBench) (line : List ℕ) (lines : List (List ℕ)) (stop : Option ScriptBench → Outcome) → number ≤ 100000 → is_short line ≡ true
-    → (whole : Outcome) (before old now new : List ℕ) → whole ≡ after_text before (and_then (outcome_of_lines number b (line ∷ lines)) stop) → now ≡ old ++ before
-    → (e : BenchFault) → (r : Result A BenchFault) → r ≡ Err e → EndsAs (outcome_of_short_line number b line) now new r → EndsAs whole old new r
-EndsAs-line number b line lines stop few short whole before old now new is text e (Ok x) bad ends = cc
-EndsAs-line number b line lines stop few short whole before old now new is text e (Err f) bad (inl memory) = inl memory
-EndsAs-line number b line lines stop few short whole before old now new is text e (Err f) bad (inr has) =
-    let same : whole ≡ after_text before (outcome_of_short_line number b line) = is ∙ ap (after_text before) (outcome_of_lines-faulted number b line lines stop few short f has.0) in
-    inr (ap (λ (o : Outcome). o.fault) same ∙ has.0, has.1 ∙ ap (λ t. t ++ (outcome_of_short_line number b line).text) text ∙ append_assoc old before (outcome_of_short_line number b line).text ∙ ap (λ (o : Outcome). old ++ o.text) (sym same))
-
 -- a line of plain bytes that isn't a note means what its words do
 pub outcome_of_short_line-words : (number : ℕ) (b : Option ScriptBench) (line : List ℕ) (words : List (List ℕ)) → list_all is_plain_byte line ≡ true → is_note line ≡ false → words ≡ words_of_text line
     → outcome_of_short_line number b line ≡ outcome_of_words number b words
 outcome_of_short_line-words number b line words plain note same = rw plain (rw note (rw same refl))
-
--- the first line of short lines is short, and so are the others
-pub all_short : (line : List ℕ) (lines : List (List ℕ)) → list_all is_short (line ∷ lines) ≡ true → (is_short line ≡ true) × (list_all is_short lines ≡ true)
-all_short line lines e = at (is_short line) refl (list_all is_short lines) e
-  where
-    at : (p : Bool) → is_short line ≡ p → (q : Bool) → p && q ≡ true → (is_short line ≡ true) × (q ≡ true)
-    at true f q g = (f, g)
-    at false f q g = absurd (let h : false ≡ true = g in cc)

@@ -80,10 +80,10 @@ module _ {S I R : Type 0} (o : SpokenObject S I R) (p most : ℕ) (w : WorldOf S
     pub IsOnTheWay-few : IsBounded v → count < most_steps w.n
     IsOnTheWay-few bounded = at (v.call p) on.pending (bounded p)
       where
-        at : (call : Option Pending) → IsSome call → IsWithinBound v.n call (v.begun p) (v.steps p) (v.turns p) → count < most_steps w.n
+        at : (call : Option Pending) → IsSome call → IsWithinBound v.n call (v.begun p) (v.among p) (v.steps p) (v.turns p) → count < most_steps w.n
         at None h b = cc
         at (Some call) h b =
-            let bound : v.steps p < most_steps v.n = b.1 in
+            let bound : v.steps p < most_steps v.n = b.2 in
             let same : v.n ≡ w.n = on.n in
             let steps : v.steps p ≡ w.steps p + count = on.steps in
             omega arith

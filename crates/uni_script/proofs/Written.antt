@@ -2,7 +2,7 @@
 use Rattle.std.proofs.Common.{◌≡◌, ℕ, List, [], ◌++◌, Option, None, Some, refl, sym, ap, ◌∙◌, subst, take, drop, append_assoc, append-nil, take-append-drop}
 use Rattle.std.proofs.KnownBytes.{Appends-nil, Appends-trans}
 use Rattle.std.specs.Io.KnownBytes.{Appends, Keeps}
-use Rattle.uni_script.specs.Ends.{IsWritten}
+use Rattle.uni_script.specs.Ends.{IsWritten, AppendsFront}
 
 -- before the first write all bytes are left
 pub IsWritten-start : (a : Option (List ℕ)) (bytes : List ℕ) → IsWritten a a bytes bytes
@@ -32,3 +32,26 @@ IsWritten-kept a b c bytes rest so_far kept = record { front = so_far.front; cut
 pub Appends-from_IsWritten : (a b : Option (List ℕ)) (bytes rest : List ℕ) → IsWritten a b bytes rest → rest ≡ [] → Appends a b bytes
 Appends-from_IsWritten a b bytes rest so_far none =
     subst (Appends a b) (sym (so_far.cut ∙ ap (λ l. so_far.front ++ l) none ∙ append-nil so_far.front)) so_far.taken
+
+-- all of some bytes are a front of them
+pub AppendsFront-all : (a b : Option (List ℕ)) (bytes : List ℕ) → Appends a b bytes → AppendsFront a b bytes
+AppendsFront-all a b bytes all = ([], record { front = bytes; cut = sym (append-nil bytes); taken = all })
+
+-- a front of some bytes is one of more bytes
+pub AppendsFront-more : (a b : Option (List ℕ)) (bytes more : List ℕ) → AppendsFront a b bytes → AppendsFront a b (bytes ++ more)
+AppendsFront-more a b bytes more f = (f.0 ++ more, record { front = f.1.front; cut = ap (λ t. t ++ more) f.1.cut ∙ append_assoc f.1.front f.0 more; taken = f.1.taken })
+
+-- some bytes are written, and then a front of others
+pub AppendsFront-after : (a b c : Option (List ℕ)) (bytes more : List ℕ) → Appends a b bytes → AppendsFront b c more → AppendsFront a c (bytes ++ more)
+AppendsFront-after a b c bytes more all f = (
+  f.0,
+  record {
+    front = bytes ++ f.1.front;
+    cut = ap (λ t. bytes ++ t) f.1.cut ∙ sym (append_assoc bytes f.1.front f.0);
+    taken = Appends-trans a b c bytes f.1.front all f.1.taken;
+  },
+)
+
+-- nothing is a front of any bytes
+pub AppendsFront-nil : (a : Option (List ℕ)) (bytes : List ℕ) → AppendsFront a a bytes
+AppendsFront-nil a bytes = (bytes, IsWritten-start a bytes)

@@ -2,9 +2,10 @@ pub mod Ends
 pub mod Script
 pub mod Answers
 pub mod Objects
+pub mod Schedules
 pub mod Meaning
-pub mod Reading
 pub mod Summaries
+pub mod Reading
 pub mod Replays
 pub mod Scripts
 pub mod Finishes

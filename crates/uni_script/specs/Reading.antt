@@ -1,36 +1,44 @@
--- How far a script is read, and what is run of it.
-use Rattle.std.specs.Prelude.{◌≡◌, ◌≢◌, ◌⊎◌, ℕ, ◌+◌, ◌-◌, ◌*◌, ◌<◌, ◌≤◌, ◌==◌, nat_lt, nat_le, if◌then◌else◌, true, Bool, List, [], ◌∷◌, ◌++◌, length, Option, Some, None, Result, Ok, Err, refl}
-use Rattle.std.specs.Io.KnownBytes.{Consumes, IsAtEnd}
-use Rattle.std.specs.List.{list_all}
+-- How the lines of a script are taken from a reader, and what is run of them.
+use Rattle.std.specs.Prelude.{◌≡◌, ◌≢◌, ◌⊎◌, ℕ, ◌+◌, ◌-◌, ◌<◌, ◌≤◌, List, [], ◌∷◌, ◌++◌, length, take, drop, Option, Some, None, Result, Ok, Err, IfOk, option_map}
+use Rattle.std.specs.Io.KnownBytes.{Consumes, Appends, IsAtEnd}
+use Rattle.uni_script.specs.Ends.{AppendsFront}
 use Rattle.uni_script.specs.declared.fault.BenchFault.{BenchFault}
-use Rattle.uni_script.specs.declared.fault.BenchFault.TheVariants.{Read, Memory}
+use Rattle.uni_script.specs.declared.fault.BenchFault.TheVariants.{Read, Write, Memory}
 use Rattle.uni_script.specs.declared.fault.BenchFault.TheVariants as fault
-use Rattle.uni_script.specs.declared.script.Stop.{Stop}
-use Rattle.uni_script.specs.declared.script.Stop.TheVariants.{End, Failed, TooLong, TooMany}
+use Rattle.uni_script.specs.declared.lines.Lines.{Lines}
+use Rattle.uni_script.specs.declared.lines.Source.TheVariants.{Open, Ended}
+use Rattle.uni_script.specs.declared.lines.Stop.{Stop}
+use Rattle.uni_script.specs.declared.lines.Stop.TheVariants.{End, Failed, TooLong, TooMany}
+use Rattle.uni_script.specs.declared.summary.Summary.{Summary}
 use Rattle.uni_script.specs.Script.{cut, lines_of}
 use Rattle.uni_script.specs.Meaning.{ScriptBench, Outcome, outcome_of_fault, and_then, outcome_of_lines, outcome_of_end}
+use Rattle.uni_script.specs.Summaries.{summary_of_bench}
 
--- whether reading stops at a byte after so many whole lines, and so many bytes of the line after them
-abbrev pub stop_of_byte : (lines column byte : ℕ) → Option Stop
-stop_of_byte lines column byte =
-    if nat_lt lines 100000 then (if byte == 10 then None else if nat_lt column 200 then None else Some TooLong) else Some TooMany
+-- the numbers of the lines are in range
+pub record IsHeld (lines : Lines) : Type 0 where
+  pub width : lines.width ≤ 200
+  pub start : lines.start ≤ lines.end
+  pub end : lines.end ≤ 4096
+  pub count : lines.count ≤ 100000
+  pub line_length : length lines.line ≡ 200
+  pub piece_length : length lines.piece ≡ 4096
 
--- no script has more bytes than this after so many whole lines, and so many bytes of the line after them
-abbrev pub room_of : (lines column : ℕ) → ℕ
-room_of lines column = 201 * (100000 - lines) + (200 - column)
+-- the line that was taken last
+abbrev pub line_of : Lines → List ℕ
+line_of lines = take lines.width lines.line
 
--- a line that isn't too long
-abbrev pub is_short : List ℕ → Bool
-is_short line = nat_le (length line) 200
+-- the bytes that were read and that no line has taken
+abbrev pub rest_of : Lines → List ℕ
+rest_of lines = take (lines.end - lines.start) (drop lines.start lines.piece)
 
--- what was read of a script has so many whole lines, and so many bytes of the line after them: no more than it may have
-pub record IsScript (bytes : List ℕ) (count width : ℕ) : Type 0 where
-  pub lines : length (cut bytes).whole ≡ count
-  pub column : length (cut bytes).tail ≡ width
-  pub few : count ≤ 100000
-  pub short : width ≤ 200
-  pub short_lines : list_all is_short (cut bytes).whole ≡ true
-  pub last : (width ≡ 0) ⊎ (count < 100000)
+-- a reader that had these bytes left gave those of these lines, and the rest that no line has taken yet
+pub record HasTaken (old now : Option (List ℕ)) (lines : Lines) (taken : List (List ℕ)) : Type 0 where
+  pub bytes : List ℕ
+  pub consumed : Consumes old now (bytes ++ rest_of lines)
+  pub taken_as : lines_of bytes ≡ taken
+  pub count : length taken ≡ lines.count
+  pub whole : lines.source ≡ Open → (cut bytes).tail ≡ []
+  pub ended : lines.source ≡ Ended → (rest_of lines ≡ []) × IsAtEnd now
 
 -- reading stopped here after these bytes: nothing was read past them, but for the byte that a script may not have
 abbrev pub StopsAt : Stop → (bytes past : List ℕ) → Option (List ℕ) → Type 0
@@ -39,17 +47,10 @@ StopsAt Failed bytes past left = past ≡ []
 StopsAt TooLong bytes past left = (length (cut bytes).whole < 100000) × (length (cut bytes).tail ≡ 200) × ((b : ℕ) × (more : List ℕ) × (past ≡ b ∷ more) × (b ≢ 10))
 StopsAt TooMany bytes past left = (length (cut bytes).whole ≡ 100000) × ((b : ℕ) × (more : List ℕ) × (past ≡ b ∷ more))
 
--- reading stopped within some bytes, after those that were read before
-pub record StopsWithin (stop : Stop) (old new bytes : List ℕ) : Type 0 where
-  pub past : List ℕ
-  pub taken : old ++ bytes ≡ new ++ past
-  pub stops : (more : List ℕ) (left : Option (List ℕ)) → StopsAt stop new (past ++ more) left
-
 -- a reader that had these bytes left gave these ones of a script, and then reading stopped
-pub record IsRead (old new : Option (List ℕ)) (stop : Stop) (bytes : List ℕ) (count width : ℕ) : Type 0 where
+pub record IsRead (old new : Option (List ℕ)) (stop : Stop) (bytes : List ℕ) : Type 0 where
   pub past : List ℕ
   pub consumed : Consumes old new (bytes ++ past)
-  pub script : IsScript bytes count width
   pub stops : StopsAt stop bytes past new
 
 -- the lines that are run of what was read: the last one may lack its end only where the whole script was read
@@ -57,17 +58,18 @@ abbrev pub lines_of_read : Stop → List ℕ → List (List ℕ)
 lines_of_read End bytes = lines_of bytes
 lines_of_read _ bytes = (cut bytes).whole
 
+-- reading stopped after these lines
+pub record HasStopped (old new : Option (List ℕ)) (stop : Stop) (taken : List (List ℕ)) : Type 0 where
+  pub bytes : List ℕ
+  pub read : IsRead old new stop bytes
+  pub taken_as : lines_of_read stop bytes ≡ taken
+
 -- what comes after those lines
 abbrev pub outcome_of_stop : Stop → (lines : ℕ) → Option ScriptBench → Outcome
 outcome_of_stop End lines b = outcome_of_end lines b
 outcome_of_stop Failed lines b = outcome_of_fault b Read
 outcome_of_stop TooLong lines b = outcome_of_fault b (fault.TooLong (lines + 1))
 outcome_of_stop TooMany lines b = outcome_of_fault b fault.TooMany
-
--- the run of what is left of it after so many lines, which have left this bench
-abbrev pub outcome_of_rest : Stop → (lines : ℕ) → Option ScriptBench → List ℕ → Outcome
-outcome_of_rest stop lines b bytes =
-    and_then (outcome_of_lines (lines + 1) b (lines_of_read stop bytes)) (λ after. outcome_of_stop stop (lines + length (lines_of_read stop bytes)) after)
 
 -- the run of what was read
 abbrev pub outcome_of_read : Stop → List ℕ → Outcome
@@ -78,14 +80,40 @@ abbrev pub EndsAs : {A : Type 0} → Outcome → (old new : List ℕ) → Result
 EndsAs outcome old new (Ok _) = (outcome.fault ≡ None) × (new ≡ old ++ outcome.text)
 EndsAs outcome old new (Err e) = (e ≡ Memory) ⊎ ((outcome.fault ≡ Some e) × (new ≡ old ++ outcome.text))
 
-byte_200_is_taken : stop_of_byte 3 199 97 ≡ None
-byte_200_is_taken = refl
+-- a call ended as the outcome says, after its text was written; or memory was refused or the writer failed, after a front
+-- of it was
+abbrev pub WritesAs : {A : Type 0} → Outcome → (old new : Option (List ℕ)) → Result A BenchFault → Type 0
+WritesAs outcome old new (Ok _) = (outcome.fault ≡ None) × Appends old new outcome.text
+WritesAs outcome old new (Err e) = (((e ≡ Memory) ⊎ (e ≡ Write)) × AppendsFront old new outcome.text) ⊎ ((outcome.fault ≡ Some e) × Appends old new outcome.text)
 
-byte_201_is_too_long : stop_of_byte 3 200 97 ≡ Some TooLong
-byte_201_is_too_long = refl
+-- the lines that were taken have left this bench and no fault, and the text of their answers was written
+pub record HasRun (old now : Option (List ℕ)) (lines : Lines) (written_old written : Option (List ℕ)) (taken : List (List ℕ)) (bench : Option ScriptBench) : Type 0 where
+  pub reading : HasTaken old now lines taken
+  pub fault : (outcome_of_lines 1 None taken).fault ≡ None
+  pub bench_after : (outcome_of_lines 1 None taken).bench ≡ bench
+  pub written_as : Appends written_old written (outcome_of_lines 1 None taken).text
 
-a_line_of_200_bytes_may_end : stop_of_byte 3 200 10 ≡ None
-a_line_of_200_bytes_may_end = refl
+-- the run of what was read has ended as it should
+pub record HasEnded (old new : Option (List ℕ)) (written_old written : Option (List ℕ)) (result : Result Summary BenchFault) : Type 0 where
+  pub stop : Stop
+  pub bytes : List ℕ
+  pub read : IsRead old new stop bytes
+  pub ends : WritesAs (outcome_of_read stop bytes) written_old written result
+  pub summary : IfOk result (λ s. option_map (summary_of_bench (length (lines_of_read stop bytes))) (outcome_of_read stop bytes).bench ≡ Some s)
 
-line_100001_is_too_many : stop_of_byte 100000 0 10 ≡ Some TooMany
-line_100001_is_too_many = refl
+-- the lines that are left are run from this bench on, whatever lines came before it
+abbrev pub RunsOn : (now : Option (List ℕ)) (lines : Lines) (written : Option (List ℕ)) → Option ScriptBench → (new written_new : Option (List ℕ)) → Result Summary BenchFault → Type 0
+RunsOn now lines written bench new written_new result =
+    (old written_old : Option (List ℕ)) (taken : List (List ℕ)) → HasRun old now lines written_old written taken bench → HasEnded old new written_old written_new result
+
+-- a fault that the run of a line can have
+abbrev pub IsFaultOfLine : BenchFault → Type 0
+IsFaultOfLine (fault.BadHeader l) = Unit {0}
+IsFaultOfLine (fault.BadByte l) = Unit {0}
+IsFaultOfLine (fault.BadLine l) = Unit {0}
+IsFaultOfLine Memory = Unit {0}
+IsFaultOfLine (fault.NoHeader l) = ⊥
+IsFaultOfLine (fault.TooLong l) = ⊥
+IsFaultOfLine fault.TooMany = ⊥
+IsFaultOfLine Read = ⊥
+IsFaultOfLine Write = ⊥

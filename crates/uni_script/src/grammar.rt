@@ -1,14 +1,16 @@
 //! The lines of a script: notes, the header and commands.
 
-ghost use Rattle.std.specs.Prelude.{◌≡◌, IfOk, IfSome};
+ghost use Rattle.std.specs.Prelude.{◌≡◌, IfOk, IfSome, Some};
 ghost use Rattle.std.specs.List.{list_all};
 ghost use Rattle.std.specs.Str.{bytes_eq};
 ghost use Rattle.ready_objects.specs.Number.{number_of_word};
 ghost use Rattle.ready_objects.specs.Words.{bytes_of, words_of_text};
 ghost use Rattle.uni_script.specs.Script.{is_plain_byte, is_note, object_of_word, header_with, IsInRange, header_of_words, count_of_number, command_of_words};
+ghost use Rattle.uni_script.specs.Schedules.{word_of_object};
 
 use ready_objects::{Amount, Spoken};
 use std::alloc::{AllocError, Global};
+use std::fmt;
 
 /// An object that the processes of a script can share.
 #[derive(Clone, Copy, Debug, PartialEq, Eq)]
@@ -21,6 +23,19 @@ pub enum ObjectName {
     Book,
     /// A sticky register.
     Sticky,
+}
+
+impl fmt::Display for ObjectName {
+    ghost output = { λ object. Some (word_of_object object) };
+
+    fn fmt<W: fmt::Write>(&self, f: &mut fmt::Formatter<W>) -> fmt::Result {
+        match self {
+            ObjectName::Queue => write!(f, "queue"),
+            ObjectName::Directory => write!(f, "directory"),
+            ObjectName::Book => write!(f, "book"),
+            ObjectName::Sticky => write!(f, "sticky"),
+        }
+    }
 }
 
 /// The header of a script.

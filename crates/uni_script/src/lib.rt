@@ -10,15 +10,18 @@ mod ends;
 mod fault;
 mod grammar;
 mod laws;
+mod lines;
 mod objects;
 mod replay;
-mod script;
+mod schedules;
 mod summary;
 #[cfg(test)]
 mod tests;
 
 pub use ends::{Checked, Failed, TextIn, TextOut, write_all};
 pub use fault::{BenchFault, push_fault};
+pub use grammar::ObjectName;
 pub use laws::finish_returns;
 pub use replay::{Options, bench};
+pub use schedules::{Drawn, Plan, schedule};
 pub use summary::Summary;

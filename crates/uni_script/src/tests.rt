@@ -1,12 +1,15 @@
 //! Tests of the bench over memory, and of objects that processes share through a world.
 
 use crate::{
-    BenchFault, Checked, Failed, Options, Summary, TextIn, TextOut, bench, finish_returns,
-    push_fault, write_all,
+    BenchFault, Checked, Drawn, Failed, ObjectName, Options, Plan, Summary, TextIn, TextOut, bench,
+    finish_returns, push_fault, schedule, write_all,
 };
+use rand_xoshiro::Xoshiro256PlusPlus;
+use rand_xoshiro::rand_core::SeedableRng;
 use ready_objects::{Amount, QueueObject, StickyInv, StickyObject, StickyResp};
 use seq_object::CallId;
 use std::alloc::Global;
+use std::cell::Cell;
 use std::io;
 use std::io::{ErrorKind, Read, Write};
 use std::process::Abort;
@@ -359,4 +362,310 @@ fn three_processes_share_the_first_proposal(rt: HostRuntime) -> Result<(), Fail>
     });
     assert_eq!(rt; entries.as_slice(), want.as_slice());
     Ok(())
+}
+
+/// A source of the words of a list, and then of zeros.
+#[derive(Drop)]
+struct Listed<'a> {
+    words: &'a [u64],
+}
+
+impl Drawn for Listed<'_> {
+    ghost use Rattle.uni_script.specs.Schedules.{listed};
+
+    ghost word = { λ source. listed source.words.now };
+
+    fn draw(&mut self) -> u64 {
+        match self.words {
+            [] => 0,
+            [first, rest @ ..] => {
+                self.words = rest;
+                *first
+            }
+        }
+    }
+}
+
+#[test]
+fn four_words_make_three_events(rt: HostRuntime) {
+    let plan = Plan {
+        object: ObjectName::Queue,
+        processes: 2,
+        row: 8,
+        events: 3,
+    };
+    let words = [33, 22, 20, 16, 5];
+    let mut source = Listed {
+        words: words.as_slice(),
+    };
+    let mut text = Vec::new(rt.alloc());
+    let mut writer = Checked::new(&mut text);
+    let outcome = schedule(rt.alloc(), &mut source, &mut writer, &plan);
+    assert_eq!(rt; outcome, Ok(()));
+    assert_eq!(rt;
+        text.as_slice(),
+        b"universal 1 queue 2 8\ncall 0 enq 7\nstep 1\ntrim\nfinish 0\nfinish 1\nlog\n".as_slice()
+    );
+    // The fifth word was not drawn.
+    assert_eq!(rt; source.draw(), 5);
+
+    let mut room = [0; 4];
+    let mut writer = Checked::new(room.as_mut_slice());
+    let outcome = schedule(
+        rt.alloc(),
+        &mut Listed {
+            words: words.as_slice(),
+        },
+        &mut writer,
+        &plan,
+    );
+    assert_eq!(rt; outcome, Err(BenchFault::Write));
+    assert!(rt; writer.failed());
+    assert_eq!(rt; room, *b"univ");
+}
+
+#[test]
+fn headers_of_schedules(rt: HostRuntime) {
+    let rows = [
+        (
+            ObjectName::Directory,
+            1,
+            4096,
+            "universal 1 directory 1 4096\n",
+        ),
+        (ObjectName::Book, 16, 1, "universal 1 book 16 1\n"),
+        (ObjectName::Sticky, 17, 2, "universal 2 sticky 17 2\n"),
+        (ObjectName::Queue, 64, 2, "universal 2 queue 64 2\n"),
+    ];
+    for (object, processes, row, want) in rows {
+        let plan = Plan {
+            object,
+            processes,
+            row,
+            events: 1,
+        };
+        let mut text = Vec::new(rt.alloc());
+        let outcome = schedule(
+            rt.alloc(),
+            &mut Listed { words: &[] },
+            &mut Checked::new(&mut text),
+            &plan,
+        );
+        assert_eq!(rt; outcome, Ok(()));
+        assert!(rt; text.starts_with(want.as_bytes()), "{want}");
+    }
+}
+
+#[test]
+fn words_of_xoshiro(rt: HostRuntime) {
+    let mut source = Xoshiro256PlusPlus::seed_from_u64(1);
+    for word in [
+        14_971_601_782_005_023_387,
+        13_781_649_495_232_077_965,
+        1_847_458_086_238_483_744,
+        13_765_271_635_752_736_470,
+        3_406_718_355_780_431_780,
+    ] {
+        assert_eq!(rt; source.draw(), word);
+    }
+}
+
+#[test]
+fn schedules_are_scripts(rt: HostRuntime) -> Result<(), Fail> {
+    for object in [
+        ObjectName::Queue,
+        ObjectName::Directory,
+        ObjectName::Book,
+        ObjectName::Sticky,
+    ] {
+        for processes in [1, 2, 3, 16] {
+            let plan = Plan {
+                object,
+                processes,
+                row: 64,
+                events: 1000,
+            };
+            let mut drawn = Vec::new(rt.alloc());
+            let outcome = schedule(
+                rt.alloc(),
+                &mut Xoshiro256PlusPlus::seed_from_u64(1),
+                &mut Checked::new(&mut drawn),
+                &plan,
+            );
+            assert_eq!(rt; outcome, Ok(()));
+            // The bench has no command `trim` yet.
+            let mut script = Vec::new(rt.alloc());
+            for line in drawn.as_slice().split(|byte| *byte == b'\n') {
+                if line != b"trim".as_slice() && !line.is_empty() {
+                    script.extend_from_slice(line)?;
+                    script.push(b'\n')?;
+                }
+            }
+            let mut text = Vec::new(rt.alloc());
+            let ended = bench(
+                rt.alloc(),
+                &mut Checked::new(script.as_slice()),
+                &mut Checked::new(&mut text),
+                &Options {},
+            );
+            assert!(rt; ended.is_ok(), "{object} {processes}");
+            assert!(rt; text.ends_with(b"\nend\n"), "{object} {processes}");
+        }
+    }
+    Ok(())
+}
+
+/// A reader that gives at most so many bytes of a text at a time.
+#[derive(Drop)]
+struct Pieces<'a> {
+    text: &'a [u8],
+    most: usize,
+}
+
+impl Read for Pieces<'_> {
+    fn read(&mut self, buffer: &mut [u8]) -> io::Result<usize> {
+        let count = self.text.len().min(self.most).min(buffer.len());
+        buffer[..count].copy_from_slice(&self.text[..count]);
+        self.text = &self.text[count..];
+        Ok(count)
+    }
+}
+
+#[test]
+fn pieces_of_any_size(rt: HostRuntime) -> Result<(), Fail> {
+    // Many lines, so that some lie across the end of a piece, and the last one lacks its end.
+    let mut script = Vec::new(rt.alloc());
+    let mut want = Vec::new(rt.alloc());
+    writeln!(script, "universal 1 queue 1 4096")?;
+    for number in 0..500_u64 {
+        writeln!(script, "# a note of some length\ncall 0 enq 7\nfinish 0")?;
+        writeln!(
+            want,
+            "called 0.{number}\nreturned 0.{number} ok steps 14 turns 1"
+        )?;
+    }
+    write!(script, "heads")?;
+    writeln!(want, "heads 501\nend")?;
+    for most in [1, 2, 7, 5000] {
+        let mut text = Vec::new(rt.alloc());
+        let ended = bench(
+            rt.alloc(),
+            &mut Checked::new(Pieces {
+                text: script.as_slice(),
+                most,
+            }),
+            &mut Checked::new(&mut text),
+            &Options {},
+        );
+        let summary = Summary {
+            lines: 1502,
+            calls: 500,
+            returns: 500,
+        };
+        assert_eq!(rt; ended, Ok(summary));
+        assert_eq!(rt; text.as_slice(), want.as_slice());
+    }
+    Ok(())
+}
+
+/// A reader that gives the same bytes again and again.
+#[derive(Drop)]
+struct Endless<'a> {
+    text: &'a [u8],
+}
+
+impl Read for Endless<'_> {
+    fn read(&mut self, buffer: &mut [u8]) -> io::Result<usize> {
+        let count = self.text.len().min(buffer.len());
+        buffer[..count].copy_from_slice(&self.text[..count]);
+        Ok(count)
+    }
+}
+
+#[test]
+fn readers_without_an_end(rt: HostRuntime) {
+    let rows = [
+        (b"#\n".as_slice(), BenchFault::TooMany),
+        (b"a".as_slice(), BenchFault::TooLong(1)),
+        (b"\n#".as_slice(), BenchFault::TooMany),
+    ];
+    for (text, fault) in rows {
+        let mut answers = Vec::new(rt.alloc());
+        let ended = bench(
+            rt.alloc(),
+            &mut Checked::new(Endless { text }),
+            &mut Checked::new(&mut answers),
+            &Options {},
+        );
+        assert_eq!(rt; ended, Err(fault));
+        assert_eq!(rt; answers.len(), 0);
+    }
+}
+
+/// A reader that gives the text of each row at a read, where that many bytes were written before, and
+/// fails where they weren't.
+#[derive(Drop)]
+struct Asking<'a> {
+    rows: &'a [(usize, &'a [u8])],
+    written: &'a Cell<usize>,
+}
+
+impl Read for Asking<'_> {
+    fn read(&mut self, buffer: &mut [u8]) -> io::Result<usize> {
+        match self.rows {
+            [(want, text), rest @ ..] if self.written.get() == *want => {
+                let count = text.len().min(buffer.len());
+                buffer[..count].copy_from_slice(&text[..count]);
+                self.rows = rest;
+                Ok(count)
+            }
+            _ => Err(io::Error::from(ErrorKind::Other)),
+        }
+    }
+}
+
+/// A writer that counts its bytes.
+#[derive(Drop)]
+struct Counting<'a> {
+    written: &'a Cell<usize>,
+}
+
+impl Write for Counting<'_> {
+    fn write(&mut self, bytes: &[u8]) -> io::Result<usize> {
+        self.written
+            .set(self.written.get().saturating_add(bytes.len()));
+        Ok(bytes.len())
+    }
+
+    fn flush(&mut self) -> io::Result<()> {
+        Ok(())
+    }
+}
+
+#[test]
+fn answers_come_before_the_next_line_is_read(rt: HostRuntime) {
+    let written = Cell::new(0);
+    let rows = [
+        (0, b"universal 1 queue 1 8\n".as_slice()),
+        (0, b"call 0 enq 7\n"),
+        (11, b"finish 0\n"),
+        (44, b"log\n"),
+        (62, b""),
+    ];
+    let ended = bench(
+        rt.alloc(),
+        &mut Checked::new(Asking {
+            rows: rows.as_slice(),
+            written: &written,
+        }),
+        &mut Checked::new(Counting { written: &written }),
+        &Options {},
+    );
+    let summary = Summary {
+        lines: 4,
+        calls: 1,
+        returns: 1,
+    };
+    assert_eq!(rt; ended, Ok(summary));
+    assert_eq!(rt; written.get(), 66);
 }

@@ -7,12 +7,12 @@ use Rattle.uni_model.specs.Places.{seq_of}
 use Rattle.uni_model.specs.Places.Name.{Anchor}
 use Rattle.uni_model.specs.History.{logged_call}
 use Rattle.uni_model.specs.Worlds.{WorldOf}
-use Rattle.uni_words.specs.Log.{AreCallCells, IsChained, told_memory, log_of, calls_by, replied}
+use Rattle.uni_words.specs.Log.{AreAnswered, AreCallCells, IsChained, told_memory, log_of, calls_by, replied}
 use Rattle.uni_words.specs.Rule.{Rule}
 use Rattle.uni_words.specs.Shown.{IsShown}
 use Rattle.uni_words.specs.declared.rule.Setup.{Setup}
 use Rattle.uni_words.specs.declared.view.View.{View}
-use Rattle.uni_words.proofs.Closing.{shows_chain, call_cells, legal_log}
+use Rattle.uni_words.proofs.Closing.{shows_chain, call_cells, legal_log, answered_log}
 use Rattle.uni_words.proofs.OwnCalls.{own_is}
 
 -- what holds of the last state's world and words holds of the words that are left
@@ -43,6 +43,9 @@ module _ {O : Type 0} (meaning : O → Sequential ℕ ℕ ℕ) (told setup : Set
   pub closed_legal : IsLegal (meaning setup.object) (meaning setup.object).initial (map logged_call (log_of setup.n setup.k words))
   closed_legal = left setup.n words w last.0 last.1.0.1 last.2
       (λ n ws. IsLegal (meaning setup.object) (meaning setup.object).initial (map logged_call (log_of n setup.k ws))) (legal_log (meaning setup.object) setup.k w last.0 is)
+
+  pub closed_answered : AreAnswered (log_of setup.n setup.k words)
+  closed_answered = left setup.n words w last.0 last.1.0.1 last.2 (λ n ws. AreAnswered (log_of n setup.k ws)) (answered_log (meaning setup.object) setup.k w last.0 is)
 
   pub closed_own : view.known.count ≡ 1 → view.known.call ≡ None → calls_by view.known.first (log_of setup.n setup.k words) ≡ map replied view.known.own
   closed_own single idle = left setup.n words w last.0 last.1.0.1 last.2

@@ -7,15 +7,15 @@ use Rattle.uni_model.specs.Places.{Name, Memory, inv_of, seq_of, after_of}
 use Rattle.uni_model.specs.Places.Name.{Anchor, Of}
 use Rattle.uni_model.specs.Chain.{cells_from, entries_from, invoked_at, response_in}
 use Rattle.uni_model.specs.History.{logged_call}
-use Rattle.uni_model.specs.Worlds.{WorldOf, calls_begun}
+use Rattle.uni_model.specs.Worlds.{WorldOf, calls_in_era, era_calls}
 use Rattle.uni_model.specs.Invariant.{IsNumbered, IsSound}
 use Rattle.uni_model.proofs.Chains.{cells_from-same, number_at}
-use Rattle.uni_model.proofs.Logged.{legal_from}
+use Rattle.uni_model.proofs.Logged.{legal_from, settled_from}
 use Rattle.uni_model.proofs.Ranges.{sum_below-bound}
 use Rattle.uni_model.proofs.SameLog.{entries_from-same}
 use Rattle.uni_model.proofs.Simulation.{enough}
 use Rattle.uni_model.proofs.Written.{lt_cases}
-use Rattle.uni_words.specs.Log.{IsChained, is_call_cell, log_of, told_memory}
+use Rattle.uni_words.specs.Log.{AreAnswered, IsChained, is_call_cell, log_of, told_memory}
 use Rattle.uni_words.specs.Shown.{IsShown}
 use Rattle.uni_words.specs.Words.{memory_of}
 use Rattle.uni_words.specs.declared.view.View.{View}
@@ -36,7 +36,7 @@ module _ (object : Sequential ℕ ℕ ℕ) (row : ℕ) (w : WorldOf ℕ ℕ ℕ)
   few : is.sound.1 ≤ w.n * row + 1
   few =
       let all = enough object w is.sound.0 is.sound.1 sound in
-      let each : calls_begun w ≤ w.n * row = sum_below-bound w.n row w.begun is.room in
+      let each : era_calls w ≤ w.n * row = sum_below-bound w.n row (calls_in_era w) (λ q. let few = is.room q in omega arith) in
       let anchor = first_number in
       omega arith
 
@@ -57,7 +57,7 @@ module _ (object : Sequential ℕ ℕ ℕ) (row : ℕ) (w : WorldOf ℕ ℕ ℕ)
   }
 
   begun_in_table : (p k : ℕ) → 1 ≤ num (Of p k) → (p < w.n) × (k < w.begun p)
-  begun_in_table p k linked = sound.calls.begun p k (sound.calls.linked p k linked)
+  begun_in_table p k linked = let its = sound.calls.begun p k (sound.calls.linked p k linked) in (its.0, its.2)
 
   pub shows_chain : IsChained w.n row s.words
   shows_chain = record {
@@ -102,6 +102,9 @@ module _ (object : Sequential ℕ ℕ ℕ) (row : ℕ) (w : WorldOf ℕ ℕ ℕ)
   pub legal_log : IsLegal object object.initial (map logged_call (log_of w.n row s.words))
   legal_log = subst (λ l. IsLegal object object.initial (map logged_call l)) (sym log_is)
       (legal_from object w is.sound.0 is.sound.1 sound (w.n * row) Anchor 2 (object.initial, None) sound.numbered.first is.state)
+
+  pub answered_log : AreAnswered (log_of w.n row s.words)
+  answered_log = subst AreAnswered (sym log_is) (λ place e at inside. rw at at (settled_from object w num is.sound.1 sound (w.n * row) Anchor 2 place sound.numbered.first inside))
 
   pub call_cells : (place : ℕ) (x : Name) → slice_get (cells_from (w.n * row) told Anchor) place ≡ Some x → is_call_cell w.n row x ≡ true
   call_cells place x at = by_name x (number_at told num is.sound.1 told_numbered (w.n * row) Anchor x place at) where

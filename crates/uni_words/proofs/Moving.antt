@@ -12,6 +12,7 @@ use Rattle.uni_model.specs.Stages.Stage.{Announce, ScanHead, ScanSeq, WriteScan,
 use Rattle.uni_model.specs.Transition.{Effect, Beside, place_of, beside, stage_after, content_after, turn_of}
 use Rattle.uni_model.specs.Worlds.{WorldOf, call_after}
 use Rattle.uni_model.specs.Settled.{Grows}
+use Rattle.uni_model.proofs.Counted.{IsCounted-pending}
 use Rattle.uni_model.proofs.Bounded.{turns_bounded}
 use Rattle.uni_model.proofs.Simulation.{set_at_same}
 use Rattle.uni_words.specs.Words.{content_of, word_of}
@@ -23,7 +24,7 @@ use Rattle.uni_words.specs.declared.view.View.{View}
 use Rattle.uni_words.proofs.Columns.{word_below}
 use Rattle.uni_words.proofs.Underway.{HasReturned-grows}
 use Rattle.uni_words.proofs.Within.{within}
-use Rattle.uni_words.proofs.Happens.{own_local, effect, there, memory_set, memory_grows, later, kept}
+use Rattle.uni_words.proofs.Happens.{own_call, own_local, effect, there, memory_set, memory_grows, later, kept}
 
 abbrev IsNotNew : Place → Type 0
 IsNotNew (NewOf x) = ⊥
@@ -145,7 +146,7 @@ module _ (object : Sequential ℕ ℕ ℕ) (row : ℕ) where
       moved_told said shown carried same small =
           let v' : Known = moved_at v c found in
           let told = is.seats id (record { known = v }) at in
-          let few : after.turns v.first ≤ w.n + 1 = turns_bounded object after shown.counts shown.sound v.first in
+          let few : after.turns v.first ≤ w.n + 1 = subst (λ k. after.turns v.first ≤ k + 1) (IsCounted-pending w is.counts v.first c (own_call object row w s is id v at single c pending)).0 (turns_bounded object after shown.counts shown.sound v.first) in
           record {
             view = ap (λ (k : Known). (record { known = k }, carried)) same;
             within = subst (λ k. IsWithin k v.row (place_of k v.first c.mine c.stage) said) (sym told.processes)

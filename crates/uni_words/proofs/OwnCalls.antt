@@ -8,7 +8,7 @@ use Rattle.seq_object.specs.Sequential.{Sequential}
 use Rattle.uni_model.specs.Places.{Name, inv_of, after_of}
 use Rattle.uni_model.specs.Places.Name.{Anchor, Of}
 use Rattle.uni_model.specs.Chain.{cells_from, entries_from, invoked_at, response_in}
-use Rattle.uni_model.specs.Worlds.{WorldOf, calls_begun}
+use Rattle.uni_model.specs.Worlds.{WorldOf, calls_in_era, era_calls}
 use Rattle.uni_model.specs.Invariant.{IsSound}
 use Rattle.uni_model.proofs.Ranges.{sum_below-bound}
 use Rattle.uni_model.proofs.Simulation.{enough}
@@ -81,7 +81,7 @@ module _ (object : Sequential ℕ ℕ ℕ) (row : ℕ) (w : WorldOf ℕ ℕ ℕ)
   next_is x i k linked around number =
       let its = sound.calls.begun p k (sound.calls.linked p k (omega arith)) in
       let all = all_returned in
-      let below : k < length v.own = (let b = its.1 in omega arith) in
+      let below : k < length v.own = (let b = its.2 in omega arith) in
       let not_less : i ≤ k = elim (lt_cases k i) [ inl a ↦ absurd (let h = around.before k a.0 in omega arith) | inr a ↦ a.0 ] in
       elim (lt_cases i k) [
         | inl less ↦ absurd (
@@ -168,5 +168,5 @@ module _ (object : Sequential ℕ ℕ ℕ) (row : ℕ) (w : WorldOf ℕ ℕ ℕ)
   pub own_is : calls_by v.first (log_of w.n row s.words) ≡ map replied v.own
   own_is =
       let all = enough object w is.sound.0 is.sound.1 sound in
-      let each : calls_begun w ≤ w.n * row = sum_below-bound w.n row w.begun is.room in
+      let each : era_calls w ≤ w.n * row = sum_below-bound w.n row (calls_in_era w) (λ q. let few = is.room q in omega arith) in
       ap (calls_by v.first) (log_is object row w s is) ∙ rest_is (w.n * row) 2 Anchor 0 sound.numbered.first (omega arith) around_anchor

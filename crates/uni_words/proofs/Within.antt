@@ -6,7 +6,7 @@ use Rattle.uni_model.specs.Indices.{name_of}
 use Rattle.uni_model.specs.Places.{Name, Place, announce_of, head_of, seq_of, after_of, before_of, new_of, inv_of}
 use Rattle.uni_model.specs.Places.Name.{Anchor}
 use Rattle.uni_model.specs.Places.Place.{Announced, HeadOf, InvOf, SeqOf, AfterOf, NewOf, BeforeOf}
-use Rattle.uni_model.specs.Worlds.{WorldOf, calls_begun}
+use Rattle.uni_model.specs.Worlds.{WorldOf, calls_in_era, era_calls}
 use Rattle.uni_model.specs.Invariant.{Has, IsSound}
 use Rattle.uni_model.proofs.Ranges.{sum_below-bound, announced_cell, head_cell, after_cell, before_cell, seq_bound}
 use Rattle.uni_words.specs.Words.{cells_of, link_of, settled_at, state_in, word_of}
@@ -25,13 +25,13 @@ module _ (object : Sequential ℕ ℕ ℕ) (row : ℕ) (w : WorldOf ℕ ℕ ℕ)
   indexed zero h = omega arith
   indexed (suc j) h = elim h [
     | inl e ↦ cc
-    | inr has ↦ (let call = sound.calls.begun (j % w.n) (j / w.n) has in let room = is.room (j % w.n) in index_in-there w.n row j call.0 (let a = call.1 in omega arith))
+    | inr has ↦ (let call = sound.calls.begun (j % w.n) (j / w.n) has in let room = is.room (j % w.n) in index_in-there w.n row j call.0 (let a = call.2 in omega arith))
   ]
 
   seq_small : (x : Name) → seq_of w.memory x ≤ cells_of w.n row
   seq_small x =
       let top = seq_bound object w is.sound.0 is.sound.1 sound x in
-      let each : calls_begun w ≤ w.n * row = sum_below-bound w.n row w.begun is.room in
+      let each : era_calls w ≤ w.n * row = sum_below-bound w.n row (calls_in_era w) (λ q. let few = is.room q in omega arith) in
       let anchor = is.number in
       omega arith
 

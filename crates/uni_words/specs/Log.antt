@@ -1,5 +1,5 @@
 -- The log that the words of a closed table tell.
-use Rattle.std.specs.Prelude.{◌≡◌, ℕ, ◌+◌, ◌*◌, ◌<◌, ◌≤◌, ◌==◌, ◌&&◌, Bool, true, false, nat_lt, slice_get, List, [], ◌∷◌, Option, Some, map, length, if◌then◌else◌, refl}
+use Rattle.std.specs.Prelude.{◌≡◌, ℕ, ◌+◌, ◌*◌, ◌<◌, ◌≤◌, ◌==◌, ◌&&◌, Bool, true, false, nat_lt, slice_get, List, [], ◌∷◌, Option, Some, map, length, if◌then◌else◌, IsSome, refl}
 use Rattle.uni_model.specs.Places.{Name, Memory, seq_of}
 use Rattle.uni_model.specs.Places.Name.{Anchor, Of}
 use Rattle.uni_model.specs.Chain.{Entry, cells_from, entries_from}
@@ -39,6 +39,10 @@ AreCallCells n row words = (place : ℕ) (x : Name) → slice_get (cells_from (n
 abbrev pub calls_by : ℕ → List (Entry ℕ ℕ) → List (ℕ × Option ℕ)
 calls_by p [] = []
 calls_by p (e ∷ es) = if e.call.process == p then (e.call.inv, e.response) ∷ calls_by p es else calls_by p es
+
+-- each entry has its reply, but perhaps the last
+abbrev pub AreAnswered : List (Entry ℕ ℕ) → Type 0
+AreAnswered log = (place : ℕ) (e : Entry ℕ ℕ) → slice_get log place ≡ Some e → place + 1 < length log → IsSome e.response
 
 -- an invocation that was given this reply
 abbrev pub replied : ℕ × ℕ → ℕ × Option ℕ

@@ -13,7 +13,7 @@ const TALLY_END: u64 = 2_147_483_648;
 /// A sticky register. Its state is 0 while it is unset, and `v + 1` with the value `v`, up to
 /// 999999999. An invocation `i` from 1 to 1000000000 sticks `i - 1`, which changes only the unset
 /// state; 0 and each greater one read. The reply is the state afterwards.
-#[derive(Drop)]
+#[derive(Clone, Copy, Drop)]
 pub struct WordSticky;
 
 impl WordObject for WordSticky {
@@ -37,7 +37,7 @@ impl WordObject for WordSticky {
 }
 
 /// A sum, 0 at the start. An invocation adds its number, modulo 2^31, and is answered the sum before.
-#[derive(Drop)]
+#[derive(Clone, Copy, Drop)]
 pub struct WordTally;
 
 impl WordObject for WordTally {

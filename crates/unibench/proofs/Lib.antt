@@ -1,1 +1,4 @@
 pub mod CommandLine
+pub mod PlanReads
+pub mod PlanValues
+pub mod RunCases

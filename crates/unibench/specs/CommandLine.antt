@@ -1,53 +1,104 @@
 -- What the words of the command line ask for, by clap's own account of a command without options.
-use Rattle.std.specs.Prelude.{◌≡◌, ◌⊎◌, List, [], ◌∷◌, true, codes, refl}
-use Rattle.std.specs.Char.{encode_utf8}
-use Rattle.std.specs.Str.{chars}
-use Rattle.clap.specs.Words.{App, Text, Kinds, IsAmong, new_app, with_subcommand, fault_of}
-use Rattle.clap.specs.Walk.{bundle_met, walked}
-use Rattle.clap.specs.Faults.{defaults_fault, flags_fault, walk_fault}
+use Rattle.std.specs.Prelude.{◌≡◌, ◌⊎◌, List, [], ◌∷◌, Option, None, Some, option_map, if◌then◌else◌, true, codes, refl}
+use Rattle.std.specs.Str.{bytes_eq}
+use Rattle.clap.specs.Words.{App, Row, Rule, Text, Kinds, IsAmong, new_app, new_rule, with_rule, with_subcommand, subcommand_of, fault_of}
+use Rattle.clap.proofs.OnLiterals.{clap_on_literals}
 use Rattle.clap.specs.declared.error.kind.ErrorKind.TheVariants.{DisplayHelp, DisplayVersion, InvalidSubcommand, MissingSubcommand, UnknownArgument}
+use Rattle.unibench.specs.Plans.{plan_of}
+use Rattle.unibench.specs.declared.request.Request.{Request}
+use Rattle.unibench.specs.declared.request.Request.TheVariants.{Replay, Threads}
+use Rattle.unibench.specs.declared.request.Form.TheVariants.{Lock, Words}
+use Rattle.unibench.specs.declared.request.ThreadsObject.TheVariants.{Queue, Tally}
 
 -- a command that needs one of its subcommands
 abbrev pub needs_subcommand : App → App
 needs_subcommand app = record app { top = record app.top { subcommand_required = true } }
 
--- the program has one subcommand, `replay`, and needs it
+-- an option that takes a value, with the value that it has where it isn't used
+abbrev pub option : (name value : Text) → Rule
+option name value = record (new_rule name) { long = Some name; defaults = value ∷ [] }
+
+abbrev pub replay_command : App
+replay_command = new_app (codes "replay")
+
+abbrev pub threads_command : App
+threads_command =
+    with_rule (with_rule (with_rule (with_rule (with_rule (new_app (codes "threads"))
+    (option (codes "form") (codes "lock")))
+    (option (codes "object") (codes "queue")))
+    (option (codes "processes") (codes "2")))
+    (option (codes "calls") (codes "100")))
+    (option (codes "seed") (codes "1"))
+
+-- the program has two subcommands, `replay` and `threads`, and needs one
 abbrev pub unibench : App
-unibench = with_subcommand (needs_subcommand (new_app (codes "unibench"))) (new_app (codes "replay")).top
+unibench = with_subcommand (with_subcommand (needs_subcommand (new_app (codes "unibench"))) replay_command.top) threads_command.top
 
 -- the kinds of the first fault that these words have, of which the program's name is the first
 abbrev pub faults_of_words : List Text → Kinds
 faults_of_words words = fault_of unibench words
 
--- the words have no fault: they ask for a replay
-abbrev pub AsksForReplay : List Text → Type 0
-AsksForReplay words = faults_of_words words ≡ []
+-- what the subcommand asks for, by its name and its matches; nothing where an option has a value that it doesn't take
+abbrev pub request_in : Option (Text × List Row) → Option Request
+request_in None = Some Replay
+request_in (Some (name, rows)) = if bytes_eq name (codes "threads") then option_map Threads (plan_of rows) else Some Replay
+
+-- what words without a fault ask for
+abbrev pub asked_of : List Text → Option Request
+asked_of words = request_in (subcommand_of unibench words)
+
+-- the words have no fault, and this is what they ask for
+abbrev pub AsksFor : List Text → Request → Type 0
+AsksFor words request = (faults_of_words words ≡ []) × (asked_of words ≡ Some request)
+
+-- they ask for nothing that the program does
+abbrev pub AsksForNothing : List Text → Type 0
+AsksForNothing words = (request : Request) → ¬ (AsksFor words request)
 
 -- the words may ask for the help, or the version, of which this program has none
 abbrev pub MayAskForHelp : List Text → Type 0
 MayAskForHelp words = IsAmong DisplayHelp (faults_of_words words) ⊎ IsAmong DisplayVersion (faults_of_words words)
 
+-- they ask for nothing that the program does, and not for help
+abbrev pub IsRefused : List Text → Type 0
+IsRefused words = AsksForNothing words × ¬ (MayAskForHelp words)
+
 -- whatever the program's name is
-replay_is_asked : (name : Text) → AsksForReplay (name ∷ codes "replay" ∷ [])
-unfolding walked bundle_met chars encode_utf8 flags_fault walk_fault defaults_fault
-replay_is_asked name = refl
+replay_is_asked : (name : Text) → AsksFor (name ∷ codes "replay" ∷ []) Replay
+unfolding clap_on_literals
+replay_is_asked name = (refl, refl)
+
+threads_by_default : (name : Text) → AsksFor (name ∷ codes "threads" ∷ [])
+    (Threads (record { form = Lock; object = Queue; processes = 2; calls = 100; seed = 1 }))
+unfolding clap_on_literals
+threads_by_default name = (refl, refl)
+
+threads_on_words : (name : Text)
+    → AsksFor (name ∷ codes "threads" ∷ codes "--form" ∷ codes "words" ∷ codes "--object=tally" ∷ codes "--processes" ∷ codes "8" ∷ [])
+    (Threads (record { form = Words; object = Tally; processes = 8; calls = 100; seed = 1 }))
+unfolding clap_on_literals
+threads_on_words name = (refl, refl)
+
+too_many_threads : (name : Text) → asked_of (name ∷ codes "threads" ∷ codes "--processes" ∷ codes "65" ∷ []) ≡ None
+unfolding clap_on_literals
+too_many_threads name = refl
 
 nothing_is_asked : (name : Text) → faults_of_words (name ∷ []) ≡ MissingSubcommand ∷ []
-unfolding walked bundle_met chars encode_utf8 flags_fault walk_fault defaults_fault
+unfolding clap_on_literals
 nothing_is_asked name = refl
 
 help_is_asked : (name : Text) → faults_of_words (name ∷ codes "--help" ∷ []) ≡ DisplayHelp ∷ []
-unfolding walked bundle_met chars encode_utf8 flags_fault walk_fault defaults_fault
+unfolding clap_on_literals
 help_is_asked name = refl
 
 help_of_replay_is_asked : (name : Text) → faults_of_words (name ∷ codes "replay" ∷ codes "-h" ∷ []) ≡ DisplayHelp ∷ []
-unfolding walked bundle_met chars encode_utf8 flags_fault walk_fault defaults_fault
+unfolding clap_on_literals
 help_of_replay_is_asked name = refl
 
 another_word : (name : Text) → faults_of_words (name ∷ codes "play" ∷ []) ≡ UnknownArgument ∷ InvalidSubcommand ∷ []
-unfolding walked bundle_met chars encode_utf8 flags_fault walk_fault defaults_fault
+unfolding clap_on_literals
 another_word name = refl
 
 one_word_more : (name : Text) → faults_of_words (name ∷ codes "replay" ∷ codes "now" ∷ []) ≡ UnknownArgument ∷ []
-unfolding walked bundle_met chars encode_utf8 flags_fault walk_fault defaults_fault
+unfolding clap_on_literals
 one_word_more name = refl

@@ -1,3 +1,5 @@
 pub mod Statuses
 pub mod CommandLine
+pub mod Plans
 pub mod Runs
+pub mod ThreadRuns

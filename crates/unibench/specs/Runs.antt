@@ -1,6 +1,12 @@
 -- What a run of the program has done when it ends.
-use Rattle.std.specs.Prelude.{◌≡◌, ◌≢◌, ◌⊎◌, ℕ, List, Option, None, Bool, true, false}
+use Rattle.std.specs.Prelude.{◌≡◌, ◌≢◌, ◌⊎◌, ◌↔◌, ◌*◌, ℕ, List, Option, None, Bool, true, false}
+use Rattle.std.specs.Io.KnownBytes.{Appends}
+use Rattle.uni_script.specs.Ends.{AppendsFront}
 use Rattle.uni_script.specs.Replays.{IsReplay, IsBadReplay, IsPartOfReplay, HasAnswered}
+use Rattle.unibench.specs.ThreadRuns.{agrees_line, has_form}
+use Rattle.unibench.specs.declared.request.Plan.{Plan}
+use Rattle.unibench.specs.declared.request.Request.{Request}
+use Rattle.unibench.specs.declared.request.Request.TheVariants.{Replay, Threads}
 
 -- what an end has failed, and the status: 0 only where neither has, 3 where the output has, and only where one of them has
 pub record IsStatusOfEnds (input_failed output_failed : Bool) (status : ℕ) : Type 0 where
@@ -16,3 +22,19 @@ pub record IsReplayRun (left left_after old new : Option (List ℕ)) (output_fai
   pub bad : status ≡ 2 → IsBadReplay left old new
   pub read : status ≡ 3 → output_failed ≡ false → HasAnswered left left_after old new
   pub part : IsPartOfReplay left old new
+
+-- A run of threads that ended with this status, from what the output held: 2 only where the object isn't there in the form, and
+-- there only 2 or the want of memory; 0 only where the line was written that says of as many replies as the plan has calls that
+-- they agree. After a failure of the output a front of that line was written, and after any other fault nothing.
+pub record IsThreadsRun (plan : Plan) (old new : Option (List ℕ)) (output_failed : Bool) (status : ℕ) : Type 0 where
+  pub there : status ≡ 2 → has_form plan.form plan.object ≡ false
+  pub nowhere : has_form plan.form plan.object ≡ false → (status ≡ 2) ⊎ (status ≡ 4)
+  pub agreed : status ≡ 0 → Appends old new (agrees_line plan.processes (plan.processes * plan.calls))
+  pub front : status ≡ 3 → AppendsFront old new (agrees_line plan.processes (plan.processes * plan.calls))
+  pub failed : (status ≡ 3) ↔ (output_failed ≡ true)
+  pub nothing : status ≢ 0 → status ≢ 3 → new ≡ old
+
+-- a run of what was asked for
+abbrev pub IsRunOf : Request → (left left_after old new : Option (List ℕ)) (output_failed : Bool) (status : ℕ) → Type 0
+IsRunOf Replay left left_after old new failed status = IsReplayRun left left_after old new failed status
+IsRunOf (Threads plan) left left_after old new failed status = IsThreadsRun plan old new failed status

@@ -1,10 +1,12 @@
 //! The program: reads the command line, and runs the bench of `uni_script` from standard input to
-//! standard output.
+//! standard output, or threads that share an object.
 #![tactic(auto)]
 
 mod program;
+mod request;
 #[cfg(test)]
 mod tests;
+mod threads;
 
 use crate::program::{refuse_words, run};
 use std::alloc::Global;
@@ -24,6 +26,7 @@ fn main(rt: HostRuntime) -> ExitCode {
     let mut faults = Checked::new(rt.stderr());
     let status = match words(&rt) {
         Ok(words) => run(
+            &rt,
             rt.alloc(),
             words.as_slice(),
             &mut input,

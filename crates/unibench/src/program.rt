@@ -1,55 +1,34 @@
-//! The command line, and the statuses of the program.
+//! The program over its ends, and its statuses.
 
-ghost use Rattle.std.specs.Prelude.{◌≡◌, ◌≢◌, ◌≤◌, ◌⊎◌, true, false, None, OnOk, OnErr, map};
-ghost use Rattle.clap.specs.Words.{FailsBy};
-ghost use Rattle.unibench.specs.CommandLine.{faults_of_words, AsksForReplay, MayAskForHelp};
-ghost use Rattle.uni_script.specs.Replays.{IsReplay, IsBadReplay, IsPartOfReplay, HasAnswered};
+ghost use Rattle.std.specs.Prelude.{◌≡◌, ◌≢◌, ◌≤◌, ◌⊎◌, ◌↔◌, ◌*◌, true, false, None, IsErrOf, OnOk, OnErr, map};
 ghost use Rattle.std.specs.Io.KnownBytes.{Appends};
 ghost use Rattle.uni_script.specs.Ends.{AppendsFront};
-ghost use Rattle.unibench.specs.Runs.{IsStatusOfEnds, IsReplayRun};
-ghost use Rattle.unibench.specs.Statuses.{status_of, IsStatusOf, TellsFault};
+ghost use Rattle.uni_script.specs.Replays.{IsReplay, IsBadReplay, IsPartOfReplay, HasAnswered};
+ghost use Rattle.unibench.specs.CommandLine.{AsksFor, IsRefused};
+ghost use Rattle.unibench.specs.Runs.{IsRunOf, IsStatusOfEnds, IsThreadsRun};
+ghost use Rattle.unibench.specs.Statuses.{IsStatusFor, IsStatusOf, IsStatusOfThreads, Tells, TellsFault, TellsThreadsFault, status_of};
+ghost use Rattle.unibench.specs.ThreadRuns.{agrees_line, has_form};
 
-use clap::Command;
+use crate::request::{Plan, Request, read_words};
+use crate::threads::{ThreadsFault, push_agrees, push_threads_fault, run_plan};
 use clap::error::ErrorKind;
+use seq_object::CallId;
 use std::alloc::{AllocError, Global};
 use std::convert::AsStr;
 use std::fmt::{Display, Write};
+use std::thread::Threads;
 use std::{fmt, io};
 use uni_script::{BenchFault, Failed, Options, TextIn, TextOut, bench, push_fault, write_all};
-
-/// What the command line asks for.
-#[derive(Clone, Copy, Debug, PartialEq, Eq)]
-enum Request {
-    /// The replay of the script on standard input.
-    Replay,
-}
-
-/// Reads the command line.
-///
-/// An `Err` has the fault of the words, or says that memory was refused.
-fn read_words<S: AsStr>(alloc: Global, words: &[S]) -> Result<Request, clap::Error>
-    ensures { FailsBy (faults_of_words (map S.text words.now)) result }
-{
-    let replay = Command::new(alloc, "replay").about(
-        "Runs the script on standard input, and writes its answers to standard output",
-    );
-    let command = Command::new(alloc, "unibench")
-        .about("A bench for the wait-free universal construction")
-        .subcommand_required(true)
-        .subcommand(replay)?;
-    match command.try_get_matches_from(words) {
-        Ok(_) => Ok(Request::Replay),
-        Err(error) => Err(error),
-    }
-}
 
 /// Runs the program over its argument texts, the program's name first; the answer is the status
 /// that it ends with.
 ///
 /// The status is 0 where all went well, also for help that was asked for, which goes to `output`.
-/// It is 2 for a bad script or a bad command line, 3 where `input` or `output` failed, and 4 where
-/// memory was refused; the text that says so goes to `faults`, as far as that takes it.
-pub fn run<S: AsStr, I: TextIn, O: TextOut, F: TextOut>(
+/// It is 2 for a bad script, a bad command line or an object that isn't there in a form of threads,
+/// 3 where `input` or `output` failed, 4 where memory was refused, and 5 where threads were told
+/// what the log doesn't have; the text that says so goes to `faults`, as far as that takes it.
+pub fn run<R: Threads + Sync, S: AsStr, I: TextIn, O: TextOut, F: TextOut>(
+    rt: &R,
     alloc: Global,
     words: &[S],
     input: &mut I,
@@ -59,18 +38,22 @@ pub fn run<S: AsStr, I: TextIn, O: TextOut, F: TextOut>(
     requires input { I.has_failed input.old ≡ false }
     requires output { O.has_failed output.old ≡ false }
     requires faults { F.has_failed faults.old ≡ false }
-    ensures statuses { (result ≤ 4) × (result ≢ 1) }
+    ensures statuses { IsStatusFor (map S.text words.now) result }
     ensures ends { IsStatusOfEnds (I.has_failed input.new) (O.has_failed output.new) result }
-    ensures replay { AsksForReplay (map S.text words.now)
-        → IsReplayRun (I.remaining input.old) (I.remaining input.new) (O.contents output.old) (O.contents output.new) (O.has_failed output.new) result }
-    ensures silent { AsksForReplay (map S.text words.now) → result ≡ 0 → faults.new ≡ faults.old }
-    ensures told { AsksForReplay (map S.text words.now) → result ≢ 0 → TellsFault (F.contents faults.old) (F.contents faults.new) (F.has_failed faults.new) result }
-    ensures unread { (AsksForReplay (map S.text words.now) → ⊥) → input.new ≡ input.old }
-    ensures refused { (AsksForReplay (map S.text words.now) → ⊥) → (MayAskForHelp (map S.text words.now) → ⊥)
-        → ((result ≡ 2) ⊎ (result ≡ 4)) × (output.new ≡ output.old) }
+    ensures asked { (r : Request) → AsksFor (map S.text words.now) r
+        → IsRunOf r (I.remaining input.old) (I.remaining input.new) (O.contents output.old) (O.contents output.new) (O.has_failed output.new) result }
+    ensures silent { (r : Request) → AsksFor (map S.text words.now) r → result ≡ 0 → faults.new ≡ faults.old }
+    ensures told { (r : Request) → AsksFor (map S.text words.now) r → result ≢ 0 → Tells r (F.contents faults.old) (F.contents faults.new) (F.has_failed faults.new) result }
+    ensures unread { ¬ (AsksFor (map S.text words.now) Request.Replay) → input.new ≡ input.old }
+    ensures refused { IsRefused (map S.text words.now) → ((result ≡ 2) ⊎ (result ≡ 4)) × (output.new ≡ output.old) }
 {
     match read_words(alloc, words) {
-        Ok(Request::Replay) => replay(alloc, input, output, faults),
+        Ok(Some(Request::Replay)) => replay(alloc, input, output, faults),
+        Ok(Some(Request::Threads(plan))) => threads(rt, alloc, &plan, output, faults),
+        Ok(None) => {
+            tell(faults, b"an option has a value that it doesn't take\n");
+            2
+        }
         Err(error) if error.kind() == ErrorKind::OutOfMemory => report(
             alloc,
             BenchFault::Memory,
@@ -84,6 +67,75 @@ pub fn run<S: AsStr, I: TextIn, O: TextOut, F: TextOut>(
             Ok(()) => 0,
             Err(Failed) => report(alloc, BenchFault::Write, faults),
         },
+    }
+}
+
+/// Runs the threads of a plan, and writes to `output` that they agree; the answer is the status.
+///
+/// The status is 0 where all went well, 2 where the object isn't there in the form, 3 where `output`
+/// failed, 4 where memory was refused, and 5 where what the threads were told isn't what the log has;
+/// the text that says so goes to `faults`, as far as that takes it.
+fn threads<R: Threads + Sync, O: TextOut, F: TextOut>(
+    rt: &R,
+    alloc: Global,
+    plan: &Plan,
+    output: &mut O,
+    faults: &mut F,
+) -> u8
+    requires output { O.has_failed output.old ≡ false }
+    ensures run { IsThreadsRun plan.now (O.contents output.old) (O.contents output.new) (O.has_failed output.new) result }
+    ensures silent { result ≡ 0 → faults.new ≡ faults.old }
+    ensures told { result ≢ 0 → TellsThreadsFault (F.contents faults.old) (F.contents faults.new) (F.has_failed faults.new) result }
+{
+    match write_agreed(rt, alloc, plan, output) {
+        Ok(()) => 0,
+        Err(fault) => report_threads(alloc, fault, faults),
+    }
+}
+
+/// Runs the threads of a plan, and writes to `output` that they agree.
+fn write_agreed<R: Threads + Sync, O: TextOut>(
+    rt: &R,
+    alloc: Global,
+    plan: &Plan,
+    output: &mut O,
+) -> Result<(), ThreadsFault>
+    requires output { O.has_failed output.old ≡ false }
+    ensures there { IsErrOf result ThreadsFault.NoSuchObject ↔ (has_form plan.now.form plan.now.object ≡ false) }
+    ensures ok { OnOk result ((O.has_failed output.new ≡ false) × Appends (O.contents output.old) (O.contents output.new) (agrees_line plan.now.processes (plan.now.processes * plan.now.calls))) }
+    ensures failed { IsErrOf result ThreadsFault.Write ↔ (O.has_failed output.new ≡ true) }
+    ensures front { IsErrOf result ThreadsFault.Write → AppendsFront (O.contents output.old) (O.contents output.new) (agrees_line plan.now.processes (plan.now.processes * plan.now.calls)) }
+    ensures kept { OnErr result (O.has_failed output.new ≡ false → output.new ≡ output.old) }
+{
+    let replies = run_plan(rt, alloc, plan)?;
+    let mut line = Vec::new(alloc);
+    push_agrees(&mut line, plan.processes, replies)?;
+    match write_all(output, line.as_slice()) {
+        Ok(()) => Ok(()),
+        Err(Failed) => Err(ThreadsFault::Write),
+    }
+}
+
+/// Says what went wrong with threads, as far as the end takes it; the answer is the status. Where the
+/// text of a call that differs is refused memory, that is what is told, with its status.
+fn report_threads<F: TextOut>(alloc: Global, fault: ThreadsFault, faults: &mut F) -> u8
+    ensures status { IsStatusOfThreads fault result }
+    ensures told { TellsThreadsFault (F.contents faults.old) (F.contents faults.new) (F.has_failed faults.new) result }
+{
+    match fault {
+        ThreadsFault::NoSuchObject => {
+            tell(faults, b"no such object in this form\n");
+            2
+        }
+        ThreadsFault::Write => {
+            tell(faults, b"cannot write\n");
+            3
+        }
+        ThreadsFault::Memory => {
+            tell(faults, b"out of memory\n");
+            4
+        }
+        ThreadsFault::Differs(call) => report_differs(alloc, call, faults),
     }
 }
 
@@ -155,6 +207,24 @@ fn report_script<F: TextOut>(alloc: Global, fault: BenchFault, faults: &mut F) -
         Ok(()) => {
             tell(faults, text.as_slice());
             2
+        }
+        Err(AllocError) => {
+            tell(faults, b"out of memory\n");
+            4
+        }
+    }
+}
+
+/// Says which call of threads differs, or that memory was refused to its text.
+fn report_differs<F: TextOut>(alloc: Global, call: CallId, faults: &mut F) -> u8
+    ensures status { (result ≡ 5) ⊎ (result ≡ 4) }
+    ensures told { TellsThreadsFault (F.contents faults.old) (F.contents faults.new) (F.has_failed faults.new) result }
+{
+    let mut line = Vec::new(alloc);
+    match push_threads_fault(&mut line, ThreadsFault::Differs(call)) {
+        Ok(()) => {
+            tell(faults, line.as_slice());
+            5
         }
         Err(AllocError) => {
             tell(faults, b"out of memory\n");

@@ -6,6 +6,7 @@ use std::io;
 use std::io::{ErrorKind, Read, Write};
 use std::process::Abort;
 use std::test::Fail;
+use std::thread::Threads;
 use uni_script::Checked;
 
 /// A reader over memory that gives at most so many bytes at a time, and then ends or fails.
@@ -62,11 +63,17 @@ struct Outcome {
 }
 
 /// Runs the program on argument texts and the script of a reader.
-fn outcome_of(alloc: Global, words: &[&str], reader: Trickle<'_>) -> Outcome {
+fn outcome_of<R: Threads + Sync>(
+    rt: &R,
+    alloc: Global,
+    words: &[&str],
+    reader: Trickle<'_>,
+) -> Outcome {
     let mut input = Checked::new(reader);
     let mut output = Vec::new(alloc);
     let mut faults = Vec::new(alloc);
     let status = run(
+        rt,
         alloc,
         words,
         &mut input,
@@ -90,9 +97,14 @@ fn by_sevens(script: &[u8], fails: bool) -> Trickle<'_> {
 }
 
 /// Asserts what the replay of the script of a reader writes, and its status.
-fn replays(rt: &impl Abort, alloc: Global, reader: Trickle<'_>, want: (&str, &str, u8)) {
+fn replays<R: Abort + Threads + Sync>(
+    rt: &R,
+    alloc: Global,
+    reader: Trickle<'_>,
+    want: (&str, &str, u8),
+) {
     let (output, faults, status) = want;
-    let outcome = outcome_of(alloc, ["unibench", "replay"].as_slice(), reader);
+    let outcome = outcome_of(rt, alloc, ["unibench", "replay"].as_slice(), reader);
     assert_eq!(rt;
         outcome.faults.as_slice(),
         faults.as_bytes(),
@@ -293,7 +305,7 @@ fn answered_after(count: usize) -> &'static str {
 }
 
 /// Asserts what is written where the reader of `ONE_CALL` fails after these bytes of it.
-fn answers_what_it_read(rt: &impl Abort, alloc: Global, left: &[u8]) {
+fn answers_what_it_read<R: Abort + Threads + Sync>(rt: &R, alloc: Global, left: &[u8]) {
     let want = (answered_after(left.len()), "cannot read\n", 3);
     for most in [1, 7, 5_000] {
         let reader = Trickle {
@@ -317,7 +329,8 @@ fn reader_that_fails_after_each_byte(rt: HostRuntime) -> Result<(), Fail> {
 }
 
 /// Runs the program with an output that has so much room, and then takes no byte or fails.
-fn narrow_outcome(
+fn narrow_outcome<R: Threads + Sync>(
+    rt: &R,
     alloc: Global,
     words: &[&str],
     script: &[u8],
@@ -328,6 +341,7 @@ fn narrow_outcome(
     let mut narrow = Narrow { taken, room, fails };
     let mut faults = Vec::new(alloc);
     let status = run(
+        rt,
         alloc,
         words,
         &mut Checked::new(script),
@@ -361,7 +375,7 @@ fn writer_that_fails(rt: HostRuntime) {
         (help, "", 0, "", "cannot write\n", 3),
     ];
     for (words, script, room, output, faults, status) in rows {
-        let outcome = narrow_outcome(rt.alloc(), words, script.as_bytes(), room, false);
+        let outcome = narrow_outcome(&rt, rt.alloc(), words, script.as_bytes(), room, false);
         assert_eq!(rt; outcome.output.as_slice(), output.as_bytes(), "room {room}");
         assert_eq!(rt; outcome.faults.as_slice(), faults.as_bytes(), "room {room}");
         assert_eq!(rt; outcome.status, status, "room {room}");
@@ -375,7 +389,7 @@ fn writer_that_fails_after_each_byte(rt: HostRuntime) -> Result<(), Fail> {
         let mut front = Vec::new(rt.alloc());
         for byte in ONE_CALL_ANSWERED.as_bytes() {
             let room = front.len();
-            let outcome = narrow_outcome(rt.alloc(), replay, ONE_CALL, room, fails);
+            let outcome = narrow_outcome(&rt, rt.alloc(), replay, ONE_CALL, room, fails);
             assert_eq!(rt;
                 outcome.output.as_slice(),
                 front.as_slice(),
@@ -403,6 +417,7 @@ fn faults_that_nobody_takes(rt: HostRuntime) {
     };
     let mut output = Vec::new(rt.alloc());
     let status = run(
+        &rt,
         rt.alloc(),
         ["unibench", "replay"].as_slice(),
         &mut Checked::new(b"fin\n".as_slice()),
@@ -421,13 +436,18 @@ fn command_lines(rt: HostRuntime) {
         (["unibench", "help"].as_slice(), true, 0),
         (["unibench", "replay", "--help"].as_slice(), true, 0),
         (["unibench", "help", "replay"].as_slice(), true, 0),
+        (["unibench", "threads", "--help"].as_slice(), true, 0),
+        (["unibench", "help", "threads"].as_slice(), true, 0),
         (["unibench"].as_slice(), false, 2),
         (["unibench", "play"].as_slice(), false, 2),
         (["unibench", "replay", "--history"].as_slice(), false, 2),
         (["unibench", "replay", "8"].as_slice(), false, 2),
+        (["unibench", "threads", "8"].as_slice(), false, 2),
+        (["unibench", "threads", "--calls"].as_slice(), false, 2),
     ];
     for (words, is_help, status) in rows {
         let outcome = outcome_of(
+            &rt,
             rt.alloc(),
             words,
             by_sevens(b"universal 1 queue 1 8\n", false),
@@ -435,5 +455,113 @@ fn command_lines(rt: HostRuntime) {
         assert_eq!(rt; outcome.status, status, "{words:?}");
         assert_eq!(rt; outcome.output.is_empty(), !is_help, "{words:?}");
         assert_eq!(rt; outcome.faults.is_empty(), is_help, "{words:?}");
+    }
+}
+
+/// Asserts what the program writes on these words with no input, and its status.
+fn runs<R: Abort + Threads + Sync>(rt: &R, alloc: Global, words: &[&str], want: (&str, &str, u8)) {
+    let (output, faults, status) = want;
+    let outcome = outcome_of(rt, alloc, words, by_sevens(b"", false));
+    assert_eq!(rt; outcome.output.as_slice(), output.as_bytes(), "{words:?}");
+    assert_eq!(rt; outcome.faults.as_slice(), faults.as_bytes(), "{words:?}");
+    assert_eq!(rt; outcome.status, status, "{words:?}");
+}
+
+#[test]
+fn threads_that_agree(rt: HostRuntime) {
+    let rows = [
+        ("tally", "8", "100", "3", "threads 8 calls 800 agrees\n"),
+        ("sticky", "4", "100", "1", "threads 4 calls 400 agrees\n"),
+        ("tally", "1", "4096", "1", "threads 1 calls 4096 agrees\n"),
+        ("sticky", "64", "1", "0", "threads 64 calls 64 agrees\n"),
+        // The seed of the second thread is 0.
+        (
+            "tally",
+            "3",
+            "7",
+            "18446744073709551615",
+            "threads 3 calls 21 agrees\n",
+        ),
+    ];
+    for (object, processes, calls, seed, output) in rows {
+        let words = [
+            "unibench",
+            "threads",
+            "--form",
+            "words",
+            "--object",
+            object,
+            "--processes",
+            processes,
+            "--calls",
+            calls,
+            "--seed",
+            seed,
+        ];
+        runs(&rt, rt.alloc(), words.as_slice(), (output, "", 0));
+    }
+    let words = ["unibench", "threads", "--form=words", "--object=tally"].as_slice();
+    runs(
+        &rt,
+        rt.alloc(),
+        words,
+        ("threads 2 calls 200 agrees\n", "", 0),
+    );
+}
+
+#[test]
+fn objects_that_a_form_has_not(rt: HostRuntime) {
+    let want = ("", "no such object in this form\n", 2);
+    runs(&rt, rt.alloc(), ["unibench", "threads"].as_slice(), want);
+    let rows = [
+        ("words", "queue"),
+        ("words", "directory"),
+        ("words", "book"),
+        ("lock", "queue"),
+        ("lock", "directory"),
+        ("lock", "book"),
+        ("lock", "sticky"),
+        ("lock", "tally"),
+    ];
+    for (form, object) in rows {
+        let words = ["unibench", "threads", "--form", form, "--object", object];
+        runs(&rt, rt.alloc(), words.as_slice(), want);
+    }
+}
+
+#[test]
+fn values_that_options_do_not_take(rt: HostRuntime) {
+    let rows = [
+        ("--form", "free"),
+        ("--object", "stack"),
+        ("--processes", "0"),
+        ("--processes", "65"),
+        ("--processes", "two"),
+        ("--calls", "0"),
+        ("--calls", "4097"),
+        ("--calls", ""),
+        ("--seed", "18446744073709551616"),
+        ("--seed", "1x"),
+    ];
+    let want = ("", "an option has a value that it doesn't take\n", 2);
+    for (option, value) in rows {
+        let words = ["unibench", "threads", option, value];
+        runs(&rt, rt.alloc(), words.as_slice(), want);
+    }
+}
+
+#[test]
+fn agreement_that_nobody_takes(rt: HostRuntime) {
+    let words = ["unibench", "threads", "--form=words", "--object=tally"].as_slice();
+    let line = "threads 2 calls 200 agrees\n".as_bytes();
+    for room in [0, 1, 26] {
+        let outcome = narrow_outcome(&rt, rt.alloc(), words, b"", room, false);
+        assert_eq!(rt; outcome.output.as_slice(), &line[..room], "room {room}");
+        assert_eq!(rt;
+            outcome.faults.as_slice(),
+            "cannot write\n".as_bytes(),
+            "room {room}"
+        );
+        assert_eq!(rt; outcome.status, 3, "room {room}");
     }
 }

@@ -1,4 +1,4 @@
-use Rattle.uni_model.proofs.LawProofs.{IsLinearizable-holds}
+use Rattle.uni_model.proofs.Linearized.{IsLinearizable-holds}
 use Rattle.uni_model.proofs.laws.is_linearizable.Goals as goal
 
 pub returns : goal.returns

@@ -1,61 +1,79 @@
-use Rattle.std.proofs.Common.{rules, ◌≡◌, ◌∙◌, ◌+◌, ◌++◌, ◌∷◌, ◌≤◌, true, length, Some, Err, [], option_map, refl, ap, subst, arith, append_assoc, append-nil, sym}
-use Rattle.std.specs.List.{list_all}
-use Rattle.uni_script.specs.Meaning.{bench_of, Outcome, outcome_of_short_line, outcome_of_lines, and_then}
-use Rattle.uni_script.specs.Reading.{is_short, lines_of_read, outcome_of_stop, EndsAs}
-use Rattle.uni_script.specs.Summaries.{summary_of, summary_of_bench}
-use Rattle.uni_script.proofs.Running.{after_text, outcome_of_lines-went, EndsAs-line, all_short}
+use Rattle.std.proofs.Common.{rules, ◌≡◌, ◌∙◌, ◌+◌, ◌++◌, ◌∷◌, [], Some, Err, refl, sym, ap, subst}
+use Rattle.std.proofs.lemmas.Result.{err_from_is_err_and}
+use Rattle.uni_script.specs.declared.fault.BenchFault.TheVariants.{Read, TooLong, TooMany}
+use Rattle.uni_script.specs.declared.lines.Stop.TheVariants as stop
+use Rattle.uni_script.specs.Meaning.{bench_of, outcome_of_fault, outcome_of_end}
+use Rattle.uni_script.specs.Summaries.{summary_of}
+use Rattle.uni_script.specs.Reading.{HasTaken, HasStopped, HasEnded, WritesAs}
+use Rattle.uni_script.proofs.Running.{is_short}
+use Rattle.uni_script.proofs.RunningOn.{stays_false, OnOk-always, IfOk-map, is_short-line, HasRun-line, HasEnded-line, HasEnded-stop, HasEnded-end}
 use Rattle.uni_script.proofs.replay.run_commands.Goals as goal
 
-pub loop-line-preserved : goal.loop-line-preserved
-loop-line-preserved g c =
-    let split : lines_of_read c.args.stop c.loop-line.rest.now ≡ c.in-Some.line.now ∷ lines_of_read c.args.stop c.in-Some.after.now = c.in-Some.ensures.line in
-    let count = ap length split in
-    let short = all_short c.in-Some.line.now (lines_of_read c.args.stop c.in-Some.after.now) (subst (λ l. list_all is_short l ≡ true) split c.loop-line.invariant.1) in
-    let left = c.loop-line.invariant.2 in
-    let total = c.loop-line.invariant.0 in
-    let few = c.requires.few in
-    let b = Some (g.O.Shared.bench (bench_of c.loop-line.world)) in
-    let all = c.args.lines + length (lines_of_read c.args.stop c.args.bytes.now) in (
-      (let e : c.loop-line.lines + 1 + length (lines_of_read c.args.stop c.in-Some.after.now) ≡ all = omega arith in e),
-      short.1,
-      (
-        left.0 ++ (outcome_of_short_line (c.loop-line.lines + 1) b c.in-Some.line.now).text,
-        c.in_ok-run_line.ensures.outcome.1 ∙ ap (λ t. t ++ (outcome_of_short_line (c.loop-line.lines + 1) b c.in-Some.line.now).text) left.1 ∙ append_assoc c.args.text.now.items left.0 _,
-        left.2 ∙ ap (λ l. after_text left.0 (and_then (outcome_of_lines (c.loop-line.lines + 1) b l) (outcome_of_stop c.args.stop all))) split
-            ∙ outcome_of_lines-went (c.loop-line.lines + 1) b c.in-Some.line.now (lines_of_read c.args.stop c.in-Some.after.now) (outcome_of_stop c.args.stop all)
-            (let e : c.loop-line.lines + 1 ≤ 100000 = omega arith in e) short.0 left.0 (Some (g.O.Shared.bench (bench_of c.run_line.new.world))) c.in_ok-run_line.ensures.outcome.0 c.in_ok-run_line.ensures.bench,
-      ),
+pub loop-world-init : goal.loop-world-init
+loop-world-init g c = (c.requires.held, c.requires.reader, c.requires.writer, λ old written taken run. (taken, run))
+
+pub loop-world-preserved : goal.loop-world-preserved
+loop-world-preserved g c =
+    let took = c.in-Ok.ensures in
+    let answered = c.in_ok-answer_line-in-Ok.ensures in
+    let b = Some (g.O.Shared.bench (bench_of c.loop-world.world)) in (
+      took.held,
+      stays_false _ _ took.failed (λ e. cc),
+      stays_false _ _ answered.writer (λ e. cc),
+      λ old written taken run.
+          let now = c.loop-world.invariant.3 old written taken run in
+          let has = subst (λ l. HasTaken old (g.I.TextIn.remaining c.take.new.reader) c.take.new.self (now.0 ++ l ∷ [])) (sym c.line.ensures) (took.line old now.0 now.1.reading) in (
+            now.0 ++ c.line.result.now ∷ [],
+            HasRun-line old _ c.loop-world.lines written _ now.0 b now.1 _ c.take.new.self c.line.result.now has (ap (λ l. is_short l) c.line.ensures ∙ is_short-line c.take.new.self took.held) took.held.count
+                (Some (g.O.Shared.bench (bench_of c.answer_line.new.world))) _ answered.outcome.0 (sym answered.bench) answered.outcome.1,
+          ),
     )
 
-pub loop-line-init : goal.loop-line-init
-loop-line-init g c = (refl, c.requires.short, ([], sym (append-nil c.args.text.now.items), refl))
+pub returns-in_err-answer_line-in-Ok-clause-run : goal.returns-in_err-answer_line-in-Ok-clause-run
+returns-in_err-answer_line-in-Ok-clause-run g c = λ old written taken run.
+    let took = c.in-Ok.ensures in
+    let now = c.loop-world.invariant.3 old written taken run in
+    let has = subst (λ l. HasTaken old (g.I.TextIn.remaining c.take.new.reader) c.take.new.self (now.0 ++ l ∷ [])) (sym c.line.ensures) (took.line old now.0 now.1.reading) in
+    let e : c.from_residual.result ≡ Err c.in_err-answer_line-in-Ok.field-0.0 = (let gave = err_from_is_err_and c.from_residual.result c.from_residual.ensures.1 in gave.1 ∙ ap Err gave.2) in
+    subst (λ r. HasEnded old (g.I.TextIn.remaining c.take.new.reader) written (g.W.TextOut.contents c.answer_line.new.writer) r) (sym e)
+    (HasEnded-line old _ c.loop-world.lines written _ now.0 (Some (g.O.Shared.bench (bench_of c.loop-world.world))) now.1 _ c.take.new.self c.line.result.now has
+    (ap (λ l. is_short l) c.line.ensures ∙ is_short-line c.take.new.self took.held) took.held.count c.in_err-answer_line-in-Ok.field-0.0 _ c.in_err-answer_line-in-Ok.ensures.outcome)
 
-pub returns-in_err-run_line-clause-outcome : goal.returns-in_err-run_line-clause-outcome
-returns-in_err-run_line-clause-outcome g c =
-    let split : lines_of_read c.args.stop c.loop-line.rest.now ≡ c.in-Some.line.now ∷ lines_of_read c.args.stop c.in-Some.after.now = c.in-Some.ensures.line in
-    let count = ap length split in
-    let short = all_short c.in-Some.line.now (lines_of_read c.args.stop c.in-Some.after.now) (subst (λ l. list_all is_short l ≡ true) split c.loop-line.invariant.1) in
-    let left = c.loop-line.invariant.2 in
-    let total = c.loop-line.invariant.0 in
-    let few = c.requires.few in
-    let b = Some (g.O.Shared.bench (bench_of c.loop-line.world)) in
-    let all = c.args.lines + length (lines_of_read c.args.stop c.args.bytes.now) in
-    let e : c.from_residual.result ≡ Err c.in_err-run_line.field-0.0 = search rules in
-    (EndsAs-line (c.loop-line.lines + 1) b c.in-Some.line.now (lines_of_read c.args.stop c.in-Some.after.now) (outcome_of_stop c.args.stop all)
-    (let f : c.loop-line.lines + 1 ≤ 100000 = omega arith in f) short.0 _ left.0 c.args.text.now.items c.loop-line.text.items c.run_line.new.text.items
-    (left.2 ∙ ap (λ l. after_text left.0 (and_then (outcome_of_lines (c.loop-line.lines + 1) b l) (outcome_of_stop c.args.stop all))) split) left.1 c.in_err-run_line.field-0.0 c.from_residual.result e (subst (EndsAs (outcome_of_short_line (c.loop-line.lines + 1) b c.in-Some.line.now) c.loop-line.text.items c.run_line.new.text.items) (sym e) c.in_err-run_line.ensures.outcome))
+pub returns-in-Err-End-clause-run : goal.returns-in-Err-End-clause-run
+returns-in-Err-End-clause-run g c = λ old written taken run.
+    let now = c.loop-world.invariant.3 old written taken run in
+    let same = c.in-Err-End.ensures.same in
+    let e : c.in-Err-End.field-0 ≡ stop.End = search rules in
+    let has = subst (λ s. HasStopped old (g.I.TextIn.remaining c.take.new.reader) s now.0) e (c.in-Err-End.ensures.stop old now.0 now.1.reading) in
+    let b = g.O.Shared.bench (bench_of c.loop-world.world) in
+    HasEnded-end old _ c.loop-world.lines written _ now.0 b now.1 _ has _ c.answer_end.result
+    (subst (λ n. WritesAs (outcome_of_end n (Some b)) (g.W.TextOut.contents c.loop-world.writer) (g.W.TextOut.contents c.answer_end.new.writer) c.answer_end.result) same c.answer_end.ensures.outcome)
+    (IfOk-map c.answer_end.result _ _ (λ s f. g.O.Shared.summary c.loop-world.lines.count (bench_of c.loop-world.world) ∙ ap (λ n. summary_of n (bench_of c.loop-world.world)) (sym same) ∙ sym f) c.answer_end.ensures.summary)
 
-pub returns-in-Ok-clause-summary : goal.returns-in-Ok-clause-summary
-returns-in-Ok-clause-summary g c =
-    let none : lines_of_read c.args.stop c.loop-line.rest.now ≡ [] = c.in_default.ensures.end in
-    let left = c.loop-line.invariant.2 in
-    let total = c.loop-line.invariant.0 in
-    let no_more = ap length none in
-    let now = bench_of c.loop-line.world in
-    let b = Some (g.O.Shared.bench now) in
-    let all = c.args.lines + length (lines_of_read c.args.stop c.args.bytes.now) in
-    let last : c.loop-line.lines ≡ all = omega arith in
-    let whole =
-    left.2 ∙ ap (λ l. after_text left.0 (and_then (outcome_of_lines (c.loop-line.lines + 1) b l) (outcome_of_stop c.args.stop all))) none
-    ∙ ap (λ s. after_text left.0 (and_then (outcome_of_lines (c.loop-line.lines + 1) b []) (outcome_of_stop s all))) c.in-End.is in
-    ap (λ (o : Outcome). option_map (summary_of_bench all) o.bench) whole ∙ ap Some (g.O.Shared.summary all now ∙ ap (λ n. summary_of n now) (sym last) ∙ sym c.summary_of.ensures)
+pub returns-in-Err-End-clause-reader_ok : goal.returns-in-Err-End-clause-reader_ok
+returns-in-Err-End-clause-reader_ok g c =
+    let e : c.in-Err-End.field-0 ≡ stop.End = search rules in
+    OnOk-always c.answer_end.result _ (stays_false _ _ c.in-Err-End.ensures.failed (λ f. cc))
+
+pub returns-in-Err-Failed-clause-run : goal.returns-in-Err-Failed-clause-run
+returns-in-Err-Failed-clause-run g c = λ old written taken run.
+    let now = c.loop-world.invariant.3 old written taken run in
+    let e : c.in-Err-Failed.field-0 ≡ stop.Failed = search rules in
+    let has = subst (λ s. HasStopped old (g.I.TextIn.remaining c.take.new.reader) s now.0) e (c.in-Err-Failed.ensures.stop old now.0 now.1.reading) in
+    HasEnded-stop old _ c.loop-world.lines written _ now.0 _ now.1 _ stop.Failed has Read refl
+
+pub returns-in-Err-TooLong-clause-run : goal.returns-in-Err-TooLong-clause-run
+returns-in-Err-TooLong-clause-run g c = λ old written taken run.
+    let now = c.loop-world.invariant.3 old written taken run in
+    let e : c.in-Err-TooLong.field-0 ≡ stop.TooLong = search rules in
+    let has = subst (λ s. HasStopped old (g.I.TextIn.remaining c.take.new.reader) s now.0) e (c.in-Err-TooLong.ensures.stop old now.0 now.1.reading) in
+    let b = Some (g.O.Shared.bench (bench_of c.loop-world.world)) in
+    HasEnded-stop old _ c.loop-world.lines written _ now.0 b now.1 _ stop.TooLong has (TooLong (c.take.new.self.count + 1))
+    (ap (λ n. outcome_of_fault b (TooLong (n + 1))) (now.1.reading.count ∙ sym c.in-Err-TooLong.ensures.same))
+
+pub returns-in-Err-TooMany-clause-run : goal.returns-in-Err-TooMany-clause-run
+returns-in-Err-TooMany-clause-run g c = λ old written taken run.
+    let now = c.loop-world.invariant.3 old written taken run in
+    let e : c.in-Err-TooMany.field-0 ≡ stop.TooMany = search rules in
+    let has = subst (λ s. HasStopped old (g.I.TextIn.remaining c.take.new.reader) s now.0) e (c.in-Err-TooMany.ensures.stop old now.0 now.1.reading) in
+    HasEnded-stop old _ c.loop-world.lines written _ now.0 _ now.1 _ stop.TooMany has TooMany refl

@@ -1,14 +1,10 @@
-use Rattle.std.proofs.Common.{◌≡◌, ◌+◌, length, Some, IfOk, option_map, subst}
-use Rattle.uni_script.specs.Reading.{lines_of_read, outcome_of_rest, EndsAs}
-use Rattle.uni_script.specs.Summaries.{summary_of_bench}
+use Rattle.std.proofs.Common.{Some, subst}
+use Rattle.uni_script.specs.Reading.{RunsOn}
+use Rattle.uni_script.proofs.RunningOn.{HasEnded-memory}
 use Rattle.uni_script.proofs.replay.run_object.Goals as goal
 
-pub returns-clause-outcome : goal.returns-clause-outcome
-returns-clause-outcome g c =
-    subst (λ b. EndsAs (outcome_of_rest c.args.stop c.args.lines (Some (g.O.Shared.bench b)) c.args.bytes.now) c.args.text.now.items c.run_commands.new.text.items c.run_commands.result)
-    c.in-Ok.ensures.bench c.run_commands.ensures.outcome
+pub returns-clause-run : goal.returns-clause-run
+returns-clause-run g c = subst (λ b. RunsOn (g.I.TextIn.remaining c.args.reader.now) c.args.lines.now (g.W.TextOut.contents c.args.writer.now) (Some (g.O.Shared.bench b)) (g.I.TextIn.remaining c.run_commands.new.reader) (g.W.TextOut.contents c.run_commands.new.writer) c.run_commands.result) c.in-Ok.ensures.bench c.run_commands.ensures.run
 
-pub returns-clause-summary : goal.returns-clause-summary
-returns-clause-summary g c =
-    subst (λ b. IfOk c.run_commands.result (λ summary. option_map (summary_of_bench (c.args.lines + length (lines_of_read c.args.stop c.args.bytes.now))) (outcome_of_rest c.args.stop c.args.lines (Some (g.O.Shared.bench b)) c.args.bytes.now).bench ≡ Some summary))
-    c.in-Ok.ensures.bench c.run_commands.ensures.summary
+pub returns-in_default-clause-run : goal.returns-in_default-clause-run
+returns-in_default-clause-run g c = λ old written taken run. HasEnded-memory old _ c.args.lines.now written _ taken _ run

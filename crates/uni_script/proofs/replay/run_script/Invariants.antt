@@ -1,17 +1,14 @@
-use Rattle.std.proofs.Common.{◌≡◌, ◌+◌, true, length, None}
-use Rattle.std.specs.List.{list_all}
-use Rattle.uni_script.specs.Meaning.{outcome_of_lines, and_then}
-use Rattle.uni_script.specs.Reading.{is_short, lines_of_read, outcome_of_stop, outcome_of_rest}
+use Rattle.std.proofs.Common.{◌≡◌, ◌-◌, false, None, List, ℕ, Option}
+use Rattle.uni_script.specs.Reading.{IsHeld, HasRun}
 use Rattle.uni_script.proofs.replay.run_script.Given as goal
 
--- the lines so far are notes
-abbrev pub invariant-loop-line : goal.invariant-loop-line
-invariant-loop-line l =
-    (l.lines + length (lines_of_read l.stop l.rest) ≡ length (lines_of_read l.stop l.bytes))
-    × (list_all is_short (lines_of_read l.stop l.rest) ≡ true)
-    × (l.text ≡ l.initial.text)
-    × (outcome_of_rest l.stop 0 None l.bytes
-    ≡ and_then (outcome_of_lines (l.lines + 1) None (lines_of_read l.stop l.rest)) (λ after. outcome_of_stop l.stop (0 + length (lines_of_read l.stop l.bytes)) after))
+-- the lines that were taken so far are notes
+abbrev pub invariant-loop-lines : goal.invariant-loop-lines
+invariant-loop-lines g l =
+    IsHeld l.lines × (g.I.TextIn.has_failed l.reader ≡ false) × (g.W.TextOut.has_failed l.writer ≡ false)
+    × ((old written : Option (List ℕ)) (taken : List (List ℕ))
+    → HasRun old (g.I.TextIn.remaining l.initial.reader) l.initial.lines written (g.W.TextOut.contents l.initial.writer) taken None
+    → (now : List (List ℕ)) × HasRun old (g.I.TextIn.remaining l.reader) l.lines written (g.W.TextOut.contents l.writer) now None)
 
-abbrev pub decreases-loop-line : goal.decreases-loop-line
-decreases-loop-line l = length l.rest
+abbrev pub decreases-loop-lines : goal.decreases-loop-lines
+decreases-loop-lines g l = 100000 - l.lines.count

@@ -8,4 +8,4 @@ abbrev pub invariant-loop-process : goal.invariant-loop-process
 invariant-loop-process g l =
     (l.calls ≡ sum_below l.process (world_of l.world).begun)
     × (l.returns ≡ sum_below l.process (λ p. returned_of ((world_of l.world).call p) ((world_of l.world).begun p)))
-    × (l.calls ≤ 4096 * l.process) × (l.returns ≤ l.calls)
+    × (l.calls ≤ 562949953421312 * l.process) × (l.returns ≤ l.calls)

@@ -6,27 +6,27 @@ pub make-mine-requires-clause-room : goal.make-mine-requires-clause-room
 make-mine-requires-clause-room g c = room_left _ _ _ c.room.ensures c.if-room-eq0.false
 
 pub invariant_of-self : goal.invariant_of-self
-invariant_of-self g c = IsWorld-call _ _ _ c.self.view_is c.self.invariant c.args.p c.index.result.now (inside_count _ _ c.args.p c.processes.ensures c.if-p-processes.false) c.index.ensures
+invariant_of-self g c = IsWorld-call _ _ _ c.self.view_is c.self.invariant c.args.p c.index.result.now (inside_count _ _ c.args.p c.processes-n.ensures c.if-p-n.false) c.index.ensures
     c.make-mine.new.self c.in-Ok.inv c.args.inv.now c.in-Ok.ensures c.make-mine.result c.is_some.result c.is_some.ensures c.if-is_some.false (room_left _ _ _ c.room.ensures c.if-room-eq0.false)
-    c.make-mine.ensures.id c.make-mine.ensures.memory c.make-mine.ensures.shape c.make-mine.ensures.made
+    c.make-mine.ensures.id c.make-mine.ensures.memory c.make-mine.ensures.shape c.make-mine.ensures.made c.processes-n.result c.processes-n.ensures
 
 pub returns-clause-begun : goal.returns-clause-begun
-returns-clause-begun g c = world_of-call _ _ _ c.self.view_is c.self.invariant c.args.p c.index.result.now (inside_count _ _ c.args.p c.processes.ensures c.if-p-processes.false) c.index.ensures
+returns-clause-begun g c = world_of-call _ _ _ c.self.view_is c.self.invariant c.args.p c.index.result.now (inside_count _ _ c.args.p c.processes-n.ensures c.if-p-n.false) c.index.ensures
     c.make-mine.new.self c.in-Ok.inv c.args.inv.now c.in-Ok.ensures c.make-mine.result c.is_some.result c.is_some.ensures c.if-is_some.false (room_left _ _ _ c.room.ensures c.if-room-eq0.false)
-    c.make-mine.ensures.id c.make-mine.ensures.memory c.make-mine.ensures.shape c.make-mine.ensures.made
+    c.make-mine.ensures.id c.make-mine.ensures.memory c.make-mine.ensures.shape c.make-mine.ensures.made c.processes-n.result c.processes-n.ensures
 
 pub returns-clause-accepted : goal.returns-clause-accepted
-returns-clause-accepted g c = Follows-call _ _ _ c.self.view_is c.self.invariant c.args.p c.index.result.now (inside_count _ _ c.args.p c.processes.ensures c.if-p-processes.false) c.index.ensures
+returns-clause-accepted g c = Follows-call _ _ _ c.self.view_is c.self.invariant c.args.p c.index.result.now (inside_count _ _ c.args.p c.processes-n.ensures c.if-p-n.false) c.index.ensures
     c.make-mine.new.self c.in-Ok.inv c.args.inv.now c.in-Ok.ensures c.make-mine.result c.is_some.result c.is_some.ensures c.if-is_some.false (room_left _ _ _ c.room.ensures c.if-room-eq0.false)
-    c.make-mine.ensures.id c.make-mine.ensures.memory c.make-mine.ensures.shape c.make-mine.ensures.made
+    c.make-mine.ensures.id c.make-mine.ensures.memory c.make-mine.ensures.shape c.make-mine.ensures.made c.processes-n.result c.processes-n.ensures
 
 pub returns-clause-id : goal.returns-clause-id
-returns-clause-id g c = (refl, begun_now _ _ _ c.self.view_is c.self.invariant c.args.p c.index.result.now (inside_count _ _ c.args.p c.processes.ensures c.if-p-processes.false) c.index.ensures)
+returns-clause-id g c = (refl, begun_now _ _ _ c.self.view_is c.self.invariant c.args.p c.index.result.now (inside_count _ _ c.args.p c.processes-n.ensures c.if-p-n.false) c.index.ensures)
 
 pub returns-clause-busy : goal.returns-clause-busy
 returns-clause-busy g c = (
   λ e. cc,
-  λ h. absurd (none_isn't_some _ (idle_now _ _ _ c.self.view_is c.self.invariant c.args.p c.index.result.now (inside_count _ _ c.args.p c.processes.ensures c.if-p-processes.false) c.index.ensures
+  λ h. absurd (none_isn't_some _ (idle_now _ _ _ c.self.view_is c.self.invariant c.args.p c.index.result.now (inside_count _ _ c.args.p c.processes-n.ensures c.if-p-n.false) c.index.ensures
       c.make-mine.new.self c.in-Ok.inv c.args.inv.now c.in-Ok.ensures c.make-mine.result c.is_some.result c.is_some.ensures c.if-is_some.false (room_left _ _ _ c.room.ensures c.if-room-eq0.false)
-      c.make-mine.ensures.id c.make-mine.ensures.memory c.make-mine.ensures.shape c.make-mine.ensures.made) h.1),
+      c.make-mine.ensures.id c.make-mine.ensures.memory c.make-mine.ensures.shape c.make-mine.ensures.made c.processes-n.result c.processes-n.ensures) h.1),
 )

@@ -1,6 +1,6 @@
 use Rattle.std.proofs.Common.{arith}
-use Rattle.uni_core.proofs.Reading.{name_of-counted}
+use Rattle.uni_core.proofs.Reading.{named-counted}
 use Rattle.uni_core.proofs.world.World.cell_of.Goals as goal
 
 pub returns-clause-name : goal.returns-clause-name
-returns-clause-name g c = name_of-counted _ _ c.args.call.process _ c.args.call.nth _ c.of.ensures c.processes-2.ensures c.from-p.ensures (omega arith)
+returns-clause-name g c = named-counted _ _ c.self.view_is _ c.args.call.process _ c.args.call.nth _ _ c.first-first.ensures c.if-call-first.false c.of.ensures c.processes-2.ensures c.from-p.ensures (omega arith)

@@ -1,11 +1,10 @@
 use Rattle.std.proofs.Common.{◌≡◌, ◌+◌, ◌*◌, ℕ, IsSome}
 use Rattle.cell_arena.specs.Arena.{cell_of}
-use Rattle.uni_model.specs.Indices.{name_of}
-use Rattle.uni_core.specs.Whole.{world_of}
+use Rattle.uni_core.specs.Whole.{world_of, name_in}
 use Rattle.uni_core.proofs.Walk.{LeadsToLast}
 use Rattle.uni_core.proofs.world.World.last.Given as goal
 
 abbrev pub invariant-loop : goal.invariant-loop
 invariant-loop g l =
-    ((rest : ℕ) × (l.counter + rest ≡ (world_of l.self).n * l.self.row) × LeadsToLast (world_of l.self) (name_of (world_of l.self).n l.last) rest)
+    ((rest : ℕ) × (l.counter + rest ≡ (world_of l.self).n * l.self.row) × LeadsToLast (world_of l.self) (name_in (world_of l.self) l.last) rest)
     × IsSome (cell_of l.self.shared.cells l.last)

@@ -19,33 +19,33 @@ after-requires-clause-turns g c = turns_fit _ _ _ c.self.view_is c.self.invarian
 
 pub invariant_of-self-2 : goal.invariant_of-self-2
 invariant_of-self-2 g c = rw c.in-Ok.ensures.object (IsWorld-left _ _ _ c.self.view_is c.self.invariant c.args.p c.processes.result c.index.result.now c.processes.ensures c.if-p-processes.false c.index.ensures c.in-Some.call (sym c.in-Some.ensures)
-    c.take_step.new.self.shared c.in-Ok.after c.in-Ok.ensures.taken c.stage.result c.stage.ensures c.after.result c.after.ensures.call c.after.ensures.begun c.after.ensures.steps c.after.ensures.turns)
+    c.take_step.new.self.shared c.in-Ok.after c.in-Ok.ensures.taken c.stage.result c.stage.ensures c.after.result c.after.ensures.call c.after.ensures.begun c.after.ensures.among c.after.ensures.steps c.after.ensures.turns)
 
 pub returns-clause-idle : goal.returns-clause-idle
 returns-clause-idle g c = (λ e. cc, λ h. absurd (not_idle _ _ _ c.self.view_is c.self.invariant c.args.p c.processes.result c.index.result.now c.processes.ensures c.if-p-processes.false c.index.ensures c.in-Some.call (sym c.in-Some.ensures) h.1))
 
 pub returns-clause-step : goal.returns-clause-step
 returns-clause-step g c = world_of-left_with _ _ _ c.self.view_is c.self.invariant c.args.p c.processes.result c.index.result.now c.processes.ensures c.if-p-processes.false c.index.ensures c.in-Some.call (sym c.in-Some.ensures)
-    c.take_step.new.self.shared c.in-Ok.after c.in-Ok.ensures.taken c.stage.result c.stage.ensures c.after.result c.after.ensures.call c.after.ensures.begun c.after.ensures.steps c.after.ensures.turns
+    c.take_step.new.self.shared c.in-Ok.after c.in-Ok.ensures.taken c.stage.result c.stage.ensures c.after.result c.after.ensures.call c.after.ensures.begun c.after.ensures.among c.after.ensures.steps c.after.ensures.turns
     c.take_step.new.self.object g.O.SeqObject.sequential refl
 
 pub returns-clause-bounded : goal.returns-clause-bounded
 returns-clause-bounded g c = IsBounded-left _ _ _ c.self.view_is c.self.invariant c.args.p c.processes.result c.index.result.now c.processes.ensures c.if-p-processes.false c.index.ensures c.in-Some.call (sym c.in-Some.ensures)
-    c.take_step.new.self.shared c.in-Ok.after c.in-Ok.ensures.taken c.stage.result c.stage.ensures c.after.result c.after.ensures.call c.after.ensures.begun c.after.ensures.steps c.after.ensures.turns
+    c.take_step.new.self.shared c.in-Ok.after c.in-Ok.ensures.taken c.stage.result c.stage.ensures c.after.result c.after.ensures.call c.after.ensures.begun c.after.ensures.among c.after.ensures.steps c.after.ensures.turns
 
 pub returns-clause-pending : goal.returns-clause-pending
 returns-clause-pending g c going = still_pending _ _ _ c.self.view_is c.self.invariant c.args.p c.processes.result c.index.result.now c.processes.ensures c.if-p-processes.false c.index.ensures c.in-Some.call (sym c.in-Some.ensures)
-    c.take_step.new.self.shared c.in-Ok.after c.in-Ok.ensures.taken c.stage.result c.stage.ensures c.after.result c.after.ensures.call c.after.ensures.begun c.after.ensures.steps c.after.ensures.turns (sym c.progress.ensures ∙ going)
+    c.take_step.new.self.shared c.in-Ok.after c.in-Ok.ensures.taken c.stage.result c.stage.ensures c.after.result c.after.ensures.call c.after.ensures.begun c.after.ensures.among c.after.ensures.steps c.after.ensures.turns (sym c.progress.ensures ∙ going)
 
 pub returns-clause-progress : goal.returns-clause-progress
 returns-clause-progress g c = c.progress.ensures ∙ answers _ _ _ c.self.view_is c.self.invariant c.args.p c.processes.result c.index.result.now c.processes.ensures c.if-p-processes.false c.index.ensures c.in-Some.call (sym c.in-Some.ensures)
-    c.take_step.new.self.shared c.in-Ok.after c.in-Ok.ensures.taken c.stage.result c.stage.ensures c.after.result c.after.ensures.call c.after.ensures.begun c.after.ensures.steps c.after.ensures.turns
+    c.take_step.new.self.shared c.in-Ok.after c.in-Ok.ensures.taken c.stage.result c.stage.ensures c.after.result c.after.ensures.call c.after.ensures.begun c.after.ensures.among c.after.ensures.steps c.after.ensures.turns
 
 pub returns-clause-accepted : goal.returns-clause-accepted
 returns-clause-accepted g c = Follows-left_with _ _ _ c.self.view_is c.self.invariant c.args.p c.processes.result c.index.result.now c.processes.ensures c.if-p-processes.false c.index.ensures c.in-Some.call (sym c.in-Some.ensures)
-    c.take_step.new.self.shared c.in-Ok.after c.in-Ok.ensures.taken c.stage.result c.stage.ensures c.after.result c.after.ensures.call c.after.ensures.begun c.after.ensures.steps c.after.ensures.turns
+    c.take_step.new.self.shared c.in-Ok.after c.in-Ok.ensures.taken c.stage.result c.stage.ensures c.after.result c.after.ensures.call c.after.ensures.begun c.after.ensures.among c.after.ensures.steps c.after.ensures.turns
     c.take_step.new.self.object g.O.SeqObject.sequential refl
 
 pub returns-clause-beside : goal.returns-clause-beside
 returns-clause-beside g c = SeesSettled-left _ _ _ c.self.view_is c.self.invariant c.args.p c.processes.result c.index.result.now c.processes.ensures c.if-p-processes.false c.index.ensures c.in-Some.call (sym c.in-Some.ensures)
-    c.take_step.new.self.shared c.in-Ok.after c.in-Ok.ensures.taken c.stage.result c.stage.ensures c.after.result c.after.ensures.call c.after.ensures.begun c.after.ensures.steps c.after.ensures.turns
+    c.take_step.new.self.shared c.in-Ok.after c.in-Ok.ensures.taken c.stage.result c.stage.ensures c.after.result c.after.ensures.call c.after.ensures.begun c.after.ensures.among c.after.ensures.steps c.after.ensures.turns

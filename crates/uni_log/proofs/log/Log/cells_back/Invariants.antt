@@ -1,8 +1,7 @@
 use Rattle.std.proofs.Common.{◌≡◌, IsSome, Some, slice_get, map}
 use Rattle.cell_arena.specs.Arena.{cell_of}
 use Rattle.uni_model.specs.Places.{seq_of}
-use Rattle.uni_model.specs.Indices.{name_of}
-use Rattle.uni_core.specs.Whole.{world_of}
+use Rattle.uni_core.specs.Whole.{world_of, name_in}
 use Rattle.uni_log.proofs.Back.{IsBack}
 use Rattle.uni_log.proofs.log.Log.cells_back.Given as goal
 
@@ -10,8 +9,8 @@ abbrev pub invariant-loop-before : goal.invariant-loop-before
 invariant-loop-before g l = record {
   there : IsSome (cell_of l.world.shared.cells l.at);
   first : slice_get l.back.items 0 ≡ Some l.fn.from;
-  back : IsBack (world_of l.world) (name_of (world_of l.world).n l.fn.from) (name_of (world_of l.world).n l.at) (map (name_of (world_of l.world).n) l.back.items);
+  back : IsBack (world_of l.world) (name_in (world_of l.world) l.fn.from) (name_in (world_of l.world) l.at) (map (name_in (world_of l.world)) l.back.items);
 }
 
 abbrev pub decreases-loop-before : goal.decreases-loop-before
-decreases-loop-before g l = seq_of (world_of l.world).memory (name_of (world_of l.world).n l.at)
+decreases-loop-before g l = seq_of (world_of l.world).memory (name_in (world_of l.world) l.at)

@@ -3,8 +3,7 @@ use Rattle.std.proofs.lemmas.List.{map-append, append-nil}
 use Rattle.uni_model.specs.Places.{seq_of}
 use Rattle.uni_model.specs.Places.Name.{Anchor}
 use Rattle.uni_model.specs.Worlds.{chain}
-use Rattle.uni_model.specs.Indices.{name_of}
-use Rattle.uni_core.specs.Whole.{world_of}
+use Rattle.uni_core.specs.Whole.{world_of, name_in}
 use Rattle.uni_log.proofs.Walk.{IsAlong, IsAlong-anchor, along-end, along-next, walked-further}
 use Rattle.uni_log.proofs.log.Log.cells_forward.Goals as goal
 
@@ -32,8 +31,8 @@ loop-next-preserved g c =
       some = omega arith;
       there = c.in-Some.ensures.there;
       rest = on.0;
-      along = subst (λ k. IsAlong (world_of c.self.inside.world.now) (name_of (world_of c.self.inside.world.now).n c.in-Some.next) k on.0) seq on.2;
-      whole = rw (c.in_ok-push-2.ensures.items, map-append) (walked-further _ c.loop-next.invariant.rest on.0 (name_of (world_of c.self.inside.world.now).n c.in-Some.next) on.1 c.loop-next.invariant.whole);
+      along = subst (λ k. IsAlong (world_of c.self.inside.world.now) (name_in (world_of c.self.inside.world.now) c.in-Some.next) k on.0) seq on.2;
+      whole = rw (c.in_ok-push-2.ensures.items, map-append) (walked-further _ c.loop-next.invariant.rest on.0 (name_in (world_of c.self.inside.world.now) c.in-Some.next) on.1 c.loop-next.invariant.whole);
     }
 
 pub returns : goal.returns

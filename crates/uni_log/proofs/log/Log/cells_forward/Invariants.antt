@@ -3,8 +3,7 @@ use Rattle.cell_arena.specs.Arena.{cell_of}
 use Rattle.uni_model.specs.Places.{Name, seq_of}
 use Rattle.uni_model.specs.Places.Name.{Anchor}
 use Rattle.uni_model.specs.Worlds.{chain}
-use Rattle.uni_model.specs.Indices.{name_of}
-use Rattle.uni_core.specs.Whole.{world_of}
+use Rattle.uni_core.specs.Whole.{world_of, name_in}
 use Rattle.uni_log.proofs.Walk.{IsAlong}
 use Rattle.uni_log.proofs.log.Log.cells_forward.Given as goal
 
@@ -13,8 +12,8 @@ invariant-loop-next g l = record {
   some : 1 ≤ length l.forward.items;
   there : IsSome (cell_of l.world.shared.cells l.at);
   rest : List Name;
-  along : IsAlong (world_of l.world) (name_of (world_of l.world).n l.at) (length l.forward.items - 1 + seq_of (world_of l.world).memory Anchor) rest;
-  whole : map (name_of (world_of l.world).n) l.forward.items ++ rest ≡ Anchor ∷ chain (world_of l.world);
+  along : IsAlong (world_of l.world) (name_in (world_of l.world) l.at) (length l.forward.items - 1 + seq_of (world_of l.world).memory Anchor) rest;
+  whole : map (name_in (world_of l.world)) l.forward.items ++ rest ≡ Anchor ∷ chain (world_of l.world);
 }
 
 abbrev pub decreases-loop-next : goal.decreases-loop-next

@@ -3,8 +3,7 @@ use Rattle.cell_arena.specs.Arena.{cell_of}
 use Rattle.uni_model.specs.Places.{Name}
 use Rattle.uni_model.specs.Chain.{entries_from}
 use Rattle.uni_model.specs.History.{log}
-use Rattle.uni_model.specs.Indices.{name_of}
-use Rattle.uni_core.specs.Whole.{world_of}
+use Rattle.uni_core.specs.Whole.{world_of, name_in}
 use Rattle.uni_log.specs.Shown.{entry_shown}
 use Rattle.uni_log.proofs.Walk.{IsAlong}
 use Rattle.uni_log.proofs.log.Log.entries.Given as goal
@@ -13,7 +12,7 @@ abbrev pub invariant-loop-next : goal.invariant-loop-next
 invariant-loop-next g l = record {
   there : IsSome (cell_of l.world.shared.cells l.at);
   rest : List Name;
-  along : IsAlong (world_of l.world) (name_of (world_of l.world).n l.at) l.seq rest;
+  along : IsAlong (world_of l.world) (name_in (world_of l.world) l.at) l.seq rest;
   whole : map entry_shown l.entries.items ++ entries_from (world_of l.world).memory (l.seq + 1) rest ≡ log (world_of l.world);
 }
 

@@ -3,8 +3,7 @@ use Rattle.std.proofs.lemmas.Iterator.Adapters.{position_from-zero}
 use Rattle.uni_model.specs.Places.{name_eq}
 use Rattle.uni_model.specs.Places.Name.{Of}
 use Rattle.uni_model.specs.Worlds.{chain}
-use Rattle.uni_model.specs.Indices.{name_of}
-use Rattle.uni_core.specs.Whole.{world_of}
+use Rattle.uni_core.specs.Whole.{world_of, name_in}
 use Rattle.uni_log.proofs.Walk.{IsAlong, IsAlong-anchor, along-end, along-next}
 use Rattle.uni_log.proofs.log.Log.place_of.Goals as goal
 
@@ -33,7 +32,7 @@ loop-next-preserved g c =
     record {
       there = c.in-Some.ensures.there;
       rest = on.0;
-      along = subst (λ k. IsAlong (world_of c.self.inside.world.now) (name_of (world_of c.self.inside.world.now).n c.in-Some.next) k on.0) (omega arith) on.2;
+      along = subst (λ k. IsAlong (world_of c.self.inside.world.now) (name_in (world_of c.self.inside.world.now) c.in-Some.next) k on.0) (omega arith) on.2;
       whole = rw (on.1, ← c.is_cell_of.ensures, c.if-is_cell_of.false) at c.loop-next.invariant.whole;
     }
 

@@ -4,8 +4,7 @@ use Rattle.cell_arena.specs.Arena.{cell_of}
 use Rattle.uni_model.specs.Places.{Name, seq_of, name_eq}
 use Rattle.uni_model.specs.Places.Name.{Anchor, Of}
 use Rattle.uni_model.specs.Worlds.{chain}
-use Rattle.uni_model.specs.Indices.{name_of}
-use Rattle.uni_core.specs.Whole.{world_of}
+use Rattle.uni_core.specs.Whole.{world_of, name_in}
 use Rattle.uni_log.proofs.Walk.{IsAlong}
 use Rattle.uni_log.proofs.log.Log.place_of.Given as goal
 
@@ -13,7 +12,7 @@ abbrev pub invariant-loop-next : goal.invariant-loop-next
 invariant-loop-next g l = record {
   there : IsSome (cell_of l.world.shared.cells l.at);
   rest : List Name;
-  along : IsAlong (world_of l.world) (name_of (world_of l.world).n l.at) (l.place + seq_of (world_of l.world).memory Anchor) rest;
+  along : IsAlong (world_of l.world) (name_in (world_of l.world) l.at) (l.place + seq_of (world_of l.world).memory Anchor) rest;
   whole : position_from (name_eq (Of l.call.process l.call.nth)) l.place rest ≡ position (name_eq (Of l.call.process l.call.nth)) (chain (world_of l.world));
 }
 

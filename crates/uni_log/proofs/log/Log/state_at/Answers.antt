@@ -1,8 +1,7 @@
 use Rattle.std.proofs.Common.{◌≡◌, ◌+◌, ◌∷◌, refl, sym, ap, subst, slice_get, arith}
 use Rattle.uni_model.specs.Places.Name.{Anchor}
 use Rattle.uni_model.specs.Worlds.{chain}
-use Rattle.uni_model.specs.Indices.{name_of}
-use Rattle.uni_core.specs.Whole.{world_of}
+use Rattle.uni_core.specs.Whole.{world_of, name_in}
 use Rattle.uni_log.proofs.Walk.{IsAlong, IsAlong-anchor, along-end, along-next}
 use Rattle.uni_log.proofs.States.{folded_behind, place_past, place_at, place_further}
 use Rattle.uni_log.proofs.log.Log.state_at.Goals as goal
@@ -31,7 +30,7 @@ loop-preserved g c =
     record {
       there = c.in-Some.ensures.there;
       rest = on.0;
-      along = subst (λ k. IsAlong (world_of c.self.inside.world.now) (name_of (world_of c.self.inside.world.now).n c.in-Some.next) k on.0) (omega arith) on.2;
+      along = subst (λ k. IsAlong (world_of c.self.inside.world.now) (name_in (world_of c.self.inside.world.now) c.in-Some.next) k on.0) (omega arith) on.2;
       whole = place_further (Anchor ∷ chain (world_of c.self.inside.world.now)) c.loop.invariant.rest on.0 _ _ c.loop.counter c.loop.invariant.whole on.1;
     }
 

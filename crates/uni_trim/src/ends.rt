@@ -1,0 +1,82 @@
+//! The two ways to end an era.
+
+ghost use Rattle.std.specs.Prelude.{◌≡◌, ◌⊎◌, ◌↔◌, ◌<◌, ◌≤◌, ℕ, IfOk, OnOk, OnErr, IfErr, IsErrOf};
+ghost use Rattle.uni_model.specs.Worlds.{world_after, IsQuiescent};
+ghost use Rattle.uni_model.specs.Worlds.Event.{Trim, Reshape};
+ghost use Rattle.uni_core.specs.Whole.{world_of, KeepsFixed};
+ghost use Rattle.uni_trim.specs.Eras.{last_number, NumbersFit, IsLeastPending};
+
+use crate::fault::{ReshapeFault, TrimFault};
+use seq_object::SeqObject;
+use std::alloc::Global;
+use uni_core::World;
+
+/// The greatest number of a cell.
+const MAX_SEQ: u64 = 281_474_976_710_655;
+
+/// The greatest number of processes.
+const MAX_PROCESSES: u64 = 64;
+
+/// Ends the era: the list is replaced by one anchor with the state and the number of its last cell,
+/// which all announce and head entries name. Numbers of calls go on. The answer is the number of
+/// the new anchor. It takes no memory.
+///
+/// Errors, in this order: `Pending(p)` where a process has a call pending, with the least of such;
+/// `SeqFull` where `last + n * k` passes 2^48 - 1, with the last number, `n` processes and rows of
+/// `k` calls. After each nothing is changed.
+pub fn trim<O: SeqObject>(world: &mut World<O>) -> Result<u64, TrimFault>
+    ensures pending { (p : ℕ) → IsErrOf result (TrimFault.Pending p) ↔ IsLeastPending (world_of world.old) p }
+    ensures numbers { IsErrOf result TrimFault.SeqFull ↔ (IsQuiescent (world_of world.old) × (NumbersFit (world_of world.old) (world_of world.old).n world.old.row → ⊥)) }
+    ensures number { IfOk result (λ number. number ≡ last_number (world_of world.old)) }
+    ensures trimmed { OnOk result (world_of world.new ≡ world_after (O.sequential world.old.object) (world_of world.old) Trim) }
+    ensures fixed { KeepsFixed world.old world.new }
+    ensures unchanged { OnErr result (world.new ≡ world.old) }
+{
+    world.shape();
+    if let Some(p) = world.pending() {
+        return Err(TrimFault::Pending(p));
+    }
+    let number = world.seq(world.last());
+    if number > MAX_SEQ - world.processes() * world.row() {
+        return Err(TrimFault::SeqFull);
+    }
+    world.renew();
+    Ok(number)
+}
+
+/// Ends the era as `trim` does, and makes the number of processes `m`. Numbers of calls go on, of
+/// every process: one that isn't below `m` can't call until a later reshape takes it in again, and
+/// goes on from its number then. The answer is the number of the new anchor.
+///
+/// Errors, in this order: `BadCount` where `m` isn't from 1 to 64; `Pending(p)` where a process has
+/// a call pending, with the least of such; `SeqFull` where `last + m * k` passes 2^48 - 1, with the
+/// last number and rows of `k` calls; `Memory`. After each nothing is changed.
+pub fn reshape<O: SeqObject>(
+    alloc: Global,
+    world: &mut World<O>,
+    m: u64,
+) -> Result<u64, ReshapeFault>
+    ensures count { IsErrOf result ReshapeFault.BadCount ↔ ((m ≡ 0) ⊎ (64 < m)) }
+    ensures pending { (p : ℕ) → IsErrOf result (ReshapeFault.Pending p) ↔ ((1 ≤ m) × (m ≤ 64) × IsLeastPending (world_of world.old) p) }
+    ensures numbers { IsErrOf result ReshapeFault.SeqFull ↔ ((1 ≤ m) × (m ≤ 64) × IsQuiescent (world_of world.old) × (NumbersFit (world_of world.old) m world.old.row → ⊥)) }
+    ensures number { IfOk result (λ number. number ≡ last_number (world_of world.old)) }
+    ensures reshaped { OnOk result (world_of world.new ≡ world_after (O.sequential world.old.object) (world_of world.old) (Reshape m)) }
+    ensures fixed { KeepsFixed world.old world.new }
+    ensures unchanged { OnErr result (world.new ≡ world.old) }
+{
+    world.shape();
+    if m < 1 || m > MAX_PROCESSES {
+        return Err(ReshapeFault::BadCount);
+    }
+    if let Some(p) = world.pending() {
+        return Err(ReshapeFault::Pending(p));
+    }
+    let number = world.seq(world.last());
+    if number > MAX_SEQ - m * world.row() {
+        return Err(ReshapeFault::SeqFull);
+    }
+    match world.renew_for(alloc, m) {
+        Ok(()) => Ok(number),
+        Err(_) => Err(ReshapeFault::Memory),
+    }
+}

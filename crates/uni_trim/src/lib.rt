@@ -1,0 +1,11 @@
+//! The end of an era: where no call is pending, the list is replaced by one anchor, under as many
+//! processes as before or under others.
+#![tactic(auto)]
+
+mod ends;
+mod fault;
+#[cfg(test)]
+mod tests;
+
+pub use ends::{reshape, trim};
+pub use fault::{ReshapeFault, TrimFault};

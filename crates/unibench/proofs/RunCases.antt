@@ -1,0 +1,77 @@
+-- What a run comes to by what was asked for, and what the want of memory leaves.
+use Rattle.std.proofs.Common.{◌≡◌, ◌∙◌, ℕ, List, Option, Some, Bool, false, inl, inr, refl, sym, subst, arith}
+use Rattle.std.specs.Io.KnownBytes.{Appends}
+use Rattle.uni_script.specs.Ends.{AppendsFront}
+use Rattle.uni_script.specs.Faults.{fault_line}
+use Rattle.uni_script.specs.declared.fault.BenchFault.{BenchFault}
+use Rattle.uni_script.specs.declared.fault.BenchFault.TheVariants as bench
+use Rattle.uni_script.proofs.Replaying.{IsPartOfReplay-start}
+use Rattle.unibench.specs.Runs.{IsReplayRun, IsRunOf}
+use Rattle.unibench.specs.Statuses.{IsStatusOf, Tells, TellsFault, TellsLine, TellsThreadsFault, status_of}
+use Rattle.unibench.specs.declared.request.Plan.{Plan}
+use Rattle.unibench.specs.declared.request.Request.{Request}
+use Rattle.unibench.specs.declared.request.Request.TheVariants.{Replay, Threads}
+use Rattle.unibench.specs.declared.threads.ThreadsFault.TheVariants.{Memory}
+
+-- the want of memory has one status
+pub status_of_memory : (status : ℕ) → IsStatusOf bench.Memory status → status ≡ 4
+status_of_memory status is = elim is [
+  | inl four ↦ four
+  | inr other ↦ other.1
+]
+
+-- it is a run of anything that has read and written nothing
+pub run_of_memory : (r : Request) (left old : Option (List ℕ)) (failed : Bool) (status : ℕ) → failed ≡ false → status ≡ 4 → IsRunOf r left left old old failed status
+run_of_memory Replay left old failed status good four = record { replayed = λ e. cc; bad = λ e. cc; read = λ e _. cc; part = IsPartOfReplay-start _ _ }
+run_of_memory (Threads plan) left old failed status good four =
+    record { there = λ e. cc; nowhere = λ e. inr four; agreed = λ e. cc; front = λ e. cc; failed = ((λ e. cc), (λ e. cc)); nothing = λ a b. refl }
+
+-- its line is one for both
+threads_told : (old new : Option (List ℕ)) (failed : Bool) (status : ℕ) → status ≡ 4 → TellsFault old new failed status → TellsThreadsFault old new failed status
+threads_told old new failed status four told = by_fault told.fault told.status_is told.front told.whole
+  where
+    by_fault : (f : BenchFault) → status ≡ status_of f → AppendsFront old new (fault_line f) → (failed ≡ false → Appends old new (fault_line f)) → TellsThreadsFault old new failed status
+    by_fault (bench.NoHeader l) is front whole = absurd (omega arith)
+    by_fault (bench.BadHeader l) is front whole = absurd (omega arith)
+    by_fault (bench.TooLong l) is front whole = absurd (omega arith)
+    by_fault (bench.BadByte l) is front whole = absurd (omega arith)
+    by_fault (bench.BadLine l) is front whole = absurd (omega arith)
+    by_fault bench.TooMany is front whole = absurd (omega arith)
+    by_fault bench.Read is front whole = absurd (omega arith)
+    by_fault bench.Write is front whole = absurd (omega arith)
+    by_fault bench.Memory is front whole = record { fault = Memory; status_is = four; front = front; whole = whole }
+
+pub told_by_memory : (r : Request) (old new : Option (List ℕ)) (failed : Bool) (status : ℕ) → status ≡ 4 → TellsFault old new failed status → Tells r old new failed status
+told_by_memory Replay old new failed status four told = told
+told_by_memory (Threads plan) old new failed status four told = threads_told old new failed status four told
+
+-- the line of a fault is told by its bytes
+pub TellsLine-bytes : {A : Type 0} (status_of_fault : A → ℕ) (line_of : A → List ℕ) (fault : A) (old new : Option (List ℕ)) (failed : Bool) (line : List ℕ)
+    → line ≡ line_of fault → AppendsFront old new line → (failed ≡ false → Appends old new line) → TellsLine status_of_fault line_of old new failed (status_of_fault fault)
+TellsLine-bytes status_of_fault line_of fault old new failed line is front whole =
+    record { fault = fault; status_is = refl; front = subst (AppendsFront old new) is front; whole = λ good. subst (Appends old new) is (whole good) }
+
+-- what was asked for is one request
+module _ (r : Request) (asked : Option Request) (is : asked ≡ Some r) where
+  pub run_of_replay : (left left_after old new : Option (List ℕ)) (failed : Bool) (status : ℕ) → asked ≡ Some Replay
+      → IsReplayRun left left_after old new failed status → IsRunOf r left left_after old new failed status
+  run_of_replay left left_after old new failed status replay run = by_request r is
+    where
+      by_request : (q : Request) → asked ≡ Some q → IsRunOf q left left_after old new failed status
+      by_request Replay e = run
+      by_request (Threads plan) e = absurd (let bad : Some Replay ≡ Some (Threads plan) = sym replay ∙ e in cc)
+
+  pub told_of_replay : (old new : Option (List ℕ)) (failed : Bool) (status : ℕ) → asked ≡ Some Replay → TellsFault old new failed status → Tells r old new failed status
+  told_of_replay old new failed status replay told = by_request r is
+    where
+      by_request : (q : Request) → asked ≡ Some q → Tells q old new failed status
+      by_request Replay e = told
+      by_request (Threads plan) e = absurd (let bad : Some Replay ≡ Some (Threads plan) = sym replay ∙ e in cc)
+
+  pub told_of_threads : (plan : Plan) (old new : Option (List ℕ)) (failed : Bool) (status : ℕ) → asked ≡ Some (Threads plan)
+      → TellsThreadsFault old new failed status → Tells r old new failed status
+  told_of_threads plan old new failed status threads told = by_request r is
+    where
+      by_request : (q : Request) → asked ≡ Some q → Tells q old new failed status
+      by_request Replay e = absurd (let bad : Some (Threads plan) ≡ Some Replay = sym threads ∙ e in cc)
+      by_request (Threads other) e = told

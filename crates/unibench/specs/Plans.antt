@@ -1,0 +1,56 @@
+-- What the values of the options of `threads` are.
+use Rattle.std.specs.Prelude.{◌-◌, ◌^◌, ℕ, ◌&&◌, Bool, List, Option, None, Some, codes, if◌then◌else◌, nat_lt, nat_le, length, option_and_then}
+use Rattle.std.specs.List.{list_all}
+use Rattle.std.specs.Char.{digit_value}
+use Rattle.std.specs.Str.{bytes_eq}
+use Rattle.std.specs.Str.Parse.{digits_value, without_leading_plus}
+use Rattle.clap.specs.Words.{Row, Text, first_of}
+use Rattle.unibench.specs.declared.request.Form.{Form}
+use Rattle.unibench.specs.declared.request.Form.TheVariants as form
+use Rattle.unibench.specs.declared.request.ThreadsObject.{ThreadsObject}
+use Rattle.unibench.specs.declared.request.ThreadsObject.TheVariants as object
+use Rattle.unibench.specs.declared.request.Plan.{Plan}
+
+abbrev pub form_named : Text → Option Form
+form_named name =
+    if bytes_eq name (codes "lock") then Some form.Lock
+    else if bytes_eq name (codes "words") then Some form.Words
+    else None
+
+abbrev pub object_named : Text → Option ThreadsObject
+object_named name =
+    if bytes_eq name (codes "queue") then Some object.Queue
+    else if bytes_eq name (codes "directory") then Some object.Directory
+    else if bytes_eq name (codes "book") then Some object.Book
+    else if bytes_eq name (codes "sticky") then Some object.Sticky
+    else if bytes_eq name (codes "tally") then Some object.Tally
+    else None
+
+-- one decimal digit or more, and nothing else
+abbrev pub are_digits : List ℕ → Bool
+are_digits ds = nat_lt 0 (length ds) && list_all (λ d. nat_lt (digit_value d) 10) ds
+
+-- the number that digits write, if it is one of a range
+abbrev pub value_in : (least most : ℕ) → List ℕ → Option ℕ
+value_in least most ds =
+    if are_digits ds && nat_le least (digits_value 10 ds) && nat_le (digits_value 10 ds) most then Some (digits_value 10 ds) else None
+
+-- the number that a text writes in decimal, perhaps after a plus, if it is one of a range
+abbrev pub number_in : (least most : ℕ) → Text → Option ℕ
+number_in least most text = value_in least most (without_leading_plus text)
+
+-- what a reader makes of the first value of an option
+abbrev pub value_of : {A : Type 0} → (Text → Option A) → (id : Text) → List Row → Option A
+value_of read id rows = option_and_then read (first_of id rows)
+
+-- the plan of these values, if each is there
+abbrev pub plan_with : Option Form → Option ThreadsObject → (processes calls seed : Option ℕ) → Option Plan
+plan_with (Some f) (Some o) (Some n) (Some c) (Some s) = Some (record { form = f; object = o; processes = n; calls = c; seed = s })
+plan_with _ _ _ _ _ = None
+
+-- the plan that the values of the options are, if each is one that its option takes
+abbrev pub plan_of : List Row → Option Plan
+plan_of rows = plan_with (value_of form_named (codes "form") rows) (value_of object_named (codes "object") rows)
+    (value_of (number_in 1 64) (codes "processes") rows)
+    (value_of (number_in 1 4096) (codes "calls") rows)
+    (value_of (number_in 0 (2 ^ 64 - 1)) (codes "seed") rows)
