@@ -7,7 +7,7 @@ use Rattle.uni_model.specs.Stages.Stage.{Announce, ScanHead, Test, WriteHead, Fi
 use Rattle.uni_model.specs.Bound.{steps_at}
 use Rattle.uni_model.specs.Chain.{Entry}
 use Rattle.uni_model.specs.Frontier.{floor_of}
-use Rattle.uni_model.specs.Worlds.{WorldOf, Event, chain, opened_world, world_after_all, without_trims}
+use Rattle.uni_model.specs.Worlds.{WorldOf, Event, calls_in_era, chain, opened_world, world_after_all, without_trims}
 use Rattle.uni_model.specs.Worlds.Event.{Call, Step, Trim, Reshape}
 use Rattle.uni_model.specs.AtomicObject.Act.{Invoke, Linearize, Respond}
 use Rattle.uni_model.specs.History.{log, log_of_run, history_of}
@@ -197,6 +197,22 @@ trimmed_between-steps = refl
 trimmed_between-turns : (run 2 trimmed_between).turns 0 ≡ 1
 unfolding trimmed_between
 trimmed_between-turns = refl
+
+-- two processes with rows of one call: each makes its call, and after a trim process 0 makes its second
+row_again : List (Event QueueCall)
+row_again = Call 0 (Enq 1) ∷ (steps 0 16 ++ Call 1 Deq ∷ (steps 1 16 ++ Trim ∷ Call 0 (Enq 2) ∷ steps 0 16))
+
+row_again-log : log (run 2 row_again) ≡ entry 4 0 1 (Enq 2) Ok ∷ []
+unfolding row_again
+row_again-log = refl
+
+row_again-joined : log_of_run queue (opened_world 2 [] 1) row_again ≡ entry 2 0 0 (Enq 1) Ok ∷ entry 3 1 0 Deq (Value 1) ∷ entry 4 0 1 (Enq 2) Ok ∷ []
+unfolding row_again
+row_again-joined = refl
+
+row_again-calls : (calls_in_era (run 2 row_again) 0 ≡ 1) × ((run 2 row_again).begun 0 ≡ 2) × ((run 2 row_again).steps 0 ≡ 16)
+unfolding row_again
+row_again-calls = (refl, refl, refl)
 
 -- the joined log of a run of n processes over an empty queue, from number 1
 abbrev joined : ℕ → List (Event QueueCall) → List (Entry QueueCall QueueReply)
