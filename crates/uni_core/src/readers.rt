@@ -162,6 +162,14 @@ impl<O: SeqObject> World<O> {
         self.locals[p as usize].begun
     }
 
+    /// How many calls process `p` has begun in this era.
+    pub fn calls_in_era(&self, p: u64) -> u64
+        requires { p < (world_of self.now).n }
+        ensures { result ≡ calls_in_era (world_of self.now) p }
+    {
+        self.begun(p) - self.machine.shared.first(p)
+    }
+
     /// The cell of a call of this era; `None` where no such call was begun in it.
     pub fn cell_of(&self, call: CallId) -> Option<CellId>
         ensures begun { IsSome result ↔ ((call.process < (world_of self.now).n)

@@ -57,19 +57,24 @@ impl<O: SeqObject> Model for World<O> {
         (record { object = w.machine.object; row = w.row; shared = w.machine.shared; locals = w.locals.items }) };
 }
 
-/// Whether there can be `n` processes with rows of `k` calls. Errors, in this order: `BadCount` where
-/// `n` isn't from 1 to 64; `BadRow` where `k` isn't from 1 to 4096.
-fn counts_fit(n: u64, k: u64) -> Result<(), OpenFault>
+/// Whether there can be `n` processes with rows of `k` calls, from number `seq`. Errors, in this order:
+/// `BadCount` where `n` isn't from 1 to 64; `BadRow` where `k` isn't from 1 to 4096; `SeqFull` where
+/// `seq + n * k` passes 2^48 - 1.
+fn counts_fit(n: u64, k: u64, seq: u64) -> Result<(), OpenFault>
     ensures count { IsErrOf result OpenFault.BadCount ↔ ((n ≡ 0) ⊎ (64 < n)) }
     ensures row { IsErrOf result OpenFault.BadRow ↔ ((1 ≤ n) × (n ≤ 64) × ((k ≡ 0) ⊎ (4096 < k))) }
-    ensures others { IfErr result (λ e. (e ≡ OpenFault.BadCount) ⊎ (e ≡ OpenFault.BadRow)) }
-    ensures fits { OnOk result ((1 ≤ n) × (n ≤ 64) × (1 ≤ k) × (k ≤ 4096)) }
+    ensures numbers { IsErrOf result OpenFault.SeqFull ↔ ((1 ≤ n) × (n ≤ 64) × (1 ≤ k) × (k ≤ 4096) × (2 ^ 48 ≤ seq + n * k)) }
+    ensures others { IfErr result (λ e. (e ≡ OpenFault.BadCount) ⊎ (e ≡ OpenFault.BadRow) ⊎ (e ≡ OpenFault.SeqFull)) }
+    ensures fits { OnOk result ((1 ≤ n) × (n ≤ 64) × (1 ≤ k) × (k ≤ 4096) × (seq + n * k < 2 ^ 48)) }
 {
     if n < 1 || n > MAX_PROCESSES {
         return Err(OpenFault::BadCount);
     }
     if k < 1 || k > MAX_ROW {
         return Err(OpenFault::BadRow);
+    }
+    if seq > MAX_SEQ - n * k {
+        return Err(OpenFault::SeqFull);
     }
     Ok(())
 }
@@ -98,11 +103,33 @@ impl<O: SeqObject> World<O> {
         ensures opened { IfOk result (λ w. world_of w ≡ opened_world n ((O.sequential object).initial) 1) }
         ensures fixed { IfOk result (λ w. (w.object ≡ object) × (w.row ≡ k)) }
     {
-        counts_fit(n, k)?;
+        World::open_from(alloc, object, n, k, 1)
+    }
+
+    /// What `open` does, from number `seq`, which is at least 1.
+    ///
+    /// Errors, in this order: `BadCount` where `n` isn't from 1 to 64; `BadRow` where `k` isn't from 1
+    /// to 4096; `SeqFull` where `seq + n * k` passes 2^48 - 1; `Memory`. After each the object is
+    /// dropped.
+    pub fn open_from(
+        alloc: Global,
+        object: O,
+        n: u64,
+        k: u64,
+        seq: u64,
+    ) -> Result<World<O>, OpenFault>
+        requires { 1 ≤ seq }
+        ensures count { IsErrOf result OpenFault.BadCount ↔ ((n ≡ 0) ⊎ (64 < n)) }
+        ensures row { IsErrOf result OpenFault.BadRow ↔ ((1 ≤ n) × (n ≤ 64) × ((k ≡ 0) ⊎ (4096 < k))) }
+        ensures numbers { IsErrOf result OpenFault.SeqFull ↔ ((1 ≤ n) × (n ≤ 64) × (1 ≤ k) × (k ≤ 4096) × (2 ^ 48 ≤ seq + n * k)) }
+        ensures opened { IfOk result (λ w. world_of w ≡ opened_world n ((O.sequential object).initial) seq) }
+        ensures fixed { IfOk result (λ w. (w.object ≡ object) × (w.row ≡ k)) }
+    {
+        counts_fit(n, k, seq)?;
         let Ok(state) = object.start(alloc) else {
             return Err(OpenFault::Memory);
         };
-        World::open_at(alloc, object, n, k, state, 1)
+        World::open_at(alloc, object, n, k, state, seq)
     }
 
     /// A world of `n` processes over a state, from number `seq`, which is at least 1; each process can
@@ -126,10 +153,7 @@ impl<O: SeqObject> World<O> {
         ensures opened { IfOk result (λ w. world_of w ≡ opened_world n state seq) }
         ensures fixed { IfOk result (λ w. (w.object ≡ object) × (w.row ≡ k)) }
     {
-        counts_fit(n, k)?;
-        if seq > MAX_SEQ - n * k {
-            return Err(OpenFault::SeqFull);
-        }
+        counts_fit(n, k, seq)?;
         let Ok(locals) = copies(alloc, Local::new(), n) else {
             return Err(OpenFault::Memory);
         };
