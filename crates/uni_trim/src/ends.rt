@@ -1,6 +1,6 @@
 //! The two ways to end an era.
 
-ghost use Rattle.std.specs.Prelude.{◌≡◌, ◌⊎◌, ◌↔◌, ◌<◌, ◌≤◌, ℕ, IfOk, OnOk, OnErr, IfErr, IsErrOf};
+ghost use Rattle.std.specs.Prelude.{◌≡◌, ◌⊎◌, ◌↔◌, ◌<◌, ◌≤◌, ℕ, IfOk, IfSome, IsSome, OnOk, OnErr, IfErr, IsErrOf};
 ghost use Rattle.uni_model.specs.Worlds.{world_after, IsQuiescent};
 ghost use Rattle.uni_model.specs.Worlds.Event.{Trim, Reshape};
 ghost use Rattle.uni_core.specs.Whole.{world_of, KeepsFixed};
@@ -16,6 +16,22 @@ const MAX_SEQ: u64 = 281_474_976_710_655;
 
 /// The greatest number of processes.
 const MAX_PROCESSES: u64 = 64;
+
+/// The number that the next anchor would have, which is the last cell's, where the numbers of an era
+/// of `m` processes, at most 64, fit after it: `last + m * k` doesn't pass 2^48 - 1. `None` where they
+/// don't.
+pub fn next_number<O: SeqObject>(world: &World<O>, m: u64) -> Option<u64>
+    requires { m ≤ 64 }
+    ensures number { IfSome result (λ number. number ≡ last_number (world_of world.now)) }
+    ensures fits { IsSome result ↔ NumbersFit (world_of world.now) m world.now.row }
+{
+    world.shape();
+    let number = world.seq(world.last());
+    if number > MAX_SEQ - m * world.row() {
+        return None;
+    }
+    Some(number)
+}
 
 /// Ends the era: the list is replaced by one anchor with the state and the number of its last cell,
 /// which all announce and head entries name. Numbers of calls go on. The answer is the number of
@@ -36,10 +52,9 @@ pub fn trim<O: SeqObject>(world: &mut World<O>) -> Result<u64, TrimFault>
     if let Some(p) = world.pending() {
         return Err(TrimFault::Pending(p));
     }
-    let number = world.seq(world.last());
-    if number > MAX_SEQ - world.processes() * world.row() {
+    let Some(number) = next_number(world, world.processes()) else {
         return Err(TrimFault::SeqFull);
-    }
+    };
     world.renew();
     Ok(number)
 }
@@ -71,10 +86,9 @@ pub fn reshape<O: SeqObject>(
     if let Some(p) = world.pending() {
         return Err(ReshapeFault::Pending(p));
     }
-    let number = world.seq(world.last());
-    if number > MAX_SEQ - m * world.row() {
+    let Some(number) = next_number(world, m) else {
         return Err(ReshapeFault::SeqFull);
-    }
+    };
     match world.renew_for(alloc, m) {
         Ok(()) => Ok(number),
         Err(_) => Err(ReshapeFault::Memory),

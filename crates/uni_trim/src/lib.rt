@@ -7,5 +7,5 @@ mod fault;
 #[cfg(test)]
 mod tests;
 
-pub use ends::{reshape, trim};
+pub use ends::{next_number, reshape, trim};
 pub use fault::{ReshapeFault, TrimFault};
