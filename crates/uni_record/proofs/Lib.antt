@@ -3,3 +3,12 @@ pub mod Calls
 pub mod Faults
 pub mod Replay
 pub mod Meaning
+pub mod Owed
+pub mod Runs
+pub mod Paid
+pub mod Kept
+pub mod Begun
+pub mod Opened
+pub mod Ended
+pub mod Promised
+pub mod Commanded

@@ -1,2 +1,5 @@
 pub mod Verdicts
 pub mod Audited
+pub mod Stored
+pub mod Recording
+pub mod Commands

@@ -2,9 +2,25 @@
 #![tactic(auto)]
 
 mod checker;
+mod command;
+mod eras;
+mod event;
+mod fault;
+mod readers;
+mod recorded;
+#[cfg(test)]
+mod recorded_tests;
+mod room;
+mod run;
 #[cfg(test)]
 mod tests;
 mod verdict;
 
 pub use checker::audit;
-pub use verdict::{Return, Verdict};
+pub use command::{Command, Outcome, Refusal};
+pub use event::Event;
+pub use fault::{
+    RecordBeginFault, RecordOpenFault, RecordReshapeFault, RecordStepFault, RecordTrimFault,
+};
+pub use recorded::Recorded;
+pub use verdict::{Counts, Return, Verdict};

@@ -11,6 +11,15 @@ pub struct Return<R> {
     pub reply: R,
 }
 
+/// How many own steps and turns a call took that returned.
+#[derive(Clone, Copy, Debug, PartialEq, Eq)]
+pub struct Counts {
+    /// Its own steps.
+    pub steps: u64,
+    /// Its turns.
+    pub turns: u64,
+}
+
 /// What an audit says.
 #[derive(Clone, Copy, Debug, PartialEq, Eq)]
 pub enum Verdict {

@@ -1,0 +1,43 @@
+use Rattle.std.proofs.Common.{◌≡◌, ◌+◌, ◌*◌, ◌∙◌, arith, subst, refl, sym}
+use Rattle.std.proofs.lemmas.List.{append-nil}
+use Rattle.uni_model.specs.Worlds.{world_after}
+use Rattle.uni_model.specs.Worlds.Event.{Call}
+use Rattle.uni_core.specs.Whole.{world_of}
+use Rattle.uni_record.specs.Recording.{standing_of, CanBegin, IsBeginRefused, set_aside, share}
+use Rattle.uni_record.proofs.Kept.{begun_kept, roomier}
+use Rattle.uni_record.proofs.recorded.Recorded.begin.Goals as goal
+
+pub invariant_of-self : goal.invariant_of-self
+invariant_of-self g c = rw (c.make_room.ensures.events.0, c.make_room.ensures.returns.0, c.make_room.ensures.counts.0)
+    (c.self.invariant.0, roomier _ _ _ _ _ _ _ _ _ _ c.self.invariant.1 c.make_room.ensures.events.1 c.make_room.ensures.returns.1 c.make_room.ensures.counts.1)
+
+pub invariant_of-self-in_default-begin : goal.invariant_of-self-in_default-begin
+invariant_of-self-in_default-begin g c = rw (c.in_default-begin.ensures.unchanged, c.make_room.ensures.events.0, c.make_room.ensures.returns.0, c.make_room.ensures.counts.0)
+    (c.self.invariant.0, roomier _ _ _ _ _ _ _ _ _ _ c.self.invariant.1 c.make_room.ensures.events.1 c.make_room.ensures.returns.1 c.make_room.ensures.counts.1)
+
+pub invariant_of-self-2 : goal.invariant_of-self-2
+invariant_of-self-2 g c =
+    let could = subst (λ r. CanBegin (standing_of r) c.args.p) (sym c.self.view_is) c.in_ok-more.ensures.could in
+    let room = subst (λ r. c.in_ok-more.more ≡ set_aside (world_of r.world) + share (world_of r.world).n) (sym c.self.view_is) c.in_ok-more.ensures.room in
+    let fits = could.1 in
+    let n = c.processes-n.ensures in
+    let room_events = c.in-Ok-make_room.ensures.events_fit in
+    let room_returns = c.in-Ok-make_room.ensures.returns_fit in
+    let room_counts = c.in-Ok-make_room.ensures.counts_fit in
+    rw c.push_reserved.ensures.capacity
+    (begun_kept g.O.SeqObject.sequential _ c.args.p c.args.inv.now _ _ _ _ c.self.invariant.0
+    (record {
+      object = c.in-Ok-begin.ensures.fixed.object;
+      processes = refl;
+      first = refl;
+      limit = refl;
+      world = c.in-Ok-begin.ensures.begun;
+      events = rw (← c.make_room.ensures.events.0, ← c.in-Ok.ensures) c.push_reserved.ensures.items;
+      returns = c.make_room.ensures.returns.0 ∙ sym (append-nil _);
+      counts = c.make_room.ensures.counts.0 ∙ sym (append-nil _);
+      ended = sym (append-nil _);
+    })
+    could.0.0 could.0.1 (omega (arith, fits)) (omega (arith, room, room_events)) (omega (arith, n, room_returns)) (omega (arith, n, room_counts)))
+
+pub returns-clause-begun : goal.returns-clause-begun
+returns-clause-begun g c = subst (λ r. world_of c.begin.new.self ≡ world_after (g.O.SeqObject.sequential r.world.object) (world_of r.world) (Call c.args.p c.args.inv.now)) c.self.view_is c.in-Ok-begin.ensures.begun

@@ -1,0 +1,48 @@
+use Rattle.std.proofs.Common.{◌≡◌, ◌∙◌, arith, subst, refl, sym}
+use Rattle.std.proofs.lemmas.List.{append-nil}
+use Rattle.uni_model.specs.Worlds.{world_after, IsQuiescent}
+use Rattle.uni_model.specs.Worlds.Event.{Reshape}
+use Rattle.uni_core.specs.Whole.{world_of}
+use Rattle.uni_record.specs.declared.event.Event.TheVariants as stored
+use Rattle.uni_record.specs.Recording.{standing_of, CanEnd}
+use Rattle.uni_record.proofs.Kept.{roomier}
+use Rattle.uni_record.proofs.Ended.{quiescent_after, entries_joined, ended_kept}
+use Rattle.uni_record.proofs.recorded.Recorded.reshape.Goals as goal
+
+pub invariant_of-self : goal.invariant_of-self
+invariant_of-self g c = rw (c.prepare_end.ensures.events.0, c.prepare_end.ensures.ended)
+    (c.self.invariant.0, roomier _ _ _ _ _ _ _ _ _ _ c.self.invariant.1 c.prepare_end.ensures.events.1 (omega arith) (omega arith))
+
+pub renew_for-requires-clause-quiescent : goal.renew_for-requires-clause-quiescent
+renew_for-requires-clause-quiescent g c = (subst (λ r. CanEnd (standing_of r) c.args.m) (sym c.self.view_is) c.in-Ok.ensures.could).0
+
+pub renew_for-requires-clause-numbers : goal.renew_for-requires-clause-numbers
+renew_for-requires-clause-numbers g c = (subst (λ r. CanEnd (standing_of r) c.args.m) (sym c.self.view_is) c.in-Ok.ensures.could).1
+
+pub invariant_of-self-in_default-renew_for : goal.invariant_of-self-in_default-renew_for
+invariant_of-self-in_default-renew_for g c = rw (c.in_default-renew_for.ensures.unchanged, c.prepare_end.ensures.events.0, c.prepare_end.ensures.ended)
+    (c.self.invariant.0, roomier _ _ _ _ _ _ _ _ _ _ c.self.invariant.1 c.prepare_end.ensures.events.1 (omega arith) (omega arith))
+
+pub invariant_of-self-2 : goal.invariant_of-self-2
+invariant_of-self-2 g c =
+    let can = subst (λ r. CanEnd (standing_of r) c.args.m) (sym c.self.view_is) c.in-Ok.ensures.could in
+    let w = world_of c.self.inside.world in
+    let some = c.if-m-lt1.false in
+    let quiet = subst (λ v. IsQuiescent v) (sym c.in-Ok-renew_for.ensures.renewed) (quiescent_after (g.O.SeqObject.sequential c.self.inside.world.object) w c.args.m c.shape.ensures.sound can.0) in
+    rw c.push_reserved.ensures.capacity
+    (ended_kept g.O.SeqObject.sequential _ (stored.Reshape c.args.m) _ _ _ _ _ c.self.invariant.0 c.self.invariant.1
+    (record {
+      object = c.renew_for.ensures.fixed.object;
+      processes = refl;
+      first = refl;
+      limit = refl;
+      world = c.in-Ok-renew_for.ensures.renewed;
+      events = rw (← c.prepare_end.ensures.events.0) c.push_reserved.ensures.items;
+      returns = sym (append-nil _);
+      counts = sym (append-nil _);
+      ended = entries_joined w _ _ _ _ c.in-Ok-append.ensures.items c.prepare_end.ensures.ended c.in-Ok-prepare_end.ensures.log;
+    })
+    (can.0, omega (arith, some)) quiet refl refl can.2 c.in-Ok-prepare_end.ensures.event_fits)
+
+pub returns-clause-reshaped : goal.returns-clause-reshaped
+returns-clause-reshaped g c = subst (λ r. world_of c.renew_for.new.self ≡ world_after (g.O.SeqObject.sequential r.world.object) (world_of r.world) (Reshape c.args.m)) c.self.view_is c.in-Ok-renew_for.ensures.renewed

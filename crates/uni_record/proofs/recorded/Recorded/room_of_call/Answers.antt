@@ -1,0 +1,30 @@
+use Rattle.std.proofs.Common.{◌≡◌, ◌+◌, ◌*◌, ◌∙◌, arith, subst}
+use Rattle.uni_core.specs.Whole.{world_of}
+use Rattle.uni_record.specs.Recording.{standing_of, CanBegin, IsBeginRefused, set_aside, share}
+use Rattle.uni_record.specs.declared.fault.RecordBeginFault.TheVariants.{HistoryFull}
+use Rattle.uni_record.proofs.Begun.{can_call_now}
+use Rattle.uni_record.proofs.recorded.Recorded.room_of_call.Goals as goal
+
+pub returns-then-self-len-clause-refused : goal.returns-then-self-len-clause-refused
+returns-then-self-len-clause-refused g c =
+    let can = can_call_now (world_of c.self.inside.world) c.self.inside.world.row c.args.p c.current.result c.calls_in_era.result c.row.result (rw c.processes-n.ensures at c.if-p-n.false)
+    c.current.ensures c.if-is_some.ensures c.calls_in_era.ensures c.row.ensures (c.shape.ensures.room c.args.p) c.if-calls_in_era-row.false in
+    let sum = c.set_aside.ensures.sum in
+    let n = c.processes-n.ensures in
+    let len = c.len.ensures ∙ c.self.inside.events.ok.0 in
+    let past = c.if-self-len.true in
+    subst (λ r. IsBeginRefused (standing_of r) c.args.p HistoryFull) c.self.view_is (can, omega (arith, sum, n, len, past))
+
+pub returns-clause-could : goal.returns-clause-could
+returns-clause-could g c =
+    let can = can_call_now (world_of c.self.inside.world) c.self.inside.world.row c.args.p c.current.result c.calls_in_era.result c.row.result (rw c.processes-n.ensures at c.if-p-n.false)
+    c.current.ensures c.if-is_some.ensures c.calls_in_era.ensures c.row.ensures (c.shape.ensures.room c.args.p) c.if-calls_in_era-row.false in
+    let sum = c.set_aside.ensures.sum in
+    let n = c.processes-n.ensures in
+    let len = c.len.ensures ∙ c.self.inside.events.ok.0 in
+    let fits = c.if-self-len.false in
+    subst (λ r. CanBegin (standing_of r) c.args.p) c.self.view_is (can, omega (arith, sum, n, len, fits))
+
+pub returns-clause-room : goal.returns-clause-room
+returns-clause-room g c = subst (λ r. c.set_aside.result + 10 * c.processes-n.result + 13 ≡ set_aside (world_of r.world) + share (world_of r.world).n) c.self.view_is
+    (let sum = c.set_aside.ensures.sum in let n = c.processes-n.ensures in omega (arith, sum, n))

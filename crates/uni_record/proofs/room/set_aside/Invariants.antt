@@ -1,0 +1,8 @@
+use Rattle.std.proofs.Common.{◌≡◌, ◌+◌, ◌*◌, ◌-◌, ◌≤◌}
+use Rattle.uni_model.specs.Worlds.{sum_below}
+use Rattle.uni_core.specs.Whole.{world_of}
+use Rattle.uni_record.specs.Recording.{owed_by}
+use Rattle.uni_record.proofs.room.set_aside.Given as goal
+
+abbrev pub invariant-loop-p : goal.invariant-loop-p
+invariant-loop-p g l = (l.sum ≡ sum_below l.p (owed_by (λ steps. 10 * l.n + 12 - steps) (world_of l.world))) × (l.sum ≤ 652 * l.p)

@@ -1,0 +1,125 @@
+//! What can be read of a record.
+
+ghost use Rattle.std.specs.Prelude.{◌≡◌, IfOk, map};
+ghost use Rattle.uni_model.specs.History.{log_of_run};
+ghost use Rattle.uni_log.specs.Shown.{entry_shown};
+ghost use Rattle.uni_record.specs.Audited.{IsAudited};
+ghost use Rattle.uni_record.specs.Stored.{events_shown};
+ghost use Rattle.uni_record.specs.Recording.{meaning, opening, IsRecording, IsPromised};
+
+use crate::event::Event;
+use crate::recorded::Recorded;
+use crate::verdict::{Counts, Return};
+use seq_object::SeqObject;
+use std::alloc::{AllocError, Global};
+use uni_core::World;
+use uni_log::{Entry, Log};
+use uni_model::{is_universal, links_soon};
+
+impl<O: SeqObject> Recorded<O> {
+    /// The world, to be read.
+    pub fn world(&self) -> &World<O>
+        ensures { result.now ≡ self.now.world }
+    {
+        &self.world
+    }
+
+    /// How many processes there were at the opening.
+    pub fn processes(&self) -> u64
+        ensures { result ≡ self.now.processes }
+    {
+        self.processes
+    }
+
+    /// The number that the anchor had at the opening.
+    pub fn first(&self) -> u64
+        ensures { result ≡ self.now.first }
+    {
+        self.first
+    }
+
+    /// How many events there can be.
+    pub fn limit(&self) -> u64
+        ensures { result ≡ self.now.limit }
+    {
+        self.limit
+    }
+
+    /// The events since the opening, in order.
+    pub fn events(&self) -> &[Event<O::Inv>]
+        ensures { result.now ≡ self.now.events }
+    {
+        self.events.as_slice()
+    }
+
+    /// The calls that have returned, in the order of their returns, each with its reply.
+    pub fn returns(&self) -> &[Return<O::Resp>]
+        ensures { result.now ≡ self.now.returns }
+    {
+        self.returns.as_slice()
+    }
+
+    /// The own steps and the turns of the calls that have returned, in the same order.
+    pub fn counts(&self) -> &[Counts]
+        ensures { result.now ≡ self.now.counts }
+    {
+        self.counts.as_slice()
+    }
+
+    /// The entries of all eras, in the order in which their calls took effect: those of the ended eras,
+    /// which are kept, and then those of the present one.
+    ///
+    /// An `Err` says that memory was refused.
+    pub fn entries(&self, alloc: Global) -> Result<Vec<Entry<O::Inv, O::Resp>>, AllocError>
+        ensures joined { IfOk result (λ entries. map entry_shown entries.items ≡ log_of_run (meaning O.sequential self.now) (opening O.sequential self.now) (events_shown self.now.events)) }
+    {
+        self.promise();
+        let mut entries = copied_entries::<O>(alloc, &self.ended)?;
+        let mut present = Log::of(&self.world).entries(alloc)?;
+        entries.append(&mut present)?;
+        Ok(entries)
+    }
+
+    /// What every record keeps, for proofs: the call does nothing.
+    pub fn promise(&self)
+        ensures recording { IsRecording O.sequential self.now }
+        ensures promised { IsPromised O.sequential self.now }
+    {
+        self.world.shape();
+        is_universal::<O>();
+        links_soon::<O>();
+    }
+}
+
+/// A copy of an entry.
+///
+/// An `Err` says that memory was refused.
+fn copied_entry<O: SeqObject>(
+    alloc: Global,
+    entry: &Entry<O::Inv, O::Resp>,
+) -> Result<Entry<O::Inv, O::Resp>, AllocError>
+    ensures { IfOk result (λ copy. copy ≡ entry.now) }
+{
+    Ok(Entry {
+        seq: entry.seq,
+        call: entry.call,
+        inv: O::copy_inv(alloc, &entry.inv)?,
+        reply: entry.reply,
+    })
+}
+
+/// A copy of entries.
+///
+/// An `Err` says that memory was refused.
+fn copied_entries<O: SeqObject>(
+    alloc: Global,
+    entries: &[Entry<O::Inv, O::Resp>],
+) -> Result<Vec<Entry<O::Inv, O::Resp>>, AllocError>
+    ensures { IfOk result (λ copies. copies.items ≡ entries.now) }
+{
+    let mut copies = Vec::with_capacity(alloc, entries.len())?;
+    for entry in entries {
+        copies.push(copied_entry::<O>(alloc, entry)?)?;
+    }
+    Ok(copies)
+}

@@ -1,0 +1,60 @@
+//! The room of a history.
+
+ghost use Rattle.std.specs.Prelude.{◌≡◌, ◌+◌, ◌*◌, ◌≤◌, ◌↔◌, ◌^◌, length, true, OnOk, vec_capacity};
+ghost use Rattle.uni_core.specs.Whole.{world_of};
+ghost use Rattle.uni_record.specs.Recording.{set_aside};
+
+use crate::event::Event;
+use crate::verdict::{Counts, Return};
+use seq_object::SeqObject;
+use std::alloc::AllocError;
+use uni_core::World;
+
+/// The greatest length of a history.
+const MAX_HISTORY: u64 = 16_777_216;
+
+/// Whether a history can have so many events: from 1 to 16,777,216.
+pub(crate) fn is_history(h: u64) -> bool
+    ensures { (result ≡ true) ↔ ((1 ≤ h) × (h ≤ 16777216)) }
+{
+    h >= 1 && h <= MAX_HISTORY
+}
+
+/// The events that the pending calls of a world still have set aside.
+pub(crate) fn set_aside<O: SeqObject>(world: &World<O>) -> u64
+    ensures few { result ≤ 652 * 64 }
+    ensures sum { result ≡ set_aside (world_of world.now) }
+{
+    world.shape();
+    let n = world.processes();
+    let mut sum = 0;
+    for p in 0..n {
+        if world.current(p).is_some() {
+            sum += 10 * n + 12 - world.steps(p);
+        }
+    }
+    sum
+}
+
+/// Makes room for so many events more, and for so many returns with their counts. It grows by doubling,
+/// so that a history isn't copied at each call.
+///
+/// An `Err` says that memory was refused; what is stored stays as it is.
+pub(crate) fn make_room<I, R>(
+    events: &mut Vec<Event<I>>,
+    returns: &mut Vec<Return<R>>,
+    counts: &mut Vec<Counts>,
+    more_events: u64,
+    more_returns: u64,
+) -> Result<(), AllocError>
+    ensures events { (events.new.items ≡ events.old.items) × (vec_capacity events.old ≤ vec_capacity events.new) }
+    ensures returns { (returns.new.items ≡ returns.old.items) × (vec_capacity returns.old ≤ vec_capacity returns.new) }
+    ensures counts { (counts.new.items ≡ counts.old.items) × (vec_capacity counts.old ≤ vec_capacity counts.new) }
+    ensures events_fit { OnOk result (length events.old.items + more_events ≤ vec_capacity events.new) }
+    ensures returns_fit { OnOk result (length returns.old.items + more_returns ≤ vec_capacity returns.new) }
+    ensures counts_fit { OnOk result (length counts.old.items + more_returns ≤ vec_capacity counts.new) }
+{
+    events.try_reserve(more_events as usize)?;
+    returns.try_reserve(more_returns as usize)?;
+    counts.try_reserve(more_returns as usize)
+}
