@@ -12,3 +12,4 @@ pub mod Opened
 pub mod Ended
 pub mod Promised
 pub mod Commanded
+pub mod Table

@@ -1,4 +1,5 @@
 pub mod Verdicts
+pub mod Made
 pub mod Audited
 pub mod Stored
 pub mod Recording

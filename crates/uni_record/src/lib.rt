@@ -6,6 +6,7 @@ mod command;
 mod eras;
 mod event;
 mod fault;
+mod made_calls;
 mod readers;
 mod recorded;
 #[cfg(test)]

@@ -183,6 +183,77 @@ fn call_that_returned_twice(rt: HostRuntime) -> Result<(), Fail> {
     Ok(())
 }
 
+/// Calls 3.0, 1.0 and 3.1, which ask for 7 in this order.
+fn in_turn() -> [Entry<u32, u32>; 3] {
+    [
+        entry(2, call(3, 0), Some(9)),
+        entry(3, call(1, 0), Some(7)),
+        entry(4, call(3, 1), Some(7)),
+    ]
+}
+
+#[test]
+fn calls_of_two_processes_return_in_another_order(rt: HostRuntime) -> Result<(), Fail> {
+    let returns = [
+        Return {
+            call: call(3, 1),
+            reply: 7,
+        },
+        Return {
+            call: call(1, 0),
+            reply: 7,
+        },
+        Return {
+            call: call(3, 0),
+            reply: 9,
+        },
+    ];
+    assert_eq!(rt;
+        audit(rt.alloc(), &SwapRegister { start: 9 }, &in_turn(), &returns)?,
+        Verdict::Agrees
+    );
+    let twice = [returns[1], returns[0], returns[1]];
+    assert_eq!(rt;
+        audit(rt.alloc(), &SwapRegister { start: 9 }, &in_turn(), &twice)?,
+        Verdict::Twice(call(1, 0))
+    );
+    Ok(())
+}
+
+#[test]
+fn calls_past_those_of_the_entries(rt: HostRuntime) -> Result<(), Fail> {
+    for past in [
+        call(3, 2),
+        call(1, 1),
+        call(2, 0),
+        call(4_294_967_295, 18_446_744_073_709_551_615),
+    ] {
+        let returns = [Return {
+            call: past,
+            reply: 7,
+        }];
+        assert_eq!(rt;
+            audit(rt.alloc(), &SwapRegister { start: 9 }, &in_turn(), &returns)?,
+            Verdict::Missing(past)
+        );
+    }
+    Ok(())
+}
+
+#[test]
+fn call_that_has_two_entries(rt: HostRuntime) -> Result<(), Fail> {
+    let entries = [
+        entry(2, call(3, 0), Some(9)),
+        entry(3, call(1, 0), Some(7)),
+        entry(4, call(3, 0), Some(7)),
+    ];
+    assert_eq!(rt;
+        audit(rt.alloc(), &SwapRegister { start: 9 }, &entries, &[])?,
+        Verdict::BadCall(2)
+    );
+    Ok(())
+}
+
 #[test]
 fn first_fault_is_answered(rt: HostRuntime) -> Result<(), Fail> {
     // on one entry the call comes before the reply

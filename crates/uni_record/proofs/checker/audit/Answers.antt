@@ -1,23 +1,73 @@
-use Rattle.std.proofs.Common.{◌≡◌, ◌∙◌, [], refl, sym, ap}
-use Rattle.uni_record.specs.Verdicts.{first, entries_verdict, returns_verdict, verdict_of}
+use Rattle.std.proofs.Common.{◌≡◌, ◌∙◌, ◌+◌, [], ◌∷◌, ◌++◌, take, sym, ap, subst}
+use Rattle.std.proofs.lemmas.List.{at_drop_all, take_more}
+use Rattle.seq_object.specs.declared.call_id.CallId.{CallId}
+use Rattle.uni_record.specs.Verdicts.{first, entries_verdict, returns_verdict, return_verdict, verdict_of}
 use Rattle.uni_record.specs.declared.verdict.Verdict.TheVariants.{Agrees}
+use Rattle.uni_record.specs.Made.{known_after, known_of}
 use Rattle.uni_record.proofs.Faults.{first-fault}
 use Rattle.uni_record.proofs.Meaning.{agrees_means}
+use Rattle.uni_record.proofs.Replay.{bad_return_at, good_return_at}
+use Rattle.uni_record.proofs.Table.{agrees_known, known_returned, known_verdict_is}
 use Rattle.uni_record.proofs.checker.audit.Goals as goal
 
 pub returns-in_default : goal.returns-in_default
 returns-in_default g c =
     let returned = returns_verdict g.O.Resp.PartialEq.eq c.args.entries.now [] c.args.returns.now in
     let verdict : c.in_ok-verdict.verdict ≡ verdict_of g.O.Resp.PartialEq.eq (g.O.SeqObject.sequential c.args.object.now) c.args.entries.now c.args.returns.now =
-    sym (first-fault c.in_ok-verdict.verdict returned c.in_default.not-Agrees) ∙ ap (λ v. first v returned) c.in_ok-verdict.ensures in
+    sym (first-fault c.in_ok-verdict.verdict returned c.in_default.not-Agrees) ∙ ap (λ v. first v returned) c.in_ok-verdict.ensures.verdict in
     record {
       verdict = verdict;
       agrees = agrees_means g.O.Resp.PartialEq.eq g.met.O.SeqObject.same_resp _ _ _ c.in_ok-verdict.verdict verdict;
     }
 
+pub returns-in_default-fault : goal.returns-in_default-fault
+returns-in_default-fault g c =
+    let same = g.O.Resp.PartialEq.eq in
+    let entries = c.args.entries.now in
+    let returns = c.args.returns.now in
+    let i = c.loop-returned.returned-index in
+    let returned = c.returned-item.result in
+    let fault = c.return_verdict-fault.result in
+    let this : fault ≡ return_verdict same entries (take i returns) returned =
+    c.return_verdict-fault.ensures ∙ known_verdict_is same entries (take i returns) returned c.take.result (c.take.ensures.known ∙ c.loop-returned.invariant.known returned.call) in
+    let whole : fault ≡ returns_verdict same entries [] returns =
+    bad_return_at same entries returns i returned c.loop-returned-test.true c.returned-item.is (returns_verdict same entries [] returns) fault c.loop-returned.invariant.rest this c.in_default-fault.not-Agrees in
+    let good : entries_verdict same (g.O.SeqObject.sequential c.args.object.now) ((g.O.SeqObject.sequential c.args.object.now).initial) [] entries ≡ Agrees =
+    sym c.in_ok-verdict.ensures.verdict ∙ c.in-Agrees.is in
+    let verdict : fault ≡ verdict_of same (g.O.SeqObject.sequential c.args.object.now) entries returns = whole ∙ sym (ap (λ v. first v (returns_verdict same entries [] returns)) good) in
+    record {
+      verdict = verdict;
+      agrees = agrees_means same g.met.O.SeqObject.same_resp _ _ _ fault verdict;
+    }
+
+pub loop-returned-preserved : goal.loop-returned-preserved
+loop-returned-preserved g c =
+    let same = g.O.Resp.PartialEq.eq in
+    let entries = c.args.entries.now in
+    let returns = c.args.returns.now in
+    let i = c.loop-returned.returned-index in
+    let returned = c.returned-item.result in
+    let known = c.take.ensures.known ∙ c.loop-returned.invariant.known returned.call in
+    let agrees = sym c.in-Agrees-fault.is ∙ c.return_verdict-fault.ensures in
+    let there = agrees_known same c.take.result returned (sym agrees) in
+    let more : take i returns ++ returned ∷ [] ≡ take (i + 1) returns =
+    ap (λ r. take i returns ++ r ∷ []) c.returned-item.is ∙ sym (take_more returns i returned c.loop-returned-test.true) in
+    record {
+      known = subst (λ earlier. (call : CallId) → known_of c.take.new.self call ≡ known_after entries earlier call) more
+          (known_returned entries (take i returns) returned c.loop-returned.calls c.take.new.self c.loop-returned.invariant.known (λ none. there (c.take.ensures.known ∙ none)) c.take.ensures.after);
+      rest = good_return_at same entries returns i returned c.loop-returned-test.true c.returned-item.is (returns_verdict same entries [] returns) c.loop-returned.invariant.rest
+          (agrees ∙ known_verdict_is same entries (take i returns) returned c.take.result known);
+    }
+
 pub returns-clause-agrees : goal.returns-clause-agrees
 returns-clause-agrees g c =
-    let good : entries_verdict g.O.Resp.PartialEq.eq (g.O.SeqObject.sequential c.args.object.now) ((g.O.SeqObject.sequential c.args.object.now).initial) [] c.args.entries.now ≡ Agrees =
-    sym c.in_ok-verdict.ensures ∙ c.in-Agrees.is in
-    agrees_means g.O.Resp.PartialEq.eq g.met.O.SeqObject.same_resp (g.O.SeqObject.sequential c.args.object.now) c.args.entries.now c.args.returns.now c.returns_verdict.result
-    (c.returns_verdict.ensures ∙ sym (rw good refl))
+    let same = g.O.Resp.PartialEq.eq in
+    let entries = c.args.entries.now in
+    let returns = c.args.returns.now in
+    let i = c.loop-returned.returned-index in
+    let whole : Agrees ≡ returns_verdict same entries [] returns =
+    sym (at_drop_all (returns_verdict same entries (take i returns)) returns i c.loop-returned-test.false) ∙ c.loop-returned.invariant.rest in
+    let good : entries_verdict same (g.O.SeqObject.sequential c.args.object.now) ((g.O.SeqObject.sequential c.args.object.now).initial) [] entries ≡ Agrees =
+    sym c.in_ok-verdict.ensures.verdict ∙ c.in-Agrees.is in
+    agrees_means same g.met.O.SeqObject.same_resp (g.O.SeqObject.sequential c.args.object.now) entries returns Agrees
+    (whole ∙ sym (ap (λ v. first v (returns_verdict same entries [] returns)) good))

@@ -1,30 +1,43 @@
-use Rattle.std.proofs.Common.{◌≡◌, ◌≢◌, ◌∙◌, ◌+◌, true, false, [], take, sym, ap}
+use Rattle.std.proofs.Common.{◌≡◌, ◌≢◌, ◌∙◌, ◌+◌, true, false, [], ◌∷◌, ◌++◌, take, sym, ap, subst}
 use Rattle.std.specs.Option.{option_map_or}
+use Rattle.std.proofs.lemmas.List.{take_more}
 use Rattle.uni_record.specs.Verdicts.{calls_of, entries_verdict}
+use Rattle.uni_record.specs.Made.{IsTable}
 use Rattle.uni_record.proofs.Replay.{bad_call_at, bad_reply_at, good_at}
+use Rattle.uni_record.proofs.Table.{table_more}
 use Rattle.uni_record.proofs.checker.entries_verdict.Goals as goal
 
-pub returns-then-entry-calls_of : goal.returns-then-entry-calls_of
-returns-then-entry-calls_of g c =
-    let other : c.entry-item.result.call.nth ≢ calls_of c.entry-item.result.call.process (take c.loop-entry.place c.args.entries.now) = λ e. c.if-entry-calls_of.true (e ∙ sym c.calls_of.ensures) in
-    bad_call_at g.O.Resp.PartialEq.eq (g.O.SeqObject.sequential c.args.object.now) c.loop-entry.state c.args.entries.now c.loop-entry.place c.loop-entry.entry-index c.entry-item.result (entries_verdict g.O.Resp.PartialEq.eq (g.O.SeqObject.sequential c.args.object.now) ((g.O.SeqObject.sequential c.args.object.now).initial) [] c.args.entries.now)
+pub returns-then-entry-count-clause-verdict : goal.returns-then-entry-count-clause-verdict
+returns-then-entry-count-clause-verdict g c =
+    let entry = c.entry-item.result in
+    let counted = c.loop-entry.invariant.table.counted entry.call.process in
+    let other : entry.call.nth ≢ calls_of entry.call.process (take c.loop-entry.entry-index c.args.entries.now) = λ e. c.if-entry-count.true (e ∙ sym counted ∙ sym c.count.ensures) in
+    bad_call_at g.O.Resp.PartialEq.eq (g.O.SeqObject.sequential c.args.object.now) c.loop-entry.state c.args.entries.now c.loop-entry.place c.loop-entry.entry-index entry (entries_verdict g.O.Resp.PartialEq.eq (g.O.SeqObject.sequential c.args.object.now) ((g.O.SeqObject.sequential c.args.object.now).initial) [] c.args.entries.now)
     c.loop-entry-test.true c.entry-item.is c.loop-entry.invariant.place c.loop-entry.invariant.rest other
 
-pub returns-then-not-is_answered : goal.returns-then-not-is_answered
-returns-then-not-is_answered g c =
-    let call : c.entry-item.result.call.nth ≡ calls_of c.entry-item.result.call.process (take c.loop-entry.place c.args.entries.now) = c.if-entry-calls_of.false ∙ c.calls_of.ensures in
-    let test : option_map_or (λ r. g.O.Resp.PartialEq.eq r c.in_ok-after.answer) c.entry-item.result.reply true ≡ false = sym c.is_answered.ensures ∙ c.if-not-is_answered.true in
-    bad_reply_at g.O.Resp.PartialEq.eq (g.O.SeqObject.sequential c.args.object.now) c.loop-entry.state c.args.entries.now c.loop-entry.place c.loop-entry.entry-index c.entry-item.result (entries_verdict g.O.Resp.PartialEq.eq (g.O.SeqObject.sequential c.args.object.now) ((g.O.SeqObject.sequential c.args.object.now).initial) [] c.args.entries.now)
+pub returns-then-not-is_answered-clause-verdict : goal.returns-then-not-is_answered-clause-verdict
+returns-then-not-is_answered-clause-verdict g c =
+    let entry = c.entry-item.result in
+    let call : entry.call.nth ≡ calls_of entry.call.process (take c.loop-entry.entry-index c.args.entries.now) = c.if-entry-count.false ∙ c.count.ensures ∙ c.loop-entry.invariant.table.counted entry.call.process in
+    let test : option_map_or (λ r. g.O.Resp.PartialEq.eq r c.in_ok-after.answer) entry.reply true ≡ false = sym c.is_answered.ensures ∙ c.if-not-is_answered.true in
+    bad_reply_at g.O.Resp.PartialEq.eq (g.O.SeqObject.sequential c.args.object.now) c.loop-entry.state c.args.entries.now c.loop-entry.place c.loop-entry.entry-index entry (entries_verdict g.O.Resp.PartialEq.eq (g.O.SeqObject.sequential c.args.object.now) ((g.O.SeqObject.sequential c.args.object.now).initial) [] c.args.entries.now)
     c.loop-entry-test.true c.entry-item.is c.loop-entry.invariant.place c.loop-entry.invariant.rest call
     (rw c.in_ok-after.ensures.response at test)
 
 pub loop-entry-preserved : goal.loop-entry-preserved
 loop-entry-preserved g c =
-    let call : c.entry-item.result.call.nth ≡ calls_of c.entry-item.result.call.process (take c.loop-entry.place c.args.entries.now) = c.if-entry-calls_of.false ∙ c.calls_of.ensures in
-    let test : option_map_or (λ r. g.O.Resp.PartialEq.eq r c.in_ok-after.answer) c.entry-item.result.reply true ≡ true = sym c.is_answered.ensures ∙ c.if-not-is_answered.false in
+    let entry = c.entry-item.result in
+    let i = c.loop-entry.entry-index in
+    let next = c.if-entry-count.false ∙ c.count.ensures in
+    let call : entry.call.nth ≡ calls_of entry.call.process (take i c.args.entries.now) = next ∙ c.loop-entry.invariant.table.counted entry.call.process in
+    let test : option_map_or (λ r. g.O.Resp.PartialEq.eq r c.in_ok-after.answer) entry.reply true ≡ true = sym c.is_answered.ensures ∙ c.if-not-is_answered.false in
+    let more : take i c.args.entries.now ++ entry ∷ [] ≡ take (i + 1) c.args.entries.now =
+    ap (λ e. take i c.args.entries.now ++ e ∷ []) c.entry-item.is ∙ sym (take_more c.args.entries.now i entry c.loop-entry-test.true) in
     record {
       place = ap (λ k. k + 1) c.loop-entry.invariant.place;
-      rest = rw c.in_ok-after.ensures.state (good_at g.O.Resp.PartialEq.eq (g.O.SeqObject.sequential c.args.object.now) c.loop-entry.state c.args.entries.now c.loop-entry.place c.loop-entry.entry-index c.entry-item.result (entries_verdict g.O.Resp.PartialEq.eq (g.O.SeqObject.sequential c.args.object.now) ((g.O.SeqObject.sequential c.args.object.now).initial) [] c.args.entries.now)
+      rest = rw c.in_ok-after.ensures.state (good_at g.O.Resp.PartialEq.eq (g.O.SeqObject.sequential c.args.object.now) c.loop-entry.state c.args.entries.now i entry (entries_verdict g.O.Resp.PartialEq.eq (g.O.SeqObject.sequential c.args.object.now) ((g.O.SeqObject.sequential c.args.object.now).initial) [] c.args.entries.now)
           c.loop-entry-test.true c.entry-item.is
-          c.loop-entry.invariant.place c.loop-entry.invariant.rest call (rw c.in_ok-after.ensures.response at test));
+          c.loop-entry.invariant.rest call (rw c.in_ok-after.ensures.response at test));
+      table = subst (λ entries. IsTable entries c.push.new.self) more
+          (table_more (take i c.args.entries.now) entry c.loop-entry.calls c.push.new.self c.loop-entry.invariant.table next (rw c.from_reply.ensures at c.in_ok-push.ensures));
     }
