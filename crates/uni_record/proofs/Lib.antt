@@ -12,4 +12,5 @@ pub mod Opened
 pub mod Ended
 pub mod Promised
 pub mod Commanded
+pub mod Elements
 pub mod Table

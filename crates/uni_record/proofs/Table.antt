@@ -1,9 +1,10 @@
 -- What is known of calls, as entries are added and calls return.
-use Rattle.std.proofs.Common.{◌≡◌, ◌≢◌, ◌∙◌, ℕ, zero, suc, ◌+◌, ◌==◌, ◌&&◌, ◌||◌, Bool, true, false, cond, if◌then◌else◌, List, [], ◌∷◌, ◌++◌, Option, Some, None, length, find, option_map, option_and_then, slice_get, slice_set, refl, sym, ap, arith}
+use Rattle.std.proofs.Common.{◌≡◌, ◌≢◌, ◌∙◌, ℕ, ◌+◌, ◌==◌, ◌&&◌, ◌||◌, Bool, true, false, cond, if◌then◌else◌, List, [], ◌∷◌, ◌++◌, Option, Some, None, length, find, option_map, option_and_then, slice_get, slice_set, refl, sym, ap, arith}
 use Rattle.std.proofs.lemmas.Bool.{eqb-true, eqb-false}
 use Rattle.std.proofs.lemmas.List.{length-append}
 use Rattle.std.proofs.lemmas.List.Sums.{sum_by-append}
 use Rattle.std.proofs.lemmas.List.Folds.{find-append, list_any-append}
+use Rattle.std.proofs.lemmas.Option.{slice_get_past}
 use Rattle.std.specs.Option.{option_map_or, option_or}
 use Rattle.seq_object.specs.declared.call_id.CallId.{CallId}
 use Rattle.uni_log.specs.declared.entry.Entry.{Entry}
@@ -13,34 +14,8 @@ use Rattle.uni_record.specs.declared.made_calls.MadeCalls.{MadeCalls}
 use Rattle.uni_record.specs.declared.verdict.Return.{Return}
 use Rattle.uni_record.specs.declared.verdict.Verdict.TheVariants.{Agrees, BadReturn, Missing, Twice}
 use Rattle.uni_record.specs.Verdicts.{calls_of, has_returned, same_call, reply_to, return_verdict}
+use Rattle.uni_record.proofs.Elements.{slice_get-more_last, slice_get-more_other, slice_get-set_same, slice_get-set_other}
 use Rattle.uni_record.specs.Made.{IsTable, known_after, known_of, known_verdict, known_with, row_of}
-
-module _ {X : Type 0} where
-  slice_get-more_last : (xs : List X) (x : X) → slice_get (xs ++ x ∷ []) (length xs) ≡ Some x
-  slice_get-more_last [] x = refl
-  slice_get-more_last (y ∷ ys) x = slice_get-more_last ys x
-
-  slice_get-more_other : (xs : List X) (x : X) (i : ℕ) → i ≢ length xs → slice_get (xs ++ x ∷ []) i ≡ slice_get xs i
-  slice_get-more_other [] x zero other = absurd (other refl)
-  slice_get-more_other [] x (suc i) other = refl
-  slice_get-more_other (y ∷ ys) x zero other = refl
-  slice_get-more_other (y ∷ ys) x (suc i) other = slice_get-more_other ys x i (λ e. other (ap (λ n. suc n) e))
-
-  slice_get-set_same : (xs : List X) (i : ℕ) (x : X) → slice_get (slice_set xs i x) i ≡ option_map (λ _. x) (slice_get xs i)
-  slice_get-set_same [] i x = refl
-  slice_get-set_same (y ∷ ys) zero x = refl
-  slice_get-set_same (y ∷ ys) (suc i) x = slice_get-set_same ys i x
-
-  slice_get-set_other : (xs : List X) (i : ℕ) (x : X) (j : ℕ) → j ≢ i → slice_get (slice_set xs i x) j ≡ slice_get xs j
-  slice_get-set_other [] i x j other = refl
-  slice_get-set_other (y ∷ ys) zero x zero other = absurd (other refl)
-  slice_get-set_other (y ∷ ys) zero x (suc j) other = refl
-  slice_get-set_other (y ∷ ys) (suc i) x zero other = refl
-  slice_get-set_other (y ∷ ys) (suc i) x (suc j) other = slice_get-set_other ys i x j (λ e. other (ap (λ n. suc n) e))
-
-  slice_get-end : (xs : List X) → slice_get xs (length xs) ≡ None
-  slice_get-end [] = refl
-  slice_get-end (x ∷ xs) = slice_get-end xs
 
 -- the rows with the next call of a process
 module _ {I R : Type 0} (earlier : List (Entry I R)) (entry : Entry I R) (calls after : MadeCalls R) (table : IsTable earlier calls)
@@ -54,10 +29,8 @@ module _ {I R : Type 0} (earlier : List (Entry I R)) (entry : Entry I R) (calls 
 
   counted_more : (process : ℕ) → length (row_of after process) ≡ calls_of process (earlier ++ entry ∷ [])
   counted_more process =
-      let row = grown process in
-      let counted = table.counted process in
       let split = sum_by-append (λ e. cond (e.call.process == process) 1 0) earlier (entry ∷ []) in
-      by_process (entry.call.process == process) refl row split where
+      by_process (entry.call.process == process) refl (grown process) split where
         by_process : (t : Bool) → (entry.call.process == process) ≡ t
             → row_of after process ≡ (if t then row_of calls process ++ known_with entry.reply ∷ [] else row_of calls process)
             → calls_of process (earlier ++ entry ∷ []) ≡ calls_of process earlier + (0 + cond t 1 0)
@@ -65,11 +38,14 @@ module _ {I R : Type 0} (earlier : List (Entry I R)) (entry : Entry I R) (calls 
         by_process true is row split = ap length row ∙ length-append (row_of calls process) (known_with entry.reply ∷ []) ∙ (omega (arith, table.counted process, split))
         by_process false is row split = ap length row ∙ (omega (arith, table.counted process, split))
 
+  next_place : (call : CallId) → (entry.call.process == call.process) ≡ true → entry.call.nth ≡ length (row_of calls call.process)
+  next_place call process = next ∙ ap (λ q. length (row_of calls q)) (eqb-true _ _ process)
+
   -- its call has no entry yet
   none_named : (call : CallId) → (entry.call.process == call.process) ≡ true → (entry.call.nth == call.nth) ≡ true → named call ≡ None
   none_named call process nth =
-      let past : slice_get (row_of calls call.process) call.nth ≡ None =
-      ap (λ n. slice_get (row_of calls call.process) n) (sym (eqb-true _ _ nth) ∙ next ∙ ap (λ q. length (row_of calls q)) (eqb-true _ _ process)) ∙ slice_get-end (row_of calls call.process) in
+      let place : call.nth ≡ length (row_of calls call.process) = sym (eqb-true _ _ nth) ∙ next_place call process in
+      let past = slice_get_past (row_of calls call.process) call.nth (omega (arith, place)) in
       by_named (named call) (sym (table.known call) ∙ past) where
         by_named : (o : Option (Entry I R)) → known_entry o ≡ None → o ≡ None
         by_named None is = refl
@@ -91,13 +67,11 @@ module _ {I R : Type 0} (earlier : List (Entry I R)) (entry : Entry I R) (calls 
         by_nth : (entry.call.process == call.process) ≡ true → (u : Bool) → (entry.call.nth == call.nth) ≡ u
             → slice_get (row_of calls call.process ++ known_with entry.reply ∷ []) call.nth ≡ with_entry (true && u)
         by_nth process true nth =
-            let place : call.nth ≡ length (row_of calls call.process) = sym (eqb-true _ _ nth) ∙ next ∙ ap (λ q. length (row_of calls q)) (eqb-true _ _ process) in
+            let place : call.nth ≡ length (row_of calls call.process) = sym (eqb-true _ _ nth) ∙ next_place call process in
             ap (λ n. slice_get (row_of calls call.process ++ known_with entry.reply ∷ []) n) place ∙ slice_get-more_last (row_of calls call.process) (known_with entry.reply)
             ∙ (rw (none_named call process nth) refl)
         by_nth process false nth =
-            let place : call.nth ≢ length (row_of calls call.process) =
-            λ e. eqb-false _ _ nth (next ∙ ap (λ q. length (row_of calls q)) (eqb-true _ _ process) ∙ sym e) in
-            slice_get-more_other (row_of calls call.process) (known_with entry.reply) call.nth place ∙ no_entry
+            slice_get-more_other (row_of calls call.process) (known_with entry.reply) call.nth (λ e. eqb-false _ _ nth (next_place call process ∙ sym e)) ∙ no_entry
 
         by_process : (t : Bool) → (entry.call.process == call.process) ≡ t
             → row_of after call.process ≡ (if t then row_of calls call.process ++ known_with entry.reply ∷ [] else row_of calls call.process)
