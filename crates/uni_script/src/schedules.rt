@@ -66,6 +66,7 @@ pub fn schedule<D: Drawn, W: TextOut>(
     ensures front { AppendsFront (W.contents writer.old) (W.contents writer.new) (schedule_text plan.now (D.word source.old)) }
     ensures faults { IfErr result (λ e. (e ≡ BenchFault.Write) ⊎ (e ≡ BenchFault.Memory)) }
     ensures writer { IsErrOf result BenchFault.Write ↔ (W.has_failed writer.new ≡ true) }
+    ensures kept { IsErrOf result BenchFault.Memory → writer.new ≡ writer.old }
 {
     let mut text = Vec::new(alloc);
     let Ok(()) = push_schedule(alloc, source, plan, &mut text) else {

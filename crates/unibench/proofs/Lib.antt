@@ -1,4 +1,5 @@
 pub mod CommandLine
 pub mod PlanReads
 pub mod PlanValues
+pub mod RandomPlans
 pub mod RunCases

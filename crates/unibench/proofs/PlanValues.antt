@@ -41,3 +41,16 @@ value_in-none least most ds refused = by_tests (are_digits ds) refl (nat_le leas
   by_tests true e false f c g = refl
   by_tests true e true f false g = refl
   by_tests true e true f true g = absurd (refused (numeral_of_digits ds e, ((grind (arith, nat_tests)), (grind (arith, nat_tests)))))
+
+pub value_in-range : (least most : ℕ) (ds : List ℕ) (n : ℕ) → value_in least most ds ≡ Some n → (least ≤ n) × (n ≤ most)
+value_in-range least most ds n is = by_tests (are_digits ds) (nat_le least (digits_value 10 ds)) refl (nat_le (digits_value 10 ds) most) refl is where
+  by_tests : (a b : Bool) → nat_le least (digits_value 10 ds) ≡ b → (c : Bool) → nat_le (digits_value 10 ds) most ≡ c
+      → (if a && b && c then Some (digits_value 10 ds) else None) ≡ Some n → (least ≤ n) × (n ≤ most)
+  by_tests false b low c high e = absurd (let bad : None ≡ Some n = e in cc)
+  by_tests true false low c high e = absurd (let bad : None ≡ Some n = e in cc)
+  by_tests true true low false high e = absurd (let bad : None ≡ Some n = e in cc)
+  by_tests true true low true high e =
+      let same : digits_value 10 ds ≡ n = (let some : Some (digits_value 10 ds) ≡ Some n = e in cc) in
+      let above : least ≤ digits_value 10 ds = grind (arith, nat_tests) in
+      let below : digits_value 10 ds ≤ most = grind (arith, nat_tests) in
+      ((omega arith), (omega arith))

@@ -6,11 +6,10 @@ use Rattle.uni_script.specs.Faults.{fault_line}
 use Rattle.uni_script.specs.declared.fault.BenchFault.{BenchFault}
 use Rattle.uni_script.specs.declared.fault.BenchFault.TheVariants as bench
 use Rattle.uni_script.proofs.Replaying.{IsPartOfReplay-start}
-use Rattle.unibench.specs.Runs.{IsReplayRun, IsRunOf}
+use Rattle.unibench.specs.Runs.{IsRunOf}
 use Rattle.unibench.specs.Statuses.{IsStatusOf, Tells, TellsFault, TellsLine, TellsThreadsFault, status_of}
-use Rattle.unibench.specs.declared.request.Plan.{Plan}
 use Rattle.unibench.specs.declared.request.Request.{Request}
-use Rattle.unibench.specs.declared.request.Request.TheVariants.{Replay, Threads}
+use Rattle.unibench.specs.declared.request.Request.TheVariants.{Replay, Random, Threads}
 use Rattle.unibench.specs.declared.threads.ThreadsFault.TheVariants.{Memory}
 
 -- the want of memory has one status
@@ -23,10 +22,12 @@ status_of_memory status is = elim is [
 -- it is a run of anything that has read and written nothing
 pub run_of_memory : (r : Request) (left old : Option (List ℕ)) (failed : Bool) (status : ℕ) → failed ≡ false → status ≡ 4 → IsRunOf r left left old old failed status
 run_of_memory Replay left old failed status good four = record { replayed = λ e. cc; bad = λ e. cc; read = λ e _. cc; part = IsPartOfReplay-start _ _ }
+run_of_memory (Random plan) left old failed status good four =
+    record { statuses = inr (inr four); drawn = λ e. cc; front = λ e. cc; failed = ((λ e. cc), (λ e. cc)); nothing = λ e. refl }
 run_of_memory (Threads plan) left old failed status good four =
     record { there = λ e. cc; nowhere = λ e. inr four; agreed = λ e. cc; front = λ e. cc; failed = ((λ e. cc), (λ e. cc)); nothing = λ a b. refl }
 
--- its line is one for both
+-- its line is one for all
 threads_told : (old new : Option (List ℕ)) (failed : Bool) (status : ℕ) → status ≡ 4 → TellsFault old new failed status → TellsThreadsFault old new failed status
 threads_told old new failed status four told = by_fault told.fault told.status_is told.front told.whole
   where
@@ -43,6 +44,7 @@ threads_told old new failed status four told = by_fault told.fault told.status_i
 
 pub told_by_memory : (r : Request) (old new : Option (List ℕ)) (failed : Bool) (status : ℕ) → status ≡ 4 → TellsFault old new failed status → Tells r old new failed status
 told_by_memory Replay old new failed status four told = told
+told_by_memory (Random plan) old new failed status four told = told
 told_by_memory (Threads plan) old new failed status four told = threads_told old new failed status four told
 
 -- the line of a fault is told by its bytes
@@ -52,26 +54,13 @@ TellsLine-bytes status_of_fault line_of fault old new failed line is front whole
     record { fault = fault; status_is = refl; front = subst (AppendsFront old new) is front; whole = λ good. subst (Appends old new) is (whole good) }
 
 -- what was asked for is one request
-module _ (r : Request) (asked : Option Request) (is : asked ≡ Some r) where
-  pub run_of_replay : (left left_after old new : Option (List ℕ)) (failed : Bool) (status : ℕ) → asked ≡ Some Replay
-      → IsReplayRun left left_after old new failed status → IsRunOf r left left_after old new failed status
-  run_of_replay left left_after old new failed status replay run = by_request r is
-    where
-      by_request : (q : Request) → asked ≡ Some q → IsRunOf q left left_after old new failed status
-      by_request Replay e = run
-      by_request (Threads plan) e = absurd (let bad : Some Replay ≡ Some (Threads plan) = sym replay ∙ e in cc)
+module _ (asked : Option Request) (q r : Request) (is_q : asked ≡ Some q) (is_r : asked ≡ Some r) where
+  same_request : q ≡ r
+  same_request = let same : Some q ≡ Some r = sym is_q ∙ is_r in cc
 
-  pub told_of_replay : (old new : Option (List ℕ)) (failed : Bool) (status : ℕ) → asked ≡ Some Replay → TellsFault old new failed status → Tells r old new failed status
-  told_of_replay old new failed status replay told = by_request r is
-    where
-      by_request : (q : Request) → asked ≡ Some q → Tells q old new failed status
-      by_request Replay e = told
-      by_request (Threads plan) e = absurd (let bad : Some Replay ≡ Some (Threads plan) = sym replay ∙ e in cc)
+  pub run_of_asked : (left left_after old new : Option (List ℕ)) (failed : Bool) (status : ℕ)
+      → IsRunOf q left left_after old new failed status → IsRunOf r left left_after old new failed status
+  run_of_asked left left_after old new failed status run = subst (λ x. IsRunOf x left left_after old new failed status) same_request run
 
-  pub told_of_threads : (plan : Plan) (old new : Option (List ℕ)) (failed : Bool) (status : ℕ) → asked ≡ Some (Threads plan)
-      → TellsThreadsFault old new failed status → Tells r old new failed status
-  told_of_threads plan old new failed status threads told = by_request r is
-    where
-      by_request : (q : Request) → asked ≡ Some q → Tells q old new failed status
-      by_request Replay e = absurd (let bad : Some (Threads plan) ≡ Some Replay = sym threads ∙ e in cc)
-      by_request (Threads other) e = told
+  pub told_of_asked : (old new : Option (List ℕ)) (failed : Bool) (status : ℕ) → Tells q old new failed status → Tells r old new failed status
+  told_of_asked old new failed status told = subst (λ x. Tells x old new failed status) same_request told

@@ -4,9 +4,10 @@ use Rattle.std.specs.Str.{bytes_eq}
 use Rattle.clap.specs.Words.{App, Row, Rule, Text, Kinds, IsAmong, new_app, new_rule, with_rule, with_subcommand, subcommand_of, fault_of}
 use Rattle.clap.proofs.OnLiterals.{clap_on_literals}
 use Rattle.clap.specs.declared.error.kind.ErrorKind.TheVariants.{DisplayHelp, DisplayVersion, InvalidSubcommand, MissingSubcommand, UnknownArgument}
-use Rattle.unibench.specs.Plans.{plan_of}
+use Rattle.uni_script.specs.declared.grammar.ObjectName.TheVariants as shared
+use Rattle.unibench.specs.Plans.{plan_of, random_of}
 use Rattle.unibench.specs.declared.request.Request.{Request}
-use Rattle.unibench.specs.declared.request.Request.TheVariants.{Replay, Threads}
+use Rattle.unibench.specs.declared.request.Request.TheVariants.{Replay, Random, Threads}
 use Rattle.unibench.specs.declared.request.Form.TheVariants.{Lock, Words}
 use Rattle.unibench.specs.declared.request.ThreadsObject.TheVariants.{Queue, Tally}
 
@@ -14,12 +15,21 @@ use Rattle.unibench.specs.declared.request.ThreadsObject.TheVariants.{Queue, Tal
 abbrev pub needs_subcommand : App → App
 needs_subcommand app = record app { top = record app.top { subcommand_required = true } }
 
--- an option that takes a value, with the value that it has where it isn't used
+-- an option that takes a value, for which help has a name, with the value that it has where it isn't used
 abbrev pub option : (name value : Text) → Rule
-option name value = record (new_rule name) { long = Some name; defaults = value ∷ [] }
+option name value = record (new_rule name) { long = Some name; value_names = 1; defaults = value ∷ [] }
 
 abbrev pub replay_command : App
 replay_command = new_app (codes "replay")
+
+abbrev pub random_command : App
+random_command =
+    with_rule (with_rule (with_rule (with_rule (with_rule (new_app (codes "random"))
+    (option (codes "object") (codes "queue")))
+    (option (codes "processes") (codes "2")))
+    (option (codes "row") (codes "64")))
+    (option (codes "seed") (codes "1")))
+    (option (codes "events") (codes "100"))
 
 abbrev pub threads_command : App
 threads_command =
@@ -30,9 +40,11 @@ threads_command =
     (option (codes "calls") (codes "100")))
     (option (codes "seed") (codes "1"))
 
--- the program has two subcommands, `replay` and `threads`, and needs one
+-- the program has three subcommands, `replay`, `random` and `threads`, and needs one
 abbrev pub unibench : App
-unibench = with_subcommand (with_subcommand (needs_subcommand (new_app (codes "unibench"))) replay_command.top) threads_command.top
+unibench =
+    with_subcommand (with_subcommand (with_subcommand (needs_subcommand (new_app (codes "unibench")))
+    replay_command.top) random_command.top) threads_command.top
 
 -- the kinds of the first fault that these words have, of which the program's name is the first
 abbrev pub faults_of_words : List Text → Kinds
@@ -41,7 +53,10 @@ faults_of_words words = fault_of unibench words
 -- what the subcommand asks for, by its name and its matches; nothing where an option has a value that it doesn't take
 abbrev pub request_in : Option (Text × List Row) → Option Request
 request_in None = Some Replay
-request_in (Some (name, rows)) = if bytes_eq name (codes "threads") then option_map Threads (plan_of rows) else Some Replay
+request_in (Some (name, rows)) =
+    if bytes_eq name (codes "random") then option_map Random (random_of rows)
+    else if bytes_eq name (codes "threads") then option_map Threads (plan_of rows)
+    else Some Replay
 
 -- what words without a fault ask for
 abbrev pub asked_of : List Text → Option Request
@@ -67,6 +82,21 @@ IsRefused words = AsksForNothing words × ¬ (MayAskForHelp words)
 replay_is_asked : (name : Text) → AsksFor (name ∷ codes "replay" ∷ []) Replay
 unfolding clap_on_literals
 replay_is_asked name = (refl, refl)
+
+random_by_default : (name : Text) → AsksFor (name ∷ codes "random" ∷ [])
+    (Random (record { schedule = record { object = shared.Queue; processes = 2; row = 64; events = 100 }; seed = 1 }))
+unfolding clap_on_literals
+random_by_default name = (refl, refl)
+
+random_on_a_book : (name : Text)
+    → AsksFor (name ∷ codes "random" ∷ codes "--object" ∷ codes "book" ∷ codes "--processes=17" ∷ codes "--row" ∷ codes "8" ∷ codes "--events=20" ∷ [])
+    (Random (record { schedule = record { object = shared.Book; processes = 17; row = 8; events = 20 }; seed = 1 }))
+unfolding clap_on_literals
+random_on_a_book name = (refl, refl)
+
+too_many_events : (name : Text) → asked_of (name ∷ codes "random" ∷ codes "--events" ∷ codes "99001" ∷ []) ≡ None
+unfolding clap_on_literals
+too_many_events name = refl
 
 threads_by_default : (name : Text) → AsksFor (name ∷ codes "threads" ∷ [])
     (Threads (record { form = Lock; object = Queue; processes = 2; calls = 100; seed = 1 }))

@@ -1,15 +1,18 @@
--- What the values of the options of `threads` are.
+-- What the values of the options of `random` and `threads` are.
 use Rattle.std.specs.Prelude.{◌-◌, ◌^◌, ℕ, ◌&&◌, Bool, List, Option, None, Some, codes, if◌then◌else◌, nat_lt, nat_le, length, option_and_then}
 use Rattle.std.specs.List.{list_all}
 use Rattle.std.specs.Char.{digit_value}
 use Rattle.std.specs.Str.{bytes_eq}
 use Rattle.std.specs.Str.Parse.{digits_value, without_leading_plus}
 use Rattle.clap.specs.Words.{Row, Text, first_of}
+use Rattle.uni_script.specs.declared.grammar.ObjectName.{ObjectName}
+use Rattle.uni_script.specs.Script.{object_of_word}
 use Rattle.unibench.specs.declared.request.Form.{Form}
 use Rattle.unibench.specs.declared.request.Form.TheVariants as form
 use Rattle.unibench.specs.declared.request.ThreadsObject.{ThreadsObject}
 use Rattle.unibench.specs.declared.request.ThreadsObject.TheVariants as object
 use Rattle.unibench.specs.declared.request.Plan.{Plan}
+use Rattle.unibench.specs.declared.request.RandomPlan.{RandomPlan}
 
 abbrev pub form_named : Text → Option Form
 form_named name =
@@ -53,4 +56,18 @@ abbrev pub plan_of : List Row → Option Plan
 plan_of rows = plan_with (value_of form_named (codes "form") rows) (value_of object_named (codes "object") rows)
     (value_of (number_in 1 64) (codes "processes") rows)
     (value_of (number_in 1 4096) (codes "calls") rows)
+    (value_of (number_in 0 (2 ^ 64 - 1)) (codes "seed") rows)
+
+-- the plan of a schedule of these values, if each is there
+abbrev pub random_with : Option ObjectName → (processes row events seed : Option ℕ) → Option RandomPlan
+random_with (Some o) (Some n) (Some k) (Some m) (Some s) =
+    Some (record { schedule = record { object = o; processes = n; row = k; events = m }; seed = s })
+random_with _ _ _ _ _ = None
+
+-- the plan of a schedule that the values of the options are, if each is one that its option takes
+abbrev pub random_of : List Row → Option RandomPlan
+random_of rows = random_with (value_of object_of_word (codes "object") rows)
+    (value_of (number_in 1 64) (codes "processes") rows)
+    (value_of (number_in 1 4096) (codes "row") rows)
+    (value_of (number_in 1 99000) (codes "events") rows)
     (value_of (number_in 0 (2 ^ 64 - 1)) (codes "seed") rows)

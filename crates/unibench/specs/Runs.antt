@@ -3,10 +3,12 @@ use Rattle.std.specs.Prelude.{◌≡◌, ◌≢◌, ◌⊎◌, ◌↔◌, ◌*�
 use Rattle.std.specs.Io.KnownBytes.{Appends}
 use Rattle.uni_script.specs.Ends.{AppendsFront}
 use Rattle.uni_script.specs.Replays.{IsReplay, IsBadReplay, IsPartOfReplay, HasAnswered}
+use Rattle.unibench.specs.Draws.{drawn_text}
 use Rattle.unibench.specs.ThreadRuns.{agrees_line, has_form}
 use Rattle.unibench.specs.declared.request.Plan.{Plan}
+use Rattle.unibench.specs.declared.request.RandomPlan.{RandomPlan}
 use Rattle.unibench.specs.declared.request.Request.{Request}
-use Rattle.unibench.specs.declared.request.Request.TheVariants.{Replay, Threads}
+use Rattle.unibench.specs.declared.request.Request.TheVariants.{Replay, Random, Threads}
 
 -- what an end has failed, and the status: 0 only where neither has, 3 where the output has, and only where one of them has
 pub record IsStatusOfEnds (input_failed output_failed : Bool) (status : ℕ) : Type 0 where
@@ -23,6 +25,15 @@ pub record IsReplayRun (left left_after old new : Option (List ℕ)) (output_fai
   pub read : status ≡ 3 → output_failed ≡ false → HasAnswered left left_after old new
   pub part : IsPartOfReplay left old new
 
+-- A schedule that was drawn with this status, from what the output held: 0 only where its text was written, 3 exactly where the
+-- output failed, after a front of it, and 4 for want of memory, where nothing was written.
+pub record IsRandomRun (plan : RandomPlan) (old new : Option (List ℕ)) (output_failed : Bool) (status : ℕ) : Type 0 where
+  pub statuses : (status ≡ 0) ⊎ ((status ≡ 3) ⊎ (status ≡ 4))
+  pub drawn : status ≡ 0 → Appends old new (drawn_text plan)
+  pub front : status ≡ 3 → AppendsFront old new (drawn_text plan)
+  pub failed : (status ≡ 3) ↔ (output_failed ≡ true)
+  pub nothing : status ≡ 4 → new ≡ old
+
 -- A run of threads that ended with this status, from what the output held: 2 only where the object isn't there in the form, and
 -- there only 2 or the want of memory; 0 only where the line was written that says of as many replies as the plan has calls that
 -- they agree. After a failure of the output a front of that line was written, and after any other fault nothing.
@@ -37,4 +48,5 @@ pub record IsThreadsRun (plan : Plan) (old new : Option (List ℕ)) (output_fail
 -- a run of what was asked for
 abbrev pub IsRunOf : Request → (left left_after old new : Option (List ℕ)) (output_failed : Bool) (status : ℕ) → Type 0
 IsRunOf Replay left left_after old new failed status = IsReplayRun left left_after old new failed status
+IsRunOf (Random plan) left left_after old new failed status = IsRandomRun plan old new failed status
 IsRunOf (Threads plan) left left_after old new failed status = IsThreadsRun plan old new failed status

@@ -10,7 +10,7 @@ use Rattle.unibench.specs.CommandLine.{AsksFor}
 use Rattle.unibench.specs.ThreadRuns.{line_of_fault}
 use Rattle.unibench.specs.declared.request.Plan.{Plan}
 use Rattle.unibench.specs.declared.request.Request.{Request}
-use Rattle.unibench.specs.declared.request.Request.TheVariants.{Replay, Threads}
+use Rattle.unibench.specs.declared.request.Request.TheVariants.{Replay, Random, Threads}
 use Rattle.unibench.specs.declared.threads.ThreadsFault.{ThreadsFault}
 use Rattle.unibench.specs.declared.threads.ThreadsFault.TheVariants as fault
 
@@ -57,6 +57,7 @@ TellsThreadsFault = TellsLine status_of_threads line_of_fault
 -- what is told of a fault depends on what was asked for
 abbrev pub Tells : Request → (old new : Option (List ℕ)) (failed : Bool) (status : ℕ) → Type 0
 Tells Replay = TellsFault
+Tells (Random plan) = TellsFault
 Tells (Threads plan) = TellsThreadsFault
 
 -- a status of the program: 5 only where the words ask for threads

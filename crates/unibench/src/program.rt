@@ -5,20 +5,25 @@ ghost use Rattle.std.specs.Io.KnownBytes.{Appends};
 ghost use Rattle.uni_script.specs.Ends.{AppendsFront};
 ghost use Rattle.uni_script.specs.Replays.{IsReplay, IsBadReplay, IsPartOfReplay, HasAnswered};
 ghost use Rattle.unibench.specs.CommandLine.{AsksFor, IsRefused};
-ghost use Rattle.unibench.specs.Runs.{IsRunOf, IsStatusOfEnds, IsThreadsRun};
+ghost use Rattle.uni_script.specs.Schedules.{IsPlan};
+ghost use Rattle.unibench.specs.Runs.{IsRandomRun, IsRunOf, IsStatusOfEnds, IsThreadsRun};
 ghost use Rattle.unibench.specs.Statuses.{IsStatusFor, IsStatusOf, IsStatusOfThreads, Tells, TellsFault, TellsThreadsFault, status_of};
 ghost use Rattle.unibench.specs.ThreadRuns.{agrees_line, has_form};
 
-use crate::request::{Plan, Request, read_words};
+use crate::request::{Plan, RandomPlan, Request, read_words};
 use crate::threads::{ThreadsFault, push_agrees, push_threads_fault, run_plan};
 use clap::error::ErrorKind;
+use rand_core::SeedableRng;
+use rand_xoshiro::Xoshiro256PlusPlus;
 use seq_object::CallId;
 use std::alloc::{AllocError, Global};
 use std::convert::AsStr;
 use std::fmt::{Display, Write};
 use std::thread::Threads;
 use std::{fmt, io};
-use uni_script::{BenchFault, Failed, Options, TextIn, TextOut, bench, push_fault, write_all};
+use uni_script::{
+    BenchFault, Failed, Options, TextIn, TextOut, bench, push_fault, schedule, write_all,
+};
 
 /// Runs the program over its argument texts, the program's name first; the answer is the status
 /// that it ends with.
@@ -49,6 +54,7 @@ pub fn run<R: Threads + Sync, S: AsStr, I: TextIn, O: TextOut, F: TextOut>(
 {
     match read_words(alloc, words) {
         Ok(Some(Request::Replay)) => replay(alloc, input, output, faults),
+        Ok(Some(Request::Random(plan))) => random(alloc, &plan, output, faults),
         Ok(Some(Request::Threads(plan))) => threads(rt, alloc, &plan, output, faults),
         Ok(None) => {
             tell(faults, b"an option has a value that it doesn't take\n");
@@ -164,6 +170,29 @@ fn replay<I: TextIn, O: TextOut, F: TextOut>(
 {
     match bench(alloc, input, output, &Options {}) {
         Ok(_) => 0,
+        Err(fault) => report(alloc, fault, faults),
+    }
+}
+
+/// Writes the schedule that is drawn from the seed of a plan to `output`; the answer is the status.
+///
+/// The status is 0 where all went well, 3 where `output` failed, and 4 where memory was refused; the
+/// text that says so goes to `faults`, as far as that takes it.
+fn random<O: TextOut, F: TextOut>(
+    alloc: Global,
+    plan: &RandomPlan,
+    output: &mut O,
+    faults: &mut F,
+) -> u8
+    requires plan { IsPlan plan.now.schedule }
+    requires output { O.has_failed output.old ≡ false }
+    ensures run { IsRandomRun plan.now (O.contents output.old) (O.contents output.new) (O.has_failed output.new) result }
+    ensures silent { result ≡ 0 → faults.new ≡ faults.old }
+    ensures told { result ≢ 0 → TellsFault (F.contents faults.old) (F.contents faults.new) (F.has_failed faults.new) result }
+{
+    let mut words = Xoshiro256PlusPlus::seed_from_u64(plan.seed);
+    match schedule(alloc, &mut words, output, &plan.schedule) {
+        Ok(()) => 0,
         Err(fault) => report(alloc, fault, faults),
     }
 }

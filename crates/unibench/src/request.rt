@@ -1,14 +1,16 @@
 //! What a command line asks for.
 
 ghost use Rattle.std.specs.Prelude.{◌≡◌, [], IfOk, IfErr, map, codes, false};
-ghost use Rattle.clap.specs.Words.{HasKind, app_of, found_of, rows_of, rule_of, subcommand_rows_of};
+ghost use Rattle.clap.specs.Words.{HasKind, app_of, found_of, rows_of, new_app, rule_of, subcommand_rows_of};
 ghost use Rattle.clap.specs.declared.builder.command.Command.TheViews.{out-Command};
-ghost use Rattle.unibench.specs.CommandLine.{asked_of, faults_of_words, option, replay_command, request_in, threads_command, unibench};
-ghost use Rattle.unibench.specs.Plans.{form_named, number_in, object_named, plan_of, value_of};
+ghost use Rattle.unibench.specs.CommandLine.{asked_of, faults_of_words, option, random_command, replay_command, request_in, threads_command, unibench};
+ghost use Rattle.uni_script.specs.Script.{object_of_word};
+ghost use Rattle.unibench.specs.Plans.{form_named, number_in, object_named, plan_of, random_of, value_of};
 
 use clap::{Arg, ArgMatches, Command};
 use std::alloc::{AllocError, Global};
 use std::convert::AsStr;
+use uni_script::ObjectName;
 
 /// A form of the construction that threads can share.
 #[derive(Clone, Copy, Debug, PartialEq, Eq)]
@@ -94,6 +96,53 @@ impl Plan {
     }
 }
 
+/// What a schedule that is drawn from a seed is.
+#[derive(Clone, Copy, Debug, PartialEq, Eq)]
+pub struct RandomPlan {
+    /// The schedule.
+    pub schedule: uni_script::Plan,
+    /// The seed of the words that it is drawn from.
+    pub seed: u64,
+}
+
+impl RandomPlan {
+    /// The plan that the values of the options are; `None` where an option has a value that it
+    /// doesn't take.
+    fn of(matches: &ArgMatches<'_>) -> Option<RandomPlan>
+        ensures { result ≡ random_of (rows_of (found_of matches.now)) }
+    {
+        Some(RandomPlan {
+            schedule: uni_script::Plan {
+                object: shared_in(matches)?,
+                processes: number_of(matches, "processes", 1, 64)?,
+                row: number_of(matches, "row", 1, 4096)?,
+                events: number_of(matches, "events", 1, 99_000)?,
+            },
+            seed: number_of(matches, "seed", 0, u64::MAX)?,
+        })
+    }
+}
+
+/// The object of a script that a name stands for.
+fn shared_named(name: &str) -> Option<ObjectName>
+    ensures { result ≡ object_of_word name.now }
+{
+    match name {
+        "queue" => Some(ObjectName::Queue),
+        "directory" => Some(ObjectName::Directory),
+        "book" => Some(ObjectName::Book),
+        "sticky" => Some(ObjectName::Sticky),
+        _ => None,
+    }
+}
+
+/// The object of a script that the option's value names.
+fn shared_in(matches: &ArgMatches<'_>) -> Option<ObjectName>
+    ensures { result ≡ value_of object_of_word (codes "object") (rows_of (found_of matches.now)) }
+{
+    shared_named(matches.get_str("object")?)
+}
+
 /// The form that the option's value names.
 fn form_in(matches: &ArgMatches<'_>) -> Option<Form>
     ensures { result ≡ value_of form_named (codes "form") (rows_of (found_of matches.now)) }
@@ -136,90 +185,219 @@ fn number_in(text: &str, least: u64, most: u64) -> Option<u64>
 pub enum Request {
     /// The replay of the script on standard input.
     Replay,
+    /// A schedule that is drawn from a seed.
+    Random(RandomPlan),
     /// A run of threads.
     Threads(Plan),
 }
+
+/// A command with what its help says: one line, and a text that comes last.
+fn described<'a>(alloc: Global, name: &'a str, about: &'a str, notes: &'a str) -> Command<'a>
+    ensures app { app_of result ≡ new_app name.entry.now }
+    ensures local { (out-Command result).has_globals ≡ false }
+{
+    Command::new(alloc, name).about(about).after_help(notes)
+}
+
+/// An option, with what its help calls its value, and the value that it has where it isn't used.
+fn option<'a>(
+    alloc: Global,
+    name: &'a str,
+    placeholder: &'a str,
+    help: &'a str,
+    value: &'a str,
+) -> Arg<'a>
+    ensures rule { rule_of result ≡ option name.entry.now value.entry.now }
+    ensures local { result.global ≡ false }
+{
+    Arg::new(alloc, name)
+        .long(name)
+        .value_name(placeholder)
+        .help(help)
+        .default_value(value)
+}
+
+/// What the help of `replay` says last.
+const REPLAY_NOTES: &str = "\
+The script begins with a header: 'universal 1', the object (queue, directory,
+book or sticky), how many processes share it, from 1 to 16, and how many calls
+each can make, from 1 to 4096. Then come commands, one a line: call, step,
+finish, log and heads. A line that begins with # is a note.
+
+Example:
+  printf '%s\\n' 'universal 1 queue 2 8' 'call 0 enq 7' 'finish 0' log |
+    unibench replay";
 
 /// The subcommand that replays a script.
 fn replay_command<'a>(alloc: Global) -> Command<'a>
     ensures app { app_of result ≡ replay_command }
     ensures local { (out-Command result).has_globals ≡ false }
 {
-    Command::new(alloc, "replay").about(
-        "Runs the script on standard input, and writes its answers to standard output",
+    described(
+        alloc,
+        "replay",
+        "Runs the script on standard input, and writes its answers",
+        REPLAY_NOTES,
     )
 }
 
-/// An option, with the value that it has where it isn't used.
-fn option<'a>(alloc: Global, name: &'a str, help: &'a str, value: &'a str) -> Arg<'a>
-    ensures rule { rule_of result ≡ option name.entry.now value.entry.now }
-    ensures local { result.global ≡ false }
+/// What the help of `random` says last.
+const RANDOM_NOTES: &str = "\
+Each event is a call or a step of one process, or a trim. The calls of all
+processes are finished at the end, and the log is asked for. The same options
+draw the same script. Above 16 processes its header has version 2.
+
+Example:
+  unibench random --object book --processes 4 --events 1000 --seed 7";
+
+/// The subcommand that draws a schedule.
+fn random_command<'a>(alloc: Global) -> Result<Command<'a>, AllocError>
+    ensures app { IfOk result (λ command. app_of command ≡ random_command) }
+    ensures local { IfOk result (λ command. (out-Command command).has_globals ≡ false) }
 {
-    Arg::new(alloc, name)
-        .long(name)
-        .help(help)
-        .default_value(value)
+    let object = option(
+        alloc,
+        "object",
+        "NAME",
+        "One of queue, directory, book and sticky",
+        "queue",
+    );
+    let processes = option(
+        alloc,
+        "processes",
+        "N",
+        "How many processes there are, from 1 to 64",
+        "2",
+    );
+    let row = option(
+        alloc,
+        "row",
+        "K",
+        "The most calls of each, from 1 to 4096",
+        "64",
+    );
+    let seed = option(
+        alloc,
+        "seed",
+        "S",
+        "The seed, from 0 to 18446744073709551615",
+        "1",
+    );
+    let events = option(
+        alloc,
+        "events",
+        "M",
+        "How many events are drawn, from 1 to 99000",
+        "100",
+    );
+    described(
+        alloc,
+        "random",
+        "Writes a script that is drawn from a seed",
+        RANDOM_NOTES,
+    )
+    .arg(object)?
+    .arg(processes)?
+    .arg(row)?
+    .arg(seed)?
+    .arg(events)
 }
+
+/// What the help of `threads` says last.
+const THREADS_NOTES: &str = "\
+With --form words the object is sticky or tally; the form under a lock has none
+yet. Where all replies are those of the log, the line 'threads N calls M agrees'
+is written, M being the number of all calls.
+
+Example:
+  unibench threads --form words --object tally --processes 8";
 
 /// The subcommand that runs threads.
 fn threads_command<'a>(alloc: Global) -> Result<Command<'a>, AllocError>
     ensures app { IfOk result (λ command. app_of command ≡ threads_command) }
     ensures local { IfOk result (λ command. (out-Command command).has_globals ≡ false) }
 {
-    let form = option(
-        alloc,
-        "form",
-        "The form of the object: lock or words",
-        "lock",
-    );
+    let form = option(alloc, "form", "NAME", "One of lock and words", "lock");
     let object = option(
         alloc,
         "object",
-        "The object: with words sticky or tally",
+        "NAME",
+        "queue, directory, book, sticky or tally",
         "queue",
     );
     let processes = option(
         alloc,
         "processes",
+        "N",
         "How many threads there are, from 1 to 64",
         "2",
     );
     let calls = option(
         alloc,
         "calls",
-        "How many calls each thread makes, from 1 to 4096",
+        "C",
+        "How many calls each makes, from 1 to 4096",
         "100",
     );
-    let seed = option(alloc, "seed", "The seed of the first thread's calls", "1");
-    Command::new(alloc, "threads")
-        .about("Makes calls on an object in threads, and compares what they are told with its log")
-        .arg(form)?
-        .arg(object)?
-        .arg(processes)?
-        .arg(calls)?
-        .arg(seed)
+    let seed = option(
+        alloc,
+        "seed",
+        "S",
+        "The seed of the first thread's calls",
+        "1",
+    );
+    described(
+        alloc,
+        "threads",
+        "Makes calls in threads, and compares the replies with the log",
+        THREADS_NOTES,
+    )
+    .arg(form)?
+    .arg(object)?
+    .arg(processes)?
+    .arg(calls)?
+    .arg(seed)
 }
+
+/// What the help of the program says last.
+const NOTES: &str = "\
+Status:
+  0 where all went well, 2 for a bad command line or script, 3 where the input
+  or the output failed, 4 where memory was refused, 5 where a thread was told
+  what the log doesn't have.
+
+Examples:
+  unibench replay < queue.script
+  unibench random --events 1000 --seed 7 > drawn.script
+  unibench threads --form words --object tally";
 
 /// The command line of the program.
 fn unibench<'a>(alloc: Global) -> Result<Command<'a>, AllocError>
     ensures { IfOk result (λ command. app_of command ≡ unibench) }
 {
     let replay = replay_command(alloc);
+    let random = random_command(alloc)?;
     let threads = threads_command(alloc)?;
-    Command::new(alloc, "unibench")
-        .about("A bench for the wait-free universal construction")
-        .subcommand_required(true)
-        .subcommand(replay)?
-        .subcommand(threads)
+    described(
+        alloc,
+        "unibench",
+        "A bench for Herlihy's wait-free universal construction",
+        NOTES,
+    )
+    .subcommand_required(true)
+    .subcommand(replay)?
+    .subcommand(random)?
+    .subcommand(threads)
 }
 
 /// What matches ask for; `None` where an option has a value that it doesn't take.
 fn request_in(matches: &ArgMatches<'_>) -> Option<Request>
     ensures { result ≡ request_in (subcommand_rows_of matches.now) }
 {
-    match matches.subcommand_matches("threads") {
-        Some(threads) => Some(Request::Threads(Plan::of(threads)?)),
-        None => Some(Request::Replay),
+    match matches.subcommand() {
+        Some(("random", random)) => Some(Request::Random(RandomPlan::of(random)?)),
+        Some(("threads", threads)) => Some(Request::Threads(Plan::of(threads)?)),
+        _ => Some(Request::Replay),
     }
 }
 

@@ -1,5 +1,8 @@
 //! Tests of the program over memory: what it writes, and its status.
 
+mod command_line;
+mod drawn;
+
 use crate::program::run;
 use std::alloc::{AllocError, Global};
 use std::io;
@@ -427,35 +430,6 @@ fn faults_that_nobody_takes(rt: HostRuntime) {
     assert_eq!(rt; status, 2);
     assert_eq!(rt; output.len(), 0);
     assert_eq!(rt; faults.taken.len(), 0);
-}
-
-#[test]
-fn command_lines(rt: HostRuntime) {
-    let rows = [
-        (["unibench", "--help"].as_slice(), true, 0),
-        (["unibench", "help"].as_slice(), true, 0),
-        (["unibench", "replay", "--help"].as_slice(), true, 0),
-        (["unibench", "help", "replay"].as_slice(), true, 0),
-        (["unibench", "threads", "--help"].as_slice(), true, 0),
-        (["unibench", "help", "threads"].as_slice(), true, 0),
-        (["unibench"].as_slice(), false, 2),
-        (["unibench", "play"].as_slice(), false, 2),
-        (["unibench", "replay", "--history"].as_slice(), false, 2),
-        (["unibench", "replay", "8"].as_slice(), false, 2),
-        (["unibench", "threads", "8"].as_slice(), false, 2),
-        (["unibench", "threads", "--calls"].as_slice(), false, 2),
-    ];
-    for (words, is_help, status) in rows {
-        let outcome = outcome_of(
-            &rt,
-            rt.alloc(),
-            words,
-            by_sevens(b"universal 1 queue 1 8\n", false),
-        );
-        assert_eq!(rt; outcome.status, status, "{words:?}");
-        assert_eq!(rt; outcome.output.is_empty(), !is_help, "{words:?}");
-        assert_eq!(rt; outcome.faults.is_empty(), is_help, "{words:?}");
-    }
 }
 
 /// Asserts what the program writes on these words with no input, and its status.

@@ -1,19 +1,21 @@
 use Rattle.std.proofs.Common.{◌≡◌, [], Some, map, rules}
-use Rattle.unibench.specs.CommandLine.{asked_of, faults_of_words}
-use Rattle.unibench.specs.declared.request.Request.TheVariants.{Replay, Threads}
-use Rattle.unibench.proofs.RunCases.{run_of_memory, run_of_replay, status_of_memory, told_by_memory, told_of_replay, told_of_threads}
+use Rattle.clap.specs.Words.{subcommand_of}
+use Rattle.unibench.specs.CommandLine.{asked_of, faults_of_words, unibench}
+use Rattle.unibench.specs.declared.request.Request.TheVariants.{Replay, Random, Threads}
+use Rattle.unibench.proofs.RandomPlans.{IsPlan-asked}
+use Rattle.unibench.proofs.RunCases.{run_of_asked, run_of_memory, status_of_memory, told_by_memory, told_of_asked}
 use Rattle.unibench.proofs.program.run.Goals as goal
 
 pub returns-in-Ok-Some-Replay-clause-asked : goal.returns-in-Ok-Some-Replay-clause-asked
 returns-in-Ok-Some-Replay-clause-asked g c = λ r asks.
     let asked : asked_of (map g.S.AsStr.text c.args.words.now) ≡ Some Replay = search rules in
     let run = c.replay.ensures in
-    run_of_replay r _ asks.1 _ _ _ _ _ _ asked (record { replayed = run.replayed; bad = run.bad; read = run.read; part = run.part })
+    run_of_asked _ Replay r asked asks.1 _ _ _ _ _ _ (record { replayed = run.replayed; bad = run.bad; read = run.read; part = run.part })
 
 pub returns-in-Ok-Some-Replay-clause-told : goal.returns-in-Ok-Some-Replay-clause-told
 returns-in-Ok-Some-Replay-clause-told g c = λ r asks some.
     let asked : asked_of (map g.S.AsStr.text c.args.words.now) ≡ Some Replay = search rules in
-    told_of_replay r _ asks.1 _ _ _ _ asked (c.replay.ensures.told some)
+    told_of_asked _ Replay r asked asks.1 _ _ _ _ (c.replay.ensures.told some)
 
 pub returns-in-Ok-Some-Replay-clause-refused : goal.returns-in-Ok-Some-Replay-clause-refused
 returns-in-Ok-Some-Replay-clause-refused g c = λ none.
@@ -21,10 +23,31 @@ returns-in-Ok-Some-Replay-clause-refused g c = λ none.
     let good : faults_of_words (map g.S.AsStr.text c.args.words.now) ≡ [] = search rules in
     absurd (none.0 Replay (good, asked))
 
+pub random-requires-clause-plan : goal.random-requires-clause-plan
+random-requires-clause-plan g c =
+    let asked : asked_of (map g.S.AsStr.text c.args.words.now) ≡ Some (Random c.in-Ok-Some-Random.plan) = search rules in
+    IsPlan-asked (subcommand_of unibench (map g.S.AsStr.text c.args.words.now)) c.in-Ok-Some-Random.plan asked
+
+pub returns-in-Ok-Some-Random-clause-asked : goal.returns-in-Ok-Some-Random-clause-asked
+returns-in-Ok-Some-Random-clause-asked g c = λ r asks.
+    let asked : asked_of (map g.S.AsStr.text c.args.words.now) ≡ Some (Random c.in-Ok-Some-Random.plan) = search rules in
+    run_of_asked _ (Random c.in-Ok-Some-Random.plan) r asked asks.1 _ _ _ _ _ _ c.random.ensures.run
+
+pub returns-in-Ok-Some-Random-clause-told : goal.returns-in-Ok-Some-Random-clause-told
+returns-in-Ok-Some-Random-clause-told g c = λ r asks some.
+    let asked : asked_of (map g.S.AsStr.text c.args.words.now) ≡ Some (Random c.in-Ok-Some-Random.plan) = search rules in
+    told_of_asked _ (Random c.in-Ok-Some-Random.plan) r asked asks.1 _ _ _ _ (c.random.ensures.told some)
+
+pub returns-in-Ok-Some-Random-clause-refused : goal.returns-in-Ok-Some-Random-clause-refused
+returns-in-Ok-Some-Random-clause-refused g c = λ none.
+    let asked : asked_of (map g.S.AsStr.text c.args.words.now) ≡ Some (Random c.in-Ok-Some-Random.plan) = search rules in
+    let good : faults_of_words (map g.S.AsStr.text c.args.words.now) ≡ [] = search rules in
+    absurd (none.0 (Random c.in-Ok-Some-Random.plan) (good, asked))
+
 pub returns-in-Ok-Some-Threads-clause-told : goal.returns-in-Ok-Some-Threads-clause-told
 returns-in-Ok-Some-Threads-clause-told g c = λ r asks some.
     let asked : asked_of (map g.S.AsStr.text c.args.words.now) ≡ Some (Threads c.in-Ok-Some-Threads.plan) = search rules in
-    told_of_threads r _ asks.1 c.in-Ok-Some-Threads.plan _ _ _ _ asked (c.threads.ensures.told some)
+    told_of_asked _ (Threads c.in-Ok-Some-Threads.plan) r asked asks.1 _ _ _ _ (c.threads.ensures.told some)
 
 pub returns-in-Ok-Some-Threads-clause-refused : goal.returns-in-Ok-Some-Threads-clause-refused
 returns-in-Ok-Some-Threads-clause-refused g c = λ none.

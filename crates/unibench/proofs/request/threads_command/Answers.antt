@@ -1,14 +1,11 @@
-use Rattle.std.proofs.Common.{◌≡◌, ◌∙◌, ◌||◌, codes, false, ap, ap₂}
+use Rattle.std.proofs.Common.{◌∙◌, ◌||◌, ap₂}
 use Rattle.std.proofs.lemmas.Result.{IfOk-weaker}
-use Rattle.clap.specs.Words.{app_of, new_app, with_rule}
-use Rattle.clap.specs.Simple.{app_of_fields}
-use Rattle.clap.specs.declared.builder.command.Command.TheViews.{out-Command}
+use Rattle.clap.specs.Words.{with_rule}
 use Rattle.unibench.proofs.request.threads_command.Goals as goal
 
 pub returns-clause-app : goal.returns-clause-app
 returns-clause-app c =
-    let new : app_of c.about.result ≡ new_app (codes "threads") = ap app_of_fields c.about.ensures ∙ c.new.ensures.app in
-    let one = c.in_ok-arg.ensures.shape c.option-form.ensures.local ∙ ap₂ with_rule new c.option-form.ensures.rule in
+    let one = c.in_ok-arg.ensures.shape c.option-form.ensures.local ∙ ap₂ with_rule c.described.ensures.app c.option-form.ensures.rule in
     let two = c.in_ok-arg-2.ensures.shape c.option-object.ensures.local ∙ ap₂ with_rule one c.option-object.ensures.rule in
     let three = c.in_ok-arg-3.ensures.shape c.option-processes.ensures.local ∙ ap₂ with_rule two c.option-processes.ensures.rule in
     let four = c.in_ok-arg-4.ensures.shape c.option-calls.ensures.local ∙ ap₂ with_rule three c.option-calls.ensures.rule in
@@ -16,8 +13,7 @@ returns-clause-app c =
 
 pub returns-clause-local : goal.returns-clause-local
 returns-clause-local c =
-    let new : (out-Command c.about.result).has_globals ≡ false = ap (λ f. f.has_globals) c.about.ensures ∙ c.new.ensures.local in
-    let one = c.in_ok-arg.ensures.globals ∙ ap₂ ◌||◌ new c.option-form.ensures.local in
+    let one = c.in_ok-arg.ensures.globals ∙ ap₂ ◌||◌ c.described.ensures.local c.option-form.ensures.local in
     let two = c.in_ok-arg-2.ensures.globals ∙ ap₂ ◌||◌ one c.option-object.ensures.local in
     let three = c.in_ok-arg-3.ensures.globals ∙ ap₂ ◌||◌ two c.option-processes.ensures.local in
     let four = c.in_ok-arg-4.ensures.globals ∙ ap₂ ◌||◌ three c.option-calls.ensures.local in

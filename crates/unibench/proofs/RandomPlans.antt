@@ -1,0 +1,56 @@
+-- What words ask of a schedule is a plan whose numbers are in range.
+use Rattle.std.proofs.Common.{◌≡◌, ◌∙◌, ℕ, ◌≤◌, Bool, true, false, codes, List, Option, Some, None, option_map, option_and_then, if◌then◌else◌, refl, subst, ap}
+use Rattle.std.specs.Str.{bytes_eq}
+use Rattle.std.specs.Str.Parse.{without_leading_plus}
+use Rattle.clap.specs.Words.{Row, Text, first_of}
+use Rattle.uni_script.specs.Script.{object_of_word}
+use Rattle.uni_script.specs.Schedules.{IsPlan}
+use Rattle.uni_script.specs.declared.grammar.ObjectName.{ObjectName}
+use Rattle.unibench.specs.CommandLine.{request_in}
+use Rattle.unibench.specs.Plans.{number_in, plan_of, random_of, random_with, value_of}
+use Rattle.unibench.specs.declared.request.Plan.{Plan}
+use Rattle.unibench.specs.declared.request.RandomPlan.{RandomPlan}
+use Rattle.unibench.specs.declared.request.Request.TheVariants.{Replay, Random, Threads}
+use Rattle.unibench.proofs.PlanValues.{value_in-range}
+
+read-range : (least most : ℕ) (text : Option Text) (n : ℕ) → option_and_then (number_in least most) text ≡ Some n → (least ≤ n) × (n ≤ most)
+read-range least most None n e = absurd (let bad : None ≡ Some n = e in cc)
+read-range least most (Some t) n e = value_in-range least most (without_leading_plus t) n e
+
+random_with-IsPlan : (object : Option ObjectName) (processes row events seed : Option ℕ) (plan : RandomPlan)
+    → ((n : ℕ) → processes ≡ Some n → (1 ≤ n) × (n ≤ 64)) → ((k : ℕ) → row ≡ Some k → (1 ≤ k) × (k ≤ 4096))
+    → ((m : ℕ) → events ≡ Some m → (1 ≤ m) × (m ≤ 99000)) → random_with object processes row events seed ≡ Some plan → IsPlan plan.schedule
+random_with-IsPlan (Some o) (Some n) (Some k) (Some m) (Some s) plan few short drawn e =
+    let ns = few n refl in
+    let ks = short k refl in
+    let ms = drawn m refl in
+    let of : RandomPlan = record { schedule = record { object = o; processes = n; row = k; events = m }; seed = s } in
+    let is : of ≡ plan = (let same : Some of ≡ Some plan = e in cc) in
+    subst (λ p. IsPlan p.schedule) is (ns.0, ns.1, ks.0, ks.1, ms.0, ms.1)
+random_with-IsPlan None n k m s plan few short drawn e = absurd (let bad : None ≡ Some plan = e in cc)
+random_with-IsPlan (Some o) None k m s plan few short drawn e = absurd (let bad : None ≡ Some plan = e in cc)
+random_with-IsPlan (Some o) (Some n) None m s plan few short drawn e = absurd (let bad : None ≡ Some plan = e in cc)
+random_with-IsPlan (Some o) (Some n) (Some k) None s plan few short drawn e = absurd (let bad : None ≡ Some plan = e in cc)
+random_with-IsPlan (Some o) (Some n) (Some k) (Some m) None plan few short drawn e = absurd (let bad : None ≡ Some plan = e in cc)
+
+random_of-IsPlan : (rows : List Row) (plan : RandomPlan) → random_of rows ≡ Some plan → IsPlan plan.schedule
+random_of-IsPlan rows plan is =
+    random_with-IsPlan (value_of object_of_word (codes "object") rows) _ _ _ _ plan
+    (read-range 1 64 (first_of (codes "processes") rows)) (read-range 1 4096 (first_of (codes "row") rows)) (read-range 1 99000 (first_of (codes "events") rows)) is
+
+pub IsPlan-asked : (o : Option (Text × List Row)) (plan : RandomPlan) → request_in o ≡ Some (Random plan) → IsPlan plan.schedule
+IsPlan-asked None plan e = absurd (let bad : Some Replay ≡ Some (Random plan) = e in cc)
+IsPlan-asked (Some (name, rows)) plan e = by_name (bytes_eq name (codes "random")) (bytes_eq name (codes "threads")) e where
+  of_random : (o : Option RandomPlan) → random_of rows ≡ o → option_map Random o ≡ Some (Random plan) → IsPlan plan.schedule
+  of_random None is same = absurd (let bad : None ≡ Some (Random plan) = same in cc)
+  of_random (Some p) is same = random_of-IsPlan rows plan (is ∙ ap Some (let one : Some (Random p) ≡ Some (Random plan) = same in let it : p ≡ plan = cc in it))
+
+  of_threads : (o : Option Plan) → option_map Threads o ≡ Some (Random plan) → ⊥
+  of_threads None same = let bad : None ≡ Some (Random plan) = same in cc
+  of_threads (Some p) same = let bad : Some (Threads p) ≡ Some (Random plan) = same in cc
+
+  by_name : (r t : Bool) → (if r then option_map Random (random_of rows) else if t then option_map Threads (plan_of rows) else Some Replay) ≡ Some (Random plan)
+      → IsPlan plan.schedule
+  by_name true t same = of_random (random_of rows) refl same
+  by_name false true same = absurd (of_threads (plan_of rows) same)
+  by_name false false same = absurd (let bad : Some Replay ≡ Some (Random plan) = same in cc)

@@ -1,0 +1,235 @@
+//! Tests of the schedules that the program draws.
+
+use super::{by_sevens, narrow_outcome, outcome_of, runs};
+
+// A script in Python gave these lines. It was written from the published algorithms, SplitMix64 for the
+// state and xoshiro256++ for the words, and from the table of schedules; it gives the published
+// vectors of both generators.
+const QUEUE_OF_741: &str = "\
+universal 1 queue 3 8
+step 1
+step 0
+step 1
+trim
+call 2 enq 564
+step 2
+step 2
+call 0 deq
+call 0 enq 236
+step 1
+call 0 enq 733
+step 2
+step 0
+step 2
+call 1 deq
+trim
+trim
+call 0 enq 890
+trim
+step 0
+finish 0
+finish 1
+finish 2
+log
+";
+
+const DIRECTORY_OF_741: &str = "\
+universal 1 directory 3 8
+step 1
+step 0
+step 1
+trim
+call 2 size
+step 2
+step 2
+call 0 get n8
+call 0 del n8
+step 1
+call 0 put n0 215
+step 2
+step 0
+step 2
+call 1 put n4 862
+trim
+trim
+call 0 at 8
+trim
+step 0
+finish 0
+finish 1
+finish 2
+log
+";
+
+const BOOK_OF_741: &str = "\
+universal 1 book 3 8
+step 1
+step 0
+step 1
+trim
+call 2 move 3 6 304
+step 2
+step 2
+call 0 total
+call 0 withdraw 13 576
+step 1
+call 0 deposit 12 469
+step 2
+step 0
+step 2
+call 1 move 0 2 161
+trim
+trim
+call 0 total
+trim
+step 0
+finish 0
+finish 1
+finish 2
+log
+";
+
+const STICKY_OF_741: &str = "\
+universal 1 sticky 3 8
+step 1
+step 0
+step 1
+trim
+call 2 read
+step 2
+step 2
+call 0 stick 433
+call 0 stick 354
+step 1
+call 0 read
+step 2
+step 0
+step 2
+call 1 read
+trim
+trim
+call 0 stick 835
+trim
+step 0
+finish 0
+finish 1
+finish 2
+log
+";
+
+/// The words that ask for 20 events of an object of three processes, from seed 741.
+fn words_of_741(object: &str) -> [&str; 12] {
+    [
+        "unibench",
+        "random",
+        "--object",
+        object,
+        "--processes",
+        "3",
+        "--row",
+        "8",
+        "--seed",
+        "741",
+        "--events",
+        "20",
+    ]
+}
+
+#[test]
+fn schedules_of_one_seed(rt: HostRuntime) {
+    let rows = [
+        ("queue", QUEUE_OF_741),
+        ("directory", DIRECTORY_OF_741),
+        ("book", BOOK_OF_741),
+        ("sticky", STICKY_OF_741),
+    ];
+    for (object, schedule) in rows {
+        let words = words_of_741(object);
+        runs(&rt, rt.alloc(), words.as_slice(), (schedule, "", 0));
+    }
+}
+
+#[test]
+fn schedule_by_default(rt: HostRuntime) {
+    let words = ["unibench", "random"].as_slice();
+    let outcome = outcome_of(&rt, rt.alloc(), words, by_sevens(b"", false));
+    assert_eq!(rt; outcome.status, 0);
+    assert!(rt; outcome.faults.is_empty());
+    let output = outcome.output.as_slice();
+    assert!(rt; output.starts_with(b"universal 1 queue 2 64\n"));
+    assert!(rt; output.ends_with(b"\nfinish 0\nfinish 1\nlog\n"));
+    // The header, 100 events, two lines that finish and the log.
+    assert_eq!(rt; output.iter().filter(|byte| **byte == b'\n').count(), 104);
+}
+
+#[test]
+fn headers_of_schedules(rt: HostRuntime) {
+    let rows = [
+        ("--processes=1", "universal 1 queue 1 64\n"),
+        ("--processes=16", "universal 1 queue 16 64\n"),
+        ("--processes=17", "universal 2 queue 17 64\n"),
+        ("--processes=64", "universal 2 queue 64 64\n"),
+        ("--row=1", "universal 1 queue 2 1\n"),
+        ("--row=4096", "universal 1 queue 2 4096\n"),
+        ("--seed=0", "universal 1 queue 2 64\n"),
+        ("--seed=18446744073709551615", "universal 1 queue 2 64\n"),
+        ("--object=sticky", "universal 1 sticky 2 64\n"),
+    ];
+    for (option, header) in rows {
+        let words = ["unibench", "random", "--events", "1", option];
+        let outcome = outcome_of(&rt, rt.alloc(), words.as_slice(), by_sevens(b"", false));
+        assert_eq!(rt; outcome.status, 0, "{option}");
+        assert!(rt; outcome.output.starts_with(header.as_bytes()), "{option}");
+    }
+}
+
+#[test]
+fn as_many_events_as_can_be_drawn(rt: HostRuntime) {
+    let words = ["unibench", "random", "--events=99000"].as_slice();
+    let outcome = outcome_of(&rt, rt.alloc(), words, by_sevens(b"", false));
+    assert_eq!(rt; outcome.status, 0);
+    let lines = outcome.output.iter().filter(|byte| **byte == b'\n').count();
+    assert_eq!(rt; lines, 99_004);
+}
+
+#[test]
+fn values_that_random_does_not_take(rt: HostRuntime) {
+    let rows = [
+        ("--object", "tally"),
+        ("--object", "Queue"),
+        ("--object", ""),
+        ("--processes", "0"),
+        ("--processes", "65"),
+        ("--processes", "two"),
+        ("--row", "0"),
+        ("--row", "4097"),
+        ("--seed", "18446744073709551616"),
+        ("--seed", "x"),
+        ("--events", "0"),
+        ("--events", "99001"),
+        ("--events", "1.5"),
+    ];
+    let want = ("", "an option has a value that it doesn't take\n", 2);
+    for (option, value) in rows {
+        let words = ["unibench", "random", option, value];
+        runs(&rt, rt.alloc(), words.as_slice(), want);
+    }
+}
+
+#[test]
+fn schedule_that_nobody_takes(rt: HostRuntime) {
+    let words = words_of_741("queue");
+    let schedule = QUEUE_OF_741.as_bytes();
+    for room in [0, 1, 21, 22, schedule.len() - 1] {
+        for fails in [false, true] {
+            let outcome = narrow_outcome(&rt, rt.alloc(), words.as_slice(), b"", room, fails);
+            assert_eq!(rt; outcome.output.as_slice(), &schedule[..room], "room {room}");
+            assert_eq!(rt;
+                outcome.faults.as_slice(),
+                "cannot write\n".as_bytes(),
+                "room {room}"
+            );
+            assert_eq!(rt; outcome.status, 3, "room {room}");
+        }
+    }
+}
