@@ -10,4 +10,5 @@ pub mod Reading
 pub mod Runs
 mod Walk
 mod OpenedWorld
+mod NoCalls
 pub mod Renewed

@@ -15,7 +15,8 @@ use Rattle.uni_core.specs.declared.local.Local.{Local}
 use Rattle.uni_model.specs.Indices.{name_from}
 use Rattle.uni_core.specs.NewLocal.{new_local}
 use Rattle.uni_core.specs.Shared.{Shared, first_of, memory_of}
-use Rattle.uni_core.specs.Whole.{Whole, call_at, world_at, world_of, IsWorld}
+use Rattle.uni_core.specs.Whole.{Whole, call_at, world_at, world_of, CountsNone, IsWorld}
+use Rattle.uni_core.proofs.NoCalls.{CountsNone-opened_world}
 
 -- a function of what a process keeps says of copies what it says where there is none, if it says so of what is copied
 of_copies : {A B : Type 0} (f : Option A → B) (a : A) → f (Some a) ≡ f None → (n p : ℕ) → f (slice_get (replicate n a) p) ≡ f None
@@ -69,6 +70,7 @@ module _ {O S I R : Type 0} (sequential : Sequential S I R) (object : O) (a : Sh
         numbers = subst (λ (m : Memory S I R). seq_of m Anchor + processes_of a.cells * k < 2 ^ 48) (sym memory) (subst (λ j. number + j * k < 2 ^ 48) (sym shape.0) fits);
         sound = subst (λ w. HelpingInvariant sequential w) (sym world_of-first) (HelpingInvariant-opened_world sequential n s number positive);
         counts = subst CountsSteps (sym world_of-first) (CountsSteps-opened_world sequential n s number);
+        none = subst CountsNone (sym world_of-first) (CountsNone-opened_world I R n s number);
       }
 
 -- a number that is low enough leaves room for that many after it

@@ -22,7 +22,8 @@ use Rattle.uni_core.specs.declared.stage.Pending.{Pending}
 use Rattle.uni_core.specs.Standing.{pending_of}
 use Rattle.uni_core.specs.NewLocal.{new_local}
 use Rattle.uni_core.specs.Shared.{Shared, first_of, named, memory_of, IsRenewed}
-use Rattle.uni_core.specs.Whole.{Whole, call_at, world_of, IsWorld}
+use Rattle.uni_core.specs.Whole.{Whole, call_at, world_of, CountsNone, IsWorld}
+use Rattle.uni_core.proofs.NoCalls.{CountsNone-world_after_era}
 use Rattle.uni_core.proofs.Named.{cell_named-name_from}
 
 -- what a process keeps for itself is read at its place, or is what a new process has
@@ -156,6 +157,7 @@ module _ {O S I R : Type 0} (object : Sequential S I R) (v now : Whole O S I R) 
           (subst (λ (x : Whole O S I R). seq_of (world_of x).memory (last_cell (world_of x)) + m * x.row < 2 ^ 48) (sym view) fits));
       sound = subst (λ w. HelpingInvariant object w) (sym world_of-renewed_v) (HelpingInvariant-world_after object (world_of v) (Reshape m) (quiet, few.0) is.counts is.sound);
       counts = subst CountsSteps (sym world_of-renewed_v) (CountsSteps-world_after object (world_of v) (Reshape m) (quiet, few.0) (is.sound.0, is.sound.1, is.sound.2) is.counts);
+      none = subst CountsNone (sym world_of-renewed_v) (CountsNone-world_after_era (world_of v) is.none m);
     }
 
     pub world_of-renewed : world_of renewed_whole ≡ world_after_era (world_of now) m

@@ -29,7 +29,8 @@ use Rattle.uni_core.specs.declared.stage.Pending.{Pending}
 use Rattle.uni_model.specs.Indices.{name_from}
 use Rattle.uni_core.specs.Shared.{Shared, first_of, named, memory_of}
 use Rattle.uni_core.specs.Standing.{stage_of, pending_of, Takes}
-use Rattle.uni_core.specs.Whole.{Whole, call_at, world_at, world_of, IsWorld}
+use Rattle.uni_core.specs.Whole.{Whole, call_at, world_at, world_of, CountsNone, IsWorld}
+use Rattle.uni_core.proofs.NoCalls.{CountsNone-world_after_call, CountsNone-world_after_step}
 
 -- what is read of a process's own data, after that of one process changed
 pub read-slice_set : {A : Type 0} (g : Option Local → A) (locals : List Local) (p : ℕ) (l : Local) → p < length locals
@@ -146,6 +147,7 @@ module _ {O S I R : Type 0} (object : Sequential S I R) (v : Whole O S I R) (is 
       numbers = subst (λ k. seq_of (memory_of a') Anchor + k * v.row < 2 ^ 48) (sym count) (subst (λ (m : Memory S I R). seq_of m Anchor + processes_of v.shared.cells * v.row < 2 ^ 48) (sym wrote) is.numbers);
       sound = subst (λ w. HelpingInvariant object w) (sym world_of-begun) (HelpingInvariant-world_after object (world_of v) (Call p i) (below, idle_is) is.counts is.sound);
       counts = subst CountsSteps (sym world_of-begun) (CountsSteps-world_after object (world_of v) (Call p i) (below, idle_is) (is.sound.0, is.sound.1, is.sound.2) is.counts);
+      none = subst CountsNone (sym world_of-begun) (CountsNone-world_after_call (world_of v) is.none p i);
     } where
       first_same : (q : ℕ) → first_of a' q ≡ first_of v.shared q
       first_same q = ap (λ fs. slice_index_or fs q 0) firsts
@@ -258,4 +260,6 @@ module _ {O S I R : Type 0} (object : Sequential S I R) (v : Whole O S I R) (is 
           (subst (λ k. k + processes_of v.shared.cells * v.row < 2 ^ 48) (sym anchor_stays) is.numbers);
       sound = subst (λ w. HelpingInvariant object w) (sym world_of-world_after_step) (HelpingInvariant-world_after object (world_of v) (Step p) accepted is.counts is.sound);
       counts = subst CountsSteps (sym world_of-world_after_step) (CountsSteps-world_after object (world_of v) (Step p) accepted (is.sound.0, is.sound.1, is.sound.2) is.counts);
+      none = let some : (world_of v).begun p ≡ (is.sound.2.calls.mine p (pending_of (named v.shared) call) pending_is).0 + 1 = (is.sound.2.calls.mine p (pending_of (named v.shared) call) pending_is).2 in
+          subst CountsNone (sym (world_of-world_after_step ∙ ap step_of pending_is)) (CountsNone-world_after_step (world_of v) is.none object p (pending_of (named v.shared) call) (omega arith));
     }

@@ -54,6 +54,10 @@ world_of v = world_at (processes_of v.shared.cells) (first_of v.shared) (memory_
 abbrev pub name_in : {S I R : Type 0} → WorldOf S I R → ℕ → Name
 name_in w = name_from w.n w.first
 
+-- a process that has begun no call has taken no steps and no turns, and ran among none
+abbrev pub CountsNone : {S I R : Type 0} → WorldOf S I R → Type 0
+CountsNone w = (p : ℕ) → w.begun p ≡ 0 → (w.among p ≡ 0) × (w.steps p ≡ 0) × (w.turns p ≡ 0)
+
 -- what every world keeps
 pub record IsWorld {O S I R : Type 0} (object : Sequential S I R) (v : Whole O S I R) : Type 0 where
   pub locals : processes_of v.shared.cells ≤ length v.locals
@@ -66,6 +70,7 @@ pub record IsWorld {O S I R : Type 0} (object : Sequential S I R) (v : Whole O S
   pub numbers : seq_of (memory_of v.shared) Anchor + processes_of v.shared.cells * v.row < 2 ^ 48
   pub sound : HelpingInvariant object (world_of v)
   pub counts : CountsSteps (world_of v)
+  pub none : CountsNone (world_of v)
 
 -- the pending call of a process: the latest that it has begun
 abbrev pub current_of : {S I R : Type 0} → WorldOf S I R → ℕ → Option CallId

@@ -17,7 +17,7 @@ ghost use Rattle.uni_model.specs.Settled.{SeesSettled};
 ghost use Rattle.uni_model.specs.Transition.{place_of};
 ghost use Rattle.uni_core.specs.Standing.{pending_of};
 ghost use Rattle.uni_core.specs.Readers.{call_of_name, kind_of, place_named};
-ghost use Rattle.uni_core.specs.Whole.{world_of, name_in, current_of, TakesEffect, IsIdle, IsStepFault, IsProgress, GoesOn, KeepsFixed, MayNeedMemory};
+ghost use Rattle.uni_core.specs.Whole.{world_of, name_in, current_of, TakesEffect, IsIdle, IsStepFault, IsProgress, GoesOn, KeepsFixed, MayNeedMemory, CountsNone};
 
 use crate::shared::WorldCells;
 use crate::stage::{Pending, Place, StepKind};
@@ -63,6 +63,7 @@ impl<O: SeqObject> World<O> {
         ensures value { result ≡ (world_of self.now).steps p }
         ensures pending { IsSome ((world_of self.now).call p) → result < 10 * (world_of self.now).n + 12 }
         ensures returned { (world_of self.now).call p ≡ None → 1 ≤ (world_of self.now).begun p → result ≡ 2 * (world_of self.now).among p + 4 + 8 * (world_of self.now).turns p }
+        ensures none { (world_of self.now).begun p ≡ 0 → result ≡ 0 }
     {
         self.shape();
         self.locals[p as usize].steps
@@ -75,6 +76,7 @@ impl<O: SeqObject> World<O> {
         ensures value { result ≡ (world_of self.now).turns p }
         ensures bound { result ≤ (world_of self.now).among p + 1 }
         ensures pending { IsSome ((world_of self.now).call p) → result ≤ (world_of self.now).n + 1 }
+        ensures none { (world_of self.now).begun p ≡ 0 → result ≡ 0 }
     {
         self.shape();
         self.locals[p as usize].turns
@@ -86,6 +88,7 @@ impl<O: SeqObject> World<O> {
         requires { p < (world_of self.now).n }
         ensures value { result ≡ (world_of self.now).among p }
         ensures pending { IsSome ((world_of self.now).call p) → result ≡ (world_of self.now).n }
+        ensures none { (world_of self.now).begun p ≡ 0 → result ≡ 0 }
     {
         self.shape();
         self.locals[p as usize].among
@@ -284,11 +287,12 @@ impl<O: SeqObject> World<O> {
     /// begun more calls in the era; the arena has as many cells of a process as it has begun calls in
     /// the era. A process had begun no more calls before it than the anchor's number. The anchor's
     /// number, and one more for each cell that there can be, stay below 2^48. The latest call of each
-    /// process is within the bound of its own steps and turns.
+    /// process is within the bound of its own steps and turns; one that has made no call has none.
     pub fn shape(&self)
         ensures sound { Invariant (O.sequential self.now.object) (world_of self.now) }
         ensures helping { HelpingInvariant (O.sequential self.now.object) (world_of self.now) }
         ensures counts { CountsSteps (world_of self.now) }
+        ensures none { CountsNone (world_of self.now) }
         ensures list { HasOneList (O.sequential self.now.object) (world_of self.now) }
         ensures log { HasLegalLog (O.sequential self.now.object) (world_of self.now) }
         ensures few { (1 ≤ (world_of self.now).n) × ((world_of self.now).n ≤ 64) }
