@@ -1,5 +1,5 @@
 -- When a call can begin.
-use Rattle.std.proofs.Common.{◌≡◌, ◌≢◌, ◌∙◌, ℕ, ◌<◌, ◌≤◌, arith, sym, Option, Some, None, false, true}
+use Rattle.std.proofs.Common.{◌≡◌, ◌≢◌, ℕ, ◌<◌, ◌≤◌, arith, Option, Some, None, false, true}
 use Rattle.std.specs.Option.{is_some}
 use Rattle.seq_object.specs.declared.call_id.CallId.{CallId}
 use Rattle.uni_model.specs.Worlds.{WorldOf, calls_in_era}

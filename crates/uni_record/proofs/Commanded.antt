@@ -1,5 +1,5 @@
 -- What a list of commands to a record comes to.
-use Rattle.std.proofs.Common.{◌≡◌, ◌∙◌, ℕ, suc, ◌+◌, ◌<◌, ◌≤◌, List, [], ◌∷◌, ◌++◌, length, take, get_or, arith, refl, sym, ap, subst, Option, Some, None, option_to_list, append_assoc, length-append}
+use Rattle.std.proofs.Common.{◌≡◌, ◌∙◌, ℕ, suc, ◌+◌, ◌<◌, ◌≤◌, List, [], ◌∷◌, ◌++◌, length, take, get_or, arith, refl, sym, ap, subst, Some, option_to_list, append_assoc, length-append}
 use Rattle.std.proofs.lemmas.List.{append-nil}
 use Rattle.std.proofs.Math.Seq.{take-suc, take-length}
 use Rattle.std.specs.Option.{option_map_or}
@@ -12,7 +12,7 @@ use Rattle.uni_record.specs.declared.command.Outcome.{Outcome}
 use Rattle.uni_record.specs.declared.command.Outcome.TheVariants.{Refused}
 use Rattle.uni_record.specs.declared.event.Event.{Event as Stored}
 use Rattle.uni_record.specs.Stored.{event_shown}
-use Rattle.uni_record.specs.Recording.{Recording, Standing, meaning, standing_of, KeepsOpening}
+use Rattle.uni_record.specs.Recording.{Recording, meaning, standing_of, KeepsOpening}
 use Rattle.uni_record.specs.Commands.{IsOutcome, AreOutcomes, TakesCommand, event_of, events_of, standing_after}
 
 module _ {O S I R : Type 0} (sequential : O → Sequential S I R) where

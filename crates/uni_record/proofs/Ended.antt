@@ -1,5 +1,5 @@
 -- The end of an era, recorded.
-use Rattle.std.proofs.Common.{◌≡◌, ◌∙◌, ℕ, ◌+◌, ◌-◌, ◌*◌, ◌<◌, ◌≤◌, List, [], ◌∷◌, ◌++◌, map, length, arith, refl, sym, ap, Option, Some, None, length-append}
+use Rattle.std.proofs.Common.{◌≡◌, ◌∙◌, ℕ, ◌+◌, ◌-◌, ◌*◌, ◌≤◌, List, [], ◌∷◌, ◌++◌, map, length, arith, refl, ap, Option, Some, None, length-append}
 use Rattle.std.proofs.lemmas.List.{map-append}
 use Rattle.std.specs.Option.{option_map_or}
 use Rattle.seq_object.specs.Sequential.{Sequential}
@@ -13,7 +13,7 @@ use Rattle.uni_log.specs.declared.entry.Entry.{Entry}
 use Rattle.uni_log.specs.Shown.{entry_shown}
 use Rattle.uni_record.specs.declared.event.Event.{Event as Stored}
 use Rattle.uni_record.specs.Stored.{event_shown}
-use Rattle.uni_record.specs.Recording.{Recording, IsRecording, HasRoom, set_aside, pending_count}
+use Rattle.uni_record.specs.Recording.{Recording, IsRecording, set_aside, pending_count}
 use Rattle.uni_record.proofs.Owed.{owed-quiescent}
 use Rattle.uni_record.proofs.Kept.{Adds, HasRoomFor, IsRecording-adds}
 

@@ -1,22 +1,18 @@
 -- What a record keeps: at its opening, with more room, and with one event more.
-use Rattle.std.proofs.Common.{◌≡◌, ◌∙◌, ℕ, ◌+◌, ◌-◌, ◌*◌, ◌<◌, ◌≤◌, ◌^◌, List, [], ◌∷◌, ◌++◌, map, length, arith, refl, sym, ap, subst, Option, Some, None, IsSome, option_to_list, option_map, option_and_then, length-append, false, true}
-use Rattle.std.proofs.lemmas.List.{map-append, append-nil, length-map}
+use Rattle.std.proofs.Common.{◌≡◌, ◌∙◌, ℕ, ◌+◌, ◌-◌, ◌*◌, ◌<◌, ◌≤◌, List, [], ◌∷◌, ◌++◌, map, length, arith, refl, sym, ap, subst, Option, Some, None, IsSome, option_to_list, option_map, option_and_then, length-append}
+use Rattle.std.proofs.lemmas.List.{map-append, length-map}
 use Rattle.seq_object.specs.Sequential.{Sequential}
 use Rattle.uni_model.specs.Bound.{IsBounded}
-use Rattle.uni_model.specs.Worlds.{WorldOf, Event, opened_world, world_after, world_after_all, response_of_step, IsAccepted, IsQuiescent}
-use Rattle.uni_model.specs.Worlds.Event.{Call, Step}
+use Rattle.uni_model.specs.Worlds.{WorldOf, Event, world_after, response_of_step, IsAccepted}
+use Rattle.uni_model.specs.Worlds.Event.{Step}
 use Rattle.seq_object.specs.declared.call_id.CallId.{CallId}
-use Rattle.uni_core.specs.Whole.{Whole, world_of, current_of, IsIdle}
-use Rattle.uni_core.proofs.Runs.{current_some}
-use Rattle.uni_log.specs.declared.entry.Entry.{Entry}
+use Rattle.uni_core.specs.Whole.{world_of, current_of}
 use Rattle.uni_log.specs.Shown.{entry_shown}
 use Rattle.uni_record.specs.declared.event.Event.{Event as Stored}
 use Rattle.uni_record.specs.declared.event.Event.TheVariants as stored
-use Rattle.uni_record.specs.declared.verdict.Return.{Return}
-use Rattle.uni_record.specs.declared.verdict.Counts.{Counts}
-use Rattle.uni_record.specs.Stored.{event_shown, events_shown, completed_by, completed_in, log_ended_by, ended_log, Completed}
+use Rattle.uni_record.specs.Stored.{event_shown, events_shown, completed_by, completed_in, log_ended_by, Completed}
 use Rattle.uni_record.specs.Recording.{Recording, IsRecording, HasRoom, meaning, opening, set_aside, pending_count, share}
-use Rattle.uni_record.proofs.Owed.{owed-begun, owed-quiescent, one_idle}
+use Rattle.uni_record.proofs.Owed.{owed-begun, one_idle}
 use Rattle.uni_record.proofs.Paid.{step_pays}
 use Rattle.uni_record.proofs.Runs.{world_after_all-snoc, AreAccepted-snoc, completed_in-snoc, ended_log-snoc}
 

@@ -1,13 +1,9 @@
 -- What a record is opened with.
-use Rattle.std.proofs.Common.{◌≡◌, ◌≢◌, ◌∙◌, ℕ, ◌+◌, ◌-◌, ◌*◌, ◌<◌, ◌≤◌, ◌^◌, ◌⊎◌, inl, inr, arith, refl, sym, subst, List, [], length, None, true, false}
+use Rattle.std.proofs.Common.{◌≡◌, ℕ, ◌+◌, ◌-◌, ◌*◌, ◌<◌, ◌≤◌, ◌^◌, ◌⊎◌, inl, inr, arith, refl, sym, subst, [], length, None, true, false}
 use Rattle.std.proofs.lemmas.Bool.{cases_lt}
 use Rattle.seq_object.specs.Sequential.{Sequential}
-use Rattle.uni_model.specs.Worlds.{WorldOf, opened_world}
-use Rattle.uni_core.specs.Whole.{Whole, world_of}
-use Rattle.uni_log.specs.declared.entry.Entry.{Entry}
-use Rattle.uni_record.specs.declared.event.Event.{Event as Stored}
-use Rattle.uni_record.specs.declared.verdict.Return.{Return}
-use Rattle.uni_record.specs.declared.verdict.Counts.{Counts}
+use Rattle.uni_model.specs.Worlds.{opened_world}
+use Rattle.uni_core.specs.Whole.{world_of}
 use Rattle.uni_record.specs.Recording.{Recording, IsRecording, HasRoom, set_aside, pending_count}
 use Rattle.uni_record.proofs.Owed.{owed-quiescent}
 

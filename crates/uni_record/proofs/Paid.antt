@@ -1,7 +1,6 @@
 -- What a step pays: an event of those that are set aside, and where the call returns, its place among the pending calls.
-use Rattle.std.proofs.Common.{◌≡◌, ℕ, ◌+◌, ◌-◌, ◌*◌, ◌<◌, ◌≤◌, List, [], ◌∷◌, map, length, arith, refl, sym, subst, Option, Some, None, IsSome, option_map, option_and_then, option_to_list}
+use Rattle.std.proofs.Common.{◌≡◌, ℕ, ◌+◌, ◌-◌, ◌*◌, ◌<◌, ◌≤◌, List, length, arith, refl, sym, subst, Option, Some, None, IsSome, option_map, option_and_then, option_to_list}
 use Rattle.seq_object.specs.Sequential.{Sequential}
-use Rattle.seq_object.specs.declared.call_id.CallId.{CallId}
 use Rattle.uni_model.specs.Places.{Name, Content}
 use Rattle.uni_model.specs.Stages.{Stage, Pending}
 use Rattle.uni_model.specs.Stages.Stage.{Finish}
@@ -10,8 +9,6 @@ use Rattle.uni_model.specs.Bound.{IsBounded}
 use Rattle.uni_model.specs.Worlds.{WorldOf, call_after, world_after, world_after_step, effect_in, response_of_step}
 use Rattle.uni_model.specs.Worlds.Event.{Step}
 use Rattle.uni_core.specs.Whole.{current_of}
-use Rattle.uni_record.specs.declared.verdict.Return.{Return}
-use Rattle.uni_record.specs.declared.verdict.Counts.{Counts}
 use Rattle.uni_record.specs.Stored.{Completed, completed_by}
 use Rattle.uni_record.specs.Recording.{set_aside, pending_count}
 use Rattle.uni_record.proofs.Owed.{weight, weight-le, owed-stepped, set_at_here}

@@ -1,5 +1,5 @@
 -- The returns of a run are the responses of its history.
-use Rattle.std.proofs.Common.{◌≡◌, ◌∙◌, ℕ, ◌+◌, ◌-◌, List, [], ◌∷◌, ◌++◌, map, arith, refl, subst, sym, ap, Option, Some, None, IsSome, option_map, option_and_then, option_to_list, drop, length}
+use Rattle.std.proofs.Common.{◌≡◌, ◌∙◌, ℕ, ◌+◌, ◌-◌, List, [], ◌∷◌, ◌++◌, map, arith, refl, subst, sym, ap, Option, Some, None, option_map, option_and_then, option_to_list, drop, length}
 use Rattle.std.proofs.lemmas.List.{map-append}
 use Rattle.std.specs.Option.{option_map_or}
 use Rattle.seq_object.specs.Sequential.{Sequential}
@@ -10,7 +10,7 @@ use Rattle.uni_model.specs.Places.Name.{Of}
 use Rattle.uni_model.specs.Chain.{Invoked, invoked_at}
 use Rattle.uni_model.specs.Stages.{Pending}
 use Rattle.uni_model.specs.Invariant.{Invariant}
-use Rattle.uni_model.specs.Worlds.{WorldOf, Event, world_after, effect_in, response_of_step, IsAccepted, AreAccepted}
+use Rattle.uni_model.specs.Worlds.{WorldOf, Event, world_after, effect_in, IsAccepted, AreAccepted}
 use Rattle.uni_model.specs.Worlds.Event.{Call, Step, Trim, Reshape}
 use Rattle.uni_model.specs.AtomicObject.{Act}
 use Rattle.uni_model.specs.AtomicObject.Act.{Invoke, Linearize, Respond}
@@ -21,7 +21,6 @@ use Rattle.uni_model.proofs.Kept.{Invariant-opened_world, Invariant-world_after}
 use Rattle.uni_core.specs.Whole.{world_of}
 use Rattle.uni_log.specs.declared.entry.Entry.{Entry as Logged}
 use Rattle.uni_log.specs.Shown.{entry_shown}
-use Rattle.uni_record.specs.declared.verdict.Return.{Return}
 use Rattle.uni_record.specs.declared.verdict.Counts.{Counts}
 use Rattle.uni_record.specs.Stored.{Completed, completed_by, completed_in, ended_log, events_shown, responses_in}
 use Rattle.uni_record.proofs.Runs.{log_of_run-ended}

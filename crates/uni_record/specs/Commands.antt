@@ -1,9 +1,9 @@
 -- What commands to a record answer, and which events they are.
-use Rattle.std.specs.Prelude.{◌≡◌, ℕ, ◌+◌, ◌<◌, ◌≤◌, List, [], ◌∷◌, ◌++◌, Option, Some, None, option_to_list, refl}
+use Rattle.std.specs.Prelude.{◌≡◌, ℕ, ◌+◌, List, [], ◌∷◌, ◌++◌, Option, Some, None, option_to_list, refl}
 use Rattle.std.specs.Option.{option_map_or}
 use Rattle.seq_object.specs.Sequential.{Sequential}
 use Rattle.uni_model.specs.Worlds.{world_after, response_of_step}
-use Rattle.uni_core.specs.Whole.{current_of, MayNeedMemory, IsIdle}
+use Rattle.uni_core.specs.Whole.{current_of}
 use Rattle.uni_core.specs.Commands.{CanGo}
 use Rattle.uni_trim.specs.Eras.{last_number}
 use Rattle.uni_record.specs.declared.command.Command.{Command}

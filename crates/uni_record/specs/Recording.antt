@@ -1,11 +1,11 @@
 -- A world with the list of its events, and what every such record keeps.
-use Rattle.std.specs.Prelude.{◌≡◌, ℕ, ◌+◌, ◌-◌, ◌*◌, ◌≤◌, ◌<◌, ◌^◌, ◌⊎◌, List, [], Option, Some, None, IsSome, length, map, refl}
+use Rattle.std.specs.Prelude.{◌≡◌, ℕ, ◌+◌, ◌-◌, ◌*◌, ◌≤◌, ◌<◌, ◌^◌, List, [], Some, None, IsSome, length, map, refl}
 use Rattle.std.specs.Option.{option_map_or}
 use Rattle.seq_object.specs.Sequential.{Sequential}
 use Rattle.uni_model.specs.Places.Name.{Of}
 use Rattle.uni_model.specs.Stages.{Pending}
 use Rattle.uni_model.specs.Worlds.{WorldOf, opened_world, world_after_all, AreAccepted, sum_below, calls_in_era, IsQuiescent}
-use Rattle.uni_model.specs.History.{history_of, log_of_run}
+use Rattle.uni_model.specs.History.{history_of}
 use Rattle.uni_model.specs.Frontier.{floor_of}
 use Rattle.uni_model.specs.Laws.{IsLinkedSoon}
 use Rattle.uni_model.specs.Universal.{IsUniversal}

@@ -1,4 +1,4 @@
-use Rattle.std.proofs.Common.{◌≡◌, ◌∙◌, arith, subst, refl, sym}
+use Rattle.std.proofs.Common.{◌≡◌, arith, subst, refl, sym}
 use Rattle.std.proofs.lemmas.List.{append-nil}
 use Rattle.uni_model.specs.Worlds.{world_after, IsQuiescent}
 use Rattle.uni_model.specs.Worlds.Event.{Reshape}

@@ -1,4 +1,4 @@
-use Rattle.std.proofs.Common.{◌≡◌, sym, ap, refl, ◌∙◌, arith, length, map, option_to_list, subst, OnOk, IfOk}
+use Rattle.std.proofs.Common.{◌≡◌, sym, ap, refl, ◌∙◌, arith, length, option_to_list, subst}
 use Rattle.std.proofs.lemmas.List.{append-nil}
 use Rattle.uni_model.specs.Worlds.{world_after}
 use Rattle.uni_model.specs.Worlds.Event.{Step}

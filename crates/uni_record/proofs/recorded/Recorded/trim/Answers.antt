@@ -1,4 +1,4 @@
-use Rattle.std.proofs.Common.{◌≡◌, ◌+◌, ◌∙◌, ◌≤◌, Err, arith, ap, subst, refl, sym}
+use Rattle.std.proofs.Common.{◌≡◌, ◌∙◌, Err, arith, ap, subst, refl, sym}
 use Rattle.std.proofs.lemmas.List.{append-nil}
 use Rattle.std.proofs.lemmas.Result.{err_from_is_err_and}
 use Rattle.uni_model.specs.Worlds.{world_after, IsQuiescent}
