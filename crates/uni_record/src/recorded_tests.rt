@@ -220,10 +220,8 @@ fn a_stopped_process_is_helped_and_waits_for_its_trim(rt: HostRuntime) -> Result
     Ok(())
 }
 
-#[test]
-fn a_run_of_commands_stores_those_that_are_taken(rt: HostRuntime) -> Result<(), Fail> {
-    let alloc = rt.alloc();
-    let mut recorded = queue(alloc, 2, 8, 1000)?;
+/// The commands of a row in which process 1 stops after one step and process 0 helps it.
+fn helped(alloc: Global) -> Result<Vec<Command<QueueInv>>, Fail> {
     let mut commands = Vec::new(alloc);
     commands.push(Command::Call(1, enq(5)?))?;
     commands.push(Command::Step(1))?;
@@ -231,33 +229,48 @@ fn a_run_of_commands_stores_those_that_are_taken(rt: HostRuntime) -> Result<(), 
     for _ in 0..24 {
         commands.push(Command::Step(0))?;
     }
-    commands.push(Command::Step(0))?;
-    commands.push(Command::Call(2, QueueInv::Deq))?;
-    commands.push(Command::Trim)?;
-    commands.push(Command::Reshape(0))?;
+    Ok(commands)
+}
+
+#[test]
+fn a_run_of_commands_is_stored(rt: HostRuntime) -> Result<(), Fail> {
+    let alloc = rt.alloc();
+    let mut recorded = queue(alloc, 2, 8, 1000)?;
+    let commands = helped(alloc)?;
     let outcomes = recorded.run(alloc, commands.as_slice())?;
-    assert_eq!(rt; outcomes.len(), 31);
-    assert_eq!(rt; outcomes.first(), Some(&Outcome::Called(call(1, 0))));
-    assert_eq!(rt; outcomes.get(1), Some(&Outcome::Went));
+    assert_eq!(rt; (outcomes.len(), recorded.events().len()), (27, 27));
     assert_eq!(rt;
-        outcomes.get(26),
+        outcomes.last(),
         Some(&Outcome::Returned(call(0, 0), QueueResp::Added))
     );
-    assert_eq!(rt; outcomes.get(27), Some(&Outcome::Refused(Refusal::Idle(0))));
+    assert_eq!(rt; verdict(alloc, &recorded)?, Verdict::Agrees);
+    Ok(())
+}
+
+#[test]
+fn refused_commands_are_not_stored(rt: HostRuntime) -> Result<(), Fail> {
+    let alloc = rt.alloc();
+    let mut recorded = queue(alloc, 2, 8, 1000)?;
+    let commands = [
+        Command::Call(1, enq(5)?),
+        Command::Step(0),
+        Command::Call(2, QueueInv::Deq),
+        Command::Trim,
+        Command::Reshape(0),
+    ];
+    let outcomes = recorded.run(alloc, commands.as_slice())?;
+    assert_eq!(rt; outcomes.first(), Some(&Outcome::Called(call(1, 0))));
+    assert_eq!(rt; outcomes.get(1), Some(&Outcome::Refused(Refusal::Idle(0))));
     assert_eq!(rt;
-        outcomes.get(28),
+        outcomes.get(2),
         Some(&Outcome::Refused(Refusal::BadProcess))
     );
     assert_eq!(rt;
-        outcomes.get(29),
+        outcomes.get(3),
         Some(&Outcome::Refused(Refusal::Pending(1)))
     );
-    assert_eq!(rt;
-        outcomes.get(30),
-        Some(&Outcome::Refused(Refusal::BadCount))
-    );
-    assert_eq!(rt; recorded.events().len(), 27);
-    assert_eq!(rt; verdict(alloc, &recorded)?, Verdict::Agrees);
+    assert_eq!(rt; outcomes.get(4), Some(&Outcome::Refused(Refusal::BadCount)));
+    assert_eq!(rt; recorded.events().len(), 1);
     Ok(())
 }
 
