@@ -21,11 +21,11 @@ use Rattle.uni_model.proofs.Eras.{GoesOn, EndsEra, event_cases, entry_at, begun_
 
 module _ {I R : Type 0} where
   -- what the calls of entries ask for
-  map-logged_call : (es : List (Entry I R)) → map (λ (c : Call I R). c.inv) (map logged_call es) ≡ map (λ (e : Entry I R). e.call.inv) es
+  pub map-logged_call : (es : List (Entry I R)) → map (λ (c : Call I R). c.inv) (map logged_call es) ≡ map (λ (e : Entry I R). e.call.inv) es
   map-logged_call [] = refl
   map-logged_call (e ∷ es) = ap (λ is. e.call.inv ∷ is) (map-logged_call es)
 
-  map-calls : (es : List (Entry I R)) → map (λ (c : Invoked I). c.inv) (map (λ (e : Entry I R). e.call) es) ≡ map (λ (e : Entry I R). e.call.inv) es
+  pub map-calls : (es : List (Entry I R)) → map (λ (c : Invoked I). c.inv) (map (λ (e : Entry I R). e.call) es) ≡ map (λ (e : Entry I R). e.call.inv) es
   map-calls [] = refl
   map-calls (e ∷ es) = ap (λ is. e.call.inv ∷ is) (map-calls es)
 

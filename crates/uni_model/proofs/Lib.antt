@@ -44,6 +44,8 @@ pub mod Linearized
 pub mod Fronts
 pub mod Joined
 pub mod Ordered
+pub mod Orderly
+pub mod Responses
 pub mod Renamed
 pub mod RenamedStep
 pub mod Reached

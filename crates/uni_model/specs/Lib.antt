@@ -11,6 +11,7 @@ pub mod Settled
 pub mod OneList
 pub mod Growth
 pub mod Eras
+pub mod Responses
 pub mod Trims
 pub mod Universal
 pub mod Helping

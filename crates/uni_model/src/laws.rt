@@ -9,6 +9,7 @@ ghost use Rattle.uni_model.specs.Invariant.{Invariant};
 ghost use Rattle.uni_model.specs.Bound.{CountsSteps, IsBounded};
 ghost use Rattle.uni_model.specs.OneList.{HasOneList, HasLegalLog};
 ghost use Rattle.uni_model.specs.Eras.{EraLeaves, EraOfRunLeaves, JoinsLegalLogs, JoinedLogGrows, KeepsRealTime};
+ghost use Rattle.uni_model.specs.Responses.{LogsResponses};
 ghost use Rattle.uni_model.specs.Trims.{TrimsChangeNothing};
 ghost use Rattle.uni_model.specs.Universal.{RunIsUniversal};
 ghost use Rattle.uni_model.specs.Laws.{IsReached, KeepsInvariant, KeepsHelping, KeepsSettled, IsAtomic, KeepsLog, KeepsLogAlong, OpensSound, StepIsLocal, SettledStays, Simulates, IsLinearizable, LinksSoon, HasFloorOnceAnnounced};
@@ -140,6 +141,13 @@ pub fn joined_log_is_legal<O: SeqObject>()
 pub fn joined_log_only_grows<O: SeqObject>()
     ensures { (object : O) (n : ℕ) (start : O.State) (number : ℕ) (events : List (Event O.Inv)) →
         JoinedLogGrows (O.sequential object) n start number events }
+{}
+
+/// The joined log holds the responses of the history: the calls of each process stand in it in their
+/// order, none left out; no call responds twice; and each response is that of the entry of its call.
+pub fn joined_log_holds_responses<O: SeqObject>()
+    ensures { (object : O) (n : ℕ) (start : O.State) (number : ℕ) (events : List (Event O.Inv)) →
+        LogsResponses (O.sequential object) n start number events }
 {}
 
 /// The joined log keeps real-time order: a call that has returned before another one is begun stands

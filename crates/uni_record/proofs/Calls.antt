@@ -6,7 +6,7 @@ use Rattle.uni_log.specs.declared.entry.Entry.{Entry}
 use Rattle.uni_record.specs.Verdicts.{calls_of, reply_to, same_call}
 use Rattle.uni_record.proofs.Before.{count_by-before}
 
-abbrev call_named : (process nth : ℕ) → CallId
+abbrev pub call_named : (process nth : ℕ) → CallId
 call_named p k = record { process = p; nth = k }
 
 pub same_call-equal : (a b : CallId) → same_call a b ≡ true → a ≡ b

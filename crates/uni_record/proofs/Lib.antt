@@ -11,6 +11,8 @@ pub mod Begun
 pub mod Opened
 pub mod Ended
 pub mod Promised
+pub mod Agreed
+pub mod Untrimmed
 pub mod Commanded
 pub mod Elements
 pub mod Table

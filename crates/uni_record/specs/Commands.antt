@@ -2,7 +2,7 @@
 use Rattle.std.specs.Prelude.{◌≡◌, ℕ, ◌+◌, List, [], ◌∷◌, ◌++◌, Option, Some, None, option_to_list, refl}
 use Rattle.std.specs.Option.{option_map_or}
 use Rattle.seq_object.specs.Sequential.{Sequential}
-use Rattle.uni_model.specs.Worlds.{world_after, response_of_step}
+use Rattle.uni_model.specs.Worlds.{WorldOf, world_after, world_after_all, response_of_step, without_trims}
 use Rattle.uni_core.specs.Whole.{current_of}
 use Rattle.uni_core.specs.Commands.{CanGo}
 use Rattle.uni_trim.specs.Eras.{last_number}
@@ -18,7 +18,7 @@ use Rattle.uni_record.specs.declared.fault.RecordBeginFault.TheVariants as begin
 use Rattle.uni_record.specs.declared.fault.RecordStepFault.TheVariants as step
 use Rattle.uni_record.specs.declared.fault.RecordTrimFault.TheVariants as trim
 use Rattle.uni_record.specs.declared.fault.RecordReshapeFault.TheVariants as reshape
-use Rattle.uni_record.specs.Stored.{event_shown}
+use Rattle.uni_record.specs.Stored.{event_shown, events_shown}
 use Rattle.uni_record.specs.Recording.{Recording, Standing, meaning, standing_of, CanBegin, CanEnd, IsCount, IsBeginRefused, IsStepRefused, IsEndRefused, IsReshapeRefused, KeepsOpening}
 
 -- why a call is refused
@@ -93,6 +93,24 @@ AreOutcomes object s [] [] = Unit {0}
 AreOutcomes object s [] (outcome ∷ outcomes) = ⊥
 AreOutcomes object s (command ∷ commands) [] = ⊥
 AreOutcomes object s (command ∷ commands) (outcome ∷ outcomes) = IsOutcome s command outcome × AreOutcomes object (standing_after object s command outcome) commands outcomes
+
+-- what is answered is what this world answers: to a call its name, and to a step how it goes on
+abbrev pub IsAnswerIn : {S I R : Type 0} → WorldOf S I R → Command I → Outcome R → Type 0
+IsAnswerIn w (Call p i) (Called id) = id ≡ record { process = p; nth = w.begun p }
+IsAnswerIn w (Call p i) _ = Unit {0}
+IsAnswerIn w (Step p) Went = response_of_step w p ≡ None
+IsAnswerIn w (Step p) (Returned id r) = (current_of w p ≡ Some id) × (response_of_step w p ≡ Some r)
+IsAnswerIn w (Step p) _ = Unit {0}
+IsAnswerIn w Trim _ = Unit {0}
+IsAnswerIn w (Reshape m) _ = Unit {0}
+
+-- each outcome is what a run without trims answers there, which takes the events of these commands but for the trims
+abbrev pub AreAnswersUntrimmed : {S I R : Type 0} → Sequential S I R → WorldOf S I R → List (Command I) → List (Outcome R) → Type 0
+AreAnswersUntrimmed object w [] outcomes = Unit {0}
+AreAnswersUntrimmed object w (command ∷ commands) [] = Unit {0}
+AreAnswersUntrimmed object w (command ∷ commands) (outcome ∷ outcomes) =
+    IsAnswerIn w command outcome
+    × AreAnswersUntrimmed object (world_after_all object w (without_trims (events_shown (option_to_list (event_of command outcome))))) commands outcomes
 
 -- a record takes a command with this outcome, and is `new` then
 pub record TakesCommand {O S I R : Type 0} (sequential : O → Sequential S I R) (old : Recording O S I R) (command : Command I) (outcome : Outcome R) (new : Recording O S I R) : Type 0 where

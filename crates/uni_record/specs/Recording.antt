@@ -4,7 +4,7 @@ use Rattle.std.specs.Option.{option_map_or}
 use Rattle.seq_object.specs.Sequential.{Sequential}
 use Rattle.uni_model.specs.Places.Name.{Of}
 use Rattle.uni_model.specs.Stages.{Pending}
-use Rattle.uni_model.specs.Worlds.{WorldOf, opened_world, world_after_all, AreAccepted, sum_below, calls_in_era, IsQuiescent}
+use Rattle.uni_model.specs.Worlds.{WorldOf, opened_world, world_after_all, AreAccepted, without_trims, sum_below, calls_in_era, IsQuiescent}
 use Rattle.uni_model.specs.History.{history_of}
 use Rattle.uni_model.specs.Frontier.{floor_of}
 use Rattle.uni_model.specs.Laws.{IsLinkedSoon}
@@ -66,6 +66,10 @@ module _ {O S I R : Type 0} (sequential : O → Sequential S I R) where
   -- the world from which a record's events lead
   abbrev pub opening : Recording O S I R → WorldOf S I R
   opening r = opened_world r.processes (meaning r).initial r.first
+
+  -- the world to which they lead without their trims
+  abbrev pub untrimmed_world : Recording O S I R → WorldOf S I R
+  untrimmed_world r = world_after_all (meaning r) (opening r) (without_trims (events_shown r.events))
 
   -- The world is the replay of the events, all of which could come. The returns with their counts are the calls that they complete,
   -- and the stored entries are those of the eras that have ended. What pending calls have set aside fits into the history.

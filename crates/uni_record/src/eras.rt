@@ -8,7 +8,7 @@ ghost use Rattle.uni_core.specs.Whole.{world_of};
 ghost use Rattle.uni_log.specs.Shown.{entry_shown};
 ghost use Rattle.uni_trim.specs.Eras.{last_number, IsLeastPending};
 ghost use Rattle.uni_record.specs.declared.event.Event.TheVariants as event;
-ghost use Rattle.uni_record.specs.Recording.{KeepsOpening, standing_of, CanEnd, IsEndRefused, IsReshapeRefused, IsCount};
+ghost use Rattle.uni_record.specs.Recording.{KeepsOpening, standing_of, untrimmed_world, CanEnd, IsEndRefused, IsReshapeRefused, IsCount, IsPromised};
 
 use crate::event::Event;
 use crate::fault::{RecordReshapeFault, RecordTrimFault};
@@ -77,6 +77,8 @@ impl<O: SeqObject> Recorded<O> {
         ensures number { IfOk result (λ number. number ≡ last_number (world_of self.old.world)) }
         ensures event { OnOk result (self.new.events ≡ self.old.events ++ event.Trim ∷ []) }
         ensures trimmed { OnOk result (world_of self.new.world ≡ world_after (O.sequential self.old.world.object) (world_of self.old.world) model.Trim) }
+        ensures untrimmed { OnOk result (untrimmed_world O.sequential self.new ≡ untrimmed_world O.sequential self.old) }
+        ensures promised { OnOk result (IsPromised O.sequential self.new) }
         ensures fixed { KeepsOpening self.old self.new }
         ensures unchanged { OnErr result (self.new ≡ self.old) }
     {
@@ -91,6 +93,7 @@ impl<O: SeqObject> Recorded<O> {
             unreachable!()
         };
         self.events.push_reserved(Event::Trim);
+        self.promise();
         Ok(number)
     }
 
@@ -107,6 +110,7 @@ impl<O: SeqObject> Recorded<O> {
         ensures number { IfOk result (λ number. number ≡ last_number (world_of self.old.world)) }
         ensures event { OnOk result (self.new.events ≡ self.old.events ++ event.Reshape m ∷ []) }
         ensures reshaped { OnOk result (world_of self.new.world ≡ world_after (O.sequential self.old.world.object) (world_of self.old.world) (model.Reshape m)) }
+        ensures promised { OnOk result (IsPromised O.sequential self.new) }
         ensures fixed { KeepsOpening self.old self.new }
         ensures unchanged { OnErr result (self.new ≡ self.old) }
     {
@@ -132,6 +136,7 @@ impl<O: SeqObject> Recorded<O> {
             unreachable!()
         };
         self.events.push_reserved(Event::Reshape(m));
+        self.promise();
         Ok(number)
     }
 }

@@ -14,7 +14,7 @@ use seq_object::SeqObject;
 use std::alloc::{AllocError, Global};
 use uni_core::World;
 use uni_log::{Entry, Log};
-use uni_model::{is_universal, links_soon};
+use uni_model::{is_universal, joined_log_holds_responses, joined_log_is_legal, links_soon};
 
 impl<O: SeqObject> Recorded<O> {
     /// The world, to be read.
@@ -67,13 +67,16 @@ impl<O: SeqObject> Recorded<O> {
     }
 
     /// The entries of all eras, in the order in which their calls took effect: those of the ended eras,
-    /// which are kept, and then those of the present one.
+    /// which are kept, and then those of the present one. An audit of them and of the returns agrees.
     ///
     /// An `Err` says that memory was refused.
     pub fn entries(&self, alloc: Global) -> Result<Vec<Entry<O::Inv, O::Resp>>, AllocError>
         ensures joined { IfOk result (λ entries. map entry_shown entries.items ≡ log_of_run (meaning O.sequential self.now) (opening O.sequential self.now) (events_shown self.now.events)) }
+        ensures audited { IfOk result (λ entries. IsAudited (meaning O.sequential self.now) entries.items self.now.returns) }
     {
         self.promise();
+        joined_log_is_legal::<O>();
+        joined_log_holds_responses::<O>();
         let mut entries = copied_entries::<O>(alloc, &self.ended)?;
         let mut present = Log::of(&self.world).entries(alloc)?;
         entries.append(&mut present)?;

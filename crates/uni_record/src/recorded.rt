@@ -6,7 +6,7 @@ ghost use Rattle.uni_model.specs.Worlds.{Event as model};
 ghost use Rattle.uni_core.specs.Whole.{world_of, IsProgress};
 ghost use Rattle.uni_core.specs.Commands.{CanGo};
 ghost use Rattle.uni_record.specs.declared.event.Event.TheVariants as event;
-ghost use Rattle.uni_record.specs.Recording.{share, set_aside, standing_of, KeepsOpening, HasOpened, CanBegin, IsBeginRefused, IsStepRefused};
+ghost use Rattle.uni_record.specs.Recording.{share, set_aside, standing_of, untrimmed_world, KeepsOpening, HasOpened, CanBegin, IsBeginRefused, IsStepRefused, IsPromised};
 
 use crate::event::Event;
 use crate::fault::{RecordBeginFault, RecordOpenFault, RecordStepFault};
@@ -121,9 +121,12 @@ impl<O: SeqObject> Recorded<O> {
         ensures id { IfOk result (λ call. (call.process ≡ p) × (call.nth ≡ (world_of self.old.world).begun p)) }
         ensures event { OnOk result (self.new.events ≡ self.old.events ++ event.Call p inv.now ∷ []) }
         ensures begun { OnOk result (world_of self.new.world ≡ world_after (O.sequential self.old.world.object) (world_of self.old.world) (model.Call p inv.now)) }
+        ensures untrimmed { IfOk result (λ call. call.nth ≡ (untrimmed_world O.sequential self.old).begun p) }
+        ensures promised { OnOk result (IsPromised O.sequential self.new) }
         ensures fixed { KeepsOpening self.old self.new }
         ensures unchanged { OnErr result (self.new ≡ self.old) }
     {
+        self.promise();
         let more = self.room_of_call(p)?;
         let n = self.world.processes();
         let Ok(copy) = O::copy_inv(alloc, inv) else {
@@ -142,6 +145,7 @@ impl<O: SeqObject> Recorded<O> {
             return Err(RecordBeginFault::Memory);
         };
         self.events.push_reserved(Event::Call(p, copy));
+        self.promise();
         Ok(call)
     }
 
@@ -183,9 +187,12 @@ impl<O: SeqObject> Recorded<O> {
         ensures event { OnOk result (self.new.events ≡ self.old.events ++ event.Step p ∷ []) }
         ensures step { OnOk result (world_of self.new.world ≡ world_after (O.sequential self.old.world.object) (world_of self.old.world) (model.Step p)) }
         ensures progress { IfOk result (IsProgress (world_of self.old.world) p) }
+        ensures untrimmed { IfOk result (IsProgress (untrimmed_world O.sequential self.old) p) }
+        ensures promised { OnOk result (IsPromised O.sequential self.new) }
         ensures fixed { KeepsOpening self.old self.new }
         ensures unchanged { OnErr result (self.new ≡ self.old) }
     {
+        self.promise();
         self.world.shape();
         if p >= self.world.processes() {
             return Err(RecordStepFault::BadProcess);
@@ -196,6 +203,7 @@ impl<O: SeqObject> Recorded<O> {
         match self.world.step(alloc, p) {
             Ok(Progress::Going) => {
                 self.events.push_reserved(Event::Step(p));
+                self.promise();
                 Ok(Progress::Going)
             }
             Ok(Progress::Done(reply)) => {
@@ -205,6 +213,7 @@ impl<O: SeqObject> Recorded<O> {
                     steps: self.world.steps(p),
                     turns: self.world.turns(p),
                 });
+                self.promise();
                 Ok(Progress::Done(reply))
             }
             Err(_) => Err(RecordStepFault::Memory),

@@ -1,8 +1,8 @@
 //! The run of a list of commands.
 
 ghost use Rattle.std.specs.Prelude.{◌≡◌, ◌++◌, IfOk, OnOk, OnErr};
-ghost use Rattle.uni_record.specs.Recording.{KeepsOpening, standing_of};
-ghost use Rattle.uni_record.specs.Commands.{AreOutcomes, TakesCommand, events_of};
+ghost use Rattle.uni_record.specs.Recording.{KeepsOpening, IsPromised, standing_of, untrimmed_world};
+ghost use Rattle.uni_record.specs.Commands.{AreAnswersUntrimmed, AreOutcomes, TakesCommand, events_of};
 ghost use Rattle.uni_record.specs.declared.command.Command.TheVariants.{Call, Step, Trim, Reshape};
 
 use crate::command::{Command, Outcome, Refusal};
@@ -11,6 +11,7 @@ use crate::recorded::Recorded;
 use seq_object::SeqObject;
 use std::alloc::{AllocError, Global};
 use uni_core::Progress;
+use uni_model::trims_change_nothing;
 
 impl<O: SeqObject> Recorded<O> {
     /// Process `p` is asked to begin a call.
@@ -96,14 +97,19 @@ impl<O: SeqObject> Recorded<O> {
     ) -> Result<Vec<Outcome<O::Resp>>, AllocError>
         ensures outcomes { IfOk result (λ outcomes. AreOutcomes (O.sequential self.old.world.object) (standing_of self.old) commands.now outcomes.items) }
         ensures events { IfOk result (λ outcomes. self.new.events ≡ self.old.events ++ events_of commands.now outcomes.items) }
+        ensures untrimmed { IfOk result (λ outcomes. AreAnswersUntrimmed (O.sequential self.old.world.object) (untrimmed_world O.sequential self.old) commands.now outcomes.items) }
+        ensures promised { OnOk result (IsPromised O.sequential self.new) }
         ensures fixed { KeepsOpening self.old self.new }
         ensures unchanged { OnErr result (self.new ≡ self.old) }
     {
+        self.promise();
+        trims_change_nothing::<O>();
         let mut outcomes = Vec::with_capacity(alloc, commands.len())?;
         for command in commands {
             let outcome = self.take(alloc, command);
             outcomes.push_reserved(outcome);
         }
+        self.promise();
         Ok(outcomes)
     }
 }

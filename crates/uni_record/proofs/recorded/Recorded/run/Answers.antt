@@ -1,5 +1,6 @@
 use Rattle.std.proofs.Common.{◌≡◌, ◌+◌, length, length-append, arith}
 use Rattle.uni_record.proofs.Commanded.{Leads-next, AreOutcomes-all}
+use Rattle.uni_record.proofs.Untrimmed.{AreAnswersUntrimmed-record}
 use Rattle.uni_record.proofs.recorded.Recorded.run.Goals as goal
 
 pub loop-command-preserved : goal.loop-command-preserved
@@ -21,3 +22,8 @@ returns-clause-outcomes g c = (AreOutcomes-all g.O.SeqObject.sequential c.args.s
 pub returns-clause-events : goal.returns-clause-events
 returns-clause-events g c = (AreOutcomes-all g.O.SeqObject.sequential c.args.self.now c.loop-command.self c.args.commands.now c.loop-command.command-index c.loop-command.outcomes.items
     c.loop-command.auto.command-index-end c.loop-command-test.false c.loop-command.invariant.leads).1
+
+pub returns-clause-untrimmed : goal.returns-clause-untrimmed
+returns-clause-untrimmed g c = AreAnswersUntrimmed-record g.O.SeqObject.sequential c.args.self.now c.promise.ensures.recording (c.trims_change_nothing.ensures _) c.args.commands.now c.loop-command.outcomes.items
+    (AreOutcomes-all g.O.SeqObject.sequential c.args.self.now c.loop-command.self c.args.commands.now c.loop-command.command-index c.loop-command.outcomes.items
+    c.loop-command.auto.command-index-end c.loop-command-test.false c.loop-command.invariant.leads).0

@@ -10,6 +10,7 @@ use Rattle.uni_core.specs.declared.fault.Progress.TheVariants.{Going, Done}
 use Rattle.uni_core.proofs.Runs.{current_some, going_none, done_some, memory_needed}
 use Rattle.uni_record.proofs.Paid.{n_after_step}
 use Rattle.uni_record.proofs.Kept.{stepped_kept, room_for_step, nothing_completed, one_completed}
+use Rattle.uni_record.proofs.Untrimmed.{progress-untrimmed}
 use Rattle.uni_record.proofs.recorded.Recorded.step.Goals as goal
 
 pub push_reserved-requires : goal.push_reserved-requires
@@ -128,3 +129,11 @@ returns-in-Ok-Going-clause-could g c = subst (λ r. CanGo (world_of r.world) c.a
 pub returns-in-Ok-Done-clause-could : goal.returns-in-Ok-Done-clause-could
 returns-in-Ok-Done-clause-could g c = subst (λ r. CanGo (world_of r.world) c.args.p) c.self.view_is
     (rw c.processes.ensures at c.if-p-processes.false, current_some (world_of c.self.inside.world) c.args.p c.in-Some.call c.in-Some.ensures)
+
+pub returns-in-Ok-Going-clause-untrimmed : goal.returns-in-Ok-Going-clause-untrimmed
+returns-in-Ok-Going-clause-untrimmed g c = progress-untrimmed g.O.SeqObject.sequential c.args.self.now c.promise.ensures.recording c.promise.ensures.promised c.args.p Going
+    (subst (λ r. IsProgress (world_of r.world) c.args.p Going) c.self.view_is (sym c.in-Ok-Going.field-0-is ∙ c.in-Ok-Going.ensures.progress))
+
+pub returns-in-Ok-Done-clause-untrimmed : goal.returns-in-Ok-Done-clause-untrimmed
+returns-in-Ok-Done-clause-untrimmed g c = progress-untrimmed g.O.SeqObject.sequential c.args.self.now c.promise.ensures.recording c.promise.ensures.promised c.args.p (Done c.in-Ok-Done.reply)
+    (subst (λ r. IsProgress (world_of r.world) c.args.p (Done c.in-Ok-Done.reply)) c.self.view_is (sym c.in-Ok-Done.field-0-is ∙ c.in-Ok-Done.ensures.progress))

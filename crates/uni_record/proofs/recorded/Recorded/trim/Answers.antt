@@ -1,4 +1,4 @@
-use Rattle.std.proofs.Common.{◌≡◌, ◌∙◌, Err, arith, ap, subst, refl, sym}
+use Rattle.std.proofs.Common.{◌≡◌, ◌∙◌, [], ◌∷◌, ◌++◌, Err, arith, ap, subst, refl, sym}
 use Rattle.std.proofs.lemmas.List.{append-nil}
 use Rattle.std.proofs.lemmas.Result.{err_from_is_err_and}
 use Rattle.uni_model.specs.Worlds.{world_after, IsQuiescent}
@@ -6,9 +6,10 @@ use Rattle.uni_model.specs.Worlds.Event.{Trim}
 use Rattle.uni_core.specs.Whole.{world_of}
 use Rattle.uni_trim.specs.Eras.{NumbersFit}
 use Rattle.uni_record.specs.declared.event.Event.TheVariants as stored
-use Rattle.uni_record.specs.Recording.{standing_of, CanEnd, IsEndRefused}
+use Rattle.uni_record.specs.Recording.{standing_of, CanEnd, IsEndRefused, KeepsOpening, Recording}
 use Rattle.uni_record.proofs.Kept.{roomier}
 use Rattle.uni_record.proofs.Ended.{quiescent_after, entries_joined, ended_kept}
+use Rattle.uni_record.proofs.Untrimmed.{trim-untrimmed}
 use Rattle.uni_record.proofs.recorded.Recorded.trim.Goals as goal
 
 pub invariant_of-self : goal.invariant_of-self
@@ -51,3 +52,19 @@ returns-in_err-number-clause-refused g c =
     let told : c.from_residual.result ≡ Err c.in_err-number.field-0.0 = (let gave = err_from_is_err_and c.from_residual.result c.from_residual.ensures.1 in gave.1 ∙ ap Err gave.2) in
     let n = subst (λ r. c.processes.result ≡ (world_of r.world).n) c.self.view_is c.processes.ensures in
     rw told (subst (λ m. IsEndRefused (standing_of c.args.self.now) m c.in_err-number.field-0.0) n c.in_err-number.ensures.refused)
+
+pub returns-clause-untrimmed : goal.returns-clause-untrimmed
+returns-clause-untrimmed g c =
+    let new : Recording _ _ _ _ = record {
+      world = c.renew.new.self;
+      processes = c.self.inside.processes;
+      first = c.self.inside.first;
+      limit = c.self.inside.limit;
+      events = c.push_reserved.new.self.items;
+      returns = c.self.inside.returns.items;
+      counts = c.self.inside.counts.items;
+      ended = c.append.new.self.items;
+    } in
+    trim-untrimmed g.O.SeqObject.sequential c.args.self.now new
+    (subst (λ r. new.events ≡ r.events ++ stored.Trim ∷ []) c.self.view_is (rw (← c.prepare_end.ensures.events.0) c.push_reserved.ensures.items))
+    (subst (λ r. KeepsOpening r new) c.self.view_is (record { object = c.renew.ensures.fixed.object; row = c.renew.ensures.fixed.row; processes = refl; first = refl; limit = refl }))
