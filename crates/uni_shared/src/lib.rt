@@ -1,0 +1,20 @@
+//! A record under a lock, and seats whose threads take the lock once for each event.
+#![tactic(auto)]
+
+mod fault;
+mod gate;
+mod held;
+#[cfg(test)]
+mod held_tests;
+mod receipt;
+mod seat;
+mod shared;
+#[cfg(test)]
+mod tests;
+
+pub use fault::ApplyFault;
+pub use gate::{Gate, GaveUp, NoGate};
+pub use held::{Held, StepHeldFault, begin_held, step_held, trim_held};
+pub use receipt::Receipt;
+pub use seat::Seat;
+pub use shared::{Shared, trim};

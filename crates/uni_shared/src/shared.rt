@@ -1,0 +1,75 @@
+//! The record under its lock.
+
+ghost use Rattle.std.specs.Prelude.{◌≡◌, ◌<◌, ◌≤◌, ◌↔◌, ◌⊎◌, IfOk, IsErrOf};
+ghost use Rattle.uni_shared.specs.Seats.{first_seats};
+
+use crate::held::trim_held;
+use crate::seat::Seat;
+use seq_object::SeqObject;
+use std::alloc::{AllocError, Global};
+use std::sync::{Mutex, Wait};
+use uni_record::{RecordOpenFault, RecordTrimFault, Recorded};
+
+/// A record under a lock. Whenever the lock is free, the world of the record is the replay of its
+/// events, since every record is.
+#[derive(Drop)]
+pub struct Shared<O: SeqObject> {
+    pub(crate) recorded: Mutex<Recorded<O>>,
+}
+
+impl<O: SeqObject> Shared<O> {
+    /// A record of `n` processes over the object's start state under a lock, and their seats in order;
+    /// each process can make `k` calls in an era, and there can be `h` events.
+    ///
+    /// Errors: those of `Recorded::open`; `Memory` too where the list of the seats was refused it. After
+    /// each the object is dropped.
+    pub fn open(
+        alloc: Global,
+        object: O,
+        n: u64,
+        k: u64,
+        h: u64,
+    ) -> Result<(Shared<O>, Vec<Seat<O>>), RecordOpenFault>
+        ensures count { IsErrOf result RecordOpenFault.BadCount ↔ ((n ≡ 0) ⊎ (64 < n)) }
+        ensures row { IsErrOf result RecordOpenFault.BadRow ↔ ((1 ≤ n) × (n ≤ 64) × ((k ≡ 0) ⊎ (4096 < k))) }
+        ensures numbers { IsErrOf result RecordOpenFault.SeqFull → ⊥ }
+        ensures history { IsErrOf result RecordOpenFault.BadHistory ↔ ((1 ≤ n) × (n ≤ 64) × (1 ≤ k) × (k ≤ 4096) × ((h ≡ 0) ⊎ (16777216 < h))) }
+        ensures seats { IfOk result (λ opened. opened.1.items ≡ first_seats n) }
+    {
+        let recorded = Recorded::open(alloc, object, n, k, h)?;
+        let Ok(seats) = seats_of(alloc, n) else {
+            return Err(RecordOpenFault::Memory);
+        };
+        let shared = Shared {
+            recorded: Mutex::new(recorded),
+        };
+        Ok((shared, seats))
+    }
+}
+
+/// The seats of so many processes, at most 64, in order.
+///
+/// An `Err` says that memory was refused.
+fn seats_of<O: SeqObject>(alloc: Global, n: u64) -> Result<Vec<Seat<O>>, AllocError>
+    requires { n ≤ 64 }
+    ensures { IfOk result (λ seats. seats.items ≡ first_seats n) }
+{
+    let mut seats = Vec::new(alloc);
+    for p in 0..n {
+        seats.push(Seat::new(alloc, p, n))?;
+    }
+    Ok(seats)
+}
+
+/// Ends the era of the record, in one hold of the lock: `trim_held`. The answer is the number of the
+/// new anchor.
+///
+/// Errors: those of `Recorded::trim`. After each the record is as it was.
+pub fn trim<O: SeqObject, R: Wait>(
+    rt: &R,
+    alloc: Global,
+    shared: &Shared<O>,
+) -> Result<u64, RecordTrimFault> {
+    let mut guard = shared.recorded.lock(rt);
+    trim_held(alloc, &mut guard)
+}
