@@ -1,5 +1,6 @@
 pub mod Written
 pub mod Drawing
+pub mod Helped
 pub mod Stepping
 pub mod Results
 pub mod Cutting
@@ -8,4 +9,5 @@ pub mod Taking
 pub mod Replaying
 pub mod RunningOn
 pub mod LogLines
+pub mod Counting
 pub mod Finishing

@@ -14,7 +14,7 @@ use Rattle.ready_objects.specs.Words.{words_of_text}
 use Rattle.uni_script.specs.Answers.{end_text}
 use Rattle.uni_script.specs.Script.{cut, lines_of, is_plain_byte, is_note, header_of_words, command_of_words}
 use Rattle.uni_script.specs.Objects.{SpokenObject, spoken_of}
-use Rattle.uni_script.specs.Meaning.{Bench, ScriptBench, bench_of_header, result_of_command, outcome_of_text, Outcome, script_bench, outcome_of_command, outcome_of_fault, and_then, and_then_from, outcome_of_words, outcome_of_line, outcome_of_lines, outcome_of_end, outcome_of_script}
+use Rattle.uni_script.specs.Meaning.{Bench, bench_after, ScriptBench, bench_of_header, result_of_command, outcome_of_text, Outcome, script_bench, outcome_of_command, outcome_of_fault, and_then, and_then_from, outcome_of_words, outcome_of_line, outcome_of_lines, outcome_of_end, outcome_of_script}
 use Rattle.uni_script.specs.Reading.{lines_of_read, outcome_of_stop, outcome_of_read, StopsAt, IsRead, HasEnded}
 use Rattle.uni_script.specs.declared.summary.Summary.{Summary}
 use Rattle.uni_script.specs.Summaries.{summary_of_bench}
@@ -61,296 +61,298 @@ module _ (P : BenchFault → Type 0) where
 
 FaultsOnly-outcome_of_command : {S I R : Type 0} (o : SpokenObject S I R) (inside : Bench S I R → ScriptBench) (number : ℕ) (b : Bench S I R) (words : List (List ℕ)) → FaultsOnly IsFaultOfScript (outcome_of_command o inside number b words)
 FaultsOnly-outcome_of_command o inside number b words =
-    FaultsOnly-map_or IsFaultOfScript (λ command. outcome_of_text (inside (result_of_command o b command).bench) (result_of_command o b command).text) (command_of_words o.language.inv_of_words words) (outcome_of_fault (Some (inside b)) (fault.BadLine number))
-    (λ command. FaultsOnly-none IsFaultOfScript (Some (inside (result_of_command o b command).bench)) (result_of_command o b command).text) (FaultsOnly-outcome_of_fault IsFaultOfScript (Some (inside b)) (fault.BadLine number) tt)
+    FaultsOnly-map_or IsFaultOfScript (λ command. outcome_of_text (inside (bench_after o b (result_of_command o b command).events)) (result_of_command o b command).text) (command_of_words o.language.inv_of_words words) (outcome_of_fault (Some (inside b)) (fault.BadLine number))
+    (λ command. FaultsOnly-none IsFaultOfScript (Some (inside (bench_after o b (result_of_command o b command).events))) (result_of_command o b command).text) (FaultsOnly-outcome_of_fault IsFaultOfScript (Some (inside b)) (fault.BadLine number) tt)
 
-FaultsOnly-outcome_of_words : (number : ℕ) (b : Option ScriptBench) (words : List (List ℕ)) → FaultsOnly IsFaultOfScript (outcome_of_words number b words)
-FaultsOnly-outcome_of_words number None words =
-    FaultsOnly-map_or IsFaultOfScript (λ header. outcome_of_text (bench_of_header header) []) (header_of_words words) (outcome_of_fault None (fault.BadHeader number))
-    (λ header. FaultsOnly-none IsFaultOfScript (Some (bench_of_header header)) []) (FaultsOnly-outcome_of_fault IsFaultOfScript None (fault.BadHeader number) tt)
-FaultsOnly-outcome_of_words number (Some b) words = FaultsOnly-outcome_of_command (spoken_of b.object) (script_bench b.object) number b.bench words
+-- where the history can have so many events
+module _ (limit : ℕ) where
+  FaultsOnly-outcome_of_words : (number : ℕ) (b : Option ScriptBench) (words : List (List ℕ)) → FaultsOnly IsFaultOfScript (outcome_of_words limit number b words)
+  FaultsOnly-outcome_of_words number None words =
+      FaultsOnly-map_or IsFaultOfScript (λ header. outcome_of_text (bench_of_header limit header) []) (header_of_words words) (outcome_of_fault None (fault.BadHeader number))
+      (λ header. FaultsOnly-none IsFaultOfScript (Some (bench_of_header limit header)) []) (FaultsOnly-outcome_of_fault IsFaultOfScript None (fault.BadHeader number) tt)
+  FaultsOnly-outcome_of_words number (Some b) words = FaultsOnly-outcome_of_command (spoken_of b.object) (script_bench b.object) number b.bench words
 
-FaultsOnly-outcome_of_line : (number : ℕ) (b : Option ScriptBench) (line : List ℕ) → FaultsOnly IsFaultOfScript (outcome_of_line number b line)
-FaultsOnly-outcome_of_line number b line =
-    let worded : Outcome = outcome_of_words number b (words_of_text line) in
-    let noted : Outcome = record { bench = b; text = []; fault = None } in
-    let plain : Outcome = if is_note line then noted else worded in
-    let short : Outcome = if not (list_all is_plain_byte line) then outcome_of_fault b (fault.BadByte number) else plain in
-    let counted : Outcome = if nat_lt 200 (length line) then outcome_of_fault b (fault.TooLong number) else short in
-    FaultsOnly-if IsFaultOfScript (nat_lt 100000 number) (outcome_of_fault b fault.TooMany) counted (FaultsOnly-outcome_of_fault IsFaultOfScript b fault.TooMany tt)
-    (FaultsOnly-if IsFaultOfScript (nat_lt 200 (length line)) (outcome_of_fault b (fault.TooLong number)) short (FaultsOnly-outcome_of_fault IsFaultOfScript b (fault.TooLong number) tt)
-    (FaultsOnly-if IsFaultOfScript (not (list_all is_plain_byte line)) (outcome_of_fault b (fault.BadByte number)) plain (FaultsOnly-outcome_of_fault IsFaultOfScript b (fault.BadByte number) tt)
-    (FaultsOnly-if IsFaultOfScript (is_note line) noted worded (FaultsOnly-none IsFaultOfScript b []) (FaultsOnly-outcome_of_words number b (words_of_text line)))))
+  FaultsOnly-outcome_of_line : (number : ℕ) (b : Option ScriptBench) (line : List ℕ) → FaultsOnly IsFaultOfScript (outcome_of_line limit number b line)
+  FaultsOnly-outcome_of_line number b line =
+      let worded : Outcome = outcome_of_words limit number b (words_of_text line) in
+      let noted : Outcome = record { bench = b; text = []; fault = None } in
+      let plain : Outcome = if is_note line then noted else worded in
+      let short : Outcome = if not (list_all is_plain_byte line) then outcome_of_fault b (fault.BadByte number) else plain in
+      let counted : Outcome = if nat_lt 200 (length line) then outcome_of_fault b (fault.TooLong number) else short in
+      FaultsOnly-if IsFaultOfScript (nat_lt 100000 number) (outcome_of_fault b fault.TooMany) counted (FaultsOnly-outcome_of_fault IsFaultOfScript b fault.TooMany tt)
+      (FaultsOnly-if IsFaultOfScript (nat_lt 200 (length line)) (outcome_of_fault b (fault.TooLong number)) short (FaultsOnly-outcome_of_fault IsFaultOfScript b (fault.TooLong number) tt)
+      (FaultsOnly-if IsFaultOfScript (not (list_all is_plain_byte line)) (outcome_of_fault b (fault.BadByte number)) plain (FaultsOnly-outcome_of_fault IsFaultOfScript b (fault.BadByte number) tt)
+      (FaultsOnly-if IsFaultOfScript (is_note line) noted worded (FaultsOnly-none IsFaultOfScript b []) (FaultsOnly-outcome_of_words number b (words_of_text line)))))
 
-FaultsOnly-outcome_of_lines : (number : ℕ) (b : Option ScriptBench) (lines : List (List ℕ)) → FaultsOnly IsFaultOfScript (outcome_of_lines number b lines)
-FaultsOnly-outcome_of_lines number b [] = FaultsOnly-none IsFaultOfScript b []
-FaultsOnly-outcome_of_lines number b (line ∷ lines) =
-    FaultsOnly-and_then IsFaultOfScript (outcome_of_line number b line) (λ after. outcome_of_lines (number + 1) after lines) (FaultsOnly-outcome_of_line number b line) (λ after. FaultsOnly-outcome_of_lines (number + 1) after lines)
+  FaultsOnly-outcome_of_lines : (number : ℕ) (b : Option ScriptBench) (lines : List (List ℕ)) → FaultsOnly IsFaultOfScript (outcome_of_lines limit number b lines)
+  FaultsOnly-outcome_of_lines number b [] = FaultsOnly-none IsFaultOfScript b []
+  FaultsOnly-outcome_of_lines number b (line ∷ lines) =
+      FaultsOnly-and_then IsFaultOfScript (outcome_of_line limit number b line) (λ after. outcome_of_lines limit (number + 1) after lines) (FaultsOnly-outcome_of_line number b line) (λ after. FaultsOnly-outcome_of_lines (number + 1) after lines)
 
-FaultsOnly-outcome_of_end : (lines : ℕ) (b : Option ScriptBench) → FaultsOnly IsFaultOfScript (outcome_of_end lines b)
-FaultsOnly-outcome_of_end lines None = FaultsOnly-outcome_of_fault IsFaultOfScript None (NoHeader (lines + 1)) tt
-FaultsOnly-outcome_of_end lines (Some b) = FaultsOnly-none IsFaultOfScript (Some b) end_text
+  FaultsOnly-outcome_of_end : (lines : ℕ) (b : Option ScriptBench) → FaultsOnly IsFaultOfScript (outcome_of_end lines b)
+  FaultsOnly-outcome_of_end lines None = FaultsOnly-outcome_of_fault IsFaultOfScript None (NoHeader (lines + 1)) tt
+  FaultsOnly-outcome_of_end lines (Some b) = FaultsOnly-none IsFaultOfScript (Some b) end_text
 
--- a line that ends the run
-run_stopped : (before : List (List ℕ)) (line : List ℕ) (lines : List (List ℕ)) (f : BenchFault) (rest : Option ScriptBench → Outcome)
-    → ((b : Option ScriptBench) → outcome_of_lines (1 + length before) b (line ∷ lines) ≡ outcome_of_fault b f)
-    → and_then (outcome_of_lines 1 None (before ++ line ∷ lines)) rest ≡ and_then (outcome_of_lines 1 None before) (λ b. outcome_of_fault b f)
-run_stopped before line lines f rest stops =
-    ap (λ run. and_then run rest) (outcome_of_lines-append 1 None before (line ∷ lines))
-    ∙ and_then-assoc (outcome_of_lines 1 None before) (λ b. outcome_of_lines (1 + length before) b (line ∷ lines)) rest
-    ∙ and_then-same (outcome_of_lines 1 None before) (λ b. and_then (outcome_of_lines (1 + length before) b (line ∷ lines)) rest) (λ b. outcome_of_fault b f) (λ b. ap (λ run. and_then run rest) (stops b))
+  -- a line that ends the run
+  run_stopped : (before : List (List ℕ)) (line : List ℕ) (lines : List (List ℕ)) (f : BenchFault) (rest : Option ScriptBench → Outcome)
+      → ((b : Option ScriptBench) → outcome_of_lines limit (1 + length before) b (line ∷ lines) ≡ outcome_of_fault b f)
+      → and_then (outcome_of_lines limit 1 None (before ++ line ∷ lines)) rest ≡ and_then (outcome_of_lines limit 1 None before) (λ b. outcome_of_fault b f)
+  run_stopped before line lines f rest stops =
+      ap (λ run. and_then run rest) (outcome_of_lines-append limit 1 None before (line ∷ lines))
+      ∙ and_then-assoc (outcome_of_lines limit 1 None before) (λ b. outcome_of_lines limit (1 + length before) b (line ∷ lines)) rest
+      ∙ and_then-same (outcome_of_lines limit 1 None before) (λ b. and_then (outcome_of_lines limit (1 + length before) b (line ∷ lines)) rest) (λ b. outcome_of_fault b f) (λ b. ap (λ run. and_then run rest) (stops b))
 
--- a script that was read to its end, or to a byte that it may not have, comes to what was read of it
-pub outcome_of_script-read : (stop : Stop) (bytes past : List ℕ) (left : Option (List ℕ)) → StopsAt stop bytes past left → (stop ≡ Failed → ⊥) → outcome_of_script (bytes ++ past) ≡ outcome_of_read stop bytes
-outcome_of_script-read End bytes past left at other = rw at.0 (rw (append-nil bytes) refl)
-outcome_of_script-read Failed bytes past left at other = absurd (other refl)
-outcome_of_script-read TooLong bytes past left at other =
-    let few = at.0 in
-    let wide = at.1 in
-    let g = GoesOn-after bytes (at.2.0 ∷ at.2.1) 1 (GoesOn-start_other at.2.0 at.2.1 (other_byte at.2.0 at.2.3)) in
-    let long = g.long in
-    let next : 1 + length (cut bytes).whole ≡ length (cut bytes).whole + 1 = omega arith in
-    ap (λ p. outcome_of_script (bytes ++ p)) at.2.2
-    ∙ ap (λ lines. and_then (outcome_of_lines 1 None lines) (λ after. outcome_of_end (length lines) after)) g.cut_as
-    ∙ run_stopped (cut bytes).whole g.line g.lines (fault.TooLong (length (cut bytes).whole + 1)) (λ after. outcome_of_end (length ((cut bytes).whole ++ g.line ∷ g.lines)) after)
-    (λ b. rw next (outcome_of_lines-too_long (length (cut bytes).whole + 1) b g.line g.lines (omega arith) (omega arith)))
-outcome_of_script-read TooMany bytes past left at other =
-    let g = GoesOn-after bytes (at.1.0 ∷ at.1.1) 0 (GoesOn-start at.1.0 at.1.1) in
-    let many = at.0 in
-    let next : 1 + length (cut bytes).whole ≡ 100001 = omega arith in
-    ap (λ p. outcome_of_script (bytes ++ p)) at.1.2
-    ∙ ap (λ lines. and_then (outcome_of_lines 1 None lines) (λ after. outcome_of_end (length lines) after)) g.cut_as
-    ∙ run_stopped (cut bytes).whole g.line g.lines fault.TooMany (λ after. outcome_of_end (length ((cut bytes).whole ++ g.line ∷ g.lines)) after) (λ b. rw next (outcome_of_lines-too_many b g.line g.lines))
+  -- a script that was read to its end, or to a byte that it may not have, comes to what was read of it
+  pub outcome_of_script-read : (stop : Stop) (bytes past : List ℕ) (left : Option (List ℕ)) → StopsAt stop bytes past left → (stop ≡ Failed → ⊥) → outcome_of_script limit (bytes ++ past) ≡ outcome_of_read limit stop bytes
+  outcome_of_script-read End bytes past left at other = rw at.0 (rw (append-nil bytes) refl)
+  outcome_of_script-read Failed bytes past left at other = absurd (other refl)
+  outcome_of_script-read TooLong bytes past left at other =
+      let few = at.0 in
+      let wide = at.1 in
+      let g = GoesOn-after bytes (at.2.0 ∷ at.2.1) 1 (GoesOn-start_other at.2.0 at.2.1 (other_byte at.2.0 at.2.3)) in
+      let long = g.long in
+      let next : 1 + length (cut bytes).whole ≡ length (cut bytes).whole + 1 = omega arith in
+      ap (λ p. outcome_of_script limit (bytes ++ p)) at.2.2
+      ∙ ap (λ lines. and_then (outcome_of_lines limit 1 None lines) (λ after. outcome_of_end (length lines) after)) g.cut_as
+      ∙ run_stopped (cut bytes).whole g.line g.lines (fault.TooLong (length (cut bytes).whole + 1)) (λ after. outcome_of_end (length ((cut bytes).whole ++ g.line ∷ g.lines)) after)
+      (λ b. rw next (outcome_of_lines-too_long limit (length (cut bytes).whole + 1) b g.line g.lines (omega arith) (omega arith)))
+  outcome_of_script-read TooMany bytes past left at other =
+      let g = GoesOn-after bytes (at.1.0 ∷ at.1.1) 0 (GoesOn-start at.1.0 at.1.1) in
+      let many = at.0 in
+      let next : 1 + length (cut bytes).whole ≡ 100001 = omega arith in
+      ap (λ p. outcome_of_script limit (bytes ++ p)) at.1.2
+      ∙ ap (λ lines. and_then (outcome_of_lines limit 1 None lines) (λ after. outcome_of_end (length lines) after)) g.cut_as
+      ∙ run_stopped (cut bytes).whole g.line g.lines fault.TooMany (λ after. outcome_of_end (length ((cut bytes).whole ++ g.line ∷ g.lines)) after) (λ b. rw next (outcome_of_lines-too_many limit b g.line g.lines))
 
--- a script goes on after its whole lines
-outcome_of_script-whole : (bytes past : List ℕ) → (rest : Option ScriptBench → Outcome) × (outcome_of_script (bytes ++ past) ≡ and_then (outcome_of_lines 1 None (cut bytes).whole) rest)
-outcome_of_script-whole bytes past =
-    let more = lines_of ((cut bytes).tail ++ past) in
-    let number = 1 + length (cut bytes).whole in
-    let finish : Option ScriptBench → Outcome = λ after. outcome_of_end (length ((cut bytes).whole ++ more)) after in (
-      (λ b. and_then (outcome_of_lines number b more) finish),
-      ap (λ lines. and_then (outcome_of_lines 1 None lines) (λ after. outcome_of_end (length lines) after)) (lines_of-append bytes past)
-          ∙ ap (λ run. and_then run finish) (outcome_of_lines-append 1 None (cut bytes).whole more)
-          ∙ and_then-assoc (outcome_of_lines 1 None (cut bytes).whole) (λ b. outcome_of_lines number b more) finish,
-    )
-
--- the bytes that a reader had, where it gave these ones: with what is left, where that is known
-abbrev with_left : (given : List ℕ) → Option (List ℕ) → List ℕ
-with_left given None = given
-with_left given (Some left) = given ++ left
-
-IsInput-with_left : (old new : Option (List ℕ)) (given : List ℕ) → Consumes old new given → IsInput old (with_left given new)
-IsInput-with_left None new given c = tt
-IsInput-with_left (Some x) None given c = absurd c
-IsInput-with_left (Some x) (Some y) given c = c
-
--- what is past the bytes that were read of a script, with what is left
-abbrev past_left : (past : List ℕ) → Option (List ℕ) → List ℕ
-past_left past None = past
-past_left past (Some left) = past ++ left
-
-with_left-past : (bytes past : List ℕ) (left : Option (List ℕ)) → with_left (bytes ++ past) left ≡ bytes ++ past_left past left
-with_left-past bytes past None = refl
-with_left-past bytes past (Some left) = append_assoc bytes past left
-
--- nothing is past a script that was read to its end
-past_left-end : (bytes past : List ℕ) (left : Option (List ℕ)) → StopsAt End bytes past left → past_left past left ≡ []
-past_left-end bytes past None at = at.0
-past_left-end bytes past (Some left) at = ap (λ p. p ++ left) at.0 ∙ at.1
-
-StopsAt-past_left : (stop : Stop) (bytes past : List ℕ) (left : Option (List ℕ)) → StopsAt stop bytes past left → (stop ≡ Failed → ⊥) → StopsAt stop bytes (past_left past left) left
-StopsAt-past_left stop bytes past None at other = at
-StopsAt-past_left End bytes past (Some left) at other = (ap (λ p. p ++ left) at.0 ∙ at.1, at.1)
-StopsAt-past_left Failed bytes past (Some left) at other = absurd (other refl)
-StopsAt-past_left TooLong bytes past (Some left) at other = (at.0, at.1, (at.2.0, at.2.1 ++ left, ap (λ p. p ++ left) at.2.2, at.2.3))
-StopsAt-past_left TooMany bytes past (Some left) at other = (at.0, (at.1.0, at.1.1 ++ left, ap (λ p. p ++ left) at.1.2))
-
--- before anything is written
-pub IsPartOfReplay-start : (left contents : Option (List ℕ)) → IsPartOfReplay left contents contents
-IsPartOfReplay-start None contents = ([], tt, (text_of_script [], IsWritten-start contents (text_of_script [])))
-IsPartOfReplay-start (Some bytes) contents = (bytes, refl, (text_of_script bytes, IsWritten-start contents (text_of_script bytes)))
-
-is_failed : (stop : Stop) → (stop ≡ Failed) ⊎ (stop ≡ Failed → ⊥)
-is_failed End = inr (λ e. cc)
-is_failed Failed = inl refl
-is_failed TooLong = inr (λ e. cc)
-is_failed TooMany = inr (λ e. cc)
-
--- the outcome of the whole lines of some bytes
-abbrev outcome_of_whole_lines : List ℕ → Outcome
-outcome_of_whole_lines bytes = outcome_of_lines 1 None (cut bytes).whole
-
--- where the reader failed: the whole lines have the fault, or have none
-outcome_of_failed_read : (bytes : List ℕ) → ((outcome_of_whole_lines bytes).fault ≡ None) × (outcome_of_read Failed bytes ≡ after_text (outcome_of_whole_lines bytes).text (outcome_of_fault (outcome_of_whole_lines bytes).bench Read))
-    ⊎ (e : BenchFault) × ((outcome_of_whole_lines bytes).fault ≡ Some e) × (outcome_of_read Failed bytes ≡ outcome_of_whole_lines bytes)
-outcome_of_failed_read bytes = at (outcome_of_whole_lines bytes).fault refl
-  where
-    at : (f : Option BenchFault) → (outcome_of_whole_lines bytes).fault ≡ f
-        → ((outcome_of_whole_lines bytes).fault ≡ None) × (outcome_of_read Failed bytes ≡ after_text (outcome_of_whole_lines bytes).text (outcome_of_fault (outcome_of_whole_lines bytes).bench Read))
-        ⊎ (e : BenchFault) × ((outcome_of_whole_lines bytes).fault ≡ Some e) × (outcome_of_read Failed bytes ≡ outcome_of_whole_lines bytes)
-    at None e = inl (e, and_then-none (outcome_of_whole_lines bytes) (λ b. outcome_of_fault b Read) e)
-    at (Some f) e = inr (f, e, and_then-some (outcome_of_whole_lines bytes) (λ b. outcome_of_fault b Read) f e)
-
--- a fault that reading a script or running it can have
-abbrev IsFaultOfRead : BenchFault → Type 0
-IsFaultOfRead e = IsFaultOfScript e ⊎ (e ≡ Read)
-
-FaultsOnly-outcome_of_read : (stop : Stop) (bytes : List ℕ) → FaultsOnly IsFaultOfRead (outcome_of_read stop bytes)
-FaultsOnly-outcome_of_read stop bytes =
-    let lines = lines_of_read stop bytes in
-    FaultsOnly-and_then IsFaultOfRead (outcome_of_lines 1 None lines) (λ after. outcome_of_stop stop (length lines) after) (λ e q. inl (FaultsOnly-outcome_of_lines 1 None lines e q)) (at stop (length lines))
-  where
-    at : (s : Stop) (n : ℕ) (b : Option ScriptBench) → FaultsOnly IsFaultOfRead (outcome_of_stop s n b)
-    at End n b = λ e q. inl (FaultsOnly-outcome_of_end n b e q)
-    at Failed n b = FaultsOnly-outcome_of_fault IsFaultOfRead b Read (inr refl)
-    at TooLong n b = FaultsOnly-outcome_of_fault IsFaultOfRead b (fault.TooLong (n + 1)) (inl tt)
-    at TooMany n b = FaultsOnly-outcome_of_fault IsFaultOfRead b fault.TooMany (inl tt)
-
-FaultsOnly-outcome_of_script : (bytes : List ℕ) → FaultsOnly IsFaultOfScript (outcome_of_script bytes)
-FaultsOnly-outcome_of_script bytes =
-    FaultsOnly-and_then IsFaultOfScript (outcome_of_lines 1 None (lines_of bytes)) (λ after. outcome_of_end (length (lines_of bytes)) after) (FaultsOnly-outcome_of_lines 1 None (lines_of bytes))
-    (λ b. FaultsOnly-outcome_of_end (length (lines_of bytes)) b)
-
--- only a script that was read to its end has no fault
-end_of_run : (stop : Stop) (bytes : List ℕ) → (outcome_of_read stop bytes).fault ≡ None → stop ≡ End
-end_of_run stop bytes none = at (outcome_of_lines 1 None (lines_of_read stop bytes)).fault refl stop (length (lines_of_read stop bytes)) none
-  where
-    at : (f : Option BenchFault) → (outcome_of_lines 1 None (lines_of_read stop bytes)).fault ≡ f → (s : Stop) (n : ℕ)
-        → (and_then_from (outcome_of_lines 1 None (lines_of_read stop bytes)) (outcome_of_stop s n (outcome_of_lines 1 None (lines_of_read stop bytes)).bench) f).fault ≡ None → s ≡ End
-    at None g End n e = refl
-    at None g Failed n e = absurd (let h : Some Read ≡ None = e in cc)
-    at None g TooLong n e = absurd (let h : Some (fault.TooLong (n + 1)) ≡ None = e in cc)
-    at None g TooMany n e = absurd (let h : Some fault.TooMany ≡ None = e in cc)
-    at (Some f) g s n e = absurd (let h : Some f ≡ None = sym g ∙ e in cc)
-
-module _ (left left_after : Option (List ℕ)) (stop : Stop) (bytes : List ℕ) (is : IsRead left left_after stop bytes) where
-  abbrev script : List ℕ
-  script = with_left (bytes ++ is.past) left_after
-
-  script_is : script ≡ bytes ++ past_left is.past left_after
-  script_is = with_left-past bytes is.past left_after
-
-  is_input : IsInput left script
-  is_input = IsInput-with_left left left_after (bytes ++ is.past) is.consumed
-
-  same_run : (stop ≡ Failed → ⊥) → outcome_of_script script ≡ outcome_of_read stop bytes
-  same_run other =
-      ap (λ s. outcome_of_script s) script_is
-      ∙ outcome_of_script-read stop bytes (past_left is.past left_after) left_after (StopsAt-past_left stop bytes is.past left_after is.stops other) other
-
-  -- the whole script goes on after the whole lines
-  goes_on : (rest : Option ScriptBench → Outcome) × (outcome_of_script script ≡ and_then (outcome_of_whole_lines bytes) rest)
-  goes_on = let whole = outcome_of_script-whole bytes (past_left is.past left_after) in (whole.0, ap (λ s. outcome_of_script s) script_is ∙ whole.1)
-
-  read_failed : stop ≡ Failed → outcome_of_read stop bytes ≡ outcome_of_read Failed bytes
-  read_failed failed = ap (λ s. outcome_of_read s bytes) failed
-
-  -- what was read has a fault of the script: the script has it, after the same answers
-  same_fault : (e : BenchFault) → (outcome_of_read stop bytes).fault ≡ Some e → IsFaultOfScript e → outcome_of_script script ≡ outcome_of_read stop bytes
-  same_fault e has own = elim (is_failed stop) [
-    | inr other ↦ same_run other
-    | inl failed ↦ elim (outcome_of_failed_read bytes) [
-      | inl clean ↦ absurd (subst IsFaultOfScript (let h : Some Read ≡ Some e = sym (ap fault_of (read_failed failed ∙ clean.1)) ∙ has in same h) own)
-      | inr some ↦ goes_on.1 ∙ and_then-some (outcome_of_whole_lines bytes) goes_on.0 some.0 some.1 ∙ sym (read_failed failed ∙ some.2)
-    ]
-  ]
-    where
-      fault_of : Outcome → Option BenchFault
-      fault_of o = o.fault
-
-      same : Some Read ≡ Some e → e ≡ Read
-      same h = cc
-
-  -- the answers to what was read are the first of the script's
-  pub part_of : (old new : Option (List ℕ)) → AppendsFront old new (outcome_of_read stop bytes).text → IsPartOfReplay left old new
-  part_of old new front = (
-    script,
-    is_input,
-    elim (is_failed stop) [
-      | inr other ↦ subst (λ (o : Outcome). AppendsFront old new o.text) (sym (same_run other)) front
-      | inl failed ↦ elim (outcome_of_failed_read bytes) [
-        | inl clean ↦
-            let whole = subst (AppendsFront old new) (ap (λ (o : Outcome). o.text) (read_failed failed ∙ clean.1) ∙ append-nil (outcome_of_whole_lines bytes).text) front in
-            subst (λ (o : Outcome). AppendsFront old new o.text) (sym (goes_on.1 ∙ and_then-none (outcome_of_whole_lines bytes) goes_on.0 clean.0))
-            (AppendsFront-more old new (outcome_of_whole_lines bytes).text (goes_on.0 (outcome_of_whole_lines bytes).bench).text whole)
-        | inr some ↦
-            subst (λ (o : Outcome). AppendsFront old new o.text) (read_failed failed ∙ some.2 ∙ sym (goes_on.1 ∙ and_then-some (outcome_of_whole_lines bytes) goes_on.0 some.0 some.1)) front
-      ]
-    ],
-  )
-
-  -- the script has this outcome, and the text of its answers was written
-  replayed_as : (old new : Option (List ℕ)) (f : Option BenchFault) → outcome_of_script script ≡ outcome_of_read stop bytes → (outcome_of_read stop bytes).fault ≡ f
-      → Appends old new (outcome_of_read stop bytes).text → IsReplay left old new f
-  replayed_as old new f same has appends = (
-    script,
-    is_input,
-    ap (λ (o : Outcome). o.fault) same ∙ has,
-    subst (Appends old new) (sym (ap (λ (o : Outcome). o.text) same)) appends,
-  )
-
-  not_failed : (outcome_of_read stop bytes).fault ≡ None → stop ≡ Failed → ⊥
-  not_failed none failed = let e = end_of_run stop bytes none in let f : End ≡ Failed = sym e ∙ failed in cc
-
-  script_whole : stop ≡ End → script ≡ bytes
-  script_whole e = script_is ∙ ap (λ p. bytes ++ p) (past_left-end bytes is.past left_after (subst (λ s. StopsAt s bytes is.past left_after) e is.stops)) ∙ append-nil bytes
-
-  -- the summary of what was read to its end is that of the script
-  same_summary : (s : Summary) → (outcome_of_read stop bytes).fault ≡ None → option_map (summary_of_bench (length (lines_of_read stop bytes))) (outcome_of_read stop bytes).bench ≡ Some s → IsSummary left s
-  same_summary s none has =
-      let whole = end_of_run stop bytes none in
-      let lines : length (lines_of script) ≡ length (lines_of_read stop bytes) = ap (λ t. length (lines_of t)) (script_whole whole) ∙ ap (λ k. length (lines_of_read k bytes)) (sym whole) in (
-        script,
-        is_input,
-        ap (λ (o : Outcome). option_map (summary_of_bench (length (lines_of script))) o.bench) (same_run (not_failed none)) ∙ ap (λ n. option_map (summary_of_bench n) (outcome_of_read stop bytes).bench) lines ∙ has,
+  -- a script goes on after its whole lines
+  outcome_of_script-whole : (bytes past : List ℕ) → (rest : Option ScriptBench → Outcome) × (outcome_of_script limit (bytes ++ past) ≡ and_then (outcome_of_lines limit 1 None (cut bytes).whole) rest)
+  outcome_of_script-whole bytes past =
+      let more = lines_of ((cut bytes).tail ++ past) in
+      let number = 1 + length (cut bytes).whole in
+      let finish : Option ScriptBench → Outcome = λ after. outcome_of_end (length ((cut bytes).whole ++ more)) after in (
+        (λ b. and_then (outcome_of_lines limit number b more) finish),
+        ap (λ lines. and_then (outcome_of_lines limit 1 None lines) (λ after. outcome_of_end (length lines) after)) (lines_of-append bytes past)
+            ∙ ap (λ run. and_then run finish) (outcome_of_lines-append limit 1 None (cut bytes).whole more)
+            ∙ and_then-assoc (outcome_of_lines limit 1 None (cut bytes).whole) (λ b. outcome_of_lines limit number b more) finish,
       )
 
-  -- where the run of what was read ends with `Read`, the reader has failed after whole lines without a fault
-  answered : (old new : Option (List ℕ)) → (outcome_of_read stop bytes).fault ≡ Some Read → Appends old new (outcome_of_read stop bytes).text → HasAnswered left left_after old new
-  answered old new has appends = elim (is_failed stop) [
-    | inr other ↦ absurd (FaultsOnly-outcome_of_script script Read (ap (λ (o : Outcome). o.fault) (same_run other) ∙ has))
-    | inl failed ↦
-        let nothing_past = subst (λ s. StopsAt s bytes is.past left_after) failed is.stops in
-        let given = subst (Consumes left left_after) (ap (λ p. bytes ++ p) nothing_past ∙ append-nil bytes) is.consumed in
-        elim (outcome_of_failed_read bytes) [
-          | inl clean ↦ (bytes, given, clean.0, subst (Appends old new) (ap (λ (o : Outcome). o.text) (read_failed failed ∙ clean.1) ∙ append-nil (outcome_of_whole_lines bytes).text) appends)
-          | inr some ↦ absurd (FaultsOnly-outcome_of_lines 1 None (cut bytes).whole Read (sym (ap (λ (o : Outcome). o.fault) (read_failed failed ∙ some.2)) ∙ has))
-        ]
-  ]
+  -- the bytes that a reader had, where it gave these ones: with what is left, where that is known
+  abbrev with_left : (given : List ℕ) → Option (List ℕ) → List ℕ
+  with_left given None = given
+  with_left given (Some left) = given ++ left
 
--- what is told of a run that has ended
-module _ (left left_after old new : Option (List ℕ)) where
-  abbrev Ended : Result Summary BenchFault → Type 0
-  Ended result = HasEnded left left_after old new result
+  IsInput-with_left : (old new : Option (List ℕ)) (given : List ℕ) → Consumes old new given → IsInput old (with_left given new)
+  IsInput-with_left None new given c = tt
+  IsInput-with_left (Some x) None given c = absurd c
+  IsInput-with_left (Some x) (Some y) given c = c
 
-  pub HasEnded-replayed : (result : Result Summary BenchFault) → Ended result → OnOk result (IsReplay left old new None)
-  HasEnded-replayed (Ok s) is = replayed_as left left_after is.stop is.bytes is.read old new None (same_run left left_after is.stop is.bytes is.read (not_failed left left_after is.stop is.bytes is.read is.ends.0)) is.ends.0 is.ends.1
-  HasEnded-replayed (Err e) is = tt
+  -- what is past the bytes that were read of a script, with what is left
+  abbrev past_left : (past : List ℕ) → Option (List ℕ) → List ℕ
+  past_left past None = past
+  past_left past (Some left) = past ++ left
 
-  pub HasEnded-summary : (result : Result Summary BenchFault) → Ended result → IfOk result (IsSummary left)
-  HasEnded-summary (Ok s) is = same_summary left left_after is.stop is.bytes is.read s is.ends.0 is.summary
-  HasEnded-summary (Err e) is = tt
+  with_left-past : (bytes past : List ℕ) (left : Option (List ℕ)) → with_left (bytes ++ past) left ≡ bytes ++ past_left past left
+  with_left-past bytes past None = refl
+  with_left-past bytes past (Some left) = append_assoc bytes past left
 
-  pub HasEnded-all_read : (result : Result Summary BenchFault) → Ended result → OnOk result (IsAtEnd left_after)
-  HasEnded-all_read (Ok s) is = (subst (λ s. StopsAt s is.bytes is.read.past left_after) (end_of_run is.stop is.bytes is.ends.0) is.read.stops).1
-  HasEnded-all_read (Err e) is = tt
+  -- nothing is past a script that was read to its end
+  past_left-end : (bytes past : List ℕ) (left : Option (List ℕ)) → StopsAt End bytes past left → past_left past left ≡ []
+  past_left-end bytes past None at = at.0
+  past_left-end bytes past (Some left) at = ap (λ p. p ++ left) at.0 ∙ at.1
 
-  pub HasEnded-fault : (result : Result Summary BenchFault) → Ended result → IfErr result (λ e. IsFaultOfScript e → IsReplay left old new (Some e))
-  HasEnded-fault (Ok s) is = tt
-  HasEnded-fault (Err e) is = λ own. elim is.ends [
-    | inl early ↦ absurd (elim early.0 [ inl memory ↦ subst IsFaultOfScript memory own | inr write ↦ subst IsFaultOfScript write own ])
-    | inr has ↦ replayed_as left left_after is.stop is.bytes is.read old new (Some e) (same_fault left left_after is.stop is.bytes is.read e has.0 own) has.0 has.1
-  ]
+  StopsAt-past_left : (stop : Stop) (bytes past : List ℕ) (left : Option (List ℕ)) → StopsAt stop bytes past left → (stop ≡ Failed → ⊥) → StopsAt stop bytes (past_left past left) left
+  StopsAt-past_left stop bytes past None at other = at
+  StopsAt-past_left End bytes past (Some left) at other = (ap (λ p. p ++ left) at.0 ∙ at.1, at.1)
+  StopsAt-past_left Failed bytes past (Some left) at other = absurd (other refl)
+  StopsAt-past_left TooLong bytes past (Some left) at other = (at.0, at.1, (at.2.0, at.2.1 ++ left, ap (λ p. p ++ left) at.2.2, at.2.3))
+  StopsAt-past_left TooMany bytes past (Some left) at other = (at.0, (at.1.0, at.1.1 ++ left, ap (λ p. p ++ left) at.1.2))
 
-  pub HasEnded-part : (result : Result Summary BenchFault) → Ended result → IfErr result (λ e. IsPartOfReplay left old new)
-  HasEnded-part (Ok s) is = tt
-  HasEnded-part (Err e) is = part_of left left_after is.stop is.bytes is.read old new (elim is.ends [ inl early ↦ early.1 | inr has ↦ AppendsFront-all old new _ has.1 ])
+  -- before anything is written
+  pub IsPartOfReplay-start : (left contents : Option (List ℕ)) → IsPartOfReplay limit left contents contents
+  IsPartOfReplay-start None contents = ([], tt, (text_of_script limit [], IsWritten-start contents (text_of_script limit [])))
+  IsPartOfReplay-start (Some bytes) contents = (bytes, refl, (text_of_script limit bytes, IsWritten-start contents (text_of_script limit bytes)))
 
-  pub HasEnded-read : (result : Result Summary BenchFault) → Ended result → result ≡ Err Read → HasAnswered left left_after old new
-  HasEnded-read (Ok s) is bad = absurd (let f : Ok s ≡ Err Read = bad in cc)
-  HasEnded-read (Err e) is same =
-      let read : e ≡ Read = let f : Err e ≡ Err Read = same in cc in
-      elim is.ends [
-        | inl early ↦ absurd (elim early.0 [ inl memory ↦ (let f : Memory ≡ Read = sym memory ∙ read in cc) | inr write ↦ (let f : Write ≡ Read = sym write ∙ read in cc) ])
-        | inr has ↦ answered left left_after is.stop is.bytes is.read old new (has.0 ∙ ap Some read) has.1
+  is_failed : (stop : Stop) → (stop ≡ Failed) ⊎ (stop ≡ Failed → ⊥)
+  is_failed End = inr (λ e. cc)
+  is_failed Failed = inl refl
+  is_failed TooLong = inr (λ e. cc)
+  is_failed TooMany = inr (λ e. cc)
+
+  -- the outcome of the whole lines of some bytes
+  abbrev outcome_of_whole_lines : List ℕ → Outcome
+  outcome_of_whole_lines bytes = outcome_of_lines limit 1 None (cut bytes).whole
+
+  -- where the reader failed: the whole lines have the fault, or have none
+  outcome_of_failed_read : (bytes : List ℕ) → ((outcome_of_whole_lines bytes).fault ≡ None) × (outcome_of_read limit Failed bytes ≡ after_text (outcome_of_whole_lines bytes).text (outcome_of_fault (outcome_of_whole_lines bytes).bench Read))
+      ⊎ (e : BenchFault) × ((outcome_of_whole_lines bytes).fault ≡ Some e) × (outcome_of_read limit Failed bytes ≡ outcome_of_whole_lines bytes)
+  outcome_of_failed_read bytes = at (outcome_of_whole_lines bytes).fault refl
+    where
+      at : (f : Option BenchFault) → (outcome_of_whole_lines bytes).fault ≡ f
+          → ((outcome_of_whole_lines bytes).fault ≡ None) × (outcome_of_read limit Failed bytes ≡ after_text (outcome_of_whole_lines bytes).text (outcome_of_fault (outcome_of_whole_lines bytes).bench Read))
+          ⊎ (e : BenchFault) × ((outcome_of_whole_lines bytes).fault ≡ Some e) × (outcome_of_read limit Failed bytes ≡ outcome_of_whole_lines bytes)
+      at None e = inl (e, and_then-none (outcome_of_whole_lines bytes) (λ b. outcome_of_fault b Read) e)
+      at (Some f) e = inr (f, e, and_then-some (outcome_of_whole_lines bytes) (λ b. outcome_of_fault b Read) f e)
+
+  -- a fault that reading a script or running it can have
+  abbrev IsFaultOfRead : BenchFault → Type 0
+  IsFaultOfRead e = IsFaultOfScript e ⊎ (e ≡ Read)
+
+  FaultsOnly-outcome_of_read : (stop : Stop) (bytes : List ℕ) → FaultsOnly IsFaultOfRead (outcome_of_read limit stop bytes)
+  FaultsOnly-outcome_of_read stop bytes =
+      let lines = lines_of_read stop bytes in
+      FaultsOnly-and_then IsFaultOfRead (outcome_of_lines limit 1 None lines) (λ after. outcome_of_stop stop (length lines) after) (λ e q. inl (FaultsOnly-outcome_of_lines 1 None lines e q)) (at stop (length lines))
+    where
+      at : (s : Stop) (n : ℕ) (b : Option ScriptBench) → FaultsOnly IsFaultOfRead (outcome_of_stop s n b)
+      at End n b = λ e q. inl (FaultsOnly-outcome_of_end n b e q)
+      at Failed n b = FaultsOnly-outcome_of_fault IsFaultOfRead b Read (inr refl)
+      at TooLong n b = FaultsOnly-outcome_of_fault IsFaultOfRead b (fault.TooLong (n + 1)) (inl tt)
+      at TooMany n b = FaultsOnly-outcome_of_fault IsFaultOfRead b fault.TooMany (inl tt)
+
+  FaultsOnly-outcome_of_script : (bytes : List ℕ) → FaultsOnly IsFaultOfScript (outcome_of_script limit bytes)
+  FaultsOnly-outcome_of_script bytes =
+      FaultsOnly-and_then IsFaultOfScript (outcome_of_lines limit 1 None (lines_of bytes)) (λ after. outcome_of_end (length (lines_of bytes)) after) (FaultsOnly-outcome_of_lines 1 None (lines_of bytes))
+      (λ b. FaultsOnly-outcome_of_end (length (lines_of bytes)) b)
+
+  -- only a script that was read to its end has no fault
+  end_of_run : (stop : Stop) (bytes : List ℕ) → (outcome_of_read limit stop bytes).fault ≡ None → stop ≡ End
+  end_of_run stop bytes none = at (outcome_of_lines limit 1 None (lines_of_read stop bytes)).fault refl stop (length (lines_of_read stop bytes)) none
+    where
+      at : (f : Option BenchFault) → (outcome_of_lines limit 1 None (lines_of_read stop bytes)).fault ≡ f → (s : Stop) (n : ℕ)
+          → (and_then_from (outcome_of_lines limit 1 None (lines_of_read stop bytes)) (outcome_of_stop s n (outcome_of_lines limit 1 None (lines_of_read stop bytes)).bench) f).fault ≡ None → s ≡ End
+      at None g End n e = refl
+      at None g Failed n e = absurd (let h : Some Read ≡ None = e in cc)
+      at None g TooLong n e = absurd (let h : Some (fault.TooLong (n + 1)) ≡ None = e in cc)
+      at None g TooMany n e = absurd (let h : Some fault.TooMany ≡ None = e in cc)
+      at (Some f) g s n e = absurd (let h : Some f ≡ None = sym g ∙ e in cc)
+
+  module _ (left left_after : Option (List ℕ)) (stop : Stop) (bytes : List ℕ) (is : IsRead left left_after stop bytes) where
+    abbrev script : List ℕ
+    script = with_left (bytes ++ is.past) left_after
+
+    script_is : script ≡ bytes ++ past_left is.past left_after
+    script_is = with_left-past bytes is.past left_after
+
+    is_input : IsInput left script
+    is_input = IsInput-with_left left left_after (bytes ++ is.past) is.consumed
+
+    same_run : (stop ≡ Failed → ⊥) → outcome_of_script limit script ≡ outcome_of_read limit stop bytes
+    same_run other =
+        ap (λ s. outcome_of_script limit s) script_is
+        ∙ outcome_of_script-read stop bytes (past_left is.past left_after) left_after (StopsAt-past_left stop bytes is.past left_after is.stops other) other
+
+    -- the whole script goes on after the whole lines
+    goes_on : (rest : Option ScriptBench → Outcome) × (outcome_of_script limit script ≡ and_then (outcome_of_whole_lines bytes) rest)
+    goes_on = let whole = outcome_of_script-whole bytes (past_left is.past left_after) in (whole.0, ap (λ s. outcome_of_script limit s) script_is ∙ whole.1)
+
+    read_failed : stop ≡ Failed → outcome_of_read limit stop bytes ≡ outcome_of_read limit Failed bytes
+    read_failed failed = ap (λ s. outcome_of_read limit s bytes) failed
+
+    -- what was read has a fault of the script: the script has it, after the same answers
+    same_fault : (e : BenchFault) → (outcome_of_read limit stop bytes).fault ≡ Some e → IsFaultOfScript e → outcome_of_script limit script ≡ outcome_of_read limit stop bytes
+    same_fault e has own = elim (is_failed stop) [
+      | inr other ↦ same_run other
+      | inl failed ↦ elim (outcome_of_failed_read bytes) [
+        | inl clean ↦ absurd (subst IsFaultOfScript (let h : Some Read ≡ Some e = sym (ap fault_of (read_failed failed ∙ clean.1)) ∙ has in same h) own)
+        | inr some ↦ goes_on.1 ∙ and_then-some (outcome_of_whole_lines bytes) goes_on.0 some.0 some.1 ∙ sym (read_failed failed ∙ some.2)
       ]
+    ]
+      where
+        fault_of : Outcome → Option BenchFault
+        fault_of o = o.fault
+
+        same : Some Read ≡ Some e → e ≡ Read
+        same h = cc
+
+    -- the answers to what was read are the first of the script's
+    pub part_of : (old new : Option (List ℕ)) → AppendsFront old new (outcome_of_read limit stop bytes).text → IsPartOfReplay limit left old new
+    part_of old new front = (
+      script,
+      is_input,
+      elim (is_failed stop) [
+        | inr other ↦ subst (λ (o : Outcome). AppendsFront old new o.text) (sym (same_run other)) front
+        | inl failed ↦ elim (outcome_of_failed_read bytes) [
+          | inl clean ↦
+              let whole = subst (AppendsFront old new) (ap (λ (o : Outcome). o.text) (read_failed failed ∙ clean.1) ∙ append-nil (outcome_of_whole_lines bytes).text) front in
+              subst (λ (o : Outcome). AppendsFront old new o.text) (sym (goes_on.1 ∙ and_then-none (outcome_of_whole_lines bytes) goes_on.0 clean.0))
+              (AppendsFront-more old new (outcome_of_whole_lines bytes).text (goes_on.0 (outcome_of_whole_lines bytes).bench).text whole)
+          | inr some ↦
+              subst (λ (o : Outcome). AppendsFront old new o.text) (read_failed failed ∙ some.2 ∙ sym (goes_on.1 ∙ and_then-some (outcome_of_whole_lines bytes) goes_on.0 some.0 some.1)) front
+        ]
+      ],
+    )
+
+    -- the script has this outcome, and the text of its answers was written
+    replayed_as : (old new : Option (List ℕ)) (f : Option BenchFault) → outcome_of_script limit script ≡ outcome_of_read limit stop bytes → (outcome_of_read limit stop bytes).fault ≡ f
+        → Appends old new (outcome_of_read limit stop bytes).text → IsReplay limit left old new f
+    replayed_as old new f same has appends = (
+      script,
+      is_input,
+      ap (λ (o : Outcome). o.fault) same ∙ has,
+      subst (Appends old new) (sym (ap (λ (o : Outcome). o.text) same)) appends,
+    )
+
+    not_failed : (outcome_of_read limit stop bytes).fault ≡ None → stop ≡ Failed → ⊥
+    not_failed none failed = let e = end_of_run stop bytes none in let f : End ≡ Failed = sym e ∙ failed in cc
+
+    script_whole : stop ≡ End → script ≡ bytes
+    script_whole e = script_is ∙ ap (λ p. bytes ++ p) (past_left-end bytes is.past left_after (subst (λ s. StopsAt s bytes is.past left_after) e is.stops)) ∙ append-nil bytes
+
+    -- the summary of what was read to its end is that of the script
+    same_summary : (s : Summary) → (outcome_of_read limit stop bytes).fault ≡ None → option_map (summary_of_bench (length (lines_of_read stop bytes))) (outcome_of_read limit stop bytes).bench ≡ Some s → IsSummary limit left s
+    same_summary s none has =
+        let whole = end_of_run stop bytes none in
+        let lines : length (lines_of script) ≡ length (lines_of_read stop bytes) = ap (λ t. length (lines_of t)) (script_whole whole) ∙ ap (λ k. length (lines_of_read k bytes)) (sym whole) in (
+          script,
+          is_input,
+          ap (λ (o : Outcome). option_map (summary_of_bench (length (lines_of script))) o.bench) (same_run (not_failed none)) ∙ ap (λ n. option_map (summary_of_bench n) (outcome_of_read limit stop bytes).bench) lines ∙ has,
+        )
+
+    -- where the run of what was read ends with `Read`, the reader has failed after whole lines without a fault
+    answered : (old new : Option (List ℕ)) → (outcome_of_read limit stop bytes).fault ≡ Some Read → Appends old new (outcome_of_read limit stop bytes).text → HasAnswered limit left left_after old new
+    answered old new has appends = elim (is_failed stop) [
+      | inr other ↦ absurd (FaultsOnly-outcome_of_script script Read (ap (λ (o : Outcome). o.fault) (same_run other) ∙ has))
+      | inl failed ↦
+          let nothing_past = subst (λ s. StopsAt s bytes is.past left_after) failed is.stops in
+          let given = subst (Consumes left left_after) (ap (λ p. bytes ++ p) nothing_past ∙ append-nil bytes) is.consumed in
+          elim (outcome_of_failed_read bytes) [
+            | inl clean ↦ (bytes, given, clean.0, subst (Appends old new) (ap (λ (o : Outcome). o.text) (read_failed failed ∙ clean.1) ∙ append-nil (outcome_of_whole_lines bytes).text) appends)
+            | inr some ↦ absurd (FaultsOnly-outcome_of_lines 1 None (cut bytes).whole Read (sym (ap (λ (o : Outcome). o.fault) (read_failed failed ∙ some.2)) ∙ has))
+          ]
+    ]
+
+  -- what is told of a run that has ended
+  module _ (left left_after old new : Option (List ℕ)) where
+    abbrev Ended : Result Summary BenchFault → Type 0
+    Ended result = HasEnded limit left left_after old new result
+
+    pub HasEnded-replayed : (result : Result Summary BenchFault) → Ended result → OnOk result (IsReplay limit left old new None)
+    HasEnded-replayed (Ok s) is = replayed_as left left_after is.stop is.bytes is.read old new None (same_run left left_after is.stop is.bytes is.read (not_failed left left_after is.stop is.bytes is.read is.ends.0)) is.ends.0 is.ends.1
+    HasEnded-replayed (Err e) is = tt
+
+    pub HasEnded-summary : (result : Result Summary BenchFault) → Ended result → IfOk result (IsSummary limit left)
+    HasEnded-summary (Ok s) is = same_summary left left_after is.stop is.bytes is.read s is.ends.0 is.summary
+    HasEnded-summary (Err e) is = tt
+
+    pub HasEnded-all_read : (result : Result Summary BenchFault) → Ended result → OnOk result (IsAtEnd left_after)
+    HasEnded-all_read (Ok s) is = (subst (λ s. StopsAt s is.bytes is.read.past left_after) (end_of_run is.stop is.bytes is.ends.0) is.read.stops).1
+    HasEnded-all_read (Err e) is = tt
+
+    pub HasEnded-fault : (result : Result Summary BenchFault) → Ended result → IfErr result (λ e. IsFaultOfScript e → IsReplay limit left old new (Some e))
+    HasEnded-fault (Ok s) is = tt
+    HasEnded-fault (Err e) is = λ own. elim is.ends [
+      | inl early ↦ absurd (elim early.0 [ inl memory ↦ subst IsFaultOfScript memory own | inr write ↦ subst IsFaultOfScript write own ])
+      | inr has ↦ replayed_as left left_after is.stop is.bytes is.read old new (Some e) (same_fault left left_after is.stop is.bytes is.read e has.0 own) has.0 has.1
+    ]
+
+    pub HasEnded-part : (result : Result Summary BenchFault) → Ended result → IfErr result (λ e. IsPartOfReplay limit left old new)
+    HasEnded-part (Ok s) is = tt
+    HasEnded-part (Err e) is = part_of left left_after is.stop is.bytes is.read old new (elim is.ends [ inl early ↦ early.1 | inr has ↦ AppendsFront-all old new _ has.1 ])
+
+    pub HasEnded-read : (result : Result Summary BenchFault) → Ended result → result ≡ Err Read → HasAnswered limit left left_after old new
+    HasEnded-read (Ok s) is bad = absurd (let f : Ok s ≡ Err Read = bad in cc)
+    HasEnded-read (Err e) is same =
+        let read : e ≡ Read = let f : Err e ≡ Err Read = same in cc in
+        elim is.ends [
+          | inl early ↦ absurd (elim early.0 [ inl memory ↦ (let f : Memory ≡ Read = sym memory ∙ read in cc) | inr write ↦ (let f : Write ≡ Read = sym write ∙ read in cc) ])
+          | inr has ↦ answered left left_after is.stop is.bytes is.read old new (has.0 ∙ ap Some read) has.1
+        ]

@@ -1,113 +1,131 @@
 -- What a command comes to.
-use Rattle.std.proofs.Common.{◌≡◌, ◌∙◌, ℕ, ◌<◌, ◌≤◌, refl, Option, None, Some, Bool, true, false, nat_le, ◌==◌, is_none, IsSome, arith, option_map, if◌then◌else◌, Result, Ok, Err, OnOk}
+use Rattle.std.proofs.Common.{◌≡◌, ◌∙◌, ℕ, ◌<◌, ◌≤◌, refl, sym, ap, [], ◌∷◌, length, Option, None, Some, Bool, true, false, nat_le, nat_lt, ◌==◌, is_none, arith, option_map, if◌then◌else◌, Result, Ok, Err, OnOk}
 use Rattle.std.proofs.lemmas.Bool.Decides.{nat_tests}
+use Rattle.std.proofs.lemmas.List.{length-map}
 use Rattle.seq_object.specs.declared.call_id.CallId.{CallId}
 use Rattle.uni_model.specs.Stages.{Pending}
-use Rattle.uni_model.specs.Worlds.{WorldOf, calls_in_era}
-use Rattle.uni_core.specs.Whole.{current_of}
+use Rattle.uni_model.specs.Worlds.{WorldOf, world_after_all, calls_in_era}
+use Rattle.uni_model.specs.Worlds.Event.{Call}
+use Rattle.uni_core.specs.Whole.{world_of, current_of}
+use Rattle.uni_record.specs.Recording.{Recording, CanBegin, IsBeginRefused, standing_of}
+use Rattle.uni_record.specs.declared.fault.RecordBeginFault.TheVariants as begin
+use Rattle.uni_record.specs.Stored.{event_shown, events_shown}
 use Rattle.uni_script.specs.declared.answer.Refusal.{Refusal}
-use Rattle.uni_script.specs.declared.answer.Refusal.TheVariants.{Idle}
+use Rattle.uni_script.specs.declared.answer.Refusal.TheVariants.{Process, Busy, Row, Idle, History}
 use Rattle.uni_script.specs.Answers.{called_text}
 use Rattle.uni_script.specs.Objects.{SpokenObject}
-use Rattle.uni_script.specs.Meaning.{Bench, StepsOutcome, latest, refusal_of_call, refusal_of_step, bench_after_call, result_of_call, result_of_steps, outcome_of_steps, text_of_steps}
+use Rattle.uni_script.specs.Meaning.{Bench, CommandResult, LastStep, bench_of, bench_after, refused, is_full, latest, refusal_of_call, refusal_of_step, result_of_call, result_of_steps, steps_of, steps_taken, last_step, text_of_steps}
+use Rattle.uni_script.proofs.Stepping.{bench_after-none}
 
-pub bench_is : {S I R : Type 0} (b c : Bench S I R) → b.row ≡ c.row → b.world ≡ c.world → b ≡ c
-bench_is b c p q = let e : record { row = b.row; world = b.world } ≡ record { row = c.row; world = c.world } = cc in e
-
-below : (n p : ℕ) (b : Bool) → nat_le n p ≡ b → (n ≤ p → ⊥) → b ≡ false
-below n p true e h = absurd (h (grind (arith, nat_tests)))
-below n p false e h = refl
-
-not_some : {A : Type 0} (o : Option A) → (IsSome o → ⊥) → o ≡ None
-not_some None h = refl
-not_some (Some x) h = absurd (h refl)
-
-not_equal : (m k : ℕ) (b : Bool) → (m == k) ≡ b → (m ≡ k → ⊥) → b ≡ false
-not_equal m k true e h = absurd (h (grind (arith, nat_tests)))
-not_equal m k false e h = refl
-
-pub begun_inside : (n p : ℕ) → (n ≤ p → ⊥) → p < n
-begun_inside n p h = at (nat_le n p) refl
+at_least : (n p : ℕ) → n ≤ p → nat_le n p ≡ true
+at_least n p high = at (nat_le n p) refl
   where
-    at : (b : Bool) → nat_le n p ≡ b → p < n
-    at true e = absurd (h (grind (arith, nat_tests)))
-    at false e = grind (arith, nat_tests)
+    at : (b : Bool) → nat_le n p ≡ b → nat_le n p ≡ true
+    at true e = e
+    at false e = absurd (grind (arith, nat_tests))
 
-module _ {S I R : Type 0} (b : Bench S I R) (p : ℕ) (inside : b.world.n ≤ p → ⊥) where
-  p_below : nat_le b.world.n p ≡ false
-  p_below = below b.world.n p (nat_le b.world.n p) refl inside
+below : (n p : ℕ) → p < n → nat_le n p ≡ false
+below n p low = at (nat_le n p) refl
+  where
+    at : (b : Bool) → nat_le n p ≡ b → nat_le n p ≡ false
+    at true e = absurd (grind (arith, nat_tests))
+    at false e = e
 
-  pub none_refused-call : (IsSome (b.world.call p) → ⊥) → (b.world.call p ≡ None → calls_in_era b.world p ≡ b.row → ⊥) → refusal_of_call b p ≡ None
-  none_refused-call idle room =
-      let none = not_some (b.world.call p) idle in
-      rw p_below (rw none (rw (not_equal (calls_in_era b.world p) b.row (calls_in_era b.world p == b.row) refl (room none)) refl))
+more_than : (n p : ℕ) → n < p → nat_lt n p ≡ true
+more_than n p high = at (nat_lt n p) refl
+  where
+    at : (b : Bool) → nat_lt n p ≡ b → nat_lt n p ≡ true
+    at true e = e
+    at false e = absurd (grind (arith, nat_tests))
 
-  pub none_refused-step : (call : CallId) → Some call ≡ current_of b.world p → refusal_of_step b.world p ≡ None
-  none_refused-step call e = rw p_below (at (b.world.call p) e)
+at_most : (n p : ℕ) → p ≤ n → nat_lt n p ≡ false
+at_most n p low = at (nat_lt n p) refl
+  where
+    at : (b : Bool) → nat_lt n p ≡ b → nat_lt n p ≡ false
+    at true e = absurd (grind (arith, nat_tests))
+    at false e = e
+
+equal : (m k : ℕ) → m ≡ k → (m == k) ≡ true
+equal m k same = at (m == k) refl
+  where
+    at : (b : Bool) → (m == k) ≡ b → (m == k) ≡ true
+    at true e = e
+    at false e = absurd (grind (arith, nat_tests))
+
+fewer : (m k : ℕ) → m < k → (m == k) ≡ false
+fewer m k low = at (m == k) refl
+  where
+    at : (b : Bool) → (m == k) ≡ b → (m == k) ≡ false
+    at true e = absurd (grind (arith, nat_tests))
+    at false e = e
+
+module _ {O S I R : Type 0} (r : Recording O S I R) (p : ℕ) where
+  stored_is : length (events_shown r.events) ≡ length r.events
+  stored_is = length-map r.events event_shown
+
+  pub refusal_of_call-BadProcess : IsBeginRefused (standing_of r) p begin.BadProcess → refusal_of_call (bench_of r) p ≡ Some (Process p)
+  refusal_of_call-BadProcess high = rw (at_least (world_of r.world).n p high) refl
+
+  pub refusal_of_call-Busy : (q : ℕ) → IsBeginRefused (standing_of r) p (begin.Busy q) → refusal_of_call (bench_of r) p ≡ Some (Busy q)
+  refusal_of_call-Busy q is = rw (below (world_of r.world).n p is.1) (rw is.2 (rw is.0 refl))
+
+  pub refusal_of_call-RowFull : (q : ℕ) → IsBeginRefused (standing_of r) p (begin.RowFull q) → refusal_of_call (bench_of r) p ≡ Some (Row q)
+  refusal_of_call-RowFull q is = rw (below (world_of r.world).n p is.1) (rw is.2 (rw (equal (calls_in_era (world_of r.world) p) r.world.row is.3) (rw is.0 refl)))
+
+  module _ (can : (p < (world_of r.world).n) × ((world_of r.world).call p ≡ None) × (calls_in_era (world_of r.world) p < r.world.row)) where
+    refusal_of_call-full : (full : Bool) → is_full (bench_of r) ≡ full → refusal_of_call (bench_of r) p ≡ (if full then Some History else None)
+    refusal_of_call-full full is = rw (below (world_of r.world).n p can.0) (rw can.1 (rw (fewer (calls_in_era (world_of r.world) p) r.world.row can.2) (rw is refl)))
+
+  pub refusal_of_call-HistoryFull : IsBeginRefused (standing_of r) p begin.HistoryFull → refusal_of_call (bench_of r) p ≡ Some History
+  refusal_of_call-HistoryFull is = refusal_of_call-full is.0 true (let long = stored_is in let over = is.1 in more_than r.limit _ (omega arith))
+
+  pub refusal_of_call-none : CanBegin (standing_of r) p → refusal_of_call (bench_of r) p ≡ None
+  refusal_of_call-none is = refusal_of_call-full is.0 false (let long = stored_is in let fits = is.1 in at_most r.limit _ (omega arith))
+
+module _ {S I R : Type 0} (w : WorldOf S I R) (p : ℕ) where
+  pub refusal_of_step-past : w.n ≤ p → refusal_of_step w p ≡ Some (Process p)
+  refusal_of_step-past high = rw (at_least w.n p high) refl
+
+  pub refusal_of_step-idle : p < w.n → None ≡ current_of w p → refusal_of_step w p ≡ Some (Idle p)
+  refusal_of_step-idle low e = rw (below w.n p low) (at (w.call p) e)
     where
-      at : (c : Option Pending) → Some call ≡ option_map (λ (x : Pending). latest b.world p) c
-          → (if is_none c then Some (Idle p) else None) ≡ None
-      at None f = cc
+      at : (c : Option Pending) → None ≡ option_map (λ (x : Pending). latest w p) c → (if is_none c then Some (Idle p) else None) ≡ Some (Idle p)
+      at None f = refl
+      at (Some x) f = absurd (cc)
+
+  pub refusal_of_step-none : (call : CallId) → p < w.n → Some call ≡ current_of w p → refusal_of_step w p ≡ None
+  refusal_of_step-none call low e = rw (below w.n p low) (at (w.call p) e)
+    where
+      at : (c : Option Pending) → Some call ≡ option_map (λ (x : Pending). latest w p) c → (if is_none c then Some (Idle p) else None) ≡ None
+      at None f = absurd (cc)
       at (Some x) f = refl
 
--- the pending call of a process is the latest that it has begun
-pub current_is_latest : {S I R : Type 0} (w : WorldOf S I R) (p : ℕ) (call : CallId) → Some call ≡ current_of w p → call ≡ latest w p
-current_is_latest w p call e = at (w.call p) e
-  where
-    at : (c : Option Pending) → Some call ≡ option_map (λ (x : Pending). latest w p) c → call ≡ latest w p
-    at None f = cc
-    at (Some x) f = cc
-
-module _ {S I R : Type 0} (o : SpokenObject S I R) (b : Bench S I R) (p : ℕ) where
-  pub result_of_call-begun : (i : I) → refusal_of_call b p ≡ None → result_of_call o b p i ≡ record { bench = bench_after_call o b p i; text = called_text (record { process = p; nth = b.world.begun p }) }
-  result_of_call-begun i none = rw none refl
-
-  pub result_of_call-refused : (i : I) (refusal : Refusal) → refusal_of_call b p ≡ Some refusal → (result_of_call o b p i).bench ≡ b
-  result_of_call-refused i refusal some = rw some refl
-
-  pub result_of_steps-taken : (most : ℕ) (after : StepsOutcome S I R) → refusal_of_step b.world p ≡ None → after ≡ outcome_of_steps o most b.world p
-      → result_of_steps o b p most ≡ record { bench = record b { world = after.world }; text = text_of_steps o after p (latest b.world p) }
-  result_of_steps-taken most after none e = rw none (rw e refl)
-
-  -- a process that has no call pending takes no step
-  pub result_of_steps-idle : (most : ℕ) → None ≡ current_of b.world p → b ≡ (result_of_steps o b p most).bench
-  result_of_steps-idle most e = by_call (b.world.call p) refl e
+  -- the pending call of a process is the latest that it has begun
+  pub current_is_latest : (call : CallId) → Some call ≡ current_of w p → call ≡ latest w p
+  current_is_latest call e = at (w.call p) e
     where
-      by_call : (call : Option Pending) → b.world.call p ≡ call → None ≡ option_map (λ (x : Pending). latest b.world p) call → b ≡ (result_of_steps o b p most).bench
-      by_call None is f = by_test (nat_le b.world.n p) refl
-        where
-          by_test : (t : Bool) → nat_le b.world.n p ≡ t → b ≡ (result_of_steps o b p most).bench
-          by_test true g = rw g refl
-          by_test false g = rw g (rw is refl)
-      by_call (Some x) is f = cc
+      at : (c : Option Pending) → Some call ≡ option_map (λ (x : Pending). latest w p) c → call ≡ latest w p
+      at None f = absurd (cc)
+      at (Some x) f = cc
 
--- Where a call or a step is refused the bench stays as it was.
-module _ {S I R : Type 0} (o : SpokenObject S I R) (b b' : Bench S I R) (same : b' ≡ b) (p : ℕ) where
-  past : b.world.n ≤ p → nat_le b.world.n p ≡ true
-  past high = at (nat_le b.world.n p) refl
-    where
-      at : (t : Bool) → nat_le b.world.n p ≡ t → nat_le b.world.n p ≡ true
-      at true e = e
-      at false e = absurd (grind (arith, nat_tests))
+-- what is refused leaves a bench as it was
+pub bench_after-refused : {S I R : Type 0} (o : SpokenObject S I R) (b b' : Bench S I R) (result : CommandResult I) (refusal : Refusal) → b' ≡ b → result ≡ refused refusal → b' ≡ bench_after o b result.events
+bench_after-refused o b b' result refusal same is = same ∙ sym (bench_after-none o b) ∙ ap (λ (x : CommandResult _). bench_after o b x.events) (sym is)
 
-  inside : p < b.world.n → nat_le b.world.n p ≡ false
-  inside low = below b.world.n p (nat_le b.world.n p) refl (λ high. omega arith)
+module _ {S I R : Type 0} (b : Bench S I R) (p : ℕ) (i : I) where
+  pub result_of_call-begun : refusal_of_call b p ≡ None → result_of_call b p i ≡ record { events = Call p i ∷ []; text = called_text (record { process = p; nth = b.world.begun p }) }
+  result_of_call-begun none = rw none refl
 
-  pub stays-call_past : (i : I) → b.world.n ≤ p → b' ≡ (result_of_call o b p i).bench
-  stays-call_past i high = same ∙ rw (past high) refl
+  pub result_of_call-refused : (refusal : Refusal) → refusal_of_call b p ≡ Some refusal → result_of_call b p i ≡ refused refusal
+  result_of_call-refused refusal some = rw some refl
 
-  pub stays-call_busy : (i : I) → (p < b.world.n) × IsSome (b.world.call p) → b' ≡ (result_of_call o b p i).bench
-  stays-call_busy i busy = same ∙ rw (inside busy.0) (rw busy.1 refl)
+module _ {S I R : Type 0} (o : SpokenObject S I R) (w : WorldOf S I R) (p most : ℕ) where
+  pub result_of_steps-refused : (refusal : Refusal) → refusal_of_step w p ≡ Some refusal → result_of_steps o w p most ≡ refused refusal
+  result_of_steps-refused refusal some = rw some refl
 
-  pub stays-call_full : (i : I) → (p < b.world.n) × (b.world.call p ≡ None) × (calls_in_era b.world p ≡ b.row) → b' ≡ (result_of_call o b p i).bench
-  stays-call_full i full = same ∙ rw (inside full.0) (rw full.1 (rw (at (calls_in_era b.world p == b.row) refl) refl))
-    where
-      at : (t : Bool) → (calls_in_era b.world p == b.row) ≡ t → (calls_in_era b.world p == b.row) ≡ true
-      at true e = e
-      at false e = absurd (let equal : calls_in_era b.world p ≡ b.row = full.2 in grind (arith, nat_tests))
-
-  pub stays-steps_past : (most : ℕ) → b.world.n ≤ p → b' ≡ (result_of_steps o b p most).bench
-  stays-steps_past most high = same ∙ rw (past high) refl
+  pub result_of_steps-taken : refusal_of_step w p ≡ None → (last : Option (LastStep R)) → last_step o w p most ≡ last
+      → result_of_steps o w p most ≡ record { events = steps_of p (steps_taken most last); text = text_of_steps o (world_after_all o.object w (steps_of p (steps_taken most last))) last p (latest w p) }
+  result_of_steps-taken none last is = rw none (rw is refl)
 
 -- a fact that holds of any result
 pub OnOk-always : {A E P : Type 0} (r : Result A E) → P → OnOk r P

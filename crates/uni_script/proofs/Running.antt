@@ -39,38 +39,40 @@ and_then-none first rest none = rw none refl
 pub and_then-some : (first : Outcome) (rest : Option ScriptBench → Outcome) (e : BenchFault) → first.fault ≡ Some e → and_then first rest ≡ first
 and_then-some first rest e some = rw some refl
 
-pub outcome_of_line-short : (number : ℕ) (b : Option ScriptBench) (line : List ℕ) → number ≤ 100000 → is_short line ≡ true → outcome_of_line number b line ≡ outcome_of_short_line number b line
-outcome_of_line-short number b line few short = at (nat_lt 100000 number) refl (nat_lt 200 (length line)) refl
-  where
-    at : (p : Bool) → nat_lt 100000 number ≡ p → (q : Bool) → nat_lt 200 (length line) ≡ q → outcome_of_line number b line ≡ outcome_of_short_line number b line
-    at true e q f = absurd (grind (arith, nat_tests))
-    at false e true f = absurd (grind (arith, nat_tests))
-    at false e false f = rw e (rw f refl)
+-- where the history can have so many events
+module _ (limit : ℕ) where
+  pub outcome_of_line-short : (number : ℕ) (b : Option ScriptBench) (line : List ℕ) → number ≤ 100000 → is_short line ≡ true → outcome_of_line limit number b line ≡ outcome_of_short_line limit number b line
+  outcome_of_line-short number b line few short = at (nat_lt 100000 number) refl (nat_lt 200 (length line)) refl
+    where
+      at : (p : Bool) → nat_lt 100000 number ≡ p → (q : Bool) → nat_lt 200 (length line) ≡ q → outcome_of_line limit number b line ≡ outcome_of_short_line limit number b line
+      at true e q f = absurd (grind (arith, nat_tests))
+      at false e true f = absurd (grind (arith, nat_tests))
+      at false e false f = rw e (rw f refl)
 
--- the lines of two lists are run one list after the other
-pub outcome_of_lines-append : (number : ℕ) (b : Option ScriptBench) (xs ys : List (List ℕ))
-    → outcome_of_lines number b (xs ++ ys) ≡ and_then (outcome_of_lines number b xs) (λ after. outcome_of_lines (number + length xs) after ys)
-outcome_of_lines-append number b [] ys = let e : number + 0 ≡ number = omega arith in rw e refl
-outcome_of_lines-append number b (x ∷ xs) ys =
-    and_then-same (outcome_of_line number b x) _ (λ after. and_then (outcome_of_lines (number + 1) after xs) (λ later. outcome_of_lines (number + length (x ∷ xs)) later ys))
-    (λ after. outcome_of_lines-append (number + 1) after xs ys ∙ ap (λ k. and_then (outcome_of_lines (number + 1) after xs) (λ later. outcome_of_lines k later ys)) (let e : number + 1 + length xs ≡ number + length (x ∷ xs) = omega arith in e))
-    ∙ sym (and_then-assoc (outcome_of_line number b x) (λ after. outcome_of_lines (number + 1) after xs) (λ later. outcome_of_lines (number + length (x ∷ xs)) later ys))
+  -- the lines of two lists are run one list after the other
+  pub outcome_of_lines-append : (number : ℕ) (b : Option ScriptBench) (xs ys : List (List ℕ))
+      → outcome_of_lines limit number b (xs ++ ys) ≡ and_then (outcome_of_lines limit number b xs) (λ after. outcome_of_lines limit (number + length xs) after ys)
+  outcome_of_lines-append number b [] ys = let e : number + 0 ≡ number = omega arith in rw e refl
+  outcome_of_lines-append number b (x ∷ xs) ys =
+      and_then-same (outcome_of_line limit number b x) _ (λ after. and_then (outcome_of_lines limit (number + 1) after xs) (λ later. outcome_of_lines limit (number + length (x ∷ xs)) later ys))
+      (λ after. outcome_of_lines-append (number + 1) after xs ys ∙ ap (λ k. and_then (outcome_of_lines limit (number + 1) after xs) (λ later. outcome_of_lines limit k later ys)) (let e : number + 1 + length xs ≡ number + length (x ∷ xs) = omega arith in e))
+      ∙ sym (and_then-assoc (outcome_of_line limit number b x) (λ after. outcome_of_lines limit (number + 1) after xs) (λ later. outcome_of_lines limit (number + length (x ∷ xs)) later ys))
 
--- a line that is too long ends the run
-pub outcome_of_lines-too_long : (number : ℕ) (b : Option ScriptBench) (line : List ℕ) (lines : List (List ℕ)) → number ≤ 100000 → 200 < length line
-    → outcome_of_lines number b (line ∷ lines) ≡ outcome_of_fault b (TooLong number)
-outcome_of_lines-too_long number b line lines few long = at (nat_lt 100000 number) refl (nat_lt 200 (length line)) refl
-  where
-    at : (p : Bool) → nat_lt 100000 number ≡ p → (q : Bool) → nat_lt 200 (length line) ≡ q → outcome_of_lines number b (line ∷ lines) ≡ outcome_of_fault b (TooLong number)
-    at true e q f = absurd (grind (arith, nat_tests))
-    at false e false f = absurd (grind (arith, nat_tests))
-    at false e true f = rw e (rw f refl)
+  -- a line that is too long ends the run
+  pub outcome_of_lines-too_long : (number : ℕ) (b : Option ScriptBench) (line : List ℕ) (lines : List (List ℕ)) → number ≤ 100000 → 200 < length line
+      → outcome_of_lines limit number b (line ∷ lines) ≡ outcome_of_fault b (TooLong number)
+  outcome_of_lines-too_long number b line lines few long = at (nat_lt 100000 number) refl (nat_lt 200 (length line)) refl
+    where
+      at : (p : Bool) → nat_lt 100000 number ≡ p → (q : Bool) → nat_lt 200 (length line) ≡ q → outcome_of_lines limit number b (line ∷ lines) ≡ outcome_of_fault b (TooLong number)
+      at true e q f = absurd (grind (arith, nat_tests))
+      at false e false f = absurd (grind (arith, nat_tests))
+      at false e true f = rw e (rw f refl)
 
--- line 100001 ends the run
-pub outcome_of_lines-too_many : (b : Option ScriptBench) (line : List ℕ) (lines : List (List ℕ)) → outcome_of_lines 100001 b (line ∷ lines) ≡ outcome_of_fault b TooMany
-outcome_of_lines-too_many b line lines = refl
+  -- line 100001 ends the run
+  pub outcome_of_lines-too_many : (b : Option ScriptBench) (line : List ℕ) (lines : List (List ℕ)) → outcome_of_lines limit 100001 b (line ∷ lines) ≡ outcome_of_fault b TooMany
+  outcome_of_lines-too_many b line lines = refl
 
--- a line of plain bytes that isn't a note means what its words do
-pub outcome_of_short_line-words : (number : ℕ) (b : Option ScriptBench) (line : List ℕ) (words : List (List ℕ)) → list_all is_plain_byte line ≡ true → is_note line ≡ false → words ≡ words_of_text line
-    → outcome_of_short_line number b line ≡ outcome_of_words number b words
-outcome_of_short_line-words number b line words plain note same = rw plain (rw note (rw same refl))
+  -- a line of plain bytes that isn't a note means what its words do
+  pub outcome_of_short_line-words : (number : ℕ) (b : Option ScriptBench) (line : List ℕ) (words : List (List ℕ)) → list_all is_plain_byte line ≡ true → is_note line ≡ false → words ≡ words_of_text line
+      → outcome_of_short_line limit number b line ≡ outcome_of_words limit number b words
+  outcome_of_short_line-words number b line words plain note same = rw plain (rw note (rw same refl))

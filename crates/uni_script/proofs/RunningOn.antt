@@ -17,7 +17,7 @@ use Rattle.uni_script.specs.declared.summary.Summary.{Summary}
 use Rattle.uni_script.specs.Ends.{AppendsFront}
 use Rattle.uni_script.specs.Script.{cut, last_line, is_plain_byte, is_note, header_of_words, command_of_words}
 use Rattle.uni_script.specs.Objects.{SpokenObject, spoken_of}
-use Rattle.uni_script.specs.Meaning.{Bench, ScriptBench, Outcome, script_bench, bench_of_header, result_of_command, outcome_of_fault, outcome_of_text, and_then, outcome_of_command, outcome_of_words, outcome_of_short_line, outcome_of_lines, outcome_of_end}
+use Rattle.uni_script.specs.Meaning.{Bench, bench_after, ScriptBench, Outcome, script_bench, bench_of_header, result_of_command, outcome_of_fault, outcome_of_text, and_then, outcome_of_command, outcome_of_words, outcome_of_short_line, outcome_of_lines, outcome_of_end}
 use Rattle.uni_script.specs.Summaries.{summary_of_bench}
 use Rattle.uni_script.specs.Reading.{IsHeld, line_of, rest_of, HasTaken, HasStopped, HasRun, HasEnded, IsRead, lines_of_read, outcome_of_stop, outcome_of_read, EndsAs, WritesAs, IsFaultOfLine}
 use Rattle.uni_script.proofs.Cutting.{cut-append}
@@ -42,21 +42,8 @@ IsSilent-map_or f (Some a) x p q = p a
 
 IsSilent-outcome_of_command : {S I R : Type 0} (o : SpokenObject S I R) (inside : Bench S I R → ScriptBench) (number : ℕ) (b : Bench S I R) (words : List (List ℕ)) → IsSilent (outcome_of_command o inside number b words)
 IsSilent-outcome_of_command o inside number b words =
-    IsSilent-map_or (λ command. outcome_of_text (inside (result_of_command o b command).bench) (result_of_command o b command).text) (command_of_words o.language.inv_of_words words) (outcome_of_fault (Some (inside b)) (BadLine number))
-    (λ command. IsSilent-none (Some (inside (result_of_command o b command).bench)) (result_of_command o b command).text) (λ e q. refl)
-
-IsSilent-outcome_of_words : (number : ℕ) (b : Option ScriptBench) (words : List (List ℕ)) → IsSilent (outcome_of_words number b words)
-IsSilent-outcome_of_words number None words =
-    IsSilent-map_or (λ header. outcome_of_text (bench_of_header header) []) (header_of_words words) (outcome_of_fault None (BadHeader number)) (λ header. IsSilent-none (Some (bench_of_header header)) []) (λ e q. refl)
-IsSilent-outcome_of_words number (Some b) words = IsSilent-outcome_of_command (spoken_of b.object) (script_bench b.object) number b.bench words
-
-IsSilent-outcome_of_short_line : (number : ℕ) (b : Option ScriptBench) (line : List ℕ) → IsSilent (outcome_of_short_line number b line)
-IsSilent-outcome_of_short_line number b line =
-    let worded : Outcome = outcome_of_words number b (words_of_text line) in
-    let noted : Outcome = record { bench = b; text = []; fault = None } in
-    let plain : Outcome = if is_note line then noted else worded in
-    IsSilent-if (not (list_all is_plain_byte line)) (outcome_of_fault b (BadByte number)) plain (λ e q. refl)
-    (IsSilent-if (is_note line) noted worded (IsSilent-none b []) (IsSilent-outcome_of_words number b (words_of_text line)))
+    IsSilent-map_or (λ command. outcome_of_text (inside (bench_after o b (result_of_command o b command).events)) (result_of_command o b command).text) (command_of_words o.language.inv_of_words words) (outcome_of_fault (Some (inside b)) (BadLine number))
+    (λ command. IsSilent-none (Some (inside (bench_after o b (result_of_command o b command).events))) (result_of_command o b command).text) (λ e q. refl)
 
 -- a call that didn't fail so leaves an end as it was
 pub stays_false : (b : Bool) (P : Type 0) → (P ↔ (b ≡ true)) → (P → ⊥) → b ≡ false
@@ -80,15 +67,6 @@ not_read e own same = subst IsFaultOfLine same own
 
 pub not_write : (e : BenchFault) → IsFaultOfLine e → e ≢ Write
 not_write e own same = subst IsFaultOfLine same own
-
--- a line that has a fault, or is refused memory, writes nothing
-pub WritesAs-faulted : {B : Type 0} (number : ℕ) (b : Option ScriptBench) (line : List ℕ) (e : BenchFault) (text : List ℕ) (old : Option (List ℕ)) (result : Result B BenchFault) → result ≡ Err e
-    → EndsAs {A = Summary} (outcome_of_short_line number b line) [] text (Err e) → WritesAs (outcome_of_short_line number b line) old old result
-WritesAs-faulted number b line e text old (Ok x) bad ends = cc
-WritesAs-faulted number b line e text old (Err f) same (inl memory) = inl (inl (let g : f ≡ e = cc in g ∙ memory), AppendsFront-nil old (outcome_of_short_line number b line).text)
-WritesAs-faulted number b line e text old (Err f) same (inr has) =
-    let g : f ≡ e = cc in
-    inr (has.0 ∙ ap Some (sym g), subst (Appends old old) (sym (IsSilent-outcome_of_short_line number b line e has.0)) (Appends-nil old))
 
 pub WritesAs-header : (outcome : Outcome) (b : Option ScriptBench) (e : BenchFault) (old : Option (List ℕ)) → (e ≡ Memory) ⊎ (outcome ≡ outcome_of_fault b e) → WritesAs {A = Summary} outcome old old (Err e)
 WritesAs-header outcome b e old (inl memory) = inl (inl memory, AppendsFront-nil old outcome.text)
@@ -148,136 +126,160 @@ IsWhole-taken old now lines taken has = at lines.source refl
           lines = ap (λ c. c.whole) (cut-append has.bytes rest) ∙ ap (λ w. w ++ (cut ((cut has.bytes).tail ++ rest)).whole) whole;
         }
 
-pub HasRun-start : (left written : Option (List ℕ)) (lines : Lines) → HasTaken left left lines [] → HasRun left left lines written written [] None
-HasRun-start left written lines has = record { reading = has; fault = refl; bench_after = refl; written_as = Appends-nil written }
+-- where the history can have so many events
+module _ (limit : ℕ) where
+  IsSilent-outcome_of_words : (number : ℕ) (b : Option ScriptBench) (words : List (List ℕ)) → IsSilent (outcome_of_words limit number b words)
+  IsSilent-outcome_of_words number None words =
+      IsSilent-map_or (λ header. outcome_of_text (bench_of_header limit header) []) (header_of_words words) (outcome_of_fault None (BadHeader number)) (λ header. IsSilent-none (Some (bench_of_header limit header)) []) (λ e q. refl)
+  IsSilent-outcome_of_words number (Some b) words = IsSilent-outcome_of_command (spoken_of b.object) (script_bench b.object) number b.bench words
 
-module _ (old now : Option (List ℕ)) (lines : Lines) (written_old written : Option (List ℕ)) (taken : List (List ℕ)) (b : Option ScriptBench) (run : HasRun old now lines written_old written taken b) where
-  abbrev pub before : Outcome
-  before = outcome_of_lines 1 None taken
+  IsSilent-outcome_of_short_line : (number : ℕ) (b : Option ScriptBench) (line : List ℕ) → IsSilent (outcome_of_short_line limit number b line)
+  IsSilent-outcome_of_short_line number b line =
+      let worded : Outcome = outcome_of_words limit number b (words_of_text line) in
+      let noted : Outcome = record { bench = b; text = []; fault = None } in
+      let plain : Outcome = if is_note line then noted else worded in
+      IsSilent-if (not (list_all is_plain_byte line)) (outcome_of_fault b (BadByte number)) plain (λ e q. refl)
+      (IsSilent-if (is_note line) noted worded (IsSilent-none b []) (IsSilent-outcome_of_words number b (words_of_text line)))
 
-  module _ (new : Option (List ℕ)) (after : Lines) (line : List ℕ) (has : HasTaken old new after (taken ++ line ∷ [])) (short : is_short line ≡ true) (few : after.count ≤ 100000) where
-    abbrev pub first : Outcome
-    first = outcome_of_short_line after.count b line
+  -- a line that has a fault, or is refused memory, writes nothing
+  pub WritesAs-faulted : {B : Type 0} (number : ℕ) (b : Option ScriptBench) (line : List ℕ) (e : BenchFault) (text : List ℕ) (old : Option (List ℕ)) (result : Result B BenchFault) → result ≡ Err e
+      → EndsAs {A = Summary} (outcome_of_short_line limit number b line) [] text (Err e) → WritesAs (outcome_of_short_line limit number b line) old old result
+  WritesAs-faulted number b line e text old (Ok x) bad ends = cc
+  WritesAs-faulted number b line e text old (Err f) same (inl memory) = inl (inl (let g : f ≡ e = cc in g ∙ memory), AppendsFront-nil old (outcome_of_short_line limit number b line).text)
+  WritesAs-faulted number b line e text old (Err f) same (inr has) =
+      let g : f ≡ e = cc in
+      inr (has.0 ∙ ap Some (sym g), subst (Appends old old) (sym (IsSilent-outcome_of_short_line number b line e has.0)) (Appends-nil old))
 
-    number_is : 1 + length taken ≡ after.count
-    number_is = let c = has.count in let n = length-snoc taken line in omega arith
-      where
-        length-snoc : (xs : List (List ℕ)) (x : List ℕ) → length (xs ++ x ∷ []) ≡ length xs + 1
-        length-snoc [] x = refl
-        length-snoc (y ∷ xs) x = let e = length-snoc xs x in grind arith
+  pub HasRun-start : (left written : Option (List ℕ)) (lines : Lines) → HasTaken left left lines [] → HasRun limit left left lines written written [] None
+  HasRun-start left written lines has = record { reading = has; fault = refl; bench_after = refl; written_as = Appends-nil written }
 
-    outcome_with_line : outcome_of_lines 1 None (taken ++ line ∷ []) ≡ after_text before.text first
-    outcome_with_line =
-        outcome_of_lines-append 1 None taken (line ∷ [])
-        ∙ and_then-none before (λ c. outcome_of_lines (1 + length taken) c (line ∷ [])) run.fault
-        ∙ ap (λ c. after_text before.text (outcome_of_lines (1 + length taken) c (line ∷ []))) run.bench_after
-        ∙ ap (λ n. after_text before.text (outcome_of_lines n b (line ∷ []))) number_is
-        ∙ ap (λ o. after_text before.text (and_then o (λ c. record { bench = c; text = []; fault = None }))) (outcome_of_line-short after.count b line few short)
-        ∙ ap (after_text before.text) (and_then-done first)
+  module _ (old now : Option (List ℕ)) (lines : Lines) (written_old written : Option (List ℕ)) (taken : List (List ℕ)) (b : Option ScriptBench) (run : HasRun limit old now lines written_old written taken b) where
+    abbrev pub before : Outcome
+    before = outcome_of_lines limit 1 None taken
 
-    -- a line without a fault was run, and its answer written
-    pub HasRun-line : (b' : Option ScriptBench) (written_new : Option (List ℕ)) → first.fault ≡ None → first.bench ≡ b' → Appends written written_new first.text
-        → HasRun old new after written_old written_new (taken ++ line ∷ []) b'
-    HasRun-line b' written_new none same wrote = record {
-      reading = has;
-      fault = ap (λ (o : Outcome). o.fault) outcome_with_line ∙ none;
-      bench_after = ap (λ (o : Outcome). o.bench) outcome_with_line ∙ same;
-      written_as = subst (Appends written_old written_new) (sym (ap (λ (o : Outcome). o.text) outcome_with_line)) (Appends-trans written_old written written_new before.text first.text run.written_as wrote);
-    }
+    module _ (new : Option (List ℕ)) (after : Lines) (line : List ℕ) (has : HasTaken old new after (taken ++ line ∷ [])) (short : is_short line ≡ true) (few : after.count ≤ 100000) where
+      abbrev pub first : Outcome
+      first = outcome_of_short_line limit after.count b line
 
-    -- a line without a fault and without an answer was run
-    pub HasRun-quiet : (b' : Option ScriptBench) → first ≡ record { bench = b'; text = []; fault = None } → HasRun old new after written_old written (taken ++ line ∷ []) b'
-    HasRun-quiet b' quiet =
-        HasRun-line b' written (ap (λ (o : Outcome). o.fault) quiet) (ap (λ (o : Outcome). o.bench) quiet) (subst (Appends written written) (sym (ap (λ (o : Outcome). o.text) quiet)) (Appends-nil written))
+      number_is : 1 + length taken ≡ after.count
+      number_is = let c = has.count in let n = length-snoc taken line in omega arith
+        where
+          length-snoc : (xs : List (List ℕ)) (x : List ℕ) → length (xs ++ x ∷ []) ≡ length xs + 1
+          length-snoc [] x = refl
+          length-snoc (y ∷ xs) x = let e = length-snoc xs x in grind arith
 
-    abbrev pub whole : IsWhole old new (taken ++ line ∷ [])
-    whole = IsWhole-taken old new after (taken ++ line ∷ []) has
+      outcome_with_line : outcome_of_lines limit 1 None (taken ++ line ∷ []) ≡ after_text before.text first
+      outcome_with_line =
+          outcome_of_lines-append limit 1 None taken (line ∷ [])
+          ∙ and_then-none before (λ c. outcome_of_lines limit (1 + length taken) c (line ∷ [])) run.fault
+          ∙ ap (λ c. after_text before.text (outcome_of_lines limit (1 + length taken) c (line ∷ []))) run.bench_after
+          ∙ ap (λ n. after_text before.text (outcome_of_lines limit n b (line ∷ []))) number_is
+          ∙ ap (λ o. after_text before.text (and_then o (λ c. record { bench = c; text = []; fault = None }))) (outcome_of_line-short limit after.count b line few short)
+          ∙ ap (after_text before.text) (and_then-done first)
 
-    abbrev pub rest_of_run : Option ScriptBench → Outcome
-    rest_of_run c = and_then (outcome_of_lines (1 + length (taken ++ line ∷ [])) c whole.more) (λ d. outcome_of_stop whole.stop (length (lines_of_read whole.stop whole.bytes)) d)
-
-    outcome_is : outcome_of_read whole.stop whole.bytes ≡ and_then (after_text before.text first) rest_of_run
-    outcome_is =
-        let stopped : Option ScriptBench → Outcome = λ d. outcome_of_stop whole.stop (length (lines_of_read whole.stop whole.bytes)) d in
-        ap (λ l. and_then (outcome_of_lines 1 None l) stopped) whole.lines
-        ∙ ap (λ o. and_then o stopped) (outcome_of_lines-append 1 None (taken ++ line ∷ []) whole.more)
-        ∙ and_then-assoc (outcome_of_lines 1 None (taken ++ line ∷ [])) (λ c. outcome_of_lines (1 + length (taken ++ line ∷ [])) c whole.more) stopped
-        ∙ ap (λ o. and_then o rest_of_run) outcome_with_line
-
-    -- the run ends at a line
-    pub HasEnded-line : (e : BenchFault) (written_new : Option (List ℕ)) → WritesAs {A = Summary} first written written_new (Err e) → HasEnded old new written_old written_new (Err e)
-    HasEnded-line e written_new ends = record { stop = whole.stop; bytes = whole.bytes; read = whole.read; ends = ended ends; summary = tt }
-      where
-        ended : ((((e ≡ Memory) ⊎ (e ≡ Write)) × AppendsFront written written_new first.text) ⊎ ((first.fault ≡ Some e) × Appends written written_new first.text))
-            → WritesAs {A = Summary} (outcome_of_read whole.stop whole.bytes) written_old written_new (Err e)
-        ended (inl early) =
-            let goes = text_goes_on (after_text before.text first) rest_of_run in
-            inl (
-              early.0,
-              subst (AppendsFront written_old written_new) (sym (ap (λ (o : Outcome). o.text) outcome_is ∙ goes.1))
-                  (AppendsFront-more written_old written_new (before.text ++ first.text) goes.0 (AppendsFront-after written_old written written_new before.text first.text run.written_as early.1)),
-            )
-        ended (inr has) =
-            let same = outcome_is ∙ and_then-some (after_text before.text first) rest_of_run e has.0 in
-            inr (ap (λ (o : Outcome). o.fault) same ∙ has.0, subst (Appends written_old written_new) (sym (ap (λ (o : Outcome). o.text) same)) (Appends-trans written_old written written_new before.text first.text run.written_as has.1))
-
-  -- memory was refused before a further line was taken
-  pub HasEnded-memory : HasEnded old now written_old written (Err Memory)
-  HasEnded-memory =
-      let whole : IsWhole old now taken = IsWhole-taken old now lines taken run.reading in
-      let stopped : Option ScriptBench → Outcome = λ d. outcome_of_stop whole.stop (length (lines_of_read whole.stop whole.bytes)) d in
-      let rest : Option ScriptBench → Outcome = λ c. and_then (outcome_of_lines (1 + length taken) c whole.more) stopped in
-      let same : outcome_of_read whole.stop whole.bytes ≡ and_then before rest =
-      ap (λ l. and_then (outcome_of_lines 1 None l) stopped) whole.lines ∙ ap (λ o. and_then o stopped) (outcome_of_lines-append 1 None taken whole.more)
-      ∙ and_then-assoc before (λ c. outcome_of_lines (1 + length taken) c whole.more) stopped in
-      let goes = text_goes_on before rest in record {
-        stop = whole.stop;
-        bytes = whole.bytes;
-        read = whole.read;
-        ends = inl (inl refl, subst (AppendsFront written_old written) (sym (ap (λ (o : Outcome). o.text) same ∙ goes.1)) (AppendsFront-more written_old written before.text goes.0 (AppendsFront-all written_old written before.text run.written_as)));
-        summary = tt;
+      -- a line without a fault was run, and its answer written
+      pub HasRun-line : (b' : Option ScriptBench) (written_new : Option (List ℕ)) → first.fault ≡ None → first.bench ≡ b' → Appends written written_new first.text
+          → HasRun limit old new after written_old written_new (taken ++ line ∷ []) b'
+      HasRun-line b' written_new none same wrote = record {
+        reading = has;
+        fault = ap (λ (o : Outcome). o.fault) outcome_with_line ∙ none;
+        bench_after = ap (λ (o : Outcome). o.bench) outcome_with_line ∙ same;
+        written_as = subst (Appends written_old written_new) (sym (ap (λ (o : Outcome). o.text) outcome_with_line)) (Appends-trans written_old written written_new before.text first.text run.written_as wrote);
       }
 
-  module _ (new : Option (List ℕ)) (stop : Stop) (has : HasStopped old new stop taken) where
-    outcome_of_stopped : (bench : Option ScriptBench) → bench ≡ b → outcome_of_read stop has.bytes ≡ after_text before.text (outcome_of_stop stop (length taken) bench)
-    outcome_of_stopped bench same =
-        ap (λ l. and_then (outcome_of_lines 1 None l) (λ c. outcome_of_stop stop (length l) c)) has.taken_as
-        ∙ and_then-none before (λ c. outcome_of_stop stop (length taken) c) run.fault
-        ∙ ap (λ c. after_text before.text (outcome_of_stop stop (length taken) c)) (run.bench_after ∙ sym same)
+      -- a line without a fault and without an answer was run
+      pub HasRun-quiet : (b' : Option ScriptBench) → first ≡ record { bench = b'; text = []; fault = None } → HasRun limit old new after written_old written (taken ++ line ∷ []) b'
+      HasRun-quiet b' quiet =
+          HasRun-line b' written (ap (λ (o : Outcome). o.fault) quiet) (ap (λ (o : Outcome). o.bench) quiet) (subst (Appends written written) (sym (ap (λ (o : Outcome). o.text) quiet)) (Appends-nil written))
 
-    -- the run ends where no further line was taken
-    pub HasEnded-stop : (e : BenchFault) → outcome_of_stop stop (length taken) b ≡ outcome_of_fault b e → HasEnded old new written_old written (Err e)
-    HasEnded-stop e is =
-        let same = outcome_of_stopped b refl ∙ ap (after_text before.text) is in record {
-          stop = stop;
-          bytes = has.bytes;
-          read = has.read;
-          ends = inr (ap (λ (o : Outcome). o.fault) same, subst (Appends written_old written) (sym (ap (λ (o : Outcome). o.text) same ∙ append-nil before.text)) run.written_as);
+      abbrev pub whole : IsWhole old new (taken ++ line ∷ [])
+      whole = IsWhole-taken old new after (taken ++ line ∷ []) has
+
+      abbrev pub rest_of_run : Option ScriptBench → Outcome
+      rest_of_run c = and_then (outcome_of_lines limit (1 + length (taken ++ line ∷ [])) c whole.more) (λ d. outcome_of_stop whole.stop (length (lines_of_read whole.stop whole.bytes)) d)
+
+      outcome_is : outcome_of_read limit whole.stop whole.bytes ≡ and_then (after_text before.text first) rest_of_run
+      outcome_is =
+          let stopped : Option ScriptBench → Outcome = λ d. outcome_of_stop whole.stop (length (lines_of_read whole.stop whole.bytes)) d in
+          ap (λ l. and_then (outcome_of_lines limit 1 None l) stopped) whole.lines
+          ∙ ap (λ o. and_then o stopped) (outcome_of_lines-append limit 1 None (taken ++ line ∷ []) whole.more)
+          ∙ and_then-assoc (outcome_of_lines limit 1 None (taken ++ line ∷ [])) (λ c. outcome_of_lines limit (1 + length (taken ++ line ∷ [])) c whole.more) stopped
+          ∙ ap (λ o. and_then o rest_of_run) outcome_with_line
+
+      -- the run ends at a line
+      pub HasEnded-line : (e : BenchFault) (written_new : Option (List ℕ)) → WritesAs {A = Summary} first written written_new (Err e) → HasEnded limit old new written_old written_new (Err e)
+      HasEnded-line e written_new ends = record { stop = whole.stop; bytes = whole.bytes; read = whole.read; ends = ended ends; summary = tt }
+        where
+          ended : ((((e ≡ Memory) ⊎ (e ≡ Write)) × AppendsFront written written_new first.text) ⊎ ((first.fault ≡ Some e) × Appends written written_new first.text))
+              → WritesAs {A = Summary} (outcome_of_read limit whole.stop whole.bytes) written_old written_new (Err e)
+          ended (inl early) =
+              let goes = text_goes_on (after_text before.text first) rest_of_run in
+              inl (
+                early.0,
+                subst (AppendsFront written_old written_new) (sym (ap (λ (o : Outcome). o.text) outcome_is ∙ goes.1))
+                    (AppendsFront-more written_old written_new (before.text ++ first.text) goes.0 (AppendsFront-after written_old written written_new before.text first.text run.written_as early.1)),
+              )
+          ended (inr has) =
+              let same = outcome_is ∙ and_then-some (after_text before.text first) rest_of_run e has.0 in
+              inr (ap (λ (o : Outcome). o.fault) same ∙ has.0, subst (Appends written_old written_new) (sym (ap (λ (o : Outcome). o.text) same)) (Appends-trans written_old written written_new before.text first.text run.written_as has.1))
+
+    -- memory was refused before a further line was taken
+    pub HasEnded-memory : HasEnded limit old now written_old written (Err Memory)
+    HasEnded-memory =
+        let whole : IsWhole old now taken = IsWhole-taken old now lines taken run.reading in
+        let stopped : Option ScriptBench → Outcome = λ d. outcome_of_stop whole.stop (length (lines_of_read whole.stop whole.bytes)) d in
+        let rest : Option ScriptBench → Outcome = λ c. and_then (outcome_of_lines limit (1 + length taken) c whole.more) stopped in
+        let same : outcome_of_read limit whole.stop whole.bytes ≡ and_then before rest =
+        ap (λ l. and_then (outcome_of_lines limit 1 None l) stopped) whole.lines ∙ ap (λ o. and_then o stopped) (outcome_of_lines-append limit 1 None taken whole.more)
+        ∙ and_then-assoc before (λ c. outcome_of_lines limit (1 + length taken) c whole.more) stopped in
+        let goes = text_goes_on before rest in record {
+          stop = whole.stop;
+          bytes = whole.bytes;
+          read = whole.read;
+          ends = inl (inl refl, subst (AppendsFront written_old written) (sym (ap (λ (o : Outcome). o.text) same ∙ goes.1)) (AppendsFront-more written_old written before.text goes.0 (AppendsFront-all written_old written before.text run.written_as)));
           summary = tt;
         }
 
--- the run ends where the script does
-pub HasEnded-end : (old now : Option (List ℕ)) (lines : Lines) (written_old written : Option (List ℕ)) (taken : List (List ℕ)) (b : ScriptBench) → HasRun old now lines written_old written taken (Some b)
-    → (new : Option (List ℕ)) → HasStopped old new End taken → (written_new : Option (List ℕ)) (result : Result Summary BenchFault) → WritesAs (outcome_of_end lines.count (Some b)) written written_new result
-    → IfOk result (λ s. summary_of_bench lines.count b ≡ s) → HasEnded old new written_old written_new result
-HasEnded-end old now lines written_old written taken b run new has written_new result ends summary = record {
-  stop = End;
-  bytes = has.bytes;
-  read = has.read;
-  ends = ended result (subst (λ n. WritesAs (outcome_of_end n (Some b)) written written_new result) (sym run.reading.count) ends);
-  summary = summed result summary;
-}
-  where
-    same : outcome_of_read End has.bytes ≡ after_text (outcome_of_lines 1 None taken).text (outcome_of_end (length taken) (Some b))
-    same = outcome_of_stopped old now lines written_old written taken (Some b) run new End has (Some b) refl
+    module _ (new : Option (List ℕ)) (stop : Stop) (has : HasStopped old new stop taken) where
+      outcome_of_stopped : (bench : Option ScriptBench) → bench ≡ b → outcome_of_read limit stop has.bytes ≡ after_text before.text (outcome_of_stop stop (length taken) bench)
+      outcome_of_stopped bench same =
+          ap (λ l. and_then (outcome_of_lines limit 1 None l) (λ c. outcome_of_stop stop (length l) c)) has.taken_as
+          ∙ and_then-none before (λ c. outcome_of_stop stop (length taken) c) run.fault
+          ∙ ap (λ c. after_text before.text (outcome_of_stop stop (length taken) c)) (run.bench_after ∙ sym same)
 
-    ended : (r : Result Summary BenchFault) → WritesAs (outcome_of_end (length taken) (Some b)) written written_new r → WritesAs (outcome_of_read End has.bytes) written_old written_new r
-    ended (Ok s) w = (ap (λ (o : Outcome). o.fault) same, subst (Appends written_old written_new) (sym (ap (λ (o : Outcome). o.text) same)) (Appends-trans written_old written written_new (outcome_of_lines 1 None taken).text _ run.written_as w.1))
-    ended (Err e) (inl early) = inl (early.0, subst (AppendsFront written_old written_new) (sym (ap (λ (o : Outcome). o.text) same)) (AppendsFront-after written_old written written_new (outcome_of_lines 1 None taken).text _ run.written_as early.1))
-    ended (Err e) (inr bad) = absurd (let f : None ≡ Some e = bad.0 in cc)
+      -- the run ends where no further line was taken
+      pub HasEnded-stop : (e : BenchFault) → outcome_of_stop stop (length taken) b ≡ outcome_of_fault b e → HasEnded limit old new written_old written (Err e)
+      HasEnded-stop e is =
+          let same = outcome_of_stopped b refl ∙ ap (after_text before.text) is in record {
+            stop = stop;
+            bytes = has.bytes;
+            read = has.read;
+            ends = inr (ap (λ (o : Outcome). o.fault) same, subst (Appends written_old written) (sym (ap (λ (o : Outcome). o.text) same ∙ append-nil before.text)) run.written_as);
+            summary = tt;
+          }
 
-    summed : (r : Result Summary BenchFault) → IfOk r (λ s. summary_of_bench lines.count b ≡ s) → IfOk r (λ s. option_map (summary_of_bench (length (lines_of_read End has.bytes))) (outcome_of_read End has.bytes).bench ≡ Some s)
-    summed (Ok s) h =
-        ap (λ (o : Outcome). option_map (summary_of_bench (length (lines_of_read End has.bytes))) o.bench) same
-        ∙ ap (λ n. Some (summary_of_bench n b)) (ap length has.taken_as ∙ run.reading.count) ∙ ap Some h
-    summed (Err e) h = tt
+  -- the run ends where the script does
+  pub HasEnded-end : (old now : Option (List ℕ)) (lines : Lines) (written_old written : Option (List ℕ)) (taken : List (List ℕ)) (b : ScriptBench) → HasRun limit old now lines written_old written taken (Some b)
+      → (new : Option (List ℕ)) → HasStopped old new End taken → (written_new : Option (List ℕ)) (result : Result Summary BenchFault) → WritesAs (outcome_of_end lines.count (Some b)) written written_new result
+      → IfOk result (λ s. summary_of_bench lines.count b ≡ s) → HasEnded limit old new written_old written_new result
+  HasEnded-end old now lines written_old written taken b run new has written_new result ends summary = record {
+    stop = End;
+    bytes = has.bytes;
+    read = has.read;
+    ends = ended result (subst (λ n. WritesAs (outcome_of_end n (Some b)) written written_new result) (sym run.reading.count) ends);
+    summary = summed result summary;
+  }
+    where
+      same : outcome_of_read limit End has.bytes ≡ after_text (outcome_of_lines limit 1 None taken).text (outcome_of_end (length taken) (Some b))
+      same = outcome_of_stopped old now lines written_old written taken (Some b) run new End has (Some b) refl
+
+      ended : (r : Result Summary BenchFault) → WritesAs (outcome_of_end (length taken) (Some b)) written written_new r → WritesAs (outcome_of_read limit End has.bytes) written_old written_new r
+      ended (Ok s) w = (ap (λ (o : Outcome). o.fault) same, subst (Appends written_old written_new) (sym (ap (λ (o : Outcome). o.text) same)) (Appends-trans written_old written written_new (outcome_of_lines limit 1 None taken).text _ run.written_as w.1))
+      ended (Err e) (inl early) = inl (early.0, subst (AppendsFront written_old written_new) (sym (ap (λ (o : Outcome). o.text) same)) (AppendsFront-after written_old written written_new (outcome_of_lines limit 1 None taken).text _ run.written_as early.1))
+      ended (Err e) (inr bad) = absurd (let f : None ≡ Some e = bad.0 in cc)
+
+      summed : (r : Result Summary BenchFault) → IfOk r (λ s. summary_of_bench lines.count b ≡ s) → IfOk r (λ s. option_map (summary_of_bench (length (lines_of_read End has.bytes))) (outcome_of_read limit End has.bytes).bench ≡ Some s)
+      summed (Ok s) h =
+          ap (λ (o : Outcome). option_map (summary_of_bench (length (lines_of_read End has.bytes))) o.bench) same
+          ∙ ap (λ n. Some (summary_of_bench n b)) (ap length has.taken_as ∙ run.reading.count) ∙ ap Some h
+      summed (Err e) h = tt

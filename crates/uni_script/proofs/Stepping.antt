@@ -1,15 +1,25 @@
 -- Steps of a process until its call returns.
-use Rattle.std.proofs.Common.{◌≡◌, ℕ, suc, ◌+◌, ◌-◌, ◌<◌, ◌≤◌, ◌∙◌, refl, ap, Option, None, Some, IsSome, arith}
+use Rattle.std.proofs.Common.{◌≡◌, ◌∙◌, ℕ, zero, suc, ◌+◌, ◌-◌, ◌<◌, ◌≤◌, List, [], ◌∷◌, ◌++◌, refl, sym, ap, subst, Option, None, Some, IsSome, true, false, arith, append_assoc, append-nil}
+use Rattle.std.proofs.lemmas.List.{map-append, replicate-append-replicate}
+use Rattle.seq_object.specs.Sequential.{Sequential}
 use Rattle.uni_model.specs.Stages.{Pending}
-use Rattle.uni_model.specs.Worlds.{WorldOf, world_after_step, world_after, response_of_step}
+use Rattle.uni_model.specs.Worlds.{WorldOf, Event, world_after, world_after_all, response_of_step}
 use Rattle.uni_model.specs.Worlds.Event.{Step}
-use Rattle.uni_model.specs.Bound.{IsBounded, IsWithinBound}
-use Rattle.uni_model.proofs.Simulation.{set_at_same}
-use Rattle.uni_core.specs.Whole.{progress_of}
+use Rattle.uni_model.specs.Bound.{CountsSteps, IsWithinBound}
+use Rattle.uni_model.specs.Helping.{HelpingInvariant}
+use Rattle.uni_model.specs.Laws.{IsReached}
+use Rattle.uni_model.proofs.Bounded.{HelpingInvariant-world_after, IsBounded-held}
+use Rattle.uni_model.proofs.Counted.{CountsSteps-world_after}
+use Rattle.uni_model.proofs.LawProofs.{CountsSteps-reached}
+use Rattle.uni_core.specs.Whole.{world_of, progress_of}
 use Rattle.uni_core.specs.declared.fault.Progress.{Progress}
 use Rattle.uni_core.specs.declared.fault.Progress.TheVariants.{Going, Done}
+use Rattle.uni_record.specs.declared.event.Event.{Event as Stored}
+use Rattle.uni_record.specs.Recording.{Recording, KeepsOpening}
+use Rattle.uni_record.specs.Stored.{event_shown, events_shown}
 use Rattle.uni_script.specs.Objects.{SpokenObject}
-use Rattle.uni_script.specs.Meaning.{outcome_of_steps, most_steps}
+use Rattle.uni_script.specs.Meaning.{Bench, bench_of, bench_after, response_after, last_step, steps_of, steps_taken, most_steps}
+use Rattle.uni_script.proofs.Helped.{n-world_after_step, steps-world_after_step, pending-world_after_step, HelpingInvariant-reached}
 
 -- a step that answers `Going` has no response
 pub none-from_Going : {R : Type 0} (o : Option R) (progress : Progress R) → progress ≡ Going → progress ≡ progress_of o → o ≡ None
@@ -21,69 +31,116 @@ pub some-from_Done : {R : Type 0} (o : Option R) (r : R) (progress : Progress R)
 some-from_Done None r progress e f = cc
 some-from_Done (Some q) r progress e f = cc
 
--- From w, of the most steps that a process may take, it has taken so many, which is w' then; its call is still pending.
-pub record IsOnTheWay {S I R : Type 0} (o : SpokenObject S I R) (p most : ℕ) (w : WorldOf S I R) (count : ℕ) (w' : WorldOf S I R) : Type 0 where
-  pub n : w'.n ≡ w.n
-  pub steps : w'.steps p ≡ w.steps p + count
-  pub pending : IsSome (w'.call p)
-  pub rest : outcome_of_steps o (most - count) w' p ≡ outcome_of_steps o most w p
+pub bench_is : {S I R : Type 0} (b c : Bench S I R) → b.processes ≡ c.processes → b.first ≡ c.first → b.row ≡ c.row → b.limit ≡ c.limit → b.events ≡ c.events → b.world ≡ c.world → b ≡ c
+bench_is b c p f r l e w =
+    let g : record { processes = b.processes; first = b.first; row = b.row; limit = b.limit; events = b.events; world = b.world }
+    ≡ record { processes = c.processes; first = c.first; row = c.row; limit = c.limit; events = c.events; world = c.world } = cc in g
 
-module _ {S I R : Type 0} (o : SpokenObject S I R) (p : ℕ) (w w' : WorldOf S I R) (step : w' ≡ world_after o.object w (Step p)) where
-  -- a step leaves the number of processes
-  pub n-world_after_step : w'.n ≡ w.n
-  n-world_after_step = ap (λ (v : WorldOf S I R). v.n) step ∙ at (w.call p)
-    where
-      at : (call : Option Pending) → (world_after_step o.object w p call).n ≡ w.n
-      at None = refl
-      at (Some call) = refl
+world_after_all-append : {S I R : Type 0} (object : Sequential S I R) (w : WorldOf S I R) (es fs : List (Event I)) → world_after_all object (world_after_all object w es) fs ≡ world_after_all object w (es ++ fs)
+world_after_all-append object w [] fs = refl
+world_after_all-append object w (e ∷ es) fs = world_after_all-append object (world_after object w e) es fs
 
-  -- a step is counted
-  pub steps-world_after_step : IsSome (w.call p) → w'.steps p ≡ w.steps p + 1
-  steps-world_after_step pending = ap (λ (v : WorldOf S I R). v.steps p) step ∙ at (w.call p) pending
-    where
-      at : (call : Option Pending) → IsSome call → (world_after_step o.object w p call).steps p ≡ w.steps p + 1
-      at None h = cc
-      at (Some call) h = set_at_same w.steps p (w.steps p + 1)
+module _ {S I R : Type 0} (o : SpokenObject S I R) where
+  pub bench_after-none : (b : Bench S I R) → bench_after o b [] ≡ b
+  bench_after-none b = bench_is _ _ refl refl refl refl (append-nil b.events) refl
 
-one_left : (most count : ℕ) → count < most → most - count ≡ suc (most - (count + 1))
-one_left most count h = omega arith
+  pub bench_after-append : (b : Bench S I R) (es fs : List (Event I)) → bench_after o (bench_after o b es) fs ≡ bench_after o b (es ++ fs)
+  bench_after-append b es fs = bench_is _ _ refl refl refl refl (append_assoc b.events es fs) (world_after_all-append o.object b.world es fs)
 
-module _ {S I R : Type 0} (o : SpokenObject S I R) (p most : ℕ) (w : WorldOf S I R) where
-  pub IsOnTheWay-start : IsSome (w.call p) → IsOnTheWay o p most w 0 w
-  IsOnTheWay-start pending = record { n = refl; steps = omega arith; pending = pending; rest = (let all : most - 0 ≡ most = omega arith in ap (λ k. outcome_of_steps o k w p) all) }
+  -- a record with one event more
+  pub bench_of-event : {O : Type 0} (r r' : Recording O S I R) (e : Stored I) → KeepsOpening r r' → r'.events ≡ r.events ++ e ∷ [] → world_of r'.world ≡ world_after o.object (world_of r.world) (event_shown e)
+      → bench_of r' ≡ bench_after o (bench_of r) (event_shown e ∷ [])
+  bench_of-event r r' e fixed events world = bench_is _ _ fixed.processes fixed.first fixed.row fixed.limit (ap events_shown events ∙ map-append event_shown r.events (e ∷ [])) world
 
-  module _ (count : ℕ) (v : WorldOf S I R) (on : IsOnTheWay o p most w count v) where
-    module _ (few : count < most) (v' : WorldOf S I R) (step : v' ≡ world_after o.object v (Step p)) where
-      -- a step that goes on
-      pub IsOnTheWay-going : response_of_step v p ≡ None → IsSome (v'.call p) → IsOnTheWay o p most w (count + 1) v'
-      IsOnTheWay-going none pending = record {
-        n = n-world_after_step o p v v' step ∙ on.n;
-        steps = (let one : v'.steps p ≡ v.steps p + 1 = steps-world_after_step o p v v' step on.pending in let before : v.steps p ≡ w.steps p + count = on.steps in omega arith);
-        pending = pending;
-        rest = (let taken : outcome_of_steps o (most - (count + 1)) v' p ≡ outcome_of_steps o (most - count) v p = rw (one_left most count few) (rw none (rw step refl)) in taken ∙ on.rest);
-      }
+module _ {S I R : Type 0} (o : SpokenObject S I R) (p : ℕ) where
+  module _ (w : WorldOf S I R) where
+    last_step-some : (m : ℕ) (r : R) → last_step o w p m ≡ None → response_after o w p m ≡ Some r → last_step o w p (suc m) ≡ Some (record { earlier = m; response = r })
+    last_step-some m r none some = rw none (rw some refl)
 
-      -- a step with a response is the last one
-      pub outcome_of_steps-done : (r : R) → response_of_step v p ≡ Some r → record { world = v'; response = Some r } ≡ outcome_of_steps o most w p
-      outcome_of_steps-done r some =
-          let taken : record { world = v'; response = Some r } ≡ outcome_of_steps o (most - count) v p = rw (one_left most count few) (rw some (rw step refl)) in
-          taken ∙ on.rest
+    last_step-none : (m : ℕ) → last_step o w p m ≡ None → response_after o w p m ≡ None → last_step o w p (suc m) ≡ None
+    last_step-none m none silent = rw none (rw silent refl)
 
-    -- no step is left
-    pub outcome_of_steps-stopped : most ≤ count → record { world = v; response = None } ≡ outcome_of_steps o most w p
-    outcome_of_steps-stopped all =
-        let none : most - count ≡ 0 = omega arith in
-        let stopped : record { world = v; response = None } ≡ outcome_of_steps o (most - count) v p = rw none refl in
-        stopped ∙ on.rest
+    last_step-stays : (k m n : ℕ) → n ≡ k + m → (x : _) → last_step o w p m ≡ Some x → last_step o w p n ≡ Some x
+    last_step-stays zero m n is x some = let e : n ≡ m = omega arith in rw e some
+    last_step-stays (suc k) m n is x some = let e : n ≡ suc (k + m) = omega arith in rw e (rw (last_step-stays k m (k + m) refl x some) refl)
 
-    -- a call that is on its way is within the bound
-    pub IsOnTheWay-few : IsBounded v → count < most_steps w.n
-    IsOnTheWay-few bounded = at (v.call p) on.pending (bounded p)
-      where
-        at : (call : Option Pending) → IsSome call → IsWithinBound v.n call (v.begun p) (v.among p) (v.steps p) (v.turns p) → count < most_steps w.n
-        at None h b = cc
-        at (Some call) h b =
-            let bound : v.steps p < most_steps v.n = b.2 in
-            let same : v.n ≡ w.n = on.n in
-            let steps : v.steps p ≡ w.steps p + count = on.steps in
-            omega arith
+  -- Of the most steps that a process may take, it has taken so many, which have led from b to now; its call is still pending.
+  pub record IsOnTheWay (b : Bench S I R) (most count : ℕ) (now : Bench S I R) : Type 0 where
+    pub few : count ≤ most
+    pub after : now ≡ bench_after o b (steps_of p count)
+    pub n : now.world.n ≡ b.world.n
+    pub steps : now.world.steps p ≡ b.world.steps p + count
+    pub pending : IsSome (now.world.call p)
+    pub none : last_step o b.world p count ≡ None
+    pub counts : CountsSteps now.world
+    pub helping : HelpingInvariant o.object now.world
+
+  module _ (b : Bench S I R) (most : ℕ) where
+    pub IsOnTheWay-start : IsReached o.object b.world → IsSome (b.world.call p) → IsOnTheWay b most 0 b
+    IsOnTheWay-start reached pending = record {
+      few = omega arith;
+      after = sym (bench_after-none o b);
+      n = refl;
+      steps = omega arith;
+      pending = pending;
+      none = refl;
+      counts = CountsSteps-reached o.object b.world reached;
+      helping = HelpingInvariant-reached o p b.world reached;
+    }
+
+    module _ (count : ℕ) (now : Bench S I R) (on : IsOnTheWay b most count now) where
+      one_more : count + 1 ≡ suc count
+      one_more = omega arith
+
+      response_now : (r : Option R) → response_of_step now.world p ≡ r → response_after o b.world p count ≡ r
+      response_now r is = ap (λ (c : Bench S I R). response_of_step c.world p) (sym on.after) ∙ is
+
+      steps_more : bench_after o now (Step p ∷ []) ≡ bench_after o b (steps_of p (count + 1))
+      steps_more = ap (λ c. bench_after o c (Step p ∷ [])) on.after ∙ bench_after-append o b (steps_of p count) (Step p ∷ []) ∙ ap (bench_after o b) (replicate-append-replicate count 1 (Step p))
+
+      module _ (further : count < most) (next : Bench S I R) (is : next ≡ bench_after o now (Step p ∷ [])) where
+        world_is : next.world ≡ world_after o.object now.world (Step p)
+        world_is = ap (λ (c : Bench S I R). c.world) is
+
+        -- a step that goes on
+        pub IsOnTheWay-going : response_of_step now.world p ≡ None → IsOnTheWay b most (count + 1) next
+        IsOnTheWay-going silent = record {
+          few = omega arith;
+          after = is ∙ steps_more;
+          n = ap (λ (v : WorldOf S I R). v.n) world_is ∙ n-world_after_step o.object now.world p ∙ on.n;
+          steps = (let one = steps-world_after_step o.object now.world p on.pending in let before = on.steps in
+              let same : next.world.steps p ≡ (world_after o.object now.world (Step p)).steps p = ap (λ (v : WorldOf S I R). v.steps p) world_is in omega arith);
+          pending = subst (λ (v : WorldOf S I R). IsSome (v.call p)) (sym world_is) (pending-world_after_step o p now.world on.pending on.helping silent);
+          none = (let next_none = last_step-none b.world count on.none (response_now None silent) in rw one_more next_none);
+          counts = subst CountsSteps (sym world_is) (CountsSteps-world_after o.object now.world (Step p) on.pending (on.helping.0, on.helping.1, on.helping.2) on.counts);
+          helping = subst (HelpingInvariant o.object) (sym world_is) (HelpingInvariant-world_after o.object now.world (Step p) on.pending on.counts on.helping);
+        }
+
+        -- a step with a response is the last one
+        pub last_step-done : (r : R) → response_of_step now.world p ≡ Some r → last_step o b.world p most ≡ Some (record { earlier = count; response = r })
+        last_step-done r some = last_step-stays b.world (most - suc count) (suc count) most (omega arith) _ (last_step-some b.world count r on.none (response_now (Some r) some))
+
+        pub bench-done : (r : R) → response_of_step now.world p ≡ Some r → next ≡ bench_after o b (steps_of p (steps_taken most (last_step o b.world p most)))
+        bench-done r some = is ∙ steps_more ∙ ap (λ last. bench_after o b (steps_of p (steps_taken most last))) (sym (last_step-done r some))
+
+      -- no step is left
+      pub last_step-stopped : most ≤ count → last_step o b.world p most ≡ None
+      last_step-stopped all = let few = on.few in let same : most ≡ count = omega arith in rw same on.none
+
+      pub bench-stopped : most ≤ count → now ≡ bench_after o b (steps_of p (steps_taken most (last_step o b.world p most)))
+      bench-stopped all =
+          let few = on.few in
+          let same : count ≡ most = omega arith in
+          on.after ∙ ap (λ k. bench_after o b (steps_of p k)) same ∙ ap (λ last. bench_after o b (steps_of p (steps_taken most last))) (sym (last_step-stopped all))
+
+      -- a call that is on its way is within the bound
+      pub IsOnTheWay-few : count < most_steps b.world.n
+      IsOnTheWay-few = at (now.world.call p) on.pending (IsBounded-held o.object now.world on.counts on.helping p)
+        where
+          at : (call : Option Pending) → IsSome call → IsWithinBound now.world.n call (now.world.begun p) (now.world.among p) (now.world.steps p) (now.world.turns p) → count < most_steps b.world.n
+          at None h bound = absurd (let e : false ≡ true = h in cc)
+          at (Some call) h bound =
+              let within : now.world.steps p < most_steps now.world.n = bound.2 in
+              let same : now.world.n ≡ b.world.n = on.n in
+              let steps : now.world.steps p ≡ b.world.steps p + count = on.steps in
+              omega arith

@@ -4,7 +4,7 @@ use Rattle.std.specs.Fmt.{decimal, digits}
 use Rattle.std.specs.Option.{option_map_or}
 use Rattle.seq_object.specs.declared.call_id.CallId.{CallId}
 use Rattle.uni_script.specs.declared.answer.Refusal.{Refusal}
-use Rattle.uni_script.specs.declared.answer.Refusal.TheVariants.{Process, Busy, Row, Idle}
+use Rattle.uni_script.specs.declared.answer.Refusal.TheVariants.{Process, Busy, Row, Idle, History}
 use Rattle.uni_script.specs.declared.answer.Answer.{Answer}
 use Rattle.uni_script.specs.declared.answer.Answer.TheVariants.{Called, Refused, Returned, Going, End}
 use Rattle.uni_model.specs.Chain.{Entry}
@@ -19,6 +19,7 @@ refusal_text (Process p) = codes "refused process " ++ decimal p
 refusal_text (Busy p) = codes "refused busy " ++ decimal p
 refusal_text (Row p) = codes "refused row " ++ decimal p
 refusal_text (Idle p) = codes "refused idle " ++ decimal p
+refusal_text History = codes "refused history"
 
 -- how far a call has come
 abbrev pub progress_text : (steps turns : ℕ) → List ℕ

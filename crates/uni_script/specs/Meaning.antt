@@ -1,44 +1,64 @@
--- What a script means: its lines are run in turn, up to the first fault.
-use Rattle.std.specs.Prelude.{ℕ, zero, suc, ◌+◌, ◌-◌, ◌*◌, ◌==◌, nat_le, nat_lt, not, if◌then◌else◌, List, [], ◌∷◌, ◌++◌, length, map, Option, Some, None, is_some, is_none}
+-- What a script means: its lines are run in turn, up to the first fault. A command is some events of the construction, and their
+-- replay leads to the world after it.
+use Rattle.std.specs.Prelude.{ℕ, zero, suc, ◌+◌, ◌-◌, ◌*◌, ◌==◌, nat_le, nat_lt, not, if◌then◌else◌, Bool, List, [], ◌∷◌, ◌++◌, length, map, replicate, Option, Some, None, is_some, is_none, option_map}
 use Rattle.std.specs.Option.{option_map_or}
 use Rattle.std.specs.List.{list_all, concat}
 use Rattle.seq_object.specs.declared.call_id.CallId.{CallId}
 use Rattle.ready_objects.specs.Words.{text_of_words, words_of_text}
 use Rattle.uni_model.specs.Places.{head_seq}
-use Rattle.uni_model.specs.Worlds.{WorldOf, world_after, opened_world, response_of_step, calls_in_era}
+use Rattle.uni_model.specs.Worlds.{WorldOf, Event, world_after_all, opened_world, response_of_step, calls_in_era}
 use Rattle.uni_model.specs.Worlds.Event.{Call, Step}
 use Rattle.uni_model.specs.Chain.{Entry}
 use Rattle.uni_model.specs.History.{log}
-use Rattle.uni_core.specs.Whole.{Whole, world_of}
+use Rattle.uni_core.specs.Whole.{world_of}
+use Rattle.uni_record.specs.Stored.{events_shown}
+use Rattle.uni_record.specs.Recording.{Recording, set_aside, share}
 use Rattle.uni_script.specs.declared.fault.BenchFault.{BenchFault}
 use Rattle.uni_script.specs.declared.fault.BenchFault.TheVariants.{NoHeader, BadHeader, TooLong, BadByte, BadLine, TooMany}
 use Rattle.uni_script.specs.declared.grammar.Header.{Header}
 use Rattle.uni_script.specs.declared.grammar.Command.{Command}
 use Rattle.uni_script.specs.declared.grammar.Command.TheVariants as command
 use Rattle.uni_script.specs.declared.answer.Refusal.{Refusal}
-use Rattle.uni_script.specs.declared.answer.Refusal.TheVariants.{Process, Busy, Row, Idle}
+use Rattle.uni_script.specs.declared.answer.Refusal.TheVariants.{Process, Busy, Row, Idle, History}
 use Rattle.uni_script.specs.Answers.{called_text, refused_text, returned_text, going_text, heads_text, entry_text, end_text}
 use Rattle.uni_script.specs.Objects.{SpokenObject, StateOf, InvOf, RespOf, spoken_of}
 use Rattle.uni_script.specs.declared.grammar.ObjectName.{ObjectName}
 use Rattle.uni_script.specs.Script.{lines_of, is_plain_byte, is_note, header_of_words, command_of_words}
 
--- a world that a header opened, and how many calls a process can make in it
+-- What a header opens, and what has come since: how many processes there were and the number of the anchor; how many calls a
+-- process can make in an era, and how many events there can be; the events, in order, and the world that they have led to.
 pub record Bench (S I R : Type 0) : Type 0 where
+  pub processes : ℕ
+  pub first : ℕ
   pub row : ℕ
+  pub limit : ℕ
+  pub events : List (Event I)
   pub world : WorldOf S I R
 
--- the world that the code has
-abbrev pub bench_of : {O S I R : Type 0} → Whole O S I R → Bench S I R
-bench_of v = record { row = v.row; world = world_of v }
+-- the record that the code has
+abbrev pub bench_of : {O S I R : Type 0} → Recording O S I R → Bench S I R
+bench_of r = record { processes = r.processes; first = r.first; row = r.world.row; limit = r.limit; events = events_shown r.events; world = world_of r.world }
 
--- what a command comes to: the world after it, and the text of its answer
-pub record CommandResult (S I R : Type 0) : Type 0 where
-  pub bench : Bench S I R
+-- a bench on which further events have come: its world goes on by their replay
+abbrev pub bench_after : {S I R : Type 0} → SpokenObject S I R → Bench S I R → List (Event I) → Bench S I R
+bench_after o b events = record b { events = b.events ++ events; world = world_after_all o.object b.world events }
+
+-- what a command comes to: the events that it is, and the text of its answer
+pub record CommandResult (I : Type 0) : Type 0 where
+  pub events : List (Event I)
   pub text : List ℕ
+
+-- a command that is refused is no event
+abbrev pub refused : {I : Type 0} → Refusal → CommandResult I
+refused refusal = record { events = []; text = refused_text refusal }
 
 -- the latest call of a process
 abbrev pub latest : {S I R : Type 0} → WorldOf S I R → ℕ → CallId
 latest w p = record { process = p; nth = w.begun p - 1 }
+
+-- the history has no room for a call of one process more: for the call itself, and the steps that it may take
+abbrev pub is_full : {S I R : Type 0} → Bench S I R → Bool
+is_full b = nat_lt b.limit (length b.events + set_aside b.world + share b.world.n)
 
 -- why a process can't begin a call, if it can't
 abbrev pub refusal_of_call : {S I R : Type 0} → Bench S I R → ℕ → Option Refusal
@@ -46,16 +66,12 @@ refusal_of_call b p =
     if nat_le b.world.n p then Some (Process p)
     else if is_some (b.world.call p) then Some (Busy p)
     else if calls_in_era b.world p == b.row then Some (Row p)
+    else if is_full b then Some History
     else None
 
 -- a process begins a call
-abbrev pub bench_after_call : {S I R : Type 0} → SpokenObject S I R → Bench S I R → ℕ → I → Bench S I R
-bench_after_call o b p i = record b { world = world_after o.object b.world (Call p i) }
-
-abbrev pub result_of_call : {S I R : Type 0} → SpokenObject S I R → Bench S I R → ℕ → I → CommandResult S I R
-result_of_call o b p i =
-    option_map_or (λ refusal. record { bench = b; text = refused_text refusal }) (refusal_of_call b p)
-    (record { bench = bench_after_call o b p i; text = called_text (record { process = p; nth = b.world.begun p }) })
+abbrev pub result_of_call : {S I R : Type 0} → Bench S I R → ℕ → I → CommandResult I
+result_of_call b p i = option_map_or refused (refusal_of_call b p) (record { events = Call p i ∷ []; text = called_text (record { process = p; nth = b.world.begun p }) })
 
 -- why a process can't take a step, if it can't
 abbrev pub refusal_of_step : {S I R : Type 0} → WorldOf S I R → ℕ → Option Refusal
@@ -64,49 +80,61 @@ refusal_of_step w p =
     else if is_none (w.call p) then Some (Idle p)
     else None
 
--- a world after some steps of a process, and the response of its call where that has returned
-pub record StepsOutcome (S I R : Type 0) : Type 0 where
-  pub world : WorldOf S I R
-  pub response : Option R
+-- so many steps of a process
+abbrev pub steps_of : {I : Type 0} → (p count : ℕ) → List (Event I)
+steps_of p count = replicate count (Step p)
 
--- steps of a process: at most so many, and none after its call has returned
-abbrev pub outcome_of_steps : {S I R : Type 0} → SpokenObject S I R → (most : ℕ) → WorldOf S I R → ℕ → StepsOutcome S I R
-outcome_of_steps o zero w p = record { world = w; response = None }
-outcome_of_steps o (suc most) w p =
-    option_map_or (λ r. record { world = world_after o.object w (Step p); response = Some r }) (response_of_step w p)
-    (outcome_of_steps o most (world_after o.object w (Step p)) p)
+-- the response of a process's step, where it is the last one of a call, after so many others of it
+abbrev pub response_after : {S I R : Type 0} → SpokenObject S I R → WorldOf S I R → (p earlier : ℕ) → Option R
+response_after o w p earlier = response_of_step (world_after_all o.object w (steps_of p earlier)) p
+
+-- the last step of a call: how many earlier ones there are, and its response
+pub record LastStep (R : Type 0) : Type 0 where
+  pub earlier : ℕ
+  pub response : R
+
+-- the first of so many steps of a process that has a response
+abbrev pub last_step : {S I R : Type 0} → SpokenObject S I R → WorldOf S I R → (p most : ℕ) → Option (LastStep R)
+last_step o w p zero = None
+last_step o w p (suc m) = option_map_or Some (last_step o w p m) (option_map (λ r. record { earlier = m; response = r }) (response_after o w p m))
+
+-- how many steps are taken of so many: none after the last one of a call
+abbrev pub steps_taken : {R : Type 0} → (most : ℕ) → Option (LastStep R) → ℕ
+steps_taken most last = option_map_or (λ step. step.earlier + 1) last most
 
 -- how many steps a call of n processes takes at most
 abbrev pub most_steps : ℕ → ℕ
 most_steps n = 10 * n + 12
 
 -- what is answered after steps of a process in this call
-abbrev pub text_of_steps : {S I R : Type 0} → SpokenObject S I R → StepsOutcome S I R → ℕ → CallId → List ℕ
-text_of_steps o after p call =
-    option_map_or (λ r. returned_text call (o.language.resp_text r) (after.world.steps p) (after.world.turns p)) after.response
-    (going_text call (after.world.steps p) (after.world.turns p))
+abbrev pub text_of_steps : {S I R : Type 0} → SpokenObject S I R → WorldOf S I R → Option (LastStep R) → ℕ → CallId → List ℕ
+text_of_steps o after last p call =
+    option_map_or (λ step. returned_text call (o.language.resp_text step.response) (after.steps p) (after.turns p)) last
+    (going_text call (after.steps p) (after.turns p))
 
--- a process takes steps, at most so many
-abbrev pub result_of_steps : {S I R : Type 0} → SpokenObject S I R → Bench S I R → ℕ → (most : ℕ) → CommandResult S I R
-result_of_steps o b p most =
-    option_map_or (λ refusal. record { bench = b; text = refused_text refusal }) (refusal_of_step b.world p)
-    (let after = outcome_of_steps o most b.world p in
-    record { bench = record b { world = after.world }; text = text_of_steps o after p (latest b.world p) })
+-- a process takes steps until its call returns, at most so many
+abbrev pub result_of_steps : {S I R : Type 0} → SpokenObject S I R → WorldOf S I R → ℕ → (most : ℕ) → CommandResult I
+result_of_steps o w p most =
+    option_map_or refused (refusal_of_step w p)
+    (let last = last_step o w p most in
+    let events = steps_of p (steps_taken most last) in
+    record { events = events; text = text_of_steps o (world_after_all o.object w events) last p (latest w p) })
 
 -- the lines of the entries of the present log
 abbrev pub log_text : {S I R : Type 0} → SpokenObject S I R → WorldOf S I R → List ℕ
 log_text o w = concat (map (λ (entry : Entry _ _). entry_text (λ inv. text_of_words (o.language.inv_words inv)) o.language.resp_text entry) (log w))
 
-abbrev pub result_of_command : {S I R : Type 0} → SpokenObject S I R → Bench S I R → Command I → CommandResult S I R
-result_of_command o b (command.Call p i) = result_of_call o b p i
-result_of_command o b (command.Step p most) = result_of_steps o b p most
-result_of_command o b (command.Finish p) = result_of_steps o b p (most_steps b.world.n)
-result_of_command o b command.Heads = record { bench = b; text = heads_text b.world.n (head_seq b.world.memory) }
-result_of_command o b command.Log = record { bench = b; text = log_text o b.world }
+abbrev pub result_of_command : {S I R : Type 0} → SpokenObject S I R → Bench S I R → Command I → CommandResult I
+result_of_command o b (command.Call p i) = result_of_call b p i
+result_of_command o b (command.Step p most) = result_of_steps o b.world p most
+result_of_command o b (command.Finish p) = result_of_steps o b.world p (most_steps b.world.n)
+result_of_command o b command.Heads = record { events = []; text = heads_text b.world.n (head_seq b.world.memory) }
+result_of_command o b command.Log = record { events = []; text = log_text o b.world }
 
--- the bench that a header opens
-abbrev pub opened_bench : {S I R : Type 0} → SpokenObject S I R → Header → Bench S I R
-opened_bench o header = record { row = header.row; world = opened_world header.processes o.object.initial 1 }
+-- the bench that a header opens, with a history of so many events at most
+abbrev pub opened_bench : {S I R : Type 0} → SpokenObject S I R → (limit : ℕ) → Header → Bench S I R
+opened_bench o limit header =
+    record { processes = header.processes; first = 1; row = header.row; limit = limit; events = []; world = opened_world header.processes o.object.initial 1 }
 
 -- the bench of a script: of processes that share the object of this name
 pub record ScriptBench : Type 0 where
@@ -118,8 +146,8 @@ abbrev pub script_bench : (object : ObjectName) → Bench (StateOf object) (InvO
 script_bench object b = record { object = object; bench = b }
 
 -- the one that a header opens
-abbrev pub bench_of_header : Header → ScriptBench
-bench_of_header header = script_bench header.object (opened_bench (spoken_of header.object) header)
+abbrev pub bench_of_header : (limit : ℕ) → Header → ScriptBench
+bench_of_header limit header = script_bench header.object (opened_bench (spoken_of header.object) limit header)
 
 -- What some lines come to: the bench after them, none before the header; the text of their answers; and the fault that
 -- ended them, if one did.
@@ -145,37 +173,40 @@ and_then first rest = and_then_from first (rest first.bench) first.fault
 -- the words of a command, on a bench of this object
 abbrev pub outcome_of_command : {S I R : Type 0} → SpokenObject S I R → (inside : Bench S I R → ScriptBench) → (number : ℕ) → Bench S I R → List (List ℕ) → Outcome
 outcome_of_command o inside number b words =
-    option_map_or (λ command. outcome_of_text (inside (result_of_command o b command).bench) (result_of_command o b command).text) (command_of_words o.language.inv_of_words words) (outcome_of_fault (Some (inside b)) (BadLine number))
-
--- a line that isn't a note
-abbrev pub outcome_of_words : (number : ℕ) → Option ScriptBench → List (List ℕ) → Outcome
-outcome_of_words number None words = option_map_or (λ header. outcome_of_text (bench_of_header header) []) (header_of_words words) (outcome_of_fault None (BadHeader number))
-outcome_of_words number (Some b) words = outcome_of_command (spoken_of b.object) (script_bench b.object) number b.bench words
-
--- a line that isn't too long
-abbrev pub outcome_of_short_line : (number : ℕ) → Option ScriptBench → List ℕ → Outcome
-outcome_of_short_line number b line =
-    if not (list_all is_plain_byte line) then outcome_of_fault b (BadByte number)
-    else if is_note line then record { bench = b; text = []; fault = None }
-    else outcome_of_words number b (words_of_text line)
-
--- a line, with its number: the first fault of those that it has
-abbrev pub outcome_of_line : (number : ℕ) → Option ScriptBench → List ℕ → Outcome
-outcome_of_line number b line =
-    if nat_lt 100000 number then outcome_of_fault b TooMany
-    else if nat_lt 200 (length line) then outcome_of_fault b (TooLong number)
-    else outcome_of_short_line number b line
-
--- lines, numbered from here on
-abbrev pub outcome_of_lines : (number : ℕ) → Option ScriptBench → List (List ℕ) → Outcome
-outcome_of_lines number b [] = record { bench = b; text = []; fault = None }
-outcome_of_lines number b (line ∷ lines) = and_then (outcome_of_line number b line) (λ after. outcome_of_lines (number + 1) after lines)
+    option_map_or (λ command. let result = result_of_command o b command in outcome_of_text (inside (bench_after o b result.events)) result.text)
+    (command_of_words o.language.inv_of_words words) (outcome_of_fault (Some (inside b)) (BadLine number))
 
 -- the end of a script that has so many lines
 abbrev pub outcome_of_end : (lines : ℕ) → Option ScriptBench → Outcome
 outcome_of_end lines None = outcome_of_fault None (NoHeader (lines + 1))
 outcome_of_end lines (Some b) = outcome_of_text b end_text
 
--- a script
-abbrev pub outcome_of_script : List ℕ → Outcome
-outcome_of_script bytes = and_then (outcome_of_lines 1 None (lines_of bytes)) (λ after. outcome_of_end (length (lines_of bytes)) after)
+-- where the history can have so many events
+module _ (limit : ℕ) where
+  -- a line that isn't a note
+  abbrev pub outcome_of_words : (number : ℕ) → Option ScriptBench → List (List ℕ) → Outcome
+  outcome_of_words number None words = option_map_or (λ header. outcome_of_text (bench_of_header limit header) []) (header_of_words words) (outcome_of_fault None (BadHeader number))
+  outcome_of_words number (Some b) words = outcome_of_command (spoken_of b.object) (script_bench b.object) number b.bench words
+
+  -- a line that isn't too long
+  abbrev pub outcome_of_short_line : (number : ℕ) → Option ScriptBench → List ℕ → Outcome
+  outcome_of_short_line number b line =
+      if not (list_all is_plain_byte line) then outcome_of_fault b (BadByte number)
+      else if is_note line then record { bench = b; text = []; fault = None }
+      else outcome_of_words number b (words_of_text line)
+
+  -- a line, with its number: the first fault of those that it has
+  abbrev pub outcome_of_line : (number : ℕ) → Option ScriptBench → List ℕ → Outcome
+  outcome_of_line number b line =
+      if nat_lt 100000 number then outcome_of_fault b TooMany
+      else if nat_lt 200 (length line) then outcome_of_fault b (TooLong number)
+      else outcome_of_short_line number b line
+
+  -- lines, numbered from here on
+  abbrev pub outcome_of_lines : (number : ℕ) → Option ScriptBench → List (List ℕ) → Outcome
+  outcome_of_lines number b [] = record { bench = b; text = []; fault = None }
+  outcome_of_lines number b (line ∷ lines) = and_then (outcome_of_line number b line) (λ after. outcome_of_lines (number + 1) after lines)
+
+  -- a script
+  abbrev pub outcome_of_script : List ℕ → Outcome
+  outcome_of_script bytes = and_then (outcome_of_lines 1 None (lines_of bytes)) (λ after. outcome_of_end (length (lines_of bytes)) after)

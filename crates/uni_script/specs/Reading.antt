@@ -71,9 +71,10 @@ outcome_of_stop Failed lines b = outcome_of_fault b Read
 outcome_of_stop TooLong lines b = outcome_of_fault b (fault.TooLong (lines + 1))
 outcome_of_stop TooMany lines b = outcome_of_fault b fault.TooMany
 
--- the run of what was read
-abbrev pub outcome_of_read : Stop → List ℕ → Outcome
-outcome_of_read stop bytes = and_then (outcome_of_lines 1 None (lines_of_read stop bytes)) (λ after. outcome_of_stop stop (length (lines_of_read stop bytes)) after)
+-- the run of what was read, where the history can have so many events
+abbrev pub outcome_of_read : (limit : ℕ) → Stop → List ℕ → Outcome
+outcome_of_read limit stop bytes =
+    and_then (outcome_of_lines limit 1 None (lines_of_read stop bytes)) (λ after. outcome_of_stop stop (length (lines_of_read stop bytes)) after)
 
 -- a call ended as the outcome says, and a text grew by its text; or memory was refused
 abbrev pub EndsAs : {A : Type 0} → Outcome → (old new : List ℕ) → Result A BenchFault → Type 0
@@ -87,24 +88,24 @@ WritesAs outcome old new (Ok _) = (outcome.fault ≡ None) × Appends old new ou
 WritesAs outcome old new (Err e) = (((e ≡ Memory) ⊎ (e ≡ Write)) × AppendsFront old new outcome.text) ⊎ ((outcome.fault ≡ Some e) × Appends old new outcome.text)
 
 -- the lines that were taken have left this bench and no fault, and the text of their answers was written
-pub record HasRun (old now : Option (List ℕ)) (lines : Lines) (written_old written : Option (List ℕ)) (taken : List (List ℕ)) (bench : Option ScriptBench) : Type 0 where
+pub record HasRun (limit : ℕ) (old now : Option (List ℕ)) (lines : Lines) (written_old written : Option (List ℕ)) (taken : List (List ℕ)) (bench : Option ScriptBench) : Type 0 where
   pub reading : HasTaken old now lines taken
-  pub fault : (outcome_of_lines 1 None taken).fault ≡ None
-  pub bench_after : (outcome_of_lines 1 None taken).bench ≡ bench
-  pub written_as : Appends written_old written (outcome_of_lines 1 None taken).text
+  pub fault : (outcome_of_lines limit 1 None taken).fault ≡ None
+  pub bench_after : (outcome_of_lines limit 1 None taken).bench ≡ bench
+  pub written_as : Appends written_old written (outcome_of_lines limit 1 None taken).text
 
 -- the run of what was read has ended as it should
-pub record HasEnded (old new : Option (List ℕ)) (written_old written : Option (List ℕ)) (result : Result Summary BenchFault) : Type 0 where
+pub record HasEnded (limit : ℕ) (old new : Option (List ℕ)) (written_old written : Option (List ℕ)) (result : Result Summary BenchFault) : Type 0 where
   pub stop : Stop
   pub bytes : List ℕ
   pub read : IsRead old new stop bytes
-  pub ends : WritesAs (outcome_of_read stop bytes) written_old written result
-  pub summary : IfOk result (λ s. option_map (summary_of_bench (length (lines_of_read stop bytes))) (outcome_of_read stop bytes).bench ≡ Some s)
+  pub ends : WritesAs (outcome_of_read limit stop bytes) written_old written result
+  pub summary : IfOk result (λ s. option_map (summary_of_bench (length (lines_of_read stop bytes))) (outcome_of_read limit stop bytes).bench ≡ Some s)
 
 -- the lines that are left are run from this bench on, whatever lines came before it
-abbrev pub RunsOn : (now : Option (List ℕ)) (lines : Lines) (written : Option (List ℕ)) → Option ScriptBench → (new written_new : Option (List ℕ)) → Result Summary BenchFault → Type 0
-RunsOn now lines written bench new written_new result =
-    (old written_old : Option (List ℕ)) (taken : List (List ℕ)) → HasRun old now lines written_old written taken bench → HasEnded old new written_old written_new result
+abbrev pub RunsOn : (limit : ℕ) (now : Option (List ℕ)) (lines : Lines) (written : Option (List ℕ)) → Option ScriptBench → (new written_new : Option (List ℕ)) → Result Summary BenchFault → Type 0
+RunsOn limit now lines written bench new written_new result =
+    (old written_old : Option (List ℕ)) (taken : List (List ℕ)) → HasRun limit old now lines written_old written taken bench → HasEnded limit old new written_old written_new result
 
 -- a fault that the run of a line can have
 abbrev pub IsFaultOfLine : BenchFault → Type 0

@@ -21,15 +21,15 @@ one_call rest = header (line (codes "call 0 enq 7") (line (codes "finish 0") (li
 abbrev one_answer : List ℕ → List ℕ
 one_answer rest = line (codes "called 0.0") (line (codes "returned 0.0 ok steps 14 turns 1") (line (codes "2 0.0 enq 7 -> ok") rest))
 
-one_call_answered : text_of_script (one_call []) ≡ one_answer (line (codes "end") [])
+one_call_answered : text_of_script 1048576 (one_call []) ≡ one_answer (line (codes "end") [])
 unfolding digits number_of_word
 one_call_answered = refl
 
-one_call_is_good : fault_of_script (one_call []) ≡ None
+one_call_is_good : fault_of_script 1048576 (one_call []) ≡ None
 unfolding digits number_of_word
 one_call_is_good = refl
 
-one_call_summary : summary_of_script (one_call []) ≡ Some (record { lines = 4; calls = 1; returns = 1 })
+one_call_summary : summary_of_script 1048576 (one_call []) ≡ Some (record { lines = 4; calls = 1; returns = 1 })
 unfolding digits number_of_word
 one_call_summary = refl
 
@@ -37,79 +37,79 @@ one_call_summary = refl
 abbrev two_calls : List ℕ
 two_calls = one_call (line (codes "call 0 deq") (line (codes "finish 0") []))
 
-two_calls_answered : text_of_script two_calls ≡ one_answer (line (codes "called 0.1") (line (codes "returned 0.1 7 steps 14 turns 1") (line (codes "end") [])))
+two_calls_answered : text_of_script 1048576 two_calls ≡ one_answer (line (codes "called 0.1") (line (codes "returned 0.1 7 steps 14 turns 1") (line (codes "end") [])))
 unfolding digits number_of_word
 two_calls_answered = refl
 
 -- a header alone
-header_answered : text_of_script (header []) ≡ line (codes "end") []
+header_answered : text_of_script 1048576 (header []) ≡ line (codes "end") []
 unfolding digits number_of_word
 header_answered = refl
 
 -- the last line may lack its end
-last_end_missing : text_of_script (header (line (codes "call 0 enq 7") (codes "finish 0"))) ≡ text_of_script (header (line (codes "call 0 enq 7") (line (codes "finish 0") [])))
+last_end_missing : text_of_script 1048576 (header (line (codes "call 0 enq 7") (codes "finish 0"))) ≡ text_of_script 1048576 (header (line (codes "call 0 enq 7") (line (codes "finish 0") [])))
 unfolding digits number_of_word
 last_end_missing = refl
 
 -- the answers before a fault stay
-bad_line : fault_of_script (header (line (codes "call 0 enq 7") (codes "fin"))) ≡ Some (BadLine 3)
+bad_line : fault_of_script 1048576 (header (line (codes "call 0 enq 7") (codes "fin"))) ≡ Some (BadLine 3)
 unfolding digits number_of_word
 bad_line = refl
 
-answers_before_bad_line : text_of_script (header (line (codes "call 0 enq 7") (codes "fin"))) ≡ line (codes "called 0.0") []
+answers_before_bad_line : text_of_script 1048576 (header (line (codes "call 0 enq 7") (codes "fin"))) ≡ line (codes "called 0.0") []
 unfolding digits number_of_word
 answers_before_bad_line = refl
 
-leading_zeros : fault_of_script (header (codes "call 0 enq 007")) ≡ Some (BadLine 2)
+leading_zeros : fault_of_script 1048576 (header (codes "call 0 enq 007")) ≡ Some (BadLine 2)
 unfolding digits number_of_word
 leading_zeros = refl
 
-no_operation_of_a_queue : fault_of_script (header (codes "call 0 get a")) ≡ Some (BadLine 2)
+no_operation_of_a_queue : fault_of_script 1048576 (header (codes "call 0 get a")) ≡ Some (BadLine 2)
 unfolding digits number_of_word
 no_operation_of_a_queue = refl
 
 -- no line is a header
-nothing : fault_of_script [] ≡ Some (NoHeader 1)
+nothing : fault_of_script 1048576 [] ≡ Some (NoHeader 1)
 nothing = refl
 
-nothing_answered : text_of_script [] ≡ []
+nothing_answered : text_of_script 1048576 [] ≡ []
 nothing_answered = refl
 
-notes_alone : fault_of_script (line (codes "# a note") (line [] [])) ≡ Some (NoHeader 3)
+notes_alone : fault_of_script 1048576 (line (codes "# a note") (line [] [])) ≡ Some (NoHeader 3)
 notes_alone = refl
 
-too_many_processes : fault_of_script (line (codes "universal 1 queue 17 8") []) ≡ Some (BadHeader 1)
+too_many_processes : fault_of_script 1048576 (line (codes "universal 1 queue 17 8") []) ≡ Some (BadHeader 1)
 unfolding digits number_of_word
 too_many_processes = refl
 
 -- notes count as lines, and their bytes are looked at
-bad_byte_of_a_note : fault_of_script (header (line (codes "# a" ++ 9 ∷ []) [])) ≡ Some (BadByte 2)
+bad_byte_of_a_note : fault_of_script 1048576 (header (line (codes "# a" ++ 9 ∷ []) [])) ≡ Some (BadByte 2)
 unfolding digits number_of_word
 bad_byte_of_a_note = refl
 
-line_end_of_two_bytes : fault_of_script (header (line (codes "log" ++ 13 ∷ []) [])) ≡ Some (BadByte 2)
+line_end_of_two_bytes : fault_of_script 1048576 (header (line (codes "log" ++ 13 ∷ []) [])) ≡ Some (BadByte 2)
 unfolding digits number_of_word
 line_end_of_two_bytes = refl
 
-note_of_200_bytes : text_of_script (header (line (replicate 200 35) [])) ≡ line (codes "end") []
+note_of_200_bytes : text_of_script 1048576 (header (line (replicate 200 35) [])) ≡ line (codes "end") []
 unfolding digits number_of_word
 note_of_200_bytes = refl
 
-note_of_201_bytes : fault_of_script (header (line (replicate 201 35) [])) ≡ Some (TooLong 2)
+note_of_201_bytes : fault_of_script 1048576 (header (line (replicate 201 35) [])) ≡ Some (TooLong 2)
 unfolding digits number_of_word
 note_of_201_bytes = refl
 
 -- a line that is too long is that before it has a bad byte
-too_long_comes_first : fault_of_script (header (line (replicate 201 9) [])) ≡ Some (TooLong 2)
+too_long_comes_first : fault_of_script 1048576 (header (line (replicate 201 9) [])) ≡ Some (TooLong 2)
 unfolding digits number_of_word
 too_long_comes_first = refl
 
 -- and line 100001 is one too many before it is too long
-too_many_comes_first : outcome_of_line 100001 None (replicate 201 9) ≡ outcome_of_fault None TooMany
+too_many_comes_first : outcome_of_line 1048576 100001 None (replicate 201 9) ≡ outcome_of_fault None TooMany
 too_many_comes_first = refl
 
 -- what is refused is answered, and changes nothing
-refusals : text_of_script (header (line (codes "finish 0") (line (codes "call 9 deq") (line (codes "call 0 deq") (line (codes "call 0 deq") [])))))
+refusals : text_of_script 1048576 (header (line (codes "finish 0") (line (codes "call 9 deq") (line (codes "call 0 deq") (line (codes "call 0 deq") [])))))
     ≡ line (codes "refused idle 0") (line (codes "refused process 9") (line (codes "called 0.0") (line (codes "refused busy 0") (line (codes "end") []))))
 unfolding digits number_of_word
 refusals = refl
@@ -118,7 +118,7 @@ refusals = refl
 abbrev stopped : List ℕ
 stopped = line (codes "universal 1 queue 2 8") (line (codes "call 1 enq 5") (line (codes "step 1") (line (codes "call 0 enq 6") (line (codes "finish 0") (line (codes "heads") (line (codes "log") []))))))
 
-stopped_answered : text_of_script stopped
+stopped_answered : text_of_script 1048576 stopped
     ≡ line (codes "called 1.0") (line (codes "going 1.0 steps 1 turns 0") (line (codes "called 0.0") (line (codes "returned 0.0 ok steps 24 turns 2")
     (line (codes "heads 3 1") (line (codes "2 1.0 enq 5 -> ok") (line (codes "3 0.0 enq 6 -> ok") (line (codes "end") [])))))))
 unfolding digits number_of_word
@@ -129,7 +129,7 @@ abbrev bound_met : List ℕ
 bound_met = line (codes "universal 1 queue 2 8") (line (codes "call 0 enq 10") (line (codes "step 0 10") (line (codes "call 1 deq") (line (codes "step 1 14")
     (line (codes "finish 0") (line (codes "call 0 enq 20") (line (codes "step 0") (line (codes "finish 1") []))))))))
 
-bound_met_answered : text_of_script bound_met
+bound_met_answered : text_of_script 1048576 bound_met
     ≡ line (codes "called 0.0") (line (codes "going 0.0 steps 10 turns 1") (line (codes "called 1.0") (line (codes "going 1.0 steps 14 turns 1") (line (codes "returned 0.0 ok steps 16 turns 1")
     (line (codes "called 0.1") (line (codes "going 0.1 steps 1 turns 0") (line (codes "returned 1.0 10 steps 32 turns 3") (line (codes "end") []))))))))
 unfolding digits number_of_word
@@ -139,16 +139,16 @@ bound_met_answered = refl
 abbrev proposals : List ℕ
 proposals = line (codes "universal 1 sticky 2 8") (line (codes "call 0 stick 5") (line (codes "finish 0") (line (codes "call 1 stick 9") (line (codes "finish 1") []))))
 
-proposals_answered : text_of_script proposals
+proposals_answered : text_of_script 1048576 proposals
     ≡ line (codes "called 0.0") (line (codes "returned 0.0 5 steps 16 turns 1") (line (codes "called 1.0") (line (codes "returned 1.0 5 steps 16 turns 1") (line (codes "end") []))))
 unfolding digits number_of_word
 proposals_answered = refl
 
 -- the words of a queue are none of a directory
-words_of_a_queue : fault_of_script (line (codes "universal 1 directory 1 8") (codes "call 0 enq 7")) ≡ Some (BadLine 2)
+words_of_a_queue : fault_of_script 1048576 (line (codes "universal 1 directory 1 8") (codes "call 0 enq 7")) ≡ Some (BadLine 2)
 unfolding digits number_of_word
 words_of_a_queue = refl
 
-no_such_object : fault_of_script (codes "universal 1 stack 1 8") ≡ Some (BadHeader 1)
+no_such_object : fault_of_script 1048576 (codes "universal 1 stack 1 8") ≡ Some (BadHeader 1)
 unfolding digits number_of_word
 no_such_object = refl

@@ -1,27 +1,36 @@
 -- How much a script has done.
-use Rattle.std.specs.Prelude.{ℕ, ◌-◌, List, length, Option, None, Some, option_map}
-use Rattle.uni_model.specs.Stages.{Pending}
-use Rattle.uni_model.specs.Worlds.{WorldOf, sum_below, calls_begun}
+use Rattle.std.specs.Prelude.{◌≡◌, ℕ, suc, List, [], ◌∷◌, length, Option, option_map, refl}
+use Rattle.uni_model.specs.Worlds.{Event, opened_world}
+use Rattle.uni_model.specs.Worlds.Event.{Call, Step, Trim, Reshape}
+use Rattle.uni_model.specs.History.{history_of}
+use Rattle.uni_record.specs.Stored.{responses_in}
 use Rattle.uni_script.specs.declared.summary.Summary.{Summary}
+use Rattle.uni_script.specs.Objects.{SpokenObject, spoken_of}
 use Rattle.uni_script.specs.Script.{lines_of}
 use Rattle.uni_script.specs.Meaning.{Bench, ScriptBench, outcome_of_script}
 
--- how many of the calls that a process has begun have returned: all but the pending one
-abbrev pub returned_of : Option Pending → (begun : ℕ) → ℕ
-returned_of None begun = begun
-returned_of (Some call) begun = begun - 1
+-- how many of some events are calls
+abbrev pub calls_in : {I : Type 0} → List (Event I) → ℕ
+calls_in [] = 0
+calls_in (Call p i ∷ events) = suc (calls_in events)
+calls_in (Step p ∷ events) = calls_in events
+calls_in (Trim ∷ events) = calls_in events
+calls_in (Reshape n ∷ events) = calls_in events
 
--- how many calls have returned
-abbrev pub calls_returned : {S I R : Type 0} → WorldOf S I R → ℕ
-calls_returned w = sum_below w.n (λ p. returned_of (w.call p) (w.begun p))
+-- how many responses the history of a bench has
+abbrev pub responses_of : {S I R : Type 0} → SpokenObject S I R → Bench S I R → ℕ
+responses_of o b = length (responses_in (history_of o.object (opened_world b.processes o.object.initial b.first) b.events))
 
--- so many lines, and the calls of a world: those that were begun, and those that have returned
-abbrev pub summary_of : {S I R : Type 0} → (lines : ℕ) → Bench S I R → Summary
-summary_of lines b = record { lines = lines; calls = calls_begun b.world; returns = calls_returned b.world }
+-- so many lines, the events that are calls, and the responses
+abbrev pub summary_of : {S I R : Type 0} → SpokenObject S I R → (lines : ℕ) → Bench S I R → Summary
+summary_of o lines b = record { lines = lines; calls = calls_in b.events; returns = responses_of o b }
 
 abbrev pub summary_of_bench : (lines : ℕ) → ScriptBench → Summary
-summary_of_bench lines b = summary_of lines b.bench
+summary_of_bench lines b = summary_of (spoken_of b.object) lines b.bench
 
--- the summary of a script that opens a world
-abbrev pub summary_of_script : List ℕ → Option Summary
-summary_of_script script = option_map (summary_of_bench (length (lines_of script))) (outcome_of_script script).bench
+-- the summary of a script that opens a bench, where the history can have so many events
+abbrev pub summary_of_script : (limit : ℕ) → List ℕ → Option Summary
+summary_of_script limit script = option_map (summary_of_bench (length (lines_of script))) (outcome_of_script limit script).bench
+
+two_calls : calls_in {I = ℕ} (Call 0 5 ∷ Step 0 ∷ Call 1 5 ∷ Trim ∷ []) ≡ 2
+two_calls = refl

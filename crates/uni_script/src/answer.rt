@@ -19,6 +19,8 @@ pub enum Refusal {
     Row(u64),
     /// The process has no call.
     Idle(u64),
+    /// The history has no room for a call.
+    History,
 }
 
 impl fmt::Display for Refusal {
@@ -30,6 +32,7 @@ impl fmt::Display for Refusal {
             Refusal::Busy(process) => write!(f, "refused busy {process}"),
             Refusal::Row(process) => write!(f, "refused row {process}"),
             Refusal::Idle(process) => write!(f, "refused idle {process}"),
+            Refusal::History => write!(f, "refused history"),
         }
     }
 }

@@ -1,36 +1,51 @@
-//! The commands of a script, made on a world.
+//! The commands of a script, made on a record.
 
-ghost use Rattle.std.specs.Prelude.{◌≡◌, ◌<◌, ◌≤◌, ◌++◌, IfOk, IsSome, OnOk, codes};
+ghost use Rattle.std.specs.Prelude.{◌≡◌, ◌<◌, ◌≤◌, ◌++◌, IfOk, IsSome, OnOk, codes, option_map};
 ghost use Rattle.std.specs.Option.{option_map_or};
 ghost use Rattle.ready_objects.specs.Words.{text_of_words};
 ghost use Rattle.uni_model.specs.Places.{head_seq};
 ghost use Rattle.uni_core.specs.Whole.{world_of};
 ghost use Rattle.uni_log.specs.Shown.{entry_shown};
+ghost use Rattle.uni_record.specs.Recording.{KeepsOpening};
+ghost use Rattle.uni_script.specs.Replays.{IsHistory};
 ghost use Rattle.uni_script.specs.Script.{IsInRange};
 ghost use Rattle.uni_script.specs.Answers.{answer_text, numbers_text, heads_text, entry_text, IsOver};
-ghost use Rattle.uni_script.specs.Meaning.{bench_of, opened_bench, result_of_command, result_of_call, result_of_steps, outcome_of_steps, most_steps, log_text};
+ghost use Rattle.uni_script.specs.Meaning.{bench_of, bench_after, opened_bench, result_of_command, result_of_call, result_of_steps, last_step, steps_of, steps_taken, most_steps, log_text};
 
 use crate::answer::{Answer, Refusal, push_answer};
 use crate::grammar::{Command, Header};
 use ready_objects::Spoken;
 use std::alloc::{AllocError, Global};
 use std::io::Write;
-use uni_core::{BeginFault, OpenFault, Progress, StepFault, World};
+use uni_core::{Progress, World};
 use uni_log::{Entry, Log};
+use uni_record::{RecordBeginFault, RecordOpenFault, RecordStepFault, Recorded};
 
-/// Opens the world of a header, for processes that share this object.
+/// Opens the record of a header, for processes that share this object, with a history of so many
+/// events at most.
 ///
 /// An `Err` says that memory was refused.
-pub fn open<O: Spoken>(alloc: Global, object: O, header: Header) -> Result<World<O>, AllocError>
-    requires { IsInRange header }
-    ensures bench { IfOk result (λ world. bench_of world ≡ opened_bench (record { object = O.sequential object; language = O.language }) header) }
-    ensures object { IfOk result (λ world. world.object ≡ object) }
+pub fn open<O: Spoken>(
+    alloc: Global,
+    object: O,
+    header: Header,
+    history: u64,
+) -> Result<Recorded<O>, AllocError>
+    requires range { IsInRange header }
+    requires history { IsHistory history }
+    ensures bench { IfOk result (λ bench. bench_of bench ≡ opened_bench (record { object = O.sequential object; language = O.language }) history header) }
+    ensures object { IfOk result (λ bench. bench.world.object ≡ object) }
 {
-    match World::open(alloc, object, header.processes, header.row) {
-        Ok(world) => Ok(world),
-        Err(OpenFault::Memory) => Err(AllocError),
-        // The numbers of a header are in range.
-        Err(OpenFault::BadCount | OpenFault::BadRow | OpenFault::SeqFull) => unreachable!(),
+    match Recorded::open(alloc, object, header.processes, header.row, history) {
+        Ok(bench) => Ok(bench),
+        Err(RecordOpenFault::Memory) => Err(AllocError),
+        // The numbers of a header are in range, and so is that of the history.
+        Err(
+            RecordOpenFault::BadCount
+            | RecordOpenFault::BadRow
+            | RecordOpenFault::SeqFull
+            | RecordOpenFault::BadHistory,
+        ) => unreachable!(),
     }
 }
 
@@ -38,30 +53,31 @@ pub fn open<O: Spoken>(alloc: Global, object: O, header: Header) -> Result<World
 ///
 /// An `Err` says that memory was refused.
 pub fn make<O: Spoken>(
-    world: &mut World<O>,
+    bench: &mut Recorded<O>,
     alloc: Global,
     command: Command<O::Inv>,
     text: &mut Vec<u8>,
 ) -> Result<(), AllocError>
-    ensures object { world.new.object ≡ world.old.object }
-    ensures bench { OnOk result (bench_of world.new ≡ (result_of_command (record { object = O.sequential world.old.object; language = O.language }) (bench_of world.old) command).bench) }
-    ensures text { OnOk result (text.new.items ≡ text.old.items ++ (result_of_command (record { object = O.sequential world.old.object; language = O.language }) (bench_of world.old) command).text) }
+    ensures object { bench.new.world.object ≡ bench.old.world.object }
+    ensures bench { OnOk result (bench_of bench.new ≡ bench_after (record { object = O.sequential bench.old.world.object; language = O.language }) (bench_of bench.old)
+        (result_of_command (record { object = O.sequential bench.old.world.object; language = O.language }) (bench_of bench.old) command).events) }
+    ensures text { OnOk result (text.new.items ≡ text.old.items ++ (result_of_command (record { object = O.sequential bench.old.world.object; language = O.language }) (bench_of bench.old) command).text) }
 {
     match command {
         Command::Call { process, inv } => {
-            let answer = call(world, alloc, process, &inv)?;
+            let answer = call(bench, alloc, process, &inv)?;
             push_answer(text, &answer)
         }
         Command::Step { process, count } => {
-            let answer = step(world, alloc, process, count)?;
+            let answer = step(bench, alloc, process, count)?;
             push_answer(text, &answer)
         }
         Command::Finish { process } => {
-            let answer = finish(world, alloc, process)?;
+            let answer = finish(bench, alloc, process)?;
             push_answer(text, &answer)
         }
-        Command::Log => push_log(world, alloc, text),
-        Command::Heads => push_heads(world, text),
+        Command::Log => push_log(bench.world(), alloc, text),
+        Command::Heads => push_heads(bench.world(), text),
     }
 }
 
@@ -69,21 +85,22 @@ pub fn make<O: Spoken>(
 ///
 /// An `Err` says that memory was refused.
 fn call<O: Spoken>(
-    world: &mut World<O>,
+    bench: &mut Recorded<O>,
     alloc: Global,
     process: u64,
     inv: &O::Inv,
 ) -> Result<Answer, AllocError>
-    ensures object { world.new.object ≡ world.old.object }
-    ensures bench { OnOk result (bench_of world.new ≡ (result_of_call (record { object = O.sequential world.old.object; language = O.language }) (bench_of world.old) process inv.now).bench) }
-    ensures answer { IfOk result (λ answer. answer_text answer ≡ (result_of_call (record { object = O.sequential world.old.object; language = O.language }) (bench_of world.old) process inv.now).text) }
+    ensures object { bench.new.world.object ≡ bench.old.world.object }
+    ensures bench { OnOk result (bench_of bench.new ≡ bench_after (record { object = O.sequential bench.old.world.object; language = O.language }) (bench_of bench.old) (result_of_call (bench_of bench.old) process inv.now).events) }
+    ensures answer { IfOk result (λ answer. answer_text answer ≡ (result_of_call (bench_of bench.old) process inv.now).text) }
 {
-    match world.begin(alloc, process, inv) {
+    match bench.begin(alloc, process, inv) {
         Ok(call) => Ok(Answer::Called(call)),
-        Err(BeginFault::BadProcess) => Ok(Answer::Refused(Refusal::Process(process))),
-        Err(BeginFault::Busy(process)) => Ok(Answer::Refused(Refusal::Busy(process))),
-        Err(BeginFault::RowFull(process)) => Ok(Answer::Refused(Refusal::Row(process))),
-        Err(BeginFault::Memory) => Err(AllocError),
+        Err(RecordBeginFault::BadProcess) => Ok(Answer::Refused(Refusal::Process(process))),
+        Err(RecordBeginFault::Busy(process)) => Ok(Answer::Refused(Refusal::Busy(process))),
+        Err(RecordBeginFault::RowFull(process)) => Ok(Answer::Refused(Refusal::Row(process))),
+        Err(RecordBeginFault::HistoryFull) => Ok(Answer::Refused(Refusal::History)),
+        Err(RecordBeginFault::Memory) => Err(AllocError),
     }
 }
 
@@ -92,18 +109,19 @@ fn call<O: Spoken>(
 ///
 /// An `Err` says that memory was refused.
 fn finish<O: Spoken>(
-    world: &mut World<O>,
+    bench: &mut Recorded<O>,
     alloc: Global,
     process: u64,
 ) -> Result<Answer, AllocError>
-    ensures object { world.new.object ≡ world.old.object }
-    ensures bench { OnOk result (bench_of world.new ≡ (result_of_steps (record { object = O.sequential world.old.object; language = O.language }) (bench_of world.old) process (most_steps (world_of world.old).n)).bench) }
-    ensures answer { IfOk result (λ answer. answer_text answer ≡ (result_of_steps (record { object = O.sequential world.old.object; language = O.language }) (bench_of world.old) process (most_steps (world_of world.old).n)).text) }
+    ensures object { bench.new.world.object ≡ bench.old.world.object }
+    ensures bench { OnOk result (bench_of bench.new ≡ bench_after (record { object = O.sequential bench.old.world.object; language = O.language }) (bench_of bench.old)
+        (result_of_steps (record { object = O.sequential bench.old.world.object; language = O.language }) (world_of bench.old.world) process (most_steps (world_of bench.old.world).n)).events) }
+    ensures answer { IfOk result (λ answer. answer_text answer ≡ (result_of_steps (record { object = O.sequential bench.old.world.object; language = O.language }) (world_of bench.old.world) process (most_steps (world_of bench.old.world).n)).text) }
     ensures over { IfOk result IsOver }
 {
-    world.shape();
-    let most = 10 * world.processes() + 12;
-    step(world, alloc, process, most)
+    bench.world().shape();
+    let most = 10 * bench.world().processes() + 12;
+    step(bench, alloc, process, most)
 }
 
 /// Takes steps of a process until its call returns, at most so many; the answer says how far the call
@@ -111,25 +129,26 @@ fn finish<O: Spoken>(
 ///
 /// An `Err` says that memory was refused.
 fn step<O: Spoken>(
-    world: &mut World<O>,
+    bench: &mut Recorded<O>,
     alloc: Global,
     process: u64,
     most: u64,
 ) -> Result<Answer, AllocError>
-    ensures object { world.new.object ≡ world.old.object }
-    ensures bench { OnOk result (bench_of world.new ≡ (result_of_steps (record { object = O.sequential world.old.object; language = O.language }) (bench_of world.old) process most).bench) }
-    ensures answer { IfOk result (λ answer. answer_text answer ≡ (result_of_steps (record { object = O.sequential world.old.object; language = O.language }) (bench_of world.old) process most).text) }
-    ensures over { IfOk result (λ answer. most_steps (world_of world.old).n ≤ most → IsOver answer) }
+    ensures object { bench.new.world.object ≡ bench.old.world.object }
+    ensures bench { OnOk result (bench_of bench.new ≡ bench_after (record { object = O.sequential bench.old.world.object; language = O.language }) (bench_of bench.old)
+        (result_of_steps (record { object = O.sequential bench.old.world.object; language = O.language }) (world_of bench.old.world) process most).events) }
+    ensures answer { IfOk result (λ answer. answer_text answer ≡ (result_of_steps (record { object = O.sequential bench.old.world.object; language = O.language }) (world_of bench.old.world) process most).text) }
+    ensures over { IfOk result (λ answer. most_steps (world_of bench.old.world).n ≤ most → IsOver answer) }
 {
-    if process >= world.processes() {
+    if process >= bench.world().processes() {
         return Ok(Answer::Refused(Refusal::Process(process)));
     }
-    let Some(call) = world.current(process) else {
+    let Some(call) = bench.world().current(process) else {
         return Ok(Answer::Refused(Refusal::Idle(process)));
     };
-    let response = step_on(world, alloc, process, most)?;
-    let steps = world.steps(process);
-    let turns = world.turns(process);
+    let response = step_on(bench, alloc, process, most)?;
+    let steps = bench.world().steps(process);
+    let turns = bench.world().turns(process);
     let Some(response) = response else {
         return Ok(Answer::Going { call, steps, turns });
     };
@@ -147,28 +166,30 @@ fn step<O: Spoken>(
 ///
 /// An `Err` says that memory was refused.
 fn step_on<O: Spoken>(
-    world: &mut World<O>,
+    bench: &mut Recorded<O>,
     alloc: Global,
     process: u64,
     most: u64,
 ) -> Result<Option<O::Resp>, AllocError>
-    requires process { process < (world_of world.old).n }
-    requires pending { IsSome ((world_of world.old).call process) }
-    ensures stepped { IfOk result (λ response. record { world = world_of world.new; response = response } ≡ outcome_of_steps (record { object = O.sequential world.old.object; language = O.language }) most (world_of world.old) process) }
-    ensures object { world.new.object ≡ world.old.object }
-    ensures kept { (world.new.row ≡ world.old.row) × ((world_of world.new).n ≡ (world_of world.old).n) }
-    ensures over { IfOk result (λ response. most_steps (world_of world.old).n ≤ most → IsSome response) }
+    requires process { process < (world_of bench.old.world).n }
+    requires pending { IsSome ((world_of bench.old.world).call process) }
+    ensures object { bench.new.world.object ≡ bench.old.world.object }
+    ensures bench { OnOk result (bench_of bench.new ≡ bench_after (record { object = O.sequential bench.old.world.object; language = O.language }) (bench_of bench.old)
+        (steps_of process (steps_taken most (last_step (record { object = O.sequential bench.old.world.object; language = O.language }) (world_of bench.old.world) process most)))) }
+    ensures processes { (world_of bench.new.world).n ≡ (world_of bench.old.world).n }
+    ensures response { IfOk result (λ response. response ≡ option_map (λ last. last.response) (last_step (record { object = O.sequential bench.old.world.object; language = O.language }) (world_of bench.old.world) process most)) }
+    ensures over { IfOk result (λ response. most_steps (world_of bench.old.world).n ≤ most → IsSome response) }
 {
+    bench.promise();
     for _ in 0..most {
-        match world.step(alloc, process) {
+        match bench.step(alloc, process) {
             Ok(Progress::Done(response)) => return Ok(Some(response)),
             Ok(Progress::Going) => {}
-            Err(StepFault::Memory) => return Err(AllocError),
+            Err(RecordStepFault::Memory) => return Err(AllocError),
             // There is such a process, and it has a call.
-            Err(StepFault::BadProcess | StepFault::Idle(_)) => unreachable!(),
+            Err(RecordStepFault::BadProcess | RecordStepFault::Idle(_)) => unreachable!(),
         }
     }
-    world.shape();
     Ok(None)
 }
 

@@ -16,11 +16,12 @@ pub trait Shared: Spoken {
     ghost bench: { Bench Self.State Self.Inv Self.Resp → ScriptBench };
 
     /// On it words are a command of the object.
-    ghost words: { (object : Self) (number : ℕ) (b : Bench Self.State Self.Inv Self.Resp) (words : List (List ℕ)) →
-        outcome_of_words number (Some (bench b)) words ≡ outcome_of_command (record { object = Self.sequential object; language = Self.language }) bench number b words };
+    ghost words: { (object : Self) (limit number : ℕ) (b : Bench Self.State Self.Inv Self.Resp) (words : List (List ℕ)) →
+        outcome_of_words limit number (Some (bench b)) words ≡ outcome_of_command (record { object = Self.sequential object; language = Self.language }) bench number b words };
 
     /// It has done as much as that of the object.
-    ghost summary: { (lines : ℕ) (b : Bench Self.State Self.Inv Self.Resp) → summary_of_bench lines (bench b) ≡ summary_of lines b };
+    ghost summary: { (object : Self) (lines : ℕ) (b : Bench Self.State Self.Inv Self.Resp) →
+        summary_of_bench lines (bench b) ≡ summary_of (record { object = Self.sequential object; language = Self.language }) lines b };
 }
 
 impl Shared for QueueObject {
@@ -30,9 +31,9 @@ impl Shared for QueueObject {
 
     ghost bench = { script_bench Queue };
 
-    ghost words = { λ object number b words. refl };
+    ghost words = { λ object limit number b words. refl };
 
-    ghost summary = { λ lines b. refl };
+    ghost summary = { λ object lines b. refl };
 }
 
 impl Shared for DirectoryObject {
@@ -42,9 +43,9 @@ impl Shared for DirectoryObject {
 
     ghost bench = { script_bench Directory };
 
-    ghost words = { λ object number b words. refl };
+    ghost words = { λ object limit number b words. refl };
 
-    ghost summary = { λ lines b. refl };
+    ghost summary = { λ object lines b. refl };
 }
 
 impl Shared for BookObject {
@@ -54,9 +55,9 @@ impl Shared for BookObject {
 
     ghost bench = { script_bench Book };
 
-    ghost words = { λ object number b words. refl };
+    ghost words = { λ object limit number b words. refl };
 
-    ghost summary = { λ lines b. refl };
+    ghost summary = { λ object lines b. refl };
 }
 
 impl Shared for StickyObject {
@@ -66,7 +67,7 @@ impl Shared for StickyObject {
 
     ghost bench = { script_bench Sticky };
 
-    ghost words = { λ object number b words. refl };
+    ghost words = { λ object limit number b words. refl };
 
-    ghost summary = { λ lines b. refl };
+    ghost summary = { λ object lines b. refl };
 }

@@ -1,13 +1,13 @@
 //! The replay of a script.
 
-ghost use Rattle.std.specs.Prelude.{◌≡◌, ◌≢◌, ◌↔◌, ◌⊎◌, [], true, false, None, Some, IfSome, IfNone, IfOk, IfErr, OnOk, IsErrOf};
+ghost use Rattle.std.specs.Prelude.{ℕ, ◌≡◌, ◌≢◌, ◌↔◌, ◌⊎◌, [], true, false, None, Some, IfSome, IfNone, IfOk, IfErr, OnOk, IsErrOf};
 ghost use Rattle.std.specs.Io.KnownBytes.{IsAtEnd};
 ghost use Rattle.ready_objects.specs.Words.{bytes_of};
 ghost use Rattle.uni_script.specs.Meaning.{bench_of, opened_bench, bench_of_header, outcome_of_text, outcome_of_fault, outcome_of_command, outcome_of_short_line, outcome_of_end};
 ghost use Rattle.uni_script.specs.Script.{IsInRange};
 ghost use Rattle.uni_script.specs.Reading.{IsHeld, EndsAs, WritesAs, RunsOn, IsFaultOfLine};
 ghost use Rattle.uni_script.specs.Summaries.{summary_of};
-ghost use Rattle.uni_script.specs.Replays.{IsReplay, IsSummary, HasAnswered, IsPartOfReplay, IsFaultOfScript};
+ghost use Rattle.uni_script.specs.Replays.{IsHistory, IsReplay, IsSummary, HasAnswered, IsPartOfReplay, IsFaultOfScript};
 
 use crate::answer::{Answer, push_answer};
 use crate::commands::{make, open};
@@ -19,11 +19,14 @@ use crate::objects::Shared;
 use crate::summary::{Summary, summary_of};
 use ready_objects::{BookObject, DirectoryObject, QueueObject, StickyObject};
 use std::alloc::{AllocError, Global};
-use uni_core::World;
+use uni_record::Recorded;
 
-/// What a run of the bench can be told. There is nothing yet.
+/// What a run of the bench can be told.
 #[derive(Clone, Copy, Debug, PartialEq, Eq)]
-pub struct Options {}
+pub struct Options {
+    /// How many events there can be, from 1 to 16,777,216.
+    pub history: u64,
+}
 
 /// Runs the script that a reader has, and writes its answers; the answer is how much it has done.
 ///
@@ -38,21 +41,21 @@ pub fn bench<I: TextIn, O: TextOut>(
     writer: &mut O,
     options: &Options,
 ) -> Result<Summary, BenchFault>
+    requires history { IsHistory options.now.history }
     requires reader { I.has_failed reader.old ≡ false }
     requires writer { O.has_failed writer.old ≡ false }
-    ensures replayed { OnOk result (IsReplay (I.remaining reader.old) (O.contents writer.old) (O.contents writer.new) None) }
-    ensures summary { IfOk result (IsSummary (I.remaining reader.old)) }
+    ensures replayed { OnOk result (IsReplay options.now.history (I.remaining reader.old) (O.contents writer.old) (O.contents writer.new) None) }
+    ensures summary { IfOk result (IsSummary options.now.history (I.remaining reader.old)) }
     ensures all_read { OnOk result (IsAtEnd (I.remaining reader.new)) }
-    ensures fault { IfErr result (λ e. IsFaultOfScript e → IsReplay (I.remaining reader.old) (O.contents writer.old) (O.contents writer.new) (Some e)) }
-    ensures read { IsErrOf result BenchFault.Read → HasAnswered (I.remaining reader.old) (I.remaining reader.new) (O.contents writer.old) (O.contents writer.new) }
-    ensures part { IfErr result (λ e. IsPartOfReplay (I.remaining reader.old) (O.contents writer.old) (O.contents writer.new)) }
+    ensures fault { IfErr result (λ e. IsFaultOfScript e → IsReplay options.now.history (I.remaining reader.old) (O.contents writer.old) (O.contents writer.new) (Some e)) }
+    ensures read { IsErrOf result BenchFault.Read → HasAnswered options.now.history (I.remaining reader.old) (I.remaining reader.new) (O.contents writer.old) (O.contents writer.new) }
+    ensures part { IfErr result (λ e. IsPartOfReplay options.now.history (I.remaining reader.old) (O.contents writer.old) (O.contents writer.new)) }
     ensures reader { IsErrOf result BenchFault.Read → I.has_failed reader.new ≡ true }
     ensures reader_ok { OnOk result (I.has_failed reader.new ≡ false) }
     ensures writer { IsErrOf result BenchFault.Write ↔ (O.has_failed writer.new ≡ true) }
 {
-    let Options {} = options;
     let mut lines = Lines::new();
-    run_script(alloc, &mut lines, reader, writer)
+    run_script(alloc, options.history, &mut lines, reader, writer)
 }
 
 /// Runs the lines that are left of a script, of which none was a header, and writes their answers; the
@@ -62,14 +65,16 @@ pub fn bench<I: TextIn, O: TextOut>(
 /// fault of what was read.
 fn run_script<I: TextIn, W: TextOut>(
     alloc: Global,
+    history: u64,
     lines: &mut Lines,
     reader: &mut I,
     writer: &mut W,
 ) -> Result<Summary, BenchFault>
+    requires history { IsHistory history }
     requires held { IsHeld lines.old }
     requires reader { I.has_failed reader.old ≡ false }
     requires writer { W.has_failed writer.old ≡ false }
-    ensures run { RunsOn (I.remaining reader.old) lines.old (W.contents writer.old) None (I.remaining reader.new) (W.contents writer.new) result }
+    ensures run { RunsOn history (I.remaining reader.old) lines.old (W.contents writer.old) None (I.remaining reader.new) (W.contents writer.new) result }
     ensures reader { IsErrOf result BenchFault.Read → I.has_failed reader.new ≡ true }
     ensures reader_ok { OnOk result (I.has_failed reader.new ≡ false) }
     ensures writer { IsErrOf result BenchFault.Write ↔ (W.has_failed writer.new ≡ true) }
@@ -83,7 +88,7 @@ fn run_script<I: TextIn, W: TextOut>(
             Err(Stop::TooMany) => return Err(BenchFault::TooMany),
         }
         if let Some(header) = read_header(alloc, lines.count, lines.line())? {
-            return run_header(alloc, header, lines, reader, writer);
+            return run_header(alloc, header, history, lines, reader, writer);
         }
     }
 }
@@ -93,10 +98,10 @@ fn run_script<I: TextIn, W: TextOut>(
 ///
 /// `Memory` where memory was refused; any other `Err` is the fault of the line.
 fn read_header(alloc: Global, number: u64, line: &[u8]) -> Result<Option<Header>, BenchFault>
-    ensures note { IfOk result (λ header. IfNone header (outcome_of_short_line number None line.now ≡ record { bench = None; text = []; fault = None })) }
-    ensures header { IfOk result (λ header. IfSome header (λ h. outcome_of_short_line number None line.now ≡ outcome_of_text (bench_of_header h) [])) }
+    ensures note { (limit : ℕ) → IfOk result (λ header. IfNone header (outcome_of_short_line limit number None line.now ≡ record { bench = None; text = []; fault = None })) }
+    ensures header { (limit : ℕ) → IfOk result (λ header. IfSome header (λ h. outcome_of_short_line limit number None line.now ≡ outcome_of_text (bench_of_header limit h) [])) }
     ensures range { IfOk result (λ header. IfSome header IsInRange) }
-    ensures fault { IfErr result (λ e. (e ≡ BenchFault.Memory) ⊎ (outcome_of_short_line number None line.now ≡ outcome_of_fault None e)) }
+    ensures fault { (limit : ℕ) → IfErr result (λ e. (e ≡ BenchFault.Memory) ⊎ (outcome_of_short_line limit number None line.now ≡ outcome_of_fault None e)) }
     ensures own { IfErr result IsFaultOfLine }
 {
     if !is_plain(line) {
@@ -121,28 +126,46 @@ fn read_header(alloc: Global, number: u64, line: &[u8]) -> Result<Option<Header>
 fn run_header<I: TextIn, W: TextOut>(
     alloc: Global,
     header: Header,
+    history: u64,
     lines: &mut Lines,
     reader: &mut I,
     writer: &mut W,
 ) -> Result<Summary, BenchFault>
     requires range { IsInRange header }
+    requires history { IsHistory history }
     requires held { IsHeld lines.old }
     requires reader { I.has_failed reader.old ≡ false }
     requires writer { W.has_failed writer.old ≡ false }
-    ensures run { RunsOn (I.remaining reader.old) lines.old (W.contents writer.old) (Some (bench_of_header header)) (I.remaining reader.new) (W.contents writer.new) result }
+    ensures run { RunsOn history (I.remaining reader.old) lines.old (W.contents writer.old) (Some (bench_of_header history header)) (I.remaining reader.new) (W.contents writer.new) result }
     ensures reader { IsErrOf result BenchFault.Read → I.has_failed reader.new ≡ true }
     ensures reader_ok { OnOk result (I.has_failed reader.new ≡ false) }
     ensures writer { IsErrOf result BenchFault.Write ↔ (W.has_failed writer.new ≡ true) }
 {
     match header.object {
-        ObjectName::Queue => run_object(alloc, QueueObject, header, lines, reader, writer),
-        ObjectName::Directory => run_object(alloc, DirectoryObject, header, lines, reader, writer),
-        ObjectName::Book => run_object(alloc, BookObject, header, lines, reader, writer),
-        ObjectName::Sticky => run_object(alloc, StickyObject, header, lines, reader, writer),
+        ObjectName::Queue => run_object(alloc, QueueObject, header, history, lines, reader, writer),
+        ObjectName::Directory => run_object(
+            alloc,
+            DirectoryObject,
+            header,
+            history,
+            lines,
+            reader,
+            writer,
+        ),
+        ObjectName::Book => run_object(alloc, BookObject, header, history, lines, reader, writer),
+        ObjectName::Sticky => run_object(
+            alloc,
+            StickyObject,
+            header,
+            history,
+            lines,
+            reader,
+            writer,
+        ),
     }
 }
 
-/// Opens the world of a header for processes that share this object, runs the lines that are left, and
+/// Opens the record of a header for processes that share this object, runs the lines that are left, and
 /// writes their answers.
 ///
 /// `Memory` where memory was refused, `Write` where the writer failed; any other `Err` is the first
@@ -151,32 +174,34 @@ fn run_object<O: Shared, I: TextIn, W: TextOut>(
     alloc: Global,
     object: O,
     header: Header,
+    history: u64,
     lines: &mut Lines,
     reader: &mut I,
     writer: &mut W,
 ) -> Result<Summary, BenchFault>
     requires range { IsInRange header }
+    requires history { IsHistory history }
     requires held { IsHeld lines.old }
     requires reader { I.has_failed reader.old ≡ false }
     requires writer { W.has_failed writer.old ≡ false }
-    ensures run { RunsOn (I.remaining reader.old) lines.old (W.contents writer.old) (Some (O.bench (opened_bench (record { object = O.sequential object; language = O.language }) header))) (I.remaining reader.new) (W.contents writer.new) result }
+    ensures run { (limit : ℕ) → RunsOn limit (I.remaining reader.old) lines.old (W.contents writer.old) (Some (O.bench (opened_bench (record { object = O.sequential object; language = O.language }) history header))) (I.remaining reader.new) (W.contents writer.new) result }
     ensures reader { IsErrOf result BenchFault.Read → I.has_failed reader.new ≡ true }
     ensures reader_ok { OnOk result (I.has_failed reader.new ≡ false) }
     ensures writer { IsErrOf result BenchFault.Write ↔ (W.has_failed writer.new ≡ true) }
 {
-    let Ok(world) = open(alloc, object, header) else {
+    let Ok(bench) = open(alloc, object, header, history) else {
         return Err(BenchFault::Memory);
     };
-    run_commands(alloc, world, lines, reader, writer)
+    run_commands(alloc, bench, lines, reader, writer)
 }
 
-/// Runs the lines that are left on a world, and writes their answers.
+/// Runs the lines that are left on a record, and writes their answers.
 ///
 /// `Memory` where memory was refused, `Write` where the writer failed; any other `Err` is the first
 /// fault of what was read.
 fn run_commands<O: Shared, I: TextIn, W: TextOut>(
     alloc: Global,
-    mut world: World<O>,
+    mut bench: Recorded<O>,
     lines: &mut Lines,
     reader: &mut I,
     writer: &mut W,
@@ -184,15 +209,15 @@ fn run_commands<O: Shared, I: TextIn, W: TextOut>(
     requires held { IsHeld lines.old }
     requires reader { I.has_failed reader.old ≡ false }
     requires writer { W.has_failed writer.old ≡ false }
-    ensures run { RunsOn (I.remaining reader.old) lines.old (W.contents writer.old) (Some (O.bench (bench_of world))) (I.remaining reader.new) (W.contents writer.new) result }
+    ensures run { (limit : ℕ) → RunsOn limit (I.remaining reader.old) lines.old (W.contents writer.old) (Some (O.bench (bench_of bench))) (I.remaining reader.new) (W.contents writer.new) result }
     ensures reader { IsErrOf result BenchFault.Read → I.has_failed reader.new ≡ true }
     ensures reader_ok { OnOk result (I.has_failed reader.new ≡ false) }
     ensures writer { IsErrOf result BenchFault.Write ↔ (W.has_failed writer.new ≡ true) }
 {
     loop {
         match lines.take(reader) {
-            Ok(()) => answer_line(alloc, &mut world, lines.count, lines.line(), writer)?,
-            Err(Stop::End) => return answer_end(alloc, &world, lines.count, writer),
+            Ok(()) => answer_line(alloc, &mut bench, lines.count, lines.line(), writer)?,
+            Err(Stop::End) => return answer_end(alloc, &bench, lines.count, writer),
             Err(Stop::Failed) => return Err(BenchFault::Read),
             Err(Stop::TooLong) => return Err(BenchFault::TooLong(lines.count + 1)),
             Err(Stop::TooMany) => return Err(BenchFault::TooMany),
@@ -200,19 +225,19 @@ fn run_commands<O: Shared, I: TextIn, W: TextOut>(
     }
 }
 
-/// Writes the last line of a script that has so many lines and has left a world; the answer is how much
+/// Writes the last line of a script that has so many lines and has left a record; the answer is how much
 /// it has done.
 ///
 /// `Memory` where memory was refused, `Write` where the writer failed.
 fn answer_end<O: Shared, W: TextOut>(
     alloc: Global,
-    world: &World<O>,
+    bench: &Recorded<O>,
     lines: u64,
     writer: &mut W,
 ) -> Result<Summary, BenchFault>
     requires { W.has_failed writer.old ≡ false }
-    ensures outcome { WritesAs (outcome_of_end lines (Some (O.bench (bench_of world.now)))) (W.contents writer.old) (W.contents writer.new) result }
-    ensures summary { IfOk result (λ summary. summary ≡ summary_of lines (bench_of world.now)) }
+    ensures outcome { WritesAs (outcome_of_end lines (Some (O.bench (bench_of bench.now)))) (W.contents writer.old) (W.contents writer.new) result }
+    ensures summary { IfOk result (λ summary. summary ≡ summary_of (record { object = O.sequential bench.now.world.object; language = O.language }) lines (bench_of bench.now)) }
     ensures writer { IsErrOf result BenchFault.Write ↔ (W.has_failed writer.new ≡ true) }
     ensures other { IfErr result (λ e. e ≢ BenchFault.Read) }
 {
@@ -221,48 +246,48 @@ fn answer_end<O: Shared, W: TextOut>(
         return Err(BenchFault::Memory);
     }
     match write_all(writer, text.as_slice()) {
-        Ok(()) => Ok(summary_of(world, lines)),
+        Ok(()) => Ok(summary_of(bench, lines)),
         Err(_) => Err(BenchFault::Write),
     }
 }
 
-/// Runs a line after the header, with its number, on a world, and writes its answer.
+/// Runs a line after the header, with its number, on a record, and writes its answer.
 ///
 /// `Memory` where memory was refused, `Write` where the writer failed; any other `Err` is the fault of
 /// the line.
 fn answer_line<O: Shared, W: TextOut>(
     alloc: Global,
-    world: &mut World<O>,
+    bench: &mut Recorded<O>,
     number: u64,
     line: &[u8],
     writer: &mut W,
 ) -> Result<(), BenchFault>
     requires { W.has_failed writer.old ≡ false }
-    ensures outcome { WritesAs (outcome_of_short_line number (Some (O.bench (bench_of world.old))) line.now) (W.contents writer.old) (W.contents writer.new) result }
-    ensures bench { OnOk result (Some (O.bench (bench_of world.new)) ≡ (outcome_of_short_line number (Some (O.bench (bench_of world.old))) line.now).bench) }
+    ensures outcome { (limit : ℕ) → WritesAs (outcome_of_short_line limit number (Some (O.bench (bench_of bench.old))) line.now) (W.contents writer.old) (W.contents writer.new) result }
+    ensures bench { (limit : ℕ) → OnOk result (Some (O.bench (bench_of bench.new)) ≡ (outcome_of_short_line limit number (Some (O.bench (bench_of bench.old))) line.now).bench) }
     ensures writer { IsErrOf result BenchFault.Write ↔ (W.has_failed writer.new ≡ true) }
     ensures other { IfErr result (λ e. e ≢ BenchFault.Read) }
 {
     let mut text = Vec::new(alloc);
-    run_line(alloc, world, number, line, &mut text)?;
+    run_line(alloc, bench, number, line, &mut text)?;
     match write_all(writer, text.as_slice()) {
         Ok(()) => Ok(()),
         Err(_) => Err(BenchFault::Write),
     }
 }
 
-/// Runs a line after the header, with its number, on a world, and writes its answer after a text.
+/// Runs a line after the header, with its number, on a record, and writes its answer after a text.
 ///
 /// `Memory` where memory was refused; any other `Err` is the fault of the line.
 fn run_line<O: Shared>(
     alloc: Global,
-    world: &mut World<O>,
+    bench: &mut Recorded<O>,
     number: u64,
     line: &[u8],
     text: &mut Vec<u8>,
 ) -> Result<(), BenchFault>
-    ensures outcome { EndsAs (outcome_of_short_line number (Some (O.bench (bench_of world.old))) line.now) text.old.items text.new.items result }
-    ensures bench { OnOk result (Some (O.bench (bench_of world.new)) ≡ (outcome_of_short_line number (Some (O.bench (bench_of world.old))) line.now).bench) }
+    ensures outcome { (limit : ℕ) → EndsAs (outcome_of_short_line limit number (Some (O.bench (bench_of bench.old))) line.now) text.old.items text.new.items result }
+    ensures bench { (limit : ℕ) → OnOk result (Some (O.bench (bench_of bench.new)) ≡ (outcome_of_short_line limit number (Some (O.bench (bench_of bench.old))) line.now).bench) }
     ensures own { IfErr result IsFaultOfLine }
 {
     if !is_plain(line) {
@@ -274,7 +299,7 @@ fn run_line<O: Shared>(
     let Ok(words) = words_of(alloc, line) else {
         return Err(BenchFault::Memory);
     };
-    run_words(alloc, world, number, words.as_slice(), text)
+    run_words(alloc, bench, number, words.as_slice(), text)
 }
 
 /// Makes the command that words are, and writes its answer after a text.
@@ -282,19 +307,19 @@ fn run_line<O: Shared>(
 /// `Memory` where memory was refused; `BadLine` where the words are no command.
 fn run_words<O: Shared>(
     alloc: Global,
-    world: &mut World<O>,
+    bench: &mut Recorded<O>,
     number: u64,
     words: &[&[u8]],
     text: &mut Vec<u8>,
 ) -> Result<(), BenchFault>
-    ensures outcome { EndsAs (outcome_of_command (record { object = O.sequential world.old.object; language = O.language }) O.bench number (bench_of world.old) (bytes_of words.now)) text.old.items text.new.items result }
-    ensures bench { OnOk result (Some (O.bench (bench_of world.new)) ≡ (outcome_of_command (record { object = O.sequential world.old.object; language = O.language }) O.bench number (bench_of world.old) (bytes_of words.now)).bench) }
+    ensures outcome { EndsAs (outcome_of_command (record { object = O.sequential bench.old.world.object; language = O.language }) O.bench number (bench_of bench.old) (bytes_of words.now)) text.old.items text.new.items result }
+    ensures bench { OnOk result (Some (O.bench (bench_of bench.new)) ≡ (outcome_of_command (record { object = O.sequential bench.old.world.object; language = O.language }) O.bench number (bench_of bench.old) (bytes_of words.now)).bench) }
     ensures own { IfErr result IsFaultOfLine }
 {
     let Some(command) = command_of::<O>(words) else {
         return Err(BenchFault::BadLine(number));
     };
-    match make(world, alloc, command, text) {
+    match make(bench, alloc, command, text) {
         Ok(()) => Ok(()),
         Err(AllocError) => Err(BenchFault::Memory),
     }

@@ -1,11 +1,12 @@
 //! How much a script has done.
 
 ghost use Rattle.std.specs.Prelude.{◌≡◌};
+ghost use Rattle.uni_record.specs.Stored.{events_shown};
 ghost use Rattle.uni_script.specs.Meaning.{bench_of};
-ghost use Rattle.uni_script.specs.Summaries.{summary_of};
+ghost use Rattle.uni_script.specs.Summaries.{calls_in, summary_of};
 
 use ready_objects::Spoken;
-use uni_core::World;
+use uni_record::{Event, Recorded};
 
 /// How much a script has done.
 #[derive(Clone, Copy, Debug, PartialEq, Eq)]
@@ -18,25 +19,27 @@ pub struct Summary {
     pub returns: u64,
 }
 
-/// The summary of a script of so many lines that has left this world.
-pub fn summary_of<O: Spoken>(world: &World<O>, lines: u64) -> Summary
-    ensures { result ≡ summary_of lines (bench_of world.now) }
+/// The summary of a script of so many lines that has left this record.
+pub fn summary_of<O: Spoken>(bench: &Recorded<O>, lines: u64) -> Summary
+    ensures { result ≡ summary_of (record { object = O.sequential bench.now.world.object; language = O.language }) lines (bench_of bench.now) }
 {
-    world.shape();
-    let mut calls = 0;
-    let mut returns = 0;
-    for process in 0..world.processes() {
-        let begun = world.begun(process);
-        calls += begun;
-        returns += if world.current(process).is_some() {
-            begun.saturating_sub(1)
-        } else {
-            begun
-        };
-    }
+    bench.promise();
     Summary {
         lines,
-        calls,
-        returns,
+        calls: calls_in(bench.events()),
+        returns: bench.returns().len() as u64,
     }
+}
+
+/// How many of some events are calls.
+fn calls_in<I>(events: &[Event<I>]) -> u64
+    ensures { result ≡ calls_in (events_shown events.now) }
+{
+    let mut calls = 0;
+    for event in events {
+        if let Event::Call(_, _) = event {
+            calls += 1;
+        }
+    }
+    calls
 }

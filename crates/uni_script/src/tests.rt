@@ -17,12 +17,15 @@ use std::test::Fail;
 use uni_core::{Progress, World};
 use uni_log::{Entry, Log};
 
+/// What the bench is told where its history is long enough.
+const OPTIONS: Options = Options { history: 1_048_576 };
+
 /// Asserts what the bench writes for a script, and how it ends.
 fn runs(rt: &impl Abort, alloc: Global, script: &str, want: &str, outcome: Result<(), BenchFault>) {
     let mut text = Vec::new(alloc);
     let mut reader = Checked::new(script.as_bytes());
     let mut writer = Checked::new(&mut text);
-    let ended = bench(alloc, &mut reader, &mut writer, &Options {}).map(|_| ());
+    let ended = bench(alloc, &mut reader, &mut writer, &OPTIONS).map(|_| ());
     assert_eq!(rt; ended, outcome, "{script}");
     assert!(rt; !TextIn::failed(&reader) && !TextOut::failed(&writer));
     assert_eq!(rt; text.as_slice(), want.as_bytes(), "{script}");
@@ -204,7 +207,7 @@ fn summaries(rt: HostRuntime) {
             rt.alloc(),
             &mut Checked::new(script.as_bytes()),
             &mut Checked::new(&mut text),
-            &Options {},
+            &OPTIONS,
         );
         let summary = Summary {
             lines,
@@ -257,7 +260,7 @@ fn lines_that_are_no_commands(rt: HostRuntime) {
             rt.alloc(),
             &mut reader,
             &mut Checked::new(&mut text),
-            &Options {},
+            &OPTIONS,
         );
         assert_eq!(rt; outcome, Err(BenchFault::BadLine(2)), "{line}");
         assert_eq!(rt; text.len(), 0, "{line}");
@@ -282,7 +285,7 @@ fn ends_that_fail(rt: HostRuntime) {
         rt.alloc(),
         &mut reader,
         &mut Checked::new(&mut text),
-        &Options {},
+        &OPTIONS,
     );
     assert_eq!(rt; outcome, Err(BenchFault::Read));
     assert!(rt; reader.failed());
@@ -294,7 +297,7 @@ fn ends_that_fail(rt: HostRuntime) {
         rt.alloc(),
         &mut Checked::new(script.as_slice()),
         &mut writer,
-        &Options {},
+        &OPTIONS,
     );
     let summary = Summary {
         lines: 1,
@@ -506,7 +509,7 @@ fn schedules_are_scripts(rt: HostRuntime) -> Result<(), Fail> {
                 rt.alloc(),
                 &mut Checked::new(script.as_slice()),
                 &mut Checked::new(&mut text),
-                &Options {},
+                &OPTIONS,
             );
             assert!(rt; ended.is_ok(), "{object} {processes}");
             assert!(rt; text.ends_with(b"\nend\n"), "{object} {processes}");
@@ -555,7 +558,7 @@ fn pieces_of_any_size(rt: HostRuntime) -> Result<(), Fail> {
                 most,
             }),
             &mut Checked::new(&mut text),
-            &Options {},
+            &OPTIONS,
         );
         let summary = Summary {
             lines: 1502,
@@ -595,7 +598,7 @@ fn readers_without_an_end(rt: HostRuntime) {
             rt.alloc(),
             &mut Checked::new(Endless { text }),
             &mut Checked::new(&mut answers),
-            &Options {},
+            &OPTIONS,
         );
         assert_eq!(rt; ended, Err(fault));
         assert_eq!(rt; answers.len(), 0);
@@ -659,7 +662,7 @@ fn answers_come_before_the_next_line_is_read(rt: HostRuntime) {
             written: &written,
         }),
         &mut Checked::new(Counting { written: &written }),
-        &Options {},
+        &OPTIONS,
     );
     let summary = Summary {
         lines: 4,

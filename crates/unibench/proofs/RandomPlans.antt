@@ -1,15 +1,18 @@
--- What words ask of a schedule is a plan whose numbers are in range.
+-- What words ask for has numbers that are in range.
 use Rattle.std.proofs.Common.{◌≡◌, ◌∙◌, ℕ, ◌≤◌, Bool, true, false, codes, List, Option, Some, None, option_map, option_and_then, if◌then◌else◌, refl, subst, ap}
 use Rattle.std.specs.Str.{bytes_eq}
 use Rattle.std.specs.Str.Parse.{without_leading_plus}
 use Rattle.clap.specs.Words.{Row, Text, first_of}
 use Rattle.uni_script.specs.Script.{object_of_word}
+use Rattle.uni_script.specs.Replays.{IsHistory}
 use Rattle.uni_script.specs.Schedules.{IsPlan}
+use Rattle.uni_script.specs.declared.replay.Options.{Options}
 use Rattle.uni_script.specs.declared.grammar.ObjectName.{ObjectName}
 use Rattle.unibench.specs.CommandLine.{request_in}
-use Rattle.unibench.specs.Plans.{number_in, plan_of, random_of, random_with, value_of}
+use Rattle.unibench.specs.Plans.{number_in, options_of, plan_of, random_of, random_with, value_of}
 use Rattle.unibench.specs.declared.request.Plan.{Plan}
 use Rattle.unibench.specs.declared.request.RandomPlan.{RandomPlan}
+use Rattle.unibench.specs.declared.request.Request.{Request}
 use Rattle.unibench.specs.declared.request.Request.TheVariants.{Replay, Random, Threads}
 use Rattle.unibench.proofs.PlanValues.{value_in-range}
 
@@ -38,8 +41,22 @@ random_of-IsPlan rows plan is =
     random_with-IsPlan (value_of object_of_word (codes "object") rows) _ _ _ _ plan
     (read-range 1 64 (first_of (codes "processes") rows)) (read-range 1 4096 (first_of (codes "row") rows)) (read-range 1 99000 (first_of (codes "events") rows)) is
 
+options_of-IsHistory : (rows : List Row) (options : Options) → options_of rows ≡ Some options → IsHistory options.history
+options_of-IsHistory rows options is = at (value_of (number_in 1 16777216) (codes "history") rows) (read-range 1 16777216 (first_of (codes "history") rows)) is
+  where
+    at : (o : Option ℕ) → ((n : ℕ) → o ≡ Some n → (1 ≤ n) × (n ≤ 16777216)) → option_map (λ h. record { history = h }) o ≡ Some options → IsHistory options.history
+    at None range e = absurd (let bad : None ≡ Some options = e in cc)
+    at (Some n) range e =
+        let of : Options = record { history = n } in
+        let same : of ≡ options = (let some : Some of ≡ Some options = e in cc) in
+        subst (λ (p : Options). IsHistory p.history) same (range n refl)
+
+-- what is asked for by the name of the subcommand
+abbrev asked_by : (rows : List Row) (random threads : Bool) → Option Request
+asked_by rows random threads = if random then option_map Random (random_of rows) else if threads then option_map Threads (plan_of rows) else option_map Replay (options_of rows)
+
 pub IsPlan-asked : (o : Option (Text × List Row)) (plan : RandomPlan) → request_in o ≡ Some (Random plan) → IsPlan plan.schedule
-IsPlan-asked None plan e = absurd (let bad : Some Replay ≡ Some (Random plan) = e in cc)
+IsPlan-asked None plan e = absurd (let bad : None ≡ Some (Random plan) = e in cc)
 IsPlan-asked (Some (name, rows)) plan e = by_name (bytes_eq name (codes "random")) (bytes_eq name (codes "threads")) e where
   of_random : (o : Option RandomPlan) → random_of rows ≡ o → option_map Random o ≡ Some (Random plan) → IsPlan plan.schedule
   of_random None is same = absurd (let bad : None ≡ Some (Random plan) = same in cc)
@@ -49,8 +66,31 @@ IsPlan-asked (Some (name, rows)) plan e = by_name (bytes_eq name (codes "random"
   of_threads None same = let bad : None ≡ Some (Random plan) = same in cc
   of_threads (Some p) same = let bad : Some (Threads p) ≡ Some (Random plan) = same in cc
 
-  by_name : (r t : Bool) → (if r then option_map Random (random_of rows) else if t then option_map Threads (plan_of rows) else Some Replay) ≡ Some (Random plan)
-      → IsPlan plan.schedule
+  of_replay : (o : Option Options) → option_map Replay o ≡ Some (Random plan) → ⊥
+  of_replay None same = let bad : None ≡ Some (Random plan) = same in cc
+  of_replay (Some p) same = let bad : Some (Replay p) ≡ Some (Random plan) = same in cc
+
+  by_name : (r t : Bool) → asked_by rows r t ≡ Some (Random plan) → IsPlan plan.schedule
   by_name true t same = of_random (random_of rows) refl same
   by_name false true same = absurd (of_threads (plan_of rows) same)
-  by_name false false same = absurd (let bad : Some Replay ≡ Some (Random plan) = same in cc)
+  by_name false false same = absurd (of_replay (options_of rows) same)
+
+pub IsHistory-asked : (o : Option (Text × List Row)) (options : Options) → request_in o ≡ Some (Replay options) → IsHistory options.history
+IsHistory-asked None options e = absurd (let bad : None ≡ Some (Replay options) = e in cc)
+IsHistory-asked (Some (name, rows)) options e = by_name (bytes_eq name (codes "random")) (bytes_eq name (codes "threads")) e where
+  of_random : (o : Option RandomPlan) → option_map Random o ≡ Some (Replay options) → ⊥
+  of_random None same = let bad : None ≡ Some (Replay options) = same in cc
+  of_random (Some p) same = let bad : Some (Random p) ≡ Some (Replay options) = same in cc
+
+  of_threads : (o : Option Plan) → option_map Threads o ≡ Some (Replay options) → ⊥
+  of_threads None same = let bad : None ≡ Some (Replay options) = same in cc
+  of_threads (Some p) same = let bad : Some (Threads p) ≡ Some (Replay options) = same in cc
+
+  of_replay : (o : Option Options) → options_of rows ≡ o → option_map Replay o ≡ Some (Replay options) → IsHistory options.history
+  of_replay None is same = absurd (let bad : None ≡ Some (Replay options) = same in cc)
+  of_replay (Some p) is same = options_of-IsHistory rows options (is ∙ ap Some (let one : Some (Replay p) ≡ Some (Replay options) = same in let it : p ≡ options = cc in it))
+
+  by_name : (r t : Bool) → asked_by rows r t ≡ Some (Replay options) → IsHistory options.history
+  by_name true t same = absurd (of_random (random_of rows) same)
+  by_name false true same = absurd (of_threads (plan_of rows) same)
+  by_name false false same = of_replay (options_of rows) refl same

@@ -21,7 +21,7 @@ status_of_memory status is = elim is [
 
 -- it is a run of anything that has read and written nothing
 pub run_of_memory : (r : Request) (left old : Option (List ℕ)) (failed : Bool) (status : ℕ) → failed ≡ false → status ≡ 4 → IsRunOf r left left old old failed status
-run_of_memory Replay left old failed status good four = record { replayed = λ e. cc; bad = λ e. cc; read = λ e _. cc; part = IsPartOfReplay-start _ _ }
+run_of_memory (Replay options) left old failed status good four = record { replayed = λ e. cc; bad = λ e. cc; read = λ e _. cc; part = IsPartOfReplay-start options.history _ _ }
 run_of_memory (Random plan) left old failed status good four =
     record { statuses = inr (inr four); drawn = λ e. cc; front = λ e. cc; failed = ((λ e. cc), (λ e. cc)); nothing = λ e. refl }
 run_of_memory (Threads plan) left old failed status good four =
@@ -43,7 +43,7 @@ threads_told old new failed status four told = by_fault told.fault told.status_i
     by_fault bench.Memory is front whole = record { fault = Memory; status_is = four; front = front; whole = whole }
 
 pub told_by_memory : (r : Request) (old new : Option (List ℕ)) (failed : Bool) (status : ℕ) → status ≡ 4 → TellsFault old new failed status → Tells r old new failed status
-told_by_memory Replay old new failed status four told = told
+told_by_memory (Replay options) old new failed status four told = told
 told_by_memory (Random plan) old new failed status four told = told
 told_by_memory (Threads plan) old new failed status four told = threads_told old new failed status four told
 

@@ -5,7 +5,7 @@ use Rattle.clap.specs.Words.{App, Row, Rule, Text, Kinds, IsAmong, new_app, new_
 use Rattle.clap.proofs.OnLiterals.{clap_on_literals}
 use Rattle.clap.specs.declared.error.kind.ErrorKind.TheVariants.{DisplayHelp, DisplayVersion, InvalidSubcommand, MissingSubcommand, UnknownArgument}
 use Rattle.uni_script.specs.declared.grammar.ObjectName.TheVariants as shared
-use Rattle.unibench.specs.Plans.{plan_of, random_of}
+use Rattle.unibench.specs.Plans.{options_of, plan_of, random_of}
 use Rattle.unibench.specs.declared.request.Request.{Request}
 use Rattle.unibench.specs.declared.request.Request.TheVariants.{Replay, Random, Threads}
 use Rattle.unibench.specs.declared.request.Form.TheVariants.{Lock, Words}
@@ -20,7 +20,7 @@ abbrev pub option : (name value : Text) → Rule
 option name value = record (new_rule name) { long = Some name; value_names = 1; defaults = value ∷ [] }
 
 abbrev pub replay_command : App
-replay_command = new_app (codes "replay")
+replay_command = with_rule (new_app (codes "replay")) (option (codes "history") (codes "1048576"))
 
 abbrev pub random_command : App
 random_command =
@@ -52,11 +52,11 @@ faults_of_words words = fault_of unibench words
 
 -- what the subcommand asks for, by its name and its matches; nothing where an option has a value that it doesn't take
 abbrev pub request_in : Option (Text × List Row) → Option Request
-request_in None = Some Replay
+request_in None = None
 request_in (Some (name, rows)) =
     if bytes_eq name (codes "random") then option_map Random (random_of rows)
     else if bytes_eq name (codes "threads") then option_map Threads (plan_of rows)
-    else Some Replay
+    else option_map Replay (options_of rows)
 
 -- what words without a fault ask for
 abbrev pub asked_of : List Text → Option Request
@@ -79,9 +79,17 @@ abbrev pub IsRefused : List Text → Type 0
 IsRefused words = AsksForNothing words × ¬ (MayAskForHelp words)
 
 -- whatever the program's name is
-replay_is_asked : (name : Text) → AsksFor (name ∷ codes "replay" ∷ []) Replay
+replay_is_asked : (name : Text) → AsksFor (name ∷ codes "replay" ∷ []) (Replay (record { history = 1048576 }))
 unfolding clap_on_literals
 replay_is_asked name = (refl, refl)
+
+replay_of_23_events_is_asked : (name : Text) → AsksFor (name ∷ codes "replay" ∷ codes "--history" ∷ codes "23" ∷ []) (Replay (record { history = 23 }))
+unfolding clap_on_literals
+replay_of_23_events_is_asked name = (refl, refl)
+
+no_history : (name : Text) → asked_of (name ∷ codes "replay" ∷ codes "--history=0" ∷ []) ≡ None
+unfolding clap_on_literals
+no_history name = refl
 
 random_by_default : (name : Text) → AsksFor (name ∷ codes "random" ∷ [])
     (Random (record { schedule = record { object = shared.Queue; processes = 2; row = 64; events = 100 }; seed = 1 }))

@@ -1,5 +1,5 @@
--- What the values of the options of `random` and `threads` are.
-use Rattle.std.specs.Prelude.{◌-◌, ◌^◌, ℕ, ◌&&◌, Bool, List, Option, None, Some, codes, if◌then◌else◌, nat_lt, nat_le, length, option_and_then}
+-- What the values of the options of `replay`, `random` and `threads` are.
+use Rattle.std.specs.Prelude.{◌-◌, ◌^◌, ℕ, ◌&&◌, Bool, List, Option, None, Some, option_map, codes, if◌then◌else◌, nat_lt, nat_le, length, option_and_then}
 use Rattle.std.specs.List.{list_all}
 use Rattle.std.specs.Char.{digit_value}
 use Rattle.std.specs.Str.{bytes_eq}
@@ -7,6 +7,7 @@ use Rattle.std.specs.Str.Parse.{digits_value, without_leading_plus}
 use Rattle.clap.specs.Words.{Row, Text, first_of}
 use Rattle.uni_script.specs.declared.grammar.ObjectName.{ObjectName}
 use Rattle.uni_script.specs.Script.{object_of_word}
+use Rattle.uni_script.specs.declared.replay.Options.{Options}
 use Rattle.unibench.specs.declared.request.Form.{Form}
 use Rattle.unibench.specs.declared.request.Form.TheVariants as form
 use Rattle.unibench.specs.declared.request.ThreadsObject.{ThreadsObject}
@@ -45,6 +46,10 @@ number_in least most text = value_in least most (without_leading_plus text)
 -- what a reader makes of the first value of an option
 abbrev pub value_of : {A : Type 0} → (Text → Option A) → (id : Text) → List Row → Option A
 value_of read id rows = option_and_then read (first_of id rows)
+
+-- what a replay is told by the values of the options, if the history is one that its option takes
+abbrev pub options_of : List Row → Option Options
+options_of rows = option_map (λ h. record { history = h }) (value_of (number_in 1 16777216) (codes "history") rows)
 
 -- the plan of these values, if each is there
 abbrev pub plan_with : Option Form → Option ThreadsObject → (processes calls seed : Option ℕ) → Option Plan

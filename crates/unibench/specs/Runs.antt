@@ -16,14 +16,14 @@ pub record IsStatusOfEnds (input_failed output_failed : Bool) (status : ℕ) : T
   pub written : output_failed ≡ true → status ≡ 3
   pub ends : status ≡ 3 → (input_failed ≡ true) ⊎ (output_failed ≡ true)
 
--- A replay that ended with this status, from what the input had left and the output held: 0 only where the script is good and
+-- A replay with a history of so many events at most that ended with this status, from what the input had left and the output held: 0 only where the script is good and
 -- its text was written, 2 only where it has a fault, after the answers before it, 3 after the answers to the whole lines that
 -- the reader gave, where the output hasn't failed. Whatever the status, a front of the text of the script's answers was written.
-pub record IsReplayRun (left left_after old new : Option (List ℕ)) (output_failed : Bool) (status : ℕ) : Type 0 where
-  pub replayed : status ≡ 0 → IsReplay left old new None
-  pub bad : status ≡ 2 → IsBadReplay left old new
-  pub read : status ≡ 3 → output_failed ≡ false → HasAnswered left left_after old new
-  pub part : IsPartOfReplay left old new
+pub record IsReplayRun (limit : ℕ) (left left_after old new : Option (List ℕ)) (output_failed : Bool) (status : ℕ) : Type 0 where
+  pub replayed : status ≡ 0 → IsReplay limit left old new None
+  pub bad : status ≡ 2 → IsBadReplay limit left old new
+  pub read : status ≡ 3 → output_failed ≡ false → HasAnswered limit left left_after old new
+  pub part : IsPartOfReplay limit left old new
 
 -- A schedule that was drawn with this status, from what the output held: 0 only where its text was written, 3 exactly where the
 -- output failed, after a front of it, and 4 for want of memory, where nothing was written.
@@ -47,6 +47,6 @@ pub record IsThreadsRun (plan : Plan) (old new : Option (List ℕ)) (output_fail
 
 -- a run of what was asked for
 abbrev pub IsRunOf : Request → (left left_after old new : Option (List ℕ)) (output_failed : Bool) (status : ℕ) → Type 0
-IsRunOf Replay left left_after old new failed status = IsReplayRun left left_after old new failed status
+IsRunOf (Replay options) left left_after old new failed status = IsReplayRun options.history left left_after old new failed status
 IsRunOf (Random plan) left left_after old new failed status = IsRandomRun plan old new failed status
 IsRunOf (Threads plan) left left_after old new failed status = IsThreadsRun plan old new failed status

@@ -56,7 +56,7 @@ TellsThreadsFault = TellsLine status_of_threads line_of_fault
 
 -- what is told of a fault depends on what was asked for
 abbrev pub Tells : Request → (old new : Option (List ℕ)) (failed : Bool) (status : ℕ) → Type 0
-Tells Replay = TellsFault
+Tells (Replay options) = TellsFault
 Tells (Random plan) = TellsFault
 Tells (Threads plan) = TellsThreadsFault
 

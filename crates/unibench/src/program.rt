@@ -3,7 +3,7 @@
 ghost use Rattle.std.specs.Prelude.{◌≡◌, ◌≢◌, ◌≤◌, ◌⊎◌, ◌↔◌, ◌*◌, true, false, None, IsErrOf, OnOk, OnErr, map};
 ghost use Rattle.std.specs.Io.KnownBytes.{Appends};
 ghost use Rattle.uni_script.specs.Ends.{AppendsFront};
-ghost use Rattle.uni_script.specs.Replays.{IsReplay, IsBadReplay, IsPartOfReplay, HasAnswered};
+ghost use Rattle.uni_script.specs.Replays.{IsHistory, IsReplay, IsBadReplay, IsPartOfReplay, HasAnswered};
 ghost use Rattle.unibench.specs.CommandLine.{AsksFor, IsRefused};
 ghost use Rattle.uni_script.specs.Schedules.{IsPlan};
 ghost use Rattle.unibench.specs.Runs.{IsRandomRun, IsRunOf, IsStatusOfEnds, IsThreadsRun};
@@ -49,11 +49,11 @@ pub fn run<R: Threads + Sync, S: AsStr, I: TextIn, O: TextOut, F: TextOut>(
         → IsRunOf r (I.remaining input.old) (I.remaining input.new) (O.contents output.old) (O.contents output.new) (O.has_failed output.new) result }
     ensures silent { (r : Request) → AsksFor (map S.text words.now) r → result ≡ 0 → faults.new ≡ faults.old }
     ensures told { (r : Request) → AsksFor (map S.text words.now) r → result ≢ 0 → Tells r (F.contents faults.old) (F.contents faults.new) (F.has_failed faults.new) result }
-    ensures unread { ¬ (AsksFor (map S.text words.now) Request.Replay) → input.new ≡ input.old }
+    ensures unread { ((options : Options) → ¬ (AsksFor (map S.text words.now) (Request.Replay options))) → input.new ≡ input.old }
     ensures refused { IsRefused (map S.text words.now) → ((result ≡ 2) ⊎ (result ≡ 4)) × (output.new ≡ output.old) }
 {
     match read_words(alloc, words) {
-        Ok(Some(Request::Replay)) => replay(alloc, input, output, faults),
+        Ok(Some(Request::Replay(options))) => replay(alloc, &options, input, output, faults),
         Ok(Some(Request::Random(plan))) => random(alloc, &plan, output, faults),
         Ok(Some(Request::Threads(plan))) => threads(rt, alloc, &plan, output, faults),
         Ok(None) => {
@@ -151,24 +151,26 @@ fn report_threads<F: TextOut>(alloc: Global, fault: ThreadsFault, faults: &mut F
 /// 4 where memory was refused; the text that says so goes to `faults`, as far as that takes it.
 fn replay<I: TextIn, O: TextOut, F: TextOut>(
     alloc: Global,
+    options: &Options,
     input: &mut I,
     output: &mut O,
     faults: &mut F,
 ) -> u8
+    requires history { IsHistory options.now.history }
     requires input { I.has_failed input.old ≡ false }
     requires output { O.has_failed output.old ≡ false }
     ensures statuses { (result ≤ 4) × (result ≢ 1) }
-    ensures replayed { result ≡ 0 → IsReplay (I.remaining input.old) (O.contents output.old) (O.contents output.new) None }
-    ensures bad { result ≡ 2 → IsBadReplay (I.remaining input.old) (O.contents output.old) (O.contents output.new) }
-    ensures read { result ≡ 3 → O.has_failed output.new ≡ false → HasAnswered (I.remaining input.old) (I.remaining input.new) (O.contents output.old) (O.contents output.new) }
-    ensures part { IsPartOfReplay (I.remaining input.old) (O.contents output.old) (O.contents output.new) }
+    ensures replayed { result ≡ 0 → IsReplay options.now.history (I.remaining input.old) (O.contents output.old) (O.contents output.new) None }
+    ensures bad { result ≡ 2 → IsBadReplay options.now.history (I.remaining input.old) (O.contents output.old) (O.contents output.new) }
+    ensures read { result ≡ 3 → O.has_failed output.new ≡ false → HasAnswered options.now.history (I.remaining input.old) (I.remaining input.new) (O.contents output.old) (O.contents output.new) }
+    ensures part { IsPartOfReplay options.now.history (I.remaining input.old) (O.contents output.old) (O.contents output.new) }
     ensures good { result ≡ 0 → (I.has_failed input.new ≡ false) × (O.has_failed output.new ≡ false) }
     ensures written { O.has_failed output.new ≡ true → result ≡ 3 }
     ensures ends { result ≡ 3 → (I.has_failed input.new ≡ true) ⊎ (O.has_failed output.new ≡ true) }
     ensures silent { result ≡ 0 → faults.new ≡ faults.old }
     ensures told { result ≢ 0 → TellsFault (F.contents faults.old) (F.contents faults.new) (F.has_failed faults.new) result }
 {
-    match bench(alloc, input, output, &Options {}) {
+    match bench(alloc, input, output, options) {
         Ok(_) => 0,
         Err(fault) => report(alloc, fault, faults),
     }

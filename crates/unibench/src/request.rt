@@ -5,12 +5,12 @@ ghost use Rattle.clap.specs.Words.{HasKind, app_of, found_of, rows_of, new_app, 
 ghost use Rattle.clap.specs.declared.builder.command.Command.TheViews.{out-Command};
 ghost use Rattle.unibench.specs.CommandLine.{asked_of, faults_of_words, option, random_command, replay_command, request_in, threads_command, unibench};
 ghost use Rattle.uni_script.specs.Script.{object_of_word};
-ghost use Rattle.unibench.specs.Plans.{form_named, number_in, object_named, plan_of, random_of, value_of};
+ghost use Rattle.unibench.specs.Plans.{form_named, number_in, object_named, options_of, plan_of, random_of, value_of};
 
 use clap::{Arg, ArgMatches, Command};
 use std::alloc::{AllocError, Global};
 use std::convert::AsStr;
-use uni_script::ObjectName;
+use uni_script::{ObjectName, Options};
 
 /// A form of the construction that threads can share.
 #[derive(Clone, Copy, Debug, PartialEq, Eq)]
@@ -180,11 +180,21 @@ fn number_in(text: &str, least: u64, most: u64) -> Option<u64>
     }
 }
 
+/// What a replay is told by the values of the options; `None` where an option has a value that it
+/// doesn't take.
+fn options_of(matches: &ArgMatches<'_>) -> Option<Options>
+    ensures { result ≡ options_of (rows_of (found_of matches.now)) }
+{
+    Some(Options {
+        history: number_of(matches, "history", 1, 16_777_216)?,
+    })
+}
+
 /// What a command line asks for.
 #[derive(Clone, Copy, Debug, PartialEq, Eq)]
 pub enum Request {
     /// The replay of the script on standard input.
-    Replay,
+    Replay(Options),
     /// A schedule that is drawn from a seed.
     Random(RandomPlan),
     /// A run of threads.
@@ -229,16 +239,24 @@ Example:
     unibench replay";
 
 /// The subcommand that replays a script.
-fn replay_command<'a>(alloc: Global) -> Command<'a>
-    ensures app { app_of result ≡ replay_command }
-    ensures local { (out-Command result).has_globals ≡ false }
+fn replay_command<'a>(alloc: Global) -> Result<Command<'a>, AllocError>
+    ensures app { IfOk result (λ command. app_of command ≡ replay_command) }
+    ensures local { IfOk result (λ command. (out-Command command).has_globals ≡ false) }
 {
+    let history = option(
+        alloc,
+        "history",
+        "H",
+        "The most events, from 1 to 16777216",
+        "1048576",
+    );
     described(
         alloc,
         "replay",
         "Runs the script on standard input, and writes its answers",
         REPLAY_NOTES,
     )
+    .arg(history)
 }
 
 /// What the help of `random` says last.
@@ -375,7 +393,7 @@ Examples:
 fn unibench<'a>(alloc: Global) -> Result<Command<'a>, AllocError>
     ensures { IfOk result (λ command. app_of command ≡ unibench) }
 {
-    let replay = replay_command(alloc);
+    let replay = replay_command(alloc)?;
     let random = random_command(alloc)?;
     let threads = threads_command(alloc)?;
     described(
@@ -397,7 +415,8 @@ fn request_in(matches: &ArgMatches<'_>) -> Option<Request>
     match matches.subcommand() {
         Some(("random", random)) => Some(Request::Random(RandomPlan::of(random)?)),
         Some(("threads", threads)) => Some(Request::Threads(Plan::of(threads)?)),
-        _ => Some(Request::Replay),
+        Some((_, replay)) => Some(Request::Replay(options_of(replay)?)),
+        None => None,
     }
 }
 

@@ -30,10 +30,11 @@ Examples:
 const HELP_OF_REPLAY: &str = "\
 Runs the script on standard input, and writes its answers
 
-Usage: unibench replay
+Usage: unibench replay [OPTIONS]
 
 Options:
-  -h, --help  Print help
+      --history <H>  The most events, from 1 to 16777216 [default: 1048576]
+  -h, --help         Print help
 
 The script begins with a header: 'universal 1', the object (queue, directory,
 book or sticky), how many processes share it, from 1 to 16, and how many calls
@@ -153,9 +154,9 @@ For more information, try '--help'.
 ";
 
 const UNKNOWN_OPTION: &str = "\
-error: unexpected argument '--history' found
+error: unexpected argument '--limit' found
 
-Usage: unibench replay
+Usage: unibench replay [OPTIONS]
 
 For more information, try '--help'.
 ";
@@ -173,7 +174,7 @@ For more information, try '--help'.
 const ONE_WORD_MORE: &str = "\
 error: unexpected argument '8' found
 
-Usage: unibench replay
+Usage: unibench replay [OPTIONS]
 
 For more information, try '--help'.
 ";
@@ -208,10 +209,7 @@ fn bad_command_lines(rt: HostRuntime) {
         (["unibench"].as_slice(), NO_SUBCOMMAND),
         (["unibench", "stop"].as_slice(), UNKNOWN_SUBCOMMAND),
         (["unibench", "repaly"].as_slice(), MISSPELT_SUBCOMMAND),
-        (
-            ["unibench", "replay", "--history"].as_slice(),
-            UNKNOWN_OPTION,
-        ),
+        (["unibench", "replay", "--limit"].as_slice(), UNKNOWN_OPTION),
         (
             ["unibench", "random", "--event", "5"].as_slice(),
             MISSPELT_OPTION,

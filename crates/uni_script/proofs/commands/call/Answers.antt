@@ -1,31 +1,51 @@
-use Rattle.std.proofs.Common.{◌≡◌, ◌<◌, ◌≤◌, ◌∙◌, rules, sym, ap, IsSome, None}
-use Rattle.uni_model.specs.Worlds.{calls_in_era}
-use Rattle.uni_core.specs.Whole.{world_of}
-use Rattle.uni_script.specs.Meaning.{bench_of, CommandResult}
-use Rattle.uni_script.proofs.Results.{stays-call_past, stays-call_busy, stays-call_full, bench_is, begun_inside, none_refused-call, result_of_call-begun}
+use Rattle.std.proofs.Common.{◌≡◌, ◌∙◌, sym, ap, subst}
+use Rattle.uni_record.specs.Recording.{IsBeginRefused, standing_of}
+use Rattle.uni_record.specs.declared.event.Event.TheVariants as stored
+use Rattle.uni_script.specs.declared.answer.Refusal.TheVariants.{Process, Busy, Row, History}
+use Rattle.uni_script.specs.Answers.{called_text}
+use Rattle.uni_script.specs.Objects.{SpokenObject}
+use Rattle.uni_script.specs.Meaning.{bench_of, bench_after, CommandResult}
+use Rattle.uni_script.proofs.Stepping.{bench_of-event}
+use Rattle.uni_script.proofs.Results.{refusal_of_call-BadProcess, refusal_of_call-Busy, refusal_of_call-RowFull, refusal_of_call-HistoryFull, refusal_of_call-none, bench_after-refused, result_of_call-begun, result_of_call-refused}
 use Rattle.uni_script.proofs.commands.call.Goals as goal
 
 pub returns-in-Ok-clause-bench : goal.returns-in-Ok-clause-bench
 returns-in-Ok-clause-bench g c =
-    let inside : (world_of c.args.world.now).n ≤ c.args.process → ⊥ = λ h. let e = c.in-Ok.ensures.process.1 h in cc in
-    let idle : IsSome ((world_of c.args.world.now).call c.args.process) → ⊥ = λ h. let e = c.in-Ok.ensures.busy.1 (begun_inside _ _ inside, h) in cc in
-    let room : (world_of c.args.world.now).call c.args.process ≡ None → calls_in_era (world_of c.args.world.now) c.args.process ≡ c.args.world.now.row → ⊥ =
-    λ none h. let e = c.in-Ok.ensures.full.1 (begun_inside _ _ inside, none, h) in cc in
-    bench_is _ _ c.in-Ok.ensures.fixed.row c.in-Ok.ensures.begun
-    ∙ sym (ap (λ (m : CommandResult _ _ _). m.bench) (result_of_call-begun (record { object = g.O.SeqObject.sequential c.args.world.now.object; language = g.O.Spoken.language }) (bench_of c.args.world.now) c.args.process c.args.inv.now
-    (none_refused-call (bench_of c.args.world.now) c.args.process inside idle room)))
+    let o : SpokenObject _ _ _ = record { object = g.O.SeqObject.sequential c.args.bench.now.world.object; language = g.O.Spoken.language } in
+    let b = bench_of c.args.bench.now in
+    bench_of-event o c.args.bench.now c.begin.new.self (stored.Call c.args.process c.args.inv.now) c.in-Ok.ensures.fixed c.in-Ok.ensures.event c.in-Ok.ensures.begun
+    ∙ ap (λ (m : CommandResult _). bench_after o b m.events) (sym (result_of_call-begun b c.args.process c.args.inv.now (refusal_of_call-none c.args.bench.now c.args.process c.in-Ok.ensures.could)))
+
+pub returns-in-Ok-clause-answer : goal.returns-in-Ok-clause-answer
+returns-in-Ok-clause-answer g c =
+    let b = bench_of c.args.bench.now in
+    let named : called_text c.in-Ok.call ≡ called_text (record { process = c.args.process; nth = b.world.begun c.args.process }) = (let id = c.in-Ok.ensures.id in cc) in
+    named ∙ ap (λ (m : CommandResult _). m.text) (sym (result_of_call-begun b c.args.process c.args.inv.now (refusal_of_call-none c.args.bench.now c.args.process c.in-Ok.ensures.could)))
 
 pub returns-in-Err-BadProcess-clause-bench : goal.returns-in-Err-BadProcess-clause-bench
 returns-in-Err-BadProcess-clause-bench g c =
-    let high : (world_of c.args.world.now).n ≤ c.args.process = search rules in
-    stays-call_past (record { object = g.O.SeqObject.sequential c.args.world.now.object; language = g.O.Spoken.language }) (bench_of c.args.world.now) _ (ap bench_of c.in-Err-BadProcess.ensures.unchanged) c.args.process c.args.inv.now high
+    let o : SpokenObject _ _ _ = record { object = g.O.SeqObject.sequential c.args.bench.now.world.object; language = g.O.Spoken.language } in
+    let b = bench_of c.args.bench.now in
+    let why = subst (IsBeginRefused (standing_of c.args.bench.now) c.args.process) c.in-Err-BadProcess.field-0-is c.in-Err-BadProcess.ensures.refused in
+    bench_after-refused o b _ _ (Process c.args.process) (ap bench_of c.in-Err-BadProcess.ensures.unchanged) (result_of_call-refused b c.args.process c.args.inv.now _ (refusal_of_call-BadProcess c.args.bench.now c.args.process why))
 
 pub returns-in-Err-Busy-clause-bench : goal.returns-in-Err-Busy-clause-bench
 returns-in-Err-Busy-clause-bench g c =
-    let busy : (c.args.process < (world_of c.args.world.now).n) × IsSome ((world_of c.args.world.now).call c.args.process) = search rules in
-    stays-call_busy (record { object = g.O.SeqObject.sequential c.args.world.now.object; language = g.O.Spoken.language }) (bench_of c.args.world.now) _ (ap bench_of c.in-Err-Busy.ensures.unchanged) c.args.process c.args.inv.now busy
+    let o : SpokenObject _ _ _ = record { object = g.O.SeqObject.sequential c.args.bench.now.world.object; language = g.O.Spoken.language } in
+    let b = bench_of c.args.bench.now in
+    let why = subst (IsBeginRefused (standing_of c.args.bench.now) c.args.process) c.in-Err-Busy.field-0-is c.in-Err-Busy.ensures.refused in
+    bench_after-refused o b _ _ (Busy c.in-Err-Busy.process) (ap bench_of c.in-Err-Busy.ensures.unchanged) (result_of_call-refused b c.args.process c.args.inv.now _ (refusal_of_call-Busy c.args.bench.now c.args.process c.in-Err-Busy.process why))
 
 pub returns-in-Err-RowFull-clause-bench : goal.returns-in-Err-RowFull-clause-bench
 returns-in-Err-RowFull-clause-bench g c =
-    let full : (c.args.process < (world_of c.args.world.now).n) × ((world_of c.args.world.now).call c.args.process ≡ None) × (calls_in_era (world_of c.args.world.now) c.args.process ≡ c.args.world.now.row) = search rules in
-    stays-call_full (record { object = g.O.SeqObject.sequential c.args.world.now.object; language = g.O.Spoken.language }) (bench_of c.args.world.now) _ (ap bench_of c.in-Err-RowFull.ensures.unchanged) c.args.process c.args.inv.now full
+    let o : SpokenObject _ _ _ = record { object = g.O.SeqObject.sequential c.args.bench.now.world.object; language = g.O.Spoken.language } in
+    let b = bench_of c.args.bench.now in
+    let why = subst (IsBeginRefused (standing_of c.args.bench.now) c.args.process) c.in-Err-RowFull.field-0-is c.in-Err-RowFull.ensures.refused in
+    bench_after-refused o b _ _ (Row c.in-Err-RowFull.process) (ap bench_of c.in-Err-RowFull.ensures.unchanged) (result_of_call-refused b c.args.process c.args.inv.now _ (refusal_of_call-RowFull c.args.bench.now c.args.process c.in-Err-RowFull.process why))
+
+pub returns-in-Err-HistoryFull-clause-bench : goal.returns-in-Err-HistoryFull-clause-bench
+returns-in-Err-HistoryFull-clause-bench g c =
+    let o : SpokenObject _ _ _ = record { object = g.O.SeqObject.sequential c.args.bench.now.world.object; language = g.O.Spoken.language } in
+    let b = bench_of c.args.bench.now in
+    let why = subst (IsBeginRefused (standing_of c.args.bench.now) c.args.process) c.in-Err-HistoryFull.field-0-is c.in-Err-HistoryFull.ensures.refused in
+    bench_after-refused o b _ _ History (ap bench_of c.in-Err-HistoryFull.ensures.unchanged) (result_of_call-refused b c.args.process c.args.inv.now _ (refusal_of_call-HistoryFull c.args.bench.now c.args.process why))

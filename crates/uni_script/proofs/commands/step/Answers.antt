@@ -1,20 +1,25 @@
-use Rattle.std.proofs.Common.{rules, ◌≤◌, ◌∙◌, refl, sym, ap, arith}
-use Rattle.uni_core.specs.Whole.{world_of}
-use Rattle.uni_script.specs.Meaning.{bench_of, CommandResult}
-use Rattle.uni_script.proofs.Results.{stays-steps_past, bench_is, none_refused-step, result_of_steps-taken, result_of_steps-idle}
+use Rattle.std.proofs.Common.{◌≡◌, ◌∙◌, ◌<◌, refl, sym, ap, subst, None, Some}
+use Rattle.uni_core.specs.Whole.{world_of, current_of}
+use Rattle.uni_script.specs.declared.answer.Refusal.TheVariants.{Idle}
+use Rattle.uni_script.specs.Objects.{SpokenObject}
+use Rattle.uni_script.specs.Meaning.{bench_of, bench_after, CommandResult, last_step}
+use Rattle.uni_script.proofs.Results.{refusal_of_step-idle, refusal_of_step-none, result_of_steps-refused, result_of_steps-taken, bench_after-refused}
 use Rattle.uni_script.proofs.commands.step.Goals as goal
 
-pub returns-then-process-processes-clause-bench : goal.returns-then-process-processes-clause-bench
-returns-then-process-processes-clause-bench g c =
-    let high : (world_of c.args.world.now).n ≤ c.args.process = search rules in
-    stays-steps_past (record { object = g.O.SeqObject.sequential c.args.world.now.object; language = g.O.Spoken.language }) (bench_of c.args.world.now) _ refl c.args.process c.args.most high
-
 pub returns-in_default-clause-bench : goal.returns-in_default-clause-bench
-returns-in_default-clause-bench g c = result_of_steps-idle (record { object = g.O.SeqObject.sequential c.args.world.now.object; language = g.O.Spoken.language }) (bench_of c.args.world.now) c.args.process c.args.most (sym c.in_default.is ∙ c.current.ensures)
+returns-in_default-clause-bench g c =
+    let o : SpokenObject _ _ _ = record { object = g.O.SeqObject.sequential c.args.bench.now.world.object; language = g.O.Spoken.language } in
+    let w = world_of c.args.bench.now.world in
+    let low : c.args.process < w.n = (subst (λ v. c.args.process < (world_of v).n) c.world.ensures (subst (λ n. c.args.process < n) c.processes.ensures c.if-process-processes.false)) in
+    let idle : None ≡ current_of w c.args.process = sym c.in_default.is ∙ c.current.ensures ∙ ap (λ v. current_of (world_of v) c.args.process) c.world-2.ensures in
+    bench_after-refused o (bench_of c.args.bench.now) _ _ (Idle c.args.process) refl (result_of_steps-refused o w c.args.process c.args.most _ (refusal_of_step-idle w c.args.process low idle))
 
 pub returns-clause-bench : goal.returns-clause-bench
 returns-clause-bench g c =
-    let inside : (world_of c.args.world.now).n ≤ c.args.process → ⊥ = λ h. let n = c.processes.ensures in let below = c.if-process-processes.false in absurd (omega arith) in
-    bench_is _ _ c.in_ok-response.ensures.kept.0 refl
-    ∙ sym (ap (λ (m : CommandResult _ _ _). m.bench) (result_of_steps-taken (record { object = g.O.SeqObject.sequential c.args.world.now.object; language = g.O.Spoken.language }) (bench_of c.args.world.now) c.args.process c.args.most (record { world = world_of c.step_on.new.world; response = c.in_ok-response.response })
-    (none_refused-step (bench_of c.args.world.now) c.args.process inside c.in-Some.call (sym c.in-Some.is ∙ c.current.ensures)) c.in_ok-response.ensures.stepped))
+    let o : SpokenObject _ _ _ = record { object = g.O.SeqObject.sequential c.args.bench.now.world.object; language = g.O.Spoken.language } in
+    let w = world_of c.args.bench.now.world in
+    let low : c.args.process < w.n = (subst (λ v. c.args.process < (world_of v).n) c.world.ensures (subst (λ n. c.args.process < n) c.processes.ensures c.if-process-processes.false)) in
+    let called : Some c.in-Some.call ≡ current_of w c.args.process = sym c.in-Some.is ∙ c.current.ensures ∙ ap (λ v. current_of (world_of v) c.args.process) c.world-2.ensures in
+    c.in_ok-response.ensures.bench
+    ∙ ap (λ (m : CommandResult _). bench_after o (bench_of c.args.bench.now) m.events)
+    (sym (result_of_steps-taken o w c.args.process c.args.most (refusal_of_step-none w c.args.process c.in-Some.call low called) (last_step o w c.args.process c.args.most) refl))

@@ -5,13 +5,13 @@ use Rattle.uni_script.proofs.replay.bench.Goals as goal
 
 pub returns : goal.returns
 returns g c =
-    let ended = c.run_script.ensures.run _ _ [] (HasRun-start _ _ c.new-lines.result (c.new-lines.ensures.taken _)) in record {
-      replayed = HasEnded-replayed _ _ _ _ c.run_script.result ended;
-      summary = HasEnded-summary _ _ _ _ c.run_script.result ended;
-      all_read = HasEnded-all_read _ _ _ _ c.run_script.result ended;
-      fault = HasEnded-fault _ _ _ _ c.run_script.result ended;
-      read = HasEnded-read _ _ _ _ c.run_script.result ended;
-      part = HasEnded-part _ _ _ _ c.run_script.result ended;
+    let ended = c.run_script.ensures.run _ _ [] (HasRun-start _ _ _ c.new-lines.result (c.new-lines.ensures.taken _)) in record {
+      replayed = HasEnded-replayed c.args.options.now.history _ _ _ _ c.run_script.result ended;
+      summary = HasEnded-summary c.args.options.now.history _ _ _ _ c.run_script.result ended;
+      all_read = HasEnded-all_read c.args.options.now.history _ _ _ _ c.run_script.result ended;
+      fault = HasEnded-fault c.args.options.now.history _ _ _ _ c.run_script.result ended;
+      read = HasEnded-read c.args.options.now.history _ _ _ _ c.run_script.result ended;
+      part = HasEnded-part c.args.options.now.history _ _ _ _ c.run_script.result ended;
       reader = c.run_script.ensures.reader;
       reader_ok = c.run_script.ensures.reader_ok;
       writer = c.run_script.ensures.writer;

@@ -6,15 +6,15 @@ use Rattle.uni_script.proofs.Running.{outcome_of_short_line-words}
 use Rattle.uni_script.proofs.replay.run_line.Goals as goal
 
 pub returns-clause-outcome : goal.returns-clause-outcome
-returns-clause-outcome g c =
+returns-clause-outcome g c = λ limit.
     subst (λ (o : Outcome). EndsAs o c.args.text.now.items c.run_words.new.text.items c.run_words.result)
-    (sym (g.met.O.Shared.words c.args.world.now.object c.args.number (bench_of c.args.world.now) (bytes_of c.as_slice.result.now))
-    ∙ sym (outcome_of_short_line-words c.args.number _ c.args.line.now (bytes_of c.as_slice.result.now) (sym c.if-not-is_plain.ensures) (sym c.if-is_note.ensures) (ap bytes_of c.as_slice.ensures.value ∙ c.in-Ok.ensures)))
+    (sym (g.met.O.Shared.words c.args.bench.now.world.object limit c.args.number (bench_of c.args.bench.now) (bytes_of c.as_slice.result.now))
+    ∙ sym (outcome_of_short_line-words limit c.args.number _ c.args.line.now (bytes_of c.as_slice.result.now) (sym c.if-not-is_plain.ensures) (sym c.if-is_note.ensures) (ap bytes_of c.as_slice.ensures.value ∙ c.in-Ok.ensures)))
     c.run_words.ensures.outcome
 
 pub returns-clause-bench : goal.returns-clause-bench
-returns-clause-bench g c =
-    subst (λ (o : Outcome). OnOk c.run_words.result (Some (g.O.Shared.bench (bench_of c.run_words.new.world)) ≡ o.bench))
-    (sym (g.met.O.Shared.words c.args.world.now.object c.args.number (bench_of c.args.world.now) (bytes_of c.as_slice.result.now))
-    ∙ sym (outcome_of_short_line-words c.args.number _ c.args.line.now (bytes_of c.as_slice.result.now) (sym c.if-not-is_plain.ensures) (sym c.if-is_note.ensures) (ap bytes_of c.as_slice.ensures.value ∙ c.in-Ok.ensures)))
+returns-clause-bench g c = λ limit.
+    subst (λ (o : Outcome). OnOk c.run_words.result (Some (g.O.Shared.bench (bench_of c.run_words.new.bench)) ≡ o.bench))
+    (sym (g.met.O.Shared.words c.args.bench.now.world.object limit c.args.number (bench_of c.args.bench.now) (bytes_of c.as_slice.result.now))
+    ∙ sym (outcome_of_short_line-words limit c.args.number _ c.args.line.now (bytes_of c.as_slice.result.now) (sym c.if-not-is_plain.ensures) (sym c.if-is_note.ensures) (ap bytes_of c.as_slice.ensures.value ∙ c.in-Ok.ensures)))
     c.run_words.ensures.bench

@@ -2,26 +2,37 @@ use Rattle.std.proofs.Common.{◌≡◌, [], Some, map, rules}
 use Rattle.clap.specs.Words.{subcommand_of}
 use Rattle.unibench.specs.CommandLine.{asked_of, faults_of_words, unibench}
 use Rattle.unibench.specs.declared.request.Request.TheVariants.{Replay, Random, Threads}
-use Rattle.unibench.proofs.RandomPlans.{IsPlan-asked}
+use Rattle.unibench.proofs.RandomPlans.{IsHistory-asked, IsPlan-asked}
 use Rattle.unibench.proofs.RunCases.{run_of_asked, run_of_memory, status_of_memory, told_by_memory, told_of_asked}
 use Rattle.unibench.proofs.program.run.Goals as goal
 
+pub replay-requires-clause-history : goal.replay-requires-clause-history
+replay-requires-clause-history g c =
+    let asked : asked_of (map g.S.AsStr.text c.args.words.now) ≡ Some (Replay c.in-Ok-Some-Replay.options) = search rules in
+    IsHistory-asked (subcommand_of unibench (map g.S.AsStr.text c.args.words.now)) c.in-Ok-Some-Replay.options asked
+
 pub returns-in-Ok-Some-Replay-clause-asked : goal.returns-in-Ok-Some-Replay-clause-asked
 returns-in-Ok-Some-Replay-clause-asked g c = λ r asks.
-    let asked : asked_of (map g.S.AsStr.text c.args.words.now) ≡ Some Replay = search rules in
+    let asked : asked_of (map g.S.AsStr.text c.args.words.now) ≡ Some (Replay c.in-Ok-Some-Replay.options) = search rules in
     let run = c.replay.ensures in
-    run_of_asked _ Replay r asked asks.1 _ _ _ _ _ _ (record { replayed = run.replayed; bad = run.bad; read = run.read; part = run.part })
+    run_of_asked _ (Replay c.in-Ok-Some-Replay.options) r asked asks.1 _ _ _ _ _ _ (record { replayed = run.replayed; bad = run.bad; read = run.read; part = run.part })
 
 pub returns-in-Ok-Some-Replay-clause-told : goal.returns-in-Ok-Some-Replay-clause-told
 returns-in-Ok-Some-Replay-clause-told g c = λ r asks some.
-    let asked : asked_of (map g.S.AsStr.text c.args.words.now) ≡ Some Replay = search rules in
-    told_of_asked _ Replay r asked asks.1 _ _ _ _ (c.replay.ensures.told some)
+    let asked : asked_of (map g.S.AsStr.text c.args.words.now) ≡ Some (Replay c.in-Ok-Some-Replay.options) = search rules in
+    told_of_asked _ (Replay c.in-Ok-Some-Replay.options) r asked asks.1 _ _ _ _ (c.replay.ensures.told some)
+
+pub returns-in-Ok-Some-Replay-clause-unread : goal.returns-in-Ok-Some-Replay-clause-unread
+returns-in-Ok-Some-Replay-clause-unread g c = λ none.
+    let asked : asked_of (map g.S.AsStr.text c.args.words.now) ≡ Some (Replay c.in-Ok-Some-Replay.options) = search rules in
+    let good : faults_of_words (map g.S.AsStr.text c.args.words.now) ≡ [] = search rules in
+    absurd (none c.in-Ok-Some-Replay.options (good, asked))
 
 pub returns-in-Ok-Some-Replay-clause-refused : goal.returns-in-Ok-Some-Replay-clause-refused
 returns-in-Ok-Some-Replay-clause-refused g c = λ none.
-    let asked : asked_of (map g.S.AsStr.text c.args.words.now) ≡ Some Replay = search rules in
+    let asked : asked_of (map g.S.AsStr.text c.args.words.now) ≡ Some (Replay c.in-Ok-Some-Replay.options) = search rules in
     let good : faults_of_words (map g.S.AsStr.text c.args.words.now) ≡ [] = search rules in
-    absurd (none.0 Replay (good, asked))
+    absurd (none.0 (Replay c.in-Ok-Some-Replay.options) (good, asked))
 
 pub random-requires-clause-plan : goal.random-requires-clause-plan
 random-requires-clause-plan g c =
