@@ -8,6 +8,7 @@ use Rattle.uni_script.specs.declared.fault.BenchFault.TheVariants.{NoHeader, Rea
 use Rattle.uni_script.specs.declared.fault.BenchFault.TheVariants as fault
 use Rattle.uni_script.specs.declared.lines.Stop.{Stop}
 use Rattle.uni_script.specs.declared.lines.Stop.TheVariants.{End, Failed, TooLong, TooMany}
+use Rattle.uni_script.specs.declared.grammar.Version.{Version}
 use Rattle.uni_script.specs.Ends.{AppendsFront}
 use Rattle.std.specs.List.{list_all}
 use Rattle.ready_objects.specs.Words.{words_of_text}
@@ -59,10 +60,10 @@ module _ (P : BenchFault → Type 0) where
       at None e = q first.bench
       at (Some f) e = p
 
-FaultsOnly-outcome_of_command : {S I R : Type 0} (o : SpokenObject S I R) (inside : Bench S I R → ScriptBench) (number : ℕ) (b : Bench S I R) (words : List (List ℕ)) → FaultsOnly IsFaultOfScript (outcome_of_command o inside number b words)
-FaultsOnly-outcome_of_command o inside number b words =
-    FaultsOnly-map_or IsFaultOfScript (λ command. outcome_of_text (inside (bench_after o b (result_of_command o b command).events)) (result_of_command o b command).text) (command_of_words o.language.inv_of_words words) (outcome_of_fault (Some (inside b)) (fault.BadLine number))
-    (λ command. FaultsOnly-none IsFaultOfScript (Some (inside (bench_after o b (result_of_command o b command).events))) (result_of_command o b command).text) (FaultsOnly-outcome_of_fault IsFaultOfScript (Some (inside b)) (fault.BadLine number) tt)
+FaultsOnly-outcome_of_command : {S I R : Type 0} (o : SpokenObject S I R) (inside : Version → Bench S I R → ScriptBench) (version : Version) (number : ℕ) (b : Bench S I R) (words : List (List ℕ)) → FaultsOnly IsFaultOfScript (outcome_of_command o inside version number b words)
+FaultsOnly-outcome_of_command o inside version number b words =
+    FaultsOnly-map_or IsFaultOfScript (λ command. outcome_of_text (inside version (bench_after o b (result_of_command o b command).events)) (result_of_command o b command).text) (command_of_words version o.language.inv_of_words words) (outcome_of_fault (Some (inside version b)) (fault.BadLine number))
+    (λ command. FaultsOnly-none IsFaultOfScript (Some (inside version (bench_after o b (result_of_command o b command).events))) (result_of_command o b command).text) (FaultsOnly-outcome_of_fault IsFaultOfScript (Some (inside version b)) (fault.BadLine number) tt)
 
 -- where the history can have so many events
 module _ (limit : ℕ) where
@@ -70,7 +71,7 @@ module _ (limit : ℕ) where
   FaultsOnly-outcome_of_words number None words =
       FaultsOnly-map_or IsFaultOfScript (λ header. outcome_of_text (bench_of_header limit header) []) (header_of_words words) (outcome_of_fault None (fault.BadHeader number))
       (λ header. FaultsOnly-none IsFaultOfScript (Some (bench_of_header limit header)) []) (FaultsOnly-outcome_of_fault IsFaultOfScript None (fault.BadHeader number) tt)
-  FaultsOnly-outcome_of_words number (Some b) words = FaultsOnly-outcome_of_command (spoken_of b.object) (script_bench b.object) number b.bench words
+  FaultsOnly-outcome_of_words number (Some b) words = FaultsOnly-outcome_of_command (spoken_of b.object) (script_bench b.object) b.version number b.bench words
 
   FaultsOnly-outcome_of_line : (number : ℕ) (b : Option ScriptBench) (line : List ℕ) → FaultsOnly IsFaultOfScript (outcome_of_line limit number b line)
   FaultsOnly-outcome_of_line number b line =

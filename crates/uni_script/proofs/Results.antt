@@ -1,20 +1,22 @@
 -- What a command comes to.
-use Rattle.std.proofs.Common.{◌≡◌, ◌∙◌, ℕ, ◌<◌, ◌≤◌, refl, sym, ap, [], ◌∷◌, length, Option, None, Some, Bool, true, false, nat_le, nat_lt, ◌==◌, is_none, arith, option_map, if◌then◌else◌, Result, Ok, Err, OnOk}
+use Rattle.std.proofs.Common.{◌≡◌, ◌∙◌, ℕ, ◌<◌, ◌≤◌, refl, sym, ap, subst, [], ◌∷◌, length, Option, None, Some, Bool, true, false, nat_le, nat_lt, ◌==◌, is_none, arith, option_map, if◌then◌else◌, Result, Ok, Err, OnOk, zero, suc, ◌+◌, ◌*◌, ◌^◌, ◌&&◌, IsSome}
 use Rattle.std.proofs.lemmas.Bool.Decides.{nat_tests}
 use Rattle.std.proofs.lemmas.List.{length-map}
 use Rattle.seq_object.specs.declared.call_id.CallId.{CallId}
-use Rattle.uni_model.specs.Stages.{Pending}
-use Rattle.uni_model.specs.Worlds.{WorldOf, world_after_all, calls_in_era}
-use Rattle.uni_model.specs.Worlds.Event.{Call}
+use Rattle.uni_model.specs.Stages.{Pending as Stands}
+use Rattle.uni_model.specs.Worlds.{WorldOf, IsQuiescent, world_after_all, calls_in_era}
+use Rattle.uni_model.specs.Worlds.Event.{Call, Trim, Reshape}
 use Rattle.uni_core.specs.Whole.{world_of, current_of}
-use Rattle.uni_record.specs.Recording.{Recording, CanBegin, IsBeginRefused, standing_of}
+use Rattle.uni_record.specs.declared.fault.RecordTrimFault.TheVariants as trim
+use Rattle.uni_record.specs.declared.fault.RecordReshapeFault.TheVariants as reshape
+use Rattle.uni_record.specs.Recording.{Recording, CanBegin, CanEnd, IsBeginRefused, IsCount, IsEndRefused, IsReshapeRefused, standing_of}
 use Rattle.uni_record.specs.declared.fault.RecordBeginFault.TheVariants as begin
 use Rattle.uni_record.specs.Stored.{event_shown, events_shown}
 use Rattle.uni_script.specs.declared.answer.Refusal.{Refusal}
-use Rattle.uni_script.specs.declared.answer.Refusal.TheVariants.{Process, Busy, Row, Idle, History}
-use Rattle.uni_script.specs.Answers.{called_text}
+use Rattle.uni_script.specs.declared.answer.Refusal.TheVariants.{Process, Busy, Row, Idle, Pending, Sequence, History, Count}
+use Rattle.uni_script.specs.Answers.{called_text, trimmed_text, reshaped_text}
 use Rattle.uni_script.specs.Objects.{SpokenObject}
-use Rattle.uni_script.specs.Meaning.{Bench, CommandResult, LastStep, bench_of, bench_after, refused, is_full, latest, refusal_of_call, refusal_of_step, result_of_call, result_of_steps, steps_of, steps_taken, last_step, text_of_steps}
+use Rattle.uni_script.specs.Meaning.{Bench, CommandResult, LastStep, bench_of, bench_after, refused, is_full, latest, last_number, least_pending, refusal_of_call, refusal_of_end, refusal_of_reshape, refusal_of_step, result_of_call, result_of_trim, result_of_reshape, result_of_steps, steps_of, steps_taken, last_step, text_of_steps}
 use Rattle.uni_script.proofs.Stepping.{bench_after-none}
 
 at_least : (n p : ℕ) → n ≤ p → nat_le n p ≡ true
@@ -82,6 +84,62 @@ module _ {O S I R : Type 0} (r : Recording O S I R) (p : ℕ) where
   pub refusal_of_call-none : CanBegin (standing_of r) p → refusal_of_call (bench_of r) p ≡ None
   refusal_of_call-none is = refusal_of_call-full is.0 false (let long = stored_is in let fits = is.1 in at_most r.limit _ (omega arith))
 
+not_below : (n p : ℕ) → (p < n → ⊥) → nat_le n p ≡ true
+not_below n p high = at (nat_le n p) refl
+  where
+    at : (b : Bool) → nat_le n p ≡ b → nat_le n p ≡ true
+    at true e = e
+    at false e = absurd (high (grind (arith, nat_tests)))
+
+module _ {S I R : Type 0} (w : WorldOf S I R) where
+  least_pending-none : (m : ℕ) → ((q : ℕ) → q < m → w.call q ≡ None) → least_pending w m ≡ None
+  least_pending-none zero none = refl
+  least_pending-none (suc m) none =
+      let before : least_pending w m ≡ None = least_pending-none m (λ q low. none q (omega arith)) in
+      let last : w.call m ≡ None = none m (omega arith) in
+      rw before (rw last refl)
+
+  least_pending-some : (m p : ℕ) → p < m → IsSome (w.call p) → ((q : ℕ) → q < p → w.call q ≡ None) → least_pending w m ≡ Some p
+  least_pending-some zero p low pending none = absurd (omega arith)
+  least_pending-some (suc m) p low pending none = at (nat_lt p m) refl (λ lower. least_pending-some m p lower pending none)
+    where
+      at : (b : Bool) → nat_lt p m ≡ b → (p < m → least_pending w m ≡ Some p) → least_pending w (suc m) ≡ Some p
+      at true e earlier = let before : least_pending w m ≡ Some p = earlier (grind (arith, nat_tests)) in rw before refl
+      at false e earlier =
+          let same : p ≡ m = (let high : m ≤ p = grind (arith, nat_tests) in omega arith) in
+          let before : least_pending w m ≡ None = least_pending-none m (λ q few. none q (omega arith)) in
+          let last : IsSome (w.call m) = (subst (λ q. IsSome (w.call q)) same pending) in
+          rw before (rw last (ap Some (sym same)))
+
+module _ {O S I R : Type 0} (r : Recording O S I R) (m : ℕ) where
+  pub refusal_of_end-Pending : (p : ℕ) → IsEndRefused (standing_of r) m (trim.Pending p) → refusal_of_end (bench_of r) m ≡ Some (Pending p)
+  refusal_of_end-Pending p is = rw (least_pending-some (world_of r.world) (world_of r.world).n p is.0 is.1 is.2) refl
+
+  module _ (quiet : IsQuiescent (world_of r.world)) where
+    refusal_of_end-numbers : (full : Bool) → nat_le (2 ^ 48) (last_number (world_of r.world) + m * r.world.row) ≡ full → (over : Bool) → nat_lt r.limit (length (events_shown r.events) + 1) ≡ over
+        → refusal_of_end (bench_of r) m ≡ (if full then Some Sequence else if over then Some History else None)
+    refusal_of_end-numbers full is over is_over = rw (least_pending-none (world_of r.world) (world_of r.world).n quiet) (rw is (rw is_over refl))
+
+  pub refusal_of_end-SeqFull : IsEndRefused (standing_of r) m trim.SeqFull → refusal_of_end (bench_of r) m ≡ Some Sequence
+  refusal_of_end-SeqFull is = refusal_of_end-numbers is.0 true (not_below (2 ^ 48) _ is.1) _ refl
+
+  pub refusal_of_end-HistoryFull : IsEndRefused (standing_of r) m trim.HistoryFull → refusal_of_end (bench_of r) m ≡ Some History
+  refusal_of_end-HistoryFull is = refusal_of_end-numbers is.0 false (below (2 ^ 48) _ is.1) true (let long = length-map r.events event_shown in let few = is.2 in more_than r.limit _ (omega arith))
+
+  pub refusal_of_end-none : CanEnd (standing_of r) m → refusal_of_end (bench_of r) m ≡ None
+  refusal_of_end-none is = refusal_of_end-numbers is.0 false (below (2 ^ 48) _ is.1) false (let long = length-map r.events event_shown in let fits = is.2 in at_most r.limit _ (omega arith))
+
+  pub refusal_of_reshape-count : IsCount m → refusal_of_reshape (bench_of r) m ≡ refusal_of_end (bench_of r) m
+  refusal_of_reshape-count is = rw (at_least 1 m is.0) (rw (at_least m 64 is.1) refl)
+
+  pub refusal_of_reshape-BadCount : IsReshapeRefused (standing_of r) m reshape.BadCount → refusal_of_reshape (bench_of r) m ≡ Some (Count m)
+  refusal_of_reshape-BadCount other = at (nat_le 1 m) refl (nat_le m 64) refl
+    where
+      at : (b : Bool) → nat_le 1 m ≡ b → (c : Bool) → nat_le m 64 ≡ c → refusal_of_reshape (bench_of r) m ≡ Some (Count m)
+      at false e c f = rw e refl
+      at true e false f = rw e (rw f refl)
+      at true e true f = absurd (other (grind (arith, nat_tests), grind (arith, nat_tests)))
+
 module _ {S I R : Type 0} (w : WorldOf S I R) (p : ℕ) where
   pub refusal_of_step-past : w.n ≤ p → refusal_of_step w p ≡ Some (Process p)
   refusal_of_step-past high = rw (at_least w.n p high) refl
@@ -89,14 +147,14 @@ module _ {S I R : Type 0} (w : WorldOf S I R) (p : ℕ) where
   pub refusal_of_step-idle : p < w.n → None ≡ current_of w p → refusal_of_step w p ≡ Some (Idle p)
   refusal_of_step-idle low e = rw (below w.n p low) (at (w.call p) e)
     where
-      at : (c : Option Pending) → None ≡ option_map (λ (x : Pending). latest w p) c → (if is_none c then Some (Idle p) else None) ≡ Some (Idle p)
+      at : (c : Option Stands) → None ≡ option_map (λ (x : Stands). latest w p) c → (if is_none c then Some (Idle p) else None) ≡ Some (Idle p)
       at None f = refl
       at (Some x) f = absurd (cc)
 
   pub refusal_of_step-none : (call : CallId) → p < w.n → Some call ≡ current_of w p → refusal_of_step w p ≡ None
   refusal_of_step-none call low e = rw (below w.n p low) (at (w.call p) e)
     where
-      at : (c : Option Pending) → Some call ≡ option_map (λ (x : Pending). latest w p) c → (if is_none c then Some (Idle p) else None) ≡ None
+      at : (c : Option Stands) → Some call ≡ option_map (λ (x : Stands). latest w p) c → (if is_none c then Some (Idle p) else None) ≡ None
       at None f = absurd (cc)
       at (Some x) f = refl
 
@@ -104,7 +162,7 @@ module _ {S I R : Type 0} (w : WorldOf S I R) (p : ℕ) where
   pub current_is_latest : (call : CallId) → Some call ≡ current_of w p → call ≡ latest w p
   current_is_latest call e = at (w.call p) e
     where
-      at : (c : Option Pending) → Some call ≡ option_map (λ (x : Pending). latest w p) c → call ≡ latest w p
+      at : (c : Option Stands) → Some call ≡ option_map (λ (x : Stands). latest w p) c → call ≡ latest w p
       at None f = absurd (cc)
       at (Some x) f = cc
 
@@ -118,6 +176,19 @@ module _ {S I R : Type 0} (b : Bench S I R) (p : ℕ) (i : I) where
 
   pub result_of_call-refused : (refusal : Refusal) → refusal_of_call b p ≡ Some refusal → result_of_call b p i ≡ refused refusal
   result_of_call-refused refusal some = rw some refl
+
+module _ {S I R : Type 0} (b : Bench S I R) where
+  pub result_of_trim-ended : refusal_of_end b b.world.n ≡ None → result_of_trim b ≡ record { events = Trim ∷ []; text = trimmed_text (last_number b.world) }
+  result_of_trim-ended none = rw none refl
+
+  pub result_of_trim-refused : (refusal : Refusal) → refusal_of_end b b.world.n ≡ Some refusal → result_of_trim b ≡ refused refusal
+  result_of_trim-refused refusal some = rw some refl
+
+  pub result_of_reshape-ended : (m : ℕ) → refusal_of_reshape b m ≡ None → result_of_reshape b m ≡ record { events = Reshape m ∷ []; text = reshaped_text m (last_number b.world) }
+  result_of_reshape-ended m none = rw none refl
+
+  pub result_of_reshape-refused : (m : ℕ) (refusal : Refusal) → refusal_of_reshape b m ≡ Some refusal → result_of_reshape b m ≡ refused refusal
+  result_of_reshape-refused m refusal some = rw some refl
 
 module _ {S I R : Type 0} (o : SpokenObject S I R) (w : WorldOf S I R) (p most : ℕ) where
   pub result_of_steps-refused : (refusal : Refusal) → refusal_of_step w p ≡ Some refusal → result_of_steps o w p most ≡ refused refusal

@@ -14,6 +14,7 @@ use Rattle.uni_script.specs.declared.lines.Source.TheVariants.{Open, Ended}
 use Rattle.uni_script.specs.declared.lines.Stop.{Stop}
 use Rattle.uni_script.specs.declared.lines.Stop.TheVariants.{End, Failed}
 use Rattle.uni_script.specs.declared.summary.Summary.{Summary}
+use Rattle.uni_script.specs.declared.grammar.Version.{Version}
 use Rattle.uni_script.specs.Ends.{AppendsFront}
 use Rattle.uni_script.specs.Script.{cut, last_line, is_plain_byte, is_note, header_of_words, command_of_words}
 use Rattle.uni_script.specs.Objects.{SpokenObject, spoken_of}
@@ -40,10 +41,10 @@ IsSilent-map_or : {A : Type 0} (f : A → Outcome) (o : Option A) (x : Outcome) 
 IsSilent-map_or f None x p q = q
 IsSilent-map_or f (Some a) x p q = p a
 
-IsSilent-outcome_of_command : {S I R : Type 0} (o : SpokenObject S I R) (inside : Bench S I R → ScriptBench) (number : ℕ) (b : Bench S I R) (words : List (List ℕ)) → IsSilent (outcome_of_command o inside number b words)
-IsSilent-outcome_of_command o inside number b words =
-    IsSilent-map_or (λ command. outcome_of_text (inside (bench_after o b (result_of_command o b command).events)) (result_of_command o b command).text) (command_of_words o.language.inv_of_words words) (outcome_of_fault (Some (inside b)) (BadLine number))
-    (λ command. IsSilent-none (Some (inside (bench_after o b (result_of_command o b command).events))) (result_of_command o b command).text) (λ e q. refl)
+IsSilent-outcome_of_command : {S I R : Type 0} (o : SpokenObject S I R) (inside : Version → Bench S I R → ScriptBench) (version : Version) (number : ℕ) (b : Bench S I R) (words : List (List ℕ)) → IsSilent (outcome_of_command o inside version number b words)
+IsSilent-outcome_of_command o inside version number b words =
+    IsSilent-map_or (λ command. outcome_of_text (inside version (bench_after o b (result_of_command o b command).events)) (result_of_command o b command).text) (command_of_words version o.language.inv_of_words words) (outcome_of_fault (Some (inside version b)) (BadLine number))
+    (λ command. IsSilent-none (Some (inside version (bench_after o b (result_of_command o b command).events))) (result_of_command o b command).text) (λ e q. refl)
 
 -- a call that didn't fail so leaves an end as it was
 pub stays_false : (b : Bool) (P : Type 0) → (P ↔ (b ≡ true)) → (P → ⊥) → b ≡ false
@@ -131,7 +132,7 @@ module _ (limit : ℕ) where
   IsSilent-outcome_of_words : (number : ℕ) (b : Option ScriptBench) (words : List (List ℕ)) → IsSilent (outcome_of_words limit number b words)
   IsSilent-outcome_of_words number None words =
       IsSilent-map_or (λ header. outcome_of_text (bench_of_header limit header) []) (header_of_words words) (outcome_of_fault None (BadHeader number)) (λ header. IsSilent-none (Some (bench_of_header limit header)) []) (λ e q. refl)
-  IsSilent-outcome_of_words number (Some b) words = IsSilent-outcome_of_command (spoken_of b.object) (script_bench b.object) number b.bench words
+  IsSilent-outcome_of_words number (Some b) words = IsSilent-outcome_of_command (spoken_of b.object) (script_bench b.object) b.version number b.bench words
 
   IsSilent-outcome_of_short_line : (number : ℕ) (b : Option ScriptBench) (line : List ℕ) → IsSilent (outcome_of_short_line limit number b line)
   IsSilent-outcome_of_short_line number b line =

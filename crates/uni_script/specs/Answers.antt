@@ -4,9 +4,9 @@ use Rattle.std.specs.Fmt.{decimal, digits}
 use Rattle.std.specs.Option.{option_map_or}
 use Rattle.seq_object.specs.declared.call_id.CallId.{CallId}
 use Rattle.uni_script.specs.declared.answer.Refusal.{Refusal}
-use Rattle.uni_script.specs.declared.answer.Refusal.TheVariants.{Process, Busy, Row, Idle, History}
+use Rattle.uni_script.specs.declared.answer.Refusal.TheVariants.{Process, Busy, Row, Idle, Pending, Sequence, History, Count}
 use Rattle.uni_script.specs.declared.answer.Answer.{Answer}
-use Rattle.uni_script.specs.declared.answer.Answer.TheVariants.{Called, Refused, Returned, Going, End}
+use Rattle.uni_script.specs.declared.answer.Answer.TheVariants.{Called, Refused, Returned, Going, Trimmed, Reshaped, End}
 use Rattle.uni_model.specs.Chain.{Entry}
 
 -- the text of a call's name
@@ -19,7 +19,10 @@ refusal_text (Process p) = codes "refused process " ++ decimal p
 refusal_text (Busy p) = codes "refused busy " ++ decimal p
 refusal_text (Row p) = codes "refused row " ++ decimal p
 refusal_text (Idle p) = codes "refused idle " ++ decimal p
+refusal_text (Pending p) = codes "refused pending " ++ decimal p
+refusal_text Sequence = codes "refused sequence"
 refusal_text History = codes "refused history"
+refusal_text (Count m) = codes "refused count " ++ decimal m
 
 -- how far a call has come
 abbrev pub progress_text : (steps turns : ℕ) → List ℕ
@@ -50,6 +53,14 @@ numbers_text (suc p) number = numbers_text p number ++ codes " " ++ decimal (num
 abbrev pub heads_text : ℕ → (ℕ → ℕ) → List ℕ
 heads_text n number = codes "heads" ++ numbers_text n number ++ 10 ∷ []
 
+-- the line of an era that ended, with the number of the new anchor
+abbrev pub trimmed_text : (number : ℕ) → List ℕ
+trimmed_text number = codes "trimmed " ++ decimal number ++ 10 ∷ []
+
+-- and of one after which there are so many processes
+abbrev pub reshaped_text : (count number : ℕ) → List ℕ
+reshaped_text count number = codes "reshaped " ++ decimal count ++ codes " at " ++ decimal number ++ 10 ∷ []
+
 -- the last line of a script
 abbrev pub end_text : List ℕ
 end_text = codes "end" ++ 10 ∷ []
@@ -60,6 +71,8 @@ answer_text (Called call) = called_text call
 answer_text (Refused refusal) = refused_text refusal
 answer_text (Returned call reply steps turns) = returned_text call reply.items steps turns
 answer_text (Going call steps turns) = going_text call steps turns
+answer_text (Trimmed number) = trimmed_text number
+answer_text (Reshaped count number) = reshaped_text count number
 answer_text End = end_text
 
 -- the line of an entry of the log, with these texts of invocations and responses; the response is a question mark where
@@ -80,6 +93,10 @@ a_process_is_refused = refl
 a_call_goes_on : answer_text (Going (record { process = 0; nth = 0 }) 10 1) ≡ codes "going 0.0 steps 10 turns 1" ++ 10 ∷ []
 unfolding digits
 a_call_goes_on = refl
+
+an_era_ends : answer_text (Reshaped 2 3) ≡ codes "reshaped 2 at 3" ++ 10 ∷ []
+unfolding digits
+an_era_ends = refl
 
 two_heads : heads_text 2 (λ p. p + 3) ≡ codes "heads 3 4" ++ 10 ∷ []
 unfolding digits

@@ -1,13 +1,13 @@
 -- What a script means: its lines are run in turn, up to the first fault. A command is some events of the construction, and their
 -- replay leads to the world after it.
-use Rattle.std.specs.Prelude.{ℕ, zero, suc, ◌+◌, ◌-◌, ◌*◌, ◌==◌, nat_le, nat_lt, not, if◌then◌else◌, Bool, List, [], ◌∷◌, ◌++◌, length, map, replicate, Option, Some, None, is_some, is_none, option_map}
+use Rattle.std.specs.Prelude.{ℕ, zero, suc, ◌+◌, ◌-◌, ◌*◌, ◌==◌, nat_le, nat_lt, ◌^◌, ◌&&◌, not, if◌then◌else◌, Bool, List, [], ◌∷◌, ◌++◌, length, map, replicate, Option, Some, None, is_some, is_none, option_map}
 use Rattle.std.specs.Option.{option_map_or}
 use Rattle.std.specs.List.{list_all, concat}
 use Rattle.seq_object.specs.declared.call_id.CallId.{CallId}
 use Rattle.ready_objects.specs.Words.{text_of_words, words_of_text}
-use Rattle.uni_model.specs.Places.{head_seq}
-use Rattle.uni_model.specs.Worlds.{WorldOf, Event, world_after_all, opened_world, response_of_step, calls_in_era}
-use Rattle.uni_model.specs.Worlds.Event.{Call, Step}
+use Rattle.uni_model.specs.Places.{head_seq, seq_of}
+use Rattle.uni_model.specs.Worlds.{WorldOf, Event, world_after_all, opened_world, response_of_step, calls_in_era, last_cell}
+use Rattle.uni_model.specs.Worlds.Event.{Call, Step, Trim, Reshape}
 use Rattle.uni_model.specs.Chain.{Entry}
 use Rattle.uni_model.specs.History.{log}
 use Rattle.uni_core.specs.Whole.{world_of}
@@ -15,12 +15,13 @@ use Rattle.uni_record.specs.Stored.{events_shown}
 use Rattle.uni_record.specs.Recording.{Recording, set_aside, share}
 use Rattle.uni_script.specs.declared.fault.BenchFault.{BenchFault}
 use Rattle.uni_script.specs.declared.fault.BenchFault.TheVariants.{NoHeader, BadHeader, TooLong, BadByte, BadLine, TooMany}
+use Rattle.uni_script.specs.declared.grammar.Version.{Version}
 use Rattle.uni_script.specs.declared.grammar.Header.{Header}
 use Rattle.uni_script.specs.declared.grammar.Command.{Command}
 use Rattle.uni_script.specs.declared.grammar.Command.TheVariants as command
 use Rattle.uni_script.specs.declared.answer.Refusal.{Refusal}
-use Rattle.uni_script.specs.declared.answer.Refusal.TheVariants.{Process, Busy, Row, Idle, History}
-use Rattle.uni_script.specs.Answers.{called_text, refused_text, returned_text, going_text, heads_text, entry_text, end_text}
+use Rattle.uni_script.specs.declared.answer.Refusal.TheVariants.{Process, Busy, Row, Idle, Pending, Sequence, History, Count}
+use Rattle.uni_script.specs.Answers.{called_text, refused_text, returned_text, going_text, heads_text, trimmed_text, reshaped_text, entry_text, end_text}
 use Rattle.uni_script.specs.Objects.{SpokenObject, StateOf, InvOf, RespOf, spoken_of}
 use Rattle.uni_script.specs.declared.grammar.ObjectName.{ObjectName}
 use Rattle.uni_script.specs.Script.{lines_of, is_plain_byte, is_note, header_of_words, command_of_words}
@@ -120,6 +121,36 @@ result_of_steps o w p most =
     let events = steps_of p (steps_taken most last) in
     record { events = events; text = text_of_steps o (world_after_all o.object w events) last p (latest w p) })
 
+-- the number of the last cell, which the anchor of a next era has
+abbrev pub last_number : {S I R : Type 0} → WorldOf S I R → ℕ
+last_number w = seq_of w.memory (last_cell w)
+
+-- the least of the first m processes that has a call pending
+abbrev pub least_pending : {S I R : Type 0} → WorldOf S I R → (m : ℕ) → Option ℕ
+least_pending w zero = None
+least_pending w (suc p) = option_map_or Some (least_pending w p) (if is_some (w.call p) then Some p else None)
+
+-- why an era can't end for m processes, if it can't: a call is pending, the numbers of the next era don't fit, or the history has
+-- no room for one event more
+abbrev pub refusal_of_end : {S I R : Type 0} → Bench S I R → (m : ℕ) → Option Refusal
+refusal_of_end b m =
+    option_map_or (λ p. Some (Pending p)) (least_pending b.world b.world.n)
+    (if nat_le (2 ^ 48) (last_number b.world + m * b.row) then Some Sequence
+    else if nat_lt b.limit (length b.events + 1) then Some History
+    else None)
+
+-- the era ends
+abbrev pub result_of_trim : {S I R : Type 0} → Bench S I R → CommandResult I
+result_of_trim b = option_map_or refused (refusal_of_end b b.world.n) (record { events = Trim ∷ []; text = trimmed_text (last_number b.world) })
+
+-- why it can't end for another number of processes, if it can't
+abbrev pub refusal_of_reshape : {S I R : Type 0} → Bench S I R → (m : ℕ) → Option Refusal
+refusal_of_reshape b m = if nat_le 1 m && nat_le m 64 then refusal_of_end b m else Some (Count m)
+
+-- the era ends, and there are m processes then
+abbrev pub result_of_reshape : {S I R : Type 0} → Bench S I R → (m : ℕ) → CommandResult I
+result_of_reshape b m = option_map_or refused (refusal_of_reshape b m) (record { events = Reshape m ∷ []; text = reshaped_text m (last_number b.world) })
+
 -- the lines of the entries of the present log
 abbrev pub log_text : {S I R : Type 0} → SpokenObject S I R → WorldOf S I R → List ℕ
 log_text o w = concat (map (λ (entry : Entry _ _). entry_text (λ inv. text_of_words (o.language.inv_words inv)) o.language.resp_text entry) (log w))
@@ -130,24 +161,27 @@ result_of_command o b (command.Step p most) = result_of_steps o b.world p most
 result_of_command o b (command.Finish p) = result_of_steps o b.world p (most_steps b.world.n)
 result_of_command o b command.Heads = record { events = []; text = heads_text b.world.n (head_seq b.world.memory) }
 result_of_command o b command.Log = record { events = []; text = log_text o b.world }
+result_of_command o b command.Trim = result_of_trim b
+result_of_command o b (command.Reshape m) = result_of_reshape b m
 
 -- the bench that a header opens, with a history of so many events at most
 abbrev pub opened_bench : {S I R : Type 0} → SpokenObject S I R → (limit : ℕ) → Header → Bench S I R
 opened_bench o limit header =
     record { processes = header.processes; first = 1; row = header.row; limit = limit; events = []; world = opened_world header.processes o.object.initial 1 }
 
--- the bench of a script: of processes that share the object of this name
+-- the bench of a script in a version of the language: of processes that share the object of this name
 pub record ScriptBench : Type 0 where
+  pub version : Version
   pub object : ObjectName
   pub bench : Bench (StateOf object) (InvOf object) (RespOf object)
 
 -- the one of an object's bench
-abbrev pub script_bench : (object : ObjectName) → Bench (StateOf object) (InvOf object) (RespOf object) → ScriptBench
-script_bench object b = record { object = object; bench = b }
+abbrev pub script_bench : (object : ObjectName) → Version → Bench (StateOf object) (InvOf object) (RespOf object) → ScriptBench
+script_bench object version b = record { version = version; object = object; bench = b }
 
 -- the one that a header opens
 abbrev pub bench_of_header : (limit : ℕ) → Header → ScriptBench
-bench_of_header limit header = script_bench header.object (opened_bench (spoken_of header.object) limit header)
+bench_of_header limit header = script_bench header.object header.version (opened_bench (spoken_of header.object) limit header)
 
 -- What some lines come to: the bench after them, none before the header; the text of their answers; and the fault that
 -- ended them, if one did.
@@ -171,10 +205,10 @@ abbrev pub and_then : Outcome → (Option ScriptBench → Outcome) → Outcome
 and_then first rest = and_then_from first (rest first.bench) first.fault
 
 -- the words of a command, on a bench of this object
-abbrev pub outcome_of_command : {S I R : Type 0} → SpokenObject S I R → (inside : Bench S I R → ScriptBench) → (number : ℕ) → Bench S I R → List (List ℕ) → Outcome
-outcome_of_command o inside number b words =
-    option_map_or (λ command. let result = result_of_command o b command in outcome_of_text (inside (bench_after o b result.events)) result.text)
-    (command_of_words o.language.inv_of_words words) (outcome_of_fault (Some (inside b)) (BadLine number))
+abbrev pub outcome_of_command : {S I R : Type 0} → SpokenObject S I R → (inside : Version → Bench S I R → ScriptBench) → Version → (number : ℕ) → Bench S I R → List (List ℕ) → Outcome
+outcome_of_command o inside version number b words =
+    option_map_or (λ command. let result = result_of_command o b command in outcome_of_text (inside version (bench_after o b result.events)) result.text)
+    (command_of_words version o.language.inv_of_words words) (outcome_of_fault (Some (inside version b)) (BadLine number))
 
 -- the end of a script that has so many lines
 abbrev pub outcome_of_end : (lines : ℕ) → Option ScriptBench → Outcome
@@ -186,7 +220,7 @@ module _ (limit : ℕ) where
   -- a line that isn't a note
   abbrev pub outcome_of_words : (number : ℕ) → Option ScriptBench → List (List ℕ) → Outcome
   outcome_of_words number None words = option_map_or (λ header. outcome_of_text (bench_of_header limit header) []) (header_of_words words) (outcome_of_fault None (BadHeader number))
-  outcome_of_words number (Some b) words = outcome_of_command (spoken_of b.object) (script_bench b.object) number b.bench words
+  outcome_of_words number (Some b) words = outcome_of_command (spoken_of b.object) (script_bench b.object) b.version number b.bench words
 
   -- a line that isn't too long
   abbrev pub outcome_of_short_line : (number : ℕ) → Option ScriptBench → List ℕ → Outcome

@@ -7,9 +7,11 @@ use Rattle.ready_objects.specs.declared.queue.QueueInv.TheVariants.{Enq}
 use Rattle.ready_objects.specs.Words.{words_of_text}
 use Rattle.uni_script.specs.declared.grammar.ObjectName.{ObjectName}
 use Rattle.uni_script.specs.declared.grammar.ObjectName.TheVariants.{Queue, Directory, Book, Sticky}
+use Rattle.uni_script.specs.declared.grammar.Version.{Version}
+use Rattle.uni_script.specs.declared.grammar.Version.TheVariants.{One, Two}
 use Rattle.uni_script.specs.declared.grammar.Header.{Header}
 use Rattle.uni_script.specs.declared.grammar.Command.{Command}
-use Rattle.uni_script.specs.declared.grammar.Command.TheVariants.{Call, Step, Finish, Log, Heads}
+use Rattle.uni_script.specs.declared.grammar.Command.TheVariants.{Call, Step, Finish, Log, Heads, Trim, Reshape}
 
 -- a text cut at its line ends, which are bytes 10: its whole lines, without their ends, and the bytes after them
 pub record Cut : Type 0 where
@@ -56,23 +58,34 @@ object_of_word word =
     else if bytes_eq word (codes "sticky") then Some Sticky
     else None
 
--- the header of so many processes, 1 to 16, with rows of so many cells, 1 to 4096
-abbrev pub header_with : ObjectName → (n k : ℕ) → Option Header
-header_with object n k = if nat_le 1 n && nat_le n 16 && nat_le 1 k && nat_le k 4096 then Some (record { object = object; processes = n; row = k }) else None
+-- the version that a word names
+abbrev pub version_of_word : List ℕ → Option Version
+version_of_word word = if bytes_eq word (codes "1") then Some One else if bytes_eq word (codes "2") then Some Two else None
+
+-- the most processes that a header can have
+abbrev pub most_processes : Version → ℕ
+most_processes One = 16
+most_processes Two = 64
+
+-- the header of so many processes, with rows of so many cells, 1 to 4096
+abbrev pub header_with : Version → ObjectName → (n k : ℕ) → Option Header
+header_with version object n k =
+    if nat_le 1 n && nat_le n (most_processes version) && nat_le 1 k && nat_le k 4096 then Some (record { version = version; object = object; processes = n; row = k })
+    else None
 
 -- the numbers of a header are in range
 abbrev pub IsInRange : Header → Type 0
-IsInRange header = (1 ≤ header.processes) × (header.processes ≤ 16) × (1 ≤ header.row) × (header.row ≤ 4096)
+IsInRange header = (1 ≤ header.processes) × (header.processes ≤ 64) × (1 ≤ header.row) × (header.row ≤ 4096)
 
--- a header, where its three parts are read
-abbrev pub header_of : Option ObjectName → Option ℕ → Option ℕ → Option Header
-header_of (Some object) (Some n) (Some k) = header_with object n k
-header_of _ _ _ = None
+-- a header, where its four parts are read
+abbrev pub header_of : Option Version → Option ObjectName → Option ℕ → Option ℕ → Option Header
+header_of (Some version) (Some object) (Some n) (Some k) = header_with version object n k
+header_of _ _ _ _ = None
 
--- the header that words are, in version 1
+-- the header that words are
 abbrev pub header_of_words : List (List ℕ) → Option Header
 header_of_words (name ∷ version ∷ object ∷ n ∷ k ∷ []) =
-    if bytes_eq name (codes "universal") && bytes_eq version (codes "1") then header_of (object_of_word object) (number_of_word n) (number_of_word k) else None
+    if bytes_eq name (codes "universal") then header_of (version_of_word version) (object_of_word object) (number_of_word n) (number_of_word k) else None
 header_of_words _ = None
 
 -- a call of a process, where both are read
@@ -89,21 +102,36 @@ abbrev pub step_of : {I : Type 0} → Option ℕ → Option ℕ → Option (Comm
 step_of (Some p) (Some m) = Some (Step p m)
 step_of _ _ = None
 
--- a command of a process that isn't a call: its name, the process, and the words after it
-abbrev pub command_of_process : {I : Type 0} → (name : List ℕ) → Option ℕ → List (List ℕ) → Option (Command I)
-command_of_process name p [] =
-    if bytes_eq name (codes "finish") then option_map Finish p else if bytes_eq name (codes "step") then step_of p (Some 1) else None
-command_of_process name p (m ∷ []) = if bytes_eq name (codes "step") then step_of p (option_and_then count_of_number (number_of_word m)) else None
-command_of_process name p _ = None
+-- a change of the number of processes, which version 1 doesn't have
+abbrev pub reshape_of : {I : Type 0} → Version → (processes : ℕ) → Option (Command I)
+reshape_of One m = None
+reshape_of Two m = Some (Reshape m)
 
--- the command that words are, with the object's reading of invocations
-abbrev pub command_of_words : {I : Type 0} → (List (List ℕ) → Option I) → List (List ℕ) → Option (Command I)
-command_of_words inv_of_words [] = None
-command_of_words inv_of_words (name ∷ []) =
-    if bytes_eq name (codes "log") then Some Log else if bytes_eq name (codes "heads") then Some Heads else None
-command_of_words inv_of_words (name ∷ p ∷ words) =
+-- a command that isn't a call: its name, a number, and the words after it
+abbrev pub command_of_number : {I : Type 0} → Version → (name : List ℕ) → Option ℕ → List (List ℕ) → Option (Command I)
+command_of_number version name p [] =
+    if bytes_eq name (codes "finish") then option_map Finish p
+    else if bytes_eq name (codes "reshape") then option_and_then (reshape_of version) p
+    else if bytes_eq name (codes "step") then step_of p (Some 1)
+    else None
+command_of_number version name p (m ∷ []) = if bytes_eq name (codes "step") then step_of p (option_and_then count_of_number (number_of_word m)) else None
+command_of_number version name p _ = None
+
+-- the command that one word is
+abbrev pub command_of_name : {I : Type 0} → (name : List ℕ) → Option (Command I)
+command_of_name name =
+    if bytes_eq name (codes "log") then Some Log
+    else if bytes_eq name (codes "heads") then Some Heads
+    else if bytes_eq name (codes "trim") then Some Trim
+    else None
+
+-- the command that words are in a version of the language, with the object's reading of invocations
+abbrev pub command_of_words : {I : Type 0} → Version → (List (List ℕ) → Option I) → List (List ℕ) → Option (Command I)
+command_of_words version inv_of_words [] = None
+command_of_words version inv_of_words (name ∷ []) = command_of_name name
+command_of_words version inv_of_words (name ∷ p ∷ words) =
     if bytes_eq name (codes "call") then call_of (number_of_word p) (inv_of_words words)
-    else command_of_process name (number_of_word p) words
+    else command_of_number version name (number_of_word p) words
 
 the_last_line_may_lack_its_end : lines_of (97 ∷ 10 ∷ 98 ∷ []) ≡ (97 ∷ []) ∷ (98 ∷ []) ∷ []
 the_last_line_may_lack_its_end = refl
@@ -114,7 +142,7 @@ no_line_follows_the_last_end = refl
 a_line_may_be_empty : lines_of (10 ∷ 10 ∷ []) ≡ [] ∷ [] ∷ []
 a_line_may_be_empty = refl
 
-a_header : header_of_words (words_of_text (codes "universal 1 queue 2 8")) ≡ Some (record { object = Queue; processes = 2; row = 8 })
+a_header : header_of_words (words_of_text (codes "universal 1 queue 2 8")) ≡ Some (record { version = One; object = Queue; processes = 2; row = 8 })
 unfolding number_of_word
 a_header = refl
 
@@ -122,43 +150,62 @@ seventeen_processes_are_none : header_of_words (words_of_text (codes "universal 
 unfolding number_of_word
 seventeen_processes_are_none = refl
 
+but_not_in_version_2 : header_of_words (words_of_text (codes "universal 2 queue 17 8")) ≡ Some (record { version = Two; object = Queue; processes = 17; row = 8 })
+unfolding number_of_word
+but_not_in_version_2 = refl
+
+sixty_five_processes_are_none : header_of_words (words_of_text (codes "universal 2 queue 65 8")) ≡ None
+unfolding number_of_word
+sixty_five_processes_are_none = refl
+
 a_row_of_4097_is_none : header_of_words (words_of_text (codes "universal 1 queue 1 4097")) ≡ None
 unfolding number_of_word
 a_row_of_4097_is_none = refl
 
-a_call : command_of_words queue_inv_of_words (words_of_text (codes "call 0 enq 7")) ≡ Some (Call 0 (Enq 7))
+a_call : command_of_words One queue_inv_of_words (words_of_text (codes "call 0 enq 7")) ≡ Some (Call 0 (Enq 7))
 unfolding number_of_word
 a_call = refl
 
-a_finish : command_of_words queue_inv_of_words (words_of_text (codes "finish 12")) ≡ Some (Finish 12)
+a_finish : command_of_words One queue_inv_of_words (words_of_text (codes "finish 12")) ≡ Some (Finish 12)
 unfolding number_of_word
 a_finish = refl
 
-a_log : command_of_words queue_inv_of_words (words_of_text (codes "log")) ≡ Some Log
+a_log : command_of_words One queue_inv_of_words (words_of_text (codes "log")) ≡ Some Log
 a_log = refl
 
-a_step : command_of_words queue_inv_of_words (words_of_text (codes "step 3")) ≡ Some (Step 3 1)
+a_step : command_of_words One queue_inv_of_words (words_of_text (codes "step 3")) ≡ Some (Step 3 1)
 unfolding number_of_word
 a_step = refl
 
-ten_steps : command_of_words queue_inv_of_words (words_of_text (codes "step 3 10")) ≡ Some (Step 3 10)
+ten_steps : command_of_words One queue_inv_of_words (words_of_text (codes "step 3 10")) ≡ Some (Step 3 10)
 unfolding number_of_word
 ten_steps = refl
 
-no_steps_are_no_command : command_of_words queue_inv_of_words (words_of_text (codes "step 3 0")) ≡ None
+no_steps_are_no_command : command_of_words One queue_inv_of_words (words_of_text (codes "step 3 0")) ≡ None
 unfolding number_of_word
 no_steps_are_no_command = refl
 
-the_heads : command_of_words queue_inv_of_words (words_of_text (codes "heads")) ≡ Some Heads
+the_heads : command_of_words One queue_inv_of_words (words_of_text (codes "heads")) ≡ Some Heads
 the_heads = refl
 
-no_command : command_of_words queue_inv_of_words (words_of_text (codes "fin")) ≡ None
+no_command : command_of_words One queue_inv_of_words (words_of_text (codes "fin")) ≡ None
 no_command = refl
 
-a_leading_zero_is_no_command : command_of_words queue_inv_of_words (words_of_text (codes "call 0 enq 007")) ≡ None
+a_leading_zero_is_no_command : command_of_words One queue_inv_of_words (words_of_text (codes "call 0 enq 007")) ≡ None
 unfolding number_of_word
 a_leading_zero_is_no_command = refl
 
-two_spaces_are_no_command : command_of_words queue_inv_of_words (words_of_text (codes "call  0 deq")) ≡ None
+two_spaces_are_no_command : command_of_words One queue_inv_of_words (words_of_text (codes "call  0 deq")) ≡ None
 unfolding number_of_word
 two_spaces_are_no_command = refl
+
+a_trim : command_of_words One queue_inv_of_words (words_of_text (codes "trim")) ≡ Some Trim
+a_trim = refl
+
+a_reshape : command_of_words Two queue_inv_of_words (words_of_text (codes "reshape 3")) ≡ Some (Reshape 3)
+unfolding number_of_word
+a_reshape = refl
+
+version_1_has_none : command_of_words One queue_inv_of_words (words_of_text (codes "reshape 3")) ≡ None
+unfolding number_of_word
+version_1_has_none = refl

@@ -152,3 +152,66 @@ words_of_a_queue = refl
 no_such_object : fault_of_script 1048576 (codes "universal 1 stack 1 8") ≡ Some (BadHeader 1)
 unfolding digits number_of_word
 no_such_object = refl
+
+-- lines, each with its end
+abbrev lines : List (List ℕ) → List ℕ
+lines [] = []
+lines (bytes ∷ rest) = line bytes (lines rest)
+
+-- numbers go on after a trim, and the state stays
+abbrev trimmed : List ℕ
+trimmed = lines (codes "universal 1 queue 2 8" ∷ codes "call 0 enq 1" ∷ codes "finish 0" ∷ codes "trim" ∷ codes "call 1 enq 2" ∷ codes "step 1" ∷ codes "call 0 deq" ∷ codes "finish 0" ∷ codes "log" ∷ [])
+
+trimmed_answered : text_of_script 1048576 trimmed
+    ≡ lines (codes "called 0.0" ∷ codes "returned 0.0 ok steps 16 turns 1" ∷ codes "trimmed 2" ∷ codes "called 1.0" ∷ codes "going 1.0 steps 1 turns 0"
+    ∷ codes "called 0.1" ∷ codes "returned 0.1 1 steps 16 turns 1" ∷ codes "3 0.1 deq -> 1" ∷ codes "end" ∷ [])
+unfolding digits number_of_word
+trimmed_answered = refl
+
+-- a row is full by the calls of the era
+abbrev rows_of_one : List ℕ
+rows_of_one = lines (codes "universal 1 queue 2 1" ∷ codes "call 0 enq 1" ∷ codes "finish 0" ∷ codes "call 0 enq 2" ∷ codes "call 1 deq" ∷ codes "finish 1" ∷ codes "trim" ∷ codes "call 0 enq 2" ∷ codes "finish 0" ∷ codes "log" ∷ [])
+
+rows_of_one_answered : text_of_script 1048576 rows_of_one
+    ≡ lines (codes "called 0.0" ∷ codes "returned 0.0 ok steps 16 turns 1" ∷ codes "refused row 0" ∷ codes "called 1.0" ∷ codes "returned 1.0 1 steps 16 turns 1"
+    ∷ codes "trimmed 3" ∷ codes "called 0.1" ∷ codes "returned 0.1 ok steps 16 turns 1" ∷ codes "4 0.1 enq 2 -> ok" ∷ codes "end" ∷ [])
+unfolding digits number_of_word
+rows_of_one_answered = refl
+
+-- a script that is drawn from the words 33, 22, 20 and 16
+abbrev drawn : List ℕ
+drawn = lines (codes "universal 1 queue 2 8" ∷ codes "call 0 enq 7" ∷ codes "step 1" ∷ codes "trim" ∷ codes "finish 0" ∷ codes "finish 1" ∷ codes "log" ∷ [])
+
+drawn_answered : text_of_script 1048576 drawn
+    ≡ lines (codes "called 0.0" ∷ codes "refused idle 1" ∷ codes "refused pending 0" ∷ codes "returned 0.0 ok steps 16 turns 1" ∷ codes "refused idle 1" ∷ codes "2 0.0 enq 7 -> ok" ∷ codes "end" ∷ [])
+unfolding digits number_of_word
+drawn_answered = refl
+
+-- a call of one process needs room for 23 events; once it has returned, what it didn't use is free again
+abbrev second_call : List ℕ
+second_call = lines (codes "universal 1 queue 1 8" ∷ codes "call 0 enq 7" ∷ codes "finish 0" ∷ codes "call 0 deq" ∷ codes "trim" ∷ [])
+
+second_call_refused : text_of_script 23 second_call ≡ lines (codes "called 0.0" ∷ codes "returned 0.0 ok steps 14 turns 1" ∷ codes "refused history" ∷ codes "trimmed 2" ∷ codes "end" ∷ [])
+unfolding digits number_of_word
+second_call_refused = refl
+
+first_call_refused : text_of_script 22 second_call ≡ lines (codes "refused history" ∷ codes "refused idle 0" ∷ codes "refused history" ∷ codes "trimmed 1" ∷ codes "end" ∷ [])
+unfolding digits number_of_word
+first_call_refused = refl
+
+-- in version 2 the number of processes can change
+abbrev reshaped : List ℕ
+reshaped = lines (codes "universal 2 queue 1 8" ∷ codes "call 0 enq 7" ∷ codes "finish 0" ∷ codes "reshape 2" ∷ codes "heads" ∷ codes "call 1 deq" ∷ codes "finish 1" ∷ codes "log" ∷ [])
+
+reshaped_answered : text_of_script 1048576 reshaped
+    ≡ lines (codes "called 0.0" ∷ codes "returned 0.0 ok steps 14 turns 1" ∷ codes "reshaped 2 at 2" ∷ codes "heads 2 2" ∷ codes "called 1.0" ∷ codes "returned 1.0 7 steps 16 turns 1" ∷ codes "3 1.0 deq -> 7" ∷ codes "end" ∷ [])
+unfolding digits number_of_word
+reshaped_answered = refl
+
+reshaped_summary : summary_of_script 1048576 reshaped ≡ Some (record { lines = 8; calls = 2; returns = 2 })
+unfolding digits number_of_word
+reshaped_summary = refl
+
+no_reshape_in_version_1 : fault_of_script 1048576 (header (codes "reshape 2")) ≡ Some (BadLine 2)
+unfolding digits number_of_word
+no_reshape_in_version_1 = refl

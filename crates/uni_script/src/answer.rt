@@ -8,7 +8,7 @@ use std::alloc::AllocError;
 use std::fmt;
 use std::io::Write;
 
-/// A command that the construction refused, with the process as the script gave it.
+/// A command that the construction refused, with the number as the script gave it.
 #[derive(Clone, Copy, Debug, PartialEq, Eq)]
 pub enum Refusal {
     /// There is no such process.
@@ -19,8 +19,14 @@ pub enum Refusal {
     Row(u64),
     /// The process has no call.
     Idle(u64),
-    /// The history has no room for a call.
+    /// A call of this process, the least of such, hasn't returned.
+    Pending(u64),
+    /// The numbers of a further era don't fit.
+    Sequence,
+    /// The history has no room.
     History,
+    /// There can't be so many processes.
+    Count(u64),
 }
 
 impl fmt::Display for Refusal {
@@ -32,7 +38,10 @@ impl fmt::Display for Refusal {
             Refusal::Busy(process) => write!(f, "refused busy {process}"),
             Refusal::Row(process) => write!(f, "refused row {process}"),
             Refusal::Idle(process) => write!(f, "refused idle {process}"),
+            Refusal::Pending(process) => write!(f, "refused pending {process}"),
+            Refusal::Sequence => write!(f, "refused sequence"),
             Refusal::History => write!(f, "refused history"),
+            Refusal::Count(count) => write!(f, "refused count {count}"),
         }
     }
 }
@@ -64,6 +73,15 @@ pub enum Answer {
         /// How many turns it has taken.
         turns: u64,
     },
+    /// The era ended; the number is that of the new anchor.
+    Trimmed(u64),
+    /// The era ended, and there is another number of processes.
+    Reshaped {
+        /// How many there are.
+        count: u64,
+        /// The number of the new anchor.
+        number: u64,
+    },
     /// The script ended.
     End,
 }
@@ -89,6 +107,10 @@ pub fn push_answer(text: &mut Vec<u8>, answer: &Answer) -> Result<(), AllocError
         }
         Answer::Going { call, steps, turns } => {
             writeln!(text, "going {call} steps {steps} turns {turns}").map_err(|_| AllocError)
+        }
+        Answer::Trimmed(number) => writeln!(text, "trimmed {number}").map_err(|_| AllocError),
+        Answer::Reshaped { count, number } => {
+            writeln!(text, "reshaped {count} at {number}").map_err(|_| AllocError)
         }
         Answer::End => writeln!(text, "end").map_err(|_| AllocError),
     }

@@ -10,7 +10,7 @@ ghost use Rattle.uni_record.specs.Recording.{KeepsOpening};
 ghost use Rattle.uni_script.specs.Replays.{IsHistory};
 ghost use Rattle.uni_script.specs.Script.{IsInRange};
 ghost use Rattle.uni_script.specs.Answers.{answer_text, numbers_text, heads_text, entry_text, IsOver};
-ghost use Rattle.uni_script.specs.Meaning.{bench_of, bench_after, opened_bench, result_of_command, result_of_call, result_of_steps, last_step, steps_of, steps_taken, most_steps, log_text};
+ghost use Rattle.uni_script.specs.Meaning.{bench_of, bench_after, opened_bench, result_of_command, result_of_call, result_of_steps, result_of_trim, result_of_reshape, last_step, steps_of, steps_taken, most_steps, log_text};
 
 use crate::answer::{Answer, Refusal, push_answer};
 use crate::grammar::{Command, Header};
@@ -19,7 +19,10 @@ use std::alloc::{AllocError, Global};
 use std::io::Write;
 use uni_core::{Progress, World};
 use uni_log::{Entry, Log};
-use uni_record::{RecordBeginFault, RecordOpenFault, RecordStepFault, Recorded};
+use uni_record::{
+    RecordBeginFault, RecordOpenFault, RecordReshapeFault, RecordStepFault, RecordTrimFault,
+    Recorded,
+};
 
 /// Opens the record of a header, for processes that share this object, with a history of so many
 /// events at most.
@@ -78,6 +81,14 @@ pub fn make<O: Spoken>(
         }
         Command::Log => push_log(bench.world(), alloc, text),
         Command::Heads => push_heads(bench.world(), text),
+        Command::Trim => {
+            let answer = trim(bench, alloc)?;
+            push_answer(text, &answer)
+        }
+        Command::Reshape { processes } => {
+            let answer = reshape(bench, alloc, processes)?;
+            push_answer(text, &answer)
+        }
     }
 }
 
@@ -191,6 +202,50 @@ fn step_on<O: Spoken>(
         }
     }
     Ok(None)
+}
+
+/// Ends the era, where no call is pending; the answer has the number of the new anchor, or says why it
+/// didn't end.
+///
+/// An `Err` says that memory was refused.
+fn trim<O: Spoken>(bench: &mut Recorded<O>, alloc: Global) -> Result<Answer, AllocError>
+    ensures object { bench.new.world.object ≡ bench.old.world.object }
+    ensures bench { OnOk result (bench_of bench.new ≡ bench_after (record { object = O.sequential bench.old.world.object; language = O.language }) (bench_of bench.old) (result_of_trim (bench_of bench.old)).events) }
+    ensures answer { IfOk result (λ answer. answer_text answer ≡ (result_of_trim (bench_of bench.old)).text) }
+{
+    match bench.trim(alloc) {
+        Ok(number) => Ok(Answer::Trimmed(number)),
+        Err(RecordTrimFault::Pending(process)) => Ok(Answer::Refused(Refusal::Pending(process))),
+        Err(RecordTrimFault::SeqFull) => Ok(Answer::Refused(Refusal::Sequence)),
+        Err(RecordTrimFault::HistoryFull) => Ok(Answer::Refused(Refusal::History)),
+        Err(RecordTrimFault::Memory) => Err(AllocError),
+    }
+}
+
+/// Ends the era for another number of processes, where no call is pending; the answer has that number
+/// and that of the new anchor, or says why it didn't end.
+///
+/// An `Err` says that memory was refused.
+fn reshape<O: Spoken>(
+    bench: &mut Recorded<O>,
+    alloc: Global,
+    processes: u64,
+) -> Result<Answer, AllocError>
+    ensures object { bench.new.world.object ≡ bench.old.world.object }
+    ensures bench { OnOk result (bench_of bench.new ≡ bench_after (record { object = O.sequential bench.old.world.object; language = O.language }) (bench_of bench.old) (result_of_reshape (bench_of bench.old) processes).events) }
+    ensures answer { IfOk result (λ answer. answer_text answer ≡ (result_of_reshape (bench_of bench.old) processes).text) }
+{
+    match bench.reshape(alloc, processes) {
+        Ok(number) => Ok(Answer::Reshaped {
+            count: processes,
+            number,
+        }),
+        Err(RecordReshapeFault::BadCount) => Ok(Answer::Refused(Refusal::Count(processes))),
+        Err(RecordReshapeFault::Pending(process)) => Ok(Answer::Refused(Refusal::Pending(process))),
+        Err(RecordReshapeFault::SeqFull) => Ok(Answer::Refused(Refusal::Sequence)),
+        Err(RecordReshapeFault::HistoryFull) => Ok(Answer::Refused(Refusal::History)),
+        Err(RecordReshapeFault::Memory) => Err(AllocError),
+    }
 }
 
 /// Writes the line of the heads after a text.

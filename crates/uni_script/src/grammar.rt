@@ -1,11 +1,11 @@
 //! The lines of a script: notes, the header and commands.
 
-ghost use Rattle.std.specs.Prelude.{◌≡◌, IfOk, IfSome, Some};
+ghost use Rattle.std.specs.Prelude.{◌≡◌, [], IfOk, IfSome, Some};
 ghost use Rattle.std.specs.List.{list_all};
 ghost use Rattle.std.specs.Str.{bytes_eq};
 ghost use Rattle.ready_objects.specs.Number.{number_of_word};
 ghost use Rattle.ready_objects.specs.Words.{bytes_of, words_of_text};
-ghost use Rattle.uni_script.specs.Script.{is_plain_byte, is_note, object_of_word, header_with, IsInRange, header_of_words, count_of_number, command_of_words};
+ghost use Rattle.uni_script.specs.Script.{is_plain_byte, is_note, version_of_word, object_of_word, most_processes, header_with, IsInRange, header_of_words, count_of_number, reshape_of, command_of_name, command_of_number, command_of_words};
 ghost use Rattle.uni_script.specs.Schedules.{word_of_object};
 
 use ready_objects::{Amount, Spoken};
@@ -38,12 +38,23 @@ impl fmt::Display for ObjectName {
     }
 }
 
+/// A version of the language.
+#[derive(Clone, Copy, Debug, PartialEq, Eq)]
+pub enum Version {
+    /// Up to 16 processes, as many as the header says.
+    One,
+    /// Up to 64 processes, and their number can be changed.
+    Two,
+}
+
 /// The header of a script.
 #[derive(Clone, Copy, Debug, PartialEq, Eq)]
 pub struct Header {
+    /// The version of the script's language.
+    pub version: Version,
     /// What the processes share.
     pub object: ObjectName,
-    /// How many processes there are, from 1 to 16.
+    /// How many processes there are, from 1 to 16 in version 1, and to 64 in version 2.
     pub processes: u64,
     /// How many calls each process can make, from 1 to 4096.
     pub row: u64,
@@ -75,6 +86,13 @@ pub enum Command<I> {
     Log,
     /// The number of each head is printed.
     Heads,
+    /// The era ends, where no call is pending.
+    Trim,
+    /// The era ends, and there is another number of processes.
+    Reshape {
+        /// How many there are.
+        processes: u64,
+    },
 }
 
 /// Tells whether a line is a note: it is empty or begins with `#`.
@@ -111,8 +129,26 @@ pub fn header_of(words: &[&[u8]]) -> Option<Header>
     let [name, version, object, processes, row] = words else {
         return None;
     };
-    if is_text(name, "universal") && is_text(version, "1") {
-        header_with(object_of(object)?, number_of(processes)?, number_of(row)?)
+    if is_text(name, "universal") {
+        header_with(
+            version_of(version)?,
+            object_of(object)?,
+            number_of(processes)?,
+            number_of(row)?,
+        )
+    } else {
+        None
+    }
+}
+
+/// The version that a word names; `None` where it names none.
+fn version_of(word: &[u8]) -> Option<Version>
+    ensures { result ≡ version_of_word word.now }
+{
+    if is_text(word, "1") {
+        Some(Version::One)
+    } else if is_text(word, "2") {
+        Some(Version::Two)
     } else {
         None
     }
@@ -135,14 +171,25 @@ fn object_of(word: &[u8]) -> Option<ObjectName>
     }
 }
 
+/// The most processes that a header of this version can have.
+fn most_processes(version: Version) -> u64
+    ensures { result ≡ most_processes version }
+{
+    match version {
+        Version::One => 16,
+        Version::Two => 64,
+    }
+}
+
 /// The header of this many processes with rows of this many cells; `None` where they aren't from 1
-/// to 16 and from 1 to 4096.
-fn header_with(object: ObjectName, processes: u64, row: u64) -> Option<Header>
-    ensures header { result ≡ header_with object processes row }
+/// to what the version takes and from 1 to 4096.
+fn header_with(version: Version, object: ObjectName, processes: u64, row: u64) -> Option<Header>
+    ensures header { result ≡ header_with version object processes row }
     ensures range { IfSome result IsInRange }
 {
-    if processes >= 1 && processes <= 16 && row >= 1 && row <= 4096 {
+    if processes >= 1 && processes <= most_processes(version) && row >= 1 && row <= 4096 {
         Some(Header {
+            version,
             object,
             processes,
             row,
@@ -152,32 +199,67 @@ fn header_with(object: ObjectName, processes: u64, row: u64) -> Option<Header>
     }
 }
 
-/// The command that words are; `None` where they are none.
-pub fn command_of<O: Spoken>(words: &[&[u8]]) -> Option<Command<O::Inv>>
-    ensures { result ≡ command_of_words O.language.inv_of_words (bytes_of words.now) }
+/// The command that words are in a version of the language; `None` where they are none.
+pub fn command_of<O: Spoken>(version: Version, words: &[&[u8]]) -> Option<Command<O::Inv>>
+    ensures { result ≡ command_of_words version O.language.inv_of_words (bytes_of words.now) }
 {
     match words {
-        [name] if is_text(name, "log") => Some(Command::Log),
-        [name] if is_text(name, "heads") => Some(Command::Heads),
+        [name] => command_of_name(name),
         [name, process, inv @ ..] if is_text(name, "call") => {
             let process = number_of(process)?;
             let inv = O::read_inv(inv)?;
             Some(Command::Call { process, inv })
         }
-        [name, process] if is_text(name, "finish") => {
-            let process = number_of(process)?;
-            Some(Command::Finish { process })
-        }
-        [name, process] if is_text(name, "step") => {
-            let process = number_of(process)?;
-            Some(Command::Step { process, count: 1 })
-        }
+        [name, number] => command_of_number(version, name, number),
         [name, process, count] if is_text(name, "step") => {
             let process = number_of(process)?;
             let count = count_of_number(number_of(count)?)?;
             Some(Command::Step { process, count })
         }
         _ => None,
+    }
+}
+
+/// The command that one word is; `None` where it is none.
+fn command_of_name<I>(name: &[u8]) -> Option<Command<I>>
+    ensures { result ≡ command_of_name name.now }
+{
+    if is_text(name, "log") {
+        Some(Command::Log)
+    } else if is_text(name, "heads") {
+        Some(Command::Heads)
+    } else if is_text(name, "trim") {
+        Some(Command::Trim)
+    } else {
+        None
+    }
+}
+
+/// The command that a name and a number are in a version of the language; `None` where they are none.
+fn command_of_number<I>(version: Version, name: &[u8], number: &[u8]) -> Option<Command<I>>
+    ensures { result ≡ command_of_number version name.now (number_of_word number.now) [] }
+{
+    if is_text(name, "finish") {
+        let process = number_of(number)?;
+        Some(Command::Finish { process })
+    } else if is_text(name, "reshape") {
+        let processes = number_of(number)?;
+        reshape_of(version, processes)
+    } else if is_text(name, "step") {
+        let process = number_of(number)?;
+        Some(Command::Step { process, count: 1 })
+    } else {
+        None
+    }
+}
+
+/// A change of the number of processes; `None` where the version has none.
+fn reshape_of<I>(version: Version, processes: u64) -> Option<Command<I>>
+    ensures { result ≡ reshape_of version processes }
+{
+    match version {
+        Version::One => None,
+        Version::Two => Some(Command::Reshape { processes }),
     }
 }
 

@@ -11,17 +11,18 @@ pub trait Shared: Spoken {
     ghost use Rattle.std.specs.Prelude.{◌≡◌, Some};
     ghost use Rattle.uni_script.specs.Meaning.{Bench, ScriptBench, outcome_of_words, outcome_of_command};
     ghost use Rattle.uni_script.specs.Summaries.{summary_of, summary_of_bench};
+    ghost use Rattle.uni_script.specs.declared.grammar.Version.{Version};
 
     /// The bench of a script of which this is the bench of the object.
-    ghost bench: { Bench Self.State Self.Inv Self.Resp → ScriptBench };
+    ghost bench: { Version → Bench Self.State Self.Inv Self.Resp → ScriptBench };
 
     /// On it words are a command of the object.
-    ghost words: { (object : Self) (limit number : ℕ) (b : Bench Self.State Self.Inv Self.Resp) (words : List (List ℕ)) →
-        outcome_of_words limit number (Some (bench b)) words ≡ outcome_of_command (record { object = Self.sequential object; language = Self.language }) bench number b words };
+    ghost words: { (object : Self) (version : Version) (limit number : ℕ) (b : Bench Self.State Self.Inv Self.Resp) (words : List (List ℕ)) →
+        outcome_of_words limit number (Some (bench version b)) words ≡ outcome_of_command (record { object = Self.sequential object; language = Self.language }) bench version number b words };
 
     /// It has done as much as that of the object.
-    ghost summary: { (object : Self) (lines : ℕ) (b : Bench Self.State Self.Inv Self.Resp) →
-        summary_of_bench lines (bench b) ≡ summary_of (record { object = Self.sequential object; language = Self.language }) lines b };
+    ghost summary: { (object : Self) (version : Version) (lines : ℕ) (b : Bench Self.State Self.Inv Self.Resp) →
+        summary_of_bench lines (bench version b) ≡ summary_of (record { object = Self.sequential object; language = Self.language }) lines b };
 }
 
 impl Shared for QueueObject {
@@ -31,9 +32,9 @@ impl Shared for QueueObject {
 
     ghost bench = { script_bench Queue };
 
-    ghost words = { λ object limit number b words. refl };
+    ghost words = { λ object version limit number b words. refl };
 
-    ghost summary = { λ object lines b. refl };
+    ghost summary = { λ object version lines b. refl };
 }
 
 impl Shared for DirectoryObject {
@@ -43,9 +44,9 @@ impl Shared for DirectoryObject {
 
     ghost bench = { script_bench Directory };
 
-    ghost words = { λ object limit number b words. refl };
+    ghost words = { λ object version limit number b words. refl };
 
-    ghost summary = { λ object lines b. refl };
+    ghost summary = { λ object version lines b. refl };
 }
 
 impl Shared for BookObject {
@@ -55,9 +56,9 @@ impl Shared for BookObject {
 
     ghost bench = { script_bench Book };
 
-    ghost words = { λ object limit number b words. refl };
+    ghost words = { λ object version limit number b words. refl };
 
-    ghost summary = { λ object lines b. refl };
+    ghost summary = { λ object version lines b. refl };
 }
 
 impl Shared for StickyObject {
@@ -67,7 +68,7 @@ impl Shared for StickyObject {
 
     ghost bench = { script_bench Sticky };
 
-    ghost words = { λ object limit number b words. refl };
+    ghost words = { λ object version limit number b words. refl };
 
-    ghost summary = { λ object lines b. refl };
+    ghost summary = { λ object version lines b. refl };
 }

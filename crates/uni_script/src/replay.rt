@@ -13,7 +13,9 @@ use crate::answer::{Answer, push_answer};
 use crate::commands::{make, open};
 use crate::ends::{TextIn, TextOut, write_all};
 use crate::fault::BenchFault;
-use crate::grammar::{Header, ObjectName, command_of, header_of, is_note, is_plain, words_of};
+use crate::grammar::{
+    Header, ObjectName, Version, command_of, header_of, is_note, is_plain, words_of,
+};
 use crate::lines::{Lines, Stop};
 use crate::objects::Shared;
 use crate::summary::{Summary, summary_of};
@@ -184,7 +186,7 @@ fn run_object<O: Shared, I: TextIn, W: TextOut>(
     requires held { IsHeld lines.old }
     requires reader { I.has_failed reader.old ≡ false }
     requires writer { W.has_failed writer.old ≡ false }
-    ensures run { (limit : ℕ) → RunsOn limit (I.remaining reader.old) lines.old (W.contents writer.old) (Some (O.bench (opened_bench (record { object = O.sequential object; language = O.language }) history header))) (I.remaining reader.new) (W.contents writer.new) result }
+    ensures run { (limit : ℕ) → RunsOn limit (I.remaining reader.old) lines.old (W.contents writer.old) (Some (O.bench header.version (opened_bench (record { object = O.sequential object; language = O.language }) history header))) (I.remaining reader.new) (W.contents writer.new) result }
     ensures reader { IsErrOf result BenchFault.Read → I.has_failed reader.new ≡ true }
     ensures reader_ok { OnOk result (I.has_failed reader.new ≡ false) }
     ensures writer { IsErrOf result BenchFault.Write ↔ (W.has_failed writer.new ≡ true) }
@@ -192,7 +194,7 @@ fn run_object<O: Shared, I: TextIn, W: TextOut>(
     let Ok(bench) = open(alloc, object, header, history) else {
         return Err(BenchFault::Memory);
     };
-    run_commands(alloc, bench, lines, reader, writer)
+    run_commands(alloc, header.version, bench, lines, reader, writer)
 }
 
 /// Runs the lines that are left on a record, and writes their answers.
@@ -201,6 +203,7 @@ fn run_object<O: Shared, I: TextIn, W: TextOut>(
 /// fault of what was read.
 fn run_commands<O: Shared, I: TextIn, W: TextOut>(
     alloc: Global,
+    version: Version,
     mut bench: Recorded<O>,
     lines: &mut Lines,
     reader: &mut I,
@@ -209,15 +212,22 @@ fn run_commands<O: Shared, I: TextIn, W: TextOut>(
     requires held { IsHeld lines.old }
     requires reader { I.has_failed reader.old ≡ false }
     requires writer { W.has_failed writer.old ≡ false }
-    ensures run { (limit : ℕ) → RunsOn limit (I.remaining reader.old) lines.old (W.contents writer.old) (Some (O.bench (bench_of bench))) (I.remaining reader.new) (W.contents writer.new) result }
+    ensures run { (limit : ℕ) → RunsOn limit (I.remaining reader.old) lines.old (W.contents writer.old) (Some (O.bench version (bench_of bench))) (I.remaining reader.new) (W.contents writer.new) result }
     ensures reader { IsErrOf result BenchFault.Read → I.has_failed reader.new ≡ true }
     ensures reader_ok { OnOk result (I.has_failed reader.new ≡ false) }
     ensures writer { IsErrOf result BenchFault.Write ↔ (W.has_failed writer.new ≡ true) }
 {
     loop {
         match lines.take(reader) {
-            Ok(()) => answer_line(alloc, &mut bench, lines.count, lines.line(), writer)?,
-            Err(Stop::End) => return answer_end(alloc, &bench, lines.count, writer),
+            Ok(()) => answer_line(
+                alloc,
+                version,
+                &mut bench,
+                lines.count,
+                lines.line(),
+                writer,
+            )?,
+            Err(Stop::End) => return answer_end(alloc, version, &bench, lines.count, writer),
             Err(Stop::Failed) => return Err(BenchFault::Read),
             Err(Stop::TooLong) => return Err(BenchFault::TooLong(lines.count + 1)),
             Err(Stop::TooMany) => return Err(BenchFault::TooMany),
@@ -231,12 +241,13 @@ fn run_commands<O: Shared, I: TextIn, W: TextOut>(
 /// `Memory` where memory was refused, `Write` where the writer failed.
 fn answer_end<O: Shared, W: TextOut>(
     alloc: Global,
+    version: Version,
     bench: &Recorded<O>,
     lines: u64,
     writer: &mut W,
 ) -> Result<Summary, BenchFault>
     requires { W.has_failed writer.old ≡ false }
-    ensures outcome { WritesAs (outcome_of_end lines (Some (O.bench (bench_of bench.now)))) (W.contents writer.old) (W.contents writer.new) result }
+    ensures outcome { WritesAs (outcome_of_end lines (Some (O.bench version (bench_of bench.now)))) (W.contents writer.old) (W.contents writer.new) result }
     ensures summary { IfOk result (λ summary. summary ≡ summary_of (record { object = O.sequential bench.now.world.object; language = O.language }) lines (bench_of bench.now)) }
     ensures writer { IsErrOf result BenchFault.Write ↔ (W.has_failed writer.new ≡ true) }
     ensures other { IfErr result (λ e. e ≢ BenchFault.Read) }
@@ -257,19 +268,20 @@ fn answer_end<O: Shared, W: TextOut>(
 /// the line.
 fn answer_line<O: Shared, W: TextOut>(
     alloc: Global,
+    version: Version,
     bench: &mut Recorded<O>,
     number: u64,
     line: &[u8],
     writer: &mut W,
 ) -> Result<(), BenchFault>
     requires { W.has_failed writer.old ≡ false }
-    ensures outcome { (limit : ℕ) → WritesAs (outcome_of_short_line limit number (Some (O.bench (bench_of bench.old))) line.now) (W.contents writer.old) (W.contents writer.new) result }
-    ensures bench { (limit : ℕ) → OnOk result (Some (O.bench (bench_of bench.new)) ≡ (outcome_of_short_line limit number (Some (O.bench (bench_of bench.old))) line.now).bench) }
+    ensures outcome { (limit : ℕ) → WritesAs (outcome_of_short_line limit number (Some (O.bench version (bench_of bench.old))) line.now) (W.contents writer.old) (W.contents writer.new) result }
+    ensures bench { (limit : ℕ) → OnOk result (Some (O.bench version (bench_of bench.new)) ≡ (outcome_of_short_line limit number (Some (O.bench version (bench_of bench.old))) line.now).bench) }
     ensures writer { IsErrOf result BenchFault.Write ↔ (W.has_failed writer.new ≡ true) }
     ensures other { IfErr result (λ e. e ≢ BenchFault.Read) }
 {
     let mut text = Vec::new(alloc);
-    run_line(alloc, bench, number, line, &mut text)?;
+    run_line(alloc, version, bench, number, line, &mut text)?;
     match write_all(writer, text.as_slice()) {
         Ok(()) => Ok(()),
         Err(_) => Err(BenchFault::Write),
@@ -281,13 +293,14 @@ fn answer_line<O: Shared, W: TextOut>(
 /// `Memory` where memory was refused; any other `Err` is the fault of the line.
 fn run_line<O: Shared>(
     alloc: Global,
+    version: Version,
     bench: &mut Recorded<O>,
     number: u64,
     line: &[u8],
     text: &mut Vec<u8>,
 ) -> Result<(), BenchFault>
-    ensures outcome { (limit : ℕ) → EndsAs (outcome_of_short_line limit number (Some (O.bench (bench_of bench.old))) line.now) text.old.items text.new.items result }
-    ensures bench { (limit : ℕ) → OnOk result (Some (O.bench (bench_of bench.new)) ≡ (outcome_of_short_line limit number (Some (O.bench (bench_of bench.old))) line.now).bench) }
+    ensures outcome { (limit : ℕ) → EndsAs (outcome_of_short_line limit number (Some (O.bench version (bench_of bench.old))) line.now) text.old.items text.new.items result }
+    ensures bench { (limit : ℕ) → OnOk result (Some (O.bench version (bench_of bench.new)) ≡ (outcome_of_short_line limit number (Some (O.bench version (bench_of bench.old))) line.now).bench) }
     ensures own { IfErr result IsFaultOfLine }
 {
     if !is_plain(line) {
@@ -299,7 +312,7 @@ fn run_line<O: Shared>(
     let Ok(words) = words_of(alloc, line) else {
         return Err(BenchFault::Memory);
     };
-    run_words(alloc, bench, number, words.as_slice(), text)
+    run_words(alloc, version, bench, number, words.as_slice(), text)
 }
 
 /// Makes the command that words are, and writes its answer after a text.
@@ -307,16 +320,17 @@ fn run_line<O: Shared>(
 /// `Memory` where memory was refused; `BadLine` where the words are no command.
 fn run_words<O: Shared>(
     alloc: Global,
+    version: Version,
     bench: &mut Recorded<O>,
     number: u64,
     words: &[&[u8]],
     text: &mut Vec<u8>,
 ) -> Result<(), BenchFault>
-    ensures outcome { EndsAs (outcome_of_command (record { object = O.sequential bench.old.world.object; language = O.language }) O.bench number (bench_of bench.old) (bytes_of words.now)) text.old.items text.new.items result }
-    ensures bench { OnOk result (Some (O.bench (bench_of bench.new)) ≡ (outcome_of_command (record { object = O.sequential bench.old.world.object; language = O.language }) O.bench number (bench_of bench.old) (bytes_of words.now)).bench) }
+    ensures outcome { EndsAs (outcome_of_command (record { object = O.sequential bench.old.world.object; language = O.language }) O.bench version number (bench_of bench.old) (bytes_of words.now)) text.old.items text.new.items result }
+    ensures bench { OnOk result (Some (O.bench version (bench_of bench.new)) ≡ (outcome_of_command (record { object = O.sequential bench.old.world.object; language = O.language }) O.bench version number (bench_of bench.old) (bytes_of words.now)).bench) }
     ensures own { IfErr result IsFaultOfLine }
 {
-    let Some(command) = command_of::<O>(words) else {
+    let Some(command) = command_of::<O>(version, words) else {
         return Err(BenchFault::BadLine(number));
     };
     match make(bench, alloc, command, text) {

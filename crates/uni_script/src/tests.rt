@@ -1,5 +1,7 @@
 //! Tests of the bench over memory, and of objects that processes share through a world.
 
+ghost use Rattle.uni_script.specs.Replays.{IsHistory};
+
 use crate::{
     BenchFault, Checked, Drawn, Failed, ObjectName, Options, Plan, Summary, TextIn, TextOut, bench,
     finish_returns, push_fault, schedule, write_all,
@@ -22,10 +24,24 @@ const OPTIONS: Options = Options { history: 1_048_576 };
 
 /// Asserts what the bench writes for a script, and how it ends.
 fn runs(rt: &impl Abort, alloc: Global, script: &str, want: &str, outcome: Result<(), BenchFault>) {
+    runs_with(rt, alloc, &OPTIONS, script, want, outcome);
+}
+
+/// Asserts what the bench writes for a script where it is told this, and how it ends.
+fn runs_with(
+    rt: &impl Abort,
+    alloc: Global,
+    options: &Options,
+    script: &str,
+    want: &str,
+    outcome: Result<(), BenchFault>,
+)
+    requires { IsHistory options.now.history }
+{
     let mut text = Vec::new(alloc);
     let mut reader = Checked::new(script.as_bytes());
     let mut writer = Checked::new(&mut text);
-    let ended = bench(alloc, &mut reader, &mut writer, &OPTIONS).map(|_| ());
+    let ended = bench(alloc, &mut reader, &mut writer, options).map(|_| ());
     assert_eq!(rt; ended, outcome, "{script}");
     assert!(rt; !TextIn::failed(&reader) && !TextOut::failed(&writer));
     assert_eq!(rt; text.as_slice(), want.as_bytes(), "{script}");
@@ -104,6 +120,109 @@ fn schedules_of_two_processes(rt: HostRuntime) {
     ];
     for (script, want) in rows {
         runs(&rt, rt.alloc(), script, want, Ok(()));
+    }
+}
+
+#[test]
+fn eras_that_end(rt: HostRuntime) {
+    let rows = [
+        // The last steps of a call whose helper has made its reply, between two trims.
+        (
+            "universal 1 queue 2 8\ncall 1 enq 5\nstep 1\ncall 0 enq 6\nfinish 0\nheads\nlog\ntrim\nfinish 1\nheads\ntrim\n",
+            "called 1.0\ngoing 1.0 steps 1 turns 0\ncalled 0.0\nreturned 0.0 ok steps 24 turns 2\nheads 3 1\n2 1.0 enq 5 -> ok\n3 0.0 enq 6 -> ok\nrefused pending 1\nreturned 1.0 ok steps 8 turns 0\nheads 3 3\ntrimmed 3\nend\n",
+        ),
+        // Numbers go on, so turns do, and the state stays.
+        (
+            "universal 1 queue 2 8\ncall 0 enq 1\nfinish 0\ntrim\ncall 1 enq 2\nstep 1\ncall 0 deq\nfinish 0\nlog\n",
+            "called 0.0\nreturned 0.0 ok steps 16 turns 1\ntrimmed 2\ncalled 1.0\ngoing 1.0 steps 1 turns 0\ncalled 0.1\nreturned 0.1 1 steps 16 turns 1\n3 0.1 deq -> 1\nend\n",
+        ),
+        (
+            "universal 1 queue 2 8\ntrim\ntrim\n",
+            "trimmed 1\ntrimmed 1\nend\n",
+        ),
+        // A row is each process's own, and that of an era.
+        (
+            "universal 1 queue 2 1\ncall 0 enq 1\nfinish 0\ncall 0 enq 2\ncall 1 deq\nfinish 1\ntrim\ncall 0 enq 2\nfinish 0\nlog\n",
+            "called 0.0\nreturned 0.0 ok steps 16 turns 1\nrefused row 0\ncalled 1.0\nreturned 1.0 1 steps 16 turns 1\ntrimmed 3\ncalled 0.1\nreturned 0.1 ok steps 16 turns 1\n4 0.1 enq 2 -> ok\nend\n",
+        ),
+        // A script that is drawn from words.
+        (
+            "universal 1 queue 2 8\ncall 0 enq 7\nstep 1\ntrim\nfinish 0\nfinish 1\nlog\n",
+            "called 0.0\nrefused idle 1\nrefused pending 0\nreturned 0.0 ok steps 16 turns 1\nrefused idle 1\n2 0.0 enq 7 -> ok\nend\n",
+        ),
+    ];
+    for (script, want) in rows {
+        runs(&rt, rt.alloc(), script, want, Ok(()));
+    }
+}
+
+#[test]
+fn histories_that_are_full(rt: HostRuntime) {
+    let script = "universal 1 queue 1 8\ncall 0 enq 7\nfinish 0\ncall 0 deq\ntrim\n";
+    let answers = "called 0.0\nreturned 0.0 ok steps 14 turns 1\nrefused history\ntrimmed 2\nend\n";
+    runs_with(
+        &rt,
+        rt.alloc(),
+        &Options { history: 23 },
+        script,
+        answers,
+        Ok(()),
+    );
+    let refusals = "refused history\nrefused idle 0\nrefused history\ntrimmed 1\nend\n";
+    runs_with(
+        &rt,
+        rt.alloc(),
+        &Options { history: 22 },
+        script,
+        refusals,
+        Ok(()),
+    );
+    let trims = "universal 2 queue 1 8\ntrim\ntrim\nreshape 2\n";
+    let full = "trimmed 1\nrefused history\nrefused history\nend\n";
+    runs_with(
+        &rt,
+        rt.alloc(),
+        &Options { history: 1 },
+        trims,
+        full,
+        Ok(()),
+    );
+}
+
+#[test]
+fn numbers_of_processes_that_change(rt: HostRuntime) {
+    let rows = [
+        (
+            "universal 2 queue 1 8\ncall 0 enq 7\nfinish 0\nreshape 2\nheads\ncall 1 deq\nfinish 1\nlog\n",
+            "called 0.0\nreturned 0.0 ok steps 14 turns 1\nreshaped 2 at 2\nheads 2 2\ncalled 1.0\nreturned 1.0 7 steps 16 turns 1\n3 1.0 deq -> 7\nend\n",
+            Ok(()),
+        ),
+        // The order of refusals; and a process that is left out, and taken in again.
+        (
+            "universal 2 queue 2 8\ncall 1 enq 5\nreshape 65\nreshape 1\nfinish 1\nreshape 0\nreshape 1\ncall 1 deq\ncall 0 deq\nfinish 0\nreshape 2\ncall 1 deq\nfinish 1\nlog\n",
+            "called 1.0\nrefused count 65\nrefused pending 1\nreturned 1.0 ok steps 16 turns 1\nrefused count 0\nreshaped 1 at 2\nrefused process 1\ncalled 0.0\nreturned 0.0 5 steps 14 turns 1\nreshaped 2 at 3\ncalled 1.1\nreturned 1.1 empty steps 16 turns 1\n4 1.1 deq -> empty\nend\n",
+            Ok(()),
+        ),
+        (
+            "universal 2 sticky 64 1\ncall 0 stick 5\nfinish 0\n",
+            "called 0.0\nreturned 0.0 5 steps 140 turns 1\nend\n",
+            Ok(()),
+        ),
+        (
+            "universal 2 queue 65 8\n",
+            "",
+            Err(BenchFault::BadHeader(1)),
+        ),
+        ("universal 3 queue 1 8\n", "", Err(BenchFault::BadHeader(1))),
+        // Version 1 has no change.
+        (
+            "universal 1 queue 1 8\nlog\nreshape 2\n",
+            "",
+            Err(BenchFault::BadLine(3)),
+        ),
+    ];
+    for (script, want, outcome) in rows {
+        runs(&rt, rt.alloc(), script, want, outcome);
     }
 }
 

@@ -162,6 +162,29 @@ fn good_scripts(rt: HostRuntime) {
     }
 }
 
+#[test]
+fn histories_of_few_events(rt: HostRuntime) {
+    let script = "universal 1 queue 1 8\ncall 0 enq 7\nfinish 0\ncall 0 deq\ntrim\n";
+    let rows = [
+        (
+            "23",
+            "called 0.0\nreturned 0.0 ok steps 14 turns 1\nrefused history\ntrimmed 2\nend\n",
+        ),
+        (
+            "22",
+            "refused history\nrefused idle 0\nrefused history\ntrimmed 1\nend\n",
+        ),
+    ];
+    for (history, output) in rows {
+        let words = ["unibench", "replay", "--history", history];
+        let reader = by_sevens(script.as_bytes(), false);
+        let outcome = outcome_of(&rt, rt.alloc(), words.as_slice(), reader);
+        assert_eq!(rt; outcome.status, 0);
+        assert_eq!(rt; outcome.output.as_slice(), output.as_bytes());
+        assert!(rt; outcome.faults.is_empty());
+    }
+}
+
 /// A script of one call of a queue. Its lines end after 22, 35, 44 and 48 bytes.
 const ONE_CALL: &[u8] = b"universal 1 queue 1 8\ncall 0 enq 7\nfinish 0\nlog\n";
 

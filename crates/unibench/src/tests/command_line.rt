@@ -38,8 +38,10 @@ Options:
 
 The script begins with a header: 'universal 1', the object (queue, directory,
 book or sticky), how many processes share it, from 1 to 16, and how many calls
-each can make, from 1 to 4096. Then come commands, one a line: call, step,
-finish, log and heads. A line that begins with # is a note.
+each can make in an era, from 1 to 4096. Then come commands, one a line: call,
+step, finish, trim, log and heads. After 'universal 2' there are up to 64
+processes, and reshape changes their number. A line that begins with # is a
+note.
 
 Example:
   printf '%s\\n' 'universal 1 queue 2 8' 'call 0 enq 7' 'finish 0' log |

@@ -10,20 +10,20 @@ use Rattle.uni_script.proofs.replay.answer_line.Goals as goal
 pub returns-in_err-run_line-clause-outcome : goal.returns-in_err-run_line-clause-outcome
 returns-in_err-run_line-clause-outcome g c = λ limit.
     let e : c.from_residual.result ≡ Err c.in_err-run_line.field-0.0 = search rules in
-    let b = Some (g.O.Shared.bench (bench_of c.args.bench.now)) in
+    let b = Some (g.O.Shared.bench c.args.version (bench_of c.args.bench.now)) in
     WritesAs-faulted limit c.args.number b c.args.line.now c.in_err-run_line.field-0.0 c.run_line.new.text.items (g.W.TextOut.contents c.args.writer.now) c.from_residual.result e
     (subst (λ t. EndsAs {A = Summary} (outcome_of_short_line limit c.args.number b c.args.line.now) t c.run_line.new.text.items (Err c.in_err-run_line.field-0.0)) c.new-text.ensures.items (c.in_err-run_line.ensures.outcome limit))
 
 pub returns-in-Ok-clause-outcome : goal.returns-in-Ok-clause-outcome
 returns-in-Ok-clause-outcome g c = λ limit.
-    let text = (outcome_of_short_line limit c.args.number (Some (g.O.Shared.bench (bench_of c.args.bench.now))) c.args.line.now).text in
+    let text = (outcome_of_short_line limit c.args.number (Some (g.O.Shared.bench c.args.version (bench_of c.args.bench.now))) c.args.line.now).text in
     let ran = c.in_ok-run_line.ensures.outcome limit in
     let written : c.as_slice.result.now ≡ text = c.as_slice.ensures.value ∙ ran.1 ∙ ap (λ t. t ++ text) c.new-text.ensures.items in
     (ran.0, subst (Appends (g.W.TextOut.contents c.args.writer.now) (g.W.TextOut.contents c.write_all.new.end)) written c.in-Ok.ensures.ok)
 
 pub returns-clause-outcome : goal.returns-clause-outcome
 returns-clause-outcome g c = λ limit.
-    let text = (outcome_of_short_line limit c.args.number (Some (g.O.Shared.bench (bench_of c.args.bench.now))) c.args.line.now).text in
+    let text = (outcome_of_short_line limit c.args.number (Some (g.O.Shared.bench c.args.version (bench_of c.args.bench.now))) c.args.line.now).text in
     let ran = c.in_ok-run_line.ensures.outcome limit in
     let written : c.as_slice.result.now ≡ text = c.as_slice.ensures.value ∙ ran.1 ∙ ap (λ t. t ++ text) c.new-text.ensures.items in
     inl (inr refl, subst (AppendsFront (g.W.TextOut.contents c.args.writer.now) (g.W.TextOut.contents c.write_all.new.end)) written c.in-Err.ensures.front)

@@ -16,7 +16,7 @@ pub loop-bench-preserved : goal.loop-bench-preserved
 loop-bench-preserved g c =
     let took = c.in-Ok.ensures in
     let answered = c.in_ok-answer_line-in-Ok.ensures in
-    let b = Some (g.O.Shared.bench (bench_of c.loop-bench.bench)) in (
+    let b = Some (g.O.Shared.bench c.args.version (bench_of c.loop-bench.bench)) in (
       took.held,
       stays_false _ _ took.failed (λ e. cc),
       stays_false _ _ answered.writer (λ e. cc),
@@ -25,7 +25,7 @@ loop-bench-preserved g c =
           let has = subst (λ l. HasTaken old (g.I.TextIn.remaining c.take.new.reader) c.take.new.self (now.0 ++ l ∷ [])) (sym c.line.ensures) (took.line old now.0 now.1.reading) in (
             now.0 ++ c.line.result.now ∷ [],
             HasRun-line limit old _ c.loop-bench.lines written _ now.0 b now.1 _ c.take.new.self c.line.result.now has (ap (λ l. is_short l) c.line.ensures ∙ is_short-line c.take.new.self took.held) took.held.count
-                (Some (g.O.Shared.bench (bench_of c.answer_line.new.bench))) _ (answered.outcome limit).0 (sym (answered.bench limit)) (answered.outcome limit).1,
+                (Some (g.O.Shared.bench c.args.version (bench_of c.answer_line.new.bench))) _ (answered.outcome limit).0 (sym (answered.bench limit)) (answered.outcome limit).1,
           ),
     )
 
@@ -36,7 +36,7 @@ returns-in_err-answer_line-in-Ok-clause-run g c = λ limit old written taken run
     let has = subst (λ l. HasTaken old (g.I.TextIn.remaining c.take.new.reader) c.take.new.self (now.0 ++ l ∷ [])) (sym c.line.ensures) (took.line old now.0 now.1.reading) in
     let e : c.from_residual.result ≡ Err c.in_err-answer_line-in-Ok.field-0.0 = (let gave = err_from_is_err_and c.from_residual.result c.from_residual.ensures.1 in gave.1 ∙ ap Err gave.2) in
     subst (λ r. HasEnded limit old (g.I.TextIn.remaining c.take.new.reader) written (g.W.TextOut.contents c.answer_line.new.writer) r) (sym e)
-    (HasEnded-line limit old _ c.loop-bench.lines written _ now.0 (Some (g.O.Shared.bench (bench_of c.loop-bench.bench))) now.1 _ c.take.new.self c.line.result.now has
+    (HasEnded-line limit old _ c.loop-bench.lines written _ now.0 (Some (g.O.Shared.bench c.args.version (bench_of c.loop-bench.bench))) now.1 _ c.take.new.self c.line.result.now has
     (ap (λ l. is_short l) c.line.ensures ∙ is_short-line c.take.new.self took.held) took.held.count c.in_err-answer_line-in-Ok.field-0.0 _ (c.in_err-answer_line-in-Ok.ensures.outcome limit))
 
 pub returns-in-Err-End-clause-run : goal.returns-in-Err-End-clause-run
@@ -45,10 +45,10 @@ returns-in-Err-End-clause-run g c = λ limit old written taken run.
     let same = c.in-Err-End.ensures.same in
     let e : c.in-Err-End.field-0 ≡ stop.End = search rules in
     let has = subst (λ s. HasStopped old (g.I.TextIn.remaining c.take.new.reader) s now.0) e (c.in-Err-End.ensures.stop old now.0 now.1.reading) in
-    let b = g.O.Shared.bench (bench_of c.loop-bench.bench) in
+    let b = g.O.Shared.bench c.args.version (bench_of c.loop-bench.bench) in
     HasEnded-end limit old _ c.loop-bench.lines written _ now.0 b now.1 _ has _ c.answer_end.result
     (subst (λ n. WritesAs (outcome_of_end n (Some b)) (g.W.TextOut.contents c.loop-bench.writer) (g.W.TextOut.contents c.answer_end.new.writer) c.answer_end.result) same c.answer_end.ensures.outcome)
-    (IfOk-map c.answer_end.result _ _ (λ s f. g.met.O.Shared.summary c.loop-bench.bench.world.object c.loop-bench.lines.count (bench_of c.loop-bench.bench) ∙ ap (λ n. summary_of (record { object = g.O.SeqObject.sequential c.loop-bench.bench.world.object; language = g.O.Spoken.language }) n (bench_of c.loop-bench.bench)) (sym same) ∙ sym f) c.answer_end.ensures.summary)
+    (IfOk-map c.answer_end.result _ _ (λ s f. g.met.O.Shared.summary c.loop-bench.bench.world.object c.args.version c.loop-bench.lines.count (bench_of c.loop-bench.bench) ∙ ap (λ n. summary_of (record { object = g.O.SeqObject.sequential c.loop-bench.bench.world.object; language = g.O.Spoken.language }) n (bench_of c.loop-bench.bench)) (sym same) ∙ sym f) c.answer_end.ensures.summary)
 
 pub returns-in-Err-End-clause-reader_ok : goal.returns-in-Err-End-clause-reader_ok
 returns-in-Err-End-clause-reader_ok g c =
@@ -67,7 +67,7 @@ returns-in-Err-TooLong-clause-run g c = λ limit old written taken run.
     let now = c.loop-bench.invariant.3 limit old written taken run in
     let e : c.in-Err-TooLong.field-0 ≡ stop.TooLong = search rules in
     let has = subst (λ s. HasStopped old (g.I.TextIn.remaining c.take.new.reader) s now.0) e (c.in-Err-TooLong.ensures.stop old now.0 now.1.reading) in
-    let b = Some (g.O.Shared.bench (bench_of c.loop-bench.bench)) in
+    let b = Some (g.O.Shared.bench c.args.version (bench_of c.loop-bench.bench)) in
     HasEnded-stop limit old _ c.loop-bench.lines written _ now.0 b now.1 _ stop.TooLong has (TooLong (c.take.new.self.count + 1))
     (ap (λ n. outcome_of_fault b (TooLong (n + 1))) (now.1.reading.count ∙ sym c.in-Err-TooLong.ensures.same))
 
