@@ -65,8 +65,9 @@ pub record IsReceiptOf {I R : Type 0} (old : SeatOf I R) (receipt : Receipt I R)
 abbrev pub IsStop : ApplyFault → Type 0
 IsStop fault = (fault ≡ GaveUp) ⊎ (fault ≡ Stranger) ⊎ (fault ≡ Memory)
 
--- the invariant: there are at most 64 processes, and where a call is pending there is room for its receipt
-pub record IsSeat {I : Type 0} (pending : Option (PendingCall I)) (processes stored for_receipts : ℕ) : Type 0 where
+-- the invariant: the process is one of at most 64, and where a call is pending there is room for its receipt
+pub record IsSeat {I : Type 0} (pending : Option (PendingCall I)) (process processes stored for_receipts : ℕ) : Type 0 where
+  pub below : process < processes
   pub few : processes ≤ 64
   pub room : IsSome pending → stored < for_receipts
 

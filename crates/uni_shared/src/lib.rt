@@ -1,6 +1,8 @@
 //! A record under a lock, and seats whose threads take the lock once for each event.
 #![tactic(auto)]
 
+mod agreement;
+mod closed;
 mod fault;
 mod gate;
 mod held;
@@ -10,8 +12,13 @@ mod receipt;
 mod seat;
 mod shared;
 #[cfg(test)]
+mod test_calls;
+#[cfg(test)]
 mod tests;
+#[cfg(test)]
+mod thread_tests;
 
+pub use closed::{CloseFault, Closed, Refused};
 pub use fault::ApplyFault;
 pub use gate::{Gate, GaveUp, NoGate};
 pub use held::{Held, StepHeldFault, begin_held, step_held, trim_held};

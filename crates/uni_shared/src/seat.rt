@@ -1,6 +1,6 @@
 //! Seats: calls from threads, a hold of the lock for each event.
 
-ghost use Rattle.std.specs.Prelude.{◌≡◌, ◌-◌, ◌≤◌, ◌↔◌, ◌⊎◌, IfOk, IfErr, OnErr, OnOk, IsSome, IsErrOf, IsTrue, None, Some, length, slice_get};
+ghost use Rattle.std.specs.Prelude.{◌≡◌, ◌-◌, ◌<◌, ◌≤◌, ◌↔◌, ◌⊎◌, IfOk, IfErr, OnErr, OnOk, IsSome, IsErrOf, IsTrue, None, Some, length, slice_get};
 ghost use Rattle.std.specs.Borrow.{sem};
 ghost use Rattle.uni_shared.specs.Seats.{first_seat, HasEnded, HasBegun, HasStopped, IsLeftByApply, IsReceiptOf, IsStop};
 ghost use Rattle.uni_shared.specs.Ending.{EndsApplied, EndsResumed};
@@ -35,7 +35,7 @@ impl<O: SeqObject> Model for Seat<O> {
 
     ghost view = { λ s. record { process = s.process; processes = s.processes; pending = s.pending; receipts = s.receipts.items } };
 
-    ghost invariant = { λ s. IsSeat s.pending s.processes (vec_len s.receipts) (vec_capacity s.receipts) };
+    ghost invariant = { λ s. IsSeat s.pending s.process s.processes (vec_len s.receipts) (vec_capacity s.receipts) };
 }
 
 /// Why a call was left pending.
@@ -169,7 +169,8 @@ fn drive<O: SeqObject, G: Gate, R: Wait>(
 impl<O: SeqObject> Seat<O> {
     /// The seat of process `process`, of so many.
     pub(crate) fn new(alloc: Global, process: u64, processes: u64) -> Seat<O>
-        requires { processes ≤ 64 }
+        requires below { process < processes }
+        requires few { processes ≤ 64 }
         ensures { result ≡ first_seat processes process }
     {
         Seat {
@@ -180,9 +181,10 @@ impl<O: SeqObject> Seat<O> {
         }
     }
 
-    /// Which process's seat it is.
+    /// Which process's seat it is, below 64.
     pub fn process(&self) -> u64
-        ensures { result ≡ self.now.process }
+        ensures value { result ≡ self.now.process }
+        ensures few { result < 64 }
     {
         self.process
     }

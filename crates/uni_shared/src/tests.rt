@@ -1,88 +1,16 @@
-//! Seats whose receipts were worked out by hand.
+//! Seats and closed records whose receipts and faults were worked out by hand.
 
-use crate::{ApplyFault, Gate, GaveUp, NoGate, Seat, Shared, trim};
-use ready_objects::{Amount, QueueInv, QueueObject, QueueResp};
+use crate::test_calls::{
+    Second, alone, enqueues, has_added, last, queue, queue_of_one, receipts_of, resumes,
+};
+use crate::{ApplyFault, CloseFault, Closed, NoGate, Refused, Seat, Shared, trim};
+use ready_objects::QueueObject;
+use seq_object::CallId;
 use std::alloc::Global;
 use std::process::Abort;
 use std::sync::Wait;
-use std::sync::atomic::{AtomicU64, Ordering};
+use std::sync::atomic::AtomicU64;
 use std::test::Fail;
-use uni_core::Place;
-
-/// An invocation that enqueues a number.
-fn enq(value: u64) -> Result<QueueInv, Fail> {
-    match Amount::new(value) {
-        Some(amount) => Ok(QueueInv::Enq(amount)),
-        None => Err(Fail::from("the number should fit")),
-    }
-}
-
-/// What refuses a call that enqueues a number, if anything does.
-fn enqueues<G: Gate, R: Wait>(
-    rt: &R,
-    alloc: Global,
-    shared: &Shared<QueueObject>,
-    seat: &mut Seat<QueueObject>,
-    value: u64,
-    gate: &G,
-) -> Result<Option<ApplyFault>, Fail> {
-    let inv = enq(value)?;
-    match seat.apply(rt, alloc, shared, inv, gate) {
-        Ok(_) => Ok(None),
-        Err(fault) => Ok(Some(fault)),
-    }
-}
-
-/// What refuses to go on with a call, if anything does.
-fn resumes<R: Wait>(
-    rt: &R,
-    alloc: Global,
-    shared: &Shared<QueueObject>,
-    seat: &mut Seat<QueueObject>,
-) -> Option<ApplyFault> {
-    match seat.resume(rt, alloc, shared, &NoGate) {
-        Ok(_) => None,
-        Err(fault) => Some(fault),
-    }
-}
-
-/// Whether a seat has this receipt of a call that enqueued a number, after as many others.
-fn has_added(
-    seat: &Seat<QueueObject>,
-    process: u32,
-    nth: u64,
-    value: u64,
-    steps: u64,
-    turns: u64,
-) -> Result<bool, Fail> {
-    let inv = enq(value)?;
-    let Some(receipt) = seat.receipts().get(nth as usize) else {
-        return Ok(false);
-    };
-    Ok(
-        receipt.call.process == process
-            && receipt.call.nth == nth
-            && receipt.inv == inv
-            && receipt.reply == QueueResp::Added
-            && receipt.steps == steps
-            && receipt.turns == turns,
-    )
-}
-
-/// Gives up when it is called for the second time.
-#[derive(Drop)]
-struct Second {
-    calls: AtomicU64,
-}
-
-impl Gate for Second {
-    fn before(&self, _p: u64, _place: Place) -> Result<(), GaveUp> {
-        if self.calls.fetch_add(1, Ordering::SeqCst) == 1 {
-            return Err(GaveUp);
-        }
-        Ok(())
-    }
-}
 
 /// One seat makes one call, and then the era ends.
 fn one_call<R: Wait + Abort>(
@@ -102,14 +30,128 @@ fn one_call<R: Wait + Abort>(
 #[test]
 fn one_seat(rt: HostRuntime) -> Result<(), Fail> {
     let alloc = rt.alloc();
-    let Ok((shared, mut seats)) = Shared::open(alloc, QueueObject, 1, 8, 100) else {
-        return Err(Fail::from("nothing was opened"));
-    };
-    one_call(&rt, alloc, &shared, &mut seats[0])
+    let (shared, mut seat) = queue_of_one(alloc, 8)?;
+    one_call(&rt, alloc, &shared, &mut seat)
 }
 
-/// A call that the gate stops before its second step, and that goes on later.
-fn stopped_and_resumed<R: Wait + Abort>(
+/// What was handed back for this fault.
+fn refused(
+    alloc: Global,
+    shared: Shared<QueueObject>,
+    seats: Vec<Seat<QueueObject>>,
+    fault: CloseFault,
+) -> Result<(Shared<QueueObject>, Vec<Seat<QueueObject>>), Fail> {
+    let Err(refused) = shared.close(alloc, seats) else {
+        return Err(Fail::from("nothing should have been closed"));
+    };
+    let Refused {
+        fault: given,
+        shared,
+        seats,
+    } = refused;
+    if given != fault {
+        return Err(Fail::from("another fault was answered"));
+    }
+    Ok((shared, seats))
+}
+
+/// What was closed.
+fn closed(
+    alloc: Global,
+    shared: Shared<QueueObject>,
+    seats: Vec<Seat<QueueObject>>,
+) -> Result<Closed<QueueObject>, Fail> {
+    match shared.close(alloc, seats) {
+        Ok(closed) => Ok(closed),
+        Err(_) => Err(Fail::from("it should have been closed")),
+    }
+}
+
+#[test]
+fn a_seat_of_another_record_differs(rt: HostRuntime) -> Result<(), Fail> {
+    let alloc = rt.alloc();
+    let (a, mut seat_of_a) = queue_of_one(alloc, 8)?;
+    let (b, mut seat_of_b) = queue_of_one(alloc, 8)?;
+    assert!(rt; enqueues(&rt, alloc, &a, &mut seat_of_a, 7, &NoGate)?.is_none());
+    assert!(rt; enqueues(&rt, alloc, &b, &mut seat_of_b, 8, &NoGate)?.is_none());
+    assert!(rt; trim(&rt, alloc, &a) == Ok(2));
+    let first = CallId { process: 0, nth: 0 };
+    let seats_of_b = alone(alloc, seat_of_b)?;
+    let (a, mut seats_of_b) = refused(alloc, a, seats_of_b, CloseFault::Mismatch(first))?;
+    let seat_of_b = last(&mut seats_of_b)?;
+    assert!(rt; has_added(&seat_of_b, 0, 0, 8, 14, 1)?);
+    let closed = closed(alloc, a, alone(alloc, seat_of_a)?)?;
+    assert!(rt; closed.recorded().events().len() == 16);
+    assert!(rt; receipts_of(&closed, 0)?.len() == 1);
+    Ok(())
+}
+
+#[test]
+fn a_seat_that_is_not_there(rt: HostRuntime) -> Result<(), Fail> {
+    let alloc = rt.alloc();
+    let (shared, mut seats) = queue(alloc, 2, 8)?;
+    let second = last(&mut seats)?;
+    assert!(rt; second.process() == 1);
+    let (shared, mut seats) = refused(alloc, shared, seats, CloseFault::MissingSeat(1))?;
+    let (_, mut others) = queue(alloc, 2, 8)?;
+    let _ = last(&mut others)?;
+    seats.append(&mut others)?;
+    seats.push(second)?;
+    assert!(rt; seats.len() == 3);
+    let (_, seats) = refused(alloc, shared, seats, CloseFault::MissingSeat(0))?;
+    assert!(rt; seats.len() == 3);
+    Ok(())
+}
+
+#[test]
+fn a_seat_of_more_processes(rt: HostRuntime) -> Result<(), Fail> {
+    let alloc = rt.alloc();
+    let (shared, _) = queue(alloc, 1, 8)?;
+    let (_, seats) = queue(alloc, 3, 8)?;
+    let (_, seats) = refused(alloc, shared, seats, CloseFault::MissingSeat(1))?;
+    assert!(rt; seats.len() == 3);
+    Ok(())
+}
+
+#[test]
+fn a_stranger(rt: HostRuntime) -> Result<(), Fail> {
+    let alloc = rt.alloc();
+    let (a, mut own) = queue_of_one(alloc, 8)?;
+    let (_, mut other) = queue_of_one(alloc, 8)?;
+    assert!(rt; enqueues(&rt, alloc, &a, &mut own, 7, &NoGate)?.is_none());
+    assert!(rt; enqueues(&rt, alloc, &a, &mut other, 8, &NoGate)? == Some(ApplyFault::Stranger));
+    assert!(rt; other.pending());
+    // the call has begun, so that its process is busy
+    assert!(rt; enqueues(&rt, alloc, &a, &mut own, 9, &NoGate)? == Some(ApplyFault::Stranger));
+    assert!(rt; !own.pending());
+    Ok(())
+}
+
+#[test]
+fn a_full_row(rt: HostRuntime) -> Result<(), Fail> {
+    let alloc = rt.alloc();
+    let (shared, mut seat) = queue_of_one(alloc, 1)?;
+    assert!(rt; enqueues(&rt, alloc, &shared, &mut seat, 7, &NoGate)?.is_none());
+    assert!(rt; enqueues(&rt, alloc, &shared, &mut seat, 8, &NoGate)? == Some(ApplyFault::RowFull));
+    assert!(rt; !seat.pending());
+    Ok(())
+}
+
+#[test]
+fn a_full_history(rt: HostRuntime) -> Result<(), Fail> {
+    let alloc = rt.alloc();
+    let Ok((shared, mut seats)) = Shared::open(alloc, QueueObject, 1, 1, 22) else {
+        return Err(Fail::from("nothing was opened"));
+    };
+    let mut seat = last(&mut seats)?;
+    let refused = enqueues(&rt, alloc, &shared, &mut seat, 7, &NoGate)?;
+    assert!(rt; refused == Some(ApplyFault::HistoryFull));
+    assert!(rt; !seat.pending());
+    Ok(())
+}
+
+/// A call of `enq 7` that the gate stops before its second step.
+fn stops<R: Wait + Abort>(
     rt: &R,
     alloc: Global,
     shared: &Shared<QueueObject>,
@@ -121,17 +163,50 @@ fn stopped_and_resumed<R: Wait + Abort>(
     assert!(rt; enqueues(rt, alloc, shared, seat, 7, &gate)? == Some(ApplyFault::GaveUp));
     assert!(rt; seat.pending());
     assert!(rt; enqueues(rt, alloc, shared, seat, 8, &NoGate)? == Some(ApplyFault::SeatPending));
-    assert!(rt; resumes(rt, alloc, shared, seat).is_none());
-    assert!(rt; has_added(seat, 0, 0, 7, 14, 1)?);
-    assert!(rt; resumes(rt, alloc, shared, seat) == Some(ApplyFault::NothingPending));
     Ok(())
 }
 
 #[test]
 fn a_gate_that_gives_up(rt: HostRuntime) -> Result<(), Fail> {
     let alloc = rt.alloc();
-    let Ok((shared, mut seats)) = Shared::open(alloc, QueueObject, 1, 8, 100) else {
-        return Err(Fail::from("nothing was opened"));
-    };
-    stopped_and_resumed(&rt, alloc, &shared, &mut seats[0])
+    let (shared, mut seat) = queue_of_one(alloc, 8)?;
+    stops(&rt, alloc, &shared, &mut seat)?;
+    let seats = alone(alloc, seat)?;
+    let (shared, mut seats) = refused(alloc, shared, seats, CloseFault::PendingSeat(0))?;
+    let mut seat = last(&mut seats)?;
+    assert!(rt; resumes(&rt, alloc, &shared, &mut seat).is_none());
+    assert!(rt; has_added(&seat, 0, 0, 7, 14, 1)?);
+    assert!(rt; resumes(&rt, alloc, &shared, &mut seat) == Some(ApplyFault::NothingPending));
+    let closed = closed(alloc, shared, alone(alloc, seat)?)?;
+    assert!(rt; receipts_of(&closed, 0)?.len() == 1);
+    Ok(())
+}
+
+/// Calls, with memory refused for whatever one request: each is asked again where it was.
+fn asked_again<R: Wait + Abort>(
+    rt: &R,
+    alloc: Global,
+    shared: &Shared<QueueObject>,
+    seat: &mut Seat<QueueObject>,
+) -> Result<(), Fail> {
+    if let Some(fault) = enqueues(rt, alloc, shared, seat, 7, &NoGate)? {
+        assert!(rt; fault == ApplyFault::Memory);
+        if seat.pending() {
+            assert!(rt; resumes(rt, alloc, shared, seat).is_none());
+        } else {
+            assert!(rt; enqueues(rt, alloc, shared, seat, 7, &NoGate)?.is_none());
+        }
+    }
+    assert!(rt; has_added(seat, 0, 0, 7, 14, 1)?);
+    Ok(())
+}
+
+#[test]
+fn a_call_that_is_asked_again(rt: HostRuntime) -> Result<(), Fail> {
+    let alloc = rt.alloc();
+    let (shared, mut seat) = queue_of_one(alloc, 8)?;
+    asked_again(&rt, alloc, &shared, &mut seat)?;
+    let closed = closed(alloc, shared, alone(alloc, seat)?)?;
+    assert!(rt; receipts_of(&closed, 0)?.len() == 1);
+    Ok(())
 }

@@ -1,0 +1,69 @@
+-- Receipts beside a history, call by call.
+use Rattle.std.proofs.Common.{◌≡◌, ◌∙◌, ℕ, zero, suc, ◌+◌, ◌<◌, ◌≤◌, refl, sym, ap, subst, List, [], ◌∷◌, ◌++◌, length, get_or, take, map, Bool, true, false, Option, Some, None, IsSome, IsTrue, arith}
+use Rattle.std.proofs.lemmas.List.{take_more, take_all}
+use Rattle.std.proofs.lemmas.List.Elements.{filter_map-append, filter-append}
+use Rattle.std.specs.List.{All, filter, filter_map}
+use Rattle.seq_object.specs.Sequential.{Sequential}
+use Rattle.uni_model.specs.Worlds.{WorldOf}
+use Rattle.uni_record.specs.declared.event.Event.{Event as Stored}
+use Rattle.uni_record.specs.declared.verdict.Return.{Return}
+use Rattle.uni_shared.specs.declared.receipt.Receipt.{Receipt}
+use Rattle.uni_shared.specs.Agreement.{Agrees}
+use Rattle.uni_record.specs.declared.verdict.Counts.{Counts}
+use Rattle.uni_record.specs.Stored.{Completed}
+
+map-append : {A B : Type 0} (f : A → B) (xs ys : List A) → map f (xs ++ ys) ≡ map f xs ++ map f ys
+map-append f [] ys = refl
+map-append f (x ∷ xs) ys = ap (λ l. f x ∷ l) (map-append f xs ys)
+
+-- one receipt more
+pub map-take_more : {A B : Type 0} (f : A → B) (xs : List A) (n : ℕ) (x : A) → n < length xs → x ≡ get_or xs n x → map f (take (n + 1) xs) ≡ map f (take n xs) ++ f x ∷ []
+map-take_more f xs n x there is =
+    ap (map f) (take_more xs n x there) ∙ map-append f (take n xs) (get_or xs n x ∷ []) ∙ ap (λ y. map f (take n xs) ++ f y ∷ []) (sym is)
+
+-- one event more
+pub filter_map-take_more : {A B : Type 0} (h : A → Option B) (xs : List A) (n : ℕ) (x : A) → n < length xs → x ≡ get_or xs n x → filter_map h (take (n + 1) xs) ≡ filter_map h (take n xs) ++ filter_map h (x ∷ [])
+filter_map-take_more h xs n x there is =
+    ap (filter_map h) (take_more xs n x there) ∙ filter_map-append h (take n xs) (get_or xs n x ∷ []) ∙ ap (λ y. filter_map h (take n xs) ++ filter_map h (y ∷ [])) (sym is)
+
+get_or-map : {A B : Type 0} (f : A → B) (xs : List A) (n : ℕ) (d : A) → get_or (map f xs) n (f d) ≡ f (get_or xs n d)
+get_or-map f [] n d = refl
+get_or-map f (x ∷ xs) zero d = refl
+get_or-map f (x ∷ xs) (suc n) d = get_or-map f xs n d
+
+length-map : {A B : Type 0} (f : A → B) (xs : List A) → length (map f xs) ≡ length xs
+length-map f [] = refl
+length-map f (x ∷ xs) = ap suc (length-map f xs)
+
+-- one return more, with its counts
+pub filter-take_more : {R : Type 0} (q : Completed R → Bool) (calls : List (Completed R)) (n : ℕ) (returned : Return R) (counts : Counts) → n < length (map (λ (c : Completed R). c.returned) calls)
+    → returned ≡ get_or (map (λ (c : Completed R). c.returned) calls) n returned → counts ≡ get_or (map (λ (c : Completed R). c.counts) calls) n counts
+    → filter q (take (n + 1) calls) ≡ filter q (take n calls) ++ filter q (record { returned = returned; counts = counts } ∷ [])
+filter-take_more {R = R} q calls n returned counts there is count_is =
+    let call : Completed R = record { returned = returned; counts = counts } in
+    let a : returned ≡ (get_or calls n call).returned = is ∙ get_or-map (λ (c : Completed R). c.returned) calls n call in
+    let b : counts ≡ (get_or calls n call).counts = count_is ∙ get_or-map (λ (c : Completed R). c.counts) calls n call in
+    let with_returned : Return R → Completed R = λ r. record { returned = r; counts = counts } in
+    let with_counts : Counts → Completed R = λ k. record { returned = (get_or calls n call).returned; counts = k } in
+    let same : call ≡ get_or calls n call = ap with_returned a ∙ ap with_counts b in
+    let len = length-map (λ (c : Completed R). c.returned) calls in
+    ap (filter q) (take_more calls n call (omega arith)) ∙ filter-append q (take n calls) (get_or calls n call ∷ []) ∙ ap (λ (y : Completed R). filter q (take n calls) ++ filter q (y ∷ [])) (sym same)
+
+-- what holds of all that have been looked at holds of all
+pub All-whole : {X : Type 0} (P : X → Type 0) (xs : List X) (n : ℕ) → length xs ≤ n → All P (take n xs) → All P xs
+All-whole P xs n past h = subst (All P) (take_all n xs past) h
+
+-- an option of which a test says that nothing is there
+pub None-from_false : {X : Type 0} (o : Option X) (b : Bool) → (IsSome o → IsTrue b) → b ≡ false → o ≡ None
+None-from_false None b some is = refl
+None-from_false (Some x) b some is = absurd (let there : IsTrue b = some refl in let none : false ≡ true = sym is ∙ there in cc)
+
+-- what agrees with the calls of a seat's process, read of the seat
+pub Agrees-same : {S I R : Type 0} (object : Sequential S I R) (first : WorldOf S I R) (events : List (Stored I)) (q p : ℕ) (these those : List (Receipt I R)) → q ≡ p → those ≡ these → Agrees object first events q these → Agrees object first events p those
+Agrees-same object first events q p these those same_process same agrees = subst (λ l. Agrees object first events p l) (sym same) (subst (λ k. Agrees object first events k these) same_process agrees)
+
+-- an element that is there, whatever is read where none is
+pub get_or-within : {A : Type 0} (xs : List A) (n : ℕ) (d e : A) → n < length xs → get_or xs n d ≡ get_or xs n e
+get_or-within [] n d e there = absurd (omega arith)
+get_or-within (x ∷ xs) zero d e there = refl
+get_or-within (x ∷ xs) (suc n) d e there = get_or-within xs n d e (omega arith)

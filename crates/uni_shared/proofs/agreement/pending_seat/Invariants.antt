@@ -1,0 +1,8 @@
+use Rattle.std.proofs.Common.{◌≡◌, None, take}
+use Rattle.std.specs.List.{All}
+use Rattle.uni_model.specs.Worlds.{IsQuiescent}
+use Rattle.uni_core.specs.Whole.{world_of}
+use Rattle.uni_shared.proofs.agreement.pending_seat.Given as goal
+
+abbrev pub invariant-loop-seat : goal.invariant-loop-seat
+invariant-loop-seat g l = (l.least ≡ None → All (λ s. s.pending ≡ None) (take l.seat-index l.seats)) × (l.least ≡ None → IsQuiescent (world_of l.recorded.world))

@@ -1,0 +1,110 @@
+//! Records whose lock is no more, with the receipts of their seats.
+
+ghost use Rattle.std.specs.Prelude.{◌≡◌, ◌<◌, ◌≤◌, IfErr, IfOk};
+ghost use Rattle.std.specs.List.{Contains};
+ghost use Rattle.uni_record.specs.Recording.{meaning, opening};
+ghost use Rattle.uni_shared.specs.Agreement.{Agrees, IsClosed};
+
+use crate::agreement::first_fault;
+use crate::receipt::Receipt;
+use crate::seat::Seat;
+use crate::shared::Shared;
+use seq_object::{CallId, SeqObject};
+use std::alloc::Global;
+use std::marker::Model;
+use std::sync::Mutex;
+use uni_record::Recorded;
+
+/// Why nothing was closed. Where several hold, the first of these is told.
+#[derive(Clone, Copy, Debug, PartialEq, Eq)]
+pub enum CloseFault {
+    /// This process, the least of such, doesn't have its seat there exactly once; or, where each has,
+    /// the least other process that has a seat there.
+    MissingSeat(u64),
+    /// This process, the least of such, has a call pending, in its seat or in the world.
+    PendingSeat(u64),
+    /// The receipts differ from the history at this call, the first of such by process and then by
+    /// number.
+    Mismatch(CallId),
+    /// Memory was refused. It never comes, since closing takes none.
+    Memory,
+}
+
+/// A record whose lock is no more, with its seats: each process has one seat, and its receipts are its
+/// calls in the history.
+#[derive(Drop)]
+pub struct Closed<O: SeqObject> {
+    recorded: Recorded<O>,
+    seats: Vec<Seat<O>>,
+}
+
+impl<O: SeqObject> Model for Closed<O> {
+    ghost use Rattle.uni_shared.specs.Agreement.{ClosedOf, IsClosed};
+
+    ghost Value = { ClosedOf O O.State O.Inv O.Resp };
+
+    ghost view = { λ c. record { recorded = c.recorded; seats = c.seats.items } };
+
+    ghost invariant = { λ c. IsClosed O.sequential c.recorded c.seats.items };
+}
+
+/// What wasn't closed, and why.
+#[derive(Drop)]
+pub struct Refused<O: SeqObject> {
+    /// Why it wasn't closed.
+    pub fault: CloseFault,
+    /// The record under its lock.
+    pub shared: Shared<O>,
+    /// The seats that were handed in.
+    pub seats: Vec<Seat<O>>,
+}
+
+impl<O: SeqObject> Shared<O> {
+    /// Ends the lock, where each process's seat is handed in once and no other, no call is pending, and
+    /// the receipts of each process are, in order, its calls in the history: each with what it asked
+    /// for, with the reply of its return, and with its own steps and turns.
+    ///
+    /// Errors, in this order: `MissingSeat`, `PendingSeat`, `Mismatch`. After each what was handed in is
+    /// handed back. `Memory` never comes.
+    pub fn close(self, _alloc: Global, seats: Vec<Seat<O>>) -> Result<Closed<O>, Refused<O>>
+        ensures closed { IfOk result (λ closed. IsClosed O.sequential closed.recorded closed.seats) }
+        ensures seats { IfOk result (λ closed. closed.seats ≡ seats.items) }
+        ensures handed_back { IfErr result (λ refused. refused.seats.items ≡ seats.items) }
+    {
+        let Shared { recorded } = self;
+        let recorded = recorded.into_inner();
+        match first_fault(&recorded, &seats) {
+            None => Ok(Closed { recorded, seats }),
+            Some(fault) => Err(Refused {
+                fault,
+                shared: Shared {
+                    recorded: Mutex::new(recorded),
+                },
+                seats,
+            }),
+        }
+    }
+}
+
+impl<O: SeqObject> Closed<O> {
+    /// The record, with the history.
+    pub fn recorded(&self) -> &Recorded<O>
+        ensures { result.now ≡ self.now.recorded }
+    {
+        &self.recorded
+    }
+
+    /// The receipts of process `p`, one of those of the opening, in order.
+    pub fn receipts(&self, p: u64) -> &[Receipt<O::Inv, O::Resp>]
+        requires { p < self.now.recorded.processes }
+        ensures seat { (seat : _) × Contains self.now.seats seat × (seat.process ≡ p) × (result.now ≡ seat.receipts) }
+        ensures agree { Agrees (meaning O.sequential self.now.recorded) (opening O.sequential self.now.recorded) self.now.recorded.events p result.now }
+    {
+        for seat in &self.seats {
+            if seat.process() == p {
+                return seat.receipts();
+            }
+        }
+        unreachable!()
+    }
+}
