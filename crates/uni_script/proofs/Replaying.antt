@@ -19,7 +19,8 @@ use Rattle.uni_script.specs.Meaning.{Bench, bench_after, ScriptBench, bench_of_h
 use Rattle.uni_script.specs.Reading.{lines_of_read, outcome_of_stop, outcome_of_read, StopsAt, IsRead, HasEnded}
 use Rattle.uni_script.specs.declared.summary.Summary.{Summary}
 use Rattle.uni_script.specs.Summaries.{summary_of_bench}
-use Rattle.uni_script.specs.Replays.{IsInput, IsReplay, IsSummary, IsPartOfReplay, HasAnswered, IsFaultOfScript, text_of_script}
+use Rattle.uni_script.specs.Promises.{IsPromisedBench}
+use Rattle.uni_script.specs.Replays.{IsInput, IsReplay, IsSummary, IsPromisedScript, IsPartOfReplay, HasAnswered, IsFaultOfScript, text_of_script}
 use Rattle.uni_script.proofs.Cutting.{GoesOn-start, GoesOn-start_other, GoesOn-after, lines_of-append}
 use Rattle.uni_script.proofs.Running.{after_text, and_then-same, and_then-assoc, and_then-none, and_then-some, outcome_of_lines-append, outcome_of_lines-too_long, outcome_of_lines-too_many}
 use Rattle.uni_script.proofs.Written.{IsWritten-start, AppendsFront-all, AppendsFront-more}
@@ -308,6 +309,10 @@ module _ (limit : ℕ) where
           ap (λ (o : Outcome). option_map (summary_of_bench (length (lines_of script))) o.bench) (same_run (not_failed none)) ∙ ap (λ n. option_map (summary_of_bench n) (outcome_of_read limit stop bytes).bench) lines ∙ has,
         )
 
+    -- what is promised of what was read to its end is promised of the script
+    same_promise : (outcome_of_read limit stop bytes).fault ≡ None → ((b : ScriptBench) × ((outcome_of_read limit stop bytes).bench ≡ Some b) × IsPromisedBench b) → IsPromisedScript limit left
+    same_promise none kept = (script, is_input, (kept.0, ap (λ (o : Outcome). o.bench) (same_run (not_failed none)) ∙ kept.1, kept.2))
+
     -- where the run of what was read ends with `Read`, the reader has failed after whole lines without a fault
     answered : (old new : Option (List ℕ)) → (outcome_of_read limit stop bytes).fault ≡ Some Read → Appends old new (outcome_of_read limit stop bytes).text → HasAnswered limit left left_after old new
     answered old new has appends = elim (is_failed stop) [
@@ -333,6 +338,10 @@ module _ (limit : ℕ) where
     pub HasEnded-summary : (result : Result Summary BenchFault) → Ended result → IfOk result (IsSummary limit left)
     HasEnded-summary (Ok s) is = same_summary left left_after is.stop is.bytes is.read s is.ends.0 is.summary
     HasEnded-summary (Err e) is = tt
+
+    pub HasEnded-promised : (result : Result Summary BenchFault) → Ended result → OnOk result (IsPromisedScript limit left)
+    HasEnded-promised (Ok s) is = same_promise left left_after is.stop is.bytes is.read is.ends.0 is.promised
+    HasEnded-promised (Err e) is = tt
 
     pub HasEnded-all_read : (result : Result Summary BenchFault) → Ended result → OnOk result (IsAtEnd left_after)
     HasEnded-all_read (Ok s) is = (subst (λ s. StopsAt s is.bytes is.read.past left_after) (end_of_run is.stop is.bytes is.ends.0) is.read.stops).1

@@ -1,5 +1,5 @@
 -- What a command comes to.
-use Rattle.std.proofs.Common.{◌≡◌, ◌∙◌, ℕ, ◌<◌, ◌≤◌, refl, sym, ap, subst, [], ◌∷◌, length, Option, None, Some, Bool, true, false, nat_le, nat_lt, ◌==◌, is_none, arith, option_map, if◌then◌else◌, Result, Ok, Err, OnOk, zero, suc, ◌+◌, ◌*◌, ◌^◌, ◌&&◌, IsSome}
+use Rattle.std.proofs.Common.{◌≡◌, ◌∙◌, ℕ, ◌<◌, ◌≤◌, refl, sym, ap, subst, [], ◌∷◌, length, Option, None, Some, Bool, true, false, nat_le, nat_lt, ◌==◌, is_none, arith, option_map, if◌then◌else◌, Result, Ok, Err, OnOk, zero, suc, ◌+◌, ◌*◌, ◌^◌, IsSome}
 use Rattle.std.proofs.lemmas.Bool.Decides.{nat_tests}
 use Rattle.std.proofs.lemmas.List.{length-map}
 use Rattle.seq_object.specs.declared.call_id.CallId.{CallId}

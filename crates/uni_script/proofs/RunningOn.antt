@@ -20,6 +20,7 @@ use Rattle.uni_script.specs.Script.{cut, last_line, is_plain_byte, is_note, head
 use Rattle.uni_script.specs.Objects.{SpokenObject, spoken_of}
 use Rattle.uni_script.specs.Meaning.{Bench, bench_after, ScriptBench, Outcome, script_bench, bench_of_header, result_of_command, outcome_of_fault, outcome_of_text, and_then, outcome_of_command, outcome_of_words, outcome_of_short_line, outcome_of_lines, outcome_of_end}
 use Rattle.uni_script.specs.Summaries.{summary_of_bench}
+use Rattle.uni_script.specs.Promises.{IsPromisedBench}
 use Rattle.uni_script.specs.Reading.{IsHeld, line_of, rest_of, HasTaken, HasStopped, HasRun, HasEnded, IsRead, lines_of_read, outcome_of_stop, outcome_of_read, EndsAs, WritesAs, IsFaultOfLine}
 use Rattle.uni_script.proofs.Cutting.{cut-append}
 use Rattle.uni_script.proofs.Running.{is_short, after_text, and_then-none, and_then-some, and_then-assoc, outcome_of_line-short, outcome_of_lines-append}
@@ -209,7 +210,7 @@ module _ (limit : ℕ) where
 
       -- the run ends at a line
       pub HasEnded-line : (e : BenchFault) (written_new : Option (List ℕ)) → WritesAs {A = Summary} first written written_new (Err e) → HasEnded limit old new written_old written_new (Err e)
-      HasEnded-line e written_new ends = record { stop = whole.stop; bytes = whole.bytes; read = whole.read; ends = ended ends; summary = tt }
+      HasEnded-line e written_new ends = record { stop = whole.stop; bytes = whole.bytes; read = whole.read; ends = ended ends; summary = tt; promised = tt }
         where
           ended : ((((e ≡ Memory) ⊎ (e ≡ Write)) × AppendsFront written written_new first.text) ⊎ ((first.fault ≡ Some e) × Appends written written_new first.text))
               → WritesAs {A = Summary} (outcome_of_read limit whole.stop whole.bytes) written_old written_new (Err e)
@@ -239,6 +240,7 @@ module _ (limit : ℕ) where
           read = whole.read;
           ends = inl (inl refl, subst (AppendsFront written_old written) (sym (ap (λ (o : Outcome). o.text) same ∙ goes.1)) (AppendsFront-more written_old written before.text goes.0 (AppendsFront-all written_old written before.text run.written_as)));
           summary = tt;
+          promised = tt;
         }
 
     module _ (new : Option (List ℕ)) (stop : Stop) (has : HasStopped old new stop taken) where
@@ -257,18 +259,20 @@ module _ (limit : ℕ) where
             read = has.read;
             ends = inr (ap (λ (o : Outcome). o.fault) same, subst (Appends written_old written) (sym (ap (λ (o : Outcome). o.text) same ∙ append-nil before.text)) run.written_as);
             summary = tt;
+            promised = tt;
           }
 
   -- the run ends where the script does
   pub HasEnded-end : (old now : Option (List ℕ)) (lines : Lines) (written_old written : Option (List ℕ)) (taken : List (List ℕ)) (b : ScriptBench) → HasRun limit old now lines written_old written taken (Some b)
       → (new : Option (List ℕ)) → HasStopped old new End taken → (written_new : Option (List ℕ)) (result : Result Summary BenchFault) → WritesAs (outcome_of_end lines.count (Some b)) written written_new result
-      → IfOk result (λ s. summary_of_bench lines.count b ≡ s) → HasEnded limit old new written_old written_new result
-  HasEnded-end old now lines written_old written taken b run new has written_new result ends summary = record {
+      → IfOk result (λ s. summary_of_bench lines.count b ≡ s) → OnOk result (IsPromisedBench b) → HasEnded limit old new written_old written_new result
+  HasEnded-end old now lines written_old written taken b run new has written_new result ends summary kept = record {
     stop = End;
     bytes = has.bytes;
     read = has.read;
     ends = ended result (subst (λ n. WritesAs (outcome_of_end n (Some b)) written written_new result) (sym run.reading.count) ends);
     summary = summed result summary;
+    promised = promised result kept;
   }
     where
       same : outcome_of_read limit End has.bytes ≡ after_text (outcome_of_lines limit 1 None taken).text (outcome_of_end (length taken) (Some b))
@@ -284,3 +288,7 @@ module _ (limit : ℕ) where
           ap (λ (o : Outcome). option_map (summary_of_bench (length (lines_of_read End has.bytes))) o.bench) same
           ∙ ap (λ n. Some (summary_of_bench n b)) (ap length has.taken_as ∙ run.reading.count) ∙ ap Some h
       summed (Err e) h = tt
+
+      promised : (r : Result Summary BenchFault) → OnOk r (IsPromisedBench b) → OnOk r ((c : ScriptBench) × ((outcome_of_read limit End has.bytes).bench ≡ Some c) × IsPromisedBench c)
+      promised (Ok s) kept = (b, ap (λ (o : Outcome). o.bench) same, kept)
+      promised (Err e) kept = tt

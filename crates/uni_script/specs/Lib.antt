@@ -5,6 +5,7 @@ pub mod Objects
 pub mod Schedules
 pub mod Meaning
 pub mod Summaries
+pub mod Promises
 pub mod Reading
 pub mod Replays
 pub mod Scripts

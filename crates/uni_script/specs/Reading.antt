@@ -1,5 +1,5 @@
 -- How the lines of a script are taken from a reader, and what is run of them.
-use Rattle.std.specs.Prelude.{◌≡◌, ◌≢◌, ◌⊎◌, ℕ, ◌+◌, ◌-◌, ◌<◌, ◌≤◌, List, [], ◌∷◌, ◌++◌, length, take, drop, Option, Some, None, Result, Ok, Err, IfOk, option_map}
+use Rattle.std.specs.Prelude.{◌≡◌, ◌≢◌, ◌⊎◌, ℕ, ◌+◌, ◌-◌, ◌<◌, ◌≤◌, List, [], ◌∷◌, ◌++◌, length, take, drop, Option, Some, None, Result, Ok, Err, IfOk, OnOk, option_map}
 use Rattle.std.specs.Io.KnownBytes.{Consumes, Appends, IsAtEnd}
 use Rattle.uni_script.specs.Ends.{AppendsFront}
 use Rattle.uni_script.specs.declared.fault.BenchFault.{BenchFault}
@@ -13,6 +13,7 @@ use Rattle.uni_script.specs.declared.summary.Summary.{Summary}
 use Rattle.uni_script.specs.Script.{cut, lines_of}
 use Rattle.uni_script.specs.Meaning.{ScriptBench, Outcome, outcome_of_fault, and_then, outcome_of_lines, outcome_of_end}
 use Rattle.uni_script.specs.Summaries.{summary_of_bench}
+use Rattle.uni_script.specs.Promises.{IsPromisedBench}
 
 -- the numbers of the lines are in range
 pub record IsHeld (lines : Lines) : Type 0 where
@@ -101,6 +102,7 @@ pub record HasEnded (limit : ℕ) (old new : Option (List ℕ)) (written_old wri
   pub read : IsRead old new stop bytes
   pub ends : WritesAs (outcome_of_read limit stop bytes) written_old written result
   pub summary : IfOk result (λ s. option_map (summary_of_bench (length (lines_of_read stop bytes))) (outcome_of_read limit stop bytes).bench ≡ Some s)
+  pub promised : OnOk result ((b : ScriptBench) × ((outcome_of_read limit stop bytes).bench ≡ Some b) × IsPromisedBench b)
 
 -- the lines that are left are run from this bench on, whatever lines came before it
 abbrev pub RunsOn : (limit : ℕ) (now : Option (List ℕ)) (lines : Lines) (written : Option (List ℕ)) → Option ScriptBench → (new written_new : Option (List ℕ)) → Result Summary BenchFault → Type 0

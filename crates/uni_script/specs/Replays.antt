@@ -6,7 +6,8 @@ use Rattle.uni_script.specs.declared.fault.BenchFault.TheVariants.{NoHeader, Bad
 use Rattle.uni_script.specs.Ends.{AppendsFront}
 use Rattle.uni_script.specs.Script.{cut}
 use Rattle.uni_script.specs.declared.summary.Summary.{Summary}
-use Rattle.uni_script.specs.Meaning.{outcome_of_lines, outcome_of_script}
+use Rattle.uni_script.specs.Promises.{IsPromisedBench}
+use Rattle.uni_script.specs.Meaning.{ScriptBench, outcome_of_lines, outcome_of_script}
 use Rattle.uni_script.specs.Summaries.{summary_of_script}
 
 -- how many events a history can have
@@ -46,6 +47,10 @@ module _ (limit : ℕ) where
   -- the reader had a script with this summary
   abbrev pub IsSummary : (left : Option (List ℕ)) → Summary → Type 0
   IsSummary left summary = (script : List ℕ) × IsInput left script × (summary_of_script limit script ≡ Some summary)
+
+  -- the reader had a script that opens a bench, and what is promised of its events holds
+  abbrev pub IsPromisedScript : (left : Option (List ℕ)) → Type 0
+  IsPromisedScript left = (script : List ℕ) × IsInput left script × ((b : ScriptBench) × ((outcome_of_script limit script).bench ≡ Some b) × IsPromisedBench b)
 
   -- a front of the text of the script's answers was written
   abbrev pub IsPartOfReplay : (left old new : Option (List ℕ)) → Type 0

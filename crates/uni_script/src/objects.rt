@@ -11,6 +11,7 @@ pub trait Shared: Spoken {
     ghost use Rattle.std.specs.Prelude.{◌≡◌, Some};
     ghost use Rattle.uni_script.specs.Meaning.{Bench, ScriptBench, outcome_of_words, outcome_of_command};
     ghost use Rattle.uni_script.specs.Summaries.{summary_of, summary_of_bench};
+    ghost use Rattle.uni_script.specs.Promises.{IsPromised, IsPromisedBench};
     ghost use Rattle.uni_script.specs.declared.grammar.Version.{Version};
 
     /// The bench of a script of which this is the bench of the object.
@@ -23,6 +24,10 @@ pub trait Shared: Spoken {
     /// It has done as much as that of the object.
     ghost summary: { (object : Self) (version : Version) (lines : ℕ) (b : Bench Self.State Self.Inv Self.Resp) →
         summary_of_bench lines (bench version b) ≡ summary_of (record { object = Self.sequential object; language = Self.language }) lines b };
+
+    /// What is promised of the bench of the object is promised of it.
+    ghost promised: { (object : Self) (version : Version) (b : Bench Self.State Self.Inv Self.Resp) →
+        IsPromised (record { object = Self.sequential object; language = Self.language }) b → IsPromisedBench (bench version b) };
 }
 
 impl Shared for QueueObject {
@@ -35,6 +40,8 @@ impl Shared for QueueObject {
     ghost words = { λ object version limit number b words. refl };
 
     ghost summary = { λ object version lines b. refl };
+
+    ghost promised = { λ object version b promised. promised };
 }
 
 impl Shared for DirectoryObject {
@@ -47,6 +54,8 @@ impl Shared for DirectoryObject {
     ghost words = { λ object version limit number b words. refl };
 
     ghost summary = { λ object version lines b. refl };
+
+    ghost promised = { λ object version b promised. promised };
 }
 
 impl Shared for BookObject {
@@ -59,6 +68,8 @@ impl Shared for BookObject {
     ghost words = { λ object version limit number b words. refl };
 
     ghost summary = { λ object version lines b. refl };
+
+    ghost promised = { λ object version b promised. promised };
 }
 
 impl Shared for StickyObject {
@@ -71,4 +82,6 @@ impl Shared for StickyObject {
     ghost words = { λ object version limit number b words. refl };
 
     ghost summary = { λ object version lines b. refl };
+
+    ghost promised = { λ object version b promised. promised };
 }

@@ -7,7 +7,8 @@ ghost use Rattle.uni_script.specs.Meaning.{bench_of, opened_bench, bench_of_head
 ghost use Rattle.uni_script.specs.Script.{IsInRange};
 ghost use Rattle.uni_script.specs.Reading.{IsHeld, EndsAs, WritesAs, RunsOn, IsFaultOfLine};
 ghost use Rattle.uni_script.specs.Summaries.{summary_of};
-ghost use Rattle.uni_script.specs.Replays.{IsHistory, IsReplay, IsSummary, HasAnswered, IsPartOfReplay, IsFaultOfScript};
+ghost use Rattle.uni_script.specs.Promises.{IsPromisedBench};
+ghost use Rattle.uni_script.specs.Replays.{IsHistory, IsReplay, IsSummary, IsPromisedScript, HasAnswered, IsPartOfReplay, IsFaultOfScript};
 
 use crate::answer::{Answer, push_answer};
 use crate::commands::{make, open};
@@ -48,6 +49,7 @@ pub fn bench<I: TextIn, O: TextOut>(
     requires writer { O.has_failed writer.old ≡ false }
     ensures replayed { OnOk result (IsReplay options.now.history (I.remaining reader.old) (O.contents writer.old) (O.contents writer.new) None) }
     ensures summary { IfOk result (IsSummary options.now.history (I.remaining reader.old)) }
+    ensures promised { OnOk result (IsPromisedScript options.now.history (I.remaining reader.old)) }
     ensures all_read { OnOk result (IsAtEnd (I.remaining reader.new)) }
     ensures fault { IfErr result (λ e. IsFaultOfScript e → IsReplay options.now.history (I.remaining reader.old) (O.contents writer.old) (O.contents writer.new) (Some e)) }
     ensures read { IsErrOf result BenchFault.Read → HasAnswered options.now.history (I.remaining reader.old) (I.remaining reader.new) (O.contents writer.old) (O.contents writer.new) }
@@ -249,6 +251,7 @@ fn answer_end<O: Shared, W: TextOut>(
     requires { W.has_failed writer.old ≡ false }
     ensures outcome { WritesAs (outcome_of_end lines (Some (O.bench version (bench_of bench.now)))) (W.contents writer.old) (W.contents writer.new) result }
     ensures summary { IfOk result (λ summary. summary ≡ summary_of (record { object = O.sequential bench.now.world.object; language = O.language }) lines (bench_of bench.now)) }
+    ensures promised { OnOk result (IsPromisedBench (O.bench version (bench_of bench.now))) }
     ensures writer { IsErrOf result BenchFault.Write ↔ (W.has_failed writer.new ≡ true) }
     ensures other { IfErr result (λ e. e ≢ BenchFault.Read) }
 {
@@ -256,6 +259,7 @@ fn answer_end<O: Shared, W: TextOut>(
     if push_answer(&mut text, &Answer::End).is_err() {
         return Err(BenchFault::Memory);
     }
+    bench.promise();
     match write_all(writer, text.as_slice()) {
         Ok(()) => Ok(summary_of(bench, lines)),
         Err(_) => Err(BenchFault::Write),

@@ -1,4 +1,4 @@
-use Rattle.std.proofs.Common.{◌≡◌, ◌∙◌, sym, ap, subst}
+use Rattle.std.proofs.Common.{◌∙◌, sym, ap, subst}
 use Rattle.uni_record.specs.Recording.{IsReshapeRefused, standing_of}
 use Rattle.uni_record.specs.declared.event.Event.TheVariants as stored
 use Rattle.uni_script.specs.declared.answer.Refusal.TheVariants.{Pending, Sequence, History, Count}

@@ -1,4 +1,4 @@
-use Rattle.std.proofs.Common.{◌≡◌, ◌∙◌, sym, ap, subst}
+use Rattle.std.proofs.Common.{◌∙◌, sym, ap, subst}
 use Rattle.uni_core.specs.Whole.{world_of}
 use Rattle.uni_record.specs.Recording.{IsEndRefused, standing_of}
 use Rattle.uni_record.specs.declared.event.Event.TheVariants as stored

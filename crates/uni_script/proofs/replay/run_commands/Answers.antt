@@ -49,6 +49,7 @@ returns-in-Err-End-clause-run g c = λ limit old written taken run.
     HasEnded-end limit old _ c.loop-bench.lines written _ now.0 b now.1 _ has _ c.answer_end.result
     (subst (λ n. WritesAs (outcome_of_end n (Some b)) (g.W.TextOut.contents c.loop-bench.writer) (g.W.TextOut.contents c.answer_end.new.writer) c.answer_end.result) same c.answer_end.ensures.outcome)
     (IfOk-map c.answer_end.result _ _ (λ s f. g.met.O.Shared.summary c.loop-bench.bench.world.object c.args.version c.loop-bench.lines.count (bench_of c.loop-bench.bench) ∙ ap (λ n. summary_of (record { object = g.O.SeqObject.sequential c.loop-bench.bench.world.object; language = g.O.Spoken.language }) n (bench_of c.loop-bench.bench)) (sym same) ∙ sym f) c.answer_end.ensures.summary)
+    c.answer_end.ensures.promised
 
 pub returns-in-Err-End-clause-reader_ok : goal.returns-in-Err-End-clause-reader_ok
 returns-in-Err-End-clause-reader_ok g c =
