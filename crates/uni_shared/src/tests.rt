@@ -1,7 +1,7 @@
 //! Seats and closed records whose receipts and faults were worked out by hand.
 
 use crate::test_calls::{
-    Second, alone, enqueues, has_added, last, queue, queue_of_one, receipts_of, resumes,
+    Opened, Second, alone, enqueues, has_added, last, queue, queue_of_one, receipts_of, resumes,
 };
 use crate::{ApplyFault, CloseFault, Closed, NoGate, Refused, Seat, Shared, trim};
 use ready_objects::QueueObject;
@@ -201,12 +201,22 @@ fn asked_again<R: Wait + Abort>(
     Ok(())
 }
 
+/// What `queue` opens for one process; it is opened again where memory was refused.
+fn opened_again(alloc: Global) -> Result<Opened, Fail> {
+    match Shared::open(alloc, QueueObject, 1, 8, 1000) {
+        Ok(opened) => Ok(opened),
+        Err(_) => queue(alloc, 1, 8),
+    }
+}
+
 #[test]
 fn a_call_that_is_asked_again(rt: HostRuntime) -> Result<(), Fail> {
     let alloc = rt.alloc();
-    let (shared, mut seat) = queue_of_one(alloc, 8)?;
-    asked_again(&rt, alloc, &shared, &mut seat)?;
-    let closed = closed(alloc, shared, alone(alloc, seat)?)?;
+    let (shared, mut seats) = opened_again(alloc)?;
+    for seat in &mut seats {
+        asked_again(&rt, alloc, &shared, seat)?;
+    }
+    let closed = closed(alloc, shared, seats)?;
     assert!(rt; receipts_of(&closed, 0)?.len() == 1);
     Ok(())
 }
