@@ -41,6 +41,13 @@ impl<O: SeqObject> World<O> {
         })
     }
 
+    /// The object that they share, to be read.
+    pub fn object(&self) -> &O
+        ensures { result.now ≡ self.now.object }
+    {
+        &self.machine.object
+    }
+
     /// How many processes there are.
     pub fn processes(&self) -> u64
         ensures { result ≡ (world_of self.now).n }

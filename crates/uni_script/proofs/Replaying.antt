@@ -3,6 +3,7 @@ use Rattle.std.proofs.Common.{◌≡◌, ◌∙◌, ◌⊎◌, inl, inr, ℕ, �
 use Rattle.std.proofs.lemmas.Bool.Decides.{nat_tests}
 use Rattle.std.specs.Option.{option_map_or}
 use Rattle.std.specs.Io.KnownBytes.{Appends, Consumes, IsAtEnd}
+use Rattle.uni_record.specs.declared.verdict.Verdict.{Verdict}
 use Rattle.uni_script.specs.declared.fault.BenchFault.{BenchFault}
 use Rattle.uni_script.specs.declared.fault.BenchFault.TheVariants.{NoHeader, Read, Write, Memory}
 use Rattle.uni_script.specs.declared.fault.BenchFault.TheVariants as fault
@@ -342,6 +343,19 @@ module _ (limit : ℕ) where
     pub HasEnded-promised : (result : Result Summary BenchFault) → Ended result → OnOk result (IsPromisedScript limit left)
     HasEnded-promised (Ok s) is = same_promise left left_after is.stop is.bytes is.read is.ends.0 is.promised
     HasEnded-promised (Err e) is = tt
+
+    -- no audit ends it
+    pub HasEnded-audited : (result : Result Summary BenchFault) → Ended result → (verdict : Verdict) → result ≡ Err (fault.Audit verdict) → ⊥
+    HasEnded-audited (Ok s) is verdict bad = let f : Ok s ≡ Err (fault.Audit verdict) = bad in cc
+    HasEnded-audited (Err e) is verdict same =
+        let audit : e ≡ fault.Audit verdict = let f : Err e ≡ Err (fault.Audit verdict) = same in cc in
+        elim is.ends [
+          | inl early ↦ elim early.0 [ inl memory ↦ (let f : Memory ≡ fault.Audit verdict = sym memory ∙ audit in cc) | inr write ↦ (let f : Write ≡ fault.Audit verdict = sym write ∙ audit in cc) ]
+          | inr has ↦ elim (FaultsOnly-outcome_of_read is.stop is.bytes e has.0) [
+            | inl own ↦ subst IsFaultOfScript audit own
+            | inr read ↦ (let f : Read ≡ fault.Audit verdict = sym read ∙ audit in cc)
+          ]
+        ]
 
     pub HasEnded-all_read : (result : Result Summary BenchFault) → Ended result → OnOk result (IsAtEnd left_after)
     HasEnded-all_read (Ok s) is = (subst (λ s. StopsAt s is.bytes is.read.past left_after) (end_of_run is.stop is.bytes is.ends.0) is.read.stops).1

@@ -1,8 +1,20 @@
 -- The texts of faults.
 use Rattle.std.specs.Prelude.{◌≡◌, ℕ, List, [], ◌∷◌, ◌++◌, codes, refl}
 use Rattle.std.specs.Fmt.{decimal, digits}
+use Rattle.uni_record.specs.declared.verdict.Verdict.{Verdict}
+use Rattle.uni_record.specs.declared.verdict.Verdict.TheVariants.{Agrees, BadCall, BadReply, Missing, BadReturn, Twice}
+use Rattle.uni_script.specs.Answers.{call_text}
 use Rattle.uni_script.specs.declared.fault.BenchFault.{BenchFault}
-use Rattle.uni_script.specs.declared.fault.BenchFault.TheVariants.{NoHeader, BadHeader, TooLong, BadByte, BadLine, TooMany, Read, Write, Memory}
+use Rattle.uni_script.specs.declared.fault.BenchFault.TheVariants.{NoHeader, BadHeader, TooLong, BadByte, BadLine, TooMany, Read, Write, Memory, Audit}
+
+-- what an audit found
+abbrev pub verdict_text : Verdict → List ℕ
+verdict_text Agrees = codes "agrees"
+verdict_text (BadCall place) = codes "entry " ++ decimal place ++ codes " call"
+verdict_text (BadReply place) = codes "entry " ++ decimal place ++ codes " reply"
+verdict_text (Missing call) = codes "return " ++ call_text call ++ codes " missing"
+verdict_text (BadReturn call) = codes "return " ++ call_text call ++ codes " reply"
+verdict_text (Twice call) = codes "return " ++ call_text call ++ codes " twice"
 
 -- the text of a fault
 abbrev pub fault_text : BenchFault → List ℕ
@@ -15,6 +27,7 @@ fault_text TooMany = codes "line 100001: too many lines"
 fault_text Read = codes "cannot read"
 fault_text Write = codes "cannot write"
 fault_text Memory = codes "out of memory"
+fault_text (Audit verdict) = codes "audit: " ++ verdict_text verdict
 
 -- its line
 abbrev pub fault_line : BenchFault → List ℕ
@@ -23,3 +36,7 @@ fault_line fault = fault_text fault ++ 10 ∷ []
 line_12_is_no_command : fault_line (BadLine 12) ≡ codes "line 12: bad line" ++ 10 ∷ []
 unfolding digits
 line_12_is_no_command = refl
+
+a_call_is_missing : fault_text (Audit (Missing (record { process = 1; nth = 2 }))) ≡ codes "audit: return 1.2 missing"
+unfolding digits
+a_call_is_missing = refl

@@ -120,3 +120,4 @@ IsFaultOfLine (fault.TooLong l) = ⊥
 IsFaultOfLine fault.TooMany = ⊥
 IsFaultOfLine Read = ⊥
 IsFaultOfLine Write = ⊥
+IsFaultOfLine (fault.Audit verdict) = ⊥

@@ -2,7 +2,7 @@
 use Rattle.std.specs.Prelude.{◌≡◌, ◌≤◌, ℕ, List, Option, None, Some, IfSome}
 use Rattle.std.specs.Io.KnownBytes.{Appends, Consumes}
 use Rattle.uni_script.specs.declared.fault.BenchFault.{BenchFault}
-use Rattle.uni_script.specs.declared.fault.BenchFault.TheVariants.{NoHeader, BadHeader, TooLong, BadByte, BadLine, TooMany, Read, Write, Memory}
+use Rattle.uni_script.specs.declared.fault.BenchFault.TheVariants.{NoHeader, BadHeader, TooLong, BadByte, BadLine, TooMany, Read, Write, Memory, Audit}
 use Rattle.uni_script.specs.Ends.{AppendsFront}
 use Rattle.uni_script.specs.Script.{cut}
 use Rattle.uni_script.specs.declared.summary.Summary.{Summary}
@@ -29,6 +29,7 @@ IsFaultOfScript TooMany = Unit {0}
 IsFaultOfScript Read = ⊥
 IsFaultOfScript Write = ⊥
 IsFaultOfScript Memory = ⊥
+IsFaultOfScript (Audit verdict) = ⊥
 
 -- where the history can have so many events
 module _ (limit : ℕ) where

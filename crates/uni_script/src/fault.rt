@@ -7,6 +7,7 @@ use std::alloc::AllocError;
 use std::error::Error;
 use std::fmt;
 use std::io::Write;
+use uni_record::Verdict;
 
 /// Why the run of a script ended early. Lines are counted from 1.
 #[derive(Clone, Copy, Debug, PartialEq, Eq)]
@@ -29,6 +30,8 @@ pub enum BenchFault {
     Write,
     /// Memory was refused.
     Memory,
+    /// The audit of the entries of all eras and of the returns found this. It never does.
+    Audit(Verdict),
 }
 
 impl fmt::Display for BenchFault {
@@ -45,6 +48,12 @@ impl fmt::Display for BenchFault {
             BenchFault::Read => write!(f, "cannot read"),
             BenchFault::Write => write!(f, "cannot write"),
             BenchFault::Memory => write!(f, "out of memory"),
+            BenchFault::Audit(Verdict::Agrees) => write!(f, "audit: agrees"),
+            BenchFault::Audit(Verdict::BadCall(place)) => write!(f, "audit: entry {place} call"),
+            BenchFault::Audit(Verdict::BadReply(place)) => write!(f, "audit: entry {place} reply"),
+            BenchFault::Audit(Verdict::Missing(call)) => write!(f, "audit: return {call} missing"),
+            BenchFault::Audit(Verdict::BadReturn(call)) => write!(f, "audit: return {call} reply"),
+            BenchFault::Audit(Verdict::Twice(call)) => write!(f, "audit: return {call} twice"),
         }
     }
 }

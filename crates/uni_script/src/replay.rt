@@ -22,7 +22,7 @@ use crate::objects::Shared;
 use crate::summary::{Summary, summary_of};
 use ready_objects::{BookObject, DirectoryObject, QueueObject, StickyObject};
 use std::alloc::{AllocError, Global};
-use uni_record::Recorded;
+use uni_record::{Recorded, Verdict, audit};
 
 /// What a run of the bench can be told.
 #[derive(Clone, Copy, Debug, PartialEq, Eq)]
@@ -50,6 +50,7 @@ pub fn bench<I: TextIn, O: TextOut>(
     ensures replayed { OnOk result (IsReplay options.now.history (I.remaining reader.old) (O.contents writer.old) (O.contents writer.new) None) }
     ensures summary { IfOk result (IsSummary options.now.history (I.remaining reader.old)) }
     ensures promised { OnOk result (IsPromisedScript options.now.history (I.remaining reader.old)) }
+    ensures audited { (verdict : Verdict) → IsErrOf result (BenchFault.Audit verdict) → ⊥ }
     ensures all_read { OnOk result (IsAtEnd (I.remaining reader.new)) }
     ensures fault { IfErr result (λ e. IsFaultOfScript e → IsReplay options.now.history (I.remaining reader.old) (O.contents writer.old) (O.contents writer.new) (Some e)) }
     ensures read { IsErrOf result BenchFault.Read → HasAnswered options.now.history (I.remaining reader.old) (I.remaining reader.new) (O.contents writer.old) (O.contents writer.new) }
@@ -237,8 +238,23 @@ fn run_commands<O: Shared, I: TextIn, W: TextOut>(
     }
 }
 
-/// Writes the last line of a script that has so many lines and has left a record; the answer is how much
-/// it has done.
+/// What an audit of a record's entries, of all eras, and of its returns says: they agree.
+///
+/// An `Err` says that memory was refused.
+fn audit_of<O: Shared>(alloc: Global, bench: &Recorded<O>) -> Result<Verdict, AllocError>
+    ensures { IfOk result (λ verdict. verdict ≡ Verdict.Agrees) }
+{
+    let entries = bench.entries(alloc)?;
+    audit(
+        alloc,
+        bench.world().object(),
+        entries.as_slice(),
+        bench.returns(),
+    )
+}
+
+/// Writes the last line of a script that has so many lines and has left a record, where an audit of the
+/// record agrees; the answer is how much it has done.
 ///
 /// `Memory` where memory was refused, `Write` where the writer failed.
 fn answer_end<O: Shared, W: TextOut>(
@@ -260,6 +276,11 @@ fn answer_end<O: Shared, W: TextOut>(
         return Err(BenchFault::Memory);
     }
     bench.promise();
+    match audit_of(alloc, bench) {
+        Ok(Verdict::Agrees) => {}
+        Ok(verdict) => return Err(BenchFault::Audit(verdict)),
+        Err(AllocError) => return Err(BenchFault::Memory),
+    }
     match write_all(writer, text.as_slice()) {
         Ok(()) => Ok(summary_of(bench, lines)),
         Err(_) => Err(BenchFault::Write),

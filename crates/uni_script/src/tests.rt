@@ -18,6 +18,7 @@ use std::process::Abort;
 use std::test::Fail;
 use uni_core::{Progress, World};
 use uni_log::{Entry, Log};
+use uni_record::Verdict;
 
 /// What the bench is told where its history is long enough.
 const OPTIONS: Options = Options { history: 1_048_576 };
@@ -349,6 +350,32 @@ fn texts_of_faults(rt: HostRuntime) {
         (BenchFault::Read, "cannot read\n"),
         (BenchFault::Write, "cannot write\n"),
         (BenchFault::Memory, "out of memory\n"),
+        (
+            BenchFault::Audit(Verdict::BadCall(0)),
+            "audit: entry 0 call\n",
+        ),
+        (
+            BenchFault::Audit(Verdict::BadReply(12)),
+            "audit: entry 12 reply\n",
+        ),
+        (
+            BenchFault::Audit(Verdict::Missing(CallId { process: 1, nth: 2 })),
+            "audit: return 1.2 missing\n",
+        ),
+        (
+            BenchFault::Audit(Verdict::BadReturn(CallId {
+                process: 0,
+                nth: 10,
+            })),
+            "audit: return 0.10 reply\n",
+        ),
+        (
+            BenchFault::Audit(Verdict::Twice(CallId {
+                process: 63,
+                nth: 0,
+            })),
+            "audit: return 63.0 twice\n",
+        ),
     ];
     for (fault, want) in rows {
         let mut text = Vec::new(rt.alloc());

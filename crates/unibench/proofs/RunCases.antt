@@ -40,6 +40,7 @@ threads_told old new failed status four told = by_fault told.fault told.status_i
     by_fault bench.TooMany is front whole = absurd (omega arith)
     by_fault bench.Read is front whole = absurd (omega arith)
     by_fault bench.Write is front whole = absurd (omega arith)
+    by_fault (bench.Audit verdict) is front whole = absurd (omega arith)
     by_fault bench.Memory is front whole = record { fault = Memory; status_is = four; front = front; whole = whole }
 
 pub told_by_memory : (r : Request) (old new : Option (List ℕ)) (failed : Bool) (status : ℕ) → status ≡ 4 → TellsFault old new failed status → Tells r old new failed status

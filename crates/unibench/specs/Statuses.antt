@@ -5,7 +5,7 @@ use Rattle.clap.specs.Words.{Text}
 use Rattle.uni_script.specs.Ends.{AppendsFront}
 use Rattle.uni_script.specs.Faults.{fault_line}
 use Rattle.uni_script.specs.declared.fault.BenchFault.{BenchFault}
-use Rattle.uni_script.specs.declared.fault.BenchFault.TheVariants.{NoHeader, BadHeader, TooLong, BadByte, BadLine, TooMany, Read, Write, Memory}
+use Rattle.uni_script.specs.declared.fault.BenchFault.TheVariants.{NoHeader, BadHeader, TooLong, BadByte, BadLine, TooMany, Read, Write, Memory, Audit}
 use Rattle.unibench.specs.CommandLine.{AsksFor}
 use Rattle.unibench.specs.ThreadRuns.{line_of_fault}
 use Rattle.unibench.specs.declared.request.Plan.{Plan}
@@ -25,10 +25,11 @@ status_of TooMany = 2
 status_of Read = 3
 status_of Write = 3
 status_of Memory = 4
+status_of (Audit verdict) = 5
 
--- the status of a fault, or that of the want of memory for the text of a script's fault
+-- the status of a fault, or that of the want of memory for the text of a script's fault or an audit's
 abbrev pub IsStatusOf : BenchFault → (status : ℕ) → Type 0
-IsStatusOf fault status = (status ≡ status_of fault) ⊎ ((status_of fault ≡ 2) × (status ≡ 4))
+IsStatusOf fault status = (status ≡ status_of fault) ⊎ (((status_of fault ≡ 2) ⊎ (status_of fault ≡ 5)) × (status ≡ 4))
 
 -- the status that a fault of threads ends with
 abbrev pub status_of_threads : ThreadsFault → ℕ

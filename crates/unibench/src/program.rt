@@ -148,7 +148,8 @@ fn report_threads<F: TextOut>(alloc: Global, fault: ThreadsFault, faults: &mut F
 /// Runs the script on `input`, and writes its answers to `output`; the answer is the status.
 ///
 /// The status is 0 where all went well, 2 for a bad script, 3 where `input` or `output` failed, and
-/// 4 where memory was refused; the text that says so goes to `faults`, as far as that takes it.
+/// 4 where memory was refused; the text that says so goes to `faults`, as far as that takes it. No
+/// audit finds a fault.
 fn replay<I: TextIn, O: TextOut, F: TextOut>(
     alloc: Global,
     options: &Options,
@@ -211,7 +212,8 @@ fn report<F: TextOut>(alloc: Global, fault: BenchFault, faults: &mut F) -> u8
         | BenchFault::TooLong(_)
         | BenchFault::BadByte(_)
         | BenchFault::BadLine(_)
-        | BenchFault::TooMany => report_script(alloc, fault, faults),
+        | BenchFault::TooMany => report_line(alloc, fault, 2, faults),
+        BenchFault::Audit(_) => report_line(alloc, fault, 5, faults),
         BenchFault::Read => {
             tell(faults, b"cannot read\n");
             3
@@ -227,17 +229,18 @@ fn report<F: TextOut>(alloc: Global, fault: BenchFault, faults: &mut F) -> u8
     }
 }
 
-/// Says which fault a script has, or that memory was refused to its text.
-fn report_script<F: TextOut>(alloc: Global, fault: BenchFault, faults: &mut F) -> u8
-    requires { status_of fault ≡ 2 }
-    ensures status { (result ≡ 2) ⊎ (result ≡ 4) }
+/// Says which fault a script or its audit has, whose status this is, or that memory was refused to its
+/// text.
+fn report_line<F: TextOut>(alloc: Global, fault: BenchFault, status: u8, faults: &mut F) -> u8
+    requires { status ≡ status_of fault }
+    ensures status { (result ≡ status) ⊎ (result ≡ 4) }
     ensures told { TellsFault (F.contents faults.old) (F.contents faults.new) (F.has_failed faults.new) result }
 {
     let mut text = Vec::new(alloc);
     match push_fault(&mut text, fault) {
         Ok(()) => {
             tell(faults, text.as_slice());
-            2
+            status
         }
         Err(AllocError) => {
             tell(faults, b"out of memory\n");
