@@ -5,12 +5,13 @@ use Rattle.std.specs.Option.{option_map_or}
 use Rattle.std.specs.List.{list_all, concat}
 use Rattle.seq_object.specs.declared.call_id.CallId.{CallId}
 use Rattle.ready_objects.specs.Words.{text_of_words, words_of_text}
-use Rattle.uni_model.specs.Places.{head_seq, seq_of}
-use Rattle.uni_model.specs.Worlds.{WorldOf, Event, world_after_all, opened_world, response_of_step, calls_in_era, last_cell}
+use Rattle.uni_model.specs.Places.{head_seq}
+use Rattle.uni_model.specs.Worlds.{WorldOf, Event, world_after_all, opened_world, response_of_step, calls_in_era}
 use Rattle.uni_model.specs.Worlds.Event.{Call, Step, Trim, Reshape}
 use Rattle.uni_model.specs.Chain.{Entry}
 use Rattle.uni_model.specs.History.{log}
 use Rattle.uni_core.specs.Whole.{world_of}
+use Rattle.uni_trim.specs.Eras.{last_number}
 use Rattle.uni_record.specs.Stored.{events_shown}
 use Rattle.uni_record.specs.Recording.{Recording, set_aside, share}
 use Rattle.uni_script.specs.declared.fault.BenchFault.{BenchFault}
@@ -120,10 +121,6 @@ result_of_steps o w p most =
     (let last = last_step o w p most in
     let events = steps_of p (steps_taken most last) in
     record { events = events; text = text_of_steps o (world_after_all o.object w events) last p (latest w p) })
-
--- the number of the last cell, which the anchor of a next era has
-abbrev pub last_number : {S I R : Type 0} → WorldOf S I R → ℕ
-last_number w = seq_of w.memory (last_cell w)
 
 -- the least of the first m processes that has a call pending
 abbrev pub least_pending : {S I R : Type 0} → WorldOf S I R → (m : ℕ) → Option ℕ

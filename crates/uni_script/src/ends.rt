@@ -82,6 +82,13 @@ impl<T: Drop> Checked<T> {
         Checked { end, failed: false }
     }
 
+    /// The end itself, to be read.
+    pub fn end(&self) -> &T
+        ensures { result.now ≡ self.now.end }
+    {
+        &self.end
+    }
+
     /// Remembers that the end has failed.
     fn fail(&mut self) -> Failed
         ensures end { self.new.end ≡ self.old.end }

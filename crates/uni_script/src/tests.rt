@@ -39,17 +39,17 @@ fn runs_with(
 )
     requires { IsHistory options.now.history }
 {
-    let mut text = Vec::new(alloc);
     let mut reader = Checked::new(script.as_bytes());
-    let mut writer = Checked::new(&mut text);
+    let mut writer = Checked::new(Vec::new(alloc));
     let ended = bench(alloc, &mut reader, &mut writer, options).map(|_| ());
     assert_eq!(rt; ended, outcome, "{script}");
     assert!(rt; !TextIn::failed(&reader) && !TextOut::failed(&writer));
-    assert_eq!(rt; text.as_slice(), want.as_bytes(), "{script}");
+    assert_eq!(rt; writer.end().as_slice(), want.as_bytes(), "{script}");
 }
 
 #[test]
 fn scripts(rt: HostRuntime) {
+    finish_returns::<QueueObject>();
     let rows = [
         (
             "universal 1 queue 1 8\ncall 0 enq 7\nfinish 0\nlog\n",
@@ -95,69 +95,6 @@ fn scripts(rt: HostRuntime) {
 }
 
 #[test]
-fn schedules_of_two_processes(rt: HostRuntime) {
-    finish_returns::<QueueObject>();
-    let rows = [
-        // One process meets the bound, of 32 steps and 3 turns. Then a head isn't lowered.
-        (
-            "universal 1 queue 2 8\ncall 0 enq 10\nstep 0 10\ncall 1 deq\nstep 1 14\nfinish 0\ncall 0 enq 20\nstep 0\nfinish 1\nheads\nlog\nfinish 0\nheads\n",
-            "called 0.0\ngoing 0.0 steps 10 turns 1\ncalled 1.0\ngoing 1.0 steps 14 turns 1\nreturned 0.0 ok steps 16 turns 1\ncalled 0.1\ngoing 0.1 steps 1 turns 0\nreturned 1.0 10 steps 32 turns 3\nheads 2 4\n2 0.0 enq 10 -> ok\n3 0.1 enq 20 -> ok\n4 1.0 deq -> 10\nreturned 0.1 ok steps 8 turns 0\nheads 4 4\nend\n",
-        ),
-        // A stopped process is helped.
-        (
-            "universal 1 queue 2 8\ncall 1 enq 5\nstep 1\ncall 0 enq 6\nfinish 0\nheads\nlog\nfinish 1\nheads\n",
-            "called 1.0\ngoing 1.0 steps 1 turns 0\ncalled 0.0\nreturned 0.0 ok steps 24 turns 2\nheads 3 1\n2 1.0 enq 5 -> ok\n3 0.0 enq 6 -> ok\nreturned 1.0 ok steps 8 turns 0\nheads 3 3\nend\n",
-        ),
-        // The last step raises a head.
-        (
-            "universal 1 queue 2 8\ncall 1 enq 5\nstep 1 6\ncall 0 enq 6\nfinish 0\nfinish 1\nheads\n",
-            "called 1.0\ngoing 1.0 steps 6 turns 0\ncalled 0.0\nreturned 0.0 ok steps 24 turns 2\nreturned 1.0 ok steps 8 turns 0\nheads 3 2\nend\n",
-        ),
-        // The order of refusals: the row is full too.
-        (
-            "universal 1 queue 2 1\ncall 0 enq 1\ncall 0 deq\nstep 1\nstep 9\ncall 9 deq\nstep 999999999999\n",
-            "called 0.0\nrefused busy 0\nrefused idle 1\nrefused process 9\nrefused process 9\nrefused process 999999999999\nend\n",
-        ),
-    ];
-    for (script, want) in rows {
-        runs(&rt, rt.alloc(), script, want, Ok(()));
-    }
-}
-
-#[test]
-fn eras_that_end(rt: HostRuntime) {
-    let rows = [
-        // The last steps of a call whose helper has made its reply, between two trims.
-        (
-            "universal 1 queue 2 8\ncall 1 enq 5\nstep 1\ncall 0 enq 6\nfinish 0\nheads\nlog\ntrim\nfinish 1\nheads\ntrim\n",
-            "called 1.0\ngoing 1.0 steps 1 turns 0\ncalled 0.0\nreturned 0.0 ok steps 24 turns 2\nheads 3 1\n2 1.0 enq 5 -> ok\n3 0.0 enq 6 -> ok\nrefused pending 1\nreturned 1.0 ok steps 8 turns 0\nheads 3 3\ntrimmed 3\nend\n",
-        ),
-        // Numbers go on, so turns do, and the state stays.
-        (
-            "universal 1 queue 2 8\ncall 0 enq 1\nfinish 0\ntrim\ncall 1 enq 2\nstep 1\ncall 0 deq\nfinish 0\nlog\n",
-            "called 0.0\nreturned 0.0 ok steps 16 turns 1\ntrimmed 2\ncalled 1.0\ngoing 1.0 steps 1 turns 0\ncalled 0.1\nreturned 0.1 1 steps 16 turns 1\n3 0.1 deq -> 1\nend\n",
-        ),
-        (
-            "universal 1 queue 2 8\ntrim\ntrim\n",
-            "trimmed 1\ntrimmed 1\nend\n",
-        ),
-        // A row is each process's own, and that of an era.
-        (
-            "universal 1 queue 2 1\ncall 0 enq 1\nfinish 0\ncall 0 enq 2\ncall 1 deq\nfinish 1\ntrim\ncall 0 enq 2\nfinish 0\nlog\n",
-            "called 0.0\nreturned 0.0 ok steps 16 turns 1\nrefused row 0\ncalled 1.0\nreturned 1.0 1 steps 16 turns 1\ntrimmed 3\ncalled 0.1\nreturned 0.1 ok steps 16 turns 1\n4 0.1 enq 2 -> ok\nend\n",
-        ),
-        // A script that is drawn from words.
-        (
-            "universal 1 queue 2 8\ncall 0 enq 7\nstep 1\ntrim\nfinish 0\nfinish 1\nlog\n",
-            "called 0.0\nrefused idle 1\nrefused pending 0\nreturned 0.0 ok steps 16 turns 1\nrefused idle 1\n2 0.0 enq 7 -> ok\nend\n",
-        ),
-    ];
-    for (script, want) in rows {
-        runs(&rt, rt.alloc(), script, want, Ok(()));
-    }
-}
-
-#[test]
 fn histories_that_are_full(rt: HostRuntime) {
     let script = "universal 1 queue 1 8\ncall 0 enq 7\nfinish 0\ncall 0 deq\ntrim\n";
     let answers = "called 0.0\nreturned 0.0 ok steps 14 turns 1\nrefused history\ntrimmed 2\nend\n";
@@ -191,24 +128,14 @@ fn histories_that_are_full(rt: HostRuntime) {
 }
 
 #[test]
-fn numbers_of_processes_that_change(rt: HostRuntime) {
+fn versions(rt: HostRuntime) {
     let rows = [
         (
-            "universal 2 queue 1 8\ncall 0 enq 7\nfinish 0\nreshape 2\nheads\ncall 1 deq\nfinish 1\nlog\n",
-            "called 0.0\nreturned 0.0 ok steps 14 turns 1\nreshaped 2 at 2\nheads 2 2\ncalled 1.0\nreturned 1.0 7 steps 16 turns 1\n3 1.0 deq -> 7\nend\n",
+            "universal 2 queue 1 8\nreshape 2\nheads\n",
+            "reshaped 2 at 1\nheads 1 1\nend\n",
             Ok(()),
         ),
-        // The order of refusals; and a process that is left out, and taken in again.
-        (
-            "universal 2 queue 2 8\ncall 1 enq 5\nreshape 65\nreshape 1\nfinish 1\nreshape 0\nreshape 1\ncall 1 deq\ncall 0 deq\nfinish 0\nreshape 2\ncall 1 deq\nfinish 1\nlog\n",
-            "called 1.0\nrefused count 65\nrefused pending 1\nreturned 1.0 ok steps 16 turns 1\nrefused count 0\nreshaped 1 at 2\nrefused process 1\ncalled 0.0\nreturned 0.0 5 steps 14 turns 1\nreshaped 2 at 3\ncalled 1.1\nreturned 1.1 empty steps 16 turns 1\n4 1.1 deq -> empty\nend\n",
-            Ok(()),
-        ),
-        (
-            "universal 2 sticky 64 1\ncall 0 stick 5\nfinish 0\n",
-            "called 0.0\nreturned 0.0 5 steps 140 turns 1\nend\n",
-            Ok(()),
-        ),
+        ("universal 2 queue 64 8\n", "end\n", Ok(())),
         (
             "universal 2 queue 65 8\n",
             "",
@@ -225,76 +152,6 @@ fn numbers_of_processes_that_change(rt: HostRuntime) {
     for (script, want, outcome) in rows {
         runs(&rt, rt.alloc(), script, want, outcome);
     }
-}
-
-#[test]
-fn three_processes_of_a_script_share_the_first_proposal(rt: HostRuntime) {
-    runs(
-        &rt,
-        rt.alloc(),
-        "universal 1 sticky 3 8\ncall 0 stick 5\nfinish 0\ncall 1 stick 9\nfinish 1\ncall 2 read\nfinish 2\nlog\n",
-        "called 0.0\nreturned 0.0 5 steps 18 turns 1\ncalled 1.0\nreturned 1.0 5 steps 18 turns 1\ncalled 2.0\nreturned 2.0 5 steps 18 turns 1\n2 0.0 stick 5 -> 5\n3 1.0 stick 9 -> 5\n4 2.0 read -> 5\nend\n",
-        Ok(()),
-    );
-    runs(&rt, rt.alloc(), "universal 1 sticky 1 1\n", "end\n", Ok(()));
-}
-
-/// Asserts the replies to calls of one process on an object, each ended before the next one.
-fn replies(
-    rt: &impl Abort,
-    alloc: Global,
-    object: &str,
-    rows: &[(&str, &str)],
-) -> Result<(), Fail> {
-    let mut script = String::new(alloc);
-    let mut want = String::new(alloc);
-    writeln!(script, "universal 1 {object} 1 4096")?;
-    let mut number = 0_u64;
-    for (call, reply) in rows {
-        writeln!(script, "call 0 {call}\nfinish 0")?;
-        writeln!(
-            want,
-            "called 0.{number}\nreturned 0.{number} {reply} steps 14 turns 1"
-        )?;
-        number = number.wrapping_add(1);
-    }
-    writeln!(want, "end")?;
-    runs(rt, alloc, script.as_str(), want.as_str(), Ok(()));
-    Ok(())
-}
-
-#[test]
-fn a_book_of_accounts(rt: HostRuntime) -> Result<(), Fail> {
-    let rows = [
-        ("deposit 0 4", "4"),
-        ("move 0 1 5", "short"),
-        ("total", "4"),
-        ("deposit 1 999999999999", "999999999999"),
-        ("total", "1000000000003"),
-        ("deposit 1 1", "over"),
-        ("move 0 1 4", "over"),
-        ("move 0 0 4", "moved"),
-        ("deposit 0 0", "4"),
-        ("withdraw 0 5", "short"),
-        ("withdraw 0 4", "0"),
-    ];
-    replies(&rt, rt.alloc(), "book", rows.as_slice())
-}
-
-#[test]
-fn a_directory(rt: HostRuntime) -> Result<(), Fail> {
-    let rows = [
-        ("put b 1", "new"),
-        ("put a 2", "new"),
-        ("put b 3", "was 1"),
-        ("at 0", "3"),
-        ("del b", "3"),
-        ("at 0", "2"),
-        ("get b", "none"),
-        ("size", "1"),
-        ("at 1", "none"),
-    ];
-    replies(&rt, rt.alloc(), "directory", rows.as_slice())
 }
 
 #[test]
@@ -617,51 +474,6 @@ fn words_of_xoshiro(rt: HostRuntime) {
     ] {
         assert_eq!(rt; source.draw(), word);
     }
-}
-
-#[test]
-fn schedules_are_scripts(rt: HostRuntime) -> Result<(), Fail> {
-    for object in [
-        ObjectName::Queue,
-        ObjectName::Directory,
-        ObjectName::Book,
-        ObjectName::Sticky,
-    ] {
-        for processes in [1, 2, 3, 16] {
-            let plan = Plan {
-                object,
-                processes,
-                row: 64,
-                events: 1000,
-            };
-            let mut drawn = Vec::new(rt.alloc());
-            let outcome = schedule(
-                rt.alloc(),
-                &mut Xoshiro256PlusPlus::seed_from_u64(1),
-                &mut Checked::new(&mut drawn),
-                &plan,
-            );
-            assert_eq!(rt; outcome, Ok(()));
-            // The bench has no command `trim` yet.
-            let mut script = Vec::new(rt.alloc());
-            for line in drawn.as_slice().split(|byte| *byte == b'\n') {
-                if line != b"trim".as_slice() && !line.is_empty() {
-                    script.extend_from_slice(line)?;
-                    script.push(b'\n')?;
-                }
-            }
-            let mut text = Vec::new(rt.alloc());
-            let ended = bench(
-                rt.alloc(),
-                &mut Checked::new(script.as_slice()),
-                &mut Checked::new(&mut text),
-                &OPTIONS,
-            );
-            assert!(rt; ended.is_ok(), "{object} {processes}");
-            assert!(rt; text.ends_with(b"\nend\n"), "{object} {processes}");
-        }
-    }
-    Ok(())
 }
 
 /// A reader that gives at most so many bytes of a text at a time.

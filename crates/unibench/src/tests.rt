@@ -2,6 +2,7 @@
 
 mod command_line;
 mod drawn;
+mod rows;
 
 use crate::program::run;
 use std::alloc::{AllocError, Global};
@@ -121,6 +122,18 @@ fn replays<R: Abort + Threads + Sync>(
     assert_eq!(rt; outcome.status, status, "at {output:?} {faults:?}");
 }
 
+/// Asserts what the replay of a good script writes, in whatever pieces the script is read.
+fn answers<R: Abort + Threads + Sync>(rt: &R, alloc: Global, script: &str, output: &str) {
+    for most in [1, 2, 7, 5_000] {
+        let reader = Trickle {
+            left: script.as_bytes(),
+            most,
+            fails: false,
+        };
+        replays(rt, alloc, reader, (output, "", 0));
+    }
+}
+
 #[test]
 fn good_scripts(rt: HostRuntime) {
     let rows = [
@@ -157,8 +170,7 @@ fn good_scripts(rt: HostRuntime) {
         ),
     ];
     for (script, output) in rows {
-        let reader = by_sevens(script.as_bytes(), false);
-        replays(&rt, rt.alloc(), reader, (output, "", 0));
+        answers(&rt, rt.alloc(), script, output);
     }
 }
 
@@ -191,18 +203,6 @@ const ONE_CALL: &[u8] = b"universal 1 queue 1 8\ncall 0 enq 7\nfinish 0\nlog\n";
 /// What is written for it: lines of 11, 33, 18 and 4 bytes.
 const ONE_CALL_ANSWERED: &str =
     "called 0.0\nreturned 0.0 ok steps 14 turns 1\n2 0.0 enq 7 -> ok\nend\n";
-
-#[test]
-fn one_call_in_any_pieces(rt: HostRuntime) {
-    for most in [1, 2, 7, 5_000] {
-        let reader = Trickle {
-            left: ONE_CALL,
-            most,
-            fails: false,
-        };
-        replays(&rt, rt.alloc(), reader, (ONE_CALL_ANSWERED, "", 0));
-    }
-}
 
 #[test]
 fn bad_scripts(rt: HostRuntime) {
