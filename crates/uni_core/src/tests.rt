@@ -1,5 +1,7 @@
 //! Schedules worked out by hand: the exact numbers of steps and turns, and the responses.
 
+ghost use Rattle.std.specs.Prelude.{◌≤◌};
+
 use crate::{
     BeginFault, Command, OpenFault, Outcome, Place, Progress, Refusal, StepFault, StepKind, World,
 };
@@ -9,65 +11,99 @@ use std::alloc::{AllocError, Global};
 use std::process::Abort;
 use std::test::Fail;
 
-/// Takes so many steps of a process whose call goes on after each.
-fn goes(
-    rt: &impl Abort,
-    alloc: Global,
-    world: &mut World<SwapRegister>,
-    p: u64,
-    count: u64,
-) -> Result<(), Fail> {
+/// What is done with a world, and what has to come of it.
+#[derive(Clone, Copy)]
+enum Act {
+    /// A call begins, which asks for this.
+    Begins(CallId, u32),
+    /// This process's call isn't begun.
+    NotBegun(u64, BeginFault),
+    /// This process takes so many steps, after each of which its call goes on.
+    Goes(u64, u64),
+    /// This process takes steps to the end of its call, whose response is this.
+    Ends(u64, u32),
+    /// This process takes no step.
+    NotStepped(u64, StepFault),
+    /// The era ends, for as many processes.
+    Renews,
+    /// The era ends, for this many processes.
+    RenewsFor(u64),
+    /// The world is as told.
+    Shows(Fact),
+}
+
+/// What is read of a world.
+#[derive(Clone, Copy)]
+enum Fact {
+    /// How many processes it has, and how many calls of each in an era.
+    Size(u64, u64),
+    /// The own steps and the turns of this process's latest call.
+    Counts(u64, u64, u64),
+    /// How many calls this process has begun.
+    Begun(u64, u64),
+    /// Among how many processes this process's latest call ran.
+    Among(u64, u64),
+    /// The pending call of this process.
+    Current(u64, Option<CallId>),
+    /// The kind and the place of this process's next step.
+    Next(u64, Option<(StepKind, Place)>),
+    /// The numbers of the heads of processes 0 and 1, and the frontier.
+    Heads(u64, u64, u64),
+    /// The least process whose call is pending.
+    Pending(Option<u64>),
+    /// The last cell, and its call.
+    Last(CellId, Option<CallId>),
+    /// The number of the last cell.
+    LastSeq(u64),
+    /// The cell of a call.
+    CellOf(CallId, Option<CellId>),
+}
+
+/// The name of a call.
+fn call(process: u32, nth: u64) -> CallId {
+    CallId { process, nth }
+}
+
+/// Whether a process takes so many steps, after each of which its call goes on.
+fn goes(alloc: Global, world: &mut World<SwapRegister>, p: u64, count: u64) -> bool {
     for _ in 0..count {
-        match world.step(alloc, p) {
-            Ok(Progress::Going) => {}
-            _ => return Err(Fail::from("the call should go on")),
-        }
+        let Ok(Progress::Going) = world.step(alloc, p) else {
+            return false;
+        };
     }
-    Ok(())
+    true
 }
 
 /// Takes steps of a process to the end of its call, and answers the response.
-fn finishes(alloc: Global, world: &mut World<SwapRegister>, p: u64) -> Result<u32, Fail> {
+fn finishes(alloc: Global, world: &mut World<SwapRegister>, p: u64) -> Option<u32> {
     for _ in 0..200 {
         match world.step(alloc, p) {
             Ok(Progress::Going) => {}
-            Ok(Progress::Done(resp)) => return Ok(resp),
-            Err(_) => return Err(Fail::from("a step was refused")),
+            Ok(Progress::Done(response)) => return Some(response),
+            Err(_) => return None,
         }
     }
-    Err(Fail::from("the call should have returned"))
+    None
 }
 
-/// The own steps and the turns of a process's latest call.
-fn counts(world: &World<SwapRegister>, p: u64) -> Option<(u64, u64)> {
-    if p >= world.processes() {
-        return None;
+/// Whether an era ends in a world where its numbers are low, for so many processes, or as many as
+/// before.
+fn renews(alloc: Global, world: &mut World<SwapRegister>, m: Option<u64>) -> bool {
+    world.shape();
+    let processes = m.unwrap_or(world.processes());
+    let fits = processes >= 1
+        && processes <= 64
+        && world.seq(world.last()) <= 281_474_976_710_655 - processes * world.row();
+    if !fits || world.pending().is_some() {
+        return false;
     }
-    Some((world.steps(p), world.turns(p)))
-}
-
-/// How many calls a process has begun.
-fn begun(world: &World<SwapRegister>, p: u64) -> Option<u64> {
-    if p >= world.processes() {
-        return None;
+    match m {
+        Some(m) => world.renew_for(alloc, m).is_ok(),
+        None => {
+            world.renew();
+            true
+        }
     }
-    Some(world.begun(p))
-}
-
-/// The pending call of a process.
-fn pending(world: &World<SwapRegister>, p: u64) -> Option<CallId> {
-    if p >= world.processes() {
-        return None;
-    }
-    world.current(p)
-}
-
-/// The numbers of the heads of processes 0 and 1, and the frontier.
-fn heads(world: &World<SwapRegister>) -> Option<(u64, u64, u64)> {
-    if world.processes() < 2 {
-        return None;
-    }
-    Some((world.head_seq(0), world.head_seq(1), world.frontier()))
 }
 
 /// The kind and the place of a process's next step.
@@ -81,219 +117,234 @@ fn next(world: &World<SwapRegister>, p: u64) -> Option<(StepKind, Place)> {
     }
 }
 
-/// A world of so many processes with rows of 8 cells.
-fn opened(alloc: Global, n: u64) -> Result<World<SwapRegister>, Fail> {
-    World::open(alloc, SwapRegister { start: 0 }, n, 8).map_err(|_| Fail::from(
+/// The last cell, its call and its number.
+fn last(world: &World<SwapRegister>) -> (CellId, Option<CallId>, u64) {
+    let last = world.last();
+    (last, world.call_of(last), world.seq(last))
+}
+
+/// Whether the world shows this of a process.
+fn shows_of(world: &World<SwapRegister>, fact: &Fact) -> bool {
+    let n = world.processes();
+    match *fact {
+        Fact::Counts(p, steps, turns) => p < n
+            && world.steps(p) == steps
+            && world.turns(p) == turns,
+        Fact::Begun(p, begun) => p < n && world.begun(p) == begun,
+        Fact::Among(p, among) => p < n && world.among(p) == among,
+        Fact::Current(p, current) => p < n && world.current(p) == current,
+        Fact::Heads(first, second, frontier) => {
+            n >= 2
+                && world.head_seq(0) == first
+                && world.head_seq(1) == second
+                && world.frontier() == frontier
+        }
+        _ => false,
+    }
+}
+
+/// Whether the world shows this.
+fn shows(world: &World<SwapRegister>, fact: &Fact) -> bool {
+    match *fact {
+        Fact::Size(n, k) => world.processes() == n && world.row() == k,
+        Fact::Next(p, step) => next(world, p) == step,
+        Fact::Pending(p) => world.pending() == p,
+        Fact::Last(cell, call) => last(world).0 == cell && last(world).1 == call,
+        Fact::LastSeq(seq) => last(world).2 == seq,
+        Fact::CellOf(call, cell) => world.cell_of(call) == cell,
+        _ => shows_of(world, fact),
+    }
+}
+
+/// Whether the world does as it should.
+fn does(alloc: Global, world: &mut World<SwapRegister>, act: &Act) -> bool {
+    match act {
+        Act::Begins(call, inv) => world.begin(alloc, u64::from(call.process), inv) == Ok(*call),
+        Act::NotBegun(p, fault) => world.begin(alloc, *p, &5) == Err(*fault),
+        Act::Goes(p, count) => goes(alloc, world, *p, *count),
+        Act::Ends(p, response) => finishes(alloc, world, *p) == Some(*response),
+        Act::NotStepped(p, fault) => match world.step(alloc, *p) {
+            Ok(_) => false,
+            Err(given) => given == *fault,
+        },
+        Act::Renews => renews(alloc, world, None),
+        Act::RenewsFor(m) => renews(alloc, world, Some(*m)),
+        Act::Shows(fact) => shows(world, fact),
+    }
+}
+
+/// Does these with a world, one after the other.
+fn does_all(rt: &impl Abort, alloc: Global, world: &mut World<SwapRegister>, acts: &[Act]) {
+    for (at, act) in acts.iter().enumerate() {
+        assert!(rt; does(alloc, world, act), "at act {at}");
+    }
+}
+
+/// A world of so many processes with rows of so many cells.
+fn opened(alloc: Global, n: u64, k: u64) -> Result<World<SwapRegister>, Fail> {
+    World::open(alloc, SwapRegister { start: 0 }, n, k).map_err(|_| Fail::from(
         "no world was opened",
     ))
 }
 
+/// Does these, one after the other, with a new world, which `opened` opens.
+fn plays(rt: &impl Abort, alloc: Global, n: u64, k: u64, acts: &[Act]) -> Result<(), Fail> {
+    let mut world = opened(alloc, n, k)?;
+    does_all(rt, alloc, &mut world, acts);
+    Ok(())
+}
+
 #[test]
 fn one_process_helps_itself(rt: HostRuntime) -> Result<(), Fail> {
-    let mut world = opened(rt.alloc(), 1)?;
-    assert_eq!(rt;
-        world.begin(rt.alloc(), 0, &7),
-        Ok(CallId { process: 0, nth: 0 })
-    );
-    assert_eq!(rt; finishes(rt.alloc(), &mut world, 0)?, 0);
-    assert_eq!(rt; counts(&world, 0), Some((14, 1)));
-    assert_eq!(rt;
-        world.begin(rt.alloc(), 0, &8),
-        Ok(CallId { process: 0, nth: 1 })
-    );
-    assert_eq!(rt; begun(&world, 0), Some(2));
-    assert_eq!(rt; finishes(rt.alloc(), &mut world, 0)?, 7);
-    assert_eq!(rt; counts(&world, 0), Some((14, 1)));
-    assert_eq!(rt; (world.processes(), world.row()), (1, 8));
-    Ok(())
+    let acts = [
+        Act::Begins(call(0, 0), 7),
+        Act::Ends(0, 0),
+        Act::Shows(Fact::Counts(0, 14, 1)),
+        Act::Begins(call(0, 1), 8),
+        Act::Shows(Fact::Begun(0, 2)),
+        Act::Ends(0, 7),
+        Act::Shows(Fact::Counts(0, 14, 1)),
+        Act::Shows(Fact::Size(1, 8)),
+    ];
+    plays(&rt, rt.alloc(), 1, 8, &acts)
 }
 
 #[test]
 fn the_bound_is_met_exactly(rt: HostRuntime) -> Result<(), Fail> {
-    let mut world = opened(rt.alloc(), 2)?;
-    assert_eq!(rt;
-        world.begin(rt.alloc(), 0, &10),
-        Ok(CallId { process: 0, nth: 0 })
-    );
-    goes(&rt, rt.alloc(), &mut world, 0, 10)?;
-    assert_eq!(rt; counts(&world, 0), Some((10, 1)));
-    assert_eq!(rt;
-        world.begin(rt.alloc(), 1, &30),
-        Ok(CallId { process: 1, nth: 0 })
-    );
-    goes(&rt, rt.alloc(), &mut world, 1, 14)?;
-    assert_eq!(rt; counts(&world, 1), Some((14, 1)));
-    assert_eq!(rt; finishes(rt.alloc(), &mut world, 0)?, 0);
-    assert_eq!(rt; counts(&world, 0), Some((16, 1)));
-    assert_eq!(rt;
-        world.begin(rt.alloc(), 0, &20),
-        Ok(CallId { process: 0, nth: 1 })
-    );
-    goes(&rt, rt.alloc(), &mut world, 0, 1)?;
-    assert_eq!(rt; counts(&world, 0), Some((1, 0)));
-    assert_eq!(rt; finishes(rt.alloc(), &mut world, 1)?, 20);
-    assert_eq!(rt; counts(&world, 1), Some((32, 3)));
-    assert_eq!(rt; heads(&world), Some((2, 4, 4)));
-    assert_eq!(rt; finishes(rt.alloc(), &mut world, 0)?, 10);
-    assert_eq!(rt; counts(&world, 0), Some((8, 0)));
-    assert_eq!(rt; heads(&world), Some((4, 4, 4)));
-    Ok(())
+    let acts = [
+        Act::Begins(call(0, 0), 10),
+        Act::Goes(0, 10),
+        Act::Shows(Fact::Counts(0, 10, 1)),
+        Act::Begins(call(1, 0), 30),
+        Act::Goes(1, 14),
+        Act::Shows(Fact::Counts(1, 14, 1)),
+        Act::Ends(0, 0),
+        Act::Shows(Fact::Counts(0, 16, 1)),
+        Act::Begins(call(0, 1), 20),
+        Act::Goes(0, 1),
+        Act::Shows(Fact::Counts(0, 1, 0)),
+        Act::Ends(1, 20),
+        Act::Shows(Fact::Counts(1, 32, 3)),
+        Act::Shows(Fact::Heads(2, 4, 4)),
+        Act::Ends(0, 10),
+        Act::Shows(Fact::Counts(0, 8, 0)),
+        Act::Shows(Fact::Heads(4, 4, 4)),
+    ];
+    plays(&rt, rt.alloc(), 2, 8, &acts)
 }
 
 #[test]
 fn a_stopped_process_is_helped(rt: HostRuntime) -> Result<(), Fail> {
-    let mut world = opened(rt.alloc(), 2)?;
+    let acts = [
+        Act::Begins(call(1, 0), 5),
+        Act::Goes(1, 1),
+        Act::Begins(call(0, 0), 6),
+        Act::Ends(0, 5),
+        Act::Shows(Fact::Counts(0, 24, 2)),
+        Act::Shows(Fact::Current(1, Some(call(1, 0)))),
+        Act::Shows(Fact::Heads(3, 1, 3)),
+        Act::Ends(1, 0),
+        Act::Shows(Fact::Counts(1, 8, 0)),
+        Act::Shows(Fact::Current(1, None)),
+        Act::Shows(Fact::Heads(3, 3, 3)),
+    ];
+    plays(&rt, rt.alloc(), 2, 8, &acts)
+}
+
+/// Why no world is opened from this number, if none is.
+fn refused_at(alloc: Global, n: u64, k: u64, seq: u64) -> Option<OpenFault>
+    requires { 1 ≤ seq }
+{
+    World::open_at(alloc, SwapRegister { start: 0 }, n, k, 5, seq).err()
+}
+
+#[test]
+fn what_cannot_be_opened_is_refused_in_order(rt: HostRuntime) {
+    let alloc = rt.alloc();
+    for (n, k, fault) in [
+        (0, 0, OpenFault::BadCount),
+        (65, 8, OpenFault::BadCount),
+        (2, 0, OpenFault::BadRow),
+        (2, 4097, OpenFault::BadRow),
+    ] {
+        let refused = World::open(alloc, SwapRegister { start: 0 }, n, k).err();
+        assert_eq!(rt; refused, Some(fault), "{n} processes with rows of {k}");
+    }
     assert_eq!(rt;
-        world.begin(rt.alloc(), 1, &5),
-        Ok(CallId { process: 1, nth: 0 })
+        refused_at(alloc, 1, 1, 281_474_976_710_655),
+        Some(OpenFault::SeqFull)
     );
-    goes(&rt, rt.alloc(), &mut world, 1, 1)?;
     assert_eq!(rt;
-        world.begin(rt.alloc(), 0, &6),
-        Ok(CallId { process: 0, nth: 0 })
+        refused_at(alloc, 2, 4, 281_474_976_710_648),
+        Some(OpenFault::SeqFull)
     );
-    assert_eq!(rt; finishes(rt.alloc(), &mut world, 0)?, 5);
-    assert_eq!(rt; counts(&world, 0), Some((24, 2)));
-    assert_eq!(rt; pending(&world, 1), Some(CallId { process: 1, nth: 0 }));
-    assert_eq!(rt; heads(&world), Some((3, 1, 3)));
-    assert_eq!(rt; finishes(rt.alloc(), &mut world, 1)?, 0);
-    assert_eq!(rt; counts(&world, 1), Some((8, 0)));
-    assert_eq!(rt; pending(&world, 1), None);
-    assert_eq!(rt; heads(&world), Some((3, 3, 3)));
-    Ok(())
+    assert_eq!(rt; refused_at(alloc, 2, 4, 281_474_976_710_647), None);
 }
 
 #[test]
 fn refusals_come_in_order(rt: HostRuntime) -> Result<(), Fail> {
-    assert!(rt;
-        matches!(
-            World::open(rt.alloc(), SwapRegister { start: 0 }, 0, 0),
-            Err(OpenFault::BadCount)
-        )
-    );
-    assert!(rt;
-        matches!(
-            World::open(rt.alloc(), SwapRegister { start: 0 }, 65, 8),
-            Err(OpenFault::BadCount)
-        )
-    );
-    assert!(rt;
-        matches!(
-            World::open(rt.alloc(), SwapRegister { start: 0 }, 2, 0),
-            Err(OpenFault::BadRow)
-        )
-    );
-    assert!(rt;
-        matches!(
-            World::open(rt.alloc(), SwapRegister { start: 0 }, 2, 4097),
-            Err(OpenFault::BadRow)
-        )
-    );
-    assert!(rt;
-        matches!(
-            World::open_at(
-                rt.alloc(),
-                SwapRegister { start: 0 },
-                1,
-                1,
-                5,
-                281_474_976_710_655
-            ),
-            Err(OpenFault::SeqFull)
-        )
-    );
-    let mut world = World::open(rt.alloc(), SwapRegister { start: 0 }, 1, 1).map_err(|_| Fail::from(
-        "no world was opened",
-    ))?;
-    assert_eq!(rt; world.begin(rt.alloc(), 1, &5), Err(BeginFault::BadProcess));
-    assert!(rt; matches!(world.step(rt.alloc(), 1), Err(StepFault::BadProcess)));
-    assert!(rt; matches!(world.step(rt.alloc(), 0), Err(StepFault::Idle(0))));
-    assert_eq!(rt;
-        world.begin(rt.alloc(), 0, &5),
-        Ok(CallId { process: 0, nth: 0 })
-    );
-    assert_eq!(rt; world.begin(rt.alloc(), 0, &5), Err(BeginFault::Busy(0)));
-    assert_eq!(rt; finishes(rt.alloc(), &mut world, 0)?, 0);
-    assert_eq!(rt; world.begin(rt.alloc(), 0, &5), Err(BeginFault::RowFull(0)));
-    Ok(())
+    let acts = [
+        Act::NotBegun(1, BeginFault::BadProcess),
+        Act::NotStepped(1, StepFault::BadProcess),
+        Act::NotStepped(0, StepFault::Idle(0)),
+        Act::Begins(call(0, 0), 5),
+        Act::NotBegun(0, BeginFault::Busy(0)),
+        Act::Ends(0, 0),
+        Act::NotBegun(0, BeginFault::RowFull(0)),
+    ];
+    plays(&rt, rt.alloc(), 1, 1, &acts)
 }
 
 #[test]
 fn a_process_stopped_after_its_scan_is_helped(rt: HostRuntime) -> Result<(), Fail> {
-    let mut world = opened(rt.alloc(), 2)?;
-    assert_eq!(rt;
-        world.begin(rt.alloc(), 1, &5),
-        Ok(CallId { process: 1, nth: 0 })
-    );
-    goes(&rt, rt.alloc(), &mut world, 1, 6)?;
-    assert_eq!(rt; counts(&world, 1), Some((6, 0)));
-    assert_eq!(rt;
-        world.begin(rt.alloc(), 0, &6),
-        Ok(CallId { process: 0, nth: 0 })
-    );
-    assert_eq!(rt; finishes(rt.alloc(), &mut world, 0)?, 5);
-    assert_eq!(rt; counts(&world, 0), Some((24, 2)));
-    assert_eq!(rt; finishes(rt.alloc(), &mut world, 1)?, 0);
-    assert_eq!(rt; counts(&world, 1), Some((8, 0)));
-    assert_eq!(rt; heads(&world), Some((3, 2, 3)));
-    Ok(())
+    let acts = [
+        Act::Begins(call(1, 0), 5),
+        Act::Goes(1, 6),
+        Act::Shows(Fact::Counts(1, 6, 0)),
+        Act::Begins(call(0, 0), 6),
+        Act::Ends(0, 5),
+        Act::Shows(Fact::Counts(0, 24, 2)),
+        Act::Ends(1, 0),
+        Act::Shows(Fact::Counts(1, 8, 0)),
+        Act::Shows(Fact::Heads(3, 2, 3)),
+    ];
+    plays(&rt, rt.alloc(), 2, 8, &acts)
 }
 
 #[test]
 fn a_busy_process_with_a_full_row_is_busy(rt: HostRuntime) -> Result<(), Fail> {
-    let mut world = World::open(rt.alloc(), SwapRegister { start: 0 }, 2, 1).map_err(|_| Fail::from(
-        "no world was opened",
-    ))?;
-    assert_eq!(rt;
-        world.begin(rt.alloc(), 0, &5),
-        Ok(CallId { process: 0, nth: 0 })
-    );
-    assert_eq!(rt; world.begin(rt.alloc(), 0, &5), Err(BeginFault::Busy(0)));
-    assert!(rt; matches!(world.step(rt.alloc(), 1), Err(StepFault::Idle(1))));
-    assert!(rt; matches!(world.step(rt.alloc(), 9), Err(StepFault::BadProcess)));
-    assert_eq!(rt; world.begin(rt.alloc(), 9, &5), Err(BeginFault::BadProcess));
-    Ok(())
+    let acts = [
+        Act::Begins(call(0, 0), 5),
+        Act::NotBegun(0, BeginFault::Busy(0)),
+        Act::NotStepped(1, StepFault::Idle(1)),
+        Act::NotStepped(9, StepFault::BadProcess),
+        Act::NotBegun(9, BeginFault::BadProcess),
+    ];
+    plays(&rt, rt.alloc(), 2, 1, &acts)
 }
 
-#[test]
-fn the_greatest_number_is_used(rt: HostRuntime) {
-    assert!(rt;
-        World::open_at(
-            rt.alloc(),
-            SwapRegister { start: 0 },
-            2,
-            4,
-            5,
-            281_474_976_710_647
-        )
-        .is_ok()
-    );
-    assert!(rt;
-        matches!(
-            World::open_at(
-                rt.alloc(),
-                SwapRegister { start: 0 },
-                2,
-                4,
-                5,
-                281_474_976_710_648
-            ),
-            Err(OpenFault::SeqFull)
-        )
-    );
+/// A process takes steps of these kinds, at these places.
+fn steps_are(
+    rt: &impl Abort,
+    alloc: Global,
+    world: &mut World<SwapRegister>,
+    p: u64,
+    steps: &[(StepKind, Place)],
+) {
+    for step in steps {
+        assert_eq!(rt; next(world, p), Some(*step));
+        assert!(rt; goes(alloc, world, p, 1), "after {step:?}");
+    }
 }
 
 #[test]
 fn each_step_has_its_kind_and_place(rt: HostRuntime) -> Result<(), Fail> {
-    let mut world = opened(rt.alloc(), 1)?;
-    assert_eq!(rt; next(&world, 0), None);
-    assert_eq!(rt;
-        world.begin(rt.alloc(), 0, &7),
-        Ok(CallId { process: 0, nth: 0 })
-    );
+    let mut world = opened(rt.alloc(), 1, 8)?;
+    let before = [Act::Shows(Fact::Next(0, None)), Act::Begins(call(0, 0), 7)];
+    does_all(&rt, rt.alloc(), &mut world, &before);
     let anchor = CellId::anchor();
     let mine = CellId::of(1, 0, 0);
-    for step in [
+    let steps = [
         (StepKind::Announce, Place::Announced(0)),
         (StepKind::ScanHead, Place::HeadOf(0)),
         (StepKind::ScanSeq, Place::SeqOf(anchor)),
@@ -307,39 +358,57 @@ fn each_step_has_its_kind_and_place(rt: HostRuntime) -> Result<(), Fail> {
         (StepKind::WriteSeq, Place::SeqOf(mine)),
         (StepKind::WriteHead, Place::HeadOf(0)),
         (StepKind::Test, Place::SeqOf(mine)),
-    ] {
-        assert_eq!(rt; next(&world, 0), Some(step));
-        goes(&rt, rt.alloc(), &mut world, 0, 1)?;
-    }
-    assert_eq!(rt; next(&world, 0), Some((StepKind::Finish, Place::HeadOf(0))));
-    assert!(rt; matches!(world.step(rt.alloc(), 0), Ok(Progress::Done(0))));
-    assert_eq!(rt; next(&world, 0), None);
+    ];
+    steps_are(&rt, rt.alloc(), &mut world, 0, &steps);
+    let after = [
+        Act::Shows(Fact::Next(0, Some((StepKind::Finish, Place::HeadOf(0))))),
+        Act::Ends(0, 0),
+        Act::Shows(Fact::Next(0, None)),
+    ];
+    does_all(&rt, rt.alloc(), &mut world, &after);
     Ok(())
 }
 
 #[test]
 fn a_world_shows_its_list(rt: HostRuntime) -> Result<(), Fail> {
-    let mut world = opened(rt.alloc(), 2)?;
-    assert_eq!(rt; (world.pending(), world.last()), (None, CellId::anchor()));
-    assert_eq!(rt;
-        world.begin(rt.alloc(), 1, &5),
-        Ok(CallId { process: 1, nth: 0 })
-    );
-    assert_eq!(rt;
-        (world.pending(), world.last()),
-        (Some(1), CellId::anchor())
-    );
-    assert_eq!(rt; finishes(rt.alloc(), &mut world, 1)?, 0);
+    let mine = CellId::of(2, 1, 0);
+    let acts = [
+        Act::Shows(Fact::Pending(None)),
+        Act::Shows(Fact::Last(CellId::anchor(), None)),
+        Act::Begins(call(1, 0), 5),
+        Act::Shows(Fact::Pending(Some(1))),
+        Act::Shows(Fact::Last(CellId::anchor(), None)),
+        Act::Ends(1, 0),
+        Act::Shows(Fact::Pending(None)),
+        Act::Shows(Fact::Last(mine, Some(call(1, 0)))),
+        Act::Shows(Fact::CellOf(call(1, 0), Some(mine))),
+        Act::Shows(Fact::CellOf(call(1, 1), None)),
+        Act::Shows(Fact::CellOf(call(2, 0), None)),
+    ];
+    let mut world = opened(rt.alloc(), 2, 8)?;
+    does_all(&rt, rt.alloc(), &mut world, &acts);
     world.shape();
-    let last = world.last();
-    assert_eq!(rt; (world.pending(), last), (None, CellId::of(2, 1, 0)));
-    assert_eq!(rt; world.cells().seq(last), 2);
-    assert_eq!(rt; world.call_of(CellId::anchor()), None);
-    assert_eq!(rt; world.call_of(last), Some(CallId { process: 1, nth: 0 }));
-    assert_eq!(rt; world.cell_of(CallId { process: 1, nth: 0 }), Some(last));
-    assert_eq!(rt; world.cell_of(CallId { process: 1, nth: 1 }), None);
-    assert_eq!(rt; world.cell_of(CallId { process: 2, nth: 0 }), None);
+    assert_eq!(rt; world.cells().seq(world.last()), 2);
     Ok(())
+}
+
+/// Commands to a world: a call that asks for this, or so many steps.
+#[derive(Clone, Copy)]
+enum Asks {
+    Call(u64, u32),
+    Steps(u64, u64),
+}
+
+/// These commands, one by one.
+fn commands_of(alloc: Global, asked: &[Asks]) -> Result<Vec<Command<u32>>, AllocError> {
+    let mut commands = Vec::new(alloc);
+    for asks in asked {
+        match *asks {
+            Asks::Call(p, inv) => commands.push(Command::Call(p, inv))?,
+            Asks::Steps(p, count) => add_steps(&mut commands, p, count)?,
+        }
+    }
+    Ok(commands)
 }
 
 /// Adds so many steps of a process to commands.
@@ -350,208 +419,186 @@ fn add_steps(commands: &mut Vec<Command<u32>>, p: u64, count: u64) -> Result<(),
     Ok(())
 }
 
-/// Adds as many steps, of a call that goes on, to outcomes.
-fn add_went(outcomes: &mut Vec<Outcome<u32>>, count: u64) -> Result<(), AllocError> {
+/// Adds so many of an outcome to others.
+fn add_outcome(
+    outcomes: &mut Vec<Outcome<u32>>,
+    outcome: Outcome<u32>,
+    count: u64,
+) -> Result<(), AllocError> {
     for _ in 0..count {
-        outcomes.push(Outcome::Went)?;
+        outcomes.push(outcome)?;
     }
+    Ok(())
+}
+
+/// So many of each of these outcomes.
+fn outcomes_of(
+    alloc: Global,
+    told: &[(Outcome<u32>, u64)],
+) -> Result<Vec<Outcome<u32>>, AllocError> {
+    let mut outcomes = Vec::new(alloc);
+    for (outcome, count) in told {
+        add_outcome(&mut outcomes, *outcome, *count)?;
+    }
+    Ok(outcomes)
+}
+
+/// A new world, which `opened` opens, runs what it is asked, and answers so many of each of these;
+/// then these are done with it.
+fn runs(
+    rt: &impl Abort,
+    alloc: Global,
+    k: u64,
+    (asked, told): (&[Asks], &[(Outcome<u32>, u64)]),
+    after: &[Act],
+) -> Result<(), Fail> {
+    let mut world = opened(alloc, 2, k)?;
+    let commands = commands_of(alloc, asked)?;
+    let outcomes = world.run(alloc, &commands)?;
+    let expected = outcomes_of(alloc, told)?;
+    assert_eq!(rt; outcomes.as_slice(), expected.as_slice());
+    does_all(rt, alloc, &mut world, after);
     Ok(())
 }
 
 #[test]
 fn a_run_helps_a_stopped_process(rt: HostRuntime) -> Result<(), Fail> {
-    let alloc = rt.alloc();
-    let slow = CallId { process: 1, nth: 0 };
-    let fast = CallId { process: 0, nth: 0 };
-    let mut commands = vec![in alloc; Command::Call(1, 5), Command::Step(1), Command::Call(0, 6)]?;
-    add_steps(&mut commands, 0, 24)?;
-    let mut want = vec![in alloc; Outcome::Called(slow), Outcome::Went, Outcome::Called(fast)]?;
-    add_went(&mut want, 23)?;
-    want.push(Outcome::Returned(fast, 5))?;
-    let mut world = opened(alloc, 2)?;
-    let outcomes = world.run(alloc, commands.as_slice())?;
-    assert_eq!(rt; outcomes.as_slice(), want.as_slice());
-    assert_eq!(rt; counts(&world, 0), Some((24, 2)));
-    assert_eq!(rt; pending(&world, 1), Some(slow));
-    Ok(())
+    let asked = [
+        Asks::Call(1, 5),
+        Asks::Steps(1, 1),
+        Asks::Call(0, 6),
+        Asks::Steps(0, 24),
+    ];
+    let told = [
+        (Outcome::Called(call(1, 0)), 1),
+        (Outcome::Went, 1),
+        (Outcome::Called(call(0, 0)), 1),
+        (Outcome::Went, 23),
+        (Outcome::Returned(call(0, 0), 5), 1),
+    ];
+    let after = [
+        Act::Shows(Fact::Counts(0, 24, 2)),
+        Act::Shows(Fact::Current(1, Some(call(1, 0)))),
+    ];
+    runs(&rt, rt.alloc(), 8, (&asked, &told), &after)
 }
 
 #[test]
 fn a_run_passes_over_what_is_refused(rt: HostRuntime) -> Result<(), Fail> {
-    let alloc = rt.alloc();
-    let call = CallId { process: 0, nth: 0 };
-    let mut commands = vec![in alloc;
-        Command::Step(1),
-        Command::Step(9),
-        Command::Call(9, 5),
-        Command::Call(0, 5),
-        Command::Call(0, 5),
-    ]?;
-    add_steps(&mut commands, 0, 17)?;
-    commands.push(Command::Call(0, 5))?;
-    let mut want = vec![in alloc;
-        Outcome::Refused(Refusal::Idle(1)),
-        Outcome::Refused(Refusal::BadProcess),
-        Outcome::Refused(Refusal::BadProcess),
-        Outcome::Called(call),
-        Outcome::Refused(Refusal::Busy(0)),
-    ]?;
-    add_went(&mut want, 15)?;
-    want.push(Outcome::Returned(call, 0))?;
-    want.push(Outcome::Refused(Refusal::Idle(0)))?;
-    want.push(Outcome::Refused(Refusal::RowFull(0)))?;
-    let mut world = World::open(alloc, SwapRegister { start: 0 }, 2, 1).map_err(|_| Fail::from(
-        "no world was opened",
-    ))?;
-    let outcomes = world.run(alloc, commands.as_slice())?;
-    assert_eq!(rt; outcomes.as_slice(), want.as_slice());
-    assert_eq!(rt; counts(&world, 0), Some((16, 1)));
-    Ok(())
+    let asked = [
+        Asks::Steps(1, 1),
+        Asks::Steps(9, 1),
+        Asks::Call(9, 5),
+        Asks::Call(0, 5),
+        Asks::Call(0, 5),
+        Asks::Steps(0, 17),
+        Asks::Call(0, 5),
+    ];
+    let told = [
+        (Outcome::Refused(Refusal::Idle(1)), 1),
+        (Outcome::Refused(Refusal::BadProcess), 2),
+        (Outcome::Called(call(0, 0)), 1),
+        (Outcome::Refused(Refusal::Busy(0)), 1),
+        (Outcome::Went, 15),
+        (Outcome::Returned(call(0, 0), 0), 1),
+        (Outcome::Refused(Refusal::Idle(0)), 1),
+        (Outcome::Refused(Refusal::RowFull(0)), 1),
+    ];
+    let after = [Act::Shows(Fact::Counts(0, 16, 1))];
+    runs(&rt, rt.alloc(), 1, (&asked, &told), &after)
 }
 
 #[test]
 fn a_run_meets_the_bound(rt: HostRuntime) -> Result<(), Fail> {
-    let alloc = rt.alloc();
-    let mut commands = vec![in alloc; Command::Call(0, 10)]?;
-    add_steps(&mut commands, 0, 10)?;
-    commands.push(Command::Call(1, 30))?;
-    add_steps(&mut commands, 1, 14)?;
-    add_steps(&mut commands, 0, 6)?;
-    commands.push(Command::Call(0, 20))?;
-    add_steps(&mut commands, 0, 1)?;
-    add_steps(&mut commands, 1, 18)?;
-    let mut expected = vec![in alloc; Outcome::Called(CallId { process: 0, nth: 0 })]?;
-    add_went(&mut expected, 10)?;
-    expected.push(Outcome::Called(CallId { process: 1, nth: 0 }))?;
-    add_went(&mut expected, 14 + 5)?;
-    expected.push(Outcome::Returned(CallId { process: 0, nth: 0 }, 0))?;
-    expected.push(Outcome::Called(CallId { process: 0, nth: 1 }))?;
-    add_went(&mut expected, 1 + 17)?;
-    expected.push(Outcome::Returned(CallId { process: 1, nth: 0 }, 20))?;
-    let mut world = opened(alloc, 2)?;
-    assert_eq!(rt;
-        world.run(alloc, &commands)?.as_slice(),
-        expected.as_slice()
-    );
-    assert_eq!(rt; counts(&world, 1), Some((32, 3)));
-    Ok(())
+    let asked = [
+        Asks::Call(0, 10),
+        Asks::Steps(0, 10),
+        Asks::Call(1, 30),
+        Asks::Steps(1, 14),
+        Asks::Steps(0, 6),
+        Asks::Call(0, 20),
+        Asks::Steps(0, 1),
+        Asks::Steps(1, 18),
+    ];
+    let told = [
+        (Outcome::Called(call(0, 0)), 1),
+        (Outcome::Went, 10),
+        (Outcome::Called(call(1, 0)), 1),
+        (Outcome::Went, 14 + 5),
+        (Outcome::Returned(call(0, 0), 0), 1),
+        (Outcome::Called(call(0, 1)), 1),
+        (Outcome::Went, 1 + 17),
+        (Outcome::Returned(call(1, 0), 20), 1),
+    ];
+    let after = [Act::Shows(Fact::Counts(1, 32, 3))];
+    runs(&rt, rt.alloc(), 8, (&asked, &told), &after)
 }
 
 #[test]
 fn a_run_finishes_where_another_stopped_at_a_settled_value(rt: HostRuntime) -> Result<(), Fail> {
-    let alloc = rt.alloc();
-    let mut commands = vec![in alloc; Command::Call(0, 10)]?;
-    add_steps(&mut commands, 0, 11)?;
-    commands.push(Command::Call(1, 30))?;
-    add_steps(&mut commands, 1, 24)?;
-    add_steps(&mut commands, 0, 5)?;
-    let mut expected = vec![in alloc; Outcome::Called(CallId { process: 0, nth: 0 })]?;
-    add_went(&mut expected, 11)?;
-    expected.push(Outcome::Called(CallId { process: 1, nth: 0 }))?;
-    add_went(&mut expected, 23)?;
-    expected.push(Outcome::Returned(CallId { process: 1, nth: 0 }, 10))?;
-    add_went(&mut expected, 4)?;
-    expected.push(Outcome::Returned(CallId { process: 0, nth: 0 }, 0))?;
-    let mut world = opened(alloc, 2)?;
-    assert_eq!(rt;
-        world.run(alloc, &commands)?.as_slice(),
-        expected.as_slice()
-    );
-    assert_eq!(rt;
-        (counts(&world, 0), counts(&world, 1)),
-        (Some((16, 1)), Some((24, 2)))
-    );
-    Ok(())
-}
-
-/// Among how many processes a process's latest call ran.
-fn among(world: &World<SwapRegister>, p: u64) -> Option<u64> {
-    if p >= world.processes() {
-        return None;
-    }
-    Some(world.among(p))
-}
-
-/// Ends the era of a world where its numbers are low, for `m` processes, or for as many as before.
-fn renews(alloc: Global, world: &mut World<SwapRegister>, m: Option<u64>) -> Result<(), Fail> {
-    world.shape();
-    let processes = m.unwrap_or(world.processes());
-    let fits = processes >= 1
-        && processes <= 64
-        && world.seq(world.last()) <= 281_474_976_710_655 - processes * world.row();
-    if !fits || world.pending().is_some() {
-        return Err(Fail::from("the era should end"));
-    }
-    match m {
-        Some(m) => world.renew_for(alloc, m).map_err(Fail::from),
-        None => {
-            world.renew();
-            Ok(())
-        }
-    }
+    let asked = [
+        Asks::Call(0, 10),
+        Asks::Steps(0, 11),
+        Asks::Call(1, 30),
+        Asks::Steps(1, 24),
+        Asks::Steps(0, 5),
+    ];
+    let told = [
+        (Outcome::Called(call(0, 0)), 1),
+        (Outcome::Went, 11),
+        (Outcome::Called(call(1, 0)), 1),
+        (Outcome::Went, 23),
+        (Outcome::Returned(call(1, 0), 10), 1),
+        (Outcome::Went, 4),
+        (Outcome::Returned(call(0, 0), 0), 1),
+    ];
+    let after = [
+        Act::Shows(Fact::Counts(0, 16, 1)),
+        Act::Shows(Fact::Counts(1, 24, 2)),
+    ];
+    runs(&rt, rt.alloc(), 8, (&asked, &told), &after)
 }
 
 #[test]
 fn an_era_ends(rt: HostRuntime) -> Result<(), Fail> {
-    let alloc = rt.alloc();
-    let mut world = opened(alloc, 2)?;
-    assert_eq!(rt; among(&world, 1), Some(0));
-    assert_eq!(rt;
-        world.begin(alloc, 1, &5),
-        Ok(CallId { process: 1, nth: 0 })
-    );
-    assert_eq!(rt; (among(&world, 0), among(&world, 1)), (Some(0), Some(2)));
-    assert_eq!(rt; finishes(alloc, &mut world, 1)?, 0);
-    renews(alloc, &mut world, None)?;
-    assert_eq!(rt; heads(&world), Some((2, 2, 2)));
-    assert_eq!(rt;
-        (world.last(), begun(&world, 1)),
-        (CellId::anchor(), Some(1))
-    );
-    assert_eq!(rt; world.cell_of(CallId { process: 1, nth: 0 }), None);
-    assert_eq!(rt;
-        world.begin(alloc, 1, &6),
-        Ok(CallId { process: 1, nth: 1 })
-    );
-    let second = world.cell_of(CallId { process: 1, nth: 1 });
-    assert_eq!(rt; second, Some(CellId::of(2, 1, 0)));
-    assert_eq!(rt; finishes(alloc, &mut world, 1)?, 5);
-    let last = world.last();
-    assert_eq!(rt; world.call_of(last), Some(CallId { process: 1, nth: 1 }));
-    assert_eq!(rt; world.seq(last), 3);
-    Ok(())
+    let acts = [
+        Act::Shows(Fact::Among(1, 0)),
+        Act::Begins(call(1, 0), 5),
+        Act::Shows(Fact::Among(0, 0)),
+        Act::Shows(Fact::Among(1, 2)),
+        Act::Ends(1, 0),
+        Act::Renews,
+        Act::Shows(Fact::Heads(2, 2, 2)),
+        Act::Shows(Fact::Last(CellId::anchor(), None)),
+        Act::Shows(Fact::Begun(1, 1)),
+        Act::Shows(Fact::CellOf(call(1, 0), None)),
+        Act::Begins(call(1, 1), 6),
+        Act::Shows(Fact::CellOf(call(1, 1), Some(CellId::of(2, 1, 0)))),
+        Act::Ends(1, 5),
+        Act::Shows(Fact::Last(CellId::of(2, 1, 0), Some(call(1, 1)))),
+        Act::Shows(Fact::LastSeq(3)),
+    ];
+    plays(&rt, rt.alloc(), 2, 8, &acts)
 }
 
 #[test]
 fn an_era_ends_for_others(rt: HostRuntime) -> Result<(), Fail> {
-    let alloc = rt.alloc();
-    let mut world = opened(alloc, 2)?;
-    assert_eq!(rt;
-        world.begin(alloc, 1, &5),
-        Ok(CallId { process: 1, nth: 0 })
-    );
-    assert_eq!(rt; finishes(alloc, &mut world, 1)?, 0);
-    renews(alloc, &mut world, Some(3))?;
-    assert_eq!(rt; (world.processes(), heads(&world)), (3, Some((2, 2, 2))));
-    assert_eq!(rt;
-        (counts(&world, 1), among(&world, 1)),
-        (Some((16, 1)), Some(2))
-    );
-    assert_eq!(rt;
-        world.begin(alloc, 2, &6),
-        Ok(CallId { process: 2, nth: 0 })
-    );
-    assert_eq!(rt; finishes(alloc, &mut world, 2)?, 5);
-    assert_eq!(rt;
-        (counts(&world, 2), among(&world, 2)),
-        (Some((18, 1)), Some(3))
-    );
-    renews(alloc, &mut world, Some(1))?;
-    assert_eq!(rt; world.begin(alloc, 1, &7), Err(BeginFault::BadProcess));
-    renews(alloc, &mut world, Some(2))?;
-    assert_eq!(rt;
-        world.begin(alloc, 1, &7),
-        Ok(CallId { process: 1, nth: 1 })
-    );
-    Ok(())
+    let acts = [
+        Act::Begins(call(1, 0), 5),
+        Act::Ends(1, 0),
+        Act::RenewsFor(3),
+        Act::Shows(Fact::Size(3, 8)),
+        Act::Shows(Fact::Heads(2, 2, 2)),
+        Act::Shows(Fact::Counts(1, 16, 1)),
+        Act::Shows(Fact::Among(1, 2)),
+        Act::Begins(call(2, 0), 6),
+        Act::Ends(2, 5),
+        Act::Shows(Fact::Counts(2, 18, 1)),
+        Act::Shows(Fact::Among(2, 3)),
+        Act::RenewsFor(1),
+        Act::NotBegun(1, BeginFault::BadProcess),
+        Act::RenewsFor(2),
+        Act::Begins(call(1, 1), 7),
+    ];
+    plays(&rt, rt.alloc(), 2, 8, &acts)
 }
