@@ -13,175 +13,226 @@ use std::test::Fail;
 use uni_core::{BeginFault, Progress, World};
 use uni_log::Log;
 
-/// A number from 0 to 999,999,999,999.
-fn amount(value: u64) -> Result<Amount, Fail> {
-    Amount::new(value).ok_or_else(|| Fail::from("the number should fit"))
+/// What is done with a world of a queue, and what has to come of it.
+#[derive(Clone, Copy)]
+enum Act {
+    /// A call begins, which asks for this.
+    Begins(CallId, QueueInv),
+    /// This process's call isn't begun.
+    NotBegun(u64, QueueInv, BeginFault),
+    /// This process takes a step.
+    Steps(u64),
+    /// This process ends its call, after so many own steps and turns of it, with this reply.
+    Ends(u64, u64, u64, QueueResp),
+    /// The era is asked to end.
+    Trims(Result<u64, TrimFault>),
+    /// The era is asked to end for so many processes.
+    Reshapes(u64, Result<u64, ReshapeFault>),
+    /// The world is as told.
+    Shows(Fact),
 }
 
-/// A queue that so many processes share, with rows of so many calls.
-fn queue(alloc: Global, n: u64, k: u64) -> Result<World<QueueObject>, Fail> {
-    World::open(alloc, QueueObject, n, k).map_err(|_| Fail::from("no world was opened"))
+/// What is read of a world of a queue.
+#[derive(Clone, Copy)]
+enum Fact {
+    /// The numbers of the cells that the heads of processes 0 and 1 name.
+    Heads(u64, u64),
+    /// The last cell.
+    Last(CellId),
+    /// There is no cell of this call.
+    NoCell(CallId),
+    /// The own steps and the turns of this process's latest call.
+    Counts(u64, u64, u64),
+    /// How many calls this process has begun, and among how many processes the latest ran.
+    Calls(u64, u64, u64),
+    /// The log has one entry, with this number, call and reply.
+    OneEntry(u64, CallId, QueueResp),
 }
 
-/// A process begins its call with this number.
-fn begins<O: SeqObject>(
-    alloc: Global,
-    world: &mut World<O>,
-    p: u64,
-    inv: &O::Inv,
-    nth: u64,
-) -> Result<(), Fail> {
-    match world.begin(alloc, p, inv) {
-        Ok(call) if u64::from(call.process) == p && call.nth == nth => Ok(()),
-        _ => Err(Fail::from("the call should have begun")),
-    }
+/// A number.
+fn amount(value: u32) -> Amount {
+    let Some(amount) = Amount::new(u64::from(value)) else {
+        unreachable!()
+    };
+    amount
 }
 
-/// The own steps and the turns of a process's latest call.
-fn counts<O: SeqObject>(world: &World<O>, p: u64) -> Option<(u64, u64)> {
-    if p >= world.processes() {
-        return None;
-    }
-    Some((world.steps(p), world.turns(p)))
+/// An invocation that enqueues a number.
+fn enq(value: u32) -> QueueInv {
+    QueueInv::Enq(amount(value))
 }
 
-/// How many calls a process has begun, and among how many processes the latest ran.
-fn calls<O: SeqObject>(world: &World<O>, p: u64) -> Option<(u64, u64)> {
-    if p >= world.processes() {
-        return None;
-    }
-    Some((world.begun(p), world.among(p)))
+/// The answer of a dequeue that takes this number.
+fn taken(value: u32) -> QueueResp {
+    QueueResp::Taken(amount(value))
 }
 
-/// A process ends its pending call, after so many own steps and turns of it.
-fn ends<O: SeqObject>(
-    alloc: Global,
-    world: &mut World<O>,
-    p: u64,
-    steps: u64,
-    turns: u64,
-) -> Result<O::Resp, Fail> {
+/// The name of a call.
+fn call(process: u32, nth: u64) -> CallId {
+    CallId { process, nth }
+}
+
+/// Whether the own steps and the turns of a process's latest call are these.
+fn counts_are<O: SeqObject>(world: &World<O>, p: u64, steps: u64, turns: u64) -> bool {
+    p < world.processes() && world.steps(p) == steps && world.turns(p) == turns
+}
+
+/// Whether a process has begun so many calls, the latest among so many processes.
+fn calls_are<O: SeqObject>(world: &World<O>, p: u64, begun: u64, among: u64) -> bool {
+    p < world.processes() && world.begun(p) == begun && world.among(p) == among
+}
+
+/// Whether the head of a process names a cell with this number.
+fn head_is<O: SeqObject>(world: &World<O>, p: u64, seq: u64) -> bool {
+    p < world.processes() && world.head_seq(p) == seq
+}
+
+/// The reply with which a process ends its pending call.
+fn finishes<O: SeqObject>(alloc: Global, world: &mut World<O>, p: u64) -> Option<O::Resp> {
     for _ in 0..1000 {
         match world.step(alloc, p) {
             Ok(Progress::Going) => {}
-            Ok(Progress::Done(resp)) if counts(world, p) == Some((steps, turns)) => {
-                return Ok(resp);
-            }
-            _ => return Err(Fail::from("other steps and turns were taken")),
+            Ok(Progress::Done(reply)) => return Some(reply),
+            Err(_) => return None,
         }
     }
-    Err(Fail::from("the call should have returned"))
+    None
 }
 
-/// The number of the cell that the head of a process names.
-fn head<O: SeqObject>(world: &World<O>, p: u64) -> Option<u64> {
-    if p >= world.processes() {
-        return None;
-    }
-    Some(world.head_seq(p))
-}
-
-/// The same of processes 0 and 1.
-fn heads<O: SeqObject>(world: &World<O>) -> (Option<u64>, Option<u64>) {
-    (head(world, 0), head(world, 1))
-}
-
-/// The log of a world of a queue has one entry, with this number, call and reply.
+/// Whether the log of a world of a queue has one entry, with this number, call and reply.
 fn has_one_entry(
-    rt: &impl Abort,
     alloc: Global,
     world: &World<QueueObject>,
     seq: u64,
     call: CallId,
     reply: QueueResp,
-) -> Result<(), Fail> {
-    let entries = Log::of(world).entries(alloc)?;
-    assert_eq!(rt; entries.len(), 1);
-    assert_eq!(rt; (entries[0].seq, entries[0].call), (seq, call));
-    assert_eq!(rt; entries[0].reply, Some(reply));
+) -> bool {
+    let Ok(entries) = Log::of(world).entries(alloc) else {
+        return false;
+    };
+    match entries.as_slice() {
+        [entry] => entry.seq == seq && entry.call == call && entry.reply == Some(reply),
+        _ => false,
+    }
+}
+
+/// Whether a world shows this.
+fn shows(alloc: Global, world: &World<QueueObject>, fact: &Fact) -> bool {
+    match *fact {
+        Fact::Heads(first, second) => head_is(world, 0, first) && head_is(world, 1, second),
+        Fact::Last(cell) => world.last() == cell,
+        Fact::NoCell(call) => world.cell_of(call) == None,
+        Fact::Counts(p, steps, turns) => counts_are(world, p, steps, turns),
+        Fact::Calls(p, begun, among) => calls_are(world, p, begun, among),
+        Fact::OneEntry(seq, call, reply) => has_one_entry(alloc, world, seq, call, reply),
+    }
+}
+
+/// Whether a world does as it should.
+fn does(alloc: Global, world: &mut World<QueueObject>, act: &Act) -> bool {
+    match act {
+        Act::Begins(call, inv) => world.begin(alloc, u64::from(call.process), inv) == Ok(*call),
+        Act::NotBegun(p, inv, fault) => world.begin(alloc, *p, inv) == Err(*fault),
+        Act::Steps(p) => world.step(alloc, *p).is_ok(),
+        Act::Ends(p, steps, turns, reply) => {
+            finishes(alloc, world, *p) == Some(*reply) && counts_are(world, *p, *steps, *turns)
+        }
+        Act::Trims(told) => trim(world) == *told,
+        Act::Reshapes(m, told) => reshape(alloc, world, *m) == *told,
+        Act::Shows(fact) => shows(alloc, world, fact),
+    }
+}
+
+/// Does these, one after the other, with a new queue that so many processes share, with rows of so
+/// many calls.
+fn plays(rt: &impl Abort, alloc: Global, n: u64, k: u64, acts: &[Act]) -> Result<(), Fail> {
+    let mut world = World::open(alloc, QueueObject, n, k).map_err(|_| Fail::from(
+        "no world was opened",
+    ))?;
+    for (at, act) in acts.iter().enumerate() {
+        assert!(rt; does(alloc, &mut world, act), "at act {at}");
+    }
     Ok(())
 }
 
 #[test]
 fn a_trim_waits_for_no_call(rt: HostRuntime) -> Result<(), Fail> {
-    let alloc = rt.alloc();
-    let mut world = queue(alloc, 2, 8)?;
-    begins(alloc, &mut world, 1, &QueueInv::Enq(amount(5)?), 0)?;
-    assert!(rt; world.step(alloc, 1).is_ok());
-    begins(alloc, &mut world, 0, &QueueInv::Enq(amount(6)?), 0)?;
-    assert_eq!(rt; ends(alloc, &mut world, 0, 24, 2)?, QueueResp::Added);
-    assert_eq!(rt; heads(&world), (Some(3), Some(1)));
-    assert_eq!(rt; trim(&mut world), Err(TrimFault::Pending(1)));
-    assert_eq!(rt; heads(&world), (Some(3), Some(1)));
-    assert_eq!(rt; ends(alloc, &mut world, 1, 8, 0)?, QueueResp::Added);
-    assert_eq!(rt; heads(&world), (Some(3), Some(3)));
-    assert_eq!(rt; trim(&mut world), Ok(3));
-    assert_eq!(rt;
-        (heads(&world), world.last()),
-        ((Some(3), Some(3)), CellId::anchor())
-    );
-    Ok(())
+    let acts = [
+        Act::Begins(call(1, 0), enq(5)),
+        Act::Steps(1),
+        Act::Begins(call(0, 0), enq(6)),
+        Act::Ends(0, 24, 2, QueueResp::Added),
+        Act::Shows(Fact::Heads(3, 1)),
+        Act::Trims(Err(TrimFault::Pending(1))),
+        Act::Shows(Fact::Heads(3, 1)),
+        Act::Ends(1, 8, 0, QueueResp::Added),
+        Act::Shows(Fact::Heads(3, 3)),
+        Act::Trims(Ok(3)),
+        Act::Shows(Fact::Heads(3, 3)),
+        Act::Shows(Fact::Last(CellId::anchor())),
+    ];
+    plays(&rt, rt.alloc(), 2, 8, &acts)
 }
 
 #[test]
 fn numbers_and_the_state_go_on(rt: HostRuntime) -> Result<(), Fail> {
-    let alloc = rt.alloc();
-    let mut world = queue(alloc, 2, 8)?;
-    begins(alloc, &mut world, 0, &QueueInv::Enq(amount(1)?), 0)?;
-    assert_eq!(rt; ends(alloc, &mut world, 0, 16, 1)?, QueueResp::Added);
-    assert_eq!(rt; trim(&mut world), Ok(2));
-    assert_eq!(rt; world.cell_of(CallId { process: 0, nth: 0 }), None);
-    begins(alloc, &mut world, 1, &QueueInv::Enq(amount(2)?), 0)?;
-    assert!(rt; world.step(alloc, 1).is_ok());
-    begins(alloc, &mut world, 0, &QueueInv::Deq, 1)?;
-    assert_eq!(rt;
-        ends(alloc, &mut world, 0, 16, 1)?,
-        QueueResp::Taken(amount(1)?)
-    );
-    has_one_entry(
-        &rt,
-        alloc,
-        &world,
-        3,
-        CallId { process: 0, nth: 1 },
-        QueueResp::Taken(amount(1)?),
-    )
+    let acts = [
+        Act::Begins(call(0, 0), enq(1)),
+        Act::Ends(0, 16, 1, QueueResp::Added),
+        Act::Trims(Ok(2)),
+        Act::Shows(Fact::NoCell(call(0, 0))),
+        Act::Begins(call(1, 0), enq(2)),
+        Act::Steps(1),
+        Act::Begins(call(0, 1), QueueInv::Deq),
+        Act::Ends(0, 16, 1, taken(1)),
+        Act::Shows(Fact::OneEntry(3, call(0, 1), taken(1))),
+    ];
+    plays(&rt, rt.alloc(), 2, 8, &acts)
 }
 
 #[test]
 fn an_era_without_calls_ends_at_its_number(rt: HostRuntime) -> Result<(), Fail> {
-    let mut world = queue(rt.alloc(), 2, 8)?;
-    assert_eq!(rt; trim(&mut world), Ok(1));
-    assert_eq!(rt; trim(&mut world), Ok(1));
-    Ok(())
+    plays(
+        &rt,
+        rt.alloc(),
+        2,
+        8,
+        &[Act::Trims(Ok(1)), Act::Trims(Ok(1))],
+    )
 }
 
 #[test]
 fn a_row_is_empty_again(rt: HostRuntime) -> Result<(), Fail> {
-    let alloc = rt.alloc();
-    let mut world = queue(alloc, 2, 1)?;
-    begins(alloc, &mut world, 0, &QueueInv::Enq(amount(1)?), 0)?;
-    assert_eq!(rt; ends(alloc, &mut world, 0, 16, 1)?, QueueResp::Added);
+    let acts = [
+        Act::Begins(call(0, 0), enq(1)),
+        Act::Ends(0, 16, 1, QueueResp::Added),
+        Act::NotBegun(0, enq(2), BeginFault::RowFull(0)),
+        Act::Begins(call(1, 0), QueueInv::Deq),
+        Act::Ends(1, 16, 1, taken(1)),
+        Act::Trims(Ok(3)),
+        Act::Begins(call(0, 1), enq(2)),
+        Act::Ends(0, 16, 1, QueueResp::Added),
+        Act::Shows(Fact::OneEntry(4, call(0, 1), QueueResp::Added)),
+    ];
+    plays(&rt, rt.alloc(), 2, 1, &acts)
+}
+
+/// What `numbers_that_would_pass_the_greatest_are_refused` looks at.
+fn numbers_that_would_pass_the_greatest_are_refused_in(
+    rt: &impl Abort,
+    alloc: Global,
+    world: &mut World<SwapRegister>,
+) {
+    assert_eq!(rt; world.begin(alloc, 0, &9), Ok(call(0, 0)));
+    assert_eq!(rt; finishes(alloc, world, 0), Some(5));
+    assert!(rt; counts_are(world, 0, 16, 1));
+    assert_eq!(rt; trim(world), Err(TrimFault::SeqFull));
+    assert_eq!(rt; reshape(alloc, world, 2), Err(ReshapeFault::SeqFull));
     assert_eq!(rt;
-        world.begin(alloc, 0, &QueueInv::Enq(amount(2)?)),
-        Err(BeginFault::RowFull(0))
+        (world.pending(), world.last()),
+        (None, CellId::of(2, 0, 0))
     );
-    begins(alloc, &mut world, 1, &QueueInv::Deq, 0)?;
-    assert_eq!(rt;
-        ends(alloc, &mut world, 1, 16, 1)?,
-        QueueResp::Taken(amount(1)?)
-    );
-    assert_eq!(rt; trim(&mut world), Ok(3));
-    begins(alloc, &mut world, 0, &QueueInv::Enq(amount(2)?), 1)?;
-    assert_eq!(rt; ends(alloc, &mut world, 0, 16, 1)?, QueueResp::Added);
-    has_one_entry(
-        &rt,
-        alloc,
-        &world,
-        4,
-        CallId { process: 0, nth: 1 },
-        QueueResp::Added,
-    )
+    assert_eq!(rt; reshape(alloc, world, 1), Ok(281_474_976_710_648));
 }
 
 #[test]
@@ -196,96 +247,80 @@ fn numbers_that_would_pass_the_greatest_are_refused(rt: HostRuntime) -> Result<(
         281_474_976_710_647,
     )
     .map_err(|_| Fail::from("no world was opened"))?;
-    begins(alloc, &mut world, 0, &9, 0)?;
-    assert_eq!(rt; ends(alloc, &mut world, 0, 16, 1)?, 5);
-    assert_eq!(rt; trim(&mut world), Err(TrimFault::SeqFull));
-    assert_eq!(rt; reshape(alloc, &mut world, 2), Err(ReshapeFault::SeqFull));
-    assert_eq!(rt;
-        (world.pending(), world.last()),
-        (None, CellId::of(2, 0, 0))
-    );
-    assert_eq!(rt; reshape(alloc, &mut world, 1), Ok(281_474_976_710_648));
+    numbers_that_would_pass_the_greatest_are_refused_in(&rt, alloc, &mut world);
     Ok(())
 }
 
 #[test]
 fn a_second_process_joins(rt: HostRuntime) -> Result<(), Fail> {
-    let alloc = rt.alloc();
-    let mut world = queue(alloc, 1, 8)?;
-    begins(alloc, &mut world, 0, &QueueInv::Enq(amount(7)?), 0)?;
-    assert_eq!(rt; ends(alloc, &mut world, 0, 14, 1)?, QueueResp::Added);
-    assert_eq!(rt; reshape(alloc, &mut world, 2), Ok(2));
-    assert_eq!(rt; heads(&world), (Some(2), Some(2)));
-    assert_eq!(rt;
-        (counts(&world, 0), calls(&world, 0)),
-        (Some((14, 1)), Some((1, 1)))
-    );
-    begins(alloc, &mut world, 1, &QueueInv::Deq, 0)?;
-    assert_eq!(rt;
-        ends(alloc, &mut world, 1, 16, 1)?,
-        QueueResp::Taken(amount(7)?)
-    );
-    has_one_entry(
-        &rt,
-        alloc,
-        &world,
-        3,
-        CallId { process: 1, nth: 0 },
-        QueueResp::Taken(amount(7)?),
-    )
+    let acts = [
+        Act::Begins(call(0, 0), enq(7)),
+        Act::Ends(0, 14, 1, QueueResp::Added),
+        Act::Reshapes(2, Ok(2)),
+        Act::Shows(Fact::Heads(2, 2)),
+        Act::Shows(Fact::Counts(0, 14, 1)),
+        Act::Shows(Fact::Calls(0, 1, 1)),
+        Act::Begins(call(1, 0), QueueInv::Deq),
+        Act::Ends(1, 16, 1, taken(7)),
+        Act::Shows(Fact::OneEntry(3, call(1, 0), taken(7))),
+    ];
+    plays(&rt, rt.alloc(), 1, 8, &acts)
 }
 
 #[test]
 fn a_process_leaves_and_joins_again(rt: HostRuntime) -> Result<(), Fail> {
-    let alloc = rt.alloc();
-    let mut world = queue(alloc, 2, 8)?;
-    begins(alloc, &mut world, 1, &QueueInv::Enq(amount(5)?), 0)?;
-    assert_eq!(rt; reshape(alloc, &mut world, 65), Err(ReshapeFault::BadCount));
+    let acts = [
+        Act::Begins(call(1, 0), enq(5)),
+        Act::Reshapes(65, Err(ReshapeFault::BadCount)),
+        Act::Reshapes(1, Err(ReshapeFault::Pending(1))),
+        Act::Ends(1, 16, 1, QueueResp::Added),
+        Act::Reshapes(0, Err(ReshapeFault::BadCount)),
+        Act::Reshapes(1, Ok(2)),
+        Act::NotBegun(1, QueueInv::Deq, BeginFault::BadProcess),
+        Act::Begins(call(0, 0), QueueInv::Deq),
+        Act::Ends(0, 14, 1, taken(5)),
+        Act::Reshapes(2, Ok(3)),
+        Act::Shows(Fact::Calls(0, 1, 1)),
+        Act::Shows(Fact::Calls(1, 1, 2)),
+        Act::Begins(call(1, 1), QueueInv::Deq),
+        Act::Ends(1, 16, 1, QueueResp::Empty),
+        Act::Shows(Fact::OneEntry(4, call(1, 1), QueueResp::Empty)),
+    ];
+    plays(&rt, rt.alloc(), 2, 8, &acts)
+}
+
+/// What `sixty_four_processes_share_a_register` looks at.
+fn sixty_four_processes_share_a_register_in(
+    rt: &impl Abort,
+    alloc: Global,
+    world: &mut World<StickyObject>,
+) {
     assert_eq!(rt;
-        reshape(alloc, &mut world, 1),
-        Err(ReshapeFault::Pending(1))
+        world.begin(alloc, 0, &StickyInv::Stick(amount(5))),
+        Ok(call(0, 0))
     );
-    assert_eq!(rt; ends(alloc, &mut world, 1, 16, 1)?, QueueResp::Added);
-    assert_eq!(rt; reshape(alloc, &mut world, 0), Err(ReshapeFault::BadCount));
-    assert_eq!(rt; reshape(alloc, &mut world, 1), Ok(2));
     assert_eq!(rt;
-        world.begin(alloc, 1, &QueueInv::Deq),
-        Err(BeginFault::BadProcess)
+        finishes(alloc, world, 0),
+        Some(StickyResp::Settled(amount(5)))
     );
-    begins(alloc, &mut world, 0, &QueueInv::Deq, 0)?;
-    assert_eq!(rt;
-        ends(alloc, &mut world, 0, 14, 1)?,
-        QueueResp::Taken(amount(5)?)
-    );
-    assert_eq!(rt; reshape(alloc, &mut world, 2), Ok(3));
-    assert_eq!(rt;
-        (calls(&world, 0), calls(&world, 1)),
-        (Some((1, 1)), Some((1, 2)))
-    );
-    begins(alloc, &mut world, 1, &QueueInv::Deq, 1)?;
-    assert_eq!(rt; ends(alloc, &mut world, 1, 16, 1)?, QueueResp::Empty);
-    has_one_entry(
-        &rt,
-        alloc,
-        &world,
-        4,
-        CallId { process: 1, nth: 1 },
-        QueueResp::Empty,
-    )
+    assert!(rt; counts_are(world, 0, 140, 1));
 }
 
 #[test]
 fn sixty_four_processes_share_a_register(rt: HostRuntime) -> Result<(), Fail> {
-    let alloc = rt.alloc();
-    let mut world = World::open(alloc, StickyObject, 64, 1).map_err(|_| Fail::from(
+    let mut world = World::open(rt.alloc(), StickyObject, 64, 1).map_err(|_| Fail::from(
         "no world was opened",
     ))?;
-    begins(alloc, &mut world, 0, &StickyInv::Stick(amount(5)?), 0)?;
-    assert_eq!(rt;
-        ends(alloc, &mut world, 0, 140, 1)?,
-        StickyResp::Settled(amount(5)?)
-    );
+    sixty_four_processes_share_a_register_in(&rt, rt.alloc(), &mut world);
     Ok(())
+}
+
+/// A call of an era of one call, the round of which has this number.
+fn one_call(rt: &impl Abort, alloc: Global, world: &mut World<SwapRegister>, round: u64) {
+    assert_eq!(rt; world.begin(alloc, 0, &3), Ok(call(0, round)));
+    let before = if round == 0 { 7 } else { 3 };
+    assert_eq!(rt; finishes(alloc, world, 0), Some(before));
+    assert!(rt; counts_are(world, 0, 14, 1));
 }
 
 #[test]
@@ -295,14 +330,9 @@ fn a_thousand_eras_of_one_call(rt: HostRuntime) -> Result<(), Fail> {
         "no world was opened",
     ))?;
     for round in 0..1000 {
-        begins(alloc, &mut world, 0, &3, round)?;
-        let before = if round == 0 { 7 } else { 3 };
-        assert_eq!(rt; ends(alloc, &mut world, 0, 14, 1)?, before);
+        one_call(&rt, alloc, &mut world, round);
         assert_eq!(rt; trim(&mut world), Ok(round + 2));
     }
-    assert_eq!(rt;
-        (head(&world, 0), calls(&world, 0)),
-        (Some(1001), Some((1000, 1)))
-    );
+    assert!(rt; head_is(&world, 0, 1001) && calls_are(&world, 0, 1000, 1));
     Ok(())
 }
