@@ -115,13 +115,7 @@ pub(crate) fn runs(
 
 /// How the bench ends on a script; its answers go to the end of a text.
 pub(crate) fn ends(alloc: Global, script: &[u8], text: &mut Vec<u8>) -> Result<(), BenchFault> {
-    bench(
-        alloc,
-        &mut Checked::new(script),
-        &mut Checked::new(text),
-        &OPTIONS,
-    )
-    .map(|_| ())
+    ends_on(alloc, &mut Checked::new(script), &mut Checked::new(text))
 }
 
 /// How the bench ends where its ends are these.
@@ -133,7 +127,10 @@ pub(crate) fn ends_on<R: TextIn, W: TextOut>(
     requires reader { R.has_failed reader.old ≡ false }
     requires writer { W.has_failed writer.old ≡ false }
 {
-    bench(alloc, reader, writer, &OPTIONS).map(|_| ())
+    match bench(alloc, reader, writer, &OPTIONS) {
+        Ok(_) => Ok(()),
+        Err(fault) => Err(fault),
+    }
 }
 
 /// The bytes of a script as a text, where they are one.

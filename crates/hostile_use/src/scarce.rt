@@ -80,9 +80,10 @@ fn world(alloc: Global, granted: &Cell<u64>) -> Result<World<Scarce<'_>>, Fail> 
         Err(OpenFault::Memory) => {}
         Err(_) => return Err(Fail::from("only memory should be refused")),
     }
-    World::open(alloc, Scarce { granted }, 2, 8).map_err(|_| Fail::from(
-        "asked again, a world should be opened",
-    ))
+    match World::open(alloc, Scarce { granted }, 2, 8) {
+        Ok(opened) => Ok(opened),
+        Err(_) => Err(Fail::from("asked again, a world should be opened")),
+    }
 }
 
 /// The own steps, the turns and the next place of a process, where there is one.
@@ -102,9 +103,10 @@ fn steps_once(alloc: Global, world: &mut World<Scarce<'_>>, p: u64) -> Result<Pr
         Err(StepFault::Memory) if standing(world, p) == before => {}
         Err(_) => return Err(Fail::from("a refused step should change nothing")),
     }
-    world
-        .step(alloc, p)
-        .map_err(|_| Fail::from("asked again, the step should be taken"))
+    match world.step(alloc, p) {
+        Ok(progress) => Ok(progress),
+        Err(_) => Err(Fail::from("asked again, the step should be taken")),
+    }
 }
 
 /// A process begins a call where there is an invocation, and takes so many steps. The answer is the
@@ -182,9 +184,10 @@ fn record(alloc: Global, granted: &Cell<u64>) -> Result<Recorded<Scarce<'_>>, Fa
         Err(RecordOpenFault::Memory) => {}
         Err(_) => return Err(Fail::from("only memory should be refused")),
     }
-    Recorded::open(alloc, Scarce { granted }, 2, 8, 1000).map_err(|_| Fail::from(
-        "asked again, a record should be opened",
-    ))
+    match Recorded::open(alloc, Scarce { granted }, 2, 8, 1000) {
+        Ok(opened) => Ok(opened),
+        Err(_) => Err(Fail::from("asked again, a record should be opened")),
+    }
 }
 
 /// A process of a record takes a step; asked again where it is refused memory, which stores nothing.
@@ -199,9 +202,10 @@ fn records_once(
         Err(RecordStepFault::Memory) if recorded.events().len() == before => {}
         Err(_) => return Err(Fail::from("a refused step should store nothing")),
     }
-    recorded
-        .step(alloc, p)
-        .map_err(|_| Fail::from("asked again, the step should be taken"))
+    match recorded.step(alloc, p) {
+        Ok(progress) => Ok(progress),
+        Err(_) => Err(Fail::from("asked again, the step should be taken")),
+    }
 }
 
 /// The same as `takes`, of a record.

@@ -92,9 +92,10 @@ fn both_call(alloc: Global, recorded: &mut Recorded<QueueObject>) -> Result<(), 
 
 /// A record of a queue that so many processes share, with rows of so many calls.
 fn queue(alloc: Global, n: u64, k: u64) -> Result<Recorded<QueueObject>, Fail> {
-    Recorded::open(alloc, QueueObject, n, k, 1_000_000).map_err(|_| Fail::from(
-        "no record was opened",
-    ))
+    match Recorded::open(alloc, QueueObject, n, k, 1_000_000) {
+        Ok(opened) => Ok(opened),
+        Err(_) => Err(Fail::from("no record was opened")),
+    }
 }
 
 #[test]
