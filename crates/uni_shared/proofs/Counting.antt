@@ -1,6 +1,7 @@
 -- Receipts beside a history, call by call.
 use Rattle.std.proofs.Common.{◌≡◌, ◌∙◌, ℕ, zero, suc, ◌+◌, ◌<◌, ◌≤◌, refl, sym, ap, subst, List, [], ◌∷◌, ◌++◌, length, get_or, take, map, Bool, true, false, Option, Some, None, IsSome, IsTrue, arith}
-use Rattle.std.proofs.lemmas.List.{take_more, take_all}
+use Rattle.std.proofs.Math.ListN.{get_or-map}
+use Rattle.std.proofs.lemmas.List.{take_more, take_all, map-append, length-map}
 use Rattle.std.proofs.lemmas.List.Elements.{filter_map-append, filter-append}
 use Rattle.std.specs.List.{All, filter, filter_map}
 use Rattle.seq_object.specs.Sequential.{Sequential}
@@ -12,10 +13,6 @@ use Rattle.uni_shared.specs.Agreement.{Agrees}
 use Rattle.uni_record.specs.declared.verdict.Counts.{Counts}
 use Rattle.uni_record.specs.Stored.{Completed}
 
-map-append : {A B : Type 0} (f : A → B) (xs ys : List A) → map f (xs ++ ys) ≡ map f xs ++ map f ys
-map-append f [] ys = refl
-map-append f (x ∷ xs) ys = ap (λ l. f x ∷ l) (map-append f xs ys)
-
 -- one receipt more
 pub map-take_more : {A B : Type 0} (f : A → B) (xs : List A) (n : ℕ) (x : A) → n < length xs → x ≡ get_or xs n x → map f (take (n + 1) xs) ≡ map f (take n xs) ++ f x ∷ []
 map-take_more f xs n x there is =
@@ -25,15 +22,6 @@ map-take_more f xs n x there is =
 pub filter_map-take_more : {A B : Type 0} (h : A → Option B) (xs : List A) (n : ℕ) (x : A) → n < length xs → x ≡ get_or xs n x → filter_map h (take (n + 1) xs) ≡ filter_map h (take n xs) ++ filter_map h (x ∷ [])
 filter_map-take_more h xs n x there is =
     ap (filter_map h) (take_more xs n x there) ∙ filter_map-append h (take n xs) (get_or xs n x ∷ []) ∙ ap (λ y. filter_map h (take n xs) ++ filter_map h (y ∷ [])) (sym is)
-
-get_or-map : {A B : Type 0} (f : A → B) (xs : List A) (n : ℕ) (d : A) → get_or (map f xs) n (f d) ≡ f (get_or xs n d)
-get_or-map f [] n d = refl
-get_or-map f (x ∷ xs) zero d = refl
-get_or-map f (x ∷ xs) (suc n) d = get_or-map f xs n d
-
-length-map : {A B : Type 0} (f : A → B) (xs : List A) → length (map f xs) ≡ length xs
-length-map f [] = refl
-length-map f (x ∷ xs) = ap suc (length-map f xs)
 
 -- one return more, with its counts
 pub filter-take_more : {R : Type 0} (q : Completed R → Bool) (calls : List (Completed R)) (n : ℕ) (returned : Return R) (counts : Counts) → n < length (map (λ (c : Completed R). c.returned) calls)
@@ -46,7 +34,7 @@ filter-take_more {R = R} q calls n returned counts there is count_is =
     let with_returned : Return R → Completed R = λ r. record { returned = r; counts = counts } in
     let with_counts : Counts → Completed R = λ k. record { returned = (get_or calls n call).returned; counts = k } in
     let same : call ≡ get_or calls n call = ap with_returned a ∙ ap with_counts b in
-    let len = length-map (λ (c : Completed R). c.returned) calls in
+    let len = length-map calls (λ (c : Completed R). c.returned) in
     ap (filter q) (take_more calls n call (omega arith)) ∙ filter-append q (take n calls) (get_or calls n call ∷ []) ∙ ap (λ (y : Completed R). filter q (take n calls) ++ filter q (y ∷ [])) (sym same)
 
 -- what holds of all that have been looked at holds of all

@@ -19,8 +19,8 @@ invocation_by p Trim = None
 invocation_by p (Reshape n) = None
 
 -- those of the calls that have returned that are of a process
-abbrev pub completed_by : {R : Type 0} → ℕ → List (Completed R) → List (Completed R)
-completed_by p calls = filter (λ c. c.returned.call.process == p) calls
+abbrev pub completed_of_process : {R : Type 0} → ℕ → List (Completed R) → List (Completed R)
+completed_of_process p calls = filter (λ c. c.returned.call.process == p) calls
 
 -- the return of which a receipt tells, with its counts
 abbrev pub completed_of : {I R : Type 0} → Receipt I R → Completed R
@@ -30,7 +30,7 @@ completed_of r = record { returned = record { call = r.call; reply = r.reply }; 
 -- reply of its return, and with its own steps and turns.
 pub record Agrees {S I R : Type 0} (object : Sequential S I R) (first : WorldOf S I R) (events : List (Stored I)) (p : ℕ) (receipts : List (Receipt I R)) : Type 0 where
   pub invocations : map (λ r. r.inv) receipts ≡ filter_map (invocation_by p) events
-  pub completed : map completed_of receipts ≡ completed_by p (completed_in object first (events_shown events))
+  pub completed : map completed_of receipts ≡ completed_of_process p (completed_in object first (events_shown events))
 
 -- the receipts of a seat agree with the events of a record
 abbrev pub SeatAgrees : {O S I R : Type 0} → (O → Sequential S I R) → Recording O S I R → SeatOf I R → Type 0

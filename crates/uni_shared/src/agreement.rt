@@ -4,7 +4,7 @@ ghost use Rattle.std.specs.Prelude.{◌≡◌, ℕ, ◌<◌, ◌≤◌, ◌++◌
 ghost use Rattle.std.specs.List.{All, filter_map};
 ghost use Rattle.uni_model.specs.Worlds.{IsQuiescent};
 ghost use Rattle.uni_core.specs.Whole.{world_of};
-ghost use Rattle.uni_shared.specs.Agreement.{IsClosed, SeatAgrees, invocation_by, completed_by, completed_of, seats_of};
+ghost use Rattle.uni_shared.specs.Agreement.{IsClosed, SeatAgrees, invocation_by, completed_of_process, completed_of, seats_of};
 
 use crate::closed::CloseFault;
 use crate::receipt::Receipt;
@@ -146,7 +146,7 @@ fn place_after_return<O: SeqObject>(
 ) -> Option<usize>
     requires { place ≤ length receipts.now }
     ensures within { IfSome result (λ next. next ≤ length receipts.now) }
-    ensures next { IfSome result (λ next. map completed_of (take next receipts.now) ≡ map completed_of (take place receipts.now) ++ completed_by p (record { returned = returned.now; counts = counts.now } ∷ [])) }
+    ensures next { IfSome result (λ next. map completed_of (take next receipts.now) ≡ map completed_of (take place receipts.now) ++ completed_of_process p (record { returned = returned.now; counts = counts.now } ∷ [])) }
 {
     if u64::from(returned.call.process) != p {
         return Some(place);
@@ -165,7 +165,7 @@ fn other_return<O: SeqObject>(
     receipts: &[Receipt<O::Inv, O::Resp>],
 ) -> Option<usize>
     requires { length returns.now ≡ length counts.now }
-    ensures { result ≡ None → (calls : _) → returns.now ≡ map (λ c. c.returned) calls → counts.now ≡ map (λ c. c.counts) calls → map completed_of receipts.now ≡ completed_by p calls }
+    ensures { result ≡ None → (calls : _) → returns.now ≡ map (λ c. c.returned) calls → counts.now ≡ map (λ c. c.counts) calls → map completed_of receipts.now ≡ completed_of_process p calls }
 {
     let mut place = 0;
     for i in 0..returns.len() {

@@ -2,6 +2,7 @@
 
 use crate::{ApplyFault, Closed, Gate, GaveUp, NoGate, Receipt, Seat, Shared};
 use ready_objects::{Amount, QueueInv, QueueObject, QueueResp};
+use seq_object::CallId;
 use std::alloc::Global;
 use std::sync::Wait;
 use std::sync::atomic::{AtomicU64, Ordering};
@@ -47,12 +48,17 @@ pub(crate) fn alone(
     Ok(seats)
 }
 
+/// A number.
+pub(crate) fn amount(value: u32) -> Amount {
+    let Some(amount) = Amount::new(u64::from(value)) else {
+        unreachable!()
+    };
+    amount
+}
+
 /// An invocation that enqueues a number.
-pub(crate) fn enq(value: u64) -> Result<QueueInv, Fail> {
-    match Amount::new(value) {
-        Some(amount) => Ok(QueueInv::Enq(amount)),
-        None => Err(Fail::from("the number should fit")),
-    }
+pub(crate) fn enq(value: u32) -> QueueInv {
+    QueueInv::Enq(amount(value))
 }
 
 /// What refuses a call, if anything does.
@@ -76,11 +82,10 @@ pub(crate) fn enqueues<G: Gate, R: Wait>(
     alloc: Global,
     shared: &Shared<QueueObject>,
     seat: &mut Seat<QueueObject>,
-    value: u64,
+    value: u32,
     gate: &G,
-) -> Result<Option<ApplyFault>, Fail> {
-    let inv = enq(value)?;
-    Ok(calls(rt, alloc, shared, seat, inv, gate))
+) -> Option<ApplyFault> {
+    calls(rt, alloc, shared, seat, enq(value), gate)
 }
 
 /// What refuses to go on with a call, if anything does.
@@ -101,22 +106,18 @@ pub(crate) fn has_added(
     seat: &Seat<QueueObject>,
     process: u32,
     nth: u64,
-    value: u64,
+    value: u32,
     steps: u64,
     turns: u64,
-) -> Result<bool, Fail> {
-    let inv = enq(value)?;
+) -> bool {
     let Some(receipt) = seat.receipts().get(nth as usize) else {
-        return Ok(false);
+        return false;
     };
-    Ok(
-        receipt.call.process == process
-            && receipt.call.nth == nth
-            && receipt.inv == inv
-            && receipt.reply == QueueResp::Added
-            && receipt.steps == steps
-            && receipt.turns == turns,
-    )
+    receipt.call == (CallId { process, nth })
+        && receipt.inv == enq(value)
+        && receipt.reply == QueueResp::Added
+        && receipt.steps == steps
+        && receipt.turns == turns
 }
 
 /// Gives up when it is called for the second time.
@@ -134,13 +135,10 @@ impl Gate for Second {
     }
 }
 
-/// The receipts of a process.
-pub(crate) fn receipts_of(
-    closed: &Closed<QueueObject>,
-    p: u64,
-) -> Result<&[Receipt<QueueInv, QueueResp>], Fail> {
+/// The receipts of a process; none where there is no such process.
+pub(crate) fn receipts_of(closed: &Closed<QueueObject>, p: u64) -> &[Receipt<QueueInv, QueueResp>] {
     if p >= closed.recorded().processes() {
-        return Err(Fail::from("there should be such a process"));
+        return &[];
     }
-    Ok(closed.receipts(p))
+    closed.receipts(p)
 }

@@ -18,20 +18,20 @@ fn one_call<R: Wait + Abort>(
     alloc: Global,
     shared: &Shared<QueueObject>,
     seat: &mut Seat<QueueObject>,
-) -> Result<(), Fail> {
+) {
     assert!(rt; seat.process() == 0);
-    assert!(rt; enqueues(rt, alloc, shared, seat, 7, &NoGate)?.is_none());
-    assert!(rt; has_added(seat, 0, 0, 7, 14, 1)?);
+    assert!(rt; enqueues(rt, alloc, shared, seat, 7, &NoGate).is_none());
+    assert!(rt; has_added(seat, 0, 0, 7, 14, 1));
     assert!(rt; !seat.pending());
     assert!(rt; trim(rt, alloc, shared) == Ok(2));
-    Ok(())
 }
 
 #[test]
 fn one_seat(rt: HostRuntime) -> Result<(), Fail> {
     let alloc = rt.alloc();
     let (shared, mut seat) = queue_of_one(alloc, 8)?;
-    one_call(&rt, alloc, &shared, &mut seat)
+    one_call(&rt, alloc, &shared, &mut seat);
+    Ok(())
 }
 
 /// What was handed back for this fault.
@@ -72,17 +72,17 @@ fn a_seat_of_another_record_differs(rt: HostRuntime) -> Result<(), Fail> {
     let alloc = rt.alloc();
     let (a, mut seat_of_a) = queue_of_one(alloc, 8)?;
     let (b, mut seat_of_b) = queue_of_one(alloc, 8)?;
-    assert!(rt; enqueues(&rt, alloc, &a, &mut seat_of_a, 7, &NoGate)?.is_none());
-    assert!(rt; enqueues(&rt, alloc, &b, &mut seat_of_b, 8, &NoGate)?.is_none());
+    assert!(rt; enqueues(&rt, alloc, &a, &mut seat_of_a, 7, &NoGate).is_none());
+    assert!(rt; enqueues(&rt, alloc, &b, &mut seat_of_b, 8, &NoGate).is_none());
     assert!(rt; trim(&rt, alloc, &a) == Ok(2));
     let first = CallId { process: 0, nth: 0 };
     let seats_of_b = alone(alloc, seat_of_b)?;
     let (a, mut seats_of_b) = refused(alloc, a, seats_of_b, CloseFault::Mismatch(first))?;
     let seat_of_b = last(&mut seats_of_b)?;
-    assert!(rt; has_added(&seat_of_b, 0, 0, 8, 14, 1)?);
+    assert!(rt; has_added(&seat_of_b, 0, 0, 8, 14, 1));
     let closed = closed(alloc, a, alone(alloc, seat_of_a)?)?;
     assert!(rt; closed.recorded().events().len() == 16);
-    assert!(rt; receipts_of(&closed, 0)?.len() == 1);
+    assert!(rt; receipts_of(&closed, 0).len() == 1);
     Ok(())
 }
 
@@ -118,11 +118,11 @@ fn a_stranger(rt: HostRuntime) -> Result<(), Fail> {
     let alloc = rt.alloc();
     let (a, mut own) = queue_of_one(alloc, 8)?;
     let (_, mut other) = queue_of_one(alloc, 8)?;
-    assert!(rt; enqueues(&rt, alloc, &a, &mut own, 7, &NoGate)?.is_none());
-    assert!(rt; enqueues(&rt, alloc, &a, &mut other, 8, &NoGate)? == Some(ApplyFault::Stranger));
+    assert!(rt; enqueues(&rt, alloc, &a, &mut own, 7, &NoGate).is_none());
+    assert!(rt; enqueues(&rt, alloc, &a, &mut other, 8, &NoGate) == Some(ApplyFault::Stranger));
     assert!(rt; other.pending());
     // the call has begun, so that its process is busy
-    assert!(rt; enqueues(&rt, alloc, &a, &mut own, 9, &NoGate)? == Some(ApplyFault::Stranger));
+    assert!(rt; enqueues(&rt, alloc, &a, &mut own, 9, &NoGate) == Some(ApplyFault::Stranger));
     assert!(rt; !own.pending());
     Ok(())
 }
@@ -131,8 +131,8 @@ fn a_stranger(rt: HostRuntime) -> Result<(), Fail> {
 fn a_full_row(rt: HostRuntime) -> Result<(), Fail> {
     let alloc = rt.alloc();
     let (shared, mut seat) = queue_of_one(alloc, 1)?;
-    assert!(rt; enqueues(&rt, alloc, &shared, &mut seat, 7, &NoGate)?.is_none());
-    assert!(rt; enqueues(&rt, alloc, &shared, &mut seat, 8, &NoGate)? == Some(ApplyFault::RowFull));
+    assert!(rt; enqueues(&rt, alloc, &shared, &mut seat, 7, &NoGate).is_none());
+    assert!(rt; enqueues(&rt, alloc, &shared, &mut seat, 8, &NoGate) == Some(ApplyFault::RowFull));
     assert!(rt; !seat.pending());
     Ok(())
 }
@@ -144,7 +144,7 @@ fn a_full_history(rt: HostRuntime) -> Result<(), Fail> {
         return Err(Fail::from("nothing was opened"));
     };
     let mut seat = last(&mut seats)?;
-    let refused = enqueues(&rt, alloc, &shared, &mut seat, 7, &NoGate)?;
+    let refused = enqueues(&rt, alloc, &shared, &mut seat, 7, &NoGate);
     assert!(rt; refused == Some(ApplyFault::HistoryFull));
     assert!(rt; !seat.pending());
     Ok(())
@@ -156,29 +156,28 @@ fn stops<R: Wait + Abort>(
     alloc: Global,
     shared: &Shared<QueueObject>,
     seat: &mut Seat<QueueObject>,
-) -> Result<(), Fail> {
+) {
     let gate = Second {
         calls: AtomicU64::new(0),
     };
-    assert!(rt; enqueues(rt, alloc, shared, seat, 7, &gate)? == Some(ApplyFault::GaveUp));
+    assert!(rt; enqueues(rt, alloc, shared, seat, 7, &gate) == Some(ApplyFault::GaveUp));
     assert!(rt; seat.pending());
-    assert!(rt; enqueues(rt, alloc, shared, seat, 8, &NoGate)? == Some(ApplyFault::SeatPending));
-    Ok(())
+    assert!(rt; enqueues(rt, alloc, shared, seat, 8, &NoGate) == Some(ApplyFault::SeatPending));
 }
 
 #[test]
 fn a_gate_that_gives_up(rt: HostRuntime) -> Result<(), Fail> {
     let alloc = rt.alloc();
     let (shared, mut seat) = queue_of_one(alloc, 8)?;
-    stops(&rt, alloc, &shared, &mut seat)?;
+    stops(&rt, alloc, &shared, &mut seat);
     let seats = alone(alloc, seat)?;
     let (shared, mut seats) = refused(alloc, shared, seats, CloseFault::PendingSeat(0))?;
     let mut seat = last(&mut seats)?;
     assert!(rt; resumes(&rt, alloc, &shared, &mut seat).is_none());
-    assert!(rt; has_added(&seat, 0, 0, 7, 14, 1)?);
+    assert!(rt; has_added(&seat, 0, 0, 7, 14, 1));
     assert!(rt; resumes(&rt, alloc, &shared, &mut seat) == Some(ApplyFault::NothingPending));
     let closed = closed(alloc, shared, alone(alloc, seat)?)?;
-    assert!(rt; receipts_of(&closed, 0)?.len() == 1);
+    assert!(rt; receipts_of(&closed, 0).len() == 1);
     Ok(())
 }
 
@@ -188,17 +187,16 @@ fn asked_again<R: Wait + Abort>(
     alloc: Global,
     shared: &Shared<QueueObject>,
     seat: &mut Seat<QueueObject>,
-) -> Result<(), Fail> {
-    if let Some(fault) = enqueues(rt, alloc, shared, seat, 7, &NoGate)? {
+) {
+    if let Some(fault) = enqueues(rt, alloc, shared, seat, 7, &NoGate) {
         assert!(rt; fault == ApplyFault::Memory);
         if seat.pending() {
             assert!(rt; resumes(rt, alloc, shared, seat).is_none());
         } else {
-            assert!(rt; enqueues(rt, alloc, shared, seat, 7, &NoGate)?.is_none());
+            assert!(rt; enqueues(rt, alloc, shared, seat, 7, &NoGate).is_none());
         }
     }
-    assert!(rt; has_added(seat, 0, 0, 7, 14, 1)?);
-    Ok(())
+    assert!(rt; has_added(seat, 0, 0, 7, 14, 1));
 }
 
 /// What `queue` opens for one process; it is opened again where memory was refused.
@@ -214,9 +212,9 @@ fn a_call_that_is_asked_again(rt: HostRuntime) -> Result<(), Fail> {
     let alloc = rt.alloc();
     let (shared, mut seats) = opened_again(alloc)?;
     for seat in &mut seats {
-        asked_again(&rt, alloc, &shared, seat)?;
+        asked_again(&rt, alloc, &shared, seat);
     }
     let closed = closed(alloc, shared, seats)?;
-    assert!(rt; receipts_of(&closed, 0)?.len() == 1);
+    assert!(rt; receipts_of(&closed, 0).len() == 1);
     Ok(())
 }

@@ -1,9 +1,9 @@
 //! Two threads over one record: what the lock lets happen between the steps of a call.
 
-use crate::test_calls::{Second, calls, enq, enqueues, last, queue, receipts_of, resumes};
+use crate::test_calls::{Second, amount, calls, enq, enqueues, last, queue, receipts_of, resumes};
 use crate::{ApplyFault, Closed, Gate, GaveUp, NoGate, Seat, Shared, trim};
-use ready_objects::{Amount, QueueInv, QueueObject, QueueResp};
-use std::alloc::Global;
+use ready_objects::{QueueInv, QueueObject, QueueResp};
+use std::alloc::{AllocError, Global};
 use std::process::Abort;
 use std::sync::Wait;
 use std::sync::atomic::{AtomicU64, Ordering};
@@ -103,8 +103,8 @@ fn in_two_threads<R: Threads + Wait + Sync>(
     steps: u64,
 ) -> Result<(Closed<QueueObject>, bool), Fail> {
     let (shared, first, second) = two_seats(alloc)?;
-    let ten = enq(10)?;
-    let one = enq(1)?;
+    let ten = enq(10);
+    let one = enq(1);
     let gate = Between {
         steps,
         asked: AtomicU64::new(0),
@@ -146,8 +146,8 @@ fn ends(alloc: Global, recorded: &mut Recorded<QueueObject>, p: u64) -> Result<(
 
 /// The same events, given one by one.
 fn one_by_one(alloc: Global, recorded: &mut Recorded<QueueObject>, steps: u64) -> Result<(), Fail> {
-    let ten = enq(10)?;
-    let one = enq(1)?;
+    let ten = enq(10);
+    let one = enq(1);
     let Ok(_) = recorded.begin(alloc, 0, &ten) else {
         return Err(Fail::from("the call should have begun"));
     };
@@ -182,7 +182,7 @@ fn is_as_expected<R: Abort>(
     assert!(rt; returns.len() == 3 && counts.len() == 3);
     for i in 0..returns.len() {
         let call = returns[i].call;
-        let Some(receipt) = receipts_of(closed, u64::from(call.process))?.get(call.nth as usize)
+        let Some(receipt) = receipts_of(closed, u64::from(call.process)).get(call.nth as usize)
         else {
             return Err(Fail::from("there should be a receipt"));
         };
@@ -221,35 +221,36 @@ fn is_entry(
 }
 
 /// Whether a process's receipt has these own steps and turns.
-fn counts_are(
-    closed: &Closed<QueueObject>,
-    p: u64,
-    nth: usize,
-    steps: u64,
-    turns: u64,
-) -> Result<bool, Fail> {
-    let Some(receipt) = receipts_of(closed, p)?.get(nth) else {
-        return Ok(false);
+fn counts_are(closed: &Closed<QueueObject>, p: u64, nth: usize, steps: u64, turns: u64) -> bool {
+    let Some(receipt) = receipts_of(closed, p).get(nth) else {
+        return false;
     };
-    Ok(receipt.steps == steps && receipt.turns == turns)
+    receipt.steps == steps && receipt.turns == turns
+}
+
+/// The entries of `after_the_first_step`.
+fn entries_after_the_first_step<R: Abort>(
+    rt: &R,
+    alloc: Global,
+    recorded: &Recorded<QueueObject>,
+) -> Result<(), Fail> {
+    let entries = recorded.entries(alloc)?;
+    assert!(rt; entries.len() == 3);
+    assert!(rt; is_entry(&entries[0], 2, 1, 0, QueueResp::Added));
+    assert!(rt; is_entry(&entries[1], 3, 0, 0, QueueResp::Added));
+    assert!(rt; is_entry(&entries[2], 4, 1, 1, QueueResp::Taken(amount(1))));
+    Ok(())
 }
 
 #[test]
 fn after_the_first_step(rt: HostRuntime) -> Result<(), Fail> {
     let alloc = rt.alloc();
-    let Some(one) = Amount::new(1) else {
-        return Err(Fail::from("the number should fit"));
-    };
     let (closed, at_own_head) = in_two_threads(&rt, alloc, 1)?;
     assert!(rt; at_own_head);
-    let entries = closed.recorded().entries(alloc)?;
-    assert!(rt; entries.len() == 3);
-    assert!(rt; is_entry(&entries[0], 2, 1, 0, QueueResp::Added));
-    assert!(rt; is_entry(&entries[1], 3, 0, 0, QueueResp::Added));
-    assert!(rt; is_entry(&entries[2], 4, 1, 1, QueueResp::Taken(one)));
-    assert!(rt; counts_are(&closed, 0, 0, 8, 0)?);
-    assert!(rt; counts_are(&closed, 1, 0, 16, 1)?);
-    assert!(rt; counts_are(&closed, 1, 1, 24, 2)?);
+    entries_after_the_first_step(&rt, alloc, closed.recorded())?;
+    assert!(rt; counts_are(&closed, 0, 0, 8, 0));
+    assert!(rt; counts_are(&closed, 1, 0, 16, 1));
+    assert!(rt; counts_are(&closed, 1, 1, 24, 2));
     Ok(())
 }
 
@@ -274,11 +275,11 @@ fn makes_all<R: Wait>(
     (seat, made && few)
 }
 
-/// Four invocations that enqueue a number and the next ones.
-fn four(alloc: Global, value: u32) -> Result<Vec<QueueInv>, Fail> {
+/// Invocations that enqueue these numbers.
+fn enqs(alloc: Global, values: [u32; 4]) -> Result<Vec<QueueInv>, AllocError> {
     let mut invs = Vec::new(alloc);
-    for nth in 0..4 {
-        invs.push(enq(u64::from(value) + nth)?)?;
+    for value in values {
+        invs.push(enq(value))?;
     }
     Ok(invs)
 }
@@ -289,14 +290,24 @@ fn stops<R: Wait>(
     alloc: Global,
     shared: &Shared<QueueObject>,
     seat: &mut Seat<QueueObject>,
-) -> Result<(), Fail> {
+) -> bool {
     let gate = Second {
         calls: AtomicU64::new(0),
     };
-    match enqueues(rt, alloc, shared, seat, 1, &gate)? {
-        Some(ApplyFault::GaveUp) => Ok(()),
-        _ => Err(Fail::from("the gate should have given up")),
-    }
+    enqueues(rt, alloc, shared, seat, 1, &gate) == Some(ApplyFault::GaveUp)
+}
+
+/// A record has nine entries, and their audit agrees.
+fn nine_calls_agree<R: Abort>(
+    rt: &R,
+    alloc: Global,
+    recorded: &Recorded<QueueObject>,
+) -> Result<(), Fail> {
+    let entries = recorded.entries(alloc)?;
+    assert!(rt; entries.len() == 9);
+    let verdict = audit(alloc, &QueueObject, &entries, recorded.returns())?;
+    assert!(rt; verdict == Verdict::Agrees);
+    Ok(())
 }
 
 #[test]
@@ -306,9 +317,9 @@ fn beside_a_stopped_process(rt: HostRuntime) -> Result<(), Fail> {
     let third = last(&mut seats)?;
     let second = last(&mut seats)?;
     let mut first = last(&mut seats)?;
-    stops(&rt, alloc, &shared, &mut first)?;
-    let tens = four(alloc, 10)?;
-    let twenties = four(alloc, 20)?;
+    assert!(rt; stops(&rt, alloc, &shared, &mut first));
+    let tens = enqs(alloc, [10, 11, 12, 13])?;
+    let twenties = enqs(alloc, [20, 21, 22, 23])?;
     let record = &shared;
     let runtime = &rt;
     let ((second, one), (third, two)) = join(
@@ -325,10 +336,6 @@ fn beside_a_stopped_process(rt: HostRuntime) -> Result<(), Fail> {
     let Ok(closed) = shared.close(alloc, seats) else {
         return Err(Fail::from("it should have been closed"));
     };
-    assert!(rt; counts_are(&closed, 0, 0, 10, 0)?);
-    let entries = closed.recorded().entries(alloc)?;
-    assert!(rt; entries.len() == 9);
-    let verdict = audit(alloc, &QueueObject, &entries, closed.recorded().returns())?;
-    assert!(rt; verdict == Verdict::Agrees);
-    Ok(())
+    assert!(rt; counts_are(&closed, 0, 0, 10, 0));
+    nine_calls_agree(&rt, alloc, closed.recorded())
 }

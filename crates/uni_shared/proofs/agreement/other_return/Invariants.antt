@@ -1,10 +1,10 @@
 use Rattle.std.proofs.Common.{◌≡◌, ◌≤◌, List, length, map, take}
 use Rattle.uni_record.specs.Stored.{Completed}
-use Rattle.uni_shared.specs.Agreement.{completed_by, completed_of}
+use Rattle.uni_shared.specs.Agreement.{completed_of_process, completed_of}
 use Rattle.uni_shared.proofs.agreement.other_return.Given as goal
 
 abbrev pub invariant-loop-i : goal.invariant-loop-i
 invariant-loop-i g l =
     (l.place ≤ length l.receipts)
     × ((calls : List (Completed g.row.O-Resp.Denot)) → l.returns ≡ map (λ c. c.returned) calls → l.counts ≡ map (λ c. c.counts) calls
-    → map completed_of (take l.place l.receipts) ≡ completed_by l.p (take l.i calls))
+    → map completed_of (take l.place l.receipts) ≡ completed_of_process l.p (take l.i calls))
