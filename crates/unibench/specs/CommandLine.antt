@@ -5,6 +5,7 @@ use Rattle.clap.specs.Words.{App, Row, Rule, Text, Kinds, IsAmong, new_app, new_
 use Rattle.clap.proofs.OnLiterals.{clap_on_literals}
 use Rattle.clap.specs.declared.error.kind.ErrorKind.TheVariants.{DisplayHelp, DisplayVersion, InvalidSubcommand, MissingSubcommand, UnknownArgument}
 use Rattle.uni_script.specs.declared.grammar.ObjectName.TheVariants as shared
+use Rattle.uni_script.specs.declared.replay.Options.{Options}
 use Rattle.unibench.specs.Plans.{options_of, plan_of, random_of}
 use Rattle.unibench.specs.declared.request.Request.{Request}
 use Rattle.unibench.specs.declared.request.Request.TheVariants.{Replay, Random, Threads}
@@ -65,6 +66,10 @@ asked_of words = request_in (subcommand_of unibench words)
 -- the words have no fault, and this is what they ask for
 abbrev pub AsksFor : List Text → Request → Type 0
 AsksFor words request = (faults_of_words words ≡ []) × (asked_of words ≡ Some request)
+
+-- they ask for the replay of a script
+abbrev pub AsksForReplay : List Text → Type 0
+AsksForReplay words = (options : Options) × AsksFor words (Replay options)
 
 -- they ask for nothing that the program does
 abbrev pub AsksForNothing : List Text → Type 0

@@ -4,7 +4,7 @@ ghost use Rattle.std.specs.Prelude.{◌≡◌, ◌≢◌, ◌≤◌, ◌⊎◌, 
 ghost use Rattle.std.specs.Io.KnownBytes.{Appends};
 ghost use Rattle.uni_script.specs.Ends.{AppendsFront};
 ghost use Rattle.uni_script.specs.Replays.{IsHistory, IsReplay, IsBadReplay, IsPartOfReplay, HasAnswered};
-ghost use Rattle.unibench.specs.CommandLine.{AsksFor, IsRefused};
+ghost use Rattle.unibench.specs.CommandLine.{AsksFor, AsksForReplay, IsRefused};
 ghost use Rattle.uni_script.specs.Schedules.{IsPlan};
 ghost use Rattle.unibench.specs.Runs.{IsRandomRun, IsRunOf, IsStatusOfEnds, IsThreadsRun};
 ghost use Rattle.unibench.specs.Statuses.{IsStatusFor, IsStatusOf, IsStatusOfThreads, Tells, TellsFault, TellsThreadsFault, status_of};
@@ -49,7 +49,7 @@ pub fn run<R: Threads + Sync, S: AsStr, I: TextIn, O: TextOut, F: TextOut>(
         → IsRunOf r (I.remaining input.old) (I.remaining input.new) (O.contents output.old) (O.contents output.new) (O.has_failed output.new) result }
     ensures silent { (r : Request) → AsksFor (map S.text words.now) r → result ≡ 0 → faults.new ≡ faults.old }
     ensures told { (r : Request) → AsksFor (map S.text words.now) r → result ≢ 0 → Tells r (F.contents faults.old) (F.contents faults.new) (F.has_failed faults.new) result }
-    ensures unread { ((options : Options) → ¬ (AsksFor (map S.text words.now) (Request.Replay options))) → input.new ≡ input.old }
+    ensures unread { ¬ (AsksForReplay (map S.text words.now)) → input.new ≡ input.old }
     ensures refused { IsRefused (map S.text words.now) → ((result ≡ 2) ⊎ (result ≡ 4)) × (output.new ≡ output.old) }
 {
     match read_words(alloc, words) {

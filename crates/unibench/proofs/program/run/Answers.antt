@@ -26,7 +26,7 @@ pub returns-in-Ok-Some-Replay-clause-unread : goal.returns-in-Ok-Some-Replay-cla
 returns-in-Ok-Some-Replay-clause-unread g c = λ none.
     let asked : asked_of (map g.S.AsStr.text c.args.words.now) ≡ Some (Replay c.in-Ok-Some-Replay.options) = search rules in
     let good : faults_of_words (map g.S.AsStr.text c.args.words.now) ≡ [] = search rules in
-    absurd (none c.in-Ok-Some-Replay.options (good, asked))
+    absurd (none (c.in-Ok-Some-Replay.options, (good, asked)))
 
 pub returns-in-Ok-Some-Replay-clause-refused : goal.returns-in-Ok-Some-Replay-clause-refused
 returns-in-Ok-Some-Replay-clause-refused g c = λ none.
