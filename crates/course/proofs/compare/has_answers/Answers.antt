@@ -10,7 +10,7 @@ returns-in-Ok c =
     let good : fault_of_script 1048576 c.args.script.now ≡ None = subst (λ s. fault_of_script 1048576 s ≡ None) (sym script) replayed.2 in
     let empty : c.new-writer.result.end.items ≡ [] = ap (λ end. end.items) c.new-writer.ensures.end ∙ c.new.ensures.items in
     let written : c.bench-ended.new.writer.end.items ≡ text_of_script 1048576 c.args.script.now =
-        replayed.3 ∙ ap₂ ◌++◌ empty (ap (text_of_script 1048576) (sym script)) in
+    replayed.3 ∙ ap₂ ◌++◌ empty (ap (text_of_script 1048576) (sym script)) in
     let read : c.as_slice.result.now ≡ text_of_script 1048576 c.args.script.now = c.as_slice.ensures.value ∙ ap (λ end. end.items) c.end.ensures ∙ written in
     let decides = bytes_eq-Decides c.as_slice.result.now c.args.answers.now in
     ((λ same. (good, sym read ∙ decides.0 (sym c.eq.ensures ∙ same))), (λ is. c.eq.ensures ∙ decides.1 (read ∙ is.1)))
