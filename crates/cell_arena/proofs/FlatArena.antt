@@ -6,7 +6,7 @@ use Rattle.std.proofs.lemmas.Bool.{cases_eq, cases_lt}
 use Rattle.std.proofs.Math.ListN.{length-set}
 use Rattle.cell_arena.specs.CellRecord.{CellRecord, ChangesOnly, HasOnlyAnchor, anchor_for, anchor_with, index_of, owner_of, nth_of}
 use Rattle.cell_arena.specs.Columns.{blank}
-use Rattle.cell_arena.specs.Flat.{Flat, IsFlat, at, made_by_owner, made_cell, made_cells}
+use Rattle.cell_arena.specs.ColumnCells.{Flat, IsFlat, at, made_by_owner, made_cell, made_cells}
 use Rattle.cell_arena.proofs.Changes.{at_same, at_other}
 use Rattle.cell_arena.proofs.Places.{owner_of-index_of, nth_of-index_of, index_of-owner_of}
 

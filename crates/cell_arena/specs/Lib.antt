@@ -2,7 +2,7 @@ pub mod CellRecord
 pub mod Arena
 pub mod Rows
 pub mod Columns
-pub mod Flat
+pub mod ColumnCells
 pub mod Lending
 pub mod Ending
-pub mod Place
+pub mod CellId

@@ -34,7 +34,7 @@ pub(crate) enum Place {
 }
 
 impl CellId {
-    ghost use Rattle.cell_arena.specs.Place.{IsPlaceOf};
+    ghost use Rattle.cell_arena.specs.CellId.{IsPlaceOf};
 
     /// The anchor, the first cell of the list: index 0.
     pub fn anchor() -> Self

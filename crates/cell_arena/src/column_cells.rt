@@ -25,7 +25,7 @@ pub struct ColumnCells<S, I, R> {
 
 impl<S, I, R> Model for ColumnCells<S, I, R> {
     ghost use Rattle.cell_arena.specs.Arena.{Arena};
-    ghost use Rattle.cell_arena.specs.Flat.{arena_of, IsFlat};
+    ghost use Rattle.cell_arena.specs.ColumnCells.{arena_of, IsFlat};
 
     ghost Value = { Arena S I R };
 

@@ -3,7 +3,7 @@
 ghost use Rattle.std.specs.Prelude.{◌≡◌, None, Some, unwrap_or};
 ghost use Rattle.std.specs.Option.{option_copied};
 ghost use Rattle.std.specs.Borrow.{sem};
-ghost use Rattle.consensus_cell.specs.Decided.{EndsAs};
+ghost use Rattle.consensus_cell.specs.Consensus.{EndsAs};
 
 use std::marker::Model;
 

@@ -1,7 +1,7 @@
 //! What a script answers, beside what it should.
 
 ghost use Rattle.std.specs.Prelude.{◌≡◌, ◌↔◌, true, None, IfOk};
-ghost use Rattle.uni_script.specs.Replays.{fault_of_script, text_of_script};
+ghost use Rattle.uni_script.specs.Replay.{fault_of_script, text_of_script};
 
 use std::alloc::Global;
 use uni_script::{BenchFault, Checked, Options, bench};

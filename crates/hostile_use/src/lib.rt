@@ -11,6 +11,8 @@ mod limits;
 #[cfg(test)]
 mod scarce;
 #[cfg(test)]
+mod scarce_seats;
+#[cfg(test)]
 mod scripts;
 #[cfg(test)]
 mod stopped;

@@ -148,23 +148,29 @@ fn numbers_and_names_of_calls(rt: HostRuntime) -> Result<(), Fail> {
     calls_get(&rt, rt.alloc(), "sticky", OF_A_STICKY)
 }
 
+/// Headers, and whether each is taken.
+const HEADERS: &[(&str, bool)] = &[
+    ("universal 1 queue 1 1", true),
+    ("universal 1 queue 0 1", false),
+    ("universal 1 queue 1 0", false),
+    ("universal 1 queue 16 4096", true),
+    ("universal 1 queue 17 4096", false),
+    ("universal 1 queue 16 4097", false),
+    ("universal 2 queue 64 4096", true),
+    ("universal 2 queue 65 4096", false),
+    ("universal 2 queue 64 4097", false),
+    ("universal 2 queue 0 1", false),
+    ("universal 2 queue 1 0", false),
+];
+
 #[test]
 fn numbers_of_headers(rt: HostRuntime) {
-    let bad = Err(BenchFault::BadHeader(1));
-    for (header, outcome) in [
-        ("universal 1 queue 1 1", Ok(())),
-        ("universal 1 queue 0 1", bad),
-        ("universal 1 queue 1 0", bad),
-        ("universal 1 queue 16 4096", Ok(())),
-        ("universal 1 queue 17 4096", bad),
-        ("universal 1 queue 16 4097", bad),
-        ("universal 2 queue 64 4096", Ok(())),
-        ("universal 2 queue 65 4096", bad),
-        ("universal 2 queue 64 4097", bad),
-        ("universal 2 queue 0 1", bad),
-        ("universal 2 queue 1 0", bad),
-    ] {
-        let want: &str = if outcome.is_ok() { "end\n" } else { "" };
+    for (header, is_taken) in HEADERS {
+        let (want, outcome): (&str, _) = if *is_taken {
+            ("end\n", Ok(()))
+        } else {
+            ("", Err(BenchFault::BadHeader(1)))
+        };
         runs(&rt, rt.alloc(), header.as_bytes(), want.as_bytes(), outcome);
     }
 }
@@ -201,6 +207,14 @@ impl Calls {
         Ok(())
     }
 
+    /// Adds calls, each with its reply.
+    fn add_all(&mut self, lines: Lines) -> Result<(), Fail> {
+        for (words, reply) in lines {
+            self.add(words, reply)?;
+        }
+        Ok(())
+    }
+
     /// Asserts that the replies are these.
     fn are_answered(mut self, rt: &impl Abort, alloc: Global) -> Result<(), Fail> {
         self.want.extend_from_slice(b"end\n")?;
@@ -215,6 +229,16 @@ impl Calls {
     }
 }
 
+/// Calls of a queue that has the numbers from 0 to 999.
+const ON_A_FULL_QUEUE: Lines = &[
+    ("enq 1000", "full"),
+    ("deq", "0"),
+    ("enq 1001", "ok"),
+    ("enq 1002", "full"),
+    ("deq", "1"),
+    ("deq", "2"),
+];
+
 #[test]
 fn a_queue_holds_1000_numbers(rt: HostRuntime) -> Result<(), Fail> {
     let mut calls = Calls::on(rt.alloc(), "queue")?;
@@ -222,16 +246,7 @@ fn a_queue_holds_1000_numbers(rt: HostRuntime) -> Result<(), Fail> {
         let words = format!(in rt.alloc(); "enq {number}")?;
         calls.add(words.as_str(), "ok")?;
     }
-    for (words, reply) in [
-        ("enq 1000", "full"),
-        ("deq", "0"),
-        ("enq 1001", "ok"),
-        ("enq 1002", "full"),
-        ("deq", "1"),
-        ("deq", "2"),
-    ] {
-        calls.add(words, reply)?;
-    }
+    calls.add_all(ON_A_FULL_QUEUE)?;
     for number in 3..1000 {
         let reply = format!(in rt.alloc(); "{number}")?;
         calls.add("deq", reply.as_str())?;
@@ -241,6 +256,23 @@ fn a_queue_holds_1000_numbers(rt: HostRuntime) -> Result<(), Fail> {
     calls.are_answered(&rt, rt.alloc())
 }
 
+/// Calls of a directory that has the names from n0 to n255.
+const ON_A_FULL_DIRECTORY: Lines = &[
+    ("size", "256"),
+    ("put more 1", "full"),
+    ("get more", "none"),
+    ("put n255 7", "was 255"),
+    ("at 255", "7"),
+    ("at 0", "0"),
+    ("del n0", "0"),
+    ("at 255", "none"),
+    ("at 254", "7"),
+    ("size", "255"),
+    ("put more 1", "new"),
+    ("at 255", "1"),
+    ("put again 1", "full"),
+];
+
 #[test]
 fn a_directory_holds_256_names(rt: HostRuntime) -> Result<(), Fail> {
     let mut calls = Calls::on(rt.alloc(), "directory")?;
@@ -248,49 +280,34 @@ fn a_directory_holds_256_names(rt: HostRuntime) -> Result<(), Fail> {
         let words = format!(in rt.alloc(); "put n{number} {number}")?;
         calls.add(words.as_str(), "new")?;
     }
-    for (words, reply) in [
-        ("size", "256"),
-        ("put more 1", "full"),
-        ("get more", "none"),
-        ("put n255 7", "was 255"),
-        ("at 255", "7"),
-        ("at 0", "0"),
-        ("del n0", "0"),
-        ("at 255", "none"),
-        ("at 254", "7"),
-        ("size", "255"),
-        ("put more 1", "new"),
-        ("at 255", "1"),
-        ("put again 1", "full"),
-    ] {
-        calls.add(words, reply)?;
-    }
+    calls.add_all(ON_A_FULL_DIRECTORY)?;
     calls.are_answered(&rt, rt.alloc())
 }
+
+/// Calls of a book, up to the greatest balance.
+const OF_BALANCES: Lines = &[
+    ("deposit 0 1", "1"),
+    ("deposit 0 999999999998", "999999999999"),
+    ("deposit 0 1", "over"),
+    ("deposit 0 999999999999", "over"),
+    ("deposit 15 999999999998", "999999999998"),
+    ("move 0 15 2", "over"),
+    ("move 0 15 1", "moved"),
+    ("move 0 15 1", "over"),
+    ("move 0 15 999999999999", "short"),
+    ("total", "1999999999997"),
+    ("withdraw 0 999999999999", "short"),
+    ("withdraw 0 999999999998", "0"),
+    ("withdraw 0 1", "short"),
+    ("withdraw 0 0", "0"),
+    ("move 15 0 999999999999", "moved"),
+    ("total", "999999999999"),
+];
 
 #[test]
 fn a_balance_reaches_999999999999(rt: HostRuntime) -> Result<(), Fail> {
     let mut calls = Calls::on(rt.alloc(), "book")?;
-    for (words, reply) in [
-        ("deposit 0 1", "1"),
-        ("deposit 0 999999999998", "999999999999"),
-        ("deposit 0 1", "over"),
-        ("deposit 0 999999999999", "over"),
-        ("deposit 15 999999999998", "999999999998"),
-        ("move 0 15 2", "over"),
-        ("move 0 15 1", "moved"),
-        ("move 0 15 1", "over"),
-        ("move 0 15 999999999999", "short"),
-        ("total", "1999999999997"),
-        ("withdraw 0 999999999999", "short"),
-        ("withdraw 0 999999999998", "0"),
-        ("withdraw 0 1", "short"),
-        ("withdraw 0 0", "0"),
-        ("move 15 0 999999999999", "moved"),
-        ("total", "999999999999"),
-    ] {
-        calls.add(words, reply)?;
-    }
+    calls.add_all(OF_BALANCES)?;
     calls.are_answered(&rt, rt.alloc())
 }
 
@@ -409,39 +426,48 @@ fn words_at_each_residue(rt: HostRuntime) -> Result<(), Fail> {
     Ok(())
 }
 
+/// Asserts that a schedule of one event of 64 processes has this line for the event.
+fn draws(rt: &impl Abort, alloc: Global, word: u64, want: &str) -> Result<(), AllocError> {
+    let words = [word];
+    let mut source = Listed {
+        words: words.as_slice(),
+    };
+    let plan = Plan {
+        object: ObjectName::Sticky,
+        processes: 64,
+        row: 1,
+        events: 1,
+    };
+    let mut text = Vec::new(alloc);
+    let outcome = schedule(alloc, &mut source, &mut Checked::new(&mut text), &plan);
+    assert_eq!(rt; outcome, Ok(()));
+    let mut front = Vec::from_slice(alloc, b"universal 2 sticky 64 1\n")?;
+    front.extend_from_slice(want.as_bytes())?;
+    front.extend_from_slice(b"finish 0\n")?;
+    assert!(rt; text.as_slice().starts_with(front.as_slice()), "{want}");
+    Ok(())
+}
+
+/// Words, each with the line of its event. The last process is drawn by the greatest word, and by one
+/// less than a turn of all residues.
+const EVENTS: &[(u64, &str)] = &[
+    (0, "trim\n"),
+    (1, "call 0 read\n"),
+    (3, "call 0 read\n"),
+    (4, "step 0\n"),
+    (15, "step 0\n"),
+    (16, "trim\n"),
+    (20, "step 1\n"),
+    (1_023, "step 63\n"),
+    (1_024, "trim\n"),
+    (1_028, "step 0\n"),
+    (18_446_744_073_709_551_615, "step 63\n"),
+];
+
 #[test]
 fn events_at_each_residue(rt: HostRuntime) -> Result<(), AllocError> {
-    // The last process is drawn by the greatest word, and by one less than a turn of all residues.
-    for (word, want) in [
-        (0, "trim\n"),
-        (1, "call 0 read\n"),
-        (3, "call 0 read\n"),
-        (4, "step 0\n"),
-        (15, "step 0\n"),
-        (16, "trim\n"),
-        (20, "step 1\n"),
-        (1_023, "step 63\n"),
-        (1_024, "trim\n"),
-        (1_028, "step 0\n"),
-        (18_446_744_073_709_551_615, "step 63\n"),
-    ] {
-        let words = [word];
-        let mut source = Listed {
-            words: words.as_slice(),
-        };
-        let plan = Plan {
-            object: ObjectName::Sticky,
-            processes: 64,
-            row: 1,
-            events: 1,
-        };
-        let mut text = Vec::new(rt.alloc());
-        let outcome = schedule(rt.alloc(), &mut source, &mut Checked::new(&mut text), &plan);
-        assert_eq!(rt; outcome, Ok(()));
-        let mut front = Vec::from_slice(rt.alloc(), b"universal 2 sticky 64 1\n")?;
-        front.extend_from_slice(want.as_bytes())?;
-        front.extend_from_slice(b"finish 0\n")?;
-        assert!(rt; text.as_slice().starts_with(front.as_slice()), "{want}");
+    for (word, want) in EVENTS {
+        draws(&rt, rt.alloc(), *word, want)?;
     }
     Ok(())
 }

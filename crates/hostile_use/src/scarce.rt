@@ -19,9 +19,9 @@ use uni_record::{
 /// A register that answers the number before, at first 9. One of its requests for a start state or a
 /// next one is refused memory.
 #[derive(Drop)]
-struct Scarce<'a> {
+pub(crate) struct Scarce<'a> {
     /// How many requests are granted before the one that is refused.
-    granted: &'a Cell<u64>,
+    pub(crate) granted: &'a Cell<u64>,
 }
 
 impl Scarce<'_> {
@@ -65,7 +65,7 @@ impl SeqObject for Scarce<'_> {
 
 /// What is left of the grants after so many requests without a refusal, where one more is asked if one
 /// of them was refused.
-fn left_after(granted: u64, requests: u64) -> u64 {
+pub(crate) fn left_after(granted: u64, requests: u64) -> u64 {
     if granted < requests {
         granted.wrapping_sub(requests).wrapping_sub(1)
     } else {

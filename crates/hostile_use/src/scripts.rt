@@ -3,7 +3,6 @@
 use crate::ends::{BOUND, answers_within, ends, runs, script_of};
 use std::alloc::{AllocError, Global};
 use std::process::Abort;
-use std::test::Fail;
 use uni_script::BenchFault;
 
 /// Asserts what a line after the header of a queue of one process gets.
@@ -31,51 +30,54 @@ fn note(alloc: Global, length: usize) -> Result<Vec<u8>, AllocError> {
 }
 
 #[test]
-fn second_lines(rt: HostRuntime) -> Result<(), Fail> {
+fn notes_of_200_bytes(rt: HostRuntime) -> Result<(), AllocError> {
     let alloc = rt.alloc();
-    let bad_byte = Err(BenchFault::BadByte(2));
-    let bad_line = Err(BenchFault::BadLine(2));
-    line_gets(&rt, alloc, &note(alloc, 200)?, "end\n", Ok(()))?;
-    line_gets(
-        &rt,
-        alloc,
-        &note(alloc, 201)?,
-        "",
-        Err(BenchFault::TooLong(2)),
-    )?;
-    for (line, want, outcome) in [
-        ("#\t", "", bad_byte),
-        ("log\r", "", bad_byte),
-        ("# ~", "end\n", Ok(())),
-        ("#\u{1f}", "", bad_byte),
-        ("#\u{7f}", "", bad_byte),
-        ("call 0  enq 7", "", bad_line),
-        ("log ", "", bad_line),
-        (" log", "", bad_line),
-        (" ", "", bad_line),
-        (" # no note", "", bad_line),
-        ("step 0 0", "", bad_line),
-        ("step 0 1001", "", bad_line),
-        ("step 00", "", bad_line),
-        ("step 0 01", "", bad_line),
-        ("step -1", "", bad_line),
-        ("step +0", "", bad_line),
-        ("step 0x0", "", bad_line),
-        ("call 0 enq 1000000000000", "", bad_line),
-        ("universal 1 queue 1 8", "", bad_line),
-        (
-            "call 999999999999 deq",
-            "refused process 999999999999\nend\n",
-            Ok(()),
-        ),
-    ] {
-        line_gets(&rt, alloc, line.as_bytes(), want, outcome)?;
+    let (longest, longer) = (note(alloc, 200)?, note(alloc, 201)?);
+    let outcome = Err(BenchFault::TooLong(2));
+    line_gets(&rt, alloc, longest.as_slice(), "end\n", Ok(()))?;
+    line_gets(&rt, alloc, longer.as_slice(), "", outcome)
+}
+
+/// Lines that are taken, each with its answers.
+const TAKEN: &[(&str, &str)] = &[
+    ("# ~", "end\n"),
+    (
+        "call 999999999999 deq",
+        "refused process 999999999999\nend\n",
+    ),
+];
+
+/// Lines of which each has a byte that no line has.
+const BAD_BYTES: &[&str] = &["#\t", "log\r", "#\u{1f}", "#\u{7f}"];
+
+#[test]
+fn second_lines(rt: HostRuntime) -> Result<(), AllocError> {
+    for (line, want) in TAKEN {
+        line_gets(&rt, rt.alloc(), line.as_bytes(), want, Ok(()))?;
+    }
+    for line in BAD_BYTES {
+        let outcome = Err(BenchFault::BadByte(2));
+        line_gets(&rt, rt.alloc(), line.as_bytes(), "", outcome)?;
     }
     Ok(())
 }
 
 /// Lines that are no commands, though each is near one.
 const ALMOST: &[&str] = &[
+    "call 0  enq 7",
+    "log ",
+    " log",
+    " ",
+    " # no note",
+    "step 0 0",
+    "step 0 1001",
+    "step 00",
+    "step 0 01",
+    "step -1",
+    "step +0",
+    "step 0x0",
+    "call 0 enq 1000000000000",
+    "universal 1 queue 1 8",
     "calls 0 deq",
     "Call 0 deq",
     "call0 deq",
@@ -120,7 +122,7 @@ const ALMOST: &[&str] = &[
 ];
 
 #[test]
-fn words_that_are_almost_commands(rt: HostRuntime) -> Result<(), Fail> {
+fn words_that_are_almost_commands(rt: HostRuntime) -> Result<(), AllocError> {
     for line in ALMOST {
         let outcome = Err(BenchFault::BadLine(2));
         line_gets(&rt, rt.alloc(), line.as_bytes(), "", outcome)?;
@@ -171,20 +173,25 @@ fn lines_that_are_almost_headers(rt: HostRuntime) {
     }
 }
 
-#[test]
-fn headers_of_200_bytes(rt: HostRuntime) -> Result<(), Fail> {
-    let rows = [
-        (200, Err(BenchFault::BadHeader(1))),
-        (201, Err(BenchFault::TooLong(1))),
-    ];
-    for (length, outcome) in rows {
-        let mut header = Vec::from_slice(rt.alloc(), b"universal 1 queue 1 8")?;
-        for _ in 21..length {
-            header.push(b'0')?;
-        }
-        runs(&rt, rt.alloc(), header.as_slice(), b"", outcome);
+/// Asserts how a header of so many bytes, with a number that is too great, ends its script.
+fn long_header_ends(
+    rt: &impl Abort,
+    alloc: Global,
+    length: usize,
+    fault: BenchFault,
+) -> Result<(), AllocError> {
+    let mut header = Vec::from_slice(alloc, b"universal 1 queue 1 8")?;
+    for _ in 21..length {
+        header.push(b'0')?;
     }
+    runs(rt, alloc, header.as_slice(), b"", Err(fault));
     Ok(())
+}
+
+#[test]
+fn headers_of_200_bytes(rt: HostRuntime) -> Result<(), AllocError> {
+    long_header_ends(&rt, rt.alloc(), 200, BenchFault::BadHeader(1))?;
+    long_header_ends(&rt, rt.alloc(), 201, BenchFault::TooLong(1))
 }
 
 /// A script of so many lines, of which the first is a header and the last a command.
@@ -198,7 +205,7 @@ fn long_script(alloc: Global, lines: usize) -> Result<Vec<u8>, AllocError> {
 }
 
 #[test]
-fn scripts_of_100_000_lines_and_one_more(rt: HostRuntime) -> Result<(), Fail> {
+fn scripts_of_100_000_lines_and_one_more(rt: HostRuntime) -> Result<(), AllocError> {
     let alloc = rt.alloc();
     let longest = long_script(alloc, 100_000)?;
     runs(&rt, alloc, longest.as_slice(), b"heads 1\nend\n", Ok(()));
@@ -232,6 +239,9 @@ const KINDS: &[(&str, &str)] = &[
     ("queue", "heads"),
 ];
 
+/// Notes, each after the header of an object.
+const NOTES: &[(&str, &str)] = &[("queue", "# a note"), ("queue", "")];
+
 /// A script whose second line is a front of a line, some bytes, and the rest of the line after as many
 /// of its bytes are left out.
 fn spoilt(
@@ -250,18 +260,29 @@ fn spoilt(
     Ok(script)
 }
 
+/// Asserts that no line has one of these bytes between its parts.
+fn has_bad_byte(
+    rt: &impl Abort,
+    alloc: Global,
+    object: &str,
+    parts: (&[u8], &[u8]),
+) -> Result<(), AllocError> {
+    for byte in b"\x00\x09\x0d\x1f\x7f\x80\xff" {
+        let script = spoilt(alloc, object, parts, &[*byte])?;
+        let outcome = Err(BenchFault::BadByte(2));
+        runs(rt, alloc, script.as_slice(), b"", outcome);
+    }
+    Ok(())
+}
+
 #[test]
-fn bytes_that_no_line_has(rt: HostRuntime) -> Result<(), Fail> {
+fn bytes_that_no_line_has(rt: HostRuntime) -> Result<(), AllocError> {
     let alloc = rt.alloc();
-    for (object, line) in [("queue", "# a note"), ("queue", "")].iter().chain(KINDS) {
+    for (object, line) in NOTES.iter().chain(KINDS) {
         let bytes = line.as_bytes();
         for place in 0..=bytes.len() {
-            for byte in [0, 9, 13, 31, 127, 128, 255] {
-                let parts = (&bytes[..place], &bytes[place..]);
-                let script = spoilt(alloc, object, parts, &[byte])?;
-                let outcome = Err(BenchFault::BadByte(2));
-                runs(&rt, alloc, script.as_slice(), b"", outcome);
-            }
+            let parts = (&bytes[..place], &bytes[place..]);
+            has_bad_byte(&rt, alloc, object, parts)?;
         }
     }
     Ok(())
@@ -295,7 +316,7 @@ fn needs_its_letter(
 }
 
 #[test]
-fn each_letter_of_each_word(rt: HostRuntime) -> Result<(), Fail> {
+fn each_letter_of_each_word(rt: HostRuntime) -> Result<(), AllocError> {
     for (object, line) in KINDS {
         let line = line.as_bytes();
         for place in 0..line.len() {
@@ -341,7 +362,7 @@ fn answers_front(
 }
 
 #[test]
-fn fronts_of_the_script_in_which_the_bound_is_met(rt: HostRuntime) -> Result<(), Fail> {
+fn fronts_of_the_script_in_which_the_bound_is_met(rt: HostRuntime) -> Result<(), AllocError> {
     let alloc = rt.alloc();
     let script = script_of(alloc, BOUND)?;
     for length in 0..=script.len() {

@@ -1,10 +1,11 @@
 -- The book: its state is the list of its sixteen balances.
-use Rattle.std.specs.Prelude.{◌≡◌, ℕ, ◌+◌, ◌-◌, ◌/◌, ◌%◌, ◌==◌, ◌<◌, nat_le, Bool, not, ◌&&◌, ◌||◌, if◌then◌else◌, List, [], ◌∷◌, replicate, slice_index, slice_set, sum, Option, Some, None, option_and_then, codes, refl}
-use Rattle.std.specs.Fmt.{decimal}
+use Rattle.std.specs.Prelude.{◌≡◌, ℕ, ◌+◌, ◌-◌, ◌/◌, ◌%◌, ◌==◌, ◌<◌, nat_le, Bool, not, ◌&&◌, ◌||◌, if◌then◌else◌, List, [], ◌∷◌, length, map, replicate, slice_index, slice_set, sum, Option, Some, None, option_and_then, codes, refl}
+use Rattle.std.specs.Fmt.{decimal, digits}
 use Rattle.std.specs.Str.{bytes_eq}
 use Rattle.seq_object.specs.Sequential.{Sequential}
-use Rattle.ready_objects.specs.Language.{Language}
+use Rattle.ready_objects.specs.Spoken.{Language}
 use Rattle.ready_objects.specs.Number.{number_of_word, number_below}
+use Rattle.ready_objects.specs.Words.{words_of_text}
 use Rattle.ready_objects.specs.declared.book.BookInv.{BookInv}
 use Rattle.ready_objects.specs.declared.book.BookInv.TheVariants.{Deposit, Withdraw, Move, Total}
 use Rattle.ready_objects.specs.declared.book.BookResp.{BookResp}
@@ -161,3 +162,71 @@ a_total = refl
 
 drawn_5254 : book_inv_of_word 5254 ≡ Move 1 2 5
 drawn_5254 = refl
+
+there_are_16_accounts : length book_start ≡ 16
+there_are_16_accounts = refl
+
+a_balance_reaches_999999999999 : book_answer (999999999998 ∷ []) (Deposit 0 1) ≡ Balance 999999999999
+a_balance_reaches_999999999999 = refl
+
+a_deposit_over_changes_nothing : book_next (999999999999 ∷ []) (Deposit 0 1) ≡ 999999999999 ∷ []
+a_deposit_over_changes_nothing = refl
+
+a_withdrawal_of_the_balance : book_answer (4 ∷ []) (Withdraw 0 4) ≡ Balance 0
+a_withdrawal_of_the_balance = refl
+
+a_withdrawal_that_is_short_changes_nothing : book_next (4 ∷ []) (Withdraw 0 5) ≡ 4 ∷ []
+a_withdrawal_that_is_short_changes_nothing = refl
+
+a_move_up_to_the_limit : book_next (4 ∷ 999999999995 ∷ []) (Move 0 1 4) ≡ 0 ∷ 999999999999 ∷ []
+a_move_up_to_the_limit = refl
+
+a_move_past_the_limit : book_answer (4 ∷ 999999999996 ∷ []) (Move 0 1 4) ≡ Over
+a_move_past_the_limit = refl
+
+a_move_past_the_balance : book_answer (4 ∷ 5 ∷ []) (Move 0 1 5) ≡ Short
+a_move_past_the_balance = refl
+
+-- each word and each text
+total_is_read : book_inv_of_words (words_of_text (codes "total")) ≡ Some Total
+total_is_read = refl
+
+words_of_invocations : map book_words (Deposit 15 7 ∷ Withdraw 15 7 ∷ Move 15 0 7 ∷ Total ∷ [])
+    ≡ (codes "deposit" ∷ codes "15" ∷ codes "7" ∷ []) ∷ (codes "withdraw" ∷ codes "15" ∷ codes "7" ∷ []) ∷ (codes "move" ∷ codes "15" ∷ codes "0" ∷ codes "7" ∷ []) ∷ (codes "total" ∷ []) ∷ []
+unfolding digits
+words_of_invocations = refl
+
+texts_of_responses : map book_resp_text (Balance 999999999999 ∷ Over ∷ Short ∷ Moved ∷ Sum 15999999999984 ∷ [])
+    ≡ codes "999999999999" ∷ codes "over" ∷ codes "short" ∷ codes "moved" ∷ codes "15999999999984" ∷ []
+unfolding digits
+texts_of_responses = refl
+
+-- the last account and the last value, in each word's place
+account_15_and_value_999999999999_are_taken : map (λ text. book_inv_of_words (words_of_text text))
+    (codes "deposit 15 999999999999" ∷ codes "withdraw 15 999999999999" ∷ codes "move 15 15 999999999999" ∷ [])
+    ≡ Some (Deposit 15 999999999999) ∷ Some (Withdraw 15 999999999999) ∷ Some (Move 15 15 999999999999) ∷ []
+unfolding number_below number_of_word
+account_15_and_value_999999999999_are_taken = refl
+
+account_16_is_not : map (λ text. book_inv_of_words (words_of_text text))
+    (codes "deposit 16 7" ∷ codes "withdraw 16 7" ∷ codes "move 16 0 7" ∷ codes "move 0 16 7" ∷ []) ≡ None ∷ None ∷ None ∷ None ∷ []
+unfolding number_below number_of_word
+account_16_is_not = refl
+
+value_1000000000000_is_not : map (λ text. book_inv_of_words (words_of_text text))
+    (codes "deposit 0 1000000000000" ∷ codes "withdraw 0 1000000000000" ∷ codes "move 0 1 1000000000000" ∷ []) ≡ None ∷ None ∷ None ∷ []
+unfolding number_below number_of_word
+value_1000000000000_is_not = refl
+
+-- drawn words at each residue, and on both sides of 16 accounts and 1000 values
+drawn_at_each_residue : map book_inv_of_word (0 ∷ 1 ∷ 2 ∷ 3 ∷ []) ≡ Deposit 0 0 ∷ Withdraw 0 0 ∷ Move 0 0 0 ∷ Total ∷ []
+drawn_at_each_residue = refl
+
+drawn_accounts_are_below_16 : map book_inv_of_word (62 ∷ 66 ∷ 1022 ∷ 1026 ∷ []) ≡ Move 15 0 0 ∷ Move 0 1 0 ∷ Move 15 15 0 ∷ Move 0 0 1 ∷ []
+drawn_accounts_are_below_16 = refl
+
+drawn_values_are_below_1000 : map book_inv_of_word (1023998 ∷ 1024000 ∷ []) ≡ Move 15 15 999 ∷ Deposit 0 0 ∷ []
+drawn_values_are_below_1000 = refl
+
+drawn_from_the_greatest_words : map book_inv_of_word (18446744073709551614 ∷ 18446744073709551615 ∷ []) ≡ Move 15 15 983 ∷ Total ∷ []
+drawn_from_the_greatest_words = refl

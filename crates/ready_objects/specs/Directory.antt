@@ -1,12 +1,13 @@
 -- The directory: its state is the list of its pairs of a name and a value, in order of insertion.
-use Rattle.std.specs.Prelude.{◌≡◌, ℕ, ◌/◌, ◌%◌, ◌==◌, nat_lt, if◌then◌else◌, List, [], ◌∷◌, ◌++◌, length, replicate, slice_get, Option, Some, None, is_some, option_map, option_and_then, codes, refl}
+use Rattle.std.specs.Prelude.{◌≡◌, ℕ, ◌/◌, ◌%◌, ◌==◌, nat_lt, if◌then◌else◌, List, [], ◌∷◌, ◌++◌, length, map, replicate, slice_get, Option, Some, None, is_some, option_map, option_and_then, codes, refl}
 use Rattle.std.specs.Fmt.{decimal, digits}
 use Rattle.std.specs.Map.{lookup, set_value, remove_entry}
 use Rattle.std.specs.Str.{bytes_eq}
 use Rattle.seq_object.specs.Sequential.{Sequential}
-use Rattle.ready_objects.specs.Language.{Language}
+use Rattle.ready_objects.specs.Spoken.{Language}
 use Rattle.ready_objects.specs.Name.{name_of_word, drawn_name}
 use Rattle.ready_objects.specs.Number.{number_of_word, number_below}
+use Rattle.ready_objects.specs.Words.{words_of_text}
 use Rattle.ready_objects.specs.declared.directory.DirectoryInv.{DirectoryInv}
 use Rattle.ready_objects.specs.declared.directory.DirectoryInv.TheVariants.{Put, Get, Del, Size, At}
 use Rattle.ready_objects.specs.declared.directory.DirectoryResp.{DirectoryResp}
@@ -131,3 +132,86 @@ drawn_80 = refl
 drawn_13 : directory_inv_of_word 13 ≡ Del (codes "n1")
 unfolding digits
 drawn_13 = refl
+
+a_directory_of_255_names_takes_a_new_one : directory_answer (replicate 255 (codes "b", 1)) (Put (codes "a") 2) ≡ New
+a_directory_of_255_names_takes_a_new_one = refl
+
+it_has_256_names_then : length (directory_next (replicate 255 (codes "b", 1)) (Put (codes "a") 2)) ≡ 256
+it_has_256_names_then = refl
+
+a_full_directory_stays : directory_next (replicate 256 (codes "b", 1)) (Put (codes "a") 2) ≡ replicate 256 (codes "b", 1)
+a_full_directory_stays = refl
+
+place_255_of_256_has_a_value : directory_answer (replicate 256 (codes "b", 1)) (At 255) ≡ Found 1
+place_255_of_256_has_a_value = refl
+
+place_255_of_255_has_none : directory_answer (replicate 255 (codes "b", 1)) (At 255) ≡ Absent
+place_255_of_255_has_none = refl
+
+-- each word and each text
+put_is_read : directory_inv_of_words (words_of_text (codes "put a 7")) ≡ Some (Put (codes "a") 7)
+unfolding number_of_word
+put_is_read = refl
+
+get_is_read : directory_inv_of_words (words_of_text (codes "get a")) ≡ Some (Get (codes "a"))
+get_is_read = refl
+
+del_is_read : directory_inv_of_words (words_of_text (codes "del a")) ≡ Some (Del (codes "a"))
+del_is_read = refl
+
+size_is_read : directory_inv_of_words (words_of_text (codes "size")) ≡ Some Size
+size_is_read = refl
+
+words_of_invocations : map directory_words (Put (codes "a") 7 ∷ Get (codes "a") ∷ Del (codes "a") ∷ Size ∷ At 255 ∷ [])
+    ≡ (codes "put" ∷ codes "a" ∷ codes "7" ∷ []) ∷ (codes "get" ∷ codes "a" ∷ []) ∷ (codes "del" ∷ codes "a" ∷ []) ∷ (codes "size" ∷ []) ∷ (codes "at" ∷ codes "255" ∷ []) ∷ []
+unfolding digits
+words_of_invocations = refl
+
+texts_of_responses : map directory_resp_text (Was 7 ∷ New ∷ Full ∷ Found 7 ∷ Absent ∷ Count 256 ∷ [])
+    ≡ codes "was 7" ∷ codes "new" ∷ codes "full" ∷ codes "7" ∷ codes "none" ∷ codes "256" ∷ []
+unfolding digits
+texts_of_responses = refl
+
+place_255_is_taken : directory_inv_of_words (words_of_text (codes "at 255")) ≡ Some (At 255)
+unfolding number_below number_of_word
+place_255_is_taken = refl
+
+place_256_is_not : directory_inv_of_words (words_of_text (codes "at 256")) ≡ None
+unfolding number_below number_of_word
+place_256_is_not = refl
+
+value_999999999999_is_taken : directory_inv_of_words (words_of_text (codes "put a 999999999999")) ≡ Some (Put (codes "a") 999999999999)
+unfolding number_of_word
+value_999999999999_is_taken = refl
+
+value_1000000000000_is_not : directory_inv_of_words (words_of_text (codes "put a 1000000000000")) ≡ None
+unfolding number_of_word
+value_1000000000000_is_not = refl
+
+a_name_of_16_bytes_is_taken : directory_inv_of_words (words_of_text (codes "get abcdefghijklmnop")) ≡ Some (Get (codes "abcdefghijklmnop"))
+a_name_of_16_bytes_is_taken = refl
+
+a_name_of_17_bytes_is_not : directory_inv_of_words (words_of_text (codes "get abcdefghijklmnopq")) ≡ None
+a_name_of_17_bytes_is_not = refl
+
+-- drawn words at each residue, and on both sides of ten names, ten places and 1000 values
+drawn_at_each_residue : map directory_inv_of_word (0 ∷ 1 ∷ 2 ∷ 3 ∷ 4 ∷ 5 ∷ 6 ∷ 7 ∷ [])
+    ≡ Put (codes "n0") 0 ∷ Put (codes "n0") 0 ∷ Put (codes "n0") 0 ∷ Get (codes "n0") ∷ Get (codes "n0") ∷ Del (codes "n0") ∷ Size ∷ At 0 ∷ []
+unfolding digits
+drawn_at_each_residue = refl
+
+drawn_names_are_ten : map directory_inv_of_word (75 ∷ 83 ∷ []) ≡ Get (codes "n9") ∷ Get (codes "n0") ∷ []
+unfolding digits
+drawn_names_are_ten = refl
+
+drawn_places_are_below_10 : map directory_inv_of_word (79 ∷ 87 ∷ []) ≡ At 9 ∷ At 0 ∷ []
+unfolding digits
+drawn_places_are_below_10 = refl
+
+drawn_values_are_below_1000 : map directory_inv_of_word (79994 ∷ 80000 ∷ []) ≡ Put (codes "n9") 999 ∷ Put (codes "n0") 0 ∷ []
+unfolding digits
+drawn_values_are_below_1000 = refl
+
+drawn_from_the_greatest_word : directory_inv_of_word 18446744073709551615 ≡ At 1
+unfolding digits
+drawn_from_the_greatest_word = refl

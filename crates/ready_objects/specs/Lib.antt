@@ -1,7 +1,7 @@
 pub mod Exact
 pub mod Number
 pub mod Words
-pub mod Language
+pub mod Spoken
 pub mod Queue
 pub mod Sticky
 pub mod Book

@@ -1,5 +1,5 @@
 -- Names.
-use Rattle.std.specs.Prelude.{◌≡◌, ℕ, ◌%◌, nat_lt, nat_le, ◌&&◌, ◌||◌, if◌then◌else◌, Bool, true, List, [], ◌++◌, length, Option, Some, None, codes, refl}
+use Rattle.std.specs.Prelude.{◌≡◌, ℕ, ◌%◌, nat_lt, nat_le, ◌&&◌, ◌||◌, if◌then◌else◌, Bool, true, false, List, [], ◌∷◌, ◌++◌, length, map, Option, Some, None, codes, refl}
 use Rattle.std.specs.Fmt.{decimal, digits}
 use Rattle.std.specs.List.{list_all}
 
@@ -37,3 +37,17 @@ a_capital_is_in_no_name = refl
 a_drawn_name : drawn_name 12 ≡ codes "n2"
 unfolding digits
 a_drawn_name = refl
+
+one_byte_is_a_name : name_of_word (codes "a") ≡ Some (codes "a")
+one_byte_is_a_name = refl
+
+-- `a`, `z`, `0` and `9`, and the bytes beside them
+bytes_of_names : map is_name_byte (97 ∷ 122 ∷ 48 ∷ 57 ∷ []) ≡ true ∷ true ∷ true ∷ true ∷ []
+bytes_of_names = refl
+
+bytes_beside_those_of_names : map is_name_byte (96 ∷ 123 ∷ 47 ∷ 58 ∷ []) ≡ false ∷ false ∷ false ∷ false ∷ []
+bytes_beside_those_of_names = refl
+
+drawn_names_have_one_digit : map drawn_name (0 ∷ 9 ∷ 10 ∷ []) ≡ codes "n0" ∷ codes "n9" ∷ codes "n0" ∷ []
+unfolding digits
+drawn_names_have_one_digit = refl

@@ -1,5 +1,5 @@
 -- The words that stand for numbers.
-use Rattle.std.specs.Prelude.{◌≡◌, ℕ, ◌==◌, nat_lt, nat_le, not, ◌&&◌, ◌||◌, if◌then◌else◌, Bool, List, length, slice_index, Option, Some, None, option_and_then, codes, refl}
+use Rattle.std.specs.Prelude.{◌≡◌, ℕ, ◌==◌, nat_lt, nat_le, not, ◌&&◌, ◌||◌, if◌then◌else◌, Bool, List, [], ◌∷◌, length, slice_index, Option, Some, None, option_and_then, codes, refl}
 use Rattle.std.specs.Char.{is_ascii_digit}
 use Rattle.std.specs.List.{list_all}
 use Rattle.std.specs.Str.Parse.{digits_value}
@@ -48,3 +48,28 @@ fifteen_is_below_sixteen = refl
 sixteen_is_not_below_sixteen : number_below 16 (codes "16") ≡ None
 unfolding number_below number_of_word
 sixteen_is_not_below_sixteen = refl
+
+nine_is_a_number : number_of_word (codes "9") ≡ Some 9
+unfolding number_of_word
+nine_is_a_number = refl
+
+two_zeros_are_none : number_of_word (codes "00") ≡ None
+unfolding number_of_word
+two_zeros_are_none = refl
+
+-- bytes 47 and 58 stand beside the digits
+the_byte_before_0_is_none : number_of_word (47 ∷ []) ≡ None
+unfolding number_of_word
+the_byte_before_0_is_none = refl
+
+the_byte_after_9_is_none : number_of_word (58 ∷ []) ≡ None
+unfolding number_of_word
+the_byte_after_9_is_none = refl
+
+two_hundred_and_fifty_five_is_below_256 : number_below 256 (codes "255") ≡ Some 255
+unfolding number_below number_of_word
+two_hundred_and_fifty_five_is_below_256 = refl
+
+two_hundred_and_fifty_six_is_not_below_256 : number_below 256 (codes "256") ≡ None
+unfolding number_below number_of_word
+two_hundred_and_fifty_six_is_not_below_256 = refl

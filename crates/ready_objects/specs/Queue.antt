@@ -1,10 +1,11 @@
 -- The queue: its state is the list of its values, the first of them first.
-use Rattle.std.specs.Prelude.{◌≡◌, ℕ, ◌/◌, ◌%◌, ◌==◌, nat_lt, if◌then◌else◌, List, [], ◌∷◌, ◌++◌, length, replicate, Option, Some, None, option_map, codes, refl}
+use Rattle.std.specs.Prelude.{◌≡◌, ℕ, ◌/◌, ◌%◌, ◌==◌, nat_lt, if◌then◌else◌, List, [], ◌∷◌, ◌++◌, length, map, replicate, Option, Some, None, option_map, codes, refl}
 use Rattle.std.specs.Fmt.{decimal, digits}
 use Rattle.std.specs.Str.{bytes_eq}
 use Rattle.seq_object.specs.Sequential.{Sequential}
-use Rattle.ready_objects.specs.Language.{Language}
+use Rattle.ready_objects.specs.Spoken.{Language}
 use Rattle.ready_objects.specs.Number.{number_of_word}
+use Rattle.ready_objects.specs.Words.{words_of_text}
 use Rattle.ready_objects.specs.declared.queue.QueueInv.{QueueInv}
 use Rattle.ready_objects.specs.declared.queue.QueueInv.TheVariants.{Enq, Deq}
 use Rattle.ready_objects.specs.declared.queue.QueueResp.{QueueResp}
@@ -76,3 +77,42 @@ drawn_22 = refl
 
 drawn_33 : queue_inv_of_word 33 ≡ Deq
 drawn_33 = refl
+
+a_queue_of_999_takes_a_value : queue_answer (replicate 999 4) (Enq 7) ≡ Added
+a_queue_of_999_takes_a_value = refl
+
+it_has_1000_values_then : length (queue_next (replicate 999 4) (Enq 7)) ≡ 1000
+it_has_1000_values_then = refl
+
+-- each word and each text
+enq_is_read : queue_inv_of_words (words_of_text (codes "enq 7")) ≡ Some (Enq 7)
+unfolding number_of_word
+enq_is_read = refl
+
+deq_is_read : queue_inv_of_words (words_of_text (codes "deq")) ≡ Some Deq
+deq_is_read = refl
+
+words_of_deq : queue_words Deq ≡ codes "deq" ∷ []
+words_of_deq = refl
+
+texts_of_responses : map queue_resp_text (Added ∷ Full ∷ Taken 7 ∷ Empty ∷ []) ≡ codes "ok" ∷ codes "full" ∷ codes "7" ∷ codes "empty" ∷ []
+unfolding digits
+texts_of_responses = refl
+
+value_999999999999_is_taken : queue_inv_of_words (words_of_text (codes "enq 999999999999")) ≡ Some (Enq 999999999999)
+unfolding number_of_word
+value_999999999999_is_taken = refl
+
+value_1000000000000_is_not : queue_inv_of_words (words_of_text (codes "enq 1000000000000")) ≡ None
+unfolding number_of_word
+value_1000000000000_is_not = refl
+
+-- drawn words at each residue, on both sides of 1000 values, and the greatest ones
+drawn_at_each_residue : map queue_inv_of_word (0 ∷ 1 ∷ 2 ∷ 3 ∷ []) ≡ Deq ∷ Enq 0 ∷ Enq 0 ∷ Deq ∷ []
+drawn_at_each_residue = refl
+
+drawn_values_are_below_1000 : map queue_inv_of_word (2999 ∷ 3001 ∷ []) ≡ Enq 999 ∷ Enq 0 ∷ []
+drawn_values_are_below_1000 = refl
+
+drawn_from_the_greatest_words : map queue_inv_of_word (18446744073709551614 ∷ 18446744073709551615 ∷ []) ≡ Enq 204 ∷ Deq ∷ []
+drawn_from_the_greatest_words = refl

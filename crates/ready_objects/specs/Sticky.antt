@@ -1,11 +1,12 @@
 -- The sticky register: its state is its value, where that is settled.
-use Rattle.std.specs.Prelude.{◌≡◌, ℕ, ◌/◌, ◌%◌, ◌==◌, if◌then◌else◌, List, [], ◌∷◌, ◌++◌, Option, Some, None, option_map, codes, refl}
+use Rattle.std.specs.Prelude.{◌≡◌, ℕ, ◌/◌, ◌%◌, ◌==◌, if◌then◌else◌, List, [], ◌∷◌, ◌++◌, map, Option, Some, None, option_map, codes, refl}
 use Rattle.std.specs.Fmt.{decimal, digits}
 use Rattle.std.specs.Str.{bytes_eq}
 use Rattle.seq_object.specs.History.{Call}
 use Rattle.seq_object.specs.Sequential.{Sequential}
-use Rattle.ready_objects.specs.Language.{Language}
+use Rattle.ready_objects.specs.Spoken.{Language}
 use Rattle.ready_objects.specs.Number.{number_of_word}
+use Rattle.ready_objects.specs.Words.{words_of_text}
 use Rattle.ready_objects.specs.declared.sticky.StickyInv.{StickyInv}
 use Rattle.ready_objects.specs.declared.sticky.StickyInv.TheVariants.{Stick, Read}
 use Rattle.ready_objects.specs.declared.sticky.StickyResp.{StickyResp}
@@ -82,3 +83,36 @@ drawn_19 = refl
 
 drawn_18 : sticky_inv_of_word 18 ≡ Read
 drawn_18 = refl
+
+-- each word and each text
+stick_is_read : sticky_inv_of_words (words_of_text (codes "stick 7")) ≡ Some (Stick 7)
+unfolding number_of_word
+stick_is_read = refl
+
+read_is_read : sticky_inv_of_words (words_of_text (codes "read")) ≡ Some Read
+read_is_read = refl
+
+words_of_read : sticky_words Read ≡ codes "read" ∷ []
+words_of_read = refl
+
+texts_of_responses : map sticky_resp_text (Settled 7 ∷ Unset ∷ []) ≡ codes "7" ∷ codes "unset" ∷ []
+unfolding digits
+texts_of_responses = refl
+
+value_999999999999_is_taken : sticky_inv_of_words (words_of_text (codes "stick 999999999999")) ≡ Some (Stick 999999999999)
+unfolding number_of_word
+value_999999999999_is_taken = refl
+
+value_1000000000000_is_not : sticky_inv_of_words (words_of_text (codes "stick 1000000000000")) ≡ None
+unfolding number_of_word
+value_1000000000000_is_not = refl
+
+-- drawn words at each residue, on both sides of 1000 values, and the greatest ones
+drawn_at_each_residue : map sticky_inv_of_word (0 ∷ 1 ∷ 2 ∷ 3 ∷ []) ≡ Read ∷ Stick 0 ∷ Read ∷ Stick 1 ∷ []
+drawn_at_each_residue = refl
+
+drawn_values_are_below_1000 : map sticky_inv_of_word (1999 ∷ 2001 ∷ []) ≡ Stick 999 ∷ Stick 0 ∷ []
+drawn_values_are_below_1000 = refl
+
+drawn_from_the_greatest_words : map sticky_inv_of_word (18446744073709551614 ∷ 18446744073709551615 ∷ []) ≡ Read ∷ Stick 807 ∷ []
+drawn_from_the_greatest_words = refl

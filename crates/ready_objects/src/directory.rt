@@ -17,23 +17,41 @@ use indexmap::IndexMap;
 use seq_object::SeqObject;
 use std::alloc::{AllocError, Global};
 use std::marker::Model;
+use std::sync::Arc;
 
 /// A directory of at most 256 names, in order of insertion. It starts empty.
 #[derive(Clone, Copy, Debug)]
 pub struct DirectoryObject;
 
 /// The pairs of a directory, in order of insertion.
+///
+/// States that have the same pairs share them, and nobody changes what is shared.
 #[derive(Drop)]
 pub struct DirectoryState {
-    pairs: IndexMap<Name, Amount>,
+    pairs: Arc<Pairs>,
 }
 
 impl Model for DirectoryState {
     ghost use Rattle.std.specs.Prelude.{ℕ, List};
+    ghost use Rattle.std.specs.Arc.{arc_value};
 
     ghost Value = { List (List ℕ × ℕ) };
 
-    ghost view = { λ state. state.pairs.entries };
+    ghost view = { λ state. arc_value state.pairs };
+}
+
+/// The pairs themselves, which one owner can change.
+#[derive(Drop)]
+struct Pairs {
+    pairs: IndexMap<Name, Amount>,
+}
+
+impl Model for Pairs {
+    ghost use Rattle.std.specs.Prelude.{ℕ, List};
+
+    ghost Value = { List (List ℕ × ℕ) };
+
+    ghost view = { λ pairs. pairs.pairs.entries };
 }
 
 /// An invocation of the directory.
@@ -69,11 +87,31 @@ pub enum DirectoryResp {
 }
 
 impl DirectoryState {
-    /// A copy of the pairs.
-    fn copy(&self) -> Result<DirectoryState, AllocError>
-        ensures { IfOk result (λ copy. copy ≡ self.now) }
+    /// A state of its own, with these pairs.
+    fn own(alloc: Global, pairs: Pairs) -> Result<DirectoryState, AllocError>
+        ensures { IfOk result (λ state. state ≡ pairs) }
     {
         Ok(DirectoryState {
+            pairs: Arc::new(alloc, pairs)?,
+        })
+    }
+
+    /// The same state, which shares the pairs.
+    fn share(&self) -> Result<DirectoryState, AllocError>
+        ensures { IfOk result (λ state. state ≡ self.now) }
+    {
+        Ok(DirectoryState {
+            pairs: Arc::try_clone(&self.pairs)?,
+        })
+    }
+}
+
+impl Pairs {
+    /// A copy of the pairs.
+    fn copy(&self) -> Result<Pairs, AllocError>
+        ensures { IfOk result (λ copy. copy ≡ self.now) }
+    {
+        Ok(Pairs {
             pairs: self.pairs.clone()?,
         })
     }
@@ -114,6 +152,13 @@ impl DirectoryState {
         }
     }
 
+    /// The number of pairs.
+    fn size(&self) -> DirectoryResp
+        ensures { result ≡ directory_answer self.now DirectoryInv.Size }
+    {
+        DirectoryResp::Count(self.pairs.len() as u64)
+    }
+
     /// The value at a place.
     fn at(&self, place: Place) -> DirectoryResp
         ensures { result ≡ directory_answer self.now (DirectoryInv.At place) }
@@ -135,26 +180,33 @@ impl SeqObject for DirectoryObject {
     ghost sequential = { λ _. directory };
 
     fn start(&self, alloc: Global) -> Result<DirectoryState, AllocError> {
-        Ok(DirectoryState {
+        let pairs = Pairs {
             pairs: IndexMap::new(alloc),
-        })
+        };
+        DirectoryState::own(alloc, pairs)
     }
 
     fn apply(
         &self,
-        _alloc: Global,
+        alloc: Global,
         state: &DirectoryState,
         inv: &DirectoryInv,
     ) -> Result<(DirectoryState, DirectoryResp), AllocError> {
-        let mut next = state.copy()?;
-        let resp = match inv {
-            DirectoryInv::Put(name, value) => next.put(name, *value)?,
-            DirectoryInv::Get(name) => next.get(name),
-            DirectoryInv::Del(name) => next.del(name),
-            DirectoryInv::Size => DirectoryResp::Count(next.pairs.len() as u64),
-            DirectoryInv::At(place) => next.at(*place),
-        };
-        Ok((next, resp))
+        match inv {
+            DirectoryInv::Put(name, value) => {
+                let mut next = state.pairs.copy()?;
+                let resp = next.put(name, *value)?;
+                Ok((DirectoryState::own(alloc, next)?, resp))
+            }
+            DirectoryInv::Get(name) => Ok((state.share()?, state.pairs.get(name))),
+            DirectoryInv::Del(name) => {
+                let mut next = state.pairs.copy()?;
+                let resp = next.del(name);
+                Ok((DirectoryState::own(alloc, next)?, resp))
+            }
+            DirectoryInv::Size => Ok((state.share()?, state.pairs.size())),
+            DirectoryInv::At(place) => Ok((state.share()?, state.pairs.at(*place))),
+        }
     }
 
     fn copy_inv(_alloc: Global, inv: &DirectoryInv) -> Result<DirectoryInv, AllocError> {

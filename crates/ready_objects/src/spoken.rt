@@ -2,7 +2,7 @@
 
 ghost use Rattle.std.specs.Prelude.{◌≡◌, ℕ, List, Option, Some, IfOk};
 ghost use Rattle.std.specs.Str.{bytes_eq};
-ghost use Rattle.ready_objects.specs.Language.{Language};
+ghost use Rattle.ready_objects.specs.Spoken.{Language};
 ghost use Rattle.ready_objects.specs.Words.{bytes_of, text_of_words, words_of_text};
 
 use seq_object::SeqObject;

@@ -14,10 +14,10 @@ use Rattle.uni_model.proofs.Simulation.{call_accepted}
 use Rattle.uni_core.specs.declared.local.Local.{Local}
 use Rattle.uni_core.specs.Shared.{Shared, first_of, named, memory_of}
 use Rattle.uni_core.specs.declared.stage.Pending.{Pending}
-use Rattle.uni_core.specs.Standing.{pending_of}
+use Rattle.uni_core.specs.Stage.{pending_of}
 use Rattle.uni_model.specs.Stages.{Pending as PendingAt}
 use Rattle.seq_object.specs.declared.call_id.CallId.{CallId}
-use Rattle.uni_core.specs.Whole.{Whole, world_of, call_at, current_of, IsWorld, TakesEffect}
+use Rattle.uni_core.specs.World.{Whole, world_of, call_at, current_of, IsWorld, TakesEffect}
 use Rattle.uni_model.proofs.Indices.{name_from-index_of}
 use Rattle.uni_core.proofs.Shown.{begun_whole, world_of-begun, IsWorld-begun}
 

@@ -6,7 +6,7 @@ use Rattle.uni_model.specs.Places.{seq_of}
 use Rattle.uni_model.specs.Stages.{Pending}
 use Rattle.uni_model.specs.Worlds.{WorldOf, anchor_memory, last_cell, opened_world, world_after_call, world_after_step, world_after_era}
 use Rattle.uni_model.proofs.Written.{number_cases}
-use Rattle.uni_core.specs.Whole.{CountsNone}
+use Rattle.uni_core.specs.World.{CountsNone}
 
 pub CountsNone-opened_world : {S : Type 0} (I R : Type 0) (n : ℕ) (s : S) (number : ℕ) → CountsNone {S = S} {I = I} {R = R} (opened_world n s number)
 CountsNone-opened_world I R n s number p e = (refl, refl, refl)

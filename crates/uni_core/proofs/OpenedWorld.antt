@@ -13,9 +13,9 @@ use Rattle.uni_model.proofs.Counted.{CountsSteps-opened_world}
 use Rattle.uni_model.proofs.Bounded.{HelpingInvariant-opened_world}
 use Rattle.uni_core.specs.declared.local.Local.{Local}
 use Rattle.uni_model.specs.Indices.{name_from}
-use Rattle.uni_core.specs.NewLocal.{new_local}
+use Rattle.uni_core.specs.Local.{new_local}
 use Rattle.uni_core.specs.Shared.{Shared, first_of, memory_of}
-use Rattle.uni_core.specs.Whole.{Whole, call_at, world_at, world_of, CountsNone, IsWorld}
+use Rattle.uni_core.specs.World.{Whole, call_at, world_at, world_of, CountsNone, IsWorld}
 use Rattle.uni_core.proofs.NoCalls.{CountsNone-opened_world}
 
 -- a function of what a process keeps says of copies what it says where there is none, if it says so of what is copied

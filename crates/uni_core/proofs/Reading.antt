@@ -9,8 +9,8 @@ use Rattle.uni_model.specs.Worlds.{chain}
 use Rattle.uni_model.specs.Invariant.{Has}
 use Rattle.uni_model.proofs.OneLists.{length-chain}
 use Rattle.uni_core.specs.Shared.{first_of, named, memory_of}
-use Rattle.uni_core.specs.Standing.{IsThere}
-use Rattle.uni_core.specs.Whole.{Whole, world_of, IsWorld}
+use Rattle.uni_core.specs.Stage.{IsThere}
+use Rattle.uni_core.specs.World.{Whole, world_of, IsWorld}
 use Rattle.uni_model.proofs.Indices.{name_from-index_of}
 use Rattle.uni_core.proofs.Begin.{inside_view}
 use Rattle.uni_core.proofs.Steppable.{last_small, there_seq, there_inv}

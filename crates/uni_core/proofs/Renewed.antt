@@ -19,10 +19,10 @@ use Rattle.uni_model.proofs.Bounded.{HelpingInvariant-world_after}
 use Rattle.uni_model.proofs.Counted.{CountsSteps-world_after}
 use Rattle.uni_core.specs.declared.local.Local.{Local}
 use Rattle.uni_core.specs.declared.stage.Pending.{Pending}
-use Rattle.uni_core.specs.Standing.{pending_of}
-use Rattle.uni_core.specs.NewLocal.{new_local}
+use Rattle.uni_core.specs.Stage.{pending_of}
+use Rattle.uni_core.specs.Local.{new_local}
 use Rattle.uni_core.specs.Shared.{Shared, first_of, named, memory_of, IsRenewed}
-use Rattle.uni_core.specs.Whole.{Whole, call_at, world_of, CountsNone, IsWorld}
+use Rattle.uni_core.specs.World.{Whole, call_at, world_of, CountsNone, IsWorld}
 use Rattle.uni_core.proofs.NoCalls.{CountsNone-world_after_era}
 use Rattle.uni_core.proofs.Named.{cell_named-name_from}
 

@@ -23,8 +23,8 @@ use Rattle.uni_core.specs.declared.fault.BeginFault.TheVariants as begin
 use Rattle.uni_core.specs.declared.fault.StepFault.{StepFault}
 use Rattle.uni_core.specs.declared.fault.StepFault.TheVariants as step
 use Rattle.uni_core.specs.declared.fault.Progress.TheVariants.{Going, Done}
-use Rattle.uni_core.specs.Whole.{Whole, world_of, current_of, progress_of, Follows, MayNeedMemory}
-use Rattle.uni_core.specs.Commands.{CanCall, IsOutcome, after_command, event_of, events_of, AreOutcomes, TakesCommand}
+use Rattle.uni_core.specs.World.{Whole, world_of, current_of, progress_of, Follows, MayNeedMemory}
+use Rattle.uni_core.specs.Run.{CanCall, IsOutcome, after_command, event_of, events_of, AreOutcomes, TakesCommand}
 
 -- a command that is refused leaves the world as it was
 pub TakesCommand-refused : {O S I R : Type 0} (object : Sequential S I R) (old new : Whole O S I R) (row : ℕ) (command : Command I) (why : Refusal) → new ≡ old

@@ -28,8 +28,8 @@ use Rattle.uni_core.specs.declared.stage.Stage.TheVariants as stages
 use Rattle.uni_core.specs.declared.stage.Pending.{Pending}
 use Rattle.uni_model.specs.Indices.{name_from}
 use Rattle.uni_core.specs.Shared.{Shared, first_of, named, memory_of}
-use Rattle.uni_core.specs.Standing.{stage_of, pending_of, Takes}
-use Rattle.uni_core.specs.Whole.{Whole, call_at, world_at, world_of, CountsNone, IsWorld}
+use Rattle.uni_core.specs.Stage.{stage_of, pending_of, Takes}
+use Rattle.uni_core.specs.World.{Whole, call_at, world_at, world_of, CountsNone, IsWorld}
 use Rattle.uni_core.proofs.NoCalls.{CountsNone-world_after_call, CountsNone-world_after_step}
 
 -- what is read of a process's own data, after that of one process changed

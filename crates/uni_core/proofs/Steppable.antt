@@ -17,9 +17,9 @@ use Rattle.uni_model.proofs.Ranges.{sum_below-bound}
 use Rattle.uni_core.specs.declared.stage.Stage.{Stage}
 use Rattle.uni_core.specs.declared.stage.Stage.TheVariants.{Announce, ScanHead, ScanSeq, WriteScan, Test, ReadAnnounce, ReadHelpSeq, DecideAfter, DecideNew, WriteBefore, WriteSeq, WriteHead, Finish}
 use Rattle.uni_core.specs.Shared.{Shared, first_of, named, memory_of}
-use Rattle.uni_core.specs.Standing.{stage_of, CanStep, IsThere, effect_at, turns_to}
+use Rattle.uni_core.specs.Stage.{stage_of, CanStep, IsThere, effect_at, turns_to}
 use Rattle.uni_model.specs.Transition.{place_of, turn_of, stage_after, best_of}
-use Rattle.uni_core.specs.Whole.{Whole, world_of, IsWorld}
+use Rattle.uni_core.specs.World.{Whole, world_of, IsWorld}
 use Rattle.uni_core.proofs.Named.{cell_named-name_from}
 
 Has-IsSome : {A : Type 0} (o : Option A) → Has o → IsSome o

@@ -21,8 +21,8 @@ use Rattle.uni_core.specs.declared.transition.After.TheVariants.{At, Ended}
 use Rattle.uni_core.specs.declared.fault.Progress.TheVariants.{Going, Done}
 use Rattle.uni_model.specs.Places.{Name}
 use Rattle.uni_core.specs.Shared.{Shared, named, memory_of}
-use Rattle.uni_core.specs.Standing.{stage_of, stage_told, response_told, pending_of, Takes, CanStep, MayBeRefused, turns_to}
-use Rattle.uni_core.specs.Whole.{Whole, world_of, IsWorld, TakesEffect, MayNeedMemory, MayNeedMemoryAt, progress_of}
+use Rattle.uni_core.specs.Stage.{stage_of, stage_told, response_told, pending_of, Takes, CanStep, MayBeRefused, turns_to}
+use Rattle.uni_core.specs.World.{Whole, world_of, IsWorld, TakesEffect, MayNeedMemory, MayNeedMemoryAt, progress_of}
 use Rattle.uni_core.proofs.Begin.{inside_count, local_here}
 use Rattle.uni_core.proofs.Shown.{stepped_whole, stepped_local, world_of-world_after_step, IsWorld-world_after_step}
 use Rattle.uni_core.proofs.Steppable.{CanStep-pending, turns_to-effect}

@@ -14,7 +14,7 @@ use Rattle.uni_model.specs.Transition.{decision, value_after, place_of, stage_af
 use Rattle.cell_arena.specs.Arena.{processes_of}
 use Rattle.uni_model.proofs.Written.{written_same, lt_cases}
 use Rattle.uni_core.specs.Shared.{Shared, named, memory_of, HasShapeOf}
-use Rattle.uni_core.specs.Standing.{Takes, effect_at, stage_of}
+use Rattle.uni_core.specs.Stage.{Takes, effect_at, stage_of}
 use Rattle.uni_core.specs.declared.stage.Stage.{Stage}
 
 module _ {S I R : Type 0} (a : Shared S I R) (d : Name) where

@@ -1,9 +1,9 @@
 pub mod Shared
-pub mod Standing
-pub mod NewLocal
-pub mod Whole
+pub mod Stage
+pub mod Local
+pub mod World
 pub mod Readers
-pub mod Commands
+pub mod Run
 pub use Rattle.uni_model.specs.Places
 pub use Rattle.uni_model.specs.Stages
 pub use Rattle.uni_model.specs.Transition

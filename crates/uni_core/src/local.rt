@@ -1,7 +1,7 @@
 //! What a process keeps for itself.
 
 ghost use Rattle.std.specs.Prelude.{◌≡◌, ◌+◌, ◌<◌, ◌^◌, option_map};
-ghost use Rattle.uni_core.specs.Standing.{turns_to};
+ghost use Rattle.uni_core.specs.Stage.{turns_to};
 
 use crate::stage::{Pending, Stage};
 use cell_arena::CellId;
@@ -19,7 +19,7 @@ pub(crate) struct Local {
 }
 
 impl Local {
-    ghost use Rattle.uni_core.specs.NewLocal.{new_local};
+    ghost use Rattle.uni_core.specs.Local.{new_local};
 
     /// A process that hasn't called yet.
     pub(crate) fn new() -> Local

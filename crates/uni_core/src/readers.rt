@@ -15,9 +15,9 @@ ghost use Rattle.uni_model.specs.Worlds.{chain, opened_world, world_after, calls
 ghost use Rattle.uni_model.specs.Worlds.Event.{Call, Step};
 ghost use Rattle.uni_model.specs.Settled.{SeesSettled};
 ghost use Rattle.uni_model.specs.Transition.{place_of};
-ghost use Rattle.uni_core.specs.Standing.{pending_of};
+ghost use Rattle.uni_core.specs.Stage.{pending_of};
 ghost use Rattle.uni_core.specs.Readers.{call_of_name, kind_of, place_named};
-ghost use Rattle.uni_core.specs.Whole.{world_of, name_in, current_of, TakesEffect, IsIdle, IsStepFault, IsProgress, GoesOn, KeepsFixed, MayNeedMemory, CountsNone};
+ghost use Rattle.uni_core.specs.World.{world_of, name_in, current_of, TakesEffect, IsIdle, IsStepFault, IsProgress, GoesOn, KeepsFixed, MayNeedMemory, CountsNone};
 
 use crate::shared::WorldCells;
 use crate::stage::{Pending, Place, StepKind};

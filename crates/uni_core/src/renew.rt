@@ -4,8 +4,8 @@ ghost use Rattle.std.specs.Prelude.{ℕ, ◌≡◌, ◌+◌, ◌*◌, ◌<◌, �
 ghost use Rattle.uni_model.specs.Places.{seq_of};
 ghost use Rattle.uni_model.specs.Worlds.{world_after, last_cell, IsQuiescent};
 ghost use Rattle.uni_model.specs.Worlds.Event.{Trim, Reshape};
-ghost use Rattle.uni_core.specs.NewLocal.{new_local};
-ghost use Rattle.uni_core.specs.Whole.{world_of, KeepsFixed};
+ghost use Rattle.uni_core.specs.Local.{new_local};
+ghost use Rattle.uni_core.specs.World.{world_of, KeepsFixed};
 
 use crate::local::Local;
 use crate::world::World;

@@ -5,8 +5,8 @@ ghost use Rattle.uni_model.specs.Bound.{IsBounded};
 ghost use Rattle.uni_model.specs.Worlds.{AreAccepted, world_after_all};
 ghost use Rattle.uni_model.specs.Laws.{LogGrows};
 ghost use Rattle.uni_model.specs.History.{history_of};
-ghost use Rattle.uni_core.specs.Whole.{world_of, Follows, KeepsFixed};
-ghost use Rattle.uni_core.specs.Commands.{TakesCommand, AreOutcomes, events_of};
+ghost use Rattle.uni_core.specs.World.{world_of, Follows, KeepsFixed};
+ghost use Rattle.uni_core.specs.Run.{TakesCommand, AreOutcomes, events_of};
 ghost use Rattle.uni_core.specs.declared.command.Command.TheVariants.{Call, Step};
 
 use crate::command::{Command, Outcome, Refusal};

@@ -12,7 +12,7 @@ ghost use Rattle.uni_model.specs.Chain.{response_in};
 ghost use Rattle.uni_model.specs.Transition.{decision};
 ghost use Rattle.uni_model.specs.Worlds.{anchor_memory};
 ghost use Rattle.uni_core.specs.Shared.{named, first_of, memory_of, HasShapeOf, IsRenewed};
-ghost use Rattle.uni_core.specs.NewLocal.{new_local};
+ghost use Rattle.uni_core.specs.Local.{new_local};
 
 use crate::local::Local;
 use cell_arena::{CellId, Cells, ColumnCells};

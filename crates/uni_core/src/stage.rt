@@ -118,7 +118,7 @@ pub(crate) enum Stage {
 }
 
 impl Stage {
-    ghost use Rattle.uni_core.specs.Standing.{stage_of};
+    ghost use Rattle.uni_core.specs.Stage.{stage_of};
     ghost use Rattle.uni_core.specs.Readers.{kind_of, place_named};
 
     /// The kind of the next step.

@@ -9,7 +9,7 @@ ghost use Rattle.uni_model.specs.Places.Content.{Settled};
 ghost use Rattle.uni_model.specs.Stages.{Stage as at};
 ghost use Rattle.uni_model.specs.Transition.{stage_after_scan, decision, value_after};
 ghost use Rattle.uni_core.specs.Shared.{named, memory_of, HasShapeOf};
-ghost use Rattle.uni_core.specs.Standing.{stage_of, stage_told, response_told, Takes, CanStep, MayBeRefused};
+ghost use Rattle.uni_core.specs.Stage.{stage_of, stage_told, response_told, Takes, CanStep, MayBeRefused};
 
 use crate::fault::Progress;
 use crate::shared::Shared;
@@ -63,7 +63,7 @@ pub(crate) enum After<R> {
 }
 
 impl<R: Copy> After<R> {
-    ghost use Rattle.uni_core.specs.Whole.{progress_of};
+    ghost use Rattle.uni_core.specs.World.{progress_of};
 
     /// Where the process stands; `None` where its call has ended.
     pub(crate) fn stage(&self) -> Option<Stage>

@@ -14,9 +14,9 @@ ghost use Rattle.uni_model.specs.Worlds.{opened_world, world_after, calls_in_era
 ghost use Rattle.uni_model.specs.Worlds.Event.{Call, Step};
 ghost use Rattle.uni_model.specs.Settled.{SeesSettled};
 ghost use Rattle.uni_model.specs.Transition.{place_of};
-ghost use Rattle.uni_core.specs.Standing.{pending_of};
+ghost use Rattle.uni_core.specs.Stage.{pending_of};
 ghost use Rattle.uni_core.specs.Readers.{call_of_name, kind_of, place_named};
-ghost use Rattle.uni_core.specs.Whole.{world_of, name_in, current_of, TakesEffect, IsIdle, IsStepFault, IsProgress, GoesOn, KeepsFixed, MayNeedMemory};
+ghost use Rattle.uni_core.specs.World.{world_of, name_in, current_of, TakesEffect, IsIdle, IsStepFault, IsProgress, GoesOn, KeepsFixed, MayNeedMemory};
 
 use crate::fault::{BeginFault, OpenFault, Progress, StepFault};
 use crate::local::Local;
@@ -47,7 +47,7 @@ pub struct World<O: SeqObject> {
 }
 
 impl<O: SeqObject> Model for World<O> {
-    ghost use Rattle.uni_core.specs.Whole.{Whole, IsWorld};
+    ghost use Rattle.uni_core.specs.World.{Whole, IsWorld};
 
     ghost Value = { Whole O O.State O.Inv O.Resp };
 

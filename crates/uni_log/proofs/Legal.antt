@@ -9,7 +9,7 @@ use Rattle.uni_model.specs.Invariant.{Invariant}
 use Rattle.uni_model.specs.History.{log, logged_call}
 use Rattle.uni_model.proofs.Logged.{legal_from}
 use Rattle.uni_log.specs.declared.entry.Entry.{Entry as Shown}
-use Rattle.uni_log.specs.Shown.{entry_shown, call_shown}
+use Rattle.uni_log.specs.Entry.{entry_shown, call_shown}
 
 -- the entries of the code are a legal history from the anchor's state
 pub legal_log : {S I R : Type 0} (object : Sequential S I R) (w : WorldOf S I R) → Invariant object w → (entries : List (Shown I R)) → map entry_shown entries ≡ log w

@@ -11,7 +11,7 @@ use Rattle.uni_model.specs.History.{log}
 use Rattle.uni_model.specs.Invariant.{Invariant}
 use Rattle.uni_model.proofs.Logged.{settled_from}
 use Rattle.uni_log.specs.declared.entry.Entry.{Entry as Shown}
-use Rattle.uni_log.specs.Shown.{entry_shown}
+use Rattle.uni_log.specs.Entry.{entry_shown}
 
 -- each entry of the code but the last has its reply
 pub settled_but_last : {S I R : Type 0} (object : Sequential S I R) (w : WorldOf S I R) → Invariant object w → (entries : List (Shown I R))

@@ -11,7 +11,7 @@ use Rattle.uni_model.specs.History.{invocations_of}
 use Rattle.uni_model.specs.Invariant.{Invariant}
 use Rattle.uni_model.proofs.Simulation.{calls_of-calls_at}
 use Rattle.uni_model.proofs.Logged.{state_after-from}
-use Rattle.uni_log.specs.States.{state_settled_at}
+use Rattle.uni_log.specs.Log.{state_settled_at}
 
 -- a state that is settled at a place of the list is the object's after so many invocations
 state_folded : {S I R : Type 0} (object : Sequential S I R) (w : WorldOf S I R) → Invariant object w → (place : ℕ) (state : S) → state_settled_at w place ≡ Some state

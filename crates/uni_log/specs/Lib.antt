@@ -1,2 +1,2 @@
-pub mod Shown
-pub mod States
+pub mod Entry
+pub mod Log

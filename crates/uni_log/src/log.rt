@@ -9,9 +9,9 @@ ghost use Rattle.uni_model.specs.Places.Name.{Anchor, Of};
 ghost use Rattle.uni_model.specs.Worlds.{chain};
 ghost use Rattle.uni_model.specs.Chain.{invoked_at, response_in};
 ghost use Rattle.uni_model.specs.History.{log, invocations_of};
-ghost use Rattle.uni_core.specs.Whole.{world_of, name_in};
-ghost use Rattle.uni_log.specs.Shown.{entry_shown, call_shown};
-ghost use Rattle.uni_log.specs.States.{state_settled_at};
+ghost use Rattle.uni_core.specs.World.{world_of, name_in};
+ghost use Rattle.uni_log.specs.Entry.{entry_shown, call_shown};
+ghost use Rattle.uni_log.specs.Log.{state_settled_at};
 
 use crate::entry::Entry;
 use cell_arena::CellId;
@@ -29,7 +29,7 @@ pub struct Log<'a, O: SeqObject> {
 }
 
 impl<'a, O: SeqObject> Model for Log<'a, O> {
-    ghost use Rattle.uni_core.specs.Whole.{Whole};
+    ghost use Rattle.uni_core.specs.World.{Whole};
 
     ghost Value = { Whole O O.State O.Inv O.Resp };
 

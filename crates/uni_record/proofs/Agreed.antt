@@ -15,12 +15,12 @@ use Rattle.uni_model.specs.Eras.{JoinsLegalLogs}
 use Rattle.uni_model.specs.Responses.{HoldsResponses, LogsResponses, calls_among}
 use Rattle.uni_model.proofs.Kept.{Invariant-opened_world}
 use Rattle.uni_log.specs.declared.entry.Entry.{Entry}
-use Rattle.uni_log.specs.Shown.{call_shown, entry_shown}
+use Rattle.uni_log.specs.Entry.{call_shown, entry_shown}
 use Rattle.uni_record.specs.declared.verdict.Return.{Return}
 use Rattle.uni_record.specs.Audited.{IsAudited}
-use Rattle.uni_record.specs.Recording.{IsRecording, Recording, meaning, opening}
-use Rattle.uni_record.specs.Stored.{events_shown, responses_in}
-use Rattle.uni_record.specs.Verdicts.{calls_of}
+use Rattle.uni_record.specs.Recorded.{IsRecording, Recording, meaning, opening}
+use Rattle.uni_record.specs.Event.{events_shown, responses_in}
+use Rattle.uni_record.specs.Verdict.{calls_of}
 use Rattle.uni_record.proofs.Calls.{call_named}
 use Rattle.uni_record.proofs.Promised.{returns_are_responses}
 

@@ -3,7 +3,7 @@ use Rattle.std.proofs.Common.{◌≡◌, ◌≢◌, ◌∙◌, ℕ, zero, suc, �
 use Rattle.std.proofs.lemmas.Bool.{eqb-true}
 use Rattle.seq_object.specs.declared.call_id.CallId.{CallId}
 use Rattle.uni_log.specs.declared.entry.Entry.{Entry}
-use Rattle.uni_record.specs.Verdicts.{calls_of, reply_to, same_call}
+use Rattle.uni_record.specs.Verdict.{calls_of, reply_to, same_call}
 use Rattle.uni_record.proofs.Before.{count_by-before}
 
 abbrev pub call_named : (process nth : ℕ) → CallId

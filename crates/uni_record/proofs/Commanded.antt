@@ -5,15 +5,15 @@ use Rattle.std.proofs.Math.Seq.{take-suc, take-length}
 use Rattle.std.specs.Option.{option_map_or}
 use Rattle.seq_object.specs.Sequential.{Sequential}
 use Rattle.uni_model.specs.Worlds.{world_after}
-use Rattle.uni_core.specs.Whole.{world_of}
+use Rattle.uni_core.specs.World.{world_of}
 use Rattle.uni_record.specs.declared.command.Command.{Command}
 use Rattle.uni_record.specs.declared.command.Refusal.{Refusal}
 use Rattle.uni_record.specs.declared.command.Outcome.{Outcome}
 use Rattle.uni_record.specs.declared.command.Outcome.TheVariants.{Refused}
 use Rattle.uni_record.specs.declared.event.Event.{Event as Stored}
-use Rattle.uni_record.specs.Stored.{event_shown}
-use Rattle.uni_record.specs.Recording.{Recording, meaning, standing_of, KeepsOpening}
-use Rattle.uni_record.specs.Commands.{IsOutcome, AreOutcomes, TakesCommand, event_of, events_of, standing_after}
+use Rattle.uni_record.specs.Event.{event_shown}
+use Rattle.uni_record.specs.Recorded.{Recording, meaning, standing_of, KeepsOpening}
+use Rattle.uni_record.specs.Run.{IsOutcome, AreOutcomes, TakesCommand, event_of, events_of, standing_after}
 
 module _ {O S I R : Type 0} (sequential : O → Sequential S I R) where
   -- a command that is refused leaves the record as it was

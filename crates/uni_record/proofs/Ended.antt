@@ -8,12 +8,12 @@ use Rattle.uni_model.specs.Invariant.{Invariant}
 use Rattle.uni_model.specs.Worlds.{WorldOf, anchor_memory, last_cell, world_after_era, IsAccepted, IsQuiescent}
 use Rattle.uni_model.specs.History.{log}
 use Rattle.uni_model.proofs.Kept.{idle_when_quiescent}
-use Rattle.uni_core.specs.Whole.{world_of}
+use Rattle.uni_core.specs.World.{world_of}
 use Rattle.uni_log.specs.declared.entry.Entry.{Entry}
-use Rattle.uni_log.specs.Shown.{entry_shown}
+use Rattle.uni_log.specs.Entry.{entry_shown}
 use Rattle.uni_record.specs.declared.event.Event.{Event as Stored}
-use Rattle.uni_record.specs.Stored.{event_shown}
-use Rattle.uni_record.specs.Recording.{Recording, IsRecording, set_aside, pending_count}
+use Rattle.uni_record.specs.Event.{event_shown}
+use Rattle.uni_record.specs.Recorded.{Recording, IsRecording, set_aside, pending_count}
 use Rattle.uni_record.proofs.Owed.{owed-quiescent}
 use Rattle.uni_record.proofs.Kept.{Adds, HasRoomFor, IsRecording-adds}
 

@@ -2,7 +2,7 @@
 use Rattle.std.proofs.Common.{◌≡◌, ◌≢◌, Bool, true, false, if◌then◌else◌, refl}
 use Rattle.uni_record.specs.declared.verdict.Verdict.{Verdict}
 use Rattle.uni_record.specs.declared.verdict.Verdict.TheVariants.{Agrees, BadCall, BadReply, Missing, BadReturn, Twice}
-use Rattle.uni_record.specs.Verdicts.{first}
+use Rattle.uni_record.specs.Verdict.{first}
 
 pub first-agrees : (a b : Verdict) → first a b ≡ Agrees → (a ≡ Agrees) × (b ≡ Agrees)
 first-agrees Agrees b e = (refl, e)

@@ -6,12 +6,12 @@ use Rattle.uni_model.specs.Bound.{IsBounded}
 use Rattle.uni_model.specs.Worlds.{WorldOf, Event, world_after, response_of_step, IsAccepted}
 use Rattle.uni_model.specs.Worlds.Event.{Step}
 use Rattle.seq_object.specs.declared.call_id.CallId.{CallId}
-use Rattle.uni_core.specs.Whole.{world_of, current_of}
-use Rattle.uni_log.specs.Shown.{entry_shown}
+use Rattle.uni_core.specs.World.{world_of, current_of}
+use Rattle.uni_log.specs.Entry.{entry_shown}
 use Rattle.uni_record.specs.declared.event.Event.{Event as Stored}
 use Rattle.uni_record.specs.declared.event.Event.TheVariants as stored
-use Rattle.uni_record.specs.Stored.{event_shown, events_shown, completed_by, completed_in, log_ended_by, Completed}
-use Rattle.uni_record.specs.Recording.{Recording, IsRecording, HasRoom, meaning, opening, set_aside, pending_count, share}
+use Rattle.uni_record.specs.Event.{event_shown, events_shown, completed_by, completed_in, log_ended_by, Completed}
+use Rattle.uni_record.specs.Recorded.{Recording, IsRecording, HasRoom, meaning, opening, set_aside, pending_count, share}
 use Rattle.uni_record.proofs.Owed.{owed-begun, one_idle}
 use Rattle.uni_record.proofs.Paid.{step_pays}
 use Rattle.uni_record.proofs.Runs.{world_after_all-snoc, AreAccepted-snoc, completed_in-snoc, ended_log-snoc}

@@ -5,11 +5,11 @@ use Rattle.std.proofs.lemmas.Bool.{eqb-true}
 use Rattle.seq_object.specs.Sequential.{Sequential}
 use Rattle.seq_object.specs.History.{IsLegal}
 use Rattle.uni_log.specs.declared.entry.Entry.{Entry}
-use Rattle.uni_log.specs.Shown.{call_shown}
+use Rattle.uni_log.specs.Entry.{call_shown}
 use Rattle.uni_record.specs.declared.verdict.Return.{Return}
 use Rattle.uni_record.specs.declared.verdict.Verdict.{Verdict}
 use Rattle.uni_record.specs.declared.verdict.Verdict.TheVariants.{Agrees, BadCall, BadReply, Missing, BadReturn, Twice}
-use Rattle.uni_record.specs.Verdicts.{calls_of, entry_verdict, entries_verdict, return_verdict, returns_verdict, reply_to, has_returned, same_call, verdict_of}
+use Rattle.uni_record.specs.Verdict.{calls_of, entry_verdict, entries_verdict, return_verdict, returns_verdict, reply_to, has_returned, same_call, verdict_of}
 use Rattle.uni_record.specs.Audited.{IsAudited}
 use Rattle.uni_record.proofs.Before.{EachAfter, EachAfter-none, EachAfter-cons, EachAfter-parts, none_before, none_of_first}
 use Rattle.uni_record.proofs.Calls.{same_call-equal, same_call-same, one_entry, reply_from, reply_at}

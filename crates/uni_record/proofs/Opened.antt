@@ -3,8 +3,8 @@ use Rattle.std.proofs.Common.{◌≡◌, ℕ, ◌+◌, ◌-◌, ◌*◌, ◌<◌
 use Rattle.std.proofs.lemmas.Bool.{cases_lt}
 use Rattle.seq_object.specs.Sequential.{Sequential}
 use Rattle.uni_model.specs.Worlds.{opened_world}
-use Rattle.uni_core.specs.Whole.{world_of}
-use Rattle.uni_record.specs.Recording.{Recording, IsRecording, HasRoom, set_aside, pending_count}
+use Rattle.uni_core.specs.World.{world_of}
+use Rattle.uni_record.specs.Recorded.{Recording, IsRecording, HasRoom, set_aside, pending_count}
 use Rattle.uni_record.proofs.Owed.{owed-quiescent}
 
 -- counts and numbers that aren't refused fit

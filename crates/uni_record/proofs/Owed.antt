@@ -9,7 +9,7 @@ use Rattle.uni_model.specs.Worlds.{WorldOf, sum_below, world_after_call, world_a
 use Rattle.uni_model.proofs.Written.{set_at-cases}
 use Rattle.uni_model.proofs.LawProofs.{set_at_elsewhere}
 use Rattle.uni_model.proofs.Sums.{sum_below-lt}
-use Rattle.uni_record.specs.Recording.{owed, owed_by, pending_count}
+use Rattle.uni_record.specs.Recorded.{owed, owed_by, pending_count}
 
 -- sums that differ at one place
 sum_below-same : (n : ℕ) (f g : ℕ → ℕ) → ((q : ℕ) → q < n → f q ≡ g q) → sum_below n f ≡ sum_below n g

@@ -8,9 +8,9 @@ use Rattle.uni_model.specs.Transition.{Beside, beside, place_of, stage_after, re
 use Rattle.uni_model.specs.Bound.{IsBounded}
 use Rattle.uni_model.specs.Worlds.{WorldOf, call_after, world_after, world_after_step, effect_in, response_of_step}
 use Rattle.uni_model.specs.Worlds.Event.{Step}
-use Rattle.uni_core.specs.Whole.{current_of}
-use Rattle.uni_record.specs.Stored.{Completed, completed_by}
-use Rattle.uni_record.specs.Recording.{set_aside, pending_count}
+use Rattle.uni_core.specs.World.{current_of}
+use Rattle.uni_record.specs.Event.{Completed, completed_by}
+use Rattle.uni_record.specs.Recorded.{set_aside, pending_count}
 use Rattle.uni_record.proofs.Owed.{weight, weight-le, owed-stepped, set_at_here}
 
 -- how many calls these responses complete

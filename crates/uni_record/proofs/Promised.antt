@@ -18,13 +18,13 @@ use Rattle.uni_model.specs.History.{acts_of, calls_of, history_of, log, log_of_r
 use Rattle.uni_model.specs.Laws.{IsLinkedSoon, LinksSoon}
 use Rattle.uni_model.specs.Universal.{RunIsUniversal}
 use Rattle.uni_model.proofs.Kept.{Invariant-opened_world, Invariant-world_after}
-use Rattle.uni_core.specs.Whole.{world_of}
+use Rattle.uni_core.specs.World.{world_of}
 use Rattle.uni_log.specs.declared.entry.Entry.{Entry as Logged}
-use Rattle.uni_log.specs.Shown.{entry_shown}
+use Rattle.uni_log.specs.Entry.{entry_shown}
 use Rattle.uni_record.specs.declared.verdict.Counts.{Counts}
-use Rattle.uni_record.specs.Stored.{Completed, completed_by, completed_in, ended_log, events_shown, responses_in}
+use Rattle.uni_record.specs.Event.{Completed, completed_by, completed_in, ended_log, events_shown, responses_in}
 use Rattle.uni_record.proofs.Runs.{log_of_run-ended}
-use Rattle.uni_record.specs.Recording.{Recording, IsPromised, IsRecording, meaning, opening}
+use Rattle.uni_record.specs.Recorded.{Recording, IsPromised, IsRecording, meaning, opening}
 
 responses_in-append : {I R : Type 0} (xs ys : List (Act I R)) → responses_in (xs ++ ys) ≡ responses_in xs ++ responses_in ys
 responses_in-append [] ys = refl

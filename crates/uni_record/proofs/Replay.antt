@@ -8,7 +8,7 @@ use Rattle.uni_log.specs.declared.entry.Entry.{Entry}
 use Rattle.uni_record.specs.declared.verdict.Verdict.{Verdict}
 use Rattle.uni_record.specs.declared.verdict.Verdict.TheVariants.{Agrees, BadCall, BadReply}
 use Rattle.uni_record.specs.declared.verdict.Return.{Return}
-use Rattle.uni_record.specs.Verdicts.{calls_of, first, entry_verdict, entries_verdict, return_verdict, returns_verdict}
+use Rattle.uni_record.specs.Verdict.{calls_of, first, entry_verdict, entries_verdict, return_verdict, returns_verdict}
 use Rattle.uni_record.proofs.Faults.{first-fault}
 
 module _ {S I R : Type 0} (same : R → R → Bool) (object : Sequential S I R) where

@@ -5,7 +5,7 @@ use Rattle.seq_object.specs.Sequential.{Sequential}
 use Rattle.uni_model.specs.Worlds.{WorldOf, Event, world_after, world_after_all, IsAccepted, AreAccepted}
 use Rattle.uni_model.specs.Worlds.Event.{Call, Step, Trim, Reshape}
 use Rattle.uni_model.specs.History.{log, log_of_run}
-use Rattle.uni_record.specs.Stored.{completed_by, completed_in, log_ended_by, ended_log}
+use Rattle.uni_record.specs.Event.{completed_by, completed_in, log_ended_by, ended_log}
 
 module _ {S I R : Type 0} (object : Sequential S I R) where
   pub world_after_all-snoc : (w : WorldOf S I R) (es : List (Event I)) (e : Event I) → world_after_all object w (es ++ e ∷ []) ≡ world_after object (world_after_all object w es) e

@@ -13,9 +13,9 @@ use Rattle.uni_record.specs.declared.made_calls.Made.TheVariants.{Returned}
 use Rattle.uni_record.specs.declared.made_calls.MadeCalls.{MadeCalls}
 use Rattle.uni_record.specs.declared.verdict.Return.{Return}
 use Rattle.uni_record.specs.declared.verdict.Verdict.TheVariants.{Agrees, BadReturn, Missing, Twice}
-use Rattle.uni_record.specs.Verdicts.{calls_of, has_returned, same_call, reply_to, return_verdict}
+use Rattle.uni_record.specs.Verdict.{calls_of, has_returned, same_call, reply_to, return_verdict}
 use Rattle.uni_record.proofs.Elements.{slice_get-more_last, slice_get-more_other, slice_get-set_same, slice_get-set_other}
-use Rattle.uni_record.specs.Made.{IsTable, known_after, known_of, known_verdict, known_with, row_of}
+use Rattle.uni_record.specs.MadeCalls.{IsTable, known_after, known_of, known_verdict, known_with, row_of}
 
 -- the rows with the next call of a process
 module _ {I R : Type 0} (earlier : List (Entry I R)) (entry : Entry I R) (calls after : MadeCalls R) (table : IsTable earlier calls)

@@ -9,7 +9,7 @@ use Rattle.uni_model.specs.Stages.{Pending}
 use Rattle.uni_model.specs.Worlds.{AreAccepted, Event, IsAccepted, WorldOf, opened_world, without_trims, world_after, world_after_all}
 use Rattle.uni_model.specs.Worlds.Event.{Call, Step, Trim, Reshape}
 use Rattle.uni_model.specs.Trims.{ShowsSame, TrimsChangeNothing}
-use Rattle.uni_core.specs.Whole.{IsProgress, current_of, progress_of, world_of}
+use Rattle.uni_core.specs.World.{IsProgress, current_of, progress_of, world_of}
 use Rattle.uni_core.specs.declared.fault.Progress.{Progress}
 use Rattle.uni_record.specs.declared.command.Command.{Command}
 use Rattle.uni_record.specs.declared.command.Command.TheVariants as command
@@ -17,9 +17,9 @@ use Rattle.uni_record.specs.declared.command.Outcome.{Outcome}
 use Rattle.uni_record.specs.declared.command.Outcome.TheVariants.{Called, Went, Returned, Trimmed, Reshaped, Refused}
 use Rattle.uni_record.specs.declared.event.Event.{Event as Stored}
 use Rattle.uni_record.specs.declared.event.Event.TheVariants as stored
-use Rattle.uni_record.specs.Stored.{event_shown, events_shown}
-use Rattle.uni_record.specs.Commands.{AreAnswersUntrimmed, AreOutcomes, IsAnswerIn, IsOutcome, event_of, standing_after}
-use Rattle.uni_record.specs.Recording.{IsPromised, IsRecording, KeepsOpening, Recording, Standing, meaning, opening, standing_of, untrimmed_world}
+use Rattle.uni_record.specs.Event.{event_shown, events_shown}
+use Rattle.uni_record.specs.Run.{AreAnswersUntrimmed, AreOutcomes, IsAnswerIn, IsOutcome, event_of, standing_after}
+use Rattle.uni_record.specs.Recorded.{IsPromised, IsRecording, KeepsOpening, Recording, Standing, meaning, opening, standing_of, untrimmed_world}
 use Rattle.uni_record.proofs.Runs.{AreAccepted-snoc, world_after_all-snoc}
 
 without_trims-trim : {I : Type 0} (es : List (Event I)) → without_trims (es ++ Trim ∷ []) ≡ without_trims es

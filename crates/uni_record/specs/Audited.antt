@@ -3,9 +3,9 @@ use Rattle.std.specs.Prelude.{◌≡◌, ◌≢◌, ℕ, ◌<◌, List, Some, ma
 use Rattle.seq_object.specs.Sequential.{Sequential}
 use Rattle.seq_object.specs.History.{IsLegal}
 use Rattle.uni_log.specs.declared.entry.Entry.{Entry}
-use Rattle.uni_log.specs.Shown.{call_shown}
+use Rattle.uni_log.specs.Entry.{call_shown}
 use Rattle.uni_record.specs.declared.verdict.Return.{Return}
-use Rattle.uni_record.specs.Verdicts.{calls_of}
+use Rattle.uni_record.specs.Verdict.{calls_of}
 
 -- The entries are a legal history from the start state, each is the next call of its process, no call returns twice, and each return is the reply of an entry of its call.
 pub record IsAudited {S I R : Type 0} (object : Sequential S I R) (entries : List (Entry I R)) (returns : List (Return R)) : Type 0 where

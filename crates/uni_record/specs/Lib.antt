@@ -1,6 +1,6 @@
-pub mod Verdicts
-pub mod Made
+pub mod Verdict
+pub mod MadeCalls
 pub mod Audited
-pub mod Stored
-pub mod Recording
-pub mod Commands
+pub mod Event
+pub mod Recorded
+pub mod Run

@@ -2,8 +2,8 @@
 
 ghost use Rattle.std.specs.Prelude.{◌≡◌, ℕ, ◌↔◌, [], IfOk, true};
 ghost use Rattle.std.specs.Option.{option_map_or};
-ghost use Rattle.uni_record.specs.Verdicts.{entries_verdict, verdict_of};
-ghost use Rattle.uni_record.specs.Made.{IsTable, known_verdict, row_of};
+ghost use Rattle.uni_record.specs.Verdict.{entries_verdict, verdict_of};
+ghost use Rattle.uni_record.specs.MadeCalls.{IsTable, known_verdict, row_of};
 ghost use Rattle.uni_record.specs.Audited.{IsAudited};
 ghost use Rattle.uni_record.specs.declared.verdict.Verdict.TheVariants.{Agrees};
 

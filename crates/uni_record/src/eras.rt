@@ -4,11 +4,11 @@ ghost use Rattle.std.specs.Prelude.{ℕ, ◌≡◌, ◌+◌, ◌<◌, ◌≤◌,
 ghost use Rattle.uni_model.specs.Worlds.{world_after};
 ghost use Rattle.uni_model.specs.Worlds.{Event as model};
 ghost use Rattle.uni_model.specs.History.{log};
-ghost use Rattle.uni_core.specs.Whole.{world_of};
-ghost use Rattle.uni_log.specs.Shown.{entry_shown};
-ghost use Rattle.uni_trim.specs.Eras.{last_number, IsLeastPending};
+ghost use Rattle.uni_core.specs.World.{world_of};
+ghost use Rattle.uni_log.specs.Entry.{entry_shown};
+ghost use Rattle.uni_trim.specs.Ends.{last_number, IsLeastPending};
 ghost use Rattle.uni_record.specs.declared.event.Event.TheVariants as event;
-ghost use Rattle.uni_record.specs.Recording.{KeepsOpening, standing_of, untrimmed_world, CanEnd, IsEndRefused, IsReshapeRefused, IsCount, IsPromised};
+ghost use Rattle.uni_record.specs.Recorded.{KeepsOpening, standing_of, untrimmed_world, CanEnd, IsEndRefused, IsReshapeRefused, IsCount, IsPromised};
 
 use crate::event::Event;
 use crate::fault::{RecordReshapeFault, RecordTrimFault};

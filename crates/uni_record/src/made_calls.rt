@@ -1,7 +1,7 @@
 //! The calls of entries, in a row for each process.
 
 ghost use Rattle.std.specs.Prelude.{◌≡◌, ℕ, ◌==◌, [], ◌∷◌, ◌++◌, OnOk, slice_get, slice_set, length, if◌then◌else◌};
-ghost use Rattle.uni_record.specs.Made.{known_of, known_with, row_of};
+ghost use Rattle.uni_record.specs.MadeCalls.{known_of, known_with, row_of};
 ghost use Rattle.uni_record.specs.declared.made_calls.Made.TheVariants.{Returned};
 
 use seq_object::CallId;

@@ -2,10 +2,10 @@
 
 ghost use Rattle.std.specs.Prelude.{◌≡◌, IfOk, map};
 ghost use Rattle.uni_model.specs.History.{log_of_run};
-ghost use Rattle.uni_log.specs.Shown.{entry_shown};
+ghost use Rattle.uni_log.specs.Entry.{entry_shown};
 ghost use Rattle.uni_record.specs.Audited.{IsAudited};
-ghost use Rattle.uni_record.specs.Stored.{events_shown};
-ghost use Rattle.uni_record.specs.Recording.{meaning, opening, IsRecording, IsPromised};
+ghost use Rattle.uni_record.specs.Event.{events_shown};
+ghost use Rattle.uni_record.specs.Recorded.{meaning, opening, IsRecording, IsPromised};
 
 use crate::event::Event;
 use crate::recorded::Recorded;

@@ -3,10 +3,10 @@
 ghost use Rattle.std.specs.Prelude.{◌≡◌, ◌+◌, ◌*◌, ◌<◌, ◌≤◌, ◌↔◌, ◌^◌, ◌⊎◌, ◌++◌, ◌∷◌, [], IfOk, IfErr, OnErr, OnOk, IsErrOf, IsSome, None, length};
 ghost use Rattle.uni_model.specs.Worlds.{opened_world, world_after};
 ghost use Rattle.uni_model.specs.Worlds.{Event as model};
-ghost use Rattle.uni_core.specs.Whole.{world_of, IsProgress};
-ghost use Rattle.uni_core.specs.Commands.{CanGo};
+ghost use Rattle.uni_core.specs.World.{world_of, IsProgress};
+ghost use Rattle.uni_core.specs.Run.{CanGo};
 ghost use Rattle.uni_record.specs.declared.event.Event.TheVariants as event;
-ghost use Rattle.uni_record.specs.Recording.{share, set_aside, standing_of, untrimmed_world, KeepsOpening, HasOpened, CanBegin, IsBeginRefused, IsStepRefused, IsPromised};
+ghost use Rattle.uni_record.specs.Recorded.{share, set_aside, standing_of, untrimmed_world, KeepsOpening, HasOpened, CanBegin, IsBeginRefused, IsStepRefused, IsPromised};
 
 use crate::event::Event;
 use crate::fault::{RecordBeginFault, RecordOpenFault, RecordStepFault};
@@ -35,8 +35,8 @@ pub struct Recorded<O: SeqObject> {
 
 impl<O: SeqObject> Model for Recorded<O> {
     ghost use Rattle.std.specs.Prelude.{length, vec_capacity};
-    ghost use Rattle.uni_core.specs.Whole.{world_of};
-    ghost use Rattle.uni_record.specs.Recording.{Recording, IsRecording, HasRoom};
+    ghost use Rattle.uni_core.specs.World.{world_of};
+    ghost use Rattle.uni_record.specs.Recorded.{Recording, IsRecording, HasRoom};
 
     ghost Value = { Recording O O.State O.Inv O.Resp };
 

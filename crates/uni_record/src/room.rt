@@ -1,8 +1,8 @@
 //! The room of a history.
 
 ghost use Rattle.std.specs.Prelude.{◌≡◌, ◌+◌, ◌*◌, ◌≤◌, ◌↔◌, ◌^◌, length, true, OnOk, vec_capacity};
-ghost use Rattle.uni_core.specs.Whole.{world_of};
-ghost use Rattle.uni_record.specs.Recording.{set_aside};
+ghost use Rattle.uni_core.specs.World.{world_of};
+ghost use Rattle.uni_record.specs.Recorded.{set_aside};
 
 use crate::event::Event;
 use crate::verdict::{Counts, Return};

@@ -5,8 +5,8 @@ use Rattle.uni_model.specs.Worlds.{Event}
 use Rattle.uni_model.specs.Worlds.Event.{Call, Step, Trim, Reshape}
 use Rattle.uni_record.specs.declared.event.Event.{Event as Stored}
 use Rattle.uni_record.specs.declared.event.Event.TheVariants as stored
-use Rattle.uni_record.specs.Stored.{event_shown, events_shown}
-use Rattle.uni_script.specs.Summaries.{calls_in}
+use Rattle.uni_record.specs.Event.{event_shown, events_shown}
+use Rattle.uni_script.specs.Summary.{calls_in}
 
 calls_in-append : {I : Type 0} (es fs : List (Event I)) → calls_in (es ++ fs) ≡ calls_in es + calls_in fs
 calls_in-append [] fs = omega arith

@@ -1,8 +1,10 @@
 -- How a text is cut into lines.
-use Rattle.std.proofs.Common.{◌≡◌, ◌∙◌, ℕ, suc, ◌+◌, ◌<◌, ◌≤◌, ◌==◌, nat_lt, cond, Bool, true, false, List, [], ◌∷◌, ◌++◌, length, None, Some, refl, sym, ap, arith, append_assoc}
+use Rattle.std.proofs.Common.{◌≡◌, ◌∙◌, ℕ, suc, ◌+◌, ◌<◌, ◌≤◌, ◌==◌, nat_lt, cond, Bool, true, false, List, [], ◌∷◌, ◌++◌, length, Option, None, Some, refl, sym, ap, arith, append_assoc}
 use Rattle.std.proofs.lemmas.Bool.Decides.{nat_tests}
 use Rattle.std.specs.List.{position, position_or_len}
-use Rattle.uni_script.specs.Script.{Cut, with_first, after_byte, cut, last_line, lines_of}
+use Rattle.std.proofs.lemmas.List.Sums.{position_or_len_is}
+use Rattle.memchr.specs.Find.{IsFirstByte, is_byte}
+use Rattle.uni_script.specs.Grammar.{Cut, with_first, after_byte, cut, last_line, lines_of}
 
 abbrev ends : ℕ → Bool
 ends b = b == 10
@@ -118,3 +120,22 @@ none_is bytes e = tested (nat_lt (end_of bytes) (length bytes)) refl e
     tested : (q : Bool) → nat_lt (end_of bytes) (length bytes) ≡ q → None ≡ cond q (Some (end_of bytes)) None → length bytes ≤ end_of bytes
     tested true t f = absurd (let g : None ≡ Some (end_of bytes) = f in cc)
     tested false t f = grind (arith, nat_tests)
+
+-- the first place of a line end is where the first line ends
+pub IsFirstByte-position : (bytes : List ℕ) (found : Option ℕ) → IsFirstByte (is_byte 10) bytes found → found ≡ position ends bytes
+IsFirstByte-position bytes found is = at found is
+  where
+    other : (q : Bool) → (q ≡ true → ⊥) → q ≡ false
+    other true no_end = absurd (no_end refl)
+    other false no_end = refl
+
+    at : (found : Option ℕ) → IsFirstByte (is_byte 10) bytes found → found ≡ position ends bytes
+    at None is =
+        let e = position_or_len_is ends bytes (length bytes) 0 (omega arith) (λ k below. other _ (is k (omega arith) below)) (λ below. absurd (omega arith)) in
+        let past : nat_lt (length bytes) (length bytes) ≡ false = grind (arith, nat_tests) in
+        rw e (rw past refl)
+    at (Some k) is =
+        let high = is.0.high in
+        let e = position_or_len_is ends bytes k 0 (omega arith) (λ j below. other _ (is.0.before j (omega arith) below)) (λ below. is.1) in
+        let inside : nat_lt k (length bytes) ≡ true = grind (arith, nat_tests) in
+        rw e (rw inside refl)

@@ -1,6 +1,6 @@
 -- The events of a schedule, drawn one after the other.
 use Rattle.std.proofs.Common.{◌≡◌, ◌∙◌, ℕ, suc, ◌+◌, ◌-◌, ◌<◌, ◌≤◌, List, ◌++◌, refl, sym, ap, arith, append_assoc, append-nil}
-use Rattle.ready_objects.specs.Language.{Language}
+use Rattle.ready_objects.specs.Spoken.{Language}
 use Rattle.rand_xoshiro.specs.Xoshiro256.{plus_plus}
 use Rattle.uni_script.specs.Schedules.{event_line, words_of_event, event_lines, words_of_events, xoshiro_word}
 

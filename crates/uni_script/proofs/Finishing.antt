@@ -7,27 +7,27 @@ use Rattle.uni_model.specs.Laws.{IsReached}
 use Rattle.uni_script.specs.declared.answer.Refusal.{Refusal}
 use Rattle.uni_script.specs.declared.answer.Refusal.TheVariants.{Process, Idle}
 use Rattle.uni_script.specs.Objects.{SpokenObject}
-use Rattle.uni_script.specs.Meaning.{Bench, LastStep, bench_after, last_step, steps_of, steps_taken, latest, most_steps, refusal_of_step, result_of_steps}
+use Rattle.uni_script.specs.Meaning.{Session, LastStep, session_after, last_step, steps_of, steps_taken, latest, most_steps, refusal_of_step, result_of_steps}
 use Rattle.uni_model.specs.Worlds.{world_after_all}
-use Rattle.uni_script.specs.Finishes.{FinishReturns, IsReturned}
+use Rattle.uni_script.specs.Laws.{FinishReturns, IsReturned}
 use Rattle.uni_script.proofs.Stepping.{IsOnTheWay, IsOnTheWay-start, IsOnTheWay-going, IsOnTheWay-few, last_step-done}
 
 module _ {S I R : Type 0} (o : SpokenObject S I R) (p : ℕ) where
-  module _ (b : Bench S I R) (reached : IsReached o.object b.world) (pending : IsSome (b.world.call p)) (most : ℕ) where
+  module _ (b : Session S I R) (reached : IsReached o.object b.world) (pending : IsSome (b.world.call p)) (most : ℕ) where
     -- after so many steps the call has returned, or is on its way
-    on_the_way : (count : ℕ) → count ≤ most → IsSome (last_step o b.world p most) ⊎ ((now : Bench S I R) × IsOnTheWay o p b most count now)
+    on_the_way : (count : ℕ) → count ≤ most → IsSome (last_step o b.world p most) ⊎ ((now : Session S I R) × IsOnTheWay o p b most count now)
     on_the_way zero few = inr (b, IsOnTheWay-start o p b most reached pending)
     on_the_way (suc count) few = elim (on_the_way count (omega arith)) [
       | inl returned ↦ inl returned
       | inr on ↦ at on.0 on.1 (response_of_step on.0.world p) refl
     ]
       where
-        at : (now : Bench S I R) → IsOnTheWay o p b most count now → (response : Option R) → response_of_step now.world p ≡ response
-            → IsSome (last_step o b.world p most) ⊎ ((next : Bench S I R) × IsOnTheWay o p b most (suc count) next)
-        at now on (Some r) is = inl (rw (last_step-done o p b most count now on (omega arith) (bench_after o now (Step p ∷ [])) refl r is) refl)
+        at : (now : Session S I R) → IsOnTheWay o p b most count now → (response : Option R) → response_of_step now.world p ≡ response
+            → IsSome (last_step o b.world p most) ⊎ ((next : Session S I R) × IsOnTheWay o p b most (suc count) next)
+        at now on (Some r) is = inl (rw (last_step-done o p b most count now on (omega arith) (session_after o now (Step p ∷ [])) refl r is) refl)
         at now on None is =
-            let next = IsOnTheWay-going o p b most count now on (omega arith) (bench_after o now (Step p ∷ [])) refl is in
-            inr (bench_after o now (Step p ∷ []), (let more : count + 1 ≡ suc count = omega arith in rw more at next))
+            let next = IsOnTheWay-going o p b most count now on (omega arith) (session_after o now (Step p ∷ [])) refl is in
+            inr (session_after o now (Step p ∷ []), (let more : count + 1 ≡ suc count = omega arith in rw more at next))
 
     returns_within : most_steps b.world.n ≤ most → IsSome (last_step o b.world p most)
     returns_within enough = elim (on_the_way (most_steps b.world.n) enough) [
@@ -35,7 +35,7 @@ module _ {S I R : Type 0} (o : SpokenObject S I R) (p : ℕ) where
       | inr on ↦ absurd (let few = IsOnTheWay-few o p b most (most_steps b.world.n) on.0 on.1 in omega arith)
     ]
 
-  pub FinishReturns-reached : (b : Bench S I R) → IsReached o.object b.world → FinishReturns o b p
+  pub FinishReturns-reached : (b : Session S I R) → IsReached o.object b.world → FinishReturns o b p
   FinishReturns-reached b r = at (refusal_of_step b.world p) refl
     where
       most : ℕ

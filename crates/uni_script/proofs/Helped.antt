@@ -14,9 +14,9 @@ use Rattle.uni_model.proofs.Bounded.{HelpingInvariant-opened_world, HelpingInvar
 use Rattle.uni_model.proofs.Counted.{CountsSteps-opened_world}
 use Rattle.uni_model.proofs.Simulation.{set_at_same}
 use Rattle.uni_model.proofs.Values.{response-settled}
-use Rattle.uni_record.specs.Recording.{Recording, IsRecording, meaning}
-use Rattle.uni_record.specs.Stored.{events_shown}
-use Rattle.uni_core.specs.Whole.{world_of}
+use Rattle.uni_record.specs.Recorded.{Recording, IsRecording, meaning}
+use Rattle.uni_record.specs.Event.{events_shown}
+use Rattle.uni_core.specs.World.{world_of}
 use Rattle.seq_object.specs.Sequential.{Sequential}
 use Rattle.uni_script.specs.Objects.{SpokenObject}
 

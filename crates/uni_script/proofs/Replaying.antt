@@ -13,15 +13,15 @@ use Rattle.uni_script.specs.declared.grammar.Version.{Version}
 use Rattle.uni_script.specs.Ends.{AppendsFront}
 use Rattle.std.specs.List.{list_all}
 use Rattle.ready_objects.specs.Words.{words_of_text}
-use Rattle.uni_script.specs.Answers.{end_text}
-use Rattle.uni_script.specs.Script.{cut, lines_of, is_plain_byte, is_note, header_of_words, command_of_words}
+use Rattle.uni_script.specs.Answer.{end_text}
+use Rattle.uni_script.specs.Grammar.{cut, lines_of, is_plain_byte, is_note, header_of_words, command_of_words}
 use Rattle.uni_script.specs.Objects.{SpokenObject, spoken_of}
-use Rattle.uni_script.specs.Meaning.{Bench, bench_after, ScriptBench, bench_of_header, result_of_command, outcome_of_text, Outcome, script_bench, outcome_of_command, outcome_of_fault, and_then, and_then_from, outcome_of_words, outcome_of_line, outcome_of_lines, outcome_of_end, outcome_of_script}
-use Rattle.uni_script.specs.Reading.{lines_of_read, outcome_of_stop, outcome_of_read, StopsAt, IsRead, HasEnded}
+use Rattle.uni_script.specs.Meaning.{Session, session_after, ScriptSession, session_of_header, result_of_command, outcome_of_text, Outcome, script_session, outcome_of_command, outcome_of_fault, and_then, and_then_from, outcome_of_words, outcome_of_line, outcome_of_lines, outcome_of_end, outcome_of_script}
+use Rattle.uni_script.specs.Lines.{lines_of_read, outcome_of_stop, outcome_of_read, StopsAt, IsRead, HasEnded}
 use Rattle.uni_script.specs.declared.summary.Summary.{Summary}
-use Rattle.uni_script.specs.Summaries.{summary_of_bench}
-use Rattle.uni_script.specs.Promises.{IsPromisedBench}
-use Rattle.uni_script.specs.Replays.{IsInput, IsReplay, IsSummary, IsPromisedScript, IsPartOfReplay, HasAnswered, IsFaultOfScript, text_of_script}
+use Rattle.uni_script.specs.Summary.{summary_of_session}
+use Rattle.uni_script.specs.Promises.{IsPromisedSession}
+use Rattle.uni_script.specs.Replay.{IsInput, IsReplay, IsSummary, IsPromisedScript, IsPartOfReplay, HasAnswered, IsFaultOfScript, text_of_script}
 use Rattle.uni_script.proofs.Cutting.{GoesOn-start, GoesOn-start_other, GoesOn-after, lines_of-append}
 use Rattle.uni_script.proofs.Running.{after_text, and_then-same, and_then-assoc, and_then-none, and_then-some, outcome_of_lines-append, outcome_of_lines-too_long, outcome_of_lines-too_many}
 use Rattle.uni_script.proofs.Written.{IsWritten-start, AppendsFront-all, AppendsFront-more}
@@ -38,13 +38,13 @@ abbrev FaultsOnly : (BenchFault → Type 0) → Outcome → Type 0
 FaultsOnly P outcome = (e : BenchFault) → outcome.fault ≡ Some e → P e
 
 module _ (P : BenchFault → Type 0) where
-  FaultsOnly-outcome_of_fault : (b : Option ScriptBench) (f : BenchFault) → P f → FaultsOnly P (outcome_of_fault b f)
+  FaultsOnly-outcome_of_fault : (b : Option ScriptSession) (f : BenchFault) → P f → FaultsOnly P (outcome_of_fault b f)
   FaultsOnly-outcome_of_fault b f p e q = subst P (same q) p
     where
       same : Some f ≡ Some e → f ≡ e
       same q = cc
 
-  FaultsOnly-none : (b : Option ScriptBench) (text : List ℕ) → FaultsOnly P (record { bench = b; text = text; fault = None })
+  FaultsOnly-none : (b : Option ScriptSession) (text : List ℕ) → FaultsOnly P (record { session = b; text = text; fault = None })
   FaultsOnly-none b text e q = absurd (let f : None ≡ Some e = q in cc)
 
   FaultsOnly-if : (c : Bool) (x y : Outcome) → FaultsOnly P x → FaultsOnly P y → FaultsOnly P (if c then x else y)
@@ -55,30 +55,30 @@ module _ (P : BenchFault → Type 0) where
   FaultsOnly-map_or f None x p q = q
   FaultsOnly-map_or f (Some a) x p q = p a
 
-  FaultsOnly-and_then : (first : Outcome) (rest : Option ScriptBench → Outcome) → FaultsOnly P first → ((b : Option ScriptBench) → FaultsOnly P (rest b)) → FaultsOnly P (and_then first rest)
+  FaultsOnly-and_then : (first : Outcome) (rest : Option ScriptSession → Outcome) → FaultsOnly P first → ((b : Option ScriptSession) → FaultsOnly P (rest b)) → FaultsOnly P (and_then first rest)
   FaultsOnly-and_then first rest p q = at first.fault refl
     where
-      at : (f : Option BenchFault) → first.fault ≡ f → FaultsOnly P (and_then_from first (rest first.bench) f)
-      at None e = q first.bench
+      at : (f : Option BenchFault) → first.fault ≡ f → FaultsOnly P (and_then_from first (rest first.session) f)
+      at None e = q first.session
       at (Some f) e = p
 
-FaultsOnly-outcome_of_command : {S I R : Type 0} (o : SpokenObject S I R) (inside : Version → Bench S I R → ScriptBench) (version : Version) (number : ℕ) (b : Bench S I R) (words : List (List ℕ)) → FaultsOnly IsFaultOfScript (outcome_of_command o inside version number b words)
+FaultsOnly-outcome_of_command : {S I R : Type 0} (o : SpokenObject S I R) (inside : Version → Session S I R → ScriptSession) (version : Version) (number : ℕ) (b : Session S I R) (words : List (List ℕ)) → FaultsOnly IsFaultOfScript (outcome_of_command o inside version number b words)
 FaultsOnly-outcome_of_command o inside version number b words =
-    FaultsOnly-map_or IsFaultOfScript (λ command. outcome_of_text (inside version (bench_after o b (result_of_command o b command).events)) (result_of_command o b command).text) (command_of_words version o.language.inv_of_words words) (outcome_of_fault (Some (inside version b)) (fault.BadLine number))
-    (λ command. FaultsOnly-none IsFaultOfScript (Some (inside version (bench_after o b (result_of_command o b command).events))) (result_of_command o b command).text) (FaultsOnly-outcome_of_fault IsFaultOfScript (Some (inside version b)) (fault.BadLine number) tt)
+    FaultsOnly-map_or IsFaultOfScript (λ command. outcome_of_text (inside version (session_after o b (result_of_command o b command).events)) (result_of_command o b command).text) (command_of_words version o.language.inv_of_words words) (outcome_of_fault (Some (inside version b)) (fault.BadLine number))
+    (λ command. FaultsOnly-none IsFaultOfScript (Some (inside version (session_after o b (result_of_command o b command).events))) (result_of_command o b command).text) (FaultsOnly-outcome_of_fault IsFaultOfScript (Some (inside version b)) (fault.BadLine number) tt)
 
 -- where the history can have so many events
 module _ (limit : ℕ) where
-  FaultsOnly-outcome_of_words : (number : ℕ) (b : Option ScriptBench) (words : List (List ℕ)) → FaultsOnly IsFaultOfScript (outcome_of_words limit number b words)
+  FaultsOnly-outcome_of_words : (number : ℕ) (b : Option ScriptSession) (words : List (List ℕ)) → FaultsOnly IsFaultOfScript (outcome_of_words limit number b words)
   FaultsOnly-outcome_of_words number None words =
-      FaultsOnly-map_or IsFaultOfScript (λ header. outcome_of_text (bench_of_header limit header) []) (header_of_words words) (outcome_of_fault None (fault.BadHeader number))
-      (λ header. FaultsOnly-none IsFaultOfScript (Some (bench_of_header limit header)) []) (FaultsOnly-outcome_of_fault IsFaultOfScript None (fault.BadHeader number) tt)
-  FaultsOnly-outcome_of_words number (Some b) words = FaultsOnly-outcome_of_command (spoken_of b.object) (script_bench b.object) b.version number b.bench words
+      FaultsOnly-map_or IsFaultOfScript (λ header. outcome_of_text (session_of_header limit header) []) (header_of_words words) (outcome_of_fault None (fault.BadHeader number))
+      (λ header. FaultsOnly-none IsFaultOfScript (Some (session_of_header limit header)) []) (FaultsOnly-outcome_of_fault IsFaultOfScript None (fault.BadHeader number) tt)
+  FaultsOnly-outcome_of_words number (Some b) words = FaultsOnly-outcome_of_command (spoken_of b.object) (script_session b.object) b.version number b.session words
 
-  FaultsOnly-outcome_of_line : (number : ℕ) (b : Option ScriptBench) (line : List ℕ) → FaultsOnly IsFaultOfScript (outcome_of_line limit number b line)
+  FaultsOnly-outcome_of_line : (number : ℕ) (b : Option ScriptSession) (line : List ℕ) → FaultsOnly IsFaultOfScript (outcome_of_line limit number b line)
   FaultsOnly-outcome_of_line number b line =
       let worded : Outcome = outcome_of_words limit number b (words_of_text line) in
-      let noted : Outcome = record { bench = b; text = []; fault = None } in
+      let noted : Outcome = record { session = b; text = []; fault = None } in
       let plain : Outcome = if is_note line then noted else worded in
       let short : Outcome = if not (list_all is_plain_byte line) then outcome_of_fault b (fault.BadByte number) else plain in
       let counted : Outcome = if nat_lt 200 (length line) then outcome_of_fault b (fault.TooLong number) else short in
@@ -87,18 +87,18 @@ module _ (limit : ℕ) where
       (FaultsOnly-if IsFaultOfScript (not (list_all is_plain_byte line)) (outcome_of_fault b (fault.BadByte number)) plain (FaultsOnly-outcome_of_fault IsFaultOfScript b (fault.BadByte number) tt)
       (FaultsOnly-if IsFaultOfScript (is_note line) noted worded (FaultsOnly-none IsFaultOfScript b []) (FaultsOnly-outcome_of_words number b (words_of_text line)))))
 
-  FaultsOnly-outcome_of_lines : (number : ℕ) (b : Option ScriptBench) (lines : List (List ℕ)) → FaultsOnly IsFaultOfScript (outcome_of_lines limit number b lines)
+  FaultsOnly-outcome_of_lines : (number : ℕ) (b : Option ScriptSession) (lines : List (List ℕ)) → FaultsOnly IsFaultOfScript (outcome_of_lines limit number b lines)
   FaultsOnly-outcome_of_lines number b [] = FaultsOnly-none IsFaultOfScript b []
   FaultsOnly-outcome_of_lines number b (line ∷ lines) =
       FaultsOnly-and_then IsFaultOfScript (outcome_of_line limit number b line) (λ after. outcome_of_lines limit (number + 1) after lines) (FaultsOnly-outcome_of_line number b line) (λ after. FaultsOnly-outcome_of_lines (number + 1) after lines)
 
-  FaultsOnly-outcome_of_end : (lines : ℕ) (b : Option ScriptBench) → FaultsOnly IsFaultOfScript (outcome_of_end lines b)
+  FaultsOnly-outcome_of_end : (lines : ℕ) (b : Option ScriptSession) → FaultsOnly IsFaultOfScript (outcome_of_end lines b)
   FaultsOnly-outcome_of_end lines None = FaultsOnly-outcome_of_fault IsFaultOfScript None (NoHeader (lines + 1)) tt
   FaultsOnly-outcome_of_end lines (Some b) = FaultsOnly-none IsFaultOfScript (Some b) end_text
 
   -- a line that ends the run
-  run_stopped : (before : List (List ℕ)) (line : List ℕ) (lines : List (List ℕ)) (f : BenchFault) (rest : Option ScriptBench → Outcome)
-      → ((b : Option ScriptBench) → outcome_of_lines limit (1 + length before) b (line ∷ lines) ≡ outcome_of_fault b f)
+  run_stopped : (before : List (List ℕ)) (line : List ℕ) (lines : List (List ℕ)) (f : BenchFault) (rest : Option ScriptSession → Outcome)
+      → ((b : Option ScriptSession) → outcome_of_lines limit (1 + length before) b (line ∷ lines) ≡ outcome_of_fault b f)
       → and_then (outcome_of_lines limit 1 None (before ++ line ∷ lines)) rest ≡ and_then (outcome_of_lines limit 1 None before) (λ b. outcome_of_fault b f)
   run_stopped before line lines f rest stops =
       ap (λ run. and_then run rest) (outcome_of_lines-append limit 1 None before (line ∷ lines))
@@ -128,11 +128,11 @@ module _ (limit : ℕ) where
       ∙ run_stopped (cut bytes).whole g.line g.lines fault.TooMany (λ after. outcome_of_end (length ((cut bytes).whole ++ g.line ∷ g.lines)) after) (λ b. rw next (outcome_of_lines-too_many limit b g.line g.lines))
 
   -- a script goes on after its whole lines
-  outcome_of_script-whole : (bytes past : List ℕ) → (rest : Option ScriptBench → Outcome) × (outcome_of_script limit (bytes ++ past) ≡ and_then (outcome_of_lines limit 1 None (cut bytes).whole) rest)
+  outcome_of_script-whole : (bytes past : List ℕ) → (rest : Option ScriptSession → Outcome) × (outcome_of_script limit (bytes ++ past) ≡ and_then (outcome_of_lines limit 1 None (cut bytes).whole) rest)
   outcome_of_script-whole bytes past =
       let more = lines_of ((cut bytes).tail ++ past) in
       let number = 1 + length (cut bytes).whole in
-      let finish : Option ScriptBench → Outcome = λ after. outcome_of_end (length ((cut bytes).whole ++ more)) after in (
+      let finish : Option ScriptSession → Outcome = λ after. outcome_of_end (length ((cut bytes).whole ++ more)) after in (
         (λ b. and_then (outcome_of_lines limit number b more) finish),
         ap (λ lines. and_then (outcome_of_lines limit 1 None lines) (λ after. outcome_of_end (length lines) after)) (lines_of-append bytes past)
             ∙ ap (λ run. and_then run finish) (outcome_of_lines-append limit 1 None (cut bytes).whole more)
@@ -186,12 +186,12 @@ module _ (limit : ℕ) where
   outcome_of_whole_lines bytes = outcome_of_lines limit 1 None (cut bytes).whole
 
   -- where the reader failed: the whole lines have the fault, or have none
-  outcome_of_failed_read : (bytes : List ℕ) → ((outcome_of_whole_lines bytes).fault ≡ None) × (outcome_of_read limit Failed bytes ≡ after_text (outcome_of_whole_lines bytes).text (outcome_of_fault (outcome_of_whole_lines bytes).bench Read))
+  outcome_of_failed_read : (bytes : List ℕ) → ((outcome_of_whole_lines bytes).fault ≡ None) × (outcome_of_read limit Failed bytes ≡ after_text (outcome_of_whole_lines bytes).text (outcome_of_fault (outcome_of_whole_lines bytes).session Read))
       ⊎ (e : BenchFault) × ((outcome_of_whole_lines bytes).fault ≡ Some e) × (outcome_of_read limit Failed bytes ≡ outcome_of_whole_lines bytes)
   outcome_of_failed_read bytes = at (outcome_of_whole_lines bytes).fault refl
     where
       at : (f : Option BenchFault) → (outcome_of_whole_lines bytes).fault ≡ f
-          → ((outcome_of_whole_lines bytes).fault ≡ None) × (outcome_of_read limit Failed bytes ≡ after_text (outcome_of_whole_lines bytes).text (outcome_of_fault (outcome_of_whole_lines bytes).bench Read))
+          → ((outcome_of_whole_lines bytes).fault ≡ None) × (outcome_of_read limit Failed bytes ≡ after_text (outcome_of_whole_lines bytes).text (outcome_of_fault (outcome_of_whole_lines bytes).session Read))
           ⊎ (e : BenchFault) × ((outcome_of_whole_lines bytes).fault ≡ Some e) × (outcome_of_read limit Failed bytes ≡ outcome_of_whole_lines bytes)
       at None e = inl (e, and_then-none (outcome_of_whole_lines bytes) (λ b. outcome_of_fault b Read) e)
       at (Some f) e = inr (f, e, and_then-some (outcome_of_whole_lines bytes) (λ b. outcome_of_fault b Read) f e)
@@ -205,7 +205,7 @@ module _ (limit : ℕ) where
       let lines = lines_of_read stop bytes in
       FaultsOnly-and_then IsFaultOfRead (outcome_of_lines limit 1 None lines) (λ after. outcome_of_stop stop (length lines) after) (λ e q. inl (FaultsOnly-outcome_of_lines 1 None lines e q)) (at stop (length lines))
     where
-      at : (s : Stop) (n : ℕ) (b : Option ScriptBench) → FaultsOnly IsFaultOfRead (outcome_of_stop s n b)
+      at : (s : Stop) (n : ℕ) (b : Option ScriptSession) → FaultsOnly IsFaultOfRead (outcome_of_stop s n b)
       at End n b = λ e q. inl (FaultsOnly-outcome_of_end n b e q)
       at Failed n b = FaultsOnly-outcome_of_fault IsFaultOfRead b Read (inr refl)
       at TooLong n b = FaultsOnly-outcome_of_fault IsFaultOfRead b (fault.TooLong (n + 1)) (inl tt)
@@ -221,7 +221,7 @@ module _ (limit : ℕ) where
   end_of_run stop bytes none = at (outcome_of_lines limit 1 None (lines_of_read stop bytes)).fault refl stop (length (lines_of_read stop bytes)) none
     where
       at : (f : Option BenchFault) → (outcome_of_lines limit 1 None (lines_of_read stop bytes)).fault ≡ f → (s : Stop) (n : ℕ)
-          → (and_then_from (outcome_of_lines limit 1 None (lines_of_read stop bytes)) (outcome_of_stop s n (outcome_of_lines limit 1 None (lines_of_read stop bytes)).bench) f).fault ≡ None → s ≡ End
+          → (and_then_from (outcome_of_lines limit 1 None (lines_of_read stop bytes)) (outcome_of_stop s n (outcome_of_lines limit 1 None (lines_of_read stop bytes)).session) f).fault ≡ None → s ≡ End
       at None g End n e = refl
       at None g Failed n e = absurd (let h : Some Read ≡ None = e in cc)
       at None g TooLong n e = absurd (let h : Some (fault.TooLong (n + 1)) ≡ None = e in cc)
@@ -244,7 +244,7 @@ module _ (limit : ℕ) where
         ∙ outcome_of_script-read stop bytes (past_left is.past left_after) left_after (StopsAt-past_left stop bytes is.past left_after is.stops other) other
 
     -- the whole script goes on after the whole lines
-    goes_on : (rest : Option ScriptBench → Outcome) × (outcome_of_script limit script ≡ and_then (outcome_of_whole_lines bytes) rest)
+    goes_on : (rest : Option ScriptSession → Outcome) × (outcome_of_script limit script ≡ and_then (outcome_of_whole_lines bytes) rest)
     goes_on = let whole = outcome_of_script-whole bytes (past_left is.past left_after) in (whole.0, ap (λ s. outcome_of_script limit s) script_is ∙ whole.1)
 
     read_failed : stop ≡ Failed → outcome_of_read limit stop bytes ≡ outcome_of_read limit Failed bytes
@@ -277,7 +277,7 @@ module _ (limit : ℕ) where
           | inl clean ↦
               let whole = subst (AppendsFront old new) (ap (λ (o : Outcome). o.text) (read_failed failed ∙ clean.1) ∙ append-nil (outcome_of_whole_lines bytes).text) front in
               subst (λ (o : Outcome). AppendsFront old new o.text) (sym (goes_on.1 ∙ and_then-none (outcome_of_whole_lines bytes) goes_on.0 clean.0))
-              (AppendsFront-more old new (outcome_of_whole_lines bytes).text (goes_on.0 (outcome_of_whole_lines bytes).bench).text whole)
+              (AppendsFront-more old new (outcome_of_whole_lines bytes).text (goes_on.0 (outcome_of_whole_lines bytes).session).text whole)
           | inr some ↦
               subst (λ (o : Outcome). AppendsFront old new o.text) (read_failed failed ∙ some.2 ∙ sym (goes_on.1 ∙ and_then-some (outcome_of_whole_lines bytes) goes_on.0 some.0 some.1)) front
         ]
@@ -301,18 +301,18 @@ module _ (limit : ℕ) where
     script_whole e = script_is ∙ ap (λ p. bytes ++ p) (past_left-end bytes is.past left_after (subst (λ s. StopsAt s bytes is.past left_after) e is.stops)) ∙ append-nil bytes
 
     -- the summary of what was read to its end is that of the script
-    same_summary : (s : Summary) → (outcome_of_read limit stop bytes).fault ≡ None → option_map (summary_of_bench (length (lines_of_read stop bytes))) (outcome_of_read limit stop bytes).bench ≡ Some s → IsSummary limit left s
+    same_summary : (s : Summary) → (outcome_of_read limit stop bytes).fault ≡ None → option_map (summary_of_session (length (lines_of_read stop bytes))) (outcome_of_read limit stop bytes).session ≡ Some s → IsSummary limit left s
     same_summary s none has =
         let whole = end_of_run stop bytes none in
         let lines : length (lines_of script) ≡ length (lines_of_read stop bytes) = ap (λ t. length (lines_of t)) (script_whole whole) ∙ ap (λ k. length (lines_of_read k bytes)) (sym whole) in (
           script,
           is_input,
-          ap (λ (o : Outcome). option_map (summary_of_bench (length (lines_of script))) o.bench) (same_run (not_failed none)) ∙ ap (λ n. option_map (summary_of_bench n) (outcome_of_read limit stop bytes).bench) lines ∙ has,
+          ap (λ (o : Outcome). option_map (summary_of_session (length (lines_of script))) o.session) (same_run (not_failed none)) ∙ ap (λ n. option_map (summary_of_session n) (outcome_of_read limit stop bytes).session) lines ∙ has,
         )
 
     -- what is promised of what was read to its end is promised of the script
-    same_promise : (outcome_of_read limit stop bytes).fault ≡ None → ((b : ScriptBench) × ((outcome_of_read limit stop bytes).bench ≡ Some b) × IsPromisedBench b) → IsPromisedScript limit left
-    same_promise none kept = (script, is_input, (kept.0, ap (λ (o : Outcome). o.bench) (same_run (not_failed none)) ∙ kept.1, kept.2))
+    same_promise : (outcome_of_read limit stop bytes).fault ≡ None → ((b : ScriptSession) × ((outcome_of_read limit stop bytes).session ≡ Some b) × IsPromisedSession b) → IsPromisedScript limit left
+    same_promise none kept = (script, is_input, (kept.0, ap (λ (o : Outcome). o.session) (same_run (not_failed none)) ∙ kept.1, kept.2))
 
     -- where the run of what was read ends with `Read`, the reader has failed after whole lines without a fault
     answered : (old new : Option (List ℕ)) → (outcome_of_read limit stop bytes).fault ≡ Some Read → Appends old new (outcome_of_read limit stop bytes).text → HasAnswered limit left left_after old new

@@ -6,19 +6,19 @@ use Rattle.seq_object.specs.declared.call_id.CallId.{CallId}
 use Rattle.uni_model.specs.Stages.{Pending as Stands}
 use Rattle.uni_model.specs.Worlds.{WorldOf, IsQuiescent, world_after_all, calls_in_era}
 use Rattle.uni_model.specs.Worlds.Event.{Call, Trim, Reshape}
-use Rattle.uni_core.specs.Whole.{world_of, current_of}
+use Rattle.uni_core.specs.World.{world_of, current_of}
 use Rattle.uni_record.specs.declared.fault.RecordTrimFault.TheVariants as trim
 use Rattle.uni_record.specs.declared.fault.RecordReshapeFault.TheVariants as reshape
-use Rattle.uni_record.specs.Recording.{Recording, CanBegin, CanEnd, IsBeginRefused, IsCount, IsEndRefused, IsReshapeRefused, standing_of}
+use Rattle.uni_record.specs.Recorded.{Recording, CanBegin, CanEnd, IsBeginRefused, IsCount, IsEndRefused, IsReshapeRefused, standing_of}
 use Rattle.uni_record.specs.declared.fault.RecordBeginFault.TheVariants as begin
-use Rattle.uni_record.specs.Stored.{event_shown, events_shown}
+use Rattle.uni_record.specs.Event.{event_shown, events_shown}
 use Rattle.uni_script.specs.declared.answer.Refusal.{Refusal}
 use Rattle.uni_script.specs.declared.answer.Refusal.TheVariants.{Process, Busy, Row, Idle, Pending, Sequence, History, Count}
-use Rattle.uni_script.specs.Answers.{called_text, trimmed_text, reshaped_text}
+use Rattle.uni_script.specs.Answer.{called_text, trimmed_text, reshaped_text}
 use Rattle.uni_script.specs.Objects.{SpokenObject}
-use Rattle.uni_trim.specs.Eras.{last_number}
-use Rattle.uni_script.specs.Meaning.{Bench, CommandResult, LastStep, bench_of, bench_after, refused, is_full, latest, least_pending, refusal_of_call, refusal_of_end, refusal_of_reshape, refusal_of_step, result_of_call, result_of_trim, result_of_reshape, result_of_steps, steps_of, steps_taken, last_step, text_of_steps}
-use Rattle.uni_script.proofs.Stepping.{bench_after-none}
+use Rattle.uni_trim.specs.Ends.{last_number}
+use Rattle.uni_script.specs.Meaning.{Session, CommandResult, LastStep, session_of, session_after, refused, is_full, latest, least_pending, refusal_of_call, refusal_of_end, refusal_of_reshape, refusal_of_step, result_of_call, result_of_trim, result_of_reshape, result_of_steps, steps_of, steps_taken, last_step, text_of_steps}
+use Rattle.uni_script.proofs.Stepping.{session_after-none}
 
 at_least : (n p : ℕ) → n ≤ p → nat_le n p ≡ true
 at_least n p high = at (nat_le n p) refl
@@ -66,23 +66,23 @@ module _ {O S I R : Type 0} (r : Recording O S I R) (p : ℕ) where
   stored_is : length (events_shown r.events) ≡ length r.events
   stored_is = length-map r.events event_shown
 
-  pub refusal_of_call-BadProcess : IsBeginRefused (standing_of r) p begin.BadProcess → refusal_of_call (bench_of r) p ≡ Some (Process p)
+  pub refusal_of_call-BadProcess : IsBeginRefused (standing_of r) p begin.BadProcess → refusal_of_call (session_of r) p ≡ Some (Process p)
   refusal_of_call-BadProcess high = rw (at_least (world_of r.world).n p high) refl
 
-  pub refusal_of_call-Busy : (q : ℕ) → IsBeginRefused (standing_of r) p (begin.Busy q) → refusal_of_call (bench_of r) p ≡ Some (Busy q)
+  pub refusal_of_call-Busy : (q : ℕ) → IsBeginRefused (standing_of r) p (begin.Busy q) → refusal_of_call (session_of r) p ≡ Some (Busy q)
   refusal_of_call-Busy q is = rw (below (world_of r.world).n p is.1) (rw is.2 (rw is.0 refl))
 
-  pub refusal_of_call-RowFull : (q : ℕ) → IsBeginRefused (standing_of r) p (begin.RowFull q) → refusal_of_call (bench_of r) p ≡ Some (Row q)
+  pub refusal_of_call-RowFull : (q : ℕ) → IsBeginRefused (standing_of r) p (begin.RowFull q) → refusal_of_call (session_of r) p ≡ Some (Row q)
   refusal_of_call-RowFull q is = rw (below (world_of r.world).n p is.1) (rw is.2 (rw (equal (calls_in_era (world_of r.world) p) r.world.row is.3) (rw is.0 refl)))
 
   module _ (can : (p < (world_of r.world).n) × ((world_of r.world).call p ≡ None) × (calls_in_era (world_of r.world) p < r.world.row)) where
-    refusal_of_call-full : (full : Bool) → is_full (bench_of r) ≡ full → refusal_of_call (bench_of r) p ≡ (if full then Some History else None)
+    refusal_of_call-full : (full : Bool) → is_full (session_of r) ≡ full → refusal_of_call (session_of r) p ≡ (if full then Some History else None)
     refusal_of_call-full full is = rw (below (world_of r.world).n p can.0) (rw can.1 (rw (fewer (calls_in_era (world_of r.world) p) r.world.row can.2) (rw is refl)))
 
-  pub refusal_of_call-HistoryFull : IsBeginRefused (standing_of r) p begin.HistoryFull → refusal_of_call (bench_of r) p ≡ Some History
+  pub refusal_of_call-HistoryFull : IsBeginRefused (standing_of r) p begin.HistoryFull → refusal_of_call (session_of r) p ≡ Some History
   refusal_of_call-HistoryFull is = refusal_of_call-full is.0 true (let long = stored_is in let over = is.1 in more_than r.limit _ (omega arith))
 
-  pub refusal_of_call-none : CanBegin (standing_of r) p → refusal_of_call (bench_of r) p ≡ None
+  pub refusal_of_call-none : CanBegin (standing_of r) p → refusal_of_call (session_of r) p ≡ None
   refusal_of_call-none is = refusal_of_call-full is.0 false (let long = stored_is in let fits = is.1 in at_most r.limit _ (omega arith))
 
 not_below : (n p : ℕ) → (p < n → ⊥) → nat_le n p ≡ true
@@ -113,30 +113,30 @@ module _ {S I R : Type 0} (w : WorldOf S I R) where
           rw before (rw last (ap Some (sym same)))
 
 module _ {O S I R : Type 0} (r : Recording O S I R) (m : ℕ) where
-  pub refusal_of_end-Pending : (p : ℕ) → IsEndRefused (standing_of r) m (trim.Pending p) → refusal_of_end (bench_of r) m ≡ Some (Pending p)
+  pub refusal_of_end-Pending : (p : ℕ) → IsEndRefused (standing_of r) m (trim.Pending p) → refusal_of_end (session_of r) m ≡ Some (Pending p)
   refusal_of_end-Pending p is = rw (least_pending-some (world_of r.world) (world_of r.world).n p is.0 is.1 is.2) refl
 
   module _ (quiet : IsQuiescent (world_of r.world)) where
     refusal_of_end-numbers : (full : Bool) → nat_le (2 ^ 48) (last_number (world_of r.world) + m * r.world.row) ≡ full → (over : Bool) → nat_lt r.limit (length (events_shown r.events) + 1) ≡ over
-        → refusal_of_end (bench_of r) m ≡ (if full then Some Sequence else if over then Some History else None)
+        → refusal_of_end (session_of r) m ≡ (if full then Some Sequence else if over then Some History else None)
     refusal_of_end-numbers full is over is_over = rw (least_pending-none (world_of r.world) (world_of r.world).n quiet) (rw is (rw is_over refl))
 
-  pub refusal_of_end-SeqFull : IsEndRefused (standing_of r) m trim.SeqFull → refusal_of_end (bench_of r) m ≡ Some Sequence
+  pub refusal_of_end-SeqFull : IsEndRefused (standing_of r) m trim.SeqFull → refusal_of_end (session_of r) m ≡ Some Sequence
   refusal_of_end-SeqFull is = refusal_of_end-numbers is.0 true (not_below (2 ^ 48) _ is.1) _ refl
 
-  pub refusal_of_end-HistoryFull : IsEndRefused (standing_of r) m trim.HistoryFull → refusal_of_end (bench_of r) m ≡ Some History
+  pub refusal_of_end-HistoryFull : IsEndRefused (standing_of r) m trim.HistoryFull → refusal_of_end (session_of r) m ≡ Some History
   refusal_of_end-HistoryFull is = refusal_of_end-numbers is.0 false (below (2 ^ 48) _ is.1) true (let long = length-map r.events event_shown in let few = is.2 in more_than r.limit _ (omega arith))
 
-  pub refusal_of_end-none : CanEnd (standing_of r) m → refusal_of_end (bench_of r) m ≡ None
+  pub refusal_of_end-none : CanEnd (standing_of r) m → refusal_of_end (session_of r) m ≡ None
   refusal_of_end-none is = refusal_of_end-numbers is.0 false (below (2 ^ 48) _ is.1) false (let long = length-map r.events event_shown in let fits = is.2 in at_most r.limit _ (omega arith))
 
-  pub refusal_of_reshape-count : IsCount m → refusal_of_reshape (bench_of r) m ≡ refusal_of_end (bench_of r) m
+  pub refusal_of_reshape-count : IsCount m → refusal_of_reshape (session_of r) m ≡ refusal_of_end (session_of r) m
   refusal_of_reshape-count is = rw (at_least 1 m is.0) (rw (at_least m 64 is.1) refl)
 
-  pub refusal_of_reshape-BadCount : IsReshapeRefused (standing_of r) m reshape.BadCount → refusal_of_reshape (bench_of r) m ≡ Some (Count m)
+  pub refusal_of_reshape-BadCount : IsReshapeRefused (standing_of r) m reshape.BadCount → refusal_of_reshape (session_of r) m ≡ Some (Count m)
   refusal_of_reshape-BadCount other = at (nat_le 1 m) refl (nat_le m 64) refl
     where
-      at : (b : Bool) → nat_le 1 m ≡ b → (c : Bool) → nat_le m 64 ≡ c → refusal_of_reshape (bench_of r) m ≡ Some (Count m)
+      at : (b : Bool) → nat_le 1 m ≡ b → (c : Bool) → nat_le m 64 ≡ c → refusal_of_reshape (session_of r) m ≡ Some (Count m)
       at false e c f = rw e refl
       at true e false f = rw e (rw f refl)
       at true e true f = absurd (other (grind (arith, nat_tests), grind (arith, nat_tests)))
@@ -167,18 +167,18 @@ module _ {S I R : Type 0} (w : WorldOf S I R) (p : ℕ) where
       at None f = absurd (cc)
       at (Some x) f = cc
 
--- what is refused leaves a bench as it was
-pub bench_after-refused : {S I R : Type 0} (o : SpokenObject S I R) (b b' : Bench S I R) (result : CommandResult I) (refusal : Refusal) → b' ≡ b → result ≡ refused refusal → b' ≡ bench_after o b result.events
-bench_after-refused o b b' result refusal same is = same ∙ sym (bench_after-none o b) ∙ ap (λ (x : CommandResult _). bench_after o b x.events) (sym is)
+-- what is refused leaves a session as it was
+pub session_after-refused : {S I R : Type 0} (o : SpokenObject S I R) (b b' : Session S I R) (result : CommandResult I) (refusal : Refusal) → b' ≡ b → result ≡ refused refusal → b' ≡ session_after o b result.events
+session_after-refused o b b' result refusal same is = same ∙ sym (session_after-none o b) ∙ ap (λ (x : CommandResult _). session_after o b x.events) (sym is)
 
-module _ {S I R : Type 0} (b : Bench S I R) (p : ℕ) (i : I) where
+module _ {S I R : Type 0} (b : Session S I R) (p : ℕ) (i : I) where
   pub result_of_call-begun : refusal_of_call b p ≡ None → result_of_call b p i ≡ record { events = Call p i ∷ []; text = called_text (record { process = p; nth = b.world.begun p }) }
   result_of_call-begun none = rw none refl
 
   pub result_of_call-refused : (refusal : Refusal) → refusal_of_call b p ≡ Some refusal → result_of_call b p i ≡ refused refusal
   result_of_call-refused refusal some = rw some refl
 
-module _ {S I R : Type 0} (b : Bench S I R) where
+module _ {S I R : Type 0} (b : Session S I R) where
   pub result_of_trim-ended : refusal_of_end b b.world.n ≡ None → result_of_trim b ≡ record { events = Trim ∷ []; text = trimmed_text (last_number b.world) }
   result_of_trim-ended none = rw none refl
 

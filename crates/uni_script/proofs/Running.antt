@@ -5,8 +5,8 @@ use Rattle.std.specs.List.{list_all}
 use Rattle.uni_script.specs.declared.fault.BenchFault.{BenchFault}
 use Rattle.uni_script.specs.declared.fault.BenchFault.TheVariants.{TooLong, TooMany}
 use Rattle.ready_objects.specs.Words.{words_of_text}
-use Rattle.uni_script.specs.Script.{is_plain_byte, is_note}
-use Rattle.uni_script.specs.Meaning.{ScriptBench, Outcome, outcome_of_fault, and_then, and_then_from, outcome_of_line, outcome_of_words, outcome_of_short_line, outcome_of_lines}
+use Rattle.uni_script.specs.Grammar.{is_plain_byte, is_note}
+use Rattle.uni_script.specs.Meaning.{ScriptSession, Outcome, outcome_of_fault, and_then, and_then_from, outcome_of_line, outcome_of_words, outcome_of_short_line, outcome_of_lines}
 
 -- a line that isn't too long
 abbrev pub is_short : List ℕ → Bool
@@ -16,32 +16,32 @@ is_short line = nat_le (length line) 200
 abbrev pub after_text : List ℕ → Outcome → Outcome
 after_text text outcome = record outcome { text = text ++ outcome.text }
 
--- what comes after an outcome counts at its bench alone
-pub and_then-same : (first : Outcome) (rest other : Option ScriptBench → Outcome) → ((b : Option ScriptBench) → rest b ≡ other b) → and_then first rest ≡ and_then first other
-and_then-same first rest other same = ap (λ o. and_then_from first o first.fault) (same first.bench)
+-- what comes after an outcome counts at its session alone
+pub and_then-same : (first : Outcome) (rest other : Option ScriptSession → Outcome) → ((b : Option ScriptSession) → rest b ≡ other b) → and_then first rest ≡ and_then first other
+and_then-same first rest other same = ap (λ o. and_then_from first o first.fault) (same first.session)
 
-pub and_then-assoc : (first : Outcome) (second third : Option ScriptBench → Outcome) → and_then (and_then first second) third ≡ and_then first (λ b. and_then (second b) third)
-and_then-assoc first second third = at first.fault refl (second first.bench) (second first.bench).fault refl
+pub and_then-assoc : (first : Outcome) (second third : Option ScriptSession → Outcome) → and_then (and_then first second) third ≡ and_then first (λ b. and_then (second b) third)
+and_then-assoc first second third = at first.fault refl (second first.session) (second first.session).fault refl
   where
     at : (f : Option BenchFault) → first.fault ≡ f → (o : Outcome) (g : Option BenchFault) → o.fault ≡ g
         → and_then (and_then_from first o f) third ≡ and_then_from first (and_then o third) f
     at (Some x) e o g h = rw e refl
-    at None e o None h = rw h (ap (λ t. after (third o.bench) t) (append_assoc first.text o.text (third o.bench).text))
+    at None e o None h = rw h (ap (λ t. after (third o.session) t) (append_assoc first.text o.text (third o.session).text))
       where
         after : Outcome → List ℕ → Outcome
         after outcome text = record outcome { text = text }
     at None e o (Some y) h = rw h refl
 
 -- where the first outcome has no fault
-pub and_then-none : (first : Outcome) (rest : Option ScriptBench → Outcome) → first.fault ≡ None → and_then first rest ≡ after_text first.text (rest first.bench)
+pub and_then-none : (first : Outcome) (rest : Option ScriptSession → Outcome) → first.fault ≡ None → and_then first rest ≡ after_text first.text (rest first.session)
 and_then-none first rest none = rw none refl
 
-pub and_then-some : (first : Outcome) (rest : Option ScriptBench → Outcome) (e : BenchFault) → first.fault ≡ Some e → and_then first rest ≡ first
+pub and_then-some : (first : Outcome) (rest : Option ScriptSession → Outcome) (e : BenchFault) → first.fault ≡ Some e → and_then first rest ≡ first
 and_then-some first rest e some = rw some refl
 
 -- where the history can have so many events
 module _ (limit : ℕ) where
-  pub outcome_of_line-short : (number : ℕ) (b : Option ScriptBench) (line : List ℕ) → number ≤ 100000 → is_short line ≡ true → outcome_of_line limit number b line ≡ outcome_of_short_line limit number b line
+  pub outcome_of_line-short : (number : ℕ) (b : Option ScriptSession) (line : List ℕ) → number ≤ 100000 → is_short line ≡ true → outcome_of_line limit number b line ≡ outcome_of_short_line limit number b line
   outcome_of_line-short number b line few short = at (nat_lt 100000 number) refl (nat_lt 200 (length line)) refl
     where
       at : (p : Bool) → nat_lt 100000 number ≡ p → (q : Bool) → nat_lt 200 (length line) ≡ q → outcome_of_line limit number b line ≡ outcome_of_short_line limit number b line
@@ -50,7 +50,7 @@ module _ (limit : ℕ) where
       at false e false f = rw e (rw f refl)
 
   -- the lines of two lists are run one list after the other
-  pub outcome_of_lines-append : (number : ℕ) (b : Option ScriptBench) (xs ys : List (List ℕ))
+  pub outcome_of_lines-append : (number : ℕ) (b : Option ScriptSession) (xs ys : List (List ℕ))
       → outcome_of_lines limit number b (xs ++ ys) ≡ and_then (outcome_of_lines limit number b xs) (λ after. outcome_of_lines limit (number + length xs) after ys)
   outcome_of_lines-append number b [] ys = let e : number + 0 ≡ number = omega arith in rw e refl
   outcome_of_lines-append number b (x ∷ xs) ys =
@@ -59,7 +59,7 @@ module _ (limit : ℕ) where
       ∙ sym (and_then-assoc (outcome_of_line limit number b x) (λ after. outcome_of_lines limit (number + 1) after xs) (λ later. outcome_of_lines limit (number + length (x ∷ xs)) later ys))
 
   -- a line that is too long ends the run
-  pub outcome_of_lines-too_long : (number : ℕ) (b : Option ScriptBench) (line : List ℕ) (lines : List (List ℕ)) → number ≤ 100000 → 200 < length line
+  pub outcome_of_lines-too_long : (number : ℕ) (b : Option ScriptSession) (line : List ℕ) (lines : List (List ℕ)) → number ≤ 100000 → 200 < length line
       → outcome_of_lines limit number b (line ∷ lines) ≡ outcome_of_fault b (TooLong number)
   outcome_of_lines-too_long number b line lines few long = at (nat_lt 100000 number) refl (nat_lt 200 (length line)) refl
     where
@@ -69,10 +69,10 @@ module _ (limit : ℕ) where
       at false e true f = rw e (rw f refl)
 
   -- line 100001 ends the run
-  pub outcome_of_lines-too_many : (b : Option ScriptBench) (line : List ℕ) (lines : List (List ℕ)) → outcome_of_lines limit 100001 b (line ∷ lines) ≡ outcome_of_fault b TooMany
+  pub outcome_of_lines-too_many : (b : Option ScriptSession) (line : List ℕ) (lines : List (List ℕ)) → outcome_of_lines limit 100001 b (line ∷ lines) ≡ outcome_of_fault b TooMany
   outcome_of_lines-too_many b line lines = refl
 
   -- a line of plain bytes that isn't a note means what its words do
-  pub outcome_of_short_line-words : (number : ℕ) (b : Option ScriptBench) (line : List ℕ) (words : List (List ℕ)) → list_all is_plain_byte line ≡ true → is_note line ≡ false → words ≡ words_of_text line
+  pub outcome_of_short_line-words : (number : ℕ) (b : Option ScriptSession) (line : List ℕ) (words : List (List ℕ)) → list_all is_plain_byte line ≡ true → is_note line ≡ false → words ≡ words_of_text line
       → outcome_of_short_line limit number b line ≡ outcome_of_words limit number b words
   outcome_of_short_line-words number b line words plain note same = rw plain (rw note (rw same refl))

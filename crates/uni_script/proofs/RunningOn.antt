@@ -16,12 +16,12 @@ use Rattle.uni_script.specs.declared.lines.Stop.TheVariants.{End, Failed}
 use Rattle.uni_script.specs.declared.summary.Summary.{Summary}
 use Rattle.uni_script.specs.declared.grammar.Version.{Version}
 use Rattle.uni_script.specs.Ends.{AppendsFront}
-use Rattle.uni_script.specs.Script.{cut, last_line, is_plain_byte, is_note, header_of_words, command_of_words}
+use Rattle.uni_script.specs.Grammar.{cut, last_line, is_plain_byte, is_note, header_of_words, command_of_words}
 use Rattle.uni_script.specs.Objects.{SpokenObject, spoken_of}
-use Rattle.uni_script.specs.Meaning.{Bench, bench_after, ScriptBench, Outcome, script_bench, bench_of_header, result_of_command, outcome_of_fault, outcome_of_text, and_then, outcome_of_command, outcome_of_words, outcome_of_short_line, outcome_of_lines, outcome_of_end}
-use Rattle.uni_script.specs.Summaries.{summary_of_bench}
-use Rattle.uni_script.specs.Promises.{IsPromisedBench}
-use Rattle.uni_script.specs.Reading.{IsHeld, line_of, rest_of, HasTaken, HasStopped, HasRun, HasEnded, IsRead, lines_of_read, outcome_of_stop, outcome_of_read, EndsAs, WritesAs, IsFaultOfLine}
+use Rattle.uni_script.specs.Meaning.{Session, session_after, ScriptSession, Outcome, script_session, session_of_header, result_of_command, outcome_of_fault, outcome_of_text, and_then, outcome_of_command, outcome_of_words, outcome_of_short_line, outcome_of_lines, outcome_of_end}
+use Rattle.uni_script.specs.Summary.{summary_of_session}
+use Rattle.uni_script.specs.Promises.{IsPromisedSession}
+use Rattle.uni_script.specs.Lines.{IsHeld, line_of, rest_of, HasTaken, HasStopped, HasRun, HasEnded, IsRead, lines_of_read, outcome_of_stop, outcome_of_read, EndsAs, WritesAs, IsFaultOfLine}
 use Rattle.uni_script.proofs.Cutting.{cut-append}
 use Rattle.uni_script.proofs.Running.{is_short, after_text, and_then-none, and_then-some, and_then-assoc, outcome_of_line-short, outcome_of_lines-append}
 use Rattle.uni_script.proofs.Taking.{line_of-length}
@@ -31,7 +31,7 @@ use Rattle.uni_script.proofs.Written.{AppendsFront-all, AppendsFront-more, Appen
 abbrev IsSilent : Outcome → Type 0
 IsSilent outcome = (e : BenchFault) → outcome.fault ≡ Some e → outcome.text ≡ []
 
-IsSilent-none : (b : Option ScriptBench) (text : List ℕ) → IsSilent (record { bench = b; text = text; fault = None })
+IsSilent-none : (b : Option ScriptSession) (text : List ℕ) → IsSilent (record { session = b; text = text; fault = None })
 IsSilent-none b text e q = absurd (let f : None ≡ Some e = q in cc)
 
 IsSilent-if : (c : Bool) (x y : Outcome) → IsSilent x → IsSilent y → IsSilent (if c then x else y)
@@ -42,10 +42,10 @@ IsSilent-map_or : {A : Type 0} (f : A → Outcome) (o : Option A) (x : Outcome) 
 IsSilent-map_or f None x p q = q
 IsSilent-map_or f (Some a) x p q = p a
 
-IsSilent-outcome_of_command : {S I R : Type 0} (o : SpokenObject S I R) (inside : Version → Bench S I R → ScriptBench) (version : Version) (number : ℕ) (b : Bench S I R) (words : List (List ℕ)) → IsSilent (outcome_of_command o inside version number b words)
+IsSilent-outcome_of_command : {S I R : Type 0} (o : SpokenObject S I R) (inside : Version → Session S I R → ScriptSession) (version : Version) (number : ℕ) (b : Session S I R) (words : List (List ℕ)) → IsSilent (outcome_of_command o inside version number b words)
 IsSilent-outcome_of_command o inside version number b words =
-    IsSilent-map_or (λ command. outcome_of_text (inside version (bench_after o b (result_of_command o b command).events)) (result_of_command o b command).text) (command_of_words version o.language.inv_of_words words) (outcome_of_fault (Some (inside version b)) (BadLine number))
-    (λ command. IsSilent-none (Some (inside version (bench_after o b (result_of_command o b command).events))) (result_of_command o b command).text) (λ e q. refl)
+    IsSilent-map_or (λ command. outcome_of_text (inside version (session_after o b (result_of_command o b command).events)) (result_of_command o b command).text) (command_of_words version o.language.inv_of_words words) (outcome_of_fault (Some (inside version b)) (BadLine number))
+    (λ command. IsSilent-none (Some (inside version (session_after o b (result_of_command o b command).events))) (result_of_command o b command).text) (λ e q. refl)
 
 -- a call that didn't fail so leaves an end as it was
 pub stays_false : (b : Bool) (P : Type 0) → (P ↔ (b ≡ true)) → (P → ⊥) → b ≡ false
@@ -70,7 +70,7 @@ not_read e own same = subst IsFaultOfLine same own
 pub not_write : (e : BenchFault) → IsFaultOfLine e → e ≢ Write
 not_write e own same = subst IsFaultOfLine same own
 
-pub WritesAs-header : (outcome : Outcome) (b : Option ScriptBench) (e : BenchFault) (old : Option (List ℕ)) → (e ≡ Memory) ⊎ (outcome ≡ outcome_of_fault b e) → WritesAs {A = Summary} outcome old old (Err e)
+pub WritesAs-header : (outcome : Outcome) (b : Option ScriptSession) (e : BenchFault) (old : Option (List ℕ)) → (e ≡ Memory) ⊎ (outcome ≡ outcome_of_fault b e) → WritesAs {A = Summary} outcome old old (Err e)
 WritesAs-header outcome b e old (inl memory) = inl (inl memory, AppendsFront-nil old outcome.text)
 WritesAs-header outcome b e old (inr same) = inr (ap (λ (o : Outcome). o.fault) same, subst (Appends old old) (sym (ap (λ (o : Outcome). o.text) same)) (Appends-nil old))
 
@@ -81,22 +81,22 @@ pub of_none : {A : Type 0} (o : Option A) (P : Type 0) → o ≡ None → IfNone
 of_none {A = A} o P e h = let none : Option A = None in let g : IfNone none P = subst (λ q. IfNone q P) e h in g
 
 -- the run of one line is that of its line
-and_then-done : (o : Outcome) → and_then o (λ b. record { bench = b; text = []; fault = None }) ≡ o
+and_then-done : (o : Outcome) → and_then o (λ b. record { session = b; text = []; fault = None }) ≡ o
 and_then-done o = at o.fault refl
   where
     with_fault : Outcome → List ℕ → Option BenchFault → Outcome
-    with_fault o text fault = record { bench = o.bench; text = text; fault = fault }
+    with_fault o text fault = record { session = o.session; text = text; fault = fault }
 
-    at : (f : Option BenchFault) → o.fault ≡ f → and_then o (λ b. record { bench = b; text = []; fault = None }) ≡ o
-    at None e = and_then-none o (λ b. record { bench = b; text = []; fault = None }) e ∙ ap (λ t. with_fault o t None) (append-nil o.text) ∙ ap (λ f. with_fault o o.text f) (sym e)
-    at (Some f) e = and_then-some o (λ b. record { bench = b; text = []; fault = None }) f e
+    at : (f : Option BenchFault) → o.fault ≡ f → and_then o (λ b. record { session = b; text = []; fault = None }) ≡ o
+    at None e = and_then-none o (λ b. record { session = b; text = []; fault = None }) e ∙ ap (λ t. with_fault o t None) (append-nil o.text) ∙ ap (λ f. with_fault o o.text f) (sym e)
+    at (Some f) e = and_then-some o (λ b. record { session = b; text = []; fault = None }) f e
 
 -- what comes after an outcome has its text in front
-text_goes_on : (o : Outcome) (rest : Option ScriptBench → Outcome) → (more : List ℕ) × ((and_then o rest).text ≡ o.text ++ more)
+text_goes_on : (o : Outcome) (rest : Option ScriptSession → Outcome) → (more : List ℕ) × ((and_then o rest).text ≡ o.text ++ more)
 text_goes_on o rest = at o.fault refl
   where
     at : (f : Option BenchFault) → o.fault ≡ f → (more : List ℕ) × ((and_then o rest).text ≡ o.text ++ more)
-    at None e = ((rest o.bench).text, ap (λ (x : Outcome). x.text) (and_then-none o rest e))
+    at None e = ((rest o.session).text, ap (λ (x : Outcome). x.text) (and_then-none o rest e))
     at (Some f) e = ([], ap (λ (x : Outcome). x.text) (and_then-some o rest f e) ∙ sym (append-nil o.text))
 
 -- the lines of what was read so far, and the whole lines of the piece
@@ -130,21 +130,21 @@ IsWhole-taken old now lines taken has = at lines.source refl
 
 -- where the history can have so many events
 module _ (limit : ℕ) where
-  IsSilent-outcome_of_words : (number : ℕ) (b : Option ScriptBench) (words : List (List ℕ)) → IsSilent (outcome_of_words limit number b words)
+  IsSilent-outcome_of_words : (number : ℕ) (b : Option ScriptSession) (words : List (List ℕ)) → IsSilent (outcome_of_words limit number b words)
   IsSilent-outcome_of_words number None words =
-      IsSilent-map_or (λ header. outcome_of_text (bench_of_header limit header) []) (header_of_words words) (outcome_of_fault None (BadHeader number)) (λ header. IsSilent-none (Some (bench_of_header limit header)) []) (λ e q. refl)
-  IsSilent-outcome_of_words number (Some b) words = IsSilent-outcome_of_command (spoken_of b.object) (script_bench b.object) b.version number b.bench words
+      IsSilent-map_or (λ header. outcome_of_text (session_of_header limit header) []) (header_of_words words) (outcome_of_fault None (BadHeader number)) (λ header. IsSilent-none (Some (session_of_header limit header)) []) (λ e q. refl)
+  IsSilent-outcome_of_words number (Some b) words = IsSilent-outcome_of_command (spoken_of b.object) (script_session b.object) b.version number b.session words
 
-  IsSilent-outcome_of_short_line : (number : ℕ) (b : Option ScriptBench) (line : List ℕ) → IsSilent (outcome_of_short_line limit number b line)
+  IsSilent-outcome_of_short_line : (number : ℕ) (b : Option ScriptSession) (line : List ℕ) → IsSilent (outcome_of_short_line limit number b line)
   IsSilent-outcome_of_short_line number b line =
       let worded : Outcome = outcome_of_words limit number b (words_of_text line) in
-      let noted : Outcome = record { bench = b; text = []; fault = None } in
+      let noted : Outcome = record { session = b; text = []; fault = None } in
       let plain : Outcome = if is_note line then noted else worded in
       IsSilent-if (not (list_all is_plain_byte line)) (outcome_of_fault b (BadByte number)) plain (λ e q. refl)
       (IsSilent-if (is_note line) noted worded (IsSilent-none b []) (IsSilent-outcome_of_words number b (words_of_text line)))
 
   -- a line that has a fault, or is refused memory, writes nothing
-  pub WritesAs-faulted : {B : Type 0} (number : ℕ) (b : Option ScriptBench) (line : List ℕ) (e : BenchFault) (text : List ℕ) (old : Option (List ℕ)) (result : Result B BenchFault) → result ≡ Err e
+  pub WritesAs-faulted : {B : Type 0} (number : ℕ) (b : Option ScriptSession) (line : List ℕ) (e : BenchFault) (text : List ℕ) (old : Option (List ℕ)) (result : Result B BenchFault) → result ≡ Err e
       → EndsAs {A = Summary} (outcome_of_short_line limit number b line) [] text (Err e) → WritesAs (outcome_of_short_line limit number b line) old old result
   WritesAs-faulted number b line e text old (Ok x) bad ends = cc
   WritesAs-faulted number b line e text old (Err f) same (inl memory) = inl (inl (let g : f ≡ e = cc in g ∙ memory), AppendsFront-nil old (outcome_of_short_line limit number b line).text)
@@ -153,9 +153,9 @@ module _ (limit : ℕ) where
       inr (has.0 ∙ ap Some (sym g), subst (Appends old old) (sym (IsSilent-outcome_of_short_line number b line e has.0)) (Appends-nil old))
 
   pub HasRun-start : (left written : Option (List ℕ)) (lines : Lines) → HasTaken left left lines [] → HasRun limit left left lines written written [] None
-  HasRun-start left written lines has = record { reading = has; fault = refl; bench_after = refl; written_as = Appends-nil written }
+  HasRun-start left written lines has = record { reading = has; fault = refl; session_after = refl; written_as = Appends-nil written }
 
-  module _ (old now : Option (List ℕ)) (lines : Lines) (written_old written : Option (List ℕ)) (taken : List (List ℕ)) (b : Option ScriptBench) (run : HasRun limit old now lines written_old written taken b) where
+  module _ (old now : Option (List ℕ)) (lines : Lines) (written_old written : Option (List ℕ)) (taken : List (List ℕ)) (b : Option ScriptSession) (run : HasRun limit old now lines written_old written taken b) where
     abbrev pub before : Outcome
     before = outcome_of_lines limit 1 None taken
 
@@ -174,35 +174,35 @@ module _ (limit : ℕ) where
       outcome_with_line =
           outcome_of_lines-append limit 1 None taken (line ∷ [])
           ∙ and_then-none before (λ c. outcome_of_lines limit (1 + length taken) c (line ∷ [])) run.fault
-          ∙ ap (λ c. after_text before.text (outcome_of_lines limit (1 + length taken) c (line ∷ []))) run.bench_after
+          ∙ ap (λ c. after_text before.text (outcome_of_lines limit (1 + length taken) c (line ∷ []))) run.session_after
           ∙ ap (λ n. after_text before.text (outcome_of_lines limit n b (line ∷ []))) number_is
-          ∙ ap (λ o. after_text before.text (and_then o (λ c. record { bench = c; text = []; fault = None }))) (outcome_of_line-short limit after.count b line few short)
+          ∙ ap (λ o. after_text before.text (and_then o (λ c. record { session = c; text = []; fault = None }))) (outcome_of_line-short limit after.count b line few short)
           ∙ ap (after_text before.text) (and_then-done first)
 
       -- a line without a fault was run, and its answer written
-      pub HasRun-line : (b' : Option ScriptBench) (written_new : Option (List ℕ)) → first.fault ≡ None → first.bench ≡ b' → Appends written written_new first.text
+      pub HasRun-line : (b' : Option ScriptSession) (written_new : Option (List ℕ)) → first.fault ≡ None → first.session ≡ b' → Appends written written_new first.text
           → HasRun limit old new after written_old written_new (taken ++ line ∷ []) b'
       HasRun-line b' written_new none same wrote = record {
         reading = has;
         fault = ap (λ (o : Outcome). o.fault) outcome_with_line ∙ none;
-        bench_after = ap (λ (o : Outcome). o.bench) outcome_with_line ∙ same;
+        session_after = ap (λ (o : Outcome). o.session) outcome_with_line ∙ same;
         written_as = subst (Appends written_old written_new) (sym (ap (λ (o : Outcome). o.text) outcome_with_line)) (Appends-trans written_old written written_new before.text first.text run.written_as wrote);
       }
 
       -- a line without a fault and without an answer was run
-      pub HasRun-quiet : (b' : Option ScriptBench) → first ≡ record { bench = b'; text = []; fault = None } → HasRun limit old new after written_old written (taken ++ line ∷ []) b'
+      pub HasRun-quiet : (b' : Option ScriptSession) → first ≡ record { session = b'; text = []; fault = None } → HasRun limit old new after written_old written (taken ++ line ∷ []) b'
       HasRun-quiet b' quiet =
-          HasRun-line b' written (ap (λ (o : Outcome). o.fault) quiet) (ap (λ (o : Outcome). o.bench) quiet) (subst (Appends written written) (sym (ap (λ (o : Outcome). o.text) quiet)) (Appends-nil written))
+          HasRun-line b' written (ap (λ (o : Outcome). o.fault) quiet) (ap (λ (o : Outcome). o.session) quiet) (subst (Appends written written) (sym (ap (λ (o : Outcome). o.text) quiet)) (Appends-nil written))
 
       abbrev pub whole : IsWhole old new (taken ++ line ∷ [])
       whole = IsWhole-taken old new after (taken ++ line ∷ []) has
 
-      abbrev pub rest_of_run : Option ScriptBench → Outcome
+      abbrev pub rest_of_run : Option ScriptSession → Outcome
       rest_of_run c = and_then (outcome_of_lines limit (1 + length (taken ++ line ∷ [])) c whole.more) (λ d. outcome_of_stop whole.stop (length (lines_of_read whole.stop whole.bytes)) d)
 
       outcome_is : outcome_of_read limit whole.stop whole.bytes ≡ and_then (after_text before.text first) rest_of_run
       outcome_is =
-          let stopped : Option ScriptBench → Outcome = λ d. outcome_of_stop whole.stop (length (lines_of_read whole.stop whole.bytes)) d in
+          let stopped : Option ScriptSession → Outcome = λ d. outcome_of_stop whole.stop (length (lines_of_read whole.stop whole.bytes)) d in
           ap (λ l. and_then (outcome_of_lines limit 1 None l) stopped) whole.lines
           ∙ ap (λ o. and_then o stopped) (outcome_of_lines-append limit 1 None (taken ++ line ∷ []) whole.more)
           ∙ and_then-assoc (outcome_of_lines limit 1 None (taken ++ line ∷ [])) (λ c. outcome_of_lines limit (1 + length (taken ++ line ∷ [])) c whole.more) stopped
@@ -229,8 +229,8 @@ module _ (limit : ℕ) where
     pub HasEnded-memory : HasEnded limit old now written_old written (Err Memory)
     HasEnded-memory =
         let whole : IsWhole old now taken = IsWhole-taken old now lines taken run.reading in
-        let stopped : Option ScriptBench → Outcome = λ d. outcome_of_stop whole.stop (length (lines_of_read whole.stop whole.bytes)) d in
-        let rest : Option ScriptBench → Outcome = λ c. and_then (outcome_of_lines limit (1 + length taken) c whole.more) stopped in
+        let stopped : Option ScriptSession → Outcome = λ d. outcome_of_stop whole.stop (length (lines_of_read whole.stop whole.bytes)) d in
+        let rest : Option ScriptSession → Outcome = λ c. and_then (outcome_of_lines limit (1 + length taken) c whole.more) stopped in
         let same : outcome_of_read limit whole.stop whole.bytes ≡ and_then before rest =
         ap (λ l. and_then (outcome_of_lines limit 1 None l) stopped) whole.lines ∙ ap (λ o. and_then o stopped) (outcome_of_lines-append limit 1 None taken whole.more)
         ∙ and_then-assoc before (λ c. outcome_of_lines limit (1 + length taken) c whole.more) stopped in
@@ -244,11 +244,11 @@ module _ (limit : ℕ) where
         }
 
     module _ (new : Option (List ℕ)) (stop : Stop) (has : HasStopped old new stop taken) where
-      outcome_of_stopped : (bench : Option ScriptBench) → bench ≡ b → outcome_of_read limit stop has.bytes ≡ after_text before.text (outcome_of_stop stop (length taken) bench)
-      outcome_of_stopped bench same =
+      outcome_of_stopped : (session : Option ScriptSession) → session ≡ b → outcome_of_read limit stop has.bytes ≡ after_text before.text (outcome_of_stop stop (length taken) session)
+      outcome_of_stopped session same =
           ap (λ l. and_then (outcome_of_lines limit 1 None l) (λ c. outcome_of_stop stop (length l) c)) has.taken_as
           ∙ and_then-none before (λ c. outcome_of_stop stop (length taken) c) run.fault
-          ∙ ap (λ c. after_text before.text (outcome_of_stop stop (length taken) c)) (run.bench_after ∙ sym same)
+          ∙ ap (λ c. after_text before.text (outcome_of_stop stop (length taken) c)) (run.session_after ∙ sym same)
 
       -- the run ends where no further line was taken
       pub HasEnded-stop : (e : BenchFault) → outcome_of_stop stop (length taken) b ≡ outcome_of_fault b e → HasEnded limit old new written_old written (Err e)
@@ -263,9 +263,9 @@ module _ (limit : ℕ) where
           }
 
   -- the run ends where the script does
-  pub HasEnded-end : (old now : Option (List ℕ)) (lines : Lines) (written_old written : Option (List ℕ)) (taken : List (List ℕ)) (b : ScriptBench) → HasRun limit old now lines written_old written taken (Some b)
+  pub HasEnded-end : (old now : Option (List ℕ)) (lines : Lines) (written_old written : Option (List ℕ)) (taken : List (List ℕ)) (b : ScriptSession) → HasRun limit old now lines written_old written taken (Some b)
       → (new : Option (List ℕ)) → HasStopped old new End taken → (written_new : Option (List ℕ)) (result : Result Summary BenchFault) → WritesAs (outcome_of_end lines.count (Some b)) written written_new result
-      → IfOk result (λ s. summary_of_bench lines.count b ≡ s) → OnOk result (IsPromisedBench b) → HasEnded limit old new written_old written_new result
+      → IfOk result (λ s. summary_of_session lines.count b ≡ s) → OnOk result (IsPromisedSession b) → HasEnded limit old new written_old written_new result
   HasEnded-end old now lines written_old written taken b run new has written_new result ends summary kept = record {
     stop = End;
     bytes = has.bytes;
@@ -283,12 +283,12 @@ module _ (limit : ℕ) where
       ended (Err e) (inl early) = inl (early.0, subst (AppendsFront written_old written_new) (sym (ap (λ (o : Outcome). o.text) same)) (AppendsFront-after written_old written written_new (outcome_of_lines limit 1 None taken).text _ run.written_as early.1))
       ended (Err e) (inr bad) = absurd (let f : None ≡ Some e = bad.0 in cc)
 
-      summed : (r : Result Summary BenchFault) → IfOk r (λ s. summary_of_bench lines.count b ≡ s) → IfOk r (λ s. option_map (summary_of_bench (length (lines_of_read End has.bytes))) (outcome_of_read limit End has.bytes).bench ≡ Some s)
+      summed : (r : Result Summary BenchFault) → IfOk r (λ s. summary_of_session lines.count b ≡ s) → IfOk r (λ s. option_map (summary_of_session (length (lines_of_read End has.bytes))) (outcome_of_read limit End has.bytes).session ≡ Some s)
       summed (Ok s) h =
-          ap (λ (o : Outcome). option_map (summary_of_bench (length (lines_of_read End has.bytes))) o.bench) same
-          ∙ ap (λ n. Some (summary_of_bench n b)) (ap length has.taken_as ∙ run.reading.count) ∙ ap Some h
+          ap (λ (o : Outcome). option_map (summary_of_session (length (lines_of_read End has.bytes))) o.session) same
+          ∙ ap (λ n. Some (summary_of_session n b)) (ap length has.taken_as ∙ run.reading.count) ∙ ap Some h
       summed (Err e) h = tt
 
-      promised : (r : Result Summary BenchFault) → OnOk r (IsPromisedBench b) → OnOk r ((c : ScriptBench) × ((outcome_of_read limit End has.bytes).bench ≡ Some c) × IsPromisedBench c)
-      promised (Ok s) kept = (b, ap (λ (o : Outcome). o.bench) same, kept)
+      promised : (r : Result Summary BenchFault) → OnOk r (IsPromisedSession b) → OnOk r ((c : ScriptSession) × ((outcome_of_read limit End has.bytes).session ≡ Some c) × IsPromisedSession c)
+      promised (Ok s) kept = (b, ap (λ (o : Outcome). o.session) same, kept)
       promised (Err e) kept = tt

@@ -11,14 +11,14 @@ use Rattle.uni_model.specs.Laws.{IsReached}
 use Rattle.uni_model.proofs.Bounded.{HelpingInvariant-world_after, IsBounded-held}
 use Rattle.uni_model.proofs.Counted.{CountsSteps-world_after}
 use Rattle.uni_model.proofs.LawProofs.{CountsSteps-reached}
-use Rattle.uni_core.specs.Whole.{world_of, progress_of}
+use Rattle.uni_core.specs.World.{world_of, progress_of}
 use Rattle.uni_core.specs.declared.fault.Progress.{Progress}
 use Rattle.uni_core.specs.declared.fault.Progress.TheVariants.{Going, Done}
 use Rattle.uni_record.specs.declared.event.Event.{Event as Stored}
-use Rattle.uni_record.specs.Recording.{Recording, KeepsOpening}
-use Rattle.uni_record.specs.Stored.{event_shown, events_shown}
+use Rattle.uni_record.specs.Recorded.{Recording, KeepsOpening}
+use Rattle.uni_record.specs.Event.{event_shown, events_shown}
 use Rattle.uni_script.specs.Objects.{SpokenObject}
-use Rattle.uni_script.specs.Meaning.{Bench, bench_of, bench_after, response_after, last_step, steps_of, steps_taken, most_steps}
+use Rattle.uni_script.specs.Meaning.{Session, session_of, session_after, response_after, last_step, steps_of, steps_taken, most_steps}
 use Rattle.uni_script.proofs.Helped.{n-world_after_step, steps-world_after_step, pending-world_after_step, HelpingInvariant-reached}
 
 -- a step that answers `Going` has no response
@@ -31,8 +31,8 @@ pub some-from_Done : {R : Type 0} (o : Option R) (r : R) (progress : Progress R)
 some-from_Done None r progress e f = cc
 some-from_Done (Some q) r progress e f = cc
 
-pub bench_is : {S I R : Type 0} (b c : Bench S I R) → b.processes ≡ c.processes → b.first ≡ c.first → b.row ≡ c.row → b.limit ≡ c.limit → b.events ≡ c.events → b.world ≡ c.world → b ≡ c
-bench_is b c p f r l e w =
+pub session_is : {S I R : Type 0} (b c : Session S I R) → b.processes ≡ c.processes → b.first ≡ c.first → b.row ≡ c.row → b.limit ≡ c.limit → b.events ≡ c.events → b.world ≡ c.world → b ≡ c
+session_is b c p f r l e w =
     let g : record { processes = b.processes; first = b.first; row = b.row; limit = b.limit; events = b.events; world = b.world }
     ≡ record { processes = c.processes; first = c.first; row = c.row; limit = c.limit; events = c.events; world = c.world } = cc in g
 
@@ -41,16 +41,16 @@ world_after_all-append object w [] fs = refl
 world_after_all-append object w (e ∷ es) fs = world_after_all-append object (world_after object w e) es fs
 
 module _ {S I R : Type 0} (o : SpokenObject S I R) where
-  pub bench_after-none : (b : Bench S I R) → bench_after o b [] ≡ b
-  bench_after-none b = bench_is _ _ refl refl refl refl (append-nil b.events) refl
+  pub session_after-none : (b : Session S I R) → session_after o b [] ≡ b
+  session_after-none b = session_is _ _ refl refl refl refl (append-nil b.events) refl
 
-  pub bench_after-append : (b : Bench S I R) (es fs : List (Event I)) → bench_after o (bench_after o b es) fs ≡ bench_after o b (es ++ fs)
-  bench_after-append b es fs = bench_is _ _ refl refl refl refl (append_assoc b.events es fs) (world_after_all-append o.object b.world es fs)
+  pub session_after-append : (b : Session S I R) (es fs : List (Event I)) → session_after o (session_after o b es) fs ≡ session_after o b (es ++ fs)
+  session_after-append b es fs = session_is _ _ refl refl refl refl (append_assoc b.events es fs) (world_after_all-append o.object b.world es fs)
 
   -- a record with one event more
-  pub bench_of-event : {O : Type 0} (r r' : Recording O S I R) (e : Stored I) → KeepsOpening r r' → r'.events ≡ r.events ++ e ∷ [] → world_of r'.world ≡ world_after o.object (world_of r.world) (event_shown e)
-      → bench_of r' ≡ bench_after o (bench_of r) (event_shown e ∷ [])
-  bench_of-event r r' e fixed events world = bench_is _ _ fixed.processes fixed.first fixed.row fixed.limit (ap events_shown events ∙ map-append event_shown r.events (e ∷ [])) world
+  pub session_of-event : {O : Type 0} (r r' : Recording O S I R) (e : Stored I) → KeepsOpening r r' → r'.events ≡ r.events ++ e ∷ [] → world_of r'.world ≡ world_after o.object (world_of r.world) (event_shown e)
+      → session_of r' ≡ session_after o (session_of r) (event_shown e ∷ [])
+  session_of-event r r' e fixed events world = session_is _ _ fixed.processes fixed.first fixed.row fixed.limit (ap events_shown events ∙ map-append event_shown r.events (e ∷ [])) world
 
 module _ {S I R : Type 0} (o : SpokenObject S I R) (p : ℕ) where
   module _ (w : WorldOf S I R) where
@@ -65,9 +65,9 @@ module _ {S I R : Type 0} (o : SpokenObject S I R) (p : ℕ) where
     last_step-stays (suc k) m n is x some = let e : n ≡ suc (k + m) = omega arith in rw e (rw (last_step-stays k m (k + m) refl x some) refl)
 
   -- Of the most steps that a process may take, it has taken so many, which have led from b to now; its call is still pending.
-  pub record IsOnTheWay (b : Bench S I R) (most count : ℕ) (now : Bench S I R) : Type 0 where
+  pub record IsOnTheWay (b : Session S I R) (most count : ℕ) (now : Session S I R) : Type 0 where
     pub few : count ≤ most
-    pub after : now ≡ bench_after o b (steps_of p count)
+    pub after : now ≡ session_after o b (steps_of p count)
     pub n : now.world.n ≡ b.world.n
     pub steps : now.world.steps p ≡ b.world.steps p + count
     pub pending : IsSome (now.world.call p)
@@ -75,11 +75,11 @@ module _ {S I R : Type 0} (o : SpokenObject S I R) (p : ℕ) where
     pub counts : CountsSteps now.world
     pub helping : HelpingInvariant o.object now.world
 
-  module _ (b : Bench S I R) (most : ℕ) where
+  module _ (b : Session S I R) (most : ℕ) where
     pub IsOnTheWay-start : IsReached o.object b.world → IsSome (b.world.call p) → IsOnTheWay b most 0 b
     IsOnTheWay-start reached pending = record {
       few = omega arith;
-      after = sym (bench_after-none o b);
+      after = sym (session_after-none o b);
       n = refl;
       steps = omega arith;
       pending = pending;
@@ -88,19 +88,19 @@ module _ {S I R : Type 0} (o : SpokenObject S I R) (p : ℕ) where
       helping = HelpingInvariant-reached o p b.world reached;
     }
 
-    module _ (count : ℕ) (now : Bench S I R) (on : IsOnTheWay b most count now) where
+    module _ (count : ℕ) (now : Session S I R) (on : IsOnTheWay b most count now) where
       one_more : count + 1 ≡ suc count
       one_more = omega arith
 
       response_now : (r : Option R) → response_of_step now.world p ≡ r → response_after o b.world p count ≡ r
-      response_now r is = ap (λ (c : Bench S I R). response_of_step c.world p) (sym on.after) ∙ is
+      response_now r is = ap (λ (c : Session S I R). response_of_step c.world p) (sym on.after) ∙ is
 
-      steps_more : bench_after o now (Step p ∷ []) ≡ bench_after o b (steps_of p (count + 1))
-      steps_more = ap (λ c. bench_after o c (Step p ∷ [])) on.after ∙ bench_after-append o b (steps_of p count) (Step p ∷ []) ∙ ap (bench_after o b) (replicate-append-replicate count 1 (Step p))
+      steps_more : session_after o now (Step p ∷ []) ≡ session_after o b (steps_of p (count + 1))
+      steps_more = ap (λ c. session_after o c (Step p ∷ [])) on.after ∙ session_after-append o b (steps_of p count) (Step p ∷ []) ∙ ap (session_after o b) (replicate-append-replicate count 1 (Step p))
 
-      module _ (further : count < most) (next : Bench S I R) (is : next ≡ bench_after o now (Step p ∷ [])) where
+      module _ (further : count < most) (next : Session S I R) (is : next ≡ session_after o now (Step p ∷ [])) where
         world_is : next.world ≡ world_after o.object now.world (Step p)
-        world_is = ap (λ (c : Bench S I R). c.world) is
+        world_is = ap (λ (c : Session S I R). c.world) is
 
         -- a step that goes on
         pub IsOnTheWay-going : response_of_step now.world p ≡ None → IsOnTheWay b most (count + 1) next
@@ -120,18 +120,18 @@ module _ {S I R : Type 0} (o : SpokenObject S I R) (p : ℕ) where
         pub last_step-done : (r : R) → response_of_step now.world p ≡ Some r → last_step o b.world p most ≡ Some (record { earlier = count; response = r })
         last_step-done r some = last_step-stays b.world (most - suc count) (suc count) most (omega arith) _ (last_step-some b.world count r on.none (response_now (Some r) some))
 
-        pub bench-done : (r : R) → response_of_step now.world p ≡ Some r → next ≡ bench_after o b (steps_of p (steps_taken most (last_step o b.world p most)))
-        bench-done r some = is ∙ steps_more ∙ ap (λ last. bench_after o b (steps_of p (steps_taken most last))) (sym (last_step-done r some))
+        pub session-done : (r : R) → response_of_step now.world p ≡ Some r → next ≡ session_after o b (steps_of p (steps_taken most (last_step o b.world p most)))
+        session-done r some = is ∙ steps_more ∙ ap (λ last. session_after o b (steps_of p (steps_taken most last))) (sym (last_step-done r some))
 
       -- no step is left
       pub last_step-stopped : most ≤ count → last_step o b.world p most ≡ None
       last_step-stopped all = let few = on.few in let same : most ≡ count = omega arith in rw same on.none
 
-      pub bench-stopped : most ≤ count → now ≡ bench_after o b (steps_of p (steps_taken most (last_step o b.world p most)))
-      bench-stopped all =
+      pub session-stopped : most ≤ count → now ≡ session_after o b (steps_of p (steps_taken most (last_step o b.world p most)))
+      session-stopped all =
           let few = on.few in
           let same : count ≡ most = omega arith in
-          on.after ∙ ap (λ k. bench_after o b (steps_of p k)) same ∙ ap (λ last. bench_after o b (steps_of p (steps_taken most last))) (sym (last_step-stopped all))
+          on.after ∙ ap (λ k. session_after o b (steps_of p k)) same ∙ ap (λ last. session_after o b (steps_of p (steps_taken most last))) (sym (last_step-stopped all))
 
       -- a call that is on its way is within the bound
       pub IsOnTheWay-few : count < most_steps b.world.n

@@ -10,8 +10,8 @@ use Rattle.std.specs.List.{list_all}
 use Rattle.uni_script.specs.declared.lines.Lines.{Lines}
 use Rattle.uni_script.specs.declared.lines.Source.TheVariants.{Open, Ended}
 use Rattle.uni_script.specs.declared.lines.Stop.TheVariants.{End, Failed, TooLong, TooMany}
-use Rattle.uni_script.specs.Script.{Cut, cut, last_line}
-use Rattle.uni_script.specs.Reading.{IsHeld, line_of, rest_of, HasTaken, HasStopped}
+use Rattle.uni_script.specs.Grammar.{Cut, cut, last_line}
+use Rattle.uni_script.specs.Lines.{IsHeld, line_of, rest_of, HasTaken, HasStopped}
 use Rattle.uni_script.proofs.Cutting.{end_of, end_of-end, end_of-other, cut_is, cut-append}
 
 -- a byte that ends no line

@@ -10,10 +10,10 @@ use Rattle.uni_model.specs.Worlds.{WorldOf, Event, world_after_all, opened_world
 use Rattle.uni_model.specs.Worlds.Event.{Call, Step, Trim, Reshape}
 use Rattle.uni_model.specs.Chain.{Entry}
 use Rattle.uni_model.specs.History.{log}
-use Rattle.uni_core.specs.Whole.{world_of}
-use Rattle.uni_trim.specs.Eras.{last_number}
-use Rattle.uni_record.specs.Stored.{events_shown}
-use Rattle.uni_record.specs.Recording.{Recording, set_aside, share}
+use Rattle.uni_core.specs.World.{world_of}
+use Rattle.uni_trim.specs.Ends.{last_number}
+use Rattle.uni_record.specs.Event.{events_shown}
+use Rattle.uni_record.specs.Recorded.{Recording, set_aside, share}
 use Rattle.uni_script.specs.declared.fault.BenchFault.{BenchFault}
 use Rattle.uni_script.specs.declared.fault.BenchFault.TheVariants.{NoHeader, BadHeader, TooLong, BadByte, BadLine, TooMany}
 use Rattle.uni_script.specs.declared.grammar.Version.{Version}
@@ -22,14 +22,14 @@ use Rattle.uni_script.specs.declared.grammar.Command.{Command}
 use Rattle.uni_script.specs.declared.grammar.Command.TheVariants as command
 use Rattle.uni_script.specs.declared.answer.Refusal.{Refusal}
 use Rattle.uni_script.specs.declared.answer.Refusal.TheVariants.{Process, Busy, Row, Idle, Pending, Sequence, History, Count}
-use Rattle.uni_script.specs.Answers.{called_text, refused_text, returned_text, going_text, heads_text, trimmed_text, reshaped_text, entry_text, end_text}
+use Rattle.uni_script.specs.Answer.{called_text, refused_text, returned_text, going_text, heads_text, trimmed_text, reshaped_text, entry_text, end_text}
 use Rattle.uni_script.specs.Objects.{SpokenObject, StateOf, InvOf, RespOf, spoken_of}
 use Rattle.uni_script.specs.declared.grammar.ObjectName.{ObjectName}
-use Rattle.uni_script.specs.Script.{lines_of, is_plain_byte, is_note, header_of_words, command_of_words}
+use Rattle.uni_script.specs.Grammar.{lines_of, is_plain_byte, is_note, header_of_words, command_of_words}
 
 -- What a header opens, and what has come since: how many processes there were and the number of the anchor; how many calls a
 -- process can make in an era, and how many events there can be; the events, in order, and the world that they have led to.
-pub record Bench (S I R : Type 0) : Type 0 where
+pub record Session (S I R : Type 0) : Type 0 where
   pub processes : ℕ
   pub first : ℕ
   pub row : ℕ
@@ -38,12 +38,12 @@ pub record Bench (S I R : Type 0) : Type 0 where
   pub world : WorldOf S I R
 
 -- the record that the code has
-abbrev pub bench_of : {O S I R : Type 0} → Recording O S I R → Bench S I R
-bench_of r = record { processes = r.processes; first = r.first; row = r.world.row; limit = r.limit; events = events_shown r.events; world = world_of r.world }
+abbrev pub session_of : {O S I R : Type 0} → Recording O S I R → Session S I R
+session_of r = record { processes = r.processes; first = r.first; row = r.world.row; limit = r.limit; events = events_shown r.events; world = world_of r.world }
 
--- a bench on which further events have come: its world goes on by their replay
-abbrev pub bench_after : {S I R : Type 0} → SpokenObject S I R → Bench S I R → List (Event I) → Bench S I R
-bench_after o b events = record b { events = b.events ++ events; world = world_after_all o.object b.world events }
+-- a session on which further events have come: its world goes on by their replay
+abbrev pub session_after : {S I R : Type 0} → SpokenObject S I R → Session S I R → List (Event I) → Session S I R
+session_after o b events = record b { events = b.events ++ events; world = world_after_all o.object b.world events }
 
 -- what a command comes to: the events that it is, and the text of its answer
 pub record CommandResult (I : Type 0) : Type 0 where
@@ -59,11 +59,11 @@ abbrev pub latest : {S I R : Type 0} → WorldOf S I R → ℕ → CallId
 latest w p = record { process = p; nth = w.begun p - 1 }
 
 -- the history has no room for a call of one process more: for the call itself, and the steps that it may take
-abbrev pub is_full : {S I R : Type 0} → Bench S I R → Bool
+abbrev pub is_full : {S I R : Type 0} → Session S I R → Bool
 is_full b = nat_lt b.limit (length b.events + set_aside b.world + share b.world.n)
 
 -- why a process can't begin a call, if it can't
-abbrev pub refusal_of_call : {S I R : Type 0} → Bench S I R → ℕ → Option Refusal
+abbrev pub refusal_of_call : {S I R : Type 0} → Session S I R → ℕ → Option Refusal
 refusal_of_call b p =
     if nat_le b.world.n p then Some (Process p)
     else if is_some (b.world.call p) then Some (Busy p)
@@ -72,7 +72,7 @@ refusal_of_call b p =
     else None
 
 -- a process begins a call
-abbrev pub result_of_call : {S I R : Type 0} → Bench S I R → ℕ → I → CommandResult I
+abbrev pub result_of_call : {S I R : Type 0} → Session S I R → ℕ → I → CommandResult I
 result_of_call b p i = option_map_or refused (refusal_of_call b p) (record { events = Call p i ∷ []; text = called_text (record { process = p; nth = b.world.begun p }) })
 
 -- why a process can't take a step, if it can't
@@ -129,7 +129,7 @@ least_pending w (suc p) = option_map_or Some (least_pending w p) (if is_some (w.
 
 -- why an era can't end for m processes, if it can't: a call is pending, the numbers of the next era don't fit, or the history has
 -- no room for one event more
-abbrev pub refusal_of_end : {S I R : Type 0} → Bench S I R → (m : ℕ) → Option Refusal
+abbrev pub refusal_of_end : {S I R : Type 0} → Session S I R → (m : ℕ) → Option Refusal
 refusal_of_end b m =
     option_map_or (λ p. Some (Pending p)) (least_pending b.world b.world.n)
     (if nat_le (2 ^ 48) (last_number b.world + m * b.row) then Some Sequence
@@ -137,22 +137,22 @@ refusal_of_end b m =
     else None)
 
 -- the era ends
-abbrev pub result_of_trim : {S I R : Type 0} → Bench S I R → CommandResult I
+abbrev pub result_of_trim : {S I R : Type 0} → Session S I R → CommandResult I
 result_of_trim b = option_map_or refused (refusal_of_end b b.world.n) (record { events = Trim ∷ []; text = trimmed_text (last_number b.world) })
 
 -- why it can't end for another number of processes, if it can't
-abbrev pub refusal_of_reshape : {S I R : Type 0} → Bench S I R → (m : ℕ) → Option Refusal
+abbrev pub refusal_of_reshape : {S I R : Type 0} → Session S I R → (m : ℕ) → Option Refusal
 refusal_of_reshape b m = if nat_le 1 m && nat_le m 64 then refusal_of_end b m else Some (Count m)
 
 -- the era ends, and there are m processes then
-abbrev pub result_of_reshape : {S I R : Type 0} → Bench S I R → (m : ℕ) → CommandResult I
+abbrev pub result_of_reshape : {S I R : Type 0} → Session S I R → (m : ℕ) → CommandResult I
 result_of_reshape b m = option_map_or refused (refusal_of_reshape b m) (record { events = Reshape m ∷ []; text = reshaped_text m (last_number b.world) })
 
 -- the lines of the entries of the present log
 abbrev pub log_text : {S I R : Type 0} → SpokenObject S I R → WorldOf S I R → List ℕ
 log_text o w = concat (map (λ (entry : Entry _ _). entry_text (λ inv. text_of_words (o.language.inv_words inv)) o.language.resp_text entry) (log w))
 
-abbrev pub result_of_command : {S I R : Type 0} → SpokenObject S I R → Bench S I R → Command I → CommandResult I
+abbrev pub result_of_command : {S I R : Type 0} → SpokenObject S I R → Session S I R → Command I → CommandResult I
 result_of_command o b (command.Call p i) = result_of_call b p i
 result_of_command o b (command.Step p most) = result_of_steps o b.world p most
 result_of_command o b (command.Finish p) = result_of_steps o b.world p (most_steps b.world.n)
@@ -161,81 +161,81 @@ result_of_command o b command.Log = record { events = []; text = log_text o b.wo
 result_of_command o b command.Trim = result_of_trim b
 result_of_command o b (command.Reshape m) = result_of_reshape b m
 
--- the bench that a header opens, with a history of so many events at most
-abbrev pub opened_bench : {S I R : Type 0} → SpokenObject S I R → (limit : ℕ) → Header → Bench S I R
-opened_bench o limit header =
+-- the session that a header opens, with a history of so many events at most
+abbrev pub opened_session : {S I R : Type 0} → SpokenObject S I R → (limit : ℕ) → Header → Session S I R
+opened_session o limit header =
     record { processes = header.processes; first = 1; row = header.row; limit = limit; events = []; world = opened_world header.processes o.object.initial 1 }
 
--- the bench of a script in a version of the language: of processes that share the object of this name
-pub record ScriptBench : Type 0 where
+-- the session of a script in a version of the language: of processes that share the object of this name
+pub record ScriptSession : Type 0 where
   pub version : Version
   pub object : ObjectName
-  pub bench : Bench (StateOf object) (InvOf object) (RespOf object)
+  pub session : Session (StateOf object) (InvOf object) (RespOf object)
 
--- the one of an object's bench
-abbrev pub script_bench : (object : ObjectName) → Version → Bench (StateOf object) (InvOf object) (RespOf object) → ScriptBench
-script_bench object version b = record { version = version; object = object; bench = b }
+-- the one of an object's session
+abbrev pub script_session : (object : ObjectName) → Version → Session (StateOf object) (InvOf object) (RespOf object) → ScriptSession
+script_session object version b = record { version = version; object = object; session = b }
 
 -- the one that a header opens
-abbrev pub bench_of_header : (limit : ℕ) → Header → ScriptBench
-bench_of_header limit header = script_bench header.object header.version (opened_bench (spoken_of header.object) limit header)
+abbrev pub session_of_header : (limit : ℕ) → Header → ScriptSession
+session_of_header limit header = script_session header.object header.version (opened_session (spoken_of header.object) limit header)
 
--- What some lines come to: the bench after them, none before the header; the text of their answers; and the fault that
+-- What some lines come to: the session after them, none before the header; the text of their answers; and the fault that
 -- ended them, if one did.
 pub record Outcome : Type 0 where
-  pub bench : Option ScriptBench
+  pub session : Option ScriptSession
   pub text : List ℕ
   pub fault : Option BenchFault
 
-abbrev pub outcome_of_fault : Option ScriptBench → BenchFault → Outcome
-outcome_of_fault b fault = record { bench = b; text = []; fault = Some fault }
+abbrev pub outcome_of_fault : Option ScriptSession → BenchFault → Outcome
+outcome_of_fault b fault = record { session = b; text = []; fault = Some fault }
 
-abbrev pub outcome_of_text : ScriptBench → (text : List ℕ) → Outcome
-outcome_of_text b text = record { bench = Some b; text = text; fault = None }
+abbrev pub outcome_of_text : ScriptSession → (text : List ℕ) → Outcome
+outcome_of_text b text = record { session = Some b; text = text; fault = None }
 
--- an outcome, and then another one from the bench after it, unless a fault ended it
+-- an outcome, and then another one from the session after it, unless a fault ended it
 abbrev pub and_then_from : Outcome → Outcome → Option BenchFault → Outcome
 and_then_from first rest (Some fault) = first
 and_then_from first rest None = record rest { text = first.text ++ rest.text }
 
-abbrev pub and_then : Outcome → (Option ScriptBench → Outcome) → Outcome
-and_then first rest = and_then_from first (rest first.bench) first.fault
+abbrev pub and_then : Outcome → (Option ScriptSession → Outcome) → Outcome
+and_then first rest = and_then_from first (rest first.session) first.fault
 
--- the words of a command, on a bench of this object
-abbrev pub outcome_of_command : {S I R : Type 0} → SpokenObject S I R → (inside : Version → Bench S I R → ScriptBench) → Version → (number : ℕ) → Bench S I R → List (List ℕ) → Outcome
+-- the words of a command, on a session of this object
+abbrev pub outcome_of_command : {S I R : Type 0} → SpokenObject S I R → (inside : Version → Session S I R → ScriptSession) → Version → (number : ℕ) → Session S I R → List (List ℕ) → Outcome
 outcome_of_command o inside version number b words =
-    option_map_or (λ command. let result = result_of_command o b command in outcome_of_text (inside version (bench_after o b result.events)) result.text)
+    option_map_or (λ command. let result = result_of_command o b command in outcome_of_text (inside version (session_after o b result.events)) result.text)
     (command_of_words version o.language.inv_of_words words) (outcome_of_fault (Some (inside version b)) (BadLine number))
 
 -- the end of a script that has so many lines
-abbrev pub outcome_of_end : (lines : ℕ) → Option ScriptBench → Outcome
+abbrev pub outcome_of_end : (lines : ℕ) → Option ScriptSession → Outcome
 outcome_of_end lines None = outcome_of_fault None (NoHeader (lines + 1))
 outcome_of_end lines (Some b) = outcome_of_text b end_text
 
 -- where the history can have so many events
 module _ (limit : ℕ) where
   -- a line that isn't a note
-  abbrev pub outcome_of_words : (number : ℕ) → Option ScriptBench → List (List ℕ) → Outcome
-  outcome_of_words number None words = option_map_or (λ header. outcome_of_text (bench_of_header limit header) []) (header_of_words words) (outcome_of_fault None (BadHeader number))
-  outcome_of_words number (Some b) words = outcome_of_command (spoken_of b.object) (script_bench b.object) b.version number b.bench words
+  abbrev pub outcome_of_words : (number : ℕ) → Option ScriptSession → List (List ℕ) → Outcome
+  outcome_of_words number None words = option_map_or (λ header. outcome_of_text (session_of_header limit header) []) (header_of_words words) (outcome_of_fault None (BadHeader number))
+  outcome_of_words number (Some b) words = outcome_of_command (spoken_of b.object) (script_session b.object) b.version number b.session words
 
   -- a line that isn't too long
-  abbrev pub outcome_of_short_line : (number : ℕ) → Option ScriptBench → List ℕ → Outcome
+  abbrev pub outcome_of_short_line : (number : ℕ) → Option ScriptSession → List ℕ → Outcome
   outcome_of_short_line number b line =
       if not (list_all is_plain_byte line) then outcome_of_fault b (BadByte number)
-      else if is_note line then record { bench = b; text = []; fault = None }
+      else if is_note line then record { session = b; text = []; fault = None }
       else outcome_of_words number b (words_of_text line)
 
   -- a line, with its number: the first fault of those that it has
-  abbrev pub outcome_of_line : (number : ℕ) → Option ScriptBench → List ℕ → Outcome
+  abbrev pub outcome_of_line : (number : ℕ) → Option ScriptSession → List ℕ → Outcome
   outcome_of_line number b line =
       if nat_lt 100000 number then outcome_of_fault b TooMany
       else if nat_lt 200 (length line) then outcome_of_fault b (TooLong number)
       else outcome_of_short_line number b line
 
   -- lines, numbered from here on
-  abbrev pub outcome_of_lines : (number : ℕ) → Option ScriptBench → List (List ℕ) → Outcome
-  outcome_of_lines number b [] = record { bench = b; text = []; fault = None }
+  abbrev pub outcome_of_lines : (number : ℕ) → Option ScriptSession → List (List ℕ) → Outcome
+  outcome_of_lines number b [] = record { session = b; text = []; fault = None }
   outcome_of_lines number b (line ∷ lines) = and_then (outcome_of_line number b line) (λ after. outcome_of_lines (number + 1) after lines)
 
   -- a script

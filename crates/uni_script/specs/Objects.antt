@@ -1,7 +1,7 @@
 -- The objects that a script can share, each by its name: the one place of the definitions that tells them apart.
 use Rattle.std.specs.Prelude.{ℕ, List, Option}
 use Rattle.seq_object.specs.Sequential.{Sequential}
-use Rattle.ready_objects.specs.Language.{Language}
+use Rattle.ready_objects.specs.Spoken.{Language}
 use Rattle.ready_objects.specs.Queue.{queue, queue_language}
 use Rattle.ready_objects.specs.Directory.{Pairs, directory, directory_language}
 use Rattle.ready_objects.specs.Book.{book, book_language}

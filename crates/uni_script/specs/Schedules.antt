@@ -1,8 +1,10 @@
 -- Schedules: scripts that are drawn from words of 64 bits.
-use Rattle.std.specs.Prelude.{◌≡◌, ◌≤◌, ℕ, zero, suc, ◌+◌, ◌/◌, ◌%◌, ◌==◌, nat_le, if◌then◌else◌, List, [], ◌∷◌, ◌++◌, get_or, codes, refl}
+use Rattle.std.specs.Prelude.{◌≡◌, ◌≤◌, ℕ, zero, suc, ◌+◌, ◌/◌, ◌%◌, ◌==◌, nat_le, if◌then◌else◌, List, [], ◌∷◌, ◌++◌, map, get_or, codes, refl}
 use Rattle.std.specs.Fmt.{decimal, digits}
+use Rattle.std.proofs.Common.{arith}
 use Rattle.rand_xoshiro.specs.Xoshiro256.{plus_plus}
-use Rattle.ready_objects.specs.Language.{Language}
+use Rattle.ready_objects.specs.Spoken.{Language}
+use Rattle.ready_objects.specs.Queue.{queue_language}
 use Rattle.ready_objects.specs.Words.{text_of_words}
 use Rattle.uni_script.specs.declared.grammar.ObjectName.{ObjectName}
 use Rattle.uni_script.specs.declared.grammar.ObjectName.TheVariants.{Queue, Directory, Book, Sticky}
@@ -93,3 +95,50 @@ they_are_all_drawn = refl
 seventeen_processes_ask_for_version_2 : header_line (record three_events { processes = 17 }) ≡ codes "universal 2 queue 17 8" ++ 10 ∷ []
 unfolding digits
 seventeen_processes_ask_for_version_2 = refl
+
+sixteen_ask_for_version_1 : map version_of (1 ∷ 16 ∷ 17 ∷ 64 ∷ []) ≡ 1 ∷ 1 ∷ 2 ∷ 2 ∷ []
+sixteen_ask_for_version_1 = refl
+
+words_of_objects : map word_of_object (Queue ∷ Directory ∷ Book ∷ Sticky ∷ []) ≡ codes "queue" ∷ codes "directory" ∷ codes "book" ∷ codes "sticky" ∷ []
+words_of_objects = refl
+
+-- an event of 64 processes at each residue, where a call would be `deq`: the first word after which the residues come again is
+-- 1024, and the greatest word is 2^64 - 1
+events_at_each_residue : map (λ w. event_line queue_language 64 w 0) (0 ∷ 1 ∷ 3 ∷ 4 ∷ 15 ∷ 16 ∷ 17 ∷ 20 ∷ [])
+    ≡ line (codes "trim") [] ∷ line (codes "call 0 deq") [] ∷ line (codes "call 0 deq") [] ∷ line (codes "step 0") [] ∷ line (codes "step 0") []
+    ∷ line (codes "trim") [] ∷ line (codes "call 1 deq") [] ∷ line (codes "step 1") [] ∷ []
+unfolding digits
+events_at_each_residue = refl
+
+processes_are_below_64 : map (λ w. event_line queue_language 64 w 0) (1023 ∷ 1024 ∷ 1028 ∷ 18446744073709551615 ∷ [])
+    ≡ line (codes "step 63") [] ∷ line (codes "trim") [] ∷ line (codes "step 0") [] ∷ line (codes "step 63") [] ∷ []
+unfolding digits
+processes_are_below_64 = refl
+
+a_call_takes_two_words : map words_of_event (0 ∷ 1 ∷ 3 ∷ 4 ∷ 15 ∷ 16 ∷ []) ≡ 1 ∷ 2 ∷ 2 ∷ 1 ∷ 1 ∷ 1 ∷ []
+a_call_takes_two_words = refl
+
+-- the least and the greatest plan, and what is just outside
+the_least_plan : IsPlan (record { object = Queue; processes = 1; row = 1; events = 1 })
+the_least_plan = (omega arith, omega arith, omega arith, omega arith, omega arith, omega arith)
+
+the_greatest_plan : IsPlan (record { object = Queue; processes = 64; row = 4096; events = 99000 })
+the_greatest_plan = (omega arith, omega arith, omega arith, omega arith, omega arith, omega arith)
+
+no_plan_has_no_process : ¬ (IsPlan (record { object = Queue; processes = 0; row = 1; events = 1 }))
+no_plan_has_no_process = λ plan. let least = plan.0 in omega arith
+
+no_plan_has_65_processes : ¬ (IsPlan (record { object = Queue; processes = 65; row = 1; events = 1 }))
+no_plan_has_65_processes = λ plan. let most = plan.1 in omega arith
+
+no_plan_has_a_row_of_0 : ¬ (IsPlan (record { object = Queue; processes = 1; row = 0; events = 1 }))
+no_plan_has_a_row_of_0 = λ plan. let least = plan.2 in omega arith
+
+no_plan_has_a_row_of_4097 : ¬ (IsPlan (record { object = Queue; processes = 1; row = 4097; events = 1 }))
+no_plan_has_a_row_of_4097 = λ plan. let most = plan.3 in omega arith
+
+no_plan_has_no_event : ¬ (IsPlan (record { object = Queue; processes = 1; row = 1; events = 0 }))
+no_plan_has_no_event = λ plan. let least = plan.4 in omega arith
+
+no_plan_has_99001_events : ¬ (IsPlan (record { object = Queue; processes = 1; row = 1; events = 99001 }))
+no_plan_has_99001_events = λ plan. let most = plan.5 in omega arith

@@ -1,7 +1,7 @@
 //! What is written in answer to a line of a script.
 
 ghost use Rattle.std.specs.Prelude.{◌≡◌, ◌++◌, OnOk, Some};
-ghost use Rattle.uni_script.specs.Answers.{refusal_text, answer_text};
+ghost use Rattle.uni_script.specs.Answer.{refusal_text, answer_text};
 
 use seq_object::CallId;
 use std::alloc::AllocError;

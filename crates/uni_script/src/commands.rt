@@ -4,13 +4,13 @@ ghost use Rattle.std.specs.Prelude.{◌≡◌, ◌<◌, ◌≤◌, ◌++◌, IfO
 ghost use Rattle.std.specs.Option.{option_map_or};
 ghost use Rattle.ready_objects.specs.Words.{text_of_words};
 ghost use Rattle.uni_model.specs.Places.{head_seq};
-ghost use Rattle.uni_core.specs.Whole.{world_of};
-ghost use Rattle.uni_log.specs.Shown.{entry_shown};
-ghost use Rattle.uni_record.specs.Recording.{KeepsOpening};
-ghost use Rattle.uni_script.specs.Replays.{IsHistory};
-ghost use Rattle.uni_script.specs.Script.{IsInRange};
-ghost use Rattle.uni_script.specs.Answers.{answer_text, numbers_text, heads_text, entry_text, IsOver};
-ghost use Rattle.uni_script.specs.Meaning.{bench_of, bench_after, opened_bench, result_of_command, result_of_call, result_of_steps, result_of_trim, result_of_reshape, last_step, steps_of, steps_taken, most_steps, log_text};
+ghost use Rattle.uni_core.specs.World.{world_of};
+ghost use Rattle.uni_log.specs.Entry.{entry_shown};
+ghost use Rattle.uni_record.specs.Recorded.{KeepsOpening};
+ghost use Rattle.uni_script.specs.Replay.{IsHistory};
+ghost use Rattle.uni_script.specs.Grammar.{IsInRange};
+ghost use Rattle.uni_script.specs.Answer.{answer_text, numbers_text, heads_text, entry_text, IsOver};
+ghost use Rattle.uni_script.specs.Meaning.{session_of, session_after, opened_session, result_of_command, result_of_call, result_of_steps, result_of_trim, result_of_reshape, last_step, steps_of, steps_taken, most_steps, log_text};
 
 use crate::answer::{Answer, Refusal, push_answer};
 use crate::grammar::{Command, Header};
@@ -36,11 +36,11 @@ pub fn open<O: Spoken>(
 ) -> Result<Recorded<O>, AllocError>
     requires range { IsInRange header }
     requires history { IsHistory history }
-    ensures bench { IfOk result (λ bench. bench_of bench ≡ opened_bench (record { object = O.sequential object; language = O.language }) history header) }
-    ensures object { IfOk result (λ bench. bench.world.object ≡ object) }
+    ensures session { IfOk result (λ session. session_of session ≡ opened_session (record { object = O.sequential object; language = O.language }) history header) }
+    ensures object { IfOk result (λ session. session.world.object ≡ object) }
 {
     match Recorded::open(alloc, object, header.processes, header.row, history) {
-        Ok(bench) => Ok(bench),
+        Ok(session) => Ok(session),
         Err(RecordOpenFault::Memory) => Err(AllocError),
         // The numbers of a header are in range, and so is that of the history.
         Err(
@@ -56,37 +56,37 @@ pub fn open<O: Spoken>(
 ///
 /// An `Err` says that memory was refused.
 pub fn make<O: Spoken>(
-    bench: &mut Recorded<O>,
+    session: &mut Recorded<O>,
     alloc: Global,
     command: Command<O::Inv>,
     text: &mut Vec<u8>,
 ) -> Result<(), AllocError>
-    ensures object { bench.new.world.object ≡ bench.old.world.object }
-    ensures bench { OnOk result (bench_of bench.new ≡ bench_after (record { object = O.sequential bench.old.world.object; language = O.language }) (bench_of bench.old)
-        (result_of_command (record { object = O.sequential bench.old.world.object; language = O.language }) (bench_of bench.old) command).events) }
-    ensures text { OnOk result (text.new.items ≡ text.old.items ++ (result_of_command (record { object = O.sequential bench.old.world.object; language = O.language }) (bench_of bench.old) command).text) }
+    ensures object { session.new.world.object ≡ session.old.world.object }
+    ensures session { OnOk result (session_of session.new ≡ session_after (record { object = O.sequential session.old.world.object; language = O.language }) (session_of session.old)
+        (result_of_command (record { object = O.sequential session.old.world.object; language = O.language }) (session_of session.old) command).events) }
+    ensures text { OnOk result (text.new.items ≡ text.old.items ++ (result_of_command (record { object = O.sequential session.old.world.object; language = O.language }) (session_of session.old) command).text) }
 {
     match command {
         Command::Call { process, inv } => {
-            let answer = call(bench, alloc, process, &inv)?;
+            let answer = call(session, alloc, process, &inv)?;
             push_answer(text, &answer)
         }
         Command::Step { process, count } => {
-            let answer = step(bench, alloc, process, count)?;
+            let answer = step(session, alloc, process, count)?;
             push_answer(text, &answer)
         }
         Command::Finish { process } => {
-            let answer = finish(bench, alloc, process)?;
+            let answer = finish(session, alloc, process)?;
             push_answer(text, &answer)
         }
-        Command::Log => push_log(bench.world(), alloc, text),
-        Command::Heads => push_heads(bench.world(), text),
+        Command::Log => push_log(session.world(), alloc, text),
+        Command::Heads => push_heads(session.world(), text),
         Command::Trim => {
-            let answer = trim(bench, alloc)?;
+            let answer = trim(session, alloc)?;
             push_answer(text, &answer)
         }
         Command::Reshape { processes } => {
-            let answer = reshape(bench, alloc, processes)?;
+            let answer = reshape(session, alloc, processes)?;
             push_answer(text, &answer)
         }
     }
@@ -96,16 +96,16 @@ pub fn make<O: Spoken>(
 ///
 /// An `Err` says that memory was refused.
 fn call<O: Spoken>(
-    bench: &mut Recorded<O>,
+    session: &mut Recorded<O>,
     alloc: Global,
     process: u64,
     inv: &O::Inv,
 ) -> Result<Answer, AllocError>
-    ensures object { bench.new.world.object ≡ bench.old.world.object }
-    ensures bench { OnOk result (bench_of bench.new ≡ bench_after (record { object = O.sequential bench.old.world.object; language = O.language }) (bench_of bench.old) (result_of_call (bench_of bench.old) process inv.now).events) }
-    ensures answer { IfOk result (λ answer. answer_text answer ≡ (result_of_call (bench_of bench.old) process inv.now).text) }
+    ensures object { session.new.world.object ≡ session.old.world.object }
+    ensures session { OnOk result (session_of session.new ≡ session_after (record { object = O.sequential session.old.world.object; language = O.language }) (session_of session.old) (result_of_call (session_of session.old) process inv.now).events) }
+    ensures answer { IfOk result (λ answer. answer_text answer ≡ (result_of_call (session_of session.old) process inv.now).text) }
 {
-    match bench.begin(alloc, process, inv) {
+    match session.begin(alloc, process, inv) {
         Ok(call) => Ok(Answer::Called(call)),
         Err(RecordBeginFault::BadProcess) => Ok(Answer::Refused(Refusal::Process(process))),
         Err(RecordBeginFault::Busy(process)) => Ok(Answer::Refused(Refusal::Busy(process))),
@@ -120,19 +120,19 @@ fn call<O: Spoken>(
 ///
 /// An `Err` says that memory was refused.
 fn finish<O: Spoken>(
-    bench: &mut Recorded<O>,
+    session: &mut Recorded<O>,
     alloc: Global,
     process: u64,
 ) -> Result<Answer, AllocError>
-    ensures object { bench.new.world.object ≡ bench.old.world.object }
-    ensures bench { OnOk result (bench_of bench.new ≡ bench_after (record { object = O.sequential bench.old.world.object; language = O.language }) (bench_of bench.old)
-        (result_of_steps (record { object = O.sequential bench.old.world.object; language = O.language }) (world_of bench.old.world) process (most_steps (world_of bench.old.world).n)).events) }
-    ensures answer { IfOk result (λ answer. answer_text answer ≡ (result_of_steps (record { object = O.sequential bench.old.world.object; language = O.language }) (world_of bench.old.world) process (most_steps (world_of bench.old.world).n)).text) }
+    ensures object { session.new.world.object ≡ session.old.world.object }
+    ensures session { OnOk result (session_of session.new ≡ session_after (record { object = O.sequential session.old.world.object; language = O.language }) (session_of session.old)
+        (result_of_steps (record { object = O.sequential session.old.world.object; language = O.language }) (world_of session.old.world) process (most_steps (world_of session.old.world).n)).events) }
+    ensures answer { IfOk result (λ answer. answer_text answer ≡ (result_of_steps (record { object = O.sequential session.old.world.object; language = O.language }) (world_of session.old.world) process (most_steps (world_of session.old.world).n)).text) }
     ensures over { IfOk result IsOver }
 {
-    bench.world().shape();
-    let most = 10 * bench.world().processes() + 12;
-    step(bench, alloc, process, most)
+    session.world().shape();
+    let most = 10 * session.world().processes() + 12;
+    step(session, alloc, process, most)
 }
 
 /// Takes steps of a process until its call returns, at most so many; the answer says how far the call
@@ -140,26 +140,26 @@ fn finish<O: Spoken>(
 ///
 /// An `Err` says that memory was refused.
 fn step<O: Spoken>(
-    bench: &mut Recorded<O>,
+    session: &mut Recorded<O>,
     alloc: Global,
     process: u64,
     most: u64,
 ) -> Result<Answer, AllocError>
-    ensures object { bench.new.world.object ≡ bench.old.world.object }
-    ensures bench { OnOk result (bench_of bench.new ≡ bench_after (record { object = O.sequential bench.old.world.object; language = O.language }) (bench_of bench.old)
-        (result_of_steps (record { object = O.sequential bench.old.world.object; language = O.language }) (world_of bench.old.world) process most).events) }
-    ensures answer { IfOk result (λ answer. answer_text answer ≡ (result_of_steps (record { object = O.sequential bench.old.world.object; language = O.language }) (world_of bench.old.world) process most).text) }
-    ensures over { IfOk result (λ answer. most_steps (world_of bench.old.world).n ≤ most → IsOver answer) }
+    ensures object { session.new.world.object ≡ session.old.world.object }
+    ensures session { OnOk result (session_of session.new ≡ session_after (record { object = O.sequential session.old.world.object; language = O.language }) (session_of session.old)
+        (result_of_steps (record { object = O.sequential session.old.world.object; language = O.language }) (world_of session.old.world) process most).events) }
+    ensures answer { IfOk result (λ answer. answer_text answer ≡ (result_of_steps (record { object = O.sequential session.old.world.object; language = O.language }) (world_of session.old.world) process most).text) }
+    ensures over { IfOk result (λ answer. most_steps (world_of session.old.world).n ≤ most → IsOver answer) }
 {
-    if process >= bench.world().processes() {
+    if process >= session.world().processes() {
         return Ok(Answer::Refused(Refusal::Process(process)));
     }
-    let Some(call) = bench.world().current(process) else {
+    let Some(call) = session.world().current(process) else {
         return Ok(Answer::Refused(Refusal::Idle(process)));
     };
-    let response = step_on(bench, alloc, process, most)?;
-    let steps = bench.world().steps(process);
-    let turns = bench.world().turns(process);
+    let response = step_on(session, alloc, process, most)?;
+    let steps = session.world().steps(process);
+    let turns = session.world().turns(process);
     let Some(response) = response else {
         return Ok(Answer::Going { call, steps, turns });
     };
@@ -177,23 +177,23 @@ fn step<O: Spoken>(
 ///
 /// An `Err` says that memory was refused.
 fn step_on<O: Spoken>(
-    bench: &mut Recorded<O>,
+    session: &mut Recorded<O>,
     alloc: Global,
     process: u64,
     most: u64,
 ) -> Result<Option<O::Resp>, AllocError>
-    requires process { process < (world_of bench.old.world).n }
-    requires pending { IsSome ((world_of bench.old.world).call process) }
-    ensures object { bench.new.world.object ≡ bench.old.world.object }
-    ensures bench { OnOk result (bench_of bench.new ≡ bench_after (record { object = O.sequential bench.old.world.object; language = O.language }) (bench_of bench.old)
-        (steps_of process (steps_taken most (last_step (record { object = O.sequential bench.old.world.object; language = O.language }) (world_of bench.old.world) process most)))) }
-    ensures processes { (world_of bench.new.world).n ≡ (world_of bench.old.world).n }
-    ensures response { IfOk result (λ response. response ≡ option_map (λ last. last.response) (last_step (record { object = O.sequential bench.old.world.object; language = O.language }) (world_of bench.old.world) process most)) }
-    ensures over { IfOk result (λ response. most_steps (world_of bench.old.world).n ≤ most → IsSome response) }
+    requires process { process < (world_of session.old.world).n }
+    requires pending { IsSome ((world_of session.old.world).call process) }
+    ensures object { session.new.world.object ≡ session.old.world.object }
+    ensures session { OnOk result (session_of session.new ≡ session_after (record { object = O.sequential session.old.world.object; language = O.language }) (session_of session.old)
+        (steps_of process (steps_taken most (last_step (record { object = O.sequential session.old.world.object; language = O.language }) (world_of session.old.world) process most)))) }
+    ensures processes { (world_of session.new.world).n ≡ (world_of session.old.world).n }
+    ensures response { IfOk result (λ response. response ≡ option_map (λ last. last.response) (last_step (record { object = O.sequential session.old.world.object; language = O.language }) (world_of session.old.world) process most)) }
+    ensures over { IfOk result (λ response. most_steps (world_of session.old.world).n ≤ most → IsSome response) }
 {
-    bench.promise();
+    session.promise();
     for _ in 0..most {
-        match bench.step(alloc, process) {
+        match session.step(alloc, process) {
             Ok(Progress::Done(response)) => return Ok(Some(response)),
             Ok(Progress::Going) => {}
             Err(RecordStepFault::Memory) => return Err(AllocError),
@@ -208,12 +208,12 @@ fn step_on<O: Spoken>(
 /// didn't end.
 ///
 /// An `Err` says that memory was refused.
-fn trim<O: Spoken>(bench: &mut Recorded<O>, alloc: Global) -> Result<Answer, AllocError>
-    ensures object { bench.new.world.object ≡ bench.old.world.object }
-    ensures bench { OnOk result (bench_of bench.new ≡ bench_after (record { object = O.sequential bench.old.world.object; language = O.language }) (bench_of bench.old) (result_of_trim (bench_of bench.old)).events) }
-    ensures answer { IfOk result (λ answer. answer_text answer ≡ (result_of_trim (bench_of bench.old)).text) }
+fn trim<O: Spoken>(session: &mut Recorded<O>, alloc: Global) -> Result<Answer, AllocError>
+    ensures object { session.new.world.object ≡ session.old.world.object }
+    ensures session { OnOk result (session_of session.new ≡ session_after (record { object = O.sequential session.old.world.object; language = O.language }) (session_of session.old) (result_of_trim (session_of session.old)).events) }
+    ensures answer { IfOk result (λ answer. answer_text answer ≡ (result_of_trim (session_of session.old)).text) }
 {
-    match bench.trim(alloc) {
+    match session.trim(alloc) {
         Ok(number) => Ok(Answer::Trimmed(number)),
         Err(RecordTrimFault::Pending(process)) => Ok(Answer::Refused(Refusal::Pending(process))),
         Err(RecordTrimFault::SeqFull) => Ok(Answer::Refused(Refusal::Sequence)),
@@ -227,15 +227,15 @@ fn trim<O: Spoken>(bench: &mut Recorded<O>, alloc: Global) -> Result<Answer, All
 ///
 /// An `Err` says that memory was refused.
 fn reshape<O: Spoken>(
-    bench: &mut Recorded<O>,
+    session: &mut Recorded<O>,
     alloc: Global,
     processes: u64,
 ) -> Result<Answer, AllocError>
-    ensures object { bench.new.world.object ≡ bench.old.world.object }
-    ensures bench { OnOk result (bench_of bench.new ≡ bench_after (record { object = O.sequential bench.old.world.object; language = O.language }) (bench_of bench.old) (result_of_reshape (bench_of bench.old) processes).events) }
-    ensures answer { IfOk result (λ answer. answer_text answer ≡ (result_of_reshape (bench_of bench.old) processes).text) }
+    ensures object { session.new.world.object ≡ session.old.world.object }
+    ensures session { OnOk result (session_of session.new ≡ session_after (record { object = O.sequential session.old.world.object; language = O.language }) (session_of session.old) (result_of_reshape (session_of session.old) processes).events) }
+    ensures answer { IfOk result (λ answer. answer_text answer ≡ (result_of_reshape (session_of session.old) processes).text) }
 {
-    match bench.reshape(alloc, processes) {
+    match session.reshape(alloc, processes) {
         Ok(number) => Ok(Answer::Reshaped {
             count: processes,
             number,

@@ -1,4 +1,4 @@
-//! The ends of the bench: where a script comes from, and where text goes.
+//! The ends of `bench`: where a script comes from, and where text goes.
 
 ghost use Rattle.std.specs.Prelude.{◌≡◌, ◌≤◌, ◌<◌, ℕ, Bool, true, false, List, Option, length, IfOk, OnOk, OnErr};
 ghost use Rattle.std.specs.Io.KnownBytes.{Appends, ReadConsumes, WriteAppends};

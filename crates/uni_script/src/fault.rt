@@ -1,7 +1,7 @@
 //! What can go wrong with a script.
 
 ghost use Rattle.std.specs.Prelude.{◌≡◌, ◌++◌, OnOk, Some};
-ghost use Rattle.uni_script.specs.Faults.{fault_text, fault_line};
+ghost use Rattle.uni_script.specs.Fault.{fault_text, fault_line};
 
 use std::alloc::AllocError;
 use std::error::Error;

@@ -5,7 +5,7 @@ ghost use Rattle.std.specs.List.{list_all};
 ghost use Rattle.std.specs.Str.{bytes_eq};
 ghost use Rattle.ready_objects.specs.Number.{number_of_word};
 ghost use Rattle.ready_objects.specs.Words.{bytes_of, words_of_text};
-ghost use Rattle.uni_script.specs.Script.{is_plain_byte, is_note, version_of_word, object_of_word, most_processes, header_with, IsInRange, header_of_words, count_of_number, reshape_of, command_of_name, command_of_number, command_of_words};
+ghost use Rattle.uni_script.specs.Grammar.{is_plain_byte, is_note, version_of_word, object_of_word, most_processes, header_with, IsInRange, header_of_words, count_of_number, reshape_of, command_of_name, command_of_number, command_of_words};
 ghost use Rattle.uni_script.specs.Schedules.{word_of_object};
 
 use ready_objects::{Amount, Spoken};

@@ -1,4 +1,4 @@
-//! Scripts of calls on an object that processes share: what a script means, and the bench that runs
+//! Scripts of calls on an object that processes share: what a script means, and `bench` that runs
 //! one on the wait-free universal construction and writes what each call answers.
 //!
 //! What a script means is `outcome_of_script` in `specs/`, a definition over worlds of the definitions.

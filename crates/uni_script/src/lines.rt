@@ -2,9 +2,10 @@
 
 ghost use Rattle.std.specs.Prelude.{◌≡◌, ◌==◌, ◌+◌, ◌-◌, ◌<◌, ◌≤◌, ◌++◌, ◌∷◌, [], ◌↔◌, true, false, List, ℕ, Option, IfErr, IsErrOf, OnOk, OnErr, take, drop};
 ghost use Rattle.std.specs.List.{position};
-ghost use Rattle.uni_script.specs.Reading.{IsHeld, line_of, rest_of, HasTaken, HasStopped};
+ghost use Rattle.uni_script.specs.Lines.{IsHeld, line_of, rest_of, HasTaken, HasStopped};
 
 use crate::ends::TextIn;
+use memchr::memchr;
 
 /// How many bytes a line may have.
 const MOST_BYTES: usize = 200;
@@ -139,8 +140,7 @@ impl Lines {
         requires { IsHeld self.now }
         ensures { result ≡ position (λ b. b == 10) (rest_of self.now) }
     {
-        let rest = &self.piece[self.start..self.end];
-        rest.iter().position(|byte| *byte == b'\n')
+        memchr(b'\n', &self.piece[self.start..self.end])
     }
 
     /// Moves so many bytes of those that are left to the line.

@@ -5,37 +5,37 @@ ghost use Rattle.std.specs.Prelude.{ℕ, List};
 
 use ready_objects::{BookObject, DirectoryObject, QueueObject, Spoken, StickyObject};
 
-/// An object that a script can share. The trait has no call: it tells which bench of a script is
+/// An object that a script can share. The trait has no call: it tells which session of a script is
 /// one of the object.
 pub trait Shared: Spoken {
     ghost use Rattle.std.specs.Prelude.{◌≡◌, Some};
-    ghost use Rattle.uni_script.specs.Meaning.{Bench, ScriptBench, outcome_of_words, outcome_of_command};
-    ghost use Rattle.uni_script.specs.Summaries.{summary_of, summary_of_bench};
-    ghost use Rattle.uni_script.specs.Promises.{IsPromised, IsPromisedBench};
+    ghost use Rattle.uni_script.specs.Meaning.{Session, ScriptSession, outcome_of_words, outcome_of_command};
+    ghost use Rattle.uni_script.specs.Summary.{summary_of, summary_of_session};
+    ghost use Rattle.uni_script.specs.Promises.{IsPromised, IsPromisedSession};
     ghost use Rattle.uni_script.specs.declared.grammar.Version.{Version};
 
-    /// The bench of a script of which this is the bench of the object.
-    ghost bench: { Version → Bench Self.State Self.Inv Self.Resp → ScriptBench };
+    /// The session of a script of which this is the session of the object.
+    ghost session: { Version → Session Self.State Self.Inv Self.Resp → ScriptSession };
 
     /// On it words are a command of the object.
-    ghost words: { (object : Self) (version : Version) (limit number : ℕ) (b : Bench Self.State Self.Inv Self.Resp) (words : List (List ℕ)) →
-        outcome_of_words limit number (Some (bench version b)) words ≡ outcome_of_command (record { object = Self.sequential object; language = Self.language }) bench version number b words };
+    ghost words: { (object : Self) (version : Version) (limit number : ℕ) (b : Session Self.State Self.Inv Self.Resp) (words : List (List ℕ)) →
+        outcome_of_words limit number (Some (session version b)) words ≡ outcome_of_command (record { object = Self.sequential object; language = Self.language }) session version number b words };
 
     /// It has done as much as that of the object.
-    ghost summary: { (object : Self) (version : Version) (lines : ℕ) (b : Bench Self.State Self.Inv Self.Resp) →
-        summary_of_bench lines (bench version b) ≡ summary_of (record { object = Self.sequential object; language = Self.language }) lines b };
+    ghost summary: { (object : Self) (version : Version) (lines : ℕ) (b : Session Self.State Self.Inv Self.Resp) →
+        summary_of_session lines (session version b) ≡ summary_of (record { object = Self.sequential object; language = Self.language }) lines b };
 
-    /// What is promised of the bench of the object is promised of it.
-    ghost promised: { (object : Self) (version : Version) (b : Bench Self.State Self.Inv Self.Resp) →
-        IsPromised (record { object = Self.sequential object; language = Self.language }) b → IsPromisedBench (bench version b) };
+    /// What is promised of the session of the object is promised of it.
+    ghost promised: { (object : Self) (version : Version) (b : Session Self.State Self.Inv Self.Resp) →
+        IsPromised (record { object = Self.sequential object; language = Self.language }) b → IsPromisedSession (session version b) };
 }
 
 impl Shared for QueueObject {
     ghost use Rattle.std.specs.Prelude.{refl};
-    ghost use Rattle.uni_script.specs.Meaning.{script_bench};
+    ghost use Rattle.uni_script.specs.Meaning.{script_session};
     ghost use Rattle.uni_script.specs.declared.grammar.ObjectName.TheVariants.{Queue};
 
-    ghost bench = { script_bench Queue };
+    ghost session = { script_session Queue };
 
     ghost words = { λ object version limit number b words. refl };
 
@@ -46,10 +46,10 @@ impl Shared for QueueObject {
 
 impl Shared for DirectoryObject {
     ghost use Rattle.std.specs.Prelude.{refl};
-    ghost use Rattle.uni_script.specs.Meaning.{script_bench};
+    ghost use Rattle.uni_script.specs.Meaning.{script_session};
     ghost use Rattle.uni_script.specs.declared.grammar.ObjectName.TheVariants.{Directory};
 
-    ghost bench = { script_bench Directory };
+    ghost session = { script_session Directory };
 
     ghost words = { λ object version limit number b words. refl };
 
@@ -60,10 +60,10 @@ impl Shared for DirectoryObject {
 
 impl Shared for BookObject {
     ghost use Rattle.std.specs.Prelude.{refl};
-    ghost use Rattle.uni_script.specs.Meaning.{script_bench};
+    ghost use Rattle.uni_script.specs.Meaning.{script_session};
     ghost use Rattle.uni_script.specs.declared.grammar.ObjectName.TheVariants.{Book};
 
-    ghost bench = { script_bench Book };
+    ghost session = { script_session Book };
 
     ghost words = { λ object version limit number b words. refl };
 
@@ -74,10 +74,10 @@ impl Shared for BookObject {
 
 impl Shared for StickyObject {
     ghost use Rattle.std.specs.Prelude.{refl};
-    ghost use Rattle.uni_script.specs.Meaning.{script_bench};
+    ghost use Rattle.uni_script.specs.Meaning.{script_session};
     ghost use Rattle.uni_script.specs.declared.grammar.ObjectName.TheVariants.{Sticky};
 
-    ghost bench = { script_bench Sticky };
+    ghost session = { script_session Sticky };
 
     ghost words = { λ object version limit number b words. refl };
 

@@ -3,12 +3,12 @@
 ghost use Rattle.std.specs.Prelude.{ℕ, ◌≡◌, ◌≢◌, ◌↔◌, ◌⊎◌, [], true, false, None, Some, IfSome, IfNone, IfOk, IfErr, OnOk, IsErrOf};
 ghost use Rattle.std.specs.Io.KnownBytes.{IsAtEnd};
 ghost use Rattle.ready_objects.specs.Words.{bytes_of};
-ghost use Rattle.uni_script.specs.Meaning.{bench_of, opened_bench, bench_of_header, outcome_of_text, outcome_of_fault, outcome_of_command, outcome_of_short_line, outcome_of_end};
-ghost use Rattle.uni_script.specs.Script.{IsInRange};
-ghost use Rattle.uni_script.specs.Reading.{IsHeld, EndsAs, WritesAs, RunsOn, IsFaultOfLine};
-ghost use Rattle.uni_script.specs.Summaries.{summary_of};
-ghost use Rattle.uni_script.specs.Promises.{IsPromisedBench};
-ghost use Rattle.uni_script.specs.Replays.{IsHistory, IsReplay, IsSummary, IsPromisedScript, HasAnswered, IsPartOfReplay, IsFaultOfScript};
+ghost use Rattle.uni_script.specs.Meaning.{session_of, opened_session, session_of_header, outcome_of_text, outcome_of_fault, outcome_of_command, outcome_of_short_line, outcome_of_end};
+ghost use Rattle.uni_script.specs.Grammar.{IsInRange};
+ghost use Rattle.uni_script.specs.Lines.{IsHeld, EndsAs, WritesAs, RunsOn, IsFaultOfLine};
+ghost use Rattle.uni_script.specs.Summary.{summary_of};
+ghost use Rattle.uni_script.specs.Promises.{IsPromisedSession};
+ghost use Rattle.uni_script.specs.Replay.{IsHistory, IsReplay, IsSummary, IsPromisedScript, HasAnswered, IsPartOfReplay, IsFaultOfScript};
 
 use crate::answer::{Answer, push_answer};
 use crate::commands::{make, open};
@@ -24,7 +24,7 @@ use ready_objects::{BookObject, DirectoryObject, QueueObject, StickyObject};
 use std::alloc::{AllocError, Global};
 use uni_record::{Recorded, Verdict, audit};
 
-/// What a run of the bench can be told.
+/// What a run of `bench` can be told.
 #[derive(Clone, Copy, Debug, PartialEq, Eq)]
 pub struct Options {
     /// How many events there can be, from 1 to 16,777,216.
@@ -103,8 +103,8 @@ fn run_script<I: TextIn, W: TextOut>(
 ///
 /// `Memory` where memory was refused; any other `Err` is the fault of the line.
 fn read_header(alloc: Global, number: u64, line: &[u8]) -> Result<Option<Header>, BenchFault>
-    ensures note { (limit : ℕ) → IfOk result (λ header. IfNone header (outcome_of_short_line limit number None line.now ≡ record { bench = None; text = []; fault = None })) }
-    ensures header { (limit : ℕ) → IfOk result (λ header. IfSome header (λ h. outcome_of_short_line limit number None line.now ≡ outcome_of_text (bench_of_header limit h) [])) }
+    ensures note { (limit : ℕ) → IfOk result (λ header. IfNone header (outcome_of_short_line limit number None line.now ≡ record { session = None; text = []; fault = None })) }
+    ensures header { (limit : ℕ) → IfOk result (λ header. IfSome header (λ h. outcome_of_short_line limit number None line.now ≡ outcome_of_text (session_of_header limit h) [])) }
     ensures range { IfOk result (λ header. IfSome header IsInRange) }
     ensures fault { (limit : ℕ) → IfErr result (λ e. (e ≡ BenchFault.Memory) ⊎ (outcome_of_short_line limit number None line.now ≡ outcome_of_fault None e)) }
     ensures own { IfErr result IsFaultOfLine }
@@ -141,7 +141,7 @@ fn run_header<I: TextIn, W: TextOut>(
     requires held { IsHeld lines.old }
     requires reader { I.has_failed reader.old ≡ false }
     requires writer { W.has_failed writer.old ≡ false }
-    ensures run { RunsOn history (I.remaining reader.old) lines.old (W.contents writer.old) (Some (bench_of_header history header)) (I.remaining reader.new) (W.contents writer.new) result }
+    ensures run { RunsOn history (I.remaining reader.old) lines.old (W.contents writer.old) (Some (session_of_header history header)) (I.remaining reader.new) (W.contents writer.new) result }
     ensures reader { IsErrOf result BenchFault.Read → I.has_failed reader.new ≡ true }
     ensures reader_ok { OnOk result (I.has_failed reader.new ≡ false) }
     ensures writer { IsErrOf result BenchFault.Write ↔ (W.has_failed writer.new ≡ true) }
@@ -189,15 +189,15 @@ fn run_object<O: Shared, I: TextIn, W: TextOut>(
     requires held { IsHeld lines.old }
     requires reader { I.has_failed reader.old ≡ false }
     requires writer { W.has_failed writer.old ≡ false }
-    ensures run { (limit : ℕ) → RunsOn limit (I.remaining reader.old) lines.old (W.contents writer.old) (Some (O.bench header.version (opened_bench (record { object = O.sequential object; language = O.language }) history header))) (I.remaining reader.new) (W.contents writer.new) result }
+    ensures run { (limit : ℕ) → RunsOn limit (I.remaining reader.old) lines.old (W.contents writer.old) (Some (O.session header.version (opened_session (record { object = O.sequential object; language = O.language }) history header))) (I.remaining reader.new) (W.contents writer.new) result }
     ensures reader { IsErrOf result BenchFault.Read → I.has_failed reader.new ≡ true }
     ensures reader_ok { OnOk result (I.has_failed reader.new ≡ false) }
     ensures writer { IsErrOf result BenchFault.Write ↔ (W.has_failed writer.new ≡ true) }
 {
-    let Ok(bench) = open(alloc, object, header, history) else {
+    let Ok(session) = open(alloc, object, header, history) else {
         return Err(BenchFault::Memory);
     };
-    run_commands(alloc, header.version, bench, lines, reader, writer)
+    run_commands(alloc, header.version, session, lines, reader, writer)
 }
 
 /// Runs the lines that are left on a record, and writes their answers.
@@ -207,7 +207,7 @@ fn run_object<O: Shared, I: TextIn, W: TextOut>(
 fn run_commands<O: Shared, I: TextIn, W: TextOut>(
     alloc: Global,
     version: Version,
-    mut bench: Recorded<O>,
+    mut session: Recorded<O>,
     lines: &mut Lines,
     reader: &mut I,
     writer: &mut W,
@@ -215,22 +215,25 @@ fn run_commands<O: Shared, I: TextIn, W: TextOut>(
     requires held { IsHeld lines.old }
     requires reader { I.has_failed reader.old ≡ false }
     requires writer { W.has_failed writer.old ≡ false }
-    ensures run { (limit : ℕ) → RunsOn limit (I.remaining reader.old) lines.old (W.contents writer.old) (Some (O.bench version (bench_of bench))) (I.remaining reader.new) (W.contents writer.new) result }
+    ensures run { (limit : ℕ) → RunsOn limit (I.remaining reader.old) lines.old (W.contents writer.old) (Some (O.session version (session_of session))) (I.remaining reader.new) (W.contents writer.new) result }
     ensures reader { IsErrOf result BenchFault.Read → I.has_failed reader.new ≡ true }
     ensures reader_ok { OnOk result (I.has_failed reader.new ≡ false) }
     ensures writer { IsErrOf result BenchFault.Write ↔ (W.has_failed writer.new ≡ true) }
 {
+    // One text for all lines, so that most answers take no memory.
+    let mut text = Vec::new(alloc);
     loop {
         match lines.take(reader) {
             Ok(()) => answer_line(
                 alloc,
                 version,
-                &mut bench,
+                &mut session,
                 lines.count,
                 lines.line(),
+                &mut text,
                 writer,
             )?,
-            Err(Stop::End) => return answer_end(alloc, version, &bench, lines.count, writer),
+            Err(Stop::End) => return answer_end(alloc, version, &session, lines.count, writer),
             Err(Stop::Failed) => return Err(BenchFault::Read),
             Err(Stop::TooLong) => return Err(BenchFault::TooLong(lines.count + 1)),
             Err(Stop::TooMany) => return Err(BenchFault::TooMany),
@@ -241,15 +244,15 @@ fn run_commands<O: Shared, I: TextIn, W: TextOut>(
 /// What an audit of a record's entries, of all eras, and of its returns says: they agree.
 ///
 /// An `Err` says that memory was refused.
-fn audit_of<O: Shared>(alloc: Global, bench: &Recorded<O>) -> Result<Verdict, AllocError>
+fn audit_of<O: Shared>(alloc: Global, session: &Recorded<O>) -> Result<Verdict, AllocError>
     ensures { IfOk result (λ verdict. verdict ≡ Verdict.Agrees) }
 {
-    let entries = bench.entries(alloc)?;
+    let entries = session.entries(alloc)?;
     audit(
         alloc,
-        bench.world().object(),
+        session.world().object(),
         entries.as_slice(),
-        bench.returns(),
+        session.returns(),
     )
 }
 
@@ -260,14 +263,14 @@ fn audit_of<O: Shared>(alloc: Global, bench: &Recorded<O>) -> Result<Verdict, Al
 fn answer_end<O: Shared, W: TextOut>(
     alloc: Global,
     version: Version,
-    bench: &Recorded<O>,
+    session: &Recorded<O>,
     lines: u64,
     writer: &mut W,
 ) -> Result<Summary, BenchFault>
     requires { W.has_failed writer.old ≡ false }
-    ensures outcome { WritesAs (outcome_of_end lines (Some (O.bench version (bench_of bench.now)))) (W.contents writer.old) (W.contents writer.new) result }
-    ensures summary { IfOk result (λ summary. summary ≡ summary_of (record { object = O.sequential bench.now.world.object; language = O.language }) lines (bench_of bench.now)) }
-    ensures promised { OnOk result (IsPromisedBench (O.bench version (bench_of bench.now))) }
+    ensures outcome { WritesAs (outcome_of_end lines (Some (O.session version (session_of session.now)))) (W.contents writer.old) (W.contents writer.new) result }
+    ensures summary { IfOk result (λ summary. summary ≡ summary_of (record { object = O.sequential session.now.world.object; language = O.language }) lines (session_of session.now)) }
+    ensures promised { OnOk result (IsPromisedSession (O.session version (session_of session.now))) }
     ensures writer { IsErrOf result BenchFault.Write ↔ (W.has_failed writer.new ≡ true) }
     ensures other { IfErr result (λ e. e ≢ BenchFault.Read) }
 {
@@ -275,38 +278,40 @@ fn answer_end<O: Shared, W: TextOut>(
     if push_answer(&mut text, &Answer::End).is_err() {
         return Err(BenchFault::Memory);
     }
-    bench.promise();
-    match audit_of(alloc, bench) {
+    session.promise();
+    match audit_of(alloc, session) {
         Ok(Verdict::Agrees) => {}
         Ok(verdict) => return Err(BenchFault::Audit(verdict)),
         Err(AllocError) => return Err(BenchFault::Memory),
     }
     match write_all(writer, text.as_slice()) {
-        Ok(()) => Ok(summary_of(bench, lines)),
+        Ok(()) => Ok(summary_of(session, lines)),
         Err(_) => Err(BenchFault::Write),
     }
 }
 
-/// Runs a line after the header, with its number, on a record, and writes its answer.
+/// Runs a line after the header, with its number, on a record, and writes its answer. The text is
+/// where the answer is made; what it has before is let go.
 ///
 /// `Memory` where memory was refused, `Write` where the writer failed; any other `Err` is the fault of
 /// the line.
 fn answer_line<O: Shared, W: TextOut>(
     alloc: Global,
     version: Version,
-    bench: &mut Recorded<O>,
+    session: &mut Recorded<O>,
     number: u64,
     line: &[u8],
+    text: &mut Vec<u8>,
     writer: &mut W,
 ) -> Result<(), BenchFault>
     requires { W.has_failed writer.old ≡ false }
-    ensures outcome { (limit : ℕ) → WritesAs (outcome_of_short_line limit number (Some (O.bench version (bench_of bench.old))) line.now) (W.contents writer.old) (W.contents writer.new) result }
-    ensures bench { (limit : ℕ) → OnOk result (Some (O.bench version (bench_of bench.new)) ≡ (outcome_of_short_line limit number (Some (O.bench version (bench_of bench.old))) line.now).bench) }
+    ensures outcome { (limit : ℕ) → WritesAs (outcome_of_short_line limit number (Some (O.session version (session_of session.old))) line.now) (W.contents writer.old) (W.contents writer.new) result }
+    ensures session { (limit : ℕ) → OnOk result (Some (O.session version (session_of session.new)) ≡ (outcome_of_short_line limit number (Some (O.session version (session_of session.old))) line.now).session) }
     ensures writer { IsErrOf result BenchFault.Write ↔ (W.has_failed writer.new ≡ true) }
     ensures other { IfErr result (λ e. e ≢ BenchFault.Read) }
 {
-    let mut text = Vec::new(alloc);
-    run_line(alloc, version, bench, number, line, &mut text)?;
+    text.clear();
+    run_line(alloc, version, session, number, line, text)?;
     match write_all(writer, text.as_slice()) {
         Ok(()) => Ok(()),
         Err(_) => Err(BenchFault::Write),
@@ -319,13 +324,13 @@ fn answer_line<O: Shared, W: TextOut>(
 fn run_line<O: Shared>(
     alloc: Global,
     version: Version,
-    bench: &mut Recorded<O>,
+    session: &mut Recorded<O>,
     number: u64,
     line: &[u8],
     text: &mut Vec<u8>,
 ) -> Result<(), BenchFault>
-    ensures outcome { (limit : ℕ) → EndsAs (outcome_of_short_line limit number (Some (O.bench version (bench_of bench.old))) line.now) text.old.items text.new.items result }
-    ensures bench { (limit : ℕ) → OnOk result (Some (O.bench version (bench_of bench.new)) ≡ (outcome_of_short_line limit number (Some (O.bench version (bench_of bench.old))) line.now).bench) }
+    ensures outcome { (limit : ℕ) → EndsAs (outcome_of_short_line limit number (Some (O.session version (session_of session.old))) line.now) text.old.items text.new.items result }
+    ensures session { (limit : ℕ) → OnOk result (Some (O.session version (session_of session.new)) ≡ (outcome_of_short_line limit number (Some (O.session version (session_of session.old))) line.now).session) }
     ensures own { IfErr result IsFaultOfLine }
 {
     if !is_plain(line) {
@@ -337,7 +342,7 @@ fn run_line<O: Shared>(
     let Ok(words) = words_of(alloc, line) else {
         return Err(BenchFault::Memory);
     };
-    run_words(alloc, version, bench, number, words.as_slice(), text)
+    run_words(alloc, version, session, number, words.as_slice(), text)
 }
 
 /// Makes the command that words are, and writes its answer after a text.
@@ -346,19 +351,19 @@ fn run_line<O: Shared>(
 fn run_words<O: Shared>(
     alloc: Global,
     version: Version,
-    bench: &mut Recorded<O>,
+    session: &mut Recorded<O>,
     number: u64,
     words: &[&[u8]],
     text: &mut Vec<u8>,
 ) -> Result<(), BenchFault>
-    ensures outcome { EndsAs (outcome_of_command (record { object = O.sequential bench.old.world.object; language = O.language }) O.bench version number (bench_of bench.old) (bytes_of words.now)) text.old.items text.new.items result }
-    ensures bench { OnOk result (Some (O.bench version (bench_of bench.new)) ≡ (outcome_of_command (record { object = O.sequential bench.old.world.object; language = O.language }) O.bench version number (bench_of bench.old) (bytes_of words.now)).bench) }
+    ensures outcome { EndsAs (outcome_of_command (record { object = O.sequential session.old.world.object; language = O.language }) O.session version number (session_of session.old) (bytes_of words.now)) text.old.items text.new.items result }
+    ensures session { OnOk result (Some (O.session version (session_of session.new)) ≡ (outcome_of_command (record { object = O.sequential session.old.world.object; language = O.language }) O.session version number (session_of session.old) (bytes_of words.now)).session) }
     ensures own { IfErr result IsFaultOfLine }
 {
     let Some(command) = command_of::<O>(version, words) else {
         return Err(BenchFault::BadLine(number));
     };
-    match make(bench, alloc, command, text) {
+    match make(session, alloc, command, text) {
         Ok(()) => Ok(()),
         Err(AllocError) => Err(BenchFault::Memory),
     }

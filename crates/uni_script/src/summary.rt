@@ -1,9 +1,9 @@
 //! How much a script has done.
 
 ghost use Rattle.std.specs.Prelude.{◌≡◌};
-ghost use Rattle.uni_record.specs.Stored.{events_shown};
-ghost use Rattle.uni_script.specs.Meaning.{bench_of};
-ghost use Rattle.uni_script.specs.Summaries.{calls_in, summary_of};
+ghost use Rattle.uni_record.specs.Event.{events_shown};
+ghost use Rattle.uni_script.specs.Meaning.{session_of};
+ghost use Rattle.uni_script.specs.Summary.{calls_in, summary_of};
 
 use ready_objects::Spoken;
 use uni_record::{Event, Recorded};
@@ -20,14 +20,14 @@ pub struct Summary {
 }
 
 /// The summary of a script of so many lines that has left this record.
-pub fn summary_of<O: Spoken>(bench: &Recorded<O>, lines: u64) -> Summary
-    ensures { result ≡ summary_of (record { object = O.sequential bench.now.world.object; language = O.language }) lines (bench_of bench.now) }
+pub fn summary_of<O: Spoken>(session: &Recorded<O>, lines: u64) -> Summary
+    ensures { result ≡ summary_of (record { object = O.sequential session.now.world.object; language = O.language }) lines (session_of session.now) }
 {
-    bench.promise();
+    session.promise();
     Summary {
         lines,
-        calls: calls_in(bench.events()),
-        returns: bench.returns().len() as u64,
+        calls: calls_in(session.events()),
+        returns: session.returns().len() as u64,
     }
 }
 

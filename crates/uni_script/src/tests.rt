@@ -1,6 +1,6 @@
-//! Tests of the bench over memory, and of objects that processes share through a world.
+//! Tests of `bench` over memory, and of objects that processes share through a world.
 
-ghost use Rattle.uni_script.specs.Replays.{IsHistory};
+ghost use Rattle.uni_script.specs.Replay.{IsHistory};
 
 use crate::{
     BenchFault, Checked, Drawn, Failed, ObjectName, Options, Plan, Summary, TextIn, TextOut, bench,
@@ -20,15 +20,15 @@ use uni_core::{Progress, World};
 use uni_log::{Entry, Log};
 use uni_record::Verdict;
 
-/// What the bench is told where its history is long enough.
+/// What `bench` is told where its history is long enough.
 const OPTIONS: Options = Options { history: 1_048_576 };
 
-/// Asserts what the bench writes for a script, and how it ends.
+/// Asserts what `bench` writes for a script, and how it ends.
 fn runs(rt: &impl Abort, alloc: Global, script: &str, want: &str, outcome: Result<(), BenchFault>) {
     runs_with(rt, alloc, &OPTIONS, script, want, outcome);
 }
 
-/// Asserts what the bench writes for a script where it is told this, and how it ends.
+/// Asserts what `bench` writes for a script where it is told this, and how it ends.
 fn runs_with(
     rt: &impl Abort,
     alloc: Global,
@@ -47,49 +47,51 @@ fn runs_with(
     assert_eq!(rt; writer.end().as_slice(), want.as_bytes(), "{script}");
 }
 
+/// Scripts, each with its answers and how it ends.
+const SCRIPTS: &[(&str, &str, Result<(), BenchFault>)] = &[
+    (
+        "universal 1 queue 1 8\ncall 0 enq 7\nfinish 0\nlog\n",
+        "called 0.0\nreturned 0.0 ok steps 14 turns 1\n2 0.0 enq 7 -> ok\nend\n",
+        Ok(()),
+    ),
+    (
+        "universal 1 queue 1 8\ncall 0 enq 7\nfin\n",
+        "called 0.0\n",
+        Err(BenchFault::BadLine(3)),
+    ),
+    ("", "", Err(BenchFault::NoHeader(1))),
+    ("universal 1 queue 16 4096\n", "end\n", Ok(())),
+    (
+        "universal 1 queue 17 8\n",
+        "",
+        Err(BenchFault::BadHeader(1)),
+    ),
+    ("universal 1 queue 0 8\n", "", Err(BenchFault::BadHeader(1))),
+    ("universal 1 stack 1 8\n", "", Err(BenchFault::BadHeader(1))),
+    // The words of another object's call.
+    (
+        "universal 1 directory 1 8\ncall 0 enq 1\n",
+        "",
+        Err(BenchFault::BadLine(2)),
+    ),
+    // A cell that is linked, and has no response yet.
+    (
+        "universal 1 queue 1 8\ncall 0 enq 7\nstep 0 8\nlog\nstep 0\nlog\nheads\n",
+        "called 0.0\ngoing 0.0 steps 8 turns 1\n2 0.0 enq 7 -> ?\ngoing 0.0 steps 9 turns 1\n2 0.0 enq 7 -> ok\nheads 1\nend\n",
+        Ok(()),
+    ),
+    // A step that ends the call is the last one.
+    (
+        "universal 1 queue 1 8\ncall 0 deq\nstep 0 1000\nstep 0\n",
+        "called 0.0\nreturned 0.0 empty steps 14 turns 1\nrefused idle 0\nend\n",
+        Ok(()),
+    ),
+];
+
 #[test]
 fn scripts(rt: HostRuntime) {
     finish_returns::<QueueObject>();
-    let rows = [
-        (
-            "universal 1 queue 1 8\ncall 0 enq 7\nfinish 0\nlog\n",
-            "called 0.0\nreturned 0.0 ok steps 14 turns 1\n2 0.0 enq 7 -> ok\nend\n",
-            Ok(()),
-        ),
-        (
-            "universal 1 queue 1 8\ncall 0 enq 7\nfin\n",
-            "called 0.0\n",
-            Err(BenchFault::BadLine(3)),
-        ),
-        ("", "", Err(BenchFault::NoHeader(1))),
-        ("universal 1 queue 16 4096\n", "end\n", Ok(())),
-        (
-            "universal 1 queue 17 8\n",
-            "",
-            Err(BenchFault::BadHeader(1)),
-        ),
-        ("universal 1 queue 0 8\n", "", Err(BenchFault::BadHeader(1))),
-        ("universal 1 stack 1 8\n", "", Err(BenchFault::BadHeader(1))),
-        // The words of another object's call.
-        (
-            "universal 1 directory 1 8\ncall 0 enq 1\n",
-            "",
-            Err(BenchFault::BadLine(2)),
-        ),
-        // A cell that is linked, and has no response yet.
-        (
-            "universal 1 queue 1 8\ncall 0 enq 7\nstep 0 8\nlog\nstep 0\nlog\nheads\n",
-            "called 0.0\ngoing 0.0 steps 8 turns 1\n2 0.0 enq 7 -> ?\ngoing 0.0 steps 9 turns 1\n2 0.0 enq 7 -> ok\nheads 1\nend\n",
-            Ok(()),
-        ),
-        // A step that ends the call is the last one.
-        (
-            "universal 1 queue 1 8\ncall 0 deq\nstep 0 1000\nstep 0\n",
-            "called 0.0\nreturned 0.0 empty steps 14 turns 1\nrefused idle 0\nend\n",
-            Ok(()),
-        ),
-    ];
-    for (script, want, outcome) in rows {
+    for &(script, want, outcome) in SCRIPTS {
         runs(&rt, rt.alloc(), script, want, outcome);
     }
 }
@@ -127,58 +129,62 @@ fn histories_that_are_full(rt: HostRuntime) {
     );
 }
 
+/// Scripts of both versions, and of none.
+const VERSIONS: &[(&str, &str, Result<(), BenchFault>)] = &[
+    (
+        "universal 2 queue 1 8\nreshape 2\nheads\n",
+        "reshaped 2 at 1\nheads 1 1\nend\n",
+        Ok(()),
+    ),
+    ("universal 2 queue 64 8\n", "end\n", Ok(())),
+    (
+        "universal 2 queue 65 8\n",
+        "",
+        Err(BenchFault::BadHeader(1)),
+    ),
+    ("universal 3 queue 1 8\n", "", Err(BenchFault::BadHeader(1))),
+    // Version 1 has no change.
+    (
+        "universal 1 queue 1 8\nlog\nreshape 2\n",
+        "",
+        Err(BenchFault::BadLine(3)),
+    ),
+];
+
 #[test]
 fn versions(rt: HostRuntime) {
-    let rows = [
-        (
-            "universal 2 queue 1 8\nreshape 2\nheads\n",
-            "reshaped 2 at 1\nheads 1 1\nend\n",
-            Ok(()),
-        ),
-        ("universal 2 queue 64 8\n", "end\n", Ok(())),
-        (
-            "universal 2 queue 65 8\n",
-            "",
-            Err(BenchFault::BadHeader(1)),
-        ),
-        ("universal 3 queue 1 8\n", "", Err(BenchFault::BadHeader(1))),
-        // Version 1 has no change.
-        (
-            "universal 1 queue 1 8\nlog\nreshape 2\n",
-            "",
-            Err(BenchFault::BadLine(3)),
-        ),
-    ];
-    for (script, want, outcome) in rows {
+    for &(script, want, outcome) in VERSIONS {
         runs(&rt, rt.alloc(), script, want, outcome);
     }
 }
 
+/// Scripts, each with its lines, its calls and its returns.
+const SUMMARIES: &[(&str, u64, u64, u64)] = &[
+    (
+        "universal 1 queue 1 8\ncall 0 enq 7\nfinish 0\nlog",
+        4,
+        1,
+        1,
+    ),
+    ("# a note\n\nuniversal 1 book 16 1\n", 3, 0, 0),
+    // One call is refused, and one hasn't returned.
+    (
+        "universal 1 queue 2 1\ncall 0 enq 1\ncall 0 deq\nstep 1\n",
+        4,
+        1,
+        0,
+    ),
+    (
+        "universal 1 queue 2 8\ncall 0 enq 10\nstep 0 10\ncall 1 deq\nstep 1 14\nfinish 0\ncall 0 enq 20\nstep 0\nfinish 1\nheads\nlog\n",
+        11,
+        3,
+        2,
+    ),
+];
+
 #[test]
 fn summaries(rt: HostRuntime) {
-    let rows = [
-        (
-            "universal 1 queue 1 8\ncall 0 enq 7\nfinish 0\nlog",
-            4,
-            1,
-            1,
-        ),
-        ("# a note\n\nuniversal 1 book 16 1\n", 3, 0, 0),
-        // One call is refused, and one hasn't returned.
-        (
-            "universal 1 queue 2 1\ncall 0 enq 1\ncall 0 deq\nstep 1\n",
-            4,
-            1,
-            0,
-        ),
-        (
-            "universal 1 queue 2 8\ncall 0 enq 10\nstep 0 10\ncall 1 deq\nstep 1 14\nfinish 0\ncall 0 enq 20\nstep 0\nfinish 1\nheads\nlog\n",
-            11,
-            3,
-            2,
-        ),
-    ];
-    for (script, lines, calls, returns) in rows {
+    for &(script, lines, calls, returns) in SUMMARIES {
         let mut text = Vec::new(rt.alloc());
         let ended = bench(
             rt.alloc(),
@@ -195,46 +201,48 @@ fn summaries(rt: HostRuntime) {
     }
 }
 
+/// Faults, each with its text.
+const TEXTS_OF_FAULTS: &[(BenchFault, &str)] = &[
+    (BenchFault::NoHeader(1), "line 1: no header\n"),
+    (BenchFault::BadHeader(2), "line 2: bad header\n"),
+    (BenchFault::TooLong(30), "line 30: too long\n"),
+    (BenchFault::BadByte(100_000), "line 100000: bad byte\n"),
+    (BenchFault::BadLine(12), "line 12: bad line\n"),
+    (BenchFault::TooMany, "line 100001: too many lines\n"),
+    (BenchFault::Read, "cannot read\n"),
+    (BenchFault::Write, "cannot write\n"),
+    (BenchFault::Memory, "out of memory\n"),
+    (
+        BenchFault::Audit(Verdict::BadCall(0)),
+        "audit: entry 0 call\n",
+    ),
+    (
+        BenchFault::Audit(Verdict::BadReply(12)),
+        "audit: entry 12 reply\n",
+    ),
+    (
+        BenchFault::Audit(Verdict::Missing(CallId { process: 1, nth: 2 })),
+        "audit: return 1.2 missing\n",
+    ),
+    (
+        BenchFault::Audit(Verdict::BadReturn(CallId {
+            process: 0,
+            nth: 10,
+        })),
+        "audit: return 0.10 reply\n",
+    ),
+    (
+        BenchFault::Audit(Verdict::Twice(CallId {
+            process: 63,
+            nth: 0,
+        })),
+        "audit: return 63.0 twice\n",
+    ),
+];
+
 #[test]
 fn texts_of_faults(rt: HostRuntime) {
-    let rows = [
-        (BenchFault::NoHeader(1), "line 1: no header\n"),
-        (BenchFault::BadHeader(2), "line 2: bad header\n"),
-        (BenchFault::TooLong(30), "line 30: too long\n"),
-        (BenchFault::BadByte(100_000), "line 100000: bad byte\n"),
-        (BenchFault::BadLine(12), "line 12: bad line\n"),
-        (BenchFault::TooMany, "line 100001: too many lines\n"),
-        (BenchFault::Read, "cannot read\n"),
-        (BenchFault::Write, "cannot write\n"),
-        (BenchFault::Memory, "out of memory\n"),
-        (
-            BenchFault::Audit(Verdict::BadCall(0)),
-            "audit: entry 0 call\n",
-        ),
-        (
-            BenchFault::Audit(Verdict::BadReply(12)),
-            "audit: entry 12 reply\n",
-        ),
-        (
-            BenchFault::Audit(Verdict::Missing(CallId { process: 1, nth: 2 })),
-            "audit: return 1.2 missing\n",
-        ),
-        (
-            BenchFault::Audit(Verdict::BadReturn(CallId {
-                process: 0,
-                nth: 10,
-            })),
-            "audit: return 0.10 reply\n",
-        ),
-        (
-            BenchFault::Audit(Verdict::Twice(CallId {
-                process: 63,
-                nth: 0,
-            })),
-            "audit: return 63.0 twice\n",
-        ),
-    ];
-    for (fault, want) in rows {
+    for &(fault, want) in TEXTS_OF_FAULTS {
         let mut text = Vec::new(rt.alloc());
         assert!(rt; push_fault(&mut text, fault).is_ok());
         assert_eq!(rt; text.as_slice(), want.as_bytes());
@@ -430,20 +438,22 @@ fn four_words_make_three_events(rt: HostRuntime) {
     assert_eq!(rt; room, *b"univ");
 }
 
+/// Plans by their object, processes and row, each with its header.
+const HEADERS: &[(ObjectName, u64, u64, &str)] = &[
+    (
+        ObjectName::Directory,
+        1,
+        4096,
+        "universal 1 directory 1 4096\n",
+    ),
+    (ObjectName::Book, 16, 1, "universal 1 book 16 1\n"),
+    (ObjectName::Sticky, 17, 2, "universal 2 sticky 17 2\n"),
+    (ObjectName::Queue, 64, 2, "universal 2 queue 64 2\n"),
+];
+
 #[test]
 fn headers_of_schedules(rt: HostRuntime) {
-    let rows = [
-        (
-            ObjectName::Directory,
-            1,
-            4096,
-            "universal 1 directory 1 4096\n",
-        ),
-        (ObjectName::Book, 16, 1, "universal 1 book 16 1\n"),
-        (ObjectName::Sticky, 17, 2, "universal 2 sticky 17 2\n"),
-        (ObjectName::Queue, 64, 2, "universal 2 queue 64 2\n"),
-    ];
-    for (object, processes, row, want) in rows {
+    for &(object, processes, row, want) in HEADERS {
         let plan = Plan {
             object,
             processes,
@@ -543,14 +553,16 @@ impl Read for Endless<'_> {
     }
 }
 
+/// What is read again and again, and the fault that ends it.
+const ENDLESS: &[(&[u8], BenchFault)] = &[
+    (b"#\n", BenchFault::TooMany),
+    (b"a", BenchFault::TooLong(1)),
+    (b"\n#", BenchFault::TooMany),
+];
+
 #[test]
 fn readers_without_an_end(rt: HostRuntime) {
-    let rows = [
-        (b"#\n".as_slice(), BenchFault::TooMany),
-        (b"a".as_slice(), BenchFault::TooLong(1)),
-        (b"\n#".as_slice(), BenchFault::TooMany),
-    ];
-    for (text, fault) in rows {
+    for &(text, fault) in ENDLESS {
         let mut answers = Vec::new(rt.alloc());
         let ended = bench(
             rt.alloc(),

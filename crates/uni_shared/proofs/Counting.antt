@@ -11,7 +11,7 @@ use Rattle.uni_record.specs.declared.verdict.Return.{Return}
 use Rattle.uni_shared.specs.declared.receipt.Receipt.{Receipt}
 use Rattle.uni_shared.specs.Agreement.{Agrees}
 use Rattle.uni_record.specs.declared.verdict.Counts.{Counts}
-use Rattle.uni_record.specs.Stored.{Completed}
+use Rattle.uni_record.specs.Event.{Completed}
 
 -- one receipt more
 pub map-take_more : {A B : Type 0} (f : A → B) (xs : List A) (n : ℕ) (x : A) → n < length xs → x ≡ get_or xs n x → map f (take (n + 1) xs) ≡ map f (take n xs) ++ f x ∷ []
@@ -23,17 +23,24 @@ pub filter_map-take_more : {A B : Type 0} (h : A → Option B) (xs : List A) (n 
 filter_map-take_more h xs n x there is =
     ap (filter_map h) (take_more xs n x there) ∙ filter_map-append h (take n xs) (get_or xs n x ∷ []) ∙ ap (λ y. filter_map h (take n xs) ++ filter_map h (y ∷ [])) (sym is)
 
+-- a return with its counts, among the calls that have returned
+pub get_or-completed : {R : Type 0} (calls : List (Completed R)) (n : ℕ) (returned : Return R) (counts : Counts) → returned ≡ get_or (map (λ (c : Completed R). c.returned) calls) n returned
+    → counts ≡ get_or (map (λ (c : Completed R). c.counts) calls) n counts → record { returned = returned; counts = counts } ≡ get_or calls n (record { returned = returned; counts = counts })
+get_or-completed {R = R} calls n returned counts is count_is =
+    let call : Completed R = record { returned = returned; counts = counts } in
+    let a : returned ≡ (get_or calls n call).returned = is ∙ get_or-map (λ (c : Completed R). c.returned) calls n call in
+    let b : counts ≡ (get_or calls n call).counts = count_is ∙ get_or-map (λ (c : Completed R). c.counts) calls n call in
+    let with_returned : Return R → Completed R = λ r. record { returned = r; counts = counts } in
+    let with_counts : Counts → Completed R = λ k. record { returned = (get_or calls n call).returned; counts = k } in
+    ap with_returned a ∙ ap with_counts b
+
 -- one return more, with its counts
 pub filter-take_more : {R : Type 0} (q : Completed R → Bool) (calls : List (Completed R)) (n : ℕ) (returned : Return R) (counts : Counts) → n < length (map (λ (c : Completed R). c.returned) calls)
     → returned ≡ get_or (map (λ (c : Completed R). c.returned) calls) n returned → counts ≡ get_or (map (λ (c : Completed R). c.counts) calls) n counts
     → filter q (take (n + 1) calls) ≡ filter q (take n calls) ++ filter q (record { returned = returned; counts = counts } ∷ [])
 filter-take_more {R = R} q calls n returned counts there is count_is =
     let call : Completed R = record { returned = returned; counts = counts } in
-    let a : returned ≡ (get_or calls n call).returned = is ∙ get_or-map (λ (c : Completed R). c.returned) calls n call in
-    let b : counts ≡ (get_or calls n call).counts = count_is ∙ get_or-map (λ (c : Completed R). c.counts) calls n call in
-    let with_returned : Return R → Completed R = λ r. record { returned = r; counts = counts } in
-    let with_counts : Counts → Completed R = λ k. record { returned = (get_or calls n call).returned; counts = k } in
-    let same : call ≡ get_or calls n call = ap with_returned a ∙ ap with_counts b in
+    let same = get_or-completed calls n returned counts is count_is in
     let len = length-map calls (λ (c : Completed R). c.returned) in
     ap (filter q) (take_more calls n call (omega arith)) ∙ filter-append q (take n calls) (get_or calls n call ∷ []) ∙ ap (λ (y : Completed R). filter q (take n calls) ++ filter q (y ∷ [])) (sym same)
 

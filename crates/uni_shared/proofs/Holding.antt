@@ -10,9 +10,9 @@ use Rattle.uni_model.specs.Places.Name.{Of}
 use Rattle.uni_model.specs.Stages.Stage.{Announce}
 use Rattle.uni_model.specs.Transition.{place_of}
 use Rattle.uni_model.proofs.Simulation.{set_at_same}
-use Rattle.uni_core.specs.Whole.{current_of}
+use Rattle.uni_core.specs.World.{current_of}
 use Rattle.uni_shared.specs.declared.held.Held.{Held}
-use Rattle.uni_shared.specs.Holds.{Tells}
+use Rattle.uni_shared.specs.Held.{Tells}
 
 -- a process that isn't there has no call pending
 pub current_of-past : {S I R : Type 0} (object : Sequential S I R) (w : WorldOf S I R) (p : ℕ) (call : CallId) → Invariant object w → w.n ≤ p → current_of w p ≡ Some call → ⊥

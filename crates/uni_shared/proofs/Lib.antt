@@ -1,3 +1,5 @@
 pub mod Counting
+pub mod Closing
+pub mod Differing
 pub mod Holding
 pub mod Opening

@@ -4,7 +4,7 @@ use Rattle.std.specs.Borrow.{Fml, RattleType, Bor, MutBor, follows_so}
 use Rattle.seq_object.specs.declared.object.SeqObject as seq
 use Rattle.std.specs.declared.cmp.PartialEq as eq
 use mathlib.Core.Option.{none}
-use Rattle.uni_shared.specs.Seats.{SeatOf, HasEnded, HasStopped, IsLeftByApply}
+use Rattle.uni_shared.specs.Seat.{SeatOf, HasEnded, HasStopped, IsLeftByApply}
 use Rattle.uni_shared.specs.declared.receipt.Receipt.{Receipt}
 use Rattle.uni_shared.specs.declared.fault.ApplyFault.{ApplyFault}
 use Rattle.uni_shared.specs.contracts.seat.Seat.{the_row}

@@ -1,10 +1,10 @@
 //! Whether seats and their receipts agree with a record. Nothing is copied.
 
-ghost use Rattle.std.specs.Prelude.{◌≡◌, ℕ, ◌<◌, ◌≤◌, ◌++◌, ◌∷◌, [], None, IfSome, IsTrue, length, map, take, option_map};
-ghost use Rattle.std.specs.List.{All, filter_map};
+ghost use Rattle.std.specs.Prelude.{◌≡◌, ◌≢◌, ◌⊎◌, ◌↔◌, ℕ, ◌<◌, ◌≤◌, ◌++◌, ◌∷◌, [], None, Some, IfSome, IsTrue, length, map, take, option_map, slice_get};
+ghost use Rattle.std.specs.List.{All, Contains, filter_map};
 ghost use Rattle.uni_model.specs.Worlds.{IsQuiescent};
-ghost use Rattle.uni_core.specs.Whole.{world_of};
-ghost use Rattle.uni_shared.specs.Agreement.{IsClosed, SeatAgrees, invocation_by, completed_of_process, completed_of, seats_of};
+ghost use Rattle.uni_core.specs.World.{world_of};
+ghost use Rattle.uni_shared.specs.Agreement.{DiffersFirstAt, IsBusy, IsClosed, IsFaultOfClosing, IsFirstMismatch, IsLeast, IsMismatchOf, IsMissing, SeatAgrees, invocation_by, completed_of_process, completed_of, seats_of};
 
 use crate::closed::CloseFault;
 use crate::receipt::Receipt;
@@ -20,7 +20,11 @@ fn seats_of<O: SeqObject>(seats: &[Seat<O>], p: u64) -> usize
 }
 
 /// The lesser of a process that was found, where one was, and another.
-fn lesser(found: Option<u64>, p: u64) -> u64 {
+fn lesser(found: Option<u64>, p: u64) -> u64
+    ensures below { result ≤ p }
+    ensures below_found { (q : ℕ) → found ≡ Some q → result ≤ q }
+    ensures either { (result ≡ p) ⊎ (found ≡ Some result) }
+{
     match found {
         Some(q) => q.min(p),
         None => p,
@@ -29,7 +33,9 @@ fn lesser(found: Option<u64>, p: u64) -> u64 {
 
 /// The least process that has a seat there and isn't below `n`.
 fn other_seat<O: SeqObject>(seats: &[Seat<O>], n: u64) -> Option<u64>
-    ensures { result ≡ None → All (λ s. s.process < n) seats.now }
+    ensures only { result ≡ None → All (λ s. s.process < n) seats.now }
+    ensures none { result ≡ None → (p : ℕ) → n ≤ p → seats_of p seats.now ≡ 0 }
+    ensures least { IfSome result (IsLeast (λ p. (n ≤ p) × (seats_of p seats.now ≢ 0))) }
 {
     let mut least = None;
     for seat in seats {
@@ -45,6 +51,8 @@ fn other_seat<O: SeqObject>(seats: &[Seat<O>], n: u64) -> Option<u64>
 fn missing_seat<O: SeqObject>(seats: &[Seat<O>], n: u64) -> Option<u64>
     ensures each { result ≡ None → (p : ℕ) → p < n → seats_of p seats.now ≡ 1 }
     ensures only { result ≡ None → All (λ s. s.process < n) seats.now }
+    ensures none { result ≡ None → (p : ℕ) → ¬ (IsMissing n seats.now p) }
+    ensures least { IfSome result (IsLeast (IsMissing n seats.now)) }
 {
     for p in 0..n {
         if seats_of(seats, p) != 1 {
@@ -58,6 +66,7 @@ fn missing_seat<O: SeqObject>(seats: &[Seat<O>], n: u64) -> Option<u64>
 fn pending_seat<O: SeqObject>(recorded: &Recorded<O>, seats: &[Seat<O>]) -> Option<u64>
     ensures idle { result ≡ None → All (λ s. s.pending ≡ None) seats.now }
     ensures quiet { result ≡ None → IsQuiescent (world_of recorded.now.world) }
+    ensures least { IfSome result (IsLeast (IsBusy (world_of recorded.now.world) seats.now)) }
 {
     let mut least = recorded.world().pending();
     for seat in seats {
@@ -88,6 +97,7 @@ fn place_after_event<O: SeqObject>(
 ) -> Option<usize>
     requires { place ≤ length receipts.now }
     ensures within { IfSome result (λ next. next ≤ length receipts.now) }
+    ensures other { result ≡ None → (inv : O.Inv) × (invocation_by p event.now ≡ Some inv) × (slice_get (map (λ r. r.inv) receipts.now) place ≢ Some inv) }
     ensures next { IfSome result (λ next. map (λ r. r.inv) (take next receipts.now) ≡ map (λ r. r.inv) (take place receipts.now) ++ filter_map (invocation_by p) (event.now ∷ [])) }
 {
     let Some(inv) = invocation_by(event, p) else {
@@ -106,7 +116,8 @@ fn other_invocation<O: SeqObject>(
     p: u64,
     receipts: &[Receipt<O::Inv, O::Resp>],
 ) -> Option<usize>
-    ensures { result ≡ None → map (λ r. r.inv) receipts.now ≡ filter_map (invocation_by p) events.now }
+    ensures none { result ≡ None → map (λ r. r.inv) receipts.now ≡ filter_map (invocation_by p) events.now }
+    ensures first { IfSome result (DiffersFirstAt (map (λ r. r.inv) receipts.now) (filter_map (invocation_by p) events.now)) }
 {
     let mut place = 0;
     for event in events {
@@ -127,7 +138,7 @@ fn tells_of<O: SeqObject>(
     returned: &Return<O::Resp>,
     counts: &Counts,
 ) -> bool
-    ensures { IsTrue result → completed_of receipt.now ≡ record { returned = returned.now; counts = counts.now } }
+    ensures { IsTrue result ↔ completed_of receipt.now ≡ record { returned = returned.now; counts = counts.now } }
 {
     receipt.call == returned.call
         && receipt.reply == returned.reply
@@ -146,6 +157,7 @@ fn place_after_return<O: SeqObject>(
 ) -> Option<usize>
     requires { place ≤ length receipts.now }
     ensures within { IfSome result (λ next. next ≤ length receipts.now) }
+    ensures other { result ≡ None → (returned.now.call.process ≡ p) × (slice_get (map completed_of receipts.now) place ≢ Some (record { returned = returned.now; counts = counts.now })) }
     ensures next { IfSome result (λ next. map completed_of (take next receipts.now) ≡ map completed_of (take place receipts.now) ++ completed_of_process p (record { returned = returned.now; counts = counts.now } ∷ [])) }
 {
     if u64::from(returned.call.process) != p {
@@ -165,7 +177,8 @@ fn other_return<O: SeqObject>(
     receipts: &[Receipt<O::Inv, O::Resp>],
 ) -> Option<usize>
     requires { length returns.now ≡ length counts.now }
-    ensures { result ≡ None → (calls : _) → returns.now ≡ map (λ c. c.returned) calls → counts.now ≡ map (λ c. c.counts) calls → map completed_of receipts.now ≡ completed_of_process p calls }
+    ensures none { result ≡ None → (calls : _) → returns.now ≡ map (λ c. c.returned) calls → counts.now ≡ map (λ c. c.counts) calls → map completed_of receipts.now ≡ completed_of_process p calls }
+    ensures first { IfSome result (λ place. (calls : _) → returns.now ≡ map (λ c. c.returned) calls → counts.now ≡ map (λ c. c.counts) calls → DiffersFirstAt (map completed_of receipts.now) (completed_of_process p calls) place) }
 {
     let mut place = 0;
     for i in 0..returns.len() {
@@ -180,9 +193,24 @@ fn other_return<O: SeqObject>(
     None
 }
 
+/// The lesser of two places, where there is one.
+fn first_of(one: Option<usize>, other: Option<usize>) -> Option<usize>
+    ensures none { result ≡ None → (one ≡ None) × (other ≡ None) }
+    ensures below_one { IfSome result (λ place. (a : ℕ) → one ≡ Some a → place ≤ a) }
+    ensures below_other { IfSome result (λ place. (b : ℕ) → other ≡ Some b → place ≤ b) }
+    ensures either { IfSome result (λ place. (one ≡ Some place) ⊎ (other ≡ Some place)) }
+{
+    match (one, other) {
+        (None, None) => None,
+        (Some(place), None) | (None, Some(place)) => Some(place),
+        (Some(place), Some(further)) => Some(place.min(further)),
+    }
+}
+
 /// The first call at which a seat's receipts differ from the history, where the seat is of process `p`.
 fn mismatch_of<O: SeqObject>(recorded: &Recorded<O>, seat: &Seat<O>, p: u64) -> Option<CallId>
-    ensures { result ≡ None → seat.now.process ≡ p → SeatAgrees O.sequential recorded.now seat.now }
+    ensures none { result ≡ None → seat.now.process ≡ p → SeatAgrees O.sequential recorded.now seat.now }
+    ensures first { IfSome result (λ call. (call.process ≡ p) × IsMismatchOf O.sequential recorded.now seat.now call) }
 {
     recorded.promise();
     if seat.process() != p {
@@ -191,11 +219,7 @@ fn mismatch_of<O: SeqObject>(recorded: &Recorded<O>, seat: &Seat<O>, p: u64) -> 
     let receipts = seat.receipts();
     let by_call = other_invocation::<O>(recorded.events(), p, receipts);
     let by_return = other_return::<O>(recorded.returns(), recorded.counts(), p, receipts);
-    let place = match (by_call, by_return) {
-        (None, None) => return None,
-        (Some(place), None) | (None, Some(place)) => place,
-        (Some(one), Some(other)) => one.min(other),
-    };
+    let place = first_of(by_call, by_return)?;
     Some(CallId {
         process: p as u32,
         nth: place as u64,
@@ -208,7 +232,8 @@ fn mismatch_of_process<O: SeqObject>(
     seats: &[Seat<O>],
     p: u64,
 ) -> Option<CallId>
-    ensures { result ≡ None → All (λ s. s.process ≡ p → SeatAgrees O.sequential recorded.now s) seats.now }
+    ensures none { result ≡ None → All (λ s. s.process ≡ p → SeatAgrees O.sequential recorded.now s) seats.now }
+    ensures first { IfSome result (λ call. (call.process ≡ p) × ((seat : _) × Contains seats.now seat × IsMismatchOf O.sequential recorded.now seat call)) }
 {
     for seat in seats {
         match mismatch_of(recorded, seat, p) {
@@ -221,7 +246,8 @@ fn mismatch_of_process<O: SeqObject>(
 
 /// The call that `Mismatch` names.
 fn first_mismatch<O: SeqObject>(recorded: &Recorded<O>, seats: &[Seat<O>]) -> Option<CallId>
-    ensures { result ≡ None → (p : ℕ) → p < recorded.now.processes → All (λ s. s.process ≡ p → SeatAgrees O.sequential recorded.now s) seats.now }
+    ensures none { result ≡ None → (p : ℕ) → p < recorded.now.processes → All (λ s. s.process ≡ p → SeatAgrees O.sequential recorded.now s) seats.now }
+    ensures first { IfSome result (IsFirstMismatch O.sequential recorded.now seats.now) }
 {
     for p in 0..recorded.processes() {
         if let Some(call) = mismatch_of_process(recorded, seats, p) {
@@ -236,7 +262,8 @@ pub(crate) fn first_fault<O: SeqObject>(
     recorded: &Recorded<O>,
     seats: &[Seat<O>],
 ) -> Option<CloseFault>
-    ensures { result ≡ None → IsClosed O.sequential recorded.now seats.now }
+    ensures closed { result ≡ None → IsClosed O.sequential recorded.now seats.now }
+    ensures fault { IfSome result (IsFaultOfClosing O.sequential recorded.now seats.now) }
 {
     match missing_seat(seats, recorded.processes()) {
         Some(p) => return Some(CloseFault::MissingSeat(p)),

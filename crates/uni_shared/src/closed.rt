@@ -2,8 +2,8 @@
 
 ghost use Rattle.std.specs.Prelude.{◌≡◌, ◌<◌, ◌≤◌, IfErr, IfOk};
 ghost use Rattle.std.specs.List.{Contains};
-ghost use Rattle.uni_record.specs.Recording.{meaning, opening};
-ghost use Rattle.uni_shared.specs.Agreement.{Agrees, IsClosed};
+ghost use Rattle.uni_record.specs.Recorded.{Recording, meaning, opening};
+ghost use Rattle.uni_shared.specs.Agreement.{Agrees, IsClosed, IsFaultOfClosing};
 
 use crate::agreement::first_fault;
 use crate::receipt::Receipt;
@@ -69,6 +69,7 @@ impl<O: SeqObject> Shared<O> {
     pub fn close(self, _alloc: Global, seats: Vec<Seat<O>>) -> Result<Closed<O>, Refused<O>>
         ensures closed { IfOk result (λ closed. IsClosed O.sequential closed.recorded closed.seats) }
         ensures seats { IfOk result (λ closed. closed.seats ≡ seats.items) }
+        ensures fault { IfErr result (λ refused. (recorded : Recording O O.State O.Inv O.Resp) × IsFaultOfClosing O.sequential recorded seats.items refused.fault) }
         ensures handed_back { IfErr result (λ refused. refused.seats.items ≡ seats.items) }
     {
         let Shared { recorded } = self;

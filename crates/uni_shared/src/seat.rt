@@ -2,7 +2,7 @@
 
 ghost use Rattle.std.specs.Prelude.{◌≡◌, ◌-◌, ◌<◌, ◌≤◌, ◌↔◌, ◌⊎◌, IfOk, IfErr, OnErr, OnOk, IsSome, IsErrOf, IsTrue, None, Some, length, slice_get};
 ghost use Rattle.std.specs.Borrow.{sem};
-ghost use Rattle.uni_shared.specs.Seats.{first_seat, HasEnded, HasBegun, HasStopped, IsLeftByApply, IsReceiptOf, IsStop};
+ghost use Rattle.uni_shared.specs.Seat.{first_seat, HasEnded, HasBegun, HasStopped, IsLeftByApply, IsReceiptOf, IsStop};
 ghost use Rattle.uni_shared.specs.Ending.{EndsApplied, EndsResumed};
 
 use crate::fault::ApplyFault;
@@ -29,7 +29,7 @@ pub struct Seat<O: SeqObject> {
 
 impl<O: SeqObject> Model for Seat<O> {
     ghost use Rattle.std.specs.Prelude.{vec_len, vec_capacity};
-    ghost use Rattle.uni_shared.specs.Seats.{SeatOf, IsSeat};
+    ghost use Rattle.uni_shared.specs.Seat.{SeatOf, IsSeat};
 
     ghost Value = { SeatOf O.Inv O.Resp };
 

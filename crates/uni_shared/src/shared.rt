@@ -1,7 +1,7 @@
 //! The record under its lock.
 
 ghost use Rattle.std.specs.Prelude.{◌≡◌, ◌<◌, ◌≤◌, ◌↔◌, ◌⊎◌, IfOk, IsErrOf};
-ghost use Rattle.uni_shared.specs.Seats.{first_seats};
+ghost use Rattle.uni_shared.specs.Seat.{first_seats};
 
 use crate::held::trim_held;
 use crate::seat::Seat;

@@ -1,1 +1,1 @@
-pub mod Eras
+pub mod Ends

@@ -3,8 +3,8 @@
 ghost use Rattle.std.specs.Prelude.{◌≡◌, ◌⊎◌, ◌↔◌, ◌<◌, ◌≤◌, ℕ, IfOk, IfSome, IsSome, OnOk, OnErr, IfErr, IsErrOf};
 ghost use Rattle.uni_model.specs.Worlds.{world_after, IsQuiescent};
 ghost use Rattle.uni_model.specs.Worlds.Event.{Trim, Reshape};
-ghost use Rattle.uni_core.specs.Whole.{world_of, KeepsFixed};
-ghost use Rattle.uni_trim.specs.Eras.{last_number, NumbersFit, IsLeastPending};
+ghost use Rattle.uni_core.specs.World.{world_of, KeepsFixed};
+ghost use Rattle.uni_trim.specs.Ends.{last_number, NumbersFit, IsLeastPending};
 
 use crate::fault::{ReshapeFault, TrimFault};
 use seq_object::SeqObject;

@@ -20,7 +20,7 @@ use Rattle.uni_model.proofs.Kept.{Invariant-begun}
 use Rattle.uni_model.proofs.Bounded.{HelpingInvariant-begun}
 use Rattle.uni_model.proofs.Counted.{CountsSteps-world_after}
 use Rattle.uni_words.specs.Words.{content_of, word_of, word_at, memory_of}
-use Rattle.uni_words.specs.Views.{Known, begun_by}
+use Rattle.uni_words.specs.View.{Known, begun_by}
 use Rattle.uni_words.specs.Seats.{HasBegun}
 use Rattle.uni_words.specs.Shown.{IsLocal, IsShown, ShowsWorld, pending_count}
 use Rattle.uni_words.specs.declared.view.View.{View}

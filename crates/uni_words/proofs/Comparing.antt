@@ -5,7 +5,7 @@ use Rattle.seq_object.specs.History.{state_after, response_at}
 use Rattle.seq_object.specs.declared.call_id.CallId.{CallId}
 use Rattle.uni_model.specs.Chain.{Entry}
 use Rattle.uni_model.proofs.Written.{number_cases, lt_cases}
-use Rattle.uni_words.specs.Differs.{invocations_of, Agrees, IsRight, IsFirstWrong, IsFirstOther, DiffersFirstAt}
+use Rattle.uni_words.specs.Compare.{invocations_of, Agrees, IsRight, IsFirstWrong, IsFirstOther, DiffersFirstAt}
 use Rattle.uni_words.specs.Log.{calls_by, entry_shown, replied}
 use Rattle.uni_words.specs.declared.read.WordEntry.{WordEntry}
 use Rattle.uni_words.proofs.OwnCalls.{drop-here, drop-past, there_below}

@@ -15,8 +15,8 @@ use Rattle.uni_model.specs.Worlds.{WorldOf}
 use Rattle.uni_model.proofs.Written.{new_of-memory_with}
 use Rattle.uni_model.proofs.Values.{not_anchor}
 use Rattle.uni_words.specs.Words.{settled_word, settled_at, content_of, word_of}
-use Rattle.uni_words.specs.Views.{Known, moved_at, stage_found}
-use Rattle.uni_words.specs.Views.Reading.{Applied}
+use Rattle.uni_words.specs.View.{Known, moved_at, stage_found}
+use Rattle.uni_words.specs.View.Reading.{Applied}
 use Rattle.uni_words.specs.Seats.{HasMoved, Moved}
 use Rattle.uni_words.specs.Shown.{HasRead, IsShown, ShowsWorld}
 use Rattle.uni_words.specs.declared.view.View.{View}

@@ -18,8 +18,8 @@ use Rattle.uni_model.specs.Worlds.{WorldOf}
 use Rattle.uni_model.proofs.Simulation.{set_at_same}
 use Rattle.uni_model.proofs.Written.{lt_cases, written_same}
 use Rattle.uni_words.specs.Words.{reply_in, content_of, word_of, memory_of}
-use Rattle.uni_words.specs.Views.{Known, finished_by}
-use Rattle.uni_words.specs.Views.Reading.{Reply}
+use Rattle.uni_words.specs.View.{Known, finished_by}
+use Rattle.uni_words.specs.View.Reading.{Reply}
 use Rattle.uni_words.specs.Seats.{HasFinished, TellsReply}
 use Rattle.uni_words.specs.Shown.{HasReturned, HasRead, IsLocal, IsShown, ShowsWorld, pending_count}
 use Rattle.uni_words.specs.declared.view.View.{View}

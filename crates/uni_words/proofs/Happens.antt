@@ -20,7 +20,7 @@ use Rattle.uni_model.proofs.Kept.{Invariant-world_after_step}
 use Rattle.uni_model.proofs.Bounded.{HelpingInvariant-world_after_step}
 use Rattle.uni_model.proofs.Counted.{CountsSteps-world_after}
 use Rattle.uni_words.specs.Words.{content_of, word_of, memory_of, words_of}
-use Rattle.uni_words.specs.Views.{Known}
+use Rattle.uni_words.specs.View.{Known}
 use Rattle.uni_words.specs.Shown.{IsLocal, Tells, IsAmong, IsShown}
 use Rattle.uni_words.specs.declared.view.View.{View}
 use Rattle.uni_words.proofs.Locality.{memory_at, word_here, words_written}

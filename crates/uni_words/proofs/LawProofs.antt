@@ -11,8 +11,8 @@ use Rattle.uni_model.specs.Worlds.{WorldOf}
 use Rattle.uni_model.proofs.Steps.{linked_call, head_number}
 use Rattle.uni_words.specs.Laws.{IsLoad, after_word, StoreBegins, WordStepMoves, StoreEnds, LoadEnds, LoadKeeps, OwnCallsRise}
 use Rattle.uni_words.specs.Shown.{HasRead, IsShown}
-use Rattle.uni_words.specs.Views.{Known, Reading, moved_at, finished_by}
-use Rattle.uni_words.specs.Views.Reading.{Nothing, Invocation, Applied, Reply}
+use Rattle.uni_words.specs.View.{Known, Reading, moved_at, finished_by}
+use Rattle.uni_words.specs.View.Reading.{Nothing, Invocation, Applied, Reply}
 use Rattle.uni_words.specs.Words.{reply_in, reply_at}
 use Rattle.uni_words.specs.declared.view.View.{View}
 use Rattle.uni_words.proofs.Begins.{begun_kept}

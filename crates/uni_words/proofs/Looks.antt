@@ -16,8 +16,8 @@ use Rattle.uni_model.specs.Invariant.{Has, Stands}
 use Rattle.uni_model.proofs.SamePlace.{Grows-same}
 use Rattle.uni_model.proofs.Steps.{linked_call, head_number}
 use Rattle.uni_words.specs.Words.{settled_at, state_in, reply_in, reply_at, word_of, word_at}
-use Rattle.uni_words.specs.Views.{Known, Reading, looked_at}
-use Rattle.uni_words.specs.Views.Reading.{Invocation, Applied, Reply}
+use Rattle.uni_words.specs.View.{Known, Reading, looked_at}
+use Rattle.uni_words.specs.View.Reading.{Invocation, Applied, Reply}
 use Rattle.uni_words.specs.Seats.{HasLooked, TellsState}
 use Rattle.uni_words.specs.Shown.{HasRead, IsUnderway, IsLocal, IsShown, ShowsWorld}
 use Rattle.uni_words.specs.declared.view.View.{View}

@@ -16,8 +16,8 @@ use Rattle.uni_model.proofs.Counted.{IsCounted-pending}
 use Rattle.uni_model.proofs.Bounded.{turns_bounded}
 use Rattle.uni_model.proofs.Simulation.{set_at_same}
 use Rattle.uni_words.specs.Words.{content_of, word_of}
-use Rattle.uni_words.specs.Views.{Known, stage_found, moved_at}
-use Rattle.uni_words.specs.Views.Reading.{Nothing}
+use Rattle.uni_words.specs.View.{Known, stage_found, moved_at}
+use Rattle.uni_words.specs.View.Reading.{Nothing}
 use Rattle.uni_words.specs.Seats.{IsWithin, HasMoved, Moved}
 use Rattle.uni_words.specs.Shown.{IsUnderway, IsLocal, IsShown, ShowsWorld, pending_count}
 use Rattle.uni_words.specs.declared.view.View.{View}

@@ -17,7 +17,7 @@ use Rattle.uni_model.proofs.Written.{lt_cases}
 use Rattle.uni_model.proofs.Bounded.{HelpingInvariant-opened_world}
 use Rattle.uni_model.proofs.Counted.{CountsSteps-opened_world}
 use Rattle.uni_words.specs.Words.{settled_word, settled_at, state_in, link_of, content_of, start_of, word_of, words_of, word_at, memory_of}
-use Rattle.uni_words.specs.Views.{everyone}
+use Rattle.uni_words.specs.View.{everyone}
 use Rattle.uni_words.specs.Seats.{first_view}
 use Rattle.uni_words.specs.Shown.{IsLocal, Tells, IsShown, ShowsWorld}
 use Rattle.uni_words.specs.declared.view.View.{View}

@@ -15,7 +15,7 @@ use Rattle.uni_model.proofs.Simulation.{enough}
 use Rattle.uni_model.proofs.Written.{lt_cases, number_cases}
 use Rattle.uni_words.specs.Log.{calls_by, log_of, replied}
 use Rattle.uni_words.specs.Shown.{IsLocal, IsShown, pending_count}
-use Rattle.uni_words.specs.Views.{Known}
+use Rattle.uni_words.specs.View.{Known}
 use Rattle.uni_words.specs.declared.view.View.{View}
 use Rattle.uni_words.proofs.Closing.{log_is}
 

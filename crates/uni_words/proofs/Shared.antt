@@ -10,8 +10,8 @@ use Rattle.uni_model.specs.Stages.{Stage, Pending}
 use Rattle.uni_model.specs.Stages.Stage.{ScanSeq, WriteScan, Test, ReadHelpSeq, WriteHead, Finish}
 use Rattle.uni_model.specs.Transition.{Beside, place_of, content_after}
 use Rattle.uni_words.specs.Words.{cells_of, content_of, word_of}
-use Rattle.uni_words.specs.Views.{Reading}
-use Rattle.uni_words.specs.Views.Reading.{Reply}
+use Rattle.uni_words.specs.View.{Reading}
+use Rattle.uni_words.specs.View.Reading.{Reply}
 use Rattle.uni_words.specs.Seats.{HasFinished, Moved}
 use Rattle.uni_words.specs.Shown.{ShowsWorld}
 use Rattle.uni_words.specs.Standing.{LoadsNumber, StoresHead, IsPastHead, HeadIsStored}

@@ -10,7 +10,7 @@ use Rattle.uni_model.specs.Worlds.{WorldOf}
 use Rattle.uni_model.proofs.Simulation.{set_at_same}
 use Rattle.uni_model.proofs.Written.{number_cases}
 use Rattle.uni_model.proofs.LawProofs.{set_at_elsewhere}
-use Rattle.uni_words.specs.Views.{Known}
+use Rattle.uni_words.specs.View.{Known}
 use Rattle.uni_words.specs.Seats.{first_alone, others}
 use Rattle.uni_words.specs.Shown.{IsLocal, Tells, IsAmong, IsShown, ShowsWorld}
 use Rattle.uni_words.specs.declared.view.View.{View}

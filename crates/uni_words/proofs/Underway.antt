@@ -7,8 +7,8 @@ use Rattle.uni_model.specs.Chain.{response_in}
 use Rattle.uni_model.specs.Transition.{place_of}
 use Rattle.uni_model.specs.Settled.{Grows}
 use Rattle.uni_words.specs.Words.{IsShared}
-use Rattle.uni_words.specs.Views.{Reading}
-use Rattle.uni_words.specs.Views.Reading.{Nothing, Invocation, Applied, Reply}
+use Rattle.uni_words.specs.View.{Reading}
+use Rattle.uni_words.specs.View.Reading.{Nothing, Invocation, Applied, Reply}
 use Rattle.uni_words.specs.Shown.{HasReturned, HasRead, IsUnderway}
 
 module _ (m m' : Memory ℕ ℕ ℕ) (grows : Grows m m') where

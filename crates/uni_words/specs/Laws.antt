@@ -14,8 +14,8 @@ use Rattle.uni_model.specs.Transition.{place_of}
 use Rattle.uni_model.specs.Worlds.{WorldOf, effect_in, world_after}
 use Rattle.uni_model.specs.Worlds.Event.{Call, Step}
 use Rattle.uni_words.specs.Shown.{IsShown}
-use Rattle.uni_words.specs.Views.{Known, Reading, stage_found, begun_by, moved_at, looked_at, finished_by}
-use Rattle.uni_words.specs.Views.Reading.{Invocation, Applied, Reply}
+use Rattle.uni_words.specs.View.{Known, Reading, stage_found, begun_by, moved_at, looked_at, finished_by}
+use Rattle.uni_words.specs.View.Reading.{Invocation, Applied, Reply}
 use Rattle.uni_words.specs.Words.{content_of, word_of, state_in, reply_in}
 use Rattle.uni_words.specs.declared.view.View.{View}
 

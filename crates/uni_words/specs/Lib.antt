@@ -1,11 +1,11 @@
 pub mod Objects
 pub mod Words
-pub mod Views
+pub mod View
 pub mod Shown
 pub mod Seats
 pub mod Standing
 pub mod Rule
 pub mod Log
-pub mod Differs
+pub mod Compare
 pub mod Belongs
 pub mod Laws

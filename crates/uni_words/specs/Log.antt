@@ -67,3 +67,16 @@ sample_calls = refl
 sample_others : calls_by 1 (log_of 1 1 sample_words) ≡ []
 unfolding sample_words
 sample_others = refl
+
+-- of two processes with rows of three calls, the last cell of a call, and the first that isn't one
+last_call_cell : is_call_cell 2 3 (Of 1 2) ≡ true
+last_call_cell = refl
+
+no_call_cell_of_the_third_process : is_call_cell 2 3 (Of 2 0) ≡ false
+no_call_cell_of_the_third_process = refl
+
+no_call_cell_of_the_fourth_call : is_call_cell 2 3 (Of 1 3) ≡ false
+no_call_cell_of_the_fourth_call = refl
+
+anchor_is_no_call_cell : is_call_cell 2 3 Anchor ≡ false
+anchor_is_no_call_cell = refl

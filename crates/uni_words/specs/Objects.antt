@@ -39,3 +39,15 @@ tally-wraps = refl
 
 tally-answer : tally.answer 5 3 ≡ 5
 tally-answer = refl
+
+sticky-least : sticky.next 0 1 ≡ 1
+sticky-least = refl
+
+sticky-greatest-answer : sticky.answer 0 1000000000 ≡ 1000000000
+sticky-greatest-answer = refl
+
+tally-greatest : tally.next 2147483646 1 ≡ 2147483647
+tally-greatest = refl
+
+tally-modulus : tally.next 2147483647 1 ≡ 0
+tally-modulus = refl

@@ -13,8 +13,8 @@ use Rattle.uni_model.specs.Worlds.{WorldOf}
 use Rattle.uni_model.specs.Helping.{HelpingInvariant}
 use Rattle.uni_model.specs.Bound.{CountsSteps}
 use Rattle.uni_words.specs.Words.{words_of, memory_of}
-use Rattle.uni_words.specs.Views.{Known, Reading}
-use Rattle.uni_words.specs.Views.Reading.{Nothing, Invocation, Applied, Reply}
+use Rattle.uni_words.specs.View.{Known, Reading}
+use Rattle.uni_words.specs.View.Reading.{Nothing, Invocation, Applied, Reply}
 use Rattle.uni_words.specs.declared.view.View.{View}
 
 -- the call of a cell has returned: it is threaded, with this invocation and this reply

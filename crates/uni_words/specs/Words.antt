@@ -1,5 +1,5 @@
 -- The shared places as words of one table: announce, the heads, and five columns over the cells.
-use Rattle.std.specs.Prelude.{◌≡◌, ℕ, zero, suc, ◌+◌, ◌*◌, ◌/◌, ◌%◌, List, [], ◌∷◌, ◌&&◌, Option, None, Some, option_map, if◌then◌else◌, nat_lt, slice_index, refl}
+use Rattle.std.specs.Prelude.{◌≡◌, ℕ, zero, suc, ◌+◌, ◌-◌, ◌*◌, ◌/◌, ◌%◌, ◌^◌, List, [], ◌∷◌, ◌&&◌, Option, None, Some, option_map, if◌then◌else◌, nat_lt, slice_index, refl}
 use Rattle.std.specs.Option.{option_map_or}
 use Rattle.uni_model.specs.Places.{Name, Place, Content, Memory}
 use Rattle.uni_model.specs.Places.Name.{Anchor, Of}
@@ -132,3 +132,56 @@ sample_inv = refl
 sample_settled_state : memory_of 1 1 sample_words (λ p. 1) (NewOf (Of 0 0)) ≡ Settled (Some (5, Some 0))
 unfolding sample_words
 sample_settled_state = refl
+
+-- the last cell of a table of two processes with rows of three calls, and the first process and the first call that it has no room for
+last_cell_is_there : index_in 2 3 (Of 1 2) ≡ Some 6
+last_cell_is_there = refl
+
+third_process_has_no_cell : index_in 2 3 (Of 2 0) ≡ None
+third_process_has_no_cell = refl
+
+fourth_call_has_no_cell : index_in 2 3 (Of 1 3) ≡ None
+fourth_call_has_no_cell = refl
+
+last_process_has_a_head : word_of 2 3 (HeadOf 1) ≡ Some 3
+last_process_has_a_head = refl
+
+third_process_has_no_head : word_of 2 3 (HeadOf 2) ≡ None
+third_process_has_no_head = refl
+
+third_process_is_not_announced : word_of 2 3 (Announced 2) ≡ None
+third_process_is_not_announced = refl
+
+-- it is the last of 39 words
+last_word : word_of 2 3 (NewOf (Of 1 2)) ≡ Some 38
+last_word = refl
+
+count_of_words : words_of 2 3 ≡ 39
+count_of_words = refl
+
+-- the greatest table
+most_words : words_of 64 4096 ≡ 1310853
+most_words = refl
+
+last_of_most_words : word_of 64 4096 (NewOf (Of 63 4095)) ≡ Some 1310852
+last_of_most_words = refl
+
+-- a link to nothing, and one to the anchor
+link_of_0 : link_of 2 0 ≡ None
+link_of_0 = refl
+
+link_of_1 : link_of 2 1 ≡ Some Anchor
+link_of_1 = refl
+
+-- the least state and reply, and the greatest, which fill 63 bits
+least_settled : settled_at (Of 0 0) (settled_word 0 0) ≡ Some (0, Some 0)
+least_settled = refl
+
+greatest_settled : settled_at (Of 0 0) (settled_word 2147483647 2147483647) ≡ Some (2147483647, Some 2147483647)
+greatest_settled = refl
+
+greatest_settled_word : settled_word 2147483647 2147483647 ≡ 2 ^ 63 - 1
+greatest_settled_word = refl
+
+nothing_settled : settled_at (Of 0 0) 0 ≡ None
+nothing_settled = refl

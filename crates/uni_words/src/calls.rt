@@ -4,8 +4,8 @@ ghost use Rattle.uni_words.specs.Standing.{StandsAt, GoesBy, IsIdle};
 ghost use Rattle.uni_words.specs.Seats.{HasLooked, HasFinished};
 ghost use Rattle.uni_model.specs.Indices.{name_of, index_of};
 ghost use Rattle.uni_words.specs.Words.{cells_of, state_in, reply_in};
-ghost use Rattle.uni_words.specs.Views.{begun_by};
-ghost use Rattle.uni_words.specs.Views.Reading.{Invocation, Applied, Reply};
+ghost use Rattle.uni_words.specs.View.{begun_by};
+ghost use Rattle.uni_words.specs.View.Reading.{Invocation, Applied, Reply};
 ghost use Rattle.uni_model.specs.Stages.Stage.{Announce, DecideNew, WriteBefore, Finish};
 
 use crate::log::WordLog;

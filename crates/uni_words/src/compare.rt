@@ -1,6 +1,6 @@
 //! Comparing a log with what callers were told.
 ghost use Rattle.std.specs.Prelude.{◌≡◌, ◌↔◌, ◌<◌, ◌^◌, ℕ, true, IfSome, None, Some, length, map, slice_get};
-ghost use Rattle.uni_words.specs.Differs.{Agrees, DiffersFirstAt, IsFirstFault, IsFirstWrong, IsRight};
+ghost use Rattle.uni_words.specs.Compare.{Agrees, DiffersFirstAt, IsFirstFault, IsFirstWrong, IsRight};
 ghost use Rattle.uni_words.specs.Log.{calls_by, entry_shown, replied};
 
 use crate::object::WordObject;

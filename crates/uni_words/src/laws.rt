@@ -6,7 +6,7 @@ ghost use Rattle.uni_model.specs.Places.{Name};
 ghost use Rattle.uni_model.specs.Stages.{Stage, Pending};
 ghost use Rattle.uni_model.specs.Worlds.{WorldOf};
 ghost use Rattle.uni_words.specs.Laws.{StoreBegins, WordStepMoves, StoreEnds, LoadEnds, LoadKeeps, OwnCallsRise};
-ghost use Rattle.uni_words.specs.Views.{Known, Reading};
+ghost use Rattle.uni_words.specs.View.{Known, Reading};
 ghost use Rattle.uni_words.specs.declared.view.View.{View};
 
 use crate::object::WordObject;

@@ -4,7 +4,7 @@ use Rattle.std.specs.Borrow.{Bor}
 use Rattle.clap.proofs.WalkLemmas.{first_value-rows}
 use Rattle.clap.specs.Words.{Text, first_value, rows_of}
 use Rattle.clap.specs.declared.parser.matches.Found.{Found}
-use Rattle.unibench.specs.Plans.{value_of}
+use Rattle.unibench.specs.Request.{value_of}
 
 -- the value of an option is what is read of the text that the matches give
 pub value_of-text : {A : Type 0} (read : Text → Option A) (f : Found) (id : Text) (o : Option (Bor Text))

@@ -3,13 +3,16 @@ use Rattle.std.proofs.Common.{◌≡◌, ◌∙◌, ℕ, ◌≤◌, Bool, true, 
 use Rattle.std.specs.Str.{bytes_eq}
 use Rattle.std.specs.Str.Parse.{without_leading_plus}
 use Rattle.clap.specs.Words.{Row, Text, first_of}
-use Rattle.uni_script.specs.Script.{object_of_word}
-use Rattle.uni_script.specs.Replays.{IsHistory}
+use Rattle.uni_script.specs.Grammar.{object_of_word}
+use Rattle.uni_script.specs.Replay.{IsHistory}
 use Rattle.uni_script.specs.Schedules.{IsPlan}
 use Rattle.uni_script.specs.declared.replay.Options.{Options}
 use Rattle.uni_script.specs.declared.grammar.ObjectName.{ObjectName}
 use Rattle.unibench.specs.CommandLine.{request_in}
-use Rattle.unibench.specs.Plans.{number_in, options_of, plan_of, random_of, random_with, value_of}
+use Rattle.unibench.specs.Request.{form_named, number_in, object_named, options_of, plan_of, plan_with, random_of, random_with, value_of}
+use Rattle.unibench.specs.Threads.{IsThreadsPlan}
+use Rattle.unibench.specs.declared.request.Form.{Form}
+use Rattle.unibench.specs.declared.request.ThreadsObject.{ThreadsObject}
 use Rattle.unibench.specs.declared.request.Plan.{Plan}
 use Rattle.unibench.specs.declared.request.RandomPlan.{RandomPlan}
 use Rattle.unibench.specs.declared.request.Request.{Request}
@@ -40,6 +43,26 @@ random_of-IsPlan : (rows : List Row) (plan : RandomPlan) → random_of rows ≡ 
 random_of-IsPlan rows plan is =
     random_with-IsPlan (value_of object_of_word (codes "object") rows) _ _ _ _ plan
     (read-range 1 64 (first_of (codes "processes") rows)) (read-range 1 4096 (first_of (codes "row") rows)) (read-range 1 99000 (first_of (codes "events") rows)) is
+
+plan_with-IsThreadsPlan : (form : Option Form) (object : Option ThreadsObject) (processes calls seed : Option ℕ) (plan : Plan)
+    → ((n : ℕ) → processes ≡ Some n → (1 ≤ n) × (n ≤ 64)) → ((c : ℕ) → calls ≡ Some c → (1 ≤ c) × (c ≤ 4096))
+    → plan_with form object processes calls seed ≡ Some plan → IsThreadsPlan plan
+plan_with-IsThreadsPlan (Some f) (Some o) (Some n) (Some c) (Some s) plan few short e =
+    let ns = few n refl in
+    let cs = short c refl in
+    let of : Plan = record { form = f; object = o; processes = n; calls = c; seed = s } in
+    let is : of ≡ plan = (let same : Some of ≡ Some plan = e in cc) in
+    subst (λ p. IsThreadsPlan p) is (ns.0, ns.1, cs.0, cs.1)
+plan_with-IsThreadsPlan None o n c s plan few short e = absurd (let bad : None ≡ Some plan = e in cc)
+plan_with-IsThreadsPlan (Some f) None n c s plan few short e = absurd (let bad : None ≡ Some plan = e in cc)
+plan_with-IsThreadsPlan (Some f) (Some o) None c s plan few short e = absurd (let bad : None ≡ Some plan = e in cc)
+plan_with-IsThreadsPlan (Some f) (Some o) (Some n) None s plan few short e = absurd (let bad : None ≡ Some plan = e in cc)
+plan_with-IsThreadsPlan (Some f) (Some o) (Some n) (Some c) None plan few short e = absurd (let bad : None ≡ Some plan = e in cc)
+
+plan_of-IsThreadsPlan : (rows : List Row) (plan : Plan) → plan_of rows ≡ Some plan → IsThreadsPlan plan
+plan_of-IsThreadsPlan rows plan is =
+    plan_with-IsThreadsPlan (value_of form_named (codes "form") rows) (value_of object_named (codes "object") rows) _ _ _ plan
+    (read-range 1 64 (first_of (codes "processes") rows)) (read-range 1 4096 (first_of (codes "calls") rows)) is
 
 options_of-IsHistory : (rows : List Row) (options : Options) → options_of rows ≡ Some options → IsHistory options.history
 options_of-IsHistory rows options is = at (value_of (number_in 1 16777216) (codes "history") rows) (read-range 1 16777216 (first_of (codes "history") rows)) is
@@ -94,3 +117,23 @@ IsHistory-asked (Some (name, rows)) options e = by_name (bytes_eq name (codes "r
   by_name true t same = absurd (of_random (random_of rows) same)
   by_name false true same = absurd (of_threads (plan_of rows) same)
   by_name false false same = of_replay (options_of rows) refl same
+
+pub IsThreadsPlan-asked : (o : Option (Text × List Row)) (plan : Plan) → request_in o ≡ Some (Threads plan) → IsThreadsPlan plan
+IsThreadsPlan-asked None plan e = absurd (let bad : None ≡ Some (Threads plan) = e in cc)
+IsThreadsPlan-asked (Some (name, rows)) plan e = by_name (bytes_eq name (codes "random")) (bytes_eq name (codes "threads")) e where
+  of_random : (o : Option RandomPlan) → option_map Random o ≡ Some (Threads plan) → ⊥
+  of_random None same = let bad : None ≡ Some (Threads plan) = same in cc
+  of_random (Some p) same = let bad : Some (Random p) ≡ Some (Threads plan) = same in cc
+
+  of_threads : (o : Option Plan) → plan_of rows ≡ o → option_map Threads o ≡ Some (Threads plan) → IsThreadsPlan plan
+  of_threads None is same = absurd (let bad : None ≡ Some (Threads plan) = same in cc)
+  of_threads (Some p) is same = plan_of-IsThreadsPlan rows plan (is ∙ ap Some (let one : Some (Threads p) ≡ Some (Threads plan) = same in let it : p ≡ plan = cc in it))
+
+  of_replay : (o : Option Options) → option_map Replay o ≡ Some (Threads plan) → ⊥
+  of_replay None same = let bad : None ≡ Some (Threads plan) = same in cc
+  of_replay (Some p) same = let bad : Some (Replay p) ≡ Some (Threads plan) = same in cc
+
+  by_name : (r t : Bool) → asked_by rows r t ≡ Some (Threads plan) → IsThreadsPlan plan
+  by_name true t same = absurd (of_random (random_of rows) same)
+  by_name false true same = of_threads (plan_of rows) refl same
+  by_name false false same = absurd (of_replay (options_of rows) same)

@@ -1,12 +1,13 @@
 -- What the words of the command line ask for, by clap's own account of a command without options.
-use Rattle.std.specs.Prelude.{◌≡◌, ◌⊎◌, List, [], ◌∷◌, Option, None, Some, option_map, if◌then◌else◌, true, codes, refl}
+use Rattle.std.specs.Prelude.{◌≡◌, ◌⊎◌, ◌-◌, ◌^◌, ℕ, List, [], ◌∷◌, Option, None, Some, option_map, if◌then◌else◌, true, codes, refl}
 use Rattle.std.specs.Str.{bytes_eq}
 use Rattle.clap.specs.Words.{App, Row, Rule, Text, Kinds, IsAmong, new_app, new_rule, with_rule, with_subcommand, subcommand_of, fault_of}
 use Rattle.clap.proofs.OnLiterals.{clap_on_literals}
-use Rattle.clap.specs.declared.error.kind.ErrorKind.TheVariants.{DisplayHelp, DisplayVersion, InvalidSubcommand, MissingSubcommand, UnknownArgument}
+use Rattle.clap.specs.declared.builder.value_parser.ValueParser.TheVariants.{Unsigned}
+use Rattle.clap.specs.declared.error.kind.ErrorKind.TheVariants.{DisplayHelp, DisplayVersion, InvalidSubcommand, MissingSubcommand, UnknownArgument, ValueValidation}
 use Rattle.uni_script.specs.declared.grammar.ObjectName.TheVariants as shared
 use Rattle.uni_script.specs.declared.replay.Options.{Options}
-use Rattle.unibench.specs.Plans.{options_of, plan_of, random_of}
+use Rattle.unibench.specs.Request.{options_of, plan_of, random_of}
 use Rattle.unibench.specs.declared.request.Request.{Request}
 use Rattle.unibench.specs.declared.request.Request.TheVariants.{Replay, Random, Threads}
 use Rattle.unibench.specs.declared.request.Form.TheVariants.{Lock, Words}
@@ -20,26 +21,30 @@ needs_subcommand app = record app { top = record app.top { subcommand_required =
 abbrev pub option : (name value : Text) → Rule
 option name value = record (new_rule name) { long = Some name; value_names = 1; defaults = value ∷ [] }
 
+-- the option, where its value is to be a number of a range, perhaps after a plus
+abbrev pub in_range : Rule → (least most : ℕ) → Rule
+in_range number least most = record number { parser = Some (Unsigned least most) }
+
 abbrev pub replay_command : App
-replay_command = with_rule (new_app (codes "replay")) (option (codes "history") (codes "1048576"))
+replay_command = with_rule (new_app (codes "replay")) (in_range (option (codes "history") (codes "1048576")) 1 16777216)
 
 abbrev pub random_command : App
 random_command =
     with_rule (with_rule (with_rule (with_rule (with_rule (new_app (codes "random"))
     (option (codes "object") (codes "queue")))
-    (option (codes "processes") (codes "2")))
-    (option (codes "row") (codes "64")))
-    (option (codes "seed") (codes "1")))
-    (option (codes "events") (codes "100"))
+    (in_range (option (codes "processes") (codes "2")) 1 64))
+    (in_range (option (codes "row") (codes "64")) 1 4096))
+    (in_range (option (codes "seed") (codes "1")) 0 (2 ^ 64 - 1)))
+    (in_range (option (codes "events") (codes "100")) 1 99000)
 
 abbrev pub threads_command : App
 threads_command =
     with_rule (with_rule (with_rule (with_rule (with_rule (new_app (codes "threads"))
     (option (codes "form") (codes "lock")))
     (option (codes "object") (codes "queue")))
-    (option (codes "processes") (codes "2")))
-    (option (codes "calls") (codes "100")))
-    (option (codes "seed") (codes "1"))
+    (in_range (option (codes "processes") (codes "2")) 1 64))
+    (in_range (option (codes "calls") (codes "100")) 1 4096))
+    (in_range (option (codes "seed") (codes "1")) 0 (2 ^ 64 - 1))
 
 -- the program has three subcommands, `replay`, `random` and `threads`, and needs one
 abbrev pub unibench : App
@@ -125,6 +130,10 @@ threads_on_words name = (refl, refl)
 too_many_threads : (name : Text) → asked_of (name ∷ codes "threads" ∷ codes "--processes" ∷ codes "65" ∷ []) ≡ None
 unfolding clap_on_literals
 too_many_threads name = refl
+
+threads_of_65_are_a_fault : (name : Text) → faults_of_words (name ∷ codes "threads" ∷ codes "--processes" ∷ codes "65" ∷ []) ≡ ValueValidation ∷ []
+unfolding clap_on_literals
+threads_of_65_are_a_fault name = refl
 
 nothing_is_asked : (name : Text) → faults_of_words (name ∷ []) ≡ MissingSubcommand ∷ []
 unfolding clap_on_literals

@@ -1,6 +1,6 @@
 pub mod Statuses
 pub mod CommandLine
-pub mod Plans
+pub mod Request
 pub mod Draws
 pub mod Runs
-pub mod ThreadRuns
+pub mod Threads

@@ -1,10 +1,10 @@
 -- What a run of the program has done when it ends.
-use Rattle.std.specs.Prelude.{◌≡◌, ◌≢◌, ◌⊎◌, ◌↔◌, ◌*◌, ℕ, List, Option, None, Bool, true, false}
+use Rattle.std.specs.Prelude.{◌≡◌, ◌≢◌, ◌⊎◌, ◌↔◌, ℕ, List, Option, None, IsSome, Bool, true, false}
 use Rattle.std.specs.Io.KnownBytes.{Appends}
 use Rattle.uni_script.specs.Ends.{AppendsFront}
-use Rattle.uni_script.specs.Replays.{IsReplay, IsBadReplay, IsPartOfReplay, HasAnswered}
+use Rattle.uni_script.specs.Replay.{IsReplay, IsBadReplay, IsPartOfReplay, HasAnswered}
 use Rattle.unibench.specs.Draws.{drawn_text}
-use Rattle.unibench.specs.ThreadRuns.{agrees_line, has_form}
+use Rattle.unibench.specs.Threads.{OfAgreed, refusal_of}
 use Rattle.unibench.specs.declared.request.Plan.{Plan}
 use Rattle.unibench.specs.declared.request.RandomPlan.{RandomPlan}
 use Rattle.unibench.specs.declared.request.Request.{Request}
@@ -34,14 +34,15 @@ pub record IsRandomRun (plan : RandomPlan) (old new : Option (List ℕ)) (output
   pub failed : (status ≡ 3) ↔ (output_failed ≡ true)
   pub nothing : status ≡ 4 → new ≡ old
 
--- A run of threads that ended with this status, from what the output held: 2 only where the object isn't there in the form, and
--- there only 2 or the want of memory; 0 only where the line was written that says of as many replies as the plan has calls that
--- they agree. After a failure of the output a front of that line was written, and after any other fault nothing.
+-- A run of threads that ended with this status, from what the output held: 2 only where the plan is refused, since the object isn't
+-- there in the form or, under a lock, the calls are too many, and there only 2 or the want of memory; 0 only where the line was
+-- written that says of as many replies as the plan has calls that they agree, under a lock of at most so many. After a failure of
+-- the output a front of such a line was written, and after any other fault nothing.
 pub record IsThreadsRun (plan : Plan) (old new : Option (List ℕ)) (output_failed : Bool) (status : ℕ) : Type 0 where
-  pub there : status ≡ 2 → has_form plan.form plan.object ≡ false
-  pub nowhere : has_form plan.form plan.object ≡ false → (status ≡ 2) ⊎ (status ≡ 4)
-  pub agreed : status ≡ 0 → Appends old new (agrees_line plan.processes (plan.processes * plan.calls))
-  pub front : status ≡ 3 → AppendsFront old new (agrees_line plan.processes (plan.processes * plan.calls))
+  pub there : status ≡ 2 → IsSome (refusal_of plan)
+  pub nowhere : IsSome (refusal_of plan) → (status ≡ 2) ⊎ (status ≡ 4)
+  pub agreed : status ≡ 0 → OfAgreed plan (Appends old new)
+  pub front : status ≡ 3 → OfAgreed plan (AppendsFront old new)
   pub failed : (status ≡ 3) ↔ (output_failed ≡ true)
   pub nothing : status ≢ 0 → status ≢ 3 → new ≡ old
 

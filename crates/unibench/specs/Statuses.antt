@@ -1,13 +1,13 @@
 -- The statuses with which the program ends.
-use Rattle.std.specs.Prelude.{◌≡◌, ◌≢◌, ◌≤◌, ◌⊎◌, ℕ, List, Option, Bool, false}
+use Rattle.std.specs.Prelude.{◌≡◌, ◌≢◌, ◌≤◌, ◌⊎◌, ℕ, List, Option, Some, Bool, false}
 use Rattle.std.specs.Io.KnownBytes.{Appends}
 use Rattle.clap.specs.Words.{Text}
 use Rattle.uni_script.specs.Ends.{AppendsFront}
-use Rattle.uni_script.specs.Faults.{fault_line}
+use Rattle.uni_script.specs.Fault.{fault_line}
 use Rattle.uni_script.specs.declared.fault.BenchFault.{BenchFault}
 use Rattle.uni_script.specs.declared.fault.BenchFault.TheVariants.{NoHeader, BadHeader, TooLong, BadByte, BadLine, TooMany, Read, Write, Memory, Audit}
 use Rattle.unibench.specs.CommandLine.{AsksFor}
-use Rattle.unibench.specs.ThreadRuns.{line_of_fault}
+use Rattle.unibench.specs.Threads.{line_of_fault, refusal_of}
 use Rattle.unibench.specs.declared.request.Plan.{Plan}
 use Rattle.unibench.specs.declared.request.Request.{Request}
 use Rattle.unibench.specs.declared.request.Request.TheVariants.{Replay, Random, Threads}
@@ -34,32 +34,40 @@ IsStatusOf fault status = (status ≡ status_of fault) ⊎ (((status_of fault �
 -- the status that a fault of threads ends with
 abbrev pub status_of_threads : ThreadsFault → ℕ
 status_of_threads fault.NoSuchObject = 2
+status_of_threads fault.CallsTooMany = 2
 status_of_threads fault.Write = 3
 status_of_threads fault.Memory = 4
 status_of_threads (fault.Differs call) = 5
+status_of_threads (fault.SeatMissing p) = 5
+status_of_threads (fault.SeatPending p) = 5
+status_of_threads (fault.Audit verdict) = 5
 
--- the status of a fault of threads, or that of the want of memory for the text of a call that differs
+-- the status of a fault of threads, or that of the want of memory for the text of a closing or its audit
 abbrev pub IsStatusOfThreads : ThreadsFault → (status : ℕ) → Type 0
 IsStatusOfThreads fault status = (status ≡ status_of_threads fault) ⊎ ((status_of_threads fault ≡ 5) × (status ≡ 4))
 
--- known bytes grew by the line of a fault of this status: by all of it, where the end hasn't failed, else by a front
-pub record TellsLine {A : Type 0} (status_of_fault : A → ℕ) (line_of : A → List ℕ) (old new : Option (List ℕ)) (failed : Bool) (status : ℕ) : Type 0 where
+-- known bytes grew by the line of a fault that ends with this status: by all of it, where the end hasn't failed, else by a front
+pub record TellsLine {A : Type 0} (EndsWith : A → ℕ → Type 0) (line_of : A → List ℕ) (old new : Option (List ℕ)) (failed : Bool) (status : ℕ) : Type 0 where
   pub fault : A
-  pub status_is : status ≡ status_of_fault fault
+  pub status_is : EndsWith fault status
   pub front : AppendsFront old new (line_of fault)
   pub whole : failed ≡ false → Appends old new (line_of fault)
 
 abbrev pub TellsFault : (old new : Option (List ℕ)) (failed : Bool) (status : ℕ) → Type 0
-TellsFault = TellsLine status_of fault_line
+TellsFault = TellsLine (λ fault status. status ≡ status_of fault) fault_line
 
-abbrev pub TellsThreadsFault : (old new : Option (List ℕ)) (failed : Bool) (status : ℕ) → Type 0
-TellsThreadsFault = TellsLine status_of_threads line_of_fault
+-- a fault of threads that ends with this status. Where that is 2, it is the one that is refused
+abbrev pub EndsThreads : (refusal : Option ThreadsFault) → ThreadsFault → (status : ℕ) → Type 0
+EndsThreads refusal fault status = (status ≡ status_of_threads fault) × (status ≡ 2 → refusal ≡ Some fault)
+
+abbrev pub TellsThreadsFault : (refusal : Option ThreadsFault) (old new : Option (List ℕ)) (failed : Bool) (status : ℕ) → Type 0
+TellsThreadsFault refusal = TellsLine (EndsThreads refusal) line_of_fault
 
 -- what is told of a fault depends on what was asked for
 abbrev pub Tells : Request → (old new : Option (List ℕ)) (failed : Bool) (status : ℕ) → Type 0
 Tells (Replay options) = TellsFault
 Tells (Random plan) = TellsFault
-Tells (Threads plan) = TellsThreadsFault
+Tells (Threads plan) = TellsThreadsFault (refusal_of plan)
 
 -- a status of the program: 5 only where the words ask for threads
 pub record IsStatusFor (words : List Text) (status : ℕ) : Type 0 where

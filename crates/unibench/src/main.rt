@@ -2,6 +2,7 @@
 //! standard output, or threads that share an object.
 #![tactic(auto)]
 
+mod lock;
 mod program;
 mod request;
 #[cfg(test)]

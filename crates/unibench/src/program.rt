@@ -1,24 +1,24 @@
 //! The program over its ends, and its statuses.
 
-ghost use Rattle.std.specs.Prelude.{◌≡◌, ◌≢◌, ◌≤◌, ◌⊎◌, ◌↔◌, ◌*◌, true, false, None, IsErrOf, OnOk, OnErr, map};
+ghost use Rattle.std.specs.Prelude.{◌≡◌, ◌≢◌, ◌≤◌, ◌⊎◌, ◌↔◌, true, false, None, Some, IsErrOf, OnOk, OnErr, map};
 ghost use Rattle.std.specs.Io.KnownBytes.{Appends};
 ghost use Rattle.uni_script.specs.Ends.{AppendsFront};
-ghost use Rattle.uni_script.specs.Replays.{IsHistory, IsReplay, IsBadReplay, IsPartOfReplay, HasAnswered};
+ghost use Rattle.uni_script.specs.Replay.{IsHistory, IsReplay, IsBadReplay, IsPartOfReplay, HasAnswered};
 ghost use Rattle.unibench.specs.CommandLine.{AsksFor, AsksForReplay, IsRefused};
 ghost use Rattle.uni_script.specs.Schedules.{IsPlan};
 ghost use Rattle.unibench.specs.Runs.{IsRandomRun, IsRunOf, IsStatusOfEnds, IsThreadsRun};
-ghost use Rattle.unibench.specs.Statuses.{IsStatusFor, IsStatusOf, IsStatusOfThreads, Tells, TellsFault, TellsThreadsFault, status_of};
-ghost use Rattle.unibench.specs.ThreadRuns.{agrees_line, has_form};
+ghost use Rattle.unibench.specs.Statuses.{IsStatusFor, IsStatusOf, IsStatusOfThreads, Tells, TellsFault, TellsThreadsFault, status_of, status_of_threads};
+ghost use Rattle.unibench.specs.Threads.{IsThreadsPlan, OfAgreed, refusal_of};
 
 use crate::request::{Plan, RandomPlan, Request, read_words};
 use crate::threads::{ThreadsFault, push_agrees, push_threads_fault, run_plan};
 use clap::error::ErrorKind;
 use rand_core::SeedableRng;
 use rand_xoshiro::Xoshiro256PlusPlus;
-use seq_object::CallId;
 use std::alloc::{AllocError, Global};
 use std::convert::AsStr;
 use std::fmt::{Display, Write};
+use std::sync::Wait;
 use std::thread::Threads;
 use std::{fmt, io};
 use uni_script::{
@@ -29,10 +29,11 @@ use uni_script::{
 /// that it ends with.
 ///
 /// The status is 0 where all went well, also for help that was asked for, which goes to `output`.
-/// It is 2 for a bad script, a bad command line or an object that isn't there in a form of threads,
-/// 3 where `input` or `output` failed, 4 where memory was refused, and 5 where threads were told
-/// what the log doesn't have; the text that says so goes to `faults`, as far as that takes it.
-pub fn run<R: Threads + Sync, S: AsStr, I: TextIn, O: TextOut, F: TextOut>(
+/// It is 2 for a bad script, a bad command line, an object that isn't there in a form of threads or
+/// calls that are too many for a history, 3 where `input` or `output` failed, 4 where memory was
+/// refused, and 5 where threads were told what the log doesn't have; the text that says so goes to
+/// `faults`, as far as that takes it.
+pub fn run<R: Threads + Wait + Sync, S: AsStr, I: TextIn, O: TextOut, F: TextOut>(
     rt: &R,
     alloc: Global,
     words: &[S],
@@ -57,7 +58,7 @@ pub fn run<R: Threads + Sync, S: AsStr, I: TextIn, O: TextOut, F: TextOut>(
         Ok(Some(Request::Random(plan))) => random(alloc, &plan, output, faults),
         Ok(Some(Request::Threads(plan))) => threads(rt, alloc, &plan, output, faults),
         Ok(None) => {
-            tell(faults, b"an option has a value that it doesn't take\n");
+            tell(faults, b"no such object or form\n");
             2
         }
         Err(error) if error.kind() == ErrorKind::OutOfMemory => report(
@@ -78,20 +79,22 @@ pub fn run<R: Threads + Sync, S: AsStr, I: TextIn, O: TextOut, F: TextOut>(
 
 /// Runs the threads of a plan, and writes to `output` that they agree; the answer is the status.
 ///
-/// The status is 0 where all went well, 2 where the object isn't there in the form, 3 where `output`
-/// failed, 4 where memory was refused, and 5 where what the threads were told isn't what the log has;
-/// the text that says so goes to `faults`, as far as that takes it.
-fn threads<R: Threads + Sync, O: TextOut, F: TextOut>(
+/// The status is 0 where all went well, 2 where the object isn't there in the form or the calls are
+/// too many under a lock, 3 where `output` failed, 4 where memory was refused, and 5 where what the
+/// threads were told isn't what the log has; the text that says so goes to `faults`, as far as that
+/// takes it.
+fn threads<R: Threads + Wait + Sync, O: TextOut, F: TextOut>(
     rt: &R,
     alloc: Global,
     plan: &Plan,
     output: &mut O,
     faults: &mut F,
 ) -> u8
+    requires plan { IsThreadsPlan plan.now }
     requires output { O.has_failed output.old ≡ false }
     ensures run { IsThreadsRun plan.now (O.contents output.old) (O.contents output.new) (O.has_failed output.new) result }
     ensures silent { result ≡ 0 → faults.new ≡ faults.old }
-    ensures told { result ≢ 0 → TellsThreadsFault (F.contents faults.old) (F.contents faults.new) (F.has_failed faults.new) result }
+    ensures told { result ≢ 0 → TellsThreadsFault (refusal_of plan.now) (F.contents faults.old) (F.contents faults.new) (F.has_failed faults.new) result }
 {
     match write_agreed(rt, alloc, plan, output) {
         Ok(()) => 0,
@@ -100,17 +103,19 @@ fn threads<R: Threads + Sync, O: TextOut, F: TextOut>(
 }
 
 /// Runs the threads of a plan, and writes to `output` that they agree.
-fn write_agreed<R: Threads + Sync, O: TextOut>(
+fn write_agreed<R: Threads + Wait + Sync, O: TextOut>(
     rt: &R,
     alloc: Global,
     plan: &Plan,
     output: &mut O,
 ) -> Result<(), ThreadsFault>
+    requires plan { IsThreadsPlan plan.now }
     requires output { O.has_failed output.old ≡ false }
-    ensures there { IsErrOf result ThreadsFault.NoSuchObject ↔ (has_form plan.now.form plan.now.object ≡ false) }
-    ensures ok { OnOk result ((O.has_failed output.new ≡ false) × Appends (O.contents output.old) (O.contents output.new) (agrees_line plan.now.processes (plan.now.processes * plan.now.calls))) }
+    ensures there { IsErrOf result ThreadsFault.NoSuchObject ↔ (refusal_of plan.now ≡ Some ThreadsFault.NoSuchObject) }
+    ensures few { IsErrOf result ThreadsFault.CallsTooMany ↔ (refusal_of plan.now ≡ Some ThreadsFault.CallsTooMany) }
+    ensures ok { OnOk result ((O.has_failed output.new ≡ false) × OfAgreed plan.now (Appends (O.contents output.old) (O.contents output.new))) }
     ensures failed { IsErrOf result ThreadsFault.Write ↔ (O.has_failed output.new ≡ true) }
-    ensures front { IsErrOf result ThreadsFault.Write → AppendsFront (O.contents output.old) (O.contents output.new) (agrees_line plan.now.processes (plan.now.processes * plan.now.calls)) }
+    ensures front { IsErrOf result ThreadsFault.Write → OfAgreed plan.now (AppendsFront (O.contents output.old) (O.contents output.new)) }
     ensures kept { OnErr result (O.has_failed output.new ≡ false → output.new ≡ output.old) }
 {
     let replies = run_plan(rt, alloc, plan)?;
@@ -123,14 +128,18 @@ fn write_agreed<R: Threads + Sync, O: TextOut>(
 }
 
 /// Says what went wrong with threads, as far as the end takes it; the answer is the status. Where the
-/// text of a call that differs is refused memory, that is what is told, with its status.
+/// text of a closing's fault is refused memory, that is what is told, with its status.
 fn report_threads<F: TextOut>(alloc: Global, fault: ThreadsFault, faults: &mut F) -> u8
     ensures status { IsStatusOfThreads fault result }
-    ensures told { TellsThreadsFault (F.contents faults.old) (F.contents faults.new) (F.has_failed faults.new) result }
+    ensures told { TellsThreadsFault (Some fault) (F.contents faults.old) (F.contents faults.new) (F.has_failed faults.new) result }
 {
     match fault {
         ThreadsFault::NoSuchObject => {
             tell(faults, b"no such object in this form\n");
+            2
+        }
+        ThreadsFault::CallsTooMany => {
+            tell(faults, b"calls too many\n");
             2
         }
         ThreadsFault::Write => {
@@ -141,7 +150,10 @@ fn report_threads<F: TextOut>(alloc: Global, fault: ThreadsFault, faults: &mut F
             tell(faults, b"out of memory\n");
             4
         }
-        ThreadsFault::Differs(call) => report_differs(alloc, call, faults),
+        ThreadsFault::Differs(_)
+        | ThreadsFault::SeatMissing(_)
+        | ThreadsFault::SeatPending(_)
+        | ThreadsFault::Audit(_) => report_closing(alloc, fault, faults),
     }
 }
 
@@ -249,13 +261,14 @@ fn report_line<F: TextOut>(alloc: Global, fault: BenchFault, status: u8, faults:
     }
 }
 
-/// Says which call of threads differs, or that memory was refused to its text.
-fn report_differs<F: TextOut>(alloc: Global, call: CallId, faults: &mut F) -> u8
+/// Says which fault a closing or its audit has, or that memory was refused to its text.
+fn report_closing<F: TextOut>(alloc: Global, fault: ThreadsFault, faults: &mut F) -> u8
+    requires { status_of_threads fault ≡ 5 }
     ensures status { (result ≡ 5) ⊎ (result ≡ 4) }
-    ensures told { TellsThreadsFault (F.contents faults.old) (F.contents faults.new) (F.has_failed faults.new) result }
+    ensures told { TellsThreadsFault (Some fault) (F.contents faults.old) (F.contents faults.new) (F.has_failed faults.new) result }
 {
     let mut line = Vec::new(alloc);
-    match push_threads_fault(&mut line, ThreadsFault::Differs(call)) {
+    match push_threads_fault(&mut line, fault) {
         Ok(()) => {
             tell(faults, line.as_slice());
             5

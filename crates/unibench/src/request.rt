@@ -3,10 +3,11 @@
 ghost use Rattle.std.specs.Prelude.{◌≡◌, [], IfOk, IfErr, map, codes, false};
 ghost use Rattle.clap.specs.Words.{HasKind, app_of, found_of, rows_of, new_app, rule_of, subcommand_rows_of};
 ghost use Rattle.clap.specs.declared.builder.command.Command.TheViews.{out-Command};
-ghost use Rattle.unibench.specs.CommandLine.{asked_of, faults_of_words, option, random_command, replay_command, request_in, threads_command, unibench};
-ghost use Rattle.uni_script.specs.Script.{object_of_word};
-ghost use Rattle.unibench.specs.Plans.{form_named, number_in, object_named, options_of, plan_of, random_of, value_of};
+ghost use Rattle.unibench.specs.CommandLine.{asked_of, faults_of_words, in_range, option, random_command, replay_command, request_in, threads_command, unibench};
+ghost use Rattle.uni_script.specs.Grammar.{object_of_word};
+ghost use Rattle.unibench.specs.Request.{form_named, number_in, object_named, options_of, plan_of, random_of, value_of};
 
+use clap::builder::ValueParser;
 use clap::{Arg, ArgMatches, Command};
 use std::alloc::{AllocError, Global};
 use std::convert::AsStr;
@@ -227,6 +228,15 @@ fn option<'a>(
         .default_value(value)
 }
 
+/// An option whose value is a number of a range: another one is a fault of the command line, which
+/// names the option and the range.
+fn in_range<'a>(number: Arg<'a>, least: u64, most: u64) -> Arg<'a>
+    ensures rule { rule_of result ≡ in_range (rule_of number.entry) least most }
+    ensures local { result.global ≡ number.entry.global }
+{
+    number.value_parser(ValueParser::Unsigned(least, most))
+}
+
 /// What the help of `replay` says last.
 const REPLAY_NOTES: &str = "\
 The script begins with a header: 'universal 1', the object (queue, directory,
@@ -252,6 +262,7 @@ fn replay_command<'a>(alloc: Global) -> Result<Command<'a>, AllocError>
         "The most events, from 1 to 16777216",
         "1048576",
     );
+    let history = in_range(history, 1, 16_777_216);
     described(
         alloc,
         "replay",
@@ -289,6 +300,7 @@ fn random_command<'a>(alloc: Global) -> Result<Command<'a>, AllocError>
         "How many processes there are, from 1 to 64",
         "2",
     );
+    let processes = in_range(processes, 1, 64);
     let row = option(
         alloc,
         "row",
@@ -296,6 +308,7 @@ fn random_command<'a>(alloc: Global) -> Result<Command<'a>, AllocError>
         "The most calls of each, from 1 to 4096",
         "64",
     );
+    let row = in_range(row, 1, 4096);
     let seed = option(
         alloc,
         "seed",
@@ -303,6 +316,7 @@ fn random_command<'a>(alloc: Global) -> Result<Command<'a>, AllocError>
         "The seed, from 0 to 18446744073709551615",
         "1",
     );
+    let seed = in_range(seed, 0, u64::MAX);
     let events = option(
         alloc,
         "events",
@@ -310,6 +324,7 @@ fn random_command<'a>(alloc: Global) -> Result<Command<'a>, AllocError>
         "How many events are drawn, from 1 to 99000",
         "100",
     );
+    let events = in_range(events, 1, 99_000);
     described(
         alloc,
         "random",
@@ -325,11 +340,14 @@ fn random_command<'a>(alloc: Global) -> Result<Command<'a>, AllocError>
 
 /// What the help of `threads` says last.
 const THREADS_NOTES: &str = "\
-With --form words the object is sticky or tally; the form under a lock has none
-yet. Where all replies are those of the log, the line 'threads N calls M agrees'
-is written, M being the number of all calls.
+With --form lock the object is queue, directory, book or sticky, with --form
+words sticky or tally. Where all replies are those of the log, the line
+'threads N calls M agrees' is written, M being the number of replies. Under a
+lock each of the N * C calls takes at most 10 * N + 13 events, and there is
+room for 16777216.
 
-Example:
+Examples:
+  unibench threads --object book --processes 4 --calls 50
   unibench threads --form words --object tally --processes 8";
 
 /// The subcommand that runs threads.
@@ -352,6 +370,7 @@ fn threads_command<'a>(alloc: Global) -> Result<Command<'a>, AllocError>
         "How many threads there are, from 1 to 64",
         "2",
     );
+    let processes = in_range(processes, 1, 64);
     let calls = option(
         alloc,
         "calls",
@@ -359,6 +378,7 @@ fn threads_command<'a>(alloc: Global) -> Result<Command<'a>, AllocError>
         "How many calls each makes, from 1 to 4096",
         "100",
     );
+    let calls = in_range(calls, 1, 4096);
     let seed = option(
         alloc,
         "seed",
@@ -366,6 +386,7 @@ fn threads_command<'a>(alloc: Global) -> Result<Command<'a>, AllocError>
         "The seed of the first thread's calls",
         "1",
     );
+    let seed = in_range(seed, 0, u64::MAX);
     described(
         alloc,
         "threads",

@@ -5,12 +5,16 @@ mod drawn;
 mod rows;
 
 use crate::program::run;
+use crate::threads::{ThreadsFault, push_threads_fault};
+use seq_object::CallId;
 use std::alloc::{AllocError, Global};
 use std::io;
 use std::io::{ErrorKind, Read, Write};
 use std::process::Abort;
+use std::sync::Wait;
 use std::test::Fail;
 use std::thread::Threads;
+use uni_record::Verdict;
 use uni_script::Checked;
 
 /// A reader over memory that gives at most so many bytes at a time, and then ends or fails.
@@ -67,7 +71,7 @@ struct Outcome {
 }
 
 /// Runs the program on argument texts and the script of a reader.
-fn outcome_of<R: Threads + Sync>(
+fn outcome_of<R: Threads + Wait + Sync>(
     rt: &R,
     alloc: Global,
     words: &[&str],
@@ -101,7 +105,7 @@ fn by_sevens(script: &[u8], fails: bool) -> Trickle<'_> {
 }
 
 /// Asserts what the replay of the script of a reader writes, and its status.
-fn replays<R: Abort + Threads + Sync>(
+fn replays<R: Abort + Threads + Wait + Sync>(
     rt: &R,
     alloc: Global,
     reader: Trickle<'_>,
@@ -123,7 +127,7 @@ fn replays<R: Abort + Threads + Sync>(
 }
 
 /// Asserts what the replay of a good script writes, in whatever pieces the script is read.
-fn answers<R: Abort + Threads + Sync>(rt: &R, alloc: Global, script: &str, output: &str) {
+fn answers<R: Abort + Threads + Wait + Sync>(rt: &R, alloc: Global, script: &str, output: &str) {
     for most in [1, 2, 7, 5_000] {
         let reader = Trickle {
             left: script.as_bytes(),
@@ -134,60 +138,64 @@ fn answers<R: Abort + Threads + Sync>(rt: &R, alloc: Global, script: &str, outpu
     }
 }
 
+/// Scripts, each with its answers.
+const GOOD: &[(&str, &str)] = &[
+    (
+        "universal 1 queue 1 8\ncall 0 enq 7\nfinish 0\nlog\n",
+        "called 0.0\nreturned 0.0 ok steps 14 turns 1\n2 0.0 enq 7 -> ok\nend\n",
+    ),
+    (
+        "universal 1 queue 1 8\ncall 0 enq 7\nfinish 0\nlog",
+        "called 0.0\nreturned 0.0 ok steps 14 turns 1\n2 0.0 enq 7 -> ok\nend\n",
+    ),
+    (
+        "universal 1 queue 1 8\ncall 0 enq 7\nfinish 0\nlog\ncall 0 deq\nfinish 0\n",
+        "called 0.0\nreturned 0.0 ok steps 14 turns 1\n2 0.0 enq 7 -> ok\ncalled 0.1\nreturned 0.1 7 steps 14 turns 1\nend\n",
+    ),
+    (
+        "universal 1 queue 1 8\ncall 0 enq 7\nfinish 0\ncall 0 deq\nfinish 0\nlog\n",
+        "called 0.0\nreturned 0.0 ok steps 14 turns 1\ncalled 0.1\nreturned 0.1 7 steps 14 turns 1\n2 0.0 enq 7 -> ok\n3 0.1 deq -> 7\nend\n",
+    ),
+    // A call that was begun and took no step isn't in the log.
+    (
+        "universal 1 queue 1 8\ncall 0 enq 7\nfinish 0\ncall 0 deq\nlog\n",
+        "called 0.0\nreturned 0.0 ok steps 14 turns 1\ncalled 0.1\n2 0.0 enq 7 -> ok\nend\n",
+    ),
+    ("universal 1 queue 1 1\n", "end\n"),
+    ("# a note\n\nuniversal 1 queue 1 4096\n#\n", "end\n"),
+    (
+        "universal 1 queue 1 1\nfinish 0\ncall 0 enq 0\ncall 0 deq\nlog\nfinish 0\ncall 0 deq\nlog\n",
+        "refused idle 0\ncalled 0.0\nrefused busy 0\nreturned 0.0 ok steps 14 turns 1\nrefused row 0\n2 0.0 enq 0 -> ok\nend\n",
+    ),
+    (
+        "universal 1 queue 1 8\ncall 1 deq\nfinish 999999999999\nlog\n",
+        "refused process 1\nrefused process 999999999999\nend\n",
+    ),
+];
+
 #[test]
 fn good_scripts(rt: HostRuntime) {
-    let rows = [
-        (
-            "universal 1 queue 1 8\ncall 0 enq 7\nfinish 0\nlog\n",
-            "called 0.0\nreturned 0.0 ok steps 14 turns 1\n2 0.0 enq 7 -> ok\nend\n",
-        ),
-        (
-            "universal 1 queue 1 8\ncall 0 enq 7\nfinish 0\nlog",
-            "called 0.0\nreturned 0.0 ok steps 14 turns 1\n2 0.0 enq 7 -> ok\nend\n",
-        ),
-        (
-            "universal 1 queue 1 8\ncall 0 enq 7\nfinish 0\nlog\ncall 0 deq\nfinish 0\n",
-            "called 0.0\nreturned 0.0 ok steps 14 turns 1\n2 0.0 enq 7 -> ok\ncalled 0.1\nreturned 0.1 7 steps 14 turns 1\nend\n",
-        ),
-        (
-            "universal 1 queue 1 8\ncall 0 enq 7\nfinish 0\ncall 0 deq\nfinish 0\nlog\n",
-            "called 0.0\nreturned 0.0 ok steps 14 turns 1\ncalled 0.1\nreturned 0.1 7 steps 14 turns 1\n2 0.0 enq 7 -> ok\n3 0.1 deq -> 7\nend\n",
-        ),
-        // A call that was begun and took no step isn't in the log.
-        (
-            "universal 1 queue 1 8\ncall 0 enq 7\nfinish 0\ncall 0 deq\nlog\n",
-            "called 0.0\nreturned 0.0 ok steps 14 turns 1\ncalled 0.1\n2 0.0 enq 7 -> ok\nend\n",
-        ),
-        ("universal 1 queue 1 1\n", "end\n"),
-        ("# a note\n\nuniversal 1 queue 1 4096\n#\n", "end\n"),
-        (
-            "universal 1 queue 1 1\nfinish 0\ncall 0 enq 0\ncall 0 deq\nlog\nfinish 0\ncall 0 deq\nlog\n",
-            "refused idle 0\ncalled 0.0\nrefused busy 0\nreturned 0.0 ok steps 14 turns 1\nrefused row 0\n2 0.0 enq 0 -> ok\nend\n",
-        ),
-        (
-            "universal 1 queue 1 8\ncall 1 deq\nfinish 999999999999\nlog\n",
-            "refused process 1\nrefused process 999999999999\nend\n",
-        ),
-    ];
-    for (script, output) in rows {
+    for &(script, output) in GOOD {
         answers(&rt, rt.alloc(), script, output);
     }
 }
 
+/// Histories, each with the answers that a script gets.
+const HISTORIES: &[(&str, &str)] = &[
+    (
+        "23",
+        "called 0.0\nreturned 0.0 ok steps 14 turns 1\nrefused history\ntrimmed 2\nend\n",
+    ),
+    (
+        "22",
+        "refused history\nrefused idle 0\nrefused history\ntrimmed 1\nend\n",
+    ),
+];
+
 #[test]
 fn histories_of_few_events(rt: HostRuntime) {
     let script = "universal 1 queue 1 8\ncall 0 enq 7\nfinish 0\ncall 0 deq\ntrim\n";
-    let rows = [
-        (
-            "23",
-            "called 0.0\nreturned 0.0 ok steps 14 turns 1\nrefused history\ntrimmed 2\nend\n",
-        ),
-        (
-            "22",
-            "refused history\nrefused idle 0\nrefused history\ntrimmed 1\nend\n",
-        ),
-    ];
-    for (history, output) in rows {
+    for &(history, output) in HISTORIES {
         let words = ["unibench", "replay", "--history", history];
         let reader = by_sevens(script.as_bytes(), false);
         let outcome = outcome_of(&rt, rt.alloc(), words.as_slice(), reader);
@@ -204,55 +212,57 @@ const ONE_CALL: &[u8] = b"universal 1 queue 1 8\ncall 0 enq 7\nfinish 0\nlog\n";
 const ONE_CALL_ANSWERED: &str =
     "called 0.0\nreturned 0.0 ok steps 14 turns 1\n2 0.0 enq 7 -> ok\nend\n";
 
+/// Scripts that have a fault, each with its answers and the fault.
+const BAD: &[(&str, &str, &str)] = &[
+    ("", "", "line 1: no header\n"),
+    ("# a", "", "line 2: no header\n"),
+    ("universal 1 queue 17 8\n", "", "line 1: bad header\n"),
+    ("\nuniversal 1 queue 1 4097\n", "", "line 2: bad header\n"),
+    ("universal 1 queue 1 0\n", "", "line 1: bad header\n"),
+    ("universal 1 queue 1 08\n", "", "line 1: bad header\n"),
+    (" universal 1 queue 1 8\n", "", "line 1: bad header\n"),
+    (
+        "universal 1 queue 1 8\ncall 0 enq 7\nfin\nlog\n",
+        "called 0.0\n",
+        "line 3: bad line\n",
+    ),
+    (
+        "universal 1 queue 1 8\ncall 0 enq 007\n",
+        "",
+        "line 2: bad line\n",
+    ),
+    (
+        "universal 1 queue 1 8\ncall 0 get a\n",
+        "",
+        "line 2: bad line\n",
+    ),
+    (
+        "universal 1 queue 1 8\ncall 9 get a\n",
+        "",
+        "line 2: bad line\n",
+    ),
+    (
+        "universal 1 queue 1 8\ncall  0 deq\n",
+        "",
+        "line 2: bad line\n",
+    ),
+    (
+        "universal 1 queue 1 8\ncall 0 deq \n",
+        "",
+        "line 2: bad line\n",
+    ),
+    (
+        "universal 1 queue 1 8\nfinish 0 1\n",
+        "",
+        "line 2: bad line\n",
+    ),
+    ("universal 1 queue 1 8\nlog\tx\n", "", "line 2: bad byte\n"),
+    ("universal 1 queue 1 8\n#\r\nx\n", "", "line 2: bad byte\n"),
+];
+
 #[test]
 fn bad_scripts(rt: HostRuntime) {
-    let rows = [
-        ("", "", "line 1: no header\n"),
-        ("# a", "", "line 2: no header\n"),
-        ("universal 1 queue 17 8\n", "", "line 1: bad header\n"),
-        ("\nuniversal 1 queue 1 4097\n", "", "line 2: bad header\n"),
-        ("universal 1 queue 1 0\n", "", "line 1: bad header\n"),
-        ("universal 1 queue 1 08\n", "", "line 1: bad header\n"),
-        (" universal 1 queue 1 8\n", "", "line 1: bad header\n"),
-        (
-            "universal 1 queue 1 8\ncall 0 enq 7\nfin\nlog\n",
-            "called 0.0\n",
-            "line 3: bad line\n",
-        ),
-        (
-            "universal 1 queue 1 8\ncall 0 enq 007\n",
-            "",
-            "line 2: bad line\n",
-        ),
-        (
-            "universal 1 queue 1 8\ncall 0 get a\n",
-            "",
-            "line 2: bad line\n",
-        ),
-        (
-            "universal 1 queue 1 8\ncall 9 get a\n",
-            "",
-            "line 2: bad line\n",
-        ),
-        (
-            "universal 1 queue 1 8\ncall  0 deq\n",
-            "",
-            "line 2: bad line\n",
-        ),
-        (
-            "universal 1 queue 1 8\ncall 0 deq \n",
-            "",
-            "line 2: bad line\n",
-        ),
-        (
-            "universal 1 queue 1 8\nfinish 0 1\n",
-            "",
-            "line 2: bad line\n",
-        ),
-        ("universal 1 queue 1 8\nlog\tx\n", "", "line 2: bad byte\n"),
-        ("universal 1 queue 1 8\n#\r\nx\n", "", "line 2: bad byte\n"),
-    ];
-    for (script, output, faults) in rows {
+    for &(script, output, faults) in BAD {
         let reader = by_sevens(script.as_bytes(), false);
         replays(&rt, rt.alloc(), reader, (output, faults, 2));
     }
@@ -296,22 +306,24 @@ fn greatest_scripts(rt: HostRuntime) -> Result<(), Fail> {
     Ok(())
 }
 
+/// What is read before the reader fails, and what is written.
+const CUT_SHORT: &[(&str, (&str, &str, u8))] = &[
+    ("", ("", "cannot read\n", 3)),
+    // A line that the reader failed within isn't judged.
+    (
+        "universal 1 queue 1 8\ncall 0 enq 7\nfin",
+        ("called 0.0\n", "cannot read\n", 3),
+    ),
+    // The whole lines before it are.
+    (
+        "universal 1 queue 1 8\nfin\nlo",
+        ("", "line 2: bad line\n", 2),
+    ),
+];
+
 #[test]
 fn reader_that_fails(rt: HostRuntime) {
-    let rows = [
-        ("", ("", "cannot read\n", 3)),
-        // A line that the reader failed within isn't judged.
-        (
-            "universal 1 queue 1 8\ncall 0 enq 7\nfin",
-            ("called 0.0\n", "cannot read\n", 3),
-        ),
-        // The whole lines before it are.
-        (
-            "universal 1 queue 1 8\nfin\nlo",
-            ("", "line 2: bad line\n", 2),
-        ),
-    ];
-    for (script, want) in rows {
+    for &(script, want) in CUT_SHORT {
         replays(&rt, rt.alloc(), by_sevens(script.as_bytes(), true), want);
     }
 }
@@ -331,7 +343,7 @@ fn answered_after(count: usize) -> &'static str {
 }
 
 /// Asserts what is written where the reader of `ONE_CALL` fails after these bytes of it.
-fn answers_what_it_read<R: Abort + Threads + Sync>(rt: &R, alloc: Global, left: &[u8]) {
+fn answers_what_it_read<R: Abort + Threads + Wait + Sync>(rt: &R, alloc: Global, left: &[u8]) {
     let want = (answered_after(left.len()), "cannot read\n", 3);
     for most in [1, 7, 5_000] {
         let reader = Trickle {
@@ -355,7 +367,7 @@ fn reader_that_fails_after_each_byte(rt: HostRuntime) -> Result<(), Fail> {
 }
 
 /// Runs the program with an output that has so much room, and then takes no byte or fails.
-fn narrow_outcome<R: Threads + Sync>(
+fn narrow_outcome<R: Threads + Wait + Sync>(
     rt: &R,
     alloc: Global,
     words: &[&str],
@@ -456,7 +468,12 @@ fn faults_that_nobody_takes(rt: HostRuntime) {
 }
 
 /// Asserts what the program writes on these words with no input, and its status.
-fn runs<R: Abort + Threads + Sync>(rt: &R, alloc: Global, words: &[&str], want: (&str, &str, u8)) {
+fn runs<R: Abort + Threads + Wait + Sync>(
+    rt: &R,
+    alloc: Global,
+    words: &[&str],
+    want: (&str, &str, u8),
+) {
     let (output, faults, status) = want;
     let outcome = outcome_of(rt, alloc, words, by_sevens(b"", false));
     assert_eq!(rt; outcome.output.as_slice(), output.as_bytes(), "{words:?}");
@@ -464,23 +481,25 @@ fn runs<R: Abort + Threads + Sync>(rt: &R, alloc: Global, words: &[&str], want: 
     assert_eq!(rt; outcome.status, status, "{words:?}");
 }
 
+/// Plans over words, each by its object, processes, calls and seed, with its line.
+const ON_WORDS: &[(&str, &str, &str, &str, &str)] = &[
+    ("tally", "8", "100", "3", "threads 8 calls 800 agrees\n"),
+    ("sticky", "4", "100", "1", "threads 4 calls 400 agrees\n"),
+    ("tally", "1", "4096", "1", "threads 1 calls 4096 agrees\n"),
+    ("sticky", "64", "1", "0", "threads 64 calls 64 agrees\n"),
+    // The seed of the second thread is 0.
+    (
+        "tally",
+        "3",
+        "7",
+        "18446744073709551615",
+        "threads 3 calls 21 agrees\n",
+    ),
+];
+
 #[test]
 fn threads_that_agree(rt: HostRuntime) {
-    let rows = [
-        ("tally", "8", "100", "3", "threads 8 calls 800 agrees\n"),
-        ("sticky", "4", "100", "1", "threads 4 calls 400 agrees\n"),
-        ("tally", "1", "4096", "1", "threads 1 calls 4096 agrees\n"),
-        ("sticky", "64", "1", "0", "threads 64 calls 64 agrees\n"),
-        // The seed of the second thread is 0.
-        (
-            "tally",
-            "3",
-            "7",
-            "18446744073709551615",
-            "threads 3 calls 21 agrees\n",
-        ),
-    ];
-    for (object, processes, calls, seed, output) in rows {
+    for &(object, processes, calls, seed, output) in ON_WORDS {
         let words = [
             "unibench",
             "threads",
@@ -506,42 +525,109 @@ fn threads_that_agree(rt: HostRuntime) {
     );
 }
 
+/// Plans under a lock, each by its object, processes and calls, with its line.
+const UNDER_A_LOCK: &[(&str, &str, &str, &str)] = &[
+    ("book", "4", "50", "threads 4 calls 200 agrees\n"),
+    ("queue", "16", "20", "threads 16 calls 320 agrees\n"),
+    ("directory", "3", "10", "threads 3 calls 30 agrees\n"),
+    ("sticky", "64", "1", "threads 64 calls 64 agrees\n"),
+];
+
+#[test]
+fn threads_under_a_lock_that_agree(rt: HostRuntime) {
+    let words = ["unibench", "threads"].as_slice();
+    let want = ("threads 2 calls 200 agrees\n", "", 0);
+    runs(&rt, rt.alloc(), words, want);
+    for &(object, processes, calls, output) in UNDER_A_LOCK {
+        let words = [
+            "unibench",
+            "threads",
+            "--object",
+            object,
+            "--processes",
+            processes,
+            "--calls",
+            calls,
+        ];
+        runs(&rt, rt.alloc(), words.as_slice(), (output, "", 0));
+    }
+}
+
+/// Plans under a lock that are refused, each with why.
+const TOO_MANY: &[(&str, &str, &str, &str)] = &[
+    // 64 * 4096 * 653 events, and 64 * 402 * 653: 23,168 more than the limit.
+    ("queue", "64", "4096", "calls too many\n"),
+    ("sticky", "64", "402", "calls too many\n"),
+    // That the form has no such object is said first.
+    ("tally", "64", "4096", "no such object in this form\n"),
+];
+
+#[test]
+fn calls_that_no_history_has_room_for(rt: HostRuntime) {
+    for &(object, processes, calls, faults) in TOO_MANY {
+        let words = [
+            "unibench",
+            "threads",
+            "--object",
+            object,
+            "--processes",
+            processes,
+            "--calls",
+            calls,
+        ];
+        runs(&rt, rt.alloc(), words.as_slice(), ("", faults, 2));
+    }
+}
+
+/// Forms, each with an object that it hasn't.
+const NOT_THERE: &[(&str, &str)] = &[
+    ("words", "queue"),
+    ("words", "directory"),
+    ("words", "book"),
+    ("lock", "tally"),
+];
+
 #[test]
 fn objects_that_a_form_has_not(rt: HostRuntime) {
     let want = ("", "no such object in this form\n", 2);
-    runs(&rt, rt.alloc(), ["unibench", "threads"].as_slice(), want);
-    let rows = [
-        ("words", "queue"),
-        ("words", "directory"),
-        ("words", "book"),
-        ("lock", "queue"),
-        ("lock", "directory"),
-        ("lock", "book"),
-        ("lock", "sticky"),
-        ("lock", "tally"),
-    ];
-    for (form, object) in rows {
+    for &(form, object) in NOT_THERE {
         let words = ["unibench", "threads", "--form", form, "--object", object];
         runs(&rt, rt.alloc(), words.as_slice(), want);
     }
 }
 
+/// The call 1.2.
+const CALL: CallId = CallId { process: 1, nth: 2 };
+
+/// Faults of threads, each with its line.
+const FAULTS: &[(ThreadsFault, &str)] = &[
+    (ThreadsFault::SeatMissing(3), "close: seat 3 missing\n"),
+    (ThreadsFault::SeatPending(0), "close: seat 0 pending\n"),
+    (ThreadsFault::Differs(CALL), "close: call 1.2 differs\n"),
+    (
+        ThreadsFault::Audit(Verdict::BadReply(12)),
+        "audit: entry 12 reply\n",
+    ),
+    (
+        ThreadsFault::Audit(Verdict::Missing(CALL)),
+        "audit: return 1.2 missing\n",
+    ),
+];
+
 #[test]
-fn values_that_options_do_not_take(rt: HostRuntime) {
-    let rows = [
-        ("--form", "free"),
-        ("--object", "stack"),
-        ("--processes", "0"),
-        ("--processes", "65"),
-        ("--processes", "two"),
-        ("--calls", "0"),
-        ("--calls", "4097"),
-        ("--calls", ""),
-        ("--seed", "18446744073709551616"),
-        ("--seed", "1x"),
-    ];
-    let want = ("", "an option has a value that it doesn't take\n", 2);
-    for (option, value) in rows {
+fn lines_of_faults_of_threads(rt: HostRuntime) -> Result<(), Fail> {
+    for &(fault, line) in FAULTS {
+        let mut text = Vec::new(rt.alloc());
+        push_threads_fault(&mut text, fault)?;
+        assert_eq!(rt; text.as_slice(), line.as_bytes());
+    }
+    Ok(())
+}
+
+#[test]
+fn names_of_threads_that_are_none(rt: HostRuntime) {
+    let want = ("", "no such object or form\n", 2);
+    for (option, value) in [("--form", "free"), ("--object", "stack")] {
         let words = ["unibench", "threads", option, value];
         runs(&rt, rt.alloc(), words.as_slice(), want);
     }

@@ -1,17 +1,22 @@
 //! Threads that make calls on one object.
 
-ghost use Rattle.std.specs.Prelude.{◌↔◌, false, IsErrOf, ◌≡◌, ◌++◌, ◌*◌, ◌<◌, ◌≤◌, ◌^◌, ℕ, All, [], IfOk, OnOk, Some, length, map, sum, vec_len};
+ghost use Rattle.std.specs.Prelude.{◌↔◌, false, IsErrOf, ◌≡◌, ◌++◌, ◌*◌, ◌≤◌, ℕ, All, [], IfOk, OnOk, Some, length, vec_len};
 ghost use Rattle.uni_words.specs.Belongs.{IsSeatOf, calls_made, own_calls, processes_of, row_of};
-ghost use Rattle.unibench.specs.ThreadRuns.{IsDone, IsJob, agrees_line, has_form, line_of_fault, text_of_fault};
+ghost use Rattle.unibench.specs.Threads.{IsCounted, IsDone, IsJob, IsThreadsPlan, agrees_line, line_of_fault, refusal_of, text_of_fault};
 
+use crate::lock::run_under_lock;
 use crate::request::{Form, Plan, ThreadsObject};
 use rand_core::{Rng, SeedableRng};
 use rand_xoshiro::Xoshiro256PlusPlus;
+use ready_objects::{BookObject, DirectoryObject, QueueObject, StickyObject};
 use seq_object::CallId;
 use std::alloc::{AllocError, Global};
 use std::io::Write;
+use std::sync::Wait;
 use std::thread::Threads;
 use std::{fmt, thread};
+use uni_record::Verdict;
+use uni_script::BenchFault;
 use uni_words::{WordLog, WordObject, WordSeat, WordSticky, WordTally, differs, read_log};
 
 /// Why a run of threads ended early.
@@ -19,12 +24,20 @@ use uni_words::{WordLog, WordObject, WordSeat, WordSticky, WordTally, differs, r
 pub enum ThreadsFault {
     /// The form has no such object.
     NoSuchObject,
+    /// Under a lock, the events of all calls may not fit into a history.
+    CallsTooMany,
     /// Memory was refused.
     Memory,
     /// The output failed.
     Write,
     /// What the threads were told isn't what the log has, at this call first.
     Differs(CallId),
+    /// Under a lock, the seat of this process, the least of such, isn't there once.
+    SeatMissing(u64),
+    /// Under a lock, this process, the least of such, has a call pending.
+    SeatPending(u64),
+    /// Under a lock, an audit of the entries and of the returns found this. It never does.
+    Audit(Verdict),
 }
 
 impl From<AllocError> for ThreadsFault {
@@ -44,9 +57,13 @@ impl fmt::Display for ThreadsFault {
     fn fmt<W: fmt::Write>(&self, f: &mut fmt::Formatter<W>) -> fmt::Result {
         match self {
             ThreadsFault::NoSuchObject => write!(f, "no such object in this form"),
+            ThreadsFault::CallsTooMany => write!(f, "calls too many"),
             ThreadsFault::Memory => write!(f, "out of memory"),
             ThreadsFault::Write => write!(f, "cannot write"),
             ThreadsFault::Differs(call) => write!(f, "close: call {call} differs"),
+            ThreadsFault::SeatMissing(p) => write!(f, "close: seat {p} missing"),
+            ThreadsFault::SeatPending(p) => write!(f, "close: seat {p} pending"),
+            ThreadsFault::Audit(verdict) => write!(f, "{}", BenchFault::Audit(*verdict)),
         }
     }
 }
@@ -153,7 +170,8 @@ fn run_on_words<R: Threads + Sync, O: WordObject + Copy + Sync>(
     plan: &Plan,
 ) -> Result<u64, ThreadsFault>
     ensures replies { IfOk result (λ replies. replies ≡ plan.now.processes * plan.now.calls) }
-    ensures there { (IsErrOf result ThreadsFault.NoSuchObject → ⊥) × (IsErrOf result ThreadsFault.Write → ⊥) }
+    ensures others { (IsErrOf result ThreadsFault.NoSuchObject → ⊥) × (IsErrOf result ThreadsFault.CallsTooMany → ⊥) × (IsErrOf result ThreadsFault.Write → ⊥) }
+    ensures audited { (verdict : Verdict) → IsErrOf result (ThreadsFault.Audit verdict) → ⊥ }
 {
     let Ok((log, seats)) = WordLog::open(alloc, object, plan.processes, plan.calls) else {
         return Err(ThreadsFault::Memory);
@@ -170,14 +188,25 @@ fn run_on_words<R: Threads + Sync, O: WordObject + Copy + Sync>(
 }
 
 /// Makes the calls of a plan: how many replies the threads were given.
-pub fn run_plan<R: Threads + Sync>(rt: &R, alloc: Global, plan: &Plan) -> Result<u64, ThreadsFault>
-    ensures replies { IfOk result (λ replies. replies ≡ plan.now.processes * plan.now.calls) }
-    ensures there { IsErrOf result ThreadsFault.NoSuchObject ↔ (has_form plan.now.form plan.now.object ≡ false) }
+pub fn run_plan<R: Threads + Wait + Sync>(
+    rt: &R,
+    alloc: Global,
+    plan: &Plan,
+) -> Result<u64, ThreadsFault>
+    requires { IsThreadsPlan plan.now }
+    ensures replies { IfOk result (IsCounted plan.now) }
+    ensures there { IsErrOf result ThreadsFault.NoSuchObject ↔ (refusal_of plan.now ≡ Some ThreadsFault.NoSuchObject) }
+    ensures few { IsErrOf result ThreadsFault.CallsTooMany ↔ (refusal_of plan.now ≡ Some ThreadsFault.CallsTooMany) }
     ensures written { IsErrOf result ThreadsFault.Write → ⊥ }
+    ensures audited { (verdict : Verdict) → IsErrOf result (ThreadsFault.Audit verdict) → ⊥ }
 {
     match (plan.form, plan.object) {
         (Form::Words, ThreadsObject::Sticky) => run_on_words(rt, alloc, WordSticky, plan),
         (Form::Words, ThreadsObject::Tally) => run_on_words(rt, alloc, WordTally, plan),
+        (Form::Lock, ThreadsObject::Queue) => run_under_lock(rt, alloc, QueueObject, plan),
+        (Form::Lock, ThreadsObject::Directory) => run_under_lock(rt, alloc, DirectoryObject, plan),
+        (Form::Lock, ThreadsObject::Book) => run_under_lock(rt, alloc, BookObject, plan),
+        (Form::Lock, ThreadsObject::Sticky) => run_under_lock(rt, alloc, StickyObject, plan),
         (Form::Words | Form::Lock, _) => Err(ThreadsFault::NoSuchObject),
     }
 }

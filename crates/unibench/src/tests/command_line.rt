@@ -1,6 +1,12 @@
 //! Tests of what the program says of its command line: the help, and the faults, byte for byte.
 
-use super::runs;
+use super::{by_sevens, outcome_of, runs};
+use std::alloc::Global;
+use std::fmt::Write;
+use std::process::Abort;
+use std::sync::Wait;
+use std::test::Fail;
+use std::thread::Threads;
 
 const HELP: &str = "\
 A bench for Herlihy's wait-free universal construction
@@ -82,11 +88,14 @@ Options:
       --seed <S>       The seed of the first thread's calls [default: 1]
   -h, --help           Print help
 
-With --form words the object is sticky or tally; the form under a lock has none
-yet. Where all replies are those of the log, the line 'threads N calls M agrees'
-is written, M being the number of all calls.
+With --form lock the object is queue, directory, book or sticky, with --form
+words sticky or tally. Where all replies are those of the log, the line
+'threads N calls M agrees' is written, M being the number of replies. Under a
+lock each of the N * C calls takes at most 10 * N + 13 events, and there is
+room for 16777216.
 
-Example:
+Examples:
+  unibench threads --object book --processes 4 --calls 50
   unibench threads --form words --object tally --processes 8
 ";
 
@@ -108,9 +117,9 @@ fn help_that_is_asked_for(rt: HostRuntime) {
             HELP_OF_THREADS,
         ),
         (["unibench", "help", "threads"].as_slice(), HELP_OF_THREADS),
-        // Help is given before the values of options are read.
+        // Help is given where it comes before a value that an option doesn't take.
         (
-            ["unibench", "random", "--events", "0", "--help"].as_slice(),
+            ["unibench", "random", "--help", "--events", "0"].as_slice(),
             HELP_OF_RANDOM,
         ),
     ];
@@ -203,8 +212,6 @@ Usage: unibench random [OPTIONS]
 For more information, try '--help'.
 ";
 
-const BAD_VALUE: &str = "an option has a value that it doesn't take\n";
-
 #[test]
 fn bad_command_lines(rt: HostRuntime) {
     let rows = [
@@ -226,18 +233,129 @@ fn bad_command_lines(rt: HostRuntime) {
             ["unibench", "random", "--seed", "1", "--seed", "1"].as_slice(),
             ONE_OPTION_TWICE,
         ),
-        (
-            ["unibench", "threads", "--calls", "0"].as_slice(),
-            BAD_VALUE,
-        ),
-        (
-            ["unibench", "random", "--events", "0"].as_slice(),
-            BAD_VALUE,
-        ),
     ];
     for (words, fault) in rows {
         runs(&rt, rt.alloc(), words, ("", fault, 2));
     }
     let no_words = [""; 0];
     runs(&rt, rt.alloc(), no_words.as_slice(), ("", NO_SUBCOMMAND, 2));
+}
+
+/// Asserts that a value isn't taken by an option, and that the fault names both and the reason.
+fn is_not_taken<R: Abort + Threads + Wait + Sync>(
+    rt: &R,
+    alloc: Global,
+    subcommand: &str,
+    option: &str,
+    placeholder: &str,
+    value: &str,
+    reason: &str,
+) -> Result<(), Fail> {
+    let mut text = String::new(alloc);
+    write!(
+        text,
+        "error: invalid value '{value}' for '{option} <{placeholder}>': {reason}\n\n"
+    )?;
+    write!(text, "For more information, try '--help'.\n")?;
+    let words = ["unibench", subcommand, option, value];
+    let outcome = outcome_of(rt, alloc, words.as_slice(), by_sevens(b"", false));
+    assert_eq!(rt; outcome.output.len(), 0);
+    assert_eq!(rt;
+        outcome.faults.as_slice(),
+        text.as_bytes(),
+        "{option} {value}"
+    );
+    assert_eq!(rt; outcome.status, 2);
+    Ok(())
+}
+
+#[test]
+fn numbers_that_options_do_not_take(rt: HostRuntime) -> Result<(), Fail> {
+    let rows = [
+        ("replay", "--history", "H", "0", "0 is not in 1..=16777216"),
+        (
+            "replay",
+            "--history",
+            "H",
+            "16777217",
+            "16777217 is not in 1..=16777216",
+        ),
+        ("random", "--processes", "N", "0", "0 is not in 1..=64"),
+        ("random", "--processes", "N", "65", "65 is not in 1..=64"),
+        ("random", "--row", "K", "0", "0 is not in 1..=4096"),
+        ("random", "--row", "K", "4097", "4097 is not in 1..=4096"),
+        ("random", "--events", "M", "0", "0 is not in 1..=99000"),
+        (
+            "random",
+            "--events",
+            "M",
+            "99001",
+            "99001 is not in 1..=99000",
+        ),
+        (
+            "random",
+            "--events",
+            "M",
+            "1.5",
+            "invalid digit found in string",
+        ),
+        (
+            "random",
+            "--seed",
+            "S",
+            "x",
+            "invalid digit found in string",
+        ),
+        (
+            "random",
+            "--seed",
+            "S",
+            "18446744073709551616",
+            "number too large to fit in target type",
+        ),
+        ("threads", "--processes", "N", "0", "0 is not in 1..=64"),
+        ("threads", "--processes", "N", "65", "65 is not in 1..=64"),
+        (
+            "threads",
+            "--processes",
+            "N",
+            "two",
+            "invalid digit found in string",
+        ),
+        ("threads", "--calls", "C", "0", "0 is not in 1..=4096"),
+        ("threads", "--calls", "C", "4097", "4097 is not in 1..=4096"),
+        (
+            "threads",
+            "--calls",
+            "C",
+            "",
+            "cannot parse integer from empty string",
+        ),
+        (
+            "threads",
+            "--seed",
+            "S",
+            "1x",
+            "invalid digit found in string",
+        ),
+        (
+            "threads",
+            "--seed",
+            "S",
+            "18446744073709551616",
+            "number too large to fit in target type",
+        ),
+    ];
+    for (subcommand, option, placeholder, value, reason) in rows {
+        is_not_taken(
+            &rt,
+            rt.alloc(),
+            subcommand,
+            option,
+            placeholder,
+            value,
+            reason,
+        )?;
+    }
+    Ok(())
 }

@@ -135,15 +135,17 @@ fn words_of_741(object: &str) -> [&str; 12] {
     ]
 }
 
+/// Objects, each with the schedule that is drawn from seed 741.
+const OF_741: &[(&str, &str)] = &[
+    ("queue", QUEUE_OF_741),
+    ("directory", DIRECTORY_OF_741),
+    ("book", BOOK_OF_741),
+    ("sticky", STICKY_OF_741),
+];
+
 #[test]
 fn schedules_of_one_seed(rt: HostRuntime) {
-    let rows = [
-        ("queue", QUEUE_OF_741),
-        ("directory", DIRECTORY_OF_741),
-        ("book", BOOK_OF_741),
-        ("sticky", STICKY_OF_741),
-    ];
-    for (object, schedule) in rows {
+    for &(object, schedule) in OF_741 {
         let words = words_of_741(object);
         runs(&rt, rt.alloc(), words.as_slice(), (schedule, "", 0));
     }
@@ -162,20 +164,22 @@ fn schedule_by_default(rt: HostRuntime) {
     assert_eq!(rt; output.iter().filter(|byte| **byte == b'\n').count(), 104);
 }
 
+/// Options, each with the header that it gives.
+const HEADERS: &[(&str, &str)] = &[
+    ("--processes=1", "universal 1 queue 1 64\n"),
+    ("--processes=16", "universal 1 queue 16 64\n"),
+    ("--processes=17", "universal 2 queue 17 64\n"),
+    ("--processes=64", "universal 2 queue 64 64\n"),
+    ("--row=1", "universal 1 queue 2 1\n"),
+    ("--row=4096", "universal 1 queue 2 4096\n"),
+    ("--seed=0", "universal 1 queue 2 64\n"),
+    ("--seed=18446744073709551615", "universal 1 queue 2 64\n"),
+    ("--object=sticky", "universal 1 sticky 2 64\n"),
+];
+
 #[test]
 fn headers_of_schedules(rt: HostRuntime) {
-    let rows = [
-        ("--processes=1", "universal 1 queue 1 64\n"),
-        ("--processes=16", "universal 1 queue 16 64\n"),
-        ("--processes=17", "universal 2 queue 17 64\n"),
-        ("--processes=64", "universal 2 queue 64 64\n"),
-        ("--row=1", "universal 1 queue 2 1\n"),
-        ("--row=4096", "universal 1 queue 2 4096\n"),
-        ("--seed=0", "universal 1 queue 2 64\n"),
-        ("--seed=18446744073709551615", "universal 1 queue 2 64\n"),
-        ("--object=sticky", "universal 1 sticky 2 64\n"),
-    ];
-    for (option, header) in rows {
+    for &(option, header) in HEADERS {
         let words = ["unibench", "random", "--events", "1", option];
         let outcome = outcome_of(&rt, rt.alloc(), words.as_slice(), by_sevens(b"", false));
         assert_eq!(rt; outcome.status, 0, "{option}");
@@ -193,25 +197,10 @@ fn as_many_events_as_can_be_drawn(rt: HostRuntime) {
 }
 
 #[test]
-fn values_that_random_does_not_take(rt: HostRuntime) {
-    let rows = [
-        ("--object", "tally"),
-        ("--object", "Queue"),
-        ("--object", ""),
-        ("--processes", "0"),
-        ("--processes", "65"),
-        ("--processes", "two"),
-        ("--row", "0"),
-        ("--row", "4097"),
-        ("--seed", "18446744073709551616"),
-        ("--seed", "x"),
-        ("--events", "0"),
-        ("--events", "99001"),
-        ("--events", "1.5"),
-    ];
-    let want = ("", "an option has a value that it doesn't take\n", 2);
-    for (option, value) in rows {
-        let words = ["unibench", "random", option, value];
+fn names_of_drawn_objects_that_are_none(rt: HostRuntime) {
+    let want = ("", "no such object or form\n", 2);
+    for name in ["tally", "Queue", ""] {
+        let words = ["unibench", "random", "--object", name];
         runs(&rt, rt.alloc(), words.as_slice(), want);
     }
 }

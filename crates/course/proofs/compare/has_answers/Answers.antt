@@ -1,6 +1,6 @@
 use Rattle.std.proofs.Common.{◌≡◌, ◌∙◌, ◌++◌, sym, ap, ap₂, subst, None, []}
 use Rattle.std.proofs.lemmas.Slice.Eq.{bytes_eq-Decides}
-use Rattle.uni_script.specs.Replays.{fault_of_script, text_of_script}
+use Rattle.uni_script.specs.Replay.{fault_of_script, text_of_script}
 use Rattle.course.proofs.compare.has_answers.Goals as goal
 
 pub returns-in-Ok : goal.returns-in-Ok

@@ -1,9 +1,9 @@
 use Rattle.std.proofs.Common.{◌≡◌, ◌∙◌, ◌+◌, [], ◌∷◌, ◌++◌, take, sym, ap, subst}
 use Rattle.std.proofs.lemmas.List.{at_drop_all, take_more}
 use Rattle.seq_object.specs.declared.call_id.CallId.{CallId}
-use Rattle.uni_record.specs.Verdicts.{first, entries_verdict, returns_verdict, return_verdict, verdict_of}
+use Rattle.uni_record.specs.Verdict.{first, entries_verdict, returns_verdict, return_verdict, verdict_of}
 use Rattle.uni_record.specs.declared.verdict.Verdict.TheVariants.{Agrees}
-use Rattle.uni_record.specs.Made.{known_after, known_of}
+use Rattle.uni_record.specs.MadeCalls.{known_after, known_of}
 use Rattle.uni_record.proofs.Faults.{first-fault}
 use Rattle.uni_record.proofs.Meaning.{agrees_means}
 use Rattle.uni_record.proofs.Replay.{bad_return_at, good_return_at}

@@ -1,7 +1,7 @@
 use Rattle.std.proofs.Common.{◌≡◌, [], take, drop}
 use Rattle.seq_object.specs.declared.call_id.CallId.{CallId}
-use Rattle.uni_record.specs.Verdicts.{returns_verdict}
-use Rattle.uni_record.specs.Made.{known_after, known_of}
+use Rattle.uni_record.specs.Verdict.{returns_verdict}
+use Rattle.uni_record.specs.MadeCalls.{known_after, known_of}
 use Rattle.uni_record.proofs.checker.audit.Given as goal
 
 abbrev pub invariant-loop-returned : goal.invariant-loop-returned

@@ -1,8 +1,8 @@
 use Rattle.std.proofs.Common.{◌≡◌, ◌≢◌, ◌∙◌, ◌+◌, true, false, [], ◌∷◌, ◌++◌, take, sym, ap, subst}
 use Rattle.std.specs.Option.{option_map_or}
 use Rattle.std.proofs.lemmas.List.{take_more}
-use Rattle.uni_record.specs.Verdicts.{calls_of, entries_verdict}
-use Rattle.uni_record.specs.Made.{IsTable}
+use Rattle.uni_record.specs.Verdict.{calls_of, entries_verdict}
+use Rattle.uni_record.specs.MadeCalls.{IsTable}
 use Rattle.uni_record.proofs.Replay.{bad_call_at, bad_reply_at, good_at}
 use Rattle.uni_record.proofs.Table.{table_more}
 use Rattle.uni_record.proofs.checker.entries_verdict.Goals as goal

@@ -1,7 +1,7 @@
 use Rattle.std.proofs.Common.{ap}
-use Rattle.uni_record.specs.Stored.{events_shown}
-use Rattle.uni_script.proofs.Stepping.{bench_is}
+use Rattle.uni_record.specs.Event.{events_shown}
+use Rattle.uni_script.proofs.Stepping.{session_is}
 use Rattle.uni_script.proofs.commands.open.Goals as goal
 
-pub returns-in-Ok-clause-bench : goal.returns-in-Ok-clause-bench
-returns-in-Ok-clause-bench g c = bench_is _ _ c.in-Ok.ensures.opened.processes c.in-Ok.ensures.opened.first c.in-Ok.ensures.opened.row c.in-Ok.ensures.opened.limit (ap events_shown c.in-Ok.ensures.opened.events) c.in-Ok.ensures.opened.world
+pub returns-in-Ok-clause-session : goal.returns-in-Ok-clause-session
+returns-in-Ok-clause-session g c = session_is _ _ c.in-Ok.ensures.opened.processes c.in-Ok.ensures.opened.first c.in-Ok.ensures.opened.row c.in-Ok.ensures.opened.limit (ap events_shown c.in-Ok.ensures.opened.events) c.in-Ok.ensures.opened.world

@@ -1,9 +1,9 @@
 use Rattle.std.proofs.Common.{◌∙◌, ◌++◌, ap}
-use Rattle.uni_core.specs.Whole.{world_of}
-use Rattle.uni_log.specs.Shown.{entry_shown}
+use Rattle.uni_core.specs.World.{world_of}
+use Rattle.uni_log.specs.Entry.{entry_shown}
 use Rattle.uni_model.specs.History.{log}
 use Rattle.ready_objects.specs.Words.{text_of_words}
-use Rattle.uni_script.specs.Answers.{entry_text}
+use Rattle.uni_script.specs.Answer.{entry_text}
 use Rattle.uni_script.proofs.LogLines.{lines-one_more, lines-all}
 use Rattle.uni_script.proofs.commands.push_log.Goals as goal
 

@@ -1,8 +1,8 @@
 use Rattle.std.proofs.Common.{◌≡◌, ◌++◌, map, take}
 use Rattle.std.specs.List.{concat}
-use Rattle.uni_log.specs.Shown.{entry_shown}
+use Rattle.uni_log.specs.Entry.{entry_shown}
 use Rattle.ready_objects.specs.Words.{text_of_words}
-use Rattle.uni_script.specs.Answers.{entry_text}
+use Rattle.uni_script.specs.Answer.{entry_text}
 use Rattle.uni_script.proofs.commands.push_log.Given as goal
 
 abbrev pub invariant-loop-entry : goal.invariant-loop-entry

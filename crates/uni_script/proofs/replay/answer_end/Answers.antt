@@ -1,9 +1,9 @@
-use Rattle.uni_script.specs.Meaning.{bench_of}
+use Rattle.uni_script.specs.Meaning.{session_of}
 use Rattle.uni_script.proofs.replay.answer_end.Goals as goal
 
 pub returns-in-Ok-write_all-clause-promised : goal.returns-in-Ok-write_all-clause-promised
 returns-in-Ok-write_all-clause-promised g c =
-    g.met.O.Shared.promised c.args.bench.now.world.object c.args.version (bench_of c.args.bench.now) (record {
+    g.met.O.Shared.promised c.args.session.now.world.object c.args.version (session_of c.args.session.now) (record {
       accepted = c.promise.ensures.recording.accepted;
       replay = c.promise.ensures.recording.replay;
       universal = c.promise.ensures.promised.universal;

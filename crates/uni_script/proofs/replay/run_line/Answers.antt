@@ -1,20 +1,20 @@
 use Rattle.std.proofs.Common.{◌≡◌, ◌∙◌, sym, subst, ap, Some, OnOk}
 use Rattle.ready_objects.specs.Words.{bytes_of}
-use Rattle.uni_script.specs.Meaning.{Outcome, bench_of}
-use Rattle.uni_script.specs.Reading.{EndsAs}
+use Rattle.uni_script.specs.Meaning.{Outcome, session_of}
+use Rattle.uni_script.specs.Lines.{EndsAs}
 use Rattle.uni_script.proofs.Running.{outcome_of_short_line-words}
 use Rattle.uni_script.proofs.replay.run_line.Goals as goal
 
 pub returns-clause-outcome : goal.returns-clause-outcome
 returns-clause-outcome g c = λ limit.
     subst (λ (o : Outcome). EndsAs o c.args.text.now.items c.run_words.new.text.items c.run_words.result)
-    (sym (g.met.O.Shared.words c.args.bench.now.world.object c.args.version limit c.args.number (bench_of c.args.bench.now) (bytes_of c.as_slice.result.now))
+    (sym (g.met.O.Shared.words c.args.session.now.world.object c.args.version limit c.args.number (session_of c.args.session.now) (bytes_of c.as_slice.result.now))
     ∙ sym (outcome_of_short_line-words limit c.args.number _ c.args.line.now (bytes_of c.as_slice.result.now) (sym c.if-not-is_plain.ensures) (sym c.if-is_note.ensures) (ap bytes_of c.as_slice.ensures.value ∙ c.in-Ok.ensures)))
     c.run_words.ensures.outcome
 
-pub returns-clause-bench : goal.returns-clause-bench
-returns-clause-bench g c = λ limit.
-    subst (λ (o : Outcome). OnOk c.run_words.result (Some (g.O.Shared.bench c.args.version (bench_of c.run_words.new.bench)) ≡ o.bench))
-    (sym (g.met.O.Shared.words c.args.bench.now.world.object c.args.version limit c.args.number (bench_of c.args.bench.now) (bytes_of c.as_slice.result.now))
+pub returns-clause-session : goal.returns-clause-session
+returns-clause-session g c = λ limit.
+    subst (λ (o : Outcome). OnOk c.run_words.result (Some (g.O.Shared.session c.args.version (session_of c.run_words.new.session)) ≡ o.session))
+    (sym (g.met.O.Shared.words c.args.session.now.world.object c.args.version limit c.args.number (session_of c.args.session.now) (bytes_of c.as_slice.result.now))
     ∙ sym (outcome_of_short_line-words limit c.args.number _ c.args.line.now (bytes_of c.as_slice.result.now) (sym c.if-not-is_plain.ensures) (sym c.if-is_note.ensures) (ap bytes_of c.as_slice.ensures.value ∙ c.in-Ok.ensures)))
-    c.run_words.ensures.bench
+    c.run_words.ensures.session

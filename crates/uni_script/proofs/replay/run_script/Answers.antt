@@ -1,8 +1,8 @@
 use Rattle.std.proofs.Common.{rules, ◌≡◌, ◌∙◌, ◌+◌, ◌++◌, ◌∷◌, [], None, Some, Err, refl, sym, ap, subst}
 use Rattle.uni_script.specs.declared.fault.BenchFault.TheVariants.{NoHeader, Read, TooLong, TooMany}
 use Rattle.uni_script.specs.declared.lines.Stop.TheVariants as stop
-use Rattle.uni_script.specs.Meaning.{bench_of_header, outcome_of_fault, outcome_of_short_line}
-use Rattle.uni_script.specs.Reading.{HasTaken, HasStopped, HasEnded}
+use Rattle.uni_script.specs.Meaning.{session_of_header, outcome_of_fault, outcome_of_short_line}
+use Rattle.uni_script.specs.Lines.{HasTaken, HasStopped, HasEnded}
 use Rattle.uni_script.proofs.Running.{is_short}
 use Rattle.uni_script.proofs.RunningOn.{stays_false, is_short-line, of_some, of_none, WritesAs-header, HasRun-quiet, HasEnded-line, HasEnded-stop}
 use Rattle.uni_script.proofs.replay.run_script.Goals as goal
@@ -43,7 +43,7 @@ returns-in-Some-clause-run g c = λ old written taken run.
     let has = subst (λ l. HasTaken old (g.I.TextIn.remaining c.take.new.reader) c.take.new.self (now.0 ++ l ∷ [])) (sym c.line.ensures) (took.line old now.0 now.1.reading) in
     c.run_header.ensures.run old written (now.0 ++ c.line.result.now ∷ [])
     (HasRun-quiet c.args.history old _ c.loop-lines.lines written _ now.0 None now.1 _ c.take.new.self c.line.result.now has (ap (λ l. is_short l) c.line.ensures ∙ is_short-line c.take.new.self took.held) took.held.count
-    (Some (bench_of_header c.args.history c.in-Some.header)) (of_some c.in_ok-header.field-0 c.in-Some.header _ c.in-Some.is (c.in_ok-header.ensures.header c.args.history)))
+    (Some (session_of_header c.args.history c.in-Some.header)) (of_some c.in_ok-header.field-0 c.in-Some.header _ c.in-Some.is (c.in_ok-header.ensures.header c.args.history)))
 
 pub returns-in-Err-End-clause-run : goal.returns-in-Err-End-clause-run
 returns-in-Err-End-clause-run g c = λ old written taken run.

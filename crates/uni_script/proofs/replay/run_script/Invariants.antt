@@ -1,5 +1,5 @@
 use Rattle.std.proofs.Common.{◌≡◌, ◌-◌, false, None, List, ℕ, Option}
-use Rattle.uni_script.specs.Reading.{IsHeld, HasRun}
+use Rattle.uni_script.specs.Lines.{IsHeld, HasRun}
 use Rattle.uni_script.proofs.replay.run_script.Given as goal
 
 -- the lines that were taken so far are notes

@@ -1,6 +1,6 @@
 use Rattle.std.proofs.Common.{◌≡◌, ◌≤◌, take}
-use Rattle.uni_record.specs.Stored.{events_shown}
-use Rattle.uni_script.specs.Summaries.{calls_in}
+use Rattle.uni_record.specs.Event.{events_shown}
+use Rattle.uni_script.specs.Summary.{calls_in}
 use Rattle.uni_script.proofs.summary.calls_in.Given as goal
 
 abbrev pub invariant-loop-event : goal.invariant-loop-event

@@ -1,10 +1,25 @@
 use Rattle.std.proofs.Common.{◌≡◌, ◌<◌, ℕ, refl, subst, get_or}
 use Rattle.std.specs.List.{All}
-use Rattle.uni_shared.specs.Agreement.{seats_of}
+use Rattle.uni_core.specs.World.{world_of}
+use Rattle.uni_shared.specs.Agreement.{IsLeast, IsMissing, seats_of}
+use Rattle.uni_shared.proofs.Closing.{IsBusy-none}
 use Rattle.uni_shared.proofs.agreement.first_fault.Goals as goal
 
-pub returns-in-None-first_mismatch : goal.returns-in-None-first_mismatch
-returns-in-None-first_mismatch g c = λ none.
+pub returns-in-Some-clause-fault : goal.returns-in-Some-clause-fault
+returns-in-Some-clause-fault g c = subst (λ n. IsLeast (IsMissing n c.args.seats.now) c.in-Some.p) c.processes.ensures c.in-Some.ensures.least
+
+pub returns-in-Some-pending_seat-clause-fault : goal.returns-in-Some-pending_seat-clause-fault
+returns-in-Some-pending_seat-clause-fault g c = (subst (λ n. (q : ℕ) → ¬ (IsMissing n c.args.seats.now q)) c.processes.ensures (c.missing_seat.ensures.none c.in-None.is), c.in-Some-pending_seat.ensures.least)
+
+pub returns-in-Some-first_mismatch-clause-fault : goal.returns-in-Some-first_mismatch-clause-fault
+returns-in-Some-first_mismatch-clause-fault g c = (
+  subst (λ n. (q : ℕ) → ¬ (IsMissing n c.args.seats.now q)) c.processes.ensures (c.missing_seat.ensures.none c.in-None.is),
+  IsBusy-none (world_of c.args.recorded.now.world) c.args.seats.now (c.pending_seat.ensures.idle c.in-None-pending_seat.is) (c.pending_seat.ensures.quiet c.in-None-pending_seat.is),
+  c.in-Some-first_mismatch.ensures.first,
+)
+
+pub returns-in-None-first_mismatch-clause-closed : goal.returns-in-None-first_mismatch-clause-closed
+returns-in-None-first_mismatch-clause-closed g c = λ none.
     let seats = c.args.seats.now in
     let each = subst (λ n. (p : ℕ) → p < n → seats_of p seats ≡ 1) c.processes.ensures (c.missing_seat.ensures.each c.in-None.is) in
     let only = subst (λ n. All (λ s. s.process < n) seats) c.processes.ensures (c.missing_seat.ensures.only c.in-None.is) in
@@ -13,5 +28,5 @@ returns-in-None-first_mismatch g c = λ none.
       only = only;
       idle = c.pending_seat.ensures.idle c.in-None-pending_seat.is;
       quiet = c.pending_seat.ensures.quiet c.in-None-pending_seat.is;
-      agree = λ k d there. c.first_mismatch.ensures c.in-None-first_mismatch.is (get_or seats k d).process (only k d there) k d there refl;
+      agree = λ k d there. c.first_mismatch.ensures.none c.in-None-first_mismatch.is (get_or seats k d).process (only k d there) k d there refl;
     }

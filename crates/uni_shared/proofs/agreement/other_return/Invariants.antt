@@ -1,5 +1,5 @@
 use Rattle.std.proofs.Common.{◌≡◌, ◌≤◌, List, length, map, take}
-use Rattle.uni_record.specs.Stored.{Completed}
+use Rattle.uni_record.specs.Event.{Completed}
 use Rattle.uni_shared.specs.Agreement.{completed_of_process, completed_of}
 use Rattle.uni_shared.proofs.agreement.other_return.Given as goal
 

@@ -1,5 +1,5 @@
 use Rattle.std.proofs.Common.{refl}
-use Rattle.uni_core.specs.Whole.{world_of}
+use Rattle.uni_core.specs.World.{world_of}
 use Rattle.uni_shared.proofs.Holding.{current_of-past, world_after-same}
 use Rattle.uni_shared.proofs.held.step_held.Goals as goal
 

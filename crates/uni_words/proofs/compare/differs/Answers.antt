@@ -1,5 +1,5 @@
 use Rattle.std.proofs.Common.{◌∙◌, ℕ, inr, ap, sym, subst, refl, map, length, Some, arith}
-use Rattle.uni_words.specs.Differs.{IsRight, IsFirstOther}
+use Rattle.uni_words.specs.Compare.{IsRight, IsFirstOther}
 use Rattle.uni_words.specs.Log.{entry_shown}
 use Rattle.uni_words.proofs.Comparing.{listed-start, listed-further, agrees-all, other-differs, slice_get-map, slice_get-index, length-mapped}
 use Rattle.uni_words.proofs.compare.differs.Given.{Over}

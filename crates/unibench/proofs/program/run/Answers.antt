@@ -1,8 +1,9 @@
 use Rattle.std.proofs.Common.{◌≡◌, [], Some, map, rules}
 use Rattle.clap.specs.Words.{subcommand_of}
 use Rattle.unibench.specs.CommandLine.{asked_of, faults_of_words, unibench}
+use Rattle.unibench.specs.Threads.{IsThreadsPlan}
 use Rattle.unibench.specs.declared.request.Request.TheVariants.{Replay, Random, Threads}
-use Rattle.unibench.proofs.RandomPlans.{IsHistory-asked, IsPlan-asked}
+use Rattle.unibench.proofs.RandomPlans.{IsHistory-asked, IsPlan-asked, IsThreadsPlan-asked}
 use Rattle.unibench.proofs.RunCases.{run_of_asked, run_of_memory, status_of_memory, told_by_memory, told_of_asked}
 use Rattle.unibench.proofs.program.run.Goals as goal
 
@@ -71,3 +72,9 @@ returns-in-Err-clause-asked g c = λ r asks. run_of_memory r _ _ _ _ c.requires.
 
 pub returns-in-Err-clause-told : goal.returns-in-Err-clause-told
 returns-in-Err-clause-told g c = λ r asks some. told_by_memory r _ _ _ _ (status_of_memory _ c.report.ensures.status) c.report.ensures.told
+
+pub threads-requires-clause-plan : goal.threads-requires-clause-plan
+threads-requires-clause-plan g c =
+    let asked : asked_of (map g.S.AsStr.text c.args.words.now) ≡ Some (Threads c.in-Ok-Some-Threads.plan) = search rules in
+    let plan : IsThreadsPlan c.in-Ok-Some-Threads.plan = IsThreadsPlan-asked (subcommand_of unibench (map g.S.AsStr.text c.args.words.now)) c.in-Ok-Some-Threads.plan asked in
+    search rules

@@ -1,6 +1,6 @@
 use Rattle.std.proofs.Common.{◌≡◌, ◌∙◌, codes, None, Some, option_and_then, option_map, rules, sym, ap}
 use Rattle.clap.specs.Words.{found_of}
-use Rattle.unibench.specs.Plans.{form_named}
+use Rattle.unibench.specs.Request.{form_named}
 use Rattle.unibench.proofs.PlanReads.{value_of-text}
 use Rattle.unibench.proofs.request.form_in.Goals as goal
 

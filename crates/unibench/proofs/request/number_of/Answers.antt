@@ -1,6 +1,6 @@
 use Rattle.std.proofs.Common.{◌≡◌, ◌∙◌, None, Some, option_and_then, option_map, rules, sym, ap}
 use Rattle.clap.specs.Words.{found_of}
-use Rattle.unibench.specs.Plans.{number_in}
+use Rattle.unibench.specs.Request.{number_in}
 use Rattle.unibench.proofs.PlanReads.{value_of-text}
 use Rattle.unibench.proofs.request.number_of.Goals as goal
 

@@ -1,6 +1,6 @@
 use Rattle.std.proofs.Common.{◌≡◌, ◌∙◌, codes, None, Some, option_and_then, option_map, rules, sym, ap}
 use Rattle.clap.specs.Words.{found_of}
-use Rattle.uni_script.specs.Script.{object_of_word}
+use Rattle.uni_script.specs.Grammar.{object_of_word}
 use Rattle.unibench.proofs.PlanReads.{value_of-text}
 use Rattle.unibench.proofs.request.shared_in.Goals as goal
 

@@ -3,7 +3,7 @@ use Rattle.std.specs.Vec.Iter.{into_iter_items}
 use Rattle.std.proofs.lemmas.List.Elements.{All-head, All-tail, All-push, All-same}
 use Rattle.uni_words.specs.Belongs.{IsSeatOf, own_calls}
 use Rattle.uni_words.specs.declared.steps.WordSeat.{WordSeat}
-use Rattle.unibench.specs.ThreadRuns.{IsJob}
+use Rattle.unibench.specs.Threads.{IsJob}
 use Rattle.unibench.proofs.threads.jobs_of.Goals as goal
 
 pub loop-seat-preserved : goal.loop-seat-preserved

@@ -2,7 +2,7 @@ use Rattle.std.proofs.Common.{◌≡◌, ◌+◌, [], vec_len}
 use Rattle.std.specs.List.{All}
 use Rattle.std.specs.Vec.Iter.{into_iter_items, into_iter_len}
 use Rattle.uni_words.specs.Belongs.{IsSeatOf, own_calls}
-use Rattle.unibench.specs.ThreadRuns.{IsJob}
+use Rattle.unibench.specs.Threads.{IsJob}
 use Rattle.unibench.proofs.threads.jobs_of.Given as goal
 
 abbrev pub invariant-loop-seat : goal.invariant-loop-seat

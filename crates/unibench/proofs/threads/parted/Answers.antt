@@ -3,7 +3,7 @@ use Rattle.std.specs.Vec.Iter.{into_iter_items}
 use Rattle.std.proofs.lemmas.List.Elements.{All-head, All-tail, All-push, All-same}
 use Rattle.std.specs.declared.alloc.AllocError.{AllocError}
 use Rattle.uni_words.specs.Belongs.{IsSeatOf, row_of}
-use Rattle.unibench.specs.ThreadRuns.{IsDone}
+use Rattle.unibench.specs.Threads.{IsDone}
 use Rattle.unibench.specs.declared.threads.Done.{Done}
 use Rattle.unibench.proofs.threads.parted.Goals as goal
 

@@ -2,7 +2,7 @@ use Rattle.std.proofs.Common.{◌≡◌, ◌+◌, vec_len, IfOk}
 use Rattle.std.specs.List.{All}
 use Rattle.std.specs.Vec.Iter.{into_iter_items, into_iter_len}
 use Rattle.uni_words.specs.Belongs.{IsSeatOf, row_of}
-use Rattle.unibench.specs.ThreadRuns.{IsDone}
+use Rattle.unibench.specs.Threads.{IsDone}
 use Rattle.unibench.proofs.threads.parted.Given as goal
 
 abbrev pub invariant-loop-one : goal.invariant-loop-one

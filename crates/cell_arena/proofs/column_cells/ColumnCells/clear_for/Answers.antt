@@ -2,7 +2,7 @@ use Rattle.std.proofs.Common.{◌≡◌, ◌<◌, ◌∙◌, ◌+◌, ◌*◌, N
 use Rattle.std.proofs.Math.ListN.{length-set}
 use Rattle.std.proofs.lemmas.List.{length-replicate}
 use Rattle.cell_arena.specs.CellRecord.{anchor_with}
-use Rattle.cell_arena.specs.Flat.{Flat, made_cells}
+use Rattle.cell_arena.specs.ColumnCells.{Flat, made_cells}
 use Rattle.cell_arena.proofs.FlatArena.{HasOnlyAnchor-begun, IsFlat-blank, blank-cleared, blank-new, get_or-zero, some_and, there-is, there-within}
 use Rattle.cell_arena.proofs.column_cells.ColumnCells.clear_for.Goals as goal
 

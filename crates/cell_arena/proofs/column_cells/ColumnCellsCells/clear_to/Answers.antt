@@ -1,7 +1,7 @@
 use Rattle.std.proofs.Common.{◌≡◌, ◌∙◌, None, IsSome, length, slice_index_or, slice_set, arith, rules}
 use Rattle.std.proofs.Math.ListN.{length-set}
 use Rattle.cell_arena.specs.CellRecord.{anchor_with}
-use Rattle.cell_arena.specs.Flat.{Flat, made_cells}
+use Rattle.cell_arena.specs.ColumnCells.{Flat, made_cells}
 use Rattle.cell_arena.proofs.FlatArena.{HasOnlyAnchor-begun, IsFlat-blank, blank-cleared, get_or-zero, some_and}
 use Rattle.cell_arena.proofs.column_cells.ColumnCellsCells.clear_to.Goals as goal
 

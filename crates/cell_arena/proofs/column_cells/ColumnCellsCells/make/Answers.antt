@@ -2,7 +2,7 @@ use Rattle.std.proofs.Common.{◌≡◌, ◌<◌, ◌∙◌, length, slice_index
 use Rattle.std.proofs.lemmas.List.{get_or_default}
 use Rattle.cell_arena.specs.CellRecord.{fresh, index_of}
 use Rattle.cell_arena.specs.Columns.{blank}
-use Rattle.cell_arena.specs.Flat.{Flat}
+use Rattle.cell_arena.specs.ColumnCells.{Flat}
 use Rattle.cell_arena.proofs.FlatArena.{ChangesOnly-set, IsFlat-made, at-unmade, index_of-within}
 use Rattle.cell_arena.proofs.column_cells.ColumnCellsCells.make.Goals as goal
 

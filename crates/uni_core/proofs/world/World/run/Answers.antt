@@ -1,5 +1,5 @@
 use Rattle.std.proofs.Common.{◌≡◌, ◌∙◌, ◌+◌, length, length-append, refl, arith}
-use Rattle.uni_core.specs.Whole.{world_of}
+use Rattle.uni_core.specs.World.{world_of}
 use Rattle.uni_core.proofs.Runs.{Leads-nothing, Leads-next, Ran-all, EndNoEra-events_of}
 use Rattle.uni_model.proofs.Growing.{log-fronts}
 use Rattle.uni_core.proofs.world.World.run.Goals as goal

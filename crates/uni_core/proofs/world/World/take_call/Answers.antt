@@ -1,6 +1,6 @@
 use Rattle.std.proofs.Common.{◌∙◌, sym, ap}
 use Rattle.uni_core.specs.declared.fault.BeginFault.TheVariants.{Busy, RowFull}
-use Rattle.uni_core.specs.Whole.{world_of}
+use Rattle.uni_core.specs.World.{world_of}
 use Rattle.uni_core.proofs.Runs.{TakesCommand-refused, begun_can_call, busy_names, full_names, IsErrOf-Err, Err-IsErrOf, Ok-IsErrOf}
 use Rattle.uni_core.proofs.world.World.take_call.Goals as goal
 

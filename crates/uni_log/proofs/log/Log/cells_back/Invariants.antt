@@ -1,7 +1,7 @@
 use Rattle.std.proofs.Common.{◌≡◌, IsSome, Some, slice_get, map}
 use Rattle.cell_arena.specs.Arena.{cell_of}
 use Rattle.uni_model.specs.Places.{seq_of}
-use Rattle.uni_core.specs.Whole.{world_of, name_in}
+use Rattle.uni_core.specs.World.{world_of, name_in}
 use Rattle.uni_log.proofs.Back.{IsBack}
 use Rattle.uni_log.proofs.log.Log.cells_back.Given as goal
 

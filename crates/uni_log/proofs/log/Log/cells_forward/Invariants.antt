@@ -3,7 +3,7 @@ use Rattle.cell_arena.specs.Arena.{cell_of}
 use Rattle.uni_model.specs.Places.{Name, seq_of}
 use Rattle.uni_model.specs.Places.Name.{Anchor}
 use Rattle.uni_model.specs.Worlds.{chain}
-use Rattle.uni_core.specs.Whole.{world_of, name_in}
+use Rattle.uni_core.specs.World.{world_of, name_in}
 use Rattle.uni_log.proofs.Walk.{IsAlong}
 use Rattle.uni_log.proofs.log.Log.cells_forward.Given as goal
 

@@ -4,8 +4,8 @@ use Rattle.uni_model.specs.Places.{seq_of}
 use Rattle.uni_model.specs.Places.Name.{Anchor}
 use Rattle.uni_model.specs.Chain.{entries_from}
 use Rattle.uni_model.specs.Worlds.{chain}
-use Rattle.uni_core.specs.Whole.{world_of}
-use Rattle.uni_log.specs.Shown.{entry_shown}
+use Rattle.uni_core.specs.World.{world_of}
+use Rattle.uni_log.specs.Entry.{entry_shown}
 use Rattle.uni_log.proofs.Walk.{IsAlong-anchor, along-call, along-next}
 use Rattle.uni_log.proofs.Entries.{entries_from-further, log_reached}
 use Rattle.uni_log.proofs.Replies.{settled_but_last}

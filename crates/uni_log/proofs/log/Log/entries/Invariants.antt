@@ -3,8 +3,8 @@ use Rattle.cell_arena.specs.Arena.{cell_of}
 use Rattle.uni_model.specs.Places.{Name}
 use Rattle.uni_model.specs.Chain.{entries_from}
 use Rattle.uni_model.specs.History.{log}
-use Rattle.uni_core.specs.Whole.{world_of, name_in}
-use Rattle.uni_log.specs.Shown.{entry_shown}
+use Rattle.uni_core.specs.World.{world_of, name_in}
+use Rattle.uni_log.specs.Entry.{entry_shown}
 use Rattle.uni_log.proofs.Walk.{IsAlong}
 use Rattle.uni_log.proofs.log.Log.entries.Given as goal
 

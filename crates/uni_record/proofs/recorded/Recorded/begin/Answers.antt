@@ -2,8 +2,8 @@ use Rattle.std.proofs.Common.{◌≡◌, ◌+◌, ◌∙◌, arith, subst, refl,
 use Rattle.std.proofs.lemmas.List.{append-nil}
 use Rattle.uni_model.specs.Worlds.{world_after}
 use Rattle.uni_model.specs.Worlds.Event.{Call}
-use Rattle.uni_core.specs.Whole.{world_of}
-use Rattle.uni_record.specs.Recording.{standing_of, CanBegin, set_aside, share}
+use Rattle.uni_core.specs.World.{world_of}
+use Rattle.uni_record.specs.Recorded.{standing_of, CanBegin, set_aside, share}
 use Rattle.uni_record.proofs.Kept.{begun_kept, roomier}
 use Rattle.uni_record.proofs.recorded.Recorded.begin.Goals as goal
 

@@ -1,10 +1,10 @@
 use Rattle.std.proofs.Common.{◌≡◌, ◌∙◌, ap, map, subst}
 use Rattle.uni_model.specs.History.{log, log_of_run}
-use Rattle.uni_core.specs.Whole.{world_of}
-use Rattle.uni_log.specs.Shown.{entry_shown}
+use Rattle.uni_core.specs.World.{world_of}
+use Rattle.uni_log.specs.Entry.{entry_shown}
 use Rattle.uni_record.specs.Audited.{IsAudited}
-use Rattle.uni_record.specs.Stored.{events_shown}
-use Rattle.uni_record.specs.Recording.{meaning, opening}
+use Rattle.uni_record.specs.Event.{events_shown}
+use Rattle.uni_record.specs.Recorded.{meaning, opening}
 use Rattle.uni_record.proofs.Agreed.{IsAudited-record}
 use Rattle.uni_record.proofs.Promised.{entries_are_joined}
 use Rattle.uni_record.proofs.recorded.Recorded.entries.Goals as goal

@@ -1,5 +1,5 @@
 use Rattle.std.proofs.Common.{subst}
-use Rattle.uni_record.specs.Recording.{IsPromised, IsRecording}
+use Rattle.uni_record.specs.Recorded.{IsPromised, IsRecording}
 use Rattle.uni_record.proofs.Promised.{IsPromised-kept}
 use Rattle.uni_record.proofs.recorded.Recorded.promise.Goals as goal
 

@@ -1,6 +1,6 @@
 use Rattle.std.proofs.Common.{◌≡◌, ◌+◌, ◌*◌, ◌∙◌, arith, subst}
-use Rattle.uni_core.specs.Whole.{world_of}
-use Rattle.uni_record.specs.Recording.{standing_of, CanBegin, IsBeginRefused, set_aside, share}
+use Rattle.uni_core.specs.World.{world_of}
+use Rattle.uni_record.specs.Recorded.{standing_of, CanBegin, IsBeginRefused, set_aside, share}
 use Rattle.uni_record.specs.declared.fault.RecordBeginFault.TheVariants.{HistoryFull}
 use Rattle.uni_record.proofs.Begun.{can_call_now}
 use Rattle.uni_record.proofs.recorded.Recorded.room_of_call.Goals as goal

@@ -2,9 +2,9 @@ use Rattle.std.proofs.Common.{◌≡◌, sym, ap, refl, ◌∙◌, arith, length
 use Rattle.std.proofs.lemmas.List.{append-nil}
 use Rattle.uni_model.specs.Worlds.{world_after}
 use Rattle.uni_model.specs.Worlds.Event.{Step}
-use Rattle.uni_core.specs.Whole.{world_of, IsProgress}
-use Rattle.uni_core.specs.Commands.{CanGo}
-use Rattle.uni_record.specs.Recording.{standing_of, IsStepRefused}
+use Rattle.uni_core.specs.World.{world_of, IsProgress}
+use Rattle.uni_core.specs.Run.{CanGo}
+use Rattle.uni_record.specs.Recorded.{standing_of, IsStepRefused}
 use Rattle.uni_record.specs.declared.fault.RecordStepFault.TheVariants.{Memory}
 use Rattle.uni_core.specs.declared.fault.Progress.TheVariants.{Going, Done}
 use Rattle.uni_core.proofs.Runs.{current_some, going_none, done_some, memory_needed}

@@ -1,9 +1,9 @@
 use Rattle.std.proofs.Common.{◌≡◌, ◌∙◌, refl, subst, sym, Some}
-use Rattle.uni_core.specs.Whole.{world_of, current_of}
+use Rattle.uni_core.specs.World.{world_of, current_of}
 use Rattle.uni_core.proofs.Runs.{going_none, done_some}
 use Rattle.uni_record.specs.declared.event.Event.TheVariants as stored
 use Rattle.uni_record.specs.declared.command.Refusal.TheVariants.{Memory}
-use Rattle.uni_record.specs.Recording.{standing_of, IsStepRefused}
+use Rattle.uni_record.specs.Recorded.{standing_of, IsStepRefused}
 use Rattle.uni_record.proofs.Commanded.{TakesCommand-done, TakesCommand-refused}
 use Rattle.uni_record.proofs.recorded.Recorded.take_step.Goals as goal
 

@@ -1,6 +1,6 @@
 use Rattle.std.proofs.lemmas.List.{length-take-le}
 use Rattle.std.proofs.Common.{rules, ◌≡◌, ◌∙◌, inl, inr, refl, sym, ap, subst, arith, ◌+◌, ◌-◌, ◌<◌, ◌≤◌, ◌++◌, ◌∷◌, [], Err, IfErr, List, ℕ, Option, take, drop, length, append-nil}
-use Rattle.uni_script.specs.Reading.{line_of, rest_of, HasTaken, HasStopped}
+use Rattle.uni_script.specs.Lines.{line_of, rest_of, HasTaken, HasStopped}
 use Rattle.uni_script.proofs.Cutting.{end_of, end_is, none_is}
 use Rattle.uni_script.proofs.Taking.{IsTaking-part, IsTaking-read, IsTaking-kept, IsOneLine-take, IsOneLine-all, split_at_end, line_of-none, rest_of-none, rest_of-moved, line_of-length, rest_of-length, rest_of-all, HasTaken-line, HasTaken-last, HasStopped-end, HasStopped-failed, HasStopped-long, HasStopped-many, OnOk-map, IfErr-map}
 use Rattle.uni_script.proofs.lines.Lines.take.Goals as goal

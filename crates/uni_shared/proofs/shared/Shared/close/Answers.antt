@@ -1,9 +1,15 @@
 use Rattle.std.proofs.Common.{subst}
-use Rattle.uni_shared.specs.Agreement.{IsClosed}
+use Rattle.uni_shared.specs.Agreement.{IsClosed, IsFaultOfClosing}
 use Rattle.uni_shared.proofs.shared.Shared.close.Goals as goal
 
 pub invariant_of-result : goal.invariant_of-result
-invariant_of-result g c = subst (λ l. IsClosed g.O.SeqObject.sequential c.into_inner-recorded.result l) c.deref.ensures.value (c.first_fault.ensures c.in-None.is)
+invariant_of-result g c = subst (λ l. IsClosed g.O.SeqObject.sequential c.into_inner-recorded.result l) c.deref.ensures.value (c.first_fault.ensures.closed c.in-None.is)
 
 pub returns-in-None-clause-closed : goal.returns-in-None-clause-closed
-returns-in-None-clause-closed g c = subst (λ l. IsClosed g.O.SeqObject.sequential c.into_inner-recorded.result l) c.deref.ensures.value (c.first_fault.ensures c.in-None.is)
+returns-in-None-clause-closed g c = subst (λ l. IsClosed g.O.SeqObject.sequential c.into_inner-recorded.result l) c.deref.ensures.value (c.first_fault.ensures.closed c.in-None.is)
+
+pub returns-in-Some-clause-fault : goal.returns-in-Some-clause-fault
+returns-in-Some-clause-fault g c = (
+  c.into_inner-recorded.result,
+  subst (λ l. IsFaultOfClosing g.O.SeqObject.sequential c.into_inner-recorded.result l c.in-Some.fault) c.deref.ensures.value c.in-Some.ensures.fault,
+)

@@ -1,5 +1,5 @@
 use Rattle.std.proofs.Common.{arith}
-use Rattle.uni_words.specs.Views.Reading.{Invocation}
+use Rattle.uni_words.specs.View.Reading.{Invocation}
 use Rattle.uni_words.specs.Seats.{HasLooked}
 use Rattle.uni_model.specs.Indices.{name_of}
 use Rattle.uni_words.proofs.Allowed.{by_key, cell_word, stands_still, goes_still, read_is}

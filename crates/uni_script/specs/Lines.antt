@@ -1,0 +1,123 @@
+-- How the lines of a script are taken from a reader, and what is run of them.
+use Rattle.std.specs.Prelude.{◌≡◌, ◌≢◌, ◌⊎◌, ℕ, ◌+◌, ◌-◌, ◌<◌, ◌≤◌, List, [], ◌∷◌, ◌++◌, length, take, drop, Option, Some, None, Result, Ok, Err, IfOk, OnOk, option_map}
+use Rattle.std.specs.Io.KnownBytes.{Consumes, Appends, IsAtEnd}
+use Rattle.uni_script.specs.Ends.{AppendsFront}
+use Rattle.uni_script.specs.declared.fault.BenchFault.{BenchFault}
+use Rattle.uni_script.specs.declared.fault.BenchFault.TheVariants.{Read, Write, Memory}
+use Rattle.uni_script.specs.declared.fault.BenchFault.TheVariants as fault
+use Rattle.uni_script.specs.declared.lines.Lines.{Lines}
+use Rattle.uni_script.specs.declared.lines.Source.TheVariants.{Open, Ended}
+use Rattle.uni_script.specs.declared.lines.Stop.{Stop}
+use Rattle.uni_script.specs.declared.lines.Stop.TheVariants.{End, Failed, TooLong, TooMany}
+use Rattle.uni_script.specs.declared.summary.Summary.{Summary}
+use Rattle.uni_script.specs.Grammar.{cut, lines_of}
+use Rattle.uni_script.specs.Meaning.{ScriptSession, Outcome, outcome_of_fault, and_then, outcome_of_lines, outcome_of_end}
+use Rattle.uni_script.specs.Summary.{summary_of_session}
+use Rattle.uni_script.specs.Promises.{IsPromisedSession}
+
+-- the numbers of the lines are in range
+pub record IsHeld (lines : Lines) : Type 0 where
+  pub width : lines.width ≤ 200
+  pub start : lines.start ≤ lines.end
+  pub end : lines.end ≤ 4096
+  pub count : lines.count ≤ 100000
+  pub line_length : length lines.line ≡ 200
+  pub piece_length : length lines.piece ≡ 4096
+
+-- the line that was taken last
+abbrev pub line_of : Lines → List ℕ
+line_of lines = take lines.width lines.line
+
+-- the bytes that were read and that no line has taken
+abbrev pub rest_of : Lines → List ℕ
+rest_of lines = take (lines.end - lines.start) (drop lines.start lines.piece)
+
+-- a reader that had these bytes left gave those of these lines, and the rest that no line has taken yet
+pub record HasTaken (old now : Option (List ℕ)) (lines : Lines) (taken : List (List ℕ)) : Type 0 where
+  pub bytes : List ℕ
+  pub consumed : Consumes old now (bytes ++ rest_of lines)
+  pub taken_as : lines_of bytes ≡ taken
+  pub count : length taken ≡ lines.count
+  pub whole : lines.source ≡ Open → (cut bytes).tail ≡ []
+  pub ended : lines.source ≡ Ended → (rest_of lines ≡ []) × IsAtEnd now
+
+-- reading stopped here after these bytes: nothing was read past them, but for the byte that a script may not have
+abbrev pub StopsAt : Stop → (bytes past : List ℕ) → Option (List ℕ) → Type 0
+StopsAt End bytes past left = (past ≡ []) × IsAtEnd left
+StopsAt Failed bytes past left = past ≡ []
+StopsAt TooLong bytes past left = (length (cut bytes).whole < 100000) × (length (cut bytes).tail ≡ 200) × ((b : ℕ) × (more : List ℕ) × (past ≡ b ∷ more) × (b ≢ 10))
+StopsAt TooMany bytes past left = (length (cut bytes).whole ≡ 100000) × ((b : ℕ) × (more : List ℕ) × (past ≡ b ∷ more))
+
+-- a reader that had these bytes left gave these ones of a script, and then reading stopped
+pub record IsRead (old new : Option (List ℕ)) (stop : Stop) (bytes : List ℕ) : Type 0 where
+  pub past : List ℕ
+  pub consumed : Consumes old new (bytes ++ past)
+  pub stops : StopsAt stop bytes past new
+
+-- the lines that are run of what was read: the last one may lack its end only where the whole script was read
+abbrev pub lines_of_read : Stop → List ℕ → List (List ℕ)
+lines_of_read End bytes = lines_of bytes
+lines_of_read _ bytes = (cut bytes).whole
+
+-- reading stopped after these lines
+pub record HasStopped (old new : Option (List ℕ)) (stop : Stop) (taken : List (List ℕ)) : Type 0 where
+  pub bytes : List ℕ
+  pub read : IsRead old new stop bytes
+  pub taken_as : lines_of_read stop bytes ≡ taken
+
+-- what comes after those lines
+abbrev pub outcome_of_stop : Stop → (lines : ℕ) → Option ScriptSession → Outcome
+outcome_of_stop End lines b = outcome_of_end lines b
+outcome_of_stop Failed lines b = outcome_of_fault b Read
+outcome_of_stop TooLong lines b = outcome_of_fault b (fault.TooLong (lines + 1))
+outcome_of_stop TooMany lines b = outcome_of_fault b fault.TooMany
+
+-- the run of what was read, where the history can have so many events
+abbrev pub outcome_of_read : (limit : ℕ) → Stop → List ℕ → Outcome
+outcome_of_read limit stop bytes =
+    and_then (outcome_of_lines limit 1 None (lines_of_read stop bytes)) (λ after. outcome_of_stop stop (length (lines_of_read stop bytes)) after)
+
+-- a call ended as the outcome says, and a text grew by its text; or memory was refused
+abbrev pub EndsAs : {A : Type 0} → Outcome → (old new : List ℕ) → Result A BenchFault → Type 0
+EndsAs outcome old new (Ok _) = (outcome.fault ≡ None) × (new ≡ old ++ outcome.text)
+EndsAs outcome old new (Err e) = (e ≡ Memory) ⊎ ((outcome.fault ≡ Some e) × (new ≡ old ++ outcome.text))
+
+-- a call ended as the outcome says, after its text was written; or memory was refused or the writer failed, after a front
+-- of it was
+abbrev pub WritesAs : {A : Type 0} → Outcome → (old new : Option (List ℕ)) → Result A BenchFault → Type 0
+WritesAs outcome old new (Ok _) = (outcome.fault ≡ None) × Appends old new outcome.text
+WritesAs outcome old new (Err e) = (((e ≡ Memory) ⊎ (e ≡ Write)) × AppendsFront old new outcome.text) ⊎ ((outcome.fault ≡ Some e) × Appends old new outcome.text)
+
+-- the lines that were taken have left this session and no fault, and the text of their answers was written
+pub record HasRun (limit : ℕ) (old now : Option (List ℕ)) (lines : Lines) (written_old written : Option (List ℕ)) (taken : List (List ℕ)) (session : Option ScriptSession) : Type 0 where
+  pub reading : HasTaken old now lines taken
+  pub fault : (outcome_of_lines limit 1 None taken).fault ≡ None
+  pub session_after : (outcome_of_lines limit 1 None taken).session ≡ session
+  pub written_as : Appends written_old written (outcome_of_lines limit 1 None taken).text
+
+-- the run of what was read has ended as it should
+pub record HasEnded (limit : ℕ) (old new : Option (List ℕ)) (written_old written : Option (List ℕ)) (result : Result Summary BenchFault) : Type 0 where
+  pub stop : Stop
+  pub bytes : List ℕ
+  pub read : IsRead old new stop bytes
+  pub ends : WritesAs (outcome_of_read limit stop bytes) written_old written result
+  pub summary : IfOk result (λ s. option_map (summary_of_session (length (lines_of_read stop bytes))) (outcome_of_read limit stop bytes).session ≡ Some s)
+  pub promised : OnOk result ((b : ScriptSession) × ((outcome_of_read limit stop bytes).session ≡ Some b) × IsPromisedSession b)
+
+-- the lines that are left are run from this session on, whatever lines came before it
+abbrev pub RunsOn : (limit : ℕ) (now : Option (List ℕ)) (lines : Lines) (written : Option (List ℕ)) → Option ScriptSession → (new written_new : Option (List ℕ)) → Result Summary BenchFault → Type 0
+RunsOn limit now lines written session new written_new result =
+    (old written_old : Option (List ℕ)) (taken : List (List ℕ)) → HasRun limit old now lines written_old written taken session → HasEnded limit old new written_old written_new result
+
+-- a fault that the run of a line can have
+abbrev pub IsFaultOfLine : BenchFault → Type 0
+IsFaultOfLine (fault.BadHeader l) = Unit {0}
+IsFaultOfLine (fault.BadByte l) = Unit {0}
+IsFaultOfLine (fault.BadLine l) = Unit {0}
+IsFaultOfLine Memory = Unit {0}
+IsFaultOfLine (fault.NoHeader l) = ⊥
+IsFaultOfLine (fault.TooLong l) = ⊥
+IsFaultOfLine fault.TooMany = ⊥
+IsFaultOfLine Read = ⊥
+IsFaultOfLine Write = ⊥
+IsFaultOfLine (fault.Audit verdict) = ⊥

@@ -1,0 +1,36 @@
+-- How much a script has done.
+use Rattle.std.specs.Prelude.{◌≡◌, ℕ, suc, List, [], ◌∷◌, length, Option, option_map, refl}
+use Rattle.uni_model.specs.Worlds.{Event, opened_world}
+use Rattle.uni_model.specs.Worlds.Event.{Call, Step, Trim, Reshape}
+use Rattle.uni_model.specs.History.{history_of}
+use Rattle.uni_record.specs.Event.{responses_in}
+use Rattle.uni_script.specs.declared.summary.Summary.{Summary}
+use Rattle.uni_script.specs.Objects.{SpokenObject, spoken_of}
+use Rattle.uni_script.specs.Grammar.{lines_of}
+use Rattle.uni_script.specs.Meaning.{Session, ScriptSession, outcome_of_script}
+
+-- how many of some events are calls
+abbrev pub calls_in : {I : Type 0} → List (Event I) → ℕ
+calls_in [] = 0
+calls_in (Call p i ∷ events) = suc (calls_in events)
+calls_in (Step p ∷ events) = calls_in events
+calls_in (Trim ∷ events) = calls_in events
+calls_in (Reshape n ∷ events) = calls_in events
+
+-- how many responses the history of a session has
+abbrev pub responses_of : {S I R : Type 0} → SpokenObject S I R → Session S I R → ℕ
+responses_of o b = length (responses_in (history_of o.object (opened_world b.processes o.object.initial b.first) b.events))
+
+-- so many lines, the events that are calls, and the responses
+abbrev pub summary_of : {S I R : Type 0} → SpokenObject S I R → (lines : ℕ) → Session S I R → Summary
+summary_of o lines b = record { lines = lines; calls = calls_in b.events; returns = responses_of o b }
+
+abbrev pub summary_of_session : (lines : ℕ) → ScriptSession → Summary
+summary_of_session lines b = summary_of (spoken_of b.object) lines b.session
+
+-- the summary of a script that opens a session, where the history can have so many events
+abbrev pub summary_of_script : (limit : ℕ) → List ℕ → Option Summary
+summary_of_script limit script = option_map (summary_of_session (length (lines_of script))) (outcome_of_script limit script).session
+
+two_calls : calls_in {I = ℕ} (Call 0 5 ∷ Step 0 ∷ Call 1 5 ∷ Trim ∷ []) ≡ 2
+two_calls = refl
