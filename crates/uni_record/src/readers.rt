@@ -7,9 +7,10 @@ ghost use Rattle.uni_record.specs.Audited.{IsAudited};
 ghost use Rattle.uni_record.specs.Event.{events_shown};
 ghost use Rattle.uni_record.specs.Recorded.{meaning, opening, IsRecording, IsPromised};
 
+use crate::checker::audit;
 use crate::event::Event;
 use crate::recorded::Recorded;
-use crate::verdict::{Counts, Return};
+use crate::verdict::{Counts, Return, Verdict};
 use seq_object::SeqObject;
 use std::alloc::{AllocError, Global};
 use uni_core::World;
@@ -81,6 +82,16 @@ impl<O: SeqObject> Recorded<O> {
         let mut present = Log::of(&self.world).entries(alloc)?;
         entries.append(&mut present)?;
         Ok(entries)
+    }
+
+    /// What an audit of the entries of all eras and of the returns says: they agree.
+    ///
+    /// An `Err` says that memory was refused.
+    pub fn audit(&self, alloc: Global) -> Result<Verdict, AllocError>
+        ensures agrees { IfOk result (λ verdict. verdict ≡ Verdict.Agrees) }
+    {
+        let entries = self.entries(alloc)?;
+        audit(alloc, self.world.object(), &entries, &self.returns)
     }
 
     /// What every record keeps, for proofs: the call does nothing.

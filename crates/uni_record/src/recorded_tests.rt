@@ -113,8 +113,7 @@ fn entry(
 
 /// What the audit of a record's own entries and returns says.
 fn verdict(alloc: Global, recorded: &Recorded<QueueObject>) -> Option<Verdict> {
-    let entries = recorded.entries(alloc).ok()?;
-    audit(alloc, &QueueObject, &entries, recorded.returns()).ok()
+    recorded.audit(alloc).ok()
 }
 
 /// Whether a record shows this.

@@ -1,4 +1,5 @@
 pub mod CommandLine
+pub mod Jobs
 pub mod PlanReads
 pub mod PlanValues
 pub mod RandomPlans

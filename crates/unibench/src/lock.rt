@@ -1,6 +1,6 @@
 //! Threads that make calls on one object under a lock.
 
-ghost use Rattle.std.specs.Prelude.{◌≡◌, ◌≢◌, ◌<◌, ◌≤◌, ◌*◌, ◌^◌, ◌↔◌, ℕ, All, IfOk, IsErrOf, [], length, vec_len};
+ghost use Rattle.std.specs.Prelude.{◌≡◌, ◌≢◌, ◌<◌, ◌≤◌, ◌*◌, ◌^◌, ◌↔◌, ℕ, All, IfOk, IsErrOf, Ok, [], length, map, vec_len};
 ghost use Rattle.unibench.specs.Threads.{IsThreadsPlan, closing_fault, events_of, receipts_in};
 
 use crate::request::Plan;
@@ -13,7 +13,7 @@ use std::alloc::{AllocError, Global};
 use std::sync::Wait;
 use std::thread;
 use std::thread::Threads;
-use uni_record::{Recorded, Verdict, audit};
+use uni_record::Verdict;
 use uni_shared::{ApplyFault, CloseFault, NoGate, Seat, Shared};
 
 /// The most events that a history holds.
@@ -77,17 +77,14 @@ fn make_locked_calls<O: Spoken, R: Wait>(
     Ok(seat)
 }
 
-/// The seats of jobs that are done, each of which has made at most so many calls.
+/// The seats of jobs that are done, in order.
 ///
 /// An `Err` says that memory was refused, to a thread or here.
 fn seats_of<O: SeqObject>(
     alloc: Global,
-    most: u64,
     done: Vec<Result<Seat<O>, AllocError>>,
 ) -> Result<Vec<Seat<O>>, AllocError>
-    requires { All (λ one. IfOk one (λ seat. length seat.receipts ≤ most)) done.items }
-    ensures count { IfOk result (λ seats. vec_len seats ≡ vec_len done) }
-    ensures few { IfOk result (λ seats. All (λ seat. length seat.receipts ≤ most) seats.items) }
+    ensures { IfOk result (λ seats. done.items ≡ map Ok seats.items) }
 {
     let mut seats = Vec::new(alloc);
     for one in done {
@@ -107,21 +104,6 @@ fn receipts_in<O: SeqObject>(seats: &[Seat<O>]) -> u64
         receipts += seat.receipts().len() as u64;
     }
     receipts
-}
-
-/// What an audit of a record's entries and of its returns says: they agree.
-///
-/// An `Err` says that memory was refused.
-fn audit_of<O: SeqObject>(alloc: Global, recorded: &Recorded<O>) -> Result<Verdict, AllocError>
-    ensures { IfOk result (λ verdict. verdict ≡ Verdict.Agrees) }
-{
-    let entries = recorded.entries(alloc)?;
-    audit(
-        alloc,
-        recorded.world().object(),
-        entries.as_slice(),
-        recorded.returns(),
-    )
 }
 
 /// The fault of threads that a closing was refused for.
@@ -154,7 +136,7 @@ fn close_and_audit<O: SeqObject>(
         Ok(closed) => closed,
         Err(refused) => return Err(closing_fault(refused.fault)),
     };
-    match audit_of(alloc, closed.recorded())? {
+    match closed.recorded().audit(alloc)? {
         Verdict::Agrees => Ok(replies),
         verdict => Err(ThreadsFault::Audit(verdict)),
     }
@@ -195,6 +177,6 @@ where
             ensures { IfOk result (λ seat. length seat.receipts ≤ calls) }
         { make_locked_calls(rt, alloc, &shared, job, calls) },
     )?;
-    let seats = seats_of(alloc, calls, done)?;
+    let seats = seats_of(alloc, done)?;
     close_and_audit(alloc, shared, seats)
 }

@@ -31,8 +31,8 @@ use uni_script::{
 /// The status is 0 where all went well, also for help that was asked for, which goes to `output`.
 /// It is 2 for a bad script, a bad command line, an object that isn't there in a form of threads or
 /// calls that are too many for a history, 3 where `input` or `output` failed, 4 where memory was
-/// refused, and 5 where threads were told what the log doesn't have; the text that says so goes to
-/// `faults`, as far as that takes it.
+/// refused, and 5 where threads and their log don't agree; the text that says so goes to `faults`,
+/// as far as that takes it.
 pub fn run<R: Threads + Wait + Sync, S: AsStr, I: TextIn, O: TextOut, F: TextOut>(
     rt: &R,
     alloc: Global,

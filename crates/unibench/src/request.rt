@@ -404,8 +404,8 @@ fn threads_command<'a>(alloc: Global) -> Result<Command<'a>, AllocError>
 const NOTES: &str = "\
 Status:
   0 where all went well, 2 for a bad command line or script, 3 where the input
-  or the output failed, 4 where memory was refused, 5 where a thread was told
-  what the log doesn't have.
+  or the output failed, 4 where memory was refused, 5 where the threads and
+  their log don't agree.
 
 Examples:
   unibench replay < queue.script

@@ -1,10 +1,7 @@
-use Rattle.std.proofs.Common.{◌≡◌, ◌+◌, ◌≤◌, length, vec_len, IfOk}
-use Rattle.std.specs.List.{All}
-use Rattle.std.specs.Vec.Iter.{into_iter_items, into_iter_len}
+use Rattle.std.proofs.Common.{◌≡◌, ◌++◌, map, Ok}
+use Rattle.std.specs.Vec.Iter.{into_iter_items}
 use Rattle.unibench.proofs.lock.seats_of.Given as goal
 
+-- the seats so far are of the jobs that have been taken
 abbrev pub invariant-loop-one : goal.invariant-loop-one
-invariant-loop-one g l =
-    All (λ one. IfOk one (λ seat. length seat.receipts ≤ l.most)) (into_iter_items l.one-iterator)
-    × All (λ seat. length seat.receipts ≤ l.most) l.seats.items
-    × (vec_len l.seats + into_iter_len l.one-iterator ≡ into_iter_len l.initial.one-iterator)
+invariant-loop-one g l = into_iter_items l.initial.one-iterator ≡ map Ok l.seats.items ++ into_iter_items l.one-iterator
