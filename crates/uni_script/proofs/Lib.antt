@@ -11,3 +11,4 @@ pub mod RunningOn
 pub mod LogLines
 pub mod Counting
 pub mod Finishing
+pub mod Telling

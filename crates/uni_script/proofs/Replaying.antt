@@ -140,7 +140,7 @@ module _ (limit : ℕ) where
       )
 
   -- the bytes that a reader had, where it gave these ones: with what is left, where that is known
-  abbrev with_left : (given : List ℕ) → Option (List ℕ) → List ℕ
+  abbrev pub with_left : (given : List ℕ) → Option (List ℕ) → List ℕ
   with_left given None = given
   with_left given (Some left) = given ++ left
 
@@ -229,13 +229,13 @@ module _ (limit : ℕ) where
       at (Some f) g s n e = absurd (let h : Some f ≡ None = sym g ∙ e in cc)
 
   module _ (left left_after : Option (List ℕ)) (stop : Stop) (bytes : List ℕ) (is : IsRead left left_after stop bytes) where
-    abbrev script : List ℕ
+    abbrev pub script : List ℕ
     script = with_left (bytes ++ is.past) left_after
 
     script_is : script ≡ bytes ++ past_left is.past left_after
     script_is = with_left-past bytes is.past left_after
 
-    is_input : IsInput left script
+    pub is_input : IsInput left script
     is_input = IsInput-with_left left left_after (bytes ++ is.past) is.consumed
 
     same_run : (stop ≡ Failed → ⊥) → outcome_of_script limit script ≡ outcome_of_read limit stop bytes
@@ -297,7 +297,7 @@ module _ (limit : ℕ) where
     not_failed : (outcome_of_read limit stop bytes).fault ≡ None → stop ≡ Failed → ⊥
     not_failed none failed = let e = end_of_run stop bytes none in let f : End ≡ Failed = sym e ∙ failed in cc
 
-    script_whole : stop ≡ End → script ≡ bytes
+    pub script_whole : stop ≡ End → script ≡ bytes
     script_whole e = script_is ∙ ap (λ p. bytes ++ p) (past_left-end bytes is.past left_after (subst (λ s. StopsAt s bytes is.past left_after) e is.stops)) ∙ append-nil bytes
 
     -- the summary of what was read to its end is that of the script

@@ -244,7 +244,7 @@ module _ (limit : ℕ) where
         }
 
     module _ (new : Option (List ℕ)) (stop : Stop) (has : HasStopped old new stop taken) where
-      outcome_of_stopped : (session : Option ScriptSession) → session ≡ b → outcome_of_read limit stop has.bytes ≡ after_text before.text (outcome_of_stop stop (length taken) session)
+      pub outcome_of_stopped : (session : Option ScriptSession) → session ≡ b → outcome_of_read limit stop has.bytes ≡ after_text before.text (outcome_of_stop stop (length taken) session)
       outcome_of_stopped session same =
           ap (λ l. and_then (outcome_of_lines limit 1 None l) (λ c. outcome_of_stop stop (length l) c)) has.taken_as
           ∙ and_then-none before (λ c. outcome_of_stop stop (length taken) c) run.fault

@@ -75,6 +75,16 @@ answer_text (Trimmed number) = trimmed_text number
 answer_text (Reshaped count number) = reshaped_text count number
 answer_text End = end_text
 
+-- why a command was refused, where that is the answer
+abbrev pub refusal_in : Answer → Option Refusal
+refusal_in (Refused refusal) = Some refusal
+refusal_in (Called call) = None
+refusal_in (Returned call reply steps turns) = None
+refusal_in (Going call steps turns) = None
+refusal_in (Trimmed number) = None
+refusal_in (Reshaped count number) = None
+refusal_in End = None
+
 -- the line of an entry of the log, with these texts of invocations and responses; the response is a question mark where
 -- there is none yet
 abbrev pub entry_text : {I R : Type 0} → (I → List ℕ) → (R → List ℕ) → Entry I R → List ℕ

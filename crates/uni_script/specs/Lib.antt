@@ -8,6 +8,8 @@ pub mod Summary
 pub mod Promises
 pub mod Lines
 pub mod Replay
+pub mod Told
+pub mod ScriptRun
 pub mod Examples
 pub mod Laws
 pub mod Fault

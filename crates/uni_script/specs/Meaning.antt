@@ -161,6 +161,16 @@ result_of_command o b command.Log = record { events = []; text = log_text o b.wo
 result_of_command o b command.Trim = result_of_trim b
 result_of_command o b (command.Reshape m) = result_of_reshape b m
 
+-- why a command is refused, if it is
+abbrev pub refusal_of_command : {S I R : Type 0} → Session S I R → Command I → Option Refusal
+refusal_of_command b (command.Call p i) = refusal_of_call b p
+refusal_of_command b (command.Step p most) = refusal_of_step b.world p
+refusal_of_command b (command.Finish p) = refusal_of_step b.world p
+refusal_of_command b command.Heads = None
+refusal_of_command b command.Log = None
+refusal_of_command b command.Trim = refusal_of_end b b.world.n
+refusal_of_command b (command.Reshape m) = refusal_of_reshape b m
+
 -- the session that a header opens, with a history of so many events at most
 abbrev pub opened_session : {S I R : Type 0} → SpokenObject S I R → (limit : ℕ) → Header → Session S I R
 opened_session o limit header =

@@ -9,8 +9,8 @@ ghost use Rattle.uni_log.specs.Entry.{entry_shown};
 ghost use Rattle.uni_record.specs.Recorded.{KeepsOpening};
 ghost use Rattle.uni_script.specs.Replay.{IsHistory};
 ghost use Rattle.uni_script.specs.Grammar.{IsInRange};
-ghost use Rattle.uni_script.specs.Answer.{answer_text, numbers_text, heads_text, entry_text, IsOver};
-ghost use Rattle.uni_script.specs.Meaning.{session_of, session_after, opened_session, result_of_command, result_of_call, result_of_steps, result_of_trim, result_of_reshape, last_step, steps_of, steps_taken, most_steps, log_text};
+ghost use Rattle.uni_script.specs.Answer.{answer_text, refusal_in, numbers_text, heads_text, entry_text, IsOver};
+ghost use Rattle.uni_script.specs.Meaning.{session_of, session_after, opened_session, result_of_command, result_of_call, result_of_steps, result_of_trim, result_of_reshape, last_step, steps_of, steps_taken, most_steps, log_text, refusal_of_call, refusal_of_step, refusal_of_end, refusal_of_reshape, refusal_of_command};
 
 use crate::answer::{Answer, Refusal, push_answer};
 use crate::grammar::{Command, Header};
@@ -92,6 +92,55 @@ pub fn make<O: Spoken>(
     }
 }
 
+/// Makes a command, and tells why it was refused, where it was. `log` and `heads` do nothing here.
+///
+/// An `Err` says that memory was refused.
+pub fn refusal_of<O: Spoken>(
+    session: &mut Recorded<O>,
+    alloc: Global,
+    command: Command<O::Inv>,
+) -> Result<Option<Refusal>, AllocError>
+    ensures object { session.new.world.object ≡ session.old.world.object }
+    ensures session { OnOk result (session_of session.new ≡ session_after (record { object = O.sequential session.old.world.object; language = O.language }) (session_of session.old)
+        (result_of_command (record { object = O.sequential session.old.world.object; language = O.language }) (session_of session.old) command).events) }
+    ensures refusal { IfOk result (λ refusal. refusal ≡ refusal_of_command (session_of session.old) command) }
+{
+    match command {
+        Command::Call { process, inv } => {
+            let outcome = call(session, alloc, process, &inv)?;
+            Ok(refusal_in(outcome))
+        }
+        Command::Step { process, count } => {
+            let outcome = step(session, alloc, process, count)?;
+            Ok(refusal_in(outcome))
+        }
+        Command::Finish { process } => {
+            let outcome = finish(session, alloc, process)?;
+            Ok(refusal_in(outcome))
+        }
+        Command::Log => Ok(None),
+        Command::Heads => Ok(None),
+        Command::Trim => {
+            let outcome = trim(session, alloc)?;
+            Ok(refusal_in(outcome))
+        }
+        Command::Reshape { processes } => {
+            let outcome = reshape(session, alloc, processes)?;
+            Ok(refusal_in(outcome))
+        }
+    }
+}
+
+/// Why a command was refused, where this answers it.
+fn refusal_in(answer: Answer) -> Option<Refusal>
+    ensures { result ≡ refusal_in answer }
+{
+    match answer {
+        Answer::Refused(refusal) => Some(refusal),
+        _ => None,
+    }
+}
+
 /// Begins a call of a process; the answer names it, or says why it wasn't begun.
 ///
 /// An `Err` says that memory was refused.
@@ -104,6 +153,7 @@ fn call<O: Spoken>(
     ensures object { session.new.world.object ≡ session.old.world.object }
     ensures session { OnOk result (session_of session.new ≡ session_after (record { object = O.sequential session.old.world.object; language = O.language }) (session_of session.old) (result_of_call (session_of session.old) process inv.now).events) }
     ensures answer { IfOk result (λ answer. answer_text answer ≡ (result_of_call (session_of session.old) process inv.now).text) }
+    ensures refusal { IfOk result (λ answer. refusal_in answer ≡ refusal_of_call (session_of session.old) process) }
 {
     match session.begin(alloc, process, inv) {
         Ok(call) => Ok(Answer::Called(call)),
@@ -128,6 +178,7 @@ fn finish<O: Spoken>(
     ensures session { OnOk result (session_of session.new ≡ session_after (record { object = O.sequential session.old.world.object; language = O.language }) (session_of session.old)
         (result_of_steps (record { object = O.sequential session.old.world.object; language = O.language }) (world_of session.old.world) process (most_steps (world_of session.old.world).n)).events) }
     ensures answer { IfOk result (λ answer. answer_text answer ≡ (result_of_steps (record { object = O.sequential session.old.world.object; language = O.language }) (world_of session.old.world) process (most_steps (world_of session.old.world).n)).text) }
+    ensures refusal { IfOk result (λ answer. refusal_in answer ≡ refusal_of_step (world_of session.old.world) process) }
     ensures over { IfOk result IsOver }
 {
     session.world().shape();
@@ -149,6 +200,7 @@ fn step<O: Spoken>(
     ensures session { OnOk result (session_of session.new ≡ session_after (record { object = O.sequential session.old.world.object; language = O.language }) (session_of session.old)
         (result_of_steps (record { object = O.sequential session.old.world.object; language = O.language }) (world_of session.old.world) process most).events) }
     ensures answer { IfOk result (λ answer. answer_text answer ≡ (result_of_steps (record { object = O.sequential session.old.world.object; language = O.language }) (world_of session.old.world) process most).text) }
+    ensures refusal { IfOk result (λ answer. refusal_in answer ≡ refusal_of_step (world_of session.old.world) process) }
     ensures over { IfOk result (λ answer. most_steps (world_of session.old.world).n ≤ most → IsOver answer) }
 {
     if process >= session.world().processes() {
@@ -212,6 +264,7 @@ fn trim<O: Spoken>(session: &mut Recorded<O>, alloc: Global) -> Result<Answer, A
     ensures object { session.new.world.object ≡ session.old.world.object }
     ensures session { OnOk result (session_of session.new ≡ session_after (record { object = O.sequential session.old.world.object; language = O.language }) (session_of session.old) (result_of_trim (session_of session.old)).events) }
     ensures answer { IfOk result (λ answer. answer_text answer ≡ (result_of_trim (session_of session.old)).text) }
+    ensures refusal { IfOk result (λ answer. refusal_in answer ≡ refusal_of_end (session_of session.old) (world_of session.old.world).n) }
 {
     match session.trim(alloc) {
         Ok(number) => Ok(Answer::Trimmed(number)),
@@ -234,6 +287,7 @@ fn reshape<O: Spoken>(
     ensures object { session.new.world.object ≡ session.old.world.object }
     ensures session { OnOk result (session_of session.new ≡ session_after (record { object = O.sequential session.old.world.object; language = O.language }) (session_of session.old) (result_of_reshape (session_of session.old) processes).events) }
     ensures answer { IfOk result (λ answer. answer_text answer ≡ (result_of_reshape (session_of session.old) processes).text) }
+    ensures refusal { IfOk result (λ answer. refusal_in answer ≡ refusal_of_reshape (session_of session.old) processes) }
 {
     match session.reshape(alloc, processes) {
         Ok(number) => Ok(Answer::Reshaped {

@@ -14,14 +14,19 @@ mod lines;
 mod objects;
 mod replay;
 mod schedules;
+mod script_run;
 mod summary;
 #[cfg(test)]
 mod tests;
+mod told;
 
+pub use answer::Refusal;
 pub use ends::{Checked, Failed, TextIn, TextOut, write_all};
 pub use fault::{BenchFault, push_fault};
 pub use grammar::ObjectName;
 pub use laws::finish_returns;
 pub use replay::{Options, bench};
 pub use schedules::{Drawn, Plan, schedule};
+pub use script_run::{ScriptRecord, ScriptRun, run_of_script};
 pub use summary::Summary;
+pub use told::{Remark, Told};

@@ -12,6 +12,7 @@ pub trait Shared: Spoken {
     ghost use Rattle.uni_script.specs.Meaning.{Session, ScriptSession, outcome_of_words, outcome_of_command};
     ghost use Rattle.uni_script.specs.Summary.{summary_of, summary_of_session};
     ghost use Rattle.uni_script.specs.Promises.{IsPromised, IsPromisedSession};
+    ghost use Rattle.uni_script.specs.Told.{told_of_line, told_on};
     ghost use Rattle.uni_script.specs.declared.grammar.Version.{Version};
 
     /// The session of a script of which this is the session of the object.
@@ -28,6 +29,10 @@ pub trait Shared: Spoken {
     /// What is promised of the session of the object is promised of it.
     ghost promised: { (object : Self) (version : Version) (b : Session Self.State Self.Inv Self.Resp) →
         IsPromised (record { object = Self.sequential object; language = Self.language }) b → IsPromisedSession (session version b) };
+
+    /// A line tells on it what it tells on that of the object.
+    ghost told: { (object : Self) (version : Version) (b : Session Self.State Self.Inv Self.Resp) (line : List ℕ) →
+        told_of_line (Some (session version b)) line ≡ told_on (record { object = Self.sequential object; language = Self.language }) version b line };
 }
 
 impl Shared for QueueObject {
@@ -42,6 +47,8 @@ impl Shared for QueueObject {
     ghost summary = { λ object version lines b. refl };
 
     ghost promised = { λ object version b promised. promised };
+
+    ghost told = { λ object version b line. refl };
 }
 
 impl Shared for DirectoryObject {
@@ -56,6 +63,8 @@ impl Shared for DirectoryObject {
     ghost summary = { λ object version lines b. refl };
 
     ghost promised = { λ object version b promised. promised };
+
+    ghost told = { λ object version b line. refl };
 }
 
 impl Shared for BookObject {
@@ -70,6 +79,8 @@ impl Shared for BookObject {
     ghost summary = { λ object version lines b. refl };
 
     ghost promised = { λ object version b promised. promised };
+
+    ghost told = { λ object version b line. refl };
 }
 
 impl Shared for StickyObject {
@@ -84,4 +95,6 @@ impl Shared for StickyObject {
     ghost summary = { λ object version lines b. refl };
 
     ghost promised = { λ object version b promised. promised };
+
+    ghost told = { λ object version b line. refl };
 }

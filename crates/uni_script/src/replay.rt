@@ -1,10 +1,10 @@
 //! The replay of a script.
 
-ghost use Rattle.std.specs.Prelude.{ℕ, ◌≡◌, ◌≢◌, ◌↔◌, ◌⊎◌, [], true, false, None, Some, IfSome, IfNone, IfOk, IfErr, OnOk, IsErrOf};
+ghost use Rattle.std.specs.Prelude.{ℕ, ◌≡◌, ◌≢◌, ◌↔◌, ◌⊎◌, [], true, false, None, Some, is_none, IfSome, IfNone, IfOk, IfErr, OnOk, IsErrOf};
 ghost use Rattle.std.specs.Io.KnownBytes.{IsAtEnd};
 ghost use Rattle.ready_objects.specs.Words.{bytes_of};
 ghost use Rattle.uni_script.specs.Meaning.{session_of, opened_session, session_of_header, outcome_of_text, outcome_of_fault, outcome_of_command, outcome_of_short_line, outcome_of_end};
-ghost use Rattle.uni_script.specs.Grammar.{IsInRange};
+ghost use Rattle.uni_script.specs.Grammar.{IsInRange, is_note};
 ghost use Rattle.uni_script.specs.Lines.{IsHeld, EndsAs, WritesAs, RunsOn, IsFaultOfLine};
 ghost use Rattle.uni_script.specs.Summary.{summary_of};
 ghost use Rattle.uni_script.specs.Promises.{IsPromisedSession};
@@ -22,7 +22,7 @@ use crate::objects::Shared;
 use crate::summary::{Summary, summary_of};
 use ready_objects::{BookObject, DirectoryObject, QueueObject, StickyObject};
 use std::alloc::{AllocError, Global};
-use uni_record::{Recorded, Verdict, audit};
+use uni_record::{Recorded, Verdict};
 
 /// What a run of `bench` can be told.
 #[derive(Clone, Copy, Debug, PartialEq, Eq)]
@@ -102,9 +102,14 @@ fn run_script<I: TextIn, W: TextOut>(
 /// note.
 ///
 /// `Memory` where memory was refused; any other `Err` is the fault of the line.
-fn read_header(alloc: Global, number: u64, line: &[u8]) -> Result<Option<Header>, BenchFault>
+pub(crate) fn read_header(
+    alloc: Global,
+    number: u64,
+    line: &[u8],
+) -> Result<Option<Header>, BenchFault>
     ensures note { (limit : ℕ) → IfOk result (λ header. IfNone header (outcome_of_short_line limit number None line.now ≡ record { session = None; text = []; fault = None })) }
     ensures header { (limit : ℕ) → IfOk result (λ header. IfSome header (λ h. outcome_of_short_line limit number None line.now ≡ outcome_of_text (session_of_header limit h) [])) }
+    ensures kind { IfOk result (λ header. is_note line.now ≡ is_none header) }
     ensures range { IfOk result (λ header. IfSome header IsInRange) }
     ensures fault { (limit : ℕ) → IfErr result (λ e. (e ≡ BenchFault.Memory) ⊎ (outcome_of_short_line limit number None line.now ≡ outcome_of_fault None e)) }
     ensures own { IfErr result IsFaultOfLine }
@@ -241,21 +246,6 @@ fn run_commands<O: Shared, I: TextIn, W: TextOut>(
     }
 }
 
-/// What an audit of a record's entries, of all eras, and of its returns says: they agree.
-///
-/// An `Err` says that memory was refused.
-fn audit_of<O: Shared>(alloc: Global, session: &Recorded<O>) -> Result<Verdict, AllocError>
-    ensures { IfOk result (λ verdict. verdict ≡ Verdict.Agrees) }
-{
-    let entries = session.entries(alloc)?;
-    audit(
-        alloc,
-        session.world().object(),
-        entries.as_slice(),
-        session.returns(),
-    )
-}
-
 /// Writes the last line of a script that has so many lines and has left a record, where an audit of the
 /// record agrees; the answer is how much it has done.
 ///
@@ -279,7 +269,7 @@ fn answer_end<O: Shared, W: TextOut>(
         return Err(BenchFault::Memory);
     }
     session.promise();
-    match audit_of(alloc, session) {
+    match session.audit(alloc) {
         Ok(Verdict::Agrees) => {}
         Ok(verdict) => return Err(BenchFault::Audit(verdict)),
         Err(AllocError) => return Err(BenchFault::Memory),

@@ -1,10 +1,10 @@
-//! Tests of `bench` over memory, and of objects that processes share through a world.
+//! Tests of `bench` over memory, of a script's run, and of objects that processes share through a world.
 
 ghost use Rattle.uni_script.specs.Replay.{IsHistory};
 
 use crate::{
-    BenchFault, Checked, Drawn, Failed, ObjectName, Options, Plan, Summary, TextIn, TextOut, bench,
-    finish_returns, push_fault, schedule, write_all,
+    BenchFault, Checked, Drawn, Failed, ObjectName, Options, Plan, Remark, ScriptRecord, Summary,
+    TextIn, TextOut, Told, bench, finish_returns, push_fault, run_of_script, schedule, write_all,
 };
 use rand_xoshiro::Xoshiro256PlusPlus;
 use rand_xoshiro::rand_core::SeedableRng;
@@ -641,4 +641,51 @@ fn answers_come_before_the_next_line_is_read(rt: HostRuntime) {
     };
     assert_eq!(rt; ended, Ok(summary));
     assert_eq!(rt; written.get(), 66);
+}
+
+/// What a script tells, one remark a line: how many events come before it, and what it says.
+fn told_lines(alloc: Global, told: &[Told]) -> Result<Vec<u8>, Fail> {
+    let mut text = Vec::new(alloc);
+    for one in told {
+        match &one.remark {
+            Remark::Heading(heading) => {
+                write!(text, "{} heading ", one.before)?;
+                text.extend_from_slice(heading)?;
+            }
+            Remark::Note(note) => {
+                write!(text, "{} note ", one.before)?;
+                text.extend_from_slice(note)?;
+            }
+            Remark::Refused(refusal) => write!(text, "{} {refusal}", one.before)?,
+        }
+        text.push(b'\n')?;
+    }
+    Ok(text)
+}
+
+#[test]
+fn run_with_its_record(rt: HostRuntime) -> Result<(), Fail> {
+    let script =
+        "# A queue.\n#\nuniversal 1 queue 2 8\n# Two calls.\ncall 0 enq 7\ncall 0 deq\nfinish 0\nstep 1\nlog\ncall 2 deq\n";
+    let Ok(run) = run_of_script(rt.alloc(), &mut Checked::new(script.as_bytes()), &OPTIONS) else {
+        return Err(Fail::from("it should have no fault"));
+    };
+    let ScriptRecord::Queue(recorded) = &run.record else {
+        return Err(Fail::from("it should be the record of a queue"));
+    };
+    // The call and its 16 steps.
+    assert_eq!(rt; recorded.events().len(), 17);
+    let want =
+        "0 heading A queue.\n0 heading \n0 note Two calls.\n1 refused busy 0\n17 refused idle 1\n17 refused process 2\n";
+    let text = told_lines(rt.alloc(), run.told.as_slice())?;
+    assert_eq!(rt; text.as_slice(), want.as_bytes());
+    Ok(())
+}
+
+#[test]
+fn runs_with_a_fault(rt: HostRuntime) {
+    for &(script, _, outcome) in SCRIPTS {
+        let run = run_of_script(rt.alloc(), &mut Checked::new(script.as_bytes()), &OPTIONS);
+        assert_eq!(rt; run.map(|_| ()), outcome, "{script}");
+    }
 }

@@ -49,3 +49,26 @@ returns-in-Err-HistoryFull-clause-session g c =
     let b = session_of c.args.session.now in
     let why = subst (IsBeginRefused (standing_of c.args.session.now) c.args.process) c.in-Err-HistoryFull.field-0-is c.in-Err-HistoryFull.ensures.refused in
     session_after-refused o b _ _ History (ap session_of c.in-Err-HistoryFull.ensures.unchanged) (result_of_call-refused b c.args.process c.args.inv.now _ (refusal_of_call-HistoryFull c.args.session.now c.args.process why))
+
+pub returns-in-Ok-clause-refusal : goal.returns-in-Ok-clause-refusal
+returns-in-Ok-clause-refusal g c = sym (refusal_of_call-none c.args.session.now c.args.process c.in-Ok.ensures.could)
+
+pub returns-in-Err-BadProcess-clause-refusal : goal.returns-in-Err-BadProcess-clause-refusal
+returns-in-Err-BadProcess-clause-refusal g c =
+    let why = subst (IsBeginRefused (standing_of c.args.session.now) c.args.process) c.in-Err-BadProcess.field-0-is c.in-Err-BadProcess.ensures.refused in
+    sym (refusal_of_call-BadProcess c.args.session.now c.args.process why)
+
+pub returns-in-Err-Busy-clause-refusal : goal.returns-in-Err-Busy-clause-refusal
+returns-in-Err-Busy-clause-refusal g c =
+    let why = subst (IsBeginRefused (standing_of c.args.session.now) c.args.process) c.in-Err-Busy.field-0-is c.in-Err-Busy.ensures.refused in
+    sym (refusal_of_call-Busy c.args.session.now c.args.process c.in-Err-Busy.process why)
+
+pub returns-in-Err-RowFull-clause-refusal : goal.returns-in-Err-RowFull-clause-refusal
+returns-in-Err-RowFull-clause-refusal g c =
+    let why = subst (IsBeginRefused (standing_of c.args.session.now) c.args.process) c.in-Err-RowFull.field-0-is c.in-Err-RowFull.ensures.refused in
+    sym (refusal_of_call-RowFull c.args.session.now c.args.process c.in-Err-RowFull.process why)
+
+pub returns-in-Err-HistoryFull-clause-refusal : goal.returns-in-Err-HistoryFull-clause-refusal
+returns-in-Err-HistoryFull-clause-refusal g c =
+    let why = subst (IsBeginRefused (standing_of c.args.session.now) c.args.process) c.in-Err-HistoryFull.field-0-is c.in-Err-HistoryFull.ensures.refused in
+    sym (refusal_of_call-HistoryFull c.args.session.now c.args.process why)

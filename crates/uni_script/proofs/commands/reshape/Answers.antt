@@ -73,3 +73,28 @@ returns-in-Err-HistoryFull-clause-answer g c =
     let why = subst (IsReshapeRefused (standing_of c.args.session.now) c.args.processes) c.in-Err-HistoryFull.field-0-is c.in-Err-HistoryFull.ensures.refused in
     ap (λ (m : CommandResult _). m.text)
     (sym (result_of_reshape-refused (session_of c.args.session.now) c.args.processes _ (refusal_of_reshape-count c.args.session.now c.args.processes why.0 ∙ refusal_of_end-HistoryFull c.args.session.now c.args.processes why.1)))
+
+pub returns-in-Ok-clause-refusal : goal.returns-in-Ok-clause-refusal
+returns-in-Ok-clause-refusal g c =
+    let could = c.in-Ok.ensures.could in
+    sym (refusal_of_reshape-count c.args.session.now c.args.processes could.0 ∙ refusal_of_end-none c.args.session.now c.args.processes could.1)
+
+pub returns-in-Err-BadCount-clause-refusal : goal.returns-in-Err-BadCount-clause-refusal
+returns-in-Err-BadCount-clause-refusal g c =
+    let why = subst (IsReshapeRefused (standing_of c.args.session.now) c.args.processes) c.in-Err-BadCount.field-0-is c.in-Err-BadCount.ensures.refused in
+    sym (refusal_of_reshape-BadCount c.args.session.now c.args.processes why)
+
+pub returns-in-Err-Pending-clause-refusal : goal.returns-in-Err-Pending-clause-refusal
+returns-in-Err-Pending-clause-refusal g c =
+    let why = subst (IsReshapeRefused (standing_of c.args.session.now) c.args.processes) c.in-Err-Pending.field-0-is c.in-Err-Pending.ensures.refused in
+    sym (refusal_of_reshape-count c.args.session.now c.args.processes why.0 ∙ refusal_of_end-Pending c.args.session.now c.args.processes c.in-Err-Pending.process why.1)
+
+pub returns-in-Err-SeqFull-clause-refusal : goal.returns-in-Err-SeqFull-clause-refusal
+returns-in-Err-SeqFull-clause-refusal g c =
+    let why = subst (IsReshapeRefused (standing_of c.args.session.now) c.args.processes) c.in-Err-SeqFull.field-0-is c.in-Err-SeqFull.ensures.refused in
+    sym (refusal_of_reshape-count c.args.session.now c.args.processes why.0 ∙ refusal_of_end-SeqFull c.args.session.now c.args.processes why.1)
+
+pub returns-in-Err-HistoryFull-clause-refusal : goal.returns-in-Err-HistoryFull-clause-refusal
+returns-in-Err-HistoryFull-clause-refusal g c =
+    let why = subst (IsReshapeRefused (standing_of c.args.session.now) c.args.processes) c.in-Err-HistoryFull.field-0-is c.in-Err-HistoryFull.ensures.refused in
+    sym (refusal_of_reshape-count c.args.session.now c.args.processes why.0 ∙ refusal_of_end-HistoryFull c.args.session.now c.args.processes why.1)

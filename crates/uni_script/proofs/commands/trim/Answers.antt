@@ -64,3 +64,24 @@ returns-in-Err-HistoryFull-clause-answer g c =
     let n = (world_of c.args.session.now.world).n in
     let why = subst (IsEndRefused (standing_of c.args.session.now) n) c.in-Err-HistoryFull.field-0-is c.in-Err-HistoryFull.ensures.refused in
     ap (λ (m : CommandResult _). m.text) (sym (result_of_trim-refused (session_of c.args.session.now) _ (refusal_of_end-HistoryFull c.args.session.now n why)))
+
+pub returns-in-Ok-clause-refusal : goal.returns-in-Ok-clause-refusal
+returns-in-Ok-clause-refusal g c = sym (refusal_of_end-none c.args.session.now (world_of c.args.session.now.world).n c.in-Ok.ensures.could)
+
+pub returns-in-Err-Pending-clause-refusal : goal.returns-in-Err-Pending-clause-refusal
+returns-in-Err-Pending-clause-refusal g c =
+    let n = (world_of c.args.session.now.world).n in
+    let why = subst (IsEndRefused (standing_of c.args.session.now) n) c.in-Err-Pending.field-0-is c.in-Err-Pending.ensures.refused in
+    sym (refusal_of_end-Pending c.args.session.now n c.in-Err-Pending.process why)
+
+pub returns-in-Err-SeqFull-clause-refusal : goal.returns-in-Err-SeqFull-clause-refusal
+returns-in-Err-SeqFull-clause-refusal g c =
+    let n = (world_of c.args.session.now.world).n in
+    let why = subst (IsEndRefused (standing_of c.args.session.now) n) c.in-Err-SeqFull.field-0-is c.in-Err-SeqFull.ensures.refused in
+    sym (refusal_of_end-SeqFull c.args.session.now n why)
+
+pub returns-in-Err-HistoryFull-clause-refusal : goal.returns-in-Err-HistoryFull-clause-refusal
+returns-in-Err-HistoryFull-clause-refusal g c =
+    let n = (world_of c.args.session.now.world).n in
+    let why = subst (IsEndRefused (standing_of c.args.session.now) n) c.in-Err-HistoryFull.field-0-is c.in-Err-HistoryFull.ensures.refused in
+    sym (refusal_of_end-HistoryFull c.args.session.now n why)
