@@ -1,0 +1,10 @@
+pub mod Lists
+pub mod Walked
+pub mod Ends
+pub mod Dots
+pub mod Replayed
+pub mod Whole
+pub mod Logged
+pub mod Opened
+pub mod Inside
+pub mod Replies

@@ -1,0 +1,305 @@
+//! The marks of a run, by the replay of its events.
+
+ghost use Rattle.std.specs.Prelude.{◌≡◌, ℕ, ◌<◌, ◌++◌, ◌∷◌, [], ◌^◌, IfOk, OnOk, drop, map};
+ghost use Rattle.uni_model.specs.Worlds.{opened_world, world_after};
+ghost use Rattle.uni_model.specs.Worlds.Event.{Call, Step};
+ghost use Rattle.uni_model.specs.History.{calls_of};
+ghost use Rattle.uni_core.specs.World.{world_of};
+ghost use Rattle.uni_log.specs.Entry.{entry_shown};
+ghost use Rattle.uni_record.specs.Event.{event_shown, events_shown};
+ghost use Rattle.run_marks.specs.Marks.{marks_of_run, bar_begun, box_of, dots_of, era_of};
+ghost use Rattle.run_marks.specs.Shown.{bar_shown, cell_shown, era_shown, marks_shown};
+ghost use Rattle.run_marks.specs.Replay.{marks_with, from_with, bar_ended};
+
+use crate::marks::{Bar, BarEnd, CellBox, Dot, Era, EraEnd, EraLine, Marks, StepMark};
+use cell_arena::CellId;
+use ready_objects::Spoken;
+use std::alloc::{AllocError, Global};
+use uni_core::{Progress, World};
+use uni_log::{Entry, Log};
+use uni_record::{Event, Recorded};
+use uni_script::ObjectName;
+use uni_trim::{reshape, trim};
+
+/// The marks of the run that a record has stored, on an object of this name; `object` is a further
+/// value of that object. They are found by a replay of the events.
+///
+/// An `Err` says that memory was refused. It would come too where the replay refused an event, as it
+/// never does with the object of the record; that isn't proved.
+pub fn marks_of<O: Spoken>(
+    alloc: Global,
+    name: ObjectName,
+    object: O,
+    run: &Recorded<O>,
+) -> Result<Marks, AllocError>
+    ensures marks { IfOk result (λ marks. marks_shown marks ≡ marks_of_run (record { object = O.sequential object; language = O.language }) name
+        (opened_world run.now.processes (O.sequential object).initial run.now.first) (events_shown run.now.events)) }
+{
+    run.promise();
+    let mut replay = reopened(alloc, object, run)?;
+    let mut marks = Marks {
+        object: name,
+        events: run.events().len() as u64,
+        steps: Vec::new(alloc),
+        bars: Vec::new(alloc),
+        dots: Vec::new(alloc),
+        lines: Vec::new(alloc),
+        eras: Vec::new(alloc),
+    };
+    let mut from = 0;
+    let mut place = 0;
+    for event in run.events() {
+        from = replay_event(alloc, event, from, place, &mut replay, &mut marks)?;
+        place += 1;
+    }
+    push_era(alloc, &replay, from, &mut marks.eras)?;
+    Ok(marks)
+}
+
+/// The world in which a record opened, over this object.
+///
+/// An `Err` says that it couldn't be opened.
+fn reopened<O: Spoken>(alloc: Global, object: O, run: &Recorded<O>) -> Result<World<O>, AllocError>
+    ensures object { IfOk result (λ replay. replay.object ≡ object) }
+    ensures world { IfOk result (λ replay. world_of replay ≡ opened_world run.now.processes (O.sequential object).initial run.now.first) }
+{
+    run.promise();
+    let row = run.world().row();
+    match World::open_from(alloc, object, run.processes(), row, run.first()) {
+        Ok(replay) => Ok(replay),
+        Err(_) => Err(AllocError),
+    }
+}
+
+/// Takes an event in a replay, and adds its marks; the answer is how many events came before the
+/// present era.
+///
+/// An `Err` says that memory was refused, or the event.
+fn replay_event<O: Spoken>(
+    alloc: Global,
+    event: &Event<O::Inv>,
+    from: u64,
+    place: u64,
+    replay: &mut World<O>,
+    marks: &mut Marks,
+) -> Result<u64, AllocError>
+    requires { place < 2 ^ 63 }
+    ensures object { replay.new.object ≡ replay.old.object }
+    ensures from { IfOk result (λ next. next ≡ from_with from place (event_shown event.now)) }
+    ensures world { OnOk result (world_of replay.new ≡ world_after (O.sequential replay.old.object) (world_of replay.old) (event_shown event.now)) }
+    ensures marks { OnOk result (marks_shown marks.new ≡ marks_with (record { object = O.sequential replay.old.object; language = O.language }) (marks_shown marks.old) (world_of replay.old) from place (event_shown event.now)) }
+{
+    match event {
+        Event::Call(process, inv) => {
+            replay_call(alloc, *process, inv, place, replay, &mut marks.bars)?;
+            Ok(from)
+        }
+        Event::Step(process) => {
+            replay_step(alloc, *process, place, replay, marks)?;
+            Ok(from)
+        }
+        Event::Trim => {
+            push_era(alloc, replay, from, &mut marks.eras)?;
+            let number = trim(replay).map_err(|_| AllocError)?;
+            let end = EraEnd::Trim;
+            let event = place;
+            marks.lines.push(EraLine { event, end, number })?;
+            Ok(place + 1)
+        }
+        Event::Reshape(processes) => {
+            push_era(alloc, replay, from, &mut marks.eras)?;
+            let number = reshape(alloc, replay, *processes).map_err(|_| AllocError)?;
+            let end = EraEnd::Reshape(*processes);
+            let event = place;
+            marks.lines.push(EraLine { event, end, number })?;
+            Ok(place + 1)
+        }
+    }
+}
+
+/// A process begins a call in a replay: its bar begins.
+///
+/// An `Err` says that memory was refused, or the call.
+fn replay_call<O: Spoken>(
+    alloc: Global,
+    process: u64,
+    inv: &O::Inv,
+    place: u64,
+    replay: &mut World<O>,
+    bars: &mut Vec<Bar>,
+) -> Result<(), AllocError>
+    ensures object { replay.new.object ≡ replay.old.object }
+    ensures world { OnOk result (world_of replay.new ≡ world_after (O.sequential replay.old.object) (world_of replay.old) (Call process inv.now)) }
+    ensures bars { OnOk result (map bar_shown bars.new.items ≡ map bar_shown bars.old.items ++ bar_begun (record { object = O.sequential replay.old.object; language = O.language }) (world_of replay.old) place process inv.now ∷ []) }
+{
+    let words = O::inv_text(alloc, inv)?;
+    let Ok(call) = replay.begin(alloc, process, inv) else {
+        return Err(AllocError);
+    };
+    let from = place;
+    let end = None;
+    bars.push(Bar {
+        call,
+        from,
+        words,
+        end,
+    })?;
+    Ok(())
+}
+
+/// A process takes a step in a replay: it is marked, with a dot where a cell was linked, and the bar
+/// of its call ends where the call returns.
+///
+/// An `Err` says that memory was refused, or the step.
+fn replay_step<O: Spoken>(
+    alloc: Global,
+    process: u64,
+    place: u64,
+    replay: &mut World<O>,
+    marks: &mut Marks,
+) -> Result<(), AllocError>
+    ensures object { replay.new.object ≡ replay.old.object }
+    ensures world { OnOk result (world_of replay.new ≡ world_after (O.sequential replay.old.object) (world_of replay.old) (Step process)) }
+    ensures marks { OnOk result ((from : ℕ) → marks_shown marks.new ≡ marks_with (record { object = O.sequential replay.old.object; language = O.language }) (marks_shown marks.old) (world_of replay.old) from place (Step process)) }
+{
+    if process >= replay.processes() {
+        return Err(AllocError);
+    }
+    let Some(kind) = replay.next_kind(process) else {
+        return Err(AllocError);
+    };
+    let before = Log::of(replay).entries(alloc)?.len();
+    let Ok(progress) = replay.step(alloc, process) else {
+        return Err(AllocError);
+    };
+    let event = place;
+    marks.steps.push(StepMark {
+        event,
+        process,
+        kind,
+    })?;
+    push_dots(alloc, replay, before, place, process, &mut marks.dots)?;
+    if let Progress::Done(reply) = progress {
+        let steps = replay.steps(process);
+        let turns = replay.turns(process);
+        end_bars::<O>(alloc, process, place, reply, steps, turns, &mut marks.bars)?;
+    }
+    Ok(())
+}
+
+/// Adds the dots of a step of a process, before which the list had so many cells.
+///
+/// An `Err` says that memory was refused.
+fn push_dots<O: Spoken>(
+    alloc: Global,
+    world: &World<O>,
+    before: usize,
+    place: u64,
+    process: u64,
+    dots: &mut Vec<Dot>,
+) -> Result<(), AllocError>
+    ensures { OnOk result (dots.new.items ≡ dots.old.items ++ dots_of place process (drop before (calls_of (world_of world.now)))) }
+{
+    let entries = Log::of(world).entries(alloc)?;
+    for at in before..entries.len() {
+        dots.push(Dot {
+            event: place,
+            call: entries[at].call,
+            by: process,
+        })?;
+    }
+    Ok(())
+}
+
+/// Ends the bars of a process that haven't ended, by a step that has this response.
+///
+/// An `Err` says that memory was refused.
+fn end_bars<O: Spoken>(
+    alloc: Global,
+    process: u64,
+    place: u64,
+    response: O::Resp,
+    steps: u64,
+    turns: u64,
+    bars: &mut Vec<Bar>,
+) -> Result<(), AllocError>
+    ensures { OnOk result (map bar_shown bars.new.items ≡ map (bar_ended process (record { event = place; reply = O.language.resp_text response; steps = steps; turns = turns })) (map bar_shown bars.old.items)) }
+{
+    for bar in bars.iter_mut() {
+        end_bar::<O>(alloc, process, place, response, steps, turns, bar)?;
+    }
+    Ok(())
+}
+
+/// Ends a bar, if it is one of the process and hasn't ended, by a step that has this response.
+///
+/// An `Err` says that memory was refused.
+fn end_bar<O: Spoken>(
+    alloc: Global,
+    process: u64,
+    place: u64,
+    response: O::Resp,
+    steps: u64,
+    turns: u64,
+    bar: &mut Bar,
+) -> Result<(), AllocError>
+    ensures { OnOk result (bar_shown bar.new ≡ bar_ended process (record { event = place; reply = O.language.resp_text response; steps = steps; turns = turns }) (bar_shown bar.old)) }
+{
+    if bar.end.is_none() && process == u64::from(bar.call.process) {
+        let reply = O::resp_text(alloc, response)?;
+        bar.end = Some(BarEnd {
+            event: place,
+            reply,
+            steps,
+            turns,
+        });
+    }
+    Ok(())
+}
+
+/// Adds the era of a world, which began after so many events, with its cells.
+///
+/// An `Err` says that memory was refused.
+fn push_era<O: Spoken>(
+    alloc: Global,
+    world: &World<O>,
+    from: u64,
+    eras: &mut Vec<Era>,
+) -> Result<(), AllocError>
+    ensures { OnOk result (map era_shown eras.new.items ≡ map era_shown eras.old.items ++ era_of (record { object = O.sequential world.now.object; language = O.language }) (world_of world.now) from ∷ []) }
+{
+    world.shape();
+    let anchor = world.seq(CellId::anchor());
+    let entries = Log::of(world).entries(alloc)?;
+    let mut cells = Vec::new(alloc);
+    for entry in &entries {
+        cells.push(cell_of::<O>(alloc, entry)?)?;
+    }
+    let processes = world.processes();
+    eras.push(Era {
+        from,
+        processes,
+        anchor,
+        cells,
+    })?;
+    Ok(())
+}
+
+/// The box of an entry of the log.
+///
+/// An `Err` says that memory was refused.
+fn cell_of<O: Spoken>(alloc: Global, entry: &Entry<O::Inv, O::Resp>) -> Result<CellBox, AllocError>
+    ensures { IfOk result (λ cell. cell_shown cell ≡ box_of O.language (entry_shown entry.now)) }
+{
+    let words = O::inv_text(alloc, &entry.inv)?;
+    let reply = match entry.reply {
+        Some(response) => Some(O::resp_text(alloc, response)?),
+        None => None,
+    };
+    Ok(CellBox {
+        number: entry.seq,
+        call: entry.call,
+        words,
+        reply,
+    })
+}

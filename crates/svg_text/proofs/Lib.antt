@@ -1,0 +1,4 @@
+pub mod Escapes
+pub mod Outcomes
+pub mod Pieces
+pub mod Trees

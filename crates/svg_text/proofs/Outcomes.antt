@@ -1,0 +1,8 @@
+-- What a call promises, where its result is handed on.
+use Rattle.std.specs.Prelude.{◌≡◌, Result, Ok, Err, is_ok, OnOk}
+
+-- the same of a result that is `Ok` in the same cases
+pub same_outcome : {T E U F : Type 0} (P : Type 0) (r : Result T E) (s : Result U F) → is_ok r ≡ is_ok s → OnOk s P → OnOk r P
+same_outcome P (Ok x) (Ok y) same holds = holds
+same_outcome P (Ok x) (Err y) same holds = cc
+same_outcome P (Err x) s same holds = tt

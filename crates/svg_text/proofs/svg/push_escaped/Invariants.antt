@@ -1,0 +1,8 @@
+use Rattle.std.proofs.Common.{◌≡◌, ◌++◌, take}
+use Rattle.std.specs.List.{flat_map}
+use Rattle.svg_text.specs.Svg.{escaped_byte}
+use Rattle.svg_text.proofs.svg.push_escaped.Given as goal
+
+-- the bytes so far are written
+abbrev pub invariant-loop-byte : goal.invariant-loop-byte
+invariant-loop-byte l = l.svg.items ≡ l.initial.svg.items ++ flat_map escaped_byte (take l.byte-index l.text)

@@ -1,0 +1,34 @@
+-- Shapes and pictures as plain data: without where their texts lie in memory.
+use Rattle.std.specs.Prelude.{ℕ, List, map}
+use Rattle.svg_text.specs.declared.paint.Paint.{Paint}
+use Rattle.svg_text.specs.declared.shape.Anchor.{Anchor}
+use Rattle.svg_text.specs.declared.shape.Shape.{Shape}
+use Rattle.svg_text.specs.declared.shape.Shape.TheVariants as shape
+use Rattle.svg_text.specs.declared.shape.Drawing.{Drawing}
+
+-- a shape
+pub data Figure : Type 0 where
+  Rect : (x y width height : ℕ) → Paint → Figure
+  Line : (x1 y1 x2 y2 : ℕ) → Paint → Figure
+  Dot : (x y : ℕ) → Figure
+  Tip : (x y x1 y1 x2 y2 : ℕ) → Figure
+  Text : (x y : ℕ) → Anchor → Paint → List ℕ → Figure
+
+-- a picture: its size, its title, its description, and its shapes, from the lowest on
+pub record Picture : Type 0 where
+  pub width : ℕ
+  pub height : ℕ
+  pub title : List ℕ
+  pub description : List ℕ
+  pub figures : List Figure
+
+-- what the code's shapes and drawings are
+abbrev pub figure : Shape → Figure
+figure (shape.Rect x y width height paint) = Rect x y width height paint
+figure (shape.Line x1 y1 x2 y2 paint) = Line x1 y1 x2 y2 paint
+figure (shape.Dot x y) = Dot x y
+figure (shape.Tip x y x1 y1 x2 y2) = Tip x y x1 y1 x2 y2
+figure (shape.Text x y anchor paint text) = Text x y anchor paint text.items
+
+abbrev pub picture : Drawing → Picture
+picture d = record { width = d.width; height = d.height; title = d.title.items; description = d.description.items; figures = map figure d.shapes.items }

@@ -1,0 +1,17 @@
+//! Shapes with places in whole numbers, and their text: an SVG.
+//!
+//! What the text of shapes is stands in `specs/Svg.antt`: `svg_text`; that it is well-formed XML
+//! is a law, over the trees of `specs/Xml.antt`.
+#![tactic(auto)]
+
+mod laws;
+mod paint;
+mod shape;
+mod svg;
+#[cfg(test)]
+mod tests;
+
+pub use laws::{escaped_has_no_markup, text_is_of_a_tree};
+pub use paint::{Colour, Paint};
+pub use shape::{Anchor, Drawing, Shape};
+pub use svg::svg_of;

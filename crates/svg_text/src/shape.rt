@@ -1,0 +1,95 @@
+//! Shapes, with places in whole numbers.
+
+use crate::paint::Paint;
+
+/// Which part of a text stands at its place.
+#[derive(Clone, Copy, Debug, PartialEq, Eq)]
+pub enum Anchor {
+    /// Its start.
+    Start,
+    /// Its middle.
+    Middle,
+    /// Its end.
+    End,
+}
+
+/// A shape.
+#[derive(Debug, Drop, PartialEq, Eq)]
+pub enum Shape {
+    /// A rectangle.
+    Rect {
+        /// Its left.
+        x: u64,
+        /// Its top.
+        y: u64,
+        /// Its width.
+        width: u64,
+        /// Its height.
+        height: u64,
+        /// How it is painted.
+        paint: Paint,
+    },
+    /// A line from one point to another.
+    Line {
+        /// The first point's place from the left.
+        x1: u64,
+        /// The first point's place from the top.
+        y1: u64,
+        /// The second point's place from the left.
+        x2: u64,
+        /// The second point's place from the top.
+        y2: u64,
+        /// How it is painted.
+        paint: Paint,
+    },
+    /// A dot.
+    Dot {
+        /// Its middle from the left.
+        x: u64,
+        /// Its middle from the top.
+        y: u64,
+    },
+    /// The tip of an arrow: a triangle.
+    Tip {
+        /// The tip from the left.
+        x: u64,
+        /// The tip from the top.
+        y: u64,
+        /// The first corner behind it from the left.
+        x1: u64,
+        /// The first corner from the top.
+        y1: u64,
+        /// The second corner from the left.
+        x2: u64,
+        /// The second corner from the top.
+        y2: u64,
+    },
+    /// A text.
+    Text {
+        /// Its place from the left.
+        x: u64,
+        /// Its base line from the top.
+        y: u64,
+        /// Which part of it stands there.
+        anchor: Anchor,
+        /// How it is painted.
+        paint: Paint,
+        /// The text, not escaped.
+        text: Vec<u8>,
+    },
+}
+
+/// A picture.
+#[derive(Debug, Drop, PartialEq, Eq)]
+pub struct Drawing {
+    /// How wide it is.
+    pub width: u64,
+    /// How high it is.
+    pub height: u64,
+    /// Its title.
+    pub title: Vec<u8>,
+    /// Its description.
+    pub description: Vec<u8>,
+    /// Its shapes, from the lowest on.
+    pub shapes: Vec<Shape>,
+}

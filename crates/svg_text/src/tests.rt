@@ -1,0 +1,49 @@
+//! A test of a whole text, with labels that are escaped.
+
+use crate::{Anchor, Drawing, Paint, Shape, svg_of};
+use std::alloc::{AllocError, Global};
+use std::process::Abort;
+
+/// The text of a picture with one label.
+const LABEL: &str =
+    "<svg xmlns=\"http://www.w3.org/2000/svg\" viewBox=\"0 0 30 20\" width=\"30\" height=\"20\" role=\"img\" aria-labelledby=\"title description\" font-family=\"monospace\" font-size=\"13\">
+<title id=\"title\">a &amp; b</title>
+<desc id=\"description\">it&apos;s</desc>
+<rect width=\"30\" height=\"20\" fill=\"#ffffff\"/>
+<text x=\"3\" y=\"9\" text-anchor=\"middle\" fill=\"#000000\">&lt;c &quot;d&quot;&gt;</text>
+</svg>
+";
+
+/// A picture with one label, whose texts have each of the five bytes that are escaped.
+fn labelled(alloc: Global) -> Result<Vec<u8>, AllocError> {
+    let mut title = Vec::new(alloc);
+    title.extend_from_slice(b"a & b")?;
+    let mut description = Vec::new(alloc);
+    description.extend_from_slice(b"it's")?;
+    let mut text = Vec::new(alloc);
+    text.extend_from_slice(b"<c \"d\">")?;
+    let mut shapes = Vec::new(alloc);
+    shapes.push(Shape::Text {
+        x: 3,
+        y: 9,
+        anchor: Anchor::Middle,
+        paint: Paint::Ink,
+        text,
+    })?;
+    let drawing = Drawing {
+        width: 30,
+        height: 20,
+        title,
+        description,
+        shapes,
+    };
+    svg_of(alloc, &drawing)
+}
+
+#[test]
+fn labels_are_escaped(rt: HostRuntime) {
+    match labelled(rt.alloc()) {
+        Ok(svg) => assert_eq!(rt; svg.as_slice(), LABEL.as_bytes()),
+        Err(_) => assert!(rt; false),
+    }
+}
