@@ -1,0 +1,5 @@
+pub mod Breaking
+pub mod Pushing
+pub mod Finding
+pub mod Columns
+pub mod Scripts

@@ -1,0 +1,72 @@
+-- What a picture shows of a script, by the record of its run.
+use Rattle.std.proofs.Common.{◌≡◌, ◌∙◌, ◌<◌, ◌≤◌, ℕ, List, length, map, Option, Result, Ok, Err, OnOk, IfOk, refl, sym, ap, subst}
+use Rattle.uni_script.specs.declared.grammar.Version.{Version}
+use Rattle.uni_script.specs.declared.script_run.ScriptRun.{ScriptRun}
+use Rattle.uni_script.specs.declared.script_run.ScriptRecord.{ScriptRecord}
+use Rattle.uni_script.specs.declared.script_run.ScriptRecord.TheVariants.{Queue, Directory, Book, Sticky}
+use Rattle.uni_script.specs.ScriptRun.{session_of_record, IsScriptRun}
+use Rattle.uni_script.specs.Meaning.{ScriptSession}
+use Rattle.uni_script.specs.Told.{told_shown}
+use Rattle.run_marks.specs.Shown.{marks_shown}
+use Rattle.run_layout.specs.declared.subject.Subject.{Subject}
+use Rattle.run_layout.specs.Subject.{marks_of_events, marks_of_record, events_of_record, marks_of_session, IsSubject, HasTooManyEvents}
+
+marks_of_session-record : (version : Version) (r : ScriptRecord) → marks_of_session (session_of_record version r) ≡ marks_of_record r
+marks_of_session-record version (Queue r) = refl
+marks_of_session-record version (Directory r) = refl
+marks_of_session-record version (Book r) = refl
+marks_of_session-record version (Sticky r) = refl
+
+events-record : (version : Version) (r : ScriptRecord) → length (session_of_record version r).session.events ≡ events_of_record r
+events-record version (Queue r) = refl
+events-record version (Directory r) = refl
+events-record version (Book r) = refl
+events-record version (Sticky r) = refl
+
+-- the marks of a record tell how many events it has
+events-marks : (r : ScriptRecord) → (marks_of_record r).events ≡ events_of_record r
+unfolding marks_of_events
+events-marks (Queue r) = refl
+events-marks (Directory r) = refl
+events-marks (Book r) = refl
+events-marks (Sticky r) = refl
+
+-- the session of a run has the events of its record
+events-run : (b : ScriptSession) (version : Version) (r : ScriptRecord) → b ≡ session_of_record version r → length b.session.events ≡ events_of_record r
+events-run b version r is = ap (λ (s : ScriptSession). length s.session.events) is ∙ events-record version r
+
+pub IsSubject-run : (left : Option (List ℕ)) (run : ScriptRun) → IsScriptRun 1048576 left run → (subject : Subject) → events_of_record run.record ≤ 2000
+    → marks_shown subject.marks ≡ marks_of_record run.record → subject.told.items ≡ run.told.items → IsSubject left (marks_shown subject.marks) subject.told.items
+IsSubject-run left run is subject few marks told =
+    let b = is.3.0 in
+    let of = is.3.2 in record {
+      script = is.0;
+      input = is.1;
+      good = is.2;
+      session = b;
+      session_is = is.3.1;
+      few = subst (λ n. n ≤ 2000) (sym (events-run b of.version run.record of.session)) few;
+      marks_are = marks ∙ sym (marks_of_session-record of.version run.record) ∙ ap marks_of_session (sym of.session);
+      told_is = of.told_is ∙ ap (map told_shown) (sym told);
+    }
+
+-- a subject has as many events as its record
+pub few-run : (r : ScriptRecord) (subject : Subject) → marks_shown subject.marks ≡ marks_of_record r → events_of_record r ≤ 2000 → subject.marks.events ≤ 2000
+few-run r subject marks few = subst (λ n. n ≤ 2000) (sym (ap (λ m. m.events) marks ∙ events-marks r)) few
+
+pub HasTooManyEvents-run : (left : Option (List ℕ)) (run : ScriptRun) → IsScriptRun 1048576 left run → 2000 < events_of_record run.record → HasTooManyEvents left
+HasTooManyEvents-run left run is many =
+    let b = is.3.0 in
+    let of = is.3.2 in record {
+      script = is.0;
+      input = is.1;
+      good = is.2;
+      session = b;
+      session_is = is.3.1;
+      many = subst (λ n. 2000 < n) (sym (events-run b of.version run.record of.session)) many;
+    }
+
+-- three facts of an answer that is Ok
+pub IfOk-three : {A E : Type 0} (r : Result A E) (P : Type 0) (Q R S : A → Type 0) → OnOk r P → IfOk r Q → IfOk r R → ((a : A) → P → Q a → R a → S a) → IfOk r S
+IfOk-three (Ok a) P Q R S p q r f = f a p q r
+IfOk-three (Err e) P Q R S p q r f = tt

@@ -1,0 +1,4 @@
+pub mod Wording
+pub mod Wrapping
+pub mod Axis
+pub mod Subject

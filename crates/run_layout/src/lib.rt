@@ -1,0 +1,18 @@
+//! What pictures of a run have in common, whatever they are drawn with: the run of a script (`subject_of`),
+//! the words of its marks, the lines of a text, and the place of each event from left to right.
+#![tactic(auto)]
+
+mod axis;
+mod subject;
+#[cfg(test)]
+mod tests;
+mod wording;
+mod wrapping;
+
+pub use axis::{Axis, Column, MOST_EVENTS, MOST_TOLD, Scale, axis_of, letters};
+pub use subject::{PictureFault, Subject, push_picture_fault, subject_of};
+pub use wording::{
+    KINDS, cell_name, cell_words, counts_of, label_of, lane_of, letter_of, line_of, meaning_of,
+    refusal_of, title_of,
+};
+pub use wrapping::{MOST_LINES, push_lines};

@@ -1,0 +1,146 @@
+//! What a picture shows of a script.
+
+ghost use Rattle.std.specs.Prelude.{◌≡◌, ◌<◌, ◌≤◌, ◌∷◌, ◌++◌, [], IfOk, OnOk, IsErrOf, Some, false, length};
+ghost use Rattle.uni_record.specs.Event.{events_shown};
+ghost use Rattle.uni_script.specs.Replay.{IsFaultOfScript};
+ghost use Rattle.uni_script.specs.ScriptRun.{HasFault};
+ghost use Rattle.uni_script.specs.declared.fault.BenchFault.{BenchFault as Fault};
+ghost use Rattle.run_marks.specs.Shown.{marks_shown};
+ghost use Rattle.run_layout.specs.Subject.{marks_of_events, marks_of_record, events_of_record, picture_fault_text, IsSubject, HasTooManyEvents};
+
+use crate::axis::MOST_EVENTS;
+use ready_objects::{BookObject, DirectoryObject, QueueObject, Spoken, StickyObject};
+use run_marks::{Marks, marks_of};
+use std::alloc::{AllocError, Global};
+use std::fmt;
+use std::io::Write;
+use uni_record::Recorded;
+use uni_script::{
+    BenchFault, ObjectName, Options, ScriptRecord, ScriptRun, TextIn, Told, run_of_script,
+};
+
+/// How many events a script can have, as where `unibench replay` isn't told.
+const HISTORY: u64 = 1_048_576;
+
+/// Why there is no picture.
+#[derive(Clone, Copy, Debug, PartialEq, Eq)]
+pub enum PictureFault {
+    /// The script has this fault, or its run has.
+    Script(BenchFault),
+    /// The script has more than 2,000 events.
+    TooManyEvents,
+}
+
+impl fmt::Display for PictureFault {
+    ghost output = { λ fault. Some (picture_fault_text fault) };
+
+    fn fmt<W: fmt::Write>(&self, f: &mut fmt::Formatter<W>) -> fmt::Result {
+        match self {
+            PictureFault::Script(fault) => write!(f, "{fault}"),
+            PictureFault::TooManyEvents => write!(f, "too many events for a picture"),
+        }
+    }
+}
+
+/// What a picture shows of a script.
+#[derive(Drop)]
+pub struct Subject {
+    /// The marks of its run.
+    pub marks: Marks,
+    /// What it tells beside its events, in order.
+    pub told: Vec<Told>,
+}
+
+/// The marks of the run that a record has stored, on an object of this name; `object` is a further value of
+/// that object.
+///
+/// Errors: `TooManyEvents` where it has more than 2,000; else the want of memory.
+fn marks_of_events<O: Spoken>(
+    alloc: Global,
+    name: ObjectName,
+    object: O,
+    recorded: &Recorded<O>,
+) -> Result<Marks, PictureFault>
+    ensures few { OnOk result (length (events_shown recorded.now.events) ≤ 2000) }
+    ensures marks { IfOk result (λ marks. marks_shown marks ≡ marks_of_events (record { object = O.sequential object; language = O.language }) name recorded.now.processes recorded.now.first (events_shown recorded.now.events)) }
+    ensures many { IsErrOf result PictureFault.TooManyEvents → 2000 < length (events_shown recorded.now.events) }
+    ensures memory { (e : Fault) → IsErrOf result (PictureFault.Script e) → e ≡ Fault.Memory }
+{
+    if recorded.events().len() as u64 > MOST_EVENTS {
+        return Err(PictureFault::TooManyEvents);
+    }
+    match marks_of(alloc, name, object, recorded) {
+        Ok(marks) => Ok(marks),
+        Err(AllocError) => Err(PictureFault::Script(BenchFault::Memory)),
+    }
+}
+
+/// The marks of a record, by its object.
+///
+/// Errors: `TooManyEvents` where it has more than 2,000 events; else the want of memory.
+fn marks_of_record(alloc: Global, stored: &ScriptRecord) -> Result<Marks, PictureFault>
+    ensures few { OnOk result (events_of_record stored.now ≤ 2000) }
+    ensures marks { IfOk result (λ marks. marks_shown marks ≡ marks_of_record stored.now) }
+    ensures many { IsErrOf result PictureFault.TooManyEvents → 2000 < events_of_record stored.now }
+    ensures memory { (e : Fault) → IsErrOf result (PictureFault.Script e) → e ≡ Fault.Memory }
+{
+    match stored {
+        ScriptRecord::Queue(recorded) => {
+            marks_of_events(alloc, ObjectName::Queue, QueueObject, recorded)
+        }
+        ScriptRecord::Directory(recorded) => {
+            marks_of_events(alloc, ObjectName::Directory, DirectoryObject, recorded)
+        }
+        ScriptRecord::Book(recorded) => {
+            marks_of_events(alloc, ObjectName::Book, BookObject, recorded)
+        }
+        ScriptRecord::Sticky(recorded) => {
+            marks_of_events(alloc, ObjectName::Sticky, StickyObject, recorded)
+        }
+    }
+}
+
+/// What a picture shows of the run of a script.
+///
+/// Errors: `TooManyEvents` where it has more than 2,000 events; else the want of memory.
+fn subject_of_run(alloc: Global, run: ScriptRun) -> Result<Subject, PictureFault>
+    ensures few { OnOk result (events_of_record run.record ≤ 2000) }
+    ensures marks { IfOk result (λ subject. marks_shown subject.marks ≡ marks_of_record run.record) }
+    ensures told { IfOk result (λ subject. subject.told.items ≡ run.told.items) }
+    ensures many { IsErrOf result PictureFault.TooManyEvents → 2000 < events_of_record run.record }
+    ensures memory { (e : Fault) → IsErrOf result (PictureFault.Script e) → e ≡ Fault.Memory }
+{
+    let marks = marks_of_record(alloc, &run.record)?;
+    Ok(Subject {
+        marks,
+        told: run.told,
+    })
+}
+
+/// What a picture shows of the script that a reader has.
+///
+/// An `Err` is the first fault of the script; `Read` where the reader failed; `Memory` where memory was
+/// refused; or `TooManyEvents` of a good script that has more than 2,000 events.
+pub fn subject_of<I: TextIn>(alloc: Global, reader: &mut I) -> Result<Subject, PictureFault>
+    requires { I.has_failed reader.old ≡ false }
+    ensures subject { IfOk result (λ subject. IsSubject (I.remaining reader.old) (marks_shown subject.marks) subject.told.items) }
+    ensures few { IfOk result (λ subject. subject.marks.events ≤ 2000) }
+    ensures told { IfOk result (λ subject. length subject.told.items ≤ 100000) }
+    ensures many { IsErrOf result PictureFault.TooManyEvents → HasTooManyEvents (I.remaining reader.old) }
+    ensures fault { (e : Fault) → IsErrOf result (PictureFault.Script e) → IsFaultOfScript e → HasFault 1048576 (I.remaining reader.old) e }
+{
+    let options = Options { history: HISTORY };
+    match run_of_script(alloc, reader, &options) {
+        Ok(run) => subject_of_run(alloc, run),
+        Err(fault) => Err(PictureFault::Script(fault)),
+    }
+}
+
+/// Writes the text of a fault and the end of its line after a text.
+///
+/// An `Err` says that memory was refused.
+pub fn push_picture_fault(text: &mut Vec<u8>, fault: PictureFault) -> Result<(), AllocError>
+    ensures { OnOk result (text.new.items ≡ text.old.items ++ picture_fault_text fault ++ 10 ∷ []) }
+{
+    writeln!(text, "{fault}").map_err(|_| AllocError)
+}

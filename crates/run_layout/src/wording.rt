@@ -1,0 +1,202 @@
+//! The texts of a picture.
+
+ghost use Rattle.std.specs.Prelude.{◌≡◌, ◌++◌, IfOk, OnOk};
+ghost use Rattle.run_marks.specs.Shown.{end_shown, bar_shown, cell_shown, marks_shown};
+ghost use Rattle.run_layout.specs.Wording.{letter_of, meaning_of, label_text, counted_text, counts_text, line_text, refusal_words, lane_of, cell_words, cell_name, title_text};
+
+use run_marks::{Bar, BarEnd, CellBox, EraEnd, EraLine, Marks};
+use std::alloc::{AllocError, Global};
+use std::io::Write;
+use uni_core::StepKind;
+use uni_script::Refusal;
+
+/// The letter of a kind of step.
+pub fn letter_of(kind: StepKind) -> u8
+    ensures { result ≡ letter_of kind }
+{
+    match kind {
+        StepKind::Announce => b'A',
+        StepKind::ScanHead => b'H',
+        StepKind::ScanSeq => b'S',
+        StepKind::WriteScan => b'G',
+        StepKind::Test => b'T',
+        StepKind::ReadAnnounce => b'R',
+        StepKind::ReadHelpSeq => b'N',
+        StepKind::DecideAfter => b'L',
+        StepKind::DecideNew => b'V',
+        StepKind::WriteBefore => b'B',
+        StepKind::WriteSeq => b'W',
+        StepKind::WriteHead => b'U',
+        StepKind::Finish => b'F',
+    }
+}
+
+/// What the legend says of a kind of step, in at most 24 bytes.
+pub fn meaning_of(kind: StepKind) -> &'static str
+    ensures { result.now ≡ meaning_of kind }
+{
+    match kind {
+        StepKind::Announce => "announces its cell",
+        StepKind::ScanHead => "scan: reads a head",
+        StepKind::ScanSeq => "scan: reads its number",
+        StepKind::WriteScan => "keeps the greatest head",
+        StepKind::Test => "tests its own number",
+        StepKind::ReadAnnounce => "reads whose turn it is",
+        StepKind::ReadHelpSeq => "is that one threaded?",
+        StepKind::DecideAfter => "links a cell, or loses",
+        StepKind::DecideNew => "settles state and reply",
+        StepKind::WriteBefore => "writes the way back",
+        StepKind::WriteSeq => "writes the number",
+        StepKind::WriteHead => "moves its head on",
+        StepKind::Finish => "raises its head, returns",
+    }
+}
+
+/// The kinds of step, in the order in which a call takes them.
+pub const KINDS: [StepKind; 13] = [
+    StepKind::Announce,
+    StepKind::ScanHead,
+    StepKind::ScanSeq,
+    StepKind::WriteScan,
+    StepKind::Test,
+    StepKind::ReadAnnounce,
+    StepKind::ReadHelpSeq,
+    StepKind::DecideAfter,
+    StepKind::DecideNew,
+    StepKind::WriteBefore,
+    StepKind::WriteSeq,
+    StepKind::WriteHead,
+    StepKind::Finish,
+];
+
+/// The label of a call's bar: the call and its words, and its reply where it has returned.
+///
+/// An `Err` says that memory was refused.
+pub fn label_of(alloc: Global, bar: &Bar) -> Result<Vec<u8>, AllocError>
+    ensures { IfOk result (λ text. text.items ≡ label_text (bar_shown bar.now)) }
+{
+    let mut text = Vec::new(alloc);
+    write!(text, "{} ", bar.call).map_err(|_| AllocError)?;
+    text.extend_from_slice(&bar.words)?;
+    if let Some(end) = &bar.end {
+        write!(text, " -> ").map_err(|_| AllocError)?;
+        text.extend_from_slice(&end.reply)?;
+    }
+    Ok(text)
+}
+
+/// Adds how many there are of something, with the word for one and that for any other number.
+///
+/// An `Err` says that memory was refused.
+fn push_counted(text: &mut Vec<u8>, count: u64, one: &str, many: &str) -> Result<(), AllocError>
+    ensures { OnOk result (text.new.items ≡ text.old.items ++ counted_text count one.now many.now) }
+{
+    let word = if count == 1 { one } else { many };
+    write!(text, "{count} {word}").map_err(|_| AllocError)
+}
+
+/// The own steps and the turns of a call that has returned.
+///
+/// An `Err` says that memory was refused.
+pub fn counts_of(alloc: Global, end: &BarEnd) -> Result<Vec<u8>, AllocError>
+    ensures { IfOk result (λ text. text.items ≡ counts_text (end_shown end.now)) }
+{
+    let mut text = Vec::new(alloc);
+    push_counted(&mut text, end.steps, "step", "steps")?;
+    text.push(b' ')?;
+    push_counted(&mut text, end.turns, "turn", "turns")?;
+    Ok(text)
+}
+
+/// The label of the end of an era.
+///
+/// An `Err` says that memory was refused.
+pub fn line_of(alloc: Global, line: &EraLine) -> Result<Vec<u8>, AllocError>
+    ensures { IfOk result (λ text. text.items ≡ line_text line.now) }
+{
+    let mut text = Vec::new(alloc);
+    match line.end {
+        EraEnd::Trim => write!(text, "trimmed {}", line.number).map_err(|_| AllocError)?,
+        EraEnd::Reshape(processes) => {
+            write!(text, "reshaped {processes} at {}", line.number).map_err(|_| AllocError)?
+        }
+    }
+    Ok(text)
+}
+
+/// The words of a refusal, without `refused` and without the process whose lane it stands in.
+///
+/// An `Err` says that memory was refused.
+pub fn refusal_of(alloc: Global, refusal: Refusal) -> Result<Vec<u8>, AllocError>
+    ensures { IfOk result (λ text. text.items ≡ refusal_words refusal) }
+{
+    let mut text = Vec::new(alloc);
+    match refusal {
+        Refusal::Process(process) => write!(text, "process {process}"),
+        Refusal::Busy(_) => write!(text, "busy"),
+        Refusal::Row(_) => write!(text, "row"),
+        Refusal::Idle(_) => write!(text, "idle"),
+        Refusal::Pending(_) => write!(text, "pending"),
+        Refusal::Sequence => write!(text, "sequence"),
+        Refusal::History => write!(text, "history"),
+        Refusal::Count(count) => write!(text, "count {count}"),
+    }
+    .map_err(|_| AllocError)?;
+    Ok(text)
+}
+
+/// The process in whose lane a refusal stands; `None` of one that is above the lanes.
+pub fn lane_of(refusal: Refusal) -> Option<u64>
+    ensures { result ≡ lane_of refusal }
+{
+    match refusal {
+        Refusal::Busy(process)
+        | Refusal::Row(process)
+        | Refusal::Idle(process)
+        | Refusal::Pending(process) => Some(process),
+        Refusal::Process(_) | Refusal::Sequence | Refusal::History | Refusal::Count(_) => None,
+    }
+}
+
+/// What an entry of the list of cells says: its words and its reply.
+///
+/// An `Err` says that memory was refused.
+pub fn cell_words(alloc: Global, cell: &CellBox) -> Result<Vec<u8>, AllocError>
+    ensures { IfOk result (λ text. text.items ≡ cell_words (cell_shown cell.now)) }
+{
+    let mut text = Vec::new(alloc);
+    text.extend_from_slice(&cell.words)?;
+    write!(text, " -> ").map_err(|_| AllocError)?;
+    match &cell.reply {
+        Some(reply) => text.extend_from_slice(reply)?,
+        None => text.push(b'?')?,
+    }
+    Ok(text)
+}
+
+/// The number and the call of a cell.
+///
+/// An `Err` says that memory was refused.
+pub fn cell_name(alloc: Global, cell: &CellBox) -> Result<Vec<u8>, AllocError>
+    ensures { IfOk result (λ text. text.items ≡ cell_name (cell_shown cell.now)) }
+{
+    let mut text = Vec::new(alloc);
+    write!(text, "{}: {}", cell.number, cell.call).map_err(|_| AllocError)?;
+    Ok(text)
+}
+
+/// The title of a picture.
+///
+/// An `Err` says that memory was refused.
+pub fn title_of(alloc: Global, marks: &Marks) -> Result<Vec<u8>, AllocError>
+    ensures { IfOk result (λ text. text.items ≡ title_text (marks_shown marks.now)) }
+{
+    let mut text = Vec::new(alloc);
+    write!(text, "{}: ", marks.object).map_err(|_| AllocError)?;
+    push_counted(&mut text, marks.lanes(), "process", "processes")?;
+    write!(text, ", ").map_err(|_| AllocError)?;
+    push_counted(&mut text, marks.bars.len() as u64, "call", "calls")?;
+    write!(text, ", ").map_err(|_| AllocError)?;
+    push_counted(&mut text, marks.events, "event", "events")?;
+    Ok(text)
+}

@@ -1,0 +1,3 @@
+pub mod LaneSteps
+pub mod Entries
+pub mod Boxes

@@ -1,0 +1,102 @@
+-- The list of cells, era by era, below the lanes.
+use Rattle.std.specs.Prelude.{◌≡◌, ℕ, ◌+◌, ◌-◌, ◌*◌, min, max, nat_le, if◌then◌else◌, List, [], ◌∷◌, ◌++◌, fold, codes, refl}
+use Rattle.std.specs.Fmt.{decimal}
+use Rattle.svg_text.specs.declared.paint.Paint.TheVariants.{Ink, Frame, Thick}
+use Rattle.svg_text.specs.declared.shape.Anchor.TheVariants.{Start}
+use Rattle.svg_text.specs.Figures.{Figure, Rect, Line, Text}
+use Rattle.run_marks.specs.Marks.{Cell, EraMarks}
+use Rattle.run_picture.specs.declared.figures.Toward.TheVariants.{Right}
+use Rattle.run_picture.specs.declared.cells.Spot.{Spot}
+use Rattle.run_layout.specs.Axis.{letters_of}
+use Rattle.run_picture.specs.Shapes.{tip_figure}
+use Rattle.run_layout.specs.Wording.{cell_name, cell_words}
+
+-- so much below a place, but not below the lowest one
+abbrev pub lower : (top by : ℕ) → ℕ
+lower top by = min top 10_000_000_000 + by
+
+-- ---- a box
+
+-- the wider one of two texts, and a letter on either side
+abbrev pub box_width : (upper lower : List ℕ) → ℕ
+box_width upper lower = (max (letters_of upper) (letters_of lower) + 2) * 8
+
+-- a frame with two texts
+unfoldable pub box_figures : Spot → (upper lower : List ℕ) → List Figure
+box_figures at upper lower = Rect at.left at.top (box_width upper lower) 44 Frame ∷ Text (at.left + 8) (at.top + 18) Start Ink upper ∷ Text (at.left + 8) (at.top + 36) Start Ink lower ∷ []
+
+-- the arrow to the box at a place
+unfoldable pub link_figures : Spot → List Figure
+link_figures at = Line (at.left - 24) (at.top + 22) (at.left - 3) (at.top + 22) Thick ∷ tip_figure (at.left - 2) (at.top + 22) Right ∷ []
+
+-- where a box stands after one that ends at a place: in its line, or at the start of the next line where this one has no room
+abbrev pub box_spot : (before : Spot) → (wide width : ℕ) → Spot
+box_spot before wide width = if nat_le (before.left + 28 + wide + 12) width then record { left = before.left + 28; top = before.top } else record { left = 84; top = lower before.top 56 }
+
+-- ---- the cells of an era
+
+abbrev pub cell_spot : (width : ℕ) → (before : Spot) → Cell → Spot
+cell_spot width before cell = box_spot before (box_width (cell_name cell) (cell_words cell)) width
+
+-- a cell: the arrow to it, and its box
+unfoldable pub cell_figures : (width : ℕ) → (before : Spot) → Cell → List Figure
+cell_figures width before cell = let at = cell_spot width before cell in link_figures at ++ box_figures at (cell_name cell) (cell_words cell)
+
+-- where its box ends
+unfoldable pub cell_end : (width : ℕ) → (before : Spot) → Cell → Spot
+cell_end width before cell = let at = cell_spot width before cell in record { left = at.left + box_width (cell_name cell) (cell_words cell); top = at.top }
+
+-- cells one after another
+unfoldable pub row_figures : (width : ℕ) → (start : Spot) → List Cell → List Figure
+row_figures width start [] = []
+row_figures width start (cell ∷ cells) = cell_figures width start cell ++ row_figures width (cell_end width start cell) cells
+
+-- where the last one ends
+unfoldable pub row_end : (width : ℕ) → (start : Spot) → List Cell → Spot
+row_end width start cells = fold (cell_end width) start cells
+
+-- ---- an era
+
+abbrev pub era_name : (place : ℕ) → List ℕ
+era_name place = codes "era " ++ decimal (place + 1)
+
+abbrev pub anchor_name : (anchor : ℕ) → List ℕ
+anchor_name anchor = decimal anchor ++ codes ":"
+
+abbrev pub first_spot : (top : ℕ) → Spot
+first_spot top = record { left = 84; top = top }
+
+-- the name of an era, and the box of its anchor
+unfoldable pub anchor_figures : (top place anchor : ℕ) → List Figure
+anchor_figures top place anchor = Text 12 (top + 27) Start Ink (era_name place) ∷ box_figures (first_spot top) (anchor_name anchor) (codes "anchor")
+
+-- where that box ends
+unfoldable pub anchor_end : (top anchor : ℕ) → Spot
+anchor_end top anchor = record { left = 84 + box_width (anchor_name anchor) (codes "anchor"); top = top }
+
+-- the anchor, and then the cells in the order of the list
+unfoldable pub era_figures : (width bottom place : ℕ) → EraMarks → List Figure
+era_figures width bottom place era = let top = lower bottom 12 in anchor_figures top place era.anchor ++ row_figures width (anchor_end top era.anchor) era.cells
+
+-- how far they go down
+unfoldable pub era_bottom : (width bottom : ℕ) → EraMarks → ℕ
+era_bottom width bottom era = (row_end width (anchor_end (lower bottom 12) era.anchor) era.cells).top + 44
+
+-- ---- all eras
+
+unfoldable pub eras_figures : (width bottom place : ℕ) → List EraMarks → List Figure
+eras_figures width bottom place [] = []
+eras_figures width bottom place (era ∷ eras) = era_figures width bottom place era ++ eras_figures width (era_bottom width bottom era) (place + 1) eras
+
+unfoldable pub eras_bottom : (width bottom : ℕ) → List EraMarks → ℕ
+eras_bottom width bottom eras = fold (era_bottom width) bottom eras
+
+-- a box of eleven letters, in its line where that has room, and else in the next one
+width_of_eleven : box_width (codes "7: 1.0") (codes "enq 5 -> ok") ≡ 104
+width_of_eleven = refl
+
+in_its_line : box_spot (record { left = 300; top = 500 }) 104 444 ≡ record { left = 328; top = 500 }
+in_its_line = refl
+
+in_the_next_line : box_spot (record { left = 300; top = 500 }) 104 443 ≡ record { left = 84; top = 556 }
+in_the_next_line = refl

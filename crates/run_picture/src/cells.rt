@@ -1,0 +1,285 @@
+//! The list of cells, era by era, below the lanes.
+
+ghost use Rattle.std.specs.Prelude.{◌≡◌, ◌≤◌, ◌<◌, ◌^◌, ◌+◌, [], ◌∷◌, ◌++◌, map, codes, IfOk, OnOk};
+ghost use Rattle.std.specs.Fmt.{decimal};
+ghost use Rattle.svg_text.specs.Figures.{Rect, figure};
+ghost use Rattle.svg_text.specs.declared.paint.Paint.TheVariants.{Frame};
+ghost use Rattle.run_marks.specs.Shown.{cell_shown, era_shown};
+ghost use Rattle.run_picture.specs.Cells.{lower, box_width, box_figures, box_spot, link_figures, row_figures, row_end, cell_figures, cell_end, era_name, anchor_name, anchor_figures, anchor_end, era_figures, era_bottom, eras_figures, eras_bottom};
+
+use crate::figures::{LETTER, Toward, push_line, push_text, push_tip};
+use crate::lanes::MARGIN;
+use run_layout::{cell_name, cell_words, letters};
+use run_marks::{CellBox, Era};
+use std::alloc::{AllocError, Global};
+use std::io::Write;
+use svg_text::{Anchor, Paint, Shape};
+
+/// How high a box is.
+const BOX: u64 = 44;
+
+/// How far a box stands from the next one.
+const GAP: u64 = 28;
+
+/// Where the first box of a line stands.
+const FIRST: u64 = 84;
+
+/// How far down a line of boxes stands at most, so that each place is a number of 64 bits.
+const LOWEST: u64 = 10_000_000_000;
+
+/// A place in a line of boxes.
+#[derive(Clone, Copy, Debug, PartialEq, Eq)]
+pub struct Spot {
+    /// How far from the left it is.
+    pub left: u64,
+    /// The top of the line.
+    pub top: u64,
+}
+
+/// Adds the cells of all eras below a place; the answer is how far they go down.
+///
+/// An `Err` says that memory was refused.
+pub fn push_cells(
+    alloc: Global,
+    eras: &[Era],
+    width: u64,
+    bottom: u64,
+    shapes: &mut Vec<Shape>,
+) -> Result<u64, AllocError>
+    requires wide { width < 2 ^ 36 }
+    requires low { bottom < 2 ^ 35 }
+    ensures figures { OnOk result (map figure shapes.new.items ≡ map figure shapes.old.items ++ eras_figures width bottom 0 (map era_shown eras.now)) }
+    ensures bottom { IfOk result (λ end. end ≡ eras_bottom width bottom (map era_shown eras.now)) }
+    ensures low { IfOk result (λ end. end < 2 ^ 35) }
+{
+    let mut end = bottom;
+    for (place, era) in eras.iter().enumerate() {
+        end = push_era(alloc, place as u64, era, width, end, shapes)?;
+    }
+    Ok(end)
+}
+
+/// Adds the cells of an era, with its place among the eras from 0: its anchor, and then its cells in
+/// the order of the list. The answer is how far they go down.
+///
+/// An `Err` says that memory was refused.
+fn push_era(
+    alloc: Global,
+    place: u64,
+    era: &Era,
+    width: u64,
+    bottom: u64,
+    shapes: &mut Vec<Shape>,
+) -> Result<u64, AllocError>
+    requires next { place + 1 < 2 ^ 64 }
+    requires wide { width < 2 ^ 36 }
+    ensures figures { OnOk result (map figure shapes.new.items ≡ map figure shapes.old.items ++ era_figures width bottom place (era_shown era.now)) }
+    ensures bottom { IfOk result (λ end. end ≡ era_bottom width bottom (era_shown era.now)) }
+    ensures low { IfOk result (λ end. end < 2 ^ 35) }
+{
+    let top = lower(bottom, MARGIN);
+    let start = push_anchor(alloc, place, era.anchor, top, shapes)?;
+    let end = push_row(alloc, &era.cells, width, start, shapes)?;
+    Ok(end.top + BOX)
+}
+
+/// So much below a place, but not below the lowest one.
+fn lower(top: u64, by: u64) -> u64
+    requires little { by ≤ 100 }
+    ensures lower { result ≡ lower top by }
+    ensures low { result < 2 ^ 34 }
+{
+    top.min(LOWEST) + by
+}
+
+/// Adds the name of an era and the box of its anchor; the answer is where that ends.
+///
+/// An `Err` says that memory was refused.
+fn push_anchor(
+    alloc: Global,
+    place: u64,
+    anchor: u64,
+    top: u64,
+    shapes: &mut Vec<Shape>,
+) -> Result<Spot, AllocError>
+    requires next { place + 1 < 2 ^ 64 }
+    requires low { top < 2 ^ 34 }
+    ensures figures { OnOk result (map figure shapes.new.items ≡ map figure shapes.old.items ++ anchor_figures top place anchor) }
+    ensures end { IfOk result (λ end. end ≡ anchor_end top anchor) }
+    ensures near { IfOk result (λ end. end.left < 2 ^ 37) }
+    ensures low { IfOk result (λ end. end.top < 2 ^ 34) }
+{
+    let name = era_name(alloc, place)?;
+    push_text(shapes, MARGIN, top + 27, Anchor::Start, Paint::Ink, name)?;
+    let upper = anchor_name(alloc, anchor)?;
+    let mut words = Vec::new(alloc);
+    words.extend_from_slice("anchor".as_bytes())?;
+    let at = Spot { left: FIRST, top };
+    let width = box_width(&upper, &words);
+    push_box(at, upper, words, shapes)?;
+    Ok(Spot {
+        left: at.left + width,
+        top,
+    })
+}
+
+/// The name of an era, by its place from 0.
+///
+/// An `Err` says that memory was refused.
+fn era_name(alloc: Global, place: u64) -> Result<Vec<u8>, AllocError>
+    requires next { place + 1 < 2 ^ 64 }
+    ensures { IfOk result (λ text. text.items ≡ era_name place) }
+{
+    let mut name = Vec::new(alloc);
+    let number = place + 1;
+    write!(name, "era {number}").map_err(|_| AllocError)?;
+    Ok(name)
+}
+
+/// The number of an anchor.
+///
+/// An `Err` says that memory was refused.
+fn anchor_name(alloc: Global, anchor: u64) -> Result<Vec<u8>, AllocError>
+    ensures { IfOk result (λ text. text.items ≡ anchor_name anchor) }
+{
+    let mut name = Vec::new(alloc);
+    write!(name, "{anchor}:").map_err(|_| AllocError)?;
+    Ok(name)
+}
+
+/// Adds cells one after another from a place on; the answer is where the last one ends.
+///
+/// An `Err` says that memory was refused.
+fn push_row(
+    alloc: Global,
+    cells: &[CellBox],
+    width: u64,
+    start: Spot,
+    shapes: &mut Vec<Shape>,
+) -> Result<Spot, AllocError>
+    requires wide { width < 2 ^ 36 }
+    requires near { start.left < 2 ^ 37 }
+    requires low { start.top < 2 ^ 34 }
+    ensures figures { OnOk result (map figure shapes.new.items ≡ map figure shapes.old.items ++ row_figures width start (map cell_shown cells.now)) }
+    ensures end { IfOk result (λ end. end ≡ row_end width start (map cell_shown cells.now)) }
+    ensures low { IfOk result (λ end. end.top < 2 ^ 34) }
+{
+    let mut spot = start;
+    for cell in cells {
+        spot = push_cell(alloc, cell, width, spot, shapes)?;
+    }
+    Ok(spot)
+}
+
+/// Adds a cell after the box that ends at a place; the answer is where its own ends.
+///
+/// An `Err` says that memory was refused.
+fn push_cell(
+    alloc: Global,
+    cell: &CellBox,
+    width: u64,
+    before: Spot,
+    shapes: &mut Vec<Shape>,
+) -> Result<Spot, AllocError>
+    requires wide { width < 2 ^ 36 }
+    requires near { before.left < 2 ^ 37 }
+    requires low { before.top < 2 ^ 34 }
+    ensures figures { OnOk result (map figure shapes.new.items ≡ map figure shapes.old.items ++ cell_figures width before (cell_shown cell.now)) }
+    ensures end { IfOk result (λ end. end ≡ cell_end width before (cell_shown cell.now)) }
+    ensures near { IfOk result (λ end. end.left < 2 ^ 37) }
+    ensures low { IfOk result (λ end. end.top < 2 ^ 34) }
+{
+    let name = cell_name(alloc, cell)?;
+    let words = cell_words(alloc, cell)?;
+    let wide = box_width(&name, &words);
+    let at = box_spot(before, wide, width);
+    push_link(at, shapes)?;
+    push_box(at, name, words, shapes)?;
+    Ok(Spot {
+        left: at.left + wide,
+        top: at.top,
+    })
+}
+
+/// Where a box stands after one that ends at a place: in its line, or at the start of the next line
+/// where this one has no room.
+fn box_spot(before: Spot, wide: u64, width: u64) -> Spot
+    requires wide { width < 2 ^ 36 }
+    requires near { before.left < 2 ^ 37 }
+    requires low { before.top < 2 ^ 34 }
+    requires small { wide ≤ 8016 }
+    ensures spot { result ≡ box_spot before wide width }
+    ensures far { 28 ≤ result.left }
+    ensures near { result.left < 2 ^ 36 }
+    ensures low { result.top < 2 ^ 34 }
+{
+    let left = before.left + GAP;
+    if left + wide + MARGIN <= width {
+        Spot {
+            left,
+            top: before.top,
+        }
+    } else {
+        Spot {
+            left: FIRST,
+            top: lower(before.top, BOX + MARGIN),
+        }
+    }
+}
+
+/// Adds the arrow to the box at a place.
+///
+/// An `Err` says that memory was refused.
+fn push_link(at: Spot, shapes: &mut Vec<Shape>) -> Result<(), AllocError>
+    requires far { 28 ≤ at.left }
+    requires near { at.left < 2 ^ 37 }
+    requires low { at.top < 2 ^ 37 }
+    ensures { OnOk result (map figure shapes.new.items ≡ map figure shapes.old.items ++ link_figures at) }
+{
+    let y = at.top + BOX / 2;
+    push_line(shapes, (at.left - 24, y), (at.left - 3, y), Paint::Thick)?;
+    push_tip(shapes, at.left - 2, y, Toward::Right)
+}
+
+/// How wide the box of two texts is.
+fn box_width(upper: &[u8], lower: &[u8]) -> u64
+    ensures width { result ≡ box_width upper.now lower.now }
+    ensures small { result ≤ 8016 }
+{
+    (u64::from(letters(upper)).max(u64::from(letters(lower))) + 2) * LETTER
+}
+
+/// Adds a box with two texts.
+///
+/// An `Err` says that memory was refused.
+fn push_box(
+    at: Spot,
+    upper: Vec<u8>,
+    lower: Vec<u8>,
+    shapes: &mut Vec<Shape>,
+) -> Result<(), AllocError>
+    requires near { at.left < 2 ^ 37 }
+    requires low { at.top < 2 ^ 38 }
+    ensures { OnOk result (map figure shapes.new.items ≡ map figure shapes.old.items ++ box_figures at upper.items lower.items) }
+{
+    push_frame(at, box_width(&upper, &lower), shapes)?;
+    let left = at.left + LETTER;
+    push_text(shapes, left, at.top + 18, Anchor::Start, Paint::Ink, upper)?;
+    push_text(shapes, left, at.top + 36, Anchor::Start, Paint::Ink, lower)
+}
+
+/// Adds the frame of a box.
+///
+/// An `Err` says that memory was refused.
+fn push_frame(at: Spot, width: u64, shapes: &mut Vec<Shape>) -> Result<(), AllocError>
+    ensures { OnOk result (map figure shapes.new.items ≡ map figure shapes.old.items ++ (Rect at.left at.top width 44 Frame ∷ [])) }
+{
+    shapes.push(Shape::Rect {
+        x: at.left,
+        y: at.top,
+        width,
+        height: BOX,
+        paint: Paint::Frame,
+    })?;
+    Ok(())
+}

@@ -1,0 +1,188 @@
+//! Lanes and the ends of eras.
+
+ghost use Rattle.std.specs.Prelude.{◌≡◌, ◌++◌, ◌+◌, ◌^◌, ◌<◌, OnOk, drop, map};
+ghost use Rattle.std.specs.List.{flat_map};
+ghost use Rattle.run_marks.specs.Shown.{era_shown};
+ghost use Rattle.run_layout.specs.Axis.{places_shown};
+ghost use Rattle.svg_text.specs.Figures.{figure};
+ghost use Rattle.run_picture.specs.Lanes.{lane_top, lane_middle, lane_figures, lanes_from, era_end, era_lanes, line_figures};
+
+use crate::figures::{push_line, push_text};
+use run_layout::{Axis, line_of};
+use run_marks::{Era, EraLine};
+use std::alloc::{AllocError, Global};
+use std::io::Write;
+use svg_text::{Anchor, Paint, Shape};
+
+/// How far things stand from the left and the right.
+pub const MARGIN: u64 = 12;
+
+/// Where the first event stands.
+pub const START: u32 = 44;
+
+/// How high a lane is.
+const LANE: u64 = 96;
+
+/// Where the lanes stand.
+#[derive(Clone, Copy, Debug, PartialEq, Eq)]
+pub struct Lanes {
+    /// The top of the first one.
+    pub top: u32,
+    /// How many there are.
+    pub count: u32,
+}
+
+impl Lanes {
+    /// The top of the lane of a process; the end of all of one that there isn't.
+    pub fn of(self, process: u64) -> u64
+        ensures { result ≡ lane_top self process }
+    {
+        u64::from(self.top) + process.min(u64::from(self.count)) * LANE
+    }
+
+    /// The end of the last one.
+    pub fn bottom(self) -> u64
+        ensures { result ≡ lane_top self self.count }
+    {
+        self.of(u64::from(self.count))
+    }
+
+    /// The middle of the bars of a process.
+    pub fn middle(self, process: u64) -> u64
+        ensures { result ≡ lane_middle self process }
+    {
+        self.of(process) + 48
+    }
+}
+
+/// How the lanes of an era stand.
+#[derive(Clone, Copy, Debug, PartialEq, Eq)]
+struct Stretch {
+    /// From where.
+    left: u64,
+    /// To where.
+    right: u64,
+    /// How many lanes have a name already.
+    named: u64,
+}
+
+/// Adds the lane of a process in an era: where no lane has a name yet, its own stands in the margin, and
+/// later that of a lane which is new.
+///
+/// An `Err` says that memory was refused.
+fn push_lane(
+    alloc: Global,
+    lanes: Lanes,
+    stretch: Stretch,
+    process: u64,
+    shapes: &mut Vec<Shape>,
+) -> Result<(), AllocError>
+    requires { stretch.left < 2 ^ 40 }
+    ensures { OnOk result (map figure shapes.new.items ≡ map figure shapes.old.items ++ lane_figures lanes stretch.left stretch.right stretch.named process) }
+{
+    let y = lanes.middle(process);
+    push_line(shapes, (stretch.left, y), (stretch.right, y), Paint::Faint)?;
+    let mut name = Vec::new(alloc);
+    write!(name, "P{process}").map_err(|_| AllocError)?;
+    if stretch.named == 0 {
+        push_text(shapes, MARGIN, y + 5, Anchor::Start, Paint::Ink, name)
+    } else if stretch.named <= process {
+        let x = stretch.left + 4;
+        push_text(shapes, x, y - 5, Anchor::Start, Paint::Ink, name)
+    } else {
+        Ok(())
+    }
+}
+
+/// Adds the lanes of an era of so many processes.
+///
+/// An `Err` says that memory was refused.
+fn push_lanes(
+    alloc: Global,
+    lanes: Lanes,
+    stretch: Stretch,
+    processes: u64,
+    shapes: &mut Vec<Shape>,
+) -> Result<(), AllocError>
+    requires { stretch.left < 2 ^ 40 }
+    ensures { OnOk result (map figure shapes.new.items ≡ map figure shapes.old.items ++ lanes_from lanes stretch.left stretch.right stretch.named 0 processes) }
+{
+    for process in 0..processes {
+        push_lane(alloc, lanes, stretch, process, shapes)?;
+    }
+    Ok(())
+}
+
+/// Where an era ends that these ones follow: in the middle of the event before the next one, or with all
+/// events.
+fn era_end(axis: &Axis, eras: &[Era]) -> u64
+    ensures small { result < 2 ^ 40 }
+    ensures place { result ≡ era_end (places_shown axis.now) (map era_shown eras.now) }
+{
+    match eras.first() {
+        Some(next) => axis.event(next.from.saturating_sub(1)).middle(),
+        None => u64::from(axis.end),
+    }
+}
+
+/// Adds the lanes of all eras.
+///
+/// An `Err` says that memory was refused.
+pub fn push_eras(
+    alloc: Global,
+    eras: &[Era],
+    axis: &Axis,
+    lanes: Lanes,
+    shapes: &mut Vec<Shape>,
+) -> Result<(), AllocError>
+    ensures { OnOk result (map figure shapes.new.items ≡ map figure shapes.old.items ++ era_lanes (places_shown axis.now) lanes 44 0 (map era_shown eras.now)) }
+{
+    let mut left = u64::from(START);
+    let mut named = 0;
+    for (place, era) in eras.iter().enumerate() {
+        let right = era_end(axis, &eras[place + 1..]);
+        let stretch = Stretch { left, right, named };
+        push_lanes(alloc, lanes, stretch, era.processes, shapes)?;
+        left = right;
+        named = era.processes;
+    }
+    Ok(())
+}
+
+/// Adds the end of an era: a line through all lanes, with its label above them.
+///
+/// An `Err` says that memory was refused.
+fn push_era_line(
+    alloc: Global,
+    line: &EraLine,
+    axis: &Axis,
+    lanes: Lanes,
+    shapes: &mut Vec<Shape>,
+) -> Result<(), AllocError>
+    ensures { OnOk result (map figure shapes.new.items ≡ map figure shapes.old.items ++ line_figures (places_shown axis.now) lanes line.now) }
+{
+    let x = axis.event(line.event).middle();
+    let top = u64::from(lanes.top);
+    push_line(shapes, (x, top), (x, lanes.bottom()), Paint::Broken)?;
+    let label = line_of(alloc, line)?;
+    let y = top.saturating_sub(6);
+    push_text(shapes, x, y, Anchor::Middle, Paint::Ink, label)
+}
+
+/// Adds the ends of eras.
+///
+/// An `Err` says that memory was refused.
+pub fn push_era_lines(
+    alloc: Global,
+    lines: &[EraLine],
+    axis: &Axis,
+    lanes: Lanes,
+    shapes: &mut Vec<Shape>,
+) -> Result<(), AllocError>
+    ensures { OnOk result (map figure shapes.new.items ≡ map figure shapes.old.items ++ flat_map (line_figures (places_shown axis.now) lanes) lines.now) }
+{
+    for line in lines {
+        push_era_line(alloc, line, axis, lanes, shapes)?;
+    }
+    Ok(())
+}

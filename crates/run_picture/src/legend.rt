@@ -1,0 +1,204 @@
+//! The legend.
+
+ghost use Rattle.std.specs.Prelude.{◌≡◌, ◌≤◌, ◌<◌, ◌^◌, ◌+◌, [], ◌∷◌, ◌++◌, map, OnOk};
+ghost use Rattle.svg_text.specs.Figures.{Rect, Dot, figure};
+ghost use Rattle.svg_text.specs.declared.paint.Paint.TheVariants.{Mark};
+ghost use Rattle.run_picture.specs.Paint.{colour_of};
+ghost use Rattle.run_layout.specs.Wording.{kinds};
+ghost use Rattle.run_picture.specs.Legend.{words_at, kind_entry, dot_entry, arrow_entry, refusal_entry, open_entry, left_of, top_of, entry_at, entries_from, legend_figures};
+
+use crate::figures::{Toward, push_line, push_text, push_tip};
+use crate::lanes::MARGIN;
+use crate::paint::{colour_of, letter_paint};
+use run_layout::{KINDS, letter_of, meaning_of};
+use std::alloc::{AllocError, Global};
+use svg_text::{Anchor, Paint, Shape};
+use uni_core::StepKind;
+
+/// How wide an entry is.
+const ENTRY: u64 = 236;
+
+/// How many entries stand side by side.
+const BESIDE: u64 = 4;
+
+/// How high a line of entries is.
+const ENTRY_HEIGHT: u64 = 22;
+
+/// Adds the legend below a place.
+///
+/// An `Err` says that memory was refused.
+pub fn push_legend(
+    alloc: Global,
+    width: u64,
+    bottom: u64,
+    shapes: &mut Vec<Shape>,
+) -> Result<(), AllocError>
+    requires wide { 12 ≤ width }
+    requires low { bottom < 2 ^ 36 }
+    ensures { OnOk result (map figure shapes.new.items ≡ map figure shapes.old.items ++ legend_figures width bottom) }
+{
+    let line = bottom + MARGIN;
+    push_line(shapes, (MARGIN, line), (width - MARGIN, line), Paint::Faint)?;
+    let top = line + MARGIN;
+    push_kinds(alloc, top, shapes)?;
+    push_dot_entry(alloc, top, shapes)?;
+    push_arrow_entry(alloc, top, shapes)?;
+    push_refusal_entry(alloc, top, shapes)?;
+    push_open_entry(alloc, top, shapes)
+}
+
+/// The left and the top of an entry, by its place from 0 among those below a top.
+fn place_of(place: u64, top: u64) -> (u64, u64)
+    requires near { place < 100 }
+    requires low { top < 2 ^ 37 }
+    ensures left { result.0 ≡ left_of place }
+    ensures top { result.1 ≡ top_of top place }
+{
+    (
+        MARGIN + place % BESIDE * ENTRY,
+        top + place / BESIDE * ENTRY_HEIGHT,
+    )
+}
+
+/// Adds the text of an entry.
+///
+/// An `Err` says that memory was refused.
+fn push_entry(
+    alloc: Global,
+    text: &str,
+    x: u64,
+    y: u64,
+    shapes: &mut Vec<Shape>,
+) -> Result<(), AllocError>
+    requires left { x < 2 ^ 38 }
+    requires low { y < 2 ^ 38 }
+    ensures { OnOk result (map figure shapes.new.items ≡ map figure shapes.old.items ++ (words_at x y text.now ∷ [])) }
+{
+    let mut meaning = Vec::new(alloc);
+    meaning.extend_from_slice(text.as_bytes())?;
+    push_text(shapes, x + 22, y + 14, Anchor::Start, Paint::Ink, meaning)
+}
+
+/// Adds the entries of the kinds of step, in the order in which a call takes them.
+///
+/// An `Err` says that memory was refused.
+fn push_kinds(alloc: Global, top: u64, shapes: &mut Vec<Shape>) -> Result<(), AllocError>
+    requires low { top < 2 ^ 37 }
+    ensures { OnOk result (map figure shapes.new.items ≡ map figure shapes.old.items ++ (entries_from top 0 (map kind_entry kinds))) }
+{
+    let mut place = 0;
+    for kind in KINDS {
+        push_kind(alloc, kind, place, top, shapes)?;
+        place += 1;
+    }
+    Ok(())
+}
+
+/// Adds the entry of a kind of step.
+///
+/// An `Err` says that memory was refused.
+fn push_kind(
+    alloc: Global,
+    kind: StepKind,
+    place: u64,
+    top: u64,
+    shapes: &mut Vec<Shape>,
+) -> Result<(), AllocError>
+    requires near { place < 100 }
+    requires low { top < 2 ^ 37 }
+    ensures { OnOk result (map figure shapes.new.items ≡ map figure shapes.old.items ++ (entry_at top place (kind_entry kind))) }
+{
+    let (x, y) = place_of(place, top);
+    push_mark(shapes, x, y, kind)?;
+    let mut letter = Vec::new(alloc);
+    letter.push(letter_of(kind))?;
+    push_text(
+        shapes,
+        x + 7,
+        y + 15,
+        Anchor::Middle,
+        letter_paint(kind),
+        letter,
+    )?;
+    push_entry(alloc, meaning_of(kind), x, y, shapes)
+}
+
+/// Adds the mark of a kind of step.
+///
+/// An `Err` says that memory was refused.
+fn push_mark(shapes: &mut Vec<Shape>, x: u64, y: u64, kind: StepKind) -> Result<(), AllocError>
+    ensures { OnOk result (map figure shapes.new.items ≡ map figure shapes.old.items ++ (Rect x y 14 18 (Mark (colour_of kind)) ∷ [])) }
+{
+    shapes.push(Shape::Rect {
+        x,
+        y,
+        width: 14,
+        height: 18,
+        paint: Paint::Mark(colour_of(kind)),
+    })?;
+    Ok(())
+}
+
+/// Adds the entry of the dot.
+///
+/// An `Err` says that memory was refused.
+fn push_dot_entry(alloc: Global, top: u64, shapes: &mut Vec<Shape>) -> Result<(), AllocError>
+    requires low { top < 2 ^ 37 }
+    ensures { OnOk result (map figure shapes.new.items ≡ map figure shapes.old.items ++ entry_at top 13 dot_entry) }
+{
+    let (x, y) = place_of(13, top);
+    push_sign(shapes, x, y)?;
+    push_entry(alloc, "the call takes effect", x, y, shapes)
+}
+
+/// Adds a dot.
+///
+/// An `Err` says that memory was refused.
+fn push_sign(shapes: &mut Vec<Shape>, x: u64, y: u64) -> Result<(), AllocError>
+    requires left { x < 2 ^ 38 }
+    requires low { y < 2 ^ 38 }
+    ensures { OnOk result (map figure shapes.new.items ≡ map figure shapes.old.items ++ (Dot (x + 7) (y + 9) ∷ [])) }
+{
+    shapes.push(Shape::Dot { x: x + 7, y: y + 9 })?;
+    Ok(())
+}
+
+/// Adds the entry of the arrow.
+///
+/// An `Err` says that memory was refused.
+fn push_arrow_entry(alloc: Global, top: u64, shapes: &mut Vec<Shape>) -> Result<(), AllocError>
+    requires low { top < 2 ^ 37 }
+    ensures { OnOk result (map figure shapes.new.items ≡ map figure shapes.old.items ++ entry_at top 14 arrow_entry) }
+{
+    let (x, y) = place_of(14, top);
+    push_line(shapes, (x + 7, y), (x + 7, y + 16), Paint::Thick)?;
+    push_tip(shapes, x + 7, y + 18, Toward::Down)?;
+    push_entry(alloc, "help: another links it", x, y, shapes)
+}
+
+/// Adds the entry of refusals.
+///
+/// An `Err` says that memory was refused.
+fn push_refusal_entry(alloc: Global, top: u64, shapes: &mut Vec<Shape>) -> Result<(), AllocError>
+    requires low { top < 2 ^ 37 }
+    ensures { OnOk result (map figure shapes.new.items ≡ map figure shapes.old.items ++ entry_at top 15 refusal_entry) }
+{
+    let (x, y) = place_of(15, top);
+    push_line(shapes, (x + 2, y + 4), (x + 12, y + 14), Paint::Cross)?;
+    push_line(shapes, (x + 2, y + 14), (x + 12, y + 4), Paint::Cross)?;
+    push_entry(alloc, "refused, for this reason", x, y, shapes)
+}
+
+/// Adds the entry of a bar that stays open.
+///
+/// An `Err` says that memory was refused.
+fn push_open_entry(alloc: Global, top: u64, shapes: &mut Vec<Shape>) -> Result<(), AllocError>
+    requires low { top < 2 ^ 37 }
+    ensures { OnOk result (map figure shapes.new.items ≡ map figure shapes.old.items ++ entry_at top 16 open_entry) }
+{
+    let (x, y) = place_of(16, top);
+    push_line(shapes, (x, y + 2), (x + 16, y + 2), Paint::Edge)?;
+    push_line(shapes, (x, y + 2), (x, y + 16), Paint::Edge)?;
+    push_line(shapes, (x, y + 16), (x + 16, y + 16), Paint::Edge)?;
+    push_entry(alloc, "has not returned", x, y, shapes)
+}

@@ -1,0 +1,33 @@
+//! The colours of steps.
+
+ghost use Rattle.std.specs.Prelude.{◌≡◌};
+ghost use Rattle.run_picture.specs.Paint.{colour_of, letter_paint};
+
+use svg_text::{Colour, Paint};
+use uni_core::StepKind;
+
+/// The colour of the mark of a step: one for each phase of a call.
+pub fn colour_of(kind: StepKind) -> Colour
+    ensures { result ≡ colour_of kind }
+{
+    match kind {
+        StepKind::Announce => Colour::Orange,
+        StepKind::ScanHead | StepKind::ScanSeq | StepKind::WriteScan => Colour::SkyBlue,
+        StepKind::Test => Colour::Yellow,
+        StepKind::ReadAnnounce | StepKind::ReadHelpSeq => Colour::Green,
+        StepKind::DecideAfter => Colour::Vermilion,
+        StepKind::DecideNew | StepKind::WriteBefore | StepKind::WriteSeq | StepKind::WriteHead =>
+            Colour::Purple,
+        StepKind::Finish => Colour::Blue,
+    }
+}
+
+/// How the letter of a step is painted upon its mark.
+pub fn letter_paint(kind: StepKind) -> Paint
+    ensures { result ≡ letter_paint kind }
+{
+    match kind {
+        StepKind::Finish | StepKind::DecideAfter => Paint::LightLetter,
+        _ => Paint::DarkLetter,
+    }
+}

@@ -1,0 +1,46 @@
+//! From the bytes of a script to the text of its picture.
+
+ghost use Rattle.std.specs.Prelude.{◌≡◌, ◌≤◌, IfOk, IsErrOf, false, length};
+ghost use Rattle.uni_script.specs.Replay.{IsFaultOfScript};
+ghost use Rattle.uni_script.specs.ScriptRun.{HasFault};
+ghost use Rattle.uni_script.specs.declared.fault.BenchFault.{BenchFault as Fault};
+ghost use Rattle.run_marks.specs.Shown.{marks_shown};
+ghost use Rattle.svg_text.specs.Svg.{svg_text};
+ghost use Rattle.run_layout.specs.Subject.{HasTooManyEvents};
+ghost use Rattle.run_picture.specs.Drawing.{drawing_of_marks};
+ghost use Rattle.run_picture.specs.Picture.{IsPicture};
+
+use crate::sheet::drawing_of;
+use run_layout::{PictureFault, Subject, subject_of};
+use std::alloc::{AllocError, Global};
+use svg_text::svg_of;
+use uni_script::{BenchFault, TextIn};
+
+/// The SVG of what a picture shows.
+///
+/// An `Err` says that memory was refused.
+fn svg_of_subject(alloc: Global, subject: &Subject) -> Result<Vec<u8>, AllocError>
+    requires events { subject.now.marks.events ≤ 2000 }
+    requires told { length subject.now.told.items ≤ 100000 }
+    ensures { IfOk result (λ svg. svg.items ≡ svg_text (drawing_of_marks (marks_shown subject.now.marks) subject.now.told.items)) }
+{
+    let drawing = drawing_of(alloc, &subject.marks, &subject.told)?;
+    svg_of(alloc, &drawing)
+}
+
+/// The picture of the run of the script that a reader has, as the text of an SVG.
+///
+/// An `Err` is the first fault of the script; `Read` where the reader failed; `Memory` where memory was
+/// refused; or `TooManyEvents` of a good script that has more than 2,000 events.
+pub fn picture_of<I: TextIn>(alloc: Global, reader: &mut I) -> Result<Vec<u8>, PictureFault>
+    requires { I.has_failed reader.old ≡ false }
+    ensures picture { IfOk result (λ svg. IsPicture (I.remaining reader.old) svg.items) }
+    ensures many { IsErrOf result PictureFault.TooManyEvents → HasTooManyEvents (I.remaining reader.old) }
+    ensures fault { (e : Fault) → IsErrOf result (PictureFault.Script e) → IsFaultOfScript e → HasFault 1048576 (I.remaining reader.old) e }
+{
+    let subject = subject_of(alloc, reader)?;
+    match svg_of_subject(alloc, &subject) {
+        Ok(svg) => Ok(svg),
+        Err(AllocError) => Err(PictureFault::Script(BenchFault::Memory)),
+    }
+}

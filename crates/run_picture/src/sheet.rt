@@ -1,0 +1,162 @@
+//! The whole picture.
+
+ghost use Rattle.std.specs.Prelude.{◌≡◌, ◌++◌, ◌∷◌, [], ◌≤◌, ◌<◌, ◌^◌, IfOk, OnOk, length, map};
+ghost use Rattle.svg_text.specs.Figures.{Text, figure, picture};
+ghost use Rattle.svg_text.specs.declared.paint.Paint.TheVariants.{Title};
+ghost use Rattle.svg_text.specs.declared.shape.Anchor.TheVariants.{Start};
+ghost use Rattle.run_marks.specs.Shown.{marks_shown};
+ghost use Rattle.run_layout.specs.Wording.{title_text};
+ghost use Rattle.run_layout.specs.Axis.{IsScale, places_shown};
+ghost use Rattle.run_picture.specs.Lanes.{run_figures};
+ghost use Rattle.run_picture.specs.Notes.{refusals_from};
+ghost use Rattle.run_picture.specs.Drawing.{scale_of, width_of_places, notes_figures, lanes_below, events_figures, events_end, drawing_of_marks};
+
+use crate::bars::{push_bars, push_texts};
+use crate::cells::push_cells;
+use crate::dots::{push_arrows, push_dots, push_steps};
+use crate::figures::push_text;
+use crate::lanes::{Lanes, MARGIN, START, push_era_lines, push_eras};
+use crate::legend::push_legend;
+use crate::notes::{
+    LINE, description_of, line_letters, push_captions, push_headings, push_refusals,
+};
+use run_layout::{Axis, Scale, axis_of, title_of};
+use run_marks::Marks;
+use std::alloc::{AllocError, Global};
+use svg_text::{Anchor, Drawing, Paint, Shape};
+use uni_script::Told;
+
+/// How wide a picture is at least.
+const LEAST_WIDTH: u64 = 960;
+
+/// How high the legend is, with the room below it.
+const LEGEND: u64 = 146;
+
+/// How many lanes a picture has at most: a script has no more processes.
+const MOST_LANES: u64 = 64;
+
+/// How wide the things of a picture are: steps are the wider, the fewer there are.
+fn scale_of(marks: &Marks, told: &[Told]) -> Scale
+    requires events { marks.now.events ≤ 2000 }
+    requires told { length told.now ≤ 100000 }
+    ensures fits { IsScale result }
+    ensures scale { result ≡ scale_of (marks_shown marks.now) told.now }
+{
+    let places = marks.events + 5 * told.len() as u64 + 1;
+    let step = (872 / places).min(28).max(16) / 2 * 2;
+    Scale {
+        start: START,
+        step: step as u32,
+        letter: 8,
+        mark: 16,
+    }
+}
+
+/// How wide a picture is: as wide as its columns.
+fn width_of(axis: &Axis) -> u64
+    ensures least { 960 ≤ result }
+    ensures small { result < 2 ^ 35 }
+    ensures width { result ≡ width_of_places (places_shown axis.now) }
+{
+    LEAST_WIDTH.max(u64::from(axis.end) + 2 * MARGIN)
+}
+
+/// Adds the title.
+///
+/// An `Err` says that memory was refused.
+fn push_title(alloc: Global, marks: &Marks, shapes: &mut Vec<Shape>) -> Result<(), AllocError>
+    ensures { OnOk result (map figure shapes.new.items ≡ map figure shapes.old.items ++ Text 12 28 Start Title (title_text (marks_shown marks.now)) ∷ []) }
+{
+    let title = title_of(alloc, marks)?;
+    push_text(shapes, MARGIN, 28, Anchor::Start, Paint::Title, title)
+}
+
+/// Adds the title, the headings and the captions; the answer is where the lanes stand below them.
+///
+/// An `Err` says that memory was refused.
+fn push_notes(
+    alloc: Global,
+    marks: &Marks,
+    told: &[Told],
+    axis: &Axis,
+    shapes: &mut Vec<Shape>,
+) -> Result<Lanes, AllocError>
+    requires { length told.now ≤ 100000 }
+    ensures shapes { OnOk result (map figure shapes.new.items ≡ map figure shapes.old.items ++ notes_figures (places_shown axis.now) (marks_shown marks.now) told.now) }
+    ensures lanes { IfOk result (λ lanes. lanes ≡ lanes_below (places_shown axis.now) (marks_shown marks.now) told.now) }
+{
+    let width = width_of(axis);
+    let most = line_letters(width);
+    push_title(alloc, marks, shapes)?;
+    let top = push_headings(alloc, told, most, 32, shapes)?;
+    let foot = push_captions(alloc, told, axis, width, most, top, shapes)?;
+    Ok(Lanes {
+        top: (foot + LINE) as u32,
+        count: marks.lanes().min(MOST_LANES) as u32,
+    })
+}
+
+/// Adds what is drawn of the events, in lanes.
+///
+/// An `Err` says that memory was refused.
+fn push_run(
+    alloc: Global,
+    marks: &Marks,
+    axis: &Axis,
+    lanes: Lanes,
+    shapes: &mut Vec<Shape>,
+) -> Result<(), AllocError>
+    ensures { OnOk result (map figure shapes.new.items ≡ map figure shapes.old.items ++ run_figures (places_shown axis.now) lanes (marks_shown marks.now)) }
+{
+    push_eras(alloc, &marks.eras, axis, lanes, shapes)?;
+    push_era_lines(alloc, &marks.lines, axis, lanes, shapes)?;
+    push_bars(&marks.bars, axis, lanes, shapes)?;
+    push_arrows(&marks.dots, axis, lanes, shapes)?;
+    push_steps(alloc, &marks.steps, axis, lanes, shapes)?;
+    push_dots(&marks.dots, axis, lanes, shapes)?;
+    push_texts(alloc, &marks.bars, axis, lanes, shapes)
+}
+
+/// Adds what stands above the list of cells: notes, lanes and refusals. The answer is where that ends.
+///
+/// An `Err` says that memory was refused.
+fn push_events(
+    alloc: Global,
+    marks: &Marks,
+    told: &[Told],
+    axis: &Axis,
+    shapes: &mut Vec<Shape>,
+) -> Result<u64, AllocError>
+    requires { length told.now ≤ 100000 }
+    ensures shapes { OnOk result (map figure shapes.new.items ≡ map figure shapes.old.items ++ events_figures (places_shown axis.now) (marks_shown marks.now) told.now) }
+    ensures small { IfOk result (λ end. end < 2 ^ 35) }
+    ensures end { IfOk result (λ end. end ≡ events_end (places_shown axis.now) (marks_shown marks.now) told.now) }
+{
+    let lanes = push_notes(alloc, marks, told, axis, shapes)?;
+    push_run(alloc, marks, axis, lanes, shapes)?;
+    push_refusals(alloc, told, axis, lanes, shapes)?;
+    Ok(lanes.bottom())
+}
+
+/// The shapes of the marks of a run, with what was told beside its events.
+///
+/// An `Err` says that memory was refused.
+pub fn drawing_of(alloc: Global, marks: &Marks, told: &[Told]) -> Result<Drawing, AllocError>
+    requires events { marks.now.events ≤ 2000 }
+    requires told { length told.now ≤ 100000 }
+    ensures { IfOk result (λ drawing. picture drawing ≡ drawing_of_marks (marks_shown marks.now) told.now) }
+{
+    let axis = axis_of(alloc, marks, told, scale_of(marks, told))?;
+    let width = width_of(&axis);
+    let mut shapes = Vec::new(alloc);
+    let above = push_events(alloc, marks, told, &axis, &mut shapes)?;
+    let below = push_cells(alloc, &marks.eras, width, above, &mut shapes)?;
+    push_legend(alloc, width, below, &mut shapes)?;
+    Ok(Drawing {
+        width,
+        height: below + LEGEND,
+        title: title_of(alloc, marks)?,
+        description: description_of(alloc, told)?,
+        shapes,
+    })
+}

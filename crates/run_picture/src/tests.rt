@@ -1,0 +1,56 @@
+//! A test of a whole picture, and of a script that has none.
+
+use crate::picture_of;
+use run_layout::PictureFault;
+use std::alloc::Global;
+use std::process::Abort;
+use uni_script::{BenchFault, Checked};
+
+/// Process 0 helps process 1, which stopped after its first step.
+const HELPED: &str = "universal 1 queue 2 8
+call 1 enq 5
+step 1
+call 0 enq 6
+finish 0
+";
+
+/// What the picture must have: its title, the dots of both calls, the arrow from the mark of process 0 to the
+/// dot of process 1, the labels, and the counts.
+///
+/// There are 27 events of 28 each, from 44 on. Process 0 links the cell of process 1 in event 12 and its own in
+/// event 20; the middles of these are 44 + 12 * 28 + 14 and 44 + 20 * 28 + 14. The lanes begin at 74 and are
+/// 96 high; marks stand 28 below the top of a lane and are 22 high, and dots 60 below it.
+const PARTS: [&str; 7] = [
+    "<title id=\"title\">queue: 2 processes, 2 calls, 27 events</title>",
+    "<circle cx=\"394\" cy=\"230\"",
+    "<circle cx=\"618\" cy=\"134\"",
+    "<line x1=\"394\" y1=\"124\" x2=\"394\" y2=\"224\"",
+    ">1.0 enq 5</text>",
+    ">0.0 enq 6 -&gt; ok</text>",
+    ">24 steps 2 turns</text>",
+];
+
+/// Whether a text has a part.
+fn has(text: &[u8], part: &[u8]) -> bool {
+    text.windows(part.len()).any(|window| window == part)
+}
+
+#[test]
+fn stopped_process_is_helped(rt: HostRuntime) {
+    match picture_of(rt.alloc(), &mut Checked::new(HELPED.as_bytes())) {
+        Ok(svg) => {
+            for part in PARTS {
+                assert!(rt; has(svg.as_slice(), part.as_bytes()), "{part}");
+            }
+        }
+        Err(_) => assert!(rt; false),
+    }
+}
+
+#[test]
+fn no_script(rt: HostRuntime) {
+    match picture_of(rt.alloc(), &mut Checked::new(b"".as_slice())) {
+        Ok(_) => assert!(rt; false),
+        Err(fault) => assert_eq!(rt; fault, PictureFault::Script(BenchFault::NoHeader(1))),
+    }
+}

@@ -1,0 +1,33 @@
+-- What a run of the program has done when it ends.
+use Rattle.std.specs.Prelude.{◌≡◌, ◌⊎◌, ℕ, List, [], ◌∷◌, Option, None, Some}
+use Rattle.std.specs.Io.KnownBytes.{Appends}
+use Rattle.uni_script.specs.Ends.{AppendsFront}
+use Rattle.uni_script.specs.Replay.{IsFaultOfScript}
+use Rattle.uni_script.specs.ScriptRun.{HasFault}
+use Rattle.uni_script.specs.declared.fault.BenchFault.{BenchFault}
+use Rattle.run_layout.specs.Subject.{HasTooManyEvents}
+use Rattle.run_picture.specs.Picture.{IsPicture}
+use Rattle.unidraw.specs.declared.program.Form.{Form}
+use Rattle.unidraw.specs.declared.program.Form.TheVariants.{Svg}
+
+-- the form that the words of a command line ask for, the program's name first
+abbrev pub form_of_words : List (List ℕ) → Option Form
+form_of_words [] = Some Svg
+form_of_words (name ∷ []) = Some Svg
+form_of_words (name ∷ word ∷ words) = None
+
+-- the reader had a script that can be drawn, and this is its picture in a form
+abbrev pub IsPictureIn : Form → (left : Option (List ℕ)) → (text : List ℕ) → Type 0
+IsPictureIn Svg left text = IsPicture left text
+
+-- the reader had a script with a fault, or with too many events
+abbrev pub HasNoPicture : (left : Option (List ℕ)) → Type 0
+HasNoPicture left = HasTooManyEvents left ⊎ ((e : BenchFault) × IsFaultOfScript e × HasFault 1048576 left e)
+
+-- a run of the program that ended with this status, from what the input had left and the output held: 0 only where the picture was
+-- written, 2 only where the script has none; after a failure of the output a front of the picture was written, and else nothing
+pub record IsDrawn (form : Form) (left old new : Option (List ℕ)) (status : ℕ) : Type 0 where
+  pub drawn : status ≡ 0 → (text : List ℕ) × IsPictureIn form left text × Appends old new text
+  pub bad : status ≡ 2 → HasNoPicture left × (new ≡ old)
+  pub front : status ≡ 3 → (new ≡ old) ⊎ ((text : List ℕ) × IsPictureIn form left text × AppendsFront old new text)
+  pub nothing : status ≡ 4 → new ≡ old

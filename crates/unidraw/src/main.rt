@@ -1,0 +1,35 @@
+//! The program: a script on standard input, its picture on standard output.
+#![tactic(auto)]
+
+mod program;
+#[cfg(test)]
+mod tests;
+
+use crate::program::{refuse_words, run};
+use std::alloc::Global;
+use std::env::Env;
+use std::process::ExitCode;
+use std::{env, io};
+use uni_script::Checked;
+
+/// The argument texts, the program's name first.
+fn words<R: Env + Alloc<A = Global>>(rt: &R) -> io::Result<Vec<String>> {
+    Ok(env::args(rt)?.collect(rt.alloc())?)
+}
+
+fn main(rt: HostRuntime) -> ExitCode {
+    let mut input = Checked::new(rt.stdin());
+    let mut output = Checked::new(rt.stdout());
+    let mut faults = Checked::new(rt.stderr());
+    let status = match words(&rt) {
+        Ok(words) => run(
+            rt.alloc(),
+            words.as_slice(),
+            &mut input,
+            &mut output,
+            &mut faults,
+        ),
+        Err(error) => refuse_words(&error, &mut faults),
+    };
+    ExitCode::from(status)
+}
