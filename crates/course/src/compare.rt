@@ -1,8 +1,11 @@
-//! What a script answers, beside what it should.
+//! What a script answers and how its run is drawn, beside what it should.
 
-ghost use Rattle.std.specs.Prelude.{◌≡◌, ◌↔◌, true, None, IfOk};
+ghost use Rattle.std.specs.Prelude.{◌≡◌, ◌↔◌, true, None, Some, IfOk};
 ghost use Rattle.uni_script.specs.Replay.{fault_of_script, text_of_script};
+ghost use Rattle.run_picture.specs.Picture.{IsPicture};
 
+use run_layout::PictureFault;
+use run_picture::picture_of;
 use std::alloc::Global;
 use uni_script::{BenchFault, Checked, Options, bench};
 
@@ -29,4 +32,15 @@ pub fn has_answers(alloc: Global, script: &[u8], answers: &[u8]) -> Result<bool,
         ) => Err(fault),
         Err(_) => Ok(false),
     }
+}
+
+/// Whether this is the picture of the run of a script.
+///
+/// An `Err` says why the script has none: its first fault, more events than a picture takes, or the want of
+/// memory.
+pub fn has_picture(alloc: Global, script: &[u8], svg: &[u8]) -> Result<bool, PictureFault>
+    ensures { IfOk result (λ same. same ≡ true → IsPicture (Some script.now) svg.now) }
+{
+    let picture = picture_of(alloc, &mut Checked::new(script))?;
+    Ok(picture.as_slice() == svg)
 }
