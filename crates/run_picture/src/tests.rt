@@ -32,7 +32,12 @@ const PARTS: [&str; 7] = [
 
 /// Whether a text has a part.
 fn has(text: &[u8], part: &[u8]) -> bool {
-    text.windows(part.len()).any(|window| window == part)
+    for at in 0..text.len() {
+        if text[at..].starts_with(part) {
+            return true;
+        }
+    }
+    false
 }
 
 #[test]
