@@ -11,6 +11,7 @@ ghost use Rattle.unidraw.specs.Drawn.{form_of_words, IsPictureIn, IsDrawn};
 ghost use Rattle.unidraw.specs.Statuses.{status_of, IsStatusOf, TellsFault};
 
 use run_layout::{PictureFault, push_picture_fault};
+use run_lines::lines_of;
 use run_picture::picture_of;
 use std::alloc::{AllocError, Global};
 use std::convert::AsStr;
@@ -22,10 +23,13 @@ use uni_script::{BenchFault, Failed, TextIn, TextOut, write_all};
 pub enum Form {
     /// An SVG.
     Svg,
+    /// Lines of text, for a terminal of 100 columns.
+    Lines,
 }
 
 /// Draws the script on `input` in the form that the argument texts ask for, the program's name first, and
-/// writes the picture to `output`; the answer is the status that the program ends with.
+/// writes the picture to `output`; the answer is the status that the program ends with. With `--text` alone
+/// the picture is one of lines, and with no word an SVG.
 ///
 /// The status is 0 where all went well; 2 for a bad script, one of more than 2,000 events, or words that ask
 /// for nothing that there is; 3 where `input` or `output` failed; and 4 where memory was refused. The text
@@ -48,7 +52,7 @@ pub fn run<S: AsStr, I: TextIn, O: TextOut, F: TextOut>(
     match form_of(words) {
         Some(form) => draw(alloc, form, input, output, faults),
         None => {
-            tell(faults, b"usage: unidraw < SCRIPT\n");
+            tell(faults, b"usage: unidraw [--text] < SCRIPT\n");
             2
         }
     }
@@ -61,6 +65,7 @@ fn form_of<S: AsStr>(words: &[S]) -> Option<Form>
 {
     match words {
         [] | [_] => Some(Form::Svg),
+        [_, word] if word.as_str() == "--text" => Some(Form::Lines),
         _ => None,
     }
 }
@@ -101,6 +106,7 @@ fn picture_in<I: TextIn>(alloc: Global, form: Form, reader: &mut I) -> Result<Ve
 {
     match form {
         Form::Svg => picture_of(alloc, reader),
+        Form::Lines => lines_of(alloc, reader),
     }
 }
 

@@ -27,8 +27,9 @@ fn ends(rt: &impl Abort, alloc: Global, words: &[&str], script: &[u8], status: u
 #[test]
 fn statuses(rt: HostRuntime) {
     let alloc = rt.alloc();
-    let usage = b"usage: unidraw < SCRIPT\n";
+    let usage = b"usage: unidraw [--text] < SCRIPT\n";
     ends(&rt, alloc, &["unidraw"], SCRIPT, 0, b"");
+    ends(&rt, alloc, &["unidraw", "--text"], SCRIPT, 0, b"");
     ends(&rt, alloc, &["unidraw"], b"", 2, b"line 1: no header\n");
     ends(&rt, alloc, &["unidraw", "all"], SCRIPT, 2, usage.as_slice());
     ends(

@@ -1,0 +1,10 @@
+use Rattle.std.proofs.Common.{◌≡◌, ◌++◌, map, take}
+use Rattle.std.specs.List.{flat_map}
+use Rattle.run_layout.specs.Axis.{places_shown}
+use Rattle.run_lines.specs.Canvas.{stroke_shown}
+use Rattle.run_lines.specs.Strokes.{dot_strokes}
+use Rattle.run_lines.proofs.strokes.push_dots.Given as goal
+
+-- the strokes so far
+abbrev pub invariant-loop-dot : goal.invariant-loop-dot
+invariant-loop-dot l = map stroke_shown l.strokes.items ≡ map stroke_shown l.initial.strokes.items ++ flat_map (dot_strokes (places_shown l.axis) l.lanes) (take l.dot-index l.dots)

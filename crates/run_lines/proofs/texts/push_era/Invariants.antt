@@ -1,0 +1,9 @@
+use Rattle.std.proofs.Common.{◌≡◌, ◌++◌, map, take}
+use Rattle.std.specs.List.{flat_map}
+use Rattle.run_marks.specs.Shown.{cell_shown}
+use Rattle.run_lines.specs.Sheet.{cell_text}
+use Rattle.run_lines.proofs.texts.push_era.Given as goal
+
+-- the cells so far
+abbrev pub invariant-loop-cell : goal.invariant-loop-cell
+invariant-loop-cell l = l.text.items ≡ l.initial.text.items ++ flat_map cell_text (map cell_shown (take l.cell-index l.era.cells.items))

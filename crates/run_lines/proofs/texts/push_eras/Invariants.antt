@@ -1,0 +1,8 @@
+use Rattle.std.proofs.Common.{◌≡◌, ◌++◌, map, drop}
+use Rattle.run_marks.specs.Shown.{era_shown}
+use Rattle.run_lines.specs.Sheet.{eras_from}
+use Rattle.run_lines.proofs.texts.push_eras.Given as goal
+
+-- the eras so far, and those of the rest
+abbrev pub invariant-loop-place : goal.invariant-loop-place
+invariant-loop-place l = l.text.items ++ eras_from l.place (map era_shown (drop l.place l.eras)) ≡ l.initial.text.items ++ eras_from 0 (map era_shown l.eras)

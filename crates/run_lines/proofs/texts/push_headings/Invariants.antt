@@ -1,0 +1,7 @@
+use Rattle.std.proofs.Common.{◌≡◌, ◌++◌, take}
+use Rattle.run_lines.specs.Sheet.{headings_text}
+use Rattle.run_lines.proofs.texts.push_headings.Given as goal
+
+-- the headings so far
+abbrev pub invariant-loop-one : goal.invariant-loop-one
+invariant-loop-one l = l.text.items ≡ l.initial.text.items ++ headings_text (take l.one-index l.told)

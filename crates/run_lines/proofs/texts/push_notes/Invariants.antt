@@ -1,0 +1,11 @@
+use Rattle.std.proofs.Common.{◌≡◌, ◌≤◌, ◌++◌, drop}
+use Rattle.run_lines.specs.Numbers.{no_notes}
+use Rattle.run_lines.specs.Sheet.{notes_from}
+use Rattle.run_lines.proofs.texts.push_notes.Given as goal
+
+-- the notes so far, and those of the rest
+abbrev pub invariant-loop-one : goal.invariant-loop-one
+invariant-loop-one l = record {
+  small : l.numbering.number ≤ l.one-index;
+  rest : l.text.items ++ notes_from l.numbering (drop l.one-index l.told) ≡ l.initial.text.items ++ notes_from no_notes l.told;
+}

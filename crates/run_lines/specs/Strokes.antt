@@ -1,0 +1,124 @@
+-- The strokes of a run: rows 0 and 1 stand above the lanes, and each lane has four rows.
+use Rattle.std.specs.Prelude.{◌≡◌, ℕ, ◌+◌, ◌-◌, ◌*◌, min, ◌==◌, nat_lt, if◌then◌else◌, List, [], ◌∷◌, ◌++◌, length, replicate, Option, Some, None, codes, refl}
+use Rattle.std.specs.List.{flat_map}
+use Rattle.std.specs.Option.{option_map_or}
+use Rattle.std.specs.Fmt.{decimal}
+use Rattle.uni_script.specs.declared.answer.Refusal.{Refusal}
+use Rattle.uni_script.specs.declared.told.Remark.{Remark}
+use Rattle.uni_script.specs.declared.told.Remark.TheVariants.{Heading, Note, Refused}
+use Rattle.uni_script.specs.declared.told.Told.{Told}
+use Rattle.run_marks.specs.declared.marks.StepMark.{StepMark}
+use Rattle.run_marks.specs.declared.marks.Dot.{Dot}
+use Rattle.run_marks.specs.declared.marks.EraLine.{EraLine}
+use Rattle.run_marks.specs.Marks.{End, Called, RunMarks}
+use Rattle.run_layout.specs.declared.axis.Column.{Column}
+use Rattle.run_layout.specs.Wording.{letter_of, label_text, counts_text, line_text, refusal_words, lane_of}
+use Rattle.run_layout.specs.Axis.{Places, event_column, told_column, right_of}
+use Rattle.run_lines.specs.declared.canvas.Layer.{Layer}
+use Rattle.run_lines.specs.declared.canvas.Layer.TheVariants.{Over, Behind}
+use Rattle.run_lines.specs.declared.numbering.Numbering.{Numbering}
+use Rattle.run_lines.specs.Canvas.{Stroke}
+use Rattle.run_lines.specs.Numbers.{numbering_after, no_notes}
+
+-- the first row of the lane of a process, of so many lanes; the row after all of one that there isn't
+abbrev pub lane_row : (lanes process : ℕ) → ℕ
+lane_row lanes process = 2 + min process lanes * 4
+
+-- the row after those of so many lanes
+abbrev pub bottom_row : (lanes : ℕ) → ℕ
+bottom_row lanes = 2 + lanes * 4
+
+-- a text in one row, over what stands there
+abbrev pub text_stroke : (row column : ℕ) → List ℕ → Stroke
+text_stroke row column text = record { top = row; bottom = row + 1; column = column; text = text; layer = Over }
+
+abbrev pub letter_stroke : (row column letter : ℕ) → Stroke
+letter_stroke row column letter = text_stroke row column (letter ∷ [])
+
+-- a `|` in each row from the top to before the bottom
+abbrev pub column_stroke : (top bottom column : ℕ) → Layer → Stroke
+column_stroke top bottom column layer = record { top = top; bottom = bottom; column = column; text = codes "|"; layer = layer }
+
+-- the end of an era: a line through all lanes, with its label above them
+abbrev pub line_strokes : Places → (lanes : ℕ) → EraLine → List Stroke
+line_strokes places lanes line =
+    let column = (event_column places line.event).left in
+    column_stroke 2 (bottom_row lanes) column Over ∷ text_stroke 1 column (line_text line) ∷ []
+
+-- the column after the bar of a call: one that hasn't returned goes to the right end of all
+abbrev pub bar_end : Places → Option End → ℕ
+bar_end places (Some end) = right_of (event_column places end.event)
+bar_end places None = places.end + 1
+
+-- the letters of a bar that is so wide
+abbrev pub bar_text : (width : ℕ) → List ℕ
+bar_text width = 91 ∷ replicate (width - 1) 45
+
+-- the counts of a call that has returned, which end with its bar
+abbrev pub counts_strokes : Places → (row : ℕ) → Option End → List Stroke
+counts_strokes places row (Some end) = text_stroke row (right_of (event_column places end.event) - length (counts_text end)) (counts_text end) ∷ []
+counts_strokes places row None = []
+
+-- the bar of a call in the second row of the lane of its process, its label in the first one and its counts in the last one
+abbrev pub bar_strokes : Places → (lanes : ℕ) → Called → List Stroke
+bar_strokes places lanes bar =
+    let row = lane_row lanes bar.call.process in
+    let left = (event_column places bar.from).left in
+    text_stroke (row + 1) left (bar_text (bar_end places bar.end - left)) ∷ text_stroke row left (label_text bar) ∷ counts_strokes places (row + 3) bar.end
+
+-- the letter of a step, upon the bar
+abbrev pub step_strokes : Places → (lanes : ℕ) → StepMark → List Stroke
+step_strokes places lanes step = letter_stroke (lane_row lanes step.process + 1) (event_column places step.event).left (letter_of step.kind) ∷ []
+
+-- the arrow from the step of the process that linked a cell to the dot of the call that the cell is of, where that is a call of
+-- another process: down to the row above the dot, or up to the row below it
+abbrev pub arrow_strokes : (lanes column : ℕ) → Dot → List Stroke
+arrow_strokes lanes column dot =
+    let step = lane_row lanes dot.by + 1 in
+    let point = lane_row lanes dot.call.process + 2 in
+    if dot.call.process == dot.by then []
+    else if nat_lt dot.by dot.call.process then column_stroke (step + 1) (point - 1) column Behind ∷ letter_stroke (point - 1) column 118 ∷ []
+    else column_stroke (point + 2) step column Behind ∷ letter_stroke (point + 1) column 94 ∷ []
+
+-- the dot of a call in the third row of the lane of its process, and the arrow to it
+abbrev pub dot_strokes : Places → (lanes : ℕ) → Dot → List Stroke
+dot_strokes places lanes dot =
+    let column = (event_column places dot.event).left in
+    letter_stroke (lane_row lanes dot.call.process + 2) column 42 ∷ arrow_strokes lanes column dot
+
+-- the row of a refusal: that of the bars of its process, or the one above the lanes
+abbrev pub refusal_row : (lanes : ℕ) → Refusal → ℕ
+refusal_row lanes refusal = option_map_or (λ process. lane_row lanes process + 1) (lane_of refusal) 1
+
+-- what is drawn of a remark in its column: a refusal with an `x` before its words, or the number of a note above the lanes
+abbrev pub remark_strokes : Column → (lanes number : ℕ) → Remark → List Stroke
+remark_strokes column lanes number (Refused refusal) = text_stroke (refusal_row lanes refusal) column.left (120 ∷ refusal_words refusal) ∷ []
+remark_strokes column lanes number (Note text) = text_stroke 0 column.left (decimal number) ∷ []
+remark_strokes column lanes number (Heading text) = []
+
+-- those of what is told, from a place on
+abbrev pub told_from : Places → (lanes place : ℕ) → Numbering → List Told → List Stroke
+told_from places lanes place numbering [] = []
+told_from places lanes place numbering (one ∷ told) =
+    let next = numbering_after numbering one in
+    remark_strokes (told_column places place) lanes next.number one.remark ++ told_from places lanes (place + 1) next told
+
+-- what is drawn of a run where its columns stand at these places, in the order in which it is painted
+abbrev pub strokes_on : Places → (lanes : ℕ) → RunMarks → List Told → List Stroke
+strokes_on places lanes marks told =
+    flat_map (line_strokes places lanes) marks.lines
+    ++ flat_map (bar_strokes places lanes) marks.bars
+    ++ flat_map (step_strokes places lanes) marks.steps
+    ++ flat_map (dot_strokes places lanes) marks.dots
+    ++ told_from places lanes 0 no_notes told
+
+-- process 0 links the cell of process 1: the dot stands below the bar of process 1, and the arrow goes down to it from process 0
+arrow_of_help : arrow_strokes 2 7 (record { event = 1; call = record { process = 1; nth = 0 }; by = 0 }) ≡ column_stroke 4 7 7 Behind ∷ letter_stroke 7 7 118 ∷ []
+arrow_of_help = refl
+
+-- and up from process 2
+arrow_upward : arrow_strokes 3 7 (record { event = 1; call = record { process = 1; nth = 0 }; by = 2 }) ≡ column_stroke 10 11 7 Behind ∷ letter_stroke 9 7 94 ∷ []
+arrow_upward = refl
+
+no_arrow_of_own : arrow_strokes 2 7 (record { event = 1; call = record { process = 1; nth = 0 }; by = 1 }) ≡ []
+no_arrow_of_own = refl

@@ -1,0 +1,32 @@
+//! From the bytes of a script to the lines that draw its run.
+
+ghost use Rattle.std.specs.Prelude.{◌≡◌, ◌≤◌, IfOk, IsErrOf, false, length};
+ghost use Rattle.uni_script.specs.Replay.{IsFaultOfScript};
+ghost use Rattle.uni_script.specs.ScriptRun.{HasFault};
+ghost use Rattle.uni_script.specs.declared.fault.BenchFault.{BenchFault as Fault};
+ghost use Rattle.run_marks.specs.Shown.{marks_shown};
+ghost use Rattle.run_layout.specs.Subject.{HasTooManyEvents};
+ghost use Rattle.run_lines.specs.Sheet.{lines_of_marks};
+ghost use Rattle.run_lines.specs.Lines.{IsLines};
+
+use crate::sheet::text_of;
+use run_layout::{PictureFault, subject_of};
+use std::alloc::{AllocError, Global};
+use uni_script::{BenchFault, TextIn};
+
+/// The run of the script that a reader has, as lines for a terminal of 100 columns.
+///
+/// An `Err` is the first fault of the script; `Read` where the reader failed; `Memory` where memory was
+/// refused; or `TooManyEvents` of a good script that has more than 2,000 events.
+pub fn lines_of<I: TextIn>(alloc: Global, reader: &mut I) -> Result<Vec<u8>, PictureFault>
+    requires { I.has_failed reader.old ≡ false }
+    ensures lines { IfOk result (λ text. IsLines (I.remaining reader.old) text.items) }
+    ensures many { IsErrOf result PictureFault.TooManyEvents → HasTooManyEvents (I.remaining reader.old) }
+    ensures fault { (e : Fault) → IsErrOf result (PictureFault.Script e) → IsFaultOfScript e → HasFault 1048576 (I.remaining reader.old) e }
+{
+    let subject = subject_of(alloc, reader)?;
+    match text_of(alloc, &subject.marks, &subject.told) {
+        Ok(text) => Ok(text),
+        Err(AllocError) => Err(PictureFault::Script(BenchFault::Memory)),
+    }
+}

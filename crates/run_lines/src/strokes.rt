@@ -1,0 +1,457 @@
+//! What is drawn of a run in its rows, stroke by stroke.
+
+ghost use Rattle.std.specs.Prelude.{◌≡◌, ◌++◌, ◌∷◌, [], ◌≤◌, IfOk, OnOk, Some, map, length};
+ghost use Rattle.std.specs.List.{flat_map};
+ghost use Rattle.std.specs.Fmt.{decimal};
+ghost use Rattle.run_marks.specs.Shown.{bar_shown, end_shown, marks_shown};
+ghost use Rattle.run_layout.specs.Wording.{refusal_words};
+ghost use Rattle.run_layout.specs.Axis.{places_shown};
+ghost use Rattle.run_lines.specs.Canvas.{stroke_shown};
+ghost use Rattle.run_lines.specs.Strokes.{lane_row, bottom_row, text_stroke, letter_stroke, column_stroke, line_strokes, bar_end, bar_text, counts_strokes, bar_strokes, step_strokes, arrow_strokes, dot_strokes, refusal_row, remark_strokes, told_from, strokes_on};
+ghost use Rattle.run_lines.specs.Numbers.{no_notes};
+
+use crate::canvas::{Layer, Stroke};
+use crate::numbering::Numbering;
+use run_layout::{Axis, Column, counts_of, label_of, lane_of, letter_of, line_of, refusal_of};
+use run_marks::{Bar, BarEnd, Dot, EraLine, Marks, StepMark};
+use std::alloc::{AllocError, Global};
+use std::io::Write;
+use uni_script::{Refusal, Remark, Told};
+
+/// How many rows are above the lanes: the numbers of notes, and what has no lane.
+pub const ABOVE: u64 = 2;
+
+/// How many rows a lane has: labels, bars with the letters of steps, dots, and counts.
+pub const LANE: u64 = 4;
+
+/// How many lanes there are at most: a script has no more processes.
+pub const MOST_LANES: u64 = 64;
+
+/// The first row of the lane of a process, of so many lanes; the row after all of one that there isn't.
+fn lane_row(lanes: u64, process: u64) -> u64
+    requires { lanes ≤ 64 }
+    ensures small { result ≤ 258 }
+    ensures row { result ≡ lane_row lanes process }
+{
+    ABOVE + process.min(lanes) * LANE
+}
+
+/// The row after those of so many lanes.
+pub fn bottom_row(lanes: u64) -> u64
+    requires { lanes ≤ 64 }
+    ensures small { result ≤ 258 }
+    ensures row { result ≡ bottom_row lanes }
+{
+    ABOVE + lanes * LANE
+}
+
+/// Adds a text in one row, over what stands there.
+///
+/// An `Err` says that memory was refused.
+fn push_text(
+    strokes: &mut Vec<Stroke>,
+    row: u64,
+    column: u64,
+    text: Vec<u8>,
+) -> Result<(), AllocError>
+    requires { row ≤ 1000 }
+    ensures { OnOk result (map stroke_shown strokes.new.items ≡ map stroke_shown strokes.old.items ++ text_stroke row column text.items ∷ []) }
+{
+    strokes.push(Stroke {
+        top: row,
+        bottom: row + 1,
+        column,
+        text,
+        layer: Layer::Over,
+    })?;
+    Ok(())
+}
+
+/// Adds a letter in one row, over what stands there.
+///
+/// An `Err` says that memory was refused.
+fn push_letter(
+    alloc: Global,
+    strokes: &mut Vec<Stroke>,
+    row: u64,
+    column: u64,
+    letter: u8,
+) -> Result<(), AllocError>
+    requires { row ≤ 1000 }
+    ensures { OnOk result (map stroke_shown strokes.new.items ≡ map stroke_shown strokes.old.items ++ letter_stroke row column letter ∷ []) }
+{
+    let mut text = Vec::new(alloc);
+    text.push(letter)?;
+    push_text(strokes, row, column, text)
+}
+
+/// Adds a `|` in each row from the top to before the bottom.
+///
+/// An `Err` says that memory was refused.
+fn push_column(
+    alloc: Global,
+    strokes: &mut Vec<Stroke>,
+    top: u64,
+    bottom: u64,
+    column: u64,
+    layer: Layer,
+) -> Result<(), AllocError>
+    ensures { OnOk result (map stroke_shown strokes.new.items ≡ map stroke_shown strokes.old.items ++ column_stroke top bottom column layer ∷ []) }
+{
+    let mut text = Vec::new(alloc);
+    text.push(b'|')?;
+    strokes.push(Stroke {
+        top,
+        bottom,
+        column,
+        text,
+        layer,
+    })?;
+    Ok(())
+}
+
+/// Adds the end of an era: a line through all lanes, with its label above them.
+///
+/// An `Err` says that memory was refused.
+fn push_era_line(
+    alloc: Global,
+    line: &EraLine,
+    axis: &Axis,
+    lanes: u64,
+    strokes: &mut Vec<Stroke>,
+) -> Result<(), AllocError>
+    requires { lanes ≤ 64 }
+    ensures { OnOk result (map stroke_shown strokes.new.items ≡ map stroke_shown strokes.old.items ++ line_strokes (places_shown axis.now) lanes line.now) }
+{
+    let column = u64::from(axis.event(line.event).left);
+    let bottom = bottom_row(lanes);
+    push_column(alloc, strokes, ABOVE, bottom, column, Layer::Over)?;
+    push_text(strokes, ABOVE - 1, column, line_of(alloc, line)?)
+}
+
+/// Adds the ends of eras.
+///
+/// An `Err` says that memory was refused.
+fn push_era_lines(
+    alloc: Global,
+    lines: &[EraLine],
+    axis: &Axis,
+    lanes: u64,
+    strokes: &mut Vec<Stroke>,
+) -> Result<(), AllocError>
+    requires { lanes ≤ 64 }
+    ensures { OnOk result (map stroke_shown strokes.new.items ≡ map stroke_shown strokes.old.items ++ flat_map (line_strokes (places_shown axis.now) lanes) lines.now) }
+{
+    for line in lines {
+        push_era_line(alloc, line, axis, lanes, strokes)?;
+    }
+    Ok(())
+}
+
+/// The column after the bar of a call: one that hasn't returned goes to the right end of all.
+fn bar_end(bar: &Bar, axis: &Axis) -> u64
+    ensures { result ≡ bar_end (places_shown axis.now) (bar_shown bar.now).end }
+{
+    match &bar.end {
+        Some(end) => axis.event(end.event).right(),
+        None => u64::from(axis.end) + 1,
+    }
+}
+
+/// The letters of a bar that is so wide: a `[`, and then `-`.
+///
+/// An `Err` says that memory was refused.
+fn bar_text(alloc: Global, width: u64) -> Result<Vec<u8>, AllocError>
+    ensures { IfOk result (λ text. text.items ≡ bar_text width) }
+{
+    let mut text = Vec::new(alloc);
+    text.push(b'[')?;
+    let dashes = vec![in alloc; b'-'; width.saturating_sub(1) as usize]?;
+    text.extend_from_slice(&dashes)?;
+    Ok(text)
+}
+
+/// Adds the counts of a call that has returned, which end with its bar, in a row.
+///
+/// An `Err` says that memory was refused.
+fn push_counts(
+    alloc: Global,
+    end: &BarEnd,
+    axis: &Axis,
+    row: u64,
+    strokes: &mut Vec<Stroke>,
+) -> Result<(), AllocError>
+    requires { row ≤ 1000 }
+    ensures { OnOk result (map stroke_shown strokes.new.items ≡ map stroke_shown strokes.old.items ++ counts_strokes (places_shown axis.now) row (Some (end_shown end.now))) }
+{
+    let counts = counts_of(alloc, end)?;
+    let right = axis.event(end.event).right();
+    let column = right.saturating_sub(counts.len() as u64);
+    push_text(strokes, row, column, counts)
+}
+
+/// Adds the bar of a call, its label above it, and where the call has returned its counts below.
+///
+/// An `Err` says that memory was refused.
+fn push_bar(
+    alloc: Global,
+    bar: &Bar,
+    axis: &Axis,
+    lanes: u64,
+    strokes: &mut Vec<Stroke>,
+) -> Result<(), AllocError>
+    requires { lanes ≤ 64 }
+    ensures { OnOk result (map stroke_shown strokes.new.items ≡ map stroke_shown strokes.old.items ++ bar_strokes (places_shown axis.now) lanes (bar_shown bar.now)) }
+{
+    let row = lane_row(lanes, u64::from(bar.call.process));
+    let left = u64::from(axis.event(bar.from).left);
+    let text = bar_text(alloc, bar_end(bar, axis).saturating_sub(left))?;
+    push_text(strokes, row + 1, left, text)?;
+    push_text(strokes, row, left, label_of(alloc, bar)?)?;
+    match &bar.end {
+        Some(end) => push_counts(alloc, end, axis, row + 3, strokes),
+        None => Ok(()),
+    }
+}
+
+/// Adds the bars of calls.
+///
+/// An `Err` says that memory was refused.
+fn push_bars(
+    alloc: Global,
+    bars: &[Bar],
+    axis: &Axis,
+    lanes: u64,
+    strokes: &mut Vec<Stroke>,
+) -> Result<(), AllocError>
+    requires { lanes ≤ 64 }
+    ensures { OnOk result (map stroke_shown strokes.new.items ≡ map stroke_shown strokes.old.items ++ flat_map (bar_strokes (places_shown axis.now) lanes) (map bar_shown bars.now)) }
+{
+    for bar in bars {
+        push_bar(alloc, bar, axis, lanes, strokes)?;
+    }
+    Ok(())
+}
+
+/// Adds the letter of a step, upon the bar of its call.
+///
+/// An `Err` says that memory was refused.
+fn push_step(
+    alloc: Global,
+    step: StepMark,
+    axis: &Axis,
+    lanes: u64,
+    strokes: &mut Vec<Stroke>,
+) -> Result<(), AllocError>
+    requires { lanes ≤ 64 }
+    ensures { OnOk result (map stroke_shown strokes.new.items ≡ map stroke_shown strokes.old.items ++ step_strokes (places_shown axis.now) lanes step) }
+{
+    let row = lane_row(lanes, step.process) + 1;
+    let column = u64::from(axis.event(step.event).left);
+    push_letter(alloc, strokes, row, column, letter_of(step.kind))
+}
+
+/// Adds the letters of steps.
+///
+/// An `Err` says that memory was refused.
+fn push_steps(
+    alloc: Global,
+    steps: &[StepMark],
+    axis: &Axis,
+    lanes: u64,
+    strokes: &mut Vec<Stroke>,
+) -> Result<(), AllocError>
+    requires { lanes ≤ 64 }
+    ensures { OnOk result (map stroke_shown strokes.new.items ≡ map stroke_shown strokes.old.items ++ flat_map (step_strokes (places_shown axis.now) lanes) steps.now) }
+{
+    for step in steps {
+        push_step(alloc, *step, axis, lanes, strokes)?;
+    }
+    Ok(())
+}
+
+/// Adds the arrow from the step of the process that links a cell to the dot of the call that the cell is of,
+/// where that is a call of another process: a `v` above the dot or a `^` below it, and a line behind all else.
+///
+/// An `Err` says that memory was refused.
+fn push_arrow(
+    alloc: Global,
+    dot: Dot,
+    column: u64,
+    lanes: u64,
+    strokes: &mut Vec<Stroke>,
+) -> Result<(), AllocError>
+    requires { lanes ≤ 64 }
+    ensures { OnOk result (map stroke_shown strokes.new.items ≡ map stroke_shown strokes.old.items ++ arrow_strokes lanes column dot) }
+{
+    let of = u64::from(dot.call.process);
+    let step = lane_row(lanes, dot.by) + 1;
+    let point = lane_row(lanes, of) + 2;
+    let behind = Layer::Behind;
+    if of == dot.by {
+        Ok(())
+    } else if dot.by < of {
+        push_column(alloc, strokes, step + 1, point - 1, column, behind)?;
+        push_letter(alloc, strokes, point - 1, column, b'v')
+    } else {
+        push_column(alloc, strokes, point + 2, step, column, behind)?;
+        push_letter(alloc, strokes, point + 1, column, b'^')
+    }
+}
+
+/// Adds the dot of a call below the bar of its process, and the arrow to it.
+///
+/// An `Err` says that memory was refused.
+fn push_dot(
+    alloc: Global,
+    dot: Dot,
+    axis: &Axis,
+    lanes: u64,
+    strokes: &mut Vec<Stroke>,
+) -> Result<(), AllocError>
+    requires { lanes ≤ 64 }
+    ensures { OnOk result (map stroke_shown strokes.new.items ≡ map stroke_shown strokes.old.items ++ dot_strokes (places_shown axis.now) lanes dot) }
+{
+    let row = lane_row(lanes, u64::from(dot.call.process)) + 2;
+    let column = u64::from(axis.event(dot.event).left);
+    push_letter(alloc, strokes, row, column, b'*')?;
+    push_arrow(alloc, dot, column, lanes, strokes)
+}
+
+/// Adds the dots of calls, with the arrows to them.
+///
+/// An `Err` says that memory was refused.
+fn push_dots(
+    alloc: Global,
+    dots: &[Dot],
+    axis: &Axis,
+    lanes: u64,
+    strokes: &mut Vec<Stroke>,
+) -> Result<(), AllocError>
+    requires { lanes ≤ 64 }
+    ensures { OnOk result (map stroke_shown strokes.new.items ≡ map stroke_shown strokes.old.items ++ flat_map (dot_strokes (places_shown axis.now) lanes) dots.now) }
+{
+    for dot in dots {
+        push_dot(alloc, *dot, axis, lanes, strokes)?;
+    }
+    Ok(())
+}
+
+/// The row of a refusal: that of the bars of its process, or the one above the lanes.
+fn refusal_row(lanes: u64, refusal: Refusal) -> u64
+    requires { lanes ≤ 64 }
+    ensures small { result ≤ 259 }
+    ensures row { result ≡ refusal_row lanes refusal }
+{
+    match lane_of(refusal) {
+        Some(process) => lane_row(lanes, process) + 1,
+        None => ABOVE - 1,
+    }
+}
+
+/// Adds a refusal: an `x` and its words.
+///
+/// An `Err` says that memory was refused.
+fn push_refusal(
+    alloc: Global,
+    refusal: Refusal,
+    row: u64,
+    column: u64,
+    strokes: &mut Vec<Stroke>,
+) -> Result<(), AllocError>
+    requires { row ≤ 1000 }
+    ensures { OnOk result (map stroke_shown strokes.new.items ≡ map stroke_shown strokes.old.items ++ text_stroke row column (120 ∷ refusal_words refusal) ∷ []) }
+{
+    let mut text = Vec::new(alloc);
+    text.push(b'x')?;
+    text.extend_from_slice(&refusal_of(alloc, refusal)?)?;
+    push_text(strokes, row, column, text)
+}
+
+/// Adds the number of a note above the lanes.
+///
+/// An `Err` says that memory was refused.
+fn push_number(
+    alloc: Global,
+    number: u64,
+    column: u64,
+    strokes: &mut Vec<Stroke>,
+) -> Result<(), AllocError>
+    ensures { OnOk result (map stroke_shown strokes.new.items ≡ map stroke_shown strokes.old.items ++ text_stroke 0 column (decimal number) ∷ []) }
+{
+    let mut text = Vec::new(alloc);
+    write!(text, "{number}").map_err(|_| AllocError)?;
+    push_text(strokes, 0, column, text)
+}
+
+/// Adds what is drawn of a remark in its column: a refusal, or the number of a note.
+///
+/// An `Err` says that memory was refused.
+fn push_remark(
+    alloc: Global,
+    remark: &Remark,
+    number: u64,
+    column: Column,
+    lanes: u64,
+    strokes: &mut Vec<Stroke>,
+) -> Result<(), AllocError>
+    requires { lanes ≤ 64 }
+    ensures { OnOk result (map stroke_shown strokes.new.items ≡ map stroke_shown strokes.old.items ++ remark_strokes column lanes number remark.now) }
+{
+    let left = u64::from(column.left);
+    match remark {
+        Remark::Refused(refusal) => {
+            let row = refusal_row(lanes, *refusal);
+            push_refusal(alloc, *refusal, row, left, strokes)
+        }
+        Remark::Note(_) => push_number(alloc, number, left, strokes),
+        Remark::Heading(_) => Ok(()),
+    }
+}
+
+/// Adds what is drawn of what is told.
+///
+/// An `Err` says that memory was refused.
+fn push_told(
+    alloc: Global,
+    told: &[Told],
+    axis: &Axis,
+    lanes: u64,
+    strokes: &mut Vec<Stroke>,
+) -> Result<(), AllocError>
+    requires told { length told.now ≤ 100000 }
+    requires lanes { lanes ≤ 64 }
+    ensures { OnOk result (map stroke_shown strokes.new.items ≡ map stroke_shown strokes.old.items ++ told_from (places_shown axis.now) lanes 0 no_notes told.now) }
+{
+    let mut numbering = Numbering::none();
+    for (place, one) in told.iter().enumerate() {
+        numbering = numbering.after(one);
+        let column = axis.remark(place);
+        push_remark(alloc, &one.remark, numbering.number, column, lanes, strokes)?;
+    }
+    Ok(())
+}
+
+/// What is drawn of the marks of a run in rows, with what is told beside its events, in the order in which
+/// it is painted.
+///
+/// An `Err` says that memory was refused.
+pub fn strokes_of(
+    alloc: Global,
+    marks: &Marks,
+    told: &[Told],
+    axis: &Axis,
+    lanes: u64,
+) -> Result<Vec<Stroke>, AllocError>
+    requires told { length told.now ≤ 100000 }
+    requires lanes { lanes ≤ 64 }
+    ensures { IfOk result (λ strokes. map stroke_shown strokes.items ≡ strokes_on (places_shown axis.now) lanes (marks_shown marks.now) told.now) }
+{
+    let mut strokes = Vec::new(alloc);
+    push_era_lines(alloc, &marks.lines, axis, lanes, &mut strokes)?;
+    push_bars(alloc, &marks.bars, axis, lanes, &mut strokes)?;
+    push_steps(alloc, &marks.steps, axis, lanes, &mut strokes)?;
+    push_dots(alloc, &marks.dots, axis, lanes, &mut strokes)?;
+    push_told(alloc, told, axis, lanes, &mut strokes)?;
+    Ok(strokes)
+}

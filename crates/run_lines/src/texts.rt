@@ -1,0 +1,199 @@
+//! What stands above and below the rows: headings, notes, eras and the legend.
+
+ghost use Rattle.std.specs.Prelude.{◌≡◌, ◌++◌, ◌+◌, ◌<◌, ◌≤◌, ◌^◌, IfOk, OnOk, length, map};
+ghost use Rattle.std.specs.List.{flat_map};
+ghost use Rattle.run_marks.specs.Shown.{cell_shown, era_shown};
+ghost use Rattle.run_layout.specs.Wording.{kinds};
+ghost use Rattle.run_lines.specs.Numbers.{no_notes};
+ghost use Rattle.run_lines.specs.Sheet.{ended, wrapped, padded, headings_text, numbered_note, note_text, notes_from, cell_text, era_text, eras_from, kind_text, entry_text, entries_from, legend_text};
+
+use crate::numbering::Numbering;
+use run_layout::{KINDS, cell_name, cell_words, letter_of, meaning_of, push_lines};
+use run_marks::{CellBox, Era};
+use std::alloc::{AllocError, Global};
+use std::io::Write;
+use uni_core::StepKind;
+use uni_script::{Remark, Told};
+
+/// How wide a terminal is.
+pub const WIDTH: usize = 100;
+
+/// How wide an entry of the legend is that others follow in its line.
+const ENTRY: usize = 30;
+
+/// The last line of the legend.
+const SIGNS: &str = "[ a call begins; * it takes effect; v, ^ another process links it; x refused";
+
+/// Adds a line and its end.
+///
+/// An `Err` says that memory was refused.
+pub fn push_line(line: &[u8], text: &mut Vec<u8>) -> Result<(), AllocError>
+    ensures { OnOk result (text.new.items ≡ text.old.items ++ ended line.now) }
+{
+    text.extend_from_slice(line)?;
+    text.push(b'\n')?;
+    Ok(())
+}
+
+/// Adds a text in lines of the terminal's width.
+///
+/// An `Err` says that memory was refused.
+pub fn push_wrapped(alloc: Global, whole: &[u8], text: &mut Vec<u8>) -> Result<(), AllocError>
+    ensures { OnOk result (text.new.items ≡ text.old.items ++ wrapped whole.now) }
+{
+    let mut lines = Vec::new(alloc);
+    push_lines(alloc, whole, WIDTH, &mut lines)?;
+    for line in &lines {
+        push_line(line, text)?;
+    }
+    Ok(())
+}
+
+/// Adds a part, and blanks after it up to a width.
+///
+/// An `Err` says that memory was refused.
+pub fn push_padded(
+    alloc: Global,
+    part: &[u8],
+    width: usize,
+    text: &mut Vec<u8>,
+) -> Result<(), AllocError>
+    ensures { OnOk result (text.new.items ≡ text.old.items ++ padded width part.now) }
+{
+    text.extend_from_slice(part)?;
+    let blanks = vec![in alloc; b' '; width.saturating_sub(part.len())]?;
+    text.extend_from_slice(&blanks)
+}
+
+/// Adds the notes that come before the header.
+///
+/// An `Err` says that memory was refused.
+pub fn push_headings(alloc: Global, told: &[Told], text: &mut Vec<u8>) -> Result<(), AllocError>
+    ensures { OnOk result (text.new.items ≡ text.old.items ++ headings_text told.now) }
+{
+    for one in told {
+        if let Remark::Heading(heading) = &one.remark {
+            push_wrapped(alloc, heading, text)?;
+        }
+    }
+    Ok(())
+}
+
+/// Adds a note with its number, in lines; nothing of one that is empty.
+///
+/// An `Err` says that memory was refused.
+fn push_note(alloc: Global, number: u64, note: &[u8], text: &mut Vec<u8>) -> Result<(), AllocError>
+    ensures { OnOk result (text.new.items ≡ text.old.items ++ numbered_note number note.now) }
+{
+    if note.is_empty() {
+        return Ok(());
+    }
+    let mut line = Vec::new(alloc);
+    write!(line, "note {number}: ").map_err(|_| AllocError)?;
+    line.extend_from_slice(note)?;
+    push_wrapped(alloc, &line, text)
+}
+
+/// Adds the notes that come after the header, with the numbers that they have above the lanes.
+///
+/// An `Err` says that memory was refused.
+pub fn push_notes(alloc: Global, told: &[Told], text: &mut Vec<u8>) -> Result<(), AllocError>
+    requires { length told.now ≤ 100000 }
+    ensures { OnOk result (text.new.items ≡ text.old.items ++ notes_from no_notes told.now) }
+{
+    let mut numbering = Numbering::none();
+    for one in told {
+        numbering = numbering.after(one);
+        if let Remark::Note(note) = &one.remark {
+            push_note(alloc, numbering.number, note, text)?;
+        }
+    }
+    Ok(())
+}
+
+/// Adds a cell.
+///
+/// An `Err` says that memory was refused.
+fn push_cell(alloc: Global, cell: &CellBox, text: &mut Vec<u8>) -> Result<(), AllocError>
+    ensures { OnOk result (text.new.items ≡ text.old.items ++ cell_text (cell_shown cell.now)) }
+{
+    text.extend_from_slice(b"  ")?;
+    text.extend_from_slice(&cell_name(alloc, cell)?)?;
+    text.push(b' ')?;
+    push_line(&cell_words(alloc, cell)?, text)
+}
+
+/// Adds an era, with its place among the eras from 0: its anchor, and its cells in the order of the list.
+///
+/// An `Err` says that memory was refused.
+fn push_era(alloc: Global, place: u64, era: &Era, text: &mut Vec<u8>) -> Result<(), AllocError>
+    requires { place + 1 < 2 ^ 64 }
+    ensures { OnOk result (text.new.items ≡ text.old.items ++ era_text place (era_shown era.now)) }
+{
+    let number = place + 1;
+    let anchor = era.anchor;
+    writeln!(text, "era {number}, after the anchor {anchor}:").map_err(|_| AllocError)?;
+    for cell in &era.cells {
+        push_cell(alloc, cell, text)?;
+    }
+    Ok(())
+}
+
+/// Adds all eras.
+///
+/// An `Err` says that memory was refused.
+pub fn push_eras(alloc: Global, eras: &[Era], text: &mut Vec<u8>) -> Result<(), AllocError>
+    ensures { OnOk result (text.new.items ≡ text.old.items ++ eras_from 0 (map era_shown eras.now)) }
+{
+    for (place, era) in eras.iter().enumerate() {
+        push_era(alloc, place as u64, era, text)?;
+    }
+    Ok(())
+}
+
+/// A kind of step: its letter and what it means.
+///
+/// An `Err` says that memory was refused.
+fn kind_text(alloc: Global, kind: StepKind) -> Result<Vec<u8>, AllocError>
+    ensures { IfOk result (λ text. text.items ≡ kind_text kind) }
+{
+    let mut text = Vec::new(alloc);
+    text.push(letter_of(kind))?;
+    text.push(b' ')?;
+    text.extend_from_slice(meaning_of(kind).as_bytes())?;
+    Ok(text)
+}
+
+/// Adds a kind of step to the legend, by its place from 0: three stand in a line.
+///
+/// An `Err` says that memory was refused.
+fn push_entry(
+    alloc: Global,
+    place: usize,
+    kind: StepKind,
+    text: &mut Vec<u8>,
+) -> Result<(), AllocError>
+    ensures { OnOk result (text.new.items ≡ text.old.items ++ entry_text place kind) }
+{
+    let entry = kind_text(alloc, kind)?;
+    if place % 3 == 2 || place == 12 {
+        push_line(&entry, text)
+    } else {
+        push_padded(alloc, &entry, ENTRY, text)
+    }
+}
+
+/// Adds the legend.
+///
+/// An `Err` says that memory was refused.
+pub fn push_legend(alloc: Global, text: &mut Vec<u8>) -> Result<(), AllocError>
+    ensures { OnOk result (text.new.items ≡ text.old.items ++ legend_text) }
+{
+    text.push(b'\n')?;
+    let mut place = 0;
+    for kind in KINDS {
+        push_entry(alloc, place, kind, text)?;
+        place += 1;
+    }
+    push_line(SIGNS.as_bytes(), text)
+}
