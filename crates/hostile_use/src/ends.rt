@@ -1,6 +1,6 @@
 //! Readers and writers that fail after some bytes, and what the bench is asked with them.
 
-ghost use Rattle.std.specs.Prelude.{◌≡◌, false, None};
+ghost use Rattle.std.specs.Prelude.{◌≡◌, ◌≤◌, false, None};
 
 use std::alloc::{AllocError, Global};
 use std::process::Abort;
@@ -51,22 +51,25 @@ impl TextIn for Torn<'_> {
     }
 }
 
-/// A writer that fails after so many bytes, and takes at most three at a time.
+/// A writer that fails after so many bytes, and takes at most three at a time. One that heals fails
+/// once, and takes all that comes after that.
 #[derive(Drop)]
 pub(crate) struct Narrow {
     taken: Vec<u8>,
     room: usize,
+    heals: bool,
     failed: bool,
 }
 
 impl Narrow {
     /// A writer that hasn't failed yet.
-    pub(crate) fn new(alloc: Global, room: usize) -> Narrow
+    pub(crate) fn new(alloc: Global, room: usize, heals: bool) -> Narrow
         ensures { result.failed ≡ false }
     {
         Narrow {
             taken: Vec::new(alloc),
             room,
+            heals,
             failed: false,
         }
     }
@@ -74,6 +77,15 @@ impl Narrow {
     /// What was written.
     pub(crate) fn taken(&self) -> &[u8] {
         self.taken.as_slice()
+    }
+
+    /// How many bytes of so many the next write takes.
+    fn count_of(&self, length: usize) -> usize
+        ensures { result ≤ length }
+    {
+        let has_healed = self.failed && self.heals;
+        let room = if has_healed { length } else { self.room };
+        length.min(room).min(3)
     }
 }
 
@@ -83,14 +95,14 @@ impl TextOut for Narrow {
     ghost has_failed = { λ narrow. narrow.failed };
 
     fn write(&mut self, bytes: &[u8]) -> Result<usize, Failed> {
-        let count = bytes.len().min(self.room).min(3);
+        let count = self.count_of(bytes.len());
         if count == 0 && !bytes.is_empty()
             || self.taken.extend_from_slice(&bytes[..count]).is_err()
         {
             self.failed = true;
             return Err(Failed);
         }
-        self.room -= count;
+        self.room = self.room.saturating_sub(count);
         Ok(count)
     }
 

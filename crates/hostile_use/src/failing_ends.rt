@@ -47,16 +47,16 @@ fn outcome_in(room: usize, length: usize) -> Result<(), BenchFault> {
     }
 }
 
-/// Asserts that the front of the answers that fits is written, by a writer that fails after it.
+/// Asserts that the front of the answers that fits is written, by a writer that fails after it, and
+/// nothing more where the writer heals.
 fn fails_after(rt: &impl Abort, alloc: Global, script: &[u8], want: &[u8], room: usize) {
-    let mut writer = Narrow::new(alloc, room);
-    let ended = ends_on(alloc, &mut Checked::new(script), &mut writer);
-    assert_eq!(rt; ended, outcome_in(room, want.len()), "room {room}");
-    assert_eq!(rt;
-        writer.taken(),
-        &want[..room.min(want.len())],
-        "room {room}"
-    );
+    let front = &want[..room.min(want.len())];
+    for heals in [false, true] {
+        let mut writer = Narrow::new(alloc, room, heals);
+        let ended = ends_on(alloc, &mut Checked::new(script), &mut writer);
+        assert_eq!(rt; ended, outcome_in(room, want.len()), "room {room}");
+        assert_eq!(rt; writer.taken(), front, "room {room}, heals: {heals}");
+    }
 }
 
 /// Asserts the same of a writer of std that takes nothing after it.

@@ -1,7 +1,8 @@
 -- The book: its state is the list of its sixteen balances.
-use Rattle.std.specs.Prelude.{◌≡◌, ℕ, ◌+◌, ◌-◌, ◌/◌, ◌%◌, ◌==◌, ◌<◌, nat_le, Bool, not, ◌&&◌, ◌||◌, if◌then◌else◌, List, [], ◌∷◌, length, map, replicate, slice_index, slice_set, sum, Option, Some, None, option_and_then, codes, refl}
+use Rattle.std.specs.Prelude.{◌≡◌, ℕ, ◌+◌, ◌-◌, ◌/◌, ◌%◌, ◌==◌, ◌<◌, nat_le, Bool, true, false, not, ◌&&◌, ◌||◌, if◌then◌else◌, List, [], ◌∷◌, ◌++◌, length, map, replicate, slice_index, slice_set, sum, Option, Some, None, option_and_then, codes, refl}
 use Rattle.std.specs.Fmt.{decimal, digits}
 use Rattle.std.specs.Str.{bytes_eq}
+use Rattle.std.proofs.Common.{arith}
 use Rattle.seq_object.specs.Sequential.{Sequential}
 use Rattle.ready_objects.specs.Spoken.{Language}
 use Rattle.ready_objects.specs.Number.{number_of_word, number_below}
@@ -230,3 +231,72 @@ drawn_values_are_below_1000 = refl
 
 drawn_from_the_greatest_words : map book_inv_of_word (18446744073709551614 ∷ 18446744073709551615 ∷ []) ≡ Move 15 15 983 ∷ Total ∷ []
 drawn_from_the_greatest_words = refl
+
+account_0_and_value_0_are_taken : map (λ text. book_inv_of_words (words_of_text text))
+    (codes "deposit 0 0" ∷ codes "withdraw 0 0" ∷ codes "move 0 0 0" ∷ []) ≡ Some (Deposit 0 0) ∷ Some (Withdraw 0 0) ∷ Some (Move 0 0 0) ∷ []
+unfolding number_below number_of_word
+account_0_and_value_0_are_taken = refl
+
+a_leading_zero_is_not : map (λ text. book_inv_of_words (words_of_text text))
+    (codes "deposit 015 7" ∷ codes "deposit 15 07" ∷ codes "withdraw 015 7" ∷ codes "withdraw 15 07" ∷ codes "move 015 0 7" ∷ codes "move 0 015 7" ∷ codes "move 0 1 07" ∷ [])
+    ≡ None ∷ None ∷ None ∷ None ∷ None ∷ None ∷ None ∷ []
+unfolding number_below number_of_word
+a_leading_zero_is_not = refl
+
+accounts_far_past_15_are_not : map (λ text. book_inv_of_words (words_of_text text))
+    (codes "deposit 999999999999 7" ∷ codes "withdraw 1000000000000 7" ∷ codes "move 999999999999 0 7" ∷ codes "move 0 1000000000000 7" ∷ []) ≡ None ∷ None ∷ None ∷ None ∷ []
+unfolding number_below number_of_word
+accounts_far_past_15_are_not = refl
+
+-- account 15 is the last of the book
+account_15_has_a_balance : book_answer book_start (Deposit 15 7) ≡ Balance 7
+account_15_has_a_balance = refl
+
+it_is_the_last_one : book_next book_start (Deposit 15 7) ≡ replicate 15 0 ++ 7 ∷ []
+it_is_the_last_one = refl
+
+accounts_up_to_15_are_there : HasAccounts (Deposit 15 7) × HasAccounts (Withdraw 15 7) × HasAccounts (Move 15 15 7)
+accounts_up_to_15_are_there = (omega arith, omega arith, (omega arith, omega arith))
+
+account_16_of_a_deposit_is_not_there : ¬ (HasAccounts (Deposit 16 7))
+account_16_of_a_deposit_is_not_there = λ there. omega arith
+
+account_16_of_a_withdrawal_is_not_there : ¬ (HasAccounts (Withdraw 16 7))
+account_16_of_a_withdrawal_is_not_there = λ there. omega arith
+
+account_16_of_a_move_is_not_there : ¬ (HasAccounts (Move 16 0 7)) × ¬ (HasAccounts (Move 0 16 7))
+account_16_of_a_move_is_not_there = (λ there. let source = there.0 in omega arith, λ there. let target = there.1 in omega arith)
+
+-- where a sum meets the greatest balance, and where it passes it
+room_up_to_999999999999 : map (has_room (999999999998 ∷ []) 0) (0 ∷ 1 ∷ 2 ∷ 999999999999 ∷ []) ≡ true ∷ true ∷ false ∷ false ∷ []
+room_up_to_999999999999 = refl
+
+funds_up_to_the_balance : map (has_funds (4 ∷ []) 0) (0 ∷ 4 ∷ 5 ∷ 999999999999 ∷ []) ≡ true ∷ true ∷ false ∷ false ∷ []
+funds_up_to_the_balance = refl
+
+the_greatest_deposit_into_nothing : book_answer (0 ∷ []) (Deposit 0 999999999999) ≡ Balance 999999999999
+the_greatest_deposit_into_nothing = refl
+
+the_greatest_deposit_into_1 : book_answer (1 ∷ []) (Deposit 0 999999999999) ≡ Over
+the_greatest_deposit_into_1 = refl
+
+a_withdrawal_of_the_greatest_balance : book_answer (999999999999 ∷ []) (Withdraw 0 999999999999) ≡ Balance 0
+a_withdrawal_of_the_greatest_balance = refl
+
+a_withdrawal_of_1_more : book_answer (999999999998 ∷ []) (Withdraw 0 999999999999) ≡ Short
+a_withdrawal_of_1_more = refl
+
+a_move_of_the_greatest_balance : book_next (999999999999 ∷ 0 ∷ []) (Move 0 1 999999999999) ≡ 0 ∷ 999999999999 ∷ []
+a_move_of_the_greatest_balance = refl
+
+a_move_of_the_greatest_balance_into_1 : book_answer (999999999999 ∷ 1 ∷ []) (Move 0 1 999999999999) ≡ Over
+a_move_of_the_greatest_balance_into_1 = refl
+
+the_greatest_total : book_answer (replicate 16 999999999999) Total ≡ Sum 15999999999984
+the_greatest_total = refl
+
+a_deposit_over_adds_nothing : total_added (999999999998 ∷ []) (Deposit 0 1 ∷ Deposit 0 1 ∷ []) ≡ 1
+a_deposit_over_adds_nothing = refl
+
+a_withdrawal_that_is_short_takes_nothing : total_taken (1 ∷ []) (Withdraw 0 1 ∷ Withdraw 0 1 ∷ []) ≡ 1
+a_withdrawal_that_is_short_takes_nothing = refl

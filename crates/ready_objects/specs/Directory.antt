@@ -215,3 +215,48 @@ drawn_values_are_below_1000 = refl
 drawn_from_the_greatest_word : directory_inv_of_word 18446744073709551615 ≡ At 1
 unfolding digits
 drawn_from_the_greatest_word = refl
+
+value_0_is_taken : directory_inv_of_words (words_of_text (codes "put a 0")) ≡ Some (Put (codes "a") 0)
+unfolding number_of_word
+value_0_is_taken = refl
+
+place_0_is_taken : directory_inv_of_words (words_of_text (codes "at 0")) ≡ Some (At 0)
+unfolding number_below number_of_word
+place_0_is_taken = refl
+
+a_leading_zero_is_not : map (λ text. directory_inv_of_words (words_of_text text)) (codes "put a 00" ∷ codes "at 00" ∷ codes "at 0255" ∷ []) ≡ None ∷ None ∷ None ∷ []
+unfolding number_below number_of_word
+a_leading_zero_is_not = refl
+
+places_far_past_255_are_not : map (λ text. directory_inv_of_words (words_of_text text)) (codes "at 999999999999" ∷ codes "at 1000000000000" ∷ []) ≡ None ∷ None ∷ []
+unfolding number_below number_of_word
+places_far_past_255_are_not = refl
+
+-- in each word's place
+names_of_16_bytes_are_taken : map (λ text. directory_inv_of_words (words_of_text text))
+    (codes "put abcdefghijklmnop 7" ∷ codes "get qrstuvwxyz012345" ∷ codes "del 6789678967896789" ∷ [])
+    ≡ Some (Put (codes "abcdefghijklmnop") 7) ∷ Some (Get (codes "qrstuvwxyz012345")) ∷ Some (Del (codes "6789678967896789")) ∷ []
+unfolding number_of_word
+names_of_16_bytes_are_taken = refl
+
+names_of_17_bytes_are_not : map (λ text. directory_inv_of_words (words_of_text text))
+    (codes "put abcdefghijklmnopq 7" ∷ codes "get qrstuvwxyz0123456" ∷ codes "del 67896789678967896" ∷ []) ≡ None ∷ None ∷ None ∷ []
+unfolding number_of_word
+names_of_17_bytes_are_not = refl
+
+-- between two spaces
+an_empty_name_is_not : map (λ text. directory_inv_of_words (words_of_text text)) (codes "put  7" ∷ codes "get " ∷ codes "del " ∷ []) ≡ None ∷ None ∷ None ∷ []
+unfolding number_of_word
+an_empty_name_is_not = refl
+
+put_answers_at_255_and_256_names : map (λ count. put_answer count None) (0 ∷ 255 ∷ 256 ∷ []) ≡ New ∷ New ∷ Full ∷ []
+put_answers_at_255_and_256_names = refl
+
+a_present_name_is_answered_at_256_names : put_answer 256 (Some 7) ≡ Was 7
+a_present_name_is_answered_at_256_names = refl
+
+sizes_of_255_and_256_names : map (λ count. directory_answer (replicate count (codes "b", 1)) Size) (255 ∷ 256 ∷ []) ≡ Count 255 ∷ Count 256 ∷ []
+sizes_of_255_and_256_names = refl
+
+a_full_directory_keeps_256_names : length (directory_next (replicate 256 (codes "b", 1)) (Put (codes "b") 2)) ≡ 256
+a_full_directory_keeps_256_names = refl

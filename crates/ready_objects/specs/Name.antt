@@ -51,3 +51,9 @@ bytes_beside_those_of_names = refl
 drawn_names_have_one_digit : map drawn_name (0 ∷ 9 ∷ 10 ∷ []) ≡ codes "n0" ∷ codes "n9" ∷ codes "n0" ∷ []
 unfolding digits
 drawn_names_have_one_digit = refl
+
+a_name_of_16_bytes_is_itself : name_of_word (codes "0123456789qrstuv") ≡ Some (codes "0123456789qrstuv")
+a_name_of_16_bytes_is_itself = refl
+
+a_name_of_17_bytes_is_none : name_of_word (codes "0123456789qrstuvw") ≡ None
+a_name_of_17_bytes_is_none = refl

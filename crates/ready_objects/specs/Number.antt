@@ -1,5 +1,5 @@
 -- The words that stand for numbers.
-use Rattle.std.specs.Prelude.{◌≡◌, ℕ, ◌==◌, nat_lt, nat_le, not, ◌&&◌, ◌||◌, if◌then◌else◌, Bool, List, [], ◌∷◌, length, slice_index, Option, Some, None, option_and_then, codes, refl}
+use Rattle.std.specs.Prelude.{◌≡◌, ℕ, ◌==◌, nat_lt, nat_le, not, ◌&&◌, ◌||◌, if◌then◌else◌, Bool, List, [], ◌∷◌, length, map, slice_index, Option, Some, None, option_and_then, codes, refl}
 use Rattle.std.specs.Char.{is_ascii_digit}
 use Rattle.std.specs.List.{list_all}
 use Rattle.std.specs.Str.Parse.{digits_value}
@@ -73,3 +73,24 @@ two_hundred_and_fifty_five_is_below_256 = refl
 two_hundred_and_fifty_six_is_not_below_256 : number_below 256 (codes "256") ≡ None
 unfolding number_below number_of_word
 two_hundred_and_fifty_six_is_not_below_256 = refl
+
+value_0_and_leading_zeros : map number_of_word (codes "0" ∷ codes "01" ∷ codes "000000000000" ∷ codes "0999999999999" ∷ []) ≡ Some 0 ∷ None ∷ None ∷ None ∷ []
+unfolding number_of_word
+value_0_and_leading_zeros = refl
+
+-- 2^64 and 2^64 + 1, which are 0 and 1 in 64 bits
+numbers_past_64_bits_are_none : map number_of_word (codes "18446744073709551616" ∷ codes "18446744073709551617" ∷ []) ≡ None ∷ None ∷ []
+unfolding number_of_word
+numbers_past_64_bits_are_none = refl
+
+zero_is_below_one : map (number_below 1) (codes "0" ∷ codes "1" ∷ []) ≡ Some 0 ∷ None ∷ []
+unfolding number_below number_of_word
+zero_is_below_one = refl
+
+numbers_far_past_16_are_not_below_it : map (number_below 16) (codes "999999999999" ∷ codes "1000000000000" ∷ []) ≡ None ∷ None ∷ []
+unfolding number_below number_of_word
+numbers_far_past_16_are_not_below_it = refl
+
+a_leading_zero_is_not_below_16 : map (number_below 16) (codes "015" ∷ codes "00" ∷ []) ≡ None ∷ None ∷ []
+unfolding number_below number_of_word
+a_leading_zero_is_not_below_16 = refl

@@ -116,3 +116,11 @@ drawn_values_are_below_1000 = refl
 
 drawn_from_the_greatest_words : map queue_inv_of_word (18446744073709551614 ∷ 18446744073709551615 ∷ []) ≡ Enq 204 ∷ Deq ∷ []
 drawn_from_the_greatest_words = refl
+
+value_0_is_taken : queue_inv_of_words (words_of_text (codes "enq 0")) ≡ Some (Enq 0)
+unfolding number_of_word
+value_0_is_taken = refl
+
+a_leading_zero_is_not : queue_inv_of_words (words_of_text (codes "enq 00")) ≡ None
+unfolding number_of_word
+a_leading_zero_is_not = refl

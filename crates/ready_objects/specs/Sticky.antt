@@ -116,3 +116,15 @@ drawn_values_are_below_1000 = refl
 
 drawn_from_the_greatest_words : map sticky_inv_of_word (18446744073709551614 ∷ 18446744073709551615 ∷ []) ≡ Read ∷ Stick 807 ∷ []
 drawn_from_the_greatest_words = refl
+
+value_0_is_taken : sticky_inv_of_words (words_of_text (codes "stick 0")) ≡ Some (Stick 0)
+unfolding number_of_word
+value_0_is_taken = refl
+
+a_leading_zero_is_not : sticky_inv_of_words (words_of_text (codes "stick 00")) ≡ None
+unfolding number_of_word
+a_leading_zero_is_not = refl
+
+numbers_past_64_bits_are_not : map (λ text. sticky_inv_of_words (words_of_text text)) (codes "stick 18446744073709551616" ∷ codes "stick 18446744073709551617" ∷ []) ≡ None ∷ None ∷ []
+unfolding number_of_word
+numbers_past_64_bits_are_not = refl

@@ -4,8 +4,8 @@ use Rattle.std.specs.Fmt.{digits}
 use Rattle.ready_objects.specs.Number.{number_of_word, number_below}
 use Rattle.uni_script.specs.declared.fault.BenchFault.TheVariants.{NoHeader, BadHeader, TooLong, BadByte, BadLine, TooMany}
 use Rattle.uni_model.specs.Worlds.{opened_world}
-use Rattle.uni_script.specs.declared.answer.Refusal.TheVariants.{Sequence, Count}
-use Rattle.uni_script.specs.Meaning.{Session, outcome_of_line, outcome_of_fault, refusal_of_end, refusal_of_reshape}
+use Rattle.uni_script.specs.declared.answer.Refusal.TheVariants.{Row, Sequence, History, Count}
+use Rattle.uni_script.specs.Meaning.{Session, outcome_of_line, outcome_of_fault, refusal_of_call, refusal_of_end, refusal_of_reshape, most_steps}
 use Rattle.uni_script.specs.Summary.{summary_of_script}
 use Rattle.uni_script.specs.Replay.{text_of_script, fault_of_script}
 
@@ -324,3 +324,98 @@ accounts_answered = refl
 account_16_is_none : fault_of_script 1048576 (lines (codes "universal 1 book 1 8" ∷ codes "call 0 deposit 16 1" ∷ [])) ≡ Some (BadLine 2)
 unfolding digits number_below number_of_word
 account_16_is_none = refl
+
+-- the last process of the most that each version has
+abbrev last_process_of : (version most last : List ℕ) → List ℕ
+last_process_of version most last =
+    lines ((codes "universal " ++ version ++ codes " queue " ++ most ++ codes " 4096") ∷ (codes "step " ++ last) ∷ (codes "step " ++ most) ∷ (codes "finish " ++ last) ∷ (codes "finish " ++ most)
+    ∷ (codes "call " ++ most ++ codes " deq") ∷ (codes "call " ++ last ++ codes " deq") ∷ (codes "step " ++ last) ∷ [])
+
+process_15_of_16_answered : text_of_script 1048576 (last_process_of (codes "1") (codes "16") (codes "15"))
+    ≡ lines (codes "refused idle 15" ∷ codes "refused process 16" ∷ codes "refused idle 15" ∷ codes "refused process 16" ∷ codes "refused process 16" ∷ codes "called 15.0" ∷ codes "going 15.0 steps 1 turns 0" ∷ codes "end" ∷ [])
+unfolding digits number_of_word
+process_15_of_16_answered = refl
+
+process_63_of_64_answered : text_of_script 1048576 (last_process_of (codes "2") (codes "64") (codes "63"))
+    ≡ lines (codes "refused idle 63" ∷ codes "refused process 64" ∷ codes "refused idle 63" ∷ codes "refused process 64" ∷ codes "refused process 64" ∷ codes "called 63.0" ∷ codes "going 63.0 steps 1 turns 0" ∷ codes "end" ∷ [])
+unfolding digits number_of_word
+process_63_of_64_answered = refl
+
+process_16_is_there_in_version_2 : text_of_script 1048576 (lines (codes "universal 2 queue 17 8" ∷ codes "step 16" ∷ codes "step 17" ∷ []))
+    ≡ lines (codes "refused idle 16" ∷ codes "refused process 17" ∷ codes "end" ∷ [])
+unfolding digits number_of_word
+process_16_is_there_in_version_2 = refl
+
+-- the greatest number of a process is read, and refused
+process_999999999999_is_refused : text_of_script 1048576 (header (lines (codes "call 999999999999 deq" ∷ codes "step 999999999999 1000" ∷ codes "finish 999999999999" ∷ [])))
+    ≡ lines (codes "refused process 999999999999" ∷ codes "refused process 999999999999" ∷ codes "refused process 999999999999" ∷ codes "end" ∷ [])
+unfolding digits number_of_word
+process_999999999999_is_refused = refl
+
+process_1000000000000_is_none : map (λ command. fault_of_script 1048576 (header command)) (codes "call 1000000000000 deq" ∷ codes "step 1000000000000 1000" ∷ codes "finish 1000000000000" ∷ [])
+    ≡ Some (BadLine 2) ∷ Some (BadLine 2) ∷ Some (BadLine 2) ∷ []
+unfolding digits number_of_word
+process_1000000000000_is_none = refl
+
+-- up to 1000 steps are a line, whether or not they are refused
+steps_1_and_1000_are_refused : text_of_script 1048576 (header (lines (codes "step 0 1" ∷ codes "step 0 1000" ∷ []))) ≡ lines (codes "refused idle 0" ∷ codes "refused idle 0" ∷ codes "end" ∷ [])
+unfolding digits number_of_word
+steps_1_and_1000_are_refused = refl
+
+steps_0_and_1001_are_none : map (λ command. fault_of_script 1048576 (header command)) (codes "step 0 0" ∷ codes "step 0 1001" ∷ []) ≡ Some (BadLine 2) ∷ Some (BadLine 2) ∷ []
+unfolding digits number_of_word
+steps_0_and_1001_are_none = refl
+
+reshapes_answered : text_of_script 1048576 (lines (codes "universal 2 queue 2 8" ∷ codes "reshape 0" ∷ codes "reshape 65" ∷ codes "reshape 999999999999" ∷ codes "step 2" ∷ codes "reshape 64" ∷ codes "step 63" ∷ codes "step 64" ∷ codes "reshape 1" ∷ codes "step 1" ∷ []))
+    ≡ lines (codes "refused count 0" ∷ codes "refused count 65" ∷ codes "refused count 999999999999" ∷ codes "refused process 2" ∷ codes "reshaped 64 at 1" ∷ codes "refused idle 63" ∷ codes "refused process 64" ∷ codes "reshaped 1 at 1" ∷ codes "refused process 1" ∷ codes "end" ∷ [])
+unfolding digits number_of_word
+reshapes_answered = refl
+
+reshape_1000000000000_is_none : fault_of_script 1048576 (lines (codes "universal 2 queue 2 8" ∷ codes "reshape 1000000000000" ∷ [])) ≡ Some (BadLine 2)
+unfolding digits number_of_word
+reshape_1000000000000_is_none = refl
+
+-- so many steps a call takes at most
+steps_of_1_and_64_processes : map most_steps (1 ∷ 64 ∷ []) ≡ 22 ∷ 652 ∷ []
+steps_of_1_and_64_processes = refl
+
+-- a session of 64 processes with rows of 4096 calls, in which each has made so many, with a history of so many events at most
+abbrev begun_by_each : (calls limit : ℕ) → Session ℕ ℕ ℕ
+begun_by_each calls limit = record { processes = 64; first = 1; row = 4096; limit = limit; events = []; world = record (opened_world 64 9 1) { begun = λ p. calls } }
+
+calls_4096_and_4097_of_a_row : map (λ calls. refusal_of_call (begun_by_each calls 1048576) 63) (4095 ∷ 4096 ∷ []) ≡ None ∷ Some (Row 63) ∷ []
+calls_4096_and_4097_of_a_row = refl
+
+-- a call of 64 processes needs room for 653 events
+events_for_a_call_of_64 : map (λ limit. refusal_of_call (begun_by_each 0 limit) 63) (653 ∷ 652 ∷ []) ≡ None ∷ Some History ∷ []
+events_for_a_call_of_64 = refl
+
+-- line 100000 can have each of the other faults, and line 100001 has none of them
+faults_of_line_100000 : map (λ bytes. (outcome_of_line 1048576 100000 None bytes).fault) (replicate 201 48 ∷ (31 ∷ []) ∷ (48 ∷ []) ∷ []) ≡ Some (TooLong 100000) ∷ Some (BadByte 100000) ∷ Some (BadHeader 100000) ∷ []
+faults_of_line_100000 = refl
+
+faults_of_line_100001 : map (λ bytes. (outcome_of_line 1048576 100001 None bytes).fault) (replicate 201 48 ∷ (31 ∷ []) ∷ (48 ∷ []) ∷ [] ∷ []) ≡ Some TooMany ∷ Some TooMany ∷ Some TooMany ∷ Some TooMany ∷ []
+faults_of_line_100001 = refl
+
+-- the bytes beside 10, which ends a line, and the greatest byte
+bytes_9_11_and_255 : map (λ b. fault_of_script 1048576 (header (line (35 ∷ b ∷ []) []))) (0 ∷ 9 ∷ 11 ∷ 128 ∷ 255 ∷ [])
+    ≡ Some (BadByte 2) ∷ Some (BadByte 2) ∷ Some (BadByte 2) ∷ Some (BadByte 2) ∷ Some (BadByte 2) ∷ []
+unfolding digits number_of_word
+bytes_9_11_and_255 = refl
+
+place_255_is_taken : text_of_script 1048576 (lines (codes "universal 1 directory 1 8" ∷ codes "call 0 at 255" ∷ [])) ≡ lines (codes "called 0.0" ∷ codes "end" ∷ [])
+unfolding digits number_below number_of_word
+place_255_is_taken = refl
+
+-- names of 16 and of 17 bytes
+name_of_16_bytes_is_taken : text_of_script 1048576 (lines (codes "universal 1 directory 1 8" ∷ codes "call 0 get abcdefghijklmnop" ∷ [])) ≡ lines (codes "called 0.0" ∷ codes "end" ∷ [])
+unfolding digits number_of_word
+name_of_16_bytes_is_taken = refl
+
+name_of_17_bytes_is_none : fault_of_script 1048576 (lines (codes "universal 1 directory 1 8" ∷ codes "call 0 get abcdefghijklmnopq" ∷ [])) ≡ Some (BadLine 2)
+unfolding digits number_of_word
+name_of_17_bytes_is_none = refl
+
+value_1000000000000_is_none : fault_of_script 1048576 (lines (codes "universal 1 book 1 8" ∷ codes "call 0 deposit 15 1000000000000" ∷ [])) ≡ Some (BadLine 2)
+unfolding digits number_below number_of_word
+value_1000000000000_is_none = refl

@@ -279,3 +279,54 @@ number_1000000000000_is_not = refl
 a_reshape_to_0_is_a_command : command_of_text (codes "reshape 0") ≡ Some (Reshape 0)
 unfolding number_of_word
 a_reshape_to_0_is_a_command = refl
+
+-- the other ends of the numbers of a header
+the_least_header_is_in_range : IsInRange (record { version = One; object = Queue; processes = 1; row = 1 })
+the_least_header_is_in_range = (omega arith, omega arith, omega arith, omega arith)
+
+no_process_is_out_of_range : ¬ (IsInRange (record { version = One; object = Queue; processes = 0; row = 1 }))
+no_process_is_out_of_range = λ range. let least = range.0 in omega arith
+
+a_row_of_0_is_out_of_range : ¬ (IsInRange (record { version = One; object = Queue; processes = 1; row = 0 }))
+a_row_of_0_is_out_of_range = λ range. let least = range.2 in omega arith
+
+a_row_of_version_2_has_1_to_4096_cells : map header_of_text (codes "universal 2 queue 64 0" ∷ codes "universal 2 queue 64 1" ∷ codes "universal 2 queue 64 4096" ∷ codes "universal 2 queue 64 4097" ∷ [])
+    ≡ None ∷ Some (record { version = Two; object = Queue; processes = 64; row = 1 }) ∷ Some (record { version = Two; object = Queue; processes = 64; row = 4096 }) ∷ None ∷ []
+unfolding number_of_word
+a_row_of_version_2_has_1_to_4096_cells = refl
+
+versions_0_and_3_are_none : map header_of_text (codes "universal 0 queue 2 8" ∷ codes "universal 3 queue 2 8" ∷ codes "universal 11 queue 2 8" ∷ codes "universal 999999999999 queue 2 8" ∷ []) ≡ None ∷ None ∷ None ∷ None ∷ []
+unfolding number_of_word
+versions_0_and_3_are_none = refl
+
+leading_zeros_are_in_no_header : map header_of_text (codes "universal 01 queue 2 8" ∷ codes "universal 1 queue 02 8" ∷ codes "universal 1 queue 2 08" ∷ []) ≡ None ∷ None ∷ None ∷ []
+unfolding number_of_word
+leading_zeros_are_in_no_header = refl
+
+the_greatest_numbers_are_in_no_header : map header_of_text (codes "universal 2 queue 999999999999 8" ∷ codes "universal 2 queue 2 999999999999" ∷ codes "universal 2 queue 1000000000000 8" ∷ codes "universal 2 queue 2 1000000000000" ∷ [])
+    ≡ None ∷ None ∷ None ∷ None ∷ []
+unfolding number_of_word
+the_greatest_numbers_are_in_no_header = refl
+
+-- the other ends of the numbers of a command
+counts_are_1_to_1000 : map count_of_number (0 ∷ 1 ∷ 1000 ∷ 1001 ∷ []) ≡ None ∷ Some 1 ∷ Some 1000 ∷ None ∷ []
+counts_are_1_to_1000 = refl
+
+the_greatest_numbers_are_no_counts : map command_of_text (codes "step 3 999999999999" ∷ codes "step 3 1000000000000" ∷ []) ≡ None ∷ None ∷ []
+unfolding number_of_word
+the_greatest_numbers_are_no_counts = refl
+
+number_0_is_taken : map command_of_text (codes "call 0 deq" ∷ codes "step 0" ∷ codes "step 0 1" ∷ codes "finish 0" ∷ [])
+    ≡ Some (Call 0 Deq) ∷ Some (Step 0 1) ∷ Some (Step 0 1) ∷ Some (Finish 0) ∷ []
+unfolding number_of_word
+number_0_is_taken = refl
+
+leading_zeros_are_in_no_command : map command_of_text (codes "call 00 deq" ∷ codes "step 03" ∷ codes "step 3 01" ∷ codes "step 3 00" ∷ codes "finish 03" ∷ codes "reshape 03" ∷ [])
+    ≡ None ∷ None ∷ None ∷ None ∷ None ∷ None ∷ []
+unfolding number_of_word
+leading_zeros_are_in_no_command = refl
+
+-- they too are refused once they are run, but for 64
+reshapes_to_64_and_65_are_commands : map command_of_text (codes "reshape 64" ∷ codes "reshape 65" ∷ []) ≡ Some (Reshape 64) ∷ Some (Reshape 65) ∷ []
+unfolding number_of_word
+reshapes_to_64_and_65_are_commands = refl

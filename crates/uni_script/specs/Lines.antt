@@ -1,5 +1,6 @@
 -- How the lines of a script are taken from a reader, and what is run of them.
-use Rattle.std.specs.Prelude.{◌≡◌, ◌≢◌, ◌⊎◌, ℕ, ◌+◌, ◌-◌, ◌<◌, ◌≤◌, List, [], ◌∷◌, ◌++◌, length, take, drop, Option, Some, None, Result, Ok, Err, IfOk, OnOk, option_map}
+use Rattle.std.specs.Prelude.{◌≡◌, ◌≢◌, ◌⊎◌, ℕ, ◌+◌, ◌-◌, ◌<◌, ◌≤◌, List, [], ◌∷◌, ◌++◌, length, take, drop, replicate, slice_index, Option, Some, None, Result, Ok, Err, IfOk, OnOk, option_map, refl}
+use Rattle.std.proofs.Common.{arith, ap, sym}
 use Rattle.std.specs.Io.KnownBytes.{Consumes, Appends, IsAtEnd}
 use Rattle.uni_script.specs.Ends.{AppendsFront}
 use Rattle.uni_script.specs.declared.fault.BenchFault.{BenchFault}
@@ -47,6 +48,16 @@ StopsAt End bytes past left = (past ≡ []) × IsAtEnd left
 StopsAt Failed bytes past left = past ≡ []
 StopsAt TooLong bytes past left = (length (cut bytes).whole < 100000) × (length (cut bytes).tail ≡ 200) × ((b : ℕ) × (more : List ℕ) × (past ≡ b ∷ more) × (b ≢ 10))
 StopsAt TooMany bytes past left = (length (cut bytes).whole ≡ 100000) × ((b : ℕ) × (more : List ℕ) × (past ≡ b ∷ more))
+
+-- a line is too long once a byte after 200 of them doesn't end it
+byte_201_makes_a_line_too_long : StopsAt TooLong (replicate 200 48) (48 ∷ []) None
+byte_201_makes_a_line_too_long = (omega arith, refl, (48, [], refl, λ e. omega arith))
+
+byte_200_does_not : ¬ (StopsAt TooLong (replicate 199 48) (48 ∷ []) None)
+byte_200_does_not = λ stop. let long = stop.1 in omega arith
+
+an_end_after_200_bytes_does_not : ¬ (StopsAt TooLong (replicate 200 48) (10 ∷ []) None)
+an_end_after_200_bytes_does_not = λ stop. stop.2.3 (sym (ap (λ bytes. slice_index bytes 0) stop.2.2))
 
 -- a reader that had these bytes left gave these ones of a script, and then reading stopped
 pub record IsRead (old new : Option (List ℕ)) (stop : Stop) (bytes : List ℕ) : Type 0 where

@@ -142,3 +142,37 @@ no_plan_has_no_event = λ plan. let least = plan.4 in omega arith
 
 no_plan_has_99001_events : ¬ (IsPlan (record { object = Queue; processes = 1; row = 1; events = 99001 }))
 no_plan_has_99001_events = λ plan. let most = plan.5 in omega arith
+
+events_take_one_or_two_words : map words_of_event (0 ∷ 1 ∷ 2 ∷ 3 ∷ 4 ∷ 5 ∷ 6 ∷ 7 ∷ 8 ∷ 9 ∷ 10 ∷ 11 ∷ 12 ∷ 13 ∷ 14 ∷ 15 ∷ [])
+    ≡ 1 ∷ 2 ∷ 2 ∷ 2 ∷ 1 ∷ 1 ∷ 1 ∷ 1 ∷ 1 ∷ 1 ∷ 1 ∷ 1 ∷ 1 ∷ 1 ∷ 1 ∷ 1 ∷ []
+events_take_one_or_two_words = refl
+
+-- whatever word is drawn, one process is process 0
+one_process_is_process_0 : map (λ w. event_line queue_language 1 w 0) (4 ∷ 20 ∷ 18446744073709551615 ∷ []) ≡ line (codes "step 0") [] ∷ line (codes "step 0") [] ∷ line (codes "step 0") [] ∷ []
+unfolding digits
+one_process_is_process_0 = refl
+
+-- calls of the last process, by the greatest words that stand for an invocation with a number
+the_greatest_word_of_a_queue : event_line (spoken_of Queue).language 64 1009 18446744073709551614 ≡ line (codes "call 63 enq 204") []
+unfolding digits
+the_greatest_word_of_a_queue = refl
+
+the_greatest_word_of_a_directory : event_line (spoken_of Directory).language 64 1009 18446744073709551615 ≡ line (codes "call 63 at 1") []
+unfolding digits
+the_greatest_word_of_a_directory = refl
+
+the_greatest_word_of_a_book : event_line (spoken_of Book).language 64 1009 18446744073709551614 ≡ line (codes "call 63 move 15 15 983") []
+unfolding digits
+the_greatest_word_of_a_book = refl
+
+the_greatest_word_of_a_sticky : event_line (spoken_of Sticky).language 64 1009 18446744073709551615 ≡ line (codes "call 63 stick 807") []
+unfolding digits
+the_greatest_word_of_a_sticky = refl
+
+the_header_of_16_processes : header_line (record { object = Book; processes = 16; row = 1; events = 1 }) ≡ line (codes "universal 1 book 16 1") []
+unfolding digits
+the_header_of_16_processes = refl
+
+the_header_of_the_greatest_plan : header_line (record { object = Sticky; processes = 64; row = 4096; events = 99000 }) ≡ line (codes "universal 2 sticky 64 4096") []
+unfolding digits
+the_header_of_the_greatest_plan = refl

@@ -154,3 +154,145 @@ another_word name = refl
 one_word_more : (name : Text) → faults_of_words (name ∷ codes "replay" ∷ codes "now" ∷ []) ≡ UnknownArgument ∷ []
 unfolding clap_on_literals
 one_word_more name = refl
+
+-- a subcommand with one option
+abbrev with_option : (name command option value : Text) → List Text
+with_option name command option value = name ∷ command ∷ option ∷ value ∷ []
+
+-- requests for a queue
+abbrev random_request : (processes row events seed : ℕ) → Request
+random_request processes row events seed =
+    Random (record { schedule = record { object = shared.Queue; processes = processes; row = row; events = events }; seed = seed })
+
+abbrev threads_request : (processes calls seed : ℕ) → Request
+threads_request processes calls seed = Threads (record { form = Lock; object = Queue; processes = processes; calls = calls; seed = seed })
+
+-- the least and the greatest number that each option takes, and the numbers beside them; 65 threads are one of the faults above
+history_least : (name : Text) → AsksFor (with_option name (codes "replay") (codes "--history") (codes "1")) (Replay (record { history = 1 }))
+unfolding clap_on_literals
+history_least name = (refl, refl)
+
+history_greatest : (name : Text) → AsksFor (with_option name (codes "replay") (codes "--history") (codes "16777216")) (Replay (record { history = 16777216 }))
+unfolding clap_on_literals
+history_greatest name = (refl, refl)
+
+history_below_the_least : (name : Text) → faults_of_words (with_option name (codes "replay") (codes "--history") (codes "0")) ≡ ValueValidation ∷ []
+unfolding clap_on_literals
+history_below_the_least name = refl
+
+history_past_the_greatest : (name : Text) → faults_of_words (with_option name (codes "replay") (codes "--history") (codes "16777217")) ≡ ValueValidation ∷ []
+unfolding clap_on_literals
+history_past_the_greatest name = refl
+
+processes_of_random_least : (name : Text) → AsksFor (with_option name (codes "random") (codes "--processes") (codes "1")) (random_request 1 64 100 1)
+unfolding clap_on_literals
+processes_of_random_least name = (refl, refl)
+
+processes_of_random_greatest : (name : Text) → AsksFor (with_option name (codes "random") (codes "--processes") (codes "64")) (random_request 64 64 100 1)
+unfolding clap_on_literals
+processes_of_random_greatest name = (refl, refl)
+
+processes_of_random_below_the_least : (name : Text) → faults_of_words (with_option name (codes "random") (codes "--processes") (codes "0")) ≡ ValueValidation ∷ []
+unfolding clap_on_literals
+processes_of_random_below_the_least name = refl
+
+processes_of_random_past_the_greatest : (name : Text) → faults_of_words (with_option name (codes "random") (codes "--processes") (codes "65")) ≡ ValueValidation ∷ []
+unfolding clap_on_literals
+processes_of_random_past_the_greatest name = refl
+
+row_of_random_least : (name : Text) → AsksFor (with_option name (codes "random") (codes "--row") (codes "1")) (random_request 2 1 100 1)
+unfolding clap_on_literals
+row_of_random_least name = (refl, refl)
+
+row_of_random_greatest : (name : Text) → AsksFor (with_option name (codes "random") (codes "--row") (codes "4096")) (random_request 2 4096 100 1)
+unfolding clap_on_literals
+row_of_random_greatest name = (refl, refl)
+
+row_of_random_below_the_least : (name : Text) → faults_of_words (with_option name (codes "random") (codes "--row") (codes "0")) ≡ ValueValidation ∷ []
+unfolding clap_on_literals
+row_of_random_below_the_least name = refl
+
+row_of_random_past_the_greatest : (name : Text) → faults_of_words (with_option name (codes "random") (codes "--row") (codes "4097")) ≡ ValueValidation ∷ []
+unfolding clap_on_literals
+row_of_random_past_the_greatest name = refl
+
+events_of_random_least : (name : Text) → AsksFor (with_option name (codes "random") (codes "--events") (codes "1")) (random_request 2 64 1 1)
+unfolding clap_on_literals
+events_of_random_least name = (refl, refl)
+
+events_of_random_greatest : (name : Text) → AsksFor (with_option name (codes "random") (codes "--events") (codes "99000")) (random_request 2 64 99000 1)
+unfolding clap_on_literals
+events_of_random_greatest name = (refl, refl)
+
+events_of_random_below_the_least : (name : Text) → faults_of_words (with_option name (codes "random") (codes "--events") (codes "0")) ≡ ValueValidation ∷ []
+unfolding clap_on_literals
+events_of_random_below_the_least name = refl
+
+events_of_random_past_the_greatest : (name : Text) → faults_of_words (with_option name (codes "random") (codes "--events") (codes "99001")) ≡ ValueValidation ∷ []
+unfolding clap_on_literals
+events_of_random_past_the_greatest name = refl
+
+seed_of_random_least : (name : Text) → AsksFor (with_option name (codes "random") (codes "--seed") (codes "0")) (random_request 2 64 100 0)
+unfolding clap_on_literals
+seed_of_random_least name = (refl, refl)
+
+seed_of_random_greatest : (name : Text) → AsksFor (with_option name (codes "random") (codes "--seed") (codes "18446744073709551615")) (random_request 2 64 100 18446744073709551615)
+unfolding clap_on_literals
+seed_of_random_greatest name = (refl, refl)
+
+seed_of_random_past_the_greatest : (name : Text) → faults_of_words (with_option name (codes "random") (codes "--seed") (codes "18446744073709551616")) ≡ ValueValidation ∷ []
+unfolding clap_on_literals
+seed_of_random_past_the_greatest name = refl
+
+processes_of_threads_least : (name : Text) → AsksFor (with_option name (codes "threads") (codes "--processes") (codes "1")) (threads_request 1 100 1)
+unfolding clap_on_literals
+processes_of_threads_least name = (refl, refl)
+
+processes_of_threads_greatest : (name : Text) → AsksFor (with_option name (codes "threads") (codes "--processes") (codes "64")) (threads_request 64 100 1)
+unfolding clap_on_literals
+processes_of_threads_greatest name = (refl, refl)
+
+processes_of_threads_below_the_least : (name : Text) → faults_of_words (with_option name (codes "threads") (codes "--processes") (codes "0")) ≡ ValueValidation ∷ []
+unfolding clap_on_literals
+processes_of_threads_below_the_least name = refl
+
+calls_of_threads_least : (name : Text) → AsksFor (with_option name (codes "threads") (codes "--calls") (codes "1")) (threads_request 2 1 1)
+unfolding clap_on_literals
+calls_of_threads_least name = (refl, refl)
+
+calls_of_threads_greatest : (name : Text) → AsksFor (with_option name (codes "threads") (codes "--calls") (codes "4096")) (threads_request 2 4096 1)
+unfolding clap_on_literals
+calls_of_threads_greatest name = (refl, refl)
+
+calls_of_threads_below_the_least : (name : Text) → faults_of_words (with_option name (codes "threads") (codes "--calls") (codes "0")) ≡ ValueValidation ∷ []
+unfolding clap_on_literals
+calls_of_threads_below_the_least name = refl
+
+calls_of_threads_past_the_greatest : (name : Text) → faults_of_words (with_option name (codes "threads") (codes "--calls") (codes "4097")) ≡ ValueValidation ∷ []
+unfolding clap_on_literals
+calls_of_threads_past_the_greatest name = refl
+
+seed_of_threads_least : (name : Text) → AsksFor (with_option name (codes "threads") (codes "--seed") (codes "0")) (threads_request 2 100 0)
+unfolding clap_on_literals
+seed_of_threads_least name = (refl, refl)
+
+seed_of_threads_greatest : (name : Text) → AsksFor (with_option name (codes "threads") (codes "--seed") (codes "18446744073709551615")) (threads_request 2 100 18446744073709551615)
+unfolding clap_on_literals
+seed_of_threads_greatest name = (refl, refl)
+
+seed_of_threads_past_the_greatest : (name : Text) → faults_of_words (with_option name (codes "threads") (codes "--seed") (codes "18446744073709551616")) ≡ ValueValidation ∷ []
+unfolding clap_on_literals
+seed_of_threads_past_the_greatest name = refl
+
+-- a word that names nothing is no fault of clap's, and asks for nothing
+random_on_a_tally : (name : Text) → asked_of (with_option name (codes "random") (codes "--object") (codes "tally")) ≡ None
+unfolding clap_on_literals
+random_on_a_tally name = refl
+
+threads_on_a_register : (name : Text) → asked_of (with_option name (codes "threads") (codes "--object") (codes "register")) ≡ None
+unfolding clap_on_literals
+threads_on_a_register name = refl
+
+threads_of_another_form : (name : Text) → asked_of (with_option name (codes "threads") (codes "--form") (codes "locks")) ≡ None
+unfolding clap_on_literals
+threads_of_another_form name = refl

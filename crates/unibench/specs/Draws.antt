@@ -29,3 +29,12 @@ three_events_of_seed_182 : drawn_text (record { schedule = record { object = Que
     (line (codes "finish 0") (line (codes "finish 1") (line (codes "log") []))))))
 unfolding digits fill_bytes stream_of u32_at word_bytes
 three_events_of_seed_182 = refl
+
+-- the least and the greatest seed
+first_word_of_seed_0 : seeded_word 0 0 ≡ 5987356902031041503
+unfolding fill_bytes stream_of u32_at word_bytes
+first_word_of_seed_0 = refl
+
+first_word_of_the_greatest_seed : seeded_word 18446744073709551615 0 ≡ 6254647548650071986
+unfolding fill_bytes stream_of u32_at word_bytes
+first_word_of_the_greatest_seed = refl

@@ -2,6 +2,7 @@
 use Rattle.std.specs.Prelude.{◌≡◌, ◌≤◌, ◌*◌, ℕ, Bool, true, false, nat_lt, if◌then◌else◌, Option, None, Some, List, [], ◌∷◌, ◌++◌, codes, length, vec_len, refl}
 use Rattle.std.specs.Fmt.{decimal, digits}
 use Rattle.std.specs.List.{sum_by}
+use Rattle.std.proofs.Common.{arith}
 use Rattle.uni_record.specs.Recorded.{share}
 use Rattle.uni_script.specs.Fault.{fault_text}
 use Rattle.uni_script.specs.declared.fault.BenchFault.TheVariants as bench
@@ -117,3 +118,54 @@ calls_are_too_many = refl
 
 no_tally_under_a_lock : refusal_of (record { form = form.Lock; object = object.Tally; processes = 64; calls = 4096; seed = 1 }) ≡ Some fault.NoSuchObject
 no_tally_under_a_lock = refl
+
+-- the last number of events that a lock has room for, and the first that it hasn't
+a_lock_has_room_for_16777216_events : refusal_of_events form.Lock 16777216 ≡ None
+a_lock_has_room_for_16777216_events = refl
+
+a_lock_has_none_for_16777217 : refusal_of_events form.Lock 16777217 ≡ Some fault.CallsTooMany
+a_lock_has_none_for_16777217 = refl
+
+words_have_room_for_any_events : refusal_of_events form.Words 16777217 ≡ None
+words_have_room_for_any_events = refl
+
+-- a plan of a queue under a lock
+abbrev under_lock : (processes calls : ℕ) → Plan
+under_lock processes calls = record { form = form.Lock; object = object.Queue; processes = processes; calls = calls; seed = 1 }
+
+nineteen_processes_make_4096_calls : refusal_of (under_lock 19 4096) ≡ None
+nineteen_processes_make_4096_calls = refl
+
+twenty_processes_make_3938_calls : refusal_of (under_lock 20 3938) ≡ None
+twenty_processes_make_3938_calls = refl
+
+twenty_processes_make_no_3939 : refusal_of (under_lock 20 3939) ≡ Some fault.CallsTooMany
+twenty_processes_make_no_3939 = refl
+
+sixty_four_processes_make_401_calls : refusal_of (under_lock 64 401) ≡ None
+sixty_four_processes_make_401_calls = refl
+
+sixty_four_processes_make_no_402 : refusal_of (under_lock 64 402) ≡ Some fault.CallsTooMany
+sixty_four_processes_make_no_402 = refl
+
+the_greatest_plan_over_words : refusal_of (record { form = form.Words; object = object.Tally; processes = 64; calls = 4096; seed = 1 }) ≡ None
+the_greatest_plan_over_words = refl
+
+-- the least and the greatest plan, and what is just outside
+the_least_plan : IsThreadsPlan (under_lock 1 1)
+the_least_plan = (omega arith, omega arith, omega arith, omega arith)
+
+the_greatest_plan : IsThreadsPlan (under_lock 64 4096)
+the_greatest_plan = (omega arith, omega arith, omega arith, omega arith)
+
+no_plan_has_no_process : ¬ (IsThreadsPlan (under_lock 0 1))
+no_plan_has_no_process = λ plan. let least = plan.0 in omega arith
+
+no_plan_has_65_processes : ¬ (IsThreadsPlan (under_lock 65 1))
+no_plan_has_65_processes = λ plan. let most = plan.1 in omega arith
+
+no_plan_has_no_call : ¬ (IsThreadsPlan (under_lock 1 0))
+no_plan_has_no_call = λ plan. let least = plan.2 in omega arith
+
+no_plan_has_4097_calls : ¬ (IsThreadsPlan (under_lock 1 4097))
+no_plan_has_4097_calls = λ plan. let most = plan.3 in omega arith
