@@ -72,7 +72,9 @@ module _ (limit : ℕ) where
   pub outcome_of_lines-too_many : (b : Option ScriptSession) (line : List ℕ) (lines : List (List ℕ)) → outcome_of_lines limit 100001 b (line ∷ lines) ≡ outcome_of_fault b TooMany
   outcome_of_lines-too_many b line lines = refl
 
-  -- a line of plain bytes that isn't a note means what its words do
-  pub outcome_of_short_line-words : (number : ℕ) (b : Option ScriptSession) (line : List ℕ) (words : List (List ℕ)) → list_all is_plain_byte line ≡ true → is_note line ≡ false → words ≡ words_of_text line
-      → outcome_of_short_line limit number b line ≡ outcome_of_words limit number b words
-  outcome_of_short_line-words number b line words plain note same = rw plain (rw note (rw same refl))
+  -- a line of plain bytes that isn't a note means what its words are known to mean
+  pub outcome_of_short_line-words : (number : ℕ) (b : Option ScriptSession) (line : List ℕ) (words : List (List ℕ)) (known : Outcome) → list_all is_plain_byte line ≡ true → is_note line ≡ false → words ≡ words_of_text line
+      → outcome_of_words limit number b words ≡ known → known ≡ outcome_of_short_line limit number b line
+  outcome_of_short_line-words number b line words known plain note same is =
+      let meant : outcome_of_short_line limit number b line ≡ outcome_of_words limit number b words = rw plain (rw note (rw same refl)) in
+      sym (meant ∙ is)

@@ -1,7 +1,7 @@
 -- The run of a script whose record is kept, line by line.
-use Rattle.std.proofs.Common.{◌≡◌, ◌≢◌, ◌∙◌, ◌⊎◌, inl, inr, ℕ, ◌+◌, ◌≤◌, Bool, true, false, List, [], ◌∷◌, ◌++◌, length, map, Option, None, Some, Result, Ok, Err, IfErr, IfOk, OnOk, refl, sym, ap, subst, arith, append_assoc, append-nil}
+use Rattle.std.proofs.Common.{◌≡◌, ◌∙◌, ◌⊎◌, inl, inr, ℕ, ◌+◌, ◌≤◌, true, false, List, [], ◌∷◌, ◌++◌, length, map, Option, None, Some, Result, Ok, Err, IfErr, IfOk, OnOk, refl, sym, ap, subst, arith, append_assoc, append-nil}
 use Rattle.uni_script.specs.declared.fault.BenchFault.{BenchFault}
-use Rattle.uni_script.specs.declared.fault.BenchFault.TheVariants.{Write, Memory}
+use Rattle.uni_script.specs.declared.fault.BenchFault.TheVariants.{Memory}
 use Rattle.uni_script.specs.declared.lines.Lines.{Lines}
 use Rattle.uni_script.specs.declared.lines.Stop.TheVariants.{End}
 use Rattle.uni_script.specs.declared.summary.Summary.{Summary}
@@ -11,14 +11,14 @@ use Rattle.uni_script.specs.Told.Saying.{Heading}
 use Rattle.std.proofs.lemmas.List.{length-map, length-append}
 use Rattle.uni_script.specs.Objects.{spoken_of}
 use Rattle.uni_script.specs.Told.{Saying, Telling, heading_of_line, saying_of_line, told_after, text_of_note, told_shown, told_of_line, told_of_lines, told_of_script}
-use Rattle.uni_script.specs.Meaning.{ScriptSession, Outcome, outcome_of_fault, and_then, outcome_of_line, outcome_of_short_line, outcome_of_lines, outcome_of_script}
-use Rattle.uni_script.specs.Lines.{HasTaken, HasStopped, HasRun, HasEnded, WritesAs, lines_of_read}
+use Rattle.uni_script.specs.Meaning.{ScriptSession, Outcome, outcome_of_fault, outcome_of_line, outcome_of_short_line, outcome_of_lines}
+use Rattle.uni_script.specs.Lines.{HasTaken, HasStopped, HasEnded, WritesAs}
 use Rattle.std.specs.Io.KnownBytes.{IsAtEnd}
 use Rattle.uni_script.specs.Replay.{IsInput, IsFaultOfScript}
 use Rattle.uni_script.specs.declared.script_run.ScriptRun.{ScriptRun}
 use Rattle.uni_script.specs.ScriptRun.{FaultsAs, IsFaultAs, IsWhole, HasMade, HasTold, IsRunOf, IsScriptRun, HasFault}
 use Rattle.uni_script.proofs.Replaying.{is_input, script_whole, HasEnded-fault}
-use Rattle.uni_script.proofs.Running.{is_short, after_text, and_then-none, and_then-some, outcome_of_line-short}
+use Rattle.uni_script.proofs.Running.{is_short, and_then-none, and_then-some}
 use Rattle.uni_script.proofs.RunningOn.{HasRun-line, HasEnded-line, outcome_of_stopped}
 use Rattle.uni_script.proofs.Written.{AppendsFront-nil}
 

@@ -4,6 +4,7 @@ pub mod Answer
 pub mod Objects
 pub mod Schedules
 pub mod Meaning
+pub mod Commands
 pub mod Summary
 pub mod Promises
 pub mod Lines

@@ -1,8 +1,9 @@
 //! What is written in answer to a line of a script.
 
-ghost use Rattle.std.specs.Prelude.{◌≡◌, ◌++◌, OnOk, Some};
-ghost use Rattle.uni_script.specs.Answer.{refusal_text, answer_text};
+ghost use Rattle.std.specs.Prelude.{◌≡◌, ◌++◌, OnOk, Some, decimal};
+ghost use Rattle.uni_script.specs.Answer.{call_text, progress_text, refusal_text, answer_text};
 
+use itoa::Buffer;
 use seq_object::CallId;
 use std::alloc::AllocError;
 use std::fmt;
@@ -93,7 +94,11 @@ pub fn push_answer(text: &mut Vec<u8>, answer: &Answer) -> Result<(), AllocError
     ensures { OnOk result (text.new.items ≡ text.old.items ++ answer_text answer.now) }
 {
     match answer {
-        Answer::Called(call) => writeln!(text, "called {call}").map_err(|_| AllocError),
+        Answer::Called(call) => {
+            text.extend_from_slice(b"called ")?;
+            push_call(text, *call)?;
+            text.extend_from_slice(b"\n")
+        }
         Answer::Refused(refusal) => writeln!(text, "{refusal}").map_err(|_| AllocError),
         Answer::Returned {
             call,
@@ -101,12 +106,16 @@ pub fn push_answer(text: &mut Vec<u8>, answer: &Answer) -> Result<(), AllocError
             steps,
             turns,
         } => {
-            write!(text, "returned {call} ").map_err(|_| AllocError)?;
+            text.extend_from_slice(b"returned ")?;
+            push_call(text, *call)?;
+            text.extend_from_slice(b" ")?;
             text.extend_from_slice(reply)?;
-            writeln!(text, " steps {steps} turns {turns}").map_err(|_| AllocError)
+            push_progress(text, *steps, *turns)
         }
         Answer::Going { call, steps, turns } => {
-            writeln!(text, "going {call} steps {steps} turns {turns}").map_err(|_| AllocError)
+            text.extend_from_slice(b"going ")?;
+            push_call(text, *call)?;
+            push_progress(text, *steps, *turns)
         }
         Answer::Trimmed(number) => writeln!(text, "trimmed {number}").map_err(|_| AllocError),
         Answer::Reshaped { count, number } => {
@@ -114,4 +123,38 @@ pub fn push_answer(text: &mut Vec<u8>, answer: &Answer) -> Result<(), AllocError
         }
         Answer::End => writeln!(text, "end").map_err(|_| AllocError),
     }
+}
+
+/// Writes how far a call has come, and the end of the line, after a text.
+///
+/// An `Err` says that memory was refused.
+fn push_progress(text: &mut Vec<u8>, steps: u64, turns: u64) -> Result<(), AllocError>
+    ensures { OnOk result (text.new.items ≡ text.old.items ++ progress_text steps turns) }
+{
+    text.extend_from_slice(b" steps ")?;
+    push_number(text, steps)?;
+    text.extend_from_slice(b" turns ")?;
+    push_number(text, turns)?;
+    text.extend_from_slice(b"\n")
+}
+
+/// Writes the name of a call after a text.
+///
+/// An `Err` says that memory was refused.
+fn push_call(text: &mut Vec<u8>, call: CallId) -> Result<(), AllocError>
+    ensures { OnOk result (text.new.items ≡ text.old.items ++ call_text call) }
+{
+    push_number(text, u64::from(call.process))?;
+    text.extend_from_slice(b".")?;
+    push_number(text, call.nth)
+}
+
+/// Writes a number after a text.
+///
+/// An `Err` says that memory was refused.
+fn push_number(text: &mut Vec<u8>, number: u64) -> Result<(), AllocError>
+    ensures { OnOk result (text.new.items ≡ text.old.items ++ decimal number) }
+{
+    let mut digits = Buffer::new();
+    text.extend_from_slice(digits.format(number).as_bytes())
 }

@@ -9,6 +9,7 @@ ghost use Rattle.uni_log.specs.Entry.{entry_shown};
 ghost use Rattle.uni_record.specs.Recorded.{KeepsOpening};
 ghost use Rattle.uni_script.specs.Replay.{IsHistory};
 ghost use Rattle.uni_script.specs.Grammar.{IsInRange};
+ghost use Rattle.uni_script.specs.Commands.{output_text, refusal_in_output};
 ghost use Rattle.uni_script.specs.Answer.{answer_text, refusal_in, numbers_text, heads_text, entry_text, IsOver};
 ghost use Rattle.uni_script.specs.Meaning.{session_of, session_after, opened_session, result_of_command, result_of_call, result_of_steps, result_of_trim, result_of_reshape, last_step, steps_of, steps_taken, most_steps, log_text, refusal_of_call, refusal_of_step, refusal_of_end, refusal_of_reshape, refusal_of_command};
 
@@ -52,6 +53,17 @@ pub fn open<O: Spoken>(
     }
 }
 
+/// What is written of a command that was made.
+#[derive(Drop)]
+enum Output {
+    /// Its answer.
+    Answer(Answer),
+    /// The heads.
+    Heads,
+    /// The log.
+    Log,
+}
+
 /// Makes a command, and writes its answer after a text.
 ///
 /// An `Err` says that memory was refused.
@@ -66,29 +78,10 @@ pub fn make<O: Spoken>(
         (result_of_command (record { object = O.sequential session.old.world.object; language = O.language }) (session_of session.old) command).events) }
     ensures text { OnOk result (text.new.items ≡ text.old.items ++ (result_of_command (record { object = O.sequential session.old.world.object; language = O.language }) (session_of session.old) command).text) }
 {
-    match command {
-        Command::Call { process, inv } => {
-            let answer = call(session, alloc, process, &inv)?;
-            push_answer(text, &answer)
-        }
-        Command::Step { process, count } => {
-            let answer = step(session, alloc, process, count)?;
-            push_answer(text, &answer)
-        }
-        Command::Finish { process } => {
-            let answer = finish(session, alloc, process)?;
-            push_answer(text, &answer)
-        }
-        Command::Log => push_log(session.world(), alloc, text),
-        Command::Heads => push_heads(session.world(), text),
-        Command::Trim => {
-            let answer = trim(session, alloc)?;
-            push_answer(text, &answer)
-        }
-        Command::Reshape { processes } => {
-            let answer = reshape(session, alloc, processes)?;
-            push_answer(text, &answer)
-        }
+    match output_of(session, alloc, command)? {
+        Output::Answer(answer) => push_answer(text, &answer),
+        Output::Heads => push_heads(session.world(), text),
+        Output::Log => push_log(session.world(), alloc, text),
     }
 }
 
@@ -105,28 +98,48 @@ pub fn refusal_of<O: Spoken>(
         (result_of_command (record { object = O.sequential session.old.world.object; language = O.language }) (session_of session.old) command).events) }
     ensures refusal { IfOk result (λ refusal. refusal ≡ refusal_of_command (session_of session.old) command) }
 {
+    match output_of(session, alloc, command)? {
+        Output::Answer(answer) => Ok(refusal_in(answer)),
+        Output::Heads | Output::Log => Ok(None),
+    }
+}
+
+/// Makes a command; the answer is what is to be written of it.
+///
+/// An `Err` says that memory was refused.
+fn output_of<O: Spoken>(
+    session: &mut Recorded<O>,
+    alloc: Global,
+    command: Command<O::Inv>,
+) -> Result<Output, AllocError>
+    ensures object { session.new.world.object ≡ session.old.world.object }
+    ensures session { OnOk result (session_of session.new ≡ session_after (record { object = O.sequential session.old.world.object; language = O.language }) (session_of session.old)
+        (result_of_command (record { object = O.sequential session.old.world.object; language = O.language }) (session_of session.old) command).events) }
+    ensures text { IfOk result (λ output. output_text (record { object = O.sequential session.old.world.object; language = O.language }) (world_of session.new.world) output ≡ (result_of_command (record { object = O.sequential session.old.world.object; language = O.language }) (session_of session.old) command).text) }
+    ensures refusal { IfOk result (λ output. refusal_in_output output ≡ refusal_of_command (session_of session.old) command) }
+{
     match command {
         Command::Call { process, inv } => {
-            let outcome = call(session, alloc, process, &inv)?;
-            Ok(refusal_in(outcome))
+            let answer = call(session, alloc, process, &inv)?;
+            Ok(Output::Answer(answer))
         }
         Command::Step { process, count } => {
-            let outcome = step(session, alloc, process, count)?;
-            Ok(refusal_in(outcome))
+            let answer = step(session, alloc, process, count)?;
+            Ok(Output::Answer(answer))
         }
         Command::Finish { process } => {
-            let outcome = finish(session, alloc, process)?;
-            Ok(refusal_in(outcome))
+            let answer = finish(session, alloc, process)?;
+            Ok(Output::Answer(answer))
         }
-        Command::Log => Ok(None),
-        Command::Heads => Ok(None),
+        Command::Log => Ok(Output::Log),
+        Command::Heads => Ok(Output::Heads),
         Command::Trim => {
-            let outcome = trim(session, alloc)?;
-            Ok(refusal_in(outcome))
+            let answer = trim(session, alloc)?;
+            Ok(Output::Answer(answer))
         }
         Command::Reshape { processes } => {
-            let outcome = reshape(session, alloc, processes)?;
-            Ok(refusal_in(outcome))
+            let answer = reshape(session, alloc, processes)?;
+            Ok(Output::Answer(answer))
         }
     }
 }

@@ -1,4 +1,4 @@
-use Rattle.std.proofs.Common.{rules, ◌≡◌, ◌∙◌, ◌+◌, ◌++◌, ◌∷◌, [], inl, None, Some, is_none, Err, List, map, refl, sym, ap, subst, append-nil}
+use Rattle.std.proofs.Common.{rules, ◌≡◌, ◌∙◌, ◌+◌, ◌++◌, ◌∷◌, [], inl, None, Some, is_none, Err, map, refl, sym, ap, subst, append-nil}
 use Rattle.uni_script.specs.declared.fault.BenchFault.TheVariants.{NoHeader, Read, TooLong, TooMany}
 use Rattle.uni_script.specs.declared.lines.Stop.TheVariants as stop
 use Rattle.uni_script.specs.Meaning.{Outcome, session_of_header, outcome_of_fault}

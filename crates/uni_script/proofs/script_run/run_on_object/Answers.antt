@@ -1,6 +1,6 @@
-use Rattle.std.proofs.Common.{◌≡◌, Some, List, length, map, ◌≤◌, subst}
-use Rattle.uni_script.specs.Meaning.{ScriptSession, session_of}
-use Rattle.uni_script.specs.Told.{Telling, told_shown}
+use Rattle.std.proofs.Common.{◌≡◌, Some, length, map, ◌≤◌, subst}
+use Rattle.uni_script.specs.Meaning.{session_of}
+use Rattle.uni_script.specs.Told.{told_shown}
 use Rattle.uni_script.specs.ScriptRun.{MakesOn}
 use Rattle.uni_script.proofs.RunningOn.{HasEnded-memory}
 use Rattle.uni_script.proofs.script_run.run_on_object.Goals as goal

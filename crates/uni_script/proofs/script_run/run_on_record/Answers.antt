@@ -1,9 +1,9 @@
-use Rattle.std.proofs.Common.{rules, ◌≡◌, ◌∙◌, ◌+◌, ◌++◌, ◌∷◌, [], Some, Err, List, length, map, ◌≤◌, refl, sym, ap, subst}
+use Rattle.std.proofs.Common.{rules, ◌≡◌, ◌∙◌, ◌+◌, ◌++◌, ◌∷◌, [], Some, Err, length, map, ◌≤◌, refl, sym, ap, subst}
 use Rattle.uni_script.specs.declared.fault.BenchFault.TheVariants.{Read, TooLong, TooMany}
 use Rattle.uni_script.specs.declared.lines.Stop.TheVariants as stop
 use Rattle.uni_script.specs.Meaning.{session_of, outcome_of_fault}
-use Rattle.uni_script.specs.Told.{told_shown, told_of_line}
-use Rattle.uni_script.specs.Lines.{HasTaken, HasStopped, HasEnded}
+use Rattle.uni_script.specs.Told.{told_shown}
+use Rattle.uni_script.specs.Lines.{HasTaken, HasStopped}
 use Rattle.uni_script.specs.ScriptRun.{HasMade}
 use Rattle.uni_script.proofs.Running.{is_short}
 use Rattle.uni_script.proofs.RunningOn.{stays_false, is_short-line, HasEnded-stop}
