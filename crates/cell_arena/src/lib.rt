@@ -9,8 +9,6 @@ mod columns;
 mod fault;
 mod row_cells;
 mod rows;
-#[cfg(test)]
-mod tests;
 
 pub use cell_id::{CellId, of_is_injective};
 pub use cells::Cells;

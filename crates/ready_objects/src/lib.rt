@@ -21,5 +21,3 @@ pub use queue::{QueueInv, QueueObject, QueueResp, QueueState};
 pub use spoken::Spoken;
 pub use sticky::{StickyInv, StickyObject, StickyResp, StickyState, proposals_agree};
 
-#[cfg(test)]
-mod tests;

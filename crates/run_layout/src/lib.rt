@@ -4,8 +4,6 @@
 
 mod axis;
 mod subject;
-#[cfg(test)]
-mod tests;
 mod wording;
 mod wrapping;
 

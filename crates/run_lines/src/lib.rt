@@ -9,8 +9,6 @@ mod lines;
 mod numbering;
 mod sheet;
 mod strokes;
-#[cfg(test)]
-mod tests;
 mod texts;
 
 pub use lines::lines_of;

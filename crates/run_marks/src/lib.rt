@@ -7,8 +7,6 @@
 mod laws;
 mod marks;
 mod replay;
-#[cfg(test)]
-mod tests;
 
 pub use laws::{bars_have_the_replies, dots_are_the_log, dots_lie_in_bars};
 pub use marks::{Bar, BarEnd, CellBox, Dot, Era, EraEnd, EraLine, Marks, StepMark};

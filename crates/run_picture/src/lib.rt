@@ -14,7 +14,5 @@ mod notes;
 mod paint;
 mod picture;
 mod sheet;
-#[cfg(test)]
-mod tests;
 
 pub use picture::picture_of;

@@ -10,8 +10,6 @@ mod renew;
 mod run;
 mod shared;
 mod stage;
-#[cfg(test)]
-mod tests;
 mod transition;
 mod world;
 

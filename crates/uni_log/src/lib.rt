@@ -4,8 +4,6 @@
 
 mod entry;
 mod log;
-#[cfg(test)]
-mod tests;
 
 pub use entry::Entry;
 pub use log::Log;

@@ -9,12 +9,8 @@ mod fault;
 mod made_calls;
 mod readers;
 mod recorded;
-#[cfg(test)]
-mod recorded_tests;
 mod room;
 mod run;
-#[cfg(test)]
-mod tests;
 mod verdict;
 
 pub use checker::audit;

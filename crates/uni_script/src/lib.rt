@@ -16,8 +16,6 @@ mod replay;
 mod schedules;
 mod script_run;
 mod summary;
-#[cfg(test)]
-mod tests;
 mod told;
 
 pub use answer::Refusal;

@@ -6,17 +6,9 @@ mod closed;
 mod fault;
 mod gate;
 mod held;
-#[cfg(test)]
-mod held_tests;
 mod receipt;
 mod seat;
 mod shared;
-#[cfg(test)]
-mod test_calls;
-#[cfg(test)]
-mod tests;
-#[cfg(test)]
-mod thread_tests;
 
 pub use closed::{CloseFault, Closed, Refused};
 pub use fault::ApplyFault;

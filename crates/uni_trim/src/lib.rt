@@ -4,8 +4,6 @@
 
 mod ends;
 mod fault;
-#[cfg(test)]
-mod tests;
 
 pub use ends::{next_number, reshape, trim};
 pub use fault::{ReshapeFault, TrimFault};

@@ -1,7 +1,6 @@
 //! Two threads over one record: what the lock lets happen between the steps of a call.
 
-use crate::test_calls::{Second, amount, calls, enq, enqueues, last, queue, receipts_of, resumes};
-use crate::{ApplyFault, Closed, Gate, GaveUp, NoGate, Seat, Shared, trim};
+use crate::seat_calls::{Second, amount, calls, enq, enqueues, last, queue, receipts_of, resumes};
 use ready_objects::{QueueInv, QueueObject, QueueResp};
 use std::alloc::{AllocError, Global};
 use std::process::Abort;
@@ -12,6 +11,7 @@ use std::thread::{Threads, join};
 use uni_core::{Place, Progress};
 use uni_log::Entry;
 use uni_record::{RecordTrimFault, Recorded, Verdict, audit};
+use uni_shared::{ApplyFault, Closed, Gate, GaveUp, NoGate, Seat, Shared, trim};
 
 /// How often a word is looked at before waiting for it ends.
 const PATIENCE: u64 = 1_000_000_000;

@@ -1,7 +1,7 @@
 //! Tests of whole texts.
 
-use crate::lines_of;
 use run_layout::PictureFault;
+use run_lines::lines_of;
 use std::alloc::{AllocError, Global};
 use std::process::Abort;
 use uni_script::{BenchFault, Checked};

@@ -1,7 +1,7 @@
 //! A test of a whole picture, and of a script that has none.
 
-use crate::picture_of;
 use run_layout::PictureFault;
+use run_picture::picture_of;
 use std::alloc::Global;
 use std::process::Abort;
 use uni_script::{BenchFault, Checked};

@@ -1,6 +1,5 @@
 //! What single holds of the lock do to a record, worked out by hand.
 
-use crate::{StepHeldFault, begin_held, step_held, trim_held};
 use ready_objects::{Amount, QueueInv, QueueObject, QueueResp};
 use seq_object::CallId;
 use std::alloc::Global;
@@ -8,6 +7,7 @@ use std::process::Abort;
 use std::test::Fail;
 use uni_core::Place;
 use uni_record::{RecordBeginFault, RecordTrimFault, Recorded};
+use uni_shared::{StepHeldFault, begin_held, step_held, trim_held};
 
 /// Call 0.0.
 const FIRST: CallId = CallId { process: 0, nth: 0 };

@@ -1,9 +1,8 @@
 //! Seats and closed records whose receipts and faults were worked out by hand.
 
-use crate::test_calls::{
+use crate::seat_calls::{
     Opened, Second, alone, enqueues, has_added, last, queue, queue_of_one, receipts_of, resumes,
 };
-use crate::{ApplyFault, CloseFault, Closed, NoGate, Refused, Seat, Shared, trim};
 use ready_objects::QueueObject;
 use seq_object::CallId;
 use std::alloc::Global;
@@ -11,6 +10,7 @@ use std::process::Abort;
 use std::sync::Wait;
 use std::sync::atomic::AtomicU64;
 use std::test::Fail;
+use uni_shared::{ApplyFault, CloseFault, Closed, NoGate, Refused, Seat, Shared, trim};
 
 /// One seat makes one call, and then the era ends.
 fn one_call<R: Wait + Abort>(

@@ -1,6 +1,6 @@
 //! Runs by the text of invocations and responses.
 
-use super::*;
+use ready_objects::*;
 use seq_object::SeqObject;
 use std::alloc::Global;
 use std::process::Abort;

@@ -2,10 +2,6 @@
 
 ghost use Rattle.std.specs.Prelude.{◌≤◌};
 
-use crate::{
-    Command, Counts, Event, Outcome, RecordBeginFault, RecordOpenFault, RecordReshapeFault,
-    RecordStepFault, RecordTrimFault, Recorded, Refusal, Return, Verdict, audit,
-};
 use ready_objects::{Amount, QueueInv, QueueObject, QueueResp};
 use seq_object::{CallId, SeqObject, SwapRegister};
 use std::alloc::{AllocError, Global};
@@ -13,6 +9,10 @@ use std::process::Abort;
 use std::test::Fail;
 use uni_core::Progress;
 use uni_log::Entry;
+use uni_record::{
+    Command, Counts, Event, Outcome, RecordBeginFault, RecordOpenFault, RecordReshapeFault,
+    RecordStepFault, RecordTrimFault, Recorded, Refusal, Return, Verdict, audit,
+};
 
 /// What is done with a record, and what has to come of it.
 #[derive(Drop)]

@@ -3,7 +3,7 @@
 ghost use Rattle.std.specs.Prelude.{◌≡◌, ◌<◌, ◌≤◌, ℕ, IsSome, IsSomeAnd};
 ghost use Rattle.cell_arena.specs.Arena.{processes_of};
 
-use crate::{ArenaFault, CellId, Cells, ColumnCells, RowCells, of_is_injective};
+use cell_arena::{ArenaFault, CellId, Cells, ColumnCells, RowCells, of_is_injective};
 use std::alloc::Global;
 use std::process::Abort;
 use std::test::Fail;

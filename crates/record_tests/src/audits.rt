@@ -1,9 +1,9 @@
 //! Lists whose verdicts were worked out by hand.
 
-use crate::{Return, Verdict, audit};
 use seq_object::{CallId, SeqObject, SwapRegister};
 use std::alloc::{AllocError, Global};
 use uni_log::Entry;
+use uni_record::{Return, Verdict, audit};
 
 /// Is refused memory for each invocation, of which the response would be 9.
 #[derive(Drop)]

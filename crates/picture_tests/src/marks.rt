@@ -1,10 +1,10 @@
 //! Runs worked out by hand, with their marks.
 
-use crate::{
+use ready_objects::{Amount, QueueInv, QueueObject};
+use run_marks::{
     Bar, BarEnd, CellBox, Dot, EraEnd, EraLine, Marks, StepMark, bars_have_the_replies,
     dots_are_the_log, dots_lie_in_bars, marks_of,
 };
-use ready_objects::{Amount, QueueInv, QueueObject};
 use seq_object::CallId;
 use std::alloc::Global;
 use std::process::Abort;

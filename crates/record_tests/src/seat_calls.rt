@@ -1,6 +1,5 @@
 //! Calls that tests make.
 
-use crate::{ApplyFault, Closed, Gate, GaveUp, NoGate, Receipt, Seat, Shared};
 use ready_objects::{Amount, QueueInv, QueueObject, QueueResp};
 use seq_object::CallId;
 use std::alloc::Global;
@@ -8,6 +7,7 @@ use std::sync::Wait;
 use std::sync::atomic::{AtomicU64, Ordering};
 use std::test::Fail;
 use uni_core::Place;
+use uni_shared::{ApplyFault, Closed, Gate, GaveUp, NoGate, Receipt, Seat, Shared};
 
 /// The seats of a queue, and the queue under a lock.
 pub(crate) type Opened = (Shared<QueueObject>, Vec<Seat<QueueObject>>);

@@ -2,10 +2,6 @@
 
 ghost use Rattle.uni_script.specs.Replay.{IsHistory};
 
-use crate::{
-    BenchFault, Checked, Drawn, Failed, ObjectName, Options, Plan, Remark, ScriptRecord, Summary,
-    TextIn, TextOut, Told, bench, finish_returns, push_fault, run_of_script, schedule, write_all,
-};
 use rand_xoshiro::Xoshiro256PlusPlus;
 use rand_xoshiro::rand_core::SeedableRng;
 use ready_objects::{Amount, QueueObject, StickyInv, StickyObject, StickyResp};
@@ -19,6 +15,10 @@ use std::test::Fail;
 use uni_core::{Progress, World};
 use uni_log::{Entry, Log};
 use uni_record::Verdict;
+use uni_script::{
+    BenchFault, Checked, Drawn, Failed, ObjectName, Options, Plan, Remark, ScriptRecord, Summary,
+    TextIn, TextOut, Told, bench, finish_returns, push_fault, run_of_script, schedule, write_all,
+};
 
 /// What `bench` is told where its history is long enough.
 const OPTIONS: Options = Options { history: 1_048_576 };

@@ -2,14 +2,14 @@
 
 ghost use Rattle.std.specs.Prelude.{◌≤◌};
 
-use crate::{
-    BeginFault, Command, OpenFault, Outcome, Place, Progress, Refusal, StepFault, StepKind, World,
-};
 use cell_arena::{CellId, Cells};
 use seq_object::{CallId, SwapRegister};
 use std::alloc::{AllocError, Global};
 use std::process::Abort;
 use std::test::Fail;
+use uni_core::{
+    BeginFault, Command, OpenFault, Outcome, Place, Progress, Refusal, StepFault, StepKind, World,
+};
 
 /// What is done with a world, and what has to come of it.
 #[derive(Clone, Copy)]

@@ -1,6 +1,6 @@
 //! Tests of what scripts have, and of its words, lines and columns.
 
-use crate::{
+use run_layout::{
     Column, PictureFault, Scale, Subject, axis_of, cell_name, cell_words, counts_of, label_of,
     lane_of, letter_of, letters, line_of, meaning_of, push_lines, push_picture_fault, refusal_of,
     subject_of, title_of,

@@ -1,12 +1,12 @@
 //! Schedules worked out by hand: which calls are in the list, with their numbers and responses.
 
-use crate::{Entry, Log};
 use cell_arena::{CellId, Cells};
 use seq_object::{CallId, SwapRegister};
 use std::alloc::{AllocError, Global};
 use std::process::Abort;
 use std::test::Fail;
 use uni_core::{Command, Outcome, Progress, World};
+use uni_log::{Entry, Log};
 
 /// A world of so many processes with rows of 8 cells.
 fn opened(alloc: Global, n: u64) -> Result<World<SwapRegister>, Fail> {

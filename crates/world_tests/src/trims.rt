@@ -1,7 +1,6 @@
 //! Schedules worked out by hand: the exact numbers of steps and turns, and the replies, before and
 //! after the ends of eras.
 
-use crate::{ReshapeFault, TrimFault, reshape, trim};
 use cell_arena::CellId;
 use ready_objects::{
     Amount, QueueInv, QueueObject, QueueResp, StickyInv, StickyObject, StickyResp,
@@ -12,6 +11,7 @@ use std::process::Abort;
 use std::test::Fail;
 use uni_core::{BeginFault, Progress, World};
 use uni_log::Log;
+use uni_trim::{ReshapeFault, TrimFault, reshape, trim};
 
 /// What is done with a world of a queue, and what has to come of it.
 #[derive(Clone, Copy)]

@@ -1,0 +1,5 @@
+//! Tests of scripts and of schedules.
+#![tactic(auto)]
+
+#[cfg(test)]
+mod scripts;
