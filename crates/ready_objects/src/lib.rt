@@ -20,4 +20,3 @@ pub use place::Place;
 pub use queue::{QueueInv, QueueObject, QueueResp, QueueState};
 pub use spoken::Spoken;
 pub use sticky::{StickyInv, StickyObject, StickyResp, StickyState, proposals_agree};
-
