@@ -156,10 +156,11 @@ fn enqueue(
     ensures values { IfOk result (λ r. r.0.items ≡ queue_next values.now (QueueInv.Enq value)) }
     ensures response { IfOk result (λ r. r.1 ≡ queue_answer values.now (QueueInv.Enq value)) }
 {
-    let mut next = Vec::from_slice(alloc, values)?;
-    if next.len() >= 1000 {
-        return Ok((next, QueueResp::Full));
+    if values.len() >= 1000 {
+        return Ok((Vec::from_slice(alloc, values)?, QueueResp::Full));
     }
+    let mut next = Vec::with_capacity(alloc, values.len() + 1)?;
+    next.extend_from_slice(values)?;
     next.push(value)?;
     Ok((next, QueueResp::Added))
 }
