@@ -47,6 +47,14 @@ module _ {S I R : Type 0} (w : WorldOf S I R) where
   }
 
   module _ (at : Name) (seq : ℕ) (rest : List Name) (along : IsAlong w at seq rest) where
+    -- its number is within the limit
+    pub along-low : seq < 2 ^ 48
+    along-low =
+        let at_is : seq ≡ along.num at = along.number in
+        let greatest : along.num at ≤ along.last = along.numbered.greatest at in
+        let low : along.last < 2 ^ 48 = along.low in
+        omega arith
+
     -- where nothing is settled after the cell, the walk has come to the end
     pub along-end : after_of w.memory at ≡ None → rest ≡ []
     along-end none = along.rest_is ∙ nothing along.most where

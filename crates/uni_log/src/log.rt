@@ -1,6 +1,6 @@
 //! The reader of the list.
 
-ghost use Rattle.std.specs.Prelude.{◌≡◌, ◌+◌, ◌<◌, ◌≤◌, ℕ, ◌∷◌, IfOk, IfSome, IsSome, IsSomeAnd, Some, None, length, map, option_map, position, reverse, slice_get, take};
+ghost use Rattle.std.specs.Prelude.{◌≡◌, ◌+◌, ◌<◌, ◌≤◌, ℕ, ◌∷◌, ◌++◌, IfOk, IfSome, IsSome, IsSomeAnd, Some, None, length, map, option_map, position, reverse, slice_get, take};
 ghost use Rattle.std.specs.Option.{option_copied};
 ghost use Rattle.cell_arena.specs.Arena.{cell_of};
 ghost use Rattle.seq_object.specs.History.{IsLegal, state_after};
@@ -108,9 +108,24 @@ impl<'a, O: SeqObject> Log<'a, O> {
         ensures legal { IfOk result (λ entries. (state : O.State) → new_of (world_of self.now).memory Anchor ≡ Some (state, None)
             → IsLegal (O.sequential self.now.object) state (map call_shown entries.items)) }
     {
+        self.world.shape();
+        self.entries_after(alloc, Vec::new(alloc))
+    }
+
+    /// These entries, and then those of the present era: where entries of ended eras are kept, the log of
+    /// all eras, of which there is no second copy meanwhile.
+    ///
+    /// An `Err` says that memory was refused; the entries are dropped then.
+    pub fn entries_after(
+        &self,
+        alloc: Global,
+        earlier: Vec<Entry<O::Inv, O::Resp>>,
+    ) -> Result<Vec<Entry<O::Inv, O::Resp>>, AllocError>
+        ensures { IfOk result (λ entries. map entry_shown entries.items ≡ map entry_shown earlier.items ++ log (world_of self.now)) }
+    {
         let world = self.world;
         world.shape();
-        let mut entries = Vec::new(alloc);
+        let mut entries = earlier;
         let mut at = CellId::anchor();
         let mut seq = world.seq(at);
         while let Some(next) = world.after(at) {

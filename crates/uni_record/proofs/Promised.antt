@@ -92,11 +92,11 @@ module _ {O S I R : Type 0} (sequential : O → Sequential S I R) where
   }
 
   -- the entries of all eras are the joined log
-  pub entries_are_joined : (r : Recording O S I R) (copies present all : List (Logged I R)) → IsRecording sequential r → all ≡ copies ++ present → copies ≡ r.ended → map entry_shown present ≡ log (world_of r.world)
+  pub entries_are_joined : (r : Recording O S I R) (copies all : List (Logged I R)) → IsRecording sequential r → map entry_shown all ≡ map entry_shown copies ++ log (world_of r.world) → copies ≡ r.ended
       → map entry_shown all ≡ log_of_run (meaning sequential r) (opening sequential r) (events_shown r.events)
-  entries_are_joined r copies present all is joined copied logged =
-      ap (map entry_shown) joined ∙ map-append entry_shown copies present
-      ∙ ap (λ xs. map entry_shown xs ++ map entry_shown present) copied
-      ∙ ap (λ xs. xs ++ map entry_shown present) is.ended
-      ∙ ap (λ xs. ended_log (meaning sequential r) (opening sequential r) (events_shown r.events) ++ xs) (logged ∙ ap log is.replay)
+  entries_are_joined r copies all is joined copied =
+      joined
+      ∙ ap (λ xs. map entry_shown xs ++ log (world_of r.world)) copied
+      ∙ ap (λ xs. xs ++ log (world_of r.world)) is.ended
+      ∙ ap (λ w. ended_log (meaning sequential r) (opening sequential r) (events_shown r.events) ++ log w) is.replay
       ∙ sym (log_of_run-ended (meaning sequential r) (opening sequential r) (events_shown r.events))

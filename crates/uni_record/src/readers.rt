@@ -78,10 +78,8 @@ impl<O: SeqObject> Recorded<O> {
         self.promise();
         joined_log_is_legal::<O>();
         joined_log_holds_responses::<O>();
-        let mut entries = copied_entries::<O>(alloc, &self.ended)?;
-        let mut present = Log::of(&self.world).entries(alloc)?;
-        entries.append(&mut present)?;
-        Ok(entries)
+        let ended = copied_entries::<O>(alloc, &self.ended)?;
+        Log::of(&self.world).entries_after(alloc, ended)
     }
 
     /// What an audit of the entries of all eras and of the returns says: they agree.

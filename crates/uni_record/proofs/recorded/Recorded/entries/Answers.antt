@@ -1,4 +1,5 @@
-use Rattle.std.proofs.Common.{◌≡◌, ◌∙◌, ap, map, subst}
+use Rattle.std.proofs.Common.{◌≡◌, ◌∙◌, ◌++◌, ap, map, subst}
+use Rattle.std.proofs.lemmas.Result.{IfOk-weaker}
 use Rattle.uni_model.specs.History.{log, log_of_run}
 use Rattle.uni_core.specs.World.{world_of}
 use Rattle.uni_log.specs.Entry.{entry_shown}
@@ -12,10 +13,10 @@ use Rattle.uni_record.proofs.recorded.Recorded.entries.Goals as goal
 pub returns : goal.returns
 returns g c =
     let inside = c.self.invariant.0 in
-    let joined = entries_are_joined g.O.SeqObject.sequential _ c.in_ok-entries.entries.items c.in_ok-present.present.items _ inside c.in_ok-append.ensures.items (c.in_ok-entries.ensures ∙ c.deref.ensures.value)
-    (c.in_ok-present.ensures.log ∙ ap (λ w. log (world_of w)) c.of.ensures) in
+    let joined = IfOk-weaker c.entries_after.result _ _ (λ entries logged. entries_are_joined g.O.SeqObject.sequential _ c.in_ok-ended.ended.items entries.items inside
+    (logged ∙ ap (λ w. map entry_shown c.in_ok-ended.ended.items ++ log (world_of w)) c.of.ensures) (c.in_ok-ended.ensures ∙ c.deref.ensures.value)) c.entries_after.ensures in
     record {
-      joined = subst (λ r. map entry_shown c.append.new.self.items ≡ log_of_run (meaning g.O.SeqObject.sequential r) (opening g.O.SeqObject.sequential r) (events_shown r.events)) c.self.view_is joined;
-      audited = subst (λ r. IsAudited (meaning g.O.SeqObject.sequential r) c.append.new.self.items r.returns) c.self.view_is
-          (IsAudited-record g.O.SeqObject.sequential _ c.append.new.self.items inside joined (c.joined_log_is_legal.ensures _) (c.joined_log_holds_responses.ensures _));
+      joined = IfOk-weaker c.entries_after.result _ _ (λ entries is. subst (λ r. map entry_shown entries.items ≡ log_of_run (meaning g.O.SeqObject.sequential r) (opening g.O.SeqObject.sequential r) (events_shown r.events)) c.self.view_is is) joined;
+      audited = IfOk-weaker c.entries_after.result _ _ (λ entries is. subst (λ r. IsAudited (meaning g.O.SeqObject.sequential r) entries.items r.returns) c.self.view_is
+          (IsAudited-record g.O.SeqObject.sequential _ entries.items inside is (c.joined_log_is_legal.ensures _) (c.joined_log_holds_responses.ensures _))) joined;
     }
