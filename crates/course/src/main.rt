@@ -21,30 +21,21 @@ fn verdict<E: Drop>(same: Result<bool, E>) -> &'static str {
     }
 }
 
-/// What is said of the answers of the script of this name, in the folder where the program runs.
-fn of_answers<R: Files + Alloc<A = Global>>(rt: &R, name: &str) -> io::Result<&'static str> {
-    let alloc = rt.alloc();
-    let script = fs::read(rt, format!(in alloc; "{name}.script")?.as_str())?;
-    let answers = fs::read(rt, format!(in alloc; "{name}.answers")?.as_str())?;
-    let same = has_answers(alloc, script.as_slice(), answers.as_slice());
-    Ok(verdict(same))
-}
-
-/// What is said of the picture of the script of this name, in the folder where the program runs.
-fn of_picture<R: Files + Alloc<A = Global>>(rt: &R, name: &str) -> io::Result<&'static str> {
-    let alloc = rt.alloc();
-    let script = fs::read(rt, format!(in alloc; "{name}.script")?.as_str())?;
-    let svg = fs::read(rt, format!(in alloc; "{name}.svg")?.as_str())?;
-    let same = has_picture(alloc, script.as_slice(), svg.as_slice());
-    Ok(verdict(same))
+/// The file of this name and kind, in the folder where the program runs.
+fn file<R: Files + Alloc<A = Global>>(rt: &R, name: &str, kind: &str) -> io::Result<Vec<u8>> {
+    fs::read(rt, format!(in rt.alloc(); "{name}.{kind}")?.as_str())
 }
 
 fn main(rt: HostRuntime) -> io::Result<()> {
     for name in env::args(&rt)?.skip(1) {
-        let answers = of_answers(&rt, name.as_str())?;
-        println!(rt; "{name} {answers}")?;
-        let picture = of_picture(&rt, name.as_str())?;
-        println!(rt; "{name}.svg {picture}")?;
+        let name = name.as_str();
+        let script = file(&rt, name, "script")?;
+        let answers = file(&rt, name, "answers")?;
+        let svg = file(&rt, name, "svg")?;
+        let answered = has_answers(rt.alloc(), script.as_slice(), answers.as_slice());
+        println!(rt; "{name} {}", verdict(answered))?;
+        let drawn = has_picture(rt.alloc(), script.as_slice(), svg.as_slice());
+        println!(rt; "{name}.svg {}", verdict(drawn))?;
     }
     Ok(())
 }

@@ -1,8 +1,8 @@
 //! Tests of what scripts have, and of its words, lines and columns.
 
 use run_layout::{
-    Column, PictureFault, Scale, Subject, axis_of, cell_name, cell_words, counts_of, label_of,
-    lane_of, letter_of, letters, line_of, meaning_of, push_lines, push_picture_fault, refusal_of,
+    Column, MOST_EVENTS, MOST_TOLD, PictureFault, Scale, Subject, axis_of, cell_name, cell_words,
+    counts_of, label_of, lane_of, letter_of, letters, line_of, meaning_of, push_lines, refusal_of,
     subject_of, title_of,
 };
 use std::alloc::{AllocError, Global};
@@ -119,7 +119,7 @@ fn words_of_refusals_and_kinds(rt: HostRuntime) -> Result<(), Fail> {
 fn columns(rt: HostRuntime) -> Result<(), Fail> {
     let alloc = rt.alloc();
     let subject = subject(alloc, PENDING)?;
-    if subject.marks.events > 2_000 || subject.told.len() > 100_000 {
+    if subject.marks.events > MOST_EVENTS || subject.told.len() > MOST_TOLD {
         return Err(Fail::from("the script is short"));
     }
     let axis = axis_of(alloc, &subject.marks, &subject.told, NARROW)?;
@@ -156,14 +156,15 @@ fn lines(rt: HostRuntime) -> Result<(), AllocError> {
 }
 
 /// Asserts which fault a script has in place of a picture, and its text.
-fn is_refused(rt: &impl Abort, alloc: Global, script: &[u8], want: PictureFault, line: &str) {
+fn is_refused(rt: &impl Abort, alloc: Global, script: &[u8], want: PictureFault, text: &str) {
     match subject_of(alloc, &mut Checked::new(script)) {
         Ok(_) => assert!(rt; false),
         Err(fault) => assert_eq!(rt; fault, want),
     }
-    let mut text = Vec::new(alloc);
-    assert!(rt; push_picture_fault(&mut text, want).is_ok());
-    assert_eq!(rt; text.as_slice(), line.as_bytes());
+    match format!(in alloc; "{want}") {
+        Ok(told) => assert_eq!(rt; told.as_bytes(), text.as_bytes()),
+        Err(_) => assert!(rt; false),
+    }
 }
 
 /// A script of so many calls of one process, 15 events each, with these lines at its end.
@@ -181,7 +182,7 @@ fn long_script(alloc: Global, calls: u64, last: &str) -> Result<Vec<u8>, AllocEr
 fn faults(rt: HostRuntime) -> Result<(), AllocError> {
     let alloc = rt.alloc();
     let none = PictureFault::Script(BenchFault::NoHeader(1));
-    is_refused(&rt, alloc, b"", none, "line 1: no header\n");
+    is_refused(&rt, alloc, b"", none, "line 1: no header");
     // 133 calls are 1,995 events, and five more are 2,000.
     let many = PictureFault::TooManyEvents;
     let bad = PictureFault::Script(BenchFault::BadLine(270));
@@ -189,7 +190,7 @@ fn faults(rt: HostRuntime) -> Result<(), AllocError> {
     let more = long_script(alloc, 133, "call 0 deq\nstep 0 5\n")?;
     let worse = long_script(alloc, 134, "fin\n")?;
     assert!(rt; subject_of(alloc, &mut Checked::new(most.as_slice())).is_ok());
-    is_refused(&rt, alloc, &more, many, "too many events for a picture\n");
-    is_refused(&rt, alloc, &worse, bad, "line 270: bad line\n");
+    is_refused(&rt, alloc, &more, many, "too many events for a picture");
+    is_refused(&rt, alloc, &worse, bad, "line 270: bad line");
     Ok(())
 }

@@ -13,6 +13,9 @@ use uni_script::{Remark, Told};
 /// How many events a picture has at most.
 pub const MOST_EVENTS: u64 = 2_000;
 
+/// How many lanes a picture has at most: a script has no more processes.
+pub const MOST_LANES: u64 = 64;
+
 /// How many remarks a picture has at most: a script has no more lines.
 pub const MOST_TOLD: usize = 100_000;
 

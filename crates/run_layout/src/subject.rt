@@ -1,6 +1,6 @@
 //! What a picture shows of a script.
 
-ghost use Rattle.std.specs.Prelude.{◌≡◌, ◌<◌, ◌≤◌, ◌∷◌, ◌++◌, [], IfOk, OnOk, IsErrOf, Some, false, length};
+ghost use Rattle.std.specs.Prelude.{◌≡◌, ◌<◌, ◌≤◌, IfOk, OnOk, IsErrOf, Some, false, length};
 ghost use Rattle.uni_record.specs.Event.{events_shown};
 ghost use Rattle.uni_script.specs.Replay.{IsFaultOfScript};
 ghost use Rattle.uni_script.specs.ScriptRun.{HasFault};
@@ -13,7 +13,6 @@ use ready_objects::{BookObject, DirectoryObject, QueueObject, Spoken, StickyObje
 use run_marks::{Marks, marks_of};
 use std::alloc::{AllocError, Global};
 use std::fmt;
-use std::io::Write;
 use uni_record::Recorded;
 use uni_script::{
     BenchFault, ObjectName, Options, ScriptRecord, ScriptRun, TextIn, Told, run_of_script,
@@ -134,13 +133,4 @@ pub fn subject_of<I: TextIn>(alloc: Global, reader: &mut I) -> Result<Subject, P
         Ok(run) => subject_of_run(alloc, run),
         Err(fault) => Err(PictureFault::Script(fault)),
     }
-}
-
-/// Writes the text of a fault and the end of its line after a text.
-///
-/// An `Err` says that memory was refused.
-pub fn push_picture_fault(text: &mut Vec<u8>, fault: PictureFault) -> Result<(), AllocError>
-    ensures { OnOk result (text.new.items ≡ text.old.items ++ picture_fault_text fault ++ 10 ∷ []) }
-{
-    writeln!(text, "{fault}").map_err(|_| AllocError)
 }

@@ -6,11 +6,11 @@ ghost use Rattle.run_layout.specs.Axis.{places_shown};
 ghost use Rattle.run_lines.specs.Sheet.{trimmed, row_name, named_row, shown_line, row_text, part_of, block_text, blocks_text, lanes_drawn, rows_text_of, lines_of_marks};
 
 use crate::canvas::rows_of;
-use crate::strokes::{ABOVE, LANE, MOST_LANES, bottom_row, strokes_of};
+use crate::strokes::{ABOVE, LANE, bottom_row, strokes_of};
 use crate::texts::{
     WIDTH, push_eras, push_headings, push_legend, push_line, push_notes, push_padded, push_wrapped,
 };
-use run_layout::{Axis, Scale, axis_of, title_of};
+use run_layout::{Axis, MOST_LANES, Scale, axis_of, title_of};
 use run_marks::Marks;
 use std::alloc::{AllocError, Global};
 use std::io::Write;

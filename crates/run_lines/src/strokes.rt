@@ -24,9 +24,6 @@ pub const ABOVE: u64 = 2;
 /// How many rows a lane has: labels, bars with the letters of steps, dots, and counts.
 pub const LANE: u64 = 4;
 
-/// How many lanes there are at most: a script has no more processes.
-pub const MOST_LANES: u64 = 64;
-
 /// The first row of the lane of a process, of so many lanes; the row after all of one that there isn't.
 fn lane_row(lanes: u64, process: u64) -> u64
     requires { lanes ≤ 64 }

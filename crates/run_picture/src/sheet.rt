@@ -20,7 +20,7 @@ use crate::legend::push_legend;
 use crate::notes::{
     LINE, description_of, line_letters, push_captions, push_headings, push_refusals,
 };
-use run_layout::{Axis, Scale, axis_of, title_of};
+use run_layout::{Axis, MOST_LANES, Scale, axis_of, title_of};
 use run_marks::Marks;
 use std::alloc::{AllocError, Global};
 use svg_text::{Anchor, Drawing, Paint, Shape};
@@ -31,9 +31,6 @@ const LEAST_WIDTH: u64 = 960;
 
 /// How high the legend is, with the room below it.
 const LEGEND: u64 = 146;
-
-/// How many lanes a picture has at most: a script has no more processes.
-const MOST_LANES: u64 = 64;
 
 /// How wide the things of a picture are: steps are the wider, the fewer there are.
 fn scale_of(marks: &Marks, told: &[Told]) -> Scale

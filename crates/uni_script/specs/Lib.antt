@@ -14,3 +14,4 @@ pub mod ScriptRun
 pub mod Examples
 pub mod Laws
 pub mod Fault
+pub mod Statuses

@@ -15,6 +15,7 @@ mod objects;
 mod replay;
 mod schedules;
 mod script_run;
+mod statuses;
 mod summary;
 mod told;
 
@@ -26,5 +27,6 @@ pub use laws::finish_returns;
 pub use replay::{Options, bench};
 pub use schedules::{Drawn, Plan, schedule};
 pub use script_run::{ScriptRecord, ScriptRun, run_of_script};
+pub use statuses::{refuse_words, report_fault, tell};
 pub use summary::Summary;
 pub use told::{Remark, Told};

@@ -1,20 +1,13 @@
-//! The program: reads the command line, and runs the bench of `uni_script` from standard input to
-//! standard output, or threads that share an object.
+//! The program: hands its words and its standard streams to `run` of `unibench_run`, and ends with the status
+//! that it answers.
 #![tactic(auto)]
 
-mod lock;
-mod program;
-mod request;
-#[cfg(test)]
-mod tests;
-mod threads;
-
-use crate::program::{refuse_words, run};
 use std::alloc::Global;
 use std::env::Env;
 use std::process::ExitCode;
 use std::{env, io};
-use uni_script::Checked;
+use uni_script::{Checked, refuse_words};
+use unibench_run::run;
 
 /// The argument texts, the program's name first.
 fn words<R: Env + Alloc<A = Global>>(rt: &R) -> io::Result<Vec<String>> {

@@ -5,12 +5,12 @@ mod program;
 #[cfg(test)]
 mod tests;
 
-use crate::program::{refuse_words, run};
+use crate::program::run;
 use std::alloc::Global;
 use std::env::Env;
 use std::process::ExitCode;
 use std::{env, io};
-use uni_script::Checked;
+use uni_script::{Checked, refuse_words};
 
 /// The argument texts, the program's name first.
 fn words<R: Env + Alloc<A = Global>>(rt: &R) -> io::Result<Vec<String>> {

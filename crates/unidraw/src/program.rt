@@ -1,22 +1,19 @@
 //! The program over its ends, and its statuses.
 
-ghost use Rattle.std.specs.Prelude.{◌≡◌, ◌≢◌, ◌≤◌, ◌⊎◌, true, false, None, Some, IfOk, IsErrOf, map};
-ghost use Rattle.std.specs.Io.KnownBytes.{Appends};
-ghost use Rattle.uni_script.specs.Ends.{AppendsFront};
+ghost use Rattle.std.specs.Prelude.{◌≡◌, ◌≢◌, true, false, None, Some, IfOk, IsErrOf, map};
 ghost use Rattle.uni_script.specs.Replay.{IsFaultOfScript};
 ghost use Rattle.uni_script.specs.ScriptRun.{HasFault};
 ghost use Rattle.uni_script.specs.declared.fault.BenchFault.{BenchFault as Fault};
 ghost use Rattle.run_layout.specs.Subject.{HasTooManyEvents};
 ghost use Rattle.unidraw.specs.Drawn.{form_of_words, IsPictureIn, IsDrawn};
-ghost use Rattle.unidraw.specs.Statuses.{status_of, IsStatusOf, TellsFault};
+ghost use Rattle.unidraw.specs.Statuses.{IsStatusOfPicture, TellsPictureFault};
 
-use run_layout::{PictureFault, push_picture_fault};
+use run_layout::PictureFault;
 use run_lines::lines_of;
 use run_picture::picture_of;
-use std::alloc::{AllocError, Global};
+use std::alloc::Global;
 use std::convert::AsStr;
-use std::io;
-use uni_script::{BenchFault, Failed, TextIn, TextOut, write_all};
+use uni_script::{BenchFault, Failed, TextIn, TextOut, report_fault, tell, write_all};
 
 /// What a picture is drawn as.
 #[derive(Clone, Copy, Debug, PartialEq, Eq)]
@@ -46,7 +43,7 @@ pub fn run<S: AsStr, I: TextIn, O: TextOut, F: TextOut>(
     ensures asked { (form : Form) → form_of_words (map S.text words.now) ≡ Some form → IsDrawn form (I.remaining input.old) (O.contents output.old) (O.contents output.new) result }
     ensures written { O.has_failed output.new ≡ true → result ≡ 3 }
     ensures silent { result ≡ 0 → faults.new ≡ faults.old }
-    ensures told { (form : Form) → form_of_words (map S.text words.now) ≡ Some form → result ≢ 0 → TellsFault (F.contents faults.old) (F.contents faults.new) (F.has_failed faults.new) result }
+    ensures told { (form : Form) → form_of_words (map S.text words.now) ≡ Some form → result ≢ 0 → TellsPictureFault (F.contents faults.old) (F.contents faults.new) (F.has_failed faults.new) result }
     ensures refused { form_of_words (map S.text words.now) ≡ None → (result ≡ 2) × ((input.new ≡ input.old) × (output.new ≡ output.old)) }
 {
     match form_of(words) {
@@ -83,7 +80,7 @@ fn draw<I: TextIn, O: TextOut, F: TextOut>(
     ensures drawn { IsDrawn form (I.remaining input.old) (O.contents output.old) (O.contents output.new) result }
     ensures written { O.has_failed output.new ≡ true → result ≡ 3 }
     ensures silent { result ≡ 0 → faults.new ≡ faults.old }
-    ensures told { result ≢ 0 → TellsFault (F.contents faults.old) (F.contents faults.new) (F.has_failed faults.new) result }
+    ensures told { result ≢ 0 → TellsPictureFault (F.contents faults.old) (F.contents faults.new) (F.has_failed faults.new) result }
 {
     match picture_in(alloc, form, input) {
         Ok(text) => match write_all(output, text.as_slice()) {
@@ -110,73 +107,17 @@ fn picture_in<I: TextIn>(alloc: Global, form: Form, reader: &mut I) -> Result<Ve
     }
 }
 
-/// Says what went wrong, as far as the end takes it; the answer is the status. Where the text of a fault of the
-/// script is refused memory, that is what is told, with its status.
+/// Says why there is no picture, as far as the end takes it; the answer is the status. Where the text of a
+/// fault of the script is refused memory, that is what is told, with its status.
 fn report<F: TextOut>(alloc: Global, fault: PictureFault, faults: &mut F) -> u8
-    ensures status { IsStatusOf fault result }
-    ensures told { TellsFault (F.contents faults.old) (F.contents faults.new) (F.has_failed faults.new) result }
+    ensures status { IsStatusOfPicture fault result }
+    ensures told { TellsPictureFault (F.contents faults.old) (F.contents faults.new) (F.has_failed faults.new) result }
 {
     match fault {
-        PictureFault::TooManyEvents
-        | PictureFault::Script(
-            BenchFault::NoHeader(_)
-            | BenchFault::BadHeader(_)
-            | BenchFault::TooLong(_)
-            | BenchFault::BadByte(_)
-            | BenchFault::BadLine(_)
-            | BenchFault::TooMany,
-        ) => report_line(alloc, fault, 2, faults),
-        PictureFault::Script(BenchFault::Audit(_)) => report_line(alloc, fault, 5, faults),
-        PictureFault::Script(BenchFault::Read) => {
-            tell(faults, b"cannot read\n");
-            3
-        }
-        PictureFault::Script(BenchFault::Write) => {
-            tell(faults, b"cannot write\n");
-            3
-        }
-        PictureFault::Script(BenchFault::Memory) => {
-            tell(faults, b"out of memory\n");
-            4
+        PictureFault::Script(fault) => report_fault(alloc, fault, faults),
+        PictureFault::TooManyEvents => {
+            tell(faults, b"too many events for a picture\n");
+            2
         }
     }
-}
-
-/// Says which fault a script has, whose status this is, or that memory was refused to its text.
-fn report_line<F: TextOut>(alloc: Global, fault: PictureFault, status: u8, faults: &mut F) -> u8
-    requires { status ≡ status_of fault }
-    ensures status { (result ≡ status) ⊎ (result ≡ 4) }
-    ensures told { TellsFault (F.contents faults.old) (F.contents faults.new) (F.has_failed faults.new) result }
-{
-    let mut line = Vec::new(alloc);
-    match push_picture_fault(&mut line, fault) {
-        Ok(()) => {
-            tell(faults, line.as_slice());
-            status
-        }
-        Err(AllocError) => {
-            tell(faults, b"out of memory\n");
-            4
-        }
-    }
-}
-
-/// Writes a line, as far as the end takes it.
-fn tell<F: TextOut>(faults: &mut F, line: &[u8])
-    ensures front { AppendsFront (F.contents faults.old) (F.contents faults.new) line.now }
-    ensures whole { F.has_failed faults.new ≡ false → Appends (F.contents faults.old) (F.contents faults.new) line.now }
-{
-    let _ = write_all(faults, line);
-}
-
-/// Says why the argument texts can't be had; the answer is the status.
-pub fn refuse_words<F: TextOut>(error: &io::Error, faults: &mut F) -> u8
-    ensures { (result ≡ 2) ⊎ (result ≡ 4) }
-{
-    if error.kind() == io::ErrorKind::OutOfMemory {
-        tell(faults, b"out of memory\n");
-        return 4;
-    }
-    tell(faults, b"an argument is not UTF-8\n");
-    2
 }

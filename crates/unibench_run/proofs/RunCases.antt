@@ -1,0 +1,99 @@
+-- What a run comes to by what was asked for, and what the want of memory leaves.
+use Rattle.std.proofs.Common.{◌≡◌, ◌∙◌, ℕ, List, Option, Some, Bool, false, inl, inr, refl, sym, ap, subst, arith}
+use Rattle.std.specs.Io.KnownBytes.{Appends}
+use Rattle.uni_script.specs.Ends.{AppendsFront}
+use Rattle.uni_script.specs.Fault.{fault_line}
+use Rattle.uni_script.specs.declared.fault.BenchFault.{BenchFault}
+use Rattle.uni_script.specs.declared.fault.BenchFault.TheVariants as bench
+use Rattle.uni_script.proofs.Replaying.{IsPartOfReplay-start}
+use Rattle.unibench_run.specs.Runs.{IsRunOf}
+use Rattle.uni_script.specs.Statuses.{IsStatusOf, TellsFault, TellsLine, status_of}
+use Rattle.unibench_run.specs.Statuses.{Tells, TellsThreadsFault, status_of_threads}
+use Rattle.unibench_run.specs.Threads.{refusal_of}
+use Rattle.unibench_run.specs.declared.request.Request.{Request}
+use Rattle.unibench_run.specs.declared.request.Request.TheVariants.{Replay, Random, Threads}
+use Rattle.unibench_run.specs.declared.threads.ThreadsFault.{ThreadsFault}
+use Rattle.unibench_run.specs.declared.threads.ThreadsFault.TheVariants.{NoSuchObject, CallsTooMany, Memory, Write, Differs, SeatMissing, SeatPending, Audit}
+
+-- the want of memory has one status
+pub status_of_memory : (status : ℕ) → IsStatusOf bench.Memory status → status ≡ 4
+status_of_memory status is = elim is [
+  | inl four ↦ four
+  | inr other ↦ other.1
+]
+
+-- it is a run of anything that has read and written nothing
+pub run_of_memory : (r : Request) (left old : Option (List ℕ)) (failed : Bool) (status : ℕ) → failed ≡ false → status ≡ 4 → IsRunOf r left left old old failed status
+run_of_memory (Replay options) left old failed status good four = record { replayed = λ e. cc; bad = λ e. cc; read = λ e _. cc; part = IsPartOfReplay-start options.history _ _ }
+run_of_memory (Random plan) left old failed status good four =
+    record { statuses = inr (inr four); drawn = λ e. cc; front = λ e. cc; failed = ((λ e. cc), (λ e. cc)); nothing = λ e. refl }
+run_of_memory (Threads plan) left old failed status good four =
+    record { there = λ e. cc; nowhere = λ e. inr four; agreed = λ e. cc; front = λ e. cc; failed = ((λ e. cc), (λ e. cc)); nothing = λ a b. refl }
+
+-- its line is one for all
+threads_told : (refusal : Option ThreadsFault) (old new : Option (List ℕ)) (failed : Bool) (status : ℕ)
+    → status ≡ 4 → TellsFault old new failed status → TellsThreadsFault refusal old new failed status
+threads_told refusal old new failed status four told = by_fault told.fault told.status_is told.front told.whole
+  where
+    by_fault : (f : BenchFault) → status ≡ status_of f → AppendsFront old new (fault_line f) → (failed ≡ false → Appends old new (fault_line f)) → TellsThreadsFault refusal old new failed status
+    by_fault (bench.NoHeader l) is front whole = absurd (omega arith)
+    by_fault (bench.BadHeader l) is front whole = absurd (omega arith)
+    by_fault (bench.TooLong l) is front whole = absurd (omega arith)
+    by_fault (bench.BadByte l) is front whole = absurd (omega arith)
+    by_fault (bench.BadLine l) is front whole = absurd (omega arith)
+    by_fault bench.TooMany is front whole = absurd (omega arith)
+    by_fault bench.Read is front whole = absurd (omega arith)
+    by_fault bench.Write is front whole = absurd (omega arith)
+    by_fault (bench.Audit verdict) is front whole = absurd (omega arith)
+    by_fault bench.Memory is front whole = record { fault = Memory; status_is = (four, λ two. absurd (omega arith)); front = front; whole = whole }
+
+pub told_by_memory : (r : Request) (old new : Option (List ℕ)) (failed : Bool) (status : ℕ) → status ≡ 4 → TellsFault old new failed status → Tells r old new failed status
+told_by_memory (Replay options) old new failed status four told = told
+told_by_memory (Random plan) old new failed status four told = told
+told_by_memory (Threads plan) old new failed status four told = threads_told (refusal_of plan) old new failed status four told
+
+-- the line of a fault is told by its bytes
+pub TellsLine-bytes : {A : Type 0} (EndsWith : A → ℕ → Type 0) (line_of : A → List ℕ) (fault : A) (old new : Option (List ℕ)) (failed : Bool) (status : ℕ) (line : List ℕ)
+    → EndsWith fault status → line ≡ line_of fault → AppendsFront old new line → (failed ≡ false → Appends old new line) → TellsLine EndsWith line_of old new failed status
+TellsLine-bytes EndsWith line_of fault old new failed status line ends is front whole =
+    record { fault = fault; status_is = ends; front = subst (AppendsFront old new) is front; whole = λ good. subst (Appends old new) is (whole good) }
+
+-- where a fault that ends with 2 is what a plan is refused for, its line is that of the plan's refusal
+pub TellsThreadsFault-refused : (refusal : Option ThreadsFault) (fault : ThreadsFault) (old new : Option (List ℕ)) (failed : Bool) (status : ℕ)
+    → (status_of_threads fault ≡ 2 → refusal ≡ Some fault) → TellsThreadsFault (Some fault) old new failed status → TellsThreadsFault refusal old new failed status
+TellsThreadsFault-refused refusal fault old new failed status refused told = record {
+  fault = told.fault;
+  status_is = (
+    told.status_is.0,
+    λ two.
+        let same : Some fault ≡ Some told.fault = told.status_is.1 two in
+        let is : fault ≡ told.fault = cc in
+        subst (λ f. refusal ≡ Some f) is (refused (ap status_of_threads is ∙ sym told.status_is.0 ∙ two)),
+  );
+  front = told.front;
+  whole = told.whole;
+}
+
+-- the two faults that end with 2
+pub refused_by_two : (refusal : Option ThreadsFault) (fault : ThreadsFault) → (fault ≡ NoSuchObject → refusal ≡ Some NoSuchObject)
+    → (fault ≡ CallsTooMany → refusal ≡ Some CallsTooMany) → status_of_threads fault ≡ 2 → refusal ≡ Some fault
+refused_by_two refusal NoSuchObject there few two = there refl
+refused_by_two refusal CallsTooMany there few two = few refl
+refused_by_two refusal Memory there few two = absurd (omega arith)
+refused_by_two refusal Write there few two = absurd (omega arith)
+refused_by_two refusal (Differs call) there few two = absurd (omega arith)
+refused_by_two refusal (SeatMissing p) there few two = absurd (omega arith)
+refused_by_two refusal (SeatPending p) there few two = absurd (omega arith)
+refused_by_two refusal (Audit verdict) there few two = absurd (omega arith)
+
+-- what was asked for is one request
+module _ (asked : Option Request) (q r : Request) (is_q : asked ≡ Some q) (is_r : asked ≡ Some r) where
+  same_request : q ≡ r
+  same_request = let same : Some q ≡ Some r = sym is_q ∙ is_r in cc
+
+  pub run_of_asked : (left left_after old new : Option (List ℕ)) (failed : Bool) (status : ℕ)
+      → IsRunOf q left left_after old new failed status → IsRunOf r left left_after old new failed status
+  run_of_asked left left_after old new failed status run = subst (λ x. IsRunOf x left left_after old new failed status) same_request run
+
+  pub told_of_asked : (old new : Option (List ℕ)) (failed : Bool) (status : ℕ) → Tells q old new failed status → Tells r old new failed status
+  told_of_asked old new failed status told = subst (λ x. Tells x old new failed status) same_request told

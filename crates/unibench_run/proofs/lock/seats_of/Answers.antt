@@ -1,0 +1,14 @@
+use Rattle.std.proofs.Common.{◌≡◌, ◌∙◌, ◌++◌, ◌∷◌, [], map, Ok, ap, sym, append_assoc, append-nil}
+use Rattle.std.specs.Vec.Iter.{into_iter_items}
+use Rattle.std.proofs.lemmas.List.{map-append}
+use Rattle.unibench_run.proofs.lock.seats_of.Goals as goal
+
+pub loop-one-preserved : goal.loop-one-preserved
+loop-one-preserved g c =
+    let seats = c.loop-one.seats.items in
+    let rest = into_iter_items c.next.new.self in
+    let taken = c.in-Some.ensures.steps.0 ∙ ap (λ one. one ∷ rest) c.in_ok-seat.was in
+    let pushed = ap (λ l. map Ok l) c.in_ok-push.ensures.items ∙ map-append Ok seats (c.in_ok-seat.seat ∷ []) in
+    c.loop-one.invariant ∙ ap (λ l. map Ok seats ++ l) taken
+    ∙ sym (append_assoc (map Ok seats) (Ok c.in_ok-seat.seat ∷ []) rest)
+    ∙ ap (λ l. l ++ rest) (sym pushed)

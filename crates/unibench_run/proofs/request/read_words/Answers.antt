@@ -1,0 +1,14 @@
+use Rattle.std.proofs.Common.{◌∙◌, sym, ap, map}
+use Rattle.clap.specs.Words.{fault_of, subcommand_of}
+use Rattle.unibench_run.specs.CommandLine.{request_in}
+use Rattle.unibench_run.proofs.CommandLine.{is_simple_and_free-unibench, is_simple-unibench}
+use Rattle.unibench_run.proofs.request.read_words.Goals as goal
+
+pub returns-in-Ok-clause-asked : goal.returns-in-Ok-clause-asked
+returns-in-Ok-clause-asked g c =
+    let whole = c.in_ok-unibench.field-0 in
+    let is = c.in_ok-unibench.ensures in
+    let words = map g.S.AsStr.text c.args.words.now in (
+      ap (λ app. fault_of app words) (sym is) ∙ c.in-Ok.ensures.kinds (is_simple_and_free-unibench whole is),
+      c.request_in.ensures ∙ ap request_in ((c.in-Ok.ensures.matches (is_simple-unibench whole is)).1 ∙ ap (λ app. subcommand_of app words) is),
+    )

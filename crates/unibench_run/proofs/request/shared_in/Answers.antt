@@ -1,0 +1,16 @@
+use Rattle.std.proofs.Common.{◌≡◌, ◌∙◌, codes, None, Some, option_and_then, option_map, rules, sym, ap}
+use Rattle.clap.specs.Words.{found_of}
+use Rattle.uni_script.specs.Grammar.{object_of_word}
+use Rattle.unibench_run.proofs.PlanReads.{value_of-text}
+use Rattle.unibench_run.proofs.request.shared_in.Goals as goal
+
+pub returns-in_err-get_str : goal.returns-in_err-get_str
+returns-in_err-get_str c =
+    let lost : c.from_residual.result ≡ None = search rules in
+    let none : c.get_str.result ≡ None = search rules in
+    lost ∙ sym (value_of-text object_of_word (found_of c.args.matches.now) (codes "object") c.get_str.result c.get_str.ensures ∙ ap (λ o. option_and_then object_of_word (option_map (λ s. s.now) o)) none)
+
+pub returns : goal.returns
+returns c =
+    let some : c.get_str.result ≡ Some c.in_ok-get_str.field-0 = search rules in
+    c.shared_named.ensures ∙ sym (value_of-text object_of_word (found_of c.args.matches.now) (codes "object") c.get_str.result c.get_str.ensures ∙ ap (λ o. option_and_then object_of_word (option_map (λ s. s.now) o)) some)

@@ -1,0 +1,109 @@
+-- What the values of the options of `replay`, `random` and `threads` are.
+use Rattle.std.specs.Prelude.{◌≡◌, ◌-◌, ◌^◌, ℕ, ◌&&◌, Bool, List, [], ◌∷◌, Option, None, Some, option_map, map, codes, if◌then◌else◌, nat_lt, nat_le, length, option_and_then, refl}
+use Rattle.std.specs.List.{list_all}
+use Rattle.std.specs.Char.{digit_value}
+use Rattle.std.specs.Str.{bytes_eq}
+use Rattle.std.specs.Str.Parse.{digits_value, without_leading_plus}
+use Rattle.clap.specs.Words.{Row, Text, first_of}
+use Rattle.uni_script.specs.declared.grammar.ObjectName.{ObjectName}
+use Rattle.uni_script.specs.Grammar.{object_of_word}
+use Rattle.uni_script.specs.declared.replay.Options.{Options}
+use Rattle.unibench_run.specs.declared.request.Form.{Form}
+use Rattle.unibench_run.specs.declared.request.Form.TheVariants as form
+use Rattle.unibench_run.specs.declared.request.ThreadsObject.{ThreadsObject}
+use Rattle.unibench_run.specs.declared.request.ThreadsObject.TheVariants as object
+use Rattle.unibench_run.specs.declared.request.Plan.{Plan}
+use Rattle.unibench_run.specs.declared.request.RandomPlan.{RandomPlan}
+
+abbrev pub form_named : Text → Option Form
+form_named name =
+    if bytes_eq name (codes "lock") then Some form.Lock
+    else if bytes_eq name (codes "words") then Some form.Words
+    else None
+
+abbrev pub object_named : Text → Option ThreadsObject
+object_named name =
+    if bytes_eq name (codes "queue") then Some object.Queue
+    else if bytes_eq name (codes "directory") then Some object.Directory
+    else if bytes_eq name (codes "book") then Some object.Book
+    else if bytes_eq name (codes "sticky") then Some object.Sticky
+    else if bytes_eq name (codes "tally") then Some object.Tally
+    else None
+
+-- one decimal digit or more, and nothing else
+abbrev pub are_digits : List ℕ → Bool
+are_digits ds = nat_lt 0 (length ds) && list_all (λ d. nat_lt (digit_value d) 10) ds
+
+-- the number that digits write, if it is one of a range
+abbrev pub value_in : (least most : ℕ) → List ℕ → Option ℕ
+value_in least most ds =
+    if are_digits ds && nat_le least (digits_value 10 ds) && nat_le (digits_value 10 ds) most then Some (digits_value 10 ds) else None
+
+-- the number that a text writes in decimal, perhaps after a plus, if it is one of a range
+abbrev pub number_in : (least most : ℕ) → Text → Option ℕ
+number_in least most text = value_in least most (without_leading_plus text)
+
+-- what a reader makes of the first value of an option
+abbrev pub value_of : {A : Type 0} → (Text → Option A) → (id : Text) → List Row → Option A
+value_of read id rows = option_and_then read (first_of id rows)
+
+-- what a replay is told by the values of the options, if the history is one that its option takes
+abbrev pub options_of : List Row → Option Options
+options_of rows = option_map (λ h. record { history = h }) (value_of (number_in 1 16777216) (codes "history") rows)
+
+-- the plan of these values, if each is there
+abbrev pub plan_with : Option Form → Option ThreadsObject → (processes calls seed : Option ℕ) → Option Plan
+plan_with (Some f) (Some o) (Some n) (Some c) (Some s) = Some (record { form = f; object = o; processes = n; calls = c; seed = s })
+plan_with _ _ _ _ _ = None
+
+-- the plan that the values of the options are, if each is one that its option takes
+abbrev pub plan_of : List Row → Option Plan
+plan_of rows = plan_with (value_of form_named (codes "form") rows) (value_of object_named (codes "object") rows)
+    (value_of (number_in 1 64) (codes "processes") rows)
+    (value_of (number_in 1 4096) (codes "calls") rows)
+    (value_of (number_in 0 (2 ^ 64 - 1)) (codes "seed") rows)
+
+-- the plan of a schedule of these values, if each is there
+abbrev pub random_with : Option ObjectName → (processes row events seed : Option ℕ) → Option RandomPlan
+random_with (Some o) (Some n) (Some k) (Some m) (Some s) =
+    Some (record { schedule = record { object = o; processes = n; row = k; events = m }; seed = s })
+random_with _ _ _ _ _ = None
+
+-- the plan of a schedule that the values of the options are, if each is one that its option takes
+abbrev pub random_of : List Row → Option RandomPlan
+random_of rows = random_with (value_of object_of_word (codes "object") rows)
+    (value_of (number_in 1 64) (codes "processes") rows)
+    (value_of (number_in 1 4096) (codes "row") rows)
+    (value_of (number_in 1 99000) (codes "events") rows)
+    (value_of (number_in 0 (2 ^ 64 - 1)) (codes "seed") rows)
+
+-- the least and the greatest number that each option takes, and the numbers beside them
+history_is_1_to_16777216 : map (number_in 1 16777216) (codes "0" ∷ codes "1" ∷ codes "16777216" ∷ codes "16777217" ∷ []) ≡ None ∷ Some 1 ∷ Some 16777216 ∷ None ∷ []
+history_is_1_to_16777216 = refl
+
+processes_are_1_to_64 : map (number_in 1 64) (codes "0" ∷ codes "1" ∷ codes "64" ∷ codes "65" ∷ []) ≡ None ∷ Some 1 ∷ Some 64 ∷ None ∷ []
+processes_are_1_to_64 = refl
+
+calls_and_rows_are_1_to_4096 : map (number_in 1 4096) (codes "0" ∷ codes "1" ∷ codes "4096" ∷ codes "4097" ∷ []) ≡ None ∷ Some 1 ∷ Some 4096 ∷ None ∷ []
+calls_and_rows_are_1_to_4096 = refl
+
+events_are_1_to_99000 : map (number_in 1 99000) (codes "0" ∷ codes "1" ∷ codes "99000" ∷ codes "99001" ∷ []) ≡ None ∷ Some 1 ∷ Some 99000 ∷ None ∷ []
+events_are_1_to_99000 = refl
+
+seeds_have_64_bits : map (number_in 0 (2 ^ 64 - 1)) (codes "0" ∷ codes "18446744073709551615" ∷ codes "18446744073709551616" ∷ []) ≡ Some 0 ∷ Some 18446744073709551615 ∷ None ∷ []
+seeds_have_64_bits = refl
+
+-- one plus may come first, and zeros
+signs_of_numbers : map (number_in 1 64) (codes "+64" ∷ codes "064" ∷ codes "++64" ∷ codes "-1" ∷ codes "+" ∷ codes "" ∷ []) ≡ Some 64 ∷ Some 64 ∷ None ∷ None ∷ None ∷ None ∷ []
+signs_of_numbers = refl
+
+-- bytes 47 and 58 stand beside the digits
+bytes_beside_digits : map (number_in 1 64) ((47 ∷ []) ∷ (58 ∷ []) ∷ []) ≡ None ∷ None ∷ []
+bytes_beside_digits = refl
+
+two_words_are_forms : map form_named (codes "lock" ∷ codes "words" ∷ codes "locks" ∷ []) ≡ Some form.Lock ∷ Some form.Words ∷ None ∷ []
+two_words_are_forms = refl
+
+five_words_are_objects : map object_named (codes "queue" ∷ codes "directory" ∷ codes "book" ∷ codes "sticky" ∷ codes "tally" ∷ codes "register" ∷ [])
+    ≡ Some object.Queue ∷ Some object.Directory ∷ Some object.Book ∷ Some object.Sticky ∷ Some object.Tally ∷ None ∷ []
+five_words_are_objects = refl

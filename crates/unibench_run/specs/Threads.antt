@@ -1,0 +1,171 @@
+-- What a run of threads comes to.
+use Rattle.std.specs.Prelude.{◌≡◌, ◌≤◌, ◌*◌, ℕ, Bool, true, false, nat_lt, if◌then◌else◌, Option, None, Some, List, [], ◌∷◌, ◌++◌, codes, length, vec_len, refl}
+use Rattle.std.specs.Fmt.{decimal, digits}
+use Rattle.std.specs.List.{sum_by}
+use Rattle.std.proofs.Common.{arith}
+use Rattle.uni_record.specs.Recorded.{share}
+use Rattle.uni_script.specs.Fault.{fault_text}
+use Rattle.uni_script.specs.declared.fault.BenchFault.TheVariants as bench
+use Rattle.uni_shared.specs.Seat.{SeatOf}
+use Rattle.uni_shared.specs.declared.closed.CloseFault.{CloseFault}
+use Rattle.uni_shared.specs.declared.closed.CloseFault.TheVariants as close
+use Rattle.uni_words.specs.Belongs.{IsSeatOf, own_calls, row_of}
+use Rattle.uni_words.specs.declared.log.WordLog.{WordLog}
+use Rattle.unibench_run.specs.declared.request.Form.{Form}
+use Rattle.unibench_run.specs.declared.request.Form.TheVariants as form
+use Rattle.unibench_run.specs.declared.request.Plan.{Plan}
+use Rattle.unibench_run.specs.declared.request.ThreadsObject.{ThreadsObject}
+use Rattle.unibench_run.specs.declared.request.ThreadsObject.TheVariants as object
+use Rattle.unibench_run.specs.declared.threads.Done.{Done}
+use Rattle.unibench_run.specs.declared.threads.Job.{Job}
+use Rattle.unibench_run.specs.declared.threads.ThreadsFault.{ThreadsFault}
+use Rattle.unibench_run.specs.declared.threads.ThreadsFault.TheVariants as fault
+
+-- which objects there are in which form
+abbrev pub has_form : Form → ThreadsObject → Bool
+has_form form.Words object.Sticky = true
+has_form form.Words object.Tally = true
+has_form form.Lock object.Queue = true
+has_form form.Lock object.Directory = true
+has_form form.Lock object.Book = true
+has_form form.Lock object.Sticky = true
+has_form _ _ = false
+
+-- the numbers of a plan are in range
+abbrev pub IsThreadsPlan : Plan → Type 0
+IsThreadsPlan plan = (1 ≤ plan.processes) × (plan.processes ≤ 64) × (1 ≤ plan.calls) × (plan.calls ≤ 4096)
+
+-- how many events all calls of a plan set aside, where each process has its share for each of its calls
+abbrev pub events_of : Plan → ℕ
+events_of plan = plan.processes * plan.calls * share plan.processes
+
+-- what so many events are refused for: a history has room for 16777216, and there is one under a lock alone
+abbrev pub refusal_of_events : Form → ℕ → Option ThreadsFault
+refusal_of_events form.Words events = None
+refusal_of_events form.Lock events = if nat_lt 16777216 events then Some fault.CallsTooMany else None
+
+-- what a plan is refused for before anything is opened
+abbrev pub refusal_of : Plan → Option ThreadsFault
+refusal_of plan = if has_form plan.form plan.object then refusal_of_events plan.form (events_of plan) else Some fault.NoSuchObject
+
+-- so many replies are those of so many calls: of each one; under a lock, where a call may meet a fault, of no more
+abbrev pub AreOfCalls : Form → (calls replies : ℕ) → Type 0
+AreOfCalls form.Words calls replies = replies ≡ calls
+AreOfCalls form.Lock calls replies = replies ≤ calls
+
+-- so many replies can come of a plan
+abbrev pub IsCounted : Plan → (replies : ℕ) → Type 0
+IsCounted plan replies = AreOfCalls plan.form (plan.processes * plan.calls) replies
+
+-- how many receipts seats have in all
+abbrev pub receipts_in : {I R : Type 0} → List (SeatOf I R) → ℕ
+receipts_in {I = I} {R = R} seats = sum_by (λ (s : SeatOf I R). length s.receipts) seats
+
+-- the fault that a refused closing is
+abbrev pub closing_fault : CloseFault → ThreadsFault
+closing_fault (close.MissingSeat p) = fault.SeatMissing p
+closing_fault (close.PendingSeat p) = fault.SeatPending p
+closing_fault (close.Mismatch call) = fault.Differs call
+closing_fault close.Memory = fault.Memory
+
+-- the line of so many threads and replies that agree
+abbrev pub agrees_line : (threads replies : ℕ) → List ℕ
+agrees_line threads replies = codes "threads " ++ decimal threads ++ codes " calls " ++ decimal replies ++ codes " agrees" ++ 10 ∷ []
+
+-- this holds of the line that says of replies that can come of a plan that they agree
+abbrev pub OfAgreed : Plan → (List ℕ → Type 0) → Type 0
+OfAgreed plan Holds = (replies : ℕ) × IsCounted plan replies × Holds (agrees_line plan.processes replies)
+
+abbrev pub text_of_fault : ThreadsFault → List ℕ
+text_of_fault fault.NoSuchObject = codes "no such object in this form"
+text_of_fault fault.CallsTooMany = codes "calls too many"
+text_of_fault fault.Memory = codes "out of memory"
+text_of_fault fault.Write = codes "cannot write"
+text_of_fault (fault.Differs call) = codes "close: call " ++ (decimal call.process ++ codes "." ++ decimal call.nth) ++ codes " differs"
+text_of_fault (fault.SeatMissing p) = codes "close: seat " ++ decimal p ++ codes " missing"
+text_of_fault (fault.SeatPending p) = codes "close: seat " ++ decimal p ++ codes " pending"
+text_of_fault (fault.Audit verdict) = fault_text (bench.Audit verdict)
+
+-- its line
+abbrev pub line_of_fault : ThreadsFault → List ℕ
+line_of_fault f = text_of_fault f ++ 10 ∷ []
+
+-- a seat of this log that has made no call
+abbrev pub IsJob : {O : Type 0} → WordLog O → Job → Type 0
+IsJob log job = IsSeatOf log job.seat × (own_calls job.seat ≡ [])
+
+-- a seat of this log that has made all its calls, and was told what is listed
+abbrev pub IsDone : {O : Type 0} → WordLog O → Done → Type 0
+IsDone log done = IsSeatOf log done.seat × (vec_len done.told ≡ row_of log) × (done.told.items ≡ own_calls done.seat)
+
+eight_threads : agrees_line 8 800 ≡ codes "threads 8 calls 800 agrees" ++ 10 ∷ []
+unfolding digits
+eight_threads = refl
+
+first_call_differs : line_of_fault (fault.Differs (record { process = 1; nth = 0 })) ≡ codes "close: call 1.0 differs" ++ 10 ∷ []
+unfolding digits
+first_call_differs = refl
+
+seat_3_is_pending : line_of_fault (fault.SeatPending 3) ≡ codes "close: seat 3 pending" ++ 10 ∷ []
+unfolding digits
+seat_3_is_pending = refl
+
+sixteen_by_twenty_are_few : refusal_of (record { form = form.Lock; object = object.Queue; processes = 16; calls = 20; seed = 1 }) ≡ None
+sixteen_by_twenty_are_few = refl
+
+calls_are_too_many : refusal_of (record { form = form.Lock; object = object.Queue; processes = 64; calls = 4096; seed = 1 }) ≡ Some fault.CallsTooMany
+calls_are_too_many = refl
+
+no_tally_under_a_lock : refusal_of (record { form = form.Lock; object = object.Tally; processes = 64; calls = 4096; seed = 1 }) ≡ Some fault.NoSuchObject
+no_tally_under_a_lock = refl
+
+-- the last number of events that a lock has room for, and the first that it hasn't
+a_lock_has_room_for_16777216_events : refusal_of_events form.Lock 16777216 ≡ None
+a_lock_has_room_for_16777216_events = refl
+
+a_lock_has_none_for_16777217 : refusal_of_events form.Lock 16777217 ≡ Some fault.CallsTooMany
+a_lock_has_none_for_16777217 = refl
+
+words_have_room_for_any_events : refusal_of_events form.Words 16777217 ≡ None
+words_have_room_for_any_events = refl
+
+-- a plan of a queue under a lock
+abbrev under_lock : (processes calls : ℕ) → Plan
+under_lock processes calls = record { form = form.Lock; object = object.Queue; processes = processes; calls = calls; seed = 1 }
+
+nineteen_processes_make_4096_calls : refusal_of (under_lock 19 4096) ≡ None
+nineteen_processes_make_4096_calls = refl
+
+twenty_processes_make_3938_calls : refusal_of (under_lock 20 3938) ≡ None
+twenty_processes_make_3938_calls = refl
+
+twenty_processes_make_no_3939 : refusal_of (under_lock 20 3939) ≡ Some fault.CallsTooMany
+twenty_processes_make_no_3939 = refl
+
+sixty_four_processes_make_401_calls : refusal_of (under_lock 64 401) ≡ None
+sixty_four_processes_make_401_calls = refl
+
+sixty_four_processes_make_no_402 : refusal_of (under_lock 64 402) ≡ Some fault.CallsTooMany
+sixty_four_processes_make_no_402 = refl
+
+the_greatest_plan_over_words : refusal_of (record { form = form.Words; object = object.Tally; processes = 64; calls = 4096; seed = 1 }) ≡ None
+the_greatest_plan_over_words = refl
+
+-- the least and the greatest plan, and what is just outside
+the_least_plan : IsThreadsPlan (under_lock 1 1)
+the_least_plan = (omega arith, omega arith, omega arith, omega arith)
+
+the_greatest_plan : IsThreadsPlan (under_lock 64 4096)
+the_greatest_plan = (omega arith, omega arith, omega arith, omega arith)
+
+no_plan_has_no_process : ¬ (IsThreadsPlan (under_lock 0 1))
+no_plan_has_no_process = λ plan. let least = plan.0 in omega arith
+
+no_plan_has_65_processes : ¬ (IsThreadsPlan (under_lock 65 1))
+no_plan_has_65_processes = λ plan. let most = plan.1 in omega arith
+
+no_plan_has_no_call : ¬ (IsThreadsPlan (under_lock 1 0))
+no_plan_has_no_call = λ plan. let least = plan.2 in omega arith
+
+no_plan_has_4097_calls : ¬ (IsThreadsPlan (under_lock 1 4097))
+no_plan_has_4097_calls = λ plan. let most = plan.3 in omega arith

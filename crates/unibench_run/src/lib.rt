@@ -1,0 +1,12 @@
+//! What `unibench` does: all of the program but its `main`. It reads the command line, and runs the bench
+//! of `uni_script`, draws a schedule, or runs threads that share an object.
+#![tactic(auto)]
+
+mod lock;
+mod program;
+mod request;
+mod threads;
+
+pub use program::run;
+pub use request::{Form, Plan, RandomPlan, Request, ThreadsObject, read_words};
+pub use threads::{ThreadsFault, push_agrees, push_threads_fault, run_plan};

@@ -1,0 +1,458 @@
+//! What a command line asks for.
+
+ghost use Rattle.std.specs.Prelude.{◌≡◌, [], IfOk, IfErr, map, codes, false};
+ghost use Rattle.clap.specs.Words.{HasKind, app_of, found_of, rows_of, new_app, rule_of, subcommand_rows_of};
+ghost use Rattle.clap.specs.declared.builder.command.Command.TheViews.{out-Command};
+ghost use Rattle.unibench_run.specs.CommandLine.{asked_of, faults_of_words, in_range, option, random_command, replay_command, request_in, threads_command, unibench};
+ghost use Rattle.uni_script.specs.Grammar.{object_of_word};
+ghost use Rattle.unibench_run.specs.Request.{form_named, number_in, object_named, options_of, plan_of, random_of, value_of};
+
+use clap::builder::ValueParser;
+use clap::{Arg, ArgMatches, Command};
+use std::alloc::{AllocError, Global};
+use std::convert::AsStr;
+use uni_script::{ObjectName, Options};
+
+/// A form of the construction that threads can share.
+#[derive(Clone, Copy, Debug, PartialEq, Eq)]
+pub enum Form {
+    /// A world under a lock.
+    Lock,
+    /// Atomic words.
+    Words,
+}
+
+impl Form {
+    /// The form of a name.
+    fn named(name: &str) -> Option<Form>
+        ensures { result ≡ form_named name.now }
+    {
+        match name {
+            "lock" => Some(Form::Lock),
+            "words" => Some(Form::Words),
+            _ => None,
+        }
+    }
+}
+
+/// An object that threads can share, in one form or in both.
+#[derive(Clone, Copy, Debug, PartialEq, Eq)]
+pub enum ThreadsObject {
+    /// A queue.
+    Queue,
+    /// A directory.
+    Directory,
+    /// A book of accounts.
+    Book,
+    /// A sticky register.
+    Sticky,
+    /// A tally.
+    Tally,
+}
+
+impl ThreadsObject {
+    /// The object of a name.
+    fn named(name: &str) -> Option<ThreadsObject>
+        ensures { result ≡ object_named name.now }
+    {
+        match name {
+            "queue" => Some(ThreadsObject::Queue),
+            "directory" => Some(ThreadsObject::Directory),
+            "book" => Some(ThreadsObject::Book),
+            "sticky" => Some(ThreadsObject::Sticky),
+            "tally" => Some(ThreadsObject::Tally),
+            _ => None,
+        }
+    }
+}
+
+/// What a run of threads is.
+#[derive(Clone, Copy, Debug, PartialEq, Eq)]
+pub struct Plan {
+    /// The form of the object.
+    pub form: Form,
+    /// The object.
+    pub object: ThreadsObject,
+    /// How many threads there are, from 1 to 64.
+    pub processes: u64,
+    /// How many calls each makes, from 1 to 4096.
+    pub calls: u64,
+    /// The seed of the first thread's words; each further thread has the next one.
+    pub seed: u64,
+}
+
+impl Plan {
+    /// The plan that the values of the options are; `None` where an option has a value that it
+    /// doesn't take.
+    fn of(matches: &ArgMatches<'_>) -> Option<Plan>
+        ensures { result ≡ plan_of (rows_of (found_of matches.now)) }
+    {
+        Some(Plan {
+            form: form_in(matches)?,
+            object: object_in(matches)?,
+            processes: number_of(matches, "processes", 1, 64)?,
+            calls: number_of(matches, "calls", 1, 4096)?,
+            seed: number_of(matches, "seed", 0, u64::MAX)?,
+        })
+    }
+}
+
+/// What a schedule that is drawn from a seed is.
+#[derive(Clone, Copy, Debug, PartialEq, Eq)]
+pub struct RandomPlan {
+    /// The schedule.
+    pub schedule: uni_script::Plan,
+    /// The seed of the words that it is drawn from.
+    pub seed: u64,
+}
+
+impl RandomPlan {
+    /// The plan that the values of the options are; `None` where an option has a value that it
+    /// doesn't take.
+    fn of(matches: &ArgMatches<'_>) -> Option<RandomPlan>
+        ensures { result ≡ random_of (rows_of (found_of matches.now)) }
+    {
+        Some(RandomPlan {
+            schedule: uni_script::Plan {
+                object: shared_in(matches)?,
+                processes: number_of(matches, "processes", 1, 64)?,
+                row: number_of(matches, "row", 1, 4096)?,
+                events: number_of(matches, "events", 1, 99_000)?,
+            },
+            seed: number_of(matches, "seed", 0, u64::MAX)?,
+        })
+    }
+}
+
+/// The object of a script that a name stands for.
+fn shared_named(name: &str) -> Option<ObjectName>
+    ensures { result ≡ object_of_word name.now }
+{
+    match name {
+        "queue" => Some(ObjectName::Queue),
+        "directory" => Some(ObjectName::Directory),
+        "book" => Some(ObjectName::Book),
+        "sticky" => Some(ObjectName::Sticky),
+        _ => None,
+    }
+}
+
+/// The object of a script that the option's value names.
+fn shared_in(matches: &ArgMatches<'_>) -> Option<ObjectName>
+    ensures { result ≡ value_of object_of_word (codes "object") (rows_of (found_of matches.now)) }
+{
+    shared_named(matches.get_str("object")?)
+}
+
+/// The form that the option's value names.
+fn form_in(matches: &ArgMatches<'_>) -> Option<Form>
+    ensures { result ≡ value_of form_named (codes "form") (rows_of (found_of matches.now)) }
+{
+    Form::named(matches.get_str("form")?)
+}
+
+/// The object that the option's value names.
+fn object_in(matches: &ArgMatches<'_>) -> Option<ThreadsObject>
+    ensures { result ≡ value_of object_named (codes "object") (rows_of (found_of matches.now)) }
+{
+    ThreadsObject::named(matches.get_str("object")?)
+}
+
+/// The number that an option's value writes, where it is one of a range.
+fn number_of(matches: &ArgMatches<'_>, option: &str, least: u64, most: u64) -> Option<u64>
+    ensures { result ≡ value_of (number_in least most) option.now (rows_of (found_of matches.now)) }
+{
+    number_in(matches.get_str(option)?, least, most)
+}
+
+/// The number that a text writes in decimal, where it is one of a range.
+fn number_in(text: &str, least: u64, most: u64) -> Option<u64>
+    ensures { result ≡ number_in least most text.now }
+{
+    match text.parse::<u64>() {
+        Ok(number) => {
+            if least <= number && number <= most {
+                Some(number)
+            } else {
+                None
+            }
+        }
+        Err(_) => None,
+    }
+}
+
+/// What a replay is told by the values of the options; `None` where an option has a value that it
+/// doesn't take.
+fn options_of(matches: &ArgMatches<'_>) -> Option<Options>
+    ensures { result ≡ options_of (rows_of (found_of matches.now)) }
+{
+    Some(Options {
+        history: number_of(matches, "history", 1, 16_777_216)?,
+    })
+}
+
+/// What a command line asks for.
+#[derive(Clone, Copy, Debug, PartialEq, Eq)]
+pub enum Request {
+    /// The replay of the script on standard input.
+    Replay(Options),
+    /// A schedule that is drawn from a seed.
+    Random(RandomPlan),
+    /// A run of threads.
+    Threads(Plan),
+}
+
+/// A command with what its help says: one line, and a text that comes last.
+fn described<'a>(alloc: Global, name: &'a str, about: &'a str, notes: &'a str) -> Command<'a>
+    ensures app { app_of result ≡ new_app name.entry.now }
+    ensures local { (out-Command result).has_globals ≡ false }
+{
+    Command::new(alloc, name).about(about).after_help(notes)
+}
+
+/// An option, with what its help calls its value, and the value that it has where it isn't used.
+fn option<'a>(
+    alloc: Global,
+    name: &'a str,
+    placeholder: &'a str,
+    help: &'a str,
+    value: &'a str,
+) -> Arg<'a>
+    ensures rule { rule_of result ≡ option name.entry.now value.entry.now }
+    ensures local { result.global ≡ false }
+{
+    Arg::new(alloc, name)
+        .long(name)
+        .value_name(placeholder)
+        .help(help)
+        .default_value(value)
+}
+
+/// An option whose value is a number of a range: another one is a fault of the command line, which
+/// names the option and the range.
+fn in_range<'a>(number: Arg<'a>, least: u64, most: u64) -> Arg<'a>
+    ensures rule { rule_of result ≡ in_range (rule_of number.entry) least most }
+    ensures local { result.global ≡ number.entry.global }
+{
+    number.value_parser(ValueParser::Unsigned(least, most))
+}
+
+/// What the help of `replay` says last.
+const REPLAY_NOTES: &str = "\
+The script begins with a header: 'universal 1', the object (queue, directory,
+book or sticky), how many processes share it, from 1 to 16, and how many calls
+each can make in an era, from 1 to 4096. Then come commands, one a line: call,
+step, finish, trim, log and heads. After 'universal 2' there are up to 64
+processes, and reshape changes their number. A line that begins with # is a
+note.
+
+Example:
+  printf '%s\\n' 'universal 1 queue 2 8' 'call 0 enq 7' 'finish 0' log |
+    unibench replay";
+
+/// The subcommand that replays a script.
+fn replay_command<'a>(alloc: Global) -> Result<Command<'a>, AllocError>
+    ensures app { IfOk result (λ command. app_of command ≡ replay_command) }
+    ensures local { IfOk result (λ command. (out-Command command).has_globals ≡ false) }
+{
+    let history = option(
+        alloc,
+        "history",
+        "H",
+        "The most events, from 1 to 16777216",
+        "1048576",
+    );
+    let history = in_range(history, 1, 16_777_216);
+    described(
+        alloc,
+        "replay",
+        "Runs the script on standard input, and writes its answers",
+        REPLAY_NOTES,
+    )
+    .arg(history)
+}
+
+/// What the help of `random` says last.
+const RANDOM_NOTES: &str = "\
+Each event is a call or a step of one process, or a trim. The calls of all
+processes are finished at the end, and the log is asked for. The same options
+draw the same script. Above 16 processes its header has version 2.
+
+Example:
+  unibench random --object book --processes 4 --events 1000 --seed 7";
+
+/// The subcommand that draws a schedule.
+fn random_command<'a>(alloc: Global) -> Result<Command<'a>, AllocError>
+    ensures app { IfOk result (λ command. app_of command ≡ random_command) }
+    ensures local { IfOk result (λ command. (out-Command command).has_globals ≡ false) }
+{
+    let object = option(
+        alloc,
+        "object",
+        "NAME",
+        "One of queue, directory, book and sticky",
+        "queue",
+    );
+    let processes = option(
+        alloc,
+        "processes",
+        "N",
+        "How many processes there are, from 1 to 64",
+        "2",
+    );
+    let processes = in_range(processes, 1, 64);
+    let row = option(
+        alloc,
+        "row",
+        "K",
+        "The most calls of each, from 1 to 4096",
+        "64",
+    );
+    let row = in_range(row, 1, 4096);
+    let seed = option(
+        alloc,
+        "seed",
+        "S",
+        "The seed, from 0 to 18446744073709551615",
+        "1",
+    );
+    let seed = in_range(seed, 0, u64::MAX);
+    let events = option(
+        alloc,
+        "events",
+        "M",
+        "How many events are drawn, from 1 to 99000",
+        "100",
+    );
+    let events = in_range(events, 1, 99_000);
+    described(
+        alloc,
+        "random",
+        "Writes a script that is drawn from a seed",
+        RANDOM_NOTES,
+    )
+    .arg(object)?
+    .arg(processes)?
+    .arg(row)?
+    .arg(seed)?
+    .arg(events)
+}
+
+/// What the help of `threads` says last.
+const THREADS_NOTES: &str = "\
+With --form lock the object is queue, directory, book or sticky, with --form
+words sticky or tally. Where all replies are those of the log, the line
+'threads N calls M agrees' is written, M being the number of replies. Under a
+lock each of the N * C calls takes at most 10 * N + 13 events, and there is
+room for 16777216.
+
+Examples:
+  unibench threads --object book --processes 4 --calls 50
+  unibench threads --form words --object tally --processes 8";
+
+/// The subcommand that runs threads.
+fn threads_command<'a>(alloc: Global) -> Result<Command<'a>, AllocError>
+    ensures app { IfOk result (λ command. app_of command ≡ threads_command) }
+    ensures local { IfOk result (λ command. (out-Command command).has_globals ≡ false) }
+{
+    let form = option(alloc, "form", "NAME", "One of lock and words", "lock");
+    let object = option(
+        alloc,
+        "object",
+        "NAME",
+        "queue, directory, book, sticky or tally",
+        "queue",
+    );
+    let processes = option(
+        alloc,
+        "processes",
+        "N",
+        "How many threads there are, from 1 to 64",
+        "2",
+    );
+    let processes = in_range(processes, 1, 64);
+    let calls = option(
+        alloc,
+        "calls",
+        "C",
+        "How many calls each makes, from 1 to 4096",
+        "100",
+    );
+    let calls = in_range(calls, 1, 4096);
+    let seed = option(
+        alloc,
+        "seed",
+        "S",
+        "The seed of the first thread's calls",
+        "1",
+    );
+    let seed = in_range(seed, 0, u64::MAX);
+    described(
+        alloc,
+        "threads",
+        "Makes calls in threads, and compares the replies with the log",
+        THREADS_NOTES,
+    )
+    .arg(form)?
+    .arg(object)?
+    .arg(processes)?
+    .arg(calls)?
+    .arg(seed)
+}
+
+/// What the help of the program says last.
+const NOTES: &str = "\
+Status:
+  0 where all went well, 2 for a bad command line or script, 3 where the input
+  or the output failed, 4 where memory was refused, 5 where the threads and
+  their log don't agree.
+
+Examples:
+  unibench replay < queue.script
+  unibench random --events 1000 --seed 7 > drawn.script
+  unibench threads --form words --object tally";
+
+/// The command line of the program.
+fn unibench<'a>(alloc: Global) -> Result<Command<'a>, AllocError>
+    ensures { IfOk result (λ command. app_of command ≡ unibench) }
+{
+    let replay = replay_command(alloc)?;
+    let random = random_command(alloc)?;
+    let threads = threads_command(alloc)?;
+    described(
+        alloc,
+        "unibench",
+        "A bench for Herlihy's wait-free universal construction",
+        NOTES,
+    )
+    .subcommand_required(true)
+    .subcommand(replay)?
+    .subcommand(random)?
+    .subcommand(threads)
+}
+
+/// What matches ask for; `None` where an option has a value that it doesn't take.
+fn request_in(matches: &ArgMatches<'_>) -> Option<Request>
+    ensures { result ≡ request_in (subcommand_rows_of matches.now) }
+{
+    match matches.subcommand() {
+        Some(("random", random)) => Some(Request::Random(RandomPlan::of(random)?)),
+        Some(("threads", threads)) => Some(Request::Threads(Plan::of(threads)?)),
+        Some((_, replay)) => Some(Request::Replay(options_of(replay)?)),
+        None => None,
+    }
+}
+
+/// Reads a command line, the program's name first: what it asks for, or `None` where an option has a
+/// value that it doesn't take.
+///
+/// An `Err` has the fault of the words, or says that memory was refused.
+pub fn read_words<S: AsStr>(alloc: Global, words: &[S]) -> Result<Option<Request>, clap::Error>
+    ensures asked { IfOk result (λ request. (faults_of_words (map S.text words.now) ≡ []) × (request ≡ asked_of (map S.text words.now))) }
+    ensures fault { IfErr result (HasKind (faults_of_words (map S.text words.now))) }
+{
+    match unibench(alloc)?.try_get_matches_from(words) {
+        Ok(matches) => Ok(request_in(&matches)),
+        Err(error) => Err(error),
+    }
+}

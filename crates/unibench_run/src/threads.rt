@@ -1,0 +1,230 @@
+//! Threads that make calls on one object.
+
+ghost use Rattle.std.specs.Prelude.{◌↔◌, false, IsErrOf, ◌≡◌, ◌++◌, ◌*◌, ◌≤◌, ℕ, All, [], IfOk, OnOk, Some, length, vec_len};
+ghost use Rattle.uni_words.specs.Belongs.{IsSeatOf, calls_made, own_calls, processes_of, row_of};
+ghost use Rattle.unibench_run.specs.Threads.{IsCounted, IsDone, IsJob, IsThreadsPlan, agrees_line, line_of_fault, refusal_of, text_of_fault};
+
+use crate::lock::run_under_lock;
+use crate::request::{Form, Plan, ThreadsObject};
+use rand_core::{Rng, SeedableRng};
+use rand_xoshiro::Xoshiro256PlusPlus;
+use ready_objects::{BookObject, DirectoryObject, QueueObject, StickyObject};
+use seq_object::CallId;
+use std::alloc::{AllocError, Global};
+use std::io::Write;
+use std::sync::Wait;
+use std::thread::Threads;
+use std::{fmt, thread};
+use uni_record::Verdict;
+use uni_script::BenchFault;
+use uni_words::{WordLog, WordObject, WordSeat, WordSticky, WordTally, differs, read_log};
+
+/// Why a run of threads ended early.
+#[derive(Clone, Copy, Debug, PartialEq, Eq)]
+pub enum ThreadsFault {
+    /// The form has no such object.
+    NoSuchObject,
+    /// Under a lock, the events of all calls may not fit into a history.
+    CallsTooMany,
+    /// Memory was refused.
+    Memory,
+    /// The output failed.
+    Write,
+    /// What the threads were told isn't what the log has, at this call first.
+    Differs(CallId),
+    /// Under a lock, the seat of this process, the least of such, isn't there once.
+    SeatMissing(u64),
+    /// Under a lock, this process, the least of such, has a call pending.
+    SeatPending(u64),
+    /// Under a lock, an audit of the entries and of the returns found this. It never does.
+    Audit(Verdict),
+}
+
+impl From<AllocError> for ThreadsFault {
+    ghost use Rattle.std.specs.Prelude.{◌≡◌};
+    ghost use Rattle.unibench_run.specs.declared.threads.ThreadsFault.TheVariants.{Memory};
+
+    ghost from_gives = { λ _ fault. fault ≡ Memory };
+
+    fn from(_: AllocError) -> ThreadsFault {
+        ThreadsFault::Memory
+    }
+}
+
+impl fmt::Display for ThreadsFault {
+    ghost output = { λ fault. Some (text_of_fault fault) };
+
+    fn fmt<W: fmt::Write>(&self, f: &mut fmt::Formatter<W>) -> fmt::Result {
+        match self {
+            ThreadsFault::NoSuchObject => write!(f, "no such object in this form"),
+            ThreadsFault::CallsTooMany => write!(f, "calls too many"),
+            ThreadsFault::Memory => write!(f, "out of memory"),
+            ThreadsFault::Write => write!(f, "cannot write"),
+            ThreadsFault::Differs(call) => write!(f, "close: call {call} differs"),
+            ThreadsFault::SeatMissing(p) => write!(f, "close: seat {p} missing"),
+            ThreadsFault::SeatPending(p) => write!(f, "close: seat {p} pending"),
+            ThreadsFault::Audit(verdict) => write!(f, "{}", BenchFault::Audit(*verdict)),
+        }
+    }
+}
+
+/// A seat that has made no call, with the seed of the words that its thread draws.
+#[derive(Drop)]
+struct Job {
+    seat: WordSeat,
+    seed: u64,
+}
+
+/// A seat whose calls are made, with what its thread was told: each invocation with its reply.
+#[derive(Drop)]
+struct Done {
+    seat: WordSeat,
+    told: Vec<(u64, u32)>,
+}
+
+/// The jobs of the seats, in order: the first draws from the seed, each further one from the next.
+fn jobs_of<O: WordObject>(
+    alloc: Global,
+    log: &WordLog<O>,
+    seats: Vec<WordSeat>,
+    seed: u64,
+) -> Result<Vec<Job>, AllocError>
+    requires { All (λ seat. IsSeatOf log.now seat × (own_calls seat ≡ [])) seats.items }
+    ensures count { IfOk result (λ jobs. vec_len jobs ≡ vec_len seats) }
+    ensures each { IfOk result (λ jobs. All (IsJob log.now) jobs.items) }
+{
+    let mut jobs = Vec::new(alloc);
+    let mut seed = seed;
+    for seat in seats {
+        jobs.push(Job { seat, seed })?;
+        seed = seed.wrapping_add(1);
+    }
+    Ok(jobs)
+}
+
+/// Makes so many calls by a seat, with invocations below 1000 that are drawn.
+fn make_calls<O: WordObject>(
+    alloc: Global,
+    log: &WordLog<O>,
+    job: Job,
+    calls: u64,
+) -> Result<Done, AllocError>
+    requires job { IsJob log.now job }
+    requires calls { calls ≡ row_of log.now }
+    ensures { IfOk result (IsDone log.now) }
+{
+    let Job { mut seat, seed } = job;
+    let mut words = Xoshiro256PlusPlus::seed_from_u64(seed);
+    let mut told = Vec::new(alloc);
+    for _ in 0..calls {
+        let inv = words.next_u64() % 1000;
+        if let Ok(answer) = seat.apply(log, inv) {
+            told.push((inv, answer.reply))?;
+        }
+    }
+    Ok(Done { seat, told })
+}
+
+/// The seats, and what their threads were told.
+///
+/// An `Err` says that memory was refused, to a thread or here.
+fn parted<O: WordObject>(
+    alloc: Global,
+    log: &WordLog<O>,
+    done: Vec<Result<Done, AllocError>>,
+) -> Result<(Vec<WordSeat>, Vec<Vec<(u64, u32)>>), AllocError>
+    requires { All (λ one. IfOk one (IsDone log.now)) done.items }
+    ensures count { IfOk result (λ parts. (vec_len parts.0 ≡ vec_len done) × (vec_len parts.1 ≡ vec_len done)) }
+    ensures seats { IfOk result (λ parts. All (IsSeatOf log.now) parts.0.items) }
+    ensures told { IfOk result (λ parts. All (λ told. vec_len told ≡ row_of log.now) parts.1.items) }
+{
+    let mut seats = Vec::new(alloc);
+    let mut lists = Vec::new(alloc);
+    for one in done {
+        let Done { seat, told } = one?;
+        seats.push(seat)?;
+        lists.push(told)?;
+    }
+    Ok((seats, lists))
+}
+
+/// How many replies there are in all lists.
+fn replies_in(lists: &[Vec<(u64, u32)>]) -> u64
+    requires few { length lists.now ≤ 64 }
+    requires short { All (λ told. vec_len told ≤ 4096) lists.now }
+    ensures { (each : ℕ) → All (λ told. vec_len told ≡ each) lists.now → result ≡ length lists.now * each }
+{
+    let mut replies = 0;
+    for told in lists {
+        replies += told.len() as u64;
+    }
+    replies
+}
+
+/// Makes the calls of a plan on an object of words, each seat's in a thread of its own where one can
+/// be made: how many replies the threads were given. The log agrees with what they were told.
+fn run_on_words<R: Threads + Sync, O: WordObject + Copy + Sync>(
+    rt: &R,
+    alloc: Global,
+    object: O,
+    plan: &Plan,
+) -> Result<u64, ThreadsFault>
+    ensures replies { IfOk result (λ replies. replies ≡ plan.now.processes * plan.now.calls) }
+    ensures others { (IsErrOf result ThreadsFault.NoSuchObject → ⊥) × (IsErrOf result ThreadsFault.CallsTooMany → ⊥) × (IsErrOf result ThreadsFault.Write → ⊥) }
+    ensures audited { (verdict : Verdict) → IsErrOf result (ThreadsFault.Audit verdict) → ⊥ }
+{
+    let Ok((log, seats)) = WordLog::open(alloc, object, plan.processes, plan.calls) else {
+        return Err(ThreadsFault::Memory);
+    };
+    let jobs = jobs_of(alloc, &log, seats, plan.seed)?;
+    let done = thread::map_vec(rt, jobs, &|job| make_calls(alloc, &log, job, plan.calls))?;
+    let (mut seats, lists) = parted(alloc, &log, done)?;
+    let words = log.close_with(seats.remove(0));
+    let entries = read_log(alloc, &words)?;
+    match differs(&object, &entries, &lists) {
+        Some(call) => Err(ThreadsFault::Differs(call)),
+        None => Ok(replies_in(&lists)),
+    }
+}
+
+/// Makes the calls of a plan: how many replies the threads were given.
+pub fn run_plan<R: Threads + Wait + Sync>(
+    rt: &R,
+    alloc: Global,
+    plan: &Plan,
+) -> Result<u64, ThreadsFault>
+    requires { IsThreadsPlan plan.now }
+    ensures replies { IfOk result (IsCounted plan.now) }
+    ensures there { IsErrOf result ThreadsFault.NoSuchObject ↔ (refusal_of plan.now ≡ Some ThreadsFault.NoSuchObject) }
+    ensures few { IsErrOf result ThreadsFault.CallsTooMany ↔ (refusal_of plan.now ≡ Some ThreadsFault.CallsTooMany) }
+    ensures written { IsErrOf result ThreadsFault.Write → ⊥ }
+    ensures audited { (verdict : Verdict) → IsErrOf result (ThreadsFault.Audit verdict) → ⊥ }
+{
+    match (plan.form, plan.object) {
+        (Form::Words, ThreadsObject::Sticky) => run_on_words(rt, alloc, WordSticky, plan),
+        (Form::Words, ThreadsObject::Tally) => run_on_words(rt, alloc, WordTally, plan),
+        (Form::Lock, ThreadsObject::Queue) => run_under_lock(rt, alloc, QueueObject, plan),
+        (Form::Lock, ThreadsObject::Directory) => run_under_lock(rt, alloc, DirectoryObject, plan),
+        (Form::Lock, ThreadsObject::Book) => run_under_lock(rt, alloc, BookObject, plan),
+        (Form::Lock, ThreadsObject::Sticky) => run_under_lock(rt, alloc, StickyObject, plan),
+        (Form::Words | Form::Lock, _) => Err(ThreadsFault::NoSuchObject),
+    }
+}
+
+/// Writes the line of threads that agree after a text.
+///
+/// An `Err` says that memory was refused.
+pub fn push_agrees(text: &mut Vec<u8>, threads: u64, replies: u64) -> Result<(), AllocError>
+    ensures { OnOk result (text.new.items ≡ text.old.items ++ agrees_line threads replies) }
+{
+    writeln!(text, "threads {threads} calls {replies} agrees").map_err(|_| AllocError)
+}
+
+/// Writes the text of a fault of threads and the end of its line after a text.
+///
+/// An `Err` says that memory was refused.
+pub fn push_threads_fault(text: &mut Vec<u8>, fault: ThreadsFault) -> Result<(), AllocError>
+    ensures { OnOk result (text.new.items ≡ text.old.items ++ line_of_fault fault) }
+{
+    writeln!(text, "{fault}").map_err(|_| AllocError)
+}

@@ -1,0 +1,649 @@
+//! Tests of the program over memory: what it writes, and its status.
+
+mod command_line;
+mod drawn;
+mod rows;
+
+use seq_object::CallId;
+use std::alloc::{AllocError, Global};
+use std::io;
+use std::io::{ErrorKind, Read, Write};
+use std::process::Abort;
+use std::sync::Wait;
+use std::test::Fail;
+use std::thread::Threads;
+use uni_record::Verdict;
+use uni_script::Checked;
+use unibench_run::{ThreadsFault, push_threads_fault, run};
+
+/// A reader over memory that gives at most so many bytes at a time, and then ends or fails.
+#[derive(Drop)]
+struct Trickle<'a> {
+    left: &'a [u8],
+    most: usize,
+    fails: bool,
+}
+
+impl Read for Trickle<'_> {
+    fn read(&mut self, buffer: &mut [u8]) -> io::Result<usize> {
+        if self.left.is_empty() && self.fails {
+            return Err(io::Error::from(ErrorKind::Other));
+        }
+        let count = self.left.len().min(buffer.len()).min(self.most);
+        buffer[..count].copy_from_slice(&self.left[..count]);
+        self.left = &self.left[count..];
+        Ok(count)
+    }
+}
+
+/// A writer over memory that takes at most three bytes at a time, and past its room takes none or
+/// fails.
+#[derive(Drop)]
+struct Narrow {
+    taken: Vec<u8>,
+    room: usize,
+    fails: bool,
+}
+
+impl Write for Narrow {
+    fn write(&mut self, bytes: &[u8]) -> io::Result<usize> {
+        if self.room == 0 && self.fails {
+            return Err(io::Error::from(ErrorKind::Other));
+        }
+        let count = bytes.len().min(self.room).min(3);
+        self.taken.extend_from_slice(&bytes[..count])?;
+        self.room -= count;
+        Ok(count)
+    }
+
+    fn flush(&mut self) -> io::Result<()> {
+        Ok(())
+    }
+}
+
+/// What the program wrote to its two outputs, and its status.
+#[derive(Drop)]
+struct Outcome {
+    output: Vec<u8>,
+    faults: Vec<u8>,
+    status: u8,
+}
+
+/// Runs the program on argument texts and the script of a reader.
+fn outcome_of<R: Threads + Wait + Sync>(
+    rt: &R,
+    alloc: Global,
+    words: &[&str],
+    reader: Trickle<'_>,
+) -> Outcome {
+    let mut input = Checked::new(reader);
+    let mut output = Vec::new(alloc);
+    let mut faults = Vec::new(alloc);
+    let status = run(
+        rt,
+        alloc,
+        words,
+        &mut input,
+        &mut Checked::new(&mut output),
+        &mut Checked::new(&mut faults),
+    );
+    Outcome {
+        output,
+        faults,
+        status,
+    }
+}
+
+/// A reader of a script that gives at most seven bytes at a time.
+fn by_sevens(script: &[u8], fails: bool) -> Trickle<'_> {
+    Trickle {
+        left: script,
+        most: 7,
+        fails,
+    }
+}
+
+/// Asserts what the replay of the script of a reader writes, and its status.
+fn replays<R: Abort + Threads + Wait + Sync>(
+    rt: &R,
+    alloc: Global,
+    reader: Trickle<'_>,
+    want: (&str, &str, u8),
+) {
+    let (output, faults, status) = want;
+    let outcome = outcome_of(rt, alloc, ["unibench", "replay"].as_slice(), reader);
+    assert_eq!(rt;
+        outcome.faults.as_slice(),
+        faults.as_bytes(),
+        "after {output:?}"
+    );
+    assert_eq!(rt;
+        outcome.output.as_slice(),
+        output.as_bytes(),
+        "before {faults:?}"
+    );
+    assert_eq!(rt; outcome.status, status, "at {output:?} {faults:?}");
+}
+
+/// Asserts what the replay of a good script writes, in whatever pieces the script is read.
+fn answers<R: Abort + Threads + Wait + Sync>(rt: &R, alloc: Global, script: &str, output: &str) {
+    for most in [1, 2, 7, 5_000] {
+        let reader = Trickle {
+            left: script.as_bytes(),
+            most,
+            fails: false,
+        };
+        replays(rt, alloc, reader, (output, "", 0));
+    }
+}
+
+/// Scripts, each with its answers.
+const GOOD: &[(&str, &str)] = &[
+    (
+        "universal 1 queue 1 8\ncall 0 enq 7\nfinish 0\nlog\n",
+        "called 0.0\nreturned 0.0 ok steps 14 turns 1\n2 0.0 enq 7 -> ok\nend\n",
+    ),
+    (
+        "universal 1 queue 1 8\ncall 0 enq 7\nfinish 0\nlog",
+        "called 0.0\nreturned 0.0 ok steps 14 turns 1\n2 0.0 enq 7 -> ok\nend\n",
+    ),
+    (
+        "universal 1 queue 1 8\ncall 0 enq 7\nfinish 0\nlog\ncall 0 deq\nfinish 0\n",
+        "called 0.0\nreturned 0.0 ok steps 14 turns 1\n2 0.0 enq 7 -> ok\ncalled 0.1\nreturned 0.1 7 steps 14 turns 1\nend\n",
+    ),
+    (
+        "universal 1 queue 1 8\ncall 0 enq 7\nfinish 0\ncall 0 deq\nfinish 0\nlog\n",
+        "called 0.0\nreturned 0.0 ok steps 14 turns 1\ncalled 0.1\nreturned 0.1 7 steps 14 turns 1\n2 0.0 enq 7 -> ok\n3 0.1 deq -> 7\nend\n",
+    ),
+    // A call that was begun and took no step isn't in the log.
+    (
+        "universal 1 queue 1 8\ncall 0 enq 7\nfinish 0\ncall 0 deq\nlog\n",
+        "called 0.0\nreturned 0.0 ok steps 14 turns 1\ncalled 0.1\n2 0.0 enq 7 -> ok\nend\n",
+    ),
+    ("universal 1 queue 1 1\n", "end\n"),
+    ("# a note\n\nuniversal 1 queue 1 4096\n#\n", "end\n"),
+    (
+        "universal 1 queue 1 1\nfinish 0\ncall 0 enq 0\ncall 0 deq\nlog\nfinish 0\ncall 0 deq\nlog\n",
+        "refused idle 0\ncalled 0.0\nrefused busy 0\nreturned 0.0 ok steps 14 turns 1\nrefused row 0\n2 0.0 enq 0 -> ok\nend\n",
+    ),
+    (
+        "universal 1 queue 1 8\ncall 1 deq\nfinish 999999999999\nlog\n",
+        "refused process 1\nrefused process 999999999999\nend\n",
+    ),
+];
+
+#[test]
+fn good_scripts(rt: HostRuntime) {
+    for &(script, output) in GOOD {
+        answers(&rt, rt.alloc(), script, output);
+    }
+}
+
+/// Histories, each with the answers that a script gets.
+const HISTORIES: &[(&str, &str)] = &[
+    (
+        "23",
+        "called 0.0\nreturned 0.0 ok steps 14 turns 1\nrefused history\ntrimmed 2\nend\n",
+    ),
+    (
+        "22",
+        "refused history\nrefused idle 0\nrefused history\ntrimmed 1\nend\n",
+    ),
+];
+
+#[test]
+fn histories_of_few_events(rt: HostRuntime) {
+    let script = "universal 1 queue 1 8\ncall 0 enq 7\nfinish 0\ncall 0 deq\ntrim\n";
+    for &(history, output) in HISTORIES {
+        let words = ["unibench", "replay", "--history", history];
+        let reader = by_sevens(script.as_bytes(), false);
+        let outcome = outcome_of(&rt, rt.alloc(), words.as_slice(), reader);
+        assert_eq!(rt; outcome.status, 0);
+        assert_eq!(rt; outcome.output.as_slice(), output.as_bytes());
+        assert!(rt; outcome.faults.is_empty());
+    }
+}
+
+/// A script of one call of a queue. Its lines end after 22, 35, 44 and 48 bytes.
+const ONE_CALL: &[u8] = b"universal 1 queue 1 8\ncall 0 enq 7\nfinish 0\nlog\n";
+
+/// What is written for it: lines of 11, 33, 18 and 4 bytes.
+const ONE_CALL_ANSWERED: &str =
+    "called 0.0\nreturned 0.0 ok steps 14 turns 1\n2 0.0 enq 7 -> ok\nend\n";
+
+/// Scripts that have a fault, each with its answers and the fault.
+const BAD: &[(&str, &str, &str)] = &[
+    ("", "", "line 1: no header\n"),
+    ("# a", "", "line 2: no header\n"),
+    ("universal 1 queue 17 8\n", "", "line 1: bad header\n"),
+    ("\nuniversal 1 queue 1 4097\n", "", "line 2: bad header\n"),
+    ("universal 1 queue 1 0\n", "", "line 1: bad header\n"),
+    ("universal 1 queue 1 08\n", "", "line 1: bad header\n"),
+    (" universal 1 queue 1 8\n", "", "line 1: bad header\n"),
+    (
+        "universal 1 queue 1 8\ncall 0 enq 7\nfin\nlog\n",
+        "called 0.0\n",
+        "line 3: bad line\n",
+    ),
+    (
+        "universal 1 queue 1 8\ncall 0 enq 007\n",
+        "",
+        "line 2: bad line\n",
+    ),
+    (
+        "universal 1 queue 1 8\ncall 0 get a\n",
+        "",
+        "line 2: bad line\n",
+    ),
+    (
+        "universal 1 queue 1 8\ncall 9 get a\n",
+        "",
+        "line 2: bad line\n",
+    ),
+    (
+        "universal 1 queue 1 8\ncall  0 deq\n",
+        "",
+        "line 2: bad line\n",
+    ),
+    (
+        "universal 1 queue 1 8\ncall 0 deq \n",
+        "",
+        "line 2: bad line\n",
+    ),
+    (
+        "universal 1 queue 1 8\nfinish 0 1\n",
+        "",
+        "line 2: bad line\n",
+    ),
+    ("universal 1 queue 1 8\nlog\tx\n", "", "line 2: bad byte\n"),
+    ("universal 1 queue 1 8\n#\r\nx\n", "", "line 2: bad byte\n"),
+];
+
+#[test]
+fn bad_scripts(rt: HostRuntime) {
+    for &(script, output, faults) in BAD {
+        let reader = by_sevens(script.as_bytes(), false);
+        replays(&rt, rt.alloc(), reader, (output, faults, 2));
+    }
+}
+
+/// A header, and a line of so many bytes.
+fn long_line(alloc: Global, length: usize) -> Result<Vec<u8>, AllocError> {
+    let mut script = Vec::from_slice(alloc, b"universal 1 queue 1 8\n")?;
+    for _ in 0..length {
+        script.push(b'#')?;
+    }
+    Ok(script)
+}
+
+/// A header, and notes so that there are so many lines.
+fn many_lines(alloc: Global, lines: usize) -> Result<Vec<u8>, AllocError> {
+    let mut script = Vec::from_slice(alloc, b"universal 1 queue 1 8\n")?;
+    for _ in 1..lines {
+        script.push(b'\n')?;
+    }
+    Ok(script)
+}
+
+#[test]
+fn greatest_scripts(rt: HostRuntime) -> Result<(), Fail> {
+    let alloc = rt.alloc();
+    let long = "line 2: too long\n";
+    let many = "line 100001: too many lines\n";
+    let rows = [
+        (long_line(alloc, 200)?, false, ("end\n", "", 0)),
+        (long_line(alloc, 201)?, false, ("", long, 2)),
+        // Reading stops at the 201st byte, before the reader fails.
+        (long_line(alloc, 201)?, true, ("", long, 2)),
+        (long_line(alloc, 200)?, true, ("", "cannot read\n", 3)),
+        (many_lines(alloc, 100_000)?, false, ("end\n", "", 0)),
+        (many_lines(alloc, 100_001)?, false, ("", many, 2)),
+    ];
+    for (script, fails, want) in rows {
+        replays(&rt, alloc, by_sevens(script.as_slice(), fails), want);
+    }
+    Ok(())
+}
+
+/// What is read before the reader fails, and what is written.
+const CUT_SHORT: &[(&str, (&str, &str, u8))] = &[
+    ("", ("", "cannot read\n", 3)),
+    // A line that the reader failed within isn't judged.
+    (
+        "universal 1 queue 1 8\ncall 0 enq 7\nfin",
+        ("called 0.0\n", "cannot read\n", 3),
+    ),
+    // The whole lines before it are.
+    (
+        "universal 1 queue 1 8\nfin\nlo",
+        ("", "line 2: bad line\n", 2),
+    ),
+];
+
+#[test]
+fn reader_that_fails(rt: HostRuntime) {
+    for &(script, want) in CUT_SHORT {
+        replays(&rt, rt.alloc(), by_sevens(script.as_bytes(), true), want);
+    }
+}
+
+/// What is written where the reader of `ONE_CALL` fails after so many bytes: the answers to the
+/// lines that end by then.
+fn answered_after(count: usize) -> &'static str {
+    if count < 35 {
+        ""
+    } else if count < 44 {
+        "called 0.0\n"
+    } else if count < 48 {
+        "called 0.0\nreturned 0.0 ok steps 14 turns 1\n"
+    } else {
+        "called 0.0\nreturned 0.0 ok steps 14 turns 1\n2 0.0 enq 7 -> ok\n"
+    }
+}
+
+/// Asserts what is written where the reader of `ONE_CALL` fails after these bytes of it.
+fn answers_what_it_read<R: Abort + Threads + Wait + Sync>(rt: &R, alloc: Global, left: &[u8]) {
+    let want = (answered_after(left.len()), "cannot read\n", 3);
+    for most in [1, 7, 5_000] {
+        let reader = Trickle {
+            left,
+            most,
+            fails: true,
+        };
+        replays(rt, alloc, reader, want);
+    }
+}
+
+#[test]
+fn reader_that_fails_after_each_byte(rt: HostRuntime) -> Result<(), Fail> {
+    let mut given = Vec::new(rt.alloc());
+    for byte in ONE_CALL {
+        answers_what_it_read(&rt, rt.alloc(), given.as_slice());
+        given.push(*byte)?;
+    }
+    answers_what_it_read(&rt, rt.alloc(), given.as_slice());
+    Ok(())
+}
+
+/// Runs the program with an output that has so much room, and then takes no byte or fails.
+fn narrow_outcome<R: Threads + Wait + Sync>(
+    rt: &R,
+    alloc: Global,
+    words: &[&str],
+    script: &[u8],
+    room: usize,
+    fails: bool,
+) -> Outcome {
+    let taken = Vec::new(alloc);
+    let mut narrow = Narrow { taken, room, fails };
+    let mut faults = Vec::new(alloc);
+    let status = run(
+        rt,
+        alloc,
+        words,
+        &mut Checked::new(script),
+        &mut Checked::new(&mut narrow),
+        &mut Checked::new(&mut faults),
+    );
+    let Narrow {
+        taken,
+        room: _,
+        fails: _,
+    } = narrow;
+    Outcome {
+        output: taken,
+        faults,
+        status,
+    }
+}
+
+#[test]
+fn writer_that_fails(rt: HostRuntime) {
+    let replay = ["unibench", "replay"].as_slice();
+    let help = ["unibench", "--help"].as_slice();
+    let good = "universal 1 queue 1 8\ncall 0 enq 7\n";
+    let bad = "universal 1 queue 1 8\ncall 0 enq 7\nfin\n";
+    let rows = [
+        (replay, good, 15, "called 0.0\nend\n", "", 0),
+        (replay, good, 14, "called 0.0\nend", "cannot write\n", 3),
+        (replay, good, 0, "", "cannot write\n", 3),
+        (replay, bad, 11, "called 0.0\n", "line 3: bad line\n", 2),
+        (replay, bad, 10, "called 0.0", "cannot write\n", 3),
+        (help, "", 0, "", "cannot write\n", 3),
+    ];
+    for (words, script, room, output, faults, status) in rows {
+        let outcome = narrow_outcome(&rt, rt.alloc(), words, script.as_bytes(), room, false);
+        assert_eq!(rt; outcome.output.as_slice(), output.as_bytes(), "room {room}");
+        assert_eq!(rt; outcome.faults.as_slice(), faults.as_bytes(), "room {room}");
+        assert_eq!(rt; outcome.status, status, "room {room}");
+    }
+}
+
+#[test]
+fn writer_that_fails_after_each_byte(rt: HostRuntime) -> Result<(), Fail> {
+    let replay = ["unibench", "replay"].as_slice();
+    for fails in [false, true] {
+        let mut front = Vec::new(rt.alloc());
+        for byte in ONE_CALL_ANSWERED.as_bytes() {
+            let room = front.len();
+            let outcome = narrow_outcome(&rt, rt.alloc(), replay, ONE_CALL, room, fails);
+            assert_eq!(rt;
+                outcome.output.as_slice(),
+                front.as_slice(),
+                "{room} {fails}"
+            );
+            assert_eq!(rt;
+                outcome.faults.as_slice(),
+                "cannot write\n".as_bytes(),
+                "{room} {fails}"
+            );
+            assert_eq!(rt; outcome.status, 3, "{room} {fails}");
+            front.push(*byte)?;
+        }
+    }
+    Ok(())
+}
+
+#[test]
+fn faults_that_nobody_takes(rt: HostRuntime) {
+    let taken = Vec::new(rt.alloc());
+    let mut faults = Narrow {
+        taken,
+        room: 0,
+        fails: false,
+    };
+    let mut output = Vec::new(rt.alloc());
+    let status = run(
+        &rt,
+        rt.alloc(),
+        ["unibench", "replay"].as_slice(),
+        &mut Checked::new(b"fin\n".as_slice()),
+        &mut Checked::new(&mut output),
+        &mut Checked::new(&mut faults),
+    );
+    assert_eq!(rt; status, 2);
+    assert_eq!(rt; output.len(), 0);
+    assert_eq!(rt; faults.taken.len(), 0);
+}
+
+/// Asserts what the program writes on these words with no input, and its status.
+fn runs<R: Abort + Threads + Wait + Sync>(
+    rt: &R,
+    alloc: Global,
+    words: &[&str],
+    want: (&str, &str, u8),
+) {
+    let (output, faults, status) = want;
+    let outcome = outcome_of(rt, alloc, words, by_sevens(b"", false));
+    assert_eq!(rt; outcome.output.as_slice(), output.as_bytes(), "{words:?}");
+    assert_eq!(rt; outcome.faults.as_slice(), faults.as_bytes(), "{words:?}");
+    assert_eq!(rt; outcome.status, status, "{words:?}");
+}
+
+/// Plans over words, each by its object, processes, calls and seed, with its line.
+const ON_WORDS: &[(&str, &str, &str, &str, &str)] = &[
+    ("tally", "8", "100", "3", "threads 8 calls 800 agrees\n"),
+    ("sticky", "4", "100", "1", "threads 4 calls 400 agrees\n"),
+    ("tally", "1", "4096", "1", "threads 1 calls 4096 agrees\n"),
+    ("sticky", "64", "1", "0", "threads 64 calls 64 agrees\n"),
+    // The seed of the second thread is 0.
+    (
+        "tally",
+        "3",
+        "7",
+        "18446744073709551615",
+        "threads 3 calls 21 agrees\n",
+    ),
+];
+
+#[test]
+fn threads_that_agree(rt: HostRuntime) {
+    for &(object, processes, calls, seed, output) in ON_WORDS {
+        let words = [
+            "unibench",
+            "threads",
+            "--form",
+            "words",
+            "--object",
+            object,
+            "--processes",
+            processes,
+            "--calls",
+            calls,
+            "--seed",
+            seed,
+        ];
+        runs(&rt, rt.alloc(), words.as_slice(), (output, "", 0));
+    }
+    let words = ["unibench", "threads", "--form=words", "--object=tally"].as_slice();
+    runs(
+        &rt,
+        rt.alloc(),
+        words,
+        ("threads 2 calls 200 agrees\n", "", 0),
+    );
+}
+
+/// Plans under a lock, each by its object, processes and calls, with its line.
+const UNDER_A_LOCK: &[(&str, &str, &str, &str)] = &[
+    ("book", "4", "50", "threads 4 calls 200 agrees\n"),
+    ("queue", "16", "20", "threads 16 calls 320 agrees\n"),
+    ("directory", "3", "10", "threads 3 calls 30 agrees\n"),
+    ("sticky", "64", "1", "threads 64 calls 64 agrees\n"),
+];
+
+#[test]
+fn threads_under_a_lock_that_agree(rt: HostRuntime) {
+    let words = ["unibench", "threads"].as_slice();
+    let want = ("threads 2 calls 200 agrees\n", "", 0);
+    runs(&rt, rt.alloc(), words, want);
+    for &(object, processes, calls, output) in UNDER_A_LOCK {
+        let words = [
+            "unibench",
+            "threads",
+            "--object",
+            object,
+            "--processes",
+            processes,
+            "--calls",
+            calls,
+        ];
+        runs(&rt, rt.alloc(), words.as_slice(), (output, "", 0));
+    }
+}
+
+/// Plans under a lock that are refused, each with why.
+const TOO_MANY: &[(&str, &str, &str, &str)] = &[
+    // 64 * 4096 * 653 events, and 64 * 402 * 653: 23,168 more than the limit.
+    ("queue", "64", "4096", "calls too many\n"),
+    ("sticky", "64", "402", "calls too many\n"),
+    // That the form has no such object is said first.
+    ("tally", "64", "4096", "no such object in this form\n"),
+];
+
+#[test]
+fn calls_that_no_history_has_room_for(rt: HostRuntime) {
+    for &(object, processes, calls, faults) in TOO_MANY {
+        let words = [
+            "unibench",
+            "threads",
+            "--object",
+            object,
+            "--processes",
+            processes,
+            "--calls",
+            calls,
+        ];
+        runs(&rt, rt.alloc(), words.as_slice(), ("", faults, 2));
+    }
+}
+
+/// Forms, each with an object that it hasn't.
+const NOT_THERE: &[(&str, &str)] = &[
+    ("words", "queue"),
+    ("words", "directory"),
+    ("words", "book"),
+    ("lock", "tally"),
+];
+
+#[test]
+fn objects_that_a_form_has_not(rt: HostRuntime) {
+    let want = ("", "no such object in this form\n", 2);
+    for &(form, object) in NOT_THERE {
+        let words = ["unibench", "threads", "--form", form, "--object", object];
+        runs(&rt, rt.alloc(), words.as_slice(), want);
+    }
+}
+
+/// The call 1.2.
+const CALL: CallId = CallId { process: 1, nth: 2 };
+
+/// Faults of threads, each with its line.
+const FAULTS: &[(ThreadsFault, &str)] = &[
+    (ThreadsFault::SeatMissing(3), "close: seat 3 missing\n"),
+    (ThreadsFault::SeatPending(0), "close: seat 0 pending\n"),
+    (ThreadsFault::Differs(CALL), "close: call 1.2 differs\n"),
+    (
+        ThreadsFault::Audit(Verdict::BadReply(12)),
+        "audit: entry 12 reply\n",
+    ),
+    (
+        ThreadsFault::Audit(Verdict::Missing(CALL)),
+        "audit: return 1.2 missing\n",
+    ),
+];
+
+#[test]
+fn lines_of_faults_of_threads(rt: HostRuntime) -> Result<(), Fail> {
+    for &(fault, line) in FAULTS {
+        let mut text = Vec::new(rt.alloc());
+        push_threads_fault(&mut text, fault)?;
+        assert_eq!(rt; text.as_slice(), line.as_bytes());
+    }
+    Ok(())
+}
+
+#[test]
+fn names_of_threads_that_are_none(rt: HostRuntime) {
+    let want = ("", "no such object or form\n", 2);
+    for (option, value) in [("--form", "free"), ("--object", "stack")] {
+        let words = ["unibench", "threads", option, value];
+        runs(&rt, rt.alloc(), words.as_slice(), want);
+    }
+}
+
+#[test]
+fn agreement_that_nobody_takes(rt: HostRuntime) {
+    let words = ["unibench", "threads", "--form=words", "--object=tally"].as_slice();
+    let line = "threads 2 calls 200 agrees\n".as_bytes();
+    for room in [0, 1, 26] {
+        let outcome = narrow_outcome(&rt, rt.alloc(), words, b"", room, false);
+        assert_eq!(rt; outcome.output.as_slice(), &line[..room], "room {room}");
+        assert_eq!(rt;
+            outcome.faults.as_slice(),
+            "cannot write\n".as_bytes(),
+            "room {room}"
+        );
+        assert_eq!(rt; outcome.status, 3, "room {room}");
+    }
+}
