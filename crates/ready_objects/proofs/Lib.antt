@@ -5,5 +5,5 @@ pub mod StickyReplies
 pub mod StickyWords
 pub mod BookSums
 pub mod BookWords
-pub mod DirectoryPairs
+pub mod DirectoryPlaces
 pub mod DirectoryWords

@@ -7,3 +7,4 @@ pub mod Sticky
 pub mod Book
 pub mod Name
 pub mod Directory
+pub mod SharedNames

@@ -1,19 +1,24 @@
 //! A directory of at most 256 names, in order of insertion.
 
-ghost use Rattle.std.specs.Prelude.{◌≡◌, ◌++◌, [], ◌∷◌, IfOk, OnOk, OnErr, refl};
+ghost use Rattle.std.specs.Prelude.{◌≡◌, ◌<◌, ◌++◌, [], ◌∷◌, length, position, IfOk, IfSome, IfNone, OnOk, OnErr, refl};
+ghost use Rattle.std.specs.Arc.{arc_value};
+ghost use Rattle.std.specs.List.{IsDistinct};
+ghost use Rattle.std.specs.Map.{set_value};
+ghost use Rattle.std.specs.Str.{bytes_eq};
 ghost use Rattle.std.proofs.Common.{ap, eqb-true, eq-eqb};
 ghost use Rattle.std.proofs.lemmas.Bool.{false≢true};
 ghost use Rattle.std.specs.Cmp.Lexicographic.{bytes_decides};
 ghost use Rattle.ready_objects.specs.Exact.{exact_from, itself_named, only_named};
+ghost use Rattle.ready_objects.specs.SharedNames.{AddsName};
 ghost use Rattle.ready_objects.specs.declared.directory.DirectoryInv.TheVariants.{Put, Get, Del, Size, At};
 ghost use Rattle.ready_objects.specs.declared.directory.DirectoryResp.TheVariants.{Was, New, Full, Found, Absent, Count};
-ghost use Rattle.ready_objects.specs.Directory.{directory_next, directory, directory_answer, directory_inv_of_words, directory_language};
+ghost use Rattle.ready_objects.specs.Directory.{value_of, directory_next, directory, directory_answer, directory_inv_of_words, directory_language};
 
 use crate::name::Name;
 use crate::number::Amount;
 use crate::place::Place;
 use crate::spoken::{Spoken, is_text};
-use indexmap::IndexMap;
+use indexmap::IndexSet;
 use seq_object::SeqObject;
 use std::alloc::{AllocError, Global};
 use std::marker::Model;
@@ -40,18 +45,39 @@ impl Model for DirectoryState {
     ghost view = { λ state. arc_value state.pairs };
 }
 
+/// The most names that states share. Where there are so many, they are collected anew from the pairs before
+/// one is added.
+///
+/// A name stays among them when its pair is taken out, so without a limit they would grow for ever.
+const MOST_NAMES: usize = 1024;
+
 /// The pairs themselves, which one owner can change.
+///
+/// The names stand apart, each at its index, and copies share them. So a copy of the pairs is one of a
+/// vector of numbers, and no name is compared or hashed.
 #[derive(Drop)]
 struct Pairs {
-    pairs: IndexMap<Name, Amount>,
+    names: Arc<IndexSet<Name>>,
+    pairs: Vec<Pair>,
 }
 
 impl Model for Pairs {
-    ghost use Rattle.std.specs.Prelude.{ℕ, List};
+    ghost use Rattle.std.specs.Prelude.{ℕ, List, map};
+    ghost use Rattle.std.specs.Arc.{arc_value};
+    ghost use Rattle.ready_objects.specs.SharedNames.{named, AreNamed};
 
     ghost Value = { List (List ℕ × ℕ) };
 
-    ghost view = { λ pairs. pairs.pairs.entries };
+    ghost view = { λ pairs. map (named (arc_value pairs.names).keys) pairs.pairs.items };
+
+    ghost invariant = { λ pairs. AreNamed (arc_value pairs.names).keys pairs.pairs.items };
+}
+
+/// A pair: the index of its name among the names, and its value.
+#[derive(Clone, Copy)]
+struct Pair {
+    name: usize,
+    value: Amount,
 }
 
 /// An invocation of the directory.
@@ -107,27 +133,109 @@ impl DirectoryState {
 }
 
 impl Pairs {
-    /// A copy of the pairs.
-    fn copy(&self) -> Result<Pairs, AllocError>
-        ensures { IfOk result (λ copy. copy ≡ self.now) }
+    /// No pairs.
+    fn new(alloc: Global) -> Result<Pairs, AllocError>
+        ensures { IfOk result (λ pairs. pairs ≡ []) }
     {
         Ok(Pairs {
-            pairs: self.pairs.clone()?,
+            names: Arc::new(alloc, IndexSet::new(alloc))?,
+            pairs: Vec::new(alloc),
         })
     }
 
+    /// A copy of the pairs, which shares their names and has room for one more pair.
+    fn copy(&self) -> Result<Pairs, AllocError>
+        ensures { IfOk result (λ copy. copy ≡ self.now) }
+    {
+        let mut pairs = Vec::with_capacity(*self.pairs.allocator(), self.pairs.len() + 1)?;
+        pairs.extend_from_slice(&self.pairs)?;
+        Ok(Pairs {
+            names: Arc::try_clone(&self.names)?,
+            pairs,
+        })
+    }
+
+    /// The place of a name.
+    fn place(&self, name: &Name) -> Option<usize>
+        ensures place { result ≡ position (λ pair. bytes_eq name.now pair.0) self.now }
+        ensures within { IfSome result (λ place. place < length self.now) }
+    {
+        let index = self.names.get_index_of(name)?;
+        self.pairs.iter().position(|pair| pair.name == index)
+    }
+
     /// Gives a name a value.
-    fn put(&mut self, name: &Name, value: Amount) -> Result<DirectoryResp, AllocError>
+    fn put(
+        &mut self,
+        alloc: Global,
+        name: &Name,
+        value: Amount,
+    ) -> Result<DirectoryResp, AllocError>
         ensures pairs { OnOk result (self.new ≡ directory_next self.old (DirectoryInv.Put name.now value)) }
         ensures response { IfOk result (λ resp. resp ≡ directory_answer self.old (DirectoryInv.Put name.now value)) }
         ensures err { OnErr result (self.new ≡ self.old) }
     {
-        if self.pairs.len() >= 256 && !self.pairs.contains_key(name) {
+        if let Some(before) = self.replace(name, value) {
+            return Ok(DirectoryResp::Was(before));
+        }
+        if self.pairs.len() >= 256 {
             return Ok(DirectoryResp::Full);
         }
-        Ok(match self.pairs.insert(name.clone()?, value)? {
-            Some(before) => DirectoryResp::Was(before),
-            None => DirectoryResp::New,
+        self.push(alloc, name, value)?;
+        Ok(DirectoryResp::New)
+    }
+
+    /// Writes the value of a name that is there, and returns the value before.
+    fn replace(&mut self, name: &Name, value: Amount) -> Option<Amount>
+        ensures pairs { self.new ≡ set_value (bytes_eq name.now) self.old value }
+        ensures before { result ≡ value_of self.old name.now }
+        ensures absent { IfNone result (self.new ≡ self.old) }
+    {
+        let place = self.place(name)?;
+        let pair = &mut self.pairs[place];
+        let before = pair.value;
+        pair.value = value;
+        Some(before)
+    }
+
+    /// Puts a pair last.
+    fn push(&mut self, alloc: Global, name: &Name, value: Amount) -> Result<(), AllocError>
+        ensures pairs { OnOk result (self.new ≡ self.old ++ (name.now, value) ∷ []) }
+        ensures err { OnErr result (self.new ≡ self.old) }
+    {
+        self.limit_names(alloc)?;
+        let (names, name) = names_with(alloc, &self.names, name)?;
+        self.pairs.push(Pair { name, value })?;
+        self.names = names;
+        Ok(())
+    }
+
+    /// Where states share as many names as they may, keeps only those of the pairs.
+    fn limit_names(&mut self, alloc: Global) -> Result<(), AllocError>
+        ensures { self.new ≡ self.old }
+    {
+        if self.names.len() >= MOST_NAMES {
+            *self = self.collected(alloc)?;
+        }
+        Ok(())
+    }
+
+    /// The same pairs with a new set of names, which are theirs alone.
+    fn collected(&self, alloc: Global) -> Result<Pairs, AllocError>
+        ensures { IfOk result (λ pairs. pairs ≡ self.now) }
+    {
+        let mut names = IndexSet::new(alloc);
+        let mut pairs = Vec::new(alloc);
+        for pair in &self.pairs {
+            let name = add_name(&mut names, &self.names[pair.name])?;
+            pairs.push(Pair {
+                name,
+                value: pair.value,
+            })?;
+        }
+        Ok(Pairs {
+            names: Arc::new(alloc, names)?,
+            pairs,
         })
     }
 
@@ -136,8 +244,8 @@ impl Pairs {
         ensures pairs { self.new ≡ directory_next self.old (DirectoryInv.Del name.now) }
         ensures response { result ≡ directory_answer self.old (DirectoryInv.Del name.now) }
     {
-        match self.pairs.shift_remove(name) {
-            Some(value) => DirectoryResp::Found(value),
+        match self.place(name) {
+            Some(place) => DirectoryResp::Found(self.pairs.remove(place).value),
             None => DirectoryResp::Absent,
         }
     }
@@ -146,8 +254,8 @@ impl Pairs {
     fn get(&self, name: &Name) -> DirectoryResp
         ensures { result ≡ directory_answer self.now (DirectoryInv.Get name.now) }
     {
-        match self.pairs.get(name) {
-            Some(value) => DirectoryResp::Found(*value),
+        match self.place(name) {
+            Some(place) => DirectoryResp::Found(self.pairs[place].value),
             None => DirectoryResp::Absent,
         }
     }
@@ -163,8 +271,8 @@ impl Pairs {
     fn at(&self, place: Place) -> DirectoryResp
         ensures { result ≡ directory_answer self.now (DirectoryInv.At place) }
     {
-        match self.pairs.get_index(place.number()) {
-            Some((_, value)) => DirectoryResp::Found(*value),
+        match self.pairs.get(place.number()) {
+            Some(pair) => DirectoryResp::Found(pair.value),
             None => DirectoryResp::Absent,
         }
     }
@@ -180,10 +288,7 @@ impl SeqObject for DirectoryObject {
     ghost sequential = { λ _. directory };
 
     fn start(&self, alloc: Global) -> Result<DirectoryState, AllocError> {
-        let pairs = Pairs {
-            pairs: IndexMap::new(alloc),
-        };
-        DirectoryState::own(alloc, pairs)
+        DirectoryState::own(alloc, Pairs::new(alloc)?)
     }
 
     fn apply(
@@ -195,7 +300,7 @@ impl SeqObject for DirectoryObject {
         match inv {
             DirectoryInv::Put(name, value) => {
                 let mut next = state.pairs.copy()?;
-                let resp = next.put(name, *value)?;
+                let resp = next.put(alloc, name, *value)?;
                 Ok((DirectoryState::own(alloc, next)?, resp))
             }
             DirectoryInv::Get(name) => Ok((state.share()?, state.pairs.get(name))),
@@ -309,6 +414,32 @@ impl Spoken for DirectoryObject {
             }
         }
     }
+}
+
+/// The names with this one among them, and its index.
+fn names_with(
+    alloc: Global,
+    names: &Arc<IndexSet<Name>>,
+    name: &Name,
+) -> Result<(Arc<IndexSet<Name>>, usize), AllocError>
+    requires { IsDistinct bytes_eq (arc_value names.now).keys }
+    ensures { IfOk result (λ r. AddsName (arc_value names.now).keys (arc_value r.0).keys name.now r.1) }
+{
+    let shared: &IndexSet<Name> = names;
+    if let Some(index) = shared.get_index_of(name) {
+        return Ok((Arc::try_clone(names)?, index));
+    }
+    let mut longer = shared.clone()?;
+    let index = add_name(&mut longer, name)?;
+    Ok((Arc::new(alloc, longer)?, index))
+}
+
+/// Adds a name where it isn't there, and returns its index.
+fn add_name(names: &mut IndexSet<Name>, name: &Name) -> Result<usize, AllocError>
+    ensures { IfOk result (λ index. AddsName names.old.keys names.new.keys name.now index) }
+{
+    let (index, _) = names.insert_full(name.clone()?)?;
+    Ok(index)
 }
 
 /// Reads an invocation of two words.

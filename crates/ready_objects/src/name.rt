@@ -100,7 +100,7 @@ impl Hash for Name {
 
     ghost respects_eq = { λ a b same. ap (λ name. name ∷ []) ((bytes_decides a b).0 same) };
 
-    // All bytes in one write, since a copy of a map of names hashes each of them.
+    // All bytes in one write, since a copy of a set of names hashes each of them.
     fn hash<H: Hasher>(&self, state: &mut H) {
         state.write(self.as_bytes());
     }
