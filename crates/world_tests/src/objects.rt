@@ -202,6 +202,31 @@ fn directory(rt: HostRuntime) -> Result<(), Fail> {
     draws::<DirectoryObject>(&rt, alloc, DIRECTORY_DRAWN)
 }
 
+/// Lines of a directory that kept one name while others came and went.
+const DIRECTORY_KEPT: Lines = &[
+    ("get kept", "7"),
+    ("put n0 2", "new"),
+    ("at 0", "7"),
+    ("at 1", "2"),
+    ("size", "2"),
+];
+
+/// More names come and go than states share, and one stays.
+#[test]
+fn a_directory_of_many_names_that_went(rt: HostRuntime) -> Result<(), Fail> {
+    let (alloc, object) = (rt.alloc(), DirectoryObject);
+    let start = object.start(alloc)?;
+    let mut state = plays(&rt, alloc, &object, start, &[("put kept 7", "new")])?;
+    for number in 0..1100u64 {
+        let put = format!(in alloc; "put n{number} 1")?;
+        let del = format!(in alloc; "del n{number}")?;
+        let lines = [(put.as_str(), "new"), (del.as_str(), "1")];
+        state = plays(&rt, alloc, &object, state, &lines)?;
+    }
+    let _ = plays(&rt, alloc, &object, state, DIRECTORY_KEPT)?;
+    Ok(())
+}
+
 /// Lines of a book from its start on, with their replies.
 const BOOK: Lines = &[
     ("deposit 0 4", "4"),
