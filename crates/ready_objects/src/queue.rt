@@ -1,6 +1,6 @@
 //! A queue of at most 1,000 values.
 
-ghost use Rattle.std.specs.Prelude.{◌≡◌, [], IfOk};
+ghost use Rattle.std.specs.Prelude.{◌≡◌, IfOk};
 ghost use Rattle.std.proofs.Common.{refl, ap, eqb-true, eq-eqb};
 ghost use Rattle.std.proofs.lemmas.Bool.{false≢true};
 ghost use Rattle.ready_objects.specs.declared.queue.QueueInv.TheVariants.{Enq, Deq};
@@ -13,23 +13,31 @@ use crate::spoken::{Spoken, is_text};
 use seq_object::SeqObject;
 use std::alloc::{AllocError, Global};
 use std::marker::Model;
+use std::sync::Arc;
 
 /// A queue of at most 1,000 values. It starts empty.
 #[derive(Clone, Copy, Debug)]
 pub struct QueueObject;
 
 /// The values of a queue, the first of them first.
-#[derive(Debug, Drop)]
+///
+/// States share values, and nobody changes what is shared: where the first value is taken out, the
+/// state after it has the same values, and one more of them is past.
+#[derive(Drop)]
 pub struct QueueState {
-    values: Vec<Amount>,
+    values: Arc<Vec<Amount>>,
+    past: usize,
 }
 
 impl Model for QueueState {
-    ghost use Rattle.std.specs.Prelude.{ℕ, List};
+    ghost use Rattle.std.specs.Prelude.{ℕ, List, ◌≤◌, drop, length};
+    ghost use Rattle.std.specs.Arc.{arc_value};
 
     ghost Value = { List ℕ };
 
-    ghost view = { λ state. state.values.items };
+    ghost view = { λ state. drop state.past (arc_value state.values).items };
+
+    ghost invariant = { λ state. state.past ≤ length (arc_value state.values).items };
 }
 
 /// An invocation of the queue.
@@ -54,6 +62,58 @@ pub enum QueueResp {
     Empty,
 }
 
+impl QueueState {
+    /// A state of its own, with these values.
+    fn own(alloc: Global, values: Vec<Amount>) -> Result<QueueState, AllocError>
+        ensures { IfOk result (λ state. state ≡ values.items) }
+    {
+        Ok(QueueState {
+            values: Arc::new(alloc, values)?,
+            past: 0,
+        })
+    }
+
+    /// The same state, which shares the values.
+    fn share(&self) -> Result<QueueState, AllocError>
+        ensures { IfOk result (λ state. state ≡ self.now) }
+    {
+        Ok(QueueState {
+            values: Arc::try_clone(&self.values)?,
+            past: self.past,
+        })
+    }
+
+    /// The state with one value more, and the response.
+    fn enqueued(&self, alloc: Global, value: Amount) -> Result<(QueueState, QueueResp), AllocError>
+        ensures state { IfOk result (λ r. r.0 ≡ queue_next self.now (QueueInv.Enq value)) }
+        ensures response { IfOk result (λ r. r.1 ≡ queue_answer self.now (QueueInv.Enq value)) }
+    {
+        let values = &self.values[self.past..];
+        if values.len() >= 1000 {
+            return Ok((self.share()?, QueueResp::Full));
+        }
+        let mut next = Vec::with_capacity(alloc, values.len() + 1)?;
+        next.extend_from_slice(values)?;
+        next.push(value)?;
+        Ok((QueueState::own(alloc, next)?, QueueResp::Added))
+    }
+
+    /// The state without the first value, and the response. No value is copied.
+    fn dequeued(&self) -> Result<(QueueState, QueueResp), AllocError>
+        ensures state { IfOk result (λ r. r.0 ≡ queue_next self.now QueueInv.Deq) }
+        ensures response { IfOk result (λ r. r.1 ≡ queue_answer self.now QueueInv.Deq) }
+    {
+        let Some(first) = self.values.get(self.past) else {
+            return Ok((self.share()?, QueueResp::Empty));
+        };
+        let rest = QueueState {
+            values: Arc::try_clone(&self.values)?,
+            past: self.past + 1,
+        };
+        Ok((rest, QueueResp::Taken(*first)))
+    }
+}
+
 impl SeqObject for QueueObject {
     type State = QueueState;
 
@@ -64,9 +124,7 @@ impl SeqObject for QueueObject {
     ghost sequential = { λ _. queue };
 
     fn start(&self, alloc: Global) -> Result<QueueState, AllocError> {
-        Ok(QueueState {
-            values: Vec::new(alloc),
-        })
+        QueueState::own(alloc, Vec::new(alloc))
     }
 
     fn apply(
@@ -75,12 +133,10 @@ impl SeqObject for QueueObject {
         state: &QueueState,
         inv: &QueueInv,
     ) -> Result<(QueueState, QueueResp), AllocError> {
-        let values = state.values.as_slice();
-        let (values, resp) = match inv {
-            QueueInv::Enq(value) => enqueue(alloc, values, *value)?,
-            QueueInv::Deq => dequeue(alloc, values)?,
-        };
-        Ok((QueueState { values }, resp))
+        match inv {
+            QueueInv::Enq(value) => state.enqueued(alloc, *value),
+            QueueInv::Deq => state.dequeued(),
+        }
     }
 
     fn copy_inv(_alloc: Global, inv: &QueueInv) -> Result<QueueInv, AllocError> {
@@ -144,34 +200,5 @@ impl Spoken for QueueObject {
         if let QueueInv::Enq(value) = inv {
             let _ = value.number();
         }
-    }
-}
-
-/// The values with one more, and the response.
-fn enqueue(
-    alloc: Global,
-    values: &[Amount],
-    value: Amount,
-) -> Result<(Vec<Amount>, QueueResp), AllocError>
-    ensures values { IfOk result (λ r. r.0.items ≡ queue_next values.now (QueueInv.Enq value)) }
-    ensures response { IfOk result (λ r. r.1 ≡ queue_answer values.now (QueueInv.Enq value)) }
-{
-    if values.len() >= 1000 {
-        return Ok((Vec::from_slice(alloc, values)?, QueueResp::Full));
-    }
-    let mut next = Vec::with_capacity(alloc, values.len() + 1)?;
-    next.extend_from_slice(values)?;
-    next.push(value)?;
-    Ok((next, QueueResp::Added))
-}
-
-/// The values without the first, and the response.
-fn dequeue(alloc: Global, values: &[Amount]) -> Result<(Vec<Amount>, QueueResp), AllocError>
-    ensures values { IfOk result (λ r. r.0.items ≡ queue_next values.now QueueInv.Deq) }
-    ensures response { IfOk result (λ r. r.1 ≡ queue_answer values.now QueueInv.Deq) }
-{
-    match values {
-        [] => Ok((Vec::new(alloc), QueueResp::Empty)),
-        [first, rest @ ..] => Ok((Vec::from_slice(alloc, rest)?, QueueResp::Taken(*first))),
     }
 }
