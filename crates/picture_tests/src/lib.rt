@@ -1,4 +1,4 @@
-//! Tests of pictures: the marks of a run, words and columns, and whole pictures.
+//! Tests of pictures: the marks of a run, words and columns, whole pictures, and the text of shapes.
 #![tactic(auto)]
 
 #[cfg(test)]
@@ -9,3 +9,5 @@ mod lines;
 mod marks;
 #[cfg(test)]
 mod pictures;
+#[cfg(test)]
+mod svgs;

@@ -8,8 +8,6 @@ mod laws;
 mod paint;
 mod shape;
 mod svg;
-#[cfg(test)]
-mod tests;
 
 pub use laws::{escaped_has_no_markup, text_is_of_a_tree};
 pub use paint::{Colour, Paint};

@@ -13,8 +13,6 @@ mod open;
 mod read;
 mod rule;
 mod steps;
-#[cfg(test)]
-mod tests;
 mod view;
 mod words;
 

@@ -1,5 +1,5 @@
 use Rattle.uni_words.specs.Belongs.{IsSeatOf}
-use Rattle.uni_words.proofs.tests.calls.Given as goal
+use Rattle.word_tests.proofs.words.calls.Given as goal
 
 abbrev pub invariant-loop : goal.invariant-loop
 invariant-loop g l = IsSeatOf l.log l.seat

@@ -1,0 +1,5 @@
+//! Tests of the construction on words.
+#![tactic(auto)]
+
+#[cfg(test)]
+mod words;
