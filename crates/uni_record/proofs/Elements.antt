@@ -1,5 +1,18 @@
--- The element at a place of a list, after one more element and after a write.
-use Rattle.std.proofs.Common.{◌≡◌, ◌≢◌, ℕ, zero, suc, List, [], ◌∷◌, ◌++◌, Some, length, option_map, slice_get, slice_set, refl, ap}
+-- The element at a place of a list, after one more element, and the place of the first that passes a test.
+use Rattle.std.proofs.Common.{◌≡◌, ◌≢◌, ◌∙◌, ℕ, zero, suc, ◌+◌, ◌≤◌, eqb, Bool, not, true, false, cond, nat_lt, List, [], ◌∷◌, ◌++◌, Some, None, find, length, option_and_then, position, slice_get, refl, ap, arith}
+use Rattle.std.specs.List.{position_or_len}
+use Rattle.std.specs.Option.{option_or}
+use Rattle.std.proofs.lemmas.List.{length-append}
+use Rattle.std.proofs.lemmas.List.Folds.{find_at, position_or_len_push}
+use Rattle.std.proofs.lemmas.List.Sums.{prefix_len-le-length}
+use Rattle.std.proofs.lemmas.Bool.Decides.{nat_tests}
+use Rattle.std.proofs.lemmas.Option.{slice_get_past}
+
+-- the first place that passes among n elements, and among one more
+more_place : (first n later longer : ℕ) (t : Bool) → first ≤ n → later ≡ cond (eqb first n) (n + cond t 0 1) first → longer ≡ n + 1
+    → cond (nat_lt later longer) (Some later) None ≡ option_or (cond (nat_lt first n) (Some first) None) (cond t (Some n) None)
+more_place first n later longer true within at long = grind (arith, nat_tests)
+more_place first n later longer false within at long = grind (arith, nat_tests)
 
 module _ {X : Type 0} where
   pub slice_get-more_last : (xs : List X) (x : X) → slice_get (xs ++ x ∷ []) (length xs) ≡ Some x
@@ -12,14 +25,15 @@ module _ {X : Type 0} where
   slice_get-more_other (y ∷ ys) x zero other = refl
   slice_get-more_other (y ∷ ys) x (suc i) other = slice_get-more_other ys x i (λ e. other (ap (λ n. suc n) e))
 
-  pub slice_get-set_same : (xs : List X) (i : ℕ) (x : X) → slice_get (slice_set xs i x) i ≡ option_map (λ _. x) (slice_get xs i)
-  slice_get-set_same [] i x = refl
-  slice_get-set_same (y ∷ ys) zero x = refl
-  slice_get-set_same (y ∷ ys) (suc i) x = slice_get-set_same ys i x
+  -- the first that passes is at the first place that passes
+  pub find_place : (test : X → Bool) (xs : List X) → find test xs ≡ option_and_then (slice_get xs) (position test xs)
+  find_place test xs = find_at test xs ∙ by_within (nat_lt (position_or_len test xs) (length xs)) refl where
+    by_within : (t : Bool) → nat_lt (position_or_len test xs) (length xs) ≡ t
+        → slice_get xs (position_or_len test xs) ≡ option_and_then (slice_get xs) (cond t (Some (position_or_len test xs)) None)
+    by_within true is = refl
+    by_within false is = slice_get_past xs (position_or_len test xs) (grind (arith, nat_tests))
 
-  pub slice_get-set_other : (xs : List X) (i : ℕ) (x : X) (j : ℕ) → j ≢ i → slice_get (slice_set xs i x) j ≡ slice_get xs j
-  slice_get-set_other [] i x j other = refl
-  slice_get-set_other (y ∷ ys) zero x zero other = absurd (other refl)
-  slice_get-set_other (y ∷ ys) zero x (suc j) other = refl
-  slice_get-set_other (y ∷ ys) (suc i) x zero other = refl
-  slice_get-set_other (y ∷ ys) (suc i) x (suc j) other = slice_get-set_other ys i x j (λ e. other (ap (λ n. suc n) e))
+  -- one more element leaves that place, where there is one
+  pub position-more : (test : X → Bool) (xs : List X) (x : X) → position test (xs ++ x ∷ []) ≡ option_or (position test xs) (cond (test x) (Some (length xs)) None)
+  position-more test xs x =
+      more_place (position_or_len test xs) (length xs) _ _ (test x) (prefix_len-le-length (λ y. not (test y)) xs) (position_or_len_push test xs x) (length-append xs (x ∷ []))

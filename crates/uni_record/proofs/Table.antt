@@ -1,155 +1,123 @@
--- What is known of calls, as entries are added and calls return.
-use Rattle.std.proofs.Common.{◌≡◌, ◌≢◌, ◌∙◌, ℕ, ◌+◌, ◌==◌, ◌&&◌, ◌||◌, Bool, true, false, cond, if◌then◌else◌, List, [], ◌∷◌, ◌++◌, Option, Some, None, length, find, option_map, option_and_then, slice_get, slice_set, refl, sym, ap, arith}
+-- The table of calls, as entries are added, and their marks, as calls return.
+use Rattle.std.proofs.Common.{◌≡◌, ◌≢◌, ◌∙◌, ℕ, ◌+◌, ◌<◌, ◌==◌, ◌&&◌, ◌||◌, Bool, true, false, cond, if◌then◌else◌, List, [], ◌∷◌, ◌++◌, Option, Some, None, length, option_and_then, get_or, set, slice_get, refl, sym, ap, arith}
+use Rattle.std.proofs.Math.Bool.{or-false, or-true}
+use Rattle.std.proofs.Math.ListN.{length-set}
 use Rattle.std.proofs.lemmas.Bool.{eqb-true, eqb-false}
-use Rattle.std.proofs.lemmas.List.{length-append}
+use Rattle.std.proofs.lemmas.List.{get_or-set_other, get_or-set_same, length-append}
+use Rattle.std.proofs.lemmas.List.Quantifiers.{position-Some}
 use Rattle.std.proofs.lemmas.List.Sums.{sum_by-append}
-use Rattle.std.proofs.lemmas.List.Folds.{find-append, list_any-append}
-use Rattle.std.proofs.lemmas.Option.{slice_get_past}
+use Rattle.std.proofs.lemmas.List.Folds.{list_any-append}
+use Rattle.std.proofs.lemmas.Option.{slice_get_past, slice_get_read}
 use Rattle.std.specs.Option.{option_map_or, option_or}
 use Rattle.seq_object.specs.declared.call_id.CallId.{CallId}
 use Rattle.uni_log.specs.declared.entry.Entry.{Entry}
-use Rattle.uni_record.specs.declared.made_calls.Made.{Made}
-use Rattle.uni_record.specs.declared.made_calls.Made.TheVariants.{Returned}
-use Rattle.uni_record.specs.declared.made_calls.MadeCalls.{MadeCalls}
+use Rattle.uni_record.specs.declared.call_places.CallPlaces.{CallPlaces}
 use Rattle.uni_record.specs.declared.verdict.Return.{Return}
-use Rattle.uni_record.specs.declared.verdict.Verdict.TheVariants.{Agrees, BadReturn, Missing, Twice}
-use Rattle.uni_record.specs.Verdict.{calls_of, has_returned, same_call, reply_to, return_verdict}
-use Rattle.uni_record.proofs.Elements.{slice_get-more_last, slice_get-more_other, slice_get-set_same, slice_get-set_other}
-use Rattle.uni_record.specs.MadeCalls.{IsTable, known_after, known_of, known_verdict, known_with, row_of}
+use Rattle.uni_record.specs.declared.verdict.Verdict.TheVariants.{Agrees, BadReturn, Missing}
+use Rattle.uni_record.specs.Verdict.{calls_of, has_returned, same_call, return_verdict}
+use Rattle.uni_record.specs.CallPlaces.{AreMarked, IsTable, entry_place, mark_at, place_of, row_of}
+use Rattle.uni_record.proofs.Calls.{same_call-equal, same_call-same}
+use Rattle.uni_record.proofs.Elements.{find_place, position-more, slice_get-more_last, slice_get-more_other}
 
--- the rows with the next call of a process
-module _ {I R : Type 0} (earlier : List (Entry I R)) (entry : Entry I R) (calls after : MadeCalls R) (table : IsTable earlier calls)
+-- the rows with the place of the next call of a process
+module _ {I R : Type 0} (earlier : List (Entry I R)) (entry : Entry I R) (calls after : CallPlaces) (table : IsTable earlier calls)
     (next : entry.call.nth ≡ length (row_of calls entry.call.process))
-    (grown : (q : ℕ) → row_of after q ≡ (if entry.call.process == q then row_of calls q ++ known_with entry.reply ∷ [] else row_of calls q)) where
-  abbrev named : CallId → Option (Entry I R)
-  named call = find (λ e. same_call e.call call) earlier
-
-  abbrev known_entry : Option (Entry I R) → Option (Made R)
-  known_entry o = option_map (λ e. known_with e.reply) o
-
+    (grown : (q : ℕ) → row_of after q ≡ (if entry.call.process == q then row_of calls q ++ length earlier ∷ [] else row_of calls q)) where
   counted_more : (process : ℕ) → length (row_of after process) ≡ calls_of process (earlier ++ entry ∷ [])
   counted_more process =
       let split = sum_by-append (λ e. cond (e.call.process == process) 1 0) earlier (entry ∷ []) in
       by_process (entry.call.process == process) refl (grown process) split where
         by_process : (t : Bool) → (entry.call.process == process) ≡ t
-            → row_of after process ≡ (if t then row_of calls process ++ known_with entry.reply ∷ [] else row_of calls process)
+            → row_of after process ≡ (if t then row_of calls process ++ length earlier ∷ [] else row_of calls process)
             → calls_of process (earlier ++ entry ∷ []) ≡ calls_of process earlier + (0 + cond t 1 0)
             → length (row_of after process) ≡ calls_of process (earlier ++ entry ∷ [])
-        by_process true is row split = ap length row ∙ length-append (row_of calls process) (known_with entry.reply ∷ []) ∙ (omega (arith, table.counted process, split))
+        by_process true is row split = ap length row ∙ length-append (row_of calls process) (length earlier ∷ []) ∙ (omega (arith, table.counted process, split))
         by_process false is row split = ap length row ∙ (omega (arith, table.counted process, split))
 
   next_place : (call : CallId) → (entry.call.process == call.process) ≡ true → entry.call.nth ≡ length (row_of calls call.process)
   next_place call process = next ∙ ap (λ q. length (row_of calls q)) (eqb-true _ _ process)
 
-  -- its call has no entry yet
-  none_named : (call : CallId) → (entry.call.process == call.process) ≡ true → (entry.call.nth == call.nth) ≡ true → named call ≡ None
-  none_named call process nth =
-      let place : call.nth ≡ length (row_of calls call.process) = sym (eqb-true _ _ nth) ∙ next_place call process in
-      let past = slice_get_past (row_of calls call.process) call.nth (omega (arith, place)) in
-      by_named (named call) (sym (table.known call) ∙ past) where
-        by_named : (o : Option (Entry I R)) → known_entry o ≡ None → o ≡ None
-        by_named None is = refl
-        by_named (Some e) is = absurd (cc)
+  placed_more : (call : CallId) → place_of after call ≡ entry_place call (earlier ++ entry ∷ [])
+  placed_more call = by_process (entry.call.process == call.process) refl (grown call.process) ∙ sym (position-more (λ e. same_call e.call call) earlier entry) where
+    with_entry : (t : Bool) → Option ℕ
+    with_entry t = option_or (entry_place call earlier) (cond t (Some (length earlier)) None)
 
-  known_more : (call : CallId) → known_of after call ≡ known_after (earlier ++ entry ∷ []) [] call
-  known_more call =
-      let split = find-append (λ e. same_call e.call call) earlier (entry ∷ []) in
-      by_process (entry.call.process == call.process) refl (grown call.process) ∙ ap known_entry (sym split) where
-        with_entry : (t : Bool) → Option (Made R)
-        with_entry t = known_entry (option_or (named call) (cond t (Some entry) None))
+    no_entry : place_of calls call ≡ with_entry false
+    no_entry = table.placed call ∙ by_place (entry_place call earlier) where
+      by_place : (o : Option ℕ) → o ≡ option_or o None
+      by_place None = refl
+      by_place (Some place) = refl
 
-        no_entry : known_of calls call ≡ with_entry false
-        no_entry = table.known call ∙ by_named (named call) where
-          by_named : (o : Option (Entry I R)) → known_entry o ≡ known_entry (option_or o None)
-          by_named None = refl
-          by_named (Some e) = refl
+    by_nth : (entry.call.process == call.process) ≡ true → (u : Bool) → (entry.call.nth == call.nth) ≡ u
+        → slice_get (row_of calls call.process ++ length earlier ∷ []) call.nth ≡ with_entry (true && u)
+    by_nth process true nth =
+        let end : call.nth ≡ length (row_of calls call.process) = sym (eqb-true _ _ nth) ∙ next_place call process in
+        let none : entry_place call earlier ≡ None = sym (table.placed call) ∙ slice_get_past (row_of calls call.process) call.nth (omega (arith, end)) in
+        ap (λ n. slice_get (row_of calls call.process ++ length earlier ∷ []) n) end ∙ slice_get-more_last (row_of calls call.process) (length earlier) ∙ (rw none refl)
+    by_nth process false nth =
+        slice_get-more_other (row_of calls call.process) (length earlier) call.nth (λ e. eqb-false _ _ nth (next_place call process ∙ sym e)) ∙ no_entry
 
-        by_nth : (entry.call.process == call.process) ≡ true → (u : Bool) → (entry.call.nth == call.nth) ≡ u
-            → slice_get (row_of calls call.process ++ known_with entry.reply ∷ []) call.nth ≡ with_entry (true && u)
-        by_nth process true nth =
-            let place : call.nth ≡ length (row_of calls call.process) = sym (eqb-true _ _ nth) ∙ next_place call process in
-            ap (λ n. slice_get (row_of calls call.process ++ known_with entry.reply ∷ []) n) place ∙ slice_get-more_last (row_of calls call.process) (known_with entry.reply)
-            ∙ (rw (none_named call process nth) refl)
-        by_nth process false nth =
-            slice_get-more_other (row_of calls call.process) (known_with entry.reply) call.nth (λ e. eqb-false _ _ nth (next_place call process ∙ sym e)) ∙ no_entry
-
-        by_process : (t : Bool) → (entry.call.process == call.process) ≡ t
-            → row_of after call.process ≡ (if t then row_of calls call.process ++ known_with entry.reply ∷ [] else row_of calls call.process)
-            → known_of after call ≡ with_entry (same_call entry.call call)
-        by_process true is row = rw (row, is) (by_nth is (entry.call.nth == call.nth) refl)
-        by_process false is row = rw (row, is) no_entry
+    by_process : (t : Bool) → (entry.call.process == call.process) ≡ t
+        → row_of after call.process ≡ (if t then row_of calls call.process ++ length earlier ∷ [] else row_of calls call.process)
+        → place_of after call ≡ with_entry (same_call entry.call call)
+    by_process true is row = rw (row, is) (by_nth is (entry.call.nth == call.nth) refl)
+    by_process false is row = rw (row, is) no_entry
 
   pub table_more : IsTable (earlier ++ entry ∷ []) after
-  table_more = record { counted = counted_more; known = known_more }
+  table_more = record { counted = counted_more; placed = placed_more }
 
--- what is known of a call decides the verdict on its return
-pub known_verdict_is : {I R : Type 0} (same : R → R → Bool) (entries : List (Entry I R)) (earlier : List (Return R)) (returned : Return R) (known : Option (Made R))
-    → known ≡ known_after entries earlier returned.call → known_verdict same known returned ≡ return_verdict same entries earlier returned
-known_verdict_is {I} {R} same entries earlier returned known is = ap (λ o. known_verdict same o returned) is ∙ by_returned (has_returned returned.call earlier) where
-  by_reply : (o : Option R) → known_verdict same (Some (known_with o)) returned
-      ≡ option_map_or (λ reply. if same reply returned.reply then Agrees else BadReturn returned.call) o (Missing returned.call)
-  by_reply None = refl
-  by_reply (Some reply) = refl
+module _ {I R : Type 0} where
+  -- a call's place is within the entries
+  pub place_within : (entries : List (Entry I R)) (call : CallId) (place : ℕ) → entry_place call entries ≡ Some place → place < length entries
+  place_within [] call place at = absurd (cc)
+  place_within (x ∷ xs) call place at = (position-Some (λ e. same_call e.call call) (x ∷ xs) place x at).0
 
-  by_entry : (o : Option (Entry I R)) → known_verdict same (option_map (λ e. known_with e.reply) o) returned
-      ≡ option_map_or (λ reply. if same reply returned.reply then Agrees else BadReturn returned.call) (option_and_then (λ e. e.reply) o) (Missing returned.call)
-  by_entry None = refl
-  by_entry (Some e) = by_reply e.reply
+  -- no two calls have one place
+  one_place : (entries : List (Entry I R)) (a b : CallId) (place : ℕ) → entry_place a entries ≡ Some place → entry_place b entries ≡ Some place → a ≡ b
+  one_place [] a b place at_a at_b = absurd (cc)
+  one_place (x ∷ xs) a b place at_a at_b =
+      let is_a = position-Some (λ e. same_call e.call a) (x ∷ xs) place x at_a in
+      let is_b = position-Some (λ e. same_call e.call b) (x ∷ xs) place x at_b in
+      sym (same_call-equal (get_or (x ∷ xs) place x).call a is_a.1) ∙ same_call-equal (get_or (x ∷ xs) place x).call b is_b.1
 
-  by_returned : (t : Bool) → known_verdict same (if t then Some Returned else option_map (λ e. known_with e.reply) (find (λ e. same_call e.call returned.call) entries)) returned
-      ≡ (if t then Twice returned.call else option_map_or (λ reply. if same reply returned.reply then Agrees else BadReturn returned.call) (reply_to returned.call entries) (Missing returned.call))
-  by_returned true = refl
-  by_returned false = by_entry (find (λ e. same_call e.call returned.call) entries)
+  -- the verdict on a return of a call with no place
+  pub verdict_unplaced : (same : R → R → Bool) (entries : List (Entry I R)) (earlier : List (Return R)) (marks : List Bool) (returned : Return R) → AreMarked entries earlier marks
+      → entry_place returned.call entries ≡ None → Missing returned.call ≡ return_verdict same entries earlier returned
+  verdict_unplaced same entries earlier marks returned are none =
+      let unmarked : has_returned returned.call earlier ≡ false = sym (are.marked returned.call) ∙ ap (mark_at marks) none in
+      let no_entry = find_place (λ e. same_call e.call returned.call) entries ∙ ap (λ o. option_and_then (slice_get entries) o) none in
+      rw (unmarked, no_entry) refl
 
--- a call whose return agrees has an entry
-pub agrees_known : {R : Type 0} (same : R → R → Bool) (known : Option (Made R)) (returned : Return R) → known_verdict same known returned ≡ Agrees → known ≢ None
-agrees_known same None returned agrees none = absurd (cc)
-agrees_known same (Some made) returned agrees none = absurd (cc)
+  module _ (entries : List (Entry I R)) (earlier : List (Return R)) (marks : List Bool) (returned : Return R) (are : AreMarked entries earlier marks)
+      (place : ℕ) (at : entry_place returned.call entries ≡ Some place) where
+    -- the verdict on a return of a call whose place isn't marked
+    pub verdict_unmarked : (same : R → R → Bool) (entry : Entry I R) (reply : Option R) → entry ≡ get_or entries place entry → entry.reply ≡ reply → get_or marks place false ≡ false
+        → option_map_or (λ r. if same r returned.reply then Agrees else BadReturn returned.call) reply (Missing returned.call) ≡ return_verdict same entries earlier returned
+    verdict_unmarked same entry reply is replied mark =
+        let unmarked : has_returned returned.call earlier ≡ false = sym (are.marked returned.call) ∙ ap (mark_at marks) at ∙ mark in
+        let there : slice_get entries place ≡ Some entry = slice_get_read entries (length entries) place entry refl (place_within entries returned.call place at) is in
+        let found = find_place (λ e. same_call e.call returned.call) entries ∙ ap (λ o. option_and_then (slice_get entries) o) at ∙ there in
+        rw (unmarked, found, replied) refl
 
-marked_returned : {R : Type 0} (known : Option (Made R)) → known ≢ None → option_map {T = Made R} {U = Made R} (λ _. Returned) known ≡ Some Returned
-marked_returned None some = absurd (some refl)
-marked_returned (Some made) some = refl
+    -- the marks after a return
+    pub marked_more : AreMarked entries (earlier ++ returned ∷ []) (set marks place true)
+    marked_more = record {
+      each = length-set marks place true ∙ are.each;
+      marked = λ call. by_same call (same_call returned.call call) refl ∙ sym (list_any-append (λ r. same_call r.call call) earlier (returned ∷ []));
+    } where
+      apart : (call : CallId) → same_call returned.call call ≡ false → (i : ℕ) → entry_place call entries ≡ Some i → i ≢ place
+      apart call other i there is =
+          let this = same_call-same returned.call call (one_place entries returned.call call place at (there ∙ ap (λ n. Some n) is)) in
+          absurd (cc)
 
--- the rows after a return of a call that has an entry
-module _ {I R : Type 0} (entries : List (Entry I R)) (earlier : List (Return R)) (returned : Return R) (calls after : MadeCalls R)
-    (known : (call : CallId) → known_of calls call ≡ known_after entries earlier call)
-    (there : known_of calls returned.call ≢ None)
-    (marked : (q : ℕ) → row_of after q ≡ (if returned.call.process == q then slice_set (row_of calls q) returned.call.nth Returned else row_of calls q)) where
-  pub known_returned : (call : CallId) → known_of after call ≡ known_after entries (earlier ++ returned ∷ []) call
-  known_returned call =
-      by_process (returned.call.process == call.process) refl (marked call.process)
-      ∙ ap with_returned (sym (list_any-append (λ r. same_call r.call call) earlier (returned ∷ []))) where
-        with_returned : Bool → Option (Made R)
-        with_returned t = if t then Some Returned else option_map (λ e. known_with e.reply) (find (λ e. same_call e.call call) entries)
-
-        after_this : (t : Bool) → Option (Made R)
-        after_this t = with_returned (has_returned call earlier || (t || false))
-
-        other_call : known_of calls call ≡ after_this false
-        other_call = known call ∙ by_earlier (has_returned call earlier) where
-          by_earlier : (t : Bool) → with_returned t ≡ with_returned (t || (false || false))
-          by_earlier true = refl
-          by_earlier false = refl
-
-        this_call : Some Returned ≡ after_this true
-        this_call = by_earlier (has_returned call earlier) where
-          by_earlier : (t : Bool) → Some Returned ≡ with_returned (t || (true || false))
-          by_earlier true = refl
-          by_earlier false = refl
-
-        by_nth : (returned.call.process == call.process) ≡ true → (u : Bool) → (returned.call.nth == call.nth) ≡ u
-            → slice_get (slice_set (row_of calls call.process) returned.call.nth Returned) call.nth ≡ after_this (true && u)
-        by_nth process true nth =
-            let place : call.nth ≡ returned.call.nth = sym (eqb-true _ _ nth) in
-            let has : slice_get (row_of calls call.process) returned.call.nth ≢ None =
-            λ none. there (ap (λ q. slice_get (row_of calls q) returned.call.nth) (eqb-true _ _ process) ∙ none) in
-            ap (λ n. slice_get (slice_set (row_of calls call.process) returned.call.nth Returned) n) place ∙ slice_get-set_same (row_of calls call.process) returned.call.nth Returned
-            ∙ marked_returned (slice_get (row_of calls call.process) returned.call.nth) has ∙ this_call
-        by_nth process false nth =
-            slice_get-set_other (row_of calls call.process) returned.call.nth Returned call.nth (λ e. eqb-false _ _ nth (sym e)) ∙ other_call
-
-        by_process : (t : Bool) → (returned.call.process == call.process) ≡ t
-            → row_of after call.process ≡ (if t then slice_set (row_of calls call.process) returned.call.nth Returned else row_of calls call.process)
-            → known_of after call ≡ after_this (same_call returned.call call)
-        by_process true is row = rw (row, is) (by_nth is (returned.call.nth == call.nth) refl)
-        by_process false is row = rw (row, is) other_call
+      by_same : (call : CallId) (t : Bool) → same_call returned.call call ≡ t
+          → mark_at (set marks place true) (entry_place call entries) ≡ (has_returned call earlier || (same_call returned.call call || false))
+      by_same call true this =
+          let here : entry_place call entries ≡ Some place = ap (λ c. entry_place c entries) (sym (same_call-equal returned.call call this)) ∙ at in
+          let within : place < length marks = omega (arith, are.each, place_within entries returned.call place at) in
+          rw (here, this) (get_or-set_same marks place true false within ∙ sym (or-true (has_returned call earlier)))
+      by_same call false other =
+          rw other (by_place (entry_place call entries) refl ∙ are.marked call ∙ sym (or-false (has_returned call earlier))) where
+            by_place : (o : Option ℕ) → entry_place call entries ≡ o → mark_at (set marks place true) o ≡ mark_at marks o
+            by_place None there = refl
+            by_place (Some i) there = get_or-set_other marks place i true false (apart call other i there)

@@ -1,5 +1,5 @@
 pub mod Verdict
-pub mod MadeCalls
+pub mod CallPlaces
 pub mod Audited
 pub mod Event
 pub mod Recorded

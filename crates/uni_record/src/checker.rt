@@ -1,13 +1,14 @@
 //! The check of a log and of what calls returned.
 
-ghost use Rattle.std.specs.Prelude.{◌≡◌, ℕ, ◌↔◌, [], IfOk, true};
+ghost use Rattle.std.specs.Prelude.{◌≡◌, ℕ, ◌↔◌, List, [], ◌∷◌, ◌++◌, length, IfOk, true};
 ghost use Rattle.std.specs.Option.{option_map_or};
-ghost use Rattle.uni_record.specs.Verdict.{entries_verdict, verdict_of};
-ghost use Rattle.uni_record.specs.MadeCalls.{IsTable, known_verdict, row_of};
+ghost use Rattle.uni_record.specs.Verdict.{entries_verdict, return_verdict, verdict_of};
+ghost use Rattle.uni_record.specs.CallPlaces.{AreMarked, IsTable, row_of};
 ghost use Rattle.uni_record.specs.Audited.{IsAudited};
+ghost use Rattle.uni_record.specs.declared.verdict.Return.{Return};
 ghost use Rattle.uni_record.specs.declared.verdict.Verdict.TheVariants.{Agrees};
 
-use crate::made_calls::{Made, MadeCalls};
+use crate::call_places::CallPlaces;
 use crate::verdict::{Return, Verdict};
 use seq_object::SeqObject;
 use std::alloc::{AllocError, Global};
@@ -24,14 +25,14 @@ fn is_answered<R: Copy + Eq>(reply: Option<R>, answer: R) -> bool
 }
 
 /// The verdict on entries, which are replayed from the object's start state. Where there is no
-/// fault, `calls` has the call of each.
+/// fault, `calls` has the places of all.
 ///
-/// An `Err` says that memory was refused.
+/// An `Err` says that memory was refused, or that there are more than 2^32 entries.
 fn entries_verdict<O: SeqObject>(
     alloc: Global,
     object: &O,
     entries: &[Entry<O::Inv, O::Resp>],
-    calls: &mut MadeCalls<O::Resp>,
+    calls: &mut CallPlaces,
 ) -> Result<Verdict, AllocError>
     requires { (q : ℕ) → row_of calls.old q ≡ [] }
     ensures verdict { IfOk result (λ v. v ≡ entries_verdict O.Resp.eq (O.sequential object.now) ((O.sequential object.now).initial) [] entries.now) }
@@ -47,23 +48,41 @@ fn entries_verdict<O: SeqObject>(
         if !is_answered(entry.reply, answer) {
             return Ok(Verdict::BadReply(place));
         }
-        calls.push(alloc, entry.call.process, Made::from_reply(entry.reply))?;
+        calls.push(alloc, entry.call.process, place)?;
         state = after;
         place += 1;
     }
     Ok(Verdict::Agrees)
 }
 
-/// The verdict on a return, by what is known of its call.
-fn return_verdict<R: Copy + Eq>(known: Option<Made<R>>, returned: &Return<R>) -> Verdict
-    ensures { result ≡ known_verdict R.eq known returned.now }
+/// The verdict on a return, where the calls that returned before are marked. Where it agrees, its
+/// call is marked too.
+fn return_verdict<I, R: Copy + Eq>(
+    entries: &[Entry<I, R>],
+    calls: &CallPlaces,
+    marks: &mut [bool],
+    returned: &Return<R>,
+) -> Verdict
+    requires table { IsTable entries.now calls.now }
+    requires each { length marks.old ≡ length entries.now }
+    ensures verdict { (earlier : List (Return R)) → AreMarked entries.now earlier marks.old → result ≡ return_verdict R.eq entries.now earlier returned.now }
+    ensures marked { (earlier : List (Return R)) → AreMarked entries.now earlier marks.old → result ≡ Agrees → AreMarked entries.now (earlier ++ returned.now ∷ []) marks.new }
 {
-    match known {
-        None | Some(Made::Unsettled) => Verdict::Missing(returned.call),
-        Some(Made::Returned) => Verdict::Twice(returned.call),
-        Some(Made::Replied(reply)) if reply == returned.reply => Verdict::Agrees,
-        Some(Made::Replied(_)) => Verdict::BadReturn(returned.call),
+    let Some(place) = calls.place(returned.call) else {
+        return Verdict::Missing(returned.call);
+    };
+    if marks[place] {
+        return Verdict::Twice(returned.call);
     }
+    let entry = &entries[place];
+    let Some(reply) = entry.reply else {
+        return Verdict::Missing(returned.call);
+    };
+    if reply != returned.reply {
+        return Verdict::BadReturn(returned.call);
+    }
+    marks[place] = true;
+    Verdict::Agrees
 }
 
 /// Checks entries and returns, and trusts neither. It goes over the entries in order, from the
@@ -71,7 +90,7 @@ fn return_verdict<R: Copy + Eq>(known: Option<Made<R>>, returned: &Return<R>) ->
 /// `Agrees` where there is none. On one entry `BadCall` comes first; on one return the order is
 /// `Twice`, `Missing`, `BadReturn`.
 ///
-/// An `Err` says that memory was refused.
+/// An `Err` says that memory was refused, or that there are more than 2^32 entries.
 pub fn audit<O: SeqObject>(
     alloc: Global,
     object: &O,
@@ -81,13 +100,14 @@ pub fn audit<O: SeqObject>(
     ensures verdict { IfOk result (λ v. v ≡ verdict_of O.Resp.eq (O.sequential object.now) entries.now returns.now) }
     ensures agrees { IfOk result (λ v. (v ≡ Agrees) ↔ IsAudited (O.sequential object.now) entries.now returns.now) }
 {
-    let mut calls = MadeCalls::new(alloc);
+    let mut calls = CallPlaces::with_room_for(alloc, entries)?;
     let verdict = entries_verdict(alloc, object, entries, &mut calls)?;
     let Verdict::Agrees = verdict else {
         return Ok(verdict);
     };
+    let mut marks = vec![in alloc; false; entries.len()]?;
     for returned in returns {
-        let fault = return_verdict(calls.take(returned.call), returned);
+        let fault = return_verdict(entries, &calls, &mut marks, returned);
         let Verdict::Agrees = fault else {
             return Ok(fault);
         };

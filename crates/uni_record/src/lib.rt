@@ -1,12 +1,12 @@
 //! The record of a run of processes that share an object, and its audit.
 #![tactic(auto)]
 
+mod call_places;
 mod checker;
 mod command;
 mod eras;
 mod event;
 mod fault;
-mod made_calls;
 mod readers;
 mod recorded;
 mod room;

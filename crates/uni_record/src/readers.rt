@@ -84,7 +84,7 @@ impl<O: SeqObject> Recorded<O> {
 
     /// What an audit of the entries of all eras and of the returns says: they agree.
     ///
-    /// An `Err` says that memory was refused.
+    /// An `Err` says that memory was refused, or that there are more than 2^32 entries.
     pub fn audit(&self, alloc: Global) -> Result<Verdict, AllocError>
         ensures agrees { IfOk result (λ verdict. verdict ≡ Verdict.Agrees) }
     {

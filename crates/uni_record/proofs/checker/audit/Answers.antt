@@ -1,13 +1,11 @@
-use Rattle.std.proofs.Common.{◌≡◌, ◌∙◌, ◌+◌, [], ◌∷◌, ◌++◌, take, sym, ap, subst}
-use Rattle.std.proofs.lemmas.List.{at_drop_all, take_more}
-use Rattle.seq_object.specs.declared.call_id.CallId.{CallId}
+use Rattle.std.proofs.Common.{◌≡◌, ◌∙◌, ◌+◌, [], ◌∷◌, ◌++◌, length, take, sym, ap, subst}
+use Rattle.std.proofs.lemmas.List.{at_drop_all, take_at, take_more}
 use Rattle.uni_record.specs.Verdict.{first, entries_verdict, returns_verdict, return_verdict, verdict_of}
 use Rattle.uni_record.specs.declared.verdict.Verdict.TheVariants.{Agrees}
-use Rattle.uni_record.specs.MadeCalls.{known_after, known_of}
+use Rattle.uni_record.specs.CallPlaces.{AreMarked}
 use Rattle.uni_record.proofs.Faults.{first-fault}
 use Rattle.uni_record.proofs.Meaning.{agrees_means}
 use Rattle.uni_record.proofs.Replay.{bad_return_at, good_return_at}
-use Rattle.uni_record.proofs.Table.{agrees_known, known_returned, known_verdict_is}
 use Rattle.uni_record.proofs.checker.audit.Goals as goal
 
 pub returns-in_default : goal.returns-in_default
@@ -28,8 +26,8 @@ returns-in_default-fault g c =
     let i = c.loop-returned.returned-index in
     let returned = c.returned-item.result in
     let fault = c.return_verdict-fault.result in
-    let this : fault ≡ return_verdict same entries (take i returns) returned =
-    c.return_verdict-fault.ensures ∙ known_verdict_is same entries (take i returns) returned c.take.result (c.take.ensures.known ∙ c.loop-returned.invariant.known returned.call) in
+    let marked : AreMarked entries (take i returns) c.deref_mut.result.now = rw (← c.deref_mut.ensures.value) at c.loop-returned.invariant.marked in
+    let this : fault ≡ return_verdict same entries (take i returns) returned = c.return_verdict-fault.ensures.verdict (take i returns) marked in
     let whole : fault ≡ returns_verdict same entries [] returns =
     bad_return_at same entries returns i returned c.loop-returned-test.true c.returned-item.is (returns_verdict same entries [] returns) fault c.loop-returned.invariant.rest this c.in_default-fault.not-Agrees in
     let good : entries_verdict same (g.O.SeqObject.sequential c.args.object.now) ((g.O.SeqObject.sequential c.args.object.now).initial) [] entries ≡ Agrees =
@@ -47,16 +45,16 @@ loop-returned-preserved g c =
     let returns = c.args.returns.now in
     let i = c.loop-returned.returned-index in
     let returned = c.returned-item.result in
-    let known = c.take.ensures.known ∙ c.loop-returned.invariant.known returned.call in
-    let agrees = sym c.in-Agrees-fault.is ∙ c.return_verdict-fault.ensures in
-    let there = agrees_known same c.take.result returned (sym agrees) in
+    let agrees = sym c.in-Agrees-fault.is in
+    let marked : AreMarked entries (take i returns) c.deref_mut.result.now = rw (← c.deref_mut.ensures.value) at c.loop-returned.invariant.marked in
+    let verdict = c.return_verdict-fault.ensures.verdict (take i returns) marked in
     let more : take i returns ++ returned ∷ [] ≡ take (i + 1) returns =
     ap (λ r. take i returns ++ r ∷ []) c.returned-item.is ∙ sym (take_more returns i returned c.loop-returned-test.true) in
+    let after = subst (λ earlier. AreMarked entries earlier c.return_verdict-fault.new.marks) more (c.return_verdict-fault.ensures.marked (take i returns) marked (sym agrees)) in
+    let long : length c.return_verdict-fault.new.marks ≡ c.loop-returned.marks.len = after.each ∙ sym marked.each ∙ c.deref_mut.ensures.len in
     record {
-      known = subst (λ earlier. (call : CallId) → known_of c.take.new.self call ≡ known_after entries earlier call) more
-          (known_returned entries (take i returns) returned c.loop-returned.calls c.take.new.self c.loop-returned.invariant.known (λ none. there (c.take.ensures.known ∙ none)) c.take.ensures.after);
-      rest = good_return_at same entries returns i returned c.loop-returned-test.true c.returned-item.is (returns_verdict same entries [] returns) c.loop-returned.invariant.rest
-          (agrees ∙ known_verdict_is same entries (take i returns) returned c.take.result known);
+      marked = rw (take_at c.return_verdict-fault.new.marks _ c.loop-returned.marks.len long) after;
+      rest = good_return_at same entries returns i returned c.loop-returned-test.true c.returned-item.is (returns_verdict same entries [] returns) c.loop-returned.invariant.rest (agrees ∙ verdict);
     }
 
 pub returns-clause-agrees : goal.returns-clause-agrees

@@ -1,8 +1,8 @@
-use Rattle.std.proofs.Common.{◌≡◌, ◌≢◌, ◌∙◌, ◌+◌, true, false, [], ◌∷◌, ◌++◌, take, sym, ap, subst}
+use Rattle.std.proofs.Common.{◌≡◌, ◌≢◌, ◌∙◌, ℕ, ◌+◌, ◌==◌, true, false, [], ◌∷◌, ◌++◌, take, if◌then◌else◌, sym, ap, subst, arith}
 use Rattle.std.specs.Option.{option_map_or}
-use Rattle.std.proofs.lemmas.List.{take_more}
+use Rattle.std.proofs.lemmas.List.{length-take-le, take_more}
 use Rattle.uni_record.specs.Verdict.{calls_of, entries_verdict}
-use Rattle.uni_record.specs.MadeCalls.{IsTable}
+use Rattle.uni_record.specs.CallPlaces.{IsTable, row_of}
 use Rattle.uni_record.proofs.Replay.{bad_call_at, bad_reply_at, good_at}
 use Rattle.uni_record.proofs.Table.{table_more}
 use Rattle.uni_record.proofs.checker.entries_verdict.Goals as goal
@@ -33,11 +33,13 @@ loop-entry-preserved g c =
     let test : option_map_or (λ r. g.O.Resp.PartialEq.eq r c.in_ok-after.answer) entry.reply true ≡ true = sym c.is_answered.ensures ∙ c.if-not-is_answered.false in
     let more : take i c.args.entries.now ++ entry ∷ [] ≡ take (i + 1) c.args.entries.now =
     ap (λ e. take i c.args.entries.now ++ e ∷ []) c.entry-item.is ∙ sym (take_more c.args.entries.now i entry c.loop-entry-test.true) in
+    let grown = subst
+    (λ n. (q : ℕ) → row_of c.push.new.self q ≡ (if entry.call.process == q then row_of c.loop-entry.calls q ++ n ∷ [] else row_of c.loop-entry.calls q))
+    (c.loop-entry.invariant.place ∙ sym (length-take-le i c.args.entries.now (omega arith))) c.in_ok-push.ensures in
     record {
       place = ap (λ k. k + 1) c.loop-entry.invariant.place;
       rest = rw c.in_ok-after.ensures.state (good_at g.O.Resp.PartialEq.eq (g.O.SeqObject.sequential c.args.object.now) c.loop-entry.state c.args.entries.now i entry (entries_verdict g.O.Resp.PartialEq.eq (g.O.SeqObject.sequential c.args.object.now) ((g.O.SeqObject.sequential c.args.object.now).initial) [] c.args.entries.now)
           c.loop-entry-test.true c.entry-item.is
           c.loop-entry.invariant.rest call (rw c.in_ok-after.ensures.response at test));
-      table = subst (λ entries. IsTable entries c.push.new.self) more
-          (table_more (take i c.args.entries.now) entry c.loop-entry.calls c.push.new.self c.loop-entry.invariant.table next (rw c.from_reply.ensures at c.in_ok-push.ensures));
+      table = subst (λ entries. IsTable entries c.push.new.self) more (table_more (take i c.args.entries.now) entry c.loop-entry.calls c.push.new.self c.loop-entry.invariant.table next grown);
     }

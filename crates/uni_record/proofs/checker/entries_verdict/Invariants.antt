@@ -1,6 +1,6 @@
 use Rattle.std.proofs.Common.{◌≡◌, [], take, drop}
 use Rattle.uni_record.specs.Verdict.{entries_verdict}
-use Rattle.uni_record.specs.MadeCalls.{IsTable}
+use Rattle.uni_record.specs.CallPlaces.{IsTable}
 use Rattle.uni_record.proofs.checker.entries_verdict.Given as goal
 
 abbrev pub invariant-loop-entry : goal.invariant-loop-entry
