@@ -1,7 +1,7 @@
 //! Both forms of arena: each call, with what it leaves worked out by hand.
 
 ghost use Rattle.std.specs.Prelude.{◌≡◌, ◌<◌, ◌≤◌, ℕ, IsSome, IsSomeAnd};
-ghost use Rattle.cell_arena.specs.Arena.{processes_of};
+ghost use Rattle.cell_arena.specs.Arena.{cell_of, processes_of};
 
 use cell_arena::{ArenaFault, CellId, Cells, ColumnCells, RowCells, of_is_injective};
 use std::alloc::Global;
@@ -28,6 +28,30 @@ fn fields<C: Cells<Inv = u32, State = u64, Resp = u8>>(arena: &C, id: CellId) ->
         arena.after(id).map(|after| after.index()),
         arena.new_of(id).copied(),
     )
+}
+
+/// The fields of a cell are these.
+fn has_fields<C: Cells<Inv = u32, State = u64, Resp = u8>>(
+    rt: &impl Abort,
+    arena: &C,
+    id: CellId,
+    want: Fields,
+)
+    requires { IsSome (C.cell arena.now id) }
+{
+    assert_eq!(rt; fields(arena, id), want);
+}
+
+/// There is room for so many cells of processes 0 and 1.
+fn has_room<C: Cells<Inv = u32, State = u64, Resp = u8>>(
+    rt: &impl Abort,
+    arena: &C,
+    first: u64,
+    second: u64,
+)
+    requires { 2 ≤ C.processes arena.now }
+{
+    assert_eq!(rt; (arena.room(0), arena.room(1)), (first, second));
 }
 
 #[test]
@@ -67,6 +91,37 @@ fn made<C: Cells<Inv = u32, State = u64, Resp = u8>>(
     }
 }
 
+/// Makes a cell with this name, in which nothing but its invocation is written.
+fn makes<C: Cells<Inv = u32, State = u64, Resp = u8>>(
+    rt: &impl Abort,
+    alloc: Global,
+    arena: &mut C,
+    p: u64,
+    inv: u32,
+    name: CellId,
+) -> CellId
+    requires { p < C.processes arena.old }
+    ensures there { IsSome (C.cell arena.new result) }
+    ensures processes { C.processes arena.new ≡ C.processes arena.old }
+{
+    let cell = made(rt, alloc, arena, p, inv);
+    assert_eq!(rt; cell, name);
+    has_fields(rt, arena, cell, (0, Some(inv), None, None, None));
+    cell
+}
+
+/// Process 1, whose row is full, makes no cell.
+fn makes_none<C: Cells<Inv = u32, State = u64, Resp = u8>>(
+    rt: &impl Abort,
+    alloc: Global,
+    arena: &mut C,
+)
+    requires { 2 ≤ C.processes arena.old }
+    ensures processes { C.processes arena.new ≡ C.processes arena.old }
+{
+    assert_eq!(rt; arena.make(alloc, 1, 74), Err((ArenaFault::RowFull(1), 74)));
+}
+
 /// Makes cells until the row of process 1 is full. The answer is the last of them.
 fn makes_cells<C: Cells<Inv = u32, State = u64, Resp = u8>>(
     rt: &impl Abort,
@@ -77,16 +132,12 @@ fn makes_cells<C: Cells<Inv = u32, State = u64, Resp = u8>>(
     ensures there { IsSome (C.cell arena.new result) }
     ensures processes { C.processes arena.new ≡ C.processes arena.old }
 {
-    let first = made(rt, alloc, arena, 0, 70);
-    assert_eq!(rt; first, CellId::of(2, 0, 0));
-    assert_eq!(rt; fields(arena, first), (0, Some(70), None, None, None));
-    assert_eq!(rt; made(rt, alloc, arena, 1, 72), CellId::of(2, 1, 0));
-    assert_eq!(rt; made(rt, alloc, arena, 1, 73), CellId::of(2, 1, 1));
-    assert_eq!(rt; arena.make(alloc, 1, 74), Err((ArenaFault::RowFull(1), 74)));
-    assert_eq!(rt; (arena.room(0), arena.room(1)), (1, 0));
-    let last = made(rt, alloc, arena, 0, 71);
-    assert_eq!(rt; last, CellId::of(2, 0, 1));
-    last
+    makes(rt, alloc, arena, 0, 70, CellId::of(2, 0, 0));
+    makes(rt, alloc, arena, 1, 72, CellId::of(2, 1, 0));
+    makes(rt, alloc, arena, 1, 73, CellId::of(2, 1, 1));
+    makes_none(rt, alloc, arena);
+    has_room(rt, arena, 1, 0);
+    makes(rt, alloc, arena, 0, 71, CellId::of(2, 0, 1))
 }
 
 /// Writes the number of a new cell, and the cell before it.
@@ -96,9 +147,9 @@ fn writes<C: Cells<Inv = u32, State = u64, Resp = u8>>(rt: &impl Abort, arena: &
     ensures processes { C.processes arena.new ≡ C.processes arena.old }
 {
     arena.set_seq(id, 2);
-    assert_eq!(rt; fields(arena, id), (2, Some(71), None, None, None));
+    has_fields(rt, arena, id, (2, Some(71), None, None, None));
     arena.set_before(id, CellId::anchor());
-    assert_eq!(rt; fields(arena, id), (2, Some(71), Some(0), None, None));
+    has_fields(rt, arena, id, (2, Some(71), Some(0), None, None));
 }
 
 /// Proposes a next cell twice, and then a state.
@@ -109,39 +160,44 @@ fn proposes<C: Cells<Inv = u32, State = u64, Resp = u8>>(rt: &impl Abort, arena:
 {
     assert_eq!(rt; arena.decide_after(id, CellId::of(2, 0, 0)).index(), 1);
     assert_eq!(rt; arena.decide_after(id, CellId::of(2, 1, 1)).index(), 1);
-    assert_eq!(rt; fields(arena, id), (2, Some(71), Some(0), Some(1), None));
+    has_fields(rt, arena, id, (2, Some(71), Some(0), Some(1), None));
     assert_eq!(rt; *arena.decide_new(id, (11, Some(5))), (11, Some(5)));
-    assert_eq!(rt;
-        fields(arena, id),
-        (2, Some(71), Some(0), Some(1), Some((11, Some(5))))
+    has_fields(
+        rt,
+        arena,
+        id,
+        (2, Some(71), Some(0), Some(1), Some((11, Some(5)))),
     );
 }
 
 /// Begins the next era, once a cell has a number and a state.
-fn clears<C: Cells<Inv = u32, State = u64, Resp = u8>>(
-    rt: &impl Abort,
-    alloc: Global,
-    arena: &mut C,
-    last: CellId,
-)
-    requires processes { 2 ≤ C.processes arena.old }
+fn clears<C: Cells<Inv = u32, State = u64, Resp = u8>>(rt: &impl Abort, arena: &mut C, last: CellId)
     requires last { IsSome (C.cell arena.old last) }
+    ensures processes { C.processes arena.new ≡ C.processes arena.old }
 {
     arena.set_seq(last, 3);
     assert_eq!(rt; *arena.decide_new(last, (98, None)), (11, Some(5)));
     arena.clear_to(last);
+}
+
+/// Makes the first cells of the next era.
+fn makes_cells_again<C: Cells<Inv = u32, State = u64, Resp = u8>>(
+    rt: &impl Abort,
+    alloc: Global,
+    arena: &mut C,
+)
+    requires { 2 ≤ C.processes arena.old }
+{
     arena.shape();
-    assert_eq!(rt;
-        fields(arena, CellId::anchor()),
-        (3, None, None, None, Some((11, None)))
+    has_fields(
+        rt,
+        arena,
+        CellId::anchor(),
+        (3, None, None, None, Some((11, None))),
     );
-    assert_eq!(rt; (arena.room(0), arena.room(1)), (2, 2));
-    let first = made(rt, alloc, arena, 1, 74);
-    assert_eq!(rt; first, CellId::of(2, 1, 0));
-    assert_eq!(rt; fields(arena, first), (0, Some(74), None, None, None));
-    let again = made(rt, alloc, arena, 0, 75);
-    assert_eq!(rt; again, CellId::of(2, 0, 0));
-    assert_eq!(rt; fields(arena, again), (0, Some(75), None, None, None));
+    has_room(rt, arena, 2, 2);
+    makes(rt, alloc, arena, 1, 74, CellId::of(2, 1, 0));
+    makes(rt, alloc, arena, 0, 75, CellId::of(2, 0, 0));
 }
 
 /// Each call of an arena of two processes with rows of two cells, in two eras.
@@ -153,14 +209,17 @@ fn two_eras<C: Cells<Inv = u32, State = u64, Resp = u8>>(
     requires { 2 ≤ C.processes arena.old }
 {
     arena.shape();
-    assert_eq!(rt;
-        fields(arena, CellId::anchor()),
-        (1, None, None, None, Some((10, None)))
+    has_fields(
+        rt,
+        arena,
+        CellId::anchor(),
+        (1, None, None, None, Some((10, None))),
     );
     let last = makes_cells(rt, alloc, arena);
     writes(rt, arena, last);
     proposes(rt, arena, last);
-    clears(rt, alloc, arena, last);
+    clears(rt, arena, last);
+    makes_cells_again(rt, alloc, arena);
 }
 
 #[test]
@@ -198,6 +257,45 @@ fn threaded<C: Cells<Inv = u32, State = u64, Resp = u8>>(
     last
 }
 
+/// A cell still has the number and the state that it was given.
+fn is_as_threaded(
+    rt: &impl Abort,
+    arena: &ColumnCells<u64, u32, u8>,
+    last: CellId,
+    seq: u64,
+    state: u64,
+)
+    requires { IsSome (cell_of arena.now last) }
+{
+    assert_eq!(rt; arena.seq(last), seq);
+    assert_eq!(rt; arena.new_of(last), Some(&(state, Some(6))));
+}
+
+/// An era of `m` processes has begun after a cell with this number and state: the last process
+/// makes its first cell.
+fn is_begun(
+    rt: &impl Abort,
+    alloc: Global,
+    arena: &mut ColumnCells<u64, u32, u8>,
+    m: u64,
+    seq: u64,
+    state: u64,
+)
+    requires count { (1 ≤ m) × (m ≤ 64) }
+    requires processes { processes_of arena.old ≡ m }
+    ensures { processes_of arena.new ≡ m }
+{
+    arena.shape();
+    has_fields(
+        rt,
+        arena,
+        CellId::anchor(),
+        (seq, None, None, None, Some((state, None))),
+    );
+    assert_eq!(rt; arena.room(m - 1), 2, "of {m}");
+    makes(rt, alloc, arena, m - 1, 81, CellId::of(m, m - 1, 0));
+}
+
 /// Begins an era of `m` processes after a cell with this number and state. Where memory is refused
 /// the arena is as it was.
 fn renews(
@@ -213,21 +311,10 @@ fn renews(
     ensures { 1 ≤ processes_of arena.new }
 {
     let last = threaded(rt, alloc, arena, seq, state);
-    if arena.clear_for(alloc, last, m).is_err() {
-        assert_eq!(rt; arena.seq(last), seq);
-        assert_eq!(rt; arena.new_of(last), Some(&(state, Some(6))));
-        return;
+    match arena.clear_for(alloc, last, m) {
+        Ok(()) => is_begun(rt, alloc, arena, m, seq, state),
+        Err(_) => is_as_threaded(rt, arena, last, seq, state),
     }
-    arena.shape();
-    assert_eq!(rt;
-        fields(arena, CellId::anchor()),
-        (seq, None, None, None, Some((state, None)))
-    );
-    let room = arena.room(m - 1);
-    assert_eq!(rt; room, 2, "of {m}");
-    let cell = made(rt, alloc, arena, m - 1, 81);
-    assert_eq!(rt; cell, CellId::of(m, m - 1, 0));
-    assert_eq!(rt; fields(arena, cell), (0, Some(81), None, None, None));
 }
 
 #[test]
@@ -247,9 +334,11 @@ fn a_thousand_eras(rt: HostRuntime) -> Result<(), Fail> {
         arena.clear_to(last);
     }
     arena.shape();
-    assert_eq!(rt;
-        fields(&arena, CellId::anchor()),
-        (1001, None, None, None, Some((7007, None)))
+    has_fields(
+        &rt,
+        &arena,
+        CellId::anchor(),
+        (1001, None, None, None, Some((7007, None))),
     );
     Ok(())
 }

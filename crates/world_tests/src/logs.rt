@@ -15,35 +15,56 @@ fn opened(alloc: Global, n: u64) -> Result<World<SwapRegister>, Fail> {
     ))
 }
 
-/// A process begins a call.
-fn begins(alloc: Global, world: &mut World<SwapRegister>, p: u64, number: u32) -> Result<(), Fail> {
-    match world.begin(alloc, p, &number) {
-        Ok(_) => Ok(()),
-        Err(_) => Err(Fail::from("the call should have begun")),
-    }
+/// What a process does with a world.
+#[derive(Clone, Copy)]
+enum Act {
+    /// It begins a call, which asks for this.
+    Begins(u64, u32),
+    /// It takes so many steps, after each of which its call goes on.
+    Goes(u64, u64),
+    /// It takes steps to the end of its call.
+    Ends(u64),
 }
 
-/// Takes so many steps of a process whose call goes on after each.
-fn goes(alloc: Global, world: &mut World<SwapRegister>, p: u64, count: u64) -> Result<(), Fail> {
+/// Acts, and the entries that the log has after them.
+type Stage<'a> = (&'a [Act], &'a [Entry<u32, u32>]);
+
+/// Whether a process takes so many steps, after each of which its call goes on.
+fn goes(alloc: Global, world: &mut World<SwapRegister>, p: u64, count: u64) -> bool {
     for _ in 0..count {
-        match world.step(alloc, p) {
-            Ok(Progress::Going) => {}
-            _ => return Err(Fail::from("the call should go on")),
-        }
+        let Ok(Progress::Going) = world.step(alloc, p) else {
+            return false;
+        };
     }
-    Ok(())
+    true
 }
 
-/// Takes steps of a process to the end of its call.
-fn finishes(alloc: Global, world: &mut World<SwapRegister>, p: u64) -> Result<(), Fail> {
+/// Whether steps of a process come to the end of its call.
+fn finishes(alloc: Global, world: &mut World<SwapRegister>, p: u64) -> bool {
     for _ in 0..200 {
         match world.step(alloc, p) {
             Ok(Progress::Going) => {}
-            Ok(Progress::Done(_)) => return Ok(()),
-            Err(_) => return Err(Fail::from("a step was refused")),
+            Ok(Progress::Done(_)) => return true,
+            Err(_) => return false,
         }
     }
-    Err(Fail::from("the call should have returned"))
+    false
+}
+
+/// Whether the world does as it should.
+fn does(alloc: Global, world: &mut World<SwapRegister>, act: &Act) -> bool {
+    match act {
+        Act::Begins(p, number) => world.begin(alloc, *p, number).is_ok(),
+        Act::Goes(p, count) => goes(alloc, world, *p, *count),
+        Act::Ends(p) => finishes(alloc, world, *p),
+    }
+}
+
+/// Does these with a world, one after the other.
+fn does_all(rt: &impl Abort, alloc: Global, world: &mut World<SwapRegister>, acts: &[Act]) {
+    for (at, act) in acts.iter().enumerate() {
+        assert!(rt; does(alloc, world, act), "at act {at}");
+    }
 }
 
 /// An entry of the log.
@@ -62,30 +83,47 @@ fn has_log(
     alloc: Global,
     world: &World<SwapRegister>,
     want: &[Entry<u32, u32>],
-) -> Result<(), Fail> {
+) -> Result<(), AllocError> {
     let entries = Log::of(world).entries(alloc)?;
     assert_eq!(rt; entries.as_slice(), want);
     Ok(())
 }
 
+/// Does the acts of each stage with a world, whose log then has the entries of the stage.
+fn grows(
+    rt: &impl Abort,
+    alloc: Global,
+    world: &mut World<SwapRegister>,
+    stages: &[Stage],
+) -> Result<(), AllocError> {
+    for (acts, want) in stages {
+        does_all(rt, alloc, world, acts);
+        has_log(rt, alloc, world, want)?;
+    }
+    Ok(())
+}
+
 /// Two processes, of which 1 has returned after both calls of 0 took effect.
-fn with_a_slow_call(alloc: Global) -> Result<World<SwapRegister>, Fail> {
+fn with_a_slow_call(rt: &impl Abort, alloc: Global) -> Result<World<SwapRegister>, Fail> {
+    let acts = [
+        Act::Begins(0, 10),
+        Act::Goes(0, 10),
+        Act::Begins(1, 30),
+        Act::Goes(1, 14),
+        Act::Ends(0),
+        Act::Begins(0, 20),
+        Act::Goes(0, 1),
+        Act::Ends(1),
+    ];
     let mut world = opened(alloc, 2)?;
-    begins(alloc, &mut world, 0, 10)?;
-    goes(alloc, &mut world, 0, 10)?;
-    begins(alloc, &mut world, 1, 30)?;
-    goes(alloc, &mut world, 1, 14)?;
-    finishes(alloc, &mut world, 0)?;
-    begins(alloc, &mut world, 0, 20)?;
-    goes(alloc, &mut world, 0, 1)?;
-    finishes(alloc, &mut world, 1)?;
+    does_all(rt, alloc, &mut world, &acts);
     Ok(world)
 }
 
 #[test]
 fn a_slow_call_comes_last(rt: HostRuntime) -> Result<(), Fail> {
     let alloc = rt.alloc();
-    let world = with_a_slow_call(alloc)?;
+    let world = with_a_slow_call(&rt, alloc)?;
     has_log(
         &rt,
         alloc,
@@ -117,43 +155,43 @@ fn a_slow_call_comes_last(rt: HostRuntime) -> Result<(), Fail> {
 
 #[test]
 fn a_linked_call_has_no_reply_yet(rt: HostRuntime) -> Result<(), Fail> {
-    let alloc = rt.alloc();
-    let mut world = opened(alloc, 1)?;
-    has_log(&rt, alloc, &world, &[])?;
-    begins(alloc, &mut world, 0, 7)?;
-    goes(alloc, &mut world, 0, 7)?;
-    has_log(&rt, alloc, &world, &[])?;
-    goes(alloc, &mut world, 0, 1)?;
-    has_log(&rt, alloc, &world, &[entry(2, 0, 0, 7, None)])?;
-    goes(alloc, &mut world, 0, 1)?;
-    has_log(&rt, alloc, &world, &[entry(2, 0, 0, 7, Some(0))])
+    let linked = [entry(2, 0, 0, 7, None)];
+    let replied = [entry(2, 0, 0, 7, Some(0))];
+    let stages: [Stage; 4] = [
+        (&[], &[]),
+        (&[Act::Begins(0, 7), Act::Goes(0, 7)], &[]),
+        (&[Act::Goes(0, 1)], &linked),
+        (&[Act::Goes(0, 1)], &replied),
+    ];
+    let mut world = opened(rt.alloc(), 1)?;
+    grows(&rt, rt.alloc(), &mut world, &stages)?;
+    Ok(())
 }
 
 #[test]
 fn a_helped_call_comes_first(rt: HostRuntime) -> Result<(), Fail> {
-    let alloc = rt.alloc();
-    let mut world = opened(alloc, 2)?;
-    begins(alloc, &mut world, 1, 5)?;
-    goes(alloc, &mut world, 1, 1)?;
-    begins(alloc, &mut world, 0, 6)?;
-    finishes(alloc, &mut world, 0)?;
-    has_log(
-        &rt,
-        alloc,
-        &world,
-        &[entry(2, 1, 0, 5, Some(0)), entry(3, 0, 0, 6, Some(5))],
-    )
+    let acts = [
+        Act::Begins(1, 5),
+        Act::Goes(1, 1),
+        Act::Begins(0, 6),
+        Act::Ends(0),
+    ];
+    let want = [entry(2, 1, 0, 5, Some(0)), entry(3, 0, 0, 6, Some(5))];
+    let mut world = opened(rt.alloc(), 2)?;
+    grows(&rt, rt.alloc(), &mut world, &[(&acts, &want)])?;
+    Ok(())
 }
 
 #[test]
 fn numbers_go_on_from_the_anchors(rt: HostRuntime) -> Result<(), Fail> {
     let alloc = rt.alloc();
+    let acts = [Act::Begins(0, 7), Act::Ends(0)];
+    let want = [entry(6, 0, 0, 7, Some(9))];
     let mut world = World::open_at(alloc, SwapRegister { start: 0 }, 1, 1, 9, 5).map_err(
         |_| Fail::from("no world was opened"),
     )?;
-    begins(alloc, &mut world, 0, 7)?;
-    finishes(alloc, &mut world, 0)?;
-    has_log(&rt, alloc, &world, &[entry(6, 0, 0, 7, Some(9))])
+    grows(&rt, alloc, &mut world, &[(&acts, &want)])?;
+    Ok(())
 }
 
 /// The indices of cells.
@@ -165,29 +203,40 @@ fn indices(alloc: Global, cells: &[CellId]) -> Result<Vec<u32>, AllocError> {
     Ok(indices)
 }
 
-/// The indices of the cells back from the last one.
-fn back_from_last(alloc: Global, world: &World<SwapRegister>) -> Result<Vec<u32>, Fail> {
+/// The cells forward from the anchor have these indices.
+fn goes_forward(
+    rt: &impl Abort,
+    alloc: Global,
+    world: &World<SwapRegister>,
+    want: &[u32],
+) -> Result<(), AllocError> {
+    let cells = Log::of(world).cells_forward(alloc)?;
+    let indices = indices(alloc, cells.as_slice())?;
+    assert_eq!(rt; indices.as_slice(), want);
+    Ok(())
+}
+
+/// The cells back from the last one, which has a number, have these indices.
+fn goes_back(
+    rt: &impl Abort,
+    alloc: Global,
+    world: &World<SwapRegister>,
+    want: &[u32],
+) -> Result<(), AllocError> {
     let last = world.last();
-    if world.seq(last) < 1 {
-        return Err(Fail::from("the last cell should be threaded"));
-    }
+    assert!(rt; world.seq(last) >= 1, "the last cell should be threaded");
     let cells = Log::of(world).cells_back(alloc, last)?;
-    Ok(indices(alloc, cells.as_slice())?)
+    let indices = indices(alloc, cells.as_slice())?;
+    assert_eq!(rt; indices.as_slice(), want);
+    Ok(())
 }
 
 #[test]
 fn back_is_forward_reversed(rt: HostRuntime) -> Result<(), Fail> {
     let alloc = rt.alloc();
-    let world = with_a_slow_call(alloc)?;
-    let forward = Log::of(&world).cells_forward(alloc)?;
-    assert_eq!(rt;
-        indices(alloc, forward.as_slice())?.as_slice(),
-        [0, 1, 3, 2].as_slice()
-    );
-    assert_eq!(rt;
-        back_from_last(alloc, &world)?.as_slice(),
-        [2, 3, 1, 0].as_slice()
-    );
+    let world = with_a_slow_call(&rt, alloc)?;
+    goes_forward(&rt, alloc, &world, &[0, 1, 3, 2])?;
+    goes_back(&rt, alloc, &world, &[2, 3, 1, 0])?;
     Ok(())
 }
 
@@ -195,20 +244,23 @@ fn back_is_forward_reversed(rt: HostRuntime) -> Result<(), Fail> {
 fn back_from_the_anchor_is_the_anchor(rt: HostRuntime) -> Result<(), Fail> {
     let alloc = rt.alloc();
     let world = opened(alloc, 2)?;
-    assert_eq!(rt; back_from_last(alloc, &world)?.as_slice(), [0].as_slice());
+    goes_back(&rt, alloc, &world, &[0])?;
     Ok(())
+}
+
+/// The states that are settled, from place 0 on, are these and no more.
+fn has_states(rt: &impl Abort, world: &World<SwapRegister>, states: &[u32]) {
+    let log = Log::of(world);
+    for (place, state) in (0..).zip(states) {
+        assert_eq!(rt; log.state_at(place), Some(state), "at {place}");
+    }
+    assert_eq!(rt; log.state_at(states.len() as u64), None);
 }
 
 #[test]
 fn states_lie_along_the_list(rt: HostRuntime) -> Result<(), Fail> {
-    let alloc = rt.alloc();
-    let world = with_a_slow_call(alloc)?;
-    let log = Log::of(&world);
-    assert_eq!(rt; log.state_at(0), Some(&0));
-    assert_eq!(rt; log.state_at(1), Some(&10));
-    assert_eq!(rt; log.state_at(2), Some(&20));
-    assert_eq!(rt; log.state_at(3), Some(&30));
-    assert_eq!(rt; log.state_at(4), None);
+    let world = with_a_slow_call(&rt, rt.alloc())?;
+    has_states(&rt, &world, &[0, 10, 20, 30]);
     Ok(())
 }
 
@@ -216,13 +268,15 @@ fn states_lie_along_the_list(rt: HostRuntime) -> Result<(), Fail> {
 fn a_linked_call_has_no_state_yet(rt: HostRuntime) -> Result<(), Fail> {
     let alloc = rt.alloc();
     let mut world = opened(alloc, 1)?;
-    begins(alloc, &mut world, 0, 7)?;
-    goes(alloc, &mut world, 0, 8)?;
-    assert_eq!(rt; Log::of(&world).state_at(0), Some(&0));
-    assert_eq!(rt; Log::of(&world).state_at(1), None);
-    goes(alloc, &mut world, 0, 1)?;
-    assert_eq!(rt; Log::of(&world).state_at(1), Some(&7));
-    assert_eq!(rt; Log::of(&world).state_at(2), None);
+    does_all(
+        &rt,
+        alloc,
+        &mut world,
+        &[Act::Begins(0, 7), Act::Goes(0, 8)],
+    );
+    has_states(&rt, &world, &[0]);
+    does_all(&rt, alloc, &mut world, &[Act::Goes(0, 1)]);
+    has_states(&rt, &world, &[0, 7]);
     Ok(())
 }
 
@@ -242,5 +296,6 @@ fn a_run_settles_the_reply_at_its_ninth_step(rt: HostRuntime) -> Result<(), Fail
     has_log(&rt, alloc, &world, &[entry(2, 0, 0, 7, None)])?;
     let ninth = world.run(alloc, &[Command::Step(0)])?;
     assert_eq!(rt; ninth.as_slice(), [Outcome::Went].as_slice());
-    has_log(&rt, alloc, &world, &[entry(2, 0, 0, 7, Some(0))])
+    has_log(&rt, alloc, &world, &[entry(2, 0, 0, 7, Some(0))])?;
+    Ok(())
 }

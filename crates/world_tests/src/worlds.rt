@@ -443,6 +443,30 @@ fn outcomes_of(
     Ok(outcomes)
 }
 
+/// What a world answers when it runs what it is asked.
+fn outcomes_from(
+    alloc: Global,
+    world: &mut World<SwapRegister>,
+    asked: &[Asks],
+) -> Result<Vec<Outcome<u32>>, AllocError> {
+    let commands = commands_of(alloc, asked)?;
+    world.run(alloc, &commands)
+}
+
+/// A world runs what it is asked, and answers so many of each of these.
+fn answers(
+    rt: &impl Abort,
+    alloc: Global,
+    world: &mut World<SwapRegister>,
+    asked: &[Asks],
+    told: &[(Outcome<u32>, u64)],
+) -> Result<(), AllocError> {
+    let expected = outcomes_of(alloc, told)?;
+    let outcomes = outcomes_from(alloc, world, asked)?;
+    assert_eq!(rt; outcomes.as_slice(), expected.as_slice());
+    Ok(())
+}
+
 /// A new world, which `opened` opens, runs what it is asked, and answers so many of each of these;
 /// then these are done with it.
 fn runs(
@@ -453,10 +477,7 @@ fn runs(
     after: &[Act],
 ) -> Result<(), Fail> {
     let mut world = opened(alloc, 2, k)?;
-    let commands = commands_of(alloc, asked)?;
-    let outcomes = world.run(alloc, &commands)?;
-    let expected = outcomes_of(alloc, told)?;
-    assert_eq!(rt; outcomes.as_slice(), expected.as_slice());
+    answers(rt, alloc, &mut world, asked, told)?;
     does_all(rt, alloc, &mut world, after);
     Ok(())
 }
