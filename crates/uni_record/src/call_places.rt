@@ -1,6 +1,6 @@
 //! Where the entries of calls stand, in a row for each process.
 
-ghost use Rattle.std.specs.Prelude.{◌≡◌, ℕ, ◌==◌, [], ◌∷◌, ◌++◌, IfOk, OnOk, length, if◌then◌else◌};
+ghost use Rattle.std.specs.Prelude.{◌≡◌, ℕ, ◌↔◌, ◌==◌, [], ◌∷◌, ◌++◌, true, IfOk, length, if◌then◌else◌};
 ghost use Rattle.std.specs.BTreeMap.{get};
 ghost use Rattle.std.specs.Map.{count_at};
 ghost use Rattle.std.specs.Ordering.{nat_cmp};
@@ -51,34 +51,39 @@ impl CallPlaces {
         Ok(calls)
     }
 
-    /// How many calls a process has.
-    pub(crate) fn count(&self, process: u32) -> u64
-        ensures { result ≡ length (row_of self.now process) }
-    {
-        match self.rows.get(&process) {
-            Some(row) => row.len() as u64,
-            None => 0,
-        }
-    }
-
-    /// Adds the next call of a process, whose entry stands at this place.
+    /// Adds a call, whose entry stands at this place, where it is the next one of its process. The answer
+    /// says whether it is.
     ///
     /// An `Err` says that memory was refused, or that the place doesn't fit a `u32`.
-    pub(crate) fn push(&mut self, alloc: Global, process: u32, place: u64) -> Result<(), AllocError>
-        ensures { OnOk result ((q : ℕ) → row_of self.new q ≡ (if process == q then row_of self.old q ++ place ∷ [] else row_of self.old q)) }
+    pub(crate) fn push(
+        &mut self,
+        alloc: Global,
+        call: CallId,
+        place: u64,
+    ) -> Result<bool, AllocError>
+        ensures next { IfOk result (λ next. (next ≡ true) ↔ (call.nth ≡ length (row_of self.old call.process))) }
+        ensures rows { IfOk result (λ next. next ≡ true → (q : ℕ) → row_of self.new q ≡ (if call.process == q then row_of self.old q ++ place ∷ [] else row_of self.old q)) }
     {
         let Ok(place) = u32::try_from(place) else {
             return Err(AllocError);
         };
-        match self.rows.get_mut(&process) {
-            Some(row) => row.push(place)?,
+        match self.rows.get_mut(&call.process) {
+            Some(row) => {
+                if row.len() as u64 != call.nth {
+                    return Ok(false);
+                }
+                row.push(place)?;
+            }
             None => {
+                if call.nth != 0 {
+                    return Ok(false);
+                }
                 let mut row = Vec::new(alloc);
                 row.push(place)?;
-                self.rows.insert(process, row)?;
+                self.rows.insert(call.process, row)?;
             }
         }
-        Ok(())
+        Ok(true)
     }
 
     /// Where the entry of a call stands, or `None` where it has none.

@@ -41,14 +41,14 @@ fn entries_verdict<O: SeqObject>(
     let mut state = object.start(alloc)?;
     let mut place = 0u64;
     for entry in entries {
-        if entry.call.nth != calls.count(entry.call.process) {
+        let is_next = calls.push(alloc, entry.call, place)?;
+        if !is_next {
             return Ok(Verdict::BadCall(place));
         }
         let (after, answer) = object.apply(alloc, &state, &entry.inv)?;
         if !is_answered(entry.reply, answer) {
             return Ok(Verdict::BadReply(place));
         }
-        calls.push(alloc, entry.call.process, place)?;
         state = after;
         place += 1;
     }
