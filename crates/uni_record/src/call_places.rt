@@ -1,11 +1,7 @@
 //! Where the entries of calls stand, in a row for each process.
 
 ghost use Rattle.std.specs.Prelude.{◌≡◌, ℕ, ◌↔◌, ◌==◌, [], ◌∷◌, ◌++◌, true, IfOk, length, if◌then◌else◌};
-ghost use Rattle.std.specs.BTreeMap.{get};
-ghost use Rattle.std.specs.Map.{count_at};
-ghost use Rattle.std.specs.Ordering.{nat_cmp};
 ghost use Rattle.uni_record.specs.CallPlaces.{place_of, row_of};
-ghost use Rattle.uni_record.specs.Verdict.{calls_of};
 
 use seq_object::CallId;
 use std::alloc::{AllocError, Global};
@@ -19,22 +15,10 @@ pub(crate) struct CallPlaces {
     rows: BTreeMap<u32, Vec<u32>>,
 }
 
-/// How many of these entries are calls of each process.
-fn call_counts<I, R>(
-    alloc: Global,
-    entries: &[Entry<I, R>],
-) -> Result<BTreeMap<u32, usize>, AllocError>
-    ensures { IfOk result (λ counts. (process : ℕ) → count_at (get nat_cmp counts) process ≡ calls_of process entries.now) }
-{
-    let mut counts = BTreeMap::new(alloc);
-    for entry in entries {
-        *counts.entry(entry.call.process)?.or_insert(0) += 1;
-    }
-    Ok(counts)
-}
-
 impl CallPlaces {
-    /// No calls. Each row has room for the calls that its process has in these entries.
+    /// No calls. Each row has room for the calls that its process has in these entries, where they
+    /// number the calls of a process from 0 without a gap: the last of them tells how many there are. The
+    /// rows have room for no more calls than there are entries.
     pub(crate) fn with_room_for<I, R>(
         alloc: Global,
         entries: &[Entry<I, R>],
@@ -44,9 +28,17 @@ impl CallPlaces {
         let mut calls = CallPlaces {
             rows: BTreeMap::new(alloc),
         };
-        for (process, count) in call_counts(alloc, entries)? {
-            let row = Vec::with_capacity(alloc, count)?;
-            calls.rows.insert(process, row)?;
+        let mut room = entries.len() as u64;
+        for entry in entries.iter().rev() {
+            if room == 0 {
+                break;
+            }
+            if !calls.rows.contains_key(&entry.call.process) {
+                let count = entry.call.nth.saturating_add(1).min(room);
+                let row = Vec::with_capacity(alloc, count as usize)?;
+                calls.rows.insert(entry.call.process, row)?;
+                room -= count;
+            }
         }
         Ok(calls)
     }
