@@ -1,5 +1,5 @@
 -- What pending calls are owed: after a call was begun, after a step, where nobody has one.
-use Rattle.std.proofs.Common.{◌≡◌, ◌≢◌, ◌∙◌, ℕ, zero, suc, ◌+◌, ◌<◌, ◌≤◌, inl, inr, arith, refl, ap, Option, Some, None}
+use Rattle.std.proofs.Common.{◌≡◌, ◌≢◌, ◌∙◌, ℕ, zero, suc, ◌+◌, ◌*◌, ◌-◌, ◌<◌, ◌≤◌, inl, inr, arith, refl, ap, Option, Some, None}
 use Rattle.std.proofs.lemmas.Bool.{cases_lt}
 use Rattle.std.specs.Option.{option_map_or}
 use Rattle.seq_object.specs.Sequential.{Sequential}
@@ -8,8 +8,8 @@ use Rattle.uni_model.specs.Stages.{Pending}
 use Rattle.uni_model.specs.Worlds.{WorldOf, sum_below, world_after_call, world_after_step, IsQuiescent}
 use Rattle.uni_model.proofs.Written.{set_at-cases}
 use Rattle.uni_model.proofs.LawProofs.{set_at_elsewhere}
-use Rattle.uni_model.proofs.Sums.{sum_below-lt}
-use Rattle.uni_record.specs.Recorded.{owed, owed_by, pending_count}
+use Rattle.uni_model.proofs.Sums.{sum_below-le, sum_below-lt}
+use Rattle.uni_record.specs.Recorded.{owed, owed_by, set_aside, pending_count}
 
 -- sums that differ at one place
 sum_below-same : (n : ℕ) (f g : ℕ → ℕ) → ((q : ℕ) → q < n → f q ≡ g q) → sum_below n f ≡ sum_below n g
@@ -36,9 +36,9 @@ sum_below-zero : (n : ℕ) → sum_below n (λ p. 0) ≡ 0
 sum_below-zero zero = refl
 sum_below-zero (suc n) = let rest = sum_below-zero n in omega arith
 
-sum_below-one : (n : ℕ) → sum_below n (λ p. 1) ≡ n
-sum_below-one zero = refl
-sum_below-one (suc n) = let rest = sum_below-one n in omega arith
+sum_below-each : (n m : ℕ) → sum_below n (λ p. m) ≡ n * m
+sum_below-each zero m = omega arith
+sum_below-each (suc n) m = let rest = sum_below-each n m in grind arith
 
 -- what one process's call is owed
 abbrev pub weight : (f : ℕ → ℕ) → Option Pending → ℕ → ℕ
@@ -83,9 +83,16 @@ module _ {S I R : Type 0} (f : ℕ → ℕ) (w : WorldOf S I R) where
       let sums = owed-at (world_after_step object w p (Some c)) p _ (w.steps p + 1) refl inside refl refl in
       rw (← mine, set_at_here w.call p _) sums
 
+-- all processes together have set aside no more than each could
+pub set_aside-le : {S I R : Type 0} (w : WorldOf S I R) → set_aside w ≤ w.n * (10 * w.n + 12)
+set_aside-le w =
+    let aside = λ (steps : ℕ). 10 * w.n + 12 - steps in
+    let sums = sum_below-le w.n (owed_by aside w) (λ p. 10 * w.n + 12) (λ p h. let less = weight-le aside (w.call p) (w.steps p) in omega (arith, less)) in
+    let all = sum_below-each w.n (10 * w.n + 12) in omega (arith, sums, all)
+
 -- where a process has no call pending, fewer calls are pending than there are processes
 pub one_idle : {S I R : Type 0} (w : WorldOf S I R) (p : ℕ) → p < w.n → w.call p ≡ None → pending_count w + 1 ≤ w.n
 one_idle w p inside idle =
     let here : owed_by (λ steps. 1) w p ≡ 0 = rw idle refl in
     let sums = sum_below-lt w.n (owed_by (λ steps. 1) w) (λ q. 1) (λ q h. weight-le (λ steps. 1) (w.call q) (w.steps q)) p inside (rw here (omega arith)) in
-    let all = sum_below-one w.n in omega arith
+    let all = sum_below-each w.n 1 in omega arith

@@ -149,12 +149,13 @@ impl<O: SeqObject> Recorded<O> {
         Ok(call)
     }
 
-    /// The events for which there has to be room where process `p` begins a call: those that are set
-    /// aside, and the call's. Errors: those of `begin`, but for `Memory`.
+    /// Events for which there has to be room where process `p` begins a call: at least those that are set
+    /// aside, and the call's. Pending calls are gone over only where what all processes could set aside
+    /// passes the limit or the room. Errors: those of `begin`, but for `Memory`.
     fn room_of_call(&self, p: u64) -> Result<u64, RecordBeginFault>
         ensures refused { IfErr result (IsBeginRefused (standing_of self.now) p) }
         ensures could { OnOk result (CanBegin (standing_of self.now) p) }
-        ensures room { IfOk result (λ more. more ≡ set_aside (world_of self.now.world) + share (world_of self.now.world).n) }
+        ensures room { IfOk result (λ more. set_aside (world_of self.now.world) + share (world_of self.now.world).n ≤ more) }
     {
         self.world.shape();
         let n = self.world.processes();
@@ -167,8 +168,13 @@ impl<O: SeqObject> Recorded<O> {
         if self.world.calls_in_era(p) == self.world.row() {
             return Err(RecordBeginFault::RowFull(p));
         }
+        let stored = self.events.len() as u64;
+        let most = n * (10 * n + 12) + 10 * n + 13;
+        if stored + most <= self.limit && stored + most <= self.events.capacity() as u64 {
+            return Ok(most);
+        }
         let more = set_aside(&self.world) + 10 * n + 13;
-        if self.limit < self.events.len() as u64 + more {
+        if self.limit < stored + more {
             return Err(RecordBeginFault::HistoryFull);
         }
         Ok(more)

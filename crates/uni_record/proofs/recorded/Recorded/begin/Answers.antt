@@ -1,4 +1,4 @@
-use Rattle.std.proofs.Common.{◌≡◌, ◌+◌, ◌∙◌, arith, subst, refl, sym}
+use Rattle.std.proofs.Common.{◌≡◌, ◌+◌, ◌≤◌, ◌∙◌, arith, subst, refl, sym}
 use Rattle.std.proofs.lemmas.List.{append-nil}
 use Rattle.uni_model.specs.Worlds.{world_after}
 use Rattle.uni_model.specs.Worlds.Event.{Call}
@@ -18,7 +18,7 @@ invariant_of-self-in_default-begin g c = rw (c.in_default-begin.ensures.unchange
 pub invariant_of-self-2 : goal.invariant_of-self-2
 invariant_of-self-2 g c =
     let could = subst (λ r. CanBegin (standing_of r) c.args.p) (sym c.self.view_is) c.in_ok-more.ensures.could in
-    let room = subst (λ r. c.in_ok-more.more ≡ set_aside (world_of r.world) + share (world_of r.world).n) (sym c.self.view_is) c.in_ok-more.ensures.room in
+    let room = subst (λ r. set_aside (world_of r.world) + share (world_of r.world).n ≤ c.in_ok-more.more) (sym c.self.view_is) c.in_ok-more.ensures.room in
     let fits = could.1 in
     let n = c.processes-n.ensures in
     let room_events = c.in-Ok-make_room.ensures.events_fit in
