@@ -1,6 +1,6 @@
 //! Where the entries of calls stand, in a row for each process.
 
-ghost use Rattle.std.specs.Prelude.{◌≡◌, ℕ, ◌↔◌, ◌==◌, [], ◌∷◌, ◌++◌, true, IfOk, length, if◌then◌else◌};
+ghost use Rattle.std.specs.Prelude.{◌≡◌, ℕ, ◌↔◌, ◌==◌, [], ◌∷◌, ◌++◌, true, IfOk, OnOk, length, if◌then◌else◌};
 ghost use Rattle.uni_record.specs.CallPlaces.{place_of, row_of};
 
 use seq_object::CallId;
@@ -33,14 +33,23 @@ impl CallPlaces {
             if room == 0 {
                 break;
             }
-            if !calls.rows.contains_key(&entry.call.process) {
-                let count = entry.call.nth.saturating_add(1).min(room);
-                let row = Vec::with_capacity(alloc, count as usize)?;
-                calls.rows.insert(entry.call.process, row)?;
+            let CallId { process, nth } = entry.call;
+            if !calls.rows.contains_key(&process) {
+                let count = nth.saturating_add(1).min(room);
+                calls.add_row(alloc, process, count as usize)?;
                 room -= count;
             }
         }
         Ok(calls)
+    }
+
+    /// Makes the row of a process, with room for so many calls.
+    fn add_row(&mut self, alloc: Global, process: u32, count: usize) -> Result<(), AllocError>
+        ensures { OnOk result ((q : ℕ) → row_of self.new q ≡ (if process == q then [] else row_of self.old q)) }
+    {
+        self.rows
+            .insert(process, Vec::with_capacity(alloc, count)?)?;
+        Ok(())
     }
 
     /// Adds a call, whose entry stands at this place, where it is the next one of its process. The answer

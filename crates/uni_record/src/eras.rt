@@ -65,6 +65,24 @@ impl<O: SeqObject> Recorded<O> {
         Ok(number)
     }
 
+    /// The same for any `m`. Errors: those of `reshape`, but for `Memory`.
+    fn next_anchor_for(&self, m: u64) -> Result<u64, RecordReshapeFault>
+        ensures refused { IfErr result (IsReshapeRefused (standing_of self.now) m) }
+        ensures could { OnOk result (IsCount m × CanEnd (standing_of self.now) m) }
+        ensures number { IfOk result (λ number. number ≡ last_number (world_of self.now.world)) }
+    {
+        if m < 1 || m > MAX_PROCESSES {
+            return Err(RecordReshapeFault::BadCount);
+        }
+        match self.next_anchor(m) {
+            Ok(number) => Ok(number),
+            Err(RecordTrimFault::Pending(p)) => Err(RecordReshapeFault::Pending(p)),
+            Err(RecordTrimFault::SeqFull) => Err(RecordReshapeFault::SeqFull),
+            Err(RecordTrimFault::HistoryFull) => Err(RecordReshapeFault::HistoryFull),
+            Err(RecordTrimFault::Memory) => Err(RecordReshapeFault::Memory),
+        }
+    }
+
     /// Ends the era, as `uni_trim::trim` does, whose event is stored; the entries of the ended era are
     /// kept. The answer is the number of the new anchor.
     ///
@@ -115,16 +133,7 @@ impl<O: SeqObject> Recorded<O> {
         ensures unchanged { OnErr result (self.new ≡ self.old) }
     {
         self.world.shape();
-        if m < 1 || m > MAX_PROCESSES {
-            return Err(RecordReshapeFault::BadCount);
-        }
-        let number = match self.next_anchor(m) {
-            Ok(number) => number,
-            Err(RecordTrimFault::Pending(p)) => return Err(RecordReshapeFault::Pending(p)),
-            Err(RecordTrimFault::SeqFull) => return Err(RecordReshapeFault::SeqFull),
-            Err(RecordTrimFault::HistoryFull) => return Err(RecordReshapeFault::HistoryFull),
-            Err(RecordTrimFault::Memory) => return Err(RecordReshapeFault::Memory),
-        };
+        let number = self.next_anchor_for(m)?;
         let Ok(mut entries) = prepare_end(alloc, &self.world, &mut self.events, &mut self.ended)
         else {
             return Err(RecordReshapeFault::Memory);

@@ -14,10 +14,10 @@ invariant_of-self g c = rw (c.prepare_end.ensures.events.0, c.prepare_end.ensure
     (c.self.invariant.0, roomier _ _ _ _ _ _ _ _ _ _ c.self.invariant.1 c.prepare_end.ensures.events.1 (omega arith) (omega arith))
 
 pub renew_for-requires-clause-quiescent : goal.renew_for-requires-clause-quiescent
-renew_for-requires-clause-quiescent g c = (subst (λ r. CanEnd (standing_of r) c.args.m) (sym c.self.view_is) c.in-Ok.ensures.could).0
+renew_for-requires-clause-quiescent g c = (subst (λ r. CanEnd (standing_of r) c.args.m) (sym c.self.view_is) c.in_ok-number.ensures.could.1).0
 
 pub renew_for-requires-clause-numbers : goal.renew_for-requires-clause-numbers
-renew_for-requires-clause-numbers g c = (subst (λ r. CanEnd (standing_of r) c.args.m) (sym c.self.view_is) c.in-Ok.ensures.could).1
+renew_for-requires-clause-numbers g c = (subst (λ r. CanEnd (standing_of r) c.args.m) (sym c.self.view_is) c.in_ok-number.ensures.could.1).1
 
 pub invariant_of-self-in_default-renew_for : goal.invariant_of-self-in_default-renew_for
 invariant_of-self-in_default-renew_for g c = rw (c.in_default-renew_for.ensures.unchanged, c.prepare_end.ensures.events.0, c.prepare_end.ensures.ended)
@@ -25,9 +25,9 @@ invariant_of-self-in_default-renew_for g c = rw (c.in_default-renew_for.ensures.
 
 pub invariant_of-self-2 : goal.invariant_of-self-2
 invariant_of-self-2 g c =
-    let can = subst (λ r. CanEnd (standing_of r) c.args.m) (sym c.self.view_is) c.in-Ok.ensures.could in
+    let can = subst (λ r. CanEnd (standing_of r) c.args.m) (sym c.self.view_is) c.in_ok-number.ensures.could.1 in
     let w = world_of c.self.inside.world in
-    let some = c.if-m-lt1.false in
+    let some = c.in_ok-number.ensures.could.0.0 in
     let quiet = subst (λ v. IsQuiescent v) (sym c.in-Ok-renew_for.ensures.renewed) (quiescent_after (g.O.SeqObject.sequential c.self.inside.world.object) w c.args.m c.shape.ensures.sound can.0) in
     rw c.push_reserved.ensures.capacity
     (ended_kept g.O.SeqObject.sequential _ (stored.Reshape c.args.m) _ _ _ _ _ c.self.invariant.0 c.self.invariant.1
@@ -40,9 +40,9 @@ invariant_of-self-2 g c =
       events = rw (← c.prepare_end.ensures.events.0) c.push_reserved.ensures.items;
       returns = sym (append-nil _);
       counts = sym (append-nil _);
-      ended = entries_joined w _ _ _ _ c.in-Ok-append.ensures.items c.prepare_end.ensures.ended c.in-Ok-prepare_end.ensures.log;
+      ended = entries_joined w _ _ _ _ c.in-Ok-append.ensures.items c.prepare_end.ensures.ended c.in-Ok.ensures.log;
     })
-    (can.0, omega (arith, some)) quiet refl refl can.2 c.in-Ok-prepare_end.ensures.event_fits)
+    (can.0, omega (arith, some)) quiet refl refl can.2 c.in-Ok.ensures.event_fits)
 
 pub returns-clause-reshaped : goal.returns-clause-reshaped
 returns-clause-reshaped g c = subst (λ r. world_of c.renew_for.new.self ≡ world_after (g.O.SeqObject.sequential r.world.object) (world_of r.world) (Reshape c.args.m)) c.self.view_is c.in-Ok-renew_for.ensures.renewed
