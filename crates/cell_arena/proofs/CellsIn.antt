@@ -7,9 +7,22 @@ use Rattle.std.proofs.Math.ListN.{length-set}
 use Rattle.cell_arena.specs.CellRecord.{CellRecord, anchor_with, with_seq, with_new}
 use Rattle.cell_arena.specs.Columns.{Fields, AreEven, blank, cell_in, cells_in}
 
+-- an index that each column has
+pub record IsWithin {S I R : Type 0} (c : Fields S I R) (i : ℕ) : Type 0 where
+  pub inv : i < length c.inv
+  pub seq : i < length c.seq
+  pub before : i < length c.before
+  pub after : i < length c.after
+  pub new : i < length c.new
+
 module _ {S I R : Type 0} where
   pub length-cells_in : (c : Fields S I R) → length (cells_in c) ≡ length c.seq
   length-cells_in c = length-map-range_with_len (cell_in c) 0 (length c.seq)
+
+  pub IsWithin-cells_in : (c : Fields S I R) → AreEven c → (i : ℕ) → i < length (cells_in c) → IsWithin c i
+  IsWithin-cells_in c even i within =
+      let here : i < length c.seq = rw length-cells_in at within in
+      record { inv = rw even.inv here; seq = here; before = rw even.before here; after = rw even.after here; new = rw even.new here }
 
   -- past the columns each field is empty
   cell_in-past : (c : Fields S I R) → AreEven c → (i : ℕ) → length c.seq ≤ i → cell_in c i ≡ blank

@@ -1,31 +1,25 @@
-use Rattle.std.proofs.Common.{arith}
-use Rattle.cell_arena.proofs.CellsIn.{columns, cells_in-clear}
+use Rattle.cell_arena.proofs.CellsIn.{IsWithin-cells_in, cells_in-clear}
 use Rattle.cell_arena.proofs.columns.Columns.clear.Goals as goal
 
 pub index_mut-requires : goal.index_mut-requires
 index_mut-requires g c =
-    let within = rw (← c.self.view_is) at c.requires in
-    grind (arith, columns)
+    rw c.self.inside.inv.ok.0 (IsWithin-cells_in _ c.self.invariant c.args.at (rw (← c.self.view_is) at c.requires)).inv
 
 pub index_mut-requires-2 : goal.index_mut-requires-2
 index_mut-requires-2 g c =
-    let within = rw (← c.self.view_is) at c.requires in
-    grind (arith, columns)
+    rw c.self.inside.seq.ok.0 (IsWithin-cells_in _ c.self.invariant c.args.at (rw (← c.self.view_is) at c.requires)).seq
 
 pub index_mut-requires-3 : goal.index_mut-requires-3
 index_mut-requires-3 g c =
-    let within = rw (← c.self.view_is) at c.requires in
-    grind (arith, columns)
+    rw c.self.inside.before.ok.0 (IsWithin-cells_in _ c.self.invariant c.args.at (rw (← c.self.view_is) at c.requires)).before
 
 pub index_mut-requires-4 : goal.index_mut-requires-4
 index_mut-requires-4 g c =
-    let within = rw (← c.self.view_is) at c.requires in
-    grind (arith, columns)
+    rw c.self.inside.after.ok.0 (IsWithin-cells_in _ c.self.invariant c.args.at (rw (← c.self.view_is) at c.requires)).after
 
 pub index_mut-requires-5 : goal.index_mut-requires-5
 index_mut-requires-5 g c =
-    let within = rw (← c.self.view_is) at c.requires in
-    grind (arith, columns)
+    rw c.self.inside.state.ok.0 (IsWithin-cells_in _ c.self.invariant c.args.at (rw (← c.self.view_is) at c.requires)).new
 
 pub returns : goal.returns
 returns g c =

@@ -1,12 +1,11 @@
-use Rattle.std.proofs.Common.{◌∙◌, ap, sym, arith}
-use Rattle.cell_arena.proofs.CellsIn.{columns, after-read, cells_in-after}
+use Rattle.std.proofs.Common.{◌∙◌, ap, sym}
+use Rattle.cell_arena.proofs.CellsIn.{IsWithin-cells_in, after-read, cells_in-after}
 use Rattle.cell_arena.specs.CellRecord.{settled}
 use Rattle.cell_arena.proofs.columns.Columns.decide_after.Goals as goal
 
 pub index_mut-after-requires : goal.index_mut-after-requires
 index_mut-after-requires g c =
-    let within = rw (← c.self.view_is) at c.requires in
-    grind (arith, columns)
+    rw c.self.inside.after.ok.0 (IsWithin-cells_in _ c.self.invariant c.args.at (rw (← c.self.view_is) at c.requires)).after
 
 pub returns-clause-answer : goal.returns-clause-answer
 returns-clause-answer g c =

@@ -1,11 +1,9 @@
-use Rattle.std.proofs.Common.{arith}
-use Rattle.cell_arena.proofs.CellsIn.{columns, cells_in-inv}
+use Rattle.cell_arena.proofs.CellsIn.{IsWithin-cells_in, cells_in-inv}
 use Rattle.cell_arena.proofs.columns.Columns.set_inv.Goals as goal
 
 pub index_mut-requires : goal.index_mut-requires
 index_mut-requires g c =
-    let within = rw (← c.self.view_is) at c.requires in
-    grind (arith, columns)
+    rw c.self.inside.inv.ok.0 (IsWithin-cells_in _ c.self.invariant c.args.at (rw (← c.self.view_is) at c.requires)).inv
 
 pub returns : goal.returns
 returns g c =

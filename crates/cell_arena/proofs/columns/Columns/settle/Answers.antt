@@ -1,11 +1,9 @@
-use Rattle.std.proofs.Common.{arith}
-use Rattle.cell_arena.proofs.CellsIn.{columns, new-read, cells_in-new}
+use Rattle.cell_arena.proofs.CellsIn.{IsWithin-cells_in, new-read, cells_in-new}
 use Rattle.cell_arena.proofs.columns.Columns.settle.Goals as goal
 
 pub index_mut-settle-requires : goal.index_mut-settle-requires
 index_mut-settle-requires g c =
-    let within = rw (← c.self.view_is) at c.requires in
-    grind (arith, columns)
+    rw c.self.inside.state.ok.0 (IsWithin-cells_in _ c.self.invariant c.args.at (rw (← c.self.view_is) at c.requires)).new
 
 pub returns : goal.returns
 returns g c =

@@ -1,11 +1,10 @@
-use Rattle.std.proofs.Common.{refl, arith}
-use Rattle.cell_arena.proofs.CellsIn.{columns, new-read, cells_in-new}
+use Rattle.std.proofs.Common.{refl}
+use Rattle.cell_arena.proofs.CellsIn.{IsWithin-cells_in, new-read, cells_in-new}
 use Rattle.cell_arena.proofs.columns.Columns.take_state.Goals as goal
 
 pub index_mut-requires : goal.index_mut-requires
 index_mut-requires g c =
-    let within = rw (← c.self.view_is) at c.requires.within in
-    grind (arith, columns)
+    rw c.self.inside.state.ok.0 (IsWithin-cells_in _ c.self.invariant c.args.at (rw (← c.self.view_is) at c.requires.within)).new
 
 pub returns-clause-state : goal.returns-clause-state
 returns-clause-state g c =
