@@ -1,4 +1,4 @@
-use Rattle.std.proofs.Common.{◌≡◌, ◌<◌, ◌∙◌, ◌+◌, ◌*◌, None, IsSome, length, slice_index_or, slice_set, arith, rules}
+use Rattle.std.proofs.Common.{refl, ◌≡◌, ◌<◌, ◌∙◌, ◌+◌, ◌*◌, None, IsSome, length, slice_index_or, slice_set, arith, rules}
 use Rattle.std.proofs.Math.ListN.{length-set}
 use Rattle.std.proofs.lemmas.List.{length-replicate}
 use Rattle.cell_arena.specs.CellRecord.{anchor_with}
@@ -59,3 +59,19 @@ returns-clause-cell g c =
     rw (← c.self.view_is, c.set_anchor-2.ensures)
     (HasOnlyAnchor-begun a.cells c.in_ok-columns.columns c.args.last c.take_state.result c.seq-seq.result there some (rw c.index-at.ensures at c.take_state.ensures.state) (rw c.index-at.ensures at c.seq-seq.ensures)
     (rw c.in_ok-columns.ensures (blank-new (c.self.inside.row * c.args.m + 1) (anchor_with c.take_state.result c.seq-seq.result))))
+
+pub returns-then-room-len-clause-made : goal.returns-then-room-len-clause-made
+returns-then-room-len-clause-made g c p =
+    rw (c.in_ok-made.ensures.items_if_clones_equal (λ y h. search rules)) (get_or-zero _ p)
+
+pub returns-clause-made : goal.returns-clause-made
+returns-clause-made g c p =
+    rw (c.in_ok-made.ensures.items_if_clones_equal (λ y h. search rules)) (get_or-zero _ p)
+
+pub returns-then-room-len-clause-shape : goal.returns-then-room-len-clause-shape
+returns-then-room-len-clause-shape g c =
+    rw (← c.self.view_is, c.in_ok-made.ensures.items_if_clones_equal (λ y h. search rules)) (length-replicate _ _, refl)
+
+pub returns-clause-shape : goal.returns-clause-shape
+returns-clause-shape g c =
+    rw (← c.self.view_is, c.in_ok-made.ensures.items_if_clones_equal (λ y h. search rules)) (length-replicate _ _, refl)
