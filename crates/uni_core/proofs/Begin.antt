@@ -38,6 +38,10 @@ pub local_here : {O S I R : Type 0} (object : Sequential S I R) (v : Whole O S I
     → p < processes_of v.shared.cells → l ≡ get_or v.locals p l → slice_get v.locals p ≡ Some l
 local_here object v is p l inside read = slice_get_read v.locals (length v.locals) p l refl (let all : processes_of v.shared.cells ≤ length v.locals = is.locals in let below : p < processes_of v.shared.cells = inside in omega arith) read
 
+-- each process that there is keeps something for itself
+pub within_locals : {O S I R : Type 0} (object : Sequential S I R) (v now : Whole O S I R) → v ≡ now → IsWorld object v → (p : ℕ) → p < processes_of now.shared.cells → p < length v.locals
+within_locals object v now view is p below = let inside = inside_view v now p view below in let all = is.locals in omega arith
+
 module _ {O S I R : Type 0} (object : Sequential S I R) (v now : Whole O S I R) (view : v ≡ now) (is : IsWorld object v) (p : ℕ) (l : Local)
     (inside : p < processes_of v.shared.cells) (read : l ≡ get_or v.locals p l) where
   pub here : slice_get v.locals p ≡ Some l
@@ -49,7 +53,17 @@ module _ {O S I R : Type 0} (object : Sequential S I R) (v now : Whole O S I R) 
   pub begun_now : l.begun ≡ (world_of now).begun p
   begun_now = subst (λ (x : Whole O S I R). l.begun ≡ (world_of x).begun p) view (sym begun_is)
 
-  no_call : (o : Bool) → is_some l.call ≡ o → o ≡ false → l.call ≡ None
+  -- what is counted of its latest call
+  pub among_now : l.among ≡ (world_of now).among p
+  among_now = subst (λ (x : Whole O S I R). l.among ≡ (world_of x).among p) view (sym (rw here refl))
+
+  pub steps_now : l.steps ≡ (world_of now).steps p
+  steps_now = subst (λ (x : Whole O S I R). l.steps ≡ (world_of x).steps p) view (sym (rw here refl))
+
+  pub turns_now : l.turns ≡ (world_of now).turns p
+  turns_now = subst (λ (x : Whole O S I R). l.turns ≡ (world_of x).turns p) view (sym (rw here refl))
+
+  pub no_call : (o : Bool) → is_some l.call ≡ o → o ≡ false → l.call ≡ None
   no_call true e f = cc
   no_call false e f = none l.call e where
     none : {A : Type 0} (o : Option A) → is_some o ≡ false → o ≡ None

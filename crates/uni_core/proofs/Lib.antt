@@ -5,6 +5,7 @@ pub mod Transitions
 pub mod Shown
 pub mod Steppable
 pub mod Begin
+pub mod Counted
 pub mod Stepped
 pub mod Reading
 pub mod Runs
