@@ -1,4 +1,5 @@
 use Rattle.std.proofs.Common.{refl, sym, ◌∙◌}
+use Rattle.uni_core.proofs.Begin.{inside_count, inside_view, no_call_now}
 use Rattle.uni_core.proofs.Stepped.{can_step, not_idle, may_need, steps_fit, turns_fit, IsWorld-left, IsBounded-left, world_of-left_with, Follows-left_with, SeesSettled-left, answers, still_pending, if_not_ok}
 use Rattle.uni_core.proofs.world.World.step.Goals as goal
 
@@ -49,3 +50,12 @@ returns-clause-accepted g c = Follows-left_with _ _ _ c.self.view_is c.self.inva
 pub returns-clause-beside : goal.returns-clause-beside
 returns-clause-beside g c = SeesSettled-left _ _ _ c.self.view_is c.self.invariant c.args.p c.processes.result c.index.result.now c.processes.ensures c.if-p-processes.false c.index.ensures c.in-Some.call (sym c.in-Some.ensures)
     c.take_step.new.self.shared c.in-Ok.after c.in-Ok.ensures.taken c.stage.result c.stage.ensures c.after.result c.after.ensures.call c.after.ensures.begun c.after.ensures.among c.after.ensures.steps c.after.ensures.turns
+
+pub returns-in_default-clause-idle : goal.returns-in_default-clause-idle
+returns-in_default-clause-idle g c = (
+  λ e. (
+    inside_view _ _ c.args.p (sym c.self.view_is) (inside_count _ _ c.args.p c.processes.ensures c.if-p-processes.false),
+    no_call_now _ _ _ c.self.view_is c.self.invariant c.args.p c.index.result.now (inside_count _ _ c.args.p c.processes.ensures c.if-p-processes.false) c.index.ensures (sym c.in_default.ensures),
+  ),
+  λ h. refl,
+)
