@@ -42,11 +42,15 @@ module _ {O S I R : Type 0} (object : Sequential S I R) (v now : Whole O S I R) 
         has_inv Anchor past = absurd (omega arith)
         has_inv (Of p k) past = is.sound.2.calls.linked p k (omega arith)
 
+-- the number of a process's first call of the era, by the process as it was read
+pub first_now : {O S I R : Type 0} (v now : Whole O S I R) → v ≡ now → (p q b : ℕ) → b ≡ first_of v.shared q → q ≡ p → b ≡ first_of now.shared p
+first_now {O} {S} {I} {R} v now view p q b b_is process = b_is ∙ ap (first_of v.shared) process ∙ ap (λ (x : Whole O S I R). first_of x.shared p) view
+
 -- the name of a cell whose index was counted
 pub named-counted : {O S I R : Type 0} (v now : Whole O S I R) → v ≡ now → (j p q k b id : ℕ) → b ≡ first_of v.shared q → b ≤ k → id ≡ index_of j q (k - b)
     → j ≡ processes_of now.shared.cells → q ≡ p → p < processes_of now.shared.cells → named now.shared id ≡ Of p k
 named-counted {O} {S} {I} {R} v now view j p q k b id b_is since counted processes process below =
-    let first : b ≡ first_of now.shared p = b_is ∙ ap (first_of v.shared) process ∙ ap (λ (x : Whole O S I R). first_of x.shared p) view in
+    let first = first_now v now view p q b b_is process in
     let nth : first_of now.shared p + (k - b) ≡ k = omega arith in
     ap (named now.shared) (counted ∙ ap (λ i. index_of i q (k - b)) processes ∙ ap (λ i. index_of (processes_of now.shared.cells) i (k - b)) process)
     ∙ name_from-index_of (processes_of now.shared.cells) (first_of now.shared) p (k - b) below ∙ ap (Of p) nth

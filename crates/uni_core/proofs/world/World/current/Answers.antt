@@ -1,5 +1,5 @@
 use Rattle.std.proofs.Common.{arith}
-use Rattle.uni_core.proofs.Begin.{inside_view, begun_one, few_enough, current_now}
+use Rattle.uni_core.proofs.Begin.{inside_view, within_locals, begun_one, few_enough, current_now}
 use Rattle.uni_core.proofs.world.World.current.Goals as goal
 
 -- src/world.rt:225:22
@@ -13,3 +13,6 @@ overflow_sub-result g c = begun_one _ _ _ c.self.view_is c.self.invariant c.args
 -- src/world.rt:216:5
 pub returns : goal.returns
 returns g c = current_now _ _ _ c.self.view_is c.self.invariant c.args.p c.index.result.now (inside_view _ _ c.args.p c.self.view_is c.requires) c.index.ensures c.is_none.result c.is_none.ensures c.if-is_none.false
+
+pub index-requires : goal.index-requires
+index-requires g c = rw c.self.inside.locals.ok.0 (within_locals _ _ _ c.self.view_is c.self.invariant c.args.p c.requires)
