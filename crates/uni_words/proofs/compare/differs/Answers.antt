@@ -1,4 +1,4 @@
-use Rattle.std.proofs.Common.{◌∙◌, ℕ, inr, ap, sym, subst, refl, map, length, Some, arith}
+use Rattle.std.proofs.Common.{◌∙◌, ℕ, inl, inr, ap, sym, subst, refl, map, length, Some, arith}
 use Rattle.uni_words.specs.Compare.{IsRight, IsFirstOther}
 use Rattle.uni_words.specs.Log.{entry_shown}
 use Rattle.uni_words.proofs.Comparing.{listed-start, listed-further, agrees-all, other-differs, slice_get-map, slice_get-index, length-mapped}
@@ -8,6 +8,14 @@ use Rattle.uni_words.proofs.compare.differs.Goals as goal
 pub loop-process-init : goal.loop-process-init
 loop-process-init g c =
     (c.first_wrong.ensures.none c.in_default.is, listed-start (g.O.WordObject.sequential c.args.object.now) (map entry_shown c.args.entries.now) (map (λ own. own.items) c.args.lists.now))
+
+pub returns-in-Some-clause-agrees : goal.returns-in-Some-clause-agrees
+returns-in-Some-clause-agrees g c =
+    let wrong = c.in-Some.ensures.some in
+    (λ none. absurd (cc), λ agrees. absurd (wrong.wrong (rw length-mapped at (agrees.right wrong.place))))
+
+pub returns-in-Some-clause-first : goal.returns-in-Some-clause-first
+returns-in-Some-clause-first g c = inl (rw length-mapped c.in-Some.ensures.some)
 
 -- the list that the loop stands at is not what the log has
 other-here : (g : Over) (c : goal.In-Some-first_other g)
