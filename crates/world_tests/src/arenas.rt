@@ -42,6 +42,16 @@ fn has_fields<C: Cells<Inv = u32, State = u64, Resp = u8>>(
     assert_eq!(rt; fields(arena, id), want);
 }
 
+/// The fields of the anchor are these.
+fn anchor_has<C: Cells<Inv = u32, State = u64, Resp = u8>>(
+    rt: &impl Abort,
+    arena: &C,
+    want: Fields,
+) {
+    arena.shape();
+    has_fields(rt, arena, CellId::anchor(), want);
+}
+
 /// There is room for so many cells of processes 0 and 1.
 fn has_room<C: Cells<Inv = u32, State = u64, Resp = u8>>(
     rt: &impl Abort,
@@ -54,23 +64,27 @@ fn has_room<C: Cells<Inv = u32, State = u64, Resp = u8>>(
     assert_eq!(rt; (arena.room(0), arena.room(1)), (first, second));
 }
 
+/// A cell's name has this index.
+fn has_index(rt: &impl Abort, n: u64, owner: u64, nth: u64, index: u32)
+    requires processes { n ≤ 64 }
+    requires owner { owner < n }
+    requires nth { nth < 4096 }
+{
+    assert!(rt;
+        CellId::of(n, owner, nth).index() == index,
+        "cell {nth} of {owner} among {n}"
+    );
+}
+
 #[test]
 fn cells_have_names(rt: HostRuntime) {
     of_is_injective();
-    assert_eq!(rt; CellId::anchor().index(), 0);
-    for (n, owner, nth, index) in [
-        (1, 0, 0, 1),
-        (1, 0, 5, 6),
-        (3, 2, 0, 3),
-        (3, 0, 1, 4),
-        (64, 63, 4095, 262144),
-    ] {
-        assert_eq!(rt;
-            CellId::of(n, owner, nth).index(),
-            index,
-            "cell {nth} of {owner} among {n}"
-        );
-    }
+    assert!(rt; CellId::anchor().index() == 0, "the anchor");
+    has_index(&rt, 1, 0, 0, 1);
+    has_index(&rt, 1, 0, 5, 6);
+    has_index(&rt, 3, 2, 0, 3);
+    has_index(&rt, 3, 0, 1, 4);
+    has_index(&rt, 64, 63, 4095, 262144);
 }
 
 /// Makes a cell, which there is room and memory for.
@@ -158,10 +172,10 @@ fn proposes<C: Cells<Inv = u32, State = u64, Resp = u8>>(rt: &impl Abort, arena:
     ensures there { IsSome (C.cell arena.new id) }
     ensures processes { C.processes arena.new ≡ C.processes arena.old }
 {
-    assert_eq!(rt; arena.decide_after(id, CellId::of(2, 0, 0)).index(), 1);
-    assert_eq!(rt; arena.decide_after(id, CellId::of(2, 1, 1)).index(), 1);
+    assert!(rt; arena.decide_after(id, CellId::of(2, 0, 0)).index() == 1);
+    assert!(rt; arena.decide_after(id, CellId::of(2, 1, 1)).index() == 1);
     has_fields(rt, arena, id, (2, Some(71), Some(0), Some(1), None));
-    assert_eq!(rt; *arena.decide_new(id, (11, Some(5))), (11, Some(5)));
+    assert!(rt; *arena.decide_new(id, (11, Some(5))) == (11, Some(5)));
     has_fields(
         rt,
         arena,
@@ -176,7 +190,7 @@ fn clears<C: Cells<Inv = u32, State = u64, Resp = u8>>(rt: &impl Abort, arena: &
     ensures processes { C.processes arena.new ≡ C.processes arena.old }
 {
     arena.set_seq(last, 3);
-    assert_eq!(rt; *arena.decide_new(last, (98, None)), (11, Some(5)));
+    assert!(rt; *arena.decide_new(last, (98, None)) == (11, Some(5)));
     arena.clear_to(last);
 }
 
@@ -188,13 +202,7 @@ fn makes_cells_again<C: Cells<Inv = u32, State = u64, Resp = u8>>(
 )
     requires { 2 ≤ C.processes arena.old }
 {
-    arena.shape();
-    has_fields(
-        rt,
-        arena,
-        CellId::anchor(),
-        (3, None, None, None, Some((11, None))),
-    );
+    anchor_has(rt, arena, (3, None, None, None, Some((11, None))));
     has_room(rt, arena, 2, 2);
     makes(rt, alloc, arena, 1, 74, CellId::of(2, 1, 0));
     makes(rt, alloc, arena, 0, 75, CellId::of(2, 0, 0));
@@ -208,13 +216,7 @@ fn two_eras<C: Cells<Inv = u32, State = u64, Resp = u8>>(
 )
     requires { 2 ≤ C.processes arena.old }
 {
-    arena.shape();
-    has_fields(
-        rt,
-        arena,
-        CellId::anchor(),
-        (1, None, None, None, Some((10, None))),
-    );
+    anchor_has(rt, arena, (1, None, None, None, Some((10, None))));
     let last = makes_cells(rt, alloc, arena);
     writes(rt, arena, last);
     proposes(rt, arena, last);
@@ -267,8 +269,11 @@ fn is_as_threaded(
 )
     requires { IsSome (cell_of arena.now last) }
 {
-    assert_eq!(rt; arena.seq(last), seq);
-    assert_eq!(rt; arena.new_of(last), Some(&(state, Some(6))));
+    assert!(rt; arena.seq(last) == seq, "another number");
+    assert!(rt;
+        arena.new_of(last) == Some(&(state, Some(6))),
+        "another state"
+    );
 }
 
 /// An era of `m` processes has begun after a cell with this number and state: the last process
@@ -285,15 +290,10 @@ fn is_begun(
     requires processes { processes_of arena.old ≡ m }
     ensures { processes_of arena.new ≡ m }
 {
-    arena.shape();
-    has_fields(
-        rt,
-        arena,
-        CellId::anchor(),
-        (seq, None, None, None, Some((state, None))),
-    );
-    assert_eq!(rt; arena.room(m - 1), 2, "of {m}");
-    makes(rt, alloc, arena, m - 1, 81, CellId::of(m, m - 1, 0));
+    anchor_has(rt, arena, (seq, None, None, None, Some((state, None))));
+    let owner = m - 1;
+    assert!(rt; arena.room(owner) == 2, "of {m}");
+    makes(rt, alloc, arena, owner, 81, CellId::of(m, owner, 0));
 }
 
 /// Begins an era of `m` processes after a cell with this number and state. Where memory is refused
@@ -333,12 +333,6 @@ fn a_thousand_eras(rt: HostRuntime) -> Result<(), Fail> {
         let last = threaded(&rt, rt.alloc(), &mut arena, seq, 7 * seq);
         arena.clear_to(last);
     }
-    arena.shape();
-    has_fields(
-        &rt,
-        &arena,
-        CellId::anchor(),
-        (1001, None, None, None, Some((7007, None))),
-    );
+    anchor_has(&rt, &arena, (1001, None, None, None, Some((7007, None))));
     Ok(())
 }

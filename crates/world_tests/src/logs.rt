@@ -85,7 +85,7 @@ fn has_log(
     want: &[Entry<u32, u32>],
 ) -> Result<(), AllocError> {
     let entries = Log::of(world).entries(alloc)?;
-    assert_eq!(rt; entries.as_slice(), want);
+    assert!(rt; entries.as_slice() == want, "other entries");
     Ok(())
 }
 
@@ -120,36 +120,53 @@ fn with_a_slow_call(rt: &impl Abort, alloc: Global) -> Result<World<SwapRegister
     Ok(world)
 }
 
+/// The cells forward from the anchor are these.
+fn has_cells(
+    rt: &impl Abort,
+    alloc: Global,
+    world: &World<SwapRegister>,
+    want: &[CellId],
+) -> Result<(), AllocError> {
+    let indices = indices(alloc, want)?;
+    goes_forward(rt, alloc, world, indices.as_slice())
+}
+
+/// The calls of these processes, each with its number, have these places.
+fn has_places(rt: &impl Abort, world: &World<SwapRegister>, rows: &[(u32, u64, Option<u64>)]) {
+    let log = Log::of(world);
+    for (process, nth, want) in rows {
+        let place = log.place_of(CallId {
+            process: *process,
+            nth: *nth,
+        });
+        assert!(rt; place == *want, "of call {process}.{nth}");
+    }
+}
+
 #[test]
 fn a_slow_call_comes_last(rt: HostRuntime) -> Result<(), Fail> {
     let alloc = rt.alloc();
     let world = with_a_slow_call(&rt, alloc)?;
-    has_log(
-        &rt,
-        alloc,
-        &world,
-        &[
-            entry(2, 0, 0, 10, Some(0)),
-            entry(3, 0, 1, 20, Some(10)),
-            entry(4, 1, 0, 30, Some(20)),
-        ],
-    )?;
-    let log = Log::of(&world);
-    let cells = log.cells_forward(alloc)?;
-    assert_eq!(rt;
-        cells.as_slice(),
-        [
-            CellId::anchor(),
-            CellId::of(2, 0, 0),
-            CellId::of(2, 0, 1),
-            CellId::of(2, 1, 0)
-        ]
-        .as_slice()
-    );
-    assert_eq!(rt; log.place_of(CallId { process: 0, nth: 0 }), Some(0));
-    assert_eq!(rt; log.place_of(CallId { process: 0, nth: 1 }), Some(1));
-    assert_eq!(rt; log.place_of(CallId { process: 1, nth: 0 }), Some(2));
-    assert_eq!(rt; log.place_of(CallId { process: 0, nth: 2 }), None);
+    let entries = [
+        entry(2, 0, 0, 10, Some(0)),
+        entry(3, 0, 1, 20, Some(10)),
+        entry(4, 1, 0, 30, Some(20)),
+    ];
+    has_log(&rt, alloc, &world, &entries)?;
+    let cells = [
+        CellId::anchor(),
+        CellId::of(2, 0, 0),
+        CellId::of(2, 0, 1),
+        CellId::of(2, 1, 0),
+    ];
+    has_cells(&rt, alloc, &world, &cells)?;
+    let places = [
+        (0, 0, Some(0)),
+        (0, 1, Some(1)),
+        (1, 0, Some(2)),
+        (0, 2, None),
+    ];
+    has_places(&rt, &world, &places);
     Ok(())
 }
 
@@ -212,7 +229,7 @@ fn goes_forward(
 ) -> Result<(), AllocError> {
     let cells = Log::of(world).cells_forward(alloc)?;
     let indices = indices(alloc, cells.as_slice())?;
-    assert_eq!(rt; indices.as_slice(), want);
+    assert!(rt; indices.as_slice() == want, "other cells");
     Ok(())
 }
 
@@ -227,7 +244,7 @@ fn goes_back(
     assert!(rt; world.seq(last) >= 1, "the last cell should be threaded");
     let cells = Log::of(world).cells_back(alloc, last)?;
     let indices = indices(alloc, cells.as_slice())?;
-    assert_eq!(rt; indices.as_slice(), want);
+    assert!(rt; indices.as_slice() == want, "other cells");
     Ok(())
 }
 
@@ -251,10 +268,10 @@ fn back_from_the_anchor_is_the_anchor(rt: HostRuntime) -> Result<(), Fail> {
 /// The states that are settled, from place 0 on, are these and no more.
 fn has_states(rt: &impl Abort, world: &World<SwapRegister>, states: &[u32]) {
     let log = Log::of(world);
-    for (place, state) in (0..).zip(states) {
-        assert_eq!(rt; log.state_at(place), Some(state), "at {place}");
+    for (place, state) in states.iter().enumerate() {
+        assert!(rt; log.state_at(place as u64) == Some(state), "at {place}");
     }
-    assert_eq!(rt; log.state_at(states.len() as u64), None);
+    assert!(rt; log.state_at(states.len() as u64).is_none(), "one more");
 }
 
 #[test]
@@ -280,22 +297,58 @@ fn a_linked_call_has_no_state_yet(rt: HostRuntime) -> Result<(), Fail> {
     Ok(())
 }
 
+/// What a world answers when it runs these commands.
+fn outcomes(
+    alloc: Global,
+    world: &mut World<SwapRegister>,
+    commands: &[Command<u32>],
+) -> Result<Vec<Outcome<u32>>, AllocError> {
+    world.run(alloc, commands)
+}
+
+/// A world runs these commands with these outcomes, and its log then has these entries.
+fn runs(
+    rt: &impl Abort,
+    alloc: Global,
+    world: &mut World<SwapRegister>,
+    (commands, told): (&[Command<u32>], &[Outcome<u32>]),
+    want: &[Entry<u32, u32>],
+) -> Result<(), AllocError> {
+    let outcomes = outcomes(alloc, world, commands)?;
+    assert!(rt; outcomes.as_slice() == told, "other outcomes");
+    has_log(rt, alloc, world, want)
+}
+
 #[test]
 fn a_run_settles_the_reply_at_its_ninth_step(rt: HostRuntime) -> Result<(), Fail> {
     let alloc = rt.alloc();
+    let commands = [
+        Command::Call(0, 7),
+        Command::Step(0),
+        Command::Step(0),
+        Command::Step(0),
+        Command::Step(0),
+        Command::Step(0),
+        Command::Step(0),
+        Command::Step(0),
+        Command::Step(0),
+    ];
+    let told = [
+        Outcome::Called(CallId { process: 0, nth: 0 }),
+        Outcome::Went,
+        Outcome::Went,
+        Outcome::Went,
+        Outcome::Went,
+        Outcome::Went,
+        Outcome::Went,
+        Outcome::Went,
+        Outcome::Went,
+    ];
+    let linked = [entry(2, 0, 0, 7, None)];
+    let replied = [entry(2, 0, 0, 7, Some(0))];
     let mut world = opened(alloc, 1)?;
-    let call = CallId { process: 0, nth: 0 };
-    let mut commands = vec![in alloc; Command::Call(0, 7)]?;
-    let mut want = vec![in alloc; Outcome::Called(call)]?;
-    for _ in 0..8 {
-        commands.push(Command::Step(0))?;
-        want.push(Outcome::Went)?;
-    }
-    let outcomes = world.run(alloc, commands.as_slice())?;
-    assert_eq!(rt; outcomes.as_slice(), want.as_slice());
-    has_log(&rt, alloc, &world, &[entry(2, 0, 0, 7, None)])?;
-    let ninth = world.run(alloc, &[Command::Step(0)])?;
-    assert_eq!(rt; ninth.as_slice(), [Outcome::Went].as_slice());
-    has_log(&rt, alloc, &world, &[entry(2, 0, 0, 7, Some(0))])?;
+    runs(&rt, alloc, &mut world, (&commands, &told), &linked)?;
+    let ninth = (&[Command::Step(0)][..], &[Outcome::Went][..]);
+    runs(&rt, alloc, &mut world, ninth, &replied)?;
     Ok(())
 }

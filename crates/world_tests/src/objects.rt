@@ -2,7 +2,7 @@
 
 use ready_objects::*;
 use seq_object::SeqObject;
-use std::alloc::Global;
+use std::alloc::{AllocError, Global};
 use std::process::Abort;
 use std::test::Fail;
 
@@ -24,6 +24,42 @@ fn read<O: Spoken>(alloc: Global, line: &str) -> Result<Option<O::Inv>, Fail> {
     Ok(O::read_inv(&words))
 }
 
+/// Whether the copy of an invocation is like it.
+fn is_copied<O: Spoken>(alloc: Global, inv: &O::Inv) -> Result<bool, AllocError> {
+    let copy = O::copy_inv(alloc, inv)?;
+    Ok(copy == *inv)
+}
+
+/// The text of an invocation.
+fn text_of<O: Spoken>(alloc: Global, inv: &O::Inv) -> Result<Vec<u8>, AllocError> {
+    O::reads_back(inv);
+    O::inv_text(alloc, inv)
+}
+
+/// What a line asks for, of which it is the text.
+fn asked<O: Spoken>(rt: &impl Abort, alloc: Global, line: &str) -> Result<O::Inv, Fail> {
+    let Some(inv) = read::<O>(alloc, line)? else {
+        panic!(rt; "no invocation: {line}")
+    };
+    assert!(rt; is_copied::<O>(alloc, &inv)?, "the copy of {line}");
+    let text = text_of::<O>(alloc, &inv)?;
+    assert!(rt; text.as_slice() == line.as_bytes(), "{line}");
+    Ok(inv)
+}
+
+/// The state after a line's invocation, and the text of the reply.
+fn answered<O: Spoken>(
+    rt: &impl Abort,
+    alloc: Global,
+    object: &O,
+    state: &O::State,
+    line: &str,
+) -> Result<(O::State, Vec<u8>), Fail> {
+    let inv = asked::<O>(rt, alloc, line)?;
+    let (next, resp) = object.apply(alloc, state, &inv)?;
+    Ok((next, O::resp_text(alloc, resp)?))
+}
+
 /// Applies each line's invocation to the state that the one before left, and compares the replies.
 fn plays<O: Spoken>(
     rt: &impl Abort,
@@ -34,24 +70,23 @@ fn plays<O: Spoken>(
 ) -> Result<O::State, Fail> {
     let mut state = start;
     for (line, reply) in lines {
-        let inv = read::<O>(alloc, line)?.ok_or("no invocation")?;
-        let copy = O::copy_inv(alloc, &inv)?;
-        O::reads_back(&inv);
-        assert!(rt; copy == inv, "{line}");
-        assert_eq!(rt;
-            O::inv_text(alloc, &inv)?.as_slice(),
-            line.as_bytes(),
-            "{line}"
-        );
-        let (next, resp) = object.apply(alloc, &state, &inv)?;
-        assert_eq!(rt;
-            O::resp_text(alloc, resp)?.as_slice(),
-            reply.as_bytes(),
-            "{line}"
-        );
+        let (next, text) = answered(rt, alloc, object, &state, line)?;
+        assert!(rt; text.as_slice() == reply.as_bytes(), "{line}");
         state = next;
     }
     Ok(state)
+}
+
+/// Applies each line's invocation to the start state and the states after it, and compares the
+/// replies.
+fn plays_from_start<O: Spoken>(
+    rt: &impl Abort,
+    alloc: Global,
+    object: &O,
+    lines: &[(&str, &str)],
+) -> Result<O::State, Fail> {
+    let start = object.start(alloc)?;
+    plays(rt, alloc, object, start, lines)
 }
 
 /// Each of these lines is no invocation.
@@ -62,11 +97,18 @@ fn refuses<O: Spoken>(rt: &impl Abort, alloc: Global, lines: &[&str]) -> Result<
     Ok(())
 }
 
-/// Each drawn word stands for the invocation with this text.
-fn draws<O: Spoken>(rt: &impl Abort, alloc: Global, words: &[(u64, &str)]) -> Result<(), Fail> {
+/// Each of these lines is no invocation, and each drawn word stands for the invocation with this
+/// text.
+fn refuses_and_draws<O: Spoken>(
+    rt: &impl Abort,
+    alloc: Global,
+    lines: &[&str],
+    words: &[(u64, &str)],
+) -> Result<(), Fail> {
+    refuses::<O>(rt, alloc, lines)?;
     for (word, line) in words {
-        let text = O::inv_text(alloc, &O::drawn(*word))?;
-        assert_eq!(rt; text.as_slice(), line.as_bytes(), "{word}");
+        let text = text_of::<O>(alloc, &O::drawn(*word))?;
+        assert!(rt; text.as_slice() == line.as_bytes(), "{word}");
     }
     Ok(())
 }
@@ -113,18 +155,27 @@ const QUEUE_REFUSED: NoLines = &[
 /// Words, and what they stand for on a queue.
 const QUEUE_DRAWN: Words = &[(22, "enq 7"), (33, "deq"), (3001, "enq 0")];
 
+/// The state of a queue after it has taken so many numbers more.
+fn filled_queue(
+    alloc: Global,
+    start: <QueueObject as SeqObject>::State,
+    count: u64,
+) -> Result<<QueueObject as SeqObject>::State, Fail> {
+    let mut state = start;
+    for number in 0..count {
+        let value = Amount::new(number).ok_or("no amount")?;
+        state = QueueObject.apply(alloc, &state, &QueueInv::Enq(value))?.0;
+    }
+    Ok(state)
+}
+
 #[test]
 fn queue(rt: HostRuntime) -> Result<(), Fail> {
-    let (alloc, object) = (rt.alloc(), QueueObject);
-    let start = object.start(alloc)?;
-    let mut state = plays(&rt, alloc, &object, start, QUEUE)?;
-    for number in 0..1000 {
-        let value = Amount::new(number).ok_or("no amount")?;
-        state = object.apply(alloc, &state, &QueueInv::Enq(value))?.0;
-    }
-    let _ = plays(&rt, alloc, &object, state, QUEUE_FULL)?;
-    refuses::<QueueObject>(&rt, alloc, QUEUE_REFUSED)?;
-    draws::<QueueObject>(&rt, alloc, QUEUE_DRAWN)
+    let alloc = rt.alloc();
+    let state = plays_from_start(&rt, alloc, &QueueObject, QUEUE)?;
+    let full = filled_queue(alloc, state, 1000)?;
+    let _ = plays(&rt, alloc, &QueueObject, full, QUEUE_FULL)?;
+    refuses_and_draws::<QueueObject>(&rt, alloc, QUEUE_REFUSED, QUEUE_DRAWN)
 }
 
 /// Lines of a directory from its start on, with their replies.
@@ -187,19 +238,28 @@ const DIRECTORY_DRAWN: Words = &[
     (63, "at 7"),
 ];
 
+/// The state of a directory after it has taken so many names more.
+fn filled_directory(
+    rt: &impl Abort,
+    alloc: Global,
+    start: <DirectoryObject as SeqObject>::State,
+    count: u64,
+) -> Result<<DirectoryObject as SeqObject>::State, Fail> {
+    let mut state = start;
+    for number in 0..count {
+        let line = format!(in alloc; "put n{number} {number}")?;
+        state = answered(rt, alloc, &DirectoryObject, &state, line.as_str())?.0;
+    }
+    Ok(state)
+}
+
 #[test]
 fn directory(rt: HostRuntime) -> Result<(), Fail> {
-    let (alloc, object) = (rt.alloc(), DirectoryObject);
-    let start = object.start(alloc)?;
-    let mut state = plays(&rt, alloc, &object, start, DIRECTORY)?;
-    for number in 0..256u64 {
-        let line = format!(in alloc; "put n{number} {number}")?;
-        let put = read::<DirectoryObject>(alloc, line.as_str())?.ok_or("no invocation")?;
-        state = object.apply(alloc, &state, &put)?.0;
-    }
-    let _ = plays(&rt, alloc, &object, state, DIRECTORY_FULL)?;
-    refuses::<DirectoryObject>(&rt, alloc, DIRECTORY_REFUSED)?;
-    draws::<DirectoryObject>(&rt, alloc, DIRECTORY_DRAWN)
+    let alloc = rt.alloc();
+    let state = plays_from_start(&rt, alloc, &DirectoryObject, DIRECTORY)?;
+    let full = filled_directory(&rt, alloc, state, 256)?;
+    let _ = plays(&rt, alloc, &DirectoryObject, full, DIRECTORY_FULL)?;
+    refuses_and_draws::<DirectoryObject>(&rt, alloc, DIRECTORY_REFUSED, DIRECTORY_DRAWN)
 }
 
 /// Lines of a directory that kept one name while others came and went.
@@ -211,19 +271,28 @@ const DIRECTORY_KEPT: Lines = &[
     ("size", "2"),
 ];
 
+/// The state of a directory after one more name has come and gone.
+fn come_and_gone(
+    rt: &impl Abort,
+    alloc: Global,
+    state: <DirectoryObject as SeqObject>::State,
+    number: u64,
+) -> Result<<DirectoryObject as SeqObject>::State, Fail> {
+    let put = format!(in alloc; "put n{number} 1")?;
+    let del = format!(in alloc; "del n{number}")?;
+    let lines = [(put.as_str(), "new"), (del.as_str(), "1")];
+    plays(rt, alloc, &DirectoryObject, state, &lines)
+}
+
 /// More names come and go than states share, and one stays.
 #[test]
 fn a_directory_of_many_names_that_went(rt: HostRuntime) -> Result<(), Fail> {
-    let (alloc, object) = (rt.alloc(), DirectoryObject);
-    let start = object.start(alloc)?;
-    let mut state = plays(&rt, alloc, &object, start, &[("put kept 7", "new")])?;
+    let alloc = rt.alloc();
+    let mut state = plays_from_start(&rt, alloc, &DirectoryObject, &[("put kept 7", "new")])?;
     for number in 0..1100u64 {
-        let put = format!(in alloc; "put n{number} 1")?;
-        let del = format!(in alloc; "del n{number}")?;
-        let lines = [(put.as_str(), "new"), (del.as_str(), "1")];
-        state = plays(&rt, alloc, &object, state, &lines)?;
+        state = come_and_gone(&rt, alloc, state, number)?;
     }
-    let _ = plays(&rt, alloc, &object, state, DIRECTORY_KEPT)?;
+    let _ = plays(&rt, alloc, &DirectoryObject, state, DIRECTORY_KEPT)?;
     Ok(())
 }
 
@@ -269,13 +338,9 @@ const BOOK_DRAWN: Words = &[
 
 #[test]
 fn book(rt: HostRuntime) -> Result<(), Fail> {
-    let (alloc, object) = (rt.alloc(), BookObject);
-    let start = object.start(alloc)?;
-    let _ = plays(&rt, alloc, &object, start, BOOK)?;
-    refuses::<BookObject>(&rt, alloc, BOOK_REFUSED)?;
-    draws::<BookObject>(&rt, alloc, BOOK_DRAWN)?;
+    let _ = plays_from_start(&rt, rt.alloc(), &BookObject, BOOK)?;
     book_is_conserved();
-    Ok(())
+    refuses_and_draws::<BookObject>(&rt, rt.alloc(), BOOK_REFUSED, BOOK_DRAWN)
 }
 
 /// Lines of a sticky register from its start on, with their replies.
@@ -294,13 +359,9 @@ const STICKY_DRAWN: Words = &[(19, "stick 9"), (18, "read"), (2001, "stick 0")];
 
 #[test]
 fn sticky(rt: HostRuntime) -> Result<(), Fail> {
-    let (alloc, object) = (rt.alloc(), StickyObject);
-    let start = object.start(alloc)?;
-    let _ = plays(&rt, alloc, &object, start, STICKY)?;
-    refuses::<StickyObject>(&rt, alloc, STICKY_REFUSED)?;
-    draws::<StickyObject>(&rt, alloc, STICKY_DRAWN)?;
+    let _ = plays_from_start(&rt, rt.alloc(), &StickyObject, STICKY)?;
     proposals_agree();
-    Ok(())
+    refuses_and_draws::<StickyObject>(&rt, rt.alloc(), STICKY_REFUSED, STICKY_DRAWN)
 }
 
 #[test]

@@ -268,17 +268,12 @@ fn what_cannot_be_opened_is_refused_in_order(rt: HostRuntime) {
         (2, 4097, OpenFault::BadRow),
     ] {
         let refused = World::open(alloc, SwapRegister { start: 0 }, n, k).err();
-        assert_eq!(rt; refused, Some(fault), "{n} processes with rows of {k}");
+        assert!(rt; refused == Some(fault), "{n} processes with rows of {k}");
     }
-    assert_eq!(rt;
-        refused_at(alloc, 1, 1, 281_474_976_710_655),
-        Some(OpenFault::SeqFull)
-    );
-    assert_eq!(rt;
-        refused_at(alloc, 2, 4, 281_474_976_710_648),
-        Some(OpenFault::SeqFull)
-    );
-    assert_eq!(rt; refused_at(alloc, 2, 4, 281_474_976_710_647), None);
+    let full = Some(OpenFault::SeqFull);
+    assert!(rt; refused_at(alloc, 1, 1, 281_474_976_710_655) == full);
+    assert!(rt; refused_at(alloc, 2, 4, 281_474_976_710_648) == full);
+    assert!(rt; refused_at(alloc, 2, 4, 281_474_976_710_647).is_none());
 }
 
 #[test]
@@ -332,7 +327,7 @@ fn steps_are(
     steps: &[(StepKind, Place)],
 ) {
     for step in steps {
-        assert_eq!(rt; next(world, p), Some(*step));
+        assert!(rt; next(world, p) == Some(*step), "before {step:?}");
         assert!(rt; goes(alloc, world, p, 1), "after {step:?}");
     }
 }
@@ -369,6 +364,12 @@ fn each_step_has_its_kind_and_place(rt: HostRuntime) -> Result<(), Fail> {
     Ok(())
 }
 
+/// The number that the last cell has in the arena.
+fn last_number(world: &World<SwapRegister>) -> u64 {
+    world.shape();
+    world.cells().seq(world.last())
+}
+
 #[test]
 fn a_world_shows_its_list(rt: HostRuntime) -> Result<(), Fail> {
     let mine = CellId::of(2, 1, 0);
@@ -387,8 +388,7 @@ fn a_world_shows_its_list(rt: HostRuntime) -> Result<(), Fail> {
     ];
     let mut world = opened(rt.alloc(), 2, 8)?;
     does_all(&rt, rt.alloc(), &mut world, &acts);
-    world.shape();
-    assert_eq!(rt; world.cells().seq(world.last()), 2);
+    assert!(rt; last_number(&world) == 2, "the last cell");
     Ok(())
 }
 
@@ -463,7 +463,10 @@ fn answers(
 ) -> Result<(), AllocError> {
     let expected = outcomes_of(alloc, told)?;
     let outcomes = outcomes_from(alloc, world, asked)?;
-    assert_eq!(rt; outcomes.as_slice(), expected.as_slice());
+    assert!(rt;
+        outcomes.as_slice() == expected.as_slice(),
+        "other outcomes"
+    );
     Ok(())
 }
 
