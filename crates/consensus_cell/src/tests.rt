@@ -3,15 +3,22 @@
 use crate::{Own, Settle};
 use std::test::Fail;
 
+/// What comes of a proposal, and what is settled after it.
+fn decided(settle: &mut Settle<u32>, proposal: u32) -> (u32, Option<u32>) {
+    let decided = *settle.decide(proposal);
+    (decided, settle.get().copied())
+}
+
 #[test]
 fn the_first_proposal_stands(rt: HostRuntime) -> Result<(), Fail> {
     let mut settle = Settle::new();
-    assert_eq!(rt; settle.get(), None);
-    for (proposal, want) in [(7u32, 7), (9, 7), (7, 7), (0, 7)] {
-        assert_eq!(rt; *settle.decide(proposal), want, "at {proposal}");
-        assert_eq!(rt; settle.get(), Some(&want), "after {proposal}");
+    assert!(rt; settle.get().is_none());
+    for (proposal, want) in [(7, 7), (9, 7), (7, 7), (0, 7)] {
+        let (decided, settled) = decided(&mut settle, proposal);
+        assert!(rt; decided == want, "at {proposal}");
+        assert!(rt; settled == Some(want), "after {proposal}");
     }
-    assert_eq!(rt; settle.into_inner(), Some(7));
+    assert!(rt; settle.into_inner() == Some(7));
     Ok(())
 }
 
