@@ -141,7 +141,7 @@ fn push_progress(text: &mut Vec<u8>, steps: u64, turns: u64) -> Result<(), Alloc
 /// Writes the name of a call after a text.
 ///
 /// An `Err` says that memory was refused.
-fn push_call(text: &mut Vec<u8>, call: CallId) -> Result<(), AllocError>
+pub(crate) fn push_call(text: &mut Vec<u8>, call: CallId) -> Result<(), AllocError>
     ensures { OnOk result (text.new.items ≡ text.old.items ++ call_text call) }
 {
     push_number(text, u64::from(call.process))?;
@@ -152,7 +152,7 @@ fn push_call(text: &mut Vec<u8>, call: CallId) -> Result<(), AllocError>
 /// Writes a number after a text.
 ///
 /// An `Err` says that memory was refused.
-fn push_number(text: &mut Vec<u8>, number: u64) -> Result<(), AllocError>
+pub(crate) fn push_number(text: &mut Vec<u8>, number: u64) -> Result<(), AllocError>
     ensures { OnOk result (text.new.items ≡ text.old.items ++ decimal number) }
 {
     let mut digits = Buffer::new();

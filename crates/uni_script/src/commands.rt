@@ -1,6 +1,6 @@
 //! The commands of a script, made on a record.
 
-ghost use Rattle.std.specs.Prelude.{◌≡◌, ◌<◌, ◌≤◌, ◌++◌, IfOk, IsSome, OnOk, codes, option_map};
+ghost use Rattle.std.specs.Prelude.{◌≡◌, ◌<◌, ◌≤◌, ◌++◌, IfOk, IsSome, OnOk, codes, decimal, option_map};
 ghost use Rattle.std.specs.Option.{option_map_or};
 ghost use Rattle.ready_objects.specs.Words.{text_of_words};
 ghost use Rattle.uni_model.specs.Places.{head_seq};
@@ -10,14 +10,14 @@ ghost use Rattle.uni_record.specs.Recorded.{KeepsOpening};
 ghost use Rattle.uni_script.specs.Replay.{IsHistory};
 ghost use Rattle.uni_script.specs.Grammar.{IsInRange};
 ghost use Rattle.uni_script.specs.Commands.{output_text, refusal_in_output};
-ghost use Rattle.uni_script.specs.Answer.{answer_text, refusal_in, numbers_text, heads_text, entry_text, IsOver};
+ghost use Rattle.uni_script.specs.Answer.{answer_text, call_text, refusal_in, numbers_text, heads_text, entry_text, IsOver};
 ghost use Rattle.uni_script.specs.Meaning.{session_of, session_after, opened_session, result_of_command, result_of_call, result_of_steps, result_of_trim, result_of_reshape, last_step, steps_of, steps_taken, most_steps, log_text, refusal_of_call, refusal_of_step, refusal_of_end, refusal_of_reshape, refusal_of_command};
 
-use crate::answer::{Answer, Refusal, push_answer};
+use crate::answer::{Answer, Refusal, push_answer, push_call, push_number};
 use crate::grammar::{Command, Header};
 use ready_objects::Spoken;
+use seq_object::CallId;
 use std::alloc::{AllocError, Global};
-use std::io::Write;
 use uni_core::{Progress, World};
 use uni_log::{Entry, Log};
 use uni_record::{
@@ -321,9 +321,9 @@ fn reshape<O: Spoken>(
 fn push_heads<O: Spoken>(world: &World<O>, text: &mut Vec<u8>) -> Result<(), AllocError>
     ensures { OnOk result (text.new.items ≡ text.old.items ++ heads_text (world_of world.now).n (head_seq (world_of world.now).memory)) }
 {
-    write!(text, "heads").map_err(|_| AllocError)?;
+    text.extend_from_slice(b"heads")?;
     push_numbers(world, text)?;
-    writeln!(text, "").map_err(|_| AllocError)
+    text.extend_from_slice(b"\n")
 }
 
 /// Writes the number of each head after a text, with a space before each.
@@ -333,7 +333,8 @@ fn push_numbers<O: Spoken>(world: &World<O>, text: &mut Vec<u8>) -> Result<(), A
     ensures { OnOk result (text.new.items ≡ text.old.items ++ numbers_text (world_of world.now).n (head_seq (world_of world.now).memory)) }
 {
     for process in 0..world.processes() {
-        write!(text, " {}", world.head_seq(process)).map_err(|_| AllocError)?;
+        text.extend_from_slice(b" ")?;
+        push_number(text, world.head_seq(process))?;
     }
     Ok(())
 }
@@ -365,27 +366,37 @@ fn push_entry<O: Spoken>(
 ) -> Result<(), AllocError>
     ensures { OnOk result (text.new.items ≡ text.old.items ++ entry_text (λ inv. text_of_words (O.language.inv_words inv)) O.language.resp_text (entry_shown entry.now)) }
 {
-    let inv = O::inv_text(alloc, &entry.inv)?;
-    let reply = reply_of::<O>(alloc, entry.reply)?;
-    write!(text, "{} {} ", entry.seq, entry.call).map_err(|_| AllocError)?;
-    text.extend_from_slice(&inv)?;
-    write!(text, " -> ").map_err(|_| AllocError)?;
-    text.extend_from_slice(&reply)?;
-    writeln!(text, "").map_err(|_| AllocError)
+    push_numbered_call(text, entry.seq, entry.call)?;
+    text.extend_from_slice(&O::inv_text(alloc, &entry.inv)?)?;
+    text.extend_from_slice(b" -> ")?;
+    push_reply::<O>(text, alloc, entry.reply)?;
+    text.extend_from_slice(b"\n")
 }
 
-/// The text of a response in the log: a question mark where there is none yet.
+/// Writes a number and the name of a call after a text, with a space after each.
 ///
 /// An `Err` says that memory was refused.
-fn reply_of<O: Spoken>(alloc: Global, reply: Option<O::Resp>) -> Result<Vec<u8>, AllocError>
-    ensures { IfOk result (λ text. text.items ≡ option_map_or O.language.resp_text reply (codes "?")) }
+fn push_numbered_call(text: &mut Vec<u8>, number: u64, call: CallId) -> Result<(), AllocError>
+    ensures { OnOk result (text.new.items ≡ text.old.items ++ decimal number ++ codes " " ++ call_text call ++ codes " ") }
+{
+    push_number(text, number)?;
+    text.extend_from_slice(b" ")?;
+    push_call(text, call)?;
+    text.extend_from_slice(b" ")
+}
+
+/// Writes a response in the log after a text: a question mark where there is none yet.
+///
+/// An `Err` says that memory was refused.
+fn push_reply<O: Spoken>(
+    text: &mut Vec<u8>,
+    alloc: Global,
+    reply: Option<O::Resp>,
+) -> Result<(), AllocError>
+    ensures { OnOk result (text.new.items ≡ text.old.items ++ option_map_or O.language.resp_text reply (codes "?")) }
 {
     match reply {
-        Some(response) => O::resp_text(alloc, response),
-        None => {
-            let mut text = Vec::new(alloc);
-            text.push(b'?')?;
-            Ok(text)
-        }
+        Some(response) => text.extend_from_slice(&O::resp_text(alloc, response)?),
+        None => text.extend_from_slice(b"?"),
     }
 }
