@@ -1,4 +1,4 @@
-use Rattle.std.proofs.Common.{refl}
+use Rattle.std.proofs.Common.{refl, rules}
 use Rattle.uni_core.specs.World.{world_of}
 use Rattle.uni_shared.proofs.Holding.{current_of-past, world_after-same}
 use Rattle.uni_shared.proofs.held.step_held.Goals as goal
@@ -16,3 +16,6 @@ returns-in-Ok-Going-clause-step g c = world_after-same (g.O.SeqObject.sequential
 
 pub returns-in-Ok-Done-clause-step : goal.returns-in-Ok-Done-clause-step
 returns-in-Ok-Done-clause-step g c = world_after-same (g.O.SeqObject.sequential c.args.recorded.now.world.object) (world_of c.args.recorded.now.world) (world_of c.step.new.self.world) _ _ c.from-p.ensures c.in-Ok-Done.ensures.step
+
+pub returns-in-Ok-Done-clause-reply : goal.returns-in-Ok-Done-clause-reply
+returns-in-Ok-Done-clause-reply g c = search rules

@@ -1,4 +1,4 @@
-use Rattle.std.proofs.Common.{subst}
+use Rattle.std.proofs.Common.{subst, rules}
 use Rattle.uni_shared.specs.Agreement.{IsClosed, IsFaultOfClosing}
 use Rattle.uni_shared.proofs.shared.Shared.close.Goals as goal
 
@@ -13,3 +13,6 @@ returns-in-Some-clause-fault g c = (
   c.into_inner-recorded.result,
   subst (λ l. IsFaultOfClosing g.O.SeqObject.sequential c.into_inner-recorded.result l c.in-Some.fault) c.deref.ensures.value c.in-Some.ensures.fault,
 )
+
+pub returns-in-Some-clause-handed_back : goal.returns-in-Some-clause-handed_back
+returns-in-Some-clause-handed_back g c = search rules
