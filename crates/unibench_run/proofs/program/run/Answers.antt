@@ -78,3 +78,9 @@ threads-requires-clause-plan g c =
     let asked : asked_of (map g.S.AsStr.text c.args.words.now) ≡ Some (Threads c.in-Ok-Some-Threads.plan) = search rules in
     let plan : IsThreadsPlan c.in-Ok-Some-Threads.plan = IsThreadsPlan-asked (subcommand_of unibench (map g.S.AsStr.text c.args.words.now)) c.in-Ok-Some-Threads.plan asked in
     search rules
+
+pub returns-in-Ok-clause-refused : goal.returns-in-Ok-clause-refused
+returns-in-Ok-clause-refused g c = search rules
+
+pub returns-clause-refused : goal.returns-clause-refused
+returns-clause-refused g c = search rules
