@@ -1,6 +1,6 @@
 //! A book of sixteen accounts.
 
-ghost use Rattle.std.specs.Prelude.{◌≡◌, ℕ, ◌+◌, ◌≤◌, List, [], ◌∷◌, sum, length, refl};
+ghost use Rattle.std.specs.Prelude.{◌≡◌, ℕ, ◌+◌, ◌≤◌, List, [], ◌∷◌, ◌++◌, OnOk, decimal, sum, length, refl};
 ghost use Rattle.std.proofs.Common.{ap, eqb-true, eq-eqb};
 ghost use Rattle.std.proofs.lemmas.Bool.{false≢true};
 ghost use Rattle.ready_objects.specs.declared.book.BookInv.TheVariants.{Deposit, Withdraw, Move, Total};
@@ -12,7 +12,7 @@ ghost use Rattle.seq_object.specs.History.{state_after};
 ghost use Rattle.ready_objects.specs.declared.book.BookInv.{BookInv};
 
 use crate::account::Account;
-use crate::number::Amount;
+use crate::number::{Amount, push_number, push_with_number};
 use crate::spoken::{Spoken, is_text};
 use seq_object::SeqObject;
 use std::alloc::{AllocError, Global};
@@ -184,25 +184,26 @@ impl Spoken for BookObject {
         }
     }
 
-    fn inv_text(alloc: Global, inv: &BookInv) -> Result<Vec<u8>, AllocError> {
-        let text = match inv {
-            BookInv::Deposit(account, amount) => format!(in alloc; "deposit {account} {amount}")?,
-            BookInv::Withdraw(account, amount) => format!(in alloc; "withdraw {account} {amount}")?,
-            BookInv::Move(from, to, amount) => format!(in alloc; "move {from} {to} {amount}")?,
-            BookInv::Total => String::from_str(alloc, "total")?,
-        };
-        Ok(text.into_bytes())
+    fn push_inv(text: &mut Vec<u8>, inv: &BookInv) -> Result<(), AllocError> {
+        match *inv {
+            BookInv::Deposit(account, amount) => push_at(text, b"deposit ", account, amount),
+            BookInv::Withdraw(account, amount) => push_at(text, b"withdraw ", account, amount),
+            BookInv::Move(from, to, amount) => {
+                push_with_number(text, b"move ", from.number() as u64)?;
+                push_at(text, b" ", to, amount)
+            }
+            BookInv::Total => text.extend_from_slice(b"total"),
+        }
     }
 
-    fn resp_text(alloc: Global, resp: BookResp) -> Result<Vec<u8>, AllocError> {
-        let text = match resp {
-            BookResp::Balance(balance) => format!(in alloc; "{balance}")?,
-            BookResp::Over => String::from_str(alloc, "over")?,
-            BookResp::Short => String::from_str(alloc, "short")?,
-            BookResp::Moved => String::from_str(alloc, "moved")?,
-            BookResp::Sum(total) => format!(in alloc; "{total}")?,
-        };
-        Ok(text.into_bytes())
+    fn push_resp(text: &mut Vec<u8>, resp: BookResp) -> Result<(), AllocError> {
+        match resp {
+            BookResp::Balance(balance) => push_number(text, balance.number()),
+            BookResp::Over => text.extend_from_slice(b"over"),
+            BookResp::Short => text.extend_from_slice(b"short"),
+            BookResp::Moved => text.extend_from_slice(b"moved"),
+            BookResp::Sum(total) => push_number(text, total),
+        }
     }
 
     fn drawn(word: u64) -> BookInv {
@@ -242,6 +243,21 @@ fn total(balances: &[Amount]) -> u64
         total += balance.number();
     }
     total
+}
+
+/// Writes a word, an account and an amount after a text, with a space before the amount.
+///
+/// An `Err` says that memory was refused.
+fn push_at(
+    text: &mut Vec<u8>,
+    word: &[u8],
+    account: Account,
+    amount: Amount,
+) -> Result<(), AllocError>
+    ensures { OnOk result (text.new.items ≡ text.old.items ++ word.now ++ decimal account ++ 32 ∷ decimal amount) }
+{
+    push_with_number(text, word, account.number() as u64)?;
+    push_with_number(text, b" ", amount.number())
 }
 
 /// Reads a deposit or a withdrawal from its three words.

@@ -15,7 +15,7 @@ ghost use Rattle.ready_objects.specs.declared.directory.DirectoryResp.TheVariant
 ghost use Rattle.ready_objects.specs.Directory.{value_of, directory_next, directory, directory_answer, directory_inv_of_words, directory_language};
 
 use crate::name::Name;
-use crate::number::Amount;
+use crate::number::{Amount, push_number, push_with_number};
 use crate::place::Place;
 use crate::spoken::{Spoken, is_text};
 use indexmap::IndexSet;
@@ -360,30 +360,28 @@ impl Spoken for DirectoryObject {
         }
     }
 
-    fn inv_text(alloc: Global, inv: &DirectoryInv) -> Result<Vec<u8>, AllocError> {
+    fn push_inv(text: &mut Vec<u8>, inv: &DirectoryInv) -> Result<(), AllocError> {
         match inv {
             DirectoryInv::Put(name, value) => {
-                let mut text = with_name(alloc, "put", name)?;
-                text.extend_from_slice(format!(in alloc; " {value}")?.as_bytes())?;
-                Ok(text)
+                push_named(text, b"put ", name)?;
+                push_with_number(text, b" ", value.number())
             }
-            DirectoryInv::Get(name) => with_name(alloc, "get", name),
-            DirectoryInv::Del(name) => with_name(alloc, "del", name),
-            DirectoryInv::Size => Vec::from_slice(alloc, b"size"),
-            DirectoryInv::At(place) => Ok(format!(in alloc; "at {place}")?.into_bytes()),
+            DirectoryInv::Get(name) => push_named(text, b"get ", name),
+            DirectoryInv::Del(name) => push_named(text, b"del ", name),
+            DirectoryInv::Size => text.extend_from_slice(b"size"),
+            DirectoryInv::At(place) => push_with_number(text, b"at ", place.number() as u64),
         }
     }
 
-    fn resp_text(alloc: Global, resp: DirectoryResp) -> Result<Vec<u8>, AllocError> {
-        let text = match resp {
-            DirectoryResp::Was(value) => format!(in alloc; "was {value}")?,
-            DirectoryResp::New => String::from_str(alloc, "new")?,
-            DirectoryResp::Full => String::from_str(alloc, "full")?,
-            DirectoryResp::Found(value) => format!(in alloc; "{value}")?,
-            DirectoryResp::Absent => String::from_str(alloc, "none")?,
-            DirectoryResp::Count(count) => format!(in alloc; "{count}")?,
-        };
-        Ok(text.into_bytes())
+    fn push_resp(text: &mut Vec<u8>, resp: DirectoryResp) -> Result<(), AllocError> {
+        match resp {
+            DirectoryResp::Was(value) => push_with_number(text, b"was ", value.number()),
+            DirectoryResp::New => text.extend_from_slice(b"new"),
+            DirectoryResp::Full => text.extend_from_slice(b"full"),
+            DirectoryResp::Found(value) => push_number(text, value.number()),
+            DirectoryResp::Absent => text.extend_from_slice(b"none"),
+            DirectoryResp::Count(count) => push_number(text, count),
+        }
     }
 
     fn drawn(word: u64) -> DirectoryInv {
@@ -457,12 +455,10 @@ fn read_at(operation: &[u8], word: &[u8]) -> Option<DirectoryInv>
     }
 }
 
-/// An operation and a name, with a space between.
-fn with_name(alloc: Global, operation: &str, name: &Name) -> Result<Vec<u8>, AllocError>
-    ensures { IfOk result (λ text. text.items ≡ operation.now ++ (32 ∷ name.now)) }
+/// Writes an operation and a name after a text.
+fn push_named(text: &mut Vec<u8>, operation: &[u8], name: &Name) -> Result<(), AllocError>
+    ensures { OnOk result (text.new.items ≡ text.old.items ++ operation.now ++ name.now) }
 {
-    let mut text = Vec::from_slice(alloc, operation.as_bytes())?;
-    text.push(b' ')?;
-    text.extend_from_slice(name.as_bytes())?;
-    Ok(text)
+    text.extend_from_slice(operation)?;
+    text.extend_from_slice(name.as_bytes())
 }

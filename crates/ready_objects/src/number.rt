@@ -1,6 +1,6 @@
 //! Numbers, and the words that stand for them.
 
-ghost use Rattle.std.specs.Prelude.{◌≡◌, ℕ, ◌+◌, ◌-◌, ◌≤◌, ◌%◌, true, Some, length};
+ghost use Rattle.std.specs.Prelude.{◌≡◌, ℕ, ◌+◌, ◌-◌, ◌≤◌, ◌%◌, ◌++◌, true, Some, OnOk, length};
 ghost use Rattle.std.specs.Fmt.{decimal};
 ghost use Rattle.std.specs.Option.{SomeIff};
 ghost use Rattle.std.specs.Char.{is_ascii_digit};
@@ -8,6 +8,8 @@ ghost use Rattle.std.specs.List.{list_all};
 ghost use Rattle.std.specs.Str.Parse.{digits_value};
 ghost use Rattle.ready_objects.specs.Number.{is_number, number_of_word};
 
+use itoa::Buffer;
+use std::alloc::AllocError;
 use std::fmt;
 use std::marker::Model;
 
@@ -92,6 +94,30 @@ impl fmt::Display for Amount {
     fn fmt<W: fmt::Write>(&self, f: &mut fmt::Formatter<W>) -> fmt::Result {
         write!(f, "{}", self.0)
     }
+}
+
+/// Writes a number after a text, in decimal.
+///
+/// An `Err` says that memory was refused.
+pub fn push_number(text: &mut Vec<u8>, number: u64) -> Result<(), AllocError>
+    ensures { OnOk result (text.new.items ≡ text.old.items ++ decimal number) }
+{
+    let mut digits = Buffer::new();
+    text.extend_from_slice(digits.format(number).as_bytes())
+}
+
+/// Writes a word and a number after a text.
+///
+/// An `Err` says that memory was refused.
+pub(crate) fn push_with_number(
+    text: &mut Vec<u8>,
+    word: &[u8],
+    number: u64,
+) -> Result<(), AllocError>
+    ensures { OnOk result (text.new.items ≡ text.old.items ++ word.now ++ decimal number) }
+{
+    text.extend_from_slice(word)?;
+    push_number(text, number)
 }
 
 /// Tells whether a word is 1 to 12 decimal digits, without a leading zero unless it is `0`.

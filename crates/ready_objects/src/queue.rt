@@ -8,7 +8,7 @@ ghost use Rattle.ready_objects.specs.declared.queue.QueueResp.TheVariants.{Added
 ghost use Rattle.ready_objects.specs.Exact.{exact_from};
 ghost use Rattle.ready_objects.specs.Queue.{queue, queue_next, queue_answer, queue_language};
 
-use crate::number::Amount;
+use crate::number::{Amount, push_number, push_with_number};
 use crate::spoken::{Spoken, is_text};
 use seq_object::SeqObject;
 use std::alloc::{AllocError, Global};
@@ -171,22 +171,20 @@ impl Spoken for QueueObject {
         }
     }
 
-    fn inv_text(alloc: Global, inv: &QueueInv) -> Result<Vec<u8>, AllocError> {
-        let text = match inv {
-            QueueInv::Enq(value) => format!(in alloc; "enq {value}")?,
-            QueueInv::Deq => String::from_str(alloc, "deq")?,
-        };
-        Ok(text.into_bytes())
+    fn push_inv(text: &mut Vec<u8>, inv: &QueueInv) -> Result<(), AllocError> {
+        match inv {
+            QueueInv::Enq(value) => push_with_number(text, b"enq ", value.number()),
+            QueueInv::Deq => text.extend_from_slice(b"deq"),
+        }
     }
 
-    fn resp_text(alloc: Global, resp: QueueResp) -> Result<Vec<u8>, AllocError> {
-        let text = match resp {
-            QueueResp::Added => String::from_str(alloc, "ok")?,
-            QueueResp::Full => String::from_str(alloc, "full")?,
-            QueueResp::Taken(value) => format!(in alloc; "{value}")?,
-            QueueResp::Empty => String::from_str(alloc, "empty")?,
-        };
-        Ok(text.into_bytes())
+    fn push_resp(text: &mut Vec<u8>, resp: QueueResp) -> Result<(), AllocError> {
+        match resp {
+            QueueResp::Added => text.extend_from_slice(b"ok"),
+            QueueResp::Full => text.extend_from_slice(b"full"),
+            QueueResp::Taken(value) => push_number(text, value.number()),
+            QueueResp::Empty => text.extend_from_slice(b"empty"),
+        }
     }
 
     fn drawn(word: u64) -> QueueInv {

@@ -1,6 +1,6 @@
 //! Objects whose invocations and responses have words.
 
-ghost use Rattle.std.specs.Prelude.{◌≡◌, ℕ, List, Option, Some, IfOk};
+ghost use Rattle.std.specs.Prelude.{◌≡◌, ℕ, List, Option, Some, IfOk, OnOk, ◌++◌};
 ghost use Rattle.std.specs.Str.{bytes_eq};
 ghost use Rattle.ready_objects.specs.Spoken.{Language};
 ghost use Rattle.ready_objects.specs.Words.{bytes_of, text_of_words, words_of_text};
@@ -18,17 +18,17 @@ pub trait Spoken: SeqObject {
     fn read_inv(words: &[&[u8]]) -> Option<Self::Inv>
         ensures { result ≡ language.inv_of_words (bytes_of words.now) };
 
-    /// The text of an invocation: its words with one space between.
+    /// Writes an invocation after a text: its words with one space between.
     ///
     /// An `Err` says that memory was refused.
-    fn inv_text(alloc: Global, inv: &Self::Inv) -> Result<Vec<u8>, AllocError>
-        ensures { IfOk result (λ text. text.items ≡ text_of_words (language.inv_words inv.now)) };
+    fn push_inv(text: &mut Vec<u8>, inv: &Self::Inv) -> Result<(), AllocError>
+        ensures { OnOk result (text.new.items ≡ text.old.items ++ text_of_words (language.inv_words inv.now)) };
 
-    /// The text of a response.
+    /// Writes a response after a text.
     ///
     /// An `Err` says that memory was refused.
-    fn resp_text(alloc: Global, resp: Self::Resp) -> Result<Vec<u8>, AllocError>
-        ensures { IfOk result (λ text. text.items ≡ language.resp_text resp) };
+    fn push_resp(text: &mut Vec<u8>, resp: Self::Resp) -> Result<(), AllocError>
+        ensures { OnOk result (text.new.items ≡ text.old.items ++ language.resp_text resp) };
 
     /// The invocation that a drawn word stands for.
     fn drawn(word: u64) -> Self::Inv
@@ -41,6 +41,28 @@ pub trait Spoken: SeqObject {
         ensures words { words_of_text (text_of_words (language.inv_words inv.now)) ≡ language.inv_words inv.now }
         ensures inv { language.inv_of_words (language.inv_words inv.now) ≡ Some inv.now }
         ensures only { (words : List (List ℕ)) → language.inv_of_words words ≡ Some inv.now → words ≡ language.inv_words inv.now };
+}
+
+/// The text of an invocation: its words with one space between.
+///
+/// An `Err` says that memory was refused.
+pub fn inv_text<O: Spoken>(alloc: Global, inv: &O::Inv) -> Result<Vec<u8>, AllocError>
+    ensures { IfOk result (λ text. text.items ≡ text_of_words (O.language.inv_words inv.now)) }
+{
+    let mut text = Vec::new(alloc);
+    O::push_inv(&mut text, inv)?;
+    Ok(text)
+}
+
+/// The text of a response.
+///
+/// An `Err` says that memory was refused.
+pub fn resp_text<O: Spoken>(alloc: Global, resp: O::Resp) -> Result<Vec<u8>, AllocError>
+    ensures { IfOk result (λ text. text.items ≡ O.language.resp_text resp) }
+{
+    let mut text = Vec::new(alloc);
+    O::push_resp(&mut text, resp)?;
+    Ok(text)
 }
 
 /// Tells whether a word is this text.

@@ -12,7 +12,7 @@ ghost use Rattle.ready_objects.specs.declared.sticky.StickyResp.TheVariants.{Set
 ghost use Rattle.ready_objects.specs.Exact.{exact_from};
 ghost use Rattle.ready_objects.specs.Sticky.{sticky, sticky_language, stick_replies};
 
-use crate::number::Amount;
+use crate::number::{Amount, push_number, push_with_number};
 use crate::spoken::{Spoken, is_text};
 use seq_object::SeqObject;
 use std::alloc::{AllocError, Global};
@@ -113,20 +113,18 @@ impl Spoken for StickyObject {
         }
     }
 
-    fn inv_text(alloc: Global, inv: &StickyInv) -> Result<Vec<u8>, AllocError> {
-        let text = match inv {
-            StickyInv::Stick(value) => format!(in alloc; "stick {value}")?,
-            StickyInv::Read => String::from_str(alloc, "read")?,
-        };
-        Ok(text.into_bytes())
+    fn push_inv(text: &mut Vec<u8>, inv: &StickyInv) -> Result<(), AllocError> {
+        match inv {
+            StickyInv::Stick(value) => push_with_number(text, b"stick ", value.number()),
+            StickyInv::Read => text.extend_from_slice(b"read"),
+        }
     }
 
-    fn resp_text(alloc: Global, resp: StickyResp) -> Result<Vec<u8>, AllocError> {
-        let text = match resp {
-            StickyResp::Settled(value) => format!(in alloc; "{value}")?,
-            StickyResp::Unset => String::from_str(alloc, "unset")?,
-        };
-        Ok(text.into_bytes())
+    fn push_resp(text: &mut Vec<u8>, resp: StickyResp) -> Result<(), AllocError> {
+        match resp {
+            StickyResp::Settled(value) => push_number(text, value.number()),
+            StickyResp::Unset => text.extend_from_slice(b"unset"),
+        }
     }
 
     fn drawn(word: u64) -> StickyInv {

@@ -3,7 +3,7 @@
 ghost use Rattle.std.specs.Prelude.{◌≡◌, ◌++◌, OnOk, Some, decimal};
 ghost use Rattle.uni_script.specs.Answer.{call_text, progress_text, refusal_text, answer_text};
 
-use itoa::Buffer;
+use ready_objects::push_number;
 use seq_object::CallId;
 use std::alloc::AllocError;
 use std::fmt;
@@ -147,14 +147,4 @@ pub(crate) fn push_call(text: &mut Vec<u8>, call: CallId) -> Result<(), AllocErr
     push_number(text, u64::from(call.process))?;
     text.extend_from_slice(b".")?;
     push_number(text, call.nth)
-}
-
-/// Writes a number after a text.
-///
-/// An `Err` says that memory was refused.
-pub(crate) fn push_number(text: &mut Vec<u8>, number: u64) -> Result<(), AllocError>
-    ensures { OnOk result (text.new.items ≡ text.old.items ++ decimal number) }
-{
-    let mut digits = Buffer::new();
-    text.extend_from_slice(digits.format(number).as_bytes())
 }

@@ -13,9 +13,9 @@ ghost use Rattle.uni_script.specs.Commands.{output_text, refusal_in_output};
 ghost use Rattle.uni_script.specs.Answer.{answer_text, call_text, refusal_in, numbers_text, heads_text, entry_text, IsOver};
 ghost use Rattle.uni_script.specs.Meaning.{session_of, session_after, opened_session, result_of_command, result_of_call, result_of_steps, result_of_trim, result_of_reshape, last_step, steps_of, steps_taken, most_steps, log_text, refusal_of_call, refusal_of_step, refusal_of_end, refusal_of_reshape, refusal_of_command};
 
-use crate::answer::{Answer, Refusal, push_answer, push_call, push_number};
+use crate::answer::{Answer, Refusal, push_answer, push_call};
 use crate::grammar::{Command, Header};
-use ready_objects::Spoken;
+use ready_objects::{Spoken, push_number, resp_text};
 use seq_object::CallId;
 use std::alloc::{AllocError, Global};
 use uni_core::{Progress, World};
@@ -228,7 +228,7 @@ fn step<O: Spoken>(
     let Some(response) = response else {
         return Ok(Answer::Going { call, steps, turns });
     };
-    let reply = O::resp_text(alloc, response)?;
+    let reply = resp_text::<O>(alloc, response)?;
     Ok(Answer::Returned {
         call,
         reply,
@@ -351,7 +351,7 @@ fn push_log<O: Spoken>(
 {
     let entries = Log::of(world).entries(alloc)?;
     for entry in &entries {
-        push_entry::<O>(text, alloc, entry)?;
+        push_entry::<O>(text, entry)?;
     }
     Ok(())
 }
@@ -361,15 +361,14 @@ fn push_log<O: Spoken>(
 /// An `Err` says that memory was refused.
 fn push_entry<O: Spoken>(
     text: &mut Vec<u8>,
-    alloc: Global,
     entry: &Entry<O::Inv, O::Resp>,
 ) -> Result<(), AllocError>
     ensures { OnOk result (text.new.items ≡ text.old.items ++ entry_text (λ inv. text_of_words (O.language.inv_words inv)) O.language.resp_text (entry_shown entry.now)) }
 {
     push_numbered_call(text, entry.seq, entry.call)?;
-    text.extend_from_slice(&O::inv_text(alloc, &entry.inv)?)?;
+    O::push_inv(text, &entry.inv)?;
     text.extend_from_slice(b" -> ")?;
-    push_reply::<O>(text, alloc, entry.reply)?;
+    push_reply::<O>(text, entry.reply)?;
     text.extend_from_slice(b"\n")
 }
 
@@ -388,15 +387,11 @@ fn push_numbered_call(text: &mut Vec<u8>, number: u64, call: CallId) -> Result<(
 /// Writes a response in the log after a text: a question mark where there is none yet.
 ///
 /// An `Err` says that memory was refused.
-fn push_reply<O: Spoken>(
-    text: &mut Vec<u8>,
-    alloc: Global,
-    reply: Option<O::Resp>,
-) -> Result<(), AllocError>
+fn push_reply<O: Spoken>(text: &mut Vec<u8>, reply: Option<O::Resp>) -> Result<(), AllocError>
     ensures { OnOk result (text.new.items ≡ text.old.items ++ option_map_or O.language.resp_text reply (codes "?")) }
 {
     match reply {
-        Some(response) => text.extend_from_slice(&O::resp_text(alloc, response)?),
+        Some(response) => O::push_resp(text, response),
         None => text.extend_from_slice(b"?"),
     }
 }

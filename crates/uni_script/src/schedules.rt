@@ -69,7 +69,7 @@ pub fn schedule<D: Drawn, W: TextOut>(
     ensures kept { IsErrOf result BenchFault.Memory → writer.new ≡ writer.old }
 {
     let mut text = Vec::new(alloc);
-    let Ok(()) = push_schedule(alloc, source, plan, &mut text) else {
+    let Ok(()) = push_schedule(source, plan, &mut text) else {
         return Err(BenchFault::Memory);
     };
     match write_all(writer, text.as_slice()) {
@@ -82,7 +82,6 @@ pub fn schedule<D: Drawn, W: TextOut>(
 ///
 /// An `Err` says that memory was refused.
 fn push_schedule<D: Drawn>(
-    alloc: Global,
     source: &mut D,
     plan: &Plan,
     text: &mut Vec<u8>,
@@ -92,7 +91,7 @@ fn push_schedule<D: Drawn>(
     ensures drawn { OnOk result ((i : ℕ) → D.word source.new i ≡ D.word source.old (words_of_events (D.word source.old) 0 plan.now.events + i)) }
 {
     push_header(plan, text)?;
-    push_drawn(alloc, source, plan, text)?;
+    push_drawn(source, plan, text)?;
     push_finishes(plan.processes, text)?;
     writeln!(text, "log").map_err(|_| AllocError)
 }
@@ -115,12 +114,7 @@ fn push_header(plan: &Plan, text: &mut Vec<u8>) -> Result<(), AllocError>
 /// Writes the lines of the events of a schedule after a text.
 ///
 /// An `Err` says that memory was refused.
-fn push_drawn<D: Drawn>(
-    alloc: Global,
-    source: &mut D,
-    plan: &Plan,
-    text: &mut Vec<u8>,
-) -> Result<(), AllocError>
+fn push_drawn<D: Drawn>(source: &mut D, plan: &Plan, text: &mut Vec<u8>) -> Result<(), AllocError>
     requires { IsPlan plan.now }
     ensures text { OnOk result (text.new.items ≡ text.old.items ++ event_lines (spoken_of plan.now.object).language plan.now.processes (D.word source.old) 0 plan.now.events) }
     ensures drawn { OnOk result ((i : ℕ) → D.word source.new i ≡ D.word source.old (words_of_events (D.word source.old) 0 plan.now.events + i)) }
@@ -128,14 +122,12 @@ fn push_drawn<D: Drawn>(
     let processes = plan.processes;
     let events = plan.events;
     match plan.object {
-        ObjectName::Queue => push_events::<QueueObject, D>(alloc, source, processes, events, text),
+        ObjectName::Queue => push_events::<QueueObject, D>(source, processes, events, text),
         ObjectName::Directory => {
-            push_events::<DirectoryObject, D>(alloc, source, processes, events, text)
+            push_events::<DirectoryObject, D>(source, processes, events, text)
         }
-        ObjectName::Book => push_events::<BookObject, D>(alloc, source, processes, events, text),
-        ObjectName::Sticky => {
-            push_events::<StickyObject, D>(alloc, source, processes, events, text)
-        }
+        ObjectName::Book => push_events::<BookObject, D>(source, processes, events, text),
+        ObjectName::Sticky => { push_events::<StickyObject, D>(source, processes, events, text) }
     }
 }
 
@@ -143,7 +135,6 @@ fn push_drawn<D: Drawn>(
 ///
 /// An `Err` says that memory was refused.
 fn push_events<O: Spoken, D: Drawn>(
-    alloc: Global,
     source: &mut D,
     processes: u64,
     events: u64,
@@ -154,7 +145,7 @@ fn push_events<O: Spoken, D: Drawn>(
     ensures drawn { OnOk result ((i : ℕ) → D.word source.new i ≡ D.word source.old (words_of_events (D.word source.old) 0 events + i)) }
 {
     for _ in 0..events {
-        push_event::<O, D>(alloc, source, processes, text)?;
+        push_event::<O, D>(source, processes, text)?;
     }
     Ok(())
 }
@@ -163,7 +154,6 @@ fn push_events<O: Spoken, D: Drawn>(
 ///
 /// An `Err` says that memory was refused.
 fn push_event<O: Spoken, D: Drawn>(
-    alloc: Global,
     source: &mut D,
     processes: u64,
     text: &mut Vec<u8>,
@@ -178,7 +168,7 @@ fn push_event<O: Spoken, D: Drawn>(
     if kind == 0 {
         writeln!(text, "trim").map_err(|_| AllocError)
     } else if kind <= 3 {
-        push_call::<O>(alloc, process, source.draw(), text)
+        push_call::<O>(process, source.draw(), text)
     } else {
         writeln!(text, "step {process}").map_err(|_| AllocError)
     }
@@ -187,18 +177,12 @@ fn push_event<O: Spoken, D: Drawn>(
 /// Writes the line of the call of a process that a drawn word stands for after a text.
 ///
 /// An `Err` says that memory was refused.
-fn push_call<O: Spoken>(
-    alloc: Global,
-    process: u64,
-    word: u64,
-    text: &mut Vec<u8>,
-) -> Result<(), AllocError>
+fn push_call<O: Spoken>(process: u64, word: u64, text: &mut Vec<u8>) -> Result<(), AllocError>
     ensures { OnOk result (text.new.items ≡ text.old.items ++ call_line O.language process word) }
 {
-    let inv = O::inv_text(alloc, &O::drawn(word))?;
     write!(text, "call {process} ").map_err(|_| AllocError)?;
-    text.extend_from_slice(&inv)?;
-    writeln!(text, "").map_err(|_| AllocError)
+    O::push_inv(text, &O::drawn(word))?;
+    text.extend_from_slice(b"\n")
 }
 
 /// Writes a line that ends the call of each process after a text.

@@ -1,5 +1,0 @@
-use Rattle.std.proofs.Common.{rules}
-use Rattle.ready_objects.proofs.book.BookObjectSpoken.inv_text.Goals as goal
-
-pub returns : goal.returns
-returns c = search rules
