@@ -11,7 +11,7 @@ use std::alloc::Global;
 use std::marker::Model;
 
 /// A cell of the list.
-#[derive(Debug, Drop)]
+#[derive(Drop)]
 pub(crate) struct Cell<S, I, R> {
     pub(crate) inv: Option<I>,
     pub(crate) seq: Own<u64>,
@@ -66,7 +66,7 @@ impl<S: Drop, I: Drop, R: Drop> Cell<S, I, R> {
 }
 
 /// The cells of one process, in the order in which it made them.
-#[derive(Debug, Drop)]
+#[derive(Drop)]
 pub(crate) struct Row<S, I, R> {
     pub(crate) cells: Vec<Cell<S, I, R>>,
 }

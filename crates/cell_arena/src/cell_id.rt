@@ -20,7 +20,7 @@ impl Model for CellId {
 }
 
 /// Where a cell is.
-#[derive(Clone, Copy, Debug)]
+#[derive(Clone, Copy)]
 pub(crate) enum Place {
     /// It is the anchor.
     Anchor,

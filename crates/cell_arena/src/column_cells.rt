@@ -16,7 +16,7 @@ use std::marker::Model;
 
 /// An arena that keeps a column for each field of a cell, and reserves the room of an era at once:
 /// no call but `opened` and `clear_for` takes memory.
-#[derive(Debug, Drop)]
+#[derive(Drop)]
 pub struct ColumnCells<S, I, R> {
     row: u64,
     made: Vec<u64>,

@@ -12,7 +12,7 @@ use std::marker::Model;
 use std::mem;
 
 /// A column for each field of a cell. A contract sees what stands at each index.
-#[derive(Debug, Drop)]
+#[derive(Drop)]
 pub(crate) struct Columns<S, I, R> {
     inv: Vec<Option<I>>,
     seq: Vec<u64>,

@@ -17,7 +17,7 @@ use std::marker::Model;
 use std::mem;
 
 /// An arena that keeps a vector of cells for each process, which takes memory as cells are made.
-#[derive(Debug, Drop)]
+#[derive(Drop)]
 pub struct RowCells<S, I, R> {
     rows: CellRows<S, I, R>,
 }

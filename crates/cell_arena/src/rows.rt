@@ -13,7 +13,7 @@ use std::alloc::{AllocError, Global};
 use std::marker::Model;
 
 /// The anchor, and a vector of cells for each process.
-#[derive(Debug, Drop)]
+#[derive(Drop)]
 pub(crate) struct CellRows<S, I, R> {
     row: u64,
     anchor: Cell<S, I, R>,

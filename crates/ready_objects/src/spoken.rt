@@ -30,6 +30,28 @@ pub trait Spoken: SeqObject {
     fn push_resp(text: &mut Vec<u8>, resp: Self::Resp) -> Result<(), AllocError>
         ensures { OnOk result (text.new.items ≡ text.old.items ++ language.resp_text resp) };
 
+    /// The text of an invocation: its words with one space between.
+    ///
+    /// An `Err` says that memory was refused.
+    fn inv_text(alloc: Global, inv: &Self::Inv) -> Result<Vec<u8>, AllocError>
+        ensures { IfOk result (λ text. text.items ≡ text_of_words (language.inv_words inv.now)) }
+    {
+        let mut text = Vec::new(alloc);
+        Self::push_inv(&mut text, inv)?;
+        Ok(text)
+    }
+
+    /// The text of a response.
+    ///
+    /// An `Err` says that memory was refused.
+    fn resp_text(alloc: Global, resp: Self::Resp) -> Result<Vec<u8>, AllocError>
+        ensures { IfOk result (λ text. text.items ≡ language.resp_text resp) }
+    {
+        let mut text = Vec::new(alloc);
+        Self::push_resp(&mut text, resp)?;
+        Ok(text)
+    }
+
     /// The invocation that a drawn word stands for.
     fn drawn(word: u64) -> Self::Inv
         ensures { result ≡ language.inv_of_word word };
@@ -41,28 +63,6 @@ pub trait Spoken: SeqObject {
         ensures words { words_of_text (text_of_words (language.inv_words inv.now)) ≡ language.inv_words inv.now }
         ensures inv { language.inv_of_words (language.inv_words inv.now) ≡ Some inv.now }
         ensures only { (words : List (List ℕ)) → language.inv_of_words words ≡ Some inv.now → words ≡ language.inv_words inv.now };
-}
-
-/// The text of an invocation: its words with one space between.
-///
-/// An `Err` says that memory was refused.
-pub fn inv_text<O: Spoken>(alloc: Global, inv: &O::Inv) -> Result<Vec<u8>, AllocError>
-    ensures { IfOk result (λ text. text.items ≡ text_of_words (O.language.inv_words inv.now)) }
-{
-    let mut text = Vec::new(alloc);
-    O::push_inv(&mut text, inv)?;
-    Ok(text)
-}
-
-/// The text of a response.
-///
-/// An `Err` says that memory was refused.
-pub fn resp_text<O: Spoken>(alloc: Global, resp: O::Resp) -> Result<Vec<u8>, AllocError>
-    ensures { IfOk result (λ text. text.items ≡ O.language.resp_text resp) }
-{
-    let mut text = Vec::new(alloc);
-    O::push_resp(&mut text, resp)?;
-    Ok(text)
 }
 
 /// Tells whether a word is this text.

@@ -23,7 +23,7 @@ pub const MOST_TOLD: usize = 100_000;
 const MOST_LETTERS: usize = 1_000;
 
 /// How wide things are.
-#[derive(Clone, Copy, Debug, PartialEq, Eq)]
+#[derive(Clone, Copy)]
 pub struct Scale {
     /// Where the first column begins.
     pub start: u32,
@@ -36,7 +36,7 @@ pub struct Scale {
 }
 
 /// What an event or a refusal takes up.
-#[derive(Clone, Copy, Debug, PartialEq, Eq)]
+#[derive(Clone, Copy)]
 pub struct Column {
     /// Where it begins.
     pub left: u32,
@@ -61,7 +61,7 @@ impl Column {
 }
 
 /// What a remark takes up.
-#[derive(Clone, Copy, Debug, PartialEq, Eq)]
+#[derive(Clone, Copy)]
 struct Room {
     /// How many events stand before it.
     before: u64,
@@ -70,7 +70,7 @@ struct Room {
 }
 
 /// The columns of a run.
-#[derive(Debug, Drop, PartialEq, Eq)]
+#[derive(Drop)]
 pub struct Axis {
     /// Those of the events.
     pub events: Vec<Column>,

@@ -6,7 +6,7 @@ ghost use Rattle.run_lines.specs.Canvas.{stroke_shown, letter_seen, letter_over,
 use std::alloc::{AllocError, Global};
 
 /// How the letters of a stroke stand to those before it.
-#[derive(Clone, Copy, Debug, PartialEq, Eq)]
+#[derive(Clone, Copy)]
 pub enum Layer {
     /// Over them.
     Over,
@@ -33,7 +33,7 @@ impl Layer {
 }
 
 /// A text that stands in some rows from a column on.
-#[derive(Debug, Drop, PartialEq, Eq)]
+#[derive(Drop)]
 pub struct Stroke {
     /// The first row.
     pub top: u64,

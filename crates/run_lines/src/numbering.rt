@@ -6,7 +6,7 @@ ghost use Rattle.run_lines.specs.Numbers.{no_notes, note_number, numbering_after
 use uni_script::{Remark, Told};
 
 /// How far the notes of a run are numbered.
-#[derive(Clone, Copy, Debug, PartialEq, Eq)]
+#[derive(Clone, Copy)]
 pub struct Numbering {
     /// The number of the last note, from 1; 0 before all notes.
     pub number: u64,

@@ -10,7 +10,7 @@ use uni_core::StepKind;
 use uni_script::ObjectName;
 
 /// A step.
-#[derive(Clone, Copy, Debug, PartialEq, Eq)]
+#[derive(Clone, Copy)]
 pub struct StepMark {
     /// The place of its event among the events, from 0.
     pub event: u64,
@@ -21,7 +21,7 @@ pub struct StepMark {
 }
 
 /// How a call ended.
-#[derive(Debug, Drop, PartialEq, Eq)]
+#[derive(Drop)]
 pub struct BarEnd {
     /// The place of the event that is its last step.
     pub event: u64,
@@ -34,7 +34,7 @@ pub struct BarEnd {
 }
 
 /// A call, from its begin to its return.
-#[derive(Debug, Drop, PartialEq, Eq)]
+#[derive(Drop)]
 pub struct Bar {
     /// The call.
     pub call: CallId,
@@ -47,7 +47,7 @@ pub struct Bar {
 }
 
 /// The linearization point of a call: the step that linked its cell.
-#[derive(Clone, Copy, Debug, PartialEq, Eq)]
+#[derive(Clone, Copy)]
 pub struct Dot {
     /// The place of that step's event.
     pub event: u64,
@@ -58,7 +58,7 @@ pub struct Dot {
 }
 
 /// How an era ended.
-#[derive(Clone, Copy, Debug, PartialEq, Eq)]
+#[derive(Clone, Copy)]
 pub enum EraEnd {
     /// By a trim.
     Trim,
@@ -67,7 +67,7 @@ pub enum EraEnd {
 }
 
 /// The end of an era.
-#[derive(Clone, Copy, Debug, PartialEq, Eq)]
+#[derive(Clone, Copy)]
 pub struct EraLine {
     /// The place of its event.
     pub event: u64,
@@ -78,7 +78,7 @@ pub struct EraLine {
 }
 
 /// A cell of the list.
-#[derive(Debug, Drop, PartialEq, Eq)]
+#[derive(Drop)]
 pub struct CellBox {
     /// Its number.
     pub number: u64,
@@ -91,7 +91,7 @@ pub struct CellBox {
 }
 
 /// An era.
-#[derive(Debug, Drop, PartialEq, Eq)]
+#[derive(Drop)]
 pub struct Era {
     /// How many events came before it.
     pub from: u64,
@@ -104,7 +104,7 @@ pub struct Era {
 }
 
 /// The marks of a run.
-#[derive(Debug, Drop, PartialEq, Eq)]
+#[derive(Drop)]
 pub struct Marks {
     /// What the processes share.
     pub object: ObjectName,

@@ -28,7 +28,7 @@ const FIRST: u64 = 84;
 const LOWEST: u64 = 10_000_000_000;
 
 /// A place in a line of boxes.
-#[derive(Clone, Copy, Debug, PartialEq, Eq)]
+#[derive(Clone, Copy)]
 pub struct Spot {
     /// How far from the left it is.
     pub left: u64,

@@ -73,7 +73,7 @@ pub fn push_line(
 }
 
 /// Where the tip of an arrow points.
-#[derive(Clone, Copy, Debug, PartialEq, Eq)]
+#[derive(Clone, Copy)]
 pub enum Toward {
     /// Up.
     Up,

@@ -24,7 +24,7 @@ pub const START: u32 = 44;
 const LANE: u64 = 96;
 
 /// Where the lanes stand.
-#[derive(Clone, Copy, Debug, PartialEq, Eq)]
+#[derive(Clone, Copy)]
 pub struct Lanes {
     /// The top of the first one.
     pub top: u32,
@@ -56,7 +56,7 @@ impl Lanes {
 }
 
 /// How the lanes of an era stand.
-#[derive(Clone, Copy, Debug, PartialEq, Eq)]
+#[derive(Clone, Copy)]
 struct Stretch {
     /// From where.
     left: u64,

@@ -1,7 +1,7 @@
 //! How shapes are painted.
 
 /// A colour of Okabe and Ito, which the colour-blind tell apart.
-#[derive(Clone, Copy, Debug, PartialEq, Eq)]
+#[derive(Clone, Copy)]
 pub enum Colour {
     /// `#e69f00`.
     Orange,
@@ -20,7 +20,7 @@ pub enum Colour {
 }
 
 /// How a shape is painted.
-#[derive(Clone, Copy, Debug, PartialEq, Eq)]
+#[derive(Clone, Copy)]
 pub enum Paint {
     /// White, without an edge.
     Paper,

@@ -3,7 +3,7 @@
 use crate::paint::Paint;
 
 /// Which part of a text stands at its place.
-#[derive(Clone, Copy, Debug, PartialEq, Eq)]
+#[derive(Clone, Copy)]
 pub enum Anchor {
     /// Its start.
     Start,
@@ -14,7 +14,7 @@ pub enum Anchor {
 }
 
 /// A shape.
-#[derive(Debug, Drop, PartialEq, Eq)]
+#[derive(Drop)]
 pub enum Shape {
     /// A rectangle.
     Rect {
@@ -80,7 +80,7 @@ pub enum Shape {
 }
 
 /// A picture.
-#[derive(Debug, Drop, PartialEq, Eq)]
+#[derive(Drop)]
 pub struct Drawing {
     /// How wide it is.
     pub width: u64,

@@ -73,6 +73,13 @@ module _ {O S I R : Type 0} (object : Sequential S I R) (v now : Whole O S I R) 
   pub no_call_now : l.call ≡ None → (world_of now).call p ≡ None
   no_call_now idle = subst (λ (x : Whole O S I R). (world_of x).call p ≡ None) view (rw here (rw idle refl))
 
+  some_call : (o : Option Pending) → is_some o ≡ true → IsSome (option_map (pending_of (named v.shared)) o)
+  some_call None e = cc
+  some_call (Some call) e = refl
+
+  pub some_call_now : (b : Bool) → b ≡ is_some l.call → b ≡ true → IsSome ((world_of now).call p)
+  some_call_now b tested is_true = subst (λ (x : Whole O S I R). IsSome ((world_of x).call p)) view (rw here (some_call l.call (sym tested ∙ is_true)))
+
   -- the era has as many of its calls as there are cells
   era_is : calls_in_era (world_of v) p ≡ made_of v.shared.cells p
   era_is = let all : (world_of v).begun p ≡ first_of v.shared p + made_of v.shared.cells p = is.made p in omega arith

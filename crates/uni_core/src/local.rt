@@ -9,7 +9,7 @@ use cell_arena::CellId;
 /// What a process keeps for itself: its pending call, how many calls it has begun since the
 /// opening, and of its latest call among how many processes it ran (0 where it has begun none), its
 /// own steps and its turns.
-#[derive(Clone, Copy, Debug)]
+#[derive(Clone, Copy)]
 pub(crate) struct Local {
     pub(crate) call: Option<Pending>,
     pub(crate) begun: u64,

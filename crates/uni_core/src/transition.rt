@@ -54,7 +54,7 @@ fn preferred(help: CellId, help_seq: u64, mine: CellId) -> CellId
 }
 
 /// What a step comes to for its process.
-#[derive(Clone, Copy, Debug)]
+#[derive(Clone, Copy)]
 pub(crate) enum After<R> {
     /// The process stands at this stage.
     At(Stage),

@@ -10,7 +10,7 @@ use std::fmt;
 use std::io::Write;
 
 /// A command that the construction refused, with the number as the script gave it.
-#[derive(Clone, Copy, Debug, PartialEq, Eq)]
+#[derive(Clone, Copy)]
 pub enum Refusal {
     /// There is no such process.
     Process(u64),
@@ -48,7 +48,7 @@ impl fmt::Display for Refusal {
 }
 
 /// An answer.
-#[derive(Debug, Drop)]
+#[derive(Drop)]
 pub enum Answer {
     /// A call began.
     Called(CallId),

@@ -15,7 +15,7 @@ ghost use Rattle.uni_script.specs.Meaning.{session_of, session_after, opened_ses
 
 use crate::answer::{Answer, Refusal, push_answer, push_call};
 use crate::grammar::{Command, Header};
-use ready_objects::{Spoken, push_number, resp_text};
+use ready_objects::{Spoken, push_number};
 use seq_object::CallId;
 use std::alloc::{AllocError, Global};
 use uni_core::{Progress, World};
@@ -228,7 +228,7 @@ fn step<O: Spoken>(
     let Some(response) = response else {
         return Ok(Answer::Going { call, steps, turns });
     };
-    let reply = resp_text::<O>(alloc, response)?;
+    let reply = O::resp_text(alloc, response)?;
     Ok(Answer::Returned {
         call,
         reply,

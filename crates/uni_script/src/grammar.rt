@@ -39,7 +39,7 @@ impl fmt::Display for ObjectName {
 }
 
 /// A version of the language.
-#[derive(Clone, Copy, Debug, PartialEq, Eq)]
+#[derive(Clone, Copy)]
 pub enum Version {
     /// Up to 16 processes, as many as the header says.
     One,
@@ -48,7 +48,7 @@ pub enum Version {
 }
 
 /// The header of a script.
-#[derive(Clone, Copy, Debug, PartialEq, Eq)]
+#[derive(Clone, Copy)]
 pub struct Header {
     /// The version of the script's language.
     pub version: Version,
@@ -61,7 +61,7 @@ pub struct Header {
 }
 
 /// A command of a script, with an invocation of the object.
-#[derive(Clone, Copy, Debug, PartialEq, Eq)]
+#[derive(Clone, Copy)]
 pub enum Command<I> {
     /// A process begins a call.
     Call {

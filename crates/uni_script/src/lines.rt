@@ -14,7 +14,7 @@ const MOST_BYTES: usize = 200;
 const MOST_LINES: u64 = 100_000;
 
 /// Why no further line was taken.
-#[derive(Clone, Copy, Debug, PartialEq, Eq)]
+#[derive(Clone, Copy)]
 pub enum Stop {
     /// The text has ended.
     End,
@@ -27,7 +27,7 @@ pub enum Stop {
 }
 
 /// Whether a reader has told the end of its text.
-#[derive(Clone, Copy, Debug, PartialEq, Eq)]
+#[derive(Clone, Copy)]
 pub enum Source {
     /// It hasn't.
     Open,

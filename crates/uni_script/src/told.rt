@@ -3,7 +3,7 @@
 use crate::answer::Refusal;
 
 /// What a line tells that is no event.
-#[derive(Debug, Drop)]
+#[derive(Drop)]
 pub enum Remark {
     /// A note before the header, without its `#`.
     Heading(Vec<u8>),
@@ -14,7 +14,7 @@ pub enum Remark {
 }
 
 /// A remark, and where it stands among the events.
-#[derive(Debug, Drop)]
+#[derive(Drop)]
 pub struct Told {
     /// How many events were stored before it.
     pub before: u64,

@@ -19,7 +19,7 @@ pub struct Receipt<I, R> {
 }
 
 /// A seat's call that hasn't ended.
-#[derive(Debug, Drop, PartialEq, Eq)]
+#[derive(Drop)]
 pub(crate) struct PendingCall<I> {
     /// The call.
     pub(crate) call: CallId,

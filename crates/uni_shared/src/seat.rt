@@ -39,7 +39,7 @@ impl<O: SeqObject> Model for Seat<O> {
 }
 
 /// Why a call was left pending.
-#[derive(Clone, Copy, Debug)]
+#[derive(Clone, Copy)]
 enum Stop {
     GaveUp,
     Stranger,
@@ -60,14 +60,14 @@ impl Stop {
 }
 
 /// A call that was left pending, and the place that its next step touches, as it was seen last.
-#[derive(Clone, Copy, Debug)]
+#[derive(Clone, Copy)]
 struct Halt {
     stop: Stop,
     place: Place,
 }
 
 /// The end of a call.
-#[derive(Clone, Copy, Debug)]
+#[derive(Clone, Copy)]
 struct End<R> {
     reply: R,
     steps: u64,
@@ -75,7 +75,7 @@ struct End<R> {
 }
 
 /// What a step left.
-#[derive(Clone, Copy, Debug)]
+#[derive(Clone, Copy)]
 enum Passed<R> {
     /// The call goes on, at this place.
     On(Place),

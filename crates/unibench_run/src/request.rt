@@ -14,7 +14,7 @@ use std::convert::AsStr;
 use uni_script::{ObjectName, Options};
 
 /// A form of the construction that threads can share.
-#[derive(Clone, Copy, Debug, PartialEq, Eq)]
+#[derive(Clone, Copy)]
 pub enum Form {
     /// A world under a lock.
     Lock,
@@ -36,7 +36,7 @@ impl Form {
 }
 
 /// An object that threads can share, in one form or in both.
-#[derive(Clone, Copy, Debug, PartialEq, Eq)]
+#[derive(Clone, Copy)]
 pub enum ThreadsObject {
     /// A queue.
     Queue,
@@ -67,7 +67,7 @@ impl ThreadsObject {
 }
 
 /// What a run of threads is.
-#[derive(Clone, Copy, Debug, PartialEq, Eq)]
+#[derive(Clone, Copy)]
 pub struct Plan {
     /// The form of the object.
     pub form: Form,
@@ -98,7 +98,7 @@ impl Plan {
 }
 
 /// What a schedule that is drawn from a seed is.
-#[derive(Clone, Copy, Debug, PartialEq, Eq)]
+#[derive(Clone, Copy)]
 pub struct RandomPlan {
     /// The schedule.
     pub schedule: uni_script::Plan,
@@ -192,7 +192,7 @@ fn options_of(matches: &ArgMatches<'_>) -> Option<Options>
 }
 
 /// What a command line asks for.
-#[derive(Clone, Copy, Debug, PartialEq, Eq)]
+#[derive(Clone, Copy)]
 pub enum Request {
     /// The replay of the script on standard input.
     Replay(Options),

@@ -16,7 +16,7 @@ use std::convert::AsStr;
 use uni_script::{BenchFault, Failed, TextIn, TextOut, report_fault, tell, write_all};
 
 /// What a picture is drawn as.
-#[derive(Clone, Copy, Debug, PartialEq, Eq)]
+#[derive(Clone, Copy)]
 pub enum Form {
     /// An SVG.
     Svg,

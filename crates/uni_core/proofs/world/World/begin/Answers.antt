@@ -1,5 +1,5 @@
 use Rattle.std.proofs.Common.{refl, sym}
-use Rattle.uni_core.proofs.Begin.{inside_count, inside_view, no_call, no_call_now, full_now, not_full_now, room_left, IsWorld-call, world_of-call, Follows-call, begun_now, idle_now, none_isn't_some}
+use Rattle.uni_core.proofs.Begin.{inside_count, inside_view, no_call, no_call_now, some_call_now, full_now, not_full_now, room_left, IsWorld-call, world_of-call, Follows-call, begun_now, idle_now, none_isn't_some}
 use Rattle.uni_core.proofs.world.World.begin.Goals as goal
 
 pub make-mine-requires-clause-room : goal.make-mine-requires-clause-room
@@ -47,3 +47,26 @@ returns-in_default-clause-full g c = (λ e. cc, λ h. absurd (not_full_now _ _ _
 
 pub returns-clause-full : goal.returns-clause-full
 returns-clause-full g c = (λ e. cc, λ h. absurd (not_full_now _ _ _ c.self.view_is c.self.invariant c.args.p c.index.result.now (inside_count _ _ c.args.p c.processes-n.ensures c.if-p-n.false) c.index.ensures c.room.result c.room.ensures c.if-room-eq0.false h.2))
+
+pub returns-then-is_some-clause-busy : goal.returns-then-is_some-clause-busy
+returns-then-is_some-clause-busy g c = (
+  λ e. (inside_view _ _ c.args.p (sym c.self.view_is) (inside_count _ _ c.args.p c.processes-n.ensures c.if-p-n.false), some_call_now _ _ _ c.self.view_is c.self.invariant c.args.p c.index.result.now (inside_count _ _ c.args.p c.processes-n.ensures c.if-p-n.false) c.index.ensures c.is_some.result c.is_some.ensures c.if-is_some.true),
+  λ h. refl,
+)
+
+pub returns-then-is_some-clause-full : goal.returns-then-is_some-clause-full
+returns-then-is_some-clause-full g c = (λ e. cc, λ h. absurd (none_isn't_some _ h.1 (some_call_now _ _ _ c.self.view_is c.self.invariant c.args.p c.index.result.now (inside_count _ _ c.args.p c.processes-n.ensures c.if-p-n.false) c.index.ensures c.is_some.result c.is_some.ensures c.if-is_some.true)))
+
+pub returns-then-room-eq0-clause-busy : goal.returns-then-room-eq0-clause-busy
+returns-then-room-eq0-clause-busy g c = (
+  λ e. cc,
+  λ h. absurd (none_isn't_some _ (no_call_now _ _ _ c.self.view_is c.self.invariant c.args.p c.index.result.now (inside_count _ _ c.args.p c.processes-n.ensures c.if-p-n.false) c.index.ensures
+        (no_call _ _ _ c.self.view_is c.self.invariant c.args.p c.index.result.now (inside_count _ _ c.args.p c.processes-n.ensures c.if-p-n.false) c.index.ensures _ (sym c.is_some.ensures) c.if-is_some.false)) h.1),
+)
+
+pub returns-in_default-clause-busy : goal.returns-in_default-clause-busy
+returns-in_default-clause-busy g c = (
+  λ e. cc,
+  λ h. absurd (none_isn't_some _ (no_call_now _ _ _ c.self.view_is c.self.invariant c.args.p c.index.result.now (inside_count _ _ c.args.p c.processes-n.ensures c.if-p-n.false) c.index.ensures
+        (no_call _ _ _ c.self.view_is c.self.invariant c.args.p c.index.result.now (inside_count _ _ c.args.p c.processes-n.ensures c.if-p-n.false) c.index.ensures _ (sym c.is_some.ensures) c.if-is_some.false)) h.1),
+)
