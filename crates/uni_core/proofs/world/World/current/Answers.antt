@@ -1,5 +1,5 @@
-use Rattle.std.proofs.Common.{arith}
-use Rattle.uni_core.proofs.Begin.{inside_view, within_locals, begun_one, few_enough, current_now}
+use Rattle.std.proofs.Common.{arith, refl, ap, not}
+use Rattle.uni_core.proofs.Begin.{inside_view, within_locals, begun_one, few_enough, current_now, no_call, no_call_now}
 use Rattle.uni_core.proofs.world.World.current.Goals as goal
 
 -- src/world.rt:225:22
@@ -16,3 +16,6 @@ returns g c = current_now _ _ _ c.self.view_is c.self.invariant c.args.p c.index
 
 pub index-requires : goal.index-requires
 index-requires g c = rw c.self.inside.locals.ok.0 (within_locals _ _ _ c.self.view_is c.self.invariant c.args.p c.requires)
+
+pub returns-then-is_none : goal.returns-then-is_none
+returns-then-is_none g c = rw (no_call_now _ _ _ c.self.view_is c.self.invariant c.args.p c.index.result.now (inside_view _ _ c.args.p c.self.view_is c.requires) c.index.ensures (no_call _ _ _ c.self.view_is c.self.invariant c.args.p c.index.result.now (inside_view _ _ c.args.p c.self.view_is c.requires) c.index.ensures _ c.is_none.ensures (ap not c.if-is_none.true))) refl
