@@ -61,12 +61,12 @@ pub returns-then-room-eq0-clause-busy : goal.returns-then-room-eq0-clause-busy
 returns-then-room-eq0-clause-busy g c = (
   λ e. cc,
   λ h. absurd (none_isn't_some _ (no_call_now _ _ _ c.self.view_is c.self.invariant c.args.p c.index.result.now (inside_count _ _ c.args.p c.processes-n.ensures c.if-p-n.false) c.index.ensures
-        (no_call _ _ _ c.self.view_is c.self.invariant c.args.p c.index.result.now (inside_count _ _ c.args.p c.processes-n.ensures c.if-p-n.false) c.index.ensures _ (sym c.is_some.ensures) c.if-is_some.false)) h.1),
+      (no_call _ _ _ c.self.view_is c.self.invariant c.args.p c.index.result.now (inside_count _ _ c.args.p c.processes-n.ensures c.if-p-n.false) c.index.ensures _ (sym c.is_some.ensures) c.if-is_some.false)) h.1),
 )
 
 pub returns-in_default-clause-busy : goal.returns-in_default-clause-busy
 returns-in_default-clause-busy g c = (
   λ e. cc,
   λ h. absurd (none_isn't_some _ (no_call_now _ _ _ c.self.view_is c.self.invariant c.args.p c.index.result.now (inside_count _ _ c.args.p c.processes-n.ensures c.if-p-n.false) c.index.ensures
-        (no_call _ _ _ c.self.view_is c.self.invariant c.args.p c.index.result.now (inside_count _ _ c.args.p c.processes-n.ensures c.if-p-n.false) c.index.ensures _ (sym c.is_some.ensures) c.if-is_some.false)) h.1),
+      (no_call _ _ _ c.self.view_is c.self.invariant c.args.p c.index.result.now (inside_count _ _ c.args.p c.processes-n.ensures c.if-p-n.false) c.index.ensures _ (sym c.is_some.ensures) c.if-is_some.false)) h.1),
 )
