@@ -36,7 +36,7 @@ pub struct Scale {
 }
 
 /// What an event or a refusal takes up.
-#[derive(Clone, Copy)]
+#[derive(Clone, Copy, Debug, PartialEq, Eq)]
 pub struct Column {
     /// Where it begins.
     pub left: u32,

@@ -10,7 +10,7 @@ use uni_core::StepKind;
 use uni_script::ObjectName;
 
 /// A step.
-#[derive(Clone, Copy)]
+#[derive(Clone, Copy, Debug, PartialEq, Eq)]
 pub struct StepMark {
     /// The place of its event among the events, from 0.
     pub event: u64,
@@ -47,7 +47,7 @@ pub struct Bar {
 }
 
 /// The linearization point of a call: the step that linked its cell.
-#[derive(Clone, Copy)]
+#[derive(Clone, Copy, Debug, PartialEq, Eq)]
 pub struct Dot {
     /// The place of that step's event.
     pub event: u64,
@@ -58,7 +58,7 @@ pub struct Dot {
 }
 
 /// How an era ended.
-#[derive(Clone, Copy)]
+#[derive(Clone, Copy, Debug, PartialEq, Eq)]
 pub enum EraEnd {
     /// By a trim.
     Trim,
@@ -67,7 +67,7 @@ pub enum EraEnd {
 }
 
 /// The end of an era.
-#[derive(Clone, Copy)]
+#[derive(Clone, Copy, Debug, PartialEq, Eq)]
 pub struct EraLine {
     /// The place of its event.
     pub event: u64,
