@@ -286,56 +286,63 @@ fn random_command<'a>(alloc: Global) -> Result<Command<'a>, AllocError>
     ensures app { IfOk result (λ command. app_of command ≡ random_command) }
     ensures local { IfOk result (λ command. (out-Command command).has_globals ≡ false) }
 {
-    let object = option(
-        alloc,
-        "object",
-        "NAME",
-        "One of queue, directory, book and sticky",
-        "queue",
-    );
-    let processes = option(
-        alloc,
-        "processes",
-        "N",
-        "How many processes there are, from 1 to 64",
-        "2",
-    );
-    let processes = in_range(processes, 1, 64);
-    let row = option(
-        alloc,
-        "row",
-        "K",
-        "The most calls of each, from 1 to 4096",
-        "64",
-    );
-    let row = in_range(row, 1, 4096);
-    let seed = option(
-        alloc,
-        "seed",
-        "S",
-        "The seed, from 0 to 18446744073709551615",
-        "1",
-    );
-    let seed = in_range(seed, 0, u64::MAX);
-    let events = option(
-        alloc,
-        "events",
-        "M",
-        "How many events are drawn, from 1 to 99000",
-        "100",
-    );
-    let events = in_range(events, 1, 99_000);
     described(
         alloc,
         "random",
         "Writes a script that is drawn from a seed",
         RANDOM_NOTES,
     )
-    .arg(object)?
-    .arg(processes)?
-    .arg(row)?
-    .arg(seed)?
-    .arg(events)
+    .arg(option(
+        alloc,
+        "object",
+        "NAME",
+        "One of queue, directory, book and sticky",
+        "queue",
+    ))?
+    .arg(in_range(
+        option(
+            alloc,
+            "processes",
+            "N",
+            "How many processes there are, from 1 to 64",
+            "2",
+        ),
+        1,
+        64,
+    ))?
+    .arg(in_range(
+        option(
+            alloc,
+            "row",
+            "K",
+            "The most calls of each, from 1 to 4096",
+            "64",
+        ),
+        1,
+        4096,
+    ))?
+    .arg(in_range(
+        option(
+            alloc,
+            "seed",
+            "S",
+            "The seed, from 0 to 18446744073709551615",
+            "1",
+        ),
+        0,
+        u64::MAX,
+    ))?
+    .arg(in_range(
+        option(
+            alloc,
+            "events",
+            "M",
+            "How many events are drawn, from 1 to 99000",
+            "100",
+        ),
+        1,
+        99_000,
+    ))
 }
 
 /// What the help of `threads` says last.
@@ -355,49 +362,53 @@ fn threads_command<'a>(alloc: Global) -> Result<Command<'a>, AllocError>
     ensures app { IfOk result (λ command. app_of command ≡ threads_command) }
     ensures local { IfOk result (λ command. (out-Command command).has_globals ≡ false) }
 {
-    let form = option(alloc, "form", "NAME", "One of lock and words", "lock");
-    let object = option(
-        alloc,
-        "object",
-        "NAME",
-        "queue, directory, book, sticky or tally",
-        "queue",
-    );
-    let processes = option(
-        alloc,
-        "processes",
-        "N",
-        "How many threads there are, from 1 to 64",
-        "2",
-    );
-    let processes = in_range(processes, 1, 64);
-    let calls = option(
-        alloc,
-        "calls",
-        "C",
-        "How many calls each makes, from 1 to 4096",
-        "100",
-    );
-    let calls = in_range(calls, 1, 4096);
-    let seed = option(
-        alloc,
-        "seed",
-        "S",
-        "The seed of the first thread's calls",
-        "1",
-    );
-    let seed = in_range(seed, 0, u64::MAX);
     described(
         alloc,
         "threads",
         "Makes calls in threads, and compares the replies with the log",
         THREADS_NOTES,
     )
-    .arg(form)?
-    .arg(object)?
-    .arg(processes)?
-    .arg(calls)?
-    .arg(seed)
+    .arg(option(alloc, "form", "NAME", "One of lock and words", "lock"))?
+    .arg(option(
+        alloc,
+        "object",
+        "NAME",
+        "queue, directory, book, sticky or tally",
+        "queue",
+    ))?
+    .arg(in_range(
+        option(
+            alloc,
+            "processes",
+            "N",
+            "How many threads there are, from 1 to 64",
+            "2",
+        ),
+        1,
+        64,
+    ))?
+    .arg(in_range(
+        option(
+            alloc,
+            "calls",
+            "C",
+            "How many calls each makes, from 1 to 4096",
+            "100",
+        ),
+        1,
+        4096,
+    ))?
+    .arg(in_range(
+        option(
+            alloc,
+            "seed",
+            "S",
+            "The seed of the first thread's calls",
+            "1",
+        ),
+        0,
+        u64::MAX,
+    ))
 }
 
 /// What the help of the program says last.
@@ -417,18 +428,18 @@ fn unibench<'a>(alloc: Global) -> Result<Command<'a>, AllocError>
     ensures { IfOk result (λ command. app_of command ≡ unibench) }
 {
     let replay = replay_command(alloc)?;
-    let random = random_command(alloc)?;
-    let threads = threads_command(alloc)?;
-    described(
+    let program = described(
         alloc,
         "unibench",
         "A bench for Herlihy's wait-free universal construction",
         NOTES,
     )
     .subcommand_required(true)
-    .subcommand(replay)?
-    .subcommand(random)?
-    .subcommand(threads)
+    .subcommand(replay)?;
+    let random = random_command(alloc)?;
+    let program = program.subcommand(random)?;
+    let threads = threads_command(alloc)?;
+    program.subcommand(threads)
 }
 
 /// What matches ask for; `None` where an option has a value that it doesn't take.
