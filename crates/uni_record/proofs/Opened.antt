@@ -33,6 +33,11 @@ bad_history h refused = elim (cases_lt 0 h) [
   | inr none ↦ inl (omega (arith, none))
 ]
 
+-- a history whose length is taken
+pub good_history : (h : ℕ) → (1 ≤ h) × (h ≤ 16777216) → (h ≡ 0) ⊎ (16777216 < h) → ⊥
+good_history h few (inl none) = omega (arith, few.0, none)
+good_history h few (inr past) = omega (arith, few.1, past)
+
 -- a record without an event
 pub opened_kept : {O S I R : Type 0} (sequential : O → Sequential S I R) (object : O) (n number limit : ℕ) (r : Recording O S I R) (events returns counts : ℕ)
     → 1 ≤ number → limit ≤ 16777216 → r.world.object ≡ object → world_of r.world ≡ opened_world n (sequential object).initial number → r.processes ≡ n → r.first ≡ number → r.limit ≡ limit

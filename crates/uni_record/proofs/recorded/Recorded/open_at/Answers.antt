@@ -1,6 +1,6 @@
-use Rattle.std.proofs.Common.{refl, inl, inr, arith}
+use Rattle.std.proofs.Common.{refl}
 use Rattle.uni_core.proofs.Runs.{Ok-IsErrOf}
-use Rattle.uni_record.proofs.Opened.{opened_kept, fits_unless, bad_history}
+use Rattle.uni_record.proofs.Opened.{opened_kept, fits_unless, bad_history, good_history}
 use Rattle.uni_record.proofs.recorded.Recorded.open_at.Goals as goal
 
 pub invariant_of-result : goal.invariant_of-result
@@ -19,4 +19,4 @@ pub returns-in-Ok-2-clause-row : goal.returns-in-Ok-2-clause-row
 returns-in-Ok-2-clause-row g c = (λ e. cc, λ h. absurd (Ok-IsErrOf _ _ (c.in-Ok.ensures.row.1 h)))
 
 pub returns-in-Ok-2-clause-history : goal.returns-in-Ok-2-clause-history
-returns-in-Ok-2-clause-history g c = (λ e. cc, λ h. absurd (elim h.5 [ inl none ↦ (let few = c.if-not-history.ensures.0 refl in omega (arith, few, none)) | inr past ↦ (let few = c.if-not-history.ensures.0 refl in omega (arith, few, past)) ]))
+returns-in-Ok-2-clause-history g c = (λ e. cc, λ h. absurd (good_history c.args.h (c.if-not-history.ensures.0 refl) h.5))
