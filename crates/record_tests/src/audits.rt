@@ -2,6 +2,7 @@
 
 use seq_object::{CallId, SeqObject, SwapRegister};
 use std::alloc::{AllocError, Global};
+use std::process::Abort;
 use uni_log::Entry;
 use uni_record::{Return, Verdict, audit};
 
@@ -42,218 +43,222 @@ fn call(process: u32, nth: u64) -> CallId {
     CallId { process, nth }
 }
 
-/// An entry of a call that asks for 7.
-fn entry(seq: u64, call: CallId, reply: Option<u32>) -> Entry<u32, u32> {
-    Entry {
-        seq,
-        call,
-        inv: 7,
-        reply,
+/// Entries of calls that ask for 7: each by its process, its number and its reply.
+type Calls<'a> = &'a [(u32, u64, Option<u32>)];
+
+/// Calls that returned: each by its process, its number and its reply.
+type Returned<'a> = &'a [(u32, u64, u32)];
+
+/// What a row is about, its entries and its returns, and the verdict on them.
+type Row<'a> = (&'a str, Calls<'a>, Returned<'a>, Verdict);
+
+/// The entries of these calls, in this order.
+fn entries_of(alloc: Global, calls: Calls) -> Result<Vec<Entry<u32, u32>>, AllocError> {
+    let mut entries = Vec::new(alloc);
+    let mut seq = 2u64;
+    for row in calls {
+        entries.push(Entry {
+            seq,
+            call: call(row.0, row.1),
+            inv: 7,
+            reply: row.2,
+        })?;
+        seq = seq.wrapping_add(1);
     }
+    Ok(entries)
 }
 
-/// A return of call 0.0.
-fn returned(reply: u32) -> Return<u32> {
-    Return {
-        call: call(0, 0),
-        reply,
+/// The returns of these calls, in this order.
+fn returns_of(alloc: Global, calls: Returned) -> Result<Vec<Return<u32>>, AllocError> {
+    let mut returns = Vec::new(alloc);
+    for row in calls {
+        returns.push(Return {
+            call: call(row.0, row.1),
+            reply: row.2,
+        })?;
     }
+    Ok(returns)
 }
 
-/// The verdict on these entries and returns of a register that starts with 9.
-fn verdict(alloc: Global, entries: &[Entry<u32, u32>], returns: &[Return<u32>]) -> Option<Verdict> {
-    audit(alloc, &SwapRegister { start: 9 }, entries, returns).ok()
+/// The verdict on the entries and the returns of a row, of a register that starts with 9.
+fn verdict(alloc: Global, row: &Row) -> Result<Verdict, AllocError> {
+    let entries = entries_of(alloc, row.1)?;
+    let returns = returns_of(alloc, row.2)?;
+    audit(alloc, &SwapRegister { start: 9 }, &entries, &returns)
+}
+
+/// Each row has its verdict.
+fn judges(rt: &impl Abort, alloc: Global, rows: &[Row]) {
+    for row in rows {
+        assert_eq!(rt; verdict(alloc, row), Ok(row.3), "{}", row.0);
+    }
 }
 
 #[test]
 fn what_the_object_answers_agrees(rt: HostRuntime) {
-    let entries = [entry(2, call(0, 0), Some(9))];
-    assert_eq!(rt;
-        verdict(rt.alloc(), &entries, &[returned(9)]),
-        Some(Verdict::Agrees)
-    );
-}
-
-#[test]
-fn nothing_agrees(rt: HostRuntime) {
-    assert_eq!(rt; verdict(rt.alloc(), &[], &[]), Some(Verdict::Agrees));
-}
-
-#[test]
-fn last_entry_needs_no_reply(rt: HostRuntime) {
-    let entries = [entry(2, call(0, 0), Some(9)), entry(3, call(1, 0), None)];
-    assert_eq!(rt;
-        verdict(rt.alloc(), &entries, &[returned(9)]),
-        Some(Verdict::Agrees)
-    );
-}
-
-#[test]
-fn reply_that_the_object_does_not_give(rt: HostRuntime) {
-    let entries = [entry(2, call(0, 0), Some(5))];
-    assert_eq!(rt;
-        verdict(rt.alloc(), &entries, &[returned(9)]),
-        Some(Verdict::BadReply(0))
-    );
-}
-
-#[test]
-fn state_goes_on_from_entry_to_entry(rt: HostRuntime) {
-    let entries = [entry(2, call(0, 0), Some(9)), entry(3, call(1, 0), Some(7))];
-    assert_eq!(rt; verdict(rt.alloc(), &entries, &[]), Some(Verdict::Agrees));
-    let entries = [entry(2, call(0, 0), Some(9)), entry(3, call(1, 0), Some(9))];
-    assert_eq!(rt;
-        verdict(rt.alloc(), &entries, &[]),
-        Some(Verdict::BadReply(1))
-    );
-}
-
-#[test]
-fn call_that_is_not_the_next_one(rt: HostRuntime) {
-    let entries = [entry(2, call(0, 1), Some(9))];
-    assert_eq!(rt;
-        verdict(rt.alloc(), &entries, &[returned(9)]),
-        Some(Verdict::BadCall(0))
-    );
-}
-
-#[test]
-fn return_with_no_entry(rt: HostRuntime) {
-    assert_eq!(rt;
-        verdict(rt.alloc(), &[], &[returned(9)]),
-        Some(Verdict::Missing(call(0, 0)))
-    );
-}
-
-#[test]
-fn return_whose_entry_has_no_reply(rt: HostRuntime) {
-    let entries = [entry(2, call(0, 0), None)];
-    assert_eq!(rt;
-        verdict(rt.alloc(), &entries, &[returned(9)]),
-        Some(Verdict::Missing(call(0, 0)))
-    );
-}
-
-#[test]
-fn return_of_another_reply(rt: HostRuntime) {
-    let entries = [entry(2, call(0, 0), Some(9))];
-    assert_eq!(rt;
-        verdict(rt.alloc(), &entries, &[returned(5)]),
-        Some(Verdict::BadReturn(call(0, 0)))
-    );
-}
-
-#[test]
-fn call_that_returned_twice(rt: HostRuntime) {
-    let entries = [entry(2, call(0, 0), Some(9))];
-    assert_eq!(rt;
-        verdict(rt.alloc(), &entries, &[returned(9), returned(9)]),
-        Some(Verdict::Twice(call(0, 0)))
-    );
-}
-
-/// Calls 3.0, 1.0 and 3.1, which ask for 7 in this order.
-fn in_turn() -> [Entry<u32, u32>; 3] {
-    [
-        entry(2, call(3, 0), Some(9)),
-        entry(3, call(1, 0), Some(7)),
-        entry(4, call(3, 1), Some(7)),
-    ]
-}
-
-#[test]
-fn calls_of_two_processes_return_in_another_order(rt: HostRuntime) {
-    let returns = [
-        Return {
-            call: call(3, 1),
-            reply: 7,
-        },
-        Return {
-            call: call(1, 0),
-            reply: 7,
-        },
-        Return {
-            call: call(3, 0),
-            reply: 9,
-        },
+    let rows: [Row; 4] = [
+        ("nothing", &[], &[], Verdict::Agrees),
+        (
+            "one call",
+            &[(0, 0, Some(9))],
+            &[(0, 0, 9)],
+            Verdict::Agrees,
+        ),
+        (
+            "last entry needs no reply",
+            &[(0, 0, Some(9)), (1, 0, None)],
+            &[(0, 0, 9)],
+            Verdict::Agrees,
+        ),
+        (
+            "state goes on from entry to entry",
+            &[(0, 0, Some(9)), (1, 0, Some(7))],
+            &[],
+            Verdict::Agrees,
+        ),
     ];
-    assert_eq!(rt;
-        verdict(rt.alloc(), &in_turn(), &returns),
-        Some(Verdict::Agrees)
-    );
-    let twice = [returns[1], returns[0], returns[1]];
-    assert_eq!(rt;
-        verdict(rt.alloc(), &in_turn(), &twice),
-        Some(Verdict::Twice(call(1, 0)))
-    );
+    judges(&rt, rt.alloc(), &rows);
 }
 
 #[test]
-fn calls_past_those_of_the_entries(rt: HostRuntime) {
-    for past in [
-        call(3, 2),
-        call(1, 1),
-        call(2, 0),
-        call(4_294_967_295, 18_446_744_073_709_551_615),
-    ] {
-        let returns = [Return {
-            call: past,
-            reply: 7,
-        }];
-        assert_eq!(rt;
-            verdict(rt.alloc(), &in_turn(), &returns),
-            Some(Verdict::Missing(past))
-        );
-    }
-}
-
-#[test]
-fn call_that_has_two_entries(rt: HostRuntime) {
-    let entries = [
-        entry(2, call(3, 0), Some(9)),
-        entry(3, call(1, 0), Some(7)),
-        entry(4, call(3, 0), Some(7)),
+fn entries_that_are_wrong(rt: HostRuntime) {
+    let rows: [Row; 4] = [
+        (
+            "reply that the object does not give",
+            &[(0, 0, Some(5))],
+            &[(0, 0, 9)],
+            Verdict::BadReply(0),
+        ),
+        (
+            "state goes on from entry to entry",
+            &[(0, 0, Some(9)), (1, 0, Some(9))],
+            &[],
+            Verdict::BadReply(1),
+        ),
+        (
+            "call that is not the next one",
+            &[(0, 1, Some(9))],
+            &[(0, 0, 9)],
+            Verdict::BadCall(0),
+        ),
+        (
+            "call that has two entries",
+            &[(3, 0, Some(9)), (1, 0, Some(7)), (3, 0, Some(7))],
+            &[],
+            Verdict::BadCall(2),
+        ),
     ];
-    assert_eq!(rt;
-        verdict(rt.alloc(), &entries, &[]),
-        Some(Verdict::BadCall(2))
-    );
+    judges(&rt, rt.alloc(), &rows);
+}
+
+#[test]
+fn returns_that_are_wrong(rt: HostRuntime) {
+    let first = call(0, 0);
+    let one = [(0, 0, Some(9))];
+    let rows: [Row; 4] = [
+        ("no entry", &[], &[(0, 0, 9)], Verdict::Missing(first)),
+        (
+            "entry that has no reply",
+            &[(0, 0, None)],
+            &[(0, 0, 9)],
+            Verdict::Missing(first),
+        ),
+        (
+            "another reply",
+            &one,
+            &[(0, 0, 5)],
+            Verdict::BadReturn(first),
+        ),
+        (
+            "twice",
+            &one,
+            &[(0, 0, 9), (0, 0, 9)],
+            Verdict::Twice(first),
+        ),
+    ];
+    judges(&rt, rt.alloc(), &rows);
 }
 
 #[test]
 fn first_fault_is_answered(rt: HostRuntime) {
-    // on one entry the call comes before the reply
-    let entries = [entry(2, call(0, 1), Some(5))];
-    assert_eq!(rt;
-        verdict(rt.alloc(), &entries, &[]),
-        Some(Verdict::BadCall(0))
-    );
-    // on one return the second time comes before the reply, which is wrong there
-    let entries = [entry(2, call(0, 0), Some(9))];
-    assert_eq!(rt;
-        verdict(rt.alloc(), &entries, &[returned(9), returned(5)]),
-        Some(Verdict::Twice(call(0, 0)))
-    );
-    // and entries come before returns
-    let entries = [entry(2, call(0, 0), Some(5))];
-    assert_eq!(rt;
-        verdict(rt.alloc(), &entries, &[returned(9), returned(9)]),
-        Some(Verdict::BadReply(0))
-    );
+    let rows: [Row; 3] = [
+        (
+            "on one entry the call comes before the reply",
+            &[(0, 1, Some(5))],
+            &[],
+            Verdict::BadCall(0),
+        ),
+        (
+            "on one return the second time comes before the reply, which is wrong there",
+            &[(0, 0, Some(9))],
+            &[(0, 0, 9), (0, 0, 5)],
+            Verdict::Twice(call(0, 0)),
+        ),
+        (
+            "entries come before returns",
+            &[(0, 0, Some(5))],
+            &[(0, 0, 9), (0, 0, 9)],
+            Verdict::BadReply(0),
+        ),
+    ];
+    judges(&rt, rt.alloc(), &rows);
+}
+
+/// Calls 3.0, 1.0 and 3.1, in this order.
+const IN_TURN: [(u32, u64, Option<u32>); 3] = [(3, 0, Some(9)), (1, 0, Some(7)), (3, 1, Some(7))];
+
+#[test]
+fn calls_of_two_processes_return_in_another_order(rt: HostRuntime) {
+    let rows: [Row; 2] = [
+        (
+            "the last one first",
+            &IN_TURN,
+            &[(3, 1, 7), (1, 0, 7), (3, 0, 9)],
+            Verdict::Agrees,
+        ),
+        (
+            "one of them twice",
+            &IN_TURN,
+            &[(1, 0, 7), (3, 1, 7), (1, 0, 7)],
+            Verdict::Twice(call(1, 0)),
+        ),
+    ];
+    judges(&rt, rt.alloc(), &rows);
+}
+
+#[test]
+fn calls_past_those_of_the_entries(rt: HostRuntime) {
+    for (process, nth) in [
+        (3, 2),
+        (1, 1),
+        (2, 0),
+        (4_294_967_295, 18_446_744_073_709_551_615),
+    ] {
+        let returned = [(process, nth, 7)];
+        let missing = Verdict::Missing(call(process, nth));
+        judges(&rt, rt.alloc(), &[("past", &IN_TURN, &returned, missing)]);
+    }
+}
+
+/// The verdict on one entry, of process 0's call with this number, where no invocation can be applied.
+fn verdict_without_memory(alloc: Global, nth: u64) -> Option<Verdict> {
+    let entries = [Entry {
+        seq: 2,
+        call: call(0, nth),
+        inv: 7,
+        reply: Some(9),
+    }];
+    audit(alloc, &Refused, &entries, &[]).ok()
 }
 
 #[test]
 fn refused_memory_is_no_verdict(rt: HostRuntime) {
-    let entries = [entry(2, call(0, 0), Some(9))];
-    assert_eq!(rt; audit(rt.alloc(), &Refused, &entries, &[]).ok(), None);
+    let alloc = rt.alloc();
+    assert_eq!(rt; verdict_without_memory(alloc, 0), None);
     // a call is checked before its entry is replayed
-    let entries = [entry(2, call(0, 1), Some(9))];
+    assert_eq!(rt; verdict_without_memory(alloc, 1), Some(Verdict::BadCall(0)));
     assert_eq!(rt;
-        audit(rt.alloc(), &Refused, &entries, &[]).ok(),
-        Some(Verdict::BadCall(0))
-    );
-    assert_eq!(rt;
-        audit(rt.alloc(), &Refused, &[], &[]).ok(),
+        audit(alloc, &Refused, &[], &[]).ok(),
         Some(Verdict::Agrees)
     );
 }

@@ -204,15 +204,19 @@ fn what_cannot_be_opened_is_refused_in_order(rt: HostRuntime) {
     assert_eq!(rt; refused_at(alloc, 281_474_976_710_647, 1), None);
 }
 
+/// Whether the first call of process 0 enqueues 7.
+fn enqueues(alloc: Global, recorded: &mut Recorded<QueueObject>) -> bool {
+    recorded.begin(alloc, 0, &enq(7)) == Ok(call(0, 0))
+        && finishes(alloc, recorded, 0) == Some(QueueResp::Added)
+}
+
 /// A record of one process that has enqueued 7.
 fn enqueued(alloc: Global) -> Result<Recorded<QueueObject>, Fail> {
     let mut recorded = queue(alloc, 1, 8, 100)?;
-    if recorded.begin(alloc, 0, &enq(7)) != Ok(call(0, 0)) {
-        return Err(Fail::from("the call should have begun"));
-    }
-    match finishes(alloc, &mut recorded, 0) {
-        Some(QueueResp::Added) => Ok(recorded),
-        _ => Err(Fail::from("the call should have ended")),
+    if enqueues(alloc, &mut recorded) {
+        Ok(recorded)
+    } else {
+        Err(Fail::from("the call should have been made"))
     }
 }
 

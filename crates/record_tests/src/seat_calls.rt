@@ -12,12 +12,17 @@ use uni_shared::{ApplyFault, Closed, Gate, GaveUp, NoGate, Receipt, Seat, Shared
 /// The seats of a queue, and the queue under a lock.
 pub(crate) type Opened = (Shared<QueueObject>, Vec<Seat<QueueObject>>);
 
-/// A queue that so many processes share under a lock, with rows of so many calls and 1,000 events.
-pub(crate) fn queue(alloc: Global, n: u64, k: u64) -> Result<Opened, Fail> {
-    match Shared::open(alloc, QueueObject, n, k, 1000) {
+/// A queue that so many processes share under a lock, with rows of so many calls and so many events.
+pub(crate) fn queue_of_events(alloc: Global, n: u64, k: u64, h: u64) -> Result<Opened, Fail> {
+    match Shared::open(alloc, QueueObject, n, k, h) {
         Ok(opened) => Ok(opened),
         Err(_) => Err(Fail::from("nothing was opened")),
     }
+}
+
+/// A queue that so many processes share under a lock, with rows of so many calls and 1,000 events.
+pub(crate) fn queue(alloc: Global, n: u64, k: u64) -> Result<Opened, Fail> {
+    queue_of_events(alloc, n, k, 1000)
 }
 
 /// A queue of one process under a lock, with rows of so many calls, and its seat.
@@ -70,10 +75,7 @@ pub(crate) fn calls<G: Gate, R: Wait>(
     inv: QueueInv,
     gate: &G,
 ) -> Option<ApplyFault> {
-    match seat.apply(rt, alloc, shared, inv, gate) {
-        Ok(_) => None,
-        Err(fault) => Some(fault),
-    }
+    seat.apply(rt, alloc, shared, inv, gate).err()
 }
 
 /// What refuses a call that enqueues a number, if anything does.
@@ -95,10 +97,7 @@ pub(crate) fn resumes<R: Wait>(
     shared: &Shared<QueueObject>,
     seat: &mut Seat<QueueObject>,
 ) -> Option<ApplyFault> {
-    match seat.resume(rt, alloc, shared, &NoGate) {
-        Ok(_) => None,
-        Err(fault) => Some(fault),
-    }
+    seat.resume(rt, alloc, shared, &NoGate).err()
 }
 
 /// Whether a seat has this receipt of a call that enqueued a number, after as many others.

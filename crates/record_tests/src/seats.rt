@@ -1,7 +1,8 @@
 //! Seats and closed records whose receipts and faults were worked out by hand.
 
 use crate::seat_calls::{
-    Opened, Second, alone, enqueues, has_added, last, queue, queue_of_one, receipts_of, resumes,
+    Opened, Second, alone, enqueues, has_added, last, queue, queue_of_events, queue_of_one,
+    receipts_of, resumes,
 };
 use ready_objects::QueueObject;
 use seq_object::CallId;
@@ -12,26 +13,38 @@ use std::sync::atomic::AtomicU64;
 use std::test::Fail;
 use uni_shared::{ApplyFault, CloseFault, Closed, NoGate, Refused, Seat, Shared, trim};
 
-/// One seat makes one call, and then the era ends.
-fn one_call<R: Wait + Abort>(
+/// Whether one seat makes one call.
+fn makes_one_call<R: Wait>(
     rt: &R,
     alloc: Global,
     shared: &Shared<QueueObject>,
     seat: &mut Seat<QueueObject>,
-) {
-    assert!(rt; seat.process() == 0);
-    assert!(rt; enqueues(rt, alloc, shared, seat, 7, &NoGate).is_none());
-    assert!(rt; has_added(seat, 0, 0, 7, 14, 1));
-    assert!(rt; !seat.pending());
-    assert!(rt; trim(rt, alloc, shared) == Ok(2));
+) -> bool {
+    seat.process() == 0
+        && enqueues(rt, alloc, shared, seat, 7, &NoGate).is_none()
+        && has_added(seat, 0, 0, 7, 14, 1)
+        && !seat.pending()
 }
 
 #[test]
 fn one_seat(rt: HostRuntime) -> Result<(), Fail> {
     let alloc = rt.alloc();
     let (shared, mut seat) = queue_of_one(alloc, 8)?;
-    one_call(&rt, alloc, &shared, &mut seat);
+    assert!(rt; makes_one_call(&rt, alloc, &shared, &mut seat));
+    assert!(rt; trim(&rt, alloc, &shared) == Ok(2));
     Ok(())
+}
+
+/// What was refused, with what was handed back.
+fn refusal(
+    alloc: Global,
+    shared: Shared<QueueObject>,
+    seats: Vec<Seat<QueueObject>>,
+) -> Result<Refused<QueueObject>, Fail> {
+    match shared.close(alloc, seats) {
+        Ok(_) => Err(Fail::from("nothing should have been closed")),
+        Err(refused) => Ok(refused),
+    }
 }
 
 /// What was handed back for this fault.
@@ -41,18 +54,12 @@ fn refused(
     seats: Vec<Seat<QueueObject>>,
     fault: CloseFault,
 ) -> Result<(Shared<QueueObject>, Vec<Seat<QueueObject>>), Fail> {
-    let Err(refused) = shared.close(alloc, seats) else {
-        return Err(Fail::from("nothing should have been closed"));
-    };
-    let Refused {
-        fault: given,
-        shared,
-        seats,
-    } = refused;
-    if given != fault {
-        return Err(Fail::from("another fault was answered"));
+    let refused = refusal(alloc, shared, seats)?;
+    if refused.fault == fault {
+        Ok((refused.shared, refused.seats))
+    } else {
+        Err(Fail::from("another fault was answered"))
     }
-    Ok((shared, seats))
 }
 
 /// What was closed.
@@ -127,49 +134,55 @@ fn a_stranger(rt: HostRuntime) -> Result<(), Fail> {
     Ok(())
 }
 
+/// Whether a call of `enq 8` is refused with this fault, and doesn't begin.
+fn is_refused<R: Wait>(
+    rt: &R,
+    alloc: Global,
+    shared: &Shared<QueueObject>,
+    seat: &mut Seat<QueueObject>,
+    fault: ApplyFault,
+) -> bool {
+    enqueues(rt, alloc, shared, seat, 8, &NoGate) == Some(fault) && !seat.pending()
+}
+
 #[test]
 fn a_full_row(rt: HostRuntime) -> Result<(), Fail> {
     let alloc = rt.alloc();
     let (shared, mut seat) = queue_of_one(alloc, 1)?;
     assert!(rt; enqueues(&rt, alloc, &shared, &mut seat, 7, &NoGate).is_none());
-    assert!(rt; enqueues(&rt, alloc, &shared, &mut seat, 8, &NoGate) == Some(ApplyFault::RowFull));
-    assert!(rt; !seat.pending());
+    assert!(rt; is_refused(&rt, alloc, &shared, &mut seat, ApplyFault::RowFull));
     Ok(())
 }
 
 #[test]
 fn a_full_history(rt: HostRuntime) -> Result<(), Fail> {
     let alloc = rt.alloc();
-    let Ok((shared, mut seats)) = Shared::open(alloc, QueueObject, 1, 1, 22) else {
-        return Err(Fail::from("nothing was opened"));
-    };
+    let (shared, mut seats) = queue_of_events(alloc, 1, 1, 22)?;
     let mut seat = last(&mut seats)?;
-    let refused = enqueues(&rt, alloc, &shared, &mut seat, 7, &NoGate);
-    assert!(rt; refused == Some(ApplyFault::HistoryFull));
-    assert!(rt; !seat.pending());
+    assert!(rt; is_refused(&rt, alloc, &shared, &mut seat, ApplyFault::HistoryFull));
     Ok(())
 }
 
-/// A call of `enq 7` that the gate stops before its second step.
-fn stops<R: Wait + Abort>(
+/// Whether a call of `enq 7` is stopped by the gate before its second step.
+fn stops<R: Wait>(
     rt: &R,
     alloc: Global,
     shared: &Shared<QueueObject>,
     seat: &mut Seat<QueueObject>,
-) {
+) -> bool {
     let gate = Second {
         calls: AtomicU64::new(0),
     };
-    assert!(rt; enqueues(rt, alloc, shared, seat, 7, &gate) == Some(ApplyFault::GaveUp));
-    assert!(rt; seat.pending());
-    assert!(rt; enqueues(rt, alloc, shared, seat, 8, &NoGate) == Some(ApplyFault::SeatPending));
+    enqueues(rt, alloc, shared, seat, 7, &gate) == Some(ApplyFault::GaveUp)
+        && seat.pending()
+        && enqueues(rt, alloc, shared, seat, 8, &NoGate) == Some(ApplyFault::SeatPending)
 }
 
 #[test]
 fn a_gate_that_gives_up(rt: HostRuntime) -> Result<(), Fail> {
     let alloc = rt.alloc();
     let (shared, mut seat) = queue_of_one(alloc, 8)?;
-    stops(&rt, alloc, &shared, &mut seat);
+    assert!(rt; stops(&rt, alloc, &shared, &mut seat));
     let seats = alone(alloc, seat)?;
     let (shared, mut seats) = refused(alloc, shared, seats, CloseFault::PendingSeat(0))?;
     let mut seat = last(&mut seats)?;

@@ -228,6 +228,14 @@ fn counts_are(closed: &Closed<QueueObject>, p: u64, nth: usize, steps: u64, turn
     receipt.steps == steps && receipt.turns == turns
 }
 
+/// Whether the entries are those of `after_the_first_step`.
+fn are_after_the_first_step(entries: &[Entry<QueueInv, QueueResp>]) -> bool {
+    entries.len() == 3
+        && is_entry(&entries[0], 2, 1, 0, QueueResp::Added)
+        && is_entry(&entries[1], 3, 0, 0, QueueResp::Added)
+        && is_entry(&entries[2], 4, 1, 1, QueueResp::Taken(amount(1)))
+}
+
 /// The entries of `after_the_first_step`.
 fn entries_after_the_first_step<R: Abort>(
     rt: &R,
@@ -235,10 +243,7 @@ fn entries_after_the_first_step<R: Abort>(
     recorded: &Recorded<QueueObject>,
 ) -> Result<(), Fail> {
     let entries = recorded.entries(alloc)?;
-    assert!(rt; entries.len() == 3);
-    assert!(rt; is_entry(&entries[0], 2, 1, 0, QueueResp::Added));
-    assert!(rt; is_entry(&entries[1], 3, 0, 0, QueueResp::Added));
-    assert!(rt; is_entry(&entries[2], 4, 1, 1, QueueResp::Taken(amount(1))));
+    assert!(rt; are_after_the_first_step(&entries));
     Ok(())
 }
 
