@@ -317,22 +317,36 @@ fn renews(
     }
 }
 
+/// Eras of three processes, of one and of two.
+fn renews_thrice(rt: &impl Abort, alloc: Global, arena: &mut ColumnCells<u64, u32, u8>)
+    requires { 1 ≤ processes_of arena.old }
+{
+    renews(rt, alloc, arena, 3, 2, 20);
+    renews(rt, alloc, arena, 1, 3, 30);
+    renews(rt, alloc, arena, 2, 4, 40);
+}
+
 #[test]
 fn eras_of_more_and_fewer_processes(rt: HostRuntime) -> Result<(), Fail> {
     let mut arena = ColumnCells::opened(rt.alloc(), 2, 2, 10, 1)?;
-    renews(&rt, rt.alloc(), &mut arena, 3, 2, 20);
-    renews(&rt, rt.alloc(), &mut arena, 1, 3, 30);
-    renews(&rt, rt.alloc(), &mut arena, 2, 4, 40);
+    renews_thrice(&rt, rt.alloc(), &mut arena);
     Ok(())
+}
+
+/// A thousand eras of one cell, the last of which has number 1001.
+fn ends_a_thousand_eras(rt: &impl Abort, alloc: Global, arena: &mut ColumnCells<u64, u32, u8>)
+    requires { processes_of arena.old ≡ 1 }
+{
+    for seq in 2..1002 {
+        let last = threaded(rt, alloc, arena, seq, 7 * seq);
+        arena.clear_to(last);
+    }
+    anchor_has(rt, arena, (1001, None, None, None, Some((7007, None))));
 }
 
 #[test]
 fn a_thousand_eras(rt: HostRuntime) -> Result<(), Fail> {
     let mut arena = ColumnCells::opened(rt.alloc(), 1, 1, 7, 1)?;
-    for seq in 2..1002 {
-        let last = threaded(&rt, rt.alloc(), &mut arena, seq, 7 * seq);
-        arena.clear_to(last);
-    }
-    anchor_has(&rt, &arena, (1001, None, None, None, Some((7007, None))));
+    ends_a_thousand_eras(&rt, rt.alloc(), &mut arena);
     Ok(())
 }

@@ -36,14 +36,25 @@ fn text_of<O: Spoken>(alloc: Global, inv: &O::Inv) -> Result<Vec<u8>, AllocError
     O::inv_text(alloc, inv)
 }
 
+/// An invocation is like its copy, and has a line as its text.
+fn is_spoken<O: Spoken>(
+    rt: &impl Abort,
+    alloc: Global,
+    inv: &O::Inv,
+    line: &str,
+) -> Result<(), AllocError> {
+    assert!(rt; is_copied::<O>(alloc, inv)?, "the copy of {line}");
+    let text = text_of::<O>(alloc, inv)?;
+    assert!(rt; text.as_slice() == line.as_bytes(), "{line}");
+    Ok(())
+}
+
 /// What a line asks for, of which it is the text.
 fn asked<O: Spoken>(rt: &impl Abort, alloc: Global, line: &str) -> Result<O::Inv, Fail> {
     let Some(inv) = read::<O>(alloc, line)? else {
         panic!(rt; "no invocation: {line}")
     };
-    assert!(rt; is_copied::<O>(alloc, &inv)?, "the copy of {line}");
-    let text = text_of::<O>(alloc, &inv)?;
-    assert!(rt; text.as_slice() == line.as_bytes(), "{line}");
+    is_spoken::<O>(rt, alloc, &inv, line)?;
     Ok(inv)
 }
 

@@ -1,6 +1,8 @@
 //! Schedules worked out by hand: the exact numbers of steps and turns, and the replies, before and
 //! after the ends of eras.
 
+ghost use Rattle.std.specs.Prelude.{◌<◌};
+
 use cell_arena::CellId;
 use ready_objects::{
     Amount, QueueInv, QueueObject, QueueResp, StickyInv, StickyObject, StickyResp,
@@ -315,10 +317,13 @@ fn sixty_four_processes_share_a_register(rt: HostRuntime) -> Result<(), Fail> {
     Ok(())
 }
 
-/// A call of an era of one call, the round of which has this number.
-fn one_call(rt: &impl Abort, alloc: Global, world: &mut World<SwapRegister>, round: u64) {
+/// An era of one call, the round of which has this number.
+fn one_era(rt: &impl Abort, alloc: Global, world: &mut World<SwapRegister>, round: u64)
+    requires { round < 1000 }
+{
     let before = if round == 0 { 7 } else { 3 };
     makes_call(rt, alloc, world, (call(0, round), &3), before, 14);
+    assert!(rt; trim(world) == Ok(round + 2), "round {round}");
 }
 
 #[test]
@@ -328,8 +333,7 @@ fn a_thousand_eras_of_one_call(rt: HostRuntime) -> Result<(), Fail> {
         "no world was opened",
     ))?;
     for round in 0..1000 {
-        one_call(&rt, alloc, &mut world, round);
-        assert!(rt; trim(&mut world) == Ok(round + 2), "round {round}");
+        one_era(&rt, alloc, &mut world, round);
     }
     assert!(rt; head_is(&world, 0, 1001) && calls_are(&world, 0, 1000, 1));
     Ok(())

@@ -2,197 +2,15 @@
 
 ghost use Rattle.std.specs.Prelude.{◌≤◌};
 
+use crate::acts::{Act, Fact, call, does_all, goes, next, opened, plays};
 use cell_arena::{CellId, Cells};
-use seq_object::{CallId, SwapRegister};
+use seq_object::SwapRegister;
 use std::alloc::{AllocError, Global};
 use std::process::Abort;
 use std::test::Fail;
 use uni_core::{
-    BeginFault, Command, OpenFault, Outcome, Place, Progress, Refusal, StepFault, StepKind, World,
+    BeginFault, Command, OpenFault, Outcome, Place, Refusal, StepFault, StepKind, World,
 };
-
-/// What is done with a world, and what has to come of it.
-#[derive(Clone, Copy)]
-enum Act {
-    /// A call begins, which asks for this.
-    Begins(CallId, u32),
-    /// This process's call isn't begun.
-    NotBegun(u64, BeginFault),
-    /// This process takes so many steps, after each of which its call goes on.
-    Goes(u64, u64),
-    /// This process takes steps to the end of its call, whose response is this.
-    Ends(u64, u32),
-    /// This process takes no step.
-    NotStepped(u64, StepFault),
-    /// The era ends, for as many processes.
-    Renews,
-    /// The era ends, for this many processes.
-    RenewsFor(u64),
-    /// The world is as told.
-    Shows(Fact),
-}
-
-/// What is read of a world.
-#[derive(Clone, Copy)]
-enum Fact {
-    /// How many processes it has, and how many calls of each in an era.
-    Size(u64, u64),
-    /// The own steps and the turns of this process's latest call.
-    Counts(u64, u64, u64),
-    /// How many calls this process has begun.
-    Begun(u64, u64),
-    /// Among how many processes this process's latest call ran.
-    Among(u64, u64),
-    /// The pending call of this process.
-    Current(u64, Option<CallId>),
-    /// The kind and the place of this process's next step.
-    Next(u64, Option<(StepKind, Place)>),
-    /// The numbers of the heads of processes 0 and 1, and the frontier.
-    Heads(u64, u64, u64),
-    /// The least process whose call is pending.
-    Pending(Option<u64>),
-    /// The last cell, and its call.
-    Last(CellId, Option<CallId>),
-    /// The number of the last cell.
-    LastSeq(u64),
-    /// The cell of a call.
-    CellOf(CallId, Option<CellId>),
-}
-
-/// The name of a call.
-fn call(process: u32, nth: u64) -> CallId {
-    CallId { process, nth }
-}
-
-/// Whether a process takes so many steps, after each of which its call goes on.
-fn goes(alloc: Global, world: &mut World<SwapRegister>, p: u64, count: u64) -> bool {
-    for _ in 0..count {
-        let Ok(Progress::Going) = world.step(alloc, p) else {
-            return false;
-        };
-    }
-    true
-}
-
-/// Takes steps of a process to the end of its call, and answers the response.
-fn finishes(alloc: Global, world: &mut World<SwapRegister>, p: u64) -> Option<u32> {
-    for _ in 0..200 {
-        match world.step(alloc, p) {
-            Ok(Progress::Going) => {}
-            Ok(Progress::Done(response)) => return Some(response),
-            Err(_) => return None,
-        }
-    }
-    None
-}
-
-/// Whether an era ends in a world where its numbers are low, for so many processes, or as many as
-/// before.
-fn renews(alloc: Global, world: &mut World<SwapRegister>, m: Option<u64>) -> bool {
-    world.shape();
-    let processes = m.unwrap_or(world.processes());
-    let fits = processes >= 1
-        && processes <= 64
-        && world.seq(world.last()) <= 281_474_976_710_655 - processes * world.row();
-    if !fits || world.pending().is_some() {
-        return false;
-    }
-    match m {
-        Some(m) => world.renew_for(alloc, m).is_ok(),
-        None => {
-            world.renew();
-            true
-        }
-    }
-}
-
-/// The kind and the place of a process's next step.
-fn next(world: &World<SwapRegister>, p: u64) -> Option<(StepKind, Place)> {
-    if p >= world.processes() {
-        return None;
-    }
-    match (world.next_kind(p), world.next_place(p)) {
-        (Some(kind), Some(place)) => Some((kind, place)),
-        _ => None,
-    }
-}
-
-/// The last cell, its call and its number.
-fn last(world: &World<SwapRegister>) -> (CellId, Option<CallId>, u64) {
-    let last = world.last();
-    (last, world.call_of(last), world.seq(last))
-}
-
-/// Whether the world shows this of a process.
-fn shows_of(world: &World<SwapRegister>, fact: &Fact) -> bool {
-    let n = world.processes();
-    match *fact {
-        Fact::Counts(p, steps, turns) => p < n
-            && world.steps(p) == steps
-            && world.turns(p) == turns,
-        Fact::Begun(p, begun) => p < n && world.begun(p) == begun,
-        Fact::Among(p, among) => p < n && world.among(p) == among,
-        Fact::Current(p, current) => p < n && world.current(p) == current,
-        Fact::Heads(first, second, frontier) => {
-            n >= 2
-                && world.head_seq(0) == first
-                && world.head_seq(1) == second
-                && world.frontier() == frontier
-        }
-        _ => false,
-    }
-}
-
-/// Whether the world shows this.
-fn shows(world: &World<SwapRegister>, fact: &Fact) -> bool {
-    match *fact {
-        Fact::Size(n, k) => world.processes() == n && world.row() == k,
-        Fact::Next(p, step) => next(world, p) == step,
-        Fact::Pending(p) => world.pending() == p,
-        Fact::Last(cell, call) => last(world).0 == cell && last(world).1 == call,
-        Fact::LastSeq(seq) => last(world).2 == seq,
-        Fact::CellOf(call, cell) => world.cell_of(call) == cell,
-        _ => shows_of(world, fact),
-    }
-}
-
-/// Whether the world does as it should.
-fn does(alloc: Global, world: &mut World<SwapRegister>, act: &Act) -> bool {
-    match act {
-        Act::Begins(call, inv) => world.begin(alloc, u64::from(call.process), inv) == Ok(*call),
-        Act::NotBegun(p, fault) => world.begin(alloc, *p, &5) == Err(*fault),
-        Act::Goes(p, count) => goes(alloc, world, *p, *count),
-        Act::Ends(p, response) => finishes(alloc, world, *p) == Some(*response),
-        Act::NotStepped(p, fault) => match world.step(alloc, *p) {
-            Ok(_) => false,
-            Err(given) => given == *fault,
-        },
-        Act::Renews => renews(alloc, world, None),
-        Act::RenewsFor(m) => renews(alloc, world, Some(*m)),
-        Act::Shows(fact) => shows(world, fact),
-    }
-}
-
-/// Does these with a world, one after the other.
-fn does_all(rt: &impl Abort, alloc: Global, world: &mut World<SwapRegister>, acts: &[Act]) {
-    for (at, act) in acts.iter().enumerate() {
-        assert!(rt; does(alloc, world, act), "at act {at}");
-    }
-}
-
-/// A world of so many processes with rows of so many cells.
-fn opened(alloc: Global, n: u64, k: u64) -> Result<World<SwapRegister>, Fail> {
-    World::open(alloc, SwapRegister { start: 0 }, n, k).map_err(|_| Fail::from(
-        "no world was opened",
-    ))
-}
-
-/// Does these, one after the other, with a new world, which `opened` opens.
-fn plays(rt: &impl Abort, alloc: Global, n: u64, k: u64, acts: &[Act]) -> Result<(), Fail> {
-    let mut world = opened(alloc, n, k)?;
-    does_all(rt, alloc, &mut world, acts);
-    Ok(())
-}
 
 #[test]
 fn one_process_helps_itself(rt: HostRuntime) -> Result<(), Fail> {
@@ -475,11 +293,11 @@ fn answers(
 fn runs(
     rt: &impl Abort,
     alloc: Global,
-    k: u64,
+    (n, k): (u64, u64),
     (asked, told): (&[Asks], &[(Outcome<u32>, u64)]),
     after: &[Act],
 ) -> Result<(), Fail> {
-    let mut world = opened(alloc, 2, k)?;
+    let mut world = opened(alloc, n, k)?;
     answers(rt, alloc, &mut world, asked, told)?;
     does_all(rt, alloc, &mut world, after);
     Ok(())
@@ -504,7 +322,7 @@ fn a_run_helps_a_stopped_process(rt: HostRuntime) -> Result<(), Fail> {
         Act::Shows(Fact::Counts(0, 24, 2)),
         Act::Shows(Fact::Current(1, Some(call(1, 0)))),
     ];
-    runs(&rt, rt.alloc(), 8, (&asked, &told), &after)
+    runs(&rt, rt.alloc(), (2, 8), (&asked, &told), &after)
 }
 
 #[test]
@@ -529,7 +347,7 @@ fn a_run_passes_over_what_is_refused(rt: HostRuntime) -> Result<(), Fail> {
         (Outcome::Refused(Refusal::RowFull(0)), 1),
     ];
     let after = [Act::Shows(Fact::Counts(0, 16, 1))];
-    runs(&rt, rt.alloc(), 1, (&asked, &told), &after)
+    runs(&rt, rt.alloc(), (2, 1), (&asked, &told), &after)
 }
 
 #[test]
@@ -555,7 +373,7 @@ fn a_run_meets_the_bound(rt: HostRuntime) -> Result<(), Fail> {
         (Outcome::Returned(call(1, 0), 20), 1),
     ];
     let after = [Act::Shows(Fact::Counts(1, 32, 3))];
-    runs(&rt, rt.alloc(), 8, (&asked, &told), &after)
+    runs(&rt, rt.alloc(), (2, 8), (&asked, &told), &after)
 }
 
 #[test]
@@ -580,7 +398,29 @@ fn a_run_finishes_where_another_stopped_at_a_settled_value(rt: HostRuntime) -> R
         Act::Shows(Fact::Counts(0, 16, 1)),
         Act::Shows(Fact::Counts(1, 24, 2)),
     ];
-    runs(&rt, rt.alloc(), 8, (&asked, &told), &after)
+    runs(&rt, rt.alloc(), (2, 8), (&asked, &told), &after)
+}
+
+#[test]
+fn a_run_links_a_call_at_its_eighth_step(rt: HostRuntime) -> Result<(), Fail> {
+    let asked = [Asks::Call(0, 7), Asks::Steps(0, 8)];
+    let told = [(Outcome::Called(call(0, 0)), 1), (Outcome::Went, 8)];
+    let after = [
+        Act::Shows(Fact::Entries(1)),
+        Act::Shows(Fact::Entry(0, 2, call(0, 0), 7, None)),
+    ];
+    runs(&rt, rt.alloc(), (1, 8), (&asked, &told), &after)
+}
+
+#[test]
+fn a_run_settles_the_reply_at_its_ninth_step(rt: HostRuntime) -> Result<(), Fail> {
+    let asked = [Asks::Call(0, 7), Asks::Steps(0, 9)];
+    let told = [(Outcome::Called(call(0, 0)), 1), (Outcome::Went, 9)];
+    let after = [
+        Act::Shows(Fact::Entries(1)),
+        Act::Shows(Fact::Entry(0, 2, call(0, 0), 7, Some(0))),
+    ];
+    runs(&rt, rt.alloc(), (1, 8), (&asked, &told), &after)
 }
 
 #[test]
