@@ -121,8 +121,8 @@ pub(crate) fn runs(
 ) {
     let mut text = Vec::new(alloc);
     let ended = ends(alloc, script, &mut text);
-    assert_eq!(rt; ended, outcome, "{}", shown(script));
-    assert_eq!(rt; text.as_slice(), want, "{}", shown(script));
+    assert!(rt; ended == outcome, "{}", shown(script));
+    assert!(rt; text.as_slice() == want, "{}", shown(script));
 }
 
 /// How the bench ends on a script; its answers go to the end of a text.

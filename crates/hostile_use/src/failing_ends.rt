@@ -15,8 +15,8 @@ fn answers_what_it_read(rt: &impl Abort, alloc: Global, front: &[u8], most: usiz
         &mut Torn::new(front, most),
         &mut Checked::new(&mut text),
     );
-    assert_eq!(rt; ended, Err(BenchFault::Read), "{} bytes", front.len());
-    assert_eq!(rt; text.as_slice(), want, "{} bytes", front.len());
+    assert!(rt; ended == Err(BenchFault::Read), "{} bytes", front.len());
+    assert!(rt; text.as_slice() == want, "{} bytes", front.len());
 }
 
 /// Asserts of each front of the script of rows that its whole lines are answered where the reader fails
@@ -54,8 +54,8 @@ fn fails_after(rt: &impl Abort, alloc: Global, script: &[u8], want: &[u8], room:
     for heals in [false, true] {
         let mut writer = Narrow::new(alloc, room, heals);
         let ended = ends_on(alloc, &mut Checked::new(script), &mut writer);
-        assert_eq!(rt; ended, outcome_in(room, want.len()), "room {room}");
-        assert_eq!(rt; writer.taken(), front, "room {room}, heals: {heals}");
+        assert!(rt; ended == outcome_in(room, want.len()), "room {room}");
+        assert!(rt; writer.taken() == front, "room {room}, heals: {heals}");
     }
 }
 
@@ -73,8 +73,8 @@ fn takes_nothing_after(
         &mut Checked::new(script),
         &mut Checked::new(&mut *room),
     );
-    assert_eq!(rt; ended, outcome_in(length, want.len()), "room {length}");
-    assert_eq!(rt; &*room, &want[..length.min(want.len())], "room {length}");
+    assert!(rt; ended == outcome_in(length, want.len()), "room {length}");
+    assert!(rt; &*room == &want[..length.min(want.len())], "room {length}");
 }
 
 /// Asserts what is written of the answers to rows, for each room that they may have.

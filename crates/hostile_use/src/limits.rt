@@ -1,9 +1,9 @@
 //! Both sides of each limit of the language: the last value that is taken, and the first that isn't.
 
-ghost use Rattle.uni_script.specs.Schedules.{listed};
+ghost use Rattle.uni_script.specs.Schedules.{IsPlan, listed};
 
 use crate::ends::runs;
-use std::alloc::{AllocError, Global};
+use std::alloc::Global;
 use std::io::Write;
 use std::process::Abort;
 use std::test::Fail;
@@ -239,20 +239,35 @@ const ON_A_FULL_QUEUE: Lines = &[
     ("deq", "2"),
 ];
 
-#[test]
-fn a_queue_holds_1000_numbers(rt: HostRuntime) -> Result<(), Fail> {
-    let mut calls = Calls::on(rt.alloc(), "queue")?;
+/// Adds a call that enqueues a number, or one that dequeues it.
+fn add_number(alloc: Global, calls: &mut Calls, number: u64, is_taken: bool) -> Result<(), Fail> {
+    if is_taken {
+        let reply = format!(in alloc; "{number}")?;
+        calls.add("deq", reply.as_str())
+    } else {
+        let words = format!(in alloc; "enq {number}")?;
+        calls.add(words.as_str(), "ok")
+    }
+}
+
+/// Adds the calls that fill a queue with the numbers from 0 to 999 and take them out again, and what
+/// is asked of it meanwhile.
+fn add_calls_of_a_full_queue(alloc: Global, calls: &mut Calls) -> Result<(), Fail> {
     for number in 0..1000 {
-        let words = format!(in rt.alloc(); "enq {number}")?;
-        calls.add(words.as_str(), "ok")?;
+        add_number(alloc, calls, number, false)?;
     }
     calls.add_all(ON_A_FULL_QUEUE)?;
     for number in 3..1000 {
-        let reply = format!(in rt.alloc(); "{number}")?;
-        calls.add("deq", reply.as_str())?;
+        add_number(alloc, calls, number, true)?;
     }
     calls.add("deq", "1001")?;
-    calls.add("deq", "empty")?;
+    calls.add("deq", "empty")
+}
+
+#[test]
+fn a_queue_holds_1000_numbers(rt: HostRuntime) -> Result<(), Fail> {
+    let mut calls = Calls::on(rt.alloc(), "queue")?;
+    add_calls_of_a_full_queue(rt.alloc(), &mut calls)?;
     calls.are_answered(&rt, rt.alloc())
 }
 
@@ -273,13 +288,19 @@ const ON_A_FULL_DIRECTORY: Lines = &[
     ("put again 1", "full"),
 ];
 
+/// Adds the calls that fill a directory with the names from n0 to n255.
+fn add_names(alloc: Global, calls: &mut Calls) -> Result<(), Fail> {
+    for number in 0..256 {
+        let words = format!(in alloc; "put n{number} {number}")?;
+        calls.add(words.as_str(), "new")?;
+    }
+    Ok(())
+}
+
 #[test]
 fn a_directory_holds_256_names(rt: HostRuntime) -> Result<(), Fail> {
     let mut calls = Calls::on(rt.alloc(), "directory")?;
-    for number in 0..256 {
-        let words = format!(in rt.alloc(); "put n{number} {number}")?;
-        calls.add(words.as_str(), "new")?;
-    }
+    add_names(rt.alloc(), &mut calls)?;
     calls.add_all(ON_A_FULL_DIRECTORY)?;
     calls.are_answered(&rt, rt.alloc())
 }
@@ -342,6 +363,18 @@ impl Drawn for Listed<'_> {
     }
 }
 
+/// The schedule that is drawn from words.
+fn drawn(alloc: Global, words: &[u64], plan: &Plan) -> Option<Vec<u8>>
+    requires { IsPlan plan.now }
+{
+    let mut source = Listed { words };
+    let mut text = Vec::new(alloc);
+    match schedule(alloc, &mut source, &mut Checked::new(&mut text), plan) {
+        Ok(()) => Some(text),
+        Err(_) => None,
+    }
+}
+
 /// Asserts the invocation that a word stands for, in a schedule of one event, which is a call.
 fn stands_for(
     rt: &impl Abort,
@@ -350,22 +383,15 @@ fn stands_for(
     word: u64,
     want: &str,
 ) -> Result<(), Fail> {
-    let words = [1, word];
-    let mut source = Listed {
-        words: words.as_slice(),
-    };
     let plan = Plan {
         object,
         processes: 1,
         row: 1,
         events: 1,
     };
-    let mut text = Vec::new(alloc);
-    let outcome = schedule(alloc, &mut source, &mut Checked::new(&mut text), &plan);
-    assert_eq!(rt; outcome, Ok(()));
-    let mut line = Vec::new(alloc);
-    write!(line, " 1 1\ncall 0 {want}\nfinish 0\nlog\n")?;
-    assert!(rt; text.as_slice().ends_with(line.as_slice()), "{want}");
+    let text = drawn(alloc, &[1, word], &plan).ok_or("no schedule")?;
+    let line = format!(in alloc; " 1 1\ncall 0 {want}\nfinish 0\nlog\n")?;
+    assert!(rt; text.as_slice().ends_with(line.as_bytes()), "{want}");
     Ok(())
 }
 
@@ -427,24 +453,16 @@ fn words_at_each_residue(rt: HostRuntime) -> Result<(), Fail> {
 }
 
 /// Asserts that a schedule of one event of 64 processes has this line for the event.
-fn draws(rt: &impl Abort, alloc: Global, word: u64, want: &str) -> Result<(), AllocError> {
-    let words = [word];
-    let mut source = Listed {
-        words: words.as_slice(),
-    };
+fn draws(rt: &impl Abort, alloc: Global, word: u64, want: &str) -> Result<(), Fail> {
     let plan = Plan {
         object: ObjectName::Sticky,
         processes: 64,
         row: 1,
         events: 1,
     };
-    let mut text = Vec::new(alloc);
-    let outcome = schedule(alloc, &mut source, &mut Checked::new(&mut text), &plan);
-    assert_eq!(rt; outcome, Ok(()));
-    let mut front = Vec::from_slice(alloc, b"universal 2 sticky 64 1\n")?;
-    front.extend_from_slice(want.as_bytes())?;
-    front.extend_from_slice(b"finish 0\n")?;
-    assert!(rt; text.as_slice().starts_with(front.as_slice()), "{want}");
+    let text = drawn(alloc, &[word], &plan).ok_or("no schedule")?;
+    let front = format!(in alloc; "universal 2 sticky 64 1\n{want}finish 0\n")?;
+    assert!(rt; text.as_slice().starts_with(front.as_bytes()), "{want}");
     Ok(())
 }
 
@@ -465,7 +483,7 @@ const EVENTS: &[(u64, &str)] = &[
 ];
 
 #[test]
-fn events_at_each_residue(rt: HostRuntime) -> Result<(), AllocError> {
+fn events_at_each_residue(rt: HostRuntime) -> Result<(), Fail> {
     for (word, want) in EVENTS {
         draws(&rt, rt.alloc(), *word, want)?;
     }

@@ -13,7 +13,7 @@ use std::test::Fail;
 use uni_core::{OpenFault, Place, Progress, StepFault, World};
 use uni_log::{Entry, Log};
 use uni_record::{
-    Counts, RecordOpenFault, RecordStepFault, RecordTrimFault, Recorded, Verdict, audit,
+    Counts, RecordOpenFault, RecordStepFault, RecordTrimFault, Recorded, Return, Verdict, audit,
 };
 
 /// A register that answers the number before, at first 9. One of its requests for a start state or a
@@ -143,9 +143,12 @@ fn entry(seq: u64, process: u32, nth: u64, inv: u32, reply: u32) -> Entry<u32, u
     }
 }
 
-/// The run in which the bound is met exactly, where one request is refused.
-fn bound_is_met(rt: &impl Abort, alloc: Global, granted: &Cell<u64>) -> Result<(), Fail> {
-    let mut world = world(alloc, granted)?;
+/// The steps of the run in which the bound is met exactly.
+fn meets_the_bound(
+    rt: &impl Abort,
+    alloc: Global,
+    world: &mut World<Scarce<'_>>,
+) -> Result<(), Fail> {
     for (p, inv, count, reply) in [
         (0, Some(10), 10, None),
         (1, Some(7), 14, None),
@@ -153,16 +156,33 @@ fn bound_is_met(rt: &impl Abort, alloc: Global, granted: &Cell<u64>) -> Result<(
         (0, Some(20), 1, None),
         (1, None, 18, Some(20)),
     ] {
-        assert_eq!(rt; takes(alloc, &mut world, p, inv, count)?, reply, "{p}");
+        assert!(rt; takes(alloc, world, p, inv, count)? == reply, "{p}");
     }
-    assert_eq!(rt; standing(&world, 1), Some((32, 3, None)));
-    let entries = Log::of(&world).entries(alloc)?;
+    assert!(rt; standing(world, 1) == Some((32, 3, None)));
+    Ok(())
+}
+
+/// The log after that run.
+fn has_its_log(
+    rt: &impl Abort,
+    alloc: Global,
+    world: &World<Scarce<'_>>,
+) -> Result<(), AllocError> {
     let want = [
         entry(2, 0, 0, 10, 9),
         entry(3, 0, 1, 20, 10),
         entry(4, 1, 0, 7, 20),
     ];
-    assert_eq!(rt; entries.as_slice(), want.as_slice());
+    let entries = Log::of(world).entries(alloc)?;
+    assert!(rt; entries.as_slice() == want.as_slice(), "other entries");
+    Ok(())
+}
+
+/// The run in which the bound is met exactly, where one request is refused.
+fn bound_is_met(rt: &impl Abort, alloc: Global, granted: &Cell<u64>) -> Result<(), Fail> {
+    let mut world = world(alloc, granted)?;
+    meets_the_bound(rt, alloc, &mut world)?;
+    has_its_log(rt, alloc, &world)?;
     Ok(())
 }
 
@@ -172,7 +192,7 @@ fn worlds_whose_object_is_refused(rt: HostRuntime) -> Result<(), Fail> {
     for refused in 0..5 {
         let granted = Cell::new(refused);
         bound_is_met(&rt, rt.alloc(), &granted)?;
-        assert_eq!(rt; granted.get(), left_after(refused, 4));
+        assert!(rt; granted.get() == left_after(refused, 4));
     }
     Ok(())
 }
@@ -231,64 +251,95 @@ fn stores(
     Ok(reply)
 }
 
-/// The run in which a stopped process is helped, and the era is ended at last, where one request is
-/// refused.
+/// The steps of the run in which a stopped process is helped, and the end of its era at last.
+fn helps_and_trims(
+    rt: &impl Abort,
+    alloc: Global,
+    recorded: &mut Recorded<Scarce<'_>>,
+) -> Result<(), Fail> {
+    assert!(rt; stores(alloc, recorded, 1, Some(5), 1)? == None);
+    assert!(rt; stores(alloc, recorded, 0, Some(6), 24)? == Some(5));
+    assert!(rt; recorded.trim(alloc) == Err(RecordTrimFault::Pending(1)));
+    assert!(rt; stores(alloc, recorded, 1, None, 7)? == Some(9));
+    assert!(rt; recorded.trim(alloc) == Ok(3));
+    Ok(())
+}
+
+/// The own steps and turns of the calls of that run.
+const HELPED_COUNTS: &[Counts] = &[
+    Counts {
+        steps: 24,
+        turns: 2,
+    },
+    Counts { steps: 8, turns: 0 },
+];
+
+/// That run, where one request is refused.
 fn helped_is_recorded<'a>(
     rt: &impl Abort,
     alloc: Global,
     granted: &'a Cell<u64>,
 ) -> Result<Recorded<Scarce<'a>>, Fail> {
     let mut recorded = record(alloc, granted)?;
-    for (p, inv, count, reply) in [(1, Some(5), 1, None), (0, Some(6), 24, Some(5))] {
-        assert_eq!(rt; stores(alloc, &mut recorded, p, inv, count)?, reply, "{p}");
-    }
-    assert_eq!(rt; recorded.trim(alloc), Err(RecordTrimFault::Pending(1)));
-    assert_eq!(rt; stores(alloc, &mut recorded, 1, None, 7)?, Some(9));
-    assert_eq!(rt; recorded.trim(alloc), Ok(3));
-    let want = [
-        Counts {
-            steps: 24,
-            turns: 2,
-        },
-        Counts { steps: 8, turns: 0 },
-    ];
-    assert_eq!(rt; recorded.counts(), want.as_slice());
+    helps_and_trims(rt, alloc, &mut recorded)?;
+    assert!(rt; recorded.counts() == HELPED_COUNTS, "other counts");
     Ok(recorded)
 }
 
-#[test]
-fn records_whose_object_is_refused(rt: HostRuntime) -> Result<(), Fail> {
-    let alloc = rt.alloc();
+/// The entries after that run.
+fn has_helped_entries(
+    rt: &impl Abort,
+    alloc: Global,
+    recorded: &Recorded<Scarce<'_>>,
+) -> Result<(), AllocError> {
     let want = [entry(2, 1, 0, 5, 9), entry(3, 0, 0, 6, 5)];
-    for refused in 0..4 {
-        let granted = Cell::new(refused);
-        let recorded = helped_is_recorded(&rt, alloc, &granted)?;
-        assert_eq!(rt; granted.get(), left_after(refused, 3));
-        let entries = recorded.entries(alloc)?;
-        assert_eq!(rt; entries.as_slice(), want.as_slice());
-    }
+    let entries = recorded.entries(alloc)?;
+    assert!(rt; entries.as_slice() == want.as_slice(), "other entries");
     Ok(())
 }
 
 #[test]
-fn audits_whose_object_is_refused(rt: HostRuntime) -> Result<(), Fail> {
-    let alloc = rt.alloc();
-    let none = Cell::new(3);
-    let recorded = helped_is_recorded(&rt, alloc, &none)?;
-    let entries = recorded.entries(alloc)?;
+fn records_whose_object_is_refused(rt: HostRuntime) -> Result<(), Fail> {
     for refused in 0..4 {
         let granted = Cell::new(refused);
-        let object = Scarce { granted: &granted };
-        let verdict = audit(alloc, &object, entries.as_slice(), recorded.returns());
-        let want = if refused < 3 {
-            Err(AllocError)
-        } else {
-            Ok(Verdict::Agrees)
-        };
-        assert_eq!(rt; verdict, want, "{refused}");
-        granted.set(3);
-        let verdict = audit(alloc, &object, entries.as_slice(), recorded.returns());
-        assert_eq!(rt; verdict, Ok(Verdict::Agrees), "{refused}");
+        let recorded = helped_is_recorded(&rt, rt.alloc(), &granted)?;
+        assert!(rt; granted.get() == left_after(refused, 3), "{refused}");
+        has_helped_entries(&rt, rt.alloc(), &recorded)?;
+    }
+    Ok(())
+}
+
+/// An audit of three requests, one of which is refused, answers so, and agrees when it is asked again.
+fn agrees_again(
+    rt: &impl Abort,
+    alloc: Global,
+    entries: &[Entry<u32, u32>],
+    returns: &[Return<u32>],
+    refused: u64,
+) {
+    let granted = Cell::new(refused);
+    let object = Scarce { granted: &granted };
+    let want = if refused < 3 {
+        Err(AllocError)
+    } else {
+        Ok(Verdict::Agrees)
+    };
+    assert!(rt;
+        audit(alloc, &object, entries, returns) == want,
+        "{refused}"
+    );
+    granted.set(3);
+    let again = audit(alloc, &object, entries, returns);
+    assert!(rt; again == Ok(Verdict::Agrees), "{refused}");
+}
+
+#[test]
+fn audits_whose_object_is_refused(rt: HostRuntime) -> Result<(), Fail> {
+    let none = Cell::new(3);
+    let recorded = helped_is_recorded(&rt, rt.alloc(), &none)?;
+    let entries = recorded.entries(rt.alloc())?;
+    for refused in 0..4 {
+        agrees_again(&rt, rt.alloc(), &entries, recorded.returns(), refused);
     }
     Ok(())
 }

@@ -55,7 +55,7 @@ fn stops(
 
 /// Asserts that so many calls have returned, each within the bound of `n` processes.
 fn are_bounded(rt: &impl Abort, recorded: &Recorded<QueueObject>, calls: usize, n: u64) {
-    assert_eq!(rt; recorded.counts().len(), calls);
+    assert!(rt; recorded.counts().len() == calls);
     for counts in recorded.counts() {
         assert!(rt; counts.steps <= n.saturating_mul(10).saturating_add(12));
         assert!(rt; counts.turns <= n.saturating_add(1));
@@ -72,12 +72,12 @@ fn has_log(
     call: (CallId, bool),
 ) -> Result<(), Fail> {
     let entries = recorded.entries(alloc)?;
-    assert_eq!(rt; entries.len(), length, "{call:?}");
+    assert!(rt; entries.len() == length, "{call:?}");
     let (call, is_there) = call;
     let found = entries.iter().any(|entry| entry.call == call);
-    assert_eq!(rt; found, is_there, "{call:?}");
+    assert!(rt; found == is_there, "{call:?}");
     let verdict = audit(alloc, &QueueObject, entries.as_slice(), recorded.returns())?;
-    assert_eq!(rt; verdict, Verdict::Agrees);
+    assert!(rt; verdict == Verdict::Agrees);
     Ok(())
 }
 
@@ -98,19 +98,31 @@ fn queue(alloc: Global, n: u64, k: u64) -> Result<Recorded<QueueObject>, Fail> {
     }
 }
 
+/// Process 0 of three stops after so many steps, beside two that make four calls each.
+fn one_of_three_stops(
+    rt: &impl Abort,
+    alloc: Global,
+    recorded: &mut Recorded<QueueObject>,
+    steps: u64,
+) -> Result<(), Fail> {
+    stops(alloc, recorded, 0, steps)?;
+    both_call(alloc, recorded)?;
+    are_bounded(rt, recorded, 8, 3);
+    let first = CallId { process: 0, nth: 0 };
+    let (length, is_there) = if steps == 0 { (8, false) } else { (9, true) };
+    has_log(rt, alloc, recorded, length, (first, is_there))?;
+    assert!(rt;
+        recorded.trim(alloc) == Err(RecordTrimFault::Pending(0)),
+        "{steps}"
+    );
+    Ok(())
+}
+
 #[test]
 fn one_of_three_stops_after_each_step(rt: HostRuntime) -> Result<(), Fail> {
-    let alloc = rt.alloc();
-    let first = CallId { process: 0, nth: 0 };
     for steps in 0..18 {
-        let mut recorded = queue(alloc, 3, 4)?;
-        stops(alloc, &mut recorded, 0, steps)?;
-        both_call(alloc, &mut recorded)?;
-        are_bounded(&rt, &recorded, 8, 3);
-        let (length, is_there) = if steps == 0 { (8, false) } else { (9, true) };
-        has_log(&rt, alloc, &recorded, length, (first, is_there))?;
-        let trimmed = recorded.trim(alloc);
-        assert_eq!(rt; trimmed, Err(RecordTrimFault::Pending(0)), "{steps}");
+        let mut recorded = queue(rt.alloc(), 3, 4)?;
+        one_of_three_stops(&rt, rt.alloc(), &mut recorded, steps)?;
     }
     Ok(())
 }
@@ -149,23 +161,41 @@ fn drawn_stops(
     Ok(announced)
 }
 
+/// All processes but one of 64 stop, where a seed draws it, and that one makes 50 calls.
+fn all_but_one_stop(
+    rt: &impl Abort,
+    alloc: Global,
+    recorded: &mut Recorded<QueueObject>,
+    seed: u64,
+) -> Result<(), Fail> {
+    let mut source = Xoshiro256PlusPlus::seed_from_u64(seed);
+    let announced = drawn_stops(alloc, recorded, &mut source)?;
+    one_calls(alloc, recorded)?;
+    are_bounded(rt, recorded, 50, 64);
+    // Each call that was announced is in the log, since the turns have come to each process.
+    let last = CallId {
+        process: 31,
+        nth: 49,
+    };
+    has_log(
+        rt,
+        alloc,
+        recorded,
+        announced.saturating_add(50),
+        (last, true),
+    )?;
+    assert!(rt;
+        recorded.trim(alloc) == Err(RecordTrimFault::Pending(0)),
+        "{seed}"
+    );
+    Ok(())
+}
+
 #[test]
 fn all_but_one_of_64_stop(rt: HostRuntime) -> Result<(), Fail> {
-    let alloc = rt.alloc();
     for seed in 1..4 {
-        let mut recorded = queue(alloc, 64, 64)?;
-        let mut source = Xoshiro256PlusPlus::seed_from_u64(seed);
-        let announced = drawn_stops(alloc, &mut recorded, &mut source)?;
-        one_calls(alloc, &mut recorded)?;
-        are_bounded(&rt, &recorded, 50, 64);
-        // Each call that was announced is in the log, since the turns have come to each process.
-        let last = CallId {
-            process: 31,
-            nth: 49,
-        };
-        let length = announced.saturating_add(50);
-        has_log(&rt, alloc, &recorded, length, (last, true))?;
-        assert_eq!(rt; recorded.trim(alloc), Err(RecordTrimFault::Pending(0)));
+        let mut recorded = queue(rt.alloc(), 64, 64)?;
+        all_but_one_stop(&rt, rt.alloc(), &mut recorded, seed)?;
     }
     Ok(())
 }

@@ -44,13 +44,13 @@ fn call(process: u32, nth: u64) -> CallId {
 }
 
 /// Entries of calls that ask for 7: each by its process, its number and its reply.
-type Calls<'a> = &'a [(u32, u64, Option<u32>)];
+type Calls = &'static [(u32, u64, Option<u32>)];
 
 /// Calls that returned: each by its process, its number and its reply.
-type Returned<'a> = &'a [(u32, u64, u32)];
+type Returned = &'static [(u32, u64, u32)];
 
 /// What a row is about, its entries and its returns, and the verdict on them.
-type Row<'a> = (&'a str, Calls<'a>, Returned<'a>, Verdict);
+type Row = (&'static str, Calls, Returned, Verdict);
 
 /// The entries of these calls, in this order.
 fn entries_of(alloc: Global, calls: Calls) -> Result<Vec<Entry<u32, u32>>, AllocError> {
@@ -90,154 +90,190 @@ fn verdict(alloc: Global, row: &Row) -> Result<Verdict, AllocError> {
 /// Each row has its verdict.
 fn judges(rt: &impl Abort, alloc: Global, rows: &[Row]) {
     for row in rows {
-        assert_eq!(rt; verdict(alloc, row), Ok(row.3), "{}", row.0);
+        assert!(rt; verdict(alloc, row) == Ok(row.3), "{}", row.0);
     }
 }
+
+/// Lists that agree.
+const AGREE: &[Row] = &[
+    ("nothing", &[], &[], Verdict::Agrees),
+    (
+        "one call",
+        &[(0, 0, Some(9))],
+        &[(0, 0, 9)],
+        Verdict::Agrees,
+    ),
+    (
+        "last entry needs no reply",
+        &[(0, 0, Some(9)), (1, 0, None)],
+        &[(0, 0, 9)],
+        Verdict::Agrees,
+    ),
+    (
+        "state goes on from entry to entry",
+        &[(0, 0, Some(9)), (1, 0, Some(7))],
+        &[],
+        Verdict::Agrees,
+    ),
+];
 
 #[test]
 fn what_the_object_answers_agrees(rt: HostRuntime) {
-    let rows: [Row; 4] = [
-        ("nothing", &[], &[], Verdict::Agrees),
-        (
-            "one call",
-            &[(0, 0, Some(9))],
-            &[(0, 0, 9)],
-            Verdict::Agrees,
-        ),
-        (
-            "last entry needs no reply",
-            &[(0, 0, Some(9)), (1, 0, None)],
-            &[(0, 0, 9)],
-            Verdict::Agrees,
-        ),
-        (
-            "state goes on from entry to entry",
-            &[(0, 0, Some(9)), (1, 0, Some(7))],
-            &[],
-            Verdict::Agrees,
-        ),
-    ];
-    judges(&rt, rt.alloc(), &rows);
+    judges(&rt, rt.alloc(), AGREE);
 }
+
+/// Entries that are wrong.
+const WRONG_ENTRIES: &[Row] = &[
+    (
+        "reply that the object does not give",
+        &[(0, 0, Some(5))],
+        &[(0, 0, 9)],
+        Verdict::BadReply(0),
+    ),
+    (
+        "state goes on from entry to entry",
+        &[(0, 0, Some(9)), (1, 0, Some(9))],
+        &[],
+        Verdict::BadReply(1),
+    ),
+    (
+        "call that is not the next one",
+        &[(0, 1, Some(9))],
+        &[(0, 0, 9)],
+        Verdict::BadCall(0),
+    ),
+    (
+        "call that has two entries",
+        &[(3, 0, Some(9)), (1, 0, Some(7)), (3, 0, Some(7))],
+        &[],
+        Verdict::BadCall(2),
+    ),
+];
 
 #[test]
 fn entries_that_are_wrong(rt: HostRuntime) {
-    let rows: [Row; 4] = [
-        (
-            "reply that the object does not give",
-            &[(0, 0, Some(5))],
-            &[(0, 0, 9)],
-            Verdict::BadReply(0),
-        ),
-        (
-            "state goes on from entry to entry",
-            &[(0, 0, Some(9)), (1, 0, Some(9))],
-            &[],
-            Verdict::BadReply(1),
-        ),
-        (
-            "call that is not the next one",
-            &[(0, 1, Some(9))],
-            &[(0, 0, 9)],
-            Verdict::BadCall(0),
-        ),
-        (
-            "call that has two entries",
-            &[(3, 0, Some(9)), (1, 0, Some(7)), (3, 0, Some(7))],
-            &[],
-            Verdict::BadCall(2),
-        ),
-    ];
-    judges(&rt, rt.alloc(), &rows);
+    judges(&rt, rt.alloc(), WRONG_ENTRIES);
 }
+
+/// Call 0.0.
+const FIRST: CallId = CallId { process: 0, nth: 0 };
+
+/// Returns that are wrong.
+const WRONG_RETURNS: &[Row] = &[
+    ("no entry", &[], &[(0, 0, 9)], Verdict::Missing(FIRST)),
+    (
+        "entry that has no reply",
+        &[(0, 0, None)],
+        &[(0, 0, 9)],
+        Verdict::Missing(FIRST),
+    ),
+    (
+        "another reply",
+        &[(0, 0, Some(9))],
+        &[(0, 0, 5)],
+        Verdict::BadReturn(FIRST),
+    ),
+    (
+        "twice",
+        &[(0, 0, Some(9))],
+        &[(0, 0, 9), (0, 0, 9)],
+        Verdict::Twice(FIRST),
+    ),
+];
 
 #[test]
 fn returns_that_are_wrong(rt: HostRuntime) {
-    let first = call(0, 0);
-    let one = [(0, 0, Some(9))];
-    let rows: [Row; 4] = [
-        ("no entry", &[], &[(0, 0, 9)], Verdict::Missing(first)),
-        (
-            "entry that has no reply",
-            &[(0, 0, None)],
-            &[(0, 0, 9)],
-            Verdict::Missing(first),
-        ),
-        (
-            "another reply",
-            &one,
-            &[(0, 0, 5)],
-            Verdict::BadReturn(first),
-        ),
-        (
-            "twice",
-            &one,
-            &[(0, 0, 9), (0, 0, 9)],
-            Verdict::Twice(first),
-        ),
-    ];
-    judges(&rt, rt.alloc(), &rows);
+    judges(&rt, rt.alloc(), WRONG_RETURNS);
 }
+
+/// Lists that are wrong in two ways.
+const TWO_FAULTS: &[Row] = &[
+    (
+        "on one entry the call comes before the reply",
+        &[(0, 1, Some(5))],
+        &[],
+        Verdict::BadCall(0),
+    ),
+    (
+        "on one return the second time comes before the reply, which is wrong there",
+        &[(0, 0, Some(9))],
+        &[(0, 0, 9), (0, 0, 5)],
+        Verdict::Twice(FIRST),
+    ),
+    (
+        "entries come before returns",
+        &[(0, 0, Some(5))],
+        &[(0, 0, 9), (0, 0, 9)],
+        Verdict::BadReply(0),
+    ),
+];
 
 #[test]
 fn first_fault_is_answered(rt: HostRuntime) {
-    let rows: [Row; 3] = [
-        (
-            "on one entry the call comes before the reply",
-            &[(0, 1, Some(5))],
-            &[],
-            Verdict::BadCall(0),
-        ),
-        (
-            "on one return the second time comes before the reply, which is wrong there",
-            &[(0, 0, Some(9))],
-            &[(0, 0, 9), (0, 0, 5)],
-            Verdict::Twice(call(0, 0)),
-        ),
-        (
-            "entries come before returns",
-            &[(0, 0, Some(5))],
-            &[(0, 0, 9), (0, 0, 9)],
-            Verdict::BadReply(0),
-        ),
-    ];
-    judges(&rt, rt.alloc(), &rows);
+    judges(&rt, rt.alloc(), TWO_FAULTS);
 }
 
 /// Calls 3.0, 1.0 and 3.1, in this order.
-const IN_TURN: [(u32, u64, Option<u32>); 3] = [(3, 0, Some(9)), (1, 0, Some(7)), (3, 1, Some(7))];
+const IN_TURN: Calls = &[(3, 0, Some(9)), (1, 0, Some(7)), (3, 1, Some(7))];
+
+/// What returned of them, in another order.
+const OUT_OF_TURN: &[Row] = &[
+    (
+        "the last one first",
+        IN_TURN,
+        &[(3, 1, 7), (1, 0, 7), (3, 0, 9)],
+        Verdict::Agrees,
+    ),
+    (
+        "one of them twice",
+        IN_TURN,
+        &[(1, 0, 7), (3, 1, 7), (1, 0, 7)],
+        Verdict::Twice(CallId { process: 1, nth: 0 }),
+    ),
+];
 
 #[test]
 fn calls_of_two_processes_return_in_another_order(rt: HostRuntime) {
-    let rows: [Row; 2] = [
-        (
-            "the last one first",
-            &IN_TURN,
-            &[(3, 1, 7), (1, 0, 7), (3, 0, 9)],
-            Verdict::Agrees,
-        ),
-        (
-            "one of them twice",
-            &IN_TURN,
-            &[(1, 0, 7), (3, 1, 7), (1, 0, 7)],
-            Verdict::Twice(call(1, 0)),
-        ),
-    ];
-    judges(&rt, rt.alloc(), &rows);
+    judges(&rt, rt.alloc(), OUT_OF_TURN);
 }
+
+/// The greatest name that a call can have.
+const GREATEST: CallId = CallId {
+    process: 4_294_967_295,
+    nth: 18_446_744_073_709_551_615,
+};
+
+/// Returns of calls that aren't among them.
+const PAST: &[Row] = &[
+    (
+        "process 3",
+        IN_TURN,
+        &[(3, 2, 7)],
+        Verdict::Missing(CallId { process: 3, nth: 2 }),
+    ),
+    (
+        "process 1",
+        IN_TURN,
+        &[(1, 1, 7)],
+        Verdict::Missing(CallId { process: 1, nth: 1 }),
+    ),
+    (
+        "process 2",
+        IN_TURN,
+        &[(2, 0, 7)],
+        Verdict::Missing(CallId { process: 2, nth: 0 }),
+    ),
+    (
+        "the greatest process and number",
+        IN_TURN,
+        &[(4_294_967_295, 18_446_744_073_709_551_615, 7)],
+        Verdict::Missing(GREATEST),
+    ),
+];
 
 #[test]
 fn calls_past_those_of_the_entries(rt: HostRuntime) {
-    for (process, nth) in [
-        (3, 2),
-        (1, 1),
-        (2, 0),
-        (4_294_967_295, 18_446_744_073_709_551_615),
-    ] {
-        let returned = [(process, nth, 7)];
-        let missing = Verdict::Missing(call(process, nth));
-        judges(&rt, rt.alloc(), &[("past", &IN_TURN, &returned, missing)]);
-    }
+    judges(&rt, rt.alloc(), PAST);
 }
 
 /// The verdict on one entry, of process 0's call with this number, where no invocation can be applied.
@@ -254,11 +290,8 @@ fn verdict_without_memory(alloc: Global, nth: u64) -> Option<Verdict> {
 #[test]
 fn refused_memory_is_no_verdict(rt: HostRuntime) {
     let alloc = rt.alloc();
-    assert_eq!(rt; verdict_without_memory(alloc, 0), None);
+    assert!(rt; verdict_without_memory(alloc, 0) == None);
     // a call is checked before its entry is replayed
-    assert_eq!(rt; verdict_without_memory(alloc, 1), Some(Verdict::BadCall(0)));
-    assert_eq!(rt;
-        audit(alloc, &Refused, &[], &[]).ok(),
-        Some(Verdict::Agrees)
-    );
+    assert!(rt; verdict_without_memory(alloc, 1) == Some(Verdict::BadCall(0)));
+    assert!(rt; audit(alloc, &Refused, &[], &[]).ok() == Some(Verdict::Agrees));
 }

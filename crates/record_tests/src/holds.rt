@@ -41,20 +41,32 @@ fn first_call<R: Abort>(
     Ok(())
 }
 
-#[test]
-fn a_call_in_fifteen_holds(rt: HostRuntime) -> Result<(), Fail> {
-    let alloc = rt.alloc();
-    let Some(seven) = Amount::new(7) else {
-        return Err(Fail::from("the number should fit"));
-    };
-    let Ok(mut recorded) = Recorded::open(alloc, QueueObject, 1, 2, 100) else {
-        return Err(Fail::from("no record was opened"));
-    };
-    first_call(&rt, alloc, &mut recorded, &QueueInv::Enq(seven))?;
+/// A record of a queue of one process, with rows of two calls and 100 events.
+fn queue_of_one(alloc: Global) -> Result<Recorded<QueueObject>, Fail> {
+    match Recorded::open(alloc, QueueObject, 1, 2, 100) {
+        Ok(recorded) => Ok(recorded),
+        Err(_) => Err(Fail::from("no record was opened")),
+    }
+}
+
+/// What `a_call_in_fifteen_holds` looks at.
+fn a_call_in_fifteen_holds_in<R: Abort>(
+    rt: &R,
+    alloc: Global,
+    recorded: &mut Recorded<QueueObject>,
+) -> Result<(), Fail> {
+    let seven = Amount::new(7).ok_or("the number should fit")?;
+    first_call(rt, alloc, recorded, &QueueInv::Enq(seven))?;
     assert!(rt; recorded.events().len() == 15);
-    assert!(rt; trim_held(alloc, &mut recorded) == Ok(2));
+    assert!(rt; trim_held(alloc, recorded) == Ok(2));
     assert!(rt; recorded.events().len() == 16);
     Ok(())
+}
+
+#[test]
+fn a_call_in_fifteen_holds(rt: HostRuntime) -> Result<(), Fail> {
+    let mut recorded = queue_of_one(rt.alloc())?;
+    a_call_in_fifteen_holds_in(&rt, rt.alloc(), &mut recorded)
 }
 
 /// Holds that do nothing, where call 0.0 is pending.
@@ -78,14 +90,20 @@ fn refused_holds<R: Abort>(
     Ok(())
 }
 
-#[test]
-fn a_refused_hold_does_nothing(rt: HostRuntime) -> Result<(), Fail> {
-    let alloc = rt.alloc();
-    let Ok(mut recorded) = Recorded::open(alloc, QueueObject, 1, 2, 100) else {
-        return Err(Fail::from("no record was opened"));
-    };
-    assert!(rt; begin_held(alloc, &mut recorded, 0, &QueueInv::Deq).is_ok());
-    refused_holds(&rt, alloc, &mut recorded)?;
+/// What `a_refused_hold_does_nothing` looks at.
+fn a_refused_hold_does_nothing_in<R: Abort>(
+    rt: &R,
+    alloc: Global,
+    recorded: &mut Recorded<QueueObject>,
+) -> Result<(), Fail> {
+    assert!(rt; begin_held(alloc, recorded, 0, &QueueInv::Deq).is_ok());
+    refused_holds(rt, alloc, recorded)?;
     assert!(rt; recorded.events().len() == 1);
     Ok(())
+}
+
+#[test]
+fn a_refused_hold_does_nothing(rt: HostRuntime) -> Result<(), Fail> {
+    let mut recorded = queue_of_one(rt.alloc())?;
+    a_refused_hold_does_nothing_in(&rt, rt.alloc(), &mut recorded)
 }

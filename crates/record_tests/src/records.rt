@@ -187,21 +187,14 @@ fn what_cannot_be_opened_is_refused_in_order(rt: HostRuntime) {
         (64, 8, 16_777_216, None),
     ] {
         let opened = Recorded::open(alloc, QueueObject, n, k, h);
-        assert_eq!(rt;
-            opened.err(),
-            fault,
+        assert!(rt;
+            opened.err() == fault,
             "{n} processes, rows of {k}, {h} events"
         );
     }
-    assert_eq!(rt;
-        refused_at(alloc, 281_474_976_710_648, 0),
-        Some(RecordOpenFault::SeqFull)
-    );
-    assert_eq!(rt;
-        refused_at(alloc, 281_474_976_710_647, 0),
-        Some(RecordOpenFault::BadHistory)
-    );
-    assert_eq!(rt; refused_at(alloc, 281_474_976_710_647, 1), None);
+    assert!(rt; refused_at(alloc, 281_474_976_710_648, 0) == Some(RecordOpenFault::SeqFull));
+    assert!(rt; refused_at(alloc, 281_474_976_710_647, 0) == Some(RecordOpenFault::BadHistory));
+    assert!(rt; refused_at(alloc, 281_474_976_710_647, 1) == None);
 }
 
 /// Whether the first call of process 0 enqueues 7.
@@ -223,19 +216,16 @@ fn enqueued(alloc: Global) -> Result<Recorded<QueueObject>, Fail> {
 /// What `a_call_is_stored_event_by_event` looks at.
 fn a_call_is_stored_event_by_event_in(rt: &impl Abort, recorded: &Recorded<QueueObject>) {
     let events = recorded.events();
-    assert_eq!(rt; events.len(), 15);
-    assert_eq!(rt; events.first(), Some(&Event::Call(0, enq(7))));
-    assert_eq!(rt; events.last(), Some(&Event::Step(0)));
+    assert!(rt; events.len() == 15);
+    assert!(rt; events.first() == Some(&Event::Call(0, enq(7))));
+    assert!(rt; events.last() == Some(&Event::Step(0)));
     assert!(rt; recorded.returns() == [returned(QueueResp::Added)].as_slice());
     let counts = Counts {
         steps: 14,
         turns: 1,
     };
-    assert_eq!(rt; recorded.counts().first(), Some(&counts));
-    assert_eq!(rt;
-        (recorded.processes(), recorded.first(), recorded.limit()),
-        (1, 1, 100)
-    );
+    assert!(rt; recorded.counts().first() == Some(&counts));
+    assert!(rt; (recorded.processes(), recorded.first(), recorded.limit()) == (1, 1, 100));
 }
 
 #[test]
@@ -309,15 +299,11 @@ fn the_verdicts_of_changed_lists_in(
 ) {
     assert!(rt; changed_entries_are_judged(alloc, recorded));
     let other = [returned(QueueResp::Full)];
-    assert_eq!(rt;
-        judged_with(alloc, recorded, other.as_slice()),
-        Some(Verdict::BadReturn(call(0, 0)))
+    assert!(rt;
+        judged_with(alloc, recorded, other.as_slice()) == Some(Verdict::BadReturn(call(0, 0)))
     );
     let twice = [returned(QueueResp::Added), returned(QueueResp::Added)];
-    assert_eq!(rt;
-        judged_with(alloc, recorded, twice.as_slice()),
-        Some(Verdict::Twice(call(0, 0)))
-    );
+    assert!(rt; judged_with(alloc, recorded, twice.as_slice()) == Some(Verdict::Twice(call(0, 0))));
 }
 
 #[test]
@@ -360,27 +346,47 @@ fn helped(alloc: Global) -> Result<Vec<Command<QueueInv>>, AllocError> {
     Ok(commands)
 }
 
+/// What a record answers to the commands of `helped`.
+fn outcomes_of_helped(
+    alloc: Global,
+    recorded: &mut Recorded<QueueObject>,
+) -> Result<Vec<Outcome<QueueResp>>, AllocError> {
+    let commands = helped(alloc)?;
+    recorded.run(alloc, &commands)
+}
+
 /// What `a_run_of_commands_is_stored` looks at.
 fn a_run_of_commands_is_stored_in(
     rt: &impl Abort,
     alloc: Global,
     recorded: &mut Recorded<QueueObject>,
-) -> Result<(), Fail> {
-    let commands = helped(alloc)?;
-    let outcomes = recorded.run(alloc, &commands)?;
-    assert_eq!(rt; (outcomes.len(), recorded.events().len()), (27, 27));
-    assert_eq!(rt;
-        outcomes.last(),
-        Some(&Outcome::Returned(call(0, 0), QueueResp::Added))
-    );
-    assert_eq!(rt; verdict(alloc, recorded), Some(Verdict::Agrees));
+) -> Result<(), AllocError> {
+    let outcomes = outcomes_of_helped(alloc, recorded)?;
+    let last = Outcome::Returned(call(0, 0), QueueResp::Added);
+    assert!(rt; outcomes.len() == 27 && outcomes.last() == Some(&last));
+    assert!(rt; recorded.events().len() == 27);
+    assert!(rt; verdict(alloc, recorded) == Some(Verdict::Agrees));
     Ok(())
 }
 
 #[test]
 fn a_run_of_commands_is_stored(rt: HostRuntime) -> Result<(), Fail> {
     let mut recorded = queue(rt.alloc(), 2, 8, 1000)?;
-    a_run_of_commands_is_stored_in(&rt, rt.alloc(), &mut recorded)
+    a_run_of_commands_is_stored_in(&rt, rt.alloc(), &mut recorded)?;
+    Ok(())
+}
+
+/// Whether a record that is given these commands answers these.
+fn answers(
+    alloc: Global,
+    recorded: &mut Recorded<QueueObject>,
+    commands: &[Command<QueueInv>],
+    told: &[Outcome<QueueResp>],
+) -> bool {
+    match recorded.run(alloc, commands) {
+        Ok(outcomes) => outcomes.as_slice() == told,
+        Err(_) => false,
+    }
 }
 
 /// A new record of a queue is given these commands, and answers these; then it has so many events.
@@ -393,9 +399,11 @@ fn runs(
     stored: usize,
 ) -> Result<(), Fail> {
     let mut recorded = queue(alloc, n, k, h)?;
-    let outcomes = recorded.run(alloc, commands)?;
-    assert_eq!(rt; outcomes.as_slice(), told);
-    assert_eq!(rt; recorded.events().len(), stored);
+    assert!(rt;
+        answers(alloc, &mut recorded, commands, told),
+        "other outcomes"
+    );
+    assert!(rt; recorded.events().len() == stored, "other events");
     Ok(())
 }
 
@@ -539,16 +547,13 @@ fn numbers_that_would_pass_the_greatest_are_refused_in(
     alloc: Global,
     recorded: &mut Recorded<SwapRegister>,
 ) {
-    assert_eq!(rt; recorded.begin(alloc, 0, &9), Ok(call(0, 0)));
-    assert_eq!(rt; finishes(alloc, recorded, 0), Some(5));
+    assert!(rt; recorded.begin(alloc, 0, &9) == Ok(call(0, 0)));
+    assert!(rt; finishes(alloc, recorded, 0) == Some(5));
     assert!(rt; took(recorded, 16, 1));
-    assert_eq!(rt; recorded.trim(alloc), Err(RecordTrimFault::SeqFull));
-    assert_eq!(rt;
-        recorded.reshape(alloc, 2),
-        Err(RecordReshapeFault::SeqFull)
-    );
-    assert_eq!(rt; recorded.events().len(), 17);
-    assert_eq!(rt; recorded.reshape(alloc, 1), Ok(281_474_976_710_648));
+    assert!(rt; recorded.trim(alloc) == Err(RecordTrimFault::SeqFull));
+    assert!(rt; recorded.reshape(alloc, 2) == Err(RecordReshapeFault::SeqFull));
+    assert!(rt; recorded.events().len() == 17);
+    assert!(rt; recorded.reshape(alloc, 1) == Ok(281_474_976_710_648));
 }
 
 #[test]

@@ -141,3 +141,15 @@ pub(crate) fn receipts_of(closed: &Closed<QueueObject>, p: u64) -> &[Receipt<Que
     }
     closed.receipts(p)
 }
+
+/// What was closed.
+pub(crate) fn closed(
+    alloc: Global,
+    shared: Shared<QueueObject>,
+    seats: Vec<Seat<QueueObject>>,
+) -> Result<Closed<QueueObject>, Fail> {
+    match shared.close(alloc, seats) {
+        Ok(closed) => Ok(closed),
+        Err(_) => Err(Fail::from("it should have been closed")),
+    }
+}

@@ -1,7 +1,7 @@
 //! Seats and closed records whose receipts and faults were worked out by hand.
 
 use crate::seat_calls::{
-    Opened, Second, alone, enqueues, has_added, last, queue, queue_of_events, queue_of_one,
+    Opened, Second, alone, closed, enqueues, has_added, last, queue, queue_of_events, queue_of_one,
     receipts_of, resumes,
 };
 use ready_objects::QueueObject;
@@ -62,35 +62,65 @@ fn refused(
     }
 }
 
-/// What was closed.
-fn closed(
+/// A seat that made one call, which enqueues a number, on a queue of one process.
+fn seat_elsewhere<R: Wait + Abort>(
+    rt: &R,
+    alloc: Global,
+    value: u32,
+) -> Result<Seat<QueueObject>, Fail> {
+    let (shared, mut seat) = queue_of_one(alloc, 8)?;
+    assert!(rt; enqueues(rt, alloc, &shared, &mut seat, value, &NoGate).is_none());
+    Ok(seat)
+}
+
+/// Whether a seat makes a call that enqueues 7, after which an era ends.
+fn calls_and_trims<R: Wait>(
+    rt: &R,
+    alloc: Global,
+    shared: &Shared<QueueObject>,
+    seat: &mut Seat<QueueObject>,
+) -> bool {
+    enqueues(rt, alloc, shared, seat, 7, &NoGate).is_none() && trim(rt, alloc, shared) == Ok(2)
+}
+
+/// The only seat is that of one call of 14 steps, which enqueued a number.
+fn is_one_seat(rt: &impl Abort, seats: &[Seat<QueueObject>], value: u32) {
+    assert!(rt; seats.len() == 1 && has_added(&seats[0], 0, 0, value, 14, 1));
+}
+
+/// A record with so many events is closed with one receipt of process 0.
+fn is_closed(
+    rt: &impl Abort,
     alloc: Global,
     shared: Shared<QueueObject>,
     seats: Vec<Seat<QueueObject>>,
-) -> Result<Closed<QueueObject>, Fail> {
-    match shared.close(alloc, seats) {
-        Ok(closed) => Ok(closed),
-        Err(_) => Err(Fail::from("it should have been closed")),
-    }
+    events: usize,
+) -> Result<(), Fail> {
+    let closed = closed(alloc, shared, seats)?;
+    assert!(rt; closed.recorded().events().len() == events);
+    assert!(rt; receipts_of(&closed, 0).len() == 1);
+    Ok(())
+}
+
+/// A record isn't closed with the seat of another one, whose call enqueued 8.
+fn differs<R: Wait + Abort>(
+    rt: &R,
+    alloc: Global,
+    shared: Shared<QueueObject>,
+) -> Result<Shared<QueueObject>, Fail> {
+    let others = alone(alloc, seat_elsewhere(rt, alloc, 8)?)?;
+    let fault = CloseFault::Mismatch(CallId { process: 0, nth: 0 });
+    let (shared, others) = refused(alloc, shared, others, fault)?;
+    is_one_seat(rt, &others, 8);
+    Ok(shared)
 }
 
 #[test]
 fn a_seat_of_another_record_differs(rt: HostRuntime) -> Result<(), Fail> {
-    let alloc = rt.alloc();
-    let (a, mut seat_of_a) = queue_of_one(alloc, 8)?;
-    let (b, mut seat_of_b) = queue_of_one(alloc, 8)?;
-    assert!(rt; enqueues(&rt, alloc, &a, &mut seat_of_a, 7, &NoGate).is_none());
-    assert!(rt; enqueues(&rt, alloc, &b, &mut seat_of_b, 8, &NoGate).is_none());
-    assert!(rt; trim(&rt, alloc, &a) == Ok(2));
-    let first = CallId { process: 0, nth: 0 };
-    let seats_of_b = alone(alloc, seat_of_b)?;
-    let (a, mut seats_of_b) = refused(alloc, a, seats_of_b, CloseFault::Mismatch(first))?;
-    let seat_of_b = last(&mut seats_of_b)?;
-    assert!(rt; has_added(&seat_of_b, 0, 0, 8, 14, 1));
-    let closed = closed(alloc, a, alone(alloc, seat_of_a)?)?;
-    assert!(rt; closed.recorded().events().len() == 16);
-    assert!(rt; receipts_of(&closed, 0).len() == 1);
-    Ok(())
+    let (shared, mut own) = queue_of_one(rt.alloc(), 8)?;
+    assert!(rt; calls_and_trims(&rt, rt.alloc(), &shared, &mut own));
+    let shared = differs(&rt, rt.alloc(), shared)?;
+    is_closed(&rt, rt.alloc(), shared, alone(rt.alloc(), own)?, 16)
 }
 
 #[test]
@@ -178,20 +208,49 @@ fn stops<R: Wait>(
         && enqueues(rt, alloc, shared, seat, 8, &NoGate) == Some(ApplyFault::SeatPending)
 }
 
+/// Each seat is stopped in its call.
+fn all_stop<R: Wait + Abort>(
+    rt: &R,
+    alloc: Global,
+    shared: &Shared<QueueObject>,
+    seats: &mut [Seat<QueueObject>],
+) {
+    for seat in seats {
+        assert!(rt; stops(rt, alloc, shared, seat));
+    }
+}
+
+/// Whether a seat ends its pending call of `enq 7`, after which nothing is pending.
+fn ends_it<R: Wait>(
+    rt: &R,
+    alloc: Global,
+    shared: &Shared<QueueObject>,
+    seat: &mut Seat<QueueObject>,
+) -> bool {
+    resumes(rt, alloc, shared, seat).is_none()
+        && has_added(seat, 0, 0, 7, 14, 1)
+        && resumes(rt, alloc, shared, seat) == Some(ApplyFault::NothingPending)
+}
+
+/// Each seat ends its call.
+fn all_end<R: Wait + Abort>(
+    rt: &R,
+    alloc: Global,
+    shared: &Shared<QueueObject>,
+    seats: &mut [Seat<QueueObject>],
+) {
+    for seat in seats {
+        assert!(rt; ends_it(rt, alloc, shared, seat));
+    }
+}
+
 #[test]
 fn a_gate_that_gives_up(rt: HostRuntime) -> Result<(), Fail> {
-    let alloc = rt.alloc();
-    let (shared, mut seat) = queue_of_one(alloc, 8)?;
-    assert!(rt; stops(&rt, alloc, &shared, &mut seat));
-    let seats = alone(alloc, seat)?;
-    let (shared, mut seats) = refused(alloc, shared, seats, CloseFault::PendingSeat(0))?;
-    let mut seat = last(&mut seats)?;
-    assert!(rt; resumes(&rt, alloc, &shared, &mut seat).is_none());
-    assert!(rt; has_added(&seat, 0, 0, 7, 14, 1));
-    assert!(rt; resumes(&rt, alloc, &shared, &mut seat) == Some(ApplyFault::NothingPending));
-    let closed = closed(alloc, shared, alone(alloc, seat)?)?;
-    assert!(rt; receipts_of(&closed, 0).len() == 1);
-    Ok(())
+    let (shared, mut seats) = queue(rt.alloc(), 1, 8)?;
+    all_stop(&rt, rt.alloc(), &shared, &mut seats);
+    let (shared, mut seats) = refused(rt.alloc(), shared, seats, CloseFault::PendingSeat(0))?;
+    all_end(&rt, rt.alloc(), &shared, &mut seats);
+    is_closed(&rt, rt.alloc(), shared, seats, 15)
 }
 
 /// Calls, with memory refused for whatever one request: each is asked again where it was.
@@ -220,14 +279,21 @@ fn opened_again(alloc: Global) -> Result<Opened, Fail> {
     }
 }
 
+/// Each seat makes its call.
+fn all_are_asked_again<R: Wait + Abort>(
+    rt: &R,
+    alloc: Global,
+    shared: &Shared<QueueObject>,
+    seats: &mut [Seat<QueueObject>],
+) {
+    for seat in seats {
+        asked_again(rt, alloc, shared, seat);
+    }
+}
+
 #[test]
 fn a_call_that_is_asked_again(rt: HostRuntime) -> Result<(), Fail> {
-    let alloc = rt.alloc();
-    let (shared, mut seats) = opened_again(alloc)?;
-    for seat in &mut seats {
-        asked_again(&rt, alloc, &shared, seat);
-    }
-    let closed = closed(alloc, shared, seats)?;
-    assert!(rt; receipts_of(&closed, 0).len() == 1);
-    Ok(())
+    let (shared, mut seats) = opened_again(rt.alloc())?;
+    all_are_asked_again(&rt, rt.alloc(), &shared, &mut seats);
+    is_closed(&rt, rt.alloc(), shared, seats, 15)
 }

@@ -1,6 +1,8 @@
 //! Two threads over one record: what the lock lets happen between the steps of a call.
 
-use crate::seat_calls::{Second, amount, calls, enq, enqueues, last, queue, receipts_of, resumes};
+use crate::seat_calls::{
+    Second, alone, amount, calls, closed, enq, enqueues, last, queue, receipts_of, resumes,
+};
 use ready_objects::{QueueInv, QueueObject, QueueResp};
 use std::alloc::{AllocError, Global};
 use std::process::Abort;
@@ -10,7 +12,7 @@ use std::test::Fail;
 use std::thread::{Threads, join};
 use uni_core::{Place, Progress};
 use uni_log::Entry;
-use uni_record::{RecordTrimFault, Recorded, Verdict, audit};
+use uni_record::{Counts, RecordTrimFault, Recorded, Return, Verdict, audit};
 use uni_shared::{ApplyFault, Closed, Gate, GaveUp, NoGate, Seat, Shared, trim};
 
 /// How often a word is looked at before waiting for it ends.
@@ -35,6 +37,19 @@ struct Between {
     stands: AtomicU64,
     at_own_head: AtomicU64,
     made: AtomicU64,
+}
+
+impl Between {
+    /// A gate that stops process 0 before the step after so many.
+    fn new(steps: u64) -> Between {
+        Between {
+            steps,
+            asked: AtomicU64::new(0),
+            stands: AtomicU64::new(0),
+            at_own_head: AtomicU64::new(0),
+            made: AtomicU64::new(0),
+        }
+    }
 }
 
 impl Gate for Between {
@@ -95,41 +110,51 @@ fn two_seats(
     Ok((shared, first, second))
 }
 
-/// What is closed after process 0 made a call in one thread, stopped before the step after so many,
-/// while process 1 made two in another.
+/// Process 0 makes a call in one thread, and process 1 makes two in another: their seats, once all
+/// calls have ended.
+fn meet<R: Threads + Wait + Sync>(
+    rt: &R,
+    alloc: Global,
+    shared: &Shared<QueueObject>,
+    (first, second): (Seat<QueueObject>, Seat<QueueObject>),
+    gate: &Between,
+) -> Result<(Seat<QueueObject>, Seat<QueueObject>), Fail> {
+    let ten = enq(10);
+    let one = enq(1);
+    let ((first, is_made), (second, are_made)) = join(
+        rt,
+        move || makes_one(rt, alloc, shared, first, ten, gate),
+        move || makes_two(rt, alloc, shared, second, one, gate),
+    );
+    if is_made && are_made {
+        Ok((first, second))
+    } else {
+        Err(Fail::from("the calls should have ended"))
+    }
+}
+
+/// What two seats close.
+fn closed_by_two(
+    alloc: Global,
+    shared: Shared<QueueObject>,
+    first: Seat<QueueObject>,
+    second: Seat<QueueObject>,
+) -> Result<Closed<QueueObject>, Fail> {
+    let mut seats = alone(alloc, first)?;
+    seats.push(second)?;
+    closed(alloc, shared, seats)
+}
+
+/// What is closed after process 0 made a call in one thread, stopped at a gate, while process 1 made
+/// two in another.
 fn in_two_threads<R: Threads + Wait + Sync>(
     rt: &R,
     alloc: Global,
-    steps: u64,
-) -> Result<(Closed<QueueObject>, bool), Fail> {
+    gate: &Between,
+) -> Result<Closed<QueueObject>, Fail> {
     let (shared, first, second) = two_seats(alloc)?;
-    let ten = enq(10);
-    let one = enq(1);
-    let gate = Between {
-        steps,
-        asked: AtomicU64::new(0),
-        stands: AtomicU64::new(0),
-        at_own_head: AtomicU64::new(0),
-        made: AtomicU64::new(0),
-    };
-    let record = &shared;
-    let between = &gate;
-    let ((first, is_made), (second, are_made)) = join(
-        rt,
-        move || makes_one(rt, alloc, record, first, ten, between),
-        move || makes_two(rt, alloc, record, second, one, between),
-    );
-    if !is_made || !are_made {
-        return Err(Fail::from("the calls should have ended"));
-    }
-    let at_own_head = gate.at_own_head.load(Ordering::SeqCst) == 1;
-    let mut seats = Vec::new(alloc);
-    seats.push(first)?;
-    seats.push(second)?;
-    match shared.close(alloc, seats) {
-        Ok(closed) => Ok((closed, at_own_head)),
-        Err(_) => Err(Fail::from("it should have been closed")),
-    }
+    let (first, second) = meet(rt, alloc, &shared, (first, second), gate)?;
+    closed_by_two(alloc, shared, first, second)
 }
 
 /// A process takes the steps of its pending call to its end.
@@ -142,6 +167,14 @@ fn ends(alloc: Global, recorded: &mut Recorded<QueueObject>, p: u64) -> Result<(
         }
     }
     Err(Fail::from("the call should have ended"))
+}
+
+/// A record of a queue of two processes.
+fn recorded_by_two(alloc: Global) -> Result<Recorded<QueueObject>, Fail> {
+    match Recorded::open(alloc, QueueObject, 2, 2, 1000) {
+        Ok(recorded) => Ok(recorded),
+        Err(_) => Err(Fail::from("no record was opened")),
+    }
 }
 
 /// The same events, given one by one.
@@ -167,41 +200,78 @@ fn one_by_one(alloc: Global, recorded: &mut Recorded<QueueObject>, steps: u64) -
     ends(alloc, recorded, 0)
 }
 
+/// Two records have the same entries.
+fn has_entries_of<R: Abort>(
+    rt: &R,
+    alloc: Global,
+    recorded: &Recorded<QueueObject>,
+    expected: &Recorded<QueueObject>,
+) -> Result<(), AllocError> {
+    let entries = recorded.entries(alloc)?;
+    let want = expected.entries(alloc)?;
+    assert!(rt; entries == want, "other entries");
+    Ok(())
+}
+
+/// Whether a receipt is of this return with these counts.
+fn is_receipt_of(closed: &Closed<QueueObject>, told: &Return<QueueResp>, counts: Counts) -> bool {
+    let call = told.call;
+    match receipts_of(closed, u64::from(call.process)).get(call.nth as usize) {
+        Some(receipt) => {
+            receipt.call == call
+                && receipt.reply == told.reply
+                && receipt.steps == counts.steps
+                && receipt.turns == counts.turns
+        }
+        None => false,
+    }
+}
+
+/// What is closed has three receipts, which are the returns of a record with their counts.
+fn has_returns_of<R: Abort>(
+    rt: &R,
+    closed: &Closed<QueueObject>,
+    expected: &Recorded<QueueObject>,
+) {
+    let returns = expected.returns();
+    let counts = expected.counts();
+    assert!(rt; returns.len() == 3 && counts.len() == 3);
+    for i in 0..returns.len() {
+        assert!(rt; is_receipt_of(closed, &returns[i], counts[i]), "return {i}");
+    }
+}
+
 /// What is closed has these events, and its receipts are these returns with their counts.
 fn is_as_expected<R: Abort>(
     rt: &R,
     alloc: Global,
     closed: &Closed<QueueObject>,
     expected: &Recorded<QueueObject>,
-) -> Result<(), Fail> {
+) -> Result<(), AllocError> {
     assert!(rt; closed.recorded().events() == expected.events());
-    let entries = closed.recorded().entries(alloc)?;
-    assert!(rt; entries == expected.entries(alloc)?);
-    let returns = expected.returns();
-    let counts = expected.counts();
-    assert!(rt; returns.len() == 3 && counts.len() == 3);
-    for i in 0..returns.len() {
-        let call = returns[i].call;
-        let Some(receipt) = receipts_of(closed, u64::from(call.process)).get(call.nth as usize)
-        else {
-            return Err(Fail::from("there should be a receipt"));
-        };
-        assert!(rt; receipt.call == call && receipt.reply == returns[i].reply);
-        assert!(rt; receipt.steps == counts[i].steps && receipt.turns == counts[i].turns);
-    }
+    has_returns_of(rt, closed, expected);
+    has_entries_of(rt, alloc, closed.recorded(), expected)
+}
+
+/// What is closed has the events and the returns that the same events have when they are given one by
+/// one.
+fn is_as_one_by_one<R: Abort>(
+    rt: &R,
+    alloc: Global,
+    closed: &Closed<QueueObject>,
+    steps: u64,
+) -> Result<(), Fail> {
+    let mut expected = recorded_by_two(alloc)?;
+    one_by_one(alloc, &mut expected, steps)?;
+    is_as_expected(rt, alloc, closed, &expected)?;
     Ok(())
 }
 
 #[test]
 fn between_any_two_steps(rt: HostRuntime) -> Result<(), Fail> {
-    let alloc = rt.alloc();
     for steps in 0..16 {
-        let Ok(mut expected) = Recorded::open(alloc, QueueObject, 2, 2, 1000) else {
-            return Err(Fail::from("no record was opened"));
-        };
-        one_by_one(alloc, &mut expected, steps)?;
-        let (closed, _) = in_two_threads(&rt, alloc, steps)?;
-        is_as_expected(&rt, alloc, &closed, &expected)?;
+        let closed = in_two_threads(&rt, rt.alloc(), &Between::new(steps))?;
+        is_as_one_by_one(&rt, rt.alloc(), &closed, steps)?;
     }
     Ok(())
 }
@@ -236,40 +306,39 @@ fn are_after_the_first_step(entries: &[Entry<QueueInv, QueueResp>]) -> bool {
         && is_entry(&entries[2], 4, 1, 1, QueueResp::Taken(amount(1)))
 }
 
-/// The entries of `after_the_first_step`.
-fn entries_after_the_first_step<R: Abort>(
+/// What `after_the_first_step` looks at.
+fn is_after_the_first_step<R: Abort>(
     rt: &R,
     alloc: Global,
-    recorded: &Recorded<QueueObject>,
+    closed: &Closed<QueueObject>,
 ) -> Result<(), Fail> {
-    let entries = recorded.entries(alloc)?;
+    assert!(rt; counts_are(closed, 0, 0, 8, 0));
+    assert!(rt; counts_are(closed, 1, 0, 16, 1));
+    assert!(rt; counts_are(closed, 1, 1, 24, 2));
+    let entries = closed.recorded().entries(alloc)?;
     assert!(rt; are_after_the_first_step(&entries));
     Ok(())
 }
 
 #[test]
 fn after_the_first_step(rt: HostRuntime) -> Result<(), Fail> {
-    let alloc = rt.alloc();
-    let (closed, at_own_head) = in_two_threads(&rt, alloc, 1)?;
-    assert!(rt; at_own_head);
-    entries_after_the_first_step(&rt, alloc, closed.recorded())?;
-    assert!(rt; counts_are(&closed, 0, 0, 8, 0));
-    assert!(rt; counts_are(&closed, 1, 0, 16, 1));
-    assert!(rt; counts_are(&closed, 1, 1, 24, 2));
-    Ok(())
+    let gate = Between::new(1);
+    let closed = in_two_threads(&rt, rt.alloc(), &gate)?;
+    assert!(rt; gate.at_own_head.load(Ordering::SeqCst) == 1);
+    is_after_the_first_step(&rt, rt.alloc(), &closed)
 }
 
-/// The calls of a process among three, each within 42 own steps and 4 turns.
+/// Calls of a process among three that enqueue these numbers, each within 42 own steps and 4 turns.
 fn makes_all<R: Wait>(
     rt: &R,
     alloc: Global,
     shared: &Shared<QueueObject>,
     mut seat: Seat<QueueObject>,
-    invs: Vec<QueueInv>,
+    values: [u32; 4],
 ) -> (Seat<QueueObject>, bool) {
     let mut made = true;
-    for inv in invs {
-        if calls(rt, alloc, shared, &mut seat, inv, &NoGate).is_some() {
+    for value in values {
+        if enqueues(rt, alloc, shared, &mut seat, value, &NoGate).is_some() {
             made = false;
         }
     }
@@ -278,15 +347,6 @@ fn makes_all<R: Wait>(
         .iter()
         .all(|receipt| receipt.steps <= 42 && receipt.turns <= 4);
     (seat, made && few)
-}
-
-/// Invocations that enqueue these numbers.
-fn enqs(alloc: Global, values: [u32; 4]) -> Result<Vec<QueueInv>, AllocError> {
-    let mut invs = Vec::new(alloc);
-    for value in values {
-        invs.push(enq(value))?;
-    }
-    Ok(invs)
 }
 
 /// Process 0 announces its call and stops.
@@ -300,6 +360,61 @@ fn stops<R: Wait>(
         calls: AtomicU64::new(0),
     };
     enqueues(rt, alloc, shared, seat, 1, &gate) == Some(ApplyFault::GaveUp)
+}
+
+/// The seats of processes 1 and 2.
+type Others = (Seat<QueueObject>, Seat<QueueObject>);
+
+/// A queue of three processes with rows of four calls, the seat of process 0, and the others.
+fn three_seats(alloc: Global) -> Result<(Shared<QueueObject>, Seat<QueueObject>, Others), Fail> {
+    let (shared, mut seats) = queue(alloc, 3, 4)?;
+    let third = last(&mut seats)?;
+    let second = last(&mut seats)?;
+    let first = last(&mut seats)?;
+    Ok((shared, first, (second, third)))
+}
+
+/// Processes 1 and 2 make four calls each, at once.
+fn make_eight<R: Threads + Wait + Sync>(
+    rt: &R,
+    alloc: Global,
+    shared: &Shared<QueueObject>,
+    (second, third): Others,
+) -> Result<Others, Fail> {
+    let ((second, one), (third, two)) = join(
+        rt,
+        move || makes_all(rt, alloc, shared, second, [10, 11, 12, 13]),
+        move || makes_all(rt, alloc, shared, third, [20, 21, 22, 23]),
+    );
+    if one && two {
+        Ok((second, third))
+    } else {
+        Err(Fail::from("all calls should have ended soon"))
+    }
+}
+
+/// Whether no era ends before process 0 goes on, which then ends its call.
+fn goes_on<R: Wait>(
+    rt: &R,
+    alloc: Global,
+    shared: &Shared<QueueObject>,
+    seat: &mut Seat<QueueObject>,
+) -> bool {
+    trim(rt, alloc, shared) == Err(RecordTrimFault::Pending(0))
+        && resumes(rt, alloc, shared, seat).is_none()
+}
+
+/// What three seats close.
+fn closed_by_three(
+    alloc: Global,
+    shared: Shared<QueueObject>,
+    first: Seat<QueueObject>,
+    (second, third): Others,
+) -> Result<Closed<QueueObject>, Fail> {
+    let mut seats = alone(alloc, first)?;
+    seats.push(second)?;
+    seats.push(third)?;
+    closed(alloc, shared, seats)
 }
 
 /// A record has nine entries, and their audit agrees.
@@ -317,30 +432,11 @@ fn nine_calls_agree<R: Abort>(
 
 #[test]
 fn beside_a_stopped_process(rt: HostRuntime) -> Result<(), Fail> {
-    let alloc = rt.alloc();
-    let (shared, mut seats) = queue(alloc, 3, 4)?;
-    let third = last(&mut seats)?;
-    let second = last(&mut seats)?;
-    let mut first = last(&mut seats)?;
-    assert!(rt; stops(&rt, alloc, &shared, &mut first));
-    let tens = enqs(alloc, [10, 11, 12, 13])?;
-    let twenties = enqs(alloc, [20, 21, 22, 23])?;
-    let record = &shared;
-    let runtime = &rt;
-    let ((second, one), (third, two)) = join(
-        runtime,
-        move || makes_all(runtime, alloc, record, second, tens),
-        move || makes_all(runtime, alloc, record, third, twenties),
-    );
-    assert!(rt; one && two);
-    assert!(rt; trim(&rt, alloc, &shared) == Err(RecordTrimFault::Pending(0)));
-    assert!(rt; resumes(&rt, alloc, &shared, &mut first).is_none());
-    seats.push(first)?;
-    seats.push(second)?;
-    seats.push(third)?;
-    let Ok(closed) = shared.close(alloc, seats) else {
-        return Err(Fail::from("it should have been closed"));
-    };
+    let (shared, mut first, others) = three_seats(rt.alloc())?;
+    assert!(rt; stops(&rt, rt.alloc(), &shared, &mut first));
+    let others = make_eight(&rt, rt.alloc(), &shared, others)?;
+    assert!(rt; goes_on(&rt, rt.alloc(), &shared, &mut first));
+    let closed = closed_by_three(rt.alloc(), shared, first, others)?;
     assert!(rt; counts_are(&closed, 0, 0, 10, 0));
-    nine_calls_agree(&rt, alloc, closed.recorded())
+    nine_calls_agree(&rt, rt.alloc(), closed.recorded())
 }

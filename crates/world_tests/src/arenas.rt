@@ -39,7 +39,7 @@ fn has_fields<C: Cells<Inv = u32, State = u64, Resp = u8>>(
 )
     requires { IsSome (C.cell arena.now id) }
 {
-    assert_eq!(rt; fields(arena, id), want);
+    assert!(rt; fields(arena, id) == want);
 }
 
 /// The fields of the anchor are these.
@@ -61,7 +61,7 @@ fn has_room<C: Cells<Inv = u32, State = u64, Resp = u8>>(
 )
     requires { 2 ≤ C.processes arena.now }
 {
-    assert_eq!(rt; (arena.room(0), arena.room(1)), (first, second));
+    assert!(rt; (arena.room(0), arena.room(1)) == (first, second));
 }
 
 /// A cell's name has this index.
@@ -119,7 +119,7 @@ fn makes<C: Cells<Inv = u32, State = u64, Resp = u8>>(
     ensures processes { C.processes arena.new ≡ C.processes arena.old }
 {
     let cell = made(rt, alloc, arena, p, inv);
-    assert_eq!(rt; cell, name);
+    assert!(rt; cell == name);
     has_fields(rt, arena, cell, (0, Some(inv), None, None, None));
     cell
 }
@@ -133,7 +133,7 @@ fn makes_none<C: Cells<Inv = u32, State = u64, Resp = u8>>(
     requires { 2 ≤ C.processes arena.old }
     ensures processes { C.processes arena.new ≡ C.processes arena.old }
 {
-    assert_eq!(rt; arena.make(alloc, 1, 74), Err((ArenaFault::RowFull(1), 74)));
+    assert!(rt; arena.make(alloc, 1, 74) == Err((ArenaFault::RowFull(1), 74)));
 }
 
 /// Makes cells until the row of process 1 is full. The answer is the last of them.

@@ -378,21 +378,18 @@ fn sticky(rt: HostRuntime) -> Result<(), Fail> {
 #[test]
 fn limits(rt: HostRuntime) -> Result<(), Fail> {
     let greatest = Amount::new(999_999_999_999).ok_or("no amount")?;
-    assert_eq!(rt; Amount::new(1_000_000_000_000), None);
-    assert_eq!(rt; greatest.number(), Amount::GREATEST);
-    assert_eq!(rt; greatest.checked_add(Amount::ZERO), Some(greatest));
-    assert_eq!(rt;
-        greatest.checked_add(Amount::new(1).ok_or("no amount")?),
-        None
-    );
-    assert_eq!(rt; greatest.checked_sub(greatest), Some(Amount::ZERO));
-    assert_eq!(rt; Amount::ZERO.checked_sub(greatest), None);
-    assert_eq!(rt; Account::new(15).ok_or("no account")?.number(), 15);
-    assert_eq!(rt; Account::new(16), None);
-    assert_eq!(rt; Place::new(255).ok_or("no place")?.number(), 255);
-    assert_eq!(rt; Place::new(256), None);
+    assert!(rt; Amount::new(1_000_000_000_000) == None);
+    assert!(rt; greatest.number() == Amount::GREATEST);
+    assert!(rt; greatest.checked_add(Amount::ZERO) == Some(greatest));
+    assert!(rt; greatest.checked_add(Amount::new(1).ok_or("no amount")?) == None);
+    assert!(rt; greatest.checked_sub(greatest) == Some(Amount::ZERO));
+    assert!(rt; Amount::ZERO.checked_sub(greatest) == None);
+    assert!(rt; Account::new(15).ok_or("no account")?.number() == 15);
+    assert!(rt; Account::new(16) == None);
+    assert!(rt; Place::new(255).ok_or("no place")?.number() == 255);
+    assert!(rt; Place::new(256) == None);
     let name = Name::read(b"n7").ok_or("no name")?;
-    assert_eq!(rt; name.as_bytes(), b"n7".as_slice());
-    assert_eq!(rt; name.clone()?.as_bytes(), b"n7".as_slice());
+    assert!(rt; name.as_bytes() == b"n7".as_slice());
+    assert!(rt; name.clone()?.as_bytes() == b"n7".as_slice());
     Ok(())
 }
