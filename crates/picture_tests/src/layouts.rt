@@ -1,11 +1,13 @@
 //! Tests of what scripts have, and of its words, lines and columns.
 
 use run_layout::{
-    Column, MOST_EVENTS, MOST_TOLD, PictureFault, Scale, Subject, axis_of, cell_name, cell_words,
-    counts_of, label_of, lane_of, letter_of, letters, line_of, meaning_of, push_lines, refusal_of,
-    subject_of, title_of,
+    Axis, Column, MOST_EVENTS, MOST_TOLD, PictureFault, Scale, Subject, axis_of, cell_name,
+    cell_words, counts_of, label_of, lane_of, letter_of, letters, line_of, meaning_of, push_lines,
+    refusal_of, subject_of, title_of,
 };
+use run_marks::Marks;
 use std::alloc::{AllocError, Global};
+use std::io::Write;
 use std::process::Abort;
 use std::test::Fail;
 use uni_core::StepKind;
@@ -45,126 +47,140 @@ fn subject(alloc: Global, script: &str) -> Result<Subject, Fail> {
     }
 }
 
-/// Asserts what a text is.
-fn reads(rt: &impl Abort, text: &[u8], want: &str) {
-    assert_eq!(rt; text, want.as_bytes());
+/// Whether a text that memory was not refused to is this.
+fn reads(text: Result<Vec<u8>, AllocError>, want: &str) -> bool {
+    match text {
+        Ok(text) => text.as_slice() == want.as_bytes(),
+        Err(_) => false,
+    }
 }
 
 #[test]
 fn words_of_a_pending_call(rt: HostRuntime) -> Result<(), Fail> {
     let alloc = rt.alloc();
     let subject = subject(alloc, PENDING)?;
-    let title = title_of(alloc, &subject.marks)?;
-    reads(
-        &rt,
-        title.as_slice(),
-        "queue: 2 processes, 1 call, 2 events",
-    );
-    assert_eq!(rt; subject.told.len(), 4);
-    match subject.marks.bars.get(0) {
-        Some(bar) => {
-            let label = label_of(alloc, bar)?;
-            reads(&rt, label.as_slice(), "1.0 enq 5");
-        }
-        None => assert!(rt; false),
-    }
-    Ok(())
-}
-
-#[test]
-fn words_of_a_call_that_has_returned(rt: HostRuntime) -> Result<(), Fail> {
-    let alloc = rt.alloc();
-    let marks = subject(alloc, RETURNED)?.marks;
-    let title = title_of(alloc, &marks)?;
-    reads(&rt, title.as_slice(), "queue: 1 process, 1 call, 16 events");
-    let (Some(bar), Some(line), Some(era)) = (
-        marks.bars.get(0),
-        marks.lines.get(0),
-        marks.eras.get(0),
-    ) else {
-        return Err(Fail::from("there should be a bar, a line and an era"));
-    };
-    let label = label_of(alloc, bar)?;
-    reads(&rt, label.as_slice(), "0.0 enq 5 -> ok");
-    if let Some(end) = &bar.end {
-        let counts = counts_of(alloc, end)?;
-        reads(&rt, counts.as_slice(), "14 steps 1 turn");
-    }
-    let text = line_of(alloc, line)?;
-    reads(&rt, text.as_slice(), "trimmed 2");
-    if let Some(cell) = era.cells.get(0) {
-        let name = cell_name(alloc, cell)?;
-        reads(&rt, name.as_slice(), "2: 0.0");
-        let words = cell_words(alloc, cell)?;
-        reads(&rt, words.as_slice(), "enq 5 -> ok");
-    }
-    Ok(())
-}
-
-#[test]
-fn words_of_refusals_and_kinds(rt: HostRuntime) -> Result<(), Fail> {
-    let alloc = rt.alloc();
-    let busy = refusal_of(alloc, Refusal::Busy(3))?;
-    reads(&rt, busy.as_slice(), "busy");
-    let count = refusal_of(alloc, Refusal::Count(0))?;
-    reads(&rt, count.as_slice(), "count 0");
-    assert_eq!(rt; lane_of(Refusal::Busy(3)), Some(3));
-    assert_eq!(rt; lane_of(Refusal::Count(0)), None);
-    assert_eq!(rt; letter_of(StepKind::DecideAfter), b'L');
-    assert_eq!(rt; meaning_of(StepKind::DecideAfter), "links a cell, or loses");
-    Ok(())
-}
-
-#[test]
-fn columns(rt: HostRuntime) -> Result<(), Fail> {
-    let alloc = rt.alloc();
-    let subject = subject(alloc, PENDING)?;
-    if subject.marks.events > MOST_EVENTS || subject.told.len() > MOST_TOLD {
-        return Err(Fail::from("the script is short"));
-    }
-    let axis = axis_of(alloc, &subject.marks, &subject.told, NARROW)?;
-    // The label has nine letters and the room beside them, of which the step after it takes one.
-    assert_eq!(rt; axis.event(0), Column { left: 0, width: 9 });
-    assert_eq!(rt; axis.event(1), Column { left: 9, width: 1 });
-    assert_eq!(rt; axis.event(2), Column { left: 25, width: 0 });
-    // The mark, and busy or pending with the room beside it.
-    assert_eq!(rt; axis.remark(1), Column { left: 10, width: 6 });
-    assert_eq!(rt; axis.remark(2), Column { left: 16, width: 0 });
-    assert_eq!(rt; axis.remark(3), Column { left: 16, width: 9 });
-    assert_eq!(rt; axis.remark(4), Column { left: 25, width: 0 });
-    assert_eq!(rt; axis.end, 25);
-    let column = Column { left: 9, width: 3 };
-    assert_eq!(rt; (column.middle(), column.right()), (10, 12));
-    assert_eq!(rt; letters(b"enq 5"), 5);
-    Ok(())
-}
-
-#[test]
-fn lines(rt: HostRuntime) -> Result<(), AllocError> {
-    let alloc = rt.alloc();
-    let mut lines = Vec::new(alloc);
-    push_lines(alloc, b"it stops here", 8, &mut lines)?;
-    assert_eq!(rt; lines.len(), 2);
-    match (lines.get(0), lines.get(1)) {
-        (Some(first), Some(second)) => {
-            reads(&rt, first.as_slice(), "it stops");
-            reads(&rt, second.as_slice(), "here");
-        }
+    let title = "queue: 2 processes, 1 call, 2 events";
+    assert!(rt; reads(title_of(alloc, &subject.marks), title));
+    assert!(rt; subject.told.len() == 4);
+    match subject.marks.bars.as_slice() {
+        [bar] => assert!(rt; reads(label_of(alloc, bar), "1.0 enq 5")),
         _ => assert!(rt; false),
     }
     Ok(())
 }
 
-/// Asserts which fault a script has in place of a picture, and its text.
-fn is_refused(rt: &impl Abort, alloc: Global, script: &[u8], want: PictureFault, text: &str) {
-    match subject_of(alloc, &mut Checked::new(script)) {
-        Ok(_) => assert!(rt; false),
-        Err(fault) => assert_eq!(rt; fault, want),
+/// Whether the one bar has this label, and these counts at its end.
+fn is_bar_of(alloc: Global, marks: &Marks, label: &str, counts: &str) -> bool {
+    let [bar] = marks.bars.as_slice() else {
+        return false;
+    };
+    match &bar.end {
+        Some(end) => reads(label_of(alloc, bar), label) && reads(counts_of(alloc, end), counts),
+        None => false,
     }
-    match format!(in alloc; "{want}") {
-        Ok(told) => assert_eq!(rt; told.as_bytes(), text.as_bytes()),
-        Err(_) => assert!(rt; false),
+}
+
+/// Whether the first cell has this name and these words.
+fn is_cell_of(alloc: Global, marks: &Marks, name: &str, words: &str) -> bool {
+    let Some(era) = marks.eras.get(0) else {
+        return false;
+    };
+    match era.cells.get(0) {
+        Some(cell) => reads(cell_name(alloc, cell), name) && reads(cell_words(alloc, cell), words),
+        None => false,
     }
+}
+
+/// Whether the one end of an era has these words.
+fn is_line_of(alloc: Global, marks: &Marks, words: &str) -> bool {
+    match marks.lines.as_slice() {
+        [line] => reads(line_of(alloc, line), words),
+        _ => false,
+    }
+}
+
+#[test]
+fn words_of_a_call_that_has_returned(rt: HostRuntime) -> Result<(), Fail> {
+    let alloc = rt.alloc();
+    let subject = subject(alloc, RETURNED)?;
+    let marks = &subject.marks;
+    let title = "queue: 1 process, 1 call, 16 events";
+    assert!(rt; reads(title_of(alloc, marks), title));
+    assert!(rt; is_bar_of(alloc, marks, "0.0 enq 5 -> ok", "14 steps 1 turn"));
+    assert!(rt; is_line_of(alloc, marks, "trimmed 2"));
+    assert!(rt; is_cell_of(alloc, marks, "2: 0.0", "enq 5 -> ok"));
+    Ok(())
+}
+
+#[test]
+fn words_of_refusals_and_kinds(rt: HostRuntime) {
+    let alloc = rt.alloc();
+    assert!(rt; reads(refusal_of(alloc, Refusal::Busy(3)), "busy"));
+    assert!(rt; reads(refusal_of(alloc, Refusal::Count(0)), "count 0"));
+    assert_eq!(rt; lane_of(Refusal::Busy(3)), Some(3));
+    assert_eq!(rt; lane_of(Refusal::Count(0)), None);
+    assert_eq!(rt; letter_of(StepKind::DecideAfter), b'L');
+    assert_eq!(rt; meaning_of(StepKind::DecideAfter), "links a cell, or loses");
+}
+
+/// Whether columns have their events and their remarks where they should.
+fn has_columns(axis: &Axis) -> bool {
+    // The label has nine letters and the room beside them, of which the step after it takes one.
+    let events = axis.event(0) == (Column { left: 0, width: 9 })
+        && axis.event(1) == (Column { left: 9, width: 1 })
+        && axis.event(2) == (Column { left: 25, width: 0 });
+    // The mark, and busy or pending with the room beside it.
+    let remarks = axis.remark(1) == (Column { left: 10, width: 6 })
+        && axis.remark(2) == (Column { left: 16, width: 0 })
+        && axis.remark(3) == (Column { left: 16, width: 9 })
+        && axis.remark(4) == (Column { left: 25, width: 0 });
+    events && remarks && axis.end == 25
+}
+
+#[test]
+fn columns(rt: HostRuntime) -> Result<(), Fail> {
+    let subject = subject(rt.alloc(), PENDING)?;
+    if subject.marks.events > MOST_EVENTS || subject.told.len() > MOST_TOLD {
+        return Err(Fail::from("the script is short"));
+    }
+    let axis = axis_of(rt.alloc(), &subject.marks, &subject.told, NARROW)?;
+    assert!(rt; has_columns(&axis));
+    Ok(())
+}
+
+#[test]
+fn middle_and_right_of_a_column(rt: HostRuntime) {
+    let column = Column { left: 9, width: 3 };
+    assert_eq!(rt; (column.middle(), column.right()), (10, 12));
+    assert_eq!(rt; letters(b"enq 5"), 5);
+}
+
+/// Whether the lines of a text are these two.
+fn are_two(lines: &[Vec<u8>], first: &[u8], second: &[u8]) -> bool {
+    match lines {
+        [one, other] => one.as_slice() == first && other.as_slice() == second,
+        _ => false,
+    }
+}
+
+#[test]
+fn lines(rt: HostRuntime) -> Result<(), AllocError> {
+    let mut lines = Vec::new(rt.alloc());
+    push_lines(rt.alloc(), b"it stops here", 8, &mut lines)?;
+    assert!(rt; are_two(lines.as_slice(), b"it stops", b"here"));
+    Ok(())
+}
+
+/// What a script has in place of a picture.
+fn fault_of(alloc: Global, script: &[u8]) -> Option<PictureFault> {
+    subject_of(alloc, &mut Checked::new(script)).err()
+}
+
+/// The text of a fault.
+fn text_of(alloc: Global, fault: PictureFault) -> Result<Vec<u8>, AllocError> {
+    let mut text = Vec::new(alloc);
+    write!(text, "{fault}").map_err(|_| AllocError)?;
+    Ok(text)
 }
 
 /// A script of so many calls of one process, 15 events each, with these lines at its end.
@@ -178,19 +194,35 @@ fn long_script(alloc: Global, calls: u64, last: &str) -> Result<Vec<u8>, AllocEr
     Ok(script)
 }
 
+/// What a script of so many calls has in place of a picture.
+fn fault_of_calls(
+    alloc: Global,
+    calls: u64,
+    last: &str,
+) -> Result<Option<PictureFault>, AllocError> {
+    let script = long_script(alloc, calls, last)?;
+    Ok(fault_of(alloc, script.as_slice()))
+}
+
 #[test]
 fn faults(rt: HostRuntime) -> Result<(), AllocError> {
     let alloc = rt.alloc();
     let none = PictureFault::Script(BenchFault::NoHeader(1));
-    is_refused(&rt, alloc, b"", none, "line 1: no header");
-    // 133 calls are 1,995 events, and five more are 2,000.
     let many = PictureFault::TooManyEvents;
     let bad = PictureFault::Script(BenchFault::BadLine(270));
-    let most = long_script(alloc, 133, "call 0 deq\nstep 0 4\n")?;
-    let more = long_script(alloc, 133, "call 0 deq\nstep 0 5\n")?;
-    let worse = long_script(alloc, 134, "fin\n")?;
-    assert!(rt; subject_of(alloc, &mut Checked::new(most.as_slice())).is_ok());
-    is_refused(&rt, alloc, &more, many, "too many events for a picture");
-    is_refused(&rt, alloc, &worse, bad, "line 270: bad line");
+    assert!(rt; fault_of(alloc, b"") == Some(none));
+    // 133 calls are 1,995 events, and five more are 2,000.
+    assert!(rt; fault_of_calls(alloc, 133, "call 0 deq\nstep 0 4\n")? == None);
+    assert!(rt; fault_of_calls(alloc, 133, "call 0 deq\nstep 0 5\n")? == Some(many));
+    assert!(rt; fault_of_calls(alloc, 134, "fin\n")? == Some(bad));
     Ok(())
+}
+
+#[test]
+fn texts_of_faults(rt: HostRuntime) {
+    let alloc = rt.alloc();
+    let none = PictureFault::Script(BenchFault::NoHeader(1));
+    let many = "too many events for a picture";
+    assert!(rt; reads(text_of(alloc, none), "line 1: no header"));
+    assert!(rt; reads(text_of(alloc, PictureFault::TooManyEvents), many));
 }

@@ -14,14 +14,16 @@ const LABEL: &str =
 </svg>
 ";
 
-/// A picture with one label, whose texts have each of the five bytes that are escaped.
-fn labelled(alloc: Global) -> Result<Vec<u8>, AllocError> {
-    let mut title = Vec::new(alloc);
-    title.extend_from_slice(b"a & b")?;
-    let mut description = Vec::new(alloc);
-    description.extend_from_slice(b"it's")?;
-    let mut text = Vec::new(alloc);
-    text.extend_from_slice(b"<c \"d\">")?;
+/// A text of its own with these bytes.
+fn copied(alloc: Global, bytes: &[u8]) -> Result<Vec<u8>, AllocError> {
+    let mut copy = Vec::new(alloc);
+    copy.extend_from_slice(bytes)?;
+    Ok(copy)
+}
+
+/// One label.
+fn label(alloc: Global) -> Result<Vec<Shape>, AllocError> {
+    let text = copied(alloc, b"<c \"d\">")?;
     let mut shapes = Vec::new(alloc);
     shapes.push(Shape::Text {
         x: 3,
@@ -30,12 +32,17 @@ fn labelled(alloc: Global) -> Result<Vec<u8>, AllocError> {
         paint: Paint::Ink,
         text,
     })?;
+    Ok(shapes)
+}
+
+/// A picture with one label, whose texts have each of the five bytes that are escaped.
+fn labelled(alloc: Global) -> Result<Vec<u8>, AllocError> {
     let drawing = Drawing {
         width: 30,
         height: 20,
-        title,
-        description,
-        shapes,
+        title: copied(alloc, b"a & b")?,
+        description: copied(alloc, b"it's")?,
+        shapes: label(alloc)?,
     };
     svg_of(alloc, &drawing)
 }
@@ -43,7 +50,7 @@ fn labelled(alloc: Global) -> Result<Vec<u8>, AllocError> {
 #[test]
 fn labels_are_escaped(rt: HostRuntime) {
     match labelled(rt.alloc()) {
-        Ok(svg) => assert_eq!(rt; svg.as_slice(), LABEL.as_bytes()),
+        Ok(svg) => assert!(rt; svg.as_slice() == LABEL.as_bytes()),
         Err(_) => assert!(rt; false),
     }
 }
