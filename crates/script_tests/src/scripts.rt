@@ -16,8 +16,9 @@ use uni_core::{Progress, World};
 use uni_log::{Entry, Log};
 use uni_record::Verdict;
 use uni_script::{
-    BenchFault, Checked, Drawn, Failed, ObjectName, Options, Plan, Remark, ScriptRecord, Summary,
-    TextIn, TextOut, Told, bench, finish_returns, push_fault, run_of_script, schedule, write_all,
+    BenchFault, Checked, Drawn, Failed, ObjectName, Options, Plan, Remark, ScriptRecord, ScriptRun,
+    Summary, TextIn, TextOut, Told, bench, finish_returns, push_fault, run_of_script, schedule,
+    write_all,
 };
 
 /// What `bench` is told where its history is long enough.
@@ -42,9 +43,9 @@ fn runs_with(
     let mut reader = Checked::new(script.as_bytes());
     let mut writer = Checked::new(Vec::new(alloc));
     let ended = bench(alloc, &mut reader, &mut writer, options).map(|_| ());
-    assert_eq!(rt; ended, outcome, "{script}");
+    assert!(rt; ended == outcome, "{script}");
     assert!(rt; !TextIn::failed(&reader) && !TextOut::failed(&writer));
-    assert_eq!(rt; writer.end().as_slice(), want.as_bytes(), "{script}");
+    assert!(rt; writer.end().as_slice() == want.as_bytes(), "{script}");
 }
 
 /// Scripts, each with its answers and how it ends.
@@ -197,7 +198,7 @@ fn summaries(rt: HostRuntime) {
             calls,
             returns,
         };
-        assert_eq!(rt; ended, Ok(summary), "{script}");
+        assert!(rt; ended == Ok(summary), "{script}");
     }
 }
 
@@ -245,7 +246,7 @@ fn texts_of_faults(rt: HostRuntime) {
     for &(fault, want) in TEXTS_OF_FAULTS {
         let mut text = Vec::new(rt.alloc());
         assert!(rt; push_fault(&mut text, fault).is_ok());
-        assert_eq!(rt; text.as_slice(), want.as_bytes());
+        assert!(rt; text.as_slice() == want.as_bytes());
     }
 }
 
@@ -273,8 +274,8 @@ fn lines_that_are_no_commands(rt: HostRuntime) {
             &mut Checked::new(&mut text),
             &OPTIONS,
         );
-        assert_eq!(rt; outcome, Err(BenchFault::BadLine(2)), "{line}");
-        assert_eq!(rt; text.len(), 0, "{line}");
+        assert!(rt; outcome == Err(BenchFault::BadLine(2)), "{line}");
+        assert!(rt; text.len() == 0, "{line}");
     }
 }
 
@@ -298,7 +299,7 @@ fn ends_that_fail(rt: HostRuntime) {
         &mut Checked::new(&mut text),
         &OPTIONS,
     );
-    assert_eq!(rt; outcome, Err(BenchFault::Read));
+    assert!(rt; outcome == Err(BenchFault::Read));
     assert!(rt; reader.failed());
 
     let mut room = [0; 4];
@@ -315,8 +316,8 @@ fn ends_that_fail(rt: HostRuntime) {
         calls: 0,
         returns: 0,
     };
-    assert_eq!(rt; outcome, Ok(summary));
-    assert_eq!(rt; write_all(&mut writer, b"x"), Err(Failed));
+    assert!(rt; outcome == Ok(summary));
+    assert!(rt; write_all(&mut writer, b"x") == Err(Failed));
     assert!(rt; writer.failed());
 }
 
@@ -353,15 +354,12 @@ fn three_processes_share_the_first_proposal(rt: HostRuntime) -> Result<(), Fail>
         (1, StickyInv::Stick(nine)),
         (2, StickyInv::Read),
     ] {
-        assert_eq!(rt;
-            makes(alloc, &mut world, p, &inv)?,
-            StickyResp::Settled(five)
-        );
+        assert!(rt; makes(alloc, &mut world, p, &inv)? == StickyResp::Settled(five));
         if p < world.processes() {
-            assert_eq!(rt; (world.steps(p), world.turns(p)), (18, 1));
+            assert!(rt; (world.steps(p), world.turns(p)) == (18, 1));
         }
     }
-    assert_eq!(rt; world.processes(), 3);
+    assert!(rt; world.processes() == 3);
     let entries = Log::of(&world).entries(alloc)?;
     let want = [
         (2, 0, StickyInv::Stick(five)),
@@ -374,7 +372,7 @@ fn three_processes_share_the_first_proposal(rt: HostRuntime) -> Result<(), Fail>
         inv,
         reply: Some(StickyResp::Settled(five)),
     });
-    assert_eq!(rt; entries.as_slice(), want.as_slice());
+    assert!(rt; entries.as_slice() == want.as_slice());
     Ok(())
 }
 
@@ -415,13 +413,13 @@ fn four_words_make_three_events(rt: HostRuntime) {
     let mut text = Vec::new(rt.alloc());
     let mut writer = Checked::new(&mut text);
     let outcome = schedule(rt.alloc(), &mut source, &mut writer, &plan);
-    assert_eq!(rt; outcome, Ok(()));
-    assert_eq!(rt;
-        text.as_slice(),
-        b"universal 1 queue 2 8\ncall 0 enq 7\nstep 1\ntrim\nfinish 0\nfinish 1\nlog\n".as_slice()
+    assert!(rt; outcome == Ok(()));
+    assert!(rt;
+        text.as_slice()
+            == b"universal 1 queue 2 8\ncall 0 enq 7\nstep 1\ntrim\nfinish 0\nfinish 1\nlog\n".as_slice()
     );
     // The fifth word was not drawn.
-    assert_eq!(rt; source.draw(), 5);
+    assert!(rt; source.draw() == 5);
 
     let mut room = [0; 4];
     let mut writer = Checked::new(room.as_mut_slice());
@@ -433,9 +431,9 @@ fn four_words_make_three_events(rt: HostRuntime) {
         &mut writer,
         &plan,
     );
-    assert_eq!(rt; outcome, Err(BenchFault::Write));
+    assert!(rt; outcome == Err(BenchFault::Write));
     assert!(rt; writer.failed());
-    assert_eq!(rt; room, *b"univ");
+    assert!(rt; room == *b"univ");
 }
 
 /// Plans by their object, processes and row, each with its header.
@@ -467,7 +465,7 @@ fn headers_of_schedules(rt: HostRuntime) {
             &mut Checked::new(&mut text),
             &plan,
         );
-        assert_eq!(rt; outcome, Ok(()));
+        assert!(rt; outcome == Ok(()));
         assert!(rt; text.starts_with(want.as_bytes()), "{want}");
     }
 }
@@ -482,7 +480,7 @@ fn words_of_xoshiro(rt: HostRuntime) {
         13_765_271_635_752_736_470,
         3_406_718_355_780_431_780,
     ] {
-        assert_eq!(rt; source.draw(), word);
+        assert!(rt; source.draw() == word);
     }
 }
 
@@ -502,39 +500,50 @@ impl Read for Pieces<'_> {
     }
 }
 
-#[test]
-fn pieces_of_any_size(rt: HostRuntime) -> Result<(), Fail> {
-    // Many lines, so that some lie across the end of a piece, and the last one lacks its end.
-    let mut script = Vec::new(rt.alloc());
-    let mut want = Vec::new(rt.alloc());
+/// Adds a note and a call that is finished to a script, and their answers to others.
+fn add_call(script: &mut Vec<u8>, answers: &mut Vec<u8>, number: u64) -> Result<(), Fail> {
+    writeln!(script, "# a note of some length\ncall 0 enq 7\nfinish 0")?;
+    writeln!(
+        answers,
+        "called 0.{number}\nreturned 0.{number} ok steps 14 turns 1"
+    )?;
+    Ok(())
+}
+
+/// Adds many lines, so that some lie across the end of a piece, and the last one lacks its end.
+fn add_many(script: &mut Vec<u8>, answers: &mut Vec<u8>) -> Result<(), Fail> {
     writeln!(script, "universal 1 queue 1 4096")?;
-    for number in 0..500_u64 {
-        writeln!(script, "# a note of some length\ncall 0 enq 7\nfinish 0")?;
-        writeln!(
-            want,
-            "called 0.{number}\nreturned 0.{number} ok steps 14 turns 1"
-        )?;
+    for number in 0..500 {
+        add_call(script, answers, number)?;
     }
     write!(script, "heads")?;
-    writeln!(want, "heads 501\nend")?;
+    writeln!(answers, "heads 501\nend")?;
+    Ok(())
+}
+
+/// Whether the bench answers so to the script of many lines, read in pieces of this many bytes.
+fn is_answered_in_pieces(alloc: Global, script: &[u8], answers: &[u8], most: usize) -> bool {
+    let mut text = Vec::new(alloc);
+    let mut reader = Checked::new(Pieces { text: script, most });
+    let ended = bench(alloc, &mut reader, &mut Checked::new(&mut text), &OPTIONS);
+    let summary = Summary {
+        lines: 1502,
+        calls: 500,
+        returns: 500,
+    };
+    ended == Ok(summary) && text.as_slice() == answers
+}
+
+#[test]
+fn pieces_of_any_size(rt: HostRuntime) -> Result<(), Fail> {
+    let mut script = Vec::new(rt.alloc());
+    let mut answers = Vec::new(rt.alloc());
+    add_many(&mut script, &mut answers)?;
     for most in [1, 2, 7, 5000] {
-        let mut text = Vec::new(rt.alloc());
-        let ended = bench(
-            rt.alloc(),
-            &mut Checked::new(Pieces {
-                text: script.as_slice(),
-                most,
-            }),
-            &mut Checked::new(&mut text),
-            &OPTIONS,
+        assert!(rt;
+            is_answered_in_pieces(rt.alloc(), &script, &answers, most),
+            "{most}"
         );
-        let summary = Summary {
-            lines: 1502,
-            calls: 500,
-            returns: 500,
-        };
-        assert_eq!(rt; ended, Ok(summary));
-        assert_eq!(rt; text.as_slice(), want.as_slice());
     }
     Ok(())
 }
@@ -570,8 +579,8 @@ fn readers_without_an_end(rt: HostRuntime) {
             &mut Checked::new(&mut answers),
             &OPTIONS,
         );
-        assert_eq!(rt; ended, Err(fault));
-        assert_eq!(rt; answers.len(), 0);
+        assert!(rt; ended == Err(fault));
+        assert!(rt; answers.len() == 0);
     }
 }
 
@@ -639,8 +648,8 @@ fn answers_come_before_the_next_line_is_read(rt: HostRuntime) {
         calls: 1,
         returns: 1,
     };
-    assert_eq!(rt; ended, Ok(summary));
-    assert_eq!(rt; written.get(), 66);
+    assert!(rt; ended == Ok(summary));
+    assert!(rt; written.get() == 66);
 }
 
 /// What a script tells, one remark a line: how many events come before it, and what it says.
@@ -663,29 +672,42 @@ fn told_lines(alloc: Global, told: &[Told]) -> Result<Vec<u8>, Fail> {
     Ok(text)
 }
 
+/// A script with notes, a call, and refusals.
+const NOTED: &str =
+    "# A queue.\n#\nuniversal 1 queue 2 8\n# Two calls.\ncall 0 enq 7\ncall 0 deq\nfinish 0\nstep 1\nlog\ncall 2 deq\n";
+
+/// What it tells.
+const NOTED_TOLD: &str =
+    "0 heading A queue.\n0 heading \n0 note Two calls.\n1 refused busy 0\n17 refused idle 1\n17 refused process 2\n";
+
+/// Whether a record is of a queue, and has so many events.
+fn is_queue_of(record: &ScriptRecord, events: usize) -> bool {
+    match record {
+        ScriptRecord::Queue(recorded) => recorded.events().len() == events,
+        _ => false,
+    }
+}
+
+/// A run is that of `NOTED`: the call and its 16 steps, and what it tells.
+fn is_noted(rt: &impl Abort, alloc: Global, run: &ScriptRun) -> Result<(), Fail> {
+    assert!(rt; is_queue_of(&run.record, 17), "another record");
+    let text = told_lines(alloc, &run.told)?;
+    assert!(rt; text.as_slice() == NOTED_TOLD.as_bytes(), "other remarks");
+    Ok(())
+}
+
 #[test]
 fn run_with_its_record(rt: HostRuntime) -> Result<(), Fail> {
-    let script =
-        "# A queue.\n#\nuniversal 1 queue 2 8\n# Two calls.\ncall 0 enq 7\ncall 0 deq\nfinish 0\nstep 1\nlog\ncall 2 deq\n";
-    let Ok(run) = run_of_script(rt.alloc(), &mut Checked::new(script.as_bytes()), &OPTIONS) else {
-        return Err(Fail::from("it should have no fault"));
-    };
-    let ScriptRecord::Queue(recorded) = &run.record else {
-        return Err(Fail::from("it should be the record of a queue"));
-    };
-    // The call and its 16 steps.
-    assert_eq!(rt; recorded.events().len(), 17);
-    let want =
-        "0 heading A queue.\n0 heading \n0 note Two calls.\n1 refused busy 0\n17 refused idle 1\n17 refused process 2\n";
-    let text = told_lines(rt.alloc(), run.told.as_slice())?;
-    assert_eq!(rt; text.as_slice(), want.as_bytes());
-    Ok(())
+    match run_of_script(rt.alloc(), &mut Checked::new(NOTED.as_bytes()), &OPTIONS) {
+        Ok(run) => is_noted(&rt, rt.alloc(), &run),
+        Err(_) => Err(Fail::from("it should have no fault")),
+    }
 }
 
 #[test]
 fn runs_with_a_fault(rt: HostRuntime) {
     for &(script, _, outcome) in SCRIPTS {
         let run = run_of_script(rt.alloc(), &mut Checked::new(script.as_bytes()), &OPTIONS);
-        assert_eq!(rt; run.map(|_| ()), outcome, "{script}");
+        assert!(rt; run.map(|_| ()) == outcome, "{script}");
     }
 }

@@ -69,6 +69,15 @@ struct Outcome {
     status: u8,
 }
 
+impl Outcome {
+    /// Whether this was written, with this status.
+    fn is(&self, output: &[u8], faults: &[u8], status: u8) -> bool {
+        self.output.as_slice() == output
+            && self.faults.as_slice() == faults
+            && self.status == status
+    }
+}
+
 /// Runs the program on argument texts and the script of a reader.
 fn outcome_of<R: Threads + Wait + Sync>(
     rt: &R,
@@ -112,17 +121,8 @@ fn replays<R: Abort + Threads + Wait + Sync>(
 ) {
     let (output, faults, status) = want;
     let outcome = outcome_of(rt, alloc, ["unibench", "replay"].as_slice(), reader);
-    assert_eq!(rt;
-        outcome.faults.as_slice(),
-        faults.as_bytes(),
-        "after {output:?}"
-    );
-    assert_eq!(rt;
-        outcome.output.as_slice(),
-        output.as_bytes(),
-        "before {faults:?}"
-    );
-    assert_eq!(rt; outcome.status, status, "at {output:?} {faults:?}");
+    let is_right = outcome.is(output.as_bytes(), faults.as_bytes(), status);
+    assert!(rt; is_right, "{output:?} {faults:?}");
 }
 
 /// Asserts what the replay of a good script writes, in whatever pieces the script is read.
@@ -198,9 +198,7 @@ fn histories_of_few_events(rt: HostRuntime) {
         let words = ["unibench", "replay", "--history", history];
         let reader = by_sevens(script.as_bytes(), false);
         let outcome = outcome_of(&rt, rt.alloc(), words.as_slice(), reader);
-        assert_eq!(rt; outcome.status, 0);
-        assert_eq!(rt; outcome.output.as_slice(), output.as_bytes());
-        assert!(rt; outcome.faults.is_empty());
+        assert!(rt; outcome.is(output.as_bytes(), b"", 0), "{history}");
     }
 }
 
@@ -413,35 +411,35 @@ fn writer_that_fails(rt: HostRuntime) {
     ];
     for (words, script, room, output, faults, status) in rows {
         let outcome = narrow_outcome(&rt, rt.alloc(), words, script.as_bytes(), room, false);
-        assert_eq!(rt; outcome.output.as_slice(), output.as_bytes(), "room {room}");
-        assert_eq!(rt; outcome.faults.as_slice(), faults.as_bytes(), "room {room}");
-        assert_eq!(rt; outcome.status, status, "room {room}");
+        let is_right = outcome.is(output.as_bytes(), faults.as_bytes(), status);
+        assert!(rt; is_right, "room {room}");
+    }
+}
+
+/// Asserts what is written where the output of a program fails after this front of it.
+fn fails_after<R: Abort + Threads + Wait + Sync>(
+    rt: &R,
+    alloc: Global,
+    words: &[&str],
+    script: &[u8],
+    front: &[u8],
+) {
+    for fails in [false, true] {
+        let outcome = narrow_outcome(rt, alloc, words, script, front.len(), fails);
+        assert!(rt;
+            outcome.is(front, b"cannot write\n", 3),
+            "{words:?} {fails}"
+        );
     }
 }
 
 #[test]
-fn writer_that_fails_after_each_byte(rt: HostRuntime) -> Result<(), Fail> {
+fn writer_that_fails_after_each_byte(rt: HostRuntime) {
     let replay = ["unibench", "replay"].as_slice();
-    for fails in [false, true] {
-        let mut front = Vec::new(rt.alloc());
-        for byte in ONE_CALL_ANSWERED.as_bytes() {
-            let room = front.len();
-            let outcome = narrow_outcome(&rt, rt.alloc(), replay, ONE_CALL, room, fails);
-            assert_eq!(rt;
-                outcome.output.as_slice(),
-                front.as_slice(),
-                "{room} {fails}"
-            );
-            assert_eq!(rt;
-                outcome.faults.as_slice(),
-                "cannot write\n".as_bytes(),
-                "{room} {fails}"
-            );
-            assert_eq!(rt; outcome.status, 3, "{room} {fails}");
-            front.push(*byte)?;
-        }
+    let answers = ONE_CALL_ANSWERED.as_bytes();
+    for room in 0..answers.len() {
+        fails_after(&rt, rt.alloc(), replay, ONE_CALL, &answers[..room]);
     }
-    Ok(())
 }
 
 #[test]
@@ -461,9 +459,9 @@ fn faults_that_nobody_takes(rt: HostRuntime) {
         &mut Checked::new(&mut output),
         &mut Checked::new(&mut faults),
     );
-    assert_eq!(rt; status, 2);
-    assert_eq!(rt; output.len(), 0);
-    assert_eq!(rt; faults.taken.len(), 0);
+    assert!(rt; status == 2);
+    assert!(rt; output.len() == 0);
+    assert!(rt; faults.taken.len() == 0);
 }
 
 /// Asserts what the program writes on these words with no input, and its status.
@@ -475,9 +473,8 @@ fn runs<R: Abort + Threads + Wait + Sync>(
 ) {
     let (output, faults, status) = want;
     let outcome = outcome_of(rt, alloc, words, by_sevens(b"", false));
-    assert_eq!(rt; outcome.output.as_slice(), output.as_bytes(), "{words:?}");
-    assert_eq!(rt; outcome.faults.as_slice(), faults.as_bytes(), "{words:?}");
-    assert_eq!(rt; outcome.status, status, "{words:?}");
+    let is_right = outcome.is(output.as_bytes(), faults.as_bytes(), status);
+    assert!(rt; is_right, "{words:?}");
 }
 
 /// Plans over words, each by its object, processes, calls and seed, with its line.
@@ -618,7 +615,7 @@ fn lines_of_faults_of_threads(rt: HostRuntime) -> Result<(), Fail> {
     for &(fault, line) in FAULTS {
         let mut text = Vec::new(rt.alloc());
         push_threads_fault(&mut text, fault)?;
-        assert_eq!(rt; text.as_slice(), line.as_bytes());
+        assert!(rt; text.as_slice() == line.as_bytes());
     }
     Ok(())
 }
@@ -637,13 +634,6 @@ fn agreement_that_nobody_takes(rt: HostRuntime) {
     let words = ["unibench", "threads", "--form=words", "--object=tally"].as_slice();
     let line = "threads 2 calls 200 agrees\n".as_bytes();
     for room in [0, 1, 26] {
-        let outcome = narrow_outcome(&rt, rt.alloc(), words, b"", room, false);
-        assert_eq!(rt; outcome.output.as_slice(), &line[..room], "room {room}");
-        assert_eq!(rt;
-            outcome.faults.as_slice(),
-            "cannot write\n".as_bytes(),
-            "room {room}"
-        );
-        assert_eq!(rt; outcome.status, 3, "room {room}");
+        fails_after(&rt, rt.alloc(), words, b"", &line[..room]);
     }
 }

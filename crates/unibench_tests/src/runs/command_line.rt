@@ -259,13 +259,7 @@ fn is_not_taken<R: Abort + Threads + Wait + Sync>(
     write!(text, "For more information, try '--help'.\n")?;
     let words = ["unibench", subcommand, option, value];
     let outcome = outcome_of(rt, alloc, words.as_slice(), by_sevens(b"", false));
-    assert_eq!(rt; outcome.output.len(), 0);
-    assert_eq!(rt;
-        outcome.faults.as_slice(),
-        text.as_bytes(),
-        "{option} {value}"
-    );
-    assert_eq!(rt; outcome.status, 2);
+    assert!(rt; outcome.is(b"", text.as_bytes(), 2), "{option} {value}");
     Ok(())
 }
 

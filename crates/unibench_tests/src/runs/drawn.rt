@@ -1,6 +1,6 @@
 //! Tests of the schedules that the program draws.
 
-use super::{by_sevens, narrow_outcome, outcome_of, runs};
+use super::{by_sevens, fails_after, outcome_of, runs};
 
 // A script in Python gave these lines. It was written from the published algorithms, SplitMix64 for the
 // state and xoshiro256++ for the words, and from the table of schedules; it gives the published
@@ -151,17 +151,25 @@ fn schedules_of_one_seed(rt: HostRuntime) {
     }
 }
 
+/// How many lines a text has.
+fn lines_of(text: &[u8]) -> usize {
+    text.iter().filter(|byte| **byte == b'\n').count()
+}
+
+/// Whether a schedule is one of 100 events of a queue of two processes: the header, the events, two lines
+/// that finish, and the log.
+fn is_by_default(schedule: &[u8]) -> bool {
+    schedule.starts_with(b"universal 1 queue 2 64\n")
+        && schedule.ends_with(b"\nfinish 0\nfinish 1\nlog\n")
+        && lines_of(schedule) == 104
+}
+
 #[test]
 fn schedule_by_default(rt: HostRuntime) {
     let words = ["unibench", "random"].as_slice();
     let outcome = outcome_of(&rt, rt.alloc(), words, by_sevens(b"", false));
-    assert_eq!(rt; outcome.status, 0);
-    assert!(rt; outcome.faults.is_empty());
-    let output = outcome.output.as_slice();
-    assert!(rt; output.starts_with(b"universal 1 queue 2 64\n"));
-    assert!(rt; output.ends_with(b"\nfinish 0\nfinish 1\nlog\n"));
-    // The header, 100 events, two lines that finish and the log.
-    assert_eq!(rt; output.iter().filter(|byte| **byte == b'\n').count(), 104);
+    assert!(rt; outcome.status == 0 && outcome.faults.is_empty());
+    assert!(rt; is_by_default(&outcome.output));
 }
 
 /// Options, each with the header that it gives.
@@ -182,8 +190,8 @@ fn headers_of_schedules(rt: HostRuntime) {
     for &(option, header) in HEADERS {
         let words = ["unibench", "random", "--events", "1", option];
         let outcome = outcome_of(&rt, rt.alloc(), words.as_slice(), by_sevens(b"", false));
-        assert_eq!(rt; outcome.status, 0, "{option}");
-        assert!(rt; outcome.output.starts_with(header.as_bytes()), "{option}");
+        let is_right = outcome.status == 0 && outcome.output.starts_with(header.as_bytes());
+        assert!(rt; is_right, "{option}");
     }
 }
 
@@ -191,9 +199,7 @@ fn headers_of_schedules(rt: HostRuntime) {
 fn as_many_events_as_can_be_drawn(rt: HostRuntime) {
     let words = ["unibench", "random", "--events=99000"].as_slice();
     let outcome = outcome_of(&rt, rt.alloc(), words, by_sevens(b"", false));
-    assert_eq!(rt; outcome.status, 0);
-    let lines = outcome.output.iter().filter(|byte| **byte == b'\n').count();
-    assert_eq!(rt; lines, 99_004);
+    assert!(rt; outcome.status == 0 && lines_of(&outcome.output) == 99_004);
 }
 
 #[test]
@@ -210,15 +216,6 @@ fn schedule_that_nobody_takes(rt: HostRuntime) {
     let words = words_of_741("queue");
     let schedule = QUEUE_OF_741.as_bytes();
     for room in [0, 1, 21, 22, schedule.len() - 1] {
-        for fails in [false, true] {
-            let outcome = narrow_outcome(&rt, rt.alloc(), words.as_slice(), b"", room, fails);
-            assert_eq!(rt; outcome.output.as_slice(), &schedule[..room], "room {room}");
-            assert_eq!(rt;
-                outcome.faults.as_slice(),
-                "cannot write\n".as_bytes(),
-                "room {room}"
-            );
-            assert_eq!(rt; outcome.status, 3, "room {room}");
-        }
+        fails_after(&rt, rt.alloc(), words.as_slice(), b"", &schedule[..room]);
     }
 }

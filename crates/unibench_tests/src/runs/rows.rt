@@ -172,6 +172,13 @@ fn a_directory(rt: HostRuntime) -> Result<(), Fail> {
 }
 
 /// Asserts that a schedule of 1,000 events is drawn for an object and so many processes, and that its
+/// Whether the replay of a script ends well.
+fn is_replayed<R: Threads + Wait + Sync>(rt: &R, alloc: Global, script: &[u8]) -> bool {
+    let words = ["unibench", "replay"].as_slice();
+    let outcome = outcome_of(rt, alloc, words, by_sevens(script, false));
+    outcome.status == 0 && outcome.faults.is_empty() && outcome.output.ends_with(b"\nend\n")
+}
+
 /// replay ends well.
 fn drawn_is_replayed<R: Abort + Threads + Wait + Sync>(
     rt: &R,
@@ -192,16 +199,8 @@ fn drawn_is_replayed<R: Abort + Threads + Wait + Sync>(
         "1000",
     ];
     let drawn = outcome_of(rt, alloc, words.as_slice(), by_sevens(b"", false));
-    assert_eq!(rt; drawn.status, 0, "{object} {processes}");
-    let words = ["unibench", "replay"].as_slice();
-    let reader = by_sevens(drawn.output.as_slice(), false);
-    let replayed = outcome_of(rt, alloc, words, reader);
-    assert_eq!(rt; replayed.status, 0, "{object} {processes}");
-    assert!(rt; replayed.faults.is_empty(), "{object} {processes}");
-    assert!(rt;
-        replayed.output.ends_with(b"\nend\n"),
-        "{object} {processes}"
-    );
+    let is_right = drawn.status == 0 && is_replayed(rt, alloc, &drawn.output);
+    assert!(rt; is_right, "{object} {processes}");
 }
 
 #[test]
