@@ -239,26 +239,27 @@ const ON_A_FULL_QUEUE: Lines = &[
     ("deq", "2"),
 ];
 
-/// Adds a call that enqueues a number, or one that dequeues it.
-fn add_number(alloc: Global, calls: &mut Calls, number: u64, is_taken: bool) -> Result<(), Fail> {
-    if is_taken {
-        let reply = format!(in alloc; "{number}")?;
-        calls.add("deq", reply.as_str())
-    } else {
-        let words = format!(in alloc; "enq {number}")?;
-        calls.add(words.as_str(), "ok")
-    }
+/// Adds a call that enqueues a number.
+fn add_enq(alloc: Global, calls: &mut Calls, number: u64) -> Result<(), Fail> {
+    let words = format!(in alloc; "enq {number}")?;
+    calls.add(words.as_str(), "ok")
+}
+
+/// Adds a call that dequeues a number.
+fn add_deq(alloc: Global, calls: &mut Calls, number: u64) -> Result<(), Fail> {
+    let reply = format!(in alloc; "{number}")?;
+    calls.add("deq", reply.as_str())
 }
 
 /// Adds the calls that fill a queue with the numbers from 0 to 999 and take them out again, and what
 /// is asked of it meanwhile.
 fn add_calls_of_a_full_queue(alloc: Global, calls: &mut Calls) -> Result<(), Fail> {
     for number in 0..1000 {
-        add_number(alloc, calls, number, false)?;
+        add_enq(alloc, calls, number)?;
     }
     calls.add_all(ON_A_FULL_QUEUE)?;
     for number in 3..1000 {
-        add_number(alloc, calls, number, true)?;
+        add_deq(alloc, calls, number)?;
     }
     calls.add("deq", "1001")?;
     calls.add("deq", "empty")

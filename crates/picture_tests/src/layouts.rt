@@ -7,7 +7,6 @@ use run_layout::{
 };
 use run_marks::Marks;
 use std::alloc::{AllocError, Global};
-use std::io::Write;
 use std::process::Abort;
 use std::test::Fail;
 use uni_core::StepKind;
@@ -176,11 +175,12 @@ fn fault_of(alloc: Global, script: &[u8]) -> Option<PictureFault> {
     subject_of(alloc, &mut Checked::new(script)).err()
 }
 
-/// The text of a fault.
-fn text_of(alloc: Global, fault: PictureFault) -> Result<Vec<u8>, AllocError> {
-    let mut text = Vec::new(alloc);
-    write!(text, "{fault}").map_err(|_| AllocError)?;
-    Ok(text)
+/// Whether a fault has this text.
+fn is_told(alloc: Global, fault: PictureFault, text: &str) -> bool {
+    match format!(in alloc; "{fault}") {
+        Ok(told) => told.as_bytes() == text.as_bytes(),
+        Err(_) => false,
+    }
 }
 
 /// A script of so many calls of one process, 15 events each, with these lines at its end.
@@ -220,9 +220,10 @@ fn faults(rt: HostRuntime) -> Result<(), AllocError> {
 
 #[test]
 fn texts_of_faults(rt: HostRuntime) {
-    let alloc = rt.alloc();
     let none = PictureFault::Script(BenchFault::NoHeader(1));
+    let bad = PictureFault::Script(BenchFault::BadLine(270));
     let many = "too many events for a picture";
-    assert!(rt; reads(text_of(alloc, none), "line 1: no header"));
-    assert!(rt; reads(text_of(alloc, PictureFault::TooManyEvents), many));
+    assert!(rt; is_told(rt.alloc(), none, "line 1: no header"));
+    assert!(rt; is_told(rt.alloc(), bad, "line 270: bad line"));
+    assert!(rt; is_told(rt.alloc(), PictureFault::TooManyEvents, many));
 }

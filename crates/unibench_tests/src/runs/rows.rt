@@ -171,7 +171,6 @@ fn a_directory(rt: HostRuntime) -> Result<(), Fail> {
     replies(&rt, rt.alloc(), "directory", DIRECTORY)
 }
 
-/// Asserts that a schedule of 1,000 events is drawn for an object and so many processes, and that its
 /// Whether the replay of a script ends well.
 fn is_replayed<R: Threads + Wait + Sync>(rt: &R, alloc: Global, script: &[u8]) -> bool {
     let words = ["unibench", "replay"].as_slice();
@@ -179,6 +178,7 @@ fn is_replayed<R: Threads + Wait + Sync>(rt: &R, alloc: Global, script: &[u8]) -
     outcome.status == 0 && outcome.faults.is_empty() && outcome.output.ends_with(b"\nend\n")
 }
 
+/// Asserts that a schedule of 1,000 events is drawn for an object and so many processes, and that its
 /// replay ends well.
 fn drawn_is_replayed<R: Abort + Threads + Wait + Sync>(
     rt: &R,
