@@ -199,10 +199,10 @@ fn run_object<O: Shared, I: TextIn, W: TextOut>(
     ensures reader_ok { OnOk result (I.has_failed reader.new ≡ false) }
     ensures writer { IsErrOf result BenchFault.Write ↔ (W.has_failed writer.new ≡ true) }
 {
-    let Ok(session) = open(alloc, object, header, history) else {
+    let Ok(mut session) = open(alloc, object, header, history) else {
         return Err(BenchFault::Memory);
     };
-    run_commands(alloc, header.version, session, lines, reader, writer)
+    run_commands(alloc, header.version, &mut session, lines, reader, writer)
 }
 
 /// Runs the lines that are left on a record, and writes their answers.
@@ -212,7 +212,7 @@ fn run_object<O: Shared, I: TextIn, W: TextOut>(
 fn run_commands<O: Shared, I: TextIn, W: TextOut>(
     alloc: Global,
     version: Version,
-    mut session: Recorded<O>,
+    session: &mut Recorded<O>,
     lines: &mut Lines,
     reader: &mut I,
     writer: &mut W,
@@ -220,7 +220,7 @@ fn run_commands<O: Shared, I: TextIn, W: TextOut>(
     requires held { IsHeld lines.old }
     requires reader { I.has_failed reader.old ≡ false }
     requires writer { W.has_failed writer.old ≡ false }
-    ensures run { (limit : ℕ) → RunsOn limit (I.remaining reader.old) lines.old (W.contents writer.old) (Some (O.session version (session_of session))) (I.remaining reader.new) (W.contents writer.new) result }
+    ensures run { (limit : ℕ) → RunsOn limit (I.remaining reader.old) lines.old (W.contents writer.old) (Some (O.session version (session_of session.old))) (I.remaining reader.new) (W.contents writer.new) result }
     ensures reader { IsErrOf result BenchFault.Read → I.has_failed reader.new ≡ true }
     ensures reader_ok { OnOk result (I.has_failed reader.new ≡ false) }
     ensures writer { IsErrOf result BenchFault.Write ↔ (W.has_failed writer.new ≡ true) }
@@ -232,13 +232,13 @@ fn run_commands<O: Shared, I: TextIn, W: TextOut>(
             Ok(()) => answer_line(
                 alloc,
                 version,
-                &mut session,
+                session,
                 lines.count,
                 lines.line(),
                 &mut text,
                 writer,
             )?,
-            Err(Stop::End) => return answer_end(alloc, version, &session, lines.count, writer),
+            Err(Stop::End) => return answer_end(alloc, version, session, lines.count, writer),
             Err(Stop::Failed) => return Err(BenchFault::Read),
             Err(Stop::TooLong) => return Err(BenchFault::TooLong(lines.count + 1)),
             Err(Stop::TooMany) => return Err(BenchFault::TooMany),

@@ -165,7 +165,7 @@ fn run_on_object<O: Shared, I: TextIn>(
     history: u64,
     lines: &mut Lines,
     reader: &mut I,
-    told: Vec<Told>,
+    mut told: Vec<Told>,
 ) -> Result<Finished<O>, BenchFault>
     requires range { IsInRange header }
     requires history { IsHistory history }
@@ -174,35 +174,45 @@ fn run_on_object<O: Shared, I: TextIn>(
     ensures run { (limit : ℕ) → MakesOn limit (I.remaining reader.old) lines.old (Some (O.session header.version (opened_session (record { object = O.sequential object; language = O.language }) history header))) told.items (I.remaining reader.new) (λ b tellings run. (b ≡ O.session header.version (session_of run.recorded)) × (tellings ≡ map told_shown run.told.items) × (length run.told.items ≤ 100000)) result }
     ensures reader { IsErrOf result BenchFault.Read → I.has_failed reader.new ≡ true }
 {
-    let Ok(recorded) = open(alloc, object, header, history) else {
+    let Ok(mut recorded) = open(alloc, object, header, history) else {
         return Err(BenchFault::Memory);
     };
-    run_on_record(alloc, header.version, recorded, lines, reader, told)
+    match run_on_record(
+        alloc,
+        header.version,
+        &mut recorded,
+        lines,
+        reader,
+        &mut told,
+    ) {
+        Ok(()) => Ok(Finished { recorded, told }),
+        Err(fault) => Err(fault),
+    }
 }
 
-/// Runs the lines that are left on a record.
+/// Runs the lines that are left on a record, and adds what they tell that is no event.
 ///
 /// `Memory` where memory was refused; any other `Err` is the first fault of what was read.
 fn run_on_record<O: Shared, I: TextIn>(
     alloc: Global,
     version: Version,
-    mut recorded: Recorded<O>,
+    recorded: &mut Recorded<O>,
     lines: &mut Lines,
     reader: &mut I,
-    mut told: Vec<Told>,
-) -> Result<Finished<O>, BenchFault>
+    told: &mut Vec<Told>,
+) -> Result<(), BenchFault>
     requires held { IsHeld lines.old }
     requires reader { I.has_failed reader.old ≡ false }
-    ensures run { (limit : ℕ) → MakesOn limit (I.remaining reader.old) lines.old (Some (O.session version (session_of recorded))) told.items (I.remaining reader.new) (λ b tellings run. (b ≡ O.session version (session_of run.recorded)) × (tellings ≡ map told_shown run.told.items) × (length run.told.items ≤ 100000)) result }
+    ensures run { (limit : ℕ) → MakesOn limit (I.remaining reader.old) lines.old (Some (O.session version (session_of recorded.old))) told.old.items (I.remaining reader.new) (λ b tellings _. (b ≡ O.session version (session_of recorded.new)) × (tellings ≡ map told_shown told.new.items) × (length told.new.items ≤ 100000)) result }
     ensures reader { IsErrOf result BenchFault.Read → I.has_failed reader.new ≡ true }
 {
     loop {
         match lines.take(reader) {
             Ok(()) => {
                 let line = lines.line();
-                tell_line(alloc, version, &mut recorded, lines.count, line, &mut told)?
+                tell_line(alloc, version, recorded, lines.count, line, told)?
             }
-            Err(Stop::End) => return Ok(Finished { recorded, told }),
+            Err(Stop::End) => return Ok(()),
             Err(Stop::Failed) => return Err(BenchFault::Read),
             Err(Stop::TooLong) => return Err(BenchFault::TooLong(lines.count + 1)),
             Err(Stop::TooMany) => return Err(BenchFault::TooMany),

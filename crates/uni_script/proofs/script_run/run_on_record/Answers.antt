@@ -36,7 +36,7 @@ returns-in_err-tell_line-in-Ok-clause-run g c = λ limit old taken so_far.
     let now = c.loop-lines.invariant.2 limit old taken so_far in
     let has = subst (λ l. HasTaken old (g.I.TextIn.remaining c.take.new.reader) c.take.new.self (now.0 ++ l ∷ [])) (sym c.line-line.ensures) (took.line old now.0 now.1.run.reading) in
     let e : c.from_residual.result ≡ Err c.in_err-tell_line-in-Ok.field-0.0 = search rules in
-    subst (λ r. HasMade limit old (g.I.TextIn.remaining c.take.new.reader) (λ s tellings run. (s ≡ g.O.Shared.session c.args.version (session_of run.recorded)) × (tellings ≡ map told_shown run.told.items) × (length run.told.items ≤ 100000)) r) (sym e)
+    subst (λ r. HasMade limit old (g.I.TextIn.remaining c.take.new.reader) (λ s tellings _. (s ≡ g.O.Shared.session c.args.version (session_of c.tell_line.new.recorded)) × (tellings ≡ map told_shown c.tell_line.new.told.items) × (length c.tell_line.new.told.items ≤ 100000)) r) (sym e)
     (HasEnded-told limit old _ c.loop-lines.lines now.0 (Some (g.O.Shared.session c.args.version (session_of c.loop-lines.recorded))) c.loop-lines.told.items now.1 _ c.take.new.self c.line-line.result.now has
     (ap (λ l. is_short l) c.line-line.ensures ∙ is_short-line c.take.new.self took.held) took.held.count c.in_err-tell_line-in-Ok.field-0.0 (c.in_err-tell_line-in-Ok.ensures.outcome limit))
 
