@@ -4,8 +4,6 @@
 
 mod consensus;
 mod register;
-#[cfg(test)]
-mod tests;
 
 pub use consensus::Settle;
 pub use register::Own;

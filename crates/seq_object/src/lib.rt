@@ -4,8 +4,6 @@
 mod call_id;
 mod object;
 mod swap_register;
-#[cfg(test)]
-mod tests;
 
 pub use call_id::CallId;
 pub use object::{SeqObject, legal_by_places};

@@ -6,8 +6,6 @@
 #![tactic(auto)]
 
 mod laws;
-#[cfg(test)]
-mod tests;
 
 pub use laws::{
     changes_one_place, counts_steps, era_leaves_anchor, event_is_atomic, event_keeps_helping,

@@ -1,6 +1,6 @@
-//! Each call on its happy path.
+//! The parts of a cell: what settles once, and what its owner writes.
 
-use crate::{Own, Settle};
+use consensus_cell::{Own, Settle};
 use std::test::Fail;
 
 /// What comes of a proposal, and what is settled after it.

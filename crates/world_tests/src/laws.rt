@@ -1,13 +1,14 @@
-//! The laws at a concrete object.
+//! The laws of the construction, at one object.
 
-use crate::{
+use seq_object::SwapRegister;
+use uni_model::{
     changes_one_place, counts_steps, era_leaves_anchor, event_is_atomic, event_keeps_helping,
     event_keeps_invariant, event_keeps_settled, has_floor, is_bounded, is_linearizable,
-    is_one_list, is_universal, joined_log_is_legal, joined_log_only_grows, keeps_invariant,
-    keeps_real_time, keeps_settled, links_soon, log_is_legal, log_only_grows, opening_is_sound,
-    simulates, step_sees_settled, trims_change_nothing,
+    is_one_list, is_universal, joined_log_holds_responses, joined_log_is_legal,
+    joined_log_only_grows, keeps_invariant, keeps_real_time, keeps_settled, links_soon,
+    log_is_legal, log_only_grows, opening_is_sound, simulates, step_sees_settled,
+    trims_change_nothing,
 };
-use seq_object::SwapRegister;
 
 #[test]
 fn laws_hold_of_an_object() {
@@ -23,6 +24,7 @@ fn laws_hold_of_an_object() {
     is_linearizable::<SwapRegister>();
     is_one_list::<SwapRegister>();
     is_universal::<SwapRegister>();
+    joined_log_holds_responses::<SwapRegister>();
     joined_log_is_legal::<SwapRegister>();
     joined_log_only_grows::<SwapRegister>();
     keeps_invariant::<SwapRegister>();

@@ -1,6 +1,6 @@
-//! A counter, called through the trait.
+//! A counter and a register, called through the trait of objects, and the name of a call.
 
-use crate::{CallId, SeqObject, SwapRegister, legal_by_places};
+use seq_object::{CallId, SeqObject, SwapRegister, legal_by_places};
 use std::alloc::{AllocError, Global};
 use std::test::Fail;
 

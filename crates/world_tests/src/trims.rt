@@ -3,6 +3,7 @@
 
 ghost use Rattle.std.specs.Prelude.{◌<◌};
 
+use crate::acts::call;
 use cell_arena::CellId;
 use ready_objects::{
     Amount, QueueInv, QueueObject, QueueResp, StickyInv, StickyObject, StickyResp,
@@ -67,11 +68,6 @@ fn enq(value: u32) -> QueueInv {
 /// The answer of a dequeue that takes this number.
 fn taken(value: u32) -> QueueResp {
     QueueResp::Taken(amount(value))
-}
-
-/// The name of a call.
-fn call(process: u32, nth: u64) -> CallId {
-    CallId { process, nth }
 }
 
 /// Whether the own steps and the turns of a process's latest call are these.
