@@ -156,7 +156,7 @@ fn entries_that_are_wrong(rt: HostRuntime) {
 }
 
 /// Call 0.0.
-const FIRST: CallId = CallId { process: 0, nth: 0 };
+pub(crate) const FIRST: CallId = CallId { process: 0, nth: 0 };
 
 /// Returns that are wrong.
 const WRONG_RETURNS: &[Row] = &[

@@ -149,18 +149,23 @@ fn does(alloc: Global, recorded: &mut Recorded<QueueObject>, act: &Act) -> bool 
 }
 
 /// A record of a queue that so many processes share, with rows of so many calls and so many events.
-fn queue(alloc: Global, n: u64, k: u64, h: u64) -> Result<Recorded<QueueObject>, Fail> {
+pub(crate) fn record_of_queue(
+    alloc: Global,
+    n: u64,
+    k: u64,
+    h: u64,
+) -> Result<Recorded<QueueObject>, Fail> {
     Recorded::open(alloc, QueueObject, n, k, h).map_err(|_| Fail::from("no record was opened"))
 }
 
-/// Does these, one after the other, with a new record of a queue, which `queue` opens.
+/// Does these, one after the other, with a new record of a queue, which `record_of_queue` opens.
 fn plays(
     rt: &impl Abort,
     alloc: Global,
     (n, k, h): (u64, u64, u64),
     acts: &[Act],
 ) -> Result<(), Fail> {
-    let mut recorded = queue(alloc, n, k, h)?;
+    let mut recorded = record_of_queue(alloc, n, k, h)?;
     for (at, act) in acts.iter().enumerate() {
         assert!(rt; does(alloc, &mut recorded, act), "at act {at}");
     }
@@ -205,7 +210,7 @@ fn enqueues(alloc: Global, recorded: &mut Recorded<QueueObject>) -> bool {
 
 /// A record of one process that has enqueued 7.
 fn enqueued(alloc: Global) -> Result<Recorded<QueueObject>, Fail> {
-    let mut recorded = queue(alloc, 1, 8, 100)?;
+    let mut recorded = record_of_queue(alloc, 1, 8, 100)?;
     if enqueues(alloc, &mut recorded) {
         Ok(recorded)
     } else {
@@ -371,7 +376,7 @@ fn a_run_of_commands_is_stored_in(
 
 #[test]
 fn a_run_of_commands_is_stored(rt: HostRuntime) -> Result<(), Fail> {
-    let mut recorded = queue(rt.alloc(), 2, 8, 1000)?;
+    let mut recorded = record_of_queue(rt.alloc(), 2, 8, 1000)?;
     a_run_of_commands_is_stored_in(&rt, rt.alloc(), &mut recorded)?;
     Ok(())
 }
@@ -398,7 +403,7 @@ fn runs(
     told: &[Outcome<QueueResp>],
     stored: usize,
 ) -> Result<(), Fail> {
-    let mut recorded = queue(alloc, n, k, h)?;
+    let mut recorded = record_of_queue(alloc, n, k, h)?;
     assert!(rt;
         answers(alloc, &mut recorded, commands, told),
         "other outcomes"

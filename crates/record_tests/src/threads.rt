@@ -1,5 +1,6 @@
 //! Two threads over one record: what the lock lets happen between the steps of a call.
 
+use crate::records::record_of_queue;
 use crate::seat_calls::{
     Second, alone, amount, calls, closed, enq, enqueues, last, queue, receipts_of, resumes,
 };
@@ -169,14 +170,6 @@ fn ends(alloc: Global, recorded: &mut Recorded<QueueObject>, p: u64) -> Result<(
     Err(Fail::from("the call should have ended"))
 }
 
-/// A record of a queue of two processes.
-fn recorded_by_two(alloc: Global) -> Result<Recorded<QueueObject>, Fail> {
-    match Recorded::open(alloc, QueueObject, 2, 2, 1000) {
-        Ok(recorded) => Ok(recorded),
-        Err(_) => Err(Fail::from("no record was opened")),
-    }
-}
-
 /// The same events, given one by one.
 fn one_by_one(alloc: Global, recorded: &mut Recorded<QueueObject>, steps: u64) -> Result<(), Fail> {
     let ten = enq(10);
@@ -261,7 +254,7 @@ fn is_as_one_by_one<R: Abort>(
     closed: &Closed<QueueObject>,
     steps: u64,
 ) -> Result<(), Fail> {
-    let mut expected = recorded_by_two(alloc)?;
+    let mut expected = record_of_queue(alloc, 2, 2, 1000)?;
     one_by_one(alloc, &mut expected, steps)?;
     is_as_expected(rt, alloc, closed, &expected)?;
     Ok(())

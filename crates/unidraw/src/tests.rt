@@ -19,9 +19,9 @@ fn ends(rt: &impl Abort, alloc: Global, words: &[&str], script: &[u8], status: u
         &mut output,
         &mut faults,
     );
-    assert_eq!(rt; ended, status);
-    assert_eq!(rt; faults.end().as_slice(), told);
-    assert_eq!(rt; output.end().is_empty(), status != 0);
+    assert!(rt; ended == status);
+    assert!(rt; faults.end().as_slice() == told);
+    assert!(rt; output.end().is_empty() == (status != 0));
 }
 
 #[test]
