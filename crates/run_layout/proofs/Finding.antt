@@ -1,5 +1,5 @@
 -- The first element of a list that passes a test, looked for from place to place.
-use Rattle.std.proofs.Common.{◌≡◌, ◌∙◌, ℕ, ◌+◌, ◌<◌, ◌≤◌, Bool, true, false, cond, List, length, get_or, drop, map, Option, Some, None, ap, sym}
+use Rattle.std.proofs.Common.{◌≡◌, ◌∙◌, ℕ, ◌+◌, ◌<◌, ◌≤◌, Bool, true, cond, List, length, get_or, drop, map, Option, Some, None, ap, sym}
 use Rattle.std.proofs.lemmas.List.{at_drop_more, at_drop_all}
 use Rattle.std.specs.List.{find}
 
@@ -8,12 +8,6 @@ module _ {A B : Type 0} (f : A → B) (p : B → Bool) where
   pub found_from : (xs : List A) (i : ℕ) (x : A) → i < length xs → x ≡ get_or xs i x → find p (map f (drop i xs)) ≡ cond (p (f x)) (Some (f x)) (find p (map f (drop (i + 1) xs)))
   found_from xs i x inside is =
       at_drop_more (λ l. find p (map f l)) xs i x inside ∙ ap (λ y. cond (p (f y)) (Some (f y)) (find p (map f (drop (i + 1) xs)))) (sym is)
-
-  -- an element that fails is passed over
-  pub found_later : (xs : List A) (i : ℕ) (x : A) (whole : Option B) → i < length xs → x ≡ get_or xs i x → p (f x) ≡ false → find p (map f (drop i xs)) ≡ whole
-      → find p (map f (drop (i + 1) xs)) ≡ whole
-  found_later xs i x whole inside is fails so_far =
-      sym (found_from xs i x inside is ∙ ap (λ b. cond b (Some (f x)) (find p (map f (drop (i + 1) xs)))) fails) ∙ so_far
 
   -- the first one that passes is found
   pub found_here : (xs : List A) (i : ℕ) (x : A) (whole : Option B) → i < length xs → x ≡ get_or xs i x → p (f x) ≡ true → find p (map f (drop i xs)) ≡ whole

@@ -72,7 +72,3 @@ module _ {O S I R : Type 0} (sequential : Sequential S I R) (object : O) (a : Sh
         counts = subst CountsSteps (sym world_of-first) (CountsSteps-opened_world sequential n s number);
         none = subst CountsNone (sym world_of-first) (CountsNone-opened_world I R n s number);
       }
-
--- a number that is low enough leaves room for that many after it
-pub low_enough : (number m : ℕ) → 1 ≤ number → number ≤ 281474976710655 - m → number + m < 2 ^ 48
-low_enough number m positive low = omega arith

@@ -99,11 +99,7 @@ abbrev pub sum_below : ℕ → (ℕ → ℕ) → ℕ
 sum_below zero f = 0
 sum_below (suc p) f = sum_below p f + f p
 
--- how many calls were begun
-abbrev pub calls_begun : {S I R : Type 0} → WorldOf S I R → ℕ
-calls_begun w = sum_below w.n w.begun
-
--- how many of them the present era has
+-- how many calls the present era has
 abbrev pub era_calls : {S I R : Type 0} → WorldOf S I R → ℕ
 era_calls w = sum_below w.n (calls_in_era w)
 

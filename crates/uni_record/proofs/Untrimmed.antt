@@ -135,9 +135,6 @@ module _ {O S I R : Type 0} (sequential : O → Sequential S I R) (r : Recording
     pub progress-untrimmed : (p : ℕ) (progress : Progress R) → IsProgress (world_of r.world) p progress → IsProgress (untrimmed_world sequential r) p progress
     progress-untrimmed p progress is = is ∙ ap progress_of (shown.response p)
 
-    pub begun-untrimmed : (p k : ℕ) → k ≡ (world_of r.world).begun p → k ≡ (untrimmed_world sequential r).begun p
-    begun-untrimmed p k is = is ∙ ap (λ f. f p) shown.begun
-
   -- a trim is none of its events
   pub trim-untrimmed : (new : Recording O S I R) → new.events ≡ r.events ++ stored.Trim ∷ [] → KeepsOpening r new → untrimmed_world sequential new ≡ untrimmed_world sequential r
   trim-untrimmed new events fixed =

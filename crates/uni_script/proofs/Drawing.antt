@@ -1,8 +1,7 @@
 -- The events of a schedule, drawn one after the other.
-use Rattle.std.proofs.Common.{◌≡◌, ◌∙◌, ℕ, suc, ◌+◌, ◌-◌, ◌<◌, ◌≤◌, List, ◌++◌, refl, sym, ap, arith, append_assoc, append-nil}
+use Rattle.std.proofs.Common.{◌≡◌, ◌∙◌, ℕ, suc, ◌+◌, ◌-◌, ◌<◌, ◌≤◌, List, ◌++◌, sym, ap, arith, append_assoc, append-nil}
 use Rattle.ready_objects.specs.Spoken.{Language}
-use Rattle.rand_xoshiro.specs.Xoshiro256.{plus_plus}
-use Rattle.uni_script.specs.Schedules.{event_line, words_of_event, event_lines, words_of_events, xoshiro_word}
+use Rattle.uni_script.specs.Schedules.{event_line, words_of_event, event_lines, words_of_events}
 
 -- k of m events are drawn, and their lines written after a text: what is left are those from word number `at` on
 pub record IsDrawn {I R : Type 0} (l : Language I R) (n : ℕ) (word : ℕ → ℕ) (old : List ℕ) (m k : ℕ) (now : List ℕ) (next : ℕ → ℕ) : Type 0 where
@@ -47,7 +46,3 @@ module _ {I R : Type 0} (l : Language I R) (n : ℕ) (word : ℕ → ℕ) (old :
 
     pub IsDrawn-drawn : (i : ℕ) → next i ≡ word (words_of_events word 0 m + i)
     IsDrawn-drawn i = is.rest i ∙ ap (λ j. word (j + i)) (ap (λ j. words_of_events word is.at j) (sym none_left) ∙ is.drawn)
-
--- the words that are left after the first one
-pub xoshiro_word-rest : (state : List ℕ) (i : ℕ) → xoshiro_word (plus_plus state).1 i ≡ xoshiro_word state (1 + i)
-xoshiro_word-rest state i = let e : 1 + i ≡ suc i = omega arith in rw e refl

@@ -142,9 +142,6 @@ module _ {O S I R : Type 0} (r : Recording O S I R) (m : ℕ) where
       at true e true f = absurd (other (grind (arith, nat_tests), grind (arith, nat_tests)))
 
 module _ {S I R : Type 0} (w : WorldOf S I R) (p : ℕ) where
-  pub refusal_of_step-past : w.n ≤ p → refusal_of_step w p ≡ Some (Process p)
-  refusal_of_step-past high = rw (at_least w.n p high) refl
-
   pub refusal_of_step-idle : p < w.n → None ≡ current_of w p → refusal_of_step w p ≡ Some (Idle p)
   refusal_of_step-idle low e = rw (below w.n p low) (at (w.call p) e)
     where
@@ -158,14 +155,6 @@ module _ {S I R : Type 0} (w : WorldOf S I R) (p : ℕ) where
       at : (c : Option Stands) → Some call ≡ option_map (λ (x : Stands). latest w p) c → (if is_none c then Some (Idle p) else None) ≡ None
       at None f = absurd (cc)
       at (Some x) f = refl
-
-  -- the pending call of a process is the latest that it has begun
-  pub current_is_latest : (call : CallId) → Some call ≡ current_of w p → call ≡ latest w p
-  current_is_latest call e = at (w.call p) e
-    where
-      at : (c : Option Stands) → Some call ≡ option_map (λ (x : Stands). latest w p) c → call ≡ latest w p
-      at None f = absurd (cc)
-      at (Some x) f = cc
 
 -- what is refused leaves a session as it was
 pub session_after-refused : {S I R : Type 0} (o : SpokenObject S I R) (b b' : Session S I R) (result : CommandResult I) (refusal : Refusal) → b' ≡ b → result ≡ refused refusal → b' ≡ session_after o b result.events

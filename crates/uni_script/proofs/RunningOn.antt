@@ -1,5 +1,5 @@
 -- The run of the lines of a script, one after the other.
-use Rattle.std.proofs.Common.{◌≡◌, ◌≢◌, ◌∙◌, ◌↔◌, ◌⊎◌, inl, inr, ℕ, ◌+◌, ◌≤◌, Bool, not, if◌then◌else◌, true, false, List, [], ◌∷◌, ◌++◌, length, Option, None, Some, option_map, Result, Ok, Err, IfOk, IfSome, IfNone, OnOk, refl, sym, ap, subst, arith, append-nil}
+use Rattle.std.proofs.Common.{◌≡◌, ◌∙◌, ◌↔◌, ◌⊎◌, inl, inr, ℕ, ◌+◌, ◌≤◌, Bool, not, if◌then◌else◌, true, false, List, [], ◌∷◌, ◌++◌, length, Option, None, Some, option_map, Result, Ok, Err, IfOk, IfSome, IfNone, OnOk, refl, sym, ap, subst, arith, append-nil}
 use Rattle.std.proofs.KnownBytes.{Appends-nil, Appends-trans}
 use Rattle.std.specs.Io.KnownBytes.{Appends, Consumes}
 use Rattle.std.specs.List.{list_all}
@@ -7,7 +7,7 @@ use Rattle.std.proofs.lemmas.Bool.Decides.{nat_tests}
 use Rattle.std.specs.Option.{option_map_or}
 use Rattle.ready_objects.specs.Words.{words_of_text}
 use Rattle.uni_script.specs.declared.fault.BenchFault.{BenchFault}
-use Rattle.uni_script.specs.declared.fault.BenchFault.TheVariants.{BadByte, BadLine, BadHeader, Read, Write, Memory}
+use Rattle.uni_script.specs.declared.fault.BenchFault.TheVariants.{BadByte, BadLine, BadHeader, Write, Memory}
 use Rattle.uni_script.specs.declared.lines.Lines.{Lines}
 use Rattle.uni_script.specs.declared.lines.Source.{Source}
 use Rattle.uni_script.specs.declared.lines.Source.TheVariants.{Open, Ended}
@@ -21,7 +21,7 @@ use Rattle.uni_script.specs.Objects.{SpokenObject, spoken_of}
 use Rattle.uni_script.specs.Meaning.{Session, session_after, ScriptSession, Outcome, script_session, session_of_header, result_of_command, outcome_of_fault, outcome_of_text, and_then, outcome_of_command, outcome_of_words, outcome_of_short_line, outcome_of_lines, outcome_of_end}
 use Rattle.uni_script.specs.Summary.{summary_of_session}
 use Rattle.uni_script.specs.Promises.{IsPromisedSession}
-use Rattle.uni_script.specs.Lines.{IsHeld, line_of, rest_of, HasTaken, HasStopped, HasRun, HasEnded, IsRead, lines_of_read, outcome_of_stop, outcome_of_read, EndsAs, WritesAs, IsFaultOfLine}
+use Rattle.uni_script.specs.Lines.{IsHeld, line_of, rest_of, HasTaken, HasStopped, HasRun, HasEnded, IsRead, lines_of_read, outcome_of_stop, outcome_of_read, EndsAs, WritesAs}
 use Rattle.uni_script.proofs.Cutting.{cut-append}
 use Rattle.uni_script.proofs.Running.{is_short, after_text, and_then-none, and_then-some, and_then-assoc, outcome_of_line-short, outcome_of_lines-append}
 use Rattle.uni_script.proofs.Taking.{line_of-length}
@@ -62,13 +62,6 @@ IfOk-map (Err e) P Q f p = tt
 
 pub is_short-line : (lines : Lines) → IsHeld lines → is_short (line_of lines) ≡ true
 is_short-line lines held = let n = line_of-length lines held in let w = held.width in grind (arith, nat_tests)
-
--- a fault of a line is none of an end
-pub not_read : (e : BenchFault) → IsFaultOfLine e → e ≢ Read
-not_read e own same = subst IsFaultOfLine same own
-
-pub not_write : (e : BenchFault) → IsFaultOfLine e → e ≢ Write
-not_write e own same = subst IsFaultOfLine same own
 
 pub WritesAs-header : (outcome : Outcome) (b : Option ScriptSession) (e : BenchFault) (old : Option (List ℕ)) → (e ≡ Memory) ⊎ (outcome ≡ outcome_of_fault b e) → WritesAs {A = Summary} outcome old old (Err e)
 WritesAs-header outcome b e old (inl memory) = inl (inl memory, AppendsFront-nil old outcome.text)

@@ -4,7 +4,7 @@ use Rattle.std.proofs.lemmas.Bool.Decides.{nat_tests}
 use Rattle.std.proofs.lemmas.List.{length-append, length-take-le, length-drop, drop-take, drop-drop, take_all}
 use Rattle.std.proofs.lemmas.List.Folds.{list_all-append}
 use Rattle.std.proofs.Math.Seq.{take-length}
-use Rattle.std.proofs.KnownBytes.{Consumes-nil, Consumes-trans, Consumes-kept}
+use Rattle.std.proofs.KnownBytes.{Consumes-trans, Consumes-kept}
 use Rattle.std.specs.Io.KnownBytes.{Consumes, Keeps, IsAtEnd}
 use Rattle.std.specs.List.{list_all}
 use Rattle.uni_script.specs.declared.lines.Lines.{Lines}
@@ -96,9 +96,6 @@ pub record IsTaking (old now : Option (List ℕ)) (first line rest : List ℕ) :
   pub consumed : Consumes old now given
   pub bytes : first ++ given ≡ line ++ rest
   pub one_line : IsOneLine line
-
-pub IsTaking-start : (old : Option (List ℕ)) (first : List ℕ) → IsTaking old old first [] first
-IsTaking-start old first = record { given = []; consumed = Consumes-nil old; bytes = append-nil first; one_line = refl }
 
 module _ (old now : Option (List ℕ)) (first line rest : List ℕ) (is : IsTaking old now first line rest) where
   -- bytes of a line are taken
@@ -275,21 +272,3 @@ OnOk-map (Err e) P Q f p = tt
 pub IfErr-map : {A B : Type 0} (r : Result A B) (P Q : B → Type 0) → ((e : B) → P e → Q e) → IfErr r P → IfErr r Q
 IfErr-map (Ok x) P Q f p = tt
 IfErr-map (Err e) P Q f p = f e p
-
--- where the reader has told its end, nothing is left
-pub HasStopped-ended : (left now : Option (List ℕ)) (lines : Lines) (taken : List (List ℕ)) → HasTaken left now lines taken → lines.source ≡ Ended → HasStopped left now End taken
-HasStopped-ended left now lines taken has ended = record {
-  bytes = has.bytes;
-  read = record { past = []; consumed = subst (λ l. Consumes left now (has.bytes ++ l)) (has.ended ended).0 has.consumed; stops = (refl, (has.ended ended).1) };
-  taken_as = has.taken_as;
-}
-
-pub HasTaken-start : (left : Option (List ℕ)) (lines : Lines) → rest_of lines ≡ [] → lines.count ≡ 0 → lines.source ≡ Open → HasTaken left left lines []
-HasTaken-start left lines none count unended = record {
-  bytes = [];
-  consumed = subst (Consumes left left) (sym none) (Consumes-nil left);
-  taken_as = refl;
-  count = sym count;
-  whole = λ e. refl;
-  ended = λ e. absurd (let f : Open ≡ Ended = sym unended ∙ e in cc);
-}

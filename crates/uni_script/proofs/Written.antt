@@ -1,7 +1,7 @@
 -- What is written of some bytes, write by write.
-use Rattle.std.proofs.Common.{◌≡◌, ℕ, List, [], ◌++◌, Option, None, Some, refl, sym, ap, ◌∙◌, subst, take, drop, append_assoc, append-nil, take-append-drop}
+use Rattle.std.proofs.Common.{◌≡◌, ℕ, List, [], ◌++◌, Option, refl, sym, ap, ◌∙◌, take, drop, append_assoc, append-nil, take-append-drop}
 use Rattle.std.proofs.KnownBytes.{Appends-nil, Appends-trans}
-use Rattle.std.specs.Io.KnownBytes.{Appends, Keeps}
+use Rattle.std.specs.Io.KnownBytes.{Appends}
 use Rattle.uni_script.specs.Ends.{IsWritten, AppendsFront}
 
 -- before the first write all bytes are left
@@ -17,21 +17,6 @@ IsWritten-write a b c bytes rest left n so_far write is_left = record {
       ∙ sym (append_assoc so_far.front (take n rest) (drop n rest)) ∙ ap (λ l. (so_far.front ++ take n rest) ++ l) (sym is_left);
   taken = Appends-trans a b c so_far.front (take n rest) so_far.taken write;
 }
-
--- a write that fails takes nothing
-pub IsWritten-kept : (a b c : Option (List ℕ)) (bytes rest : List ℕ) → IsWritten a b bytes rest → Keeps b c → IsWritten a c bytes rest
-IsWritten-kept a b c bytes rest so_far kept = record { front = so_far.front; cut = so_far.cut; taken = Appends-kept a b c so_far.front so_far.taken kept }
-  where
-    Appends-kept : (a b c : Option (List ℕ)) (xs : List ℕ) → Appends a b xs → Keeps b c → Appends a c xs
-    Appends-kept None b c xs p q = tt
-    Appends-kept (Some x) None c xs p q = absurd p
-    Appends-kept (Some x) (Some y) None xs p q = absurd q
-    Appends-kept (Some x) (Some y) (Some z) xs p q = q ∙ p
-
--- where no byte is left, all are written
-pub Appends-from_IsWritten : (a b : Option (List ℕ)) (bytes rest : List ℕ) → IsWritten a b bytes rest → rest ≡ [] → Appends a b bytes
-Appends-from_IsWritten a b bytes rest so_far none =
-    subst (Appends a b) (sym (so_far.cut ∙ ap (λ l. so_far.front ++ l) none ∙ append-nil so_far.front)) so_far.taken
 
 -- all of some bytes are a front of them
 pub AppendsFront-all : (a b : Option (List ℕ)) (bytes : List ℕ) → Appends a b bytes → AppendsFront a b bytes

@@ -1,7 +1,7 @@
 -- Receipts beside a history, call by call.
 use Rattle.std.proofs.Common.{◌≡◌, ◌∙◌, ℕ, zero, suc, ◌+◌, ◌<◌, ◌≤◌, refl, sym, ap, subst, List, [], ◌∷◌, ◌++◌, length, get_or, take, map, Bool, true, false, Option, Some, None, IsSome, IsTrue, arith}
 use Rattle.std.proofs.Math.ListN.{get_or-map}
-use Rattle.std.proofs.lemmas.List.{take_more, take_all, map-append, length-map}
+use Rattle.std.proofs.lemmas.List.{take_more, take_all, length-map}
 use Rattle.std.proofs.lemmas.List.Elements.{filter_map-append, filter-append}
 use Rattle.std.specs.List.{All, filter, filter_map}
 use Rattle.seq_object.specs.Sequential.{Sequential}
@@ -12,11 +12,6 @@ use Rattle.uni_shared.specs.declared.receipt.Receipt.{Receipt}
 use Rattle.uni_shared.specs.Agreement.{Agrees}
 use Rattle.uni_record.specs.declared.verdict.Counts.{Counts}
 use Rattle.uni_record.specs.Event.{Completed}
-
--- one receipt more
-pub map-take_more : {A B : Type 0} (f : A → B) (xs : List A) (n : ℕ) (x : A) → n < length xs → x ≡ get_or xs n x → map f (take (n + 1) xs) ≡ map f (take n xs) ++ f x ∷ []
-map-take_more f xs n x there is =
-    ap (map f) (take_more xs n x there) ∙ map-append f (take n xs) (get_or xs n x ∷ []) ∙ ap (λ y. map f (take n xs) ++ f y ∷ []) (sym is)
 
 -- one event more
 pub filter_map-take_more : {A B : Type 0} (h : A → Option B) (xs : List A) (n : ℕ) (x : A) → n < length xs → x ≡ get_or xs n x → filter_map h (take (n + 1) xs) ≡ filter_map h (take n xs) ++ filter_map h (x ∷ [])

@@ -1,10 +1,10 @@
 -- Two lists that differ at a place.
 use Rattle.std.proofs.Common.{◌≡◌, ◌≢◌, ◌⊎◌, inl, inr, ◌∙◌, ℕ, zero, suc, ◌+◌, ◌<◌, ◌≤◌, refl, sym, ap, subst, List, [], ◌∷◌, ◌++◌, append-nil, length, map, get_or, take, drop, Option, Some, None, slice_get, arith, Bool, true, cond, nat_eq}
-use Rattle.std.specs.Option.{option_map, IfSome}
+use Rattle.std.specs.Option.{IfSome}
 use Rattle.std.specs.List.{cons_option, filter, filter_map}
 use Rattle.std.proofs.lemmas.List.{drop_more, take-append-drop}
 use Rattle.std.proofs.lemmas.List.Elements.{filter_map-append, filter-append}
-use Rattle.std.proofs.lemmas.Option.{slice_get-map, slice_get_cases}
+use Rattle.std.proofs.lemmas.Option.{slice_get_cases}
 use Rattle.uni_model.proofs.Written.{number_cases}
 use Rattle.seq_object.specs.Sequential.{Sequential}
 use Rattle.uni_record.specs.declared.event.Event.{Event as Stored}
@@ -46,13 +46,6 @@ module _ {A : Type 0} (xs ys : List A) (n : ℕ) where
         ],
         λ j less. sym (ap (λ l. slice_get l j) (sym whole) ∙ before_place xs [] n j less (omega arith)),
       )
-
--- what isn't at a place, by what is
-pub Some-not_mapped : {A B : Type 0} (f : A → B) (xs : List A) (n : ℕ) (b : B) → ((x : A) → n < length xs → x ≡ get_or xs n x → f x ≢ b) → slice_get (map f xs) n ≢ Some b
-Some-not_mapped f xs n b not same = elim (slice_get_cases xs n).1 [
-  | inl there ↦ not there.0 there.1 (sym there.3) (let mapped : Some (f there.0) ≡ Some b = sym (ap (option_map f) there.2) ∙ sym (slice_get-map f xs n) ∙ same in cc)
-  | inr past ↦ (let none : None ≡ Some b = sym (ap (option_map f) past.1) ∙ sym (slice_get-map f xs n) ∙ same in cc)
-]
 
 -- what a list comes to, split at an element that is kept
 pub filter_map-split : {A B : Type 0} (h : A → Option B) (xs : List A) (n : ℕ) (x : A) (b : B) → n < length xs → x ≡ get_or xs n x → h x ≡ Some b

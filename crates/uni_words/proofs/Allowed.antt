@@ -1,5 +1,5 @@
 -- What the functions of the word steps ask, in parts.
-use Rattle.std.proofs.Common.{◌≡◌, ◌≢◌, ◌∙◌, ℕ, zero, suc, ◌+◌, ◌*◌, ◌<◌, ◌≤◌, inl, inr, refl, sym, ap, subst, Option, Some, None, option_map, unwrap_or, arith, nat_lt, eqb, if◌then◌else◌}
+use Rattle.std.proofs.Common.{◌≡◌, ◌∙◌, ℕ, zero, suc, ◌+◌, ◌*◌, ◌<◌, ◌≤◌, inl, inr, refl, sym, ap, subst, Option, Some, None, option_map, arith, nat_lt, eqb, if◌then◌else◌}
 use prog.Atomic.{either}
 use Rattle.atomic_table.specs.Table.{Me, Step, Allows}
 use Rattle.atomic_table.proofs.Lists.{exchanged}
@@ -99,16 +99,6 @@ goes_one me c found t me' moved turn =
       carried = ap (λ (x : Me ℕ View). x.1) moved.view;
     }
 
-pub GoesBy-trans : (a b c : Me ℕ View) (w t w' t' : ℕ) → GoesBy a b w t → GoesBy b c w' t' → GoesBy a c (w + w') (t + t')
-GoesBy-trans a b c w t w' t' first rest = record {
-  word_steps = (let x = first.word_steps in let y = rest.word_steps in omega arith);
-  turns = (let x = first.turns in let y = rest.turns in omega arith);
-  inv = rest.inv ∙ first.inv;
-  begun = rest.begun ∙ first.begun;
-  own = rest.own ∙ first.own;
-  carried = rest.carried ∙ first.carried;
-}
-
 pub within_here : (n row p : ℕ) (mine : Name) (stage : Stage) (found : ℕ) (me me' : Me ℕ View) → HasMoved me (record { mine = mine; stage = stage }) found me' → StandsAt n row p mine stage me → IsWithin n row (place_of n p mine stage) found
 within_here n row p mine stage found me me' moved stands =
     subst (λ k. IsWithin k row (place_of k p mine stage) found) stands.processes
@@ -138,11 +128,6 @@ goes_still read me me' looked =
 
 pub read_is : (read : Reading) (me me' : Me ℕ View) → HasLooked me read me' → me'.0.known.read ≡ read
 read_is read me me' looked = ap (λ (x : Me ℕ View). x.0.known.read) looked
-
--- the cell that is settled after c
-pub settled_after : (n found prefer d : ℕ) → (found ≡ 0 → d ≡ prefer) → (found ≢ 0 → d + 1 ≡ found) → unwrap_or (link_of n found) (name_of n prefer) ≡ name_of n d
-settled_after n zero prefer d none some = ap (name_of n) (sym (none refl))
-settled_after n (suc found) prefer d none some = let e : d + 1 ≡ suc found = some (λ f. omega arith) in ap (name_of n) (omega arith)
 
 pub stands_begun : (n row p nth mine inv : ℕ) (me me' : Me ℕ View) → p < n → mine ≡ index_of n p nth → IsIdle n row p nth me → me' ≡ (record { known = begun_by me.0.known inv }, me.1) → StandsAt n row p (name_of n mine) Announce me'
 stands_begun n row p nth mine inv me me' inside cell idle begun =

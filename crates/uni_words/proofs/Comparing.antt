@@ -216,8 +216,5 @@ module _ (object : Sequential ℕ ℕ ℕ) (log : List (Entry ℕ ℕ)) (lists :
     ];
   }
 
-  pub wrong-differs : (call : CallId) → IsFirstWrong object log (length lists) call → Agrees object log lists → ⊥
-  wrong-differs call first agrees = first.wrong (agrees.right first.place)
-
   pub other-differs : (call : CallId) → IsFirstOther log lists call → Agrees object log lists → ⊥
   other-differs call first agrees = first.other.0 (ap (λ l. slice_get l call.nth) (agrees.calls call.process first.own first.here))

@@ -1,5 +1,5 @@
 -- What a run comes to by what was asked for, and what the want of memory leaves.
-use Rattle.std.proofs.Common.{◌≡◌, ◌∙◌, ℕ, List, Option, Some, Bool, false, inl, inr, refl, sym, ap, subst, arith}
+use Rattle.std.proofs.Common.{◌≡◌, ◌∙◌, ℕ, List, Option, Some, Bool, false, inl, inr, refl, sym, subst, arith}
 use Rattle.std.specs.Io.KnownBytes.{Appends}
 use Rattle.uni_script.specs.Ends.{AppendsFront}
 use Rattle.uni_script.specs.Fault.{fault_line}
@@ -8,12 +8,12 @@ use Rattle.uni_script.specs.declared.fault.BenchFault.TheVariants as bench
 use Rattle.uni_script.proofs.Replaying.{IsPartOfReplay-start}
 use Rattle.unibench_run.specs.Runs.{IsRunOf}
 use Rattle.uni_script.specs.Statuses.{IsStatusOf, TellsFault, TellsLine, status_of}
-use Rattle.unibench_run.specs.Statuses.{Tells, TellsThreadsFault, status_of_threads}
+use Rattle.unibench_run.specs.Statuses.{Tells, TellsThreadsFault}
 use Rattle.unibench_run.specs.Threads.{refusal_of}
 use Rattle.unibench_run.specs.declared.request.Request.{Request}
 use Rattle.unibench_run.specs.declared.request.Request.TheVariants.{Replay, Random, Threads}
 use Rattle.unibench_run.specs.declared.threads.ThreadsFault.{ThreadsFault}
-use Rattle.unibench_run.specs.declared.threads.ThreadsFault.TheVariants.{NoSuchObject, CallsTooMany, Memory, Write, Differs, SeatMissing, SeatPending, Audit}
+use Rattle.unibench_run.specs.declared.threads.ThreadsFault.TheVariants.{Memory, Write, Audit}
 
 -- the want of memory has one status
 pub status_of_memory : (status : ℕ) → IsStatusOf bench.Memory status → status ≡ 4
@@ -57,34 +57,6 @@ pub TellsLine-bytes : {A : Type 0} (EndsWith : A → ℕ → Type 0) (line_of : 
     → EndsWith fault status → line ≡ line_of fault → AppendsFront old new line → (failed ≡ false → Appends old new line) → TellsLine EndsWith line_of old new failed status
 TellsLine-bytes EndsWith line_of fault old new failed status line ends is front whole =
     record { fault = fault; status_is = ends; front = subst (AppendsFront old new) is front; whole = λ good. subst (Appends old new) is (whole good) }
-
--- where a fault that ends with 2 is what a plan is refused for, its line is that of the plan's refusal
-pub TellsThreadsFault-refused : (refusal : Option ThreadsFault) (fault : ThreadsFault) (old new : Option (List ℕ)) (failed : Bool) (status : ℕ)
-    → (status_of_threads fault ≡ 2 → refusal ≡ Some fault) → TellsThreadsFault (Some fault) old new failed status → TellsThreadsFault refusal old new failed status
-TellsThreadsFault-refused refusal fault old new failed status refused told = record {
-  fault = told.fault;
-  status_is = (
-    told.status_is.0,
-    λ two.
-        let same : Some fault ≡ Some told.fault = told.status_is.1 two in
-        let is : fault ≡ told.fault = cc in
-        subst (λ f. refusal ≡ Some f) is (refused (ap status_of_threads is ∙ sym told.status_is.0 ∙ two)),
-  );
-  front = told.front;
-  whole = told.whole;
-}
-
--- the two faults that end with 2
-pub refused_by_two : (refusal : Option ThreadsFault) (fault : ThreadsFault) → (fault ≡ NoSuchObject → refusal ≡ Some NoSuchObject)
-    → (fault ≡ CallsTooMany → refusal ≡ Some CallsTooMany) → status_of_threads fault ≡ 2 → refusal ≡ Some fault
-refused_by_two refusal NoSuchObject there few two = there refl
-refused_by_two refusal CallsTooMany there few two = few refl
-refused_by_two refusal Memory there few two = absurd (omega arith)
-refused_by_two refusal Write there few two = absurd (omega arith)
-refused_by_two refusal (Differs call) there few two = absurd (omega arith)
-refused_by_two refusal (SeatMissing p) there few two = absurd (omega arith)
-refused_by_two refusal (SeatPending p) there few two = absurd (omega arith)
-refused_by_two refusal (Audit verdict) there few two = absurd (omega arith)
 
 -- what was asked for is one request
 module _ (asked : Option Request) (q r : Request) (is_q : asked ≡ Some q) (is_r : asked ≡ Some r) where

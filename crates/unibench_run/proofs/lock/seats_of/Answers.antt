@@ -1,4 +1,4 @@
-use Rattle.std.proofs.Common.{◌≡◌, ◌∙◌, ◌++◌, ◌∷◌, [], map, Ok, ap, sym, append_assoc, append-nil}
+use Rattle.std.proofs.Common.{◌∙◌, ◌++◌, ◌∷◌, [], map, Ok, ap, sym, append_assoc}
 use Rattle.std.specs.Vec.Iter.{into_iter_items}
 use Rattle.std.proofs.lemmas.List.{map-append}
 use Rattle.unibench_run.proofs.lock.seats_of.Goals as goal
