@@ -1,6 +1,6 @@
 //! Cells in columns, one for each field.
 
-ghost use Rattle.std.specs.Prelude.{◌≡◌, ◌<◌, ◌≤◌, ◌↔◌, ℕ, IfOk, IsSome, Some, None, length, replicate, slice_index_or, slice_set, option_map};
+ghost use Rattle.std.specs.Prelude.{◌≡◌, ◌<◌, ◌≤◌, ℕ, IfOk, IsSome, Some, None, length, replicate, slice_index_or, slice_set, option_map};
 ghost use Rattle.std.specs.Option.{option_copied};
 ghost use Rattle.cell_arena.specs.CellRecord.{anchor_with, index_of, settled, with_seq, with_before, with_after, with_new};
 ghost use Rattle.cell_arena.specs.Columns.{blank};

@@ -1,6 +1,6 @@
 //! The cells of an arena in rows, one for each process.
 
-ghost use Rattle.std.specs.Prelude.{◌≡◌, ◌+◌, ◌-◌, ◌<◌, ◌≤◌, ℕ, IfOk, OnOk, OnErr, IfErr, IsSome, Some, [], slice_get, length, option_map};
+ghost use Rattle.std.specs.Prelude.{◌≡◌, ◌+◌, ◌-◌, ◌<◌, ◌≤◌, ℕ, IfOk, OnOk, OnErr, IfErr, IsSome, Some, length, option_map};
 ghost use Rattle.std.specs.Borrow.{sem};
 ghost use Rattle.cell_arena.specs.CellRecord.{anchor_with, fresh, index_of, with_new, ChangesOnly, IsUnchanged, HasOnlyAnchor};
 ghost use Rattle.cell_arena.specs.Arena.{processes_of, made_of, cell_of};

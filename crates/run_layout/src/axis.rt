@@ -3,7 +3,7 @@
 ghost use Rattle.std.specs.Prelude.{◌≡◌, ◌+◌, ◌-◌, ◌*◌, ◌≤◌, IfOk, length, map, take};
 ghost use Rattle.std.specs.List.{All, sum, sum_by};
 ghost use Rattle.run_marks.specs.Shown.{bar_shown, marks_shown};
-ghost use Rattle.run_layout.specs.Axis.{IsScale, letters_of, label_room, last_event, bar_room, line_room, width_of, widths_from, remark_room, room_of, room_until, event_columns, told_columns, places_shown, places_with, places_of, event_column, told_column, middle_of, right_of};
+ghost use Rattle.run_layout.specs.Axis.{IsScale, letters_of, label_room, last_event, bar_room, line_room, width_of, widths_from, remark_room, room_of, room_until, event_columns, told_columns, places_shown, places_of, event_column, told_column, middle_of, right_of};
 
 use crate::wording::{label_of, line_of, refusal_of};
 use run_marks::{Bar, EraLine, Marks};

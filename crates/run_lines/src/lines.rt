@@ -1,12 +1,10 @@
 //! From the bytes of a script to the lines that draw its run.
 
-ghost use Rattle.std.specs.Prelude.{◌≡◌, ◌≤◌, IfOk, IsErrOf, false, length};
+ghost use Rattle.std.specs.Prelude.{◌≡◌, IfOk, IsErrOf, false};
 ghost use Rattle.uni_script.specs.Replay.{IsFaultOfScript};
 ghost use Rattle.uni_script.specs.ScriptRun.{HasFault};
 ghost use Rattle.uni_script.specs.declared.fault.BenchFault.{BenchFault as Fault};
-ghost use Rattle.run_marks.specs.Shown.{marks_shown};
 ghost use Rattle.run_layout.specs.Subject.{HasTooManyEvents};
-ghost use Rattle.run_lines.specs.Sheet.{lines_of_marks};
 ghost use Rattle.run_lines.specs.Lines.{IsLines};
 
 use crate::sheet::text_of;

@@ -1,11 +1,9 @@
 //! What stands above and below the rows: headings, notes, eras and the legend.
 
 ghost use Rattle.std.specs.Prelude.{◌≡◌, ◌++◌, ◌+◌, ◌<◌, ◌≤◌, ◌^◌, IfOk, OnOk, length, map};
-ghost use Rattle.std.specs.List.{flat_map};
 ghost use Rattle.run_marks.specs.Shown.{cell_shown, era_shown};
-ghost use Rattle.run_layout.specs.Wording.{kinds};
 ghost use Rattle.run_lines.specs.Numbers.{no_notes};
-ghost use Rattle.run_lines.specs.Sheet.{ended, wrapped, padded, headings_text, numbered_note, note_text, notes_from, cell_text, era_text, eras_from, kind_text, entry_text, entries_from, legend_text};
+ghost use Rattle.run_lines.specs.Sheet.{ended, wrapped, padded, headings_text, numbered_note, notes_from, cell_text, era_text, eras_from, kind_text, entry_text, legend_text};
 
 use crate::numbering::Numbering;
 use run_layout::{KINDS, cell_name, cell_words, letter_of, meaning_of, push_lines};

@@ -6,7 +6,7 @@ ghost use Rattle.run_marks.specs.Shown.{bar_shown, end_shown};
 ghost use Rattle.run_layout.specs.Axis.{places_shown};
 ghost use Rattle.svg_text.specs.Figures.{figure};
 ghost use Rattle.svg_text.specs.Figures.{Rect};
-ghost use Rattle.run_picture.specs.Lanes.{lane_top, open_figures, bar_figures, counts_figures, bar_texts};
+ghost use Rattle.run_picture.specs.Lanes.{open_figures, bar_figures, counts_figures, bar_texts};
 
 use crate::figures::{LETTER, push_label, push_line};
 use crate::lanes::{Lanes, MARGIN};

@@ -1,7 +1,6 @@
 //! The list of cells, era by era, below the lanes.
 
-ghost use Rattle.std.specs.Prelude.{◌≡◌, ◌≤◌, ◌<◌, ◌^◌, ◌+◌, [], ◌∷◌, ◌++◌, map, codes, IfOk, OnOk};
-ghost use Rattle.std.specs.Fmt.{decimal};
+ghost use Rattle.std.specs.Prelude.{◌≡◌, ◌≤◌, ◌<◌, ◌^◌, ◌+◌, [], ◌∷◌, ◌++◌, map, IfOk, OnOk};
 ghost use Rattle.svg_text.specs.Figures.{Rect, figure};
 ghost use Rattle.svg_text.specs.declared.paint.Paint.TheVariants.{Frame};
 ghost use Rattle.run_marks.specs.Shown.{cell_shown, era_shown};

@@ -1,6 +1,6 @@
 //! Lanes and the ends of eras.
 
-ghost use Rattle.std.specs.Prelude.{◌≡◌, ◌++◌, ◌+◌, ◌^◌, ◌<◌, OnOk, drop, map};
+ghost use Rattle.std.specs.Prelude.{◌≡◌, ◌++◌, ◌+◌, ◌^◌, ◌<◌, OnOk, map};
 ghost use Rattle.std.specs.List.{flat_map};
 ghost use Rattle.run_marks.specs.Shown.{era_shown};
 ghost use Rattle.run_layout.specs.Axis.{places_shown};

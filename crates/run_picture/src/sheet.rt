@@ -8,7 +8,6 @@ ghost use Rattle.run_marks.specs.Shown.{marks_shown};
 ghost use Rattle.run_layout.specs.Wording.{title_text};
 ghost use Rattle.run_layout.specs.Axis.{IsScale, places_shown};
 ghost use Rattle.run_picture.specs.Lanes.{run_figures};
-ghost use Rattle.run_picture.specs.Notes.{refusals_from};
 ghost use Rattle.run_picture.specs.Drawing.{scale_of, width_of_places, notes_figures, lanes_below, events_figures, events_end, drawing_of_marks};
 
 use crate::bars::{push_bars, push_texts};

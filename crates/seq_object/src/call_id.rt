@@ -1,6 +1,6 @@
 //! The names of calls.
 
-ghost use Rattle.std.specs.Prelude.{◌++◌, ◌∷◌, [], Some, codes};
+ghost use Rattle.std.specs.Prelude.{◌++◌, Some, codes};
 ghost use Rattle.std.specs.Fmt.{decimal};
 
 use std::fmt;

@@ -1,7 +1,7 @@
 //! What can be read of a world.
 
 ghost use Rattle.std.specs.Option.{option_copied};
-ghost use Rattle.std.specs.Prelude.{length, ℕ, ◌≡◌, ◌+◌, ◌-◌, ◌*◌, ◌<◌, ◌≤◌, ◌^◌, ◌⊎◌, ◌↔◌, IsSome, IfOk, OnOk, OnErr, IfErr, IsErrOf, IfSome, None, replicate, option_map};
+ghost use Rattle.std.specs.Prelude.{length, ℕ, ◌≡◌, ◌+◌, ◌-◌, ◌*◌, ◌<◌, ◌≤◌, ◌^◌, ◌↔◌, IsSome, IfSome, None, option_map};
 ghost use Rattle.cell_arena.specs.CellRecord.{index_of};
 ghost use Rattle.cell_arena.specs.Arena.{made_of, cell_of};
 ghost use Rattle.uni_model.specs.Places.{seq_of, head_seq, inv_of, after_of, new_of, before_of};
@@ -11,13 +11,11 @@ ghost use Rattle.uni_model.specs.Frontier.{frontier};
 ghost use Rattle.uni_model.specs.Bound.{IsBounded, CountsSteps};
 ghost use Rattle.uni_model.specs.Helping.{HelpingInvariant};
 ghost use Rattle.uni_model.specs.OneList.{HasOneList, HasLegalLog};
-ghost use Rattle.uni_model.specs.Worlds.{chain, opened_world, world_after, calls_in_era, last_cell, IsQuiescent};
-ghost use Rattle.uni_model.specs.Worlds.Event.{Call, Step};
-ghost use Rattle.uni_model.specs.Settled.{SeesSettled};
+ghost use Rattle.uni_model.specs.Worlds.{chain, calls_in_era, last_cell, IsQuiescent};
 ghost use Rattle.uni_model.specs.Transition.{place_of};
 ghost use Rattle.uni_core.specs.Stage.{pending_of};
 ghost use Rattle.uni_core.specs.Readers.{call_of_name, kind_of, place_named};
-ghost use Rattle.uni_core.specs.World.{world_of, name_in, current_of, TakesEffect, IsIdle, IsStepFault, IsProgress, GoesOn, KeepsFixed, MayNeedMemory, CountsNone};
+ghost use Rattle.uni_core.specs.World.{world_of, name_in, current_of, CountsNone};
 
 use crate::shared::WorldCells;
 use crate::stage::{Pending, Place, StepKind};

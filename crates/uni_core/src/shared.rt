@@ -1,6 +1,6 @@
 //! The shared places: the cells, and the entries of announce and head.
 
-ghost use Rattle.std.specs.Prelude.{◌≡◌, ◌+◌, ◌-◌, ◌<◌, ◌≤◌, ◌⊎◌, ◌↔◌, ℕ, IfOk, OnOk, OnErr, IfErr, IsErrAnd, IsSome, Some, None, IsSomeAnd, length, slice_index_or, option_map, unwrap_or, replicate};
+ghost use Rattle.std.specs.Prelude.{◌≡◌, ◌+◌, ◌-◌, ◌<◌, ◌≤◌, ℕ, IfOk, OnOk, OnErr, IsSome, Some, None, IsSomeAnd, length, slice_index_or, option_map, unwrap_or, replicate};
 ghost use Rattle.std.specs.Option.{option_copied};
 ghost use Rattle.cell_arena.specs.CellRecord.{ChangesOnly, index_of};
 ghost use Rattle.cell_arena.specs.Arena.{processes_of, made_of, cell_of};

@@ -1,7 +1,7 @@
 //! The transition of each kind of step: what it does to the one place that it touches, and where
 //! its process stands then.
 
-ghost use Rattle.std.specs.Prelude.{◌≡◌, ◌+◌, ◌<◌, ◌^◌, ◌==◌, if◌then◌else◌, ℕ, IsSome, Some, None, OnOk, IfOk, OnErr, option_map};
+ghost use Rattle.std.specs.Prelude.{◌≡◌, ◌+◌, ◌<◌, ◌==◌, if◌then◌else◌, ℕ, IsSome, Some, None, OnOk, IfOk, OnErr, option_map};
 ghost use Rattle.cell_arena.specs.Arena.{processes_of, cell_of};
 ghost use Rattle.uni_model.specs.Places.{Name, new_of, inv_of, memory_with};
 ghost use Rattle.uni_model.specs.Places.Place.{NewOf};

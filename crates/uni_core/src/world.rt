@@ -1,22 +1,11 @@
 //! A world of processes that share an object.
 
-ghost use Rattle.std.specs.Prelude.{ℕ, ◌≡◌, ◌+◌, ◌*◌, ◌<◌, ◌≤◌, ◌^◌, ◌⊎◌, ◌↔◌, IsSome, IfOk, OnOk, OnErr, IfErr, IsErrOf, IfSome, None, replicate, option_map};
-ghost use Rattle.cell_arena.specs.CellRecord.{index_of};
-ghost use Rattle.cell_arena.specs.Arena.{made_of, cell_of};
-ghost use Rattle.uni_model.specs.Places.{seq_of, head_seq, after_of};
-ghost use Rattle.uni_model.specs.Places.Name.{Anchor, Of};
-ghost use Rattle.uni_model.specs.Invariant.{Invariant};
-ghost use Rattle.uni_model.specs.Frontier.{frontier};
-ghost use Rattle.uni_model.specs.Bound.{IsBounded, CountsSteps};
-ghost use Rattle.uni_model.specs.Helping.{HelpingInvariant};
-ghost use Rattle.uni_model.specs.OneList.{HasOneList, HasLegalLog};
-ghost use Rattle.uni_model.specs.Worlds.{opened_world, world_after, calls_in_era, last_cell, IsQuiescent};
+ghost use Rattle.std.specs.Prelude.{◌≡◌, ◌+◌, ◌*◌, ◌<◌, ◌≤◌, ◌^◌, ◌⊎◌, ◌↔◌, IsSome, IfOk, OnOk, OnErr, IfErr, IsErrOf, None, replicate};
+ghost use Rattle.uni_model.specs.Bound.{IsBounded};
+ghost use Rattle.uni_model.specs.Worlds.{opened_world, world_after, calls_in_era};
 ghost use Rattle.uni_model.specs.Worlds.Event.{Call, Step};
 ghost use Rattle.uni_model.specs.Settled.{SeesSettled};
-ghost use Rattle.uni_model.specs.Transition.{place_of};
-ghost use Rattle.uni_core.specs.Stage.{pending_of};
-ghost use Rattle.uni_core.specs.Readers.{call_of_name, kind_of, place_named};
-ghost use Rattle.uni_core.specs.World.{world_of, name_in, current_of, TakesEffect, IsIdle, IsStepFault, IsProgress, GoesOn, KeepsFixed, MayNeedMemory};
+ghost use Rattle.uni_core.specs.World.{world_of, TakesEffect, IsIdle, IsStepFault, IsProgress, GoesOn, KeepsFixed, MayNeedMemory};
 
 use crate::fault::{BeginFault, OpenFault, Progress, StepFault};
 use crate::local::Local;

@@ -4,7 +4,7 @@ ghost use Rattle.std.specs.Prelude.{◌≡◌, ◌+◌, ◌<◌, ◌≤◌, ℕ,
 ghost use Rattle.std.specs.Option.{option_copied};
 ghost use Rattle.cell_arena.specs.Arena.{cell_of};
 ghost use Rattle.seq_object.specs.History.{IsLegal, state_after};
-ghost use Rattle.uni_model.specs.Places.{before_of, new_of, seq_of, name_eq};
+ghost use Rattle.uni_model.specs.Places.{new_of, seq_of, name_eq};
 ghost use Rattle.uni_model.specs.Places.Name.{Anchor, Of};
 ghost use Rattle.uni_model.specs.Worlds.{chain};
 ghost use Rattle.uni_model.specs.Chain.{invoked_at, response_in};

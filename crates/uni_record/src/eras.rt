@@ -1,12 +1,12 @@
 //! The ends of eras, recorded.
 
-ghost use Rattle.std.specs.Prelude.{ℕ, ◌≡◌, ◌+◌, ◌<◌, ◌≤◌, ◌↔◌, ◌⊎◌, ◌++◌, ◌∷◌, [], IfOk, IfErr, OnErr, OnOk, IsErrOf, true, length, map, vec_capacity};
+ghost use Rattle.std.specs.Prelude.{◌≡◌, ◌+◌, ◌<◌, ◌≤◌, ◌++◌, ◌∷◌, [], IfOk, IfErr, OnErr, OnOk, length, map, vec_capacity};
 ghost use Rattle.uni_model.specs.Worlds.{world_after};
 ghost use Rattle.uni_model.specs.Worlds.{Event as model};
 ghost use Rattle.uni_model.specs.History.{log};
 ghost use Rattle.uni_core.specs.World.{world_of};
 ghost use Rattle.uni_log.specs.Entry.{entry_shown};
-ghost use Rattle.uni_trim.specs.Ends.{last_number, IsLeastPending};
+ghost use Rattle.uni_trim.specs.Ends.{last_number};
 ghost use Rattle.uni_record.specs.declared.event.Event.TheVariants as event;
 ghost use Rattle.uni_record.specs.Recorded.{KeepsOpening, standing_of, untrimmed_world, CanEnd, IsEndRefused, IsReshapeRefused, IsCount, IsPromised};
 

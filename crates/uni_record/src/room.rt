@@ -1,6 +1,6 @@
 //! The room of a history.
 
-ghost use Rattle.std.specs.Prelude.{◌≡◌, ◌+◌, ◌*◌, ◌≤◌, ◌↔◌, ◌^◌, length, true, OnOk, vec_capacity};
+ghost use Rattle.std.specs.Prelude.{◌≡◌, ◌+◌, ◌*◌, ◌≤◌, ◌↔◌, length, true, OnOk, vec_capacity};
 ghost use Rattle.uni_core.specs.World.{world_of};
 ghost use Rattle.uni_record.specs.Recorded.{set_aside};
 

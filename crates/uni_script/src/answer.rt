@@ -1,6 +1,6 @@
 //! What is written in answer to a line of a script.
 
-ghost use Rattle.std.specs.Prelude.{◌≡◌, ◌++◌, OnOk, Some, decimal};
+ghost use Rattle.std.specs.Prelude.{◌≡◌, ◌++◌, OnOk, Some};
 ghost use Rattle.uni_script.specs.Answer.{call_text, progress_text, refusal_text, answer_text};
 
 use ready_objects::push_number;

@@ -6,7 +6,6 @@ ghost use Rattle.ready_objects.specs.Words.{text_of_words};
 ghost use Rattle.uni_model.specs.Places.{head_seq};
 ghost use Rattle.uni_core.specs.World.{world_of};
 ghost use Rattle.uni_log.specs.Entry.{entry_shown};
-ghost use Rattle.uni_record.specs.Recorded.{KeepsOpening};
 ghost use Rattle.uni_script.specs.Replay.{IsHistory};
 ghost use Rattle.uni_script.specs.Grammar.{IsInRange};
 ghost use Rattle.uni_script.specs.Commands.{output_text, refusal_in_output};

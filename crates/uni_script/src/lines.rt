@@ -1,6 +1,6 @@
 //! The lines of a script, taken one after the other from a reader.
 
-ghost use Rattle.std.specs.Prelude.{◌≡◌, ◌==◌, ◌+◌, ◌-◌, ◌<◌, ◌≤◌, ◌++◌, ◌∷◌, [], ◌↔◌, true, false, List, ℕ, Option, IfErr, IsErrOf, OnOk, OnErr, take, drop};
+ghost use Rattle.std.specs.Prelude.{◌≡◌, ◌==◌, ◌+◌, ◌-◌, ◌<◌, ◌≤◌, ◌++◌, ◌∷◌, [], ◌↔◌, true, false, List, ℕ, Option, IfErr, IsErrOf, OnOk, OnErr, take};
 ghost use Rattle.std.specs.List.{position};
 ghost use Rattle.uni_script.specs.Lines.{IsHeld, line_of, rest_of, HasTaken, HasStopped};
 

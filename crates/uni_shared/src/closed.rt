@@ -1,6 +1,6 @@
 //! Records whose lock is no more, with the receipts of their seats.
 
-ghost use Rattle.std.specs.Prelude.{◌≡◌, ◌<◌, ◌≤◌, IfErr, IfOk};
+ghost use Rattle.std.specs.Prelude.{◌≡◌, ◌<◌, IfErr, IfOk};
 ghost use Rattle.std.specs.List.{Contains};
 ghost use Rattle.uni_record.specs.Recorded.{Recording, meaning, opening};
 ghost use Rattle.uni_shared.specs.Agreement.{Agrees, IsClosed, IsFaultOfClosing};

@@ -1,6 +1,6 @@
 //! The two ways to end an era.
 
-ghost use Rattle.std.specs.Prelude.{◌≡◌, ◌⊎◌, ◌↔◌, ◌<◌, ◌≤◌, ℕ, IfOk, IfSome, IsSome, OnOk, OnErr, IfErr, IsErrOf};
+ghost use Rattle.std.specs.Prelude.{◌≡◌, ◌⊎◌, ◌↔◌, ◌<◌, ◌≤◌, ℕ, IfOk, IfSome, IsSome, OnOk, OnErr, IsErrOf};
 ghost use Rattle.uni_model.specs.Worlds.{world_after, IsQuiescent};
 ghost use Rattle.uni_model.specs.Worlds.Event.{Trim, Reshape};
 ghost use Rattle.uni_core.specs.World.{world_of, KeepsFixed};

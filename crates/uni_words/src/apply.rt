@@ -1,5 +1,5 @@
 //! A call from its start to its reply.
-ghost use Rattle.std.specs.Prelude.{◌≡◌, ◌↔◌, ◌+◌, ◌*◌, ◌<◌, ◌≤◌, ◌^◌, ◌++◌, ◌∷◌, [], IsErr, IfOk, OnOk, OnErr};
+ghost use Rattle.std.specs.Prelude.{◌≡◌, ◌↔◌, ◌+◌, ◌*◌, ◌<◌, ◌≤◌, ◌++◌, ◌∷◌, [], IsErr, IfOk, OnOk, OnErr};
 ghost use Rattle.uni_words.specs.Standing.{StandsAt, GoesBy, IsIdle, IsCountOf};
 ghost use Rattle.uni_model.specs.Indices.{name_of};
 ghost use Rattle.uni_words.specs.Words.{cells_of};

@@ -1,5 +1,5 @@
 //! The word steps that begin a call, read settled words, settle a state, and end a call.
-ghost use Rattle.std.specs.Prelude.{◌≡◌, ℕ, ◌+◌, ◌*◌, ◌<◌, ◌≤◌, ◌^◌, Some};
+ghost use Rattle.std.specs.Prelude.{◌≡◌, ◌+◌, ◌*◌, ◌<◌, ◌≤◌, ◌^◌};
 ghost use Rattle.uni_words.specs.Standing.{StandsAt, GoesBy, IsIdle};
 ghost use Rattle.uni_words.specs.Seats.{HasLooked, HasFinished};
 ghost use Rattle.uni_model.specs.Indices.{name_of, index_of};

@@ -1,6 +1,6 @@
 //! Two objects of words.
-ghost use Rattle.std.specs.Prelude.{◌≡◌, ◌≤◌, ◌<◌, ◌^◌};
-ghost use Rattle.uni_words.specs.Objects.{sticky, tally, stuck};
+ghost use Rattle.std.specs.Prelude.{◌<◌, ◌^◌};
+ghost use Rattle.uni_words.specs.Objects.{sticky, tally};
 
 use crate::object::WordObject;
 

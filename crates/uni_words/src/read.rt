@@ -1,11 +1,10 @@
 //! Reading the log of closed words.
 ghost use Rattle.std.specs.Prelude.{◌≡◌, ◌+◌, ◌*◌, ◌<◌, ◌≤◌, IfOk, Some, map, slice_index};
-ghost use Rattle.uni_model.specs.Places.{after_of};
 ghost use Rattle.uni_model.specs.Chain.{invoked_at, response_in};
 ghost use Rattle.uni_model.specs.Indices.{name_of};
 ghost use Rattle.uni_words.specs.Belongs.{count_in, row_in, words_in};
 ghost use Rattle.uni_words.specs.Log.{entry_shown, log_of, told_memory};
-ghost use Rattle.uni_words.specs.Words.{cells_of, link_of, start_of, words_of};
+ghost use Rattle.uni_words.specs.Words.{cells_of, start_of};
 
 use crate::words::Words;
 use seq_object::CallId;

@@ -1,6 +1,6 @@
 //! Threads that make calls on one object under a lock.
 
-ghost use Rattle.std.specs.Prelude.{◌≡◌, ◌≢◌, ◌<◌, ◌≤◌, ◌*◌, ◌^◌, ◌↔◌, ℕ, All, IfOk, IsErrOf, Ok, [], length, map, vec_len};
+ghost use Rattle.std.specs.Prelude.{◌≡◌, ◌≢◌, ◌<◌, ◌≤◌, ◌*◌, ◌^◌, ◌↔◌, All, IfOk, IsErrOf, Ok, [], length, map, vec_len};
 ghost use Rattle.unibench_run.specs.Threads.{IsThreadsPlan, closing_fault, events_of, receipts_in};
 
 use crate::request::Plan;

@@ -1,7 +1,7 @@
 //! Threads that make calls on one object.
 
-ghost use Rattle.std.specs.Prelude.{◌↔◌, false, IsErrOf, ◌≡◌, ◌++◌, ◌*◌, ◌≤◌, ℕ, All, [], IfOk, OnOk, Some, length, vec_len};
-ghost use Rattle.uni_words.specs.Belongs.{IsSeatOf, calls_made, own_calls, processes_of, row_of};
+ghost use Rattle.std.specs.Prelude.{◌↔◌, IsErrOf, ◌≡◌, ◌++◌, ◌*◌, ◌≤◌, ℕ, All, [], IfOk, OnOk, Some, length, vec_len};
+ghost use Rattle.uni_words.specs.Belongs.{IsSeatOf, own_calls, row_of};
 ghost use Rattle.unibench_run.specs.Threads.{IsCounted, IsDone, IsJob, IsThreadsPlan, agrees_line, line_of_fault, refusal_of, text_of_fault};
 
 use crate::lock::run_under_lock;

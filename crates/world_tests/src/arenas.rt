@@ -1,6 +1,6 @@
 //! Both forms of arena: each call, with what it leaves worked out by hand.
 
-ghost use Rattle.std.specs.Prelude.{◌≡◌, ◌<◌, ◌≤◌, ℕ, IsSome, IsSomeAnd};
+ghost use Rattle.std.specs.Prelude.{◌≡◌, ◌<◌, ◌≤◌, IsSome, IsSomeAnd};
 ghost use Rattle.cell_arena.specs.Arena.{cell_of, processes_of};
 
 use cell_arena::{ArenaFault, CellId, Cells, ColumnCells, RowCells, of_is_injective};
