@@ -1,4 +1,4 @@
-use Rattle.std.proofs.Common.{◌≡◌, ◌∙◌, sym, arith}
+use Rattle.std.proofs.Common.{rules, ◌≡◌, ◌∙◌, sym, arith}
 use borrow.Author.Count.{below_more}
 use Rattle.std.proofs.lemmas.Option.{IfSome_then}
 use Rattle.uni_shared.specs.Agreement.{seats_of}
@@ -21,3 +21,6 @@ returns-clause-none g c = λ none. IsMissing-none c.args.n c.args.seats.now (λ 
 pub returns-clause-least : goal.returns-clause-least
 returns-clause-least g c =
     IfSome_then c.other_seat.result c.other_seat.ensures.least (IsLeast-missing c.args.n c.args.seats.now (λ q less. c.loop-p.invariant q (omega arith)))
+
+pub loop-p-init : goal.loop-p-init
+loop-p-init g c = search rules

@@ -1,4 +1,4 @@
-use Rattle.std.proofs.Common.{◌≡◌, ◌+◌, ◌≤◌, ◌∙◌, arith, subst, refl, sym}
+use Rattle.std.proofs.Common.{rules, ◌≡◌, ◌+◌, ◌≤◌, ◌∙◌, arith, subst, refl, sym}
 use Rattle.std.proofs.lemmas.List.{append-nil}
 use Rattle.uni_model.specs.Worlds.{world_after}
 use Rattle.uni_model.specs.Worlds.Event.{Call}
@@ -41,3 +41,6 @@ invariant_of-self-2 g c =
 
 pub returns-clause-begun : goal.returns-clause-begun
 returns-clause-begun g c = subst (λ r. world_of c.begin.new.self ≡ world_after (g.O.SeqObject.sequential r.world.object) (world_of r.world) (Call c.args.p c.args.inv.now)) c.self.view_is c.in-Ok-begin.ensures.begun
+
+pub returns-clause-event : goal.returns-clause-event
+returns-clause-event g c = search rules

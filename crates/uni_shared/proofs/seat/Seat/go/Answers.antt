@@ -1,4 +1,4 @@
-use Rattle.std.proofs.Common.{◌∙◌, refl, ap, ◌++◌, ◌∷◌, []}
+use Rattle.std.proofs.Common.{rules, ◌∙◌, refl, ap, ◌++◌, ◌∷◌, []}
 use Rattle.uni_shared.specs.declared.receipt.Receipt.{Receipt}
 use Rattle.uni_shared.proofs.seat.Seat.go.Goals as goal
 
@@ -15,3 +15,6 @@ returns-in-Ok-clause-ended g c =
         receipts = c.push_reserved.ensures.items ∙ ap (λ v. v.receipts ++ receipt ∷ []) c.self.view_is;
       },
     )
+
+pub returns-in-Err-clause-stopped : goal.returns-in-Err-clause-stopped
+returns-in-Err-clause-stopped g c = search rules
