@@ -9,7 +9,6 @@ use crate::compare::{has_answers, has_picture};
 use std::alloc::Global;
 use std::env::Env;
 use std::fs::Files;
-use std::process::ExitCode;
 use std::{env, fs, io};
 
 /// What is said of a comparison.

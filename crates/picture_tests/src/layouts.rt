@@ -7,7 +7,6 @@ use run_layout::{
 };
 use run_marks::Marks;
 use std::alloc::{AllocError, Global};
-use std::process::Abort;
 use std::test::Fail;
 use uni_core::StepKind;
 use uni_script::{BenchFault, Checked, Refusal};

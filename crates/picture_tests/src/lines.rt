@@ -3,7 +3,6 @@
 use run_layout::PictureFault;
 use run_lines::lines_of;
 use std::alloc::{AllocError, Global};
-use std::process::Abort;
 use uni_script::{BenchFault, Checked};
 
 /// A stopped process is helped.

@@ -7,7 +7,6 @@ use run_marks::{
 };
 use seq_object::CallId;
 use std::alloc::Global;
-use std::process::Abort;
 use std::test::Fail;
 use uni_core::StepKind;
 use uni_record::Recorded;

@@ -2,7 +2,6 @@
 
 use run_layout::PictureFault;
 use run_picture::picture_of;
-use std::alloc::Global;
 use std::process::Abort;
 use uni_script::{BenchFault, Checked};
 

@@ -1,7 +1,6 @@
 //! A test of a whole text, with labels that are escaped.
 
 use std::alloc::{AllocError, Global};
-use std::process::Abort;
 use svg_text::{Anchor, Drawing, Paint, Shape, svg_of};
 
 /// The text of a picture with one label.

@@ -11,7 +11,7 @@ use std::process::Abort;
 use std::sync::Wait;
 use std::sync::atomic::AtomicU64;
 use std::test::Fail;
-use uni_shared::{ApplyFault, CloseFault, Closed, NoGate, Refused, Seat, Shared, trim};
+use uni_shared::{ApplyFault, CloseFault, NoGate, Refused, Seat, Shared, trim};
 
 /// Whether one seat makes one call.
 fn makes_one_call<R: Wait>(

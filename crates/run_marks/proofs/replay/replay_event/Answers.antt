@@ -1,4 +1,4 @@
-use Rattle.std.proofs.Common.{◌∙◌, ap, sym}
+use Rattle.std.proofs.Common.{rules, ◌∙◌, ap, sym}
 use Rattle.uni_model.specs.Worlds.{world_after}
 use Rattle.uni_core.specs.World.{world_of}
 use Rattle.uni_record.specs.Event.{event_shown}
@@ -15,3 +15,6 @@ pub returns-in_ok-replay_step-in-Step-clause-marks : goal.returns-in_ok-replay_s
 returns-in_ok-replay_step-in-Step-clause-marks g c =
     let o : SpokenObject _ _ _ = record { object = g.O.SeqObject.sequential c.args.replay.now.object; language = g.O.Spoken.language } in
     c.in_ok-replay_step-in-Step.ensures.marks c.args.from ∙ ap (λ e. marks_with o (marks_shown c.args.marks.now) (world_of c.args.replay.now) c.args.from c.args.place (event_shown e)) (sym c.in-Step.is)
+
+pub returns-in_ok-push-in-Trim-clause-marks : goal.returns-in_ok-push-in-Trim-clause-marks
+returns-in_ok-push-in-Trim-clause-marks g c = search rules
