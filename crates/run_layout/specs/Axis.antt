@@ -41,11 +41,13 @@ bar_room events scale bar = max scale.step (label_room scale (label_text bar) - 
 abbrev pub line_room : Scale → EraLine → ℕ
 line_room scale line = max scale.step (label_room scale (line_text line))
 
+-- how wide the column of an event that begins no call is
+abbrev pub width_of_line : List EraLine → Scale → (event : ℕ) → ℕ
+width_of_line lines scale event = option_map_or (line_room scale) (find (λ line. line.event == event) lines) scale.step
+
 -- how wide the column of an event is
 abbrev pub width_of : RunMarks → Scale → (event : ℕ) → ℕ
-width_of marks scale event =
-    option_map_or (bar_room marks.events scale) (find (λ bar. bar.from == event) marks.bars)
-    (option_map_or (line_room scale) (find (λ line. line.event == event) marks.lines) scale.step)
+width_of marks scale event = option_map_or (bar_room marks.events scale) (find (λ bar. bar.from == event) marks.bars) (width_of_line marks.lines scale event)
 
 -- how wide the columns are from an event on, of so many events
 unfoldable pub widths_from : RunMarks → Scale → (event count : ℕ) → List ℕ

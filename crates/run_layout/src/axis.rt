@@ -3,7 +3,7 @@
 ghost use Rattle.std.specs.Prelude.{◌≡◌, ◌+◌, ◌-◌, ◌*◌, ◌≤◌, IfOk, length, map, take};
 ghost use Rattle.std.specs.List.{All, sum, sum_by};
 ghost use Rattle.run_marks.specs.Shown.{bar_shown, marks_shown};
-ghost use Rattle.run_layout.specs.Axis.{IsScale, letters_of, label_room, last_event, bar_room, line_room, width_of, widths_from, remark_room, room_of, room_until, event_columns, told_columns, places_shown, places_of, event_column, told_column, middle_of, right_of};
+ghost use Rattle.run_layout.specs.Axis.{IsScale, letters_of, label_room, last_event, bar_room, line_room, width_of_line, width_of, widths_from, remark_room, room_of, room_until, event_columns, told_columns, places_shown, places_of, event_column, told_column, middle_of, right_of};
 
 use crate::wording::{label_of, line_of, refusal_of};
 use run_marks::{Bar, EraLine, Marks};
@@ -178,7 +178,24 @@ fn width_of(alloc: Global, marks: &Marks, event: u64, scale: Scale) -> Result<u3
             return bar_room(alloc, bar, marks.events, scale);
         }
     }
-    for line in &marks.lines {
+    width_of_line(alloc, marks.lines.as_slice(), event, scale)
+}
+
+/// How wide the column of an event that begins no call is: the end of an era takes its label, and all
+/// else is as wide as a step.
+///
+/// An `Err` says that memory was refused.
+fn width_of_line(
+    alloc: Global,
+    lines: &[EraLine],
+    event: u64,
+    scale: Scale,
+) -> Result<u32, AllocError>
+    requires { IsScale scale }
+    ensures small { IfOk result (λ width. width ≤ 8008) }
+    ensures width { IfOk result (λ width. width ≡ width_of_line lines.now scale event) }
+{
+    for line in lines {
         if line.event == event {
             return line_room(alloc, line, scale);
         }

@@ -7,7 +7,3 @@ use Rattle.run_layout.proofs.axis.width_of.Given as goal
 -- none of the bars so far begins there
 abbrev pub invariant-loop-bar : goal.invariant-loop-bar
 invariant-loop-bar l = find (λ bar. bar.from == l.event) (map bar_shown (drop l.bar-index l.bar-items)) ≡ find (λ bar. bar.from == l.event) (map bar_shown l.bar-items)
-
--- none of the ends of eras so far is there
-abbrev pub invariant-loop-line : goal.invariant-loop-line
-invariant-loop-line l = find (λ line. line.event == l.event) (map (λ line. line) (drop l.line-index l.line-items)) ≡ find (λ line. line.event == l.event) (map (λ line. line) l.line-items)
