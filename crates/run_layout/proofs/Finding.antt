@@ -1,6 +1,6 @@
 -- The first element of a list that passes a test, looked for from place to place.
-use Rattle.std.proofs.Common.{◌≡◌, ◌∙◌, ℕ, ◌+◌, ◌<◌, ◌≤◌, Bool, true, cond, List, length, get_or, drop, map, Option, Some, None, ap, sym}
-use Rattle.std.proofs.lemmas.List.{at_drop_more, at_drop_all}
+use Rattle.std.proofs.Common.{◌≡◌, ◌∙◌, ℕ, ◌+◌, ◌<◌, Bool, true, cond, List, length, get_or, drop, map, Option, Some, ap, sym}
+use Rattle.std.proofs.lemmas.List.{at_drop_more}
 use Rattle.std.specs.List.{find}
 
 module _ {A B : Type 0} (f : A → B) (p : B → Bool) where
@@ -14,7 +14,3 @@ module _ {A B : Type 0} (f : A → B) (p : B → Bool) where
       → whole ≡ Some (f x)
   found_here xs i x whole inside is passes so_far =
       sym so_far ∙ found_from xs i x inside is ∙ ap (λ b. cond b (Some (f x)) (find p (map f (drop (i + 1) xs)))) passes
-
-  -- there is none
-  pub found_none : (xs : List A) (i : ℕ) (whole : Option B) → length xs ≤ i → find p (map f (drop i xs)) ≡ whole → whole ≡ None
-  found_none xs i whole all so_far = sym so_far ∙ at_drop_all (λ l. find p (map f l)) xs i all
