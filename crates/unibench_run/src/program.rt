@@ -239,8 +239,6 @@ struct Printer<'a, T> {
 }
 
 impl<T: TextOut> fmt::Write for Printer<'_, T> {
-    ghost use Rattle.std.specs.Io.KnownBytes.{Appends};
-
     ghost write_str_gives = { λ before text after. Appends (T.contents before.end.now) (T.contents after.end.now) text };
 
     fn write_str(&mut self, text: &str) -> fmt::Result {
