@@ -53,4 +53,6 @@ pub mod RenamedWorld
 pub mod RenamedChain
 pub mod RenamedEra
 pub mod RenamedRun
+pub mod Linearizable
+pub mod WaitFree
 pub mod Universal

@@ -11,6 +11,7 @@ use Rattle.uni_model.specs.Worlds.{WorldOf, Event, calls_in_era, chain, opened_w
 use Rattle.uni_model.specs.Worlds.Event.{Call, Step, Trim, Reshape}
 use Rattle.uni_model.specs.AtomicObject.Act.{Invoke, Linearize, Respond}
 use Rattle.uni_model.specs.History.{log, log_of_run, history_of}
+use Rattle.uni_model.specs.Linearizable.{observed_in}
 
 data QueueCall : Type 0 where
   Enq : ℕ → QueueCall
@@ -82,6 +83,10 @@ alone-history : history_of queue (opened_world 1 [] 1) alone
     ≡ Invoke 0 0 (Enq 7) ∷ Linearize (record { process = 0; nth = 0; inv = Enq 7 }) ∷ Respond 0 0 Ok ∷ []
 unfolding alone
 alone-history = refl
+
+alone-observed : observed_in queue (opened_world 1 [] 1) alone ≡ Invoke 0 0 (Enq 7) ∷ Respond 0 0 Ok ∷ []
+unfolding alone
+alone-observed = refl
 
 -- two processes, of which one meets the bound of steps and turns: 32 and 3
 bound_met : List (Event QueueCall)

@@ -13,9 +13,11 @@ pub mod Growth
 pub mod Eras
 pub mod Responses
 pub mod Trims
+pub mod Linearizable
 pub mod Universal
 pub mod Helping
 pub mod Bound
 pub mod Examples
 pub mod Laws
 pub mod Indices
+pub mod WaitFree

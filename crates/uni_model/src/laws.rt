@@ -11,6 +11,8 @@ ghost use Rattle.uni_model.specs.OneList.{HasOneList, HasLegalLog};
 ghost use Rattle.uni_model.specs.Eras.{EraLeaves, EraOfRunLeaves, JoinsLegalLogs, JoinedLogGrows, KeepsRealTime};
 ghost use Rattle.uni_model.specs.Responses.{LogsResponses};
 ghost use Rattle.uni_model.specs.Trims.{TrimsChangeNothing};
+ghost use Rattle.uni_model.specs.Linearizable.{ObservesLinearizable};
+ghost use Rattle.uni_model.specs.WaitFree.{NeverBlocks, CallIsWaitFree, CallEndsAlone};
 ghost use Rattle.uni_model.specs.Universal.{RunIsUniversal};
 ghost use Rattle.uni_model.specs.Laws.{IsReached, KeepsInvariant, KeepsHelping, KeepsSettled, IsAtomic, KeepsLog, KeepsLogAlong, OpensSound, StepIsLocal, SettledStays, Simulates, IsLinearizable, LinksSoon, HasFloorOnceAnnounced};
 
@@ -193,4 +195,23 @@ pub fn links_soon<O: SeqObject>()
 pub fn has_floor<O: SeqObject>()
     ensures { (object : O) (n : ℕ) (start : O.State) (number : ℕ) (events : List (Event O.Inv)) →
         HasFloorOnceAnnounced (O.sequential object) n start number events }
+{}
+
+/// What is observed of a run, its calls and responses, is linearizable: linearization points can be put
+/// among them so that the atomic object takes them all (Herlihy and Wing 1990). The law names neither
+/// cells nor logs.
+pub fn observes_linearizable<O: SeqObject>()
+    ensures { (object : O) (n : ℕ) (start : O.State) (number : ℕ) (events : List (Event O.Inv)) →
+        ObservesLinearizable (O.sequential object) n start number events }
+{}
+
+/// The construction is wait-free (Herlihy 1991, section 4): a process whose call is pending can always
+/// take its next step, and in every schedule its call has returned at the latest at the (10n + 12)th
+/// step that it takes after the call's begin, with a response, for the n processes that there are then.
+/// So wherever the others have stopped, the process alone ends its call.
+pub fn is_wait_free<O: SeqObject>()
+    ensures steps { (w : WorldOf O.State O.Inv O.Resp) (p : ℕ) → NeverBlocks w p }
+    ensures returns { (object : O) (w : WorldOf O.State O.Inv O.Resp) (p : ℕ) (i : O.Inv) (later : List (Event O.Inv)) →
+        CallIsWaitFree (O.sequential object) w p i later }
+    ensures alone { (object : O) (w : WorldOf O.State O.Inv O.Resp) (p : ℕ) → CallEndsAlone (O.sequential object) w p }
 {}

@@ -10,8 +10,8 @@ mod laws;
 pub use laws::{
     changes_one_place, counts_steps, era_leaves_anchor, event_is_atomic, event_keeps_helping,
     event_keeps_invariant, event_keeps_settled, has_floor, is_bounded, is_linearizable,
-    is_one_list, is_universal, joined_log_holds_responses, joined_log_is_legal,
+    is_one_list, is_universal, is_wait_free, joined_log_holds_responses, joined_log_is_legal,
     joined_log_only_grows, keeps_invariant, keeps_real_time, keeps_settled, links_soon,
-    log_is_legal, log_only_grows, opening_is_sound, simulates, step_sees_settled,
-    trims_change_nothing,
+    log_is_legal, log_only_grows, observes_linearizable, opening_is_sound, simulates,
+    step_sees_settled, trims_change_nothing,
 };

@@ -9,6 +9,7 @@ use Rattle.uni_model.specs.Stages.{Pending}
 use Rattle.uni_model.specs.Worlds.{AreAccepted, Event, IsAccepted, WorldOf, opened_world, without_trims, world_after, world_after_all}
 use Rattle.uni_model.specs.Worlds.Event.{Call, Step, Trim, Reshape}
 use Rattle.uni_model.specs.Trims.{ShowsSame, TrimsChangeNothing}
+use Rattle.uni_model.proofs.Universal.{IsUniversal-untrimmed}
 use Rattle.uni_core.specs.World.{IsProgress, current_of, progress_of, world_of}
 use Rattle.uni_core.specs.declared.fault.Progress.{Progress}
 use Rattle.uni_record.specs.declared.command.Command.{Command}
@@ -130,7 +131,10 @@ module _ {S I R : Type 0} (object : Sequential S I R) where
 module _ {O S I R : Type 0} (sequential : O → Sequential S I R) (r : Recording O S I R) where
   module _ (recording : IsRecording sequential r) (promised : IsPromised sequential r) where
     shown : ShowsSame (world_of r.world) (untrimmed_world sequential r)
-    shown = subst (λ w. ShowsSame w (untrimmed_world sequential r)) (sym recording.replay) promised.universal.untrimmed.shown
+    shown = subst (λ w. ShowsSame w (untrimmed_world sequential r)) (sym recording.replay) (IsUniversal-untrimmed (meaning sequential r) r.processes (meaning sequential r).initial r.first (events_shown r.events) promised.universal).shown
+
+    pub begun-untrimmed : (p : ℕ) → (world_of r.world).begun p ≡ (untrimmed_world sequential r).begun p
+    begun-untrimmed p = ap (λ f. f p) shown.begun
 
     pub progress-untrimmed : (p : ℕ) (progress : Progress R) → IsProgress (world_of r.world) p progress → IsProgress (untrimmed_world sequential r) p progress
     progress-untrimmed p progress is = is ∙ ap progress_of (shown.response p)

@@ -5,6 +5,7 @@ use Rattle.uni_model.specs.Worlds.Event.{Call}
 use Rattle.uni_core.specs.World.{world_of}
 use Rattle.uni_record.specs.Recorded.{standing_of, CanBegin, set_aside, share}
 use Rattle.uni_record.proofs.Kept.{begun_kept, roomier}
+use Rattle.uni_record.proofs.Untrimmed.{begun-untrimmed}
 use Rattle.uni_record.proofs.recorded.Recorded.begin.Goals as goal
 
 pub invariant_of-self : goal.invariant_of-self
@@ -44,3 +45,6 @@ returns-clause-begun g c = subst (λ r. world_of c.begin.new.self ≡ world_afte
 
 pub returns-clause-event : goal.returns-clause-event
 returns-clause-event g c = search rules
+
+pub returns-clause-untrimmed : goal.returns-clause-untrimmed
+returns-clause-untrimmed g c = let same = begun-untrimmed g.O.SeqObject.sequential c.args.self.now c.promise.ensures.recording c.promise.ensures.promised c.args.p in search rules
