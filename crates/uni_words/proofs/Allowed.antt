@@ -96,6 +96,7 @@ goes_one me c found t me' moved turn =
       inv = ap (λ (k : Known). k.inv) now;
       begun = ap (λ (k : Known). k.begun) now;
       own = ap (λ (k : Known). k.own) now;
+      taken = ap (λ (k : Known). k.taken) now;
       carried = ap (λ (x : Me ℕ View). x.1) moved.view;
     }
 
@@ -123,6 +124,7 @@ goes_still read me me' looked =
       inv = ap (λ (k : Known). k.inv) now;
       begun = ap (λ (k : Known). k.begun) now;
       own = ap (λ (k : Known). k.own) now;
+      taken = ap (λ (k : Known). k.taken) now;
       carried = ap (λ (x : Me ℕ View). x.1) looked;
     }
 

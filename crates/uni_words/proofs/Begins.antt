@@ -22,11 +22,12 @@ use Rattle.uni_model.proofs.Counted.{CountsSteps-world_after}
 use Rattle.uni_words.specs.Words.{content_of, word_of, word_at, memory_of}
 use Rattle.uni_words.specs.View.{Known, begun_by}
 use Rattle.uni_words.specs.Seats.{HasBegun}
-use Rattle.uni_words.specs.Shown.{IsLocal, IsShown, ShowsWorld, pending_count}
+use Rattle.uni_words.specs.Shown.{IsLocal, IsShown, ShowsRun, pending_count}
 use Rattle.uni_words.specs.declared.view.View.{View}
 use Rattle.uni_words.proofs.Locality.{set_here, set_elsewhere}
 use Rattle.uni_words.proofs.Underway.{HasReturned-grows}
 use Rattle.uni_words.proofs.Happens.{own_local, keeps_rule}
+use Rattle.uni_words.proofs.Running.{run_begins}
 
 module _ (object : Sequential ℕ ℕ ℕ) (row : ℕ) where
   module _ (w : WorldOf ℕ ℕ ℕ) (s : State ℕ View) (is : IsShown object row w s)
@@ -131,7 +132,7 @@ module _ (object : Sequential ℕ ℕ ℕ) (row : ℕ) where
           steps = λ q apart. set_at_elsewhere w.steps p 0 q apart;
           turns = λ q apart. set_at_elsewhere w.turns p 0 q apart;
         })
-        grows memory_is (begun_by v inv) told.processes told.calls refl single tells
+        grows memory_is (begun_by v inv) (told.processes (let one = single in omega arith)) (told.calls (let one = single in omega arith)) refl single refl tells
         (subst (λ k. k ≤ row) (sym (set_at_same w.begun p (w.begun p + 1))) (let e = before.begun in omega arith))
         is.fits
         (HelpingInvariant-begun object w p inv before.inside none is.sound)
@@ -139,12 +140,17 @@ module _ (object : Sequential ℕ ℕ ℕ) (row : ℕ) where
 
   pub begins : (n slots id i : ℕ) (st : Step ℕ) (me : Me ℕ View) (inv : ℕ) → me.0.known.count ≡ 1 → me.0.known.call ≡ None → me.0.known.begun < row
       → word_of n row (InvOf (Of me.0.known.first me.0.known.begun)) ≡ Some i
-      → Allows (ShowsWorld object n row) slots id me i (λ x. inv) (λ found me'. HasBegun st me inv me')
+      → Allows (ShowsRun object n row) slots id me i (λ x. inv) (λ found me'. HasBegun st me inv me')
   begins n slots id i st me inv single idle room word s shown deep at small =
       let word_w : word_of shown.0.n row (InvOf (Of me.0.known.first me.0.known.begun)) ≡ Some i = subst (λ k. word_of k row (InvOf (Of me.0.known.first me.0.known.begun)) ≡ Some i) (sym shown.1) word in (
         record { known = begun_by me.0.known inv },
         keeps,
         tt,
-        (world_after_call shown.0 me.0.known.first inv, shown.1, begun_kept shown.0 s shown.2 id me.0.known at single idle room i word_w inv),
+        (
+          world_after_call shown.0 me.0.known.first inv,
+          shown.1,
+          begun_kept shown.0 s shown.2 id me.0.known at single idle room i word_w inv,
+          run_begins object n row shown.0 s shown.2 shown.3 id me.0.known at single idle inv (record { mine = Of me.0.known.first me.0.known.begun; stage = Announce }) (begun_by me.0.known inv) refl single refl refl refl refl,
+        ),
         refl,
       )

@@ -6,16 +6,17 @@ use Rattle.seq_object.specs.History.{IsLegal}
 use Rattle.uni_model.specs.Places.{Name, Memory, inv_of, seq_of, after_of}
 use Rattle.uni_model.specs.Places.Name.{Anchor, Of}
 use Rattle.uni_model.specs.Chain.{cells_from, entries_from, invoked_at, response_in}
-use Rattle.uni_model.specs.History.{logged_call}
+use Rattle.uni_model.specs.History.{log, logged_call}
 use Rattle.uni_model.specs.Worlds.{WorldOf, calls_in_era, era_calls}
 use Rattle.uni_model.specs.Invariant.{IsNumbered, IsSound}
-use Rattle.uni_model.proofs.Chains.{cells_from-same, number_at}
+use Rattle.uni_model.proofs.Chains.{cells_from-enough, cells_from-same, number_at}
+use Rattle.uni_model.proofs.Eras.{number_of_entry}
 use Rattle.uni_model.proofs.Logged.{legal_from, settled_from}
 use Rattle.uni_model.proofs.Ranges.{sum_below-bound}
 use Rattle.uni_model.proofs.SameLog.{entries_from-same}
 use Rattle.uni_model.proofs.Simulation.{enough}
 use Rattle.uni_model.proofs.Written.{lt_cases}
-use Rattle.uni_words.specs.Log.{AreAnswered, IsChained, is_call_cell, log_of, told_memory}
+use Rattle.uni_words.specs.Log.{AreAnswered, AreCallsOf, IsChained, is_call_cell, log_of, told_memory}
 use Rattle.uni_words.specs.Shown.{IsShown}
 use Rattle.uni_words.specs.Words.{memory_of}
 use Rattle.uni_words.specs.declared.view.View.{View}
@@ -98,6 +99,20 @@ module _ (object : Sequential ℕ ℕ ℕ) (row : ℕ) (w : WorldOf ℕ ℕ ℕ)
   log_is = ap (λ k. entries_from told (k + 1) (cells_from (w.n * row) told Anchor)) (sym (ap (λ m. seq_of m Anchor) is.memory) ∙ is.number)
       ∙ ap (entries_from told 2) (cells_from-same w.memory told told_after (w.n * row) Anchor)
       ∙ entries_from-same w.memory told num is.sound.1 sound.numbered told_call told_response (w.n * row) 2 Anchor
+
+  -- which is the log of the definitions
+  pub log_of_world : log w ≡ log_of w.n row s.words
+  log_of_world =
+      let all = enough object w is.sound.0 is.sound.1 sound in
+      let each : era_calls w ≤ w.n * row = sum_below-bound w.n row (calls_in_era w) (λ q. let few = is.room q in omega arith) in
+      ap (λ k. entries_from w.memory (k + 1) (cells_from (era_calls w) w.memory Anchor)) is.number
+      ∙ (ap (entries_from w.memory 2) (cells_from-enough w.memory num is.sound.1 sound.numbered (era_calls w) (w.n * row) Anchor all (omega arith))
+      ∙ sym log_is)
+
+  pub calls_inside : AreCallsOf w.n (log_of w.n row s.words)
+  calls_inside place e at =
+      let number = number_of_entry object w num is.sound.1 sound place e (subst (λ l. slice_get l place ≡ Some e) (sym log_of_world) at) in
+      (sound.calls.begun e.call.process e.call.nth (sound.calls.linked e.call.process e.call.nth (omega arith))).0
 
   pub legal_log : IsLegal object object.initial (map logged_call (log_of w.n row s.words))
   legal_log = subst (λ l. IsLegal object object.initial (map logged_call l)) (sym log_is)

@@ -18,12 +18,13 @@ use Rattle.uni_words.specs.Words.{settled_word, settled_at, content_of, word_of}
 use Rattle.uni_words.specs.View.{Known, moved_at, stage_found}
 use Rattle.uni_words.specs.View.Reading.{Applied}
 use Rattle.uni_words.specs.Seats.{HasMoved, Moved}
-use Rattle.uni_words.specs.Shown.{HasRead, IsShown, ShowsWorld}
+use Rattle.uni_words.specs.Shown.{HasRead, IsShown, ShowsRun}
 use Rattle.uni_words.specs.declared.view.View.{View}
 use Rattle.uni_words.proofs.Codes.{settled_at-word}
 use Rattle.uni_words.proofs.Within.{within}
 use Rattle.uni_words.proofs.Happens.{effect, later, there}
 use Rattle.uni_words.proofs.Moving.{moved_kept, moved_told}
+use Rattle.uni_words.proofs.Running.{run_moves}
 use Rattle.uni_words.proofs.Looks.{stands, underway}
 
 -- the word after the exchange is what is decision
@@ -38,7 +39,7 @@ module _ (object : Sequential ℕ ℕ ℕ) (row : ℕ) where
   pub decides : (n slots id i : ℕ) (st : Step ℕ) (me : Me ℕ View) → me.0.known.count ≡ 1 → (mine c d : Name) (c_seq inv state : ℕ)
       → me.0.known.call ≡ Some (record { mine = mine; stage = DecideNew c c_seq d }) → me.0.known.read ≡ Applied inv state
       → object.next state inv < 2 ^ 31 → object.answer state inv < 2 ^ 31 → word_of n row (NewOf d) ≡ Some i
-      → Allows (ShowsWorld object n row) slots id me i (λ found. either (eqb found 0) (settled_word (object.next state inv) (object.answer state inv)) found) (λ found me'. Moved st me found me')
+      → Allows (ShowsRun object n row) slots id me i (λ found. either (eqb found 0) (settled_word (object.next state inv) (object.answer state inv)) found) (λ found me'. Moved st me found me')
   decides n slots id i st me single mine c d c_seq inv state pending read next_fits answer_fits word_n s shown deep at small =
       let w : WorldOf ℕ ℕ ℕ = shown.0 in
       let is : IsShown object row w s = shown.2 in
@@ -72,7 +73,12 @@ module _ (object : Sequential ℕ ℕ ℕ) (row : ℕ) where
         record { known = moved_at v call found },
         keeps,
         tt,
-        (after, shown.1, shown_after),
+        (
+          after,
+          shown.1,
+          shown_after,
+          run_moves object n row w s is shown.3 id v at single call pending refl (record { mine = mine; stage = WriteBefore c c_seq d }) (moved_at v call found) refl single refl refl refl refl,
+        ),
         λ o other. (let e : call ≡ o = (let g = sym pending ∙ other in cc) in subst (λ (k : Pending). HasMoved me k found (record { known = moved_at v call found }, me.1)) e moved),
       )
     where
@@ -85,8 +91,8 @@ module _ (object : Sequential ℕ ℕ ℕ) (row : ℕ) where
   pub decides_word : (n slots id i : ℕ) (st : Step ℕ) (me : Me ℕ View) → me.0.known.count ≡ 1 → (mine c d : Name) (c_seq inv state new_state reply : ℕ)
       → me.0.known.call ≡ Some (record { mine = mine; stage = DecideNew c c_seq d }) → me.0.known.read ≡ Applied inv state
       → new_state ≡ object.next state inv → new_state < 2 ^ 31 → reply ≡ object.answer state inv → reply < 2 ^ 31 → word_of n row (NewOf d) ≡ Some i
-      → Allows (ShowsWorld object n row) slots id me i (λ found. either (eqb found 0) (1 + 2 * reply + 4294967296 * new_state) found) (λ found me'. Moved st me found me')
+      → Allows (ShowsRun object n row) slots id me i (λ found. either (eqb found 0) (1 + 2 * reply + 4294967296 * new_state) found) (λ found me'. Moved st me found me')
   decides_word n slots id i st me single mine c d c_seq inv state new_state reply pending read state_is state_fits reply_is reply_fits word =
-      subst (λ u. Allows (ShowsWorld object n row) slots id me i (λ found. either (eqb found 0) (1 + 2 * u + 4294967296 * new_state) found) (λ found me'. Moved st me found me')) (sym reply_is)
-      (subst (λ u. Allows (ShowsWorld object n row) slots id me i (λ found. either (eqb found 0) (1 + 2 * object.answer state inv + 4294967296 * u) found) (λ found me'. Moved st me found me')) (sym state_is)
+      subst (λ u. Allows (ShowsRun object n row) slots id me i (λ found. either (eqb found 0) (1 + 2 * u + 4294967296 * new_state) found) (λ found me'. Moved st me found me')) (sym reply_is)
+      (subst (λ u. Allows (ShowsRun object n row) slots id me i (λ found. either (eqb found 0) (1 + 2 * object.answer state inv + 4294967296 * u) found) (λ found me'. Moved st me found me')) (sym state_is)
       (decides n slots id i st me single mine c d c_seq inv state pending read (subst (λ u. u < 2 ^ 31) state_is state_fits) (subst (λ u. u < 2 ^ 31) reply_is reply_fits) word))

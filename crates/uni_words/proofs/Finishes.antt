@@ -21,10 +21,11 @@ use Rattle.uni_words.specs.Words.{reply_in, content_of, word_of, memory_of}
 use Rattle.uni_words.specs.View.{Known, finished_by}
 use Rattle.uni_words.specs.View.Reading.{Reply}
 use Rattle.uni_words.specs.Seats.{HasFinished, TellsReply}
-use Rattle.uni_words.specs.Shown.{HasReturned, HasRead, IsLocal, IsShown, ShowsWorld, pending_count}
+use Rattle.uni_words.specs.Shown.{HasReturned, HasRead, IsLocal, IsShown, HasRun, ShowsRun, pending_count}
 use Rattle.uni_words.specs.declared.view.View.{View}
 use Rattle.uni_words.proofs.Underway.{HasReturned-grows}
 use Rattle.uni_words.proofs.Happens.{own_local, effect, later, memory_grows, memory_set, kept}
+use Rattle.uni_words.proofs.Running.{run_ends}
 use Rattle.uni_words.proofs.Looks.{stands, underway, reply_told, looks_reply}
 
 pub last_of_list : {A : Type 0} (xs : List A) (x : A) (j : ℕ) (y : A) → slice_get (xs ++ x ∷ []) j ≡ Some y → (slice_get xs j ≡ Some y) ⊎ ((j ≡ length xs) × (x ≡ y))
@@ -61,23 +62,27 @@ module _ (object : Sequential ℕ ℕ ℕ) (row : ℕ) where
     abbrev pub ended : WorldOf ℕ ℕ ℕ
     ended = later object row w s is id v at single call pending
 
+    before : IsLocal w is.owner id v.first v
+    before = own_local object row w s is id v at single
+
+    counted : v.begun ≡ length v.own + 1
+    counted = subst (λ o. v.begun ≡ length v.own + pending_count o) pending before.counted
+
+    -- the call that returns is the next one of the seat's own
+    mine_is : mine ≡ Of v.first (length v.own)
+    mine_is =
+        let its = is.sound.2.calls.mine v.first call (before.call ∙ pending) in
+        let same : its.0 ≡ length v.own = (let a = its.2 in let b = before.begun in let d = counted in omega arith) in
+        its.1 ∙ ap (Of v.first) same
+
+    pub run_ended : (n : ℕ) → HasRun object n w s.views → (reply : ℕ) → response_in w.memory mine ≡ Some reply → HasRun object n ended (slice_set s.views id (record { known = finished_by v reply }))
+    run_ended n run reply replied =
+        run_ends object n row w s is run id v at single call pending reply replied mine_is (underway object row w s is id v at single mine (Finish c_seq mine_seq) pending).0 (finished_by v reply) refl single refl refl refl
+
     module _ (words' : List ℕ) (long : length words' ≡ length s.words) (memory_is : ended.memory ≡ memory_of w.n row words' w.begun)
         (reply : ℕ) (replied : response_in w.memory mine ≡ Some reply) where
-      before : IsLocal w is.owner id v.first v
-      before = own_local object row w s is id v at single
-
       grows : Grows w.memory ended.memory
       grows = memory_grows object row w s is id v at single call pending
-
-      counted : v.begun ≡ length v.own + 1
-      counted = subst (λ o. v.begun ≡ length v.own + pending_count o) pending before.counted
-
-      -- the call that returns is the next one of the seat's own
-      mine_is : mine ≡ Of v.first (length v.own)
-      mine_is =
-          let its = is.sound.2.calls.mine v.first call (before.call ∙ pending) in
-          let same : its.0 ≡ length v.own = (let a = its.2 in let b = before.begun in let d = counted in omega arith) in
-          its.1 ∙ ap (Of v.first) same
 
       returned : HasReturned ended.memory (Of v.first (length v.own)) v.inv reply
       returned =
@@ -104,17 +109,19 @@ module _ (object : Sequential ℕ ℕ ℕ) (row : ℕ) where
 
       pub finished_kept : IsShown object row ended (record { words = words'; homes = s.homes; views = slice_set s.views id (record { known = finished_by v reply }) })
       finished_kept = kept object row w s is id v at single call pending words' long memory_is (finished_by v reply)
-          (is.seats id (record { known = v }) at).processes (is.seats id (record { known = v }) at).calls refl single tells is.fits
+          ((is.seats id (record { known = v }) at).processes (let one = single in omega arith)) ((is.seats id (record { known = v }) at).calls (let one = single in omega arith)) refl single refl tells is.fits
+
+    -- the reply that was read
+    pub reply_had : (reply : ℕ) → v.read ≡ Reply reply → response_in w.memory mine ≡ Some reply
+    reply_had reply read = subst (λ r. HasRead w.memory mine (Finish c_seq mine_seq) r) read (underway object row w s is id v at single mine (Finish c_seq mine_seq) pending).1
 
     -- by a store of the head, after the reply was read
     pub stored_kept : c_seq < mine_seq → (i x : ℕ) → word_of w.n row (HeadOf v.first) ≡ Some i → name_of w.n x ≡ mine → (reply : ℕ) → v.read ≡ Reply reply
         → IsShown object row ended (record { words = slice_set s.words i x; homes = s.homes; views = slice_set s.views id (record { known = finished_by v reply }) })
     stored_kept less i x word named reply read =
-        let under = underway object row w s is id v at single mine (Finish c_seq mine_seq) pending in
-        let had : response_in w.memory mine ≡ Some reply = subst (λ r. HasRead w.memory mine (Finish c_seq mine_seq) r) read under.1 in
         let writes : content_of w.n (HeadOf v.first) x ≡ last_content
         = elim (lt_cases c_seq mine_seq) [ inl a ↦ rw a.1 (ap CellName named) | inr a ↦ absurd (let h = a.0 in omega arith) ] in
-        finished_kept (slice_set s.words i x) (length-set s.words i x) (memory_set object row w s is id v at single call pending i word x writes) reply had
+        finished_kept (slice_set s.words i x) (length-set s.words i x) (memory_set object row w s is id v at single call pending i word x writes) reply (reply_had reply read)
 
     -- by the load of the reply, where the head stays
     pub loaded_kept : mine_seq ≤ c_seq → (i : ℕ) → word_of w.n row (NewOf mine) ≡ Some i
@@ -130,7 +137,7 @@ module _ (object : Sequential ℕ ℕ ℕ) (row : ℕ) where
 
   pub ends : (n slots id i : ℕ) (me : Me ℕ View) → me.0.known.count ≡ 1 → (mine c_seq mine_seq reply : ℕ)
       → me.0.known.call ≡ Some (record { mine = name_of n mine; stage = Finish c_seq mine_seq }) → me.0.known.read ≡ Reply reply → c_seq < mine_seq → word_of n row (HeadOf me.0.known.first) ≡ Some i
-      → Allows (ShowsWorld object n row) slots id me i (λ x. mine) (λ found me'. HasFinished me reply me')
+      → Allows (ShowsRun object n row) slots id me i (λ x. mine) (λ found me'. HasFinished me reply me')
   ends n slots id i me single mine c_seq mine_seq reply pending read less word_n s shown deep at small =
       let v : Known = me.0.known in
       let w : WorldOf ℕ ℕ ℕ = shown.0 in
@@ -142,13 +149,14 @@ module _ (object : Sequential ℕ ℕ ℕ) (row : ℕ) where
           ended w s shown.2 id v at single (name_of n mine) c_seq mine_seq pending,
           shown.1,
           stored_kept w s shown.2 id v at single (name_of n mine) c_seq mine_seq pending less i mine word (ap (λ k. name_of k mine) shown.1) reply read,
+          run_ended w s shown.2 id v at single (name_of n mine) c_seq mine_seq pending n shown.3 reply (reply_had w s shown.2 id v at single (name_of n mine) c_seq mine_seq pending reply read),
         ),
         refl,
       )
 
   pub told_reply : (n slots id i : ℕ) (st : Step ℕ) (me : Me ℕ View) → me.0.known.count ≡ 1 → (mine : Name) (c_seq mine_seq : ℕ)
       → me.0.known.call ≡ Some (record { mine = mine; stage = Finish c_seq mine_seq }) → word_of n row (NewOf mine) ≡ Some i
-      → Allows (ShowsWorld object n row) slots id me i (λ x. x) (λ found me'. TellsReply st me found me')
+      → Allows (ShowsRun object n row) slots id me i (λ x. x) (λ found me'. TellsReply st me found me')
   unfolding looks_reply
   told_reply n slots id i st me single mine c_seq mine_seq pending word_n s shown deep at small = elim (lt_cases c_seq mine_seq) [
     | inl less ↦
@@ -160,7 +168,12 @@ module _ (object : Sequential ℕ ℕ ℕ) (row : ℕ) where
           record { known = finished_by v (reply_in (slice_index s.words i)) },
           keeps,
           tt,
-          (ended shown.0 s shown.2 id v at single mine c_seq mine_seq pending, shown.1, loaded_kept shown.0 s shown.2 id v at single mine c_seq mine_seq pending more.0 i word),
+          (
+            ended shown.0 s shown.2 id v at single mine c_seq mine_seq pending,
+            shown.1,
+            loaded_kept shown.0 s shown.2 id v at single mine c_seq mine_seq pending more.0 i word,
+            run_ended shown.0 s shown.2 id v at single mine c_seq mine_seq pending n shown.3 (reply_in (slice_index s.words i)) (reply_told object row shown.0 s shown.2 id v at single mine c_seq mine_seq pending i word),
+          ),
           λ other c m e. (let same = one_finish mine other c_seq mine_seq c m (sym pending ∙ e) in (λ yes. absurd (let a = same.0 in let b = same.1 in let d = more.0 in omega arith), λ no. refl)),
         )
   ]

@@ -1,5 +1,5 @@
 -- A word step keeps the rule: what has to be shown of it, and of a step that is an event.
-use Rattle.std.proofs.Common.{◌≡◌, ◌≢◌, ◌∙◌, ℕ, zero, suc, ◌+◌, ◌<◌, ◌≤◌, ◌^◌, inl, inr, ⊎_elim, refl, sym, ap, subst, List, [], ◌∷◌, length, slice_index, slice_set, Option, Some, None, IsSome, arith, set}
+use Rattle.std.proofs.Common.{◌≡◌, ◌≢◌, ◌∙◌, ℕ, zero, suc, ◌+◌, ◌<◌, ◌≤◌, ◌^◌, inl, inr, ⊎_elim, refl, sym, ap, subst, List, [], ◌∷◌, length, slice_index, slice_set, Contains, Option, Some, None, IsSome, arith, set}
 use mathlib.Core.Option.{some, some-injective, some-ne-none}
 use lib.ListN.{get_elem?}
 use Rattle.atomic_table.specs.Table.{State}
@@ -20,8 +20,8 @@ use Rattle.uni_model.proofs.Kept.{Invariant-world_after_step}
 use Rattle.uni_model.proofs.Bounded.{HelpingInvariant-world_after_step}
 use Rattle.uni_model.proofs.Counted.{CountsSteps-world_after}
 use Rattle.uni_words.specs.Words.{content_of, word_of, memory_of, words_of}
-use Rattle.uni_words.specs.View.{Known}
-use Rattle.uni_words.specs.Shown.{IsLocal, Tells, IsAmong, IsShown}
+use Rattle.uni_words.specs.View.{CallsOf, Known}
+use Rattle.uni_words.specs.Shown.{IsLocal, IsTaken, Tells, IsAmong, HasProcess, IsShown}
 use Rattle.uni_words.specs.declared.view.View.{View}
 use Rattle.uni_words.proofs.Locality.{memory_at, word_here, words_written}
 use Rattle.uni_words.proofs.Underway.{HasReturned-grows, IsUnderway-grows, place_shared}
@@ -30,6 +30,20 @@ pub set_there : {A : Type 0} (l : List A) (i : ℕ) (a b : A) → get_elem? l i 
 set_there [] i a b e = absurd (some-ne-none a (sym e))
 set_there (x ∷ xs) zero a b e = refl
 set_there (x ∷ xs) (suc i) a b e = set_there xs i a b e
+
+-- a process that a seat has taken in isn't the first one of a seat that can take steps
+pub taken_apart : (object : Sequential ℕ ℕ ℕ) (row : ℕ) (w : WorldOf ℕ ℕ ℕ) (s : State ℕ View) (is : IsShown object row w s) (id : ℕ) (v : View) → get_elem? s.views id ≡ some v → 1 ≤ v.known.count
+    → (j : ℕ) (u : View) → get_elem? s.views j ≡ some u → (c : CallsOf) → Contains u.known.taken c → c.process ≢ v.known.first
+taken_apart object row w s is id v at some_left j u there c has same =
+    let its = (is.seats j u there).taken c has in
+    elim (number_cases j id) [
+      | inl here ↦
+          let view : v ≡ u = some-injective _ _ (sym at ∙ subst (λ k. get_elem? s.views k ≡ some u) here.0 there) in
+          its.1 (subst (λ (z : View). IsAmong c.process z.known) view (omega (arith, same), omega (arith, same, some_left)))
+      | inr other ↦
+          let local = (is.seats id v at).each v.known.first (omega arith) (omega (arith, some_left)) in
+          other.0 (sym its.0.seat ∙ (ap is.owner same ∙ local.seat))
+    ]
 
 -- One word is written and one seat, which has one process, gets another view: what has to be shown for the rule to hold after it.
 module _ (object : Sequential ℕ ℕ ℕ) (row : ℕ) (w : WorldOf ℕ ℕ ℕ) (s : State ℕ View) (is : IsShown object row w s)
@@ -47,7 +61,7 @@ module _ (object : Sequential ℕ ℕ ℕ) (row : ℕ) (w : WorldOf ℕ ℕ ℕ)
 
   module _ (words' : List ℕ) (w' : WorldOf ℕ ℕ ℕ) (long : length words' ≡ length s.words) (stay : OthersStay w')
       (grows : Grows w.memory w'.memory) (memory_is : w'.memory ≡ memory_of w'.n row words' w'.begun)
-      (v' : Known) (n_is : v'.n ≡ w.n) (row_is : v'.row ≡ row) (first_is : v'.first ≡ v.first) (count_is : v'.count ≡ 1)
+      (v' : Known) (n_is : v'.n ≡ w.n) (row_is : v'.row ≡ row) (first_is : v'.first ≡ v.first) (count_is : v'.count ≡ 1) (taken_is : v'.taken ≡ v.taken)
       (tells : IsLocal w' is.owner id v.first v')
       (room : w'.begun v.first ≤ row)
       (fits : (y : Name) (u : ℕ × Option ℕ) → new_of w'.memory y ≡ Some u → u.0 < 2 ^ 31)
@@ -69,38 +83,59 @@ module _ (object : Sequential ℕ ℕ ℕ) (row : ℕ) (w : WorldOf ℕ ℕ ℕ)
       own = λ k call e. HasReturned-grows _ _ grows (Of q k) call.0 call.1 (h.own k call e);
     }
 
+    -- a process that was taken in
+    other_taken : (j : ℕ) (c : CallsOf) → c.process ≢ v.first → IsTaken w is.owner j c → IsTaken w' is.owner j c
+    other_taken j c apart h = record {
+      inside = subst (λ k. c.process < k) (sym stay.n) h.inside;
+      seat = h.seat;
+      call = stay.call c.process apart ∙ h.call;
+      begun = stay.begun c.process apart ∙ h.begun;
+      own = λ k call e. HasReturned-grows _ _ grows (Of c.process k) call.0 call.1 (h.own k call e);
+    }
+
     seats_later : (j : ℕ) (u : View) → get_elem? (set s.views id (record { known = v' })) j ≡ some u → Tells w' is.owner row j u.known
     seats_later j u e = ⊎_elim
         (λ (h : (j ≡ id) × (record { known = v' } ≡ u)).
         subst (λ (z : View). Tells w' is.owner row j z.known) h.1
         (record {
-          processes = n_is ∙ sym stay.n;
-          calls = row_is;
+          processes = λ any. n_is ∙ sym stay.n;
+          calls = λ any. row_is;
           each = λ q from below.
               subst (λ k. IsLocal w' is.owner k q v') (sym h.0)
               (subst (λ k. IsLocal w' is.owner id k v') (sym (only_p q from below)) tells);
+          taken = λ c has.
+              let had : Contains v.taken c = subst (λ l. Contains l c) taken_is has in
+              let its = (is.seats id (record { known = v }) at).taken c had in (
+                subst (λ k. IsTaken w' is.owner k c) (sym h.0) (other_taken id c (taken_apart object row w s is id (record { known = v }) at (let one = single in omega arith) id (record { known = v }) at c had) its.0),
+                λ among. its.1 (omega (arith, first_is, among.0), omega (arith, first_is, count_is, single, among.1)),
+              );
         }))
         (λ (h : (j ≢ id) × (get_elem? s.views j ≡ some u)).
         let told = is.seats j u h.1 in
         record {
-          processes = told.processes ∙ sym stay.n;
+          processes = λ any. told.processes any ∙ sym stay.n;
           calls = told.calls;
           each = λ q from below.
               let local = told.each q from below in
               other_local j q u.known (λ same. h.0 (sym local.seat ∙ (ap is.owner same ∙ own_local.seat))) local;
+          taken = λ c has. let its = told.taken c has in
+              (other_taken j c (taken_apart object row w s is id (record { known = v }) at (let one = single in omega arith) j u h.1 c has) its.0, its.1);
         })
         (at_set s.views id j (record { known = v' }) u e)
 
-    seated_later : (q : ℕ) → q < w.n → (u : View) × (get_elem? (set s.views id (record { known = v' })) (is.owner q) ≡ some u) × IsAmong q u.known
+    seated_later : (q : ℕ) → q < w.n → (u : View) × (get_elem? (set s.views id (record { known = v' })) (is.owner q) ≡ some u) × HasProcess q u.known
     seated_later q inside =
         let was = is.seated q inside in
         elim (number_cases (is.owner q) id) [
           | inl here ↦
               let same : was.0 ≡ record { known = v } = some-injective _ _ (sym (subst (λ k. get_elem? s.views k ≡ some was.0) here.0 was.1) ∙ at) in
-              let among : IsAmong q v = subst (λ (z : View). IsAmong q z.known) same was.2 in (
+              let among : HasProcess q v = subst (λ (z : View). HasProcess q z.known) same was.2 in (
                 record { known = v' },
                 subst (λ k. get_elem? (set s.views id (record { known = v' })) k ≡ some (record { known = v' })) (sym here.0) (set_there s.views id (record { known = v }) (record { known = v' }) at),
-                (let a = first_is in let b = among.0 in omega arith, let a = first_is in let b = count_is in let d = among.1 in let e = single in omega arith),
+                elim among [
+                  | inl a ↦ inl (omega (arith, first_is, a.0), omega (arith, first_is, count_is, single, a.1))
+                  | inr c ↦ inr (c.0, subst (λ l. Contains l c.0) (sym taken_is) c.1, c.2)
+                ],
               )
           | inr other ↦ (was.0, set_else s.views id (is.owner q) (record { known = v' }) other.0 ∙ was.1, was.2)
         ]
@@ -149,11 +184,11 @@ module _ (object : Sequential ℕ ℕ ℕ) (row : ℕ) (w : WorldOf ℕ ℕ ℕ)
 
   -- the words afterwards show the memory after the event; what the seat knows then, and that no state that is settled passes 31 bits
   pub kept : (words' : List ℕ) → length words' ≡ length s.words → later.memory ≡ memory_of w.n row words' w.begun
-      → (v' : Known) → v'.n ≡ w.n → v'.row ≡ row → v'.first ≡ p → v'.count ≡ 1
+      → (v' : Known) → v'.n ≡ w.n → v'.row ≡ row → v'.first ≡ p → v'.count ≡ 1 → v'.taken ≡ v.taken
       → IsLocal later is.owner id p v'
       → ((y : Name) (u : ℕ × Option ℕ) → new_of later.memory y ≡ Some u → u.0 < 2 ^ 31)
       → IsShown object row later (record { words = words'; homes = s.homes; views = set s.views id (record { known = v' }) })
-  kept words' long memory_is v' n_is row_is first_is count_is tells fits = keeps_rule object row w s is id v at single words' later long
+  kept words' long memory_is v' n_is row_is first_is count_is taken_is tells fits = keeps_rule object row w s is id v at single words' later long
       (record {
         n = refl;
         call = λ q apart. set_at_elsewhere w.call p (call_after c.mine effect.stage) q apart;
@@ -161,7 +196,7 @@ module _ (object : Sequential ℕ ℕ ℕ) (row : ℕ) (w : WorldOf ℕ ℕ ℕ)
         steps = λ q apart. set_at_elsewhere w.steps p (w.steps p + 1) q apart;
         turns = λ q apart. set_at_elsewhere w.turns p (w.turns p + turn_of c.stage (w.memory place)) q apart;
       })
-      memory_grows memory_is v' n_is row_is first_is count_is tells (is.room p) fits
+      memory_grows memory_is v' n_is row_is first_is count_is taken_is tells (is.room p) fits
       (HelpingInvariant-world_after_step object w p c own_call is.counts is.sound)
       (subst (λ o. CountsSteps (world_after_step object w p o)) own_call
       (CountsSteps-world_after object w (Step p) (subst IsSome (sym own_call) refl) (is.sound.0, is.sound.1, is.sound.2) is.counts))

@@ -19,10 +19,11 @@ use Rattle.uni_words.specs.Words.{settled_at, state_in, reply_in, reply_at, word
 use Rattle.uni_words.specs.View.{Known, Reading, looked_at}
 use Rattle.uni_words.specs.View.Reading.{Invocation, Applied, Reply}
 use Rattle.uni_words.specs.Seats.{HasLooked, TellsState}
-use Rattle.uni_words.specs.Shown.{HasRead, IsUnderway, IsLocal, IsShown, ShowsWorld}
+use Rattle.uni_words.specs.Shown.{HasRead, IsUnderway, IsLocal, IsShown, ShowsRun}
 use Rattle.uni_words.specs.declared.view.View.{View}
 use Rattle.uni_words.proofs.Locality.{word_here}
 use Rattle.uni_words.proofs.Happens.{own_local, keeps_rule}
+use Rattle.uni_words.proofs.Running.{run_stays}
 
 module _ (object : Sequential ℕ ℕ ℕ) (row : ℕ) where
   module _ (w : WorldOf ℕ ℕ ℕ) (s : State ℕ View) (is : IsShown object row w s) where
@@ -60,7 +61,7 @@ module _ (object : Sequential ℕ ℕ ℕ) (row : ℕ) where
           subst (λ ws. IsShown object row w (record { words = ws; homes = s.homes; views = slice_set s.views id (record { known = looked_at v read }) })) (sym (set-get_or s.words i 0))
           (keeps_rule object row w s is id v at single s.words w refl
           (record { n = refl; call = λ q a. refl; begun = λ q a. refl; steps = λ q a. refl; turns = λ q a. refl })
-          (Grows-same w.memory) is.memory (looked_at v read) told.processes told.calls refl single
+          (Grows-same w.memory) is.memory (looked_at v read) (told.processes (let one = single in omega arith)) (told.calls (let one = single in omega arith)) refl single refl
           (record {
             inside = before.inside;
             seat = before.seat;
@@ -76,7 +77,7 @@ module _ (object : Sequential ℕ ℕ ℕ) (row : ℕ) where
 
   pub looks_inv : (n slots id i : ℕ) (me : Me ℕ View) → me.0.known.count ≡ 1 → (mine c d : Name) (c_seq : ℕ) → me.0.known.call ≡ Some (record { mine = mine; stage = DecideNew c c_seq d })
       → word_of n row (InvOf d) ≡ Some i
-      → Allows (ShowsWorld object n row) slots id me i (λ x. x) (λ found me'. HasLooked me (Invocation found) me')
+      → Allows (ShowsRun object n row) slots id me i (λ x. x) (λ found me'. HasLooked me (Invocation found) me')
   looks_inv n slots id i me single mine c d c_seq pending word_n s shown deep at small =
       let w : WorldOf ℕ ℕ ℕ = shown.0 in
       let is : IsShown object row w s = shown.2 in
@@ -87,13 +88,18 @@ module _ (object : Sequential ℕ ℕ ℕ) (row : ℕ) where
         record { known = looked_at me.0.known (Invocation (slice_index s.words i)) },
         keeps,
         tt,
-        (w, shown.1, looked_kept w s is id me.0.known at single mine (DecideNew c c_seq d) pending i (Invocation (slice_index s.words i)) (inv_told w s is d i word has)),
+        (
+          w,
+          shown.1,
+          looked_kept w s is id me.0.known at single mine (DecideNew c c_seq d) pending i (Invocation (slice_index s.words i)) (inv_told w s is d i word has),
+          run_stays object n row w s is shown.3 id me.0.known at single (looked_at me.0.known (Invocation (slice_index s.words i))) refl single refl refl refl refl,
+        ),
         refl,
       )
 
   pub looks_new : (n slots id i : ℕ) (me : Me ℕ View) → me.0.known.count ≡ 1 → (mine c d : Name) (c_seq inv : ℕ) → me.0.known.call ≡ Some (record { mine = mine; stage = DecideNew c c_seq d })
       → me.0.known.read ≡ Invocation inv → word_of n row (NewOf c) ≡ Some i
-      → Allows (ShowsWorld object n row) slots id me i (λ x. x) (λ found me'. HasLooked me (Applied inv (state_in found)) me' × (state_in found < 2 ^ 31))
+      → Allows (ShowsRun object n row) slots id me i (λ x. x) (λ found me'. HasLooked me (Applied inv (state_in found)) me' × (state_in found < 2 ^ 31))
   looks_new n slots id i me single mine c d c_seq inv pending read word_n s shown deep at small =
       let w : WorldOf ℕ ℕ ℕ = shown.0 in
       let is : IsShown object row w s = shown.2 in
@@ -111,6 +117,7 @@ module _ (object : Sequential ℕ ℕ ℕ) (row : ℕ) where
           w,
           shown.1,
           looked_kept w s is id me.0.known at single mine (DecideNew c c_seq d) pending i (Applied inv (state_in (slice_index s.words i))) (had, (reply_at c (reply_in (slice_index s.words i)), told.1)),
+          run_stays object n row w s is shown.3 id me.0.known at single (looked_at me.0.known (Applied inv (state_in (slice_index s.words i)))) refl single refl refl refl refl,
         ),
         (refl, is.fits c (state_in (slice_index s.words i), reply_at c (reply_in (slice_index s.words i))) told.1),
       )
@@ -130,7 +137,7 @@ module _ (object : Sequential ℕ ℕ ℕ) (row : ℕ) where
 
   unfoldable pub looks_reply : (n slots id i : ℕ) (me : Me ℕ View) → me.0.known.count ≡ 1 → (mine : Name) (c_seq mine_seq : ℕ) → me.0.known.call ≡ Some (record { mine = mine; stage = Finish c_seq mine_seq })
       → word_of n row (NewOf mine) ≡ Some i
-      → Allows (ShowsWorld object n row) slots id me i (λ x. x) (λ found me'. HasLooked me (Reply (reply_in found)) me')
+      → Allows (ShowsRun object n row) slots id me i (λ x. x) (λ found me'. HasLooked me (Reply (reply_in found)) me')
   looks_reply n slots id i me single mine c_seq mine_seq pending word_n s shown deep at small =
       let word : word_of shown.0.n row (NewOf mine) ≡ Some i = subst (λ k. word_of k row (NewOf mine) ≡ Some i) (sym shown.1) word_n in (
         record { known = looked_at me.0.known (Reply (reply_in (slice_index s.words i))) },
@@ -141,13 +148,14 @@ module _ (object : Sequential ℕ ℕ ℕ) (row : ℕ) where
           shown.1,
           looked_kept shown.0 s shown.2 id me.0.known at single mine (Finish c_seq mine_seq) pending i (Reply (reply_in (slice_index s.words i)))
               (reply_told shown.0 s shown.2 id me.0.known at single mine c_seq mine_seq pending i word),
+          run_stays object n row shown.0 s shown.2 shown.3 id me.0.known at single (looked_at me.0.known (Reply (reply_in (slice_index s.words i)))) refl single refl refl refl refl,
         ),
         refl,
       )
 
   pub told_state : (n slots id i : ℕ) (st : Step ℕ) (me : Me ℕ View) → me.0.known.count ≡ 1 → (mine c d : Name) (c_seq : ℕ) → me.0.known.call ≡ Some (record { mine = mine; stage = DecideNew c c_seq d })
       → (inv : ℕ) → me.0.known.read ≡ Invocation inv → word_of n row (NewOf c) ≡ Some i
-      → Allows (ShowsWorld object n row) slots id me i (λ x. x) (λ found me'. TellsState st me found me')
+      → Allows (ShowsRun object n row) slots id me i (λ x. x) (λ found me'. TellsState st me found me')
   unfolding looks_new
   told_state n slots id i st me single mine c d c_seq pending inv read word s shown deep at small =
       let h = looks_new n slots id i me single mine c d c_seq inv pending read word s shown deep at small in (

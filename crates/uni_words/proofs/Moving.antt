@@ -1,5 +1,5 @@
 -- The word steps that are events, all but those of `new` and of the last step of a call.
-use Rattle.std.proofs.Common.{◌≡◌, ◌∙◌, ℕ, ◌+◌, ◌<◌, ◌≤◌, ◌^◌, refl, sym, ap, subst, List, length, slice_index, slice_set, Option, Some, length-set, get_or-set_same}
+use Rattle.std.proofs.Common.{◌≡◌, ◌∙◌, ℕ, ◌+◌, ◌<◌, ◌≤◌, ◌^◌, refl, sym, ap, subst, List, length, slice_index, slice_set, Option, Some, None, arith, length-set, get_or-set_same}
 use mathlib.Core.Option.{some}
 use lib.ListN.{get_elem?}
 use Rattle.atomic_table.specs.Table.{State, Me, Step, keeps, Allows}
@@ -9,7 +9,7 @@ use Rattle.uni_model.specs.Places.Name.{Of}
 use Rattle.uni_model.specs.Places.Place.{Announced, HeadOf, InvOf, SeqOf, AfterOf, NewOf, BeforeOf}
 use Rattle.uni_model.specs.Stages.{Stage, Pending}
 use Rattle.uni_model.specs.Stages.Stage.{Announce, ScanHead, ScanSeq, WriteScan, Test, ReadAnnounce, ReadHelpSeq, DecideAfter, DecideNew, WriteBefore, WriteSeq, WriteHead, Finish}
-use Rattle.uni_model.specs.Transition.{Effect, Beside, place_of, beside, stage_after, content_after, turn_of}
+use Rattle.uni_model.specs.Transition.{Effect, Beside, place_of, beside, stage_after, content_after, response_after, turn_of}
 use Rattle.uni_model.specs.Worlds.{WorldOf, call_after}
 use Rattle.uni_model.specs.Settled.{Grows}
 use Rattle.uni_model.proofs.Counted.{IsCounted-pending}
@@ -19,11 +19,12 @@ use Rattle.uni_words.specs.Words.{content_of, word_of}
 use Rattle.uni_words.specs.View.{Known, stage_found, moved_at}
 use Rattle.uni_words.specs.View.Reading.{Nothing}
 use Rattle.uni_words.specs.Seats.{IsWithin, HasMoved, Moved}
-use Rattle.uni_words.specs.Shown.{IsUnderway, IsLocal, IsShown, ShowsWorld, pending_count}
+use Rattle.uni_words.specs.Shown.{IsUnderway, IsLocal, IsShown, ShowsRun, pending_count}
 use Rattle.uni_words.specs.declared.view.View.{View}
 use Rattle.uni_words.proofs.Columns.{word_below}
 use Rattle.uni_words.proofs.Underway.{HasReturned-grows}
 use Rattle.uni_words.proofs.Within.{within}
+use Rattle.uni_words.proofs.Running.{run_moves}
 use Rattle.uni_words.proofs.Happens.{own_call, own_local, effect, there, memory_set, memory_grows, later, kept}
 
 abbrev IsNotNew : Place → Type 0
@@ -75,6 +76,21 @@ goes_on n p mine (WriteSeq c s d) found h = (_, refl)
 goes_on n p mine (WriteHead c s d) found h = (_, refl)
 goes_on n p mine (Finish s t) found h = absurd h
 
+no_response : (stage : Stage) (seen : Beside ℕ ℕ ℕ) → GoesOn stage → response_after stage seen ≡ None
+no_response Announce seen h = refl
+no_response (ScanHead q best s) seen h = refl
+no_response (ScanSeq q best s x) seen h = refl
+no_response (WriteScan best s) seen h = refl
+no_response (Test c s) seen h = refl
+no_response (ReadAnnounce c s) seen h = refl
+no_response (ReadHelpSeq c s help) seen h = refl
+no_response (DecideAfter c s prefer) seen h = refl
+no_response (DecideNew c s d) seen h = absurd h
+no_response (WriteBefore c s d) seen h = refl
+no_response (WriteSeq c s d) seen h = refl
+no_response (WriteHead c s d) seen h = refl
+no_response (Finish s t) seen h = absurd h
+
 module _ (object : Sequential ℕ ℕ ℕ) (row : ℕ) where
   -- a step after which the call goes on, whatever the word of its place becomes
   module _ (w : WorldOf ℕ ℕ ℕ) (s : State ℕ View) (is : IsShown object row w s)
@@ -97,7 +113,7 @@ module _ (object : Sequential ℕ ℕ ℕ) (row : ℕ) where
     is_there = there object row w s is id v at single c pending i word
 
     processes : v.n ≡ w.n
-    processes = (is.seats id (record { known = v }) at).processes
+    processes = (is.seats id (record { known = v }) at).processes (let one = single in omega arith)
 
     stage_is : does.stage ≡ stage_found v.n v.first c.mine c.stage found
     stage_is = ap (stage_after w.n c.mine c.stage) is_there ∙ ap (λ k. stage_found k v.first c.mine c.stage found) (sym processes)
@@ -133,7 +149,7 @@ module _ (object : Sequential ℕ ℕ ℕ) (row : ℕ) where
           → IsShown object row after (record { words = slice_set s.words i x; homes = s.homes; views = slice_set s.views id (record { known = moved_at v c found }) })
       moved_kept fits = kept object row w s is id v at single c pending (slice_set s.words i x) (length-set s.words i x)
           (memory_set object row w s is id v at single c pending i word x writes) (moved_at v c found) processes
-          (is.seats id (record { known = v }) at).calls refl single tells fits
+          ((is.seats id (record { known = v }) at).calls (let one = single in omega arith)) refl single refl tells fits
 
       -- where the step doesn't touch `new`
       pub fits_elsewhere : GoesOn c.stage → (y : Name) (u : ℕ × Option ℕ) → new_of after.memory y ≡ Some u → u.0 < 2 ^ 31
@@ -149,9 +165,9 @@ module _ (object : Sequential ℕ ℕ ℕ) (row : ℕ) where
           let few : after.turns v.first ≤ w.n + 1 = subst (λ k. after.turns v.first ≤ k + 1) (IsCounted-pending w is.counts v.first c (own_call object row w s is id v at single c pending)).0 (turns_bounded object after shown.counts shown.sound v.first) in
           record {
             view = ap (λ (k : Known). (record { known = k }, carried)) same;
-            within = subst (λ k. IsWithin k v.row (place_of k v.first c.mine c.stage) said) (sym told.processes)
-                (subst (λ r. IsWithin w.n r (place_of w.n v.first c.mine c.stage) said) (sym told.calls) small);
-            turns = subst (λ k. v'.turns ≤ k + 1) (sym told.processes) (subst (λ t. t ≤ w.n + 1) tells.turns few);
+            within = subst (λ k. IsWithin k v.row (place_of k v.first c.mine c.stage) said) (sym (told.processes (let one = single in omega arith)))
+                (subst (λ r. IsWithin w.n r (place_of w.n v.first c.mine c.stage) said) (sym (told.calls (let one = single in omega arith))) small);
+            turns = subst (λ k. v'.turns ≤ k + 1) (sym (told.processes (let one = single in omega arith))) (subst (λ t. t ≤ w.n + 1) tells.turns few);
           }
 
   -- The seat may take the step, by which the word becomes f of what it was, and it is told so of what it found.
@@ -161,7 +177,7 @@ module _ (object : Sequential ℕ ℕ ℕ) (row : ℕ) where
       ≡ content_after object c.mine c.stage (content_of n (place_of n me.0.known.first c.mine c.stage) found) seen)
       → ((found : ℕ) → moved_at me.0.known c found ≡ moved_at me.0.known c (said found))
       → ((found : ℕ) → IsWithin n row (place_of n me.0.known.first c.mine c.stage) found → IsWithin n row (place_of n me.0.known.first c.mine c.stage) (f found) → IsWithin n row (place_of n me.0.known.first c.mine c.stage) (said found))
-      → Allows (ShowsWorld object n row) slots id me i f (λ found me'. Moved st me (said found) me')
+      → Allows (ShowsRun object n row) slots id me i f (λ found me'. Moved st me (said found) me')
   moves n slots id i st me f said single c pending goes word_n writes_n same small_n s shown deep at fits =
       let w : WorldOf ℕ ℕ ℕ = shown.0 in
       let is : IsShown object row w s = shown.2 in
@@ -185,6 +201,11 @@ module _ (object : Sequential ℕ ℕ ℕ) (row : ℕ) where
         record { known = moved_at v c found },
         keeps,
         tt,
-        (later object row w s is id v at single c pending, shown.1, after),
+        (
+          later object row w s is id v at single c pending,
+          shown.1,
+          after,
+          run_moves object n row w s is shown.3 id v at single c pending (no_response c.stage seen goes) (record { mine = c.mine; stage = on.0 }) (moved_at v c found) refl single refl refl refl (ap (call_after c.mine) on.1),
+        ),
         λ d other. (let e : c ≡ d = (let g = sym pending ∙ other in cc) in subst (λ (k : Pending). HasMoved me k (said found) (record { known = moved_at v c found }, me.1)) e moved),
       )

@@ -1,5 +1,5 @@
 -- The table at the start meets the rule.
-use Rattle.std.proofs.Common.{◌≡◌, ◌∙◌, ℕ, zero, suc, ◌+◌, ◌*◌, ◌<◌, ◌^◌, inl, inr, refl, sym, ap, subst, List, [], ◌∷◌, length, slice_get, slice_index, slice_set, replicate, length-set, Option, Some, None, arith}
+use Rattle.std.proofs.Common.{◌≡◌, ◌∙◌, ℕ, zero, suc, ◌+◌, ◌*◌, ◌<◌, ◌^◌, inl, inr, refl, sym, ap, subst, List, [], ◌∷◌, length, slice_get, slice_index, slice_set, replicate, length-set, Contains, Option, Some, None, arith}
 use Rattle.std.specs.Option.{option_map_or}
 use Rattle.std.proofs.lemmas.Nat.{div-mul-add}
 use Rattle.std.proofs.lemmas.List.{length-replicate}
@@ -19,7 +19,7 @@ use Rattle.uni_model.proofs.Counted.{CountsSteps-opened_world}
 use Rattle.uni_words.specs.Words.{settled_word, settled_at, state_in, link_of, content_of, start_of, word_of, words_of, word_at, memory_of}
 use Rattle.uni_words.specs.View.{everyone}
 use Rattle.uni_words.specs.Seats.{first_view}
-use Rattle.uni_words.specs.Shown.{IsLocal, Tells, IsShown, ShowsWorld}
+use Rattle.uni_words.specs.Shown.{IsLocal, Tells, IsShown, ShowsRun, acts_known}
 use Rattle.uni_words.specs.declared.view.View.{View}
 use Rattle.uni_words.proofs.Locality.{words_written}
 
@@ -93,8 +93,8 @@ module _ (object : Sequential ℕ ℕ ℕ) (n row : ℕ) (below : object.initial
     seats = λ id v e. let h = only_seat id v e in
         subst (λ k. Tells world (λ p. 0) row k v.known) (sym h.0)
         (subst (λ (z : View). Tells world (λ p. 0) row 0 z.known) h.1
-        (record { processes = refl; calls = refl; each = λ q from to. first_local q (omega arith) }));
-    seated = λ p inside. (first_view n row, refl, (omega arith, omega arith));
+        (record { processes = λ any. refl; calls = λ any. refl; each = λ q from to. first_local q (omega arith); taken = λ c has. absurd (let k = has.1 in omega arith) }));
+    seated = λ p inside. (first_view n row, refl, inl (omega arith, omega arith));
     number = refl;
     state = refl;
     room = λ p. omega arith;
@@ -103,8 +103,20 @@ module _ (object : Sequential ℕ ℕ ℕ) (n row : ℕ) (below : object.initial
     counts = CountsSteps-opened_world object n object.initial 1;
   }
 
-  pub opening_shows : ShowsWorld object n row (opening {S = ℕ} words [] (first_view n row))
-  opening_shows = (world, refl, opening_shown)
+  pub opening_shows : ShowsRun object n row (opening {S = ℕ} words [] (first_view n row))
+  opening_shows = (
+    world,
+    refl,
+    opening_shown,
+    record {
+      events = [];
+      accepted = tt;
+      one_era = tt;
+      reached = refl;
+      acts = λ id v e p among. let h = only_seat id v e in subst (λ (z : View). [] ≡ acts_known p z.known) h.1 refl;
+      taken = λ id v e c has. absurd (let h = only_seat id v e in let none : Contains (first_view n row).known.taken c = subst (λ (z : View). Contains z.known.taken c) (sym h.1) has in let k = none.1 in omega arith);
+    },
+  )
 
 -- the words as the code writes them
 pub words_made : (xs : List ℕ) (n row s start : ℕ) → xs ≡ replicate (words_of n row) 0 → s ≡ start

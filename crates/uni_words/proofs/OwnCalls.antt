@@ -1,8 +1,6 @@
 -- The calls of a seat's process in the log are the seat's own calls.
 use Rattle.std.proofs.Common.{◌≡◌, ◌≢◌, ◌∙◌, ℕ, zero, suc, ◌+◌, ◌*◌, ◌<◌, ◌≤◌, inl, inr, refl, sym, ap, subst, List, [], ◌∷◌, length, map, slice_get, drop, Option, Some, None, arith, ◌==◌, cond}
 use Rattle.std.specs.Option.{option_map_or}
-use mathlib.Core.Option.{some}
-use lib.ListN.{get_elem?}
 use Rattle.atomic_table.specs.Table.{State}
 use Rattle.seq_object.specs.Sequential.{Sequential}
 use Rattle.uni_model.specs.Places.{Name, inv_of, after_of}
@@ -14,8 +12,7 @@ use Rattle.uni_model.proofs.Ranges.{sum_below-bound}
 use Rattle.uni_model.proofs.Simulation.{enough}
 use Rattle.uni_model.proofs.Written.{lt_cases, number_cases}
 use Rattle.uni_words.specs.Log.{calls_by, log_of, replied}
-use Rattle.uni_words.specs.Shown.{IsLocal, IsShown, pending_count}
-use Rattle.uni_words.specs.View.{Known}
+use Rattle.uni_words.specs.Shown.{HasReturned, IsShown}
 use Rattle.uni_words.specs.declared.view.View.{View}
 use Rattle.uni_words.proofs.Closing.{log_is}
 
@@ -35,11 +32,10 @@ there_below [] i h = absurd (omega arith)
 there_below (x ∷ xs) zero h = (x, refl)
 there_below (x ∷ xs) (suc i) h = there_below xs i (omega arith)
 
+-- a process that has no call pending, with the calls that it was given replies to
 module _ (object : Sequential ℕ ℕ ℕ) (row : ℕ) (w : WorldOf ℕ ℕ ℕ) (s : State ℕ View) (is : IsShown object row w s)
-    (id : ℕ) (v : Known) (at : get_elem? s.views id ≡ some (record { known = v })) (single : v.count ≡ 1) (idle : v.call ≡ None) where
-  abbrev p : ℕ
-  p = v.first
-
+    (p : ℕ) (own : List (ℕ × ℕ)) (all_returned : w.begun p ≡ length own)
+    (returned : (j : ℕ) (c : ℕ × ℕ) → slice_get own j ≡ Some c → HasReturned w.memory (Of p j) c.0 c.1) where
   abbrev num : Name → ℕ
   num = is.sound.0
 
@@ -49,39 +45,33 @@ module _ (object : Sequential ℕ ℕ ℕ) (row : ℕ) (w : WorldOf ℕ ℕ ℕ)
   sound : IsSound object w is.sound.0 is.sound.1
   sound = is.sound.2
 
-  local : IsLocal w is.owner id p v
-  local = (is.seats id (record { known = v }) at).each p (omega arith) (let one = single in omega arith)
-
-  all_returned : w.begun p ≡ length v.own
-  all_returned = local.begun ∙ (let c : v.begun ≡ length v.own + 0 = subst (λ o. v.begun ≡ length v.own + pending_count o) idle local.counted in omega arith)
-
-  own_linked : (k : ℕ) → k < length v.own → 1 ≤ num (Of p k)
+  own_linked : (k : ℕ) → k < length own → 1 ≤ num (Of p k)
   own_linked k below =
-      let c = there_below v.own k below in
-      let threaded = (local.own k c.0 c.1).threaded in
+      let c = there_below own k below in
+      let threaded = (returned k c.0 c.1).threaded in
       subst (λ t. 1 ≤ t) (sound.numbered.seq (Of p k) threaded) threaded
 
   -- of the own calls, those before i are linked at x or before it, and the others after it
   record AreAround (x : Name) (i : ℕ) : Type 0 where
     pub before : (k : ℕ) → k < i → num (Of p k) ≤ num x
-    pub after : (k : ℕ) → i ≤ k → k < length v.own → num x < num (Of p k)
+    pub after : (k : ℕ) → i ≤ k → k < length own → num x < num (Of p k)
 
   -- where no cell comes after x, there is no further own call
-  at_end : (x : Name) (i : ℕ) → 1 ≤ num x → AreAround x i → (num x < last → ⊥) → [] ≡ map replied (drop i v.own)
-  at_end x i linked around end = elim (lt_cases i (length v.own)) [
+  at_end : (x : Name) (i : ℕ) → 1 ≤ num x → AreAround x i → (num x < last → ⊥) → [] ≡ map replied (drop i own)
+  at_end x i linked around end = elim (lt_cases i (length own)) [
     | inl less ↦ absurd (
         let more = around.after i (omega arith) less.0 in
         let top = sound.numbered.greatest (Of p i) in
         end (omega arith))
-    | inr done ↦ sym (ap (map replied) (drop-past v.own i done.0))
+    | inr done ↦ sym (ap (map replied) (drop-past own i done.0))
   ]
 
   -- the next cell is that of the next own call
-  next_is : (x : Name) (i k : ℕ) → 1 ≤ num x → AreAround x i → num (Of p k) ≡ num x + 1 → (k ≡ i) × (i < length v.own)
+  next_is : (x : Name) (i k : ℕ) → 1 ≤ num x → AreAround x i → num (Of p k) ≡ num x + 1 → (k ≡ i) × (i < length own)
   next_is x i k linked around number =
       let its = sound.calls.begun p k (sound.calls.linked p k (omega arith)) in
       let all = all_returned in
-      let below : k < length v.own = (let b = its.2 in omega arith) in
+      let below : k < length own = (let b = its.2 in omega arith) in
       let not_less : i ≤ k = elim (lt_cases k i) [ inl a ↦ absurd (let h = around.before k a.0 in omega arith) | inr a ↦ a.0 ] in
       elim (lt_cases i k) [
         | inl less ↦ absurd (
@@ -91,7 +81,7 @@ module _ (object : Sequential ℕ ℕ ℕ) (row : ℕ) (w : WorldOf ℕ ℕ ℕ)
         | inr more ↦ (let m = more.0 in omega arith, let m = more.0 in omega arith)
       ]
 
-  around_next : (x : Name) (i : ℕ) → AreAround x i → num (Of p i) ≡ num x + 1 → i < length v.own → AreAround (Of p i) (suc i)
+  around_next : (x : Name) (i : ℕ) → AreAround x i → num (Of p i) ≡ num x + 1 → i < length own → AreAround (Of p i) (suc i)
   around_next x i around number below = record {
     before = λ k less. elim (lt_cases k i) [
       | inl a ↦ (let h = around.before k a.0 in omega arith)
@@ -111,44 +101,44 @@ module _ (object : Sequential ℕ ℕ ℕ) (row : ℕ) (w : WorldOf ℕ ℕ ℕ)
 
   -- what is said of the cells after a further one
   abbrev Rest : (most number : ℕ) → Type 0
-  Rest most number = (y : Name) (j : ℕ) → 1 ≤ num y → last ≤ num y + most → AreAround y j → calls_by p (entries_from w.memory (number + 1) (cells_from most w.memory y)) ≡ map replied (drop j v.own)
+  Rest most number = (y : Name) (j : ℕ) → 1 ≤ num y → last ≤ num y + most → AreAround y j → calls_by p (entries_from w.memory (number + 1) (cells_from most w.memory y)) ≡ map replied (drop j own)
 
   rest_is : (most number : ℕ) (x : Name) (i : ℕ) → 1 ≤ num x → last ≤ num x + most → AreAround x i
-      → calls_by p (entries_from w.memory number (cells_from most w.memory x)) ≡ map replied (drop i v.own)
+      → calls_by p (entries_from w.memory number (cells_from most w.memory x)) ≡ map replied (drop i own)
   rest_is zero number x i linked bound around = at_end x i linked around (λ less. omega arith)
   rest_is (suc most) number x i linked bound around = by_after (λ y j l b a. rest_is most (number + 1) y j l b a) (after_of w.memory x) refl where
     by_call : Rest most number → (q k : ℕ) → num (Of q k) ≡ num x + 1 → (inv : ℕ) → inv_of w.memory (Of q k) ≡ Some inv
         → cond (q == p) ((inv, response_in w.memory (Of q k)) ∷ calls_by p (entries_from w.memory (number + 1) (cells_from most w.memory (Of q k)))) (calls_by p (entries_from w.memory (number + 1) (cells_from most w.memory (Of q k))))
-        ≡ map replied (drop i v.own)
+        ≡ map replied (drop i own)
     by_call rest q k n inv asked = elim (number_cases q p) [
       | inl same ↦
           let mine : num (Of p k) ≡ num x + 1 = ap (λ r. num (Of r k)) (sym same.0) ∙ n in
           let next = next_is x i k linked around mine in
           let its : Of q k ≡ Of p i = ap (λ r. Of r k) same.0 ∙ ap (Of p) next.0 in
-          let c = there_below v.own i next.1 in
-          let returned = local.own i c.0 c.1 in
-          let inv_same : inv ≡ c.0.0 = (let e = ap (inv_of w.memory) its in let f = returned.inv_is in cc) in
-          let reply_same : response_in w.memory (Of q k) ≡ Some c.0.1 = ap (response_in w.memory) its ∙ returned.reply_is in
+          let c = there_below own i next.1 in
+          let its_return = returned i c.0 c.1 in
+          let inv_same : inv ≡ c.0.0 = (let e = ap (inv_of w.memory) its in let f = its_return.inv_is in cc) in
+          let reply_same : response_in w.memory (Of q k) ≡ Some c.0.1 = ap (response_in w.memory) its ∙ its_return.reply_is in
           let number_i : num (Of p i) ≡ num x + 1 = ap num (sym its) ∙ n in
-          let further : calls_by p (entries_from w.memory (number + 1) (cells_from most w.memory (Of q k))) ≡ map replied (drop (suc i) v.own)
+          let further : calls_by p (entries_from w.memory (number + 1) (cells_from most w.memory (Of q k))) ≡ map replied (drop (suc i) own)
           = ap (λ y. calls_by p (entries_from w.memory (number + 1) (cells_from most w.memory y))) its
           ∙ rest (Of p i) (suc i) (omega arith) (omega arith) (around_next x i around number_i next.1) in
           rw same.1 (ap (λ y. (y, response_in w.memory (Of q k)) ∷ calls_by p (entries_from w.memory (number + 1) (cells_from most w.memory (Of q k)))) inv_same
           ∙ ap (λ r. (c.0.0, r) ∷ calls_by p (entries_from w.memory (number + 1) (cells_from most w.memory (Of q k)))) reply_same
           ∙ ap (λ l. (c.0.0, Some c.0.1) ∷ l) further
-          ∙ sym (ap (map replied) (drop-here v.own i c.0 c.1)))
+          ∙ sym (ap (map replied) (drop-here own i c.0 c.1)))
       | inr other ↦ rw other.1 (rest (Of q k) i (omega arith) (omega arith) (around_other x i q k other.0 linked around n))
     ]
 
     by_name : Rest most number → (y : Name) → num y ≡ num x + 1
-        → calls_by p (option_map_or (λ call. record { number = number; call = call; response = response_in w.memory y } ∷ entries_from w.memory (number + 1) (cells_from most w.memory y)) (invoked_at w.memory y) []) ≡ map replied (drop i v.own)
+        → calls_by p (option_map_or (λ call. record { number = number; call = call; response = response_in w.memory y } ∷ entries_from w.memory (number + 1) (cells_from most w.memory y)) (invoked_at w.memory y) []) ≡ map replied (drop i own)
     by_name rest Anchor n = absurd (let least = sound.numbered.least x linked in omega arith)
     by_name rest (Of q k) n =
         let asked = sound.calls.linked q k (omega arith) in
         rw asked.1 (by_call rest q k n asked.0 asked.1)
 
     by_after : Rest most number → (o : Option Name) → after_of w.memory x ≡ o
-        → calls_by p (entries_from w.memory number (option_map_or (λ y. y ∷ cells_from most w.memory y) o [])) ≡ map replied (drop i v.own)
+        → calls_by p (entries_from w.memory number (option_map_or (λ y. y ∷ cells_from most w.memory y) o [])) ≡ map replied (drop i own)
     by_after rest None e = at_end x i linked around (λ less. let more = sound.numbered.goes_on x linked less in let f = more.1 in cc)
     by_after rest (Some y) e = by_name rest y (sound.numbered.link x y e).1
 
@@ -165,8 +155,8 @@ module _ (object : Sequential ℕ ℕ ℕ) (row : ℕ) (w : WorldOf ℕ ℕ ℕ)
         ];
   }
 
-  pub own_is : calls_by v.first (log_of w.n row s.words) ≡ map replied v.own
+  pub own_is : calls_by p (log_of w.n row s.words) ≡ map replied own
   own_is =
       let all = enough object w is.sound.0 is.sound.1 sound in
       let each : era_calls w ≤ w.n * row = sum_below-bound w.n row (calls_in_era w) (λ q. let few = is.room q in omega arith) in
-      ap (calls_by v.first) (log_is object row w s is) ∙ rest_is (w.n * row) 2 Anchor 0 sound.numbered.first (omega arith) around_anchor
+      ap (calls_by p) (log_is object row w s is) ∙ rest_is (w.n * row) 2 Anchor 0 sound.numbered.first (omega arith) around_anchor

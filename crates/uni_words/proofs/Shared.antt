@@ -13,7 +13,7 @@ use Rattle.uni_words.specs.Words.{cells_of, content_of, word_of}
 use Rattle.uni_words.specs.View.{Reading}
 use Rattle.uni_words.specs.View.Reading.{Reply}
 use Rattle.uni_words.specs.Seats.{HasFinished, Moved}
-use Rattle.uni_words.specs.Shown.{ShowsWorld}
+use Rattle.uni_words.specs.Shown.{ShowsRun}
 use Rattle.uni_words.specs.Standing.{LoadsNumber, StoresHead, IsPastHead, HeadIsStored}
 use Rattle.uni_words.specs.declared.view.View.{View}
 use Rattle.uni_words.proofs.Finishes.{ends}
@@ -47,22 +47,22 @@ number_stays object n p x mine _ loads found seen = absurd loads
 -- a seat before the store of its head may store it
 pub stores_head : (object : Sequential ℕ ℕ ℕ) (row n slots id i : ℕ) (st : Step ℕ) (me : Me ℕ View) (cell : ℕ) → me.0.known.count ≡ 1 → (c : Pending) → me.0.known.call ≡ Some c
     → StoresHead (name_of n cell) c.mine c.stage me.0.known.read → cell < cells_of n row → word_of n row (HeadOf me.0.known.first) ≡ Some i
-    → Allows (ShowsWorld object n row) slots id me i (λ x. cell) (λ found me'. HeadIsStored st me cell me')
+    → Allows (ShowsRun object n row) slots id me i (λ x. cell) (λ found me'. HeadIsStored st me cell me')
 stores_head object row n slots id i st me cell single c pending stores inside word = by_stage c.stage me.0.known.read pending refl stores where
   same_call : (d : Pending) → me.0.known.call ≡ Some d → c ≡ d
   same_call d e = let g = sym pending ∙ e in cc
 
   by_stage : (stage : Stage) (read : Reading) → me.0.known.call ≡ Some (record { mine = c.mine; stage = stage }) → me.0.known.read ≡ read → StoresHead (name_of n cell) c.mine stage read
-      → Allows (ShowsWorld object n row) slots id me i (λ x. cell) (λ found me'. HeadIsStored st me cell me')
-  by_stage (WriteScan best s) read at is names = Allows-told (ShowsWorld object n row) slots id me i (λ x. cell) (λ found me'. Moved st me cell me') (λ found me'. HeadIsStored st me cell me')
+      → Allows (ShowsRun object n row) slots id me i (λ x. cell) (λ found me'. HeadIsStored st me cell me')
+  by_stage (WriteScan best s) read at is names = Allows-told (ShowsRun object n row) slots id me i (λ x. cell) (λ found me'. Moved st me cell me') (λ found me'. HeadIsStored st me cell me')
       (λ found me' moved d e. let same : record { mine = c.mine; stage = WriteScan best s } ≡ d = (let g = sym at ∙ e in cc) in
       subst (λ (k : Pending). IsPastHead me k.mine k.stage cell me') same (moved _ at))
       (moves object row n slots id i st me (λ x. cell) (λ x. cell) single (record { mine = c.mine; stage = WriteScan best s }) at tt word (λ found seen. ap CellName (sym names)) (λ found. refl) (λ found a b. b))
-  by_stage (WriteHead x s d) read at is names = Allows-told (ShowsWorld object n row) slots id me i (λ x. cell) (λ found me'. Moved st me cell me') (λ found me'. HeadIsStored st me cell me')
+  by_stage (WriteHead x s d) read at is names = Allows-told (ShowsRun object n row) slots id me i (λ x. cell) (λ found me'. Moved st me cell me') (λ found me'. HeadIsStored st me cell me')
       (λ found me' moved k e. let same : record { mine = c.mine; stage = WriteHead x s d } ≡ k = (let g = sym at ∙ e in cc) in
       subst (λ (k : Pending). IsPastHead me k.mine k.stage cell me') same (moved _ at))
       (moves object row n slots id i st me (λ x. cell) (λ x. cell) single (record { mine = c.mine; stage = WriteHead x s d }) at tt word (λ found seen. ap CellName (sym names)) (λ found. refl) (λ found a b. b))
-  by_stage (Finish c_seq mine_seq) (Reply reply) at is stores = Allows-told (ShowsWorld object n row) slots id me i (λ x. cell) (λ found me'. HasFinished me reply me') (λ found me'. HeadIsStored st me cell me')
+  by_stage (Finish c_seq mine_seq) (Reply reply) at is stores = Allows-told (ShowsRun object n row) slots id me i (λ x. cell) (λ found me'. HasFinished me reply me') (λ found me'. HeadIsStored st me cell me')
       (λ found me' finished k e. let same : record { mine = c.mine; stage = Finish c_seq mine_seq } ≡ k = (let g = sym at ∙ e in cc) in
       subst (λ (k : Pending). IsPastHead me k.mine k.stage cell me') same (λ other read. (let one : reply ≡ other = (let f = sym is ∙ read in cc) in subst (λ r. HasFinished me r me') one finished)))
       (ends object row n slots id i me single cell c_seq mine_seq reply (subst (λ x. me.0.known.call ≡ Some (record { mine = x; stage = Finish c_seq mine_seq })) stores.0 at) is stores.1 word)

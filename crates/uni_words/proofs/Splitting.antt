@@ -1,20 +1,22 @@
 -- A seat of several processes is cut in two.
-use Rattle.std.proofs.Common.{◌≡◌, ◌≢◌, ◌∙◌, ℕ, zero, suc, ◌+◌, ◌-◌, ◌<◌, ◌≤◌, ◌⊎◌, inl, inr, refl, sym, ap, subst, List, [], ◌∷◌, ◌++◌, length, arith, set, length-set}
+use Rattle.std.proofs.Common.{◌≡◌, ◌≢◌, ◌∙◌, ℕ, zero, suc, ◌+◌, ◌-◌, ◌<◌, ◌≤◌, ◌⊎◌, inl, inr, refl, sym, ap, subst, List, [], ◌∷◌, ◌++◌, length, Contains, arith, set, length-set}
 use mathlib.Core.Option.{some, some-injective, some-ne-none}
 use lib.ListN.{get_elem?}
 use Rattle.atomic_table.specs.Table.{State, Splits}
 use Rattle.atomic_table.proofs.Lists.{at_set, at_longer, at_last, set_else}
 use Rattle.seq_object.specs.Sequential.{Sequential}
 use Rattle.uni_model.specs.Places.{set_at}
-use Rattle.uni_model.specs.Worlds.{WorldOf}
+use Rattle.uni_model.specs.History.{history_of}
+use Rattle.uni_model.specs.Worlds.{WorldOf, opened_world}
 use Rattle.uni_model.proofs.Simulation.{set_at_same}
 use Rattle.uni_model.proofs.Written.{number_cases}
 use Rattle.uni_model.proofs.LawProofs.{set_at_elsewhere}
-use Rattle.uni_words.specs.View.{Known}
+use Rattle.uni_words.specs.Run.{acts_by}
+use Rattle.uni_words.specs.View.{CallsOf, Known}
 use Rattle.uni_words.specs.Seats.{first_alone, others}
-use Rattle.uni_words.specs.Shown.{IsLocal, Tells, IsAmong, IsShown, ShowsWorld}
+use Rattle.uni_words.specs.Shown.{IsLocal, IsTaken, Tells, IsAmong, HasProcess, IsShown, HasRun, ShowsRun, acts_known}
 use Rattle.uni_words.specs.declared.view.View.{View}
-use Rattle.uni_words.proofs.Happens.{set_there}
+use Rattle.uni_words.proofs.Happens.{set_there, taken_apart}
 
 -- an element of a list with one more at its end
 at_end : {A : Type 0} (l : List A) (a b : A) (j : ℕ) → get_elem? (l ++ a ∷ []) j ≡ some b → (get_elem? l j ≡ some b) ⊎ ((j ≡ length l) × (a ≡ b))
@@ -56,10 +58,20 @@ module _ (object : Sequential ℕ ℕ ℕ) (row id : ℕ) (v : View) (some_left 
       own = h.own;
     }
 
+    -- nor does a process that was taken in
+    taken_stays : (j : ℕ) (u : View) (there : get_elem? s.views j ≡ some u) (c : CallsOf) → Contains u.known.taken c → IsTaken w is.owner j c → IsTaken w seat_of j c
+    taken_stays j u there c has h = record {
+      inside = h.inside;
+      seat = set_at_elsewhere is.owner v.known.first (length s.views) c.process (taken_apart object row w s is id v at some_left j u there c has) ∙ h.seat;
+      call = h.call;
+      begun = h.begun;
+      own = h.own;
+    }
+
     -- the number of a seat's first process, and how many it has, say nothing of each of them
-    with_range : (l : ℕ → ℕ) (j q : ℕ) (first count : ℕ) → IsLocal w l j q v.known
-        → IsLocal w l j q (record v.known { first = first; count = count })
-    with_range l j q first count h = record {
+    with_range : (l : ℕ → ℕ) (j q : ℕ) (first count : ℕ) (taken : List CallsOf) → IsLocal w l j q v.known
+        → IsLocal w l j q (record v.known { first = first; count = count; taken = taken })
+    with_range l j q first count taken h = record {
       inside = h.inside;
       seat = h.seat;
       call = h.call;
@@ -92,16 +104,18 @@ module _ (object : Sequential ℕ ℕ ℕ) (row id : ℕ) (v : View) (some_left 
             subst (λ (z : View). Tells w seat_of row j z.known) mine.1
             (subst (λ k. Tells w seat_of row k (others v).known) (sym mine.0)
             (record {
-              processes = told.processes;
-              calls = told.calls;
+              processes = λ any. told.processes some_left;
+              calls = λ any. told.calls some_left;
+              taken = λ c has. let its = told.taken c has in (taken_stays id v at c has its.0, λ among. its.1 (omega (arith, among.0), omega (arith, among.1, some_left)));
               each = λ q from to.
-                  with_range seat_of id q (v.known.first + 1) (v.known.count - 1) (stays id q v.known (λ same. omega (arith, same, from)) (told.each q (omega (arith, from)) (omega (arith, to, some_left))));
+                  with_range seat_of id q (v.known.first + 1) (v.known.count - 1) v.known.taken (stays id q v.known (λ same. omega (arith, same, from)) (told.each q (omega (arith, from)) (omega (arith, to, some_left))));
             }))
         | inr other ↦
             let its = is.seats j u other.1 in
             record {
               processes = its.processes;
               calls = its.calls;
+              taken = λ c has. let taken = its.taken c has in (taken_stays j u other.1 c has taken.0, taken.1);
               each = λ q from to.
                   let local = its.each q from to in
                   stays j q u.known (λ same. other.0 (sym local.seat ∙ (ap is.owner same ∙ first_local.seat))) local;
@@ -111,20 +125,21 @@ module _ (object : Sequential ℕ ℕ ℕ) (row id : ℕ) (v : View) (some_left 
           let place : j ≡ length s.views = new.0 ∙ length-set s.views id (others v) in
           subst (λ (z : View). Tells w seat_of row j z.known) new.1
           (record {
-            processes = told.processes;
-            calls = told.calls;
+            processes = λ any. told.processes some_left;
+            calls = λ any. told.calls some_left;
+            taken = λ c has. absurd (let k = has.1 in omega arith);
             each = λ q from to.
                 let same : v.known.first ≡ q = omega (arith, from, to) in
-                subst (λ k. IsLocal w seat_of j k (first_alone v).known) same (with_range seat_of j v.known.first v.known.first 1 (moved_seat seat_of j first_local place));
+                subst (λ k. IsLocal w seat_of j k (first_alone v).known) same (with_range seat_of j v.known.first v.known.first 1 [] (moved_seat seat_of j first_local place));
           })
     ]
 
-    seated_later : (q : ℕ) → q < w.n → (u : View) × (get_elem? views' (seat_of q) ≡ some u) × IsAmong q u.known
+    seated_later : (q : ℕ) → q < w.n → (u : View) × (get_elem? views' (seat_of q) ≡ some u) × HasProcess q u.known
     seated_later q inside = elim (number_cases q v.known.first) [
       | inl here ↦ (
         first_alone v,
         at_last (set s.views id (others v)) (first_alone v) (seat_of q) (length-set s.views id (others v) ∙ sym (ap seat_of here.0 ∙ set_at_same is.owner v.known.first (length s.views))),
-        (let e = here.0 in omega arith, let e = here.0 in omega arith),
+        inl (let e = here.0 in omega arith, let e = here.0 in omega arith),
       )
       | inr other ↦
           let was = is.seated q inside in
@@ -132,11 +147,11 @@ module _ (object : Sequential ℕ ℕ ℕ) (row id : ℕ) (v : View) (some_left 
           elim (number_cases (is.owner q) id) [
             | inl mine ↦
                 let same : was.0 ≡ v = some-injective _ _ (sym (subst (λ k. get_elem? s.views k ≡ some was.0) mine.0 was.1) ∙ at) in
-                let among : IsAmong q v.known = subst (λ (z : View). IsAmong q z.known) same was.2 in (
+                let among : HasProcess q v.known = subst (λ (z : View). HasProcess q z.known) same was.2 in (
                   others v,
                   at_longer (set s.views id (others v)) (first_alone v ∷ []) (seat_of q) (others v)
                       (subst (λ k. get_elem? (set s.views id (others v)) k ≡ some (others v)) (sym (own ∙ mine.0)) (set_there s.views id v (others v) at)),
-                  (let a = among.0 in let b = other.0 in omega arith, let a = among.1 in omega (arith, some_left)),
+                  elim among [ inl a ↦ inl (omega (arith, a.0, other.0), omega (arith, a.1, some_left)) | inr c ↦ inr c ],
                 )
             | inr else ↦ (
               was.0,
@@ -162,5 +177,33 @@ module _ (object : Sequential ℕ ℕ ℕ) (row id : ℕ) (v : View) (some_left 
       counts = is.counts;
     }
 
-  pub splits : (n : ℕ) → Splits (ShowsWorld object n row) id v (others v) (first_alone v)
-  splits n s shown at = (shown.0, shown.1, split_kept shown.0 s shown.2 at)
+    pub split_run : (n : ℕ) → HasRun object n w s.views → HasRun object n w views'
+    split_run n run = record {
+      events = run.events;
+      accepted = run.accepted;
+      one_era = run.one_era;
+      reached = run.reached;
+      acts = λ j u e p among. elim (at_end (set s.views id (others v)) (first_alone v) u j e) [
+        | inl old ↦ elim (at_set s.views id j (others v) u old) [
+          | inl mine ↦
+              let here : IsAmong p (others v).known = subst (λ (z : View). IsAmong p z.known) (sym mine.1) among in
+              subst (λ (z : View). acts_by p (history_of object (opened_world n object.initial 1) run.events) ≡ acts_known p z.known) mine.1
+              (run.acts id v at p (omega (arith, here.0), omega (arith, here.1, some_left)))
+          | inr other ↦ run.acts j u other.1 p among
+        ]
+        | inr new ↦
+            let here : IsAmong p (first_alone v).known = subst (λ (z : View). IsAmong p z.known) (sym new.1) among in
+            subst (λ (z : View). acts_by p (history_of object (opened_world n object.initial 1) run.events) ≡ acts_known p z.known) new.1
+            (run.acts id v at p (here.0, omega (arith, here.1, some_left)))
+      ];
+      taken = λ j u e c has. elim (at_end (set s.views id (others v)) (first_alone v) u j e) [
+        | inl old ↦ elim (at_set s.views id j (others v) u old) [
+          | inl mine ↦ run.taken id v at c (subst (λ (z : View). Contains z.known.taken c) (sym mine.1) has)
+          | inr other ↦ run.taken j u other.1 c has
+        ]
+        | inr new ↦ absurd (let none : Contains (first_alone v).known.taken c = subst (λ (z : View). Contains z.known.taken c) (sym new.1) has in let k = none.1 in omega arith)
+      ];
+    }
+
+  pub splits : (n : ℕ) → Splits (ShowsRun object n row) id v (others v) (first_alone v)
+  splits n s shown at = (shown.0, shown.1, split_kept shown.0 s shown.2 at, split_run shown.0 s shown.2 at n shown.3)

@@ -1,6 +1,7 @@
 pub mod Objects
 pub mod Words
 pub mod View
+pub mod Run
 pub mod Shown
 pub mod Seats
 pub mod Standing

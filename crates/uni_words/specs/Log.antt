@@ -44,6 +44,10 @@ calls_by p (e ∷ es) = if e.call.process == p then (e.call.inv, e.response) ∷
 abbrev pub AreAnswered : List (Entry ℕ ℕ) → Type 0
 AreAnswered log = (place : ℕ) (e : Entry ℕ ℕ) → slice_get log place ≡ Some e → place + 1 < length log → IsSome e.response
 
+-- each entry is a call of one of so many processes
+abbrev pub AreCallsOf : ℕ → List (Entry ℕ ℕ) → Type 0
+AreCallsOf n log = (place : ℕ) (e : Entry ℕ ℕ) → slice_get log place ≡ Some e → e.call.process < n
+
 -- an invocation that was given this reply
 abbrev pub replied : ℕ × ℕ → ℕ × Option ℕ
 replied c = (c.0, Some c.1)

@@ -2,10 +2,10 @@
 use Rattle.std.specs.Prelude.{ℕ}
 use Rattle.atomic_table.specs.Table.{State}
 use Rattle.seq_object.specs.Sequential.{Sequential}
-use Rattle.uni_words.specs.Shown.{ShowsWorld}
+use Rattle.uni_words.specs.Shown.{ShowsRun}
 use Rattle.uni_words.specs.declared.view.View.{View}
 use Rattle.uni_words.specs.declared.rule.Setup.{Setup}
 
 -- of an object that means so much
 abbrev pub Rule : {O : Type 0} → (meaning : O → Sequential ℕ ℕ ℕ) → Setup O → State ℕ View → Type 0
-Rule meaning key = ShowsWorld (meaning key.object) key.n key.k
+Rule meaning key = ShowsRun (meaning key.object) key.n key.k

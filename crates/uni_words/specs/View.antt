@@ -15,9 +15,15 @@ pub data Reading : Type 0 where
   Applied : (inv state : ℕ) → Reading
   Reply : (reply : ℕ) → Reading
 
+-- the calls of one process that have returned, each with its invocation and its reply
+pub record CallsOf : Type 0 where
+  pub process : ℕ
+  pub own : List (ℕ × ℕ)
+
 -- a seat's processes, which are those from the first on, n being all that there are, with rows of so many calls; how many
 -- word steps it has taken; of each of its processes the pending call with its invocation and what it has read, how many
--- calls it has begun, the own steps and turns of the latest one, and the invocations and replies of those that have returned
+-- calls it has begun, the own steps and turns of the latest one, and the invocations and replies of those that have returned; and
+-- the calls of each process whose seat was taken in
 pub record Known : Type 0 where
   pub n : ℕ
   pub row : ℕ
@@ -31,10 +37,11 @@ pub record Known : Type 0 where
   pub steps : ℕ
   pub turns : ℕ
   pub own : List (ℕ × ℕ)
+  pub taken : List CallsOf
 
 -- the first seat has all processes
 abbrev pub everyone : (n row : ℕ) → Known
-everyone n row = record { n = n; row = row; first = 0; count = n; word_steps = 0; call = None; inv = 0; read = Nothing; begun = 0; steps = 0; turns = 0; own = [] }
+everyone n row = record { n = n; row = row; first = 0; count = n; word_steps = 0; call = None; inv = 0; read = Nothing; begun = 0; steps = 0; turns = 0; own = []; taken = [] }
 
 -- where a process stands after its step, which found this word
 abbrev pub stage_found : (n p : ℕ) → (mine : Name) → Stage → (found : ℕ) → Option Stage
@@ -78,4 +85,4 @@ finished_by v reply = record v {
 
 -- a seat of some processes that have made no call
 abbrev pub nobody_called : (n row first count : ℕ) → Known
-nobody_called n row first count = record { n = n; row = row; first = first; count = count; word_steps = 0; call = None; inv = 0; read = Nothing; begun = 0; steps = 0; turns = 0; own = [] }
+nobody_called n row first count = record { n = n; row = row; first = first; count = count; word_steps = 0; call = None; inv = 0; read = Nothing; begun = 0; steps = 0; turns = 0; own = []; taken = [] }

@@ -3,7 +3,7 @@ ghost use Rattle.std.specs.Prelude.{◌≡◌, ◌↔◌, ◌+◌, ◌*◌, ◌<
 ghost use Rattle.uni_words.specs.Standing.{StandsAt, GoesBy, IsIdle, IsCountOf};
 ghost use Rattle.uni_model.specs.Indices.{name_of};
 ghost use Rattle.uni_words.specs.Words.{cells_of};
-ghost use Rattle.uni_words.specs.Belongs.{IsSeatOf, processes_of, row_of, process_of, calls_made, own_calls, latest_turns, word_steps_of};
+ghost use Rattle.uni_words.specs.Belongs.{IsSeatOf, processes_of, row_of, process_of, calls_made, own_calls, taken_calls, latest_turns, word_steps_of};
 ghost use Rattle.uni_model.specs.Places.Name.{Anchor};
 ghost use Rattle.uni_model.specs.Stages.Stage.{ScanHead, WriteScan, Test, ReadAnnounce, Finish};
 
@@ -118,6 +118,7 @@ impl<O: WordObject> WordLog<O> {
         ensures same { (seat.new.table_id ≡ seat.old.table_id) × (seat.new.id ≡ seat.old.id) }
         ensures idle { IsIdle self.now.setup.n self.now.setup.k p (nth + 1) seat.new.me }
         ensures own { seat.new.me.0.known.own ≡ seat.old.me.0.known.own ++ (inv, result.reply) ∷ [] }
+        ensures taken { seat.new.me.0.known.taken ≡ seat.old.me.0.known.taken }
         ensures turns { (seat.new.me.0.known.turns ≡ result.turns) × (result.turns ≤ self.now.setup.n + 1) }
         ensures steps { IsCountOf self.now.setup.n result.turns seat.old.me.0.known.word_steps seat.new.me.0.known.word_steps }
     {
@@ -151,6 +152,7 @@ impl WordSeat {
         ensures full { IsErr result ↔ (calls_made self.old ≡ row_of log.now) }
         ensures unchanged { OnErr result (self.new ≡ self.old) }
         ensures own { IfOk result (λ answer. own_calls self.new ≡ own_calls self.old ++ (inv, answer.reply) ∷ []) }
+        ensures taken { taken_calls self.new ≡ taken_calls self.old }
         ensures made { OnOk result (calls_made self.new ≡ calls_made self.old + 1) }
         ensures turns { IfOk result (λ answer. latest_turns self.new ≡ answer.turns) }
         ensures few_turns { IfOk result (λ answer. answer.turns ≤ processes_of log.now + 1) }

@@ -1,7 +1,7 @@
 //! The rule of the table, and what its steps tell.
 use crate::object::WordObject;
 use crate::view::View;
-use atomic_table::{Play, Split, Table, TableRule};
+use atomic_table::{Join, Play, Split, Table, TableRule};
 use std::alloc::Global;
 use std::marker::PhantomData;
 
@@ -19,10 +19,10 @@ pub struct Universal<O> {
 }
 
 impl<O: WordObject> TableRule<u8, View, Setup<O>> for Universal<O> {
-    ghost use Rattle.uni_words.specs.Shown.{ShowsWorld};
+    ghost use Rattle.uni_words.specs.Shown.{ShowsRun};
     ghost use Rattle.uni_words.specs.Seats.{first_view};
 
-    ghost holds = { λ key. ShowsWorld (O.sequential key.object) key.n key.k };
+    ghost holds = { λ key. ShowsRun (O.sequential key.object) key.n key.k };
 
     ghost first = { λ key. first_view key.n key.k };
 }
@@ -90,6 +90,17 @@ impl Split<View> for First {
     ghost left = { others };
 
     ghost right = { first_alone };
+}
+
+/// A seat of one process, with what it knows, taken into another one.
+pub struct TakesIn;
+
+impl Join<View> for TakesIn {
+    ghost use Rattle.uni_words.specs.Seats.{nobody, took_in};
+
+    ghost both = { took_in };
+
+    ghost spent = { nobody };
 }
 
 /// The table of a log: it has no slots.

@@ -1,0 +1,223 @@
+-- A seat takes in another one.
+use Rattle.std.proofs.Common.{◌≡◌, ◌≢◌, ◌∙◌, ℕ, ◌+◌, ◌<◌, ◌⊎◌, inl, inr, refl, sym, ap, subst, List, [], ◌∷◌, ◌++◌, append-nil, length, Contains, None, arith, ◌==◌, if◌then◌else◌, set}
+use Rattle.std.proofs.lemmas.List.Elements.{Contains-append_cases, Contains-append_left, Contains-append_right, Contains-push_cases}
+use mathlib.Core.Option.{some, some-injective}
+use lib.ListN.{get_elem?}
+use Rattle.atomic_table.specs.Table.{State, Joins}
+use Rattle.atomic_table.proofs.Lists.{at_set, set_else}
+use Rattle.seq_object.specs.Sequential.{Sequential}
+use Rattle.uni_model.specs.History.{history_of}
+use Rattle.uni_model.specs.Worlds.{WorldOf, opened_world}
+use Rattle.uni_model.proofs.Written.{number_cases}
+use Rattle.uni_words.specs.Run.{acts_by, acts_from, acts_pending}
+use Rattle.uni_words.specs.View.{CallsOf, Known}
+use Rattle.uni_words.specs.Seats.{calls_known, nobody, took_in}
+use Rattle.uni_words.specs.Shown.{IsLocal, IsTaken, Tells, IsAmong, HasProcess, IsShown, HasRun, ShowsRun, acts_known, pending_count}
+use Rattle.uni_words.specs.declared.view.View.{View}
+use Rattle.uni_words.proofs.Happens.{set_there}
+
+-- an element of a list is its first, or among the others
+pub first_or : {A : Type 0} (x : A) (xs : List A) (c : A) → Contains (x ∷ xs) c → (x ≡ c) ⊎ Contains xs c
+first_or x xs c has = elim (Contains-append_cases (x ∷ []) xs c has) [
+  | inl one ↦ elim (Contains-push_cases [] x c one) [ inl none ↦ absurd (let k = none.1 in omega arith) | inr same ↦ inl same ]
+  | inr more ↦ inr more
+]
+
+pub first_there : {A : Type 0} (x : A) (xs : List A) → Contains (x ∷ xs) x
+first_there x xs = (0, omega arith, refl)
+
+pub later_there : {A : Type 0} (x : A) (xs : List A) (c : A) → Contains xs c → Contains (x ∷ xs) c
+later_there x xs c has = Contains-append_right (x ∷ []) xs c has
+
+-- the calls of a process of which nothing is pending
+pub ended_local : (w : WorldOf ℕ ℕ ℕ) (owner : ℕ → ℕ) (id p : ℕ) (v : Known) → IsLocal w owner id p v → v.call ≡ None → w.begun p ≡ length v.own
+ended_local w owner id p v local idle = local.begun ∙ (let c : v.begun ≡ length v.own + 0 = subst (λ o. v.begun ≡ length v.own + pending_count o) idle local.counted in omega arith)
+
+module _ (object : Sequential ℕ ℕ ℕ) (row id : ℕ) (v : View) (other : ℕ) (x : View) (single : x.known.count ≡ 1) (idle : x.known.call ≡ None) where
+  module _ (w : WorldOf ℕ ℕ ℕ) (s : State ℕ View) (is : IsShown object row w s) (at : get_elem? s.views id ≡ some v) (apart : other ≡ id → ⊥)
+      (there : get_elem? (set s.views id (took_in v x)) other ≡ some x) where
+    was_there : get_elem? s.views other ≡ some x
+    was_there = sym (set_else s.views id other (took_in v x) apart) ∙ there
+
+    abbrev views' : List View
+    views' = set (set s.views id (took_in v x)) other nobody
+
+    -- the processes of the other seat go over
+    abbrev owner' : ℕ → ℕ
+    owner' q = if is.owner q == other then id else is.owner q
+
+    goes_over : (q : ℕ) → is.owner q ≡ other → owner' q ≡ id
+    goes_over q e = elim (number_cases (is.owner q) other) [ inl same ↦ rw same.1 refl | inr away ↦ absurd (away.0 e) ]
+
+    stays : (q j : ℕ) → is.owner q ≡ j → j ≢ other → owner' q ≡ j
+    stays q j e away = elim (number_cases (is.owner q) other) [ inl same ↦ absurd (away (sym e ∙ same.0)) | inr off ↦ rw off.1 e ]
+
+    told : Tells w is.owner row id v.known
+    told = is.seats id v at
+
+    told_other : Tells w is.owner row other x.known
+    told_other = is.seats other x was_there
+
+    local_other : IsLocal w is.owner other x.known.first x.known
+    local_other = told_other.each x.known.first (omega arith) (omega (arith, single))
+
+    seated_local : (j j' q : ℕ) (u : Known) (taken : List CallsOf) → IsLocal w is.owner j q u → owner' q ≡ j' → IsLocal w owner' j' q (record u { taken = taken })
+    seated_local j j' q u taken h e = record {
+      inside = h.inside;
+      seat = e;
+      call = h.call;
+      begun = h.begun;
+      steps = h.steps;
+      turns = h.turns;
+      underway = h.underway;
+      counted = h.counted;
+      own = h.own;
+    }
+
+    seated_taken : (j j' : ℕ) (c : CallsOf) → IsTaken w is.owner j c → owner' c.process ≡ j' → IsTaken w owner' j' c
+    seated_taken j j' c h e = record { inside = h.inside; seat = e; call = h.call; begun = h.begun; own = h.own }
+
+    -- none of the other seat's processes is one of the seat
+    not_among : (q : ℕ) → is.owner q ≡ other → IsAmong q v.known → ⊥
+    not_among q e among = apart (sym e ∙ (told.each q among.0 among.1).seat)
+
+    now_taken : (c : CallsOf) → Contains (calls_known x) c → IsTaken w owner' id c × (IsAmong c.process v.known → ⊥)
+    now_taken c has = elim (first_or _ _ c has) [
+      | inl here ↦ subst (λ k. IsTaken w owner' id k × (IsAmong k.process v.known → ⊥)) here (
+        record {
+          inside = local_other.inside;
+          seat = goes_over x.known.first local_other.seat;
+          call = local_other.call ∙ idle;
+          begun = ended_local w is.owner other x.known.first x.known local_other idle;
+          own = local_other.own;
+        },
+        not_among x.known.first local_other.seat,
+      )
+      | inr taken ↦ let its = (told_other.taken c taken).0 in (seated_taken other id c its (goes_over c.process its.seat), not_among c.process its.seat)
+    ]
+
+    seats_later : (j : ℕ) (u : View) → get_elem? views' j ≡ some u → Tells w owner' row j u.known
+    seats_later j u e = elim (at_set (set s.views id (took_in v x)) other j nobody u e) [
+      | inl spent ↦ subst (λ (z : View). Tells w owner' row j z.known) spent.1 (record {
+        processes = λ any. absurd (omega arith);
+        calls = λ any. absurd (omega arith);
+        each = λ q from to. absurd (omega arith);
+        taken = λ c has. absurd (let k = has.1 in omega arith);
+      })
+      | inr left ↦ elim (at_set s.views id j (took_in v x) u left.1) [
+        | inl mine ↦
+            subst (λ (z : View). Tells w owner' row j z.known) mine.1
+            (subst (λ k. Tells w owner' row k (took_in v x).known) (sym mine.0)
+            (record {
+              processes = told.processes;
+              calls = told.calls;
+              each = λ q from to. let local = told.each q from to in seated_local id id q v.known (v.known.taken ++ calls_known x) local (stays q id local.seat (λ same. apart (sym same)));
+              taken = λ c has. elim (Contains-append_cases v.known.taken (calls_known x) c has) [
+                | inl old ↦ let its = told.taken c old in (seated_taken id id c its.0 (stays c.process id its.0.seat (λ same. apart (sym same))), its.1)
+                | inr new ↦ now_taken c new
+              ];
+            }))
+        | inr rest ↦
+            let its = is.seats j u rest.1 in
+            record {
+              processes = its.processes;
+              calls = its.calls;
+              each = λ q from to. let local = its.each q from to in seated_local j j q u.known u.known.taken local (stays q j local.seat left.0);
+              taken = λ c has. let taken = its.taken c has in (seated_taken j j c taken.0 (stays c.process j taken.0.seat left.0), taken.1);
+            }
+      ]
+    ]
+
+    mine_there : get_elem? views' id ≡ some (took_in v x)
+    mine_there = set_else (set s.views id (took_in v x)) other id nobody (λ same. apart (sym same)) ∙ set_there s.views id v (took_in v x) at
+
+    seated_later : (q : ℕ) → q < w.n → (u : View) × (get_elem? views' (owner' q) ≡ some u) × HasProcess q u.known
+    seated_later q inside =
+        let was = is.seated q inside in
+        elim (number_cases (is.owner q) other) [
+          | inl over ↦
+              let same : was.0 ≡ x = some-injective _ _ (sym (subst (λ k. get_elem? s.views k ≡ some was.0) over.0 was.1) ∙ was_there) in
+              let has : HasProcess q x.known = subst (λ (z : View). HasProcess q z.known) same was.2 in (
+                took_in v x,
+                subst (λ k. get_elem? views' k ≡ some (took_in v x)) (sym (goes_over q over.0)) mine_there,
+                inr (elim has [
+                  | inl among ↦ (record { process = x.known.first; own = x.known.own }, Contains-append_right v.known.taken (calls_known x) _ (first_there _ _), omega (arith, single, among.0, among.1))
+                  | inr taken ↦ (taken.0, Contains-append_right v.known.taken (calls_known x) taken.0 (later_there _ _ taken.0 taken.1), taken.2)
+                ]),
+              )
+          | inr off ↦ elim (number_cases (is.owner q) id) [
+            | inl mine ↦
+                let same : was.0 ≡ v = some-injective _ _ (sym (subst (λ k. get_elem? s.views k ≡ some was.0) mine.0 was.1) ∙ at) in
+                let has : HasProcess q v.known = subst (λ (z : View). HasProcess q z.known) same was.2 in (
+                  took_in v x,
+                  subst (λ k. get_elem? views' k ≡ some (took_in v x)) (sym (stays q id mine.0 (λ same. apart (sym same)))) mine_there,
+                  elim has [
+                    | inl among ↦ inl among
+                    | inr taken ↦ inr (taken.0, Contains-append_left v.known.taken (calls_known x) taken.0 taken.1, taken.2)
+                  ],
+                )
+            | inr rest ↦ (
+              was.0,
+              subst (λ k. get_elem? views' k ≡ some was.0) (sym (stays q (is.owner q) refl off.0))
+                  (set_else (set s.views id (took_in v x)) other (is.owner q) nobody off.0 ∙ (set_else s.views id (is.owner q) (took_in v x) rest.0 ∙ was.1)),
+              was.2,
+            )
+          ]
+        ]
+
+    join_kept : IsShown object row w (record { words = s.words; homes = s.homes; views = views' })
+    join_kept = record {
+      owner = owner';
+      wide = is.wide;
+      memory = is.memory;
+      seats = seats_later;
+      seated = seated_later;
+      number = is.number;
+      state = is.state;
+      room = is.room;
+      fits = is.fits;
+      sound = is.sound;
+      counts = is.counts;
+    }
+
+    module _ (n : ℕ) (run : HasRun object n w s.views) where
+      abbrev Acts : CallsOf → Type 0
+      Acts c = acts_by c.process (history_of object (opened_world n object.initial 1) run.events) ≡ acts_from c.process 0 c.own
+
+      acts_taken : (c : CallsOf) → Contains (calls_known x) c → Acts c
+      acts_taken c has = elim (first_or _ _ c has) [
+        | inl here ↦ subst Acts here (run.acts other x was_there x.known.first (omega arith, omega (arith, single))
+            ∙ (ap (λ o. acts_from x.known.first 0 x.known.own ++ acts_pending x.known.first (length x.known.own) x.known.inv o) idle ∙ append-nil (acts_from x.known.first 0 x.known.own)))
+        | inr taken ↦ run.taken other x was_there c taken
+      ]
+
+      join_run : HasRun object n w views'
+      join_run = record {
+        events = run.events;
+        accepted = run.accepted;
+        one_era = run.one_era;
+        reached = run.reached;
+        acts = λ j u e p among. elim (at_set (set s.views id (took_in v x)) other j nobody u e) [
+          | inl spent ↦ absurd (let none : IsAmong p nobody.known = subst (λ (z : View). IsAmong p z.known) (sym spent.1) among in omega (arith, none.0, none.1))
+          | inr left ↦ elim (at_set s.views id j (took_in v x) u left.1) [
+            | inl mine ↦
+                subst (λ (z : View). acts_by p (history_of object (opened_world n object.initial 1) run.events) ≡ acts_known p z.known) mine.1
+                (run.acts id v at p (subst (λ (z : View). IsAmong p z.known) (sym mine.1) among))
+            | inr rest ↦ run.acts j u rest.1 p among
+          ]
+        ];
+        taken = λ j u e c has. elim (at_set (set s.views id (took_in v x)) other j nobody u e) [
+          | inl spent ↦ absurd (let none : Contains nobody.known.taken c = subst (λ (z : View). Contains z.known.taken c) (sym spent.1) has in let k = none.1 in omega arith)
+          | inr left ↦ elim (at_set s.views id j (took_in v x) u left.1) [
+            | inl mine ↦
+                elim (Contains-append_cases v.known.taken (calls_known x) c (subst (λ (z : View). Contains z.known.taken c) (sym mine.1) has)) [
+                  | inl old ↦ run.taken id v at c old
+                  | inr new ↦ acts_taken c new
+                ]
+            | inr rest ↦ run.taken j u rest.1 c has
+          ]
+        ];
+      }
+
+  pub joins : (n : ℕ) → Joins (ShowsRun object n row) id v other x (took_in v x) nobody
+  joins n s shown at apart there = (shown.0, shown.1, join_kept shown.0 s shown.2 at apart there, join_run shown.0 s shown.2 at apart there n shown.3)

@@ -1,0 +1,68 @@
+use Rattle.std.proofs.Common.{map, ◌≡◌, ◌∙◌, ◌∷◌, ◌++◌, [], List, sym, subst}
+use Rattle.std.proofs.lemmas.List.Elements.{All-contains, All-head, All-map, All-same, All-tail, Contains-append_left, Contains-push}
+use Rattle.std.proofs.lemmas.List.{nil_from_length}
+use Rattle.std.specs.Vec.Iter.{into_iter_items}
+use Rattle.uni_model.specs.History.{history_of}
+use Rattle.uni_model.specs.Worlds.{opened_world}
+use Rattle.uni_words.specs.Belongs.{IsSeatOf, calls_of, known_calls, count_in, row_in, words_in}
+use Rattle.uni_words.specs.Log.{log_of, calls_by, replied}
+use Rattle.uni_words.specs.Run.{acts_by, acts_from}
+use Rattle.uni_words.specs.View.{CallsOf}
+use Rattle.uni_words.specs.declared.steps.WordSeat.{WordSeat}
+use Rattle.uni_words.proofs.Agreeing.{agrees_all}
+use Rattle.uni_words.proofs.Accounted.{All-each, accounted_first, accounted_more, accounted_all}
+use Rattle.uni_words.proofs.log.WordLog.close_all.Goals as goal
+
+pub loop-seat-init : goal.loop-seat-init
+loop-seat-init g c =
+    let P : WordSeat → Type 0 = IsSeatOf c.args.self in
+    let rest : List WordSeat = into_iter_items c.into_iter-seat-iterator.result in
+    let same : rest ≡ c.pop.new.self.items = c.into_iter-seat-iterator.ensures.into_iter_gives.0 in
+    let all : c.args.seats.items ≡ rest ++ c.in-Some.first ∷ [] = subst (λ l. c.args.seats.items ≡ l ++ c.in-Some.first ∷ []) (sym same) c.in-Some.ensures.items in
+    let each = All-same P _ _ (sym all) c.requires.seats in (
+      All-contains P _ c.in-Some.first each (Contains-push rest c.in-Some.first),
+      All-each P rest (λ x has. All-contains P _ x each (Contains-append_left rest _ x has)),
+      accounted_first c.args.seats.items rest c.in-Some.first all,
+    )
+
+pub take_in-requires : goal.take_in-requires
+take_in-requires g c =
+    let P : WordSeat → Type 0 = IsSeatOf c.args.self in
+    record { seats = (c.loop-seat.invariant.0, All-head P c.in-Some-seat.seat (into_iter_items c.next.new.self) (All-same P _ _ (sym c.in-Some-seat.ensures.steps.0) c.loop-seat.invariant.1)) }
+
+pub loop-seat-preserved : goal.loop-seat-preserved
+loop-seat-preserved g c =
+    let P : WordSeat → Type 0 = IsSeatOf c.args.self in (
+      c.take_in.ensures.kept.0,
+      All-tail P c.in-Some-seat.seat (into_iter_items c.next.new.self) (All-same P _ _ (sym c.in-Some-seat.ensures.steps.0) c.loop-seat.invariant.1),
+      accounted_more c.args.seats.items _ (into_iter_items c.next.new.self) c.loop-seat.first c.take_in.new.self c.in-Some-seat.seat c.in-Some-seat.ensures.steps.0 c.take_in.ensures.known c.loop-seat.invariant.2,
+    )
+
+pub close_with-requires : goal.close_with-requires
+close_with-requires g c = record { seat = c.loop-seat.invariant.0 }
+
+pub returns-clause-own : goal.returns-clause-own
+returns-clause-own g c =
+    let P : CallsOf → Type 0 = λ calls. calls_by calls.process (log_of (count_in c.close_with.result) (row_in c.close_with.result) (words_in c.close_with.result)) ≡ map replied calls.own in
+    All-each (λ x. P (calls_of x)) c.args.seats.items
+    (λ x has. All-contains P (known_calls c.loop-seat.first) (calls_of x) c.close_with.ensures.known
+    (accounted_all c.args.seats.items _ c.loop-seat.first (nil_from_length _ (sym c.loop-seat.seat-iterator.rest.ok.0 ∙ c.in-None.ensures.steps.0)) c.loop-seat.invariant.2 x has))
+
+pub returns-clause-run : goal.returns-clause-run
+returns-clause-run g c =
+    let run = c.close_with.ensures.run in
+    let P : CallsOf → Type 0 = λ calls. acts_by calls.process (history_of (g.O.WordObject.sequential c.args.self.setup.object) (opened_world c.args.self.setup.n (g.O.WordObject.sequential c.args.self.setup.object).initial 1) run.events) ≡ acts_from calls.process 0 calls.own in
+    record {
+      events = run.events;
+      accepted = run.accepted;
+      universal = run.universal;
+      real_time = run.real_time;
+      responses = run.responses;
+      joined = run.joined;
+      acts = λ calls has. All-contains P (map calls_of c.args.seats.items) calls (All-map P calls_of c.args.seats.items
+          (All-each (λ x. P (calls_of x)) c.args.seats.items (λ x there. run.acts (calls_of x) (accounted_all c.args.seats.items _ c.loop-seat.first (nil_from_length _ (sym c.loop-seat.seat-iterator.rest.ok.0 ∙ c.in-None.ensures.steps.0)) c.loop-seat.invariant.2 x there)))) has;
+    }
+
+pub returns-clause-agrees : goal.returns-clause-agrees
+returns-clause-agrees g c all =
+    agrees_all c.args.self (g.O.WordObject.sequential c.args.self.setup.object) _ c.args.seats.items all c.close_with.ensures.legal c.close_with.ensures.inside (returns-clause-own g c)
