@@ -9,10 +9,10 @@ use Rattle.uni_model.specs.Places.Name.{Of}
 use Rattle.uni_model.specs.Stages.{Stage, Pending}
 use Rattle.uni_model.specs.Stages.Stage.{Announce, ScanHead, ScanSeq, WriteScan, Test, ReadAnnounce, ReadHelpSeq, DecideAfter, DecideNew, WriteBefore, WriteSeq, WriteHead, Finish}
 use Rattle.uni_model.specs.Transition.{Beside, beside, place_of, stage_after, response_after}
-use Rattle.uni_model.specs.Chain.{Invoked, invoked_at}
+use Rattle.uni_model.specs.Chain.{invoked_at}
 use Rattle.uni_model.specs.Worlds.{WorldOf, anchor_memory, call_after, last_cell, world_after, world_after_step, world_after_era, response_of_step, IsAccepted}
 use Rattle.uni_model.specs.Worlds.Event.{Call, Step}
-use Rattle.uni_model.specs.AtomicObject.{Atomic, Open, Act, AcceptsAll}
+use Rattle.uni_model.specs.AtomicObject.{Atomic, Open, Act, AcceptsAll, Invoked}
 use Rattle.uni_model.specs.AtomicObject.Act.{Linearize}
 use Rattle.uni_model.specs.History.{Shows, open_at, calls_of, acts_of}
 use Rattle.uni_model.specs.Invariant.{Invariant, AreCalls}

@@ -6,7 +6,8 @@ use Rattle.uni_model.specs.Places.{Name, memory_with, inv_of, new_of}
 use Rattle.uni_model.specs.Stages.{Pending as PendingAt}
 use Rattle.uni_model.specs.Stages.{Stage as at}
 use Rattle.uni_model.specs.Chain.{response_in}
-use Rattle.uni_model.specs.Transition.{Effect, place_of, beside, effect_of}
+use Rattle.uni_model.specs.Transition.{place_of, beside}
+use Rattle.uni_model.specs.Effects.{Effect, effect_of}
 use Rattle.uni_core.specs.declared.stage.Stage.{Stage}
 use Rattle.uni_core.specs.declared.stage.Stage.TheVariants.{Announce, ScanHead, ScanSeq, WriteScan, Test, ReadAnnounce, ReadHelpSeq, DecideAfter, DecideNew, WriteBefore, WriteSeq, WriteHead, Finish}
 use Rattle.uni_core.specs.declared.stage.Pending.{Pending}

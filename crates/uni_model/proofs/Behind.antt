@@ -4,9 +4,7 @@ use Rattle.std.proofs.lemmas.List.{append_assoc, map-append, length-map}
 use Rattle.std.proofs.lemmas.List.Elements.{Contains-append_cases}
 use Rattle.seq_object.specs.Sequential.{Sequential}
 use Rattle.seq_object.specs.History.{state_after, response_at}
-use Rattle.uni_model.specs.Places.{set_at}
-use Rattle.uni_model.specs.Chain.{Invoked}
-use Rattle.uni_model.specs.AtomicObject.{Open, Atomic, Act, Accepts, AcceptsAll}
+use Rattle.uni_model.specs.AtomicObject.{Open, Atomic, Act, Accepts, AcceptsAll, set_at, Invoked}
 use Rattle.uni_model.specs.AtomicObject.Act.{Invoke, Linearize, Respond}
 use Rattle.uni_model.proofs.Written.{set_at-cases}
 use Rattle.uni_model.proofs.Appended.{slice_get-append_right, response_at-append}

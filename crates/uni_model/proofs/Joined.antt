@@ -5,7 +5,8 @@ use Rattle.seq_object.specs.Sequential.{Sequential}
 use Rattle.seq_object.specs.History.{Call, state_after, IsLegal}
 use Rattle.uni_model.specs.Places.{seq_of, new_of}
 use Rattle.uni_model.specs.Places.Name.{Anchor}
-use Rattle.uni_model.specs.Chain.{Invoked, Entry}
+use Rattle.uni_model.specs.Chain.{Entry}
+use Rattle.uni_model.specs.AtomicObject.{Invoked}
 use Rattle.uni_model.specs.Worlds.{WorldOf, Event, anchor_memory, opened_world, world_after, world_after_all, AreAccepted}
 use Rattle.uni_model.specs.History.{log, invocations_of, logged_call, log_of_run}
 use Rattle.uni_model.specs.Invariant.{Invariant}

@@ -1,7 +1,8 @@
 -- A step of one process: what has to be shown of it, so that the invariant holds after it.
 use Rattle.std.proofs.Common.{◌≡◌, ◌≢◌, ◌∙◌, ℕ, ◌+◌, ◌-◌, ◌<◌, ◌≤◌, ◌⊎◌, inl, inr, refl, sym, ap, subst, Option, Some, None, arith, cond, Bool, true, false, nat_eq}
 use Rattle.seq_object.specs.Sequential.{Sequential}
-use Rattle.uni_model.specs.Places.{Name, Memory, set_at, head_of, head_seq, announce_of, seq_of, inv_of}
+use Rattle.uni_model.specs.Places.{Name, Memory, head_of, head_seq, announce_of, seq_of, inv_of}
+use Rattle.uni_model.specs.AtomicObject.{set_at}
 use Rattle.uni_model.specs.Places.Name.{Anchor, Of}
 use Rattle.uni_model.specs.Stages.{Stage, Pending}
 use Rattle.uni_model.specs.Stages.Stage.{DecideAfter}

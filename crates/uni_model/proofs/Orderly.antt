@@ -6,9 +6,7 @@ use Rattle.std.proofs.lemmas.List.Sums.{count_by_more_yes, sum_by_push, sum_by-t
 use Rattle.std.proofs.lemmas.Option.{get_or_from_slice_get, slice_get_within}
 use Rattle.seq_object.specs.Sequential.{Sequential}
 use Rattle.seq_object.specs.History.{response_at}
-use Rattle.uni_model.specs.Places.{set_at}
-use Rattle.uni_model.specs.Chain.{Invoked}
-use Rattle.uni_model.specs.AtomicObject.{Atomic, Open, Act, Accepts, AcceptsAll, at_start}
+use Rattle.uni_model.specs.AtomicObject.{Atomic, Open, Act, Accepts, AcceptsAll, at_start, set_at, Invoked}
 use Rattle.uni_model.specs.AtomicObject.Act.{Invoke, Linearize, Respond}
 use Rattle.uni_model.proofs.Written.{number_cases, set_at-cases}
 use Rattle.uni_model.proofs.Appended.{slice_get-append_left, slice_get-append_cases}

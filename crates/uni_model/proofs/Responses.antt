@@ -8,9 +8,9 @@ use Rattle.seq_object.specs.History.{IsLegal, state_after, response_at}
 use Rattle.seq_object.proofs.Legality.{IsLegalByPlaces-from_IsLegal}
 use Rattle.uni_model.specs.Places.Name.{Of}
 use Rattle.uni_model.specs.Stages.{Pending}
-use Rattle.uni_model.specs.Chain.{Invoked, Entry}
+use Rattle.uni_model.specs.Chain.{Entry}
 use Rattle.uni_model.specs.Worlds.{WorldOf, Event, opened_world, world_after, world_after_all}
-use Rattle.uni_model.specs.AtomicObject.{Atomic, at_start}
+use Rattle.uni_model.specs.AtomicObject.{Atomic, at_start, Invoked}
 use Rattle.uni_model.specs.History.{RunShows, invocations_of, log, logged_call, log_of_run, history_of, open_at}
 use Rattle.uni_model.specs.Eras.{StandsAt}
 use Rattle.uni_model.specs.Responses.{LogsResponses, calls_among}

@@ -6,17 +6,18 @@ use Rattle.std.proofs.lemmas.Option.{slice_get-map}
 use Rattle.std.proofs.lemmas.List.Elements.{All-contains, All-from_recursion}
 use Rattle.seq_object.specs.Sequential.{Sequential}
 use Rattle.seq_object.specs.History.{response_at, state_after}
-use Rattle.uni_model.specs.Places.{Name, Memory, memory_with, set_at, seq_of, after_of, new_of, inv_of}
+use Rattle.uni_model.specs.Places.{Name, Memory, memory_with, seq_of, after_of, new_of, inv_of}
 use Rattle.uni_model.specs.Places.Name.{Anchor, Of}
 use Rattle.uni_model.specs.Places.Place.{AfterOf, InvOf}
 use Rattle.uni_model.specs.Places.Content.{Invocation, Link}
 use Rattle.uni_model.specs.Stages.{Stage, Pending}
 use Rattle.uni_model.specs.Stages.Stage.{Announce, ScanHead, ScanSeq, WriteScan, Test, ReadAnnounce, ReadHelpSeq, DecideAfter, DecideNew, WriteBefore, WriteSeq, WriteHead, Finish}
-use Rattle.uni_model.specs.Transition.{place_of, effect_of, decision, turn_of, beside, response_after}
-use Rattle.uni_model.specs.Chain.{Invoked, invoked_at, response_in}
-use Rattle.uni_model.specs.Worlds.{WorldOf, effect_in, world_after_step, world_after_call, call_after, chain, era_calls, sum_below, world_after, calls_in_era}
+use Rattle.uni_model.specs.Transition.{place_of, decision, turn_of, beside, response_after}
+use Rattle.uni_model.specs.Effects.{effect_of}
+use Rattle.uni_model.specs.Chain.{invoked_at, response_in}
+use Rattle.uni_model.specs.Worlds.{WorldOf, world_after_step, world_after_call, call_after, chain, era_calls, sum_below, world_after, calls_in_era, response_of_call}
 use Rattle.uni_model.specs.Worlds.Event.{Call, Step}
-use Rattle.uni_model.specs.AtomicObject.{Atomic, Act, AcceptsAll}
+use Rattle.uni_model.specs.AtomicObject.{Atomic, Act, AcceptsAll, set_at, Invoked}
 use Rattle.uni_model.specs.AtomicObject.Act.{Linearize}
 use Rattle.uni_model.specs.History.{calls_of, open_at, Shows, responses_of, acts_of}
 use Rattle.uni_model.specs.Invariant.{Has, IsSound, can_be_linked, AtHead, IsPast, IsCellOf}
@@ -257,13 +258,13 @@ module _ {S I R : Type 0} (object : Sequential S I R) (w : WorldOf S I R) (num :
   abbrev pub SimulatesAt : (p : ℕ) → Atomic S I → Option Pending → Type 0
   SimulatesAt p a call =
       let later = world_after_step object w p call in
-      (b : Atomic S I) × Shows later b × AcceptsAll object a (map Linearize (drop (length (calls_of w)) (calls_of later)) ++ option_map_or (λ (c : Pending). responses_of w.memory p c.mine (effect_in object w p c).response) call []) b
+      (b : Atomic S I) × Shows later b × AcceptsAll object a (map Linearize (drop (length (calls_of w)) (calls_of later)) ++ option_map_or (λ (c : Pending). responses_of w.memory p c.mine (response_of_call w c)) call []) b
 
   module _ (p : ℕ) (mine : Name) (a : Atomic S I) (shows : Shows w a) where
     quiet : (stage : Stage) → w.call p ≡ Some (record { mine = mine; stage = stage })
         → let place = place_of w.n p mine stage in
         let e = effect_of object w.n mine stage (w.memory place) (beside w.memory mine stage) in
-        ((x : Name) → after_of (memory_with w.memory place e.content) x ≡ after_of w.memory x) → (k : Stage) → e.stage ≡ Some k → e.response ≡ None
+        ((x : Name) → after_of (memory_with w.memory place e.content) x ≡ after_of w.memory x) → (k : Stage) → e.stage ≡ Some k → response_after stage (beside w.memory mine stage) ≡ None
         → SimulatesAt p a (Some (record { mine = mine; stage = stage }))
     quiet stage is same k on nothing =
         let place = place_of w.n p mine stage in

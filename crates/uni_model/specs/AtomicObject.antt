@@ -1,9 +1,17 @@
 -- The atomic object: a machine that knows no list of cells, no helping, no number and no trim.
-use Rattle.std.specs.Prelude.{◌≡◌, ℕ, ◌+◌, List, [], ◌∷◌, ◌++◌, Option, None, Some, map, slice_get, Contains}
+use Rattle.std.specs.Prelude.{◌≡◌, ℕ, ◌+◌, ◌==◌, if◌then◌else◌, List, [], ◌∷◌, ◌++◌, Option, None, Some, map, slice_get, Contains}
 use Rattle.seq_object.specs.Sequential.{Sequential}
 use Rattle.seq_object.specs.History.{response_at}
-use Rattle.uni_model.specs.Places.{set_at}
-use Rattle.uni_model.specs.Chain.{Invoked}
+
+-- a call with its invocation: which one of its process, from 0
+pub record Invoked (I : Type 0) : Type 0 where
+  pub process : ℕ
+  pub nth : ℕ
+  pub inv : I
+
+-- a function with another value at a number
+abbrev pub set_at : {A : Type 0} → (ℕ → A) → ℕ → A → ℕ → A
+set_at f p v q = if q == p then v else f q
 
 -- an open call: its number among its process's calls, and its invocation
 pub record Open (I : Type 0) : Type 0 where

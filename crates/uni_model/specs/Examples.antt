@@ -4,7 +4,7 @@ use Rattle.seq_object.specs.Sequential.{Sequential}
 use Rattle.uni_model.specs.Places.{Name, seq_of, new_of, head_of, head_seq}
 use Rattle.uni_model.specs.Places.Name.{Anchor, Of}
 use Rattle.uni_model.specs.Stages.Stage.{Announce, ScanHead, Test, WriteHead, Finish}
-use Rattle.uni_model.specs.Bound.{steps_at}
+use Rattle.uni_model.specs.Counting.{steps_at}
 use Rattle.uni_model.specs.Chain.{Entry}
 use Rattle.uni_model.specs.Frontier.{floor_of}
 use Rattle.uni_model.specs.Worlds.{WorldOf, Event, calls_in_era, chain, opened_world, world_after_all, without_trims}

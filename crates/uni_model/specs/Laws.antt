@@ -13,7 +13,7 @@ use Rattle.uni_model.specs.AtomicObject.{Atomic, AcceptsAll, at_start}
 use Rattle.uni_model.specs.History.{Shows, RunShows, log, history_of, acts_of}
 use Rattle.uni_model.specs.Invariant.{Invariant}
 use Rattle.uni_model.specs.Helping.{HelpingInvariant}
-use Rattle.uni_model.specs.Bound.{CountsSteps}
+use Rattle.uni_model.specs.Counting.{CountsSteps}
 use Rattle.uni_model.specs.Growth.{IsFrontOf, EndsNoEra, EndNoEra}
 use Rattle.uni_model.specs.Settled.{Grows, ChangesOnly}
 

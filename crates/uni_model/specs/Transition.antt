@@ -101,17 +101,6 @@ abbrev pub response_after : {S I R : Type 0} → Stage → Beside S I R → Opti
 response_after (Finish c_seq mine_seq) (ForResponse own) = option_and_then (λ new. new.1) own
 response_after _ seen = None
 
--- what a step comes to: what its place contains then, where its process stands, and the response, where the call ends
-pub record Effect (S I R : Type 0) : Type 0 where
-  pub content : Content S I R
-  pub stage : Option Stage
-  pub response : Option R
-
--- the step of a process whose cell is mine, where its place contains v, with what it sees beside it
-abbrev pub effect_of : {S I R : Type 0} → Sequential S I R → (n : ℕ) → (mine : Name) → Stage → (v : Content S I R) → Beside S I R → Effect S I R
-effect_of object n mine stage v seen =
-    record { content = content_after object mine stage v seen; stage = stage_after n mine stage v; response = response_after stage seen }
-
 -- how many turns a step adds: one, where it is a test that finds no number yet
 abbrev pub turn_of : {S I R : Type 0} → Stage → Content S I R → ℕ
 turn_of (Test c c_seq) v = if number_in v == 0 then 1 else 0

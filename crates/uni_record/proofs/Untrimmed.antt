@@ -8,7 +8,7 @@ use Rattle.uni_model.specs.Places.{Name}
 use Rattle.uni_model.specs.Stages.{Pending}
 use Rattle.uni_model.specs.Worlds.{AreAccepted, Event, IsAccepted, WorldOf, opened_world, without_trims, world_after, world_after_all}
 use Rattle.uni_model.specs.Worlds.Event.{Call, Step, Trim, Reshape}
-use Rattle.uni_model.specs.Trims.{ShowsSame, TrimsChangeNothing}
+use Rattle.uni_model.specs.Untrimmed.{ShowsSame, TrimsChangeNothing}
 use Rattle.uni_model.proofs.Universal.{IsUniversal-untrimmed}
 use Rattle.uni_core.specs.World.{IsProgress, current_of, progress_of, world_of}
 use Rattle.uni_core.specs.declared.fault.Progress.{Progress}
