@@ -13,7 +13,8 @@ use Rattle.uni_model.specs.Places.Name.{Of}
 use Rattle.uni_model.specs.Stages.{Pending}
 use Rattle.uni_model.specs.Stages.Stage.{Announce}
 use Rattle.uni_model.specs.Transition.{beside, place_of, stage_after, response_after}
-use Rattle.uni_model.specs.Worlds.{WorldOf, Event, anchor_memory, last_cell, opened_world, world_after, world_after_step, world_after_era, response_of_step, call_after, AreAccepted}
+use Rattle.uni_model.specs.Worlds.{WorldOf, Event, anchor_memory, last_cell, opened_world, world_after, world_after_step, world_after_era, response_of_step, AreAccepted}
+use Rattle.uni_model.specs.Effects.{call_after}
 use Rattle.uni_model.specs.Worlds.Event.{Call, Step, Trim, Reshape}
 use Rattle.uni_model.specs.Helping.{HelpingInvariant}
 use Rattle.uni_model.specs.Counting.{CountsSteps}

@@ -13,7 +13,8 @@ use Rattle.uni_model.specs.Places.Place.{InvOf}
 use Rattle.uni_model.specs.Places.Content.{Invocation}
 use Rattle.uni_model.specs.Stages.{Stage as at, Pending as PendingAt}
 use Rattle.uni_model.specs.Transition.{place_of, turn_of}
-use Rattle.uni_model.specs.Worlds.{WorldOf, world_after_call, world_after_step, call_after, world_after, IsAccepted}
+use Rattle.uni_model.specs.Worlds.{WorldOf, world_after_call, world_after_step, world_after, IsAccepted}
+use Rattle.uni_model.specs.Effects.{call_after}
 use Rattle.uni_model.specs.Worlds.Event.{Call, Step}
 use Rattle.uni_model.specs.Settled.{Grows}
 use Rattle.uni_model.specs.Invariant.{Invariant}

@@ -7,8 +7,8 @@ use Rattle.uni_model.specs.Places.Name.{Anchor, Of}
 use Rattle.uni_model.specs.Stages.{Stage, Pending}
 use Rattle.uni_model.specs.Stages.Stage.{Announce, ScanHead, ScanSeq, WriteScan, Test, ReadAnnounce, ReadHelpSeq, DecideAfter, DecideNew, WriteBefore, WriteSeq, WriteHead, Finish}
 use Rattle.uni_model.specs.Transition.{place_of, beside}
-use Rattle.uni_model.specs.Effects.{effect_of}
-use Rattle.uni_model.specs.Worlds.{WorldOf, call_after}
+use Rattle.uni_model.specs.Effects.{effect_of, call_after}
+use Rattle.uni_model.specs.Worlds.{WorldOf}
 use Rattle.uni_model.specs.Invariant.{IsSound}
 use Rattle.uni_model.specs.Helping.{OfConsidered, Helps}
 use Rattle.uni_model.proofs.Floored.{IsBelowFloor, Waits, HasFloor, IsAnnounced}

@@ -6,7 +6,8 @@ use Rattle.uni_model.specs.AtomicObject.{set_at}
 use Rattle.uni_model.specs.Places.Name.{Anchor, Of}
 use Rattle.uni_model.specs.Stages.{Stage, Pending}
 use Rattle.uni_model.specs.Stages.Stage.{DecideAfter}
-use Rattle.uni_model.specs.Worlds.{WorldOf, call_after, sum_below, calls_in_era}
+use Rattle.uni_model.specs.Worlds.{WorldOf, sum_below, calls_in_era}
+use Rattle.uni_model.specs.Effects.{call_after}
 use Rattle.uni_model.specs.Invariant.{Has, IsNumbered, HasValues, LeadsBack, AreCalls, Stands, IsSound, can_be_linked}
 use Rattle.uni_model.proofs.Written.{set_at-cases, number_cases}
 use Rattle.uni_model.specs.Settled.{Grows}

@@ -8,8 +8,8 @@ use Rattle.uni_model.specs.Places.Name.{Of}
 use Rattle.uni_model.specs.Stages.{Stage, Pending}
 use Rattle.uni_model.specs.Stages.Stage.{Announce}
 use Rattle.uni_model.specs.Transition.{place_of, beside, turn_of}
-use Rattle.uni_model.specs.Effects.{effect_of}
-use Rattle.uni_model.specs.Worlds.{WorldOf, call_after, world_after_call, world_after_step}
+use Rattle.uni_model.specs.Effects.{effect_of, call_after}
+use Rattle.uni_model.specs.Worlds.{WorldOf, world_after_call, world_after_step}
 use Rattle.uni_model.specs.Helping.{SomeHead, Finds, HelpingInvariant}
 use Rattle.uni_model.specs.Counting.{CountsSteps}
 use Rattle.uni_model.proofs.Written.{set_at-cases, number_cases}

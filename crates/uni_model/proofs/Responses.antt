@@ -78,8 +78,8 @@ module _ {S I R : Type 0} (object : Sequential S I R) where
           let own = (Invariant-world_after_all object (opened_world n start number) es run.accepted run.inv).2.calls.mine x.call.process pending.0 pending.1 in
           let cell : Of x.call.process own.0 ≡ Of x.call.process x.call.nth = sym own.1 ∙ pending.2 in
           let its_nth : own.0 ≡ x.call.nth = cc in
-          let its_open : b.open_call x.call.process ≡ Some (record { nth = own.0; inv = own.3.0 }) = sym (shows.open_call x.call.process) ∙ ap (open_at last.memory) pending.1 ∙ rw (own.1, own.3.1) refl in
-          let later : k < own.0 = over.later (record { nth = own.0; inv = own.3.0 }) (ap b.open_call (sym process) ∙ its_open) in
+          let its_open : b.open_call x.call.process ≡ Some (record { process = x.call.process; nth = own.0; inv = own.3.0 }) = sym (shows.open_call x.call.process) ∙ ap (open_at last.memory) pending.1 ∙ rw (own.1, own.3.1) refl in
+          let later : k < own.0 = over.later (record { process = x.call.process; nth = own.0; inv = own.3.0 }) (ap b.open_call (sym process) ∙ its_open) in
           omega arith)
 
     numbered_joined : IsOrderly b → (i : ℕ) (e : Entry I R) → slice_get joined i ≡ Some e → e.call.nth ≡ calls_among e.call.process (take i joined)

@@ -9,7 +9,7 @@ use Rattle.uni_model.specs.Places.{seq_of, new_of}
 use Rattle.uni_model.specs.Stages.{Pending}
 use Rattle.uni_model.specs.Worlds.{WorldOf, Event, anchor_memory, opened_world, last_cell, world_after, world_after_step, world_after_era, world_after_all, IsAccepted, AreAccepted}
 use Rattle.uni_model.specs.Worlds.Event.{Call, Step, Trim, Reshape}
-use Rattle.uni_model.specs.AtomicObject.{Atomic, Open, Act, AcceptsAll, at_start, set_at}
+use Rattle.uni_model.specs.AtomicObject.{Atomic, Act, AcceptsAll, at_start, set_at, Invoked}
 use Rattle.uni_model.specs.AtomicObject.Act.{Invoke, Linearize, Respond}
 use Rattle.uni_model.specs.History.{acts_of, history_of, open_at}
 use Rattle.uni_model.specs.Linearizable.{observed, observed_in}
@@ -111,7 +111,7 @@ module _ {S I R : Type 0} (object : Sequential S I R) where
   AcceptsAll-split a b (x ∷ xs) ys h = let rest = AcceptsAll-split h.0 b xs ys h.2 in (rest.0, (h.0, h.1, rest.1), rest.2)
 
   -- an open call that is open no more has responded
-  responded : (a b : Atomic S I) (acts : List (Act I R)) (p : ℕ) (o : Open I) → a.open_call p ≡ Some o → b.open_call p ≡ None → AcceptsAll object a acts b
+  responded : (a b : Atomic S I) (acts : List (Act I R)) (p : ℕ) (o : Invoked I) → a.open_call p ≡ Some o → b.open_call p ≡ None → AcceptsAll object a acts b
       → (r : R) × Contains (observed acts) (Respond p o.nth r)
   responded a b [] p o is over h = absurd (let none : Some o ≡ None = sym is ∙ ap (λ (x : Atomic S I). x.open_call p) (sym h) ∙ over in cc)
   responded a b (Invoke q k i ∷ acts) p o is over h =
@@ -122,9 +122,9 @@ module _ {S I R : Type 0} (object : Sequential S I R) where
   responded a b (Linearize c ∷ acts) p o is over h = responded h.0 b acts p o (ap (λ (x : Atomic S I). x.open_call p) h.1.2 ∙ is) over h.2
   responded a b (Respond q k r ∷ acts) p o is over h = elim (number_cases p q) [
     | inl same ↦
-        let its_open : Some o ≡ Some (record { nth = k; inv = h.1.0.0 }) = sym is ∙ ap a.open_call same.0 ∙ h.1.0.2 in
-        let its : o ≡ record { nth = k; inv = h.1.0.0 } = cc in
-        let nth : o.nth ≡ k = ap (λ (x : Open I). x.nth) its in
+        let its_open : Some o ≡ Some (record { process = q; nth = k; inv = h.1.0.0 }) = sym is ∙ ap a.open_call same.0 ∙ h.1.0.2 in
+        let its : o ≡ record { process = q; nth = k; inv = h.1.0.0 } = cc in
+        let nth : o.nth ≡ k = ap (λ (x : Invoked I). x.nth) its in
         let first = Contains-append_left (Respond q k r ∷ []) (observed acts) (Respond q k r) (Contains-push [] (Respond q k r)) in
         (r, subst (λ m. Contains (Respond q k r ∷ observed acts) (Respond m o.nth r)) (sym same.0) (subst (λ m. Contains (Respond q k r ∷ observed acts) (Respond q m r)) (sym nth) first))
     | inr apart ↦
@@ -159,10 +159,10 @@ module _ {S I R : Type 0} (object : Sequential S I R) where
       let before = AcceptsAll-split (at_start start) shown.0 (history_of object opened es) (history_of object w (Call p i ∷ fs))
       (subst (λ acts. AcceptsAll object (at_start start) acts shown.0) (history_of-append opened es (Call p i ∷ fs)) shown.2) in
       let later = before.2 in
-      let is : later.0.open_call p ≡ Some (record { nth = w.begun p; inv = i })
-      = ap (λ (x : Atomic S I). x.open_call p) later.1.2 ∙ set_at_here before.0.open_call p (Some (record { nth = w.begun p; inv = i })) in
+      let is : later.0.open_call p ≡ Some (record { process = p; nth = w.begun p; inv = i })
+      = ap (λ (x : Atomic S I). x.open_call p) later.1.2 ∙ set_at_here before.0.open_call p (Some (record { process = p; nth = w.begun p; inv = i })) in
       let over : shown.0.open_call p ≡ None = sym (shown.1.open_call p) ∙ ap (open_at last.memory) none in
-      let found = responded later.0 shown.0 (history_of object (world_after object w (Call p i)) fs) p (record { nth = w.begun p; inv = i }) is over later.2 in
+      let found = responded later.0 shown.0 (history_of object (world_after object w (Call p i)) fs) p (record { process = p; nth = w.begun p; inv = i }) is over later.2 in
       let there = Contains-append_right (Invoke p (w.begun p) i ∷ []) (observed (history_of object (world_after object w (Call p i)) fs)) (Respond p (w.begun p) found.0) found.1 in
       (found.0, subst (λ acts. Contains acts (Respond p (w.begun p) found.0)) (observed-history_of object w (Call p i ∷ fs)) there)
 

@@ -13,17 +13,12 @@ pub record Invoked (I : Type 0) : Type 0 where
 abbrev pub set_at : {A : Type 0} → (ℕ → A) → ℕ → A → ℕ → A
 set_at f p v q = if q == p then v else f q
 
--- an open call: its number among its process's calls, and its invocation
-pub record Open (I : Type 0) : Type 0 where
-  pub nth : ℕ
-  pub inv : I
-
 -- a start state, the list of the calls in the order in which they took effect, each process's open call, and the number
 -- that its next call has
 pub record Atomic (S I : Type 0) : Type 0 where
   pub start : S
   pub agreed : List (Invoked I)
-  pub open_call : ℕ → Option (Open I)
+  pub open_call : ℕ → Option (Invoked I)
   pub next_nth : ℕ → ℕ
 
 -- nothing is called yet
@@ -41,15 +36,15 @@ abbrev pub Accepts : {S I R : Type 0} → Sequential S I R → Atomic S I → Ac
 -- a process begins a call only where it has none open, with its next number
 Accepts object a (Invoke p k i) b =
     (a.open_call p ≡ None) × (a.next_nth p ≡ k)
-    × (b ≡ record a { open_call = set_at a.open_call p (Some (record { nth = k; inv = i })); next_nth = set_at a.next_nth p (k + 1) })
+    × (b ≡ record a { open_call = set_at a.open_call p (Some (record { process = p; nth = k; inv = i })); next_nth = set_at a.next_nth p (k + 1) })
 -- an open call takes effect once, after all that took effect before
 Accepts object a (Linearize c) b =
-    (a.open_call c.process ≡ Some (record { nth = c.nth; inv = c.inv })) × (¬ (Contains a.agreed c))
+    (a.open_call c.process ≡ Some c) × (¬ (Contains a.agreed c))
     × (b ≡ record a { agreed = a.agreed ++ c ∷ [] })
 -- it ends after it took effect, and its response is the object's at its place
 Accepts {S} {I} {R} object a (Respond p k r) b =
     ((i : I) × (place : ℕ)
-    × (a.open_call p ≡ Some (record { nth = k; inv = i }))
+    × (a.open_call p ≡ Some (record { process = p; nth = k; inv = i }))
     × (slice_get a.agreed place ≡ Some (record { process = p; nth = k; inv = i }))
     × (response_at object a.start (map (λ c. c.inv) a.agreed) place ≡ Some r))
     × (b ≡ record a { open_call = set_at a.open_call p None })

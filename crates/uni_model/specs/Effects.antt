@@ -1,10 +1,14 @@
 -- What a step comes to, in one record.
-use Rattle.std.specs.Prelude.{ℕ, Option}
+use Rattle.std.specs.Prelude.{ℕ, Option, option_map}
 use Rattle.seq_object.specs.Sequential.{Sequential}
 use Rattle.uni_model.specs.Places.{Name, Content}
 use Rattle.uni_model.specs.Stages.{Stage, Pending}
 use Rattle.uni_model.specs.Transition.{Beside, place_of, beside, stage_after, content_after}
 use Rattle.uni_model.specs.Worlds.{WorldOf}
+
+-- a call that is pending at its next stage, if there is one
+abbrev pub call_after : Name → Option Stage → Option Pending
+call_after mine stage = option_map (λ k. record { mine = mine; stage = k }) stage
 
 -- what the place of a step contains then, and where its process stands
 pub record Effect (S I R : Type 0) : Type 0 where

@@ -9,7 +9,7 @@ use Rattle.uni_model.specs.Stages.{Pending}
 use Rattle.uni_model.specs.Chain.{Entry, entries_from, invoked_at}
 use Rattle.uni_model.specs.Worlds.{WorldOf, Event, chain, response_of_call, world_after, world_after_all}
 use Rattle.uni_model.specs.Worlds.Event.{Call, Step, Trim, Reshape}
-use Rattle.uni_model.specs.AtomicObject.{Atomic, Open, Act, Invoked}
+use Rattle.uni_model.specs.AtomicObject.{Atomic, Act, Invoked}
 use Rattle.uni_model.specs.AtomicObject.Act.{Invoke, Linearize, Respond}
 
 -- the entries of the present era, numbered after the anchor
@@ -37,8 +37,8 @@ log_of_run object w (Trim ∷ es) = log w ++ log_of_run object (world_after obje
 log_of_run object w (Reshape n ∷ es) = log w ++ log_of_run object (world_after object w (Reshape n)) es
 
 -- the open call of a process
-abbrev pub open_at : {S I R : Type 0} → Memory S I R → Option Pending → Option (Open I)
-open_at m call = option_and_then (λ c. option_map (λ i. record { nth = i.nth; inv = i.inv }) (invoked_at m c.mine)) call
+abbrev pub open_at : {S I R : Type 0} → Memory S I R → Option Pending → Option (Invoked I)
+open_at m call = option_and_then (λ c. invoked_at m c.mine) call
 
 -- the world shows this atomic object
 pub record Shows {S I R : Type 0} (w : WorldOf S I R) (a : Atomic S I) : Type 0 where

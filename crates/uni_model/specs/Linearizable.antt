@@ -27,8 +27,7 @@ observed_in object w (e ∷ es) = observed_at w e ++ observed_in object (world_a
 module _ {S I R : Type 0} (object : Sequential S I R) where
   -- An observed history is linearizable: with linearization points put in at some places, it is one of the atomic object.
   abbrev pub IsLinearizableHistory : S → List (Act I R) → Type 0
-  IsLinearizableHistory start history =
-      (acts : List (Act I R)) × (observed acts ≡ history) × (b : Atomic S I) × AcceptsAll object (at_start start) acts b
+  IsLinearizableHistory start history = (acts : List (Act I R)) × (observed acts ≡ history) × (b : Atomic S I) × AcceptsAll object (at_start start) acts b
 
   -- what is observed of every run from the opening is linearizable
   abbrev pub ObservesLinearizable : (n : ℕ) → (start : S) → (number : ℕ) → List (Event I) → Type 0

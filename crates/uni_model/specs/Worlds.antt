@@ -45,9 +45,6 @@ world_after_call w p i =
       turns = set_at w.turns p 0;
     }
 
-abbrev pub call_after : Name → Option Stage → Option Pending
-call_after mine stage = option_map (λ k. record { mine = mine; stage = k }) stage
-
 -- a process whose call is pending takes a step: it touches one place, and moves to its next stage
 abbrev pub world_after_step : {S I R : Type 0} → Sequential S I R → WorldOf S I R → ℕ → Option Pending → WorldOf S I R
 world_after_step object w p None = w
@@ -55,7 +52,7 @@ world_after_step object w p (Some call) =
     let place = place_of w.n p call.mine call.stage in
     record w {
       memory = memory_with w.memory place (content_after object call.mine call.stage (w.memory place) (beside w.memory call.mine call.stage));
-      call = set_at w.call p (call_after call.mine (stage_after w.n call.mine call.stage (w.memory place)));
+      call = set_at w.call p (option_map (λ k. record { mine = call.mine; stage = k }) (stage_after w.n call.mine call.stage (w.memory place)));
       steps = set_at w.steps p (w.steps p + 1);
       turns = set_at w.turns p (w.turns p + turn_of call.stage (w.memory place));
     }
@@ -72,13 +69,12 @@ response_of_step w p = option_and_then (response_of_call w) (w.call p)
 abbrev pub anchor_memory : {S I R : Type 0} → S → ℕ → Memory S I R
 anchor_memory s number (Announced p) = CellName Anchor
 anchor_memory s number (HeadOf p) = CellName Anchor
-anchor_memory s number (SeqOf Anchor) = Number number
-anchor_memory s number (NewOf Anchor) = Settled (Some (s, None))
 anchor_memory s number (InvOf x) = Invocation None
+anchor_memory s number (SeqOf Anchor) = Number number
 anchor_memory s number (SeqOf x) = Number 0
+anchor_memory s number (NewOf Anchor) = Settled (Some (s, None))
 anchor_memory s number (NewOf x) = Settled None
-anchor_memory s number (AfterOf x) = Link None
-anchor_memory s number (BeforeOf x) = Link None
+anchor_memory s number _ = Link None
 
 -- n processes of which none has called, over a state and a first number
 abbrev pub opened_world : {S I R : Type 0} → ℕ → S → ℕ → WorldOf S I R

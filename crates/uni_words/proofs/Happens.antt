@@ -9,8 +9,8 @@ use Rattle.uni_model.specs.Places.{Name, Place, memory_with, new_of}
 use Rattle.uni_model.specs.Places.Name.{Anchor, Of}
 use Rattle.uni_model.specs.Stages.{Pending}
 use Rattle.uni_model.specs.Transition.{place_of, turn_of}
-use Rattle.uni_model.specs.Worlds.{WorldOf, world_after_step, world_after, call_after}
-use Rattle.uni_model.specs.Effects.{effect_in, Effect}
+use Rattle.uni_model.specs.Worlds.{WorldOf, world_after_step, world_after}
+use Rattle.uni_model.specs.Effects.{effect_in, Effect, call_after}
 use Rattle.uni_model.specs.Worlds.Event.{Step}
 use Rattle.uni_model.specs.Helping.{HelpingInvariant}
 use Rattle.uni_model.specs.Counting.{CountsSteps}
