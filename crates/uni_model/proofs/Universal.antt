@@ -1,5 +1,5 @@
 -- The main law, from the laws that it is made of.
-use Rattle.std.proofs.Common.{◌∙◌, ℕ, ◌≤◌, refl, sym, ap, subst, List, ◌∷◌, take}
+use Rattle.std.proofs.Common.{◌∙◌, ℕ, refl, sym, ap, subst, List, ◌∷◌, take}
 use Rattle.seq_object.specs.Sequential.{Sequential}
 use Rattle.uni_model.specs.Worlds.{WorldOf, Event, opened_world, world_after_all, without_trims, AreAccepted}
 use Rattle.uni_model.specs.Worlds.Event.{Call}

@@ -4,7 +4,7 @@ use Rattle.std.specs.Prelude.{◌≡◌, refl, ℕ, ◌+◌, ◌*◌, ◌≤◌,
 use Rattle.seq_object.specs.Sequential.{Sequential}
 use Rattle.uni_model.specs.Stages.{Pending}
 use Rattle.uni_model.specs.Worlds.{WorldOf, Event, world_after_all, IsAccepted, AreAccepted}
-use Rattle.uni_model.specs.Worlds.Event.{Call, Step, Trim, Reshape}
+use Rattle.uni_model.specs.Worlds.Event.{Call, Step, Trim}
 use Rattle.uni_model.specs.AtomicObject.Act.{Respond}
 use Rattle.uni_model.specs.Linearizable.{observed_in}
 use Rattle.uni_model.specs.Laws.{IsReached}

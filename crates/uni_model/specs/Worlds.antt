@@ -5,9 +5,9 @@ use Rattle.seq_object.specs.Sequential.{Sequential}
 use Rattle.uni_model.specs.Places.{Name, Memory, memory_with, seq_of, new_of}
 use Rattle.uni_model.specs.AtomicObject.{set_at}
 use Rattle.uni_model.specs.Places.Name.{Anchor, Of}
-use Rattle.uni_model.specs.Places.Place.{Announced, HeadOf, InvOf, SeqOf, AfterOf, NewOf, BeforeOf}
+use Rattle.uni_model.specs.Places.Place.{Announced, HeadOf, InvOf, SeqOf, NewOf}
 use Rattle.uni_model.specs.Places.Content.{CellName, Invocation, Number, Link, Settled}
-use Rattle.uni_model.specs.Stages.{Stage, Pending}
+use Rattle.uni_model.specs.Stages.{Pending}
 use Rattle.uni_model.specs.Stages.Stage.{Announce}
 use Rattle.uni_model.specs.Chain.{cells_from, last_of}
 use Rattle.uni_model.specs.Transition.{place_of, beside, stage_after, content_after, turn_of, response_after}
