@@ -23,7 +23,7 @@ Contains-at [] i x e = absurd (let f : None ≡ Some x = e in cc)
 Contains-at (y ∷ ys) zero x e = let same : y ≡ x = (let f : Some y ≡ Some x = e in cc) in subst (Contains (y ∷ ys)) same (first_there y ys)
 Contains-at (y ∷ ys) (suc i) x e = later_there y ys x (Contains-at ys i x e)
 
-at_of_map : {A B : Type 0} (f : A → B) (xs : List A) (i : ℕ) (b : B) → slice_get (map f xs) i ≡ Some b → (a : A) × (slice_get xs i ≡ Some a) × (f a ≡ b)
+pub at_of_map : {A B : Type 0} (f : A → B) (xs : List A) (i : ℕ) (b : B) → slice_get (map f xs) i ≡ Some b → (a : A) × (slice_get xs i ≡ Some a) × (f a ≡ b)
 at_of_map f [] i b e = absurd (let g : None ≡ Some b = e in cc)
 at_of_map f (x ∷ xs) zero b e = (x, refl, (let g : Some (f x) ≡ Some b = e in cc))
 at_of_map f (x ∷ xs) (suc i) b e = at_of_map f xs i b e

@@ -13,9 +13,9 @@ use Rattle.uni_model.proofs.Responses.{LogsResponses-holds}
 use Rattle.uni_model.proofs.Universal.{RunIsUniversal-holds}
 use Rattle.uni_words.specs.Log.{AreAnswered, AreCallsOf, AreCallCells, IsChained, IsLogged, told_memory, log_of, calls_by, replied}
 use Rattle.uni_words.specs.Rule.{Rule}
-use Rattle.uni_words.specs.Run.{acts_by, IsLogOfRun, sequential_acts, pending_acts, opened, run_history}
+use Rattle.uni_words.specs.Run.{acts_by, IsLogOfRun, sequential_acts, opened, run_history}
 use Rattle.uni_words.specs.Seats.{calls_in_view}
-use Rattle.uni_words.specs.Shown.{HasReturned, IsShown, LeadsTo}
+use Rattle.uni_words.specs.Shown.{HasReturned, IsShown, LeadsTo, pending_acts}
 use Rattle.uni_words.specs.View.{ProcessCalls}
 use Rattle.uni_words.specs.declared.rule.Setup.{Setup}
 use Rattle.uni_words.specs.declared.view.View.{View}

@@ -9,10 +9,10 @@ use Rattle.seq_object.specs.Sequential.{Sequential}
 use Rattle.uni_model.specs.Worlds.{WorldOf, Event}
 use Rattle.uni_model.proofs.Written.{number_cases}
 use Rattle.uni_words.specs.Laws.{Leads, after_join}
-use Rattle.uni_words.specs.Run.{acts_by, sequential_acts, pending_acts, run_history}
+use Rattle.uni_words.specs.Run.{acts_by, sequential_acts, run_history}
 use Rattle.uni_words.specs.View.{ProcessCalls, Known}
 use Rattle.uni_words.specs.Seats.{calls_in_view, nobody, took_in}
-use Rattle.uni_words.specs.Shown.{IsLocal, IsTaken, Tells, IsAmong, HasProcess, IsShown, LeadsTo, ShowsRun, acts_in_view, pending_count}
+use Rattle.uni_words.specs.Shown.{IsLocal, IsTaken, Tells, IsAmong, HasProcess, IsShown, LeadsTo, ShowsRun, acts_in_view, pending_count, pending_acts}
 use Rattle.uni_words.specs.declared.view.View.{View}
 use Rattle.uni_words.proofs.Happens.{set_there}
 use Rattle.uni_words.proofs.Running.{led, no_more}

@@ -18,9 +18,9 @@ use Rattle.uni_model.specs.Worlds.{WorldOf, Event, effect_in, world_after, world
 use Rattle.uni_model.specs.Worlds.Event.{Call, Step, Trim, Reshape}
 use Rattle.uni_model.proofs.Written.{number_cases}
 use Rattle.uni_words.specs.Laws.{Leads}
-use Rattle.uni_words.specs.Run.{acts_by, sequential_acts, pending_acts, opened, run_history}
+use Rattle.uni_words.specs.Run.{acts_by, sequential_acts, opened, run_history}
 use Rattle.uni_words.specs.View.{ProcessCalls, Known}
-use Rattle.uni_words.specs.Shown.{IsLocal, IsAmong, IsShown, ShowsRun, LeadsTo, acts_in_view, pending_count}
+use Rattle.uni_words.specs.Shown.{IsLocal, IsAmong, IsShown, ShowsRun, LeadsTo, acts_in_view, pending_count, pending_acts}
 use Rattle.uni_words.specs.declared.view.View.{View}
 use Rattle.uni_words.proofs.Happens.{taken_apart}
 

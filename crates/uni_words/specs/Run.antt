@@ -1,5 +1,5 @@
 -- What a run tells: the acts of one process in a history, and that a log is a run's.
-use Rattle.std.specs.Prelude.{◌≡◌, ℕ, ◌+◌, ◌==◌, List, [], ◌∷◌, Option, None, Some, if◌then◌else◌, refl, Contains}
+use Rattle.std.specs.Prelude.{◌≡◌, ℕ, ◌+◌, ◌==◌, List, [], ◌∷◌, if◌then◌else◌, refl, Contains}
 use Rattle.seq_object.specs.Sequential.{Sequential}
 use Rattle.uni_model.specs.AtomicObject.{Act}
 use Rattle.uni_model.specs.AtomicObject.Act.{Invoke, Linearize, Respond}
@@ -7,7 +7,6 @@ use Rattle.uni_model.specs.Chain.{Entry}
 use Rattle.uni_model.specs.Eras.{KeepsRealTime}
 use Rattle.uni_model.specs.History.{history_of, log_of_run}
 use Rattle.uni_model.specs.Responses.{HoldsResponses}
-use Rattle.uni_model.specs.Stages.{Pending}
 use Rattle.uni_model.specs.Universal.{IsUniversal}
 use Rattle.uni_model.specs.Worlds.{WorldOf, Event, opened_world, AreAccepted}
 use Rattle.uni_words.specs.View.{ProcessCalls}
@@ -23,11 +22,6 @@ acts_by p (Respond q k r ∷ acts) = if q == p then Respond q k r ∷ acts_by p 
 abbrev pub sequential_acts : (p k : ℕ) → List (ℕ × ℕ) → List (Act ℕ ℕ)
 sequential_acts p k [] = []
 sequential_acts p k (c ∷ cs) = Invoke p k c.0 ∷ Respond p k c.1 ∷ sequential_acts p (k + 1) cs
-
--- a call that is pending has begun
-abbrev pub pending_acts : (p k inv : ℕ) → Option Pending → List (Act ℕ ℕ)
-pending_acts p k inv None = []
-pending_acts p k inv (Some c) = Invoke p k inv ∷ []
 
 module _ (object : Sequential ℕ ℕ ℕ) (n : ℕ) where
   -- n processes that have made no call: the anchor has the number 1 and the start state

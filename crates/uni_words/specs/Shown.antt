@@ -1,5 +1,5 @@
 -- The rule of the table: its words and the views of its seats show a world of the definitions.
-use Rattle.std.specs.Prelude.{◌≡◌, ℕ, ◌+◌, ◌<◌, ◌≤◌, ◌^◌, ◌⊎◌, List, ◌++◌, Contains, Option, None, Some, length, slice_get}
+use Rattle.std.specs.Prelude.{◌≡◌, ℕ, ◌+◌, ◌<◌, ◌≤◌, ◌^◌, ◌⊎◌, List, [], ◌∷◌, ◌++◌, Contains, Option, None, Some, length, slice_get}
 use mathlib.Core.Option.{some}
 use lib.ListN.{get_elem?}
 use Rattle.atomic_table.specs.Table.{State}
@@ -10,12 +10,13 @@ use Rattle.uni_model.specs.Stages.{Stage, Pending}
 use Rattle.uni_model.specs.Stages.Stage.{DecideNew, Finish}
 use Rattle.uni_model.specs.Chain.{response_in}
 use Rattle.uni_model.specs.AtomicObject.{Act}
+use Rattle.uni_model.specs.AtomicObject.Act.{Invoke}
 use Rattle.uni_model.specs.Growth.{EndNoEra}
 use Rattle.uni_model.specs.Worlds.{WorldOf, Event, world_after_all, AreAccepted}
 use Rattle.uni_model.specs.Helping.{HelpingInvariant}
 use Rattle.uni_model.specs.Bound.{CountsSteps}
 use Rattle.uni_words.specs.Words.{words_of, memory_of}
-use Rattle.uni_words.specs.Run.{acts_by, sequential_acts, pending_acts, opened, run_history}
+use Rattle.uni_words.specs.Run.{acts_by, sequential_acts, opened, run_history}
 use Rattle.uni_words.specs.View.{ProcessCalls, Known, Reading}
 use Rattle.uni_words.specs.View.Reading.{Nothing, Invocation, Applied, Reply}
 use Rattle.uni_words.specs.declared.view.View.{View}
@@ -95,6 +96,11 @@ pub record IsShown (object : Sequential ℕ ℕ ℕ) (row : ℕ) (w : WorldOf �
   pub fits : (x : Name) (v : ℕ × Option ℕ) → new_of w.memory x ≡ Some v → v.0 < 2 ^ 31
   pub sound : HelpingInvariant object w
   pub counts : CountsSteps w
+
+-- a call that is pending has begun
+abbrev pub pending_acts : (p k inv : ℕ) → Option Pending → List (Act ℕ ℕ)
+pending_acts p k inv None = []
+pending_acts p k inv (Some c) = Invoke p k inv ∷ []
 
 -- the acts of a process, as its seat knows them: its calls that have returned, and the pending one
 abbrev pub acts_in_view : ℕ → Known → List (Act ℕ ℕ)
