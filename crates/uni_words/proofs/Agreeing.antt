@@ -9,9 +9,9 @@ use Rattle.uni_model.specs.Chain.{Entry}
 use Rattle.uni_model.specs.History.{logged_call}
 use Rattle.uni_model.proofs.Joined.{map-logged_call}
 use Rattle.uni_model.proofs.Written.{number_cases}
-use Rattle.uni_words.specs.Belongs.{AreAllSeats, own_calls, process_of}
+use Rattle.uni_words.specs.Belongs.{AreAllSeats, calls_of, own_calls}
 use Rattle.uni_words.specs.Compare.{Agrees}
-use Rattle.uni_words.specs.Log.{AreCallsOf, calls_by, replied}
+use Rattle.uni_words.specs.Log.{AreCallsOf, IsLogged, calls_by, replied}
 use Rattle.uni_words.specs.declared.log.WordLog.{WordLog}
 use Rattle.uni_words.specs.declared.steps.WordSeat.{WordSeat}
 use Rattle.uni_words.proofs.Comparing.{slice_get-map}
@@ -23,7 +23,7 @@ Contains-at [] i x e = absurd (let f : None ≡ Some x = e in cc)
 Contains-at (y ∷ ys) zero x e = let same : y ≡ x = (let f : Some y ≡ Some x = e in cc) in subst (Contains (y ∷ ys)) same (first_there y ys)
 Contains-at (y ∷ ys) (suc i) x e = later_there y ys x (Contains-at ys i x e)
 
-at_of_map : {A B : Type 0} (f : A → B) (xs : List A) (i : ℕ) (b : B) → slice_get (map f xs) i ≡ Some b → (a : A) × (slice_get xs i ≡ Some a) × (f a ≡ b)
+pub at_of_map : {A B : Type 0} (f : A → B) (xs : List A) (i : ℕ) (b : B) → slice_get (map f xs) i ≡ Some b → (a : A) × (slice_get xs i ≡ Some a) × (f a ≡ b)
 at_of_map f [] i b e = absurd (let g : None ≡ Some b = e in cc)
 at_of_map f (x ∷ xs) zero b e = (x, refl, (let g : Some (f x) ≡ Some b = e in cc))
 at_of_map f (x ∷ xs) (suc i) b e = at_of_map f xs i b e
@@ -51,7 +51,7 @@ responded p (x ∷ xs) own (suc place) e at same calls = elim (number_cases x.ca
 
 pub agrees_all : {O : Type 0} (log : WordLog O) (object : Sequential ℕ ℕ ℕ) (entries : List (Entry ℕ ℕ)) (seats : List WordSeat) → AreAllSeats log seats
     → IsLegal object object.initial (map logged_call entries) → AreCallsOf log.setup.n entries
-    → All (λ seat. calls_by (process_of seat) entries ≡ map replied (own_calls seat)) seats → Agrees object entries (map own_calls seats)
+    → All (λ seat. IsLogged entries (calls_of seat)) seats → Agrees object entries (map own_calls seats)
 agrees_all log object entries seats all legal inside told = record {
   right = λ place e at.
       let below : e.call.process < length seats = subst (λ k. e.call.process < k) (sym all.many) (inside place e at) in
@@ -67,4 +67,4 @@ agrees_all log object entries seats all legal inside told = record {
 } where
   its : (p : ℕ) (seat : WordSeat) → slice_get seats p ≡ Some seat → calls_by p entries ≡ map replied (own_calls seat)
   its p seat at = subst (λ q. calls_by q entries ≡ map replied (own_calls seat)) (all.each p seat at)
-      (All-contains (λ seat. calls_by (process_of seat) entries ≡ map replied (own_calls seat)) seats seat told (Contains-at seats p seat at))
+      (All-contains (λ seat. IsLogged entries (calls_of seat)) seats seat told (Contains-at seats p seat at)).calls

@@ -92,6 +92,7 @@ goes_one me c found t me' moved turn =
     let now : me'.0.known ≡ moved_at me.0.known c found = ap (λ (x : Me ℕ View). x.0.known) moved.view in
     record {
       word_steps = ap (λ (k : Known). k.word_steps) now;
+      stored_ends = ap (λ (k : Known). k.stored_ends) now;
       turns = ap (λ (k : Known). k.turns) now ∙ ap (λ x. me.0.known.turns + x) turn;
       inv = ap (λ (k : Known). k.inv) now;
       begun = ap (λ (k : Known). k.begun) now;
@@ -120,6 +121,7 @@ goes_still read me me' looked =
     let now : me'.0.known ≡ looked_at me.0.known read = ap (λ (x : Me ℕ View). x.0.known) looked in
     record {
       word_steps = ap (λ (k : Known). k.word_steps) now;
+      stored_ends = ap (λ (k : Known). k.stored_ends) now;
       turns = (let t = ap (λ (k : Known). k.turns) now in omega arith);
       inv = ap (λ (k : Known). k.inv) now;
       begun = ap (λ (k : Known). k.begun) now;

@@ -1,5 +1,5 @@
 -- The word step that begins a call.
-use Rattle.std.proofs.Common.{◌≡◌, ◌≢◌, ◌∙◌, ℕ, ◌+◌, ◌<◌, ◌≤◌, inl, inr, refl, sym, ap, subst, List, length, slice_set, Some, None, arith, Bool, true, false, cond, nat_lt, length-set}
+use Rattle.std.proofs.Common.{◌≡◌, ◌≢◌, ◌∙◌, ℕ, ◌+◌, ◌<◌, ◌≤◌, inl, inr, refl, sym, ap, subst, List, [], ◌∷◌, length, slice_set, Some, None, arith, Bool, true, false, cond, nat_lt, length-set}
 use mathlib.Core.Option.{some}
 use lib.ListN.{get_elem?}
 use Rattle.atomic_table.specs.Table.{State, Me, Step, keeps, Allows}
@@ -22,12 +22,13 @@ use Rattle.uni_model.proofs.Counted.{CountsSteps-world_after}
 use Rattle.uni_words.specs.Words.{content_of, word_of, word_at, memory_of}
 use Rattle.uni_words.specs.View.{Known, begun_by}
 use Rattle.uni_words.specs.Seats.{HasBegun}
+use Rattle.uni_words.specs.Laws.{Leads, after_word}
 use Rattle.uni_words.specs.Shown.{IsLocal, IsShown, ShowsRun, pending_count}
 use Rattle.uni_words.specs.declared.view.View.{View}
 use Rattle.uni_words.proofs.Locality.{set_here, set_elsewhere}
 use Rattle.uni_words.proofs.Underway.{HasReturned-grows}
 use Rattle.uni_words.proofs.Happens.{own_local, keeps_rule}
-use Rattle.uni_words.proofs.Running.{run_begins}
+use Rattle.uni_words.proofs.Running.{led, run_begins}
 
 module _ (object : Sequential ℕ ℕ ℕ) (row : ℕ) where
   module _ (w : WorldOf ℕ ℕ ℕ) (s : State ℕ View) (is : IsShown object row w s)
@@ -121,7 +122,7 @@ module _ (object : Sequential ℕ ℕ ℕ) (row : ℕ) where
       own = λ k call e. HasReturned-grows w.memory later.memory grows (Of p k) call.0 call.1 (before.own k call e);
     }
 
-    pub begun_kept : IsShown object row later (record { words = words'; homes = s.homes; views = slice_set s.views id (record { known = begun_by v inv }) })
+    begun_kept : IsShown object row later (record { words = words'; homes = s.homes; views = slice_set s.views id (record { known = begun_by v inv }) })
     begun_kept =
         let told = is.seats id (record { known = v }) at in
         keeps_rule object row w s is id v at single words' later (length-set s.words i inv)
@@ -138,6 +139,13 @@ module _ (object : Sequential ℕ ℕ ℕ) (row : ℕ) where
         (HelpingInvariant-begun object w p inv before.inside none is.sound)
         (CountsSteps-world_after object w (Call p inv) (before.inside, none) (is.sound.0, is.sound.1, is.sound.2) is.counts)
 
+    pub begun_leads : Leads object row w s (Call p inv ∷ []) later (after_word s i inv id (begun_by v inv))
+    begun_leads = record {
+      shown = begun_kept;
+      run = λ n events run.
+          run_begins object n row w s is events run id v at single idle inv (record { mine = Of p v.begun; stage = Announce }) (begun_by v inv) refl single refl refl refl refl;
+    }
+
   pub begins : (n slots id i : ℕ) (st : Step ℕ) (me : Me ℕ View) (inv : ℕ) → me.0.known.count ≡ 1 → me.0.known.call ≡ None → me.0.known.begun < row
       → word_of n row (InvOf (Of me.0.known.first me.0.known.begun)) ≡ Some i
       → Allows (ShowsRun object n row) slots id me i (λ x. inv) (λ found me'. HasBegun st me inv me')
@@ -146,11 +154,6 @@ module _ (object : Sequential ℕ ℕ ℕ) (row : ℕ) where
         record { known = begun_by me.0.known inv },
         keeps,
         tt,
-        (
-          world_after_call shown.0 me.0.known.first inv,
-          shown.1,
-          begun_kept shown.0 s shown.2 id me.0.known at single idle room i word_w inv,
-          run_begins object n row shown.0 s shown.2 shown.3 id me.0.known at single idle inv (record { mine = Of me.0.known.first me.0.known.begun; stage = Announce }) (begun_by me.0.known inv) refl single refl refl refl refl,
-        ),
+        led n shown.1 shown.3 (begun_leads shown.0 s shown.2 id me.0.known at single idle room i word_w inv),
         refl,
       )

@@ -1,22 +1,22 @@
 -- What closing tells, in the words of the log.
-use Rattle.std.proofs.Common.{◌≡◌, ◌∙◌, ℕ, List, ◌++◌, append-nil, length, None, map, sym, ap, subst, arith, inl, inr, ◌≤◌, slice_get, Contains, Some}
+use Rattle.std.proofs.Common.{◌≡◌, ◌∙◌, ℕ, List, ◌++◌, append-nil, length, None, map, sym, ap, subst, arith, inl, inr, ◌≤◌, slice_get, take, Contains, Some}
 use Rattle.atomic_table.specs.Table.{State, Final, Seen}
 use Rattle.seq_object.specs.Sequential.{Sequential}
 use Rattle.seq_object.specs.History.{IsLegal}
 use Rattle.uni_model.specs.Places.{seq_of}
 use Rattle.uni_model.specs.Places.Name.{Anchor, Of}
-use Rattle.uni_model.specs.History.{history_of, log, log_of_run, logged_call}
-use Rattle.uni_model.specs.Worlds.{WorldOf, opened_world}
-use Rattle.uni_model.specs.Responses.{HoldsResponses}
+use Rattle.uni_model.specs.History.{log, log_of_run, logged_call}
+use Rattle.uni_model.specs.Worlds.{WorldOf, Event}
+use Rattle.uni_model.specs.Responses.{HoldsResponses, calls_among}
 use Rattle.uni_model.proofs.Ordered.{KeepsRealTime-holds}
 use Rattle.uni_model.proofs.Responses.{LogsResponses-holds}
 use Rattle.uni_model.proofs.Universal.{RunIsUniversal-holds}
-use Rattle.uni_words.specs.Log.{AreAnswered, AreCallsOf, AreCallCells, IsChained, told_memory, log_of, calls_by, replied}
+use Rattle.uni_words.specs.Log.{AreAnswered, AreCallsOf, AreCallCells, IsChained, IsLogged, told_memory, log_of, calls_by, replied}
 use Rattle.uni_words.specs.Rule.{Rule}
-use Rattle.uni_words.specs.Run.{acts_by, IsOfRun, acts_from, acts_pending}
-use Rattle.uni_words.specs.Seats.{calls_known}
-use Rattle.uni_words.specs.Shown.{HasReturned, IsShown, HasRun}
-use Rattle.uni_words.specs.View.{CallsOf}
+use Rattle.uni_words.specs.Run.{acts_by, IsLogOfRun, sequential_acts, opened, run_history}
+use Rattle.uni_words.specs.Seats.{calls_in_view}
+use Rattle.uni_words.specs.Shown.{HasReturned, IsShown, LeadsTo, pending_acts}
+use Rattle.uni_words.specs.View.{ProcessCalls}
 use Rattle.uni_words.specs.declared.rule.Setup.{Setup}
 use Rattle.uni_words.specs.declared.view.View.{View}
 use Rattle.uni_words.proofs.Closing.{calls_inside, log_of_world, shows_chain, call_cells, legal_log, answered_log}
@@ -60,44 +60,60 @@ module _ {O : Type 0} (meaning : O → Sequential ℕ ℕ ℕ) (told setup : Set
   closed_answered = left setup.n words w last.0 last.1.0.1 last.2 (λ n ws. AreAnswered (log_of n setup.k ws)) (answered_log (meaning setup.object) setup.k w last.0 is)
 
   -- the seat's process and those that it took in have no call pending, and their calls have returned
-  ended : view.known.call ≡ None → 1 ≤ view.known.count → (c : CallsOf) → Contains (calls_known view) c
-      → (w.begun c.process ≡ length c.own) × ((j : ℕ) (a : ℕ × ℕ) → slice_get c.own j ≡ Some a → HasReturned w.memory (Of c.process j) a.0 a.1)
+  ended : view.known.call ≡ None → 1 ≤ view.known.count → (c : ProcessCalls) → Contains (calls_in_view view) c
+      → (w.begun c.process ≡ length c.calls) × ((j : ℕ) (a : ℕ × ℕ) → slice_get c.calls j ≡ Some a → HasReturned w.memory (Of c.process j) a.0 a.1)
   ended idle any c has = elim (first_or _ _ c has) [
     | inl here ↦
         let local = (is.seats id view last.1.1).each view.known.first (omega arith) (omega (arith, any)) in
-        subst (λ (k : CallsOf). (w.begun k.process ≡ length k.own) × ((j : ℕ) (a : ℕ × ℕ) → slice_get k.own j ≡ Some a → HasReturned w.memory (Of k.process j) a.0 a.1)) here
+        subst (λ (k : ProcessCalls). (w.begun k.process ≡ length k.calls) × ((j : ℕ) (a : ℕ × ℕ) → slice_get k.calls j ≡ Some a → HasReturned w.memory (Of k.process j) a.0 a.1)) here
         (ended_local w is.owner id view.known.first view.known local idle, local.own)
     | inr taken ↦ let its = ((is.seats id view last.1.1).taken c taken).0 in (its.begun, its.own)
   ]
 
   -- so their calls in the log are these
-  pub closed_calls : view.known.count ≡ 1 → view.known.call ≡ None → (c : CallsOf) → Contains (calls_known view) c → calls_by c.process (log_of setup.n setup.k words) ≡ map replied c.own
+  closed_calls : view.known.count ≡ 1 → view.known.call ≡ None → (c : ProcessCalls) → Contains (calls_in_view view) c → calls_by c.process (log_of setup.n setup.k words) ≡ map replied c.calls
   closed_calls single idle c has =
       let its = ended idle (let one = single in omega arith) c has in
-      left setup.n words w last.0 last.1.0.1 last.2 (λ n ws. calls_by c.process (log_of n setup.k ws) ≡ map replied c.own)
-      (own_is (meaning setup.object) setup.k w last.0 is c.process c.own its.0 its.1)
+      left setup.n words w last.0 last.1.0.1 last.2 (λ n ws. calls_by c.process (log_of n setup.k ws) ≡ map replied c.calls)
+      (own_is (meaning setup.object) setup.k w last.0 is c.process c.calls its.0 its.1)
+
+  abbrev object : Sequential ℕ ℕ ℕ
+  object = meaning setup.object
+
+  abbrev events : List (Event ℕ)
+  events = last.1.0.3.0
+
+  run : LeadsTo object setup.n events w last.0.views
+  run = last.1.0.3.1
+
+  joined : log_of_run object (opened object setup.n) events ≡ log_of setup.n setup.k words
+  joined = joined_is_log object (opened object setup.n) events run.one_era
+      ∙ (ap log run.reached ∙ left setup.n words w last.0 last.1.0.1 last.2 (λ n ws. log w ≡ log_of n setup.k ws) (log_of_world object setup.k w last.0 is))
+
+  responses : HoldsResponses (log_of setup.n setup.k words) (run_history object setup.n events)
+  responses = subst (λ l. HoldsResponses l (run_history object setup.n events)) joined (LogsResponses-holds object setup.n object.initial 1 events (omega arith) run.accepted)
+
+  -- each is numbered as in the run's history
+  pub closed_logged : view.known.count ≡ 1 → view.known.call ≡ None → (c : ProcessCalls) → Contains (calls_in_view view) c → IsLogged (log_of setup.n setup.k words) c
+  closed_logged single idle c has = record {
+    calls = closed_calls single idle c has;
+    numbered = λ place e at mine. subst (λ p. e.call.nth ≡ calls_among p (take place (log_of setup.n setup.k words))) mine (responses.numbered place e at);
+  }
 
   -- the run that the rule carries
-  pub closed_run : view.known.count ≡ 1 → view.known.call ≡ None → IsOfRun (meaning setup.object) setup.n (log_of setup.n setup.k words) (calls_known view)
-  closed_run single idle =
-      let run : HasRun (meaning setup.object) setup.n w last.0.views = last.1.0.3 in
-      record {
-        events = run.events;
-        accepted = run.accepted;
-        universal = RunIsUniversal-holds (meaning setup.object) setup.n (meaning setup.object).initial 1 run.events (omega arith) run.accepted;
-        real_time = KeepsRealTime-holds (meaning setup.object) setup.n (meaning setup.object).initial 1 run.events;
-        responses = subst (λ l. HoldsResponses l (history_of (meaning setup.object) (opened_world setup.n (meaning setup.object).initial 1) run.events)) (joined run)
-            (LogsResponses-holds (meaning setup.object) setup.n (meaning setup.object).initial 1 run.events (omega arith) run.accepted);
-        joined = joined run;
-        acts = λ c has. elim (first_or _ _ c has) [
-          | inl here ↦ subst (λ (k : CallsOf). acts_by k.process (history_of (meaning setup.object) (opened_world setup.n (meaning setup.object).initial 1) run.events) ≡ acts_from k.process 0 k.own) here
-              (run.acts id view last.1.1 view.known.first (omega arith, (let one = single in omega arith))
-              ∙ (ap (λ o. acts_from view.known.first 0 view.known.own ++ acts_pending view.known.first (length view.known.own) view.known.inv o) idle
-              ∙ append-nil (acts_from view.known.first 0 view.known.own)))
-          | inr taken ↦ run.taken id view last.1.1 c taken
-        ];
-      } where
-        joined : (run : HasRun (meaning setup.object) setup.n w last.0.views) → log_of_run (meaning setup.object) (opened_world setup.n (meaning setup.object).initial 1) run.events ≡ log_of setup.n setup.k words
-        joined run = joined_is_log (meaning setup.object) (opened_world setup.n (meaning setup.object).initial 1) run.events run.one_era
-            ∙ (ap log run.reached
-            ∙ left setup.n words w last.0 last.1.0.1 last.2 (λ n ws. log w ≡ log_of n setup.k ws) (log_of_world (meaning setup.object) setup.k w last.0 is))
+  pub closed_run : view.known.count ≡ 1 → view.known.call ≡ None → IsLogOfRun object setup.n (log_of setup.n setup.k words) (calls_in_view view)
+  closed_run single idle = record {
+    events = events;
+    accepted = run.accepted;
+    universal = RunIsUniversal-holds object setup.n object.initial 1 events (omega arith) run.accepted;
+    real_time = KeepsRealTime-holds object setup.n object.initial 1 events;
+    responses = responses;
+    joined = joined;
+    acts = λ c has. elim (first_or _ _ c has) [
+      | inl here ↦ subst (λ (k : ProcessCalls). acts_by k.process (run_history object setup.n events) ≡ sequential_acts k.process 0 k.calls) here
+          (run.acts id view last.1.1 view.known.first (omega arith, (let one = single in omega arith))
+          ∙ (ap (λ o. sequential_acts view.known.first 0 view.known.own ++ pending_acts view.known.first (length view.known.own) view.known.inv o) idle
+          ∙ append-nil (sequential_acts view.known.first 0 view.known.own)))
+      | inr taken ↦ run.taken id view last.1.1 c taken
+    ];
+  }

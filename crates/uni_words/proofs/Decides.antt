@@ -23,8 +23,8 @@ use Rattle.uni_words.specs.declared.view.View.{View}
 use Rattle.uni_words.proofs.Codes.{settled_at-word}
 use Rattle.uni_words.proofs.Within.{within}
 use Rattle.uni_words.proofs.Happens.{effect, later, there}
-use Rattle.uni_words.proofs.Moving.{moved_kept, moved_told}
-use Rattle.uni_words.proofs.Running.{run_moves}
+use Rattle.uni_words.proofs.Moving.{moved_leads, moved_told}
+use Rattle.uni_words.proofs.Running.{led}
 use Rattle.uni_words.proofs.Looks.{stands, underway}
 
 -- the word after the exchange is what is decision
@@ -68,17 +68,12 @@ module _ (object : Sequential ℕ ℕ ℕ) (row : ℕ) where
         | inr other ↦ is.fits y u (sym other.1 ∙ e)
       ]) in
       let on : (k : Stage) × (stage_found v.n v.first mine stage found ≡ Some k) = (WriteBefore c c_seq d, refl) in
-      let shown_after = moved_kept object row w s is id v at single call pending i word on x writes fits in
-      let moved = moved_told object row w s is id v at single call pending i word on x writes found shown_after me.1 refl (within object row w s is (NewOf d) i word) in (
+      let leads = moved_leads object row w s is id v at single call pending i word on x writes fits in
+      let moved = moved_told object row w s is id v at single call pending i word on x writes found leads.shown me.1 refl (within object row w s is (NewOf d) i word) in (
         record { known = moved_at v call found },
         keeps,
         tt,
-        (
-          after,
-          shown.1,
-          shown_after,
-          run_moves object n row w s is shown.3 id v at single call pending refl (record { mine = mine; stage = WriteBefore c c_seq d }) (moved_at v call found) refl single refl refl refl refl,
-        ),
+        led n shown.1 shown.3 leads,
         λ o other. (let e : call ≡ o = (let g = sym pending ∙ other in cc) in subst (λ (k : Pending). HasMoved me k found (record { known = moved_at v call found }, me.1)) e moved),
       )
     where

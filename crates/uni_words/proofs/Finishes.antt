@@ -3,7 +3,8 @@ use Rattle.std.proofs.Common.{◌≡◌, ◌∙◌, ℕ, zero, suc, ◌+◌, ◌
 use Rattle.std.proofs.lemmas.List.{set-get_or}
 use mathlib.Core.Option.{some}
 use lib.ListN.{get_elem?}
-use Rattle.atomic_table.specs.Table.{State, Me, Step, keeps, Allows}
+use Rattle.atomic_table.specs.Table.{State, Me, keeps, Allows}
+use Rattle.atomic_table.specs.Table as table
 use Rattle.seq_object.specs.Sequential.{Sequential}
 use Rattle.uni_model.specs.Indices.{name_of}
 use Rattle.uni_model.specs.Places.{Name, Content, memory_with}
@@ -15,17 +16,19 @@ use Rattle.uni_model.specs.Stages.Stage.{Finish}
 use Rattle.uni_model.specs.Chain.{response_in}
 use Rattle.uni_model.specs.Settled.{Grows}
 use Rattle.uni_model.specs.Worlds.{WorldOf}
+use Rattle.uni_model.specs.Worlds.Event.{Step}
 use Rattle.uni_model.proofs.Simulation.{set_at_same}
 use Rattle.uni_model.proofs.Written.{lt_cases, written_same}
 use Rattle.uni_words.specs.Words.{reply_in, content_of, word_of, memory_of}
 use Rattle.uni_words.specs.View.{Known, finished_by}
 use Rattle.uni_words.specs.View.Reading.{Reply}
 use Rattle.uni_words.specs.Seats.{HasFinished, TellsReply}
-use Rattle.uni_words.specs.Shown.{HasReturned, HasRead, IsLocal, IsShown, HasRun, ShowsRun, pending_count}
+use Rattle.uni_words.specs.Laws.{Leads, after_word}
+use Rattle.uni_words.specs.Shown.{HasReturned, HasRead, IsLocal, IsShown, ShowsRun, pending_count}
 use Rattle.uni_words.specs.declared.view.View.{View}
 use Rattle.uni_words.proofs.Underway.{HasReturned-grows}
 use Rattle.uni_words.proofs.Happens.{own_local, effect, later, memory_grows, memory_set, kept}
-use Rattle.uni_words.proofs.Running.{run_ends}
+use Rattle.uni_words.proofs.Running.{led, run_ends}
 use Rattle.uni_words.proofs.Looks.{stands, underway, reply_told, looks_reply}
 
 pub last_of_list : {A : Type 0} (xs : List A) (x : A) (j : ℕ) (y : A) → slice_get (xs ++ x ∷ []) j ≡ Some y → (slice_get xs j ≡ Some y) ⊎ ((j ≡ length xs) × (x ≡ y))
@@ -75,12 +78,8 @@ module _ (object : Sequential ℕ ℕ ℕ) (row : ℕ) where
         let same : its.0 ≡ length v.own = (let a = its.2 in let b = before.begun in let d = counted in omega arith) in
         its.1 ∙ ap (Of v.first) same
 
-    pub run_ended : (n : ℕ) → HasRun object n w s.views → (reply : ℕ) → response_in w.memory mine ≡ Some reply → HasRun object n ended (slice_set s.views id (record { known = finished_by v reply }))
-    run_ended n run reply replied =
-        run_ends object n row w s is run id v at single call pending reply replied mine_is (underway object row w s is id v at single mine (Finish c_seq mine_seq) pending).0 (finished_by v reply) refl single refl refl refl
-
     module _ (words' : List ℕ) (long : length words' ≡ length s.words) (memory_is : ended.memory ≡ memory_of w.n row words' w.begun)
-        (reply : ℕ) (replied : response_in w.memory mine ≡ Some reply) where
+        (stores reply : ℕ) (replied : response_in w.memory mine ≡ Some reply) where
       grows : Grows w.memory ended.memory
       grows = memory_grows object row w s is id v at single call pending
 
@@ -91,7 +90,7 @@ module _ (object : Sequential ℕ ℕ ℕ) (row : ℕ) where
           let was : HasReturned w.memory mine v.inv reply = record { inv_is = under.0; threaded = subst (λ t. 1 ≤ t) (sym h.2) h.1; reply_is = replied } in
           subst (λ x. HasReturned ended.memory x v.inv reply) mine_is (HasReturned-grows w.memory ended.memory grows mine v.inv reply was)
 
-      tells : IsLocal ended is.owner id v.first (finished_by v reply)
+      tells : IsLocal ended is.owner id v.first (finished_by v stores reply)
       tells = record {
         inside = before.inside;
         seat = before.seat;
@@ -107,54 +106,54 @@ module _ (object : Sequential ℕ ℕ ℕ) (row : ℕ) where
         ];
       }
 
-      pub finished_kept : IsShown object row ended (record { words = words'; homes = s.homes; views = slice_set s.views id (record { known = finished_by v reply }) })
-      finished_kept = kept object row w s is id v at single call pending words' long memory_is (finished_by v reply)
-          ((is.seats id (record { known = v }) at).processes (let one = single in omega arith)) ((is.seats id (record { known = v }) at).calls (let one = single in omega arith)) refl single refl tells is.fits
+      pub finished_leads : Leads object row w s (Step v.first ∷ []) ended (record { words = words'; homes = s.homes; views = slice_set s.views id (record { known = finished_by v stores reply }) })
+      finished_leads = record {
+        shown = kept object row w s is id v at single call pending words' long memory_is (finished_by v stores reply)
+            ((is.seats id (record { known = v }) at).processes (let one = single in omega arith)) ((is.seats id (record { known = v }) at).calls (let one = single in omega arith)) refl single refl tells is.fits;
+        run = λ n events run.
+            run_ends object n row w s is events run id v at single call pending reply replied mine_is (underway object row w s is id v at single mine (Finish c_seq mine_seq) pending).0
+            (finished_by v stores reply) refl single refl refl refl;
+      }
 
     -- the reply that was read
     pub reply_had : (reply : ℕ) → v.read ≡ Reply reply → response_in w.memory mine ≡ Some reply
     reply_had reply read = subst (λ r. HasRead w.memory mine (Finish c_seq mine_seq) r) read (underway object row w s is id v at single mine (Finish c_seq mine_seq) pending).1
 
     -- by a store of the head, after the reply was read
-    pub stored_kept : c_seq < mine_seq → (i x : ℕ) → word_of w.n row (HeadOf v.first) ≡ Some i → name_of w.n x ≡ mine → (reply : ℕ) → v.read ≡ Reply reply
-        → IsShown object row ended (record { words = slice_set s.words i x; homes = s.homes; views = slice_set s.views id (record { known = finished_by v reply }) })
-    stored_kept less i x word named reply read =
+    pub stored_leads : c_seq < mine_seq → (i x : ℕ) → word_of w.n row (HeadOf v.first) ≡ Some i → name_of w.n x ≡ mine → (reply : ℕ) → v.read ≡ Reply reply
+        → Leads object row w s (Step v.first ∷ []) ended (after_word s i x id (finished_by v 1 reply))
+    stored_leads less i x word named reply read =
         let writes : content_of w.n (HeadOf v.first) x ≡ last_content
         = elim (lt_cases c_seq mine_seq) [ inl a ↦ rw a.1 (ap CellName named) | inr a ↦ absurd (let h = a.0 in omega arith) ] in
-        finished_kept (slice_set s.words i x) (length-set s.words i x) (memory_set object row w s is id v at single call pending i word x writes) reply (reply_had reply read)
+        finished_leads (slice_set s.words i x) (length-set s.words i x) (memory_set object row w s is id v at single call pending i word x writes) 1 reply (reply_had reply read)
 
     -- by the load of the reply, where the head stays
-    pub loaded_kept : mine_seq ≤ c_seq → (i : ℕ) → word_of w.n row (NewOf mine) ≡ Some i
-        → IsShown object row ended (record { words = slice_set s.words i (slice_index s.words i); homes = s.homes; views = slice_set s.views id (record { known = finished_by v (reply_in (slice_index s.words i)) }) })
-    loaded_kept more i word =
+    pub loaded_leads : mine_seq ≤ c_seq → (i : ℕ) → word_of w.n row (NewOf mine) ≡ Some i
+        → Leads object row w s (Step v.first ∷ []) ended (after_word s i (slice_index s.words i) id (finished_by v 0 (reply_in (slice_index s.words i))))
+    loaded_leads more i word =
         let found : ℕ = slice_index s.words i in
         let stays : last_content ≡ w.memory (HeadOf v.first)
         = elim (lt_cases c_seq mine_seq) [ inl a ↦ absurd (let h = a.0 in omega arith) | inr a ↦ rw a.1 refl ] in
         let same : slice_set s.words i found ≡ s.words = set-get_or s.words i 0 in
         let memory_is : ended.memory ≡ memory_of w.n row (slice_set s.words i found) w.begun
         = ap (memory_with w.memory (HeadOf v.first)) stays ∙ (written_same w.memory (HeadOf v.first) ∙ (is.memory ∙ ap (λ ws. memory_of w.n row ws w.begun) (sym same))) in
-        finished_kept (slice_set s.words i found) (length-set s.words i found) memory_is (reply_in found) (reply_told object row w s is id v at single mine c_seq mine_seq pending i word)
+        finished_leads (slice_set s.words i found) (length-set s.words i found) memory_is 0 (reply_in found) (reply_told object row w s is id v at single mine c_seq mine_seq pending i word)
 
   pub ends : (n slots id i : ℕ) (me : Me ℕ View) → me.0.known.count ≡ 1 → (mine c_seq mine_seq reply : ℕ)
       → me.0.known.call ≡ Some (record { mine = name_of n mine; stage = Finish c_seq mine_seq }) → me.0.known.read ≡ Reply reply → c_seq < mine_seq → word_of n row (HeadOf me.0.known.first) ≡ Some i
-      → Allows (ShowsRun object n row) slots id me i (λ x. mine) (λ found me'. HasFinished me reply me')
+      → Allows (ShowsRun object n row) slots id me i (λ x. mine) (λ found me'. HasFinished me 1 reply me')
   ends n slots id i me single mine c_seq mine_seq reply pending read less word_n s shown deep at small =
       let v : Known = me.0.known in
       let w : WorldOf ℕ ℕ ℕ = shown.0 in
       let word : word_of w.n row (HeadOf v.first) ≡ Some i = subst (λ k. word_of k row (HeadOf v.first) ≡ Some i) (sym shown.1) word_n in (
-        record { known = finished_by v reply },
+        record { known = finished_by v 1 reply },
         keeps,
         tt,
-        (
-          ended w s shown.2 id v at single (name_of n mine) c_seq mine_seq pending,
-          shown.1,
-          stored_kept w s shown.2 id v at single (name_of n mine) c_seq mine_seq pending less i mine word (ap (λ k. name_of k mine) shown.1) reply read,
-          run_ended w s shown.2 id v at single (name_of n mine) c_seq mine_seq pending n shown.3 reply (reply_had w s shown.2 id v at single (name_of n mine) c_seq mine_seq pending reply read),
-        ),
+        led n shown.1 shown.3 (stored_leads w s shown.2 id v at single (name_of n mine) c_seq mine_seq pending less i mine word (ap (λ k. name_of k mine) shown.1) reply read),
         refl,
       )
 
-  pub told_reply : (n slots id i : ℕ) (st : Step ℕ) (me : Me ℕ View) → me.0.known.count ≡ 1 → (mine : Name) (c_seq mine_seq : ℕ)
+  pub told_reply : (n slots id i : ℕ) (st : table.Step ℕ) (me : Me ℕ View) → me.0.known.count ≡ 1 → (mine : Name) (c_seq mine_seq : ℕ)
       → me.0.known.call ≡ Some (record { mine = mine; stage = Finish c_seq mine_seq }) → word_of n row (NewOf mine) ≡ Some i
       → Allows (ShowsRun object n row) slots id me i (λ x. x) (λ found me'. TellsReply st me found me')
   unfolding looks_reply
@@ -165,15 +164,10 @@ module _ (object : Sequential ℕ ℕ ℕ) (row : ℕ) where
     | inr more ↦
         let v : Known = me.0.known in
         let word : word_of shown.0.n row (NewOf mine) ≡ Some i = subst (λ k. word_of k row (NewOf mine) ≡ Some i) (sym shown.1) word_n in (
-          record { known = finished_by v (reply_in (slice_index s.words i)) },
+          record { known = finished_by v 0 (reply_in (slice_index s.words i)) },
           keeps,
           tt,
-          (
-            ended shown.0 s shown.2 id v at single mine c_seq mine_seq pending,
-            shown.1,
-            loaded_kept shown.0 s shown.2 id v at single mine c_seq mine_seq pending more.0 i word,
-            run_ended shown.0 s shown.2 id v at single mine c_seq mine_seq pending n shown.3 (reply_in (slice_index s.words i)) (reply_told object row shown.0 s shown.2 id v at single mine c_seq mine_seq pending i word),
-          ),
+          led n shown.1 shown.3 (loaded_leads shown.0 s shown.2 id v at single mine c_seq mine_seq pending more.0 i word),
           λ other c m e. (let same = one_finish mine other c_seq mine_seq c m (sym pending ∙ e) in (λ yes. absurd (let a = same.0 in let b = same.1 in let d = more.0 in omega arith), λ no. refl)),
         )
   ]

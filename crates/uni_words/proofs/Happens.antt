@@ -21,7 +21,7 @@ use Rattle.uni_model.proofs.Kept.{Invariant-world_after_step}
 use Rattle.uni_model.proofs.Bounded.{HelpingInvariant-world_after_step}
 use Rattle.uni_model.proofs.Counted.{CountsSteps-world_after}
 use Rattle.uni_words.specs.Words.{content_of, word_of, memory_of, words_of}
-use Rattle.uni_words.specs.View.{CallsOf, Known}
+use Rattle.uni_words.specs.View.{ProcessCalls, Known}
 use Rattle.uni_words.specs.Shown.{IsLocal, IsTaken, Tells, IsAmong, HasProcess, IsShown}
 use Rattle.uni_words.specs.declared.view.View.{View}
 use Rattle.uni_words.proofs.Locality.{memory_at, word_here, words_written}
@@ -34,7 +34,7 @@ set_there (x ∷ xs) (suc i) a b e = set_there xs i a b e
 
 -- a process that a seat has taken in isn't the first one of a seat that can take steps
 pub taken_apart : (object : Sequential ℕ ℕ ℕ) (row : ℕ) (w : WorldOf ℕ ℕ ℕ) (s : State ℕ View) (is : IsShown object row w s) (id : ℕ) (v : View) → get_elem? s.views id ≡ some v → 1 ≤ v.known.count
-    → (j : ℕ) (u : View) → get_elem? s.views j ≡ some u → (c : CallsOf) → Contains u.known.taken c → c.process ≢ v.known.first
+    → (j : ℕ) (u : View) → get_elem? s.views j ≡ some u → (c : ProcessCalls) → Contains u.known.taken c → c.process ≢ v.known.first
 taken_apart object row w s is id v at some_left j u there c has same =
     let its = (is.seats j u there).taken c has in
     elim (number_cases j id) [
@@ -85,7 +85,7 @@ module _ (object : Sequential ℕ ℕ ℕ) (row : ℕ) (w : WorldOf ℕ ℕ ℕ)
     }
 
     -- a process that was taken in
-    other_taken : (j : ℕ) (c : CallsOf) → c.process ≢ v.first → IsTaken w is.owner j c → IsTaken w' is.owner j c
+    other_taken : (j : ℕ) (c : ProcessCalls) → c.process ≢ v.first → IsTaken w is.owner j c → IsTaken w' is.owner j c
     other_taken j c apart h = record {
       inside = subst (λ k. c.process < k) (sym stay.n) h.inside;
       seat = h.seat;
@@ -101,6 +101,7 @@ module _ (object : Sequential ℕ ℕ ℕ) (row : ℕ) (w : WorldOf ℕ ℕ ℕ)
         (record {
           processes = λ any. n_is ∙ sym stay.n;
           calls = λ any. row_is;
+          several = λ two. absurd (omega (arith, two, count_is));
           each = λ q from below.
               subst (λ k. IsLocal w' is.owner k q v') (sym h.0)
               (subst (λ k. IsLocal w' is.owner id k v') (sym (only_p q from below)) tells);
@@ -116,6 +117,7 @@ module _ (object : Sequential ℕ ℕ ℕ) (row : ℕ) (w : WorldOf ℕ ℕ ℕ)
         record {
           processes = λ any. told.processes any ∙ sym stay.n;
           calls = told.calls;
+          several = told.several;
           each = λ q from below.
               let local = told.each q from below in
               other_local j q u.known (λ same. h.0 (sym local.seat ∙ (ap is.owner same ∙ own_local.seat))) local;

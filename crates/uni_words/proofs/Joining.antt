@@ -6,15 +6,16 @@ use lib.ListN.{get_elem?}
 use Rattle.atomic_table.specs.Table.{State, Joins}
 use Rattle.atomic_table.proofs.Lists.{at_set, set_else}
 use Rattle.seq_object.specs.Sequential.{Sequential}
-use Rattle.uni_model.specs.History.{history_of}
-use Rattle.uni_model.specs.Worlds.{WorldOf, opened_world}
+use Rattle.uni_model.specs.Worlds.{WorldOf, Event}
 use Rattle.uni_model.proofs.Written.{number_cases}
-use Rattle.uni_words.specs.Run.{acts_by, acts_from, acts_pending}
-use Rattle.uni_words.specs.View.{CallsOf, Known}
-use Rattle.uni_words.specs.Seats.{calls_known, nobody, took_in}
-use Rattle.uni_words.specs.Shown.{IsLocal, IsTaken, Tells, IsAmong, HasProcess, IsShown, HasRun, ShowsRun, acts_known, pending_count}
+use Rattle.uni_words.specs.Laws.{Leads, after_join}
+use Rattle.uni_words.specs.Run.{acts_by, sequential_acts, run_history}
+use Rattle.uni_words.specs.View.{ProcessCalls, Known}
+use Rattle.uni_words.specs.Seats.{calls_in_view, nobody, took_in}
+use Rattle.uni_words.specs.Shown.{IsLocal, IsTaken, Tells, IsAmong, HasProcess, IsShown, LeadsTo, ShowsRun, acts_in_view, pending_count, pending_acts}
 use Rattle.uni_words.specs.declared.view.View.{View}
 use Rattle.uni_words.proofs.Happens.{set_there}
+use Rattle.uni_words.proofs.Running.{led, no_more}
 
 -- an element of a list is its first, or among the others
 pub first_or : {A : Type 0} (x : A) (xs : List A) (c : A) → Contains (x ∷ xs) c → (x ≡ c) ⊎ Contains xs c
@@ -35,10 +36,7 @@ ended_local w owner id p v local idle = local.begun ∙ (let c : v.begun ≡ len
 
 module _ (object : Sequential ℕ ℕ ℕ) (row id : ℕ) (v : View) (other : ℕ) (x : View) (single : x.known.count ≡ 1) (idle : x.known.call ≡ None) where
   module _ (w : WorldOf ℕ ℕ ℕ) (s : State ℕ View) (is : IsShown object row w s) (at : get_elem? s.views id ≡ some v) (apart : other ≡ id → ⊥)
-      (there : get_elem? (set s.views id (took_in v x)) other ≡ some x) where
-    was_there : get_elem? s.views other ≡ some x
-    was_there = sym (set_else s.views id other (took_in v x) apart) ∙ there
-
+      (there : get_elem? s.views other ≡ some x) where
     abbrev views' : List View
     views' = set (set s.views id (took_in v x)) other nobody
 
@@ -56,12 +54,12 @@ module _ (object : Sequential ℕ ℕ ℕ) (row id : ℕ) (v : View) (other : �
     told = is.seats id v at
 
     told_other : Tells w is.owner row other x.known
-    told_other = is.seats other x was_there
+    told_other = is.seats other x there
 
     local_other : IsLocal w is.owner other x.known.first x.known
     local_other = told_other.each x.known.first (omega arith) (omega (arith, single))
 
-    seated_local : (j j' q : ℕ) (u : Known) (taken : List CallsOf) → IsLocal w is.owner j q u → owner' q ≡ j' → IsLocal w owner' j' q (record u { taken = taken })
+    seated_local : (j j' q : ℕ) (u : Known) (taken : List ProcessCalls) → IsLocal w is.owner j q u → owner' q ≡ j' → IsLocal w owner' j' q (record u { taken = taken })
     seated_local j j' q u taken h e = record {
       inside = h.inside;
       seat = e;
@@ -74,14 +72,14 @@ module _ (object : Sequential ℕ ℕ ℕ) (row id : ℕ) (v : View) (other : �
       own = h.own;
     }
 
-    seated_taken : (j j' : ℕ) (c : CallsOf) → IsTaken w is.owner j c → owner' c.process ≡ j' → IsTaken w owner' j' c
+    seated_taken : (j j' : ℕ) (c : ProcessCalls) → IsTaken w is.owner j c → owner' c.process ≡ j' → IsTaken w owner' j' c
     seated_taken j j' c h e = record { inside = h.inside; seat = e; call = h.call; begun = h.begun; own = h.own }
 
     -- none of the other seat's processes is one of the seat
     not_among : (q : ℕ) → is.owner q ≡ other → IsAmong q v.known → ⊥
     not_among q e among = apart (sym e ∙ (told.each q among.0 among.1).seat)
 
-    now_taken : (c : CallsOf) → Contains (calls_known x) c → IsTaken w owner' id c × (IsAmong c.process v.known → ⊥)
+    now_taken : (c : ProcessCalls) → Contains (calls_in_view x) c → IsTaken w owner' id c × (IsAmong c.process v.known → ⊥)
     now_taken c has = elim (first_or _ _ c has) [
       | inl here ↦ subst (λ k. IsTaken w owner' id k × (IsAmong k.process v.known → ⊥)) here (
         record {
@@ -101,6 +99,7 @@ module _ (object : Sequential ℕ ℕ ℕ) (row id : ℕ) (v : View) (other : �
       | inl spent ↦ subst (λ (z : View). Tells w owner' row j z.known) spent.1 (record {
         processes = λ any. absurd (omega arith);
         calls = λ any. absurd (omega arith);
+        several = λ two. absurd (omega arith);
         each = λ q from to. absurd (omega arith);
         taken = λ c has. absurd (let k = has.1 in omega arith);
       })
@@ -111,8 +110,9 @@ module _ (object : Sequential ℕ ℕ ℕ) (row id : ℕ) (v : View) (other : �
             (record {
               processes = told.processes;
               calls = told.calls;
-              each = λ q from to. let local = told.each q from to in seated_local id id q v.known (v.known.taken ++ calls_known x) local (stays q id local.seat (λ same. apart (sym same)));
-              taken = λ c has. elim (Contains-append_cases v.known.taken (calls_known x) c has) [
+              several = told.several;
+              each = λ q from to. let local = told.each q from to in seated_local id id q v.known (v.known.taken ++ calls_in_view x) local (stays q id local.seat (λ same. apart (sym same)));
+              taken = λ c has. elim (Contains-append_cases v.known.taken (calls_in_view x) c has) [
                 | inl old ↦ let its = told.taken c old in (seated_taken id id c its.0 (stays c.process id its.0.seat (λ same. apart (sym same))), its.1)
                 | inr new ↦ now_taken c new
               ];
@@ -122,6 +122,7 @@ module _ (object : Sequential ℕ ℕ ℕ) (row id : ℕ) (v : View) (other : �
             record {
               processes = its.processes;
               calls = its.calls;
+              several = its.several;
               each = λ q from to. let local = its.each q from to in seated_local j j q u.known u.known.taken local (stays q j local.seat left.0);
               taken = λ c has. let taken = its.taken c has in (seated_taken j j c taken.0 (stays c.process j taken.0.seat left.0), taken.1);
             }
@@ -136,13 +137,13 @@ module _ (object : Sequential ℕ ℕ ℕ) (row id : ℕ) (v : View) (other : �
         let was = is.seated q inside in
         elim (number_cases (is.owner q) other) [
           | inl over ↦
-              let same : was.0 ≡ x = some-injective _ _ (sym (subst (λ k. get_elem? s.views k ≡ some was.0) over.0 was.1) ∙ was_there) in
+              let same : was.0 ≡ x = some-injective _ _ (sym (subst (λ k. get_elem? s.views k ≡ some was.0) over.0 was.1) ∙ there) in
               let has : HasProcess q x.known = subst (λ (z : View). HasProcess q z.known) same was.2 in (
                 took_in v x,
                 subst (λ k. get_elem? views' k ≡ some (took_in v x)) (sym (goes_over q over.0)) mine_there,
                 inr (elim has [
-                  | inl among ↦ (record { process = x.known.first; own = x.known.own }, Contains-append_right v.known.taken (calls_known x) _ (first_there _ _), omega (arith, single, among.0, among.1))
-                  | inr taken ↦ (taken.0, Contains-append_right v.known.taken (calls_known x) taken.0 (later_there _ _ taken.0 taken.1), taken.2)
+                  | inl among ↦ (record { process = x.known.first; calls = x.known.own }, Contains-append_right v.known.taken (calls_in_view x) _ (first_there _ _), omega (arith, single, among.0, among.1))
+                  | inr taken ↦ (taken.0, Contains-append_right v.known.taken (calls_in_view x) taken.0 (later_there _ _ taken.0 taken.1), taken.2)
                 ]),
               )
           | inr off ↦ elim (number_cases (is.owner q) id) [
@@ -153,7 +154,7 @@ module _ (object : Sequential ℕ ℕ ℕ) (row id : ℕ) (v : View) (other : �
                   subst (λ k. get_elem? views' k ≡ some (took_in v x)) (sym (stays q id mine.0 (λ same. apart (sym same)))) mine_there,
                   elim has [
                     | inl among ↦ inl among
-                    | inr taken ↦ inr (taken.0, Contains-append_left v.known.taken (calls_known x) taken.0 taken.1, taken.2)
+                    | inr taken ↦ inr (taken.0, Contains-append_left v.known.taken (calls_in_view x) taken.0 taken.1, taken.2)
                   ],
                 )
             | inr rest ↦ (
@@ -180,20 +181,19 @@ module _ (object : Sequential ℕ ℕ ℕ) (row id : ℕ) (v : View) (other : �
       counts = is.counts;
     }
 
-    module _ (n : ℕ) (run : HasRun object n w s.views) where
-      abbrev Acts : CallsOf → Type 0
-      Acts c = acts_by c.process (history_of object (opened_world n object.initial 1) run.events) ≡ acts_from c.process 0 c.own
+    module _ (n : ℕ) (events : List (Event ℕ)) (run : LeadsTo object n events w s.views) where
+      abbrev Acts : ProcessCalls → Type 0
+      Acts c = acts_by c.process (run_history object n events) ≡ sequential_acts c.process 0 c.calls
 
-      acts_taken : (c : CallsOf) → Contains (calls_known x) c → Acts c
+      acts_taken : (c : ProcessCalls) → Contains (calls_in_view x) c → Acts c
       acts_taken c has = elim (first_or _ _ c has) [
-        | inl here ↦ subst Acts here (run.acts other x was_there x.known.first (omega arith, omega (arith, single))
-            ∙ (ap (λ o. acts_from x.known.first 0 x.known.own ++ acts_pending x.known.first (length x.known.own) x.known.inv o) idle ∙ append-nil (acts_from x.known.first 0 x.known.own)))
-        | inr taken ↦ run.taken other x was_there c taken
+        | inl here ↦ subst Acts here (run.acts other x there x.known.first (omega arith, omega (arith, single))
+            ∙ (ap (λ o. sequential_acts x.known.first 0 x.known.own ++ pending_acts x.known.first (length x.known.own) x.known.inv o) idle ∙ append-nil (sequential_acts x.known.first 0 x.known.own)))
+        | inr taken ↦ run.taken other x there c taken
       ]
 
-      join_run : HasRun object n w views'
+      join_run : LeadsTo object n events w views'
       join_run = record {
-        events = run.events;
         accepted = run.accepted;
         one_era = run.one_era;
         reached = run.reached;
@@ -201,7 +201,7 @@ module _ (object : Sequential ℕ ℕ ℕ) (row id : ℕ) (v : View) (other : �
           | inl spent ↦ absurd (let none : IsAmong p nobody.known = subst (λ (z : View). IsAmong p z.known) (sym spent.1) among in omega (arith, none.0, none.1))
           | inr left ↦ elim (at_set s.views id j (took_in v x) u left.1) [
             | inl mine ↦
-                subst (λ (z : View). acts_by p (history_of object (opened_world n object.initial 1) run.events) ≡ acts_known p z.known) mine.1
+                subst (λ (z : View). acts_by p (run_history object n events) ≡ acts_in_view p z.known) mine.1
                 (run.acts id v at p (subst (λ (z : View). IsAmong p z.known) (sym mine.1) among))
             | inr rest ↦ run.acts j u rest.1 p among
           ]
@@ -210,7 +210,7 @@ module _ (object : Sequential ℕ ℕ ℕ) (row id : ℕ) (v : View) (other : �
           | inl spent ↦ absurd (let none : Contains nobody.known.taken c = subst (λ (z : View). Contains z.known.taken c) (sym spent.1) has in let k = none.1 in omega arith)
           | inr left ↦ elim (at_set s.views id j (took_in v x) u left.1) [
             | inl mine ↦
-                elim (Contains-append_cases v.known.taken (calls_known x) c (subst (λ (z : View). Contains z.known.taken c) (sym mine.1) has)) [
+                elim (Contains-append_cases v.known.taken (calls_in_view x) c (subst (λ (z : View). Contains z.known.taken c) (sym mine.1) has)) [
                   | inl old ↦ run.taken id v at c old
                   | inr new ↦ acts_taken c new
                 ]
@@ -219,5 +219,8 @@ module _ (object : Sequential ℕ ℕ ℕ) (row id : ℕ) (v : View) (other : �
         ];
       }
 
+    pub join_leads : Leads object row w s [] w (after_join s id v other x)
+    join_leads = record { shown = join_kept; run = λ n events run. no_more object n events w views' (join_run n events run) }
+
   pub joins : (n : ℕ) → Joins (ShowsRun object n row) id v other x (took_in v x) nobody
-  joins n s shown at apart there = (shown.0, shown.1, join_kept shown.0 s shown.2 at apart there, join_run shown.0 s shown.2 at apart there n shown.3)
+  joins n s shown at apart there = led n shown.1 shown.3 (join_leads shown.0 s shown.2 at apart (sym (set_else s.views id other (took_in v x) apart) ∙ there))

@@ -1,5 +1,5 @@
 -- The laws of the word steps.
-use Rattle.std.proofs.Common.{◌≡◌, ◌∙◌, ℕ, ◌<◌, ◌^◌, sym, ap, subst, slice_index, Option, Some, arith}
+use Rattle.std.proofs.Common.{◌≡◌, ◌∙◌, ℕ, ◌<◌, ◌^◌, sym, ap, subst, [], ◌∷◌, slice_index, Option, Some, arith}
 use mathlib.Core.Option.{some}
 use lib.ListN.{get_elem?}
 use Rattle.atomic_table.specs.Table.{State}
@@ -8,40 +8,49 @@ use Rattle.uni_model.specs.Places.{Name, new_of}
 use Rattle.uni_model.specs.Stages.{Stage, Pending}
 use Rattle.uni_model.specs.Stages.Stage.{DecideNew, Finish}
 use Rattle.uni_model.specs.Worlds.{WorldOf}
+use Rattle.uni_model.specs.Worlds.Event.{Step}
 use Rattle.uni_model.proofs.Steps.{linked_call, head_number}
-use Rattle.uni_words.specs.Laws.{IsLoad, after_word, StoreBegins, WordStepMoves, StoreEnds, LoadEnds, LoadKeeps, OwnCallsRise}
+use Rattle.uni_words.specs.Laws.{IsLoad, Leads, after_word, StoreBegins, WordStepMoves, StoreEnds, LoadEnds, LoadKeeps, OwnCallsRise, SplitKeeps, JoinKeeps}
 use Rattle.uni_words.specs.Shown.{HasRead, IsShown}
 use Rattle.uni_words.specs.View.{Known, Reading, moved_at, finished_by}
 use Rattle.uni_words.specs.View.Reading.{Nothing, Invocation, Applied, Reply}
 use Rattle.uni_words.specs.Words.{reply_in, reply_at}
 use Rattle.uni_words.specs.declared.view.View.{View}
-use Rattle.uni_words.proofs.Begins.{begun_kept}
-use Rattle.uni_words.proofs.Finishes.{stored_kept, loaded_kept}
+use Rattle.uni_words.proofs.Begins.{begun_leads}
+use Rattle.uni_words.proofs.Finishes.{stored_leads, loaded_leads}
 use Rattle.uni_words.proofs.Happens.{own_local, later_is}
-use Rattle.uni_words.proofs.Looks.{stands, underway, inv_told, state_told, reply_told, looked_kept}
-use Rattle.uni_words.proofs.Moving.{moved_kept}
+use Rattle.uni_words.proofs.Joining.{join_leads}
+use Rattle.uni_words.proofs.Looks.{stands, underway, inv_told, state_told, reply_told, looked_leads}
+use Rattle.uni_words.proofs.Moving.{moved_leads}
 use Rattle.uni_words.proofs.Rising.{own_rises}
+use Rattle.uni_words.proofs.Splitting.{split_leads}
+
+pub SplitKeeps-holds : (object : Sequential ℕ ℕ ℕ) (row : ℕ) (w : WorldOf ℕ ℕ ℕ) (s : State ℕ View) (id : ℕ) (v : View) → SplitKeeps object row w s id v
+SplitKeeps-holds object row w s id v is at some_left = split_leads object row id v some_left w s is at
+
+pub JoinKeeps-holds : (object : Sequential ℕ ℕ ℕ) (row : ℕ) (w : WorldOf ℕ ℕ ℕ) (s : State ℕ View) (id : ℕ) (v : View) (other : ℕ) (x : View) → JoinKeeps object row w s id v other x
+JoinKeeps-holds object row w s id v other x is at there apart single idle = join_leads object row id v other x single idle w s is at apart there
 
 module _ (object : Sequential ℕ ℕ ℕ) (row : ℕ) (w : WorldOf ℕ ℕ ℕ) (s : State ℕ View) (id : ℕ) (v : Known) where
   pub StoreBegins-holds : (word inv : ℕ) → StoreBegins object row w s id v word inv
-  StoreBegins-holds word inv is seat idle room there = begun_kept object row w s is id v seat.0 seat.1 idle room word there inv
+  StoreBegins-holds word inv is seat idle room there = begun_leads object row w s is id v seat.0 seat.1 idle room word there inv
 
   pub WordStepMoves-holds : (c : Pending) (next : Stage) (word x : ℕ) → WordStepMoves object row w s id v c next word x
   WordStepMoves-holds c next word x is seat pending there goes writes fits =
       let happens = later_is object row w s is id v seat.0 seat.1 c pending in
-      subst (λ u. IsShown object row u (after_word s word x id (moved_at v c (slice_index s.words word)))) happens
-      (moved_kept object row w s is id v seat.0 seat.1 c pending word there (next, goes) x writes
+      subst (λ u. Leads object row w s (Step v.first ∷ []) u (after_word s word x id (moved_at v c (slice_index s.words word)))) happens
+      (moved_leads object row w s is id v seat.0 seat.1 c pending word there (next, goes) x writes
       (subst (λ (u : WorldOf ℕ ℕ ℕ). (y : Name) (k : ℕ × Option ℕ) → new_of u.memory y ≡ Some k → k.0 < 2 ^ 31) (sym happens) fits))
 
   pub StoreEnds-holds : (mine : Name) (c_seq mine_seq reply word x : ℕ) → StoreEnds object row w s id v mine c_seq mine_seq reply word x
   StoreEnds-holds mine c_seq mine_seq reply word x is seat pending less read there named =
-      subst (λ u. IsShown object row u (after_word s word x id (finished_by v reply))) (later_is object row w s is id v seat.0 seat.1 _ pending)
-      (stored_kept object row w s is id v seat.0 seat.1 mine c_seq mine_seq pending less word x there named reply read)
+      subst (λ u. Leads object row w s (Step v.first ∷ []) u (after_word s word x id (finished_by v 1 reply))) (later_is object row w s is id v seat.0 seat.1 _ pending)
+      (stored_leads object row w s is id v seat.0 seat.1 mine c_seq mine_seq pending less word x there named reply read)
 
   pub LoadEnds-holds : (mine : Name) (c_seq mine_seq word : ℕ) → LoadEnds object row w s id v mine c_seq mine_seq word
   LoadEnds-holds mine c_seq mine_seq word is seat pending more there =
-      subst (λ u. IsShown object row u (after_word s word (slice_index s.words word) id (finished_by v (reply_in (slice_index s.words word))))) (later_is object row w s is id v seat.0 seat.1 _ pending)
-      (loaded_kept object row w s is id v seat.0 seat.1 mine c_seq mine_seq pending more word there)
+      subst (λ u. Leads object row w s (Step v.first ∷ []) u (after_word s word (slice_index s.words word) id (finished_by v 0 (reply_in (slice_index s.words word))))) (later_is object row w s is id v seat.0 seat.1 _ pending)
+      (loaded_leads object row w s is id v seat.0 seat.1 mine c_seq mine_seq pending more word there)
 
   -- what is read is settled so
   loaded : (is : IsShown object row w s) → (at : get_elem? s.views id ≡ some (record { known = v })) → (single : v.count ≡ 1) → (mine : Name) (stage : Stage) (pending : v.call ≡ Some (record { mine = mine; stage = stage })) (word : ℕ) (read : Reading)
@@ -65,7 +74,7 @@ module _ (object : Sequential ℕ ℕ ℕ) (row : ℕ) (w : WorldOf ℕ ℕ ℕ)
 
   pub LoadKeeps-holds : (c : Pending) (word : ℕ) (read : Reading) → LoadKeeps object row w s id v c word read
   LoadKeeps-holds c word read is seat pending load =
-      looked_kept object row w s is id v seat.0 seat.1 c.mine c.stage pending word read (loaded is seat.0 seat.1 c.mine c.stage pending word read load)
+      looked_leads object row w s is id v seat.0 seat.1 c.mine c.stage pending word read (loaded is seat.0 seat.1 c.mine c.stage pending word read load)
 
   pub OwnCallsRise-holds : (j k : ℕ) (a b : ℕ × ℕ) → OwnCallsRise object row w s id v j k a b
   OwnCallsRise-holds j k a b is seat less first second =

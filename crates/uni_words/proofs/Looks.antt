@@ -1,5 +1,5 @@
 -- The word steps that are no events: reads of settled words.
-use Rattle.std.proofs.Common.{◌≡◌, ◌∙◌, ℕ, zero, suc, ◌<◌, ◌≤◌, ◌^◌, refl, sym, ap, subst, slice_index, slice_set, Option, Some, None, option_and_then, arith, nat_lt, Bool, true, false, cond}
+use Rattle.std.proofs.Common.{◌≡◌, ◌∙◌, ℕ, zero, suc, ◌<◌, ◌≤◌, ◌^◌, refl, sym, ap, subst, [], slice_index, slice_set, Option, Some, None, option_and_then, arith, nat_lt, Bool, true, false, cond}
 use Rattle.std.proofs.lemmas.List.{set-get_or}
 use mathlib.Core.Option.{some}
 use lib.ListN.{get_elem?}
@@ -19,11 +19,12 @@ use Rattle.uni_words.specs.Words.{settled_at, state_in, reply_in, reply_at, word
 use Rattle.uni_words.specs.View.{Known, Reading, looked_at}
 use Rattle.uni_words.specs.View.Reading.{Invocation, Applied, Reply}
 use Rattle.uni_words.specs.Seats.{HasLooked, TellsState}
+use Rattle.uni_words.specs.Laws.{Leads, after_word}
 use Rattle.uni_words.specs.Shown.{HasRead, IsUnderway, IsLocal, IsShown, ShowsRun}
 use Rattle.uni_words.specs.declared.view.View.{View}
 use Rattle.uni_words.proofs.Locality.{word_here}
 use Rattle.uni_words.proofs.Happens.{own_local, keeps_rule}
-use Rattle.uni_words.proofs.Running.{run_stays}
+use Rattle.uni_words.proofs.Running.{led, no_more, run_stays}
 
 module _ (object : Sequential ℕ ℕ ℕ) (row : ℕ) where
   module _ (w : WorldOf ℕ ℕ ℕ) (s : State ℕ View) (is : IsShown object row w s) where
@@ -54,7 +55,7 @@ module _ (object : Sequential ℕ ℕ ℕ) (row : ℕ) where
       pub stands : Stands w.memory is.sound.0 w.n v.first mine stage
       stands = is.sound.2.stands v.first (record { mine = mine; stage = stage }) (before.call ∙ pending)
 
-      pub looked_kept : (i : ℕ) (read : Reading) → HasRead w.memory mine stage read
+      looked_kept : (i : ℕ) (read : Reading) → HasRead w.memory mine stage read
           → IsShown object row w (record { words = slice_set s.words i (slice_index s.words i); homes = s.homes; views = slice_set s.views id (record { known = looked_at v read }) })
       looked_kept i read has =
           let told = is.seats id (record { known = v }) at in
@@ -75,6 +76,15 @@ module _ (object : Sequential ℕ ℕ ℕ) (row : ℕ) where
           })
           (is.room v.first) is.fits is.sound is.counts)
 
+      pub looked_leads : (i : ℕ) (read : Reading) → HasRead w.memory mine stage read
+          → Leads object row w s [] w (after_word s i (slice_index s.words i) id (looked_at v read))
+      looked_leads i read has = record {
+        shown = looked_kept i read has;
+        run = λ n events run.
+            no_more object n events w (slice_set s.views id (record { known = looked_at v read }))
+            (run_stays object n row w s is events run id v at single (looked_at v read) refl single refl refl refl refl);
+      }
+
   pub looks_inv : (n slots id i : ℕ) (me : Me ℕ View) → me.0.known.count ≡ 1 → (mine c d : Name) (c_seq : ℕ) → me.0.known.call ≡ Some (record { mine = mine; stage = DecideNew c c_seq d })
       → word_of n row (InvOf d) ≡ Some i
       → Allows (ShowsRun object n row) slots id me i (λ x. x) (λ found me'. HasLooked me (Invocation found) me')
@@ -88,12 +98,7 @@ module _ (object : Sequential ℕ ℕ ℕ) (row : ℕ) where
         record { known = looked_at me.0.known (Invocation (slice_index s.words i)) },
         keeps,
         tt,
-        (
-          w,
-          shown.1,
-          looked_kept w s is id me.0.known at single mine (DecideNew c c_seq d) pending i (Invocation (slice_index s.words i)) (inv_told w s is d i word has),
-          run_stays object n row w s is shown.3 id me.0.known at single (looked_at me.0.known (Invocation (slice_index s.words i))) refl single refl refl refl refl,
-        ),
+        led n shown.1 shown.3 (looked_leads w s is id me.0.known at single mine (DecideNew c c_seq d) pending i (Invocation (slice_index s.words i)) (inv_told w s is d i word has)),
         refl,
       )
 
@@ -113,12 +118,7 @@ module _ (object : Sequential ℕ ℕ ℕ) (row : ℕ) where
         record { known = looked_at me.0.known (Applied inv (state_in (slice_index s.words i))) },
         keeps,
         tt,
-        (
-          w,
-          shown.1,
-          looked_kept w s is id me.0.known at single mine (DecideNew c c_seq d) pending i (Applied inv (state_in (slice_index s.words i))) (had, (reply_at c (reply_in (slice_index s.words i)), told.1)),
-          run_stays object n row w s is shown.3 id me.0.known at single (looked_at me.0.known (Applied inv (state_in (slice_index s.words i)))) refl single refl refl refl refl,
-        ),
+        led n shown.1 shown.3 (looked_leads w s is id me.0.known at single mine (DecideNew c c_seq d) pending i (Applied inv (state_in (slice_index s.words i))) (had, (reply_at c (reply_in (slice_index s.words i)), told.1))),
         (refl, is.fits c (state_in (slice_index s.words i), reply_at c (reply_in (slice_index s.words i))) told.1),
       )
 
@@ -143,13 +143,8 @@ module _ (object : Sequential ℕ ℕ ℕ) (row : ℕ) where
         record { known = looked_at me.0.known (Reply (reply_in (slice_index s.words i))) },
         keeps,
         tt,
-        (
-          shown.0,
-          shown.1,
-          looked_kept shown.0 s shown.2 id me.0.known at single mine (Finish c_seq mine_seq) pending i (Reply (reply_in (slice_index s.words i)))
-              (reply_told shown.0 s shown.2 id me.0.known at single mine c_seq mine_seq pending i word),
-          run_stays object n row shown.0 s shown.2 shown.3 id me.0.known at single (looked_at me.0.known (Reply (reply_in (slice_index s.words i)))) refl single refl refl refl refl,
-        ),
+        led n shown.1 shown.3 (looked_leads shown.0 s shown.2 id me.0.known at single mine (Finish c_seq mine_seq) pending i (Reply (reply_in (slice_index s.words i)))
+            (reply_told shown.0 s shown.2 id me.0.known at single mine c_seq mine_seq pending i word)),
         refl,
       )
 

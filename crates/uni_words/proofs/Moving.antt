@@ -1,8 +1,9 @@
 -- The word steps that are events, all but those of `new` and of the last step of a call.
-use Rattle.std.proofs.Common.{◌≡◌, ◌∙◌, ℕ, ◌+◌, ◌<◌, ◌≤◌, ◌^◌, refl, sym, ap, subst, List, length, slice_index, slice_set, Option, Some, None, arith, length-set, get_or-set_same}
+use Rattle.std.proofs.Common.{◌≡◌, ◌∙◌, ℕ, ◌+◌, ◌<◌, ◌≤◌, ◌^◌, refl, sym, ap, subst, List, [], ◌∷◌, length, slice_index, slice_set, Option, Some, None, arith, length-set, get_or-set_same}
 use mathlib.Core.Option.{some}
 use lib.ListN.{get_elem?}
-use Rattle.atomic_table.specs.Table.{State, Me, Step, keeps, Allows}
+use Rattle.atomic_table.specs.Table.{State, Me, keeps, Allows}
+use Rattle.atomic_table.specs.Table as table
 use Rattle.seq_object.specs.Sequential.{Sequential}
 use Rattle.uni_model.specs.Places.{Name, Place, Content, Memory, memory_with, new_of}
 use Rattle.uni_model.specs.Places.Name.{Of}
@@ -12,6 +13,7 @@ use Rattle.uni_model.specs.Stages.Stage.{Announce, ScanHead, ScanSeq, WriteScan,
 use Rattle.uni_model.specs.Transition.{Beside, place_of, beside, stage_after, content_after, response_after, turn_of}
 use Rattle.uni_model.specs.Effects.{Effect, call_after}
 use Rattle.uni_model.specs.Worlds.{WorldOf}
+use Rattle.uni_model.specs.Worlds.Event.{Step}
 use Rattle.uni_model.specs.Settled.{Grows}
 use Rattle.uni_model.proofs.Counted.{IsCounted-pending}
 use Rattle.uni_model.proofs.Bounded.{turns_bounded}
@@ -20,12 +22,13 @@ use Rattle.uni_words.specs.Words.{content_of, word_of}
 use Rattle.uni_words.specs.View.{Known, stage_found, moved_at}
 use Rattle.uni_words.specs.View.Reading.{Nothing}
 use Rattle.uni_words.specs.Seats.{IsWithin, HasMoved, Moved}
+use Rattle.uni_words.specs.Laws.{Leads, after_word}
 use Rattle.uni_words.specs.Shown.{IsUnderway, IsLocal, IsShown, ShowsRun, pending_count}
 use Rattle.uni_words.specs.declared.view.View.{View}
 use Rattle.uni_words.proofs.Columns.{word_below}
 use Rattle.uni_words.proofs.Underway.{HasReturned-grows}
 use Rattle.uni_words.proofs.Within.{within}
-use Rattle.uni_words.proofs.Running.{run_moves}
+use Rattle.uni_words.proofs.Running.{led, run_moves}
 use Rattle.uni_words.proofs.Happens.{own_call, own_local, effect, there, memory_set, memory_grows, later, kept}
 
 abbrev IsNotNew : Place → Type 0
@@ -77,20 +80,21 @@ goes_on n p mine (WriteSeq c s d) found h = (_, refl)
 goes_on n p mine (WriteHead c s d) found h = (_, refl)
 goes_on n p mine (Finish s t) found h = absurd h
 
-no_response : (stage : Stage) (seen : Beside ℕ ℕ ℕ) → GoesOn stage → response_after stage seen ≡ None
-no_response Announce seen h = refl
-no_response (ScanHead q best s) seen h = refl
-no_response (ScanSeq q best s x) seen h = refl
-no_response (WriteScan best s) seen h = refl
-no_response (Test c s) seen h = refl
-no_response (ReadAnnounce c s) seen h = refl
-no_response (ReadHelpSeq c s help) seen h = refl
-no_response (DecideAfter c s prefer) seen h = refl
-no_response (DecideNew c s d) seen h = absurd h
-no_response (WriteBefore c s d) seen h = refl
-no_response (WriteSeq c s d) seen h = refl
-no_response (WriteHead c s d) seen h = refl
-no_response (Finish s t) seen h = absurd h
+-- a step after which the call goes on has no response
+silent : (n p : ℕ) (mine : Name) (stage : Stage) (found : ℕ) (next : Stage) (seen : Beside ℕ ℕ ℕ) → stage_found n p mine stage found ≡ Some next → response_after stage seen ≡ None
+silent n p mine Announce found next seen on = refl
+silent n p mine (ScanHead q best s) found next seen on = refl
+silent n p mine (ScanSeq q best s x) found next seen on = refl
+silent n p mine (WriteScan best s) found next seen on = refl
+silent n p mine (Test c s) found next seen on = refl
+silent n p mine (ReadAnnounce c s) found next seen on = refl
+silent n p mine (ReadHelpSeq c s help) found next seen on = refl
+silent n p mine (DecideAfter c s prefer) found next seen on = refl
+silent n p mine (DecideNew c s d) found next seen on = refl
+silent n p mine (WriteBefore c s d) found next seen on = refl
+silent n p mine (WriteSeq c s d) found next seen on = refl
+silent n p mine (WriteHead c s d) found next seen on = refl
+silent n p mine (Finish s t) found next seen on = absurd (let none : None ≡ Some next = on in cc)
 
 module _ (object : Sequential ℕ ℕ ℕ) (row : ℕ) where
   -- a step after which the call goes on, whatever the word of its place becomes
@@ -152,6 +156,15 @@ module _ (object : Sequential ℕ ℕ ℕ) (row : ℕ) where
           (memory_set object row w s is id v at single c pending i word x writes) (moved_at v c found) processes
           ((is.seats id (record { known = v }) at).calls (let one = single in omega arith)) refl single refl tells fits
 
+      pub moved_leads : ((y : Name) (u : ℕ × Option ℕ) → new_of after.memory y ≡ Some u → u.0 < 2 ^ 31)
+          → Leads object row w s (Step v.first ∷ []) after (after_word s i x id (moved_at v c found))
+      moved_leads fits = record {
+        shown = moved_kept fits;
+        run = λ n events run.
+            run_moves object n row w s is events run id v at single c pending (silent v.n v.first c.mine c.stage found on.0 (beside w.memory c.mine c.stage) on.1)
+            (record { mine = c.mine; stage = on.0 }) (moved_at v c found) refl single refl refl refl (ap (call_after c.mine) on.1);
+      }
+
       -- where the step doesn't touch `new`
       pub fits_elsewhere : GoesOn c.stage → (y : Name) (u : ℕ × Option ℕ) → new_of after.memory y ≡ Some u → u.0 < 2 ^ 31
       fits_elsewhere goes y u e = is.fits y u (sym (new_elsewhere w.memory place does.content y (not_new w.n v.first c.mine c.stage goes)) ∙ e)
@@ -172,7 +185,7 @@ module _ (object : Sequential ℕ ℕ ℕ) (row : ℕ) where
           }
 
   -- The seat may take the step, by which the word becomes f of what it was, and it is told so of what it found.
-  pub moves : (n slots id i : ℕ) (st : Step ℕ) (me : Me ℕ View) (f said : ℕ → ℕ) → me.0.known.count ≡ 1 → (c : Pending) → me.0.known.call ≡ Some c → GoesOn c.stage
+  pub moves : (n slots id i : ℕ) (st : table.Step ℕ) (me : Me ℕ View) (f said : ℕ → ℕ) → me.0.known.count ≡ 1 → (c : Pending) → me.0.known.call ≡ Some c → GoesOn c.stage
       → word_of n row (place_of n me.0.known.first c.mine c.stage) ≡ Some i
       → ((found : ℕ) (seen : Beside ℕ ℕ ℕ) → content_of n (place_of n me.0.known.first c.mine c.stage) (f found)
       ≡ content_after object c.mine c.stage (content_of n (place_of n me.0.known.first c.mine c.stage) found) seen)
@@ -194,19 +207,14 @@ module _ (object : Sequential ℕ ℕ ℕ) (row : ℕ) where
       let on = goes_on v.n v.first c.mine c.stage found goes in
       let writes_it : content_of w.n place (f found) ≡ (effect object row w s is id v at single c pending).content
       = writes ∙ ap (λ u. content_after object c.mine c.stage u seen) (sym (there object row w s is id v at single c pending i word)) in
-      let after : IsShown object row (later object row w s is id v at single c pending) (record { words = slice_set s.words i (f found); homes = s.homes; views = slice_set s.views id (record { known = moved_at v c found }) })
-      = moved_kept w s is id v at single c pending i word on (f found) writes_it (fits_elsewhere w s is id v at single c pending i word on (f found) writes_it goes) in
-      let moved = moved_told w s is id v at single c pending i word on (f found) writes_it (said found) after me.1 (same found) (small (within object row w s is place i word)
+      let leads : Leads object row w s (Step v.first ∷ []) (later object row w s is id v at single c pending) (after_word s i (f found) id (moved_at v c found))
+      = moved_leads w s is id v at single c pending i word on (f found) writes_it (fits_elsewhere w s is id v at single c pending i word on (f found) writes_it goes) in
+      let moved = moved_told w s is id v at single c pending i word on (f found) writes_it (said found) leads.shown me.1 (same found) (small (within object row w s is place i word)
       (subst (λ x. IsWithin w.n row place x) (get_or-set_same s.words i (f found) 0 (subst (λ l. i < l) (sym is.wide) (word_below w.n row place i word)))
-      (within object row (later object row w s is id v at single c pending) (record { words = slice_set s.words i (f found); homes = s.homes; views = slice_set s.views id (record { known = moved_at v c found }) }) after place i word))) in (
+      (within object row (later object row w s is id v at single c pending) (after_word s i (f found) id (moved_at v c found)) leads.shown place i word))) in (
         record { known = moved_at v c found },
         keeps,
         tt,
-        (
-          later object row w s is id v at single c pending,
-          shown.1,
-          after,
-          run_moves object n row w s is shown.3 id v at single c pending (no_response c.stage seen goes) (record { mine = c.mine; stage = on.0 }) (moved_at v c found) refl single refl refl refl (ap (call_after c.mine) on.1),
-        ),
+        led n shown.1 shown.3 leads,
         λ d other. (let e : c ≡ d = (let g = sym pending ∙ other in cc) in subst (λ (k : Pending). HasMoved me k (said found) (record { known = moved_at v c found }, me.1)) e moved),
       )

@@ -12,14 +12,16 @@ use Rattle.uni_model.specs.Places.{Name, Place, memory_with, new_of}
 use Rattle.uni_model.specs.Places.Name.{Anchor, Of}
 use Rattle.uni_model.specs.Places.Place.{Announced, HeadOf, InvOf, SeqOf, AfterOf, NewOf, BeforeOf}
 use Rattle.uni_model.specs.Places.Content.{CellName, Number, Link, Settled}
-use Rattle.uni_model.specs.Worlds.{WorldOf, opened_world, anchor_memory}
+use Rattle.uni_model.specs.Worlds.{anchor_memory}
 use Rattle.uni_model.proofs.Written.{lt_cases}
 use Rattle.uni_model.proofs.Bounded.{HelpingInvariant-opened_world}
 use Rattle.uni_model.proofs.Counted.{CountsSteps-opened_world}
-use Rattle.uni_words.specs.Words.{settled_word, settled_at, state_in, link_of, content_of, start_of, word_of, words_of, word_at, memory_of}
+use Rattle.uni_words.specs.Words.{first_words, settled_word, settled_at, state_in, link_of, content_of, start_of, word_of, words_of, word_at, memory_of}
 use Rattle.uni_words.specs.View.{everyone}
+use Rattle.uni_words.specs.Laws.{OpeningShows}
+use Rattle.uni_words.specs.Run.{opened}
 use Rattle.uni_words.specs.Seats.{first_view}
-use Rattle.uni_words.specs.Shown.{IsLocal, Tells, IsShown, ShowsRun, acts_known}
+use Rattle.uni_words.specs.Shown.{IsLocal, Tells, IsShown, LeadsTo, ShowsRun, acts_in_view}
 use Rattle.uni_words.specs.declared.view.View.{View}
 use Rattle.uni_words.proofs.Locality.{words_written}
 
@@ -35,10 +37,21 @@ zero_at zero k = refl
 zero_at (suc l) zero = refl
 zero_at (suc l) (suc k) = zero_at l k
 
-module _ (object : Sequential ℕ ℕ ℕ) (n row : ℕ) (below : object.initial < 2 ^ 31)
-    (i j : ℕ) (seq_word : word_of n row (SeqOf Anchor) ≡ Some i) (new_word : word_of n row (NewOf Anchor) ≡ Some j) where
+module _ (object : Sequential ℕ ℕ ℕ) (n row : ℕ) (below : object.initial < 2 ^ 31) where
+  abbrev i : ℕ
+  i = start_of n row 3
+
+  abbrev j : ℕ
+  j = start_of n row 6
+
+  seq_word : word_of n row (SeqOf Anchor) ≡ Some i
+  seq_word = ap Some (let none : start_of n row 3 + 0 ≡ start_of n row 3 = omega arith in none)
+
+  new_word : word_of n row (NewOf Anchor) ≡ Some j
+  new_word = ap Some (let none : start_of n row 6 + 0 ≡ start_of n row 6 = omega arith in none)
+
   abbrev words : List ℕ
-  words = slice_set (slice_set (replicate (words_of n row) 0) i 1) j (settled_word object.initial 0)
+  words = first_words n row object.initial
 
   at_zero : (x : Place) → word_at n row (replicate (words_of n row) 0) x ≡ 0
   at_zero x = by_word (word_of n row x) where
@@ -67,10 +80,6 @@ module _ (object : Sequential ℕ ℕ ℕ) (n row : ℕ) (below : object.initial
         at_place (NewOf (Of p k)) = ap (λ u. Settled (settled_at (Of p k) u)) (at_zero (NewOf (Of p k)))
         at_place (BeforeOf x) = ap (λ u. Link (link_of n u)) (at_zero (BeforeOf x))
 
-  -- the world that is shown
-  abbrev world : WorldOf ℕ ℕ ℕ
-  world = opened_world n object.initial 1
-
   new_fits : (y : Name) (u : ℕ × Option ℕ) → new_of (anchor_memory {S = ℕ} {I = ℕ} {R = ℕ} object.initial 1) y ≡ Some u → u.0 < 2 ^ 31
   new_fits Anchor u e = let f : (object.initial, None) ≡ u = cc in subst (λ (k : ℕ × Option ℕ). k.0 < 2 ^ 31) f below
   new_fits (Of p k) u e = absurd (let f : None ≡ Some u = e in cc)
@@ -78,22 +87,22 @@ module _ (object : Sequential ℕ ℕ ℕ) (n row : ℕ) (below : object.initial
   nothing_there : {A B : Type 0} (k : ℕ) (c : A) → slice_get [] k ≡ Some c → B
   nothing_there k c e = absurd (let f : None ≡ Some c = e in cc)
 
-  first_local : (q : ℕ) → q < n → IsLocal world (λ p. 0) 0 q (everyone n row)
+  first_local : (q : ℕ) → q < n → IsLocal (opened object n) (λ p. 0) 0 q (everyone n row)
   first_local q inside = record { inside = inside; seat = refl; call = refl; begun = refl; steps = refl; turns = refl; underway = tt; counted = refl; own = λ k c e. nothing_there k c e }
 
   only_seat : (id : ℕ) (v : View) → get_elem? (first_view n row ∷ []) id ≡ some v → (id ≡ 0) × (first_view n row ≡ v)
   only_seat zero v e = (refl, some-injective _ _ e)
   only_seat (suc id) v e = absurd (some-ne-none v (sym e))
 
-  pub opening_shown : IsShown object row world (opening {S = ℕ} words [] (first_view n row))
+  opening_shown : IsShown object row (opened object n) (opening {S = ℕ} words [] (first_view n row))
   opening_shown = record {
     owner = λ p. 0;
     wide = length-set _ j (settled_word object.initial 0) ∙ (length-set _ i 1 ∙ long);
     memory = sym opened_memory;
     seats = λ id v e. let h = only_seat id v e in
-        subst (λ k. Tells world (λ p. 0) row k v.known) (sym h.0)
-        (subst (λ (z : View). Tells world (λ p. 0) row 0 z.known) h.1
-        (record { processes = λ any. refl; calls = λ any. refl; each = λ q from to. first_local q (omega arith); taken = λ c has. absurd (let k = has.1 in omega arith) }));
+        subst (λ k. Tells (opened object n) (λ p. 0) row k v.known) (sym h.0)
+        (subst (λ (z : View). Tells (opened object n) (λ p. 0) row 0 z.known) h.1
+        (record { processes = λ any. refl; calls = λ any. refl; several = λ two. refl; each = λ q from to. first_local q (omega arith); taken = λ c has. absurd (let k = has.1 in omega arith) }));
     seated = λ p inside. (first_view n row, refl, inl (omega arith, omega arith));
     number = refl;
     state = refl;
@@ -103,30 +112,29 @@ module _ (object : Sequential ℕ ℕ ℕ) (n row : ℕ) (below : object.initial
     counts = CountsSteps-opened_world object n object.initial 1;
   }
 
-  pub opening_shows : ShowsRun object n row (opening {S = ℕ} words [] (first_view n row))
-  opening_shows = (
-    world,
-    refl,
-    opening_shown,
-    record {
-      events = [];
-      accepted = tt;
-      one_era = tt;
-      reached = refl;
-      acts = λ id v e p among. let h = only_seat id v e in subst (λ (z : View). [] ≡ acts_known p z.known) h.1 refl;
-      taken = λ id v e c has. absurd (let h = only_seat id v e in let none : Contains (first_view n row).known.taken c = subst (λ (z : View). Contains z.known.taken c) (sym h.1) has in let k = none.1 in omega arith);
-    },
-  )
+  opening_leads : LeadsTo object n [] (opened object n) (first_view n row ∷ [])
+  opening_leads = record {
+    accepted = tt;
+    one_era = tt;
+    reached = refl;
+    acts = λ id v e p among. let h = only_seat id v e in subst (λ (z : View). [] ≡ acts_in_view p z.known) h.1 refl;
+    taken = λ id v e c has. absurd (let h = only_seat id v e in let none : Contains (first_view n row).known.taken c = subst (λ (z : View). Contains z.known.taken c) (sym h.1) has in let k = none.1 in omega arith);
+  }
+
+pub OpeningShows-holds : (object : Sequential ℕ ℕ ℕ) (n row : ℕ) → OpeningShows object n row
+OpeningShows-holds object n row below = (opening_shown object n row below, opening_leads object n row below)
+
+pub opening_shows : (object : Sequential ℕ ℕ ℕ) (n row : ℕ) → object.initial < 2 ^ 31 → ShowsRun object n row (opening {S = ℕ} (first_words n row object.initial) [] (first_view n row))
+opening_shows object n row below = let h = OpeningShows-holds object n row below in (opened object n, refl, h.0, ([], h.1))
 
 -- the words as the code writes them
 pub words_made : (xs : List ℕ) (n row s start : ℕ) → xs ≡ replicate (words_of n row) 0 → s ≡ start
-    → slice_set (slice_set xs (2 * n + (n * row + 1)) 1) (2 * n + 4 * (n * row + 1)) (1 + 4294967296 * s)
-    ≡ slice_set (slice_set (replicate (words_of n row) 0) (start_of n row 3 + 0) 1) (start_of n row 6 + 0) (settled_word start 0)
+    → slice_set (slice_set xs (2 * n + (n * row + 1)) 1) (2 * n + 4 * (n * row + 1)) (1 + 4294967296 * s) ≡ first_words n row start
 words_made xs n row s start e f =
-    let i : 2 * n + (n * row + 1) ≡ start_of n row 3 + 0 = omega arith in
-    let j : 2 * n + 4 * (n * row + 1) ≡ start_of n row 6 + 0 = omega arith in
+    let i : 2 * n + (n * row + 1) ≡ start_of n row 3 = omega arith in
+    let j : 2 * n + 4 * (n * row + 1) ≡ start_of n row 6 = omega arith in
     let v : 1 + 4294967296 * s ≡ settled_word start 0 = omega (arith, f) in
     ap (λ ys. slice_set (slice_set ys (2 * n + (n * row + 1)) 1) (2 * n + 4 * (n * row + 1)) (1 + 4294967296 * s)) e
     ∙ ap (λ x. slice_set (slice_set (replicate (words_of n row) 0) x 1) (2 * n + 4 * (n * row + 1)) (1 + 4294967296 * s)) i
-    ∙ ap (λ x. slice_set (slice_set (replicate (words_of n row) 0) (start_of n row 3 + 0) 1) x (1 + 4294967296 * s)) j
-    ∙ ap (λ x. slice_set (slice_set (replicate (words_of n row) 0) (start_of n row 3 + 0) 1) (start_of n row 6 + 0) x) v
+    ∙ ap (λ x. slice_set (slice_set (replicate (words_of n row) 0) (start_of n row 3) 1) x (1 + 4294967296 * s)) j
+    ∙ ap (λ x. slice_set (slice_set (replicate (words_of n row) 0) (start_of n row 3) 1) (start_of n row 6) x) v

@@ -14,12 +14,13 @@ use Rattle.uni_model.specs.History.{acts_of, calls_of, history_of, log, log_of_r
 use Rattle.uni_model.specs.Places.{Name, Memory, inv_of}
 use Rattle.uni_model.specs.Places.Name.{Of}
 use Rattle.uni_model.specs.Stages.{Pending}
-use Rattle.uni_model.specs.Worlds.{WorldOf, Event, opened_world, world_after, world_after_all, world_after_call, world_after_step, IsAccepted, AreAccepted, response_of_call}
+use Rattle.uni_model.specs.Worlds.{WorldOf, Event, world_after, world_after_all, world_after_call, world_after_step, IsAccepted, AreAccepted, response_of_call}
 use Rattle.uni_model.specs.Worlds.Event.{Call, Step, Trim, Reshape}
 use Rattle.uni_model.proofs.Written.{number_cases}
-use Rattle.uni_words.specs.Run.{acts_by, acts_from, acts_pending}
-use Rattle.uni_words.specs.View.{CallsOf, Known}
-use Rattle.uni_words.specs.Shown.{IsLocal, IsAmong, IsShown, HasRun, acts_known, pending_count}
+use Rattle.uni_words.specs.Laws.{Leads}
+use Rattle.uni_words.specs.Run.{acts_by, sequential_acts, opened, run_history}
+use Rattle.uni_words.specs.View.{ProcessCalls, Known}
+use Rattle.uni_words.specs.Shown.{IsLocal, IsAmong, IsShown, ShowsRun, LeadsTo, acts_in_view, pending_count, pending_acts}
 use Rattle.uni_words.specs.declared.view.View.{View}
 use Rattle.uni_words.proofs.Happens.{taken_apart}
 
@@ -41,12 +42,12 @@ acts_by-linearized : (p : ℕ) (cs : List (Invoked ℕ)) (ys : List (Act ℕ ℕ
 acts_by-linearized p [] ys = refl
 acts_by-linearized p (c ∷ cs) ys = acts_by-linearized p cs ys
 
-acts_from-append : (p k : ℕ) (xs : List (ℕ × ℕ)) (c : ℕ × ℕ) → acts_from p k (xs ++ c ∷ []) ≡ acts_from p k xs ++ Invoke p (length xs + k) c.0 ∷ Respond p (length xs + k) c.1 ∷ []
-acts_from-append p k [] c = (let e : k ≡ 0 + k = omega arith in ap (λ j. Invoke p j c.0 ∷ Respond p j c.1 ∷ []) e)
-acts_from-append p k (x ∷ xs) c =
+sequential_acts-append : (p k : ℕ) (xs : List (ℕ × ℕ)) (c : ℕ × ℕ) → sequential_acts p k (xs ++ c ∷ []) ≡ sequential_acts p k xs ++ Invoke p (length xs + k) c.0 ∷ Respond p (length xs + k) c.1 ∷ []
+sequential_acts-append p k [] c = (let e : k ≡ 0 + k = omega arith in ap (λ j. Invoke p j c.0 ∷ Respond p j c.1 ∷ []) e)
+sequential_acts-append p k (x ∷ xs) c =
     let e : length xs + (k + 1) ≡ suc (length xs) + k = omega arith in
-    ap (λ l. Invoke p k x.0 ∷ Respond p k x.1 ∷ l) (acts_from-append p (k + 1) xs c
-    ∙ ap (λ j. acts_from p (k + 1) xs ++ Invoke p j c.0 ∷ Respond p j c.1 ∷ []) e)
+    ap (λ l. Invoke p k x.0 ∷ Respond p k x.1 ∷ l) (sequential_acts-append p (k + 1) xs c
+    ∙ ap (λ j. sequential_acts p (k + 1) xs ++ Invoke p j c.0 ∷ Respond p j c.1 ∷ []) e)
 
 module _ (object : Sequential ℕ ℕ ℕ) where
   reached_more : (w : WorldOf ℕ ℕ ℕ) (es : List (Event ℕ)) (e : Event ℕ) → world_after_all object w (es ++ e ∷ []) ≡ world_after object (world_after_all object w es) e
@@ -91,24 +92,31 @@ module _ (object : Sequential ℕ ℕ ℕ) where
   response_here : (m : Memory ℕ ℕ ℕ) (p k inv r : ℕ) → inv_of m (Of p k) ≡ Some inv → acts_by p (responses_of m p (Of p k) (Some r)) ≡ Respond p k r ∷ []
   response_here m p k inv r asked = rw asked (elim (number_cases p p) [ inl same ↦ rw same.1 refl | inr other ↦ absurd (other.0 refl) ])
 
-module _ (object : Sequential ℕ ℕ ℕ) (n row : ℕ) (w : WorldOf ℕ ℕ ℕ) (s : State ℕ View) (is : IsShown object row w s) (run : HasRun object n w s.views)
-    (id : ℕ) (v : Known) (at : get_elem? s.views id ≡ some (record { known = v })) (single : v.count ≡ 1) where
-  abbrev opened : WorldOf ℕ ℕ ℕ
-  opened = opened_world n object.initial 1
+-- a run with no event more is the same
+pub no_more : (object : Sequential ℕ ℕ ℕ) (n : ℕ) (events : List (Event ℕ)) (w : WorldOf ℕ ℕ ℕ) (views : List View) → LeadsTo object n events w views → LeadsTo object n (events ++ []) w views
+no_more object n events w views run = subst (λ es. LeadsTo object n es w views) (sym (append-nil events)) run
 
+-- where a step leads on, the rule holds after it
+pub led : {object : Sequential ℕ ℕ ℕ} {row : ℕ} {w : WorldOf ℕ ℕ ℕ} {s : State ℕ View} {more : List (Event ℕ)} {w' : WorldOf ℕ ℕ ℕ} {s' : State ℕ View} → (n : ℕ) → w'.n ≡ n
+    → ((events : List (Event ℕ)) × LeadsTo object n events w s.views) → Leads object row w s more w' s' → ShowsRun object n row s'
+led {more = more} {w' = w'} n count run leads = (w', count, leads.shown, (run.0 ++ more, leads.run n run.0 run.1))
+
+module _ (object : Sequential ℕ ℕ ℕ) (n row : ℕ) (w : WorldOf ℕ ℕ ℕ) (s : State ℕ View) (is : IsShown object row w s)
+    (events : List (Event ℕ)) (run : LeadsTo object n events w s.views)
+    (id : ℕ) (v : Known) (at : get_elem? s.views id ≡ some (record { known = v })) (single : v.count ≡ 1) where
   local : IsLocal w is.owner id v.first v
   local = (is.seats id (record { known = v }) at).each v.first (omega arith) (let one = single in omega arith)
 
   -- the acts of each process afterwards, where those of the others are as before
   acts_later : (acts : List (Act ℕ ℕ)) (v' : Known) → v'.first ≡ v.first → v'.count ≡ 1
-      → ((q : ℕ) → q ≢ v.first → acts_by q acts ≡ acts_by q (history_of object opened run.events)) → acts_by v.first acts ≡ acts_known v.first v'
-      → (j : ℕ) (u : View) → get_elem? (set s.views id (record { known = v' })) j ≡ some u → (q : ℕ) → IsAmong q u.known → acts_by q acts ≡ acts_known q u.known
+      → ((q : ℕ) → q ≢ v.first → acts_by q acts ≡ acts_by q (run_history object n events)) → acts_by v.first acts ≡ acts_in_view v.first v'
+      → (j : ℕ) (u : View) → get_elem? (set s.views id (record { known = v' })) j ≡ some u → (q : ℕ) → IsAmong q u.known → acts_by q acts ≡ acts_in_view q u.known
   acts_later acts v' first_is count_is others own j u e q among = ⊎_elim
       (λ (h : (j ≡ id) × (record { known = v' } ≡ u)).
       let here : IsAmong q v' = subst (λ (z : View). IsAmong q z.known) (sym h.1) among in
       let same : q ≡ v.first = (let a = first_is in let b = count_is in let c = here.0 in let d = here.1 in omega arith) in
-      subst (λ (z : View). acts_by q acts ≡ acts_known q z.known) h.1
-      (subst (λ k. acts_by k acts ≡ acts_known k v') (sym same) own))
+      subst (λ (z : View). acts_by q acts ≡ acts_in_view q z.known) h.1
+      (subst (λ k. acts_by k acts ≡ acts_in_view k v') (sym same) own))
       (λ (h : (j ≢ id) × (get_elem? s.views j ≡ some u)).
       let its = (is.seats j u h.1).each q among.0 among.1 in
       others q (λ same. h.0 (sym its.seat ∙ (ap is.owner same ∙ local.seat))) ∙ run.acts j u h.1 q among)
@@ -116,8 +124,8 @@ module _ (object : Sequential ℕ ℕ ℕ) (n row : ℕ) (w : WorldOf ℕ ℕ �
 
   -- nor do the processes that were taken in act
   takes_later : (acts : List (Act ℕ ℕ)) (v' : Known) → v'.taken ≡ v.taken
-      → ((q : ℕ) → q ≢ v.first → acts_by q acts ≡ acts_by q (history_of object opened run.events))
-      → (j : ℕ) (u : View) → get_elem? (set s.views id (record { known = v' })) j ≡ some u → (c : CallsOf) → Contains u.known.taken c → acts_by c.process acts ≡ acts_from c.process 0 c.own
+      → ((q : ℕ) → q ≢ v.first → acts_by q acts ≡ acts_by q (run_history object n events))
+      → (j : ℕ) (u : View) → get_elem? (set s.views id (record { known = v' })) j ≡ some u → (c : ProcessCalls) → Contains u.known.taken c → acts_by c.process acts ≡ sequential_acts c.process 0 c.calls
   takes_later acts v' taken_is others j u e c has = ⊎_elim
       (λ (h : (j ≡ id) × (record { known = v' } ≡ u)).
       let had : Contains v.taken c = subst (λ l. Contains l c) taken_is (subst (λ (z : View). Contains z.known.taken c) (sym h.1) has) in
@@ -127,53 +135,51 @@ module _ (object : Sequential ℕ ℕ ℕ) (n row : ℕ) (w : WorldOf ℕ ℕ �
       (at_set s.views id j (record { known = v' }) u e)
 
   -- no event: the seat knows of the same acts
-  pub run_stays : (v' : Known) → v'.first ≡ v.first → v'.count ≡ 1 → v'.taken ≡ v.taken → v'.own ≡ v.own → v'.inv ≡ v.inv → v'.call ≡ v.call → HasRun object n w (set s.views id (record { known = v' }))
+  pub run_stays : (v' : Known) → v'.first ≡ v.first → v'.count ≡ 1 → v'.taken ≡ v.taken → v'.own ≡ v.own → v'.inv ≡ v.inv → v'.call ≡ v.call → LeadsTo object n events w (set s.views id (record { known = v' }))
   run_stays v' first_is count_is taken_is own inv call = record {
-    events = run.events;
     accepted = run.accepted;
     one_era = run.one_era;
     reached = run.reached;
-    acts = acts_later (history_of object opened run.events) v' first_is count_is (λ q apart. refl)
+    acts = acts_later (run_history object n events) v' first_is count_is (λ q apart. refl)
         (run.acts id (record { known = v }) at v.first (omega arith, (let one = single in omega arith))
-        ∙ ap (λ l. acts_from v.first 0 l ++ acts_pending v.first (length l) v.inv v.call) (sym own)
-        ∙ ap (λ i. acts_from v.first 0 v'.own ++ acts_pending v.first (length v'.own) i v.call) (sym inv)
-        ∙ ap (λ o. acts_from v.first 0 v'.own ++ acts_pending v.first (length v'.own) v'.inv o) (sym call));
-    taken = takes_later (history_of object opened run.events) v' taken_is (λ q apart. refl);
+        ∙ ap (λ l. sequential_acts v.first 0 l ++ pending_acts v.first (length l) v.inv v.call) (sym own)
+        ∙ ap (λ i. sequential_acts v.first 0 v'.own ++ pending_acts v.first (length v'.own) i v.call) (sym inv)
+        ∙ ap (λ o. sequential_acts v.first 0 v'.own ++ pending_acts v.first (length v'.own) v'.inv o) (sym call));
+    taken = takes_later (run_history object n events) v' taken_is (λ q apart. refl);
   }
 
   -- one more event, by the process of the seat
   run_more : (e : Event ℕ) → IsAccepted w e → EndsNoEra e → (w' : WorldOf ℕ ℕ ℕ) → world_after object w e ≡ w' → (v' : Known) → v'.first ≡ v.first → v'.count ≡ 1 → v'.taken ≡ v.taken
-      → ((q : ℕ) → q ≢ v.first → acts_by q (acts_of object w e) ≡ []) → acts_known v.first v ++ acts_by v.first (acts_of object w e) ≡ acts_known v.first v'
-      → HasRun object n w' (set s.views id (record { known = v' }))
+      → ((q : ℕ) → q ≢ v.first → acts_by q (acts_of object w e) ≡ []) → acts_in_view v.first v ++ acts_by v.first (acts_of object w e) ≡ acts_in_view v.first v'
+      → LeadsTo object n (events ++ e ∷ []) w' (set s.views id (record { known = v' }))
   run_more e ok goes w' later v' first_is count_is taken_is others own = record {
-    events = run.events ++ e ∷ [];
-    accepted = accepted_more object opened run.events e run.accepted (subst (λ u. IsAccepted u e) (sym run.reached) ok);
-    one_era = one_era_more object run.events e run.one_era goes;
-    reached = reached_more object opened run.events e ∙ (ap (λ u. world_after object u e) run.reached ∙ later);
-    acts = acts_later (history_of object opened (run.events ++ e ∷ [])) v' first_is count_is same
+    accepted = accepted_more object (opened object n) events e run.accepted (subst (λ u. IsAccepted u e) (sym run.reached) ok);
+    one_era = one_era_more object events e run.one_era goes;
+    reached = reached_more object (opened object n) events e ∙ (ap (λ u. world_after object u e) run.reached ∙ later);
+    acts = acts_later (run_history object n (events ++ e ∷ [])) v' first_is count_is same
         (more v.first ∙ (ap (λ l. l ++ acts_by v.first (acts_of object w e)) (run.acts id (record { known = v }) at v.first (omega arith, (let one = single in omega arith))) ∙ own));
-    taken = takes_later (history_of object opened (run.events ++ e ∷ [])) v' taken_is same;
+    taken = takes_later (run_history object n (events ++ e ∷ [])) v' taken_is same;
   } where
-    more : (q : ℕ) → acts_by q (history_of object opened (run.events ++ e ∷ [])) ≡ acts_by q (history_of object opened run.events) ++ acts_by q (acts_of object w e)
-    more q = ap (acts_by q) (history_more object opened run.events e)
-        ∙ (ap (λ u. acts_by q (history_of object opened run.events ++ acts_of object u e)) run.reached ∙ acts_by-append q (history_of object opened run.events) (acts_of object w e))
+    more : (q : ℕ) → acts_by q (run_history object n (events ++ e ∷ [])) ≡ acts_by q (run_history object n events) ++ acts_by q (acts_of object w e)
+    more q = ap (acts_by q) (history_more object (opened object n) events e)
+        ∙ (ap (λ u. acts_by q (run_history object n events ++ acts_of object u e)) run.reached ∙ acts_by-append q (run_history object n events) (acts_of object w e))
 
-    same : (q : ℕ) → q ≢ v.first → acts_by q (history_of object opened (run.events ++ e ∷ [])) ≡ acts_by q (history_of object opened run.events)
-    same q apart = more q ∙ (ap (λ l. acts_by q (history_of object opened run.events) ++ l) (others q apart) ∙ append-nil (acts_by q (history_of object opened run.events)))
+    same : (q : ℕ) → q ≢ v.first → acts_by q (run_history object n (events ++ e ∷ [])) ≡ acts_by q (run_history object n events)
+    same q apart = more q ∙ (ap (λ l. acts_by q (run_history object n events) ++ l) (others q apart) ∙ append-nil (acts_by q (run_history object n events)))
 
   -- a call is begun
   pub run_begins : (idle : v.call ≡ None) (inv : ℕ) (c : Pending) (v' : Known) → v'.first ≡ v.first → v'.count ≡ 1 → v'.taken ≡ v.taken → v'.own ≡ v.own → v'.inv ≡ inv → v'.call ≡ Some c
-      → HasRun object n (world_after_call w v.first inv) (set s.views id (record { known = v' }))
+      → LeadsTo object n (events ++ Call v.first inv ∷ []) (world_after_call w v.first inv) (set s.views id (record { known = v' }))
   run_begins idle inv c v' first_is count_is taken_is own asked call =
       let nth : w.begun v.first ≡ length v.own = (let b = local.begun in let k : v.begun ≡ length v.own + 0 = subst (λ o. v.begun ≡ length v.own + pending_count o) idle local.counted in omega arith) in
       run_more (Call v.first inv) (local.inside, local.call ∙ idle) tt (world_after_call w v.first inv) refl v' first_is count_is taken_is
       (λ q apart. elim (number_cases v.first q) [ inl same ↦ absurd (apart (sym same.0)) | inr other ↦ rw other.1 refl ])
-      (ap (λ o. (acts_from v.first 0 v.own ++ acts_pending v.first (length v.own) v.inv o) ++ acts_by v.first (Invoke v.first (w.begun v.first) inv ∷ [])) idle
-      ∙ (ap (λ l. l ++ acts_by v.first (Invoke v.first (w.begun v.first) inv ∷ [])) (append-nil (acts_from v.first 0 v.own))
-      ∙ (ap (λ l. acts_from v.first 0 v.own ++ l) (elim (number_cases v.first v.first) [ inl same ↦ rw same.1 (ap (λ k. Invoke v.first k inv ∷ []) nth) | inr other ↦ absurd (other.0 refl) ])
-      ∙ (ap (λ l. acts_from v.first 0 l ++ Invoke v.first (length l) inv ∷ []) (sym own)
-      ∙ (ap (λ i. acts_from v.first 0 v'.own ++ Invoke v.first (length v'.own) i ∷ []) (sym asked)
-      ∙ ap (λ o. acts_from v.first 0 v'.own ++ acts_pending v.first (length v'.own) v'.inv o) (sym call))))))
+      (ap (λ o. (sequential_acts v.first 0 v.own ++ pending_acts v.first (length v.own) v.inv o) ++ acts_by v.first (Invoke v.first (w.begun v.first) inv ∷ [])) idle
+      ∙ (ap (λ l. l ++ acts_by v.first (Invoke v.first (w.begun v.first) inv ∷ [])) (append-nil (sequential_acts v.first 0 v.own))
+      ∙ (ap (λ l. sequential_acts v.first 0 v.own ++ l) (elim (number_cases v.first v.first) [ inl same ↦ rw same.1 (ap (λ k. Invoke v.first k inv ∷ []) nth) | inr other ↦ absurd (other.0 refl) ])
+      ∙ (ap (λ l. sequential_acts v.first 0 l ++ Invoke v.first (length l) inv ∷ []) (sym own)
+      ∙ (ap (λ i. sequential_acts v.first 0 v'.own ++ Invoke v.first (length v'.own) i ∷ []) (sym asked)
+      ∙ ap (λ o. sequential_acts v.first 0 v'.own ++ pending_acts v.first (length v'.own) v'.inv o) (sym call))))))
 
   module _ (c : Pending) (pending : v.call ≡ Some c) where
     own_call : w.call v.first ≡ Some c
@@ -181,34 +187,34 @@ module _ (object : Sequential ℕ ℕ ℕ) (n row : ℕ) (w : WorldOf ℕ ℕ �
 
     -- a step after which the call goes on
     pub run_moves : (response_of_call w c) ≡ None → (d : Pending) (v' : Known) → v'.first ≡ v.first → v'.count ≡ 1 → v'.taken ≡ v.taken → v'.own ≡ v.own → v'.inv ≡ v.inv → v'.call ≡ Some d
-        → HasRun object n (world_after_step object w v.first (Some c)) (set s.views id (record { known = v' }))
+        → LeadsTo object n (events ++ Step v.first ∷ []) (world_after_step object w v.first (Some c)) (set s.views id (record { known = v' }))
     run_moves silent d v' first_is count_is taken_is own asked call =
         run_more (Step v.first) (subst IsSome (sym own_call) refl) tt (world_after_step object w v.first (Some c)) (ap (world_after_step object w v.first) own_call) v' first_is count_is taken_is
         (λ q apart. step_acts object w v.first c own_call q ∙ response_elsewhere object w.memory v.first q c.mine apart (response_of_call w c))
-        (ap (λ l. acts_known v.first v ++ l) (step_acts object w v.first c own_call v.first ∙ ap (λ o. acts_by v.first (responses_of w.memory v.first c.mine o)) silent)
-        ∙ (append-nil (acts_known v.first v)
-        ∙ (ap (λ o. acts_from v.first 0 v.own ++ acts_pending v.first (length v.own) v.inv o) pending
-        ∙ (ap (λ l. acts_from v.first 0 l ++ Invoke v.first (length l) v.inv ∷ []) (sym own)
-        ∙ (ap (λ i. acts_from v.first 0 v'.own ++ Invoke v.first (length v'.own) i ∷ []) (sym asked)
-        ∙ ap (λ o. acts_from v.first 0 v'.own ++ acts_pending v.first (length v'.own) v'.inv o) (sym call))))))
+        (ap (λ l. acts_in_view v.first v ++ l) (step_acts object w v.first c own_call v.first ∙ ap (λ o. acts_by v.first (responses_of w.memory v.first c.mine o)) silent)
+        ∙ (append-nil (acts_in_view v.first v)
+        ∙ (ap (λ o. sequential_acts v.first 0 v.own ++ pending_acts v.first (length v.own) v.inv o) pending
+        ∙ (ap (λ l. sequential_acts v.first 0 l ++ Invoke v.first (length l) v.inv ∷ []) (sym own)
+        ∙ (ap (λ i. sequential_acts v.first 0 v'.own ++ Invoke v.first (length v'.own) i ∷ []) (sym asked)
+        ∙ ap (λ o. sequential_acts v.first 0 v'.own ++ pending_acts v.first (length v'.own) v'.inv o) (sym call))))))
 
     -- the last step of a call
     pub run_ends : (reply : ℕ) → (response_of_call w c) ≡ Some reply → c.mine ≡ Of v.first (length v.own) → inv_of w.memory c.mine ≡ Some v.inv
         → (v' : Known) → v'.first ≡ v.first → v'.count ≡ 1 → v'.taken ≡ v.taken → v'.own ≡ v.own ++ (v.inv, reply) ∷ [] → v'.call ≡ None
-        → HasRun object n (world_after_step object w v.first (Some c)) (set s.views id (record { known = v' }))
+        → LeadsTo object n (events ++ Step v.first ∷ []) (world_after_step object w v.first (Some c)) (set s.views id (record { known = v' }))
     run_ends reply answer mine asked v' first_is count_is taken_is own call =
         let k : ℕ = length v.own in
         let k_is : k ≡ length v.own + 0 = omega arith in
         run_more (Step v.first) (subst IsSome (sym own_call) refl) tt (world_after_step object w v.first (Some c)) (ap (world_after_step object w v.first) own_call) v' first_is count_is taken_is
         (λ q apart. step_acts object w v.first c own_call q ∙ response_elsewhere object w.memory v.first q c.mine apart (response_of_call w c))
-        (ap (λ l. acts_known v.first v ++ l) (step_acts object w v.first c own_call v.first
+        (ap (λ l. acts_in_view v.first v ++ l) (step_acts object w v.first c own_call v.first
         ∙ (ap (λ o. acts_by v.first (responses_of w.memory v.first c.mine o)) answer
         ∙ (ap (λ x. acts_by v.first (responses_of w.memory v.first x (Some reply))) mine
         ∙ response_here object w.memory v.first k v.inv reply (subst (λ x. inv_of w.memory x ≡ Some v.inv) mine asked))))
-        ∙ (ap (λ o. (acts_from v.first 0 v.own ++ acts_pending v.first k v.inv o) ++ Respond v.first k reply ∷ []) pending
-        ∙ (append_assoc (acts_from v.first 0 v.own) (Invoke v.first k v.inv ∷ []) (Respond v.first k reply ∷ [])
-        ∙ (ap (λ j. acts_from v.first 0 v.own ++ Invoke v.first j v.inv ∷ Respond v.first j reply ∷ []) k_is
-        ∙ (sym (acts_from-append v.first 0 v.own (v.inv, reply))
-        ∙ (ap (acts_from v.first 0) (sym own)
-        ∙ (sym (append-nil (acts_from v.first 0 v'.own))
-        ∙ ap (λ o. acts_from v.first 0 v'.own ++ acts_pending v.first (length v'.own) v'.inv o) (sym call))))))))
+        ∙ (ap (λ o. (sequential_acts v.first 0 v.own ++ pending_acts v.first k v.inv o) ++ Respond v.first k reply ∷ []) pending
+        ∙ (append_assoc (sequential_acts v.first 0 v.own) (Invoke v.first k v.inv ∷ []) (Respond v.first k reply ∷ [])
+        ∙ (ap (λ j. sequential_acts v.first 0 v.own ++ Invoke v.first j v.inv ∷ Respond v.first j reply ∷ []) k_is
+        ∙ (sym (sequential_acts-append v.first 0 v.own (v.inv, reply))
+        ∙ (ap (sequential_acts v.first 0) (sym own)
+        ∙ (sym (append-nil (sequential_acts v.first 0 v'.own))
+        ∙ ap (λ o. sequential_acts v.first 0 v'.own ++ pending_acts v.first (length v'.own) v'.inv o) (sym call))))))))

@@ -62,8 +62,8 @@ stores_head object row n slots id i st me cell single c pending stores inside wo
       (λ found me' moved k e. let same : record { mine = c.mine; stage = WriteHead x s d } ≡ k = (let g = sym at ∙ e in cc) in
       subst (λ (k : Pending). IsPastHead me k.mine k.stage cell me') same (moved _ at))
       (moves object row n slots id i st me (λ x. cell) (λ x. cell) single (record { mine = c.mine; stage = WriteHead x s d }) at tt word (λ found seen. ap CellName (sym names)) (λ found. refl) (λ found a b. b))
-  by_stage (Finish c_seq mine_seq) (Reply reply) at is stores = Allows-told (ShowsRun object n row) slots id me i (λ x. cell) (λ found me'. HasFinished me reply me') (λ found me'. HeadIsStored st me cell me')
+  by_stage (Finish c_seq mine_seq) (Reply reply) at is stores = Allows-told (ShowsRun object n row) slots id me i (λ x. cell) (λ found me'. HasFinished me 1 reply me') (λ found me'. HeadIsStored st me cell me')
       (λ found me' finished k e. let same : record { mine = c.mine; stage = Finish c_seq mine_seq } ≡ k = (let g = sym at ∙ e in cc) in
-      subst (λ (k : Pending). IsPastHead me k.mine k.stage cell me') same (λ other read. (let one : reply ≡ other = (let f = sym is ∙ read in cc) in subst (λ r. HasFinished me r me') one finished)))
+      subst (λ (k : Pending). IsPastHead me k.mine k.stage cell me') same (λ other read. (let one : reply ≡ other = (let f = sym is ∙ read in cc) in subst (λ r. HasFinished me 1 r me') one finished)))
       (ends object row n slots id i me single cell c_seq mine_seq reply (subst (λ x. me.0.known.call ≡ Some (record { mine = x; stage = Finish c_seq mine_seq })) stores.0 at) is stores.1 word)
   by_stage _ _ at is stores = absurd stores

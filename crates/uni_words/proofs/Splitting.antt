@@ -6,17 +6,18 @@ use Rattle.atomic_table.specs.Table.{State, Splits}
 use Rattle.atomic_table.proofs.Lists.{at_set, at_longer, at_last, set_else}
 use Rattle.seq_object.specs.Sequential.{Sequential}
 use Rattle.uni_model.specs.AtomicObject.{set_at}
-use Rattle.uni_model.specs.History.{history_of}
-use Rattle.uni_model.specs.Worlds.{WorldOf, opened_world}
+use Rattle.uni_model.specs.Worlds.{WorldOf, Event}
 use Rattle.uni_model.proofs.Simulation.{set_at_same}
 use Rattle.uni_model.proofs.Written.{number_cases}
 use Rattle.uni_model.proofs.LawProofs.{set_at_elsewhere}
-use Rattle.uni_words.specs.Run.{acts_by}
-use Rattle.uni_words.specs.View.{CallsOf, Known}
+use Rattle.uni_words.specs.Laws.{Leads, after_split}
+use Rattle.uni_words.specs.Run.{acts_by, run_history}
+use Rattle.uni_words.specs.View.{ProcessCalls, Known}
 use Rattle.uni_words.specs.Seats.{first_alone, others}
-use Rattle.uni_words.specs.Shown.{IsLocal, IsTaken, Tells, IsAmong, HasProcess, IsShown, HasRun, ShowsRun, acts_known}
+use Rattle.uni_words.specs.Shown.{IsLocal, IsTaken, Tells, IsAmong, HasProcess, IsShown, LeadsTo, ShowsRun, acts_in_view}
 use Rattle.uni_words.specs.declared.view.View.{View}
 use Rattle.uni_words.proofs.Happens.{set_there, taken_apart}
+use Rattle.uni_words.proofs.Running.{led, no_more}
 
 -- an element of a list with one more at its end
 at_end : {A : Type 0} (l : List A) (a b : A) (j : ℕ) → get_elem? (l ++ a ∷ []) j ≡ some b → (get_elem? l j ≡ some b) ⊎ ((j ≡ length l) × (a ≡ b))
@@ -59,7 +60,7 @@ module _ (object : Sequential ℕ ℕ ℕ) (row id : ℕ) (v : View) (some_left 
     }
 
     -- nor does a process that was taken in
-    taken_stays : (j : ℕ) (u : View) (there : get_elem? s.views j ≡ some u) (c : CallsOf) → Contains u.known.taken c → IsTaken w is.owner j c → IsTaken w seat_of j c
+    taken_stays : (j : ℕ) (u : View) (there : get_elem? s.views j ≡ some u) (c : ProcessCalls) → Contains u.known.taken c → IsTaken w is.owner j c → IsTaken w seat_of j c
     taken_stays j u there c has h = record {
       inside = h.inside;
       seat = set_at_elsewhere is.owner v.known.first (length s.views) c.process (taken_apart object row w s is id v at some_left j u there c has) ∙ h.seat;
@@ -69,7 +70,7 @@ module _ (object : Sequential ℕ ℕ ℕ) (row id : ℕ) (v : View) (some_left 
     }
 
     -- the number of a seat's first process, and how many it has, say nothing of each of them
-    with_range : (l : ℕ → ℕ) (j q : ℕ) (first count : ℕ) (taken : List CallsOf) → IsLocal w l j q v.known
+    with_range : (l : ℕ → ℕ) (j q : ℕ) (first count : ℕ) (taken : List ProcessCalls) → IsLocal w l j q v.known
         → IsLocal w l j q (record v.known { first = first; count = count; taken = taken })
     with_range l j q first count taken h = record {
       inside = h.inside;
@@ -106,6 +107,7 @@ module _ (object : Sequential ℕ ℕ ℕ) (row id : ℕ) (v : View) (some_left 
             (record {
               processes = λ any. told.processes some_left;
               calls = λ any. told.calls some_left;
+              several = λ two. told.several (omega (arith, two));
               taken = λ c has. let its = told.taken c has in (taken_stays id v at c has its.0, λ among. its.1 (omega (arith, among.0), omega (arith, among.1, some_left)));
               each = λ q from to.
                   with_range seat_of id q (v.known.first + 1) (v.known.count - 1) v.known.taken (stays id q v.known (λ same. omega (arith, same, from)) (told.each q (omega (arith, from)) (omega (arith, to, some_left))));
@@ -115,6 +117,7 @@ module _ (object : Sequential ℕ ℕ ℕ) (row id : ℕ) (v : View) (some_left 
             record {
               processes = its.processes;
               calls = its.calls;
+              several = its.several;
               taken = λ c has. let taken = its.taken c has in (taken_stays j u other.1 c has taken.0, taken.1);
               each = λ q from to.
                   let local = its.each q from to in
@@ -127,6 +130,7 @@ module _ (object : Sequential ℕ ℕ ℕ) (row id : ℕ) (v : View) (some_left 
           (record {
             processes = λ any. told.processes some_left;
             calls = λ any. told.calls some_left;
+            several = λ two. absurd (omega (arith, two));
             taken = λ c has. absurd (let k = has.1 in omega arith);
             each = λ q from to.
                 let same : v.known.first ≡ q = omega (arith, from, to) in
@@ -162,7 +166,7 @@ module _ (object : Sequential ℕ ℕ ℕ) (row id : ℕ) (v : View) (some_left 
           ]
     ]
 
-    pub split_kept : IsShown object row w (record { words = s.words; homes = s.homes; views = views' })
+    split_kept : IsShown object row w (record { words = s.words; homes = s.homes; views = views' })
     split_kept = record {
       owner = seat_of;
       wide = is.wide;
@@ -177,9 +181,8 @@ module _ (object : Sequential ℕ ℕ ℕ) (row id : ℕ) (v : View) (some_left 
       counts = is.counts;
     }
 
-    pub split_run : (n : ℕ) → HasRun object n w s.views → HasRun object n w views'
-    split_run n run = record {
-      events = run.events;
+    split_run : (n : ℕ) (events : List (Event ℕ)) → LeadsTo object n events w s.views → LeadsTo object n events w views'
+    split_run n events run = record {
       accepted = run.accepted;
       one_era = run.one_era;
       reached = run.reached;
@@ -187,13 +190,13 @@ module _ (object : Sequential ℕ ℕ ℕ) (row id : ℕ) (v : View) (some_left 
         | inl old ↦ elim (at_set s.views id j (others v) u old) [
           | inl mine ↦
               let here : IsAmong p (others v).known = subst (λ (z : View). IsAmong p z.known) (sym mine.1) among in
-              subst (λ (z : View). acts_by p (history_of object (opened_world n object.initial 1) run.events) ≡ acts_known p z.known) mine.1
+              subst (λ (z : View). acts_by p (run_history object n events) ≡ acts_in_view p z.known) mine.1
               (run.acts id v at p (omega (arith, here.0), omega (arith, here.1, some_left)))
           | inr other ↦ run.acts j u other.1 p among
         ]
         | inr new ↦
             let here : IsAmong p (first_alone v).known = subst (λ (z : View). IsAmong p z.known) (sym new.1) among in
-            subst (λ (z : View). acts_by p (history_of object (opened_world n object.initial 1) run.events) ≡ acts_known p z.known) new.1
+            subst (λ (z : View). acts_by p (run_history object n events) ≡ acts_in_view p z.known) new.1
             (run.acts id v at p (here.0, omega (arith, here.1, some_left)))
       ];
       taken = λ j u e c has. elim (at_end (set s.views id (others v)) (first_alone v) u j e) [
@@ -205,5 +208,8 @@ module _ (object : Sequential ℕ ℕ ℕ) (row id : ℕ) (v : View) (some_left 
       ];
     }
 
+    pub split_leads : Leads object row w s [] w (after_split s id v)
+    split_leads = record { shown = split_kept; run = λ n events run. no_more object n events w views' (split_run n events run) }
+
   pub splits : (n : ℕ) → Splits (ShowsRun object n row) id v (others v) (first_alone v)
-  splits n s shown at = (shown.0, shown.1, split_kept shown.0 s shown.2 at, split_run shown.0 s shown.2 at n shown.3)
+  splits n s shown at = led n shown.1 shown.3 (split_leads shown.0 s shown.2 at)

@@ -1,8 +1,8 @@
--- The laws of the word steps: each is an event of the world that is shown, or leaves it as it was.
-use Rattle.std.specs.Prelude.{◌≡◌, ℕ, ◌<◌, ◌≤◌, ◌^◌, Option, Some, None, slice_get, slice_index, slice_set}
+-- The laws of the word steps: each is an event, by which the world that is shown and the run to it go on, or leaves both as they were.
+use Rattle.std.specs.Prelude.{◌≡◌, ◌≢◌, ℕ, ◌<◌, ◌≤◌, ◌^◌, List, [], ◌∷◌, ◌++◌, Option, Some, None, slice_get, slice_index, slice_set}
 use mathlib.Core.Option.{some}
 use lib.ListN.{get_elem?}
-use Rattle.atomic_table.specs.Table.{State}
+use Rattle.atomic_table.specs.Table.{State, opening}
 use Rattle.seq_object.specs.Sequential.{Sequential}
 use Rattle.uni_model.specs.Indices.{name_of}
 use Rattle.uni_model.specs.Places.{Name, seq_of, new_of}
@@ -11,13 +11,15 @@ use Rattle.uni_model.specs.Places.Place.{InvOf, NewOf, HeadOf}
 use Rattle.uni_model.specs.Stages.{Stage, Pending}
 use Rattle.uni_model.specs.Stages.Stage.{DecideNew, Finish}
 use Rattle.uni_model.specs.Transition.{place_of}
-use Rattle.uni_model.specs.Worlds.{WorldOf, world_after}
+use Rattle.uni_model.specs.Worlds.{WorldOf, Event, world_after}
 use Rattle.uni_model.specs.Effects.{effect_in}
 use Rattle.uni_model.specs.Worlds.Event.{Call, Step}
-use Rattle.uni_words.specs.Shown.{IsShown}
+use Rattle.uni_words.specs.Run.{opened}
+use Rattle.uni_words.specs.Seats.{first_alone, first_view, nobody, others, took_in}
+use Rattle.uni_words.specs.Shown.{IsShown, LeadsTo}
 use Rattle.uni_words.specs.View.{Known, Reading, stage_found, begun_by, moved_at, looked_at, finished_by}
 use Rattle.uni_words.specs.View.Reading.{Invocation, Applied, Reply}
-use Rattle.uni_words.specs.Words.{content_of, word_of, state_in, reply_in}
+use Rattle.uni_words.specs.Words.{first_words, content_of, word_of, state_in, reply_in}
 use Rattle.uni_words.specs.declared.view.View.{View}
 
 -- the seat id is that of one process, and has this view
@@ -32,50 +34,82 @@ after_word s word x id v = record { words = slice_set s.words word x; homes = s.
 -- a load of a settled word, for a call that stands at this stage: what the seat has read then
 abbrev pub IsLoad : (n row : ℕ) → Known → (mine : Name) → Stage → (word found : ℕ) → Reading → Type 0
 IsLoad n row v mine (DecideNew c c_seq d) word found (Invocation inv) = (word_of n row (InvOf d) ≡ Some word) × (inv ≡ found)
-IsLoad n row v mine (DecideNew c c_seq d) word found (Applied inv state) = (word_of n row (NewOf c) ≡ Some word) × (v.read ≡ Invocation inv) × (state ≡ state_in found)
+IsLoad n row v mine (DecideNew c c_seq d) word found (Applied inv state) =
+    (word_of n row (NewOf c) ≡ Some word) × (v.read ≡ Invocation inv) × (state ≡ state_in found)
 IsLoad n row v mine (Finish c_seq mine_seq) word found (Reply reply) = (word_of n row (NewOf mine) ≡ Some word) × (reply ≡ reply_in found)
 IsLoad n row v mine stage word found read = ⊥
 
-module _ (object : Sequential ℕ ℕ ℕ) (row : ℕ) (w : WorldOf ℕ ℕ ℕ) (s : State ℕ View) (id : ℕ) (v : Known) where
-  -- the store of the invocation of the process's next call is the event that begins the call
-  abbrev pub StoreBegins : (word inv : ℕ) → Type 0
-  StoreBegins word inv =
-      IsShown object row w s → HasSeat s id v → v.call ≡ None → v.begun < row → word_of w.n row (InvOf (Of v.first v.begun)) ≡ Some word
-      → IsShown object row (world_after object w (Call v.first inv)) (after_word s word inv id (begun_by v inv))
+-- the table after a seat's first process has got a seat of its own, the last one; and after a seat has taken in another one
+abbrev pub after_split : State ℕ View → (id : ℕ) → View → State ℕ View
+after_split s id v = record { words = s.words; homes = s.homes; views = slice_set s.views id (others v) ++ first_alone v ∷ [] }
 
-  -- A word step at the place of the stage where a call stands is the event Step, as long as the call goes on after it: it leaves
-  -- in the word a number that reads as what the event leaves, and no state past 31 bits.
-  abbrev pub WordStepMoves : Pending → (next : Stage) → (word x : ℕ) → Type 0
-  WordStepMoves c next word x =
-      IsShown object row w s → HasSeat s id v → v.call ≡ Some c
-      → word_of w.n row (place_of w.n v.first c.mine c.stage) ≡ Some word
-      → stage_found v.n v.first c.mine c.stage (slice_index s.words word) ≡ Some next
-      → content_of w.n (place_of w.n v.first c.mine c.stage) x ≡ (effect_in object w v.first c).content
-      → ((y : Name) (u : ℕ × Option ℕ) → new_of (world_after object w (Step v.first)).memory y ≡ Some u → u.0 < 2 ^ 31)
-      → IsShown object row (world_after object w (Step v.first)) (after_word s word x id (moved_at v c (slice_index s.words word)))
+abbrev pub after_join : State ℕ View → (id : ℕ) → View → (other : ℕ) → View → State ℕ View
+after_join s id v other x = record { words = s.words; homes = s.homes; views = slice_set (slice_set s.views id (took_in v x)) other nobody }
 
-  -- where the process's head moves at the end of its call, the store of the head is the last Step
-  abbrev pub StoreEnds : (mine : Name) → (c_seq mine_seq reply : ℕ) → (word x : ℕ) → Type 0
-  StoreEnds mine c_seq mine_seq reply word x =
-      IsShown object row w s → HasSeat s id v → v.call ≡ Some (record { mine = mine; stage = Finish c_seq mine_seq }) → c_seq < mine_seq
-      → v.read ≡ Reply reply → word_of w.n row (HeadOf v.first) ≡ Some word → name_of w.n x ≡ mine
-      → IsShown object row (world_after object w (Step v.first)) (after_word s word x id (finished_by v reply))
+-- The table that is made shows the opened world, to which a run with no events leads.
+abbrev pub OpeningShows : (object : Sequential ℕ ℕ ℕ) (n row : ℕ) → Type 0
+OpeningShows object n row =
+    let s : State ℕ View = opening (first_words n row object.initial) [] (first_view n row) in
+    object.initial < 2 ^ 31 → IsShown object row (opened object n) s × LeadsTo object n [] (opened object n) s.views
 
-  -- where the head stays, the load of the reply is the last Step
-  abbrev pub LoadEnds : (mine : Name) → (c_seq mine_seq : ℕ) → (word : ℕ) → Type 0
-  LoadEnds mine c_seq mine_seq word =
-      IsShown object row w s → HasSeat s id v → v.call ≡ Some (record { mine = mine; stage = Finish c_seq mine_seq }) → mine_seq ≤ c_seq
-      → word_of w.n row (NewOf mine) ≡ Some word
-      → IsShown object row (world_after object w (Step v.first)) (after_word s word (slice_index s.words word) id (finished_by v (reply_in (slice_index s.words word))))
+module _ (object : Sequential ℕ ℕ ℕ) (row : ℕ) (w : WorldOf ℕ ℕ ℕ) (s : State ℕ View) where
+  -- The table s' shows the world w', and each run that led to w, with these events more, leads to w'.
+  pub record Leads (more : List (Event ℕ)) (w' : WorldOf ℕ ℕ ℕ) (s' : State ℕ View) : Type 0 where
+    pub shown : IsShown object row w' s'
+    pub run : (n : ℕ) (events : List (Event ℕ)) → LeadsTo object n events w s.views → LeadsTo object n (events ++ more) w' s'.views
 
-  -- each other load of a settled word leaves the world as it was
-  abbrev pub LoadKeeps : Pending → (word : ℕ) → Reading → Type 0
-  LoadKeeps c word read =
-      IsShown object row w s → HasSeat s id v → v.call ≡ Some c → IsLoad w.n row v c.mine c.stage word (slice_index s.words word) read
-      → IsShown object row w (after_word s word (slice_index s.words word) id (looked_at v read))
+  -- a seat of several processes is cut in two
+  abbrev pub SplitKeeps : (id : ℕ) → View → Type 0
+  SplitKeeps id v = IsShown object row w s → get_elem? s.views id ≡ some v → 1 ≤ v.known.count → Leads [] w (after_split s id v)
 
-  -- the calls that a seat was given replies to have rising numbers
-  abbrev pub OwnCallsRise : (j k : ℕ) (a b : ℕ × ℕ) → Type 0
-  OwnCallsRise j k a b =
-      IsShown object row w s → HasSeat s id v → j < k → slice_get v.own j ≡ Some a → slice_get v.own k ≡ Some b
-      → seq_of w.memory (Of v.first j) < seq_of w.memory (Of v.first k)
+  -- a seat takes in another one, of one process with no call pending
+  abbrev pub JoinKeeps : (id : ℕ) → View → (other : ℕ) → View → Type 0
+  JoinKeeps id v other x =
+      IsShown object row w s → get_elem? s.views id ≡ some v → get_elem? s.views other ≡ some x → other ≢ id
+      → x.known.count ≡ 1 → x.known.call ≡ None → Leads [] w (after_join s id v other x)
+
+  module _ (id : ℕ) (v : Known) where
+    -- the store of the invocation of the process's next call is the event that begins the call
+    abbrev pub StoreBegins : (word inv : ℕ) → Type 0
+    StoreBegins word inv =
+        IsShown object row w s → HasSeat s id v → v.call ≡ None → v.begun < row → word_of w.n row (InvOf (Of v.first v.begun)) ≡ Some word
+        → Leads (Call v.first inv ∷ []) (world_after object w (Call v.first inv)) (after_word s word inv id (begun_by v inv))
+
+    -- A word step at the place of the stage where a call stands is the event Step, as long as the call goes on after it: it leaves
+    -- in the word a number that reads as what the event leaves, and no state past 31 bits.
+    abbrev pub WordStepMoves : Pending → (next : Stage) → (word x : ℕ) → Type 0
+    WordStepMoves c next word x =
+        IsShown object row w s → HasSeat s id v → v.call ≡ Some c
+        → word_of w.n row (place_of w.n v.first c.mine c.stage) ≡ Some word
+        → stage_found v.n v.first c.mine c.stage (slice_index s.words word) ≡ Some next
+        → content_of w.n (place_of w.n v.first c.mine c.stage) x ≡ (effect_in object w v.first c).content
+        → ((y : Name) (u : ℕ × Option ℕ) → new_of (world_after object w (Step v.first)).memory y ≡ Some u → u.0 < 2 ^ 31)
+        → Leads (Step v.first ∷ []) (world_after object w (Step v.first)) (after_word s word x id (moved_at v c (slice_index s.words word)))
+
+    -- where the process's head moves at the end of its call, the store of the head is the last Step
+    abbrev pub StoreEnds : (mine : Name) → (c_seq mine_seq reply : ℕ) → (word x : ℕ) → Type 0
+    StoreEnds mine c_seq mine_seq reply word x =
+        IsShown object row w s → HasSeat s id v → v.call ≡ Some (record { mine = mine; stage = Finish c_seq mine_seq }) → c_seq < mine_seq
+        → v.read ≡ Reply reply → word_of w.n row (HeadOf v.first) ≡ Some word → name_of w.n x ≡ mine
+        → Leads (Step v.first ∷ []) (world_after object w (Step v.first)) (after_word s word x id (finished_by v 1 reply))
+
+    -- where the head stays, the load of the reply is the last Step
+    abbrev pub LoadEnds : (mine : Name) → (c_seq mine_seq : ℕ) → (word : ℕ) → Type 0
+    LoadEnds mine c_seq mine_seq word =
+        let found = slice_index s.words word in
+        IsShown object row w s → HasSeat s id v → v.call ≡ Some (record { mine = mine; stage = Finish c_seq mine_seq }) → mine_seq ≤ c_seq
+        → word_of w.n row (NewOf mine) ≡ Some word
+        → Leads (Step v.first ∷ []) (world_after object w (Step v.first)) (after_word s word found id (finished_by v 0 (reply_in found)))
+
+    -- each other load of a settled word leaves the world as it was
+    abbrev pub LoadKeeps : Pending → (word : ℕ) → Reading → Type 0
+    LoadKeeps c word read =
+        let found = slice_index s.words word in
+        IsShown object row w s → HasSeat s id v → v.call ≡ Some c → IsLoad w.n row v c.mine c.stage word found read
+        → Leads [] w (after_word s word found id (looked_at v read))
+
+    -- the calls that a seat was given replies to have rising numbers
+    abbrev pub OwnCallsRise : (j k : ℕ) (a b : ℕ × ℕ) → Type 0
+    OwnCallsRise j k a b =
+        IsShown object row w s → HasSeat s id v → j < k → slice_get v.own j ≡ Some a → slice_get v.own k ≡ Some b
+        → seq_of w.memory (Of v.first j) < seq_of w.memory (Of v.first k)

@@ -1,9 +1,11 @@
 -- The log that the words of a closed table tell.
-use Rattle.std.specs.Prelude.{◌≡◌, ℕ, ◌+◌, ◌*◌, ◌<◌, ◌≤◌, ◌==◌, ◌&&◌, Bool, true, false, nat_lt, slice_get, List, [], ◌∷◌, Option, Some, map, length, if◌then◌else◌, IsSome, refl}
+use Rattle.std.specs.Prelude.{◌≡◌, ℕ, ◌+◌, ◌*◌, ◌<◌, ◌≤◌, ◌==◌, ◌&&◌, Bool, true, false, nat_lt, slice_get, List, [], ◌∷◌, Option, Some, map, length, if◌then◌else◌, IsSome, refl, take}
 use Rattle.uni_model.specs.Places.{Name, Memory, seq_of}
 use Rattle.uni_model.specs.Places.Name.{Anchor, Of}
 use Rattle.uni_model.specs.Chain.{Entry, cells_from, entries_from}
 use Rattle.uni_model.specs.Invariant.{IsNumbered}
+use Rattle.uni_model.specs.Responses.{calls_among}
+use Rattle.uni_words.specs.View.{ProcessCalls}
 use Rattle.uni_words.specs.Words.{words_of, memory_of}
 use Rattle.uni_words.specs.declared.read.WordEntry.{WordEntry}
 
@@ -14,7 +16,8 @@ told_memory n row words = memory_of n row words (λ p. row)
 -- the entries of the chain, from the cell after the anchor on
 abbrev pub log_of : (n row : ℕ) → List ℕ → List (Entry ℕ ℕ)
 log_of n row words =
-    entries_from (told_memory n row words) (seq_of (told_memory n row words) Anchor + 1) (cells_from (n * row) (told_memory n row words) Anchor)
+    entries_from (told_memory n row words) (seq_of (told_memory n row words) Anchor + 1)
+    (cells_from (n * row) (told_memory n row words) Anchor)
 
 -- the words show one chain: its cells are numbered from the anchor on, which has number 1, and are cells of the table
 pub record IsChained (n row : ℕ) (words : List ℕ) : Type 0 where
@@ -33,7 +36,8 @@ is_call_cell n row (Of p k) = nat_lt p n && nat_lt k row
 
 -- each cell of the chain is that of a call
 abbrev pub AreCallCells : (n row : ℕ) → List ℕ → Type 0
-AreCallCells n row words = (place : ℕ) (x : Name) → slice_get (cells_from (n * row) (told_memory n row words) Anchor) place ≡ Some x → is_call_cell n row x ≡ true
+AreCallCells n row words =
+    (place : ℕ) (x : Name) → slice_get (cells_from (n * row) (told_memory n row words) Anchor) place ≡ Some x → is_call_cell n row x ≡ true
 
 -- the invocations and the replies of the calls of a process in a log, in its order
 abbrev pub calls_by : ℕ → List (Entry ℕ ℕ) → List (ℕ × Option ℕ)
@@ -51,6 +55,12 @@ AreCallsOf n log = (place : ℕ) (e : Entry ℕ ℕ) → slice_get log place ≡
 -- an invocation that was given this reply
 abbrev pub replied : ℕ × ℕ → ℕ × Option ℕ
 replied c = (c.0, Some c.1)
+
+-- In the log a process has these calls, in this order, each with its reply; its entries are numbered from 0 on.
+pub record IsLogged (log : List (Entry ℕ ℕ)) (its : ProcessCalls) : Type 0 where
+  pub calls : calls_by its.process log ≡ map replied its.calls
+  pub numbered : (place : ℕ) (e : Entry ℕ ℕ) → slice_get log place ≡ Some e → e.call.process ≡ its.process
+      → e.call.nth ≡ calls_among its.process (take place log)
 
 -- an entry of the code, as one of the definitions
 abbrev pub entry_shown : WordEntry → Entry ℕ ℕ

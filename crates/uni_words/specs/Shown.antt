@@ -1,5 +1,5 @@
 -- The rule of the table: its words and the views of its seats show a world of the definitions.
-use Rattle.std.specs.Prelude.{◌≡◌, ℕ, ◌+◌, ◌<◌, ◌≤◌, ◌^◌, ◌⊎◌, List, ◌++◌, Contains, Option, None, Some, length, slice_get}
+use Rattle.std.specs.Prelude.{◌≡◌, ℕ, ◌+◌, ◌<◌, ◌≤◌, ◌^◌, ◌⊎◌, List, [], ◌∷◌, ◌++◌, Contains, Option, None, Some, length, slice_get}
 use mathlib.Core.Option.{some}
 use lib.ListN.{get_elem?}
 use Rattle.atomic_table.specs.Table.{State}
@@ -10,14 +10,14 @@ use Rattle.uni_model.specs.Stages.{Stage, Pending}
 use Rattle.uni_model.specs.Stages.Stage.{DecideNew, Finish}
 use Rattle.uni_model.specs.Chain.{response_in}
 use Rattle.uni_model.specs.AtomicObject.{Act}
+use Rattle.uni_model.specs.AtomicObject.Act.{Invoke}
 use Rattle.uni_model.specs.Growth.{EndNoEra}
-use Rattle.uni_model.specs.History.{history_of}
-use Rattle.uni_model.specs.Worlds.{WorldOf, Event, opened_world, world_after_all, AreAccepted}
+use Rattle.uni_model.specs.Worlds.{WorldOf, Event, world_after_all, AreAccepted}
 use Rattle.uni_model.specs.Helping.{HelpingInvariant}
 use Rattle.uni_model.specs.Counting.{CountsSteps}
 use Rattle.uni_words.specs.Words.{words_of, memory_of}
-use Rattle.uni_words.specs.Run.{acts_by, acts_from, acts_pending}
-use Rattle.uni_words.specs.View.{CallsOf, Known, Reading}
+use Rattle.uni_words.specs.Run.{acts_by, sequential_acts, opened, run_history}
+use Rattle.uni_words.specs.View.{ProcessCalls, Known, Reading}
 use Rattle.uni_words.specs.View.Reading.{Nothing, Invocation, Applied, Reply}
 use Rattle.uni_words.specs.declared.view.View.{View}
 
@@ -58,12 +58,12 @@ pub record IsLocal (w : WorldOf ℕ ℕ ℕ) (seat_of : ℕ → ℕ) (id p : ℕ
   pub own : (j : ℕ) (c : ℕ × ℕ) → slice_get v.own j ≡ Some c → HasReturned w.memory (Of p j) c.0 c.1
 
 -- what the seat id knows of a process whose seat it has taken in: all its calls have returned
-pub record IsTaken (w : WorldOf ℕ ℕ ℕ) (seat_of : ℕ → ℕ) (id : ℕ) (c : CallsOf) : Type 0 where
-  pub inside : c.process < w.n
-  pub seat : seat_of c.process ≡ id
-  pub call : w.call c.process ≡ None
-  pub begun : w.begun c.process ≡ length c.own
-  pub own : (j : ℕ) (a : ℕ × ℕ) → slice_get c.own j ≡ Some a → HasReturned w.memory (Of c.process j) a.0 a.1
+pub record IsTaken (w : WorldOf ℕ ℕ ℕ) (seat_of : ℕ → ℕ) (id : ℕ) (its : ProcessCalls) : Type 0 where
+  pub inside : its.process < w.n
+  pub seat : seat_of its.process ≡ id
+  pub call : w.call its.process ≡ None
+  pub begun : w.begun its.process ≡ length its.calls
+  pub own : (j : ℕ) (c : ℕ × ℕ) → slice_get its.calls j ≡ Some c → HasReturned w.memory (Of its.process j) c.0 c.1
 
 -- the process is one of this seat's that take steps
 abbrev pub IsAmong : ℕ → Known → Type 0
@@ -71,14 +71,15 @@ IsAmong p v = (v.first ≤ p) × (p < v.first + v.count)
 
 -- or one that it has taken in
 abbrev pub HasProcess : ℕ → Known → Type 0
-HasProcess p v = IsAmong p v ⊎ ((c : CallsOf) × Contains v.taken c × (c.process ≡ p))
+HasProcess p v = IsAmong p v ⊎ ((its : ProcessCalls) × Contains v.taken its × (its.process ≡ p))
 
--- what the seat id knows
+-- what the seat id knows; where it has several processes, none of them has called
 pub record Tells (w : WorldOf ℕ ℕ ℕ) (seat_of : ℕ → ℕ) (row id : ℕ) (v : Known) : Type 0 where
   pub processes : 1 ≤ v.count → v.n ≡ w.n
   pub calls : 1 ≤ v.count → v.row ≡ row
   pub each : (p : ℕ) → v.first ≤ p → p < v.first + v.count → IsLocal w seat_of id p v
-  pub taken : (c : CallsOf) → Contains v.taken c → IsTaken w seat_of id c × ¬ (IsAmong c.process v)
+  pub several : 2 ≤ v.count → v.begun ≡ 0
+  pub taken : (its : ProcessCalls) → Contains v.taken its → IsTaken w seat_of id its × ¬ (IsAmong its.process v)
 
 -- The words and the views show the world w, whose processes have rows of so many calls: the words are its memory; each view
 -- tells the locals of its seat's processes, and each process has one seat; the anchor has number 1 and the start state, and
@@ -96,22 +97,27 @@ pub record IsShown (object : Sequential ℕ ℕ ℕ) (row : ℕ) (w : WorldOf �
   pub sound : HelpingInvariant object w
   pub counts : CountsSteps w
 
+-- a call that is pending has begun
+abbrev pub pending_acts : (p k inv : ℕ) → Option Pending → List (Act ℕ ℕ)
+pending_acts p k inv None = []
+pending_acts p k inv (Some c) = Invoke p k inv ∷ []
+
 -- the acts of a process, as its seat knows them: its calls that have returned, and the pending one
-abbrev pub acts_known : ℕ → Known → List (Act ℕ ℕ)
-acts_known p v = acts_from p 0 v.own ++ acts_pending p (length v.own) v.inv v.call
+abbrev pub acts_in_view : ℕ → Known → List (Act ℕ ℕ)
+acts_in_view p v = sequential_acts p 0 v.own ++ pending_acts p (length v.own) v.inv v.call
 
--- Accepted events, of which none ends the era, lead from the opening of n processes to the world w. In their history each process
--- takes the acts that its seat knows.
-pub record HasRun (object : Sequential ℕ ℕ ℕ) (n : ℕ) (w : WorldOf ℕ ℕ ℕ) (views : List View) : Type 0 where
-  pub events : List (Event ℕ)
-  pub accepted : AreAccepted object (opened_world n object.initial 1) events
+-- These events are accepted one after another from the opening of n processes on, end no era, and lead to the world w. In their
+-- history each process takes the acts that the view of its seat tells.
+pub record LeadsTo (object : Sequential ℕ ℕ ℕ) (n : ℕ) (events : List (Event ℕ)) (w : WorldOf ℕ ℕ ℕ) (views : List View) : Type 0 where
+  pub accepted : AreAccepted object (opened object n) events
   pub one_era : EndNoEra events
-  pub reached : world_after_all object (opened_world n object.initial 1) events ≡ w
+  pub reached : world_after_all object (opened object n) events ≡ w
   pub acts : (id : ℕ) (v : View) → get_elem? views id ≡ some v → (p : ℕ) → IsAmong p v.known
-      → acts_by p (history_of object (opened_world n object.initial 1) events) ≡ acts_known p v.known
-  pub taken : (id : ℕ) (v : View) → get_elem? views id ≡ some v → (c : CallsOf) → Contains v.known.taken c
-      → acts_by c.process (history_of object (opened_world n object.initial 1) events) ≡ acts_from c.process 0 c.own
+      → acts_by p (run_history object n events) ≡ acts_in_view p v.known
+  pub taken : (id : ℕ) (v : View) → get_elem? views id ≡ some v → (its : ProcessCalls) → Contains v.known.taken its
+      → acts_by its.process (run_history object n events) ≡ sequential_acts its.process 0 its.calls
 
--- The rule: some world of n processes is shown, to which a run from the opening leads.
+-- the rule: some world of n processes is shown, to which a run from the opening leads
 abbrev pub ShowsRun : (object : Sequential ℕ ℕ ℕ) → (n row : ℕ) → State ℕ View → Type 0
-ShowsRun object n row s = (w : WorldOf ℕ ℕ ℕ) × (w.n ≡ n) × IsShown object row w s × HasRun object n w s.views
+ShowsRun object n row s =
+    (w : WorldOf ℕ ℕ ℕ) × (w.n ≡ n) × IsShown object row w s × ((events : List (Event ℕ)) × LeadsTo object n events w s.views)

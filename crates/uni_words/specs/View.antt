@@ -15,21 +15,22 @@ pub data Reading : Type 0 where
   Applied : (inv state : ℕ) → Reading
   Reply : (reply : ℕ) → Reading
 
--- the calls of one process that have returned, each with its invocation and its reply
-pub record CallsOf : Type 0 where
+-- the calls of one process that have returned, in their order, each with its invocation and its reply
+pub record ProcessCalls : Type 0 where
   pub process : ℕ
-  pub own : List (ℕ × ℕ)
+  pub calls : List (ℕ × ℕ)
 
--- a seat's processes, which are those from the first on, n being all that there are, with rows of so many calls; how many
--- word steps it has taken; of each of its processes the pending call with its invocation and what it has read, how many
--- calls it has begun, the own steps and turns of the latest one, and the invocations and replies of those that have returned; and
--- the calls of each process whose seat was taken in
+-- What a seat knows. Its processes are those from the first on, of n with rows of so many calls. Of each of them: the pending call
+-- with its invocation and what it has read, how many calls it has begun, the own steps and the turns of the latest one, and those that
+-- have returned, each with its invocation and its reply. How many word steps the seat has taken, and how many of its calls ended with
+-- a store of the head. And the calls of each process whose seat it has taken in.
 pub record Known : Type 0 where
   pub n : ℕ
   pub row : ℕ
   pub first : ℕ
   pub count : ℕ
   pub word_steps : ℕ
+  pub stored_ends : ℕ
   pub call : Option Pending
   pub inv : ℕ
   pub read : Reading
@@ -37,11 +38,30 @@ pub record Known : Type 0 where
   pub steps : ℕ
   pub turns : ℕ
   pub own : List (ℕ × ℕ)
-  pub taken : List CallsOf
+  pub taken : List ProcessCalls
+
+-- a seat of some processes that have made no call
+abbrev pub nobody_called : (n row first count : ℕ) → Known
+nobody_called n row first count = record {
+  n = n;
+  row = row;
+  first = first;
+  count = count;
+  word_steps = 0;
+  stored_ends = 0;
+  call = None;
+  inv = 0;
+  read = Nothing;
+  begun = 0;
+  steps = 0;
+  turns = 0;
+  own = [];
+  taken = [];
+}
 
 -- the first seat has all processes
 abbrev pub everyone : (n row : ℕ) → Known
-everyone n row = record { n = n; row = row; first = 0; count = n; word_steps = 0; call = None; inv = 0; read = Nothing; begun = 0; steps = 0; turns = 0; own = []; taken = [] }
+everyone n row = nobody_called n row 0 n
 
 -- where a process stands after its step, which found this word
 abbrev pub stage_found : (n p : ℕ) → (mine : Name) → Stage → (found : ℕ) → Option Stage
@@ -73,16 +93,13 @@ begun_by v inv = record v {
 abbrev pub looked_at : Known → Reading → Known
 looked_at v read = record v { word_steps = v.word_steps + 1; read = read }
 
--- a seat of one process after the last step of its call
-abbrev pub finished_by : Known → (reply : ℕ) → Known
-finished_by v reply = record v {
+-- a seat of one process after the last step of its call, which is so many stores of the head: one, or none where it is a load
+abbrev pub finished_by : Known → (stores reply : ℕ) → Known
+finished_by v stores reply = record v {
   word_steps = v.word_steps + 1;
+  stored_ends = v.stored_ends + stores;
   call = None;
   read = Nothing;
   steps = v.steps + 1;
   own = v.own ++ (v.inv, reply) ∷ [];
 }
-
--- a seat of some processes that have made no call
-abbrev pub nobody_called : (n row first count : ℕ) → Known
-nobody_called n row first count = record { n = n; row = row; first = first; count = count; word_steps = 0; call = None; inv = 0; read = Nothing; begun = 0; steps = 0; turns = 0; own = []; taken = [] }

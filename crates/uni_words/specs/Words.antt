@@ -1,5 +1,5 @@
 -- The shared places as words of one table: announce, the heads, and five columns over the cells.
-use Rattle.std.specs.Prelude.{◌≡◌, ℕ, zero, suc, ◌+◌, ◌-◌, ◌*◌, ◌/◌, ◌%◌, ◌^◌, List, [], ◌∷◌, ◌&&◌, Option, None, Some, option_map, if◌then◌else◌, nat_lt, slice_index, refl}
+use Rattle.std.specs.Prelude.{◌≡◌, ℕ, zero, suc, ◌+◌, ◌-◌, ◌*◌, ◌/◌, ◌%◌, ◌^◌, List, [], ◌∷◌, ◌&&◌, Option, None, Some, option_map, if◌then◌else◌, nat_lt, slice_index, slice_set, replicate, refl}
 use Rattle.std.specs.Option.{option_map_or}
 use Rattle.uni_model.specs.Places.{Name, Place, Content, Memory}
 use Rattle.uni_model.specs.Places.Name.{Anchor, Of}
@@ -87,6 +87,11 @@ content_of n (NewOf x) v = Settled (settled_at x v)
 abbrev pub word_at : (n row : ℕ) → List ℕ → Place → ℕ
 word_at n row words place = option_map_or (slice_index words) (word_of n row place) 0
 
+-- the words of a table that is made: the anchor's number is 1, and its state the start state
+abbrev pub first_words : (n row start : ℕ) → List ℕ
+first_words n row start =
+    slice_set (slice_set (replicate (words_of n row) 0) (start_of n row 3) 1) (start_of n row 6) (settled_word start 0)
+
 -- the invocation of a call is there once the call has begun
 abbrev pub inv_at : (n row : ℕ) → List ℕ → (begun : ℕ → ℕ) → Name → Option ℕ
 inv_at n row words begun Anchor = None
@@ -117,6 +122,9 @@ sample_settled = refl
 -- of one process with rows of one call: the words of a log in which its call has the invocation 5
 sample_words : List ℕ
 sample_words = 1 ∷ 1 ∷ 0 ∷ 5 ∷ 1 ∷ 2 ∷ 0 ∷ 1 ∷ 2 ∷ 0 ∷ 1 ∷ 21474836481 ∷ []
+
+sample_first : first_words 1 1 3 ≡ 0 ∷ 0 ∷ 0 ∷ 0 ∷ 1 ∷ 0 ∷ 0 ∷ 0 ∷ 0 ∷ 0 ∷ 12884901889 ∷ 0 ∷ []
+sample_first = refl
 
 sample_count : words_of 1 1 ≡ 12
 sample_count = refl

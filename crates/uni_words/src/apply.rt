@@ -3,7 +3,7 @@ ghost use Rattle.std.specs.Prelude.{◌≡◌, ◌↔◌, ◌+◌, ◌*◌, ◌<
 ghost use Rattle.uni_words.specs.Standing.{StandsAt, GoesBy, IsIdle, IsCountOf};
 ghost use Rattle.uni_model.specs.Indices.{name_of};
 ghost use Rattle.uni_words.specs.Words.{cells_of};
-ghost use Rattle.uni_words.specs.Belongs.{IsSeatOf, processes_of, row_of, process_of, calls_made, own_calls, taken_calls, latest_turns, word_steps_of};
+ghost use Rattle.uni_words.specs.Belongs.{IsSeatOf, processes_of, row_of, process_of, calls_made, own_calls, taken_calls, latest_turns, view_of, word_steps_of};
 ghost use Rattle.uni_model.specs.Places.Name.{Anchor};
 ghost use Rattle.uni_model.specs.Stages.Stage.{ScanHead, WriteScan, Test, ReadAnnounce, Finish};
 
@@ -120,7 +120,7 @@ impl<O: WordObject> WordLog<O> {
         ensures own { seat.new.me.0.known.own ≡ seat.old.me.0.known.own ++ (inv, result.reply) ∷ [] }
         ensures taken { seat.new.me.0.known.taken ≡ seat.old.me.0.known.taken }
         ensures turns { (seat.new.me.0.known.turns ≡ result.turns) × (result.turns ≤ self.now.setup.n + 1) }
-        ensures steps { IsCountOf self.now.setup.n result.turns seat.old.me.0.known.word_steps seat.new.me.0.known.word_steps }
+        ensures steps { IsCountOf self.now.setup.n result.turns seat.old.me.0.known seat.new.me.0.known }
     {
         let mine = self.cell(p, nth);
         self.store_inv(seat, p, nth, mine, inv);
@@ -143,7 +143,8 @@ impl<O: WordObject> WordLog<O> {
 impl WordSeat {
     /// Applies the invocation: the reply, and how many turns it took. It returns after a known
     /// number of word steps, whatever the other seats do, and takes no memory and no lock. The seat
-    /// is one of this log's.
+    /// is one of this log's. With n processes a call of so many turns takes `2n + 5` word steps and
+    /// ten a turn; where its last step stores the head that is one more, which the seat counts.
     ///
     /// The error says that the seat has made all the calls that it can make; nothing is changed then.
     pub fn apply<O: WordObject>(&mut self, log: &WordLog<O>, inv: u64) -> Result<Answer, RowFull>
@@ -156,8 +157,10 @@ impl WordSeat {
         ensures made { OnOk result (calls_made self.new ≡ calls_made self.old + 1) }
         ensures turns { IfOk result (λ answer. latest_turns self.new ≡ answer.turns) }
         ensures few_turns { IfOk result (λ answer. answer.turns ≤ processes_of log.now + 1) }
-        ensures steps { IfOk result (λ answer. IsCountOf (processes_of log.now) answer.turns (word_steps_of self.old) (word_steps_of self.new)) }
-        ensures few_steps { OnOk result (word_steps_of self.new ≤ word_steps_of self.old + (12 * processes_of log.now + 16)) }
+        ensures steps { IfOk result (λ answer.
+            IsCountOf (processes_of log.now) answer.turns (view_of self.old) (view_of self.new)) }
+        ensures few_steps { OnOk result
+            (word_steps_of self.new ≤ word_steps_of self.old + (12 * processes_of log.now + 16)) }
     {
         if self.made == self.k {
             return Err(RowFull);

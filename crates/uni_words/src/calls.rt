@@ -125,7 +125,7 @@ impl<O: WordObject> WordLog<O> {
         requires stands { StandsAt self.now.setup.n self.now.setup.k p (name_of self.now.setup.n mine) (Finish c_seq mine_seq) seat.old.me }
         ensures same { (seat.new.table_id ≡ seat.old.table_id) × (seat.new.id ≡ seat.old.id) }
         ensures looked { c_seq < mine_seq → HasLooked seat.old.me (Reply (reply_in result)) seat.new.me }
-        ensures finished { mine_seq ≤ c_seq → HasFinished seat.old.me (reply_in result) seat.new.me }
+        ensures finished { mine_seq ≤ c_seq → HasFinished seat.old.me 0 (reply_in result) seat.new.me }
     {
         self.table
             .shared
@@ -147,7 +147,7 @@ impl<O: WordObject> WordLog<O> {
         requires stands { StandsAt self.now.setup.n self.now.setup.k p (name_of self.now.setup.n mine) (Finish c_seq mine_seq) seat.old.me }
         requires read { seat.old.me.0.known.read ≡ Reply reply }
         ensures same { (seat.new.table_id ≡ seat.old.table_id) × (seat.new.id ≡ seat.old.id) }
-        ensures finished { HasFinished seat.old.me reply seat.new.me }
+        ensures finished { HasFinished seat.old.me 1 reply seat.new.me }
     {
         self.store_head(seat, p, mine);
     }

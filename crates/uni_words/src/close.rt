@@ -2,10 +2,10 @@
 ghost use Rattle.std.specs.Prelude.{◌≡◌, ◌≤◌, ◌++◌, All, map, vec_len};
 ghost use Rattle.seq_object.specs.History.{IsLegal};
 ghost use Rattle.uni_model.specs.History.{logged_call};
-ghost use Rattle.uni_words.specs.Belongs.{AreAllSeats, IsSeatOf, object_of, processes_of, row_of, process_of, own_calls, calls_made, calls_of, known_calls, count_in, row_in, words_in};
+ghost use Rattle.uni_words.specs.Belongs.{AreAllSeats, IsSeatOf, object_of, processes_of, row_of, own_calls, calls_made, calls_of, known_calls, count_in, row_in, words_in, log_in};
 ghost use Rattle.uni_words.specs.Compare.{Agrees};
-ghost use Rattle.uni_words.specs.Run.{IsOfRun};
-ghost use Rattle.uni_words.specs.Log.{AreAnswered, AreCallsOf, IsChained, log_of, calls_by, replied};
+ghost use Rattle.uni_words.specs.Run.{IsLogOfRun};
+ghost use Rattle.uni_words.specs.Log.{AreAnswered, AreCallsOf, IsChained, IsLogged};
 
 use crate::log::WordLog;
 use crate::object::WordObject;
@@ -29,13 +29,14 @@ impl<O: WordObject> WordLog<O> {
         requires seat { IsSeatOf self seat }
         ensures counts { (count_in result ≡ processes_of self) × (row_in result ≡ row_of self) }
         ensures chain { IsChained (count_in result) (row_in result) (words_in result) }
-        ensures legal { IsLegal (O.sequential (object_of self)) (O.sequential (object_of self)).initial
-            (map logged_call (log_of (count_in result) (row_in result) (words_in result))) }
-        ensures answered { AreAnswered (log_of (count_in result) (row_in result) (words_in result)) }
-        ensures inside { AreCallsOf (processes_of self) (log_of (count_in result) (row_in result) (words_in result)) }
-        ensures own { calls_by (process_of seat) (log_of (count_in result) (row_in result) (words_in result)) ≡ map replied (own_calls seat) }
-        ensures run { IsOfRun (O.sequential (object_of self)) (processes_of self) (log_of (count_in result) (row_in result) (words_in result)) (known_calls seat) }
-        ensures known { All (λ calls. calls_by calls.process (log_of (count_in result) (row_in result) (words_in result)) ≡ map replied calls.own) (known_calls seat) }
+        ensures legal { let object = O.sequential (object_of self) in
+            IsLegal object object.initial (map logged_call (log_in result)) }
+        ensures answered { AreAnswered (log_in result) }
+        ensures inside { AreCallsOf (processes_of self) (log_in result) }
+        ensures own { IsLogged (log_in result) (calls_of seat) }
+        ensures known { All (IsLogged (log_in result)) (known_calls seat) }
+        ensures run { let object = O.sequential (object_of self) in
+            IsLogOfRun object (processes_of self) (log_in result) (known_calls seat) }
     {
         let WordLog { setup, table } = self;
         let Setup { object, n, k } = setup;
@@ -58,13 +59,15 @@ impl<O: WordObject> WordLog<O> {
         requires seats { All (IsSeatOf self) seats.items }
         ensures counts { (count_in result ≡ processes_of self) × (row_in result ≡ row_of self) }
         ensures chain { IsChained (count_in result) (row_in result) (words_in result) }
-        ensures legal { IsLegal (O.sequential (object_of self)) (O.sequential (object_of self)).initial
-            (map logged_call (log_of (count_in result) (row_in result) (words_in result))) }
-        ensures answered { AreAnswered (log_of (count_in result) (row_in result) (words_in result)) }
-        ensures inside { AreCallsOf (processes_of self) (log_of (count_in result) (row_in result) (words_in result)) }
-        ensures own { All (λ seat. calls_by (process_of seat) (log_of (count_in result) (row_in result) (words_in result)) ≡ map replied (own_calls seat)) seats.items }
-        ensures run { IsOfRun (O.sequential (object_of self)) (processes_of self) (log_of (count_in result) (row_in result) (words_in result)) (map calls_of seats.items) }
-        ensures agrees { AreAllSeats self seats.items → Agrees (O.sequential (object_of self)) (log_of (count_in result) (row_in result) (words_in result)) (map own_calls seats.items) }
+        ensures legal { let object = O.sequential (object_of self) in
+            IsLegal object object.initial (map logged_call (log_in result)) }
+        ensures answered { AreAnswered (log_in result) }
+        ensures inside { AreCallsOf (processes_of self) (log_in result) }
+        ensures known { All (λ seat. IsLogged (log_in result) (calls_of seat)) seats.items }
+        ensures run { let object = O.sequential (object_of self) in
+            IsLogOfRun object (processes_of self) (log_in result) (map calls_of seats.items) }
+        ensures agrees { let object = O.sequential (object_of self) in
+            AreAllSeats self seats.items → Agrees object (log_in result) (map own_calls seats.items) }
     {
         let mut seats = seats;
         let Some(mut first) = seats.pop() else {
@@ -81,7 +84,8 @@ impl WordSeat {
     /// Takes in another seat of this log: this seat knows its calls then. It costs one load.
     pub fn take_in<O: WordObject>(&mut self, log: &WordLog<O>, other: WordSeat)
         requires seats { IsSeatOf log.now self.old × IsSeatOf log.now other }
-        ensures kept { IsSeatOf log.now self.new × (calls_of self.new ≡ calls_of self.old) × (calls_made self.new ≡ calls_made self.old) }
+        ensures kept { IsSeatOf log.now self.new × (calls_of self.new ≡ calls_of self.old) }
+        ensures made { calls_made self.new ≡ calls_made self.old }
         ensures known { known_calls self.new ≡ known_calls self.old ++ known_calls other }
     {
         let WordSeat { seat, .. } = other;

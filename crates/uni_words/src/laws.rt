@@ -1,49 +1,73 @@
-//! The laws of the word steps, each the contract of a function with an empty body.
+//! The laws of the word steps, and of opening, splitting and joining, each the contract of a function
+//! with an empty body.
 
 ghost use Rattle.std.specs.Prelude.{ℕ};
 ghost use Rattle.atomic_table.specs.Table.{State};
 ghost use Rattle.uni_model.specs.Places.{Name};
 ghost use Rattle.uni_model.specs.Stages.{Stage, Pending};
 ghost use Rattle.uni_model.specs.Worlds.{WorldOf};
-ghost use Rattle.uni_words.specs.Laws.{StoreBegins, WordStepMoves, StoreEnds, LoadEnds, LoadKeeps, OwnCallsRise};
+ghost use Rattle.uni_words.specs.Laws.{StoreBegins, WordStepMoves, StoreEnds, LoadEnds, LoadKeeps, OwnCallsRise, OpeningShows, SplitKeeps, JoinKeeps};
 ghost use Rattle.uni_words.specs.View.{Known, Reading};
 ghost use Rattle.uni_words.specs.declared.view.View.{View};
 
 use crate::object::WordObject;
 
+/// The table that is made shows the opened world, to which a run with no events leads.
+pub fn opening_shows<O: WordObject>()
+    ensures { (object : O) (n row : ℕ) → OpeningShows (O.sequential object) n row }
+{}
+
+/// A seat of several processes is cut in two: the world and the run to it stay as they are.
+pub fn split_keeps<O: WordObject>()
+    ensures { (object : O) (row : ℕ) (w : WorldOf ℕ ℕ ℕ) (s : State ℕ View) (id : ℕ) (v : View) →
+        SplitKeeps (O.sequential object) row w s id v }
+{}
+
+/// A seat takes in another one: the world and the run to it stay as they are.
+pub fn join_keeps<O: WordObject>()
+    ensures { (object : O) (row : ℕ) (w : WorldOf ℕ ℕ ℕ) (s : State ℕ View) (id : ℕ) (v : View) (other : ℕ) (x : View) →
+        JoinKeeps (O.sequential object) row w s id v other x }
+{}
+
 /// The store of an invocation is the event that begins a call.
 pub fn store_begins<O: WordObject>()
-    ensures { (object : O) (row : ℕ) (w : WorldOf ℕ ℕ ℕ) (s : State ℕ View) (id : ℕ) (v : Known) (word inv : ℕ) →
+    ensures { (object : O) (row : ℕ) (w : WorldOf ℕ ℕ ℕ) (s : State ℕ View) (id : ℕ) (v : Known)
+        (word inv : ℕ) →
         StoreBegins (O.sequential object) row w s id v word inv }
 {}
 
 /// A word step at the place of the stage where a call stands is the step of the world's process,
 /// as long as the call goes on after it.
 pub fn word_step_moves<O: WordObject>()
-    ensures { (object : O) (row : ℕ) (w : WorldOf ℕ ℕ ℕ) (s : State ℕ View) (id : ℕ) (v : Known) (c : Pending) (next : Stage) (word x : ℕ) →
+    ensures { (object : O) (row : ℕ) (w : WorldOf ℕ ℕ ℕ) (s : State ℕ View) (id : ℕ) (v : Known)
+        (c : Pending) (next : Stage) (word x : ℕ) →
         WordStepMoves (O.sequential object) row w s id v c next word x }
 {}
 
 /// Where the head moves at the end of a call, the store of the head is the call's last step.
 pub fn store_ends<O: WordObject>()
-    ensures { (object : O) (row : ℕ) (w : WorldOf ℕ ℕ ℕ) (s : State ℕ View) (id : ℕ) (v : Known) (mine : Name) (c_seq mine_seq reply word x : ℕ) →
+    ensures { (object : O) (row : ℕ) (w : WorldOf ℕ ℕ ℕ) (s : State ℕ View) (id : ℕ) (v : Known)
+        (mine : Name) (c_seq mine_seq reply word x : ℕ) →
         StoreEnds (O.sequential object) row w s id v mine c_seq mine_seq reply word x }
 {}
 
 /// Where the head stays, the load of the reply is the call's last step.
 pub fn load_ends<O: WordObject>()
-    ensures { (object : O) (row : ℕ) (w : WorldOf ℕ ℕ ℕ) (s : State ℕ View) (id : ℕ) (v : Known) (mine : Name) (c_seq mine_seq word : ℕ) →
+    ensures { (object : O) (row : ℕ) (w : WorldOf ℕ ℕ ℕ) (s : State ℕ View) (id : ℕ) (v : Known)
+        (mine : Name) (c_seq mine_seq word : ℕ) →
         LoadEnds (O.sequential object) row w s id v mine c_seq mine_seq word }
 {}
 
-/// Each other load of a settled word leaves the world as it was.
+/// Each other load of a settled word leaves the world, and the run to it, as they were.
 pub fn load_keeps<O: WordObject>()
-    ensures { (object : O) (row : ℕ) (w : WorldOf ℕ ℕ ℕ) (s : State ℕ View) (id : ℕ) (v : Known) (c : Pending) (word : ℕ) (read : Reading) →
+    ensures { (object : O) (row : ℕ) (w : WorldOf ℕ ℕ ℕ) (s : State ℕ View) (id : ℕ) (v : Known)
+        (c : Pending) (word : ℕ) (read : Reading) →
         LoadKeeps (O.sequential object) row w s id v c word read }
 {}
 
 /// The calls that a seat was given replies to stand in the chain in their order.
 pub fn own_calls_rise<O: WordObject>()
-    ensures { (object : O) (row : ℕ) (w : WorldOf ℕ ℕ ℕ) (s : State ℕ View) (id : ℕ) (v : Known) (j k : ℕ) (a b : ℕ × ℕ) →
+    ensures { (object : O) (row : ℕ) (w : WorldOf ℕ ℕ ℕ) (s : State ℕ View) (id : ℕ) (v : Known)
+        (j k : ℕ) (a b : ℕ × ℕ) →
         OwnCallsRise (O.sequential object) row w s id v j k a b }
 {}

@@ -18,7 +18,10 @@ mod words;
 
 pub use apply::{Answer, RowFull};
 pub use compare::differs;
-pub use laws::{load_ends, load_keeps, own_calls_rise, store_begins, store_ends, word_step_moves};
+pub use laws::{
+    join_keeps, load_ends, load_keeps, opening_shows, own_calls_rise, split_keeps, store_begins,
+    store_ends, word_step_moves,
+};
 pub use log::{WordLog, WordOpenFault};
 pub use object::WordObject;
 pub use objects::{WordSticky, WordTally};

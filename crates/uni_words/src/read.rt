@@ -2,8 +2,8 @@
 ghost use Rattle.std.specs.Prelude.{◌≡◌, ◌+◌, ◌*◌, ◌<◌, ◌≤◌, IfOk, Some, map, slice_index};
 ghost use Rattle.uni_model.specs.Chain.{invoked_at, response_in};
 ghost use Rattle.uni_model.specs.Indices.{name_of};
-ghost use Rattle.uni_words.specs.Belongs.{count_in, row_in, words_in};
-ghost use Rattle.uni_words.specs.Log.{entry_shown, log_of, told_memory};
+ghost use Rattle.uni_words.specs.Belongs.{count_in, log_in, row_in, words_in};
+ghost use Rattle.uni_words.specs.Log.{entry_shown, told_memory};
 ghost use Rattle.uni_words.specs.Words.{cells_of, start_of};
 
 use crate::words::Words;
@@ -63,7 +63,7 @@ impl Words {
 ///
 /// An `Err` says that memory was refused.
 pub fn read_log(alloc: Global, words: &Words) -> Result<Vec<WordEntry>, AllocError>
-    ensures log { IfOk result (λ entries. map entry_shown entries.items ≡ log_of (count_in words.now) (row_in words.now) (words_in words.now)) }
+    ensures log { IfOk result (λ entries. map entry_shown entries.items ≡ log_in words.now) }
 {
     let mut entries = Vec::new(alloc);
     let mut at = 0;

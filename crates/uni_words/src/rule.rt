@@ -13,7 +13,8 @@ pub struct Setup<O: WordObject> {
     pub k: u64,
 }
 
-/// The rule of the table: its words and the views of its seats show a world of the construction.
+/// The rule of the table: its words and the views of its seats show a world of the construction, to
+/// which a run leads from the opening.
 pub struct Universal<O> {
     object: PhantomData<O>,
 }
@@ -92,7 +93,7 @@ impl Split<View> for First {
     ghost right = { first_alone };
 }
 
-/// A seat of one process, with what it knows, taken into another one.
+/// A seat that takes in another one, of one process, with what that knows.
 pub struct TakesIn;
 
 impl Join<View> for TakesIn {

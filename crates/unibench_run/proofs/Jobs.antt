@@ -1,5 +1,5 @@
--- The results of jobs that are all Ok.
-use Rattle.std.proofs.Common.{◌≡◌, ◌<◌, List, length, map, Ok, Result, IfOk, sym, subst}
+-- Jobs, and their results that are all Ok.
+use Rattle.std.proofs.Common.{◌≡◌, ◌<◌, List, map, Ok, Result, IfOk, sym, subst}
 use Rattle.std.specs.List.{All}
 use Rattle.std.proofs.lemmas.List.{get_or-map, length-map}
 
@@ -9,3 +9,7 @@ All-IfOk {A = A} {E = E} P results values are all = λ k d below.
     let Q : Result A E → Type 0 = λ one. IfOk one P in
     subst Q (get_or-map Ok values k d (Ok d) below)
     (subst (All Q) are all k (Ok d) (subst (λ n. k < n) (sym (length-map values Ok)) below))
+
+-- what holds of each image holds so of each element
+pub All-of_map : {X Y : Type 0} (P : Y → Type 0) (f : X → Y) (xs : List X) → All P (map f xs) → All (λ x. P (f x)) xs
+All-of_map P f xs all = λ k d below. subst P (get_or-map f xs k d (f d) below) (all k (f d) (subst (λ n. k < n) (sym (length-map xs f)) below))

@@ -4,3 +4,4 @@ pub mod PlanReads
 pub mod PlanValues
 pub mod RandomPlans
 pub mod RunCases
+pub mod Told

@@ -13,7 +13,7 @@ use Rattle.unibench_run.specs.Threads.{refusal_of}
 use Rattle.unibench_run.specs.declared.request.Request.{Request}
 use Rattle.unibench_run.specs.declared.request.Request.TheVariants.{Replay, Random, Threads}
 use Rattle.unibench_run.specs.declared.threads.ThreadsFault.{ThreadsFault}
-use Rattle.unibench_run.specs.declared.threads.ThreadsFault.TheVariants.{Memory, Write, Audit}
+use Rattle.unibench_run.specs.declared.threads.ThreadsFault.TheVariants.{Memory}
 
 -- the want of memory has one status
 pub status_of_memory : (status : ℕ) → IsStatusOf bench.Memory status → status ≡ 4
@@ -28,7 +28,7 @@ run_of_memory (Replay options) left old failed status good four = record { repla
 run_of_memory (Random plan) left old failed status good four =
     record { statuses = inr (inr four); drawn = λ e. cc; front = λ e. cc; failed = ((λ e. cc), (λ e. cc)); nothing = λ e. refl }
 run_of_memory (Threads plan) left old failed status good four =
-    record { there = λ e. cc; nowhere = λ e. inr four; agreed = λ e. cc; front = λ e. cc; failed = ((λ e. cc), (λ e. cc)); nothing = λ a b. refl }
+    record { there = λ e. cc; nowhere = λ e. inr four; agreed = λ e. cc; front = λ e. cc; failed = ((λ e. cc), (λ e. cc)); nothing = λ a b. refl; closing = λ e. cc }
 
 -- its line is one for all
 threads_told : (refusal : Option ThreadsFault) (old new : Option (List ℕ)) (failed : Bool) (status : ℕ)

@@ -5,6 +5,7 @@ use Rattle.uni_script.specs.Ends.{AppendsFront}
 use Rattle.uni_script.specs.Replay.{IsReplay, IsBadReplay, IsPartOfReplay, HasAnswered}
 use Rattle.unibench_run.specs.Draws.{drawn_text}
 use Rattle.unibench_run.specs.Threads.{OfAgreed, refusal_of}
+use Rattle.unibench_run.specs.declared.request.Form.TheVariants.{Lock}
 use Rattle.unibench_run.specs.declared.request.Plan.{Plan}
 use Rattle.unibench_run.specs.declared.request.RandomPlan.{RandomPlan}
 use Rattle.unibench_run.specs.declared.request.Request.{Request}
@@ -45,6 +46,7 @@ pub record IsThreadsRun (plan : Plan) (old new : Option (List ℕ)) (output_fail
   pub front : status ≡ 3 → OfAgreed plan (AppendsFront old new)
   pub failed : (status ≡ 3) ↔ (output_failed ≡ true)
   pub nothing : status ≢ 0 → status ≢ 3 → new ≡ old
+  pub closing : status ≡ 5 → plan.form ≡ Lock
 
 -- a run of what was asked for
 abbrev pub IsRunOf : Request → (left left_after old new : Option (List ℕ)) (output_failed : Bool) (status : ℕ) → Type 0

@@ -4,6 +4,7 @@ use Rattle.clap.specs.Words.{Text}
 use Rattle.uni_script.specs.Statuses.{TellsFault, TellsLine}
 use Rattle.unibench_run.specs.CommandLine.{AsksFor}
 use Rattle.unibench_run.specs.Threads.{line_of_fault, refusal_of}
+use Rattle.unibench_run.specs.declared.request.Form.TheVariants.{Lock}
 use Rattle.unibench_run.specs.declared.request.Plan.{Plan}
 use Rattle.unibench_run.specs.declared.request.Request.{Request}
 use Rattle.unibench_run.specs.declared.request.Request.TheVariants.{Replay, Random, Threads}
@@ -38,8 +39,8 @@ Tells (Replay options) = TellsFault
 Tells (Random plan) = TellsFault
 Tells (Threads plan) = TellsThreadsFault (refusal_of plan)
 
--- a status of the program: 5 only where the words ask for threads
+-- a status of the program: 5 only where the words ask for threads under a lock
 pub record IsStatusFor (words : List Text) (status : ℕ) : Type 0 where
   pub most : status ≤ 5
   pub not_1 : status ≢ 1
-  pub closing : status ≡ 5 → (plan : Plan) × AsksFor words (Threads plan)
+  pub closing : status ≡ 5 → (plan : Plan) × AsksFor words (Threads plan) × (plan.form ≡ Lock)

@@ -1,16 +1,23 @@
 -- What a run of threads comes to.
-use Rattle.std.specs.Prelude.{◌≡◌, ◌≤◌, ◌*◌, ℕ, Bool, true, false, nat_lt, if◌then◌else◌, Option, None, Some, List, [], ◌∷◌, ◌++◌, codes, length, vec_len, refl}
+use Rattle.std.specs.Prelude.{◌≡◌, ◌≤◌, ◌*◌, ℕ, Bool, true, false, nat_lt, if◌then◌else◌, Option, None, Some, List, [], ◌∷◌, ◌++◌, codes, length, map, slice_get, vec_len, IsSomeAnd, refl}
 use Rattle.std.specs.Fmt.{decimal, digits}
 use Rattle.std.specs.List.{sum_by}
 use Rattle.std.proofs.Common.{arith}
 use Rattle.uni_record.specs.Recorded.{share}
+use Rattle.seq_object.specs.Sequential.{Sequential}
 use Rattle.uni_script.specs.Fault.{fault_text}
 use Rattle.uni_script.specs.declared.fault.BenchFault.TheVariants as bench
 use Rattle.uni_shared.specs.Seat.{SeatOf}
 use Rattle.uni_shared.specs.declared.closed.CloseFault.{CloseFault}
 use Rattle.uni_shared.specs.declared.closed.CloseFault.TheVariants as close
-use Rattle.uni_words.specs.Belongs.{IsSeatOf, own_calls, row_of}
+use Rattle.uni_model.specs.Chain.{Entry}
+use Rattle.uni_words.specs.Belongs.{IsSeatOf, own_calls, process_of, processes_of, row_of}
+use Rattle.uni_words.specs.Compare.{Agrees}
+use Rattle.uni_words.specs.Objects.{sticky, tally}
+use Rattle.uni_words.specs.Run.{IsLogOfRun}
+use Rattle.uni_words.specs.View.{ProcessCalls}
 use Rattle.uni_words.specs.declared.log.WordLog.{WordLog}
+use Rattle.uni_words.specs.declared.steps.WordSeat.{WordSeat}
 use Rattle.unibench_run.specs.declared.request.Form.{Form}
 use Rattle.unibench_run.specs.declared.request.Form.TheVariants as form
 use Rattle.unibench_run.specs.declared.request.Plan.{Plan}
@@ -48,14 +55,34 @@ refusal_of_events form.Lock events = if nat_lt 16777216 events then Some fault.C
 abbrev pub refusal_of : Plan → Option ThreadsFault
 refusal_of plan = if has_form plan.form plan.object then refusal_of_events plan.form (events_of plan) else Some fault.NoSuchObject
 
--- so many replies are those of so many calls: of each one; under a lock, where a call may meet a fault, of no more
-abbrev pub AreOfCalls : Form → (calls replies : ℕ) → Type 0
-AreOfCalls form.Words calls replies = replies ≡ calls
-AreOfCalls form.Lock calls replies = replies ≤ calls
+-- what an object means over words, if it is there
+abbrev pub meaning_over_words : ThreadsObject → Option (Sequential ℕ ℕ ℕ)
+meaning_over_words object.Sticky = Some sticky
+meaning_over_words object.Tally = Some tally
+meaning_over_words _ = None
 
--- so many replies can come of a plan
+-- A run of so many threads, each of which made so many calls. What they were told is, of process p, the p-th of these lists of calls:
+-- the calls of a log that is that of a run of the construction, with which they agree.
+pub record IsRunOfThreads (object : Sequential ℕ ℕ ℕ) (threads calls : ℕ) (told : List ProcessCalls) : Type 0 where
+  pub many : length told ≡ threads
+  pub each : (p : ℕ) (its : ProcessCalls) → slice_get told p ≡ Some its → (its.process ≡ p) × (length its.calls ≡ calls)
+  pub log : List (Entry ℕ ℕ)
+  pub run : IsLogOfRun object threads log told
+  pub agrees : Agrees object log (map (λ its. its.calls) told)
+
+-- so many replies are those of all calls of such a run
+abbrev pub HasRun : Sequential ℕ ℕ ℕ → (threads calls replies : ℕ) → Type 0
+HasRun object threads calls replies = (replies ≡ threads * calls) × ((told : List ProcessCalls) × IsRunOfThreads object threads calls told)
+
+-- So many replies can come of a plan. Over words they are those of a run in which each process has made all its calls; under a lock,
+-- where a call may meet a fault, they are no more than the calls.
+abbrev pub AgreesIn : Form → ThreadsObject → (processes calls replies : ℕ) → Type 0
+AgreesIn form.Words object processes calls replies =
+    IsSomeAnd (meaning_over_words object) (λ meaning. HasRun meaning processes calls replies)
+AgreesIn form.Lock object processes calls replies = replies ≤ processes * calls
+
 abbrev pub IsCounted : Plan → (replies : ℕ) → Type 0
-IsCounted plan replies = AreOfCalls plan.form (plan.processes * plan.calls) replies
+IsCounted plan replies = AgreesIn plan.form plan.object plan.processes plan.calls replies
 
 -- how many receipts seats have in all
 abbrev pub receipts_in : {I R : Type 0} → List (SeatOf I R) → ℕ
@@ -91,12 +118,21 @@ abbrev pub line_of_fault : ThreadsFault → List ℕ
 line_of_fault f = text_of_fault f ++ 10 ∷ []
 
 -- a seat of this log that has made no call
-abbrev pub IsJob : {O : Type 0} → WordLog O → Job → Type 0
+abbrev pub IsJob : {O : Type 0} → WordLog O → Job WordSeat → Type 0
 IsJob log job = IsSeatOf log job.seat × (own_calls job.seat ≡ [])
 
 -- a seat of this log that has made all its calls, and was told what is listed
 abbrev pub IsDone : {O : Type 0} → WordLog O → Done → Type 0
 IsDone log done = IsSeatOf log done.seat × (vec_len done.told ≡ row_of log) × (done.told.items ≡ own_calls done.seat)
+
+-- so are the seats of all its processes, in order
+pub record AreDone {O : Type 0} (log : WordLog O) (done : List Done) : Type 0 where
+  pub many : length done ≡ processes_of log
+  pub each : (p : ℕ) (one : Done) → slice_get done p ≡ Some one → IsDone log one × (process_of one.seat ≡ p)
+
+-- what a thread was told, by its process
+abbrev pub told_to : Done → ProcessCalls
+told_to one = record { process = process_of one.seat; calls = one.told.items }
 
 eight_threads : agrees_line 8 800 ≡ codes "threads 8 calls 800 agrees" ++ 10 ∷ []
 unfolding digits

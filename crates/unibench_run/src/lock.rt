@@ -1,10 +1,10 @@
 //! Threads that make calls on one object under a lock.
 
-ghost use Rattle.std.specs.Prelude.{◌≡◌, ◌≢◌, ◌<◌, ◌≤◌, ◌*◌, ◌^◌, ◌↔◌, All, IfOk, IsErrOf, Ok, [], length, map, vec_len};
+ghost use Rattle.std.specs.Prelude.{◌≡◌, ◌≢◌, ◌<◌, ◌≤◌, ◌*◌, ◌^◌, ◌↔◌, IfOk, IsErrOf, [], length};
 ghost use Rattle.unibench_run.specs.Threads.{IsThreadsPlan, closing_fault, events_of, receipts_in};
 
 use crate::request::Plan;
-use crate::threads::ThreadsFault;
+use crate::threads::{Job, ThreadsFault, all_done, jobs_of};
 use rand_core::{Rng, SeedableRng};
 use rand_xoshiro::Xoshiro256PlusPlus;
 use ready_objects::Spoken;
@@ -19,14 +19,6 @@ use uni_shared::{ApplyFault, CloseFault, NoGate, Seat, Shared};
 /// The most events that a history holds.
 const MOST_EVENTS: u64 = 16_777_216;
 
-/// A seat that has made no call, with the seed of the words that its thread draws.
-#[derive(Drop)]
-struct LockedJob<O: SeqObject> {
-    seat: Seat<O>,
-    seed: u64,
-    ghost fresh: { seat.receipts ≡ [] },
-}
-
 /// How many events the calls of a plan can take: `10 n + 13` each.
 fn events_of(plan: &Plan) -> u64
     requires { IsThreadsPlan plan.now }
@@ -35,36 +27,19 @@ fn events_of(plan: &Plan) -> u64
     plan.processes * plan.calls * (10 * plan.processes + 13)
 }
 
-/// The jobs of the seats, in order: the first draws from the seed, each further one from the next.
-fn locked_jobs<O: SeqObject>(
-    alloc: Global,
-    seats: Vec<Seat<O>>,
-    seed: u64,
-) -> Result<Vec<LockedJob<O>>, AllocError>
-    requires { All (λ seat. seat.receipts ≡ []) seats.items }
-    ensures { IfOk result (λ jobs. vec_len jobs ≡ vec_len seats) }
-{
-    let mut jobs = Vec::new(alloc);
-    let mut seed = seed;
-    for seat in seats {
-        jobs.push(LockedJob { seat, seed })?;
-        seed = seed.wrapping_add(1);
-    }
-    Ok(jobs)
-}
-
 /// Makes so many calls by a seat, with the invocations that the words of its seed stand for, but no
 /// more after a fault. An `Err` says that the fault was that memory was refused.
 fn make_locked_calls<O: Spoken, R: Wait>(
     rt: &R,
     alloc: Global,
     shared: &Shared<O>,
-    job: LockedJob<O>,
+    job: Job<Seat<O>>,
     calls: u64,
 ) -> Result<Seat<O>, AllocError>
+    requires { job.seat.receipts ≡ [] }
     ensures { IfOk result (λ seat. length seat.receipts ≤ calls) }
 {
-    let LockedJob { mut seat, seed } = job;
+    let Job { mut seat, seed } = job;
     let mut words = Xoshiro256PlusPlus::seed_from_u64(seed);
     for _ in 0..calls {
         let inv = O::drawn(words.next_u64());
@@ -75,23 +50,6 @@ fn make_locked_calls<O: Spoken, R: Wait>(
         }
     }
     Ok(seat)
-}
-
-/// The seats of jobs that are done, in order.
-///
-/// An `Err` says that memory was refused, to a thread or here.
-fn seats_of<O: SeqObject>(
-    alloc: Global,
-    done: Vec<Result<Seat<O>, AllocError>>,
-) -> Result<Vec<Seat<O>>, AllocError>
-    ensures { IfOk result (λ seats. done.items ≡ map Ok seats.items) }
-{
-    let mut seats = Vec::new(alloc);
-    for one in done {
-        let seat = one?;
-        seats.push(seat)?;
-    }
-    Ok(seats)
 }
 
 /// How many receipts the seats have in all.
@@ -168,15 +126,16 @@ where
     let Ok((shared, seats)) = Shared::open(alloc, object, plan.processes, plan.calls, events) else {
         return Err(ThreadsFault::Memory);
     };
-    let jobs = locked_jobs(alloc, seats, plan.seed)?;
+    let jobs = jobs_of(alloc, seats, plan.seed)?;
     let calls = plan.calls;
     let done = thread::map_vec(
         rt,
         jobs,
-        &|job: LockedJob<O>| -> Result<Seat<O>, AllocError>
+        &|job: Job<Seat<O>>| -> Result<Seat<O>, AllocError>
+            requires { job.seat.receipts ≡ [] }
             ensures { IfOk result (λ seat. length seat.receipts ≤ calls) }
         { make_locked_calls(rt, alloc, &shared, job, calls) },
     )?;
-    let seats = seats_of(alloc, done)?;
+    let seats = all_done(alloc, done)?;
     close_and_audit(alloc, shared, seats)
 }

@@ -11,7 +11,7 @@ ghost use Rattle.uni_script.specs.Statuses.{TellsFault};
 ghost use Rattle.unibench_run.specs.Statuses.{IsStatusFor, IsStatusOfThreads, Tells, TellsThreadsFault, status_of_threads};
 ghost use Rattle.unibench_run.specs.Threads.{IsThreadsPlan, OfAgreed, refusal_of};
 
-use crate::request::{Plan, RandomPlan, Request, read_words};
+use crate::request::{Form, Plan, RandomPlan, Request, read_words};
 use crate::threads::{ThreadsFault, push_agrees, push_threads_fault, run_plan};
 use clap::error::ErrorKind;
 use rand_core::SeedableRng;
@@ -32,8 +32,8 @@ use uni_script::{
 /// The status is 0 where all went well, also for help that was asked for, which goes to `output`.
 /// It is 2 for a bad script, a bad command line, an object that isn't there in a form of threads or
 /// calls that are too many for a history, 3 where `input` or `output` failed, 4 where memory was
-/// refused, and 5 where threads and their log don't agree; the text that says so goes to `faults`,
-/// as far as that takes it.
+/// refused, and 5 where threads under a lock and their record don't agree; the text that says so goes
+/// to `faults`, as far as that takes it.
 pub fn run<R: Threads + Wait + Sync, S: AsStr, I: TextIn, O: TextOut, F: TextOut>(
     rt: &R,
     alloc: Global,
@@ -82,8 +82,8 @@ pub fn run<R: Threads + Wait + Sync, S: AsStr, I: TextIn, O: TextOut, F: TextOut
 ///
 /// The status is 0 where all went well, 2 where the object isn't there in the form or the calls are
 /// too many under a lock, 3 where `output` failed, 4 where memory was refused, and 5 where what the
-/// threads were told isn't what the log has; the text that says so goes to `faults`, as far as that
-/// takes it.
+/// threads were told isn't what the record under a lock has; the text that says so goes to `faults`,
+/// as far as that takes it. Over words it is never 5.
 fn threads<R: Threads + Wait + Sync, O: TextOut, F: TextOut>(
     rt: &R,
     alloc: Global,
@@ -118,6 +118,8 @@ fn write_agreed<R: Threads + Wait + Sync, O: TextOut>(
     ensures failed { IsErrOf result ThreadsFault.Write ↔ (O.has_failed output.new ≡ true) }
     ensures front { IsErrOf result ThreadsFault.Write → OfAgreed plan.now (AppendsFront (O.contents output.old) (O.contents output.new)) }
     ensures kept { OnErr result (O.has_failed output.new ≡ false → output.new ≡ output.old) }
+    ensures closing { (fault : ThreadsFault) → IsErrOf result fault →
+        status_of_threads fault ≡ 5 → plan.now.form ≡ Form.Lock }
 {
     let replies = run_plan(rt, alloc, plan)?;
     let mut line = Vec::new(alloc);

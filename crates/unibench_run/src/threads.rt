@@ -1,8 +1,10 @@
 //! Threads that make calls on one object.
 
-ghost use Rattle.std.specs.Prelude.{◌↔◌, IsErrOf, ◌≡◌, ◌++◌, ◌*◌, ◌≤◌, ℕ, All, [], IfOk, OnOk, Some, length, vec_len};
-ghost use Rattle.uni_words.specs.Belongs.{IsSeatOf, own_calls, row_of};
-ghost use Rattle.unibench_run.specs.Threads.{IsCounted, IsDone, IsJob, IsThreadsPlan, agrees_line, line_of_fault, refusal_of, text_of_fault};
+ghost use Rattle.std.specs.Prelude.{◌↔◌, IsErrOf, ◌≡◌, ◌++◌, ◌*◌, ◌≤◌, ℕ, All, [], IfOk, Ok, OnOk, Some, length, map, vec_len};
+ghost use Rattle.uni_words.specs.Belongs.{object_of, process_of, processes_of, row_of};
+ghost use Rattle.unibench_run.specs.Statuses.{status_of_threads};
+ghost use Rattle.unibench_run.specs.Threads.{AreDone, HasRun, IsCounted, IsDone, IsJob, IsRunOfThreads, IsThreadsPlan};
+ghost use Rattle.unibench_run.specs.Threads.{agrees_line, line_of_fault, refusal_of, text_of_fault, told_to};
 
 use crate::lock::run_under_lock;
 use crate::request::{Form, Plan, ThreadsObject};
@@ -70,28 +72,20 @@ impl fmt::Display for ThreadsFault {
 
 /// A seat that has made no call, with the seed of the words that its thread draws.
 #[derive(Drop)]
-struct Job {
-    seat: WordSeat,
-    seed: u64,
-}
-
-/// A seat whose calls are made, with what its thread was told: each invocation with its reply.
-#[derive(Drop)]
-struct Done {
-    seat: WordSeat,
-    told: Vec<(u64, u32)>,
+pub(crate) struct Job<S: Drop> {
+    pub(crate) seat: S,
+    pub(crate) seed: u64,
 }
 
 /// The jobs of the seats, in order: the first draws from the seed, each further one from the next.
-fn jobs_of<O: WordObject>(
+///
+/// An `Err` says that memory was refused.
+pub(crate) fn jobs_of<S: Drop>(
     alloc: Global,
-    log: &WordLog<O>,
-    seats: Vec<WordSeat>,
+    seats: Vec<S>,
     seed: u64,
-) -> Result<Vec<Job>, AllocError>
-    requires { All (λ seat. IsSeatOf log.now seat × (own_calls seat ≡ [])) seats.items }
-    ensures count { IfOk result (λ jobs. vec_len jobs ≡ vec_len seats) }
-    ensures each { IfOk result (λ jobs. All (IsJob log.now) jobs.items) }
+) -> Result<Vec<Job<S>>, AllocError>
+    ensures { IfOk result (λ jobs. map (λ job. job.seat) jobs.items ≡ seats.items) }
 {
     let mut jobs = Vec::new(alloc);
     let mut seed = seed;
@@ -102,16 +96,40 @@ fn jobs_of<O: WordObject>(
     Ok(jobs)
 }
 
+/// What jobs came to, in order.
+///
+/// An `Err` says that memory was refused, to a thread or here.
+pub(crate) fn all_done<T: Drop>(
+    alloc: Global,
+    done: Vec<Result<T, AllocError>>,
+) -> Result<Vec<T>, AllocError>
+    ensures { IfOk result (λ all. done.items ≡ map Ok all.items) }
+{
+    let mut all = Vec::new(alloc);
+    for one in done {
+        let one = one?;
+        all.push(one)?;
+    }
+    Ok(all)
+}
+
+/// A seat whose calls are made, with what its thread was told: each invocation with its reply.
+#[derive(Drop)]
+struct Done {
+    seat: WordSeat,
+    told: Vec<(u64, u32)>,
+}
+
 /// Makes so many calls by a seat, with invocations below 1000 that are drawn.
 fn make_calls<O: WordObject>(
     alloc: Global,
     log: &WordLog<O>,
-    job: Job,
+    job: Job<WordSeat>,
     calls: u64,
 ) -> Result<Done, AllocError>
     requires job { IsJob log.now job }
     requires calls { calls ≡ row_of log.now }
-    ensures { IfOk result (IsDone log.now) }
+    ensures { IfOk result (λ done. IsDone log.now done × (process_of done.seat ≡ process_of job.seat)) }
 {
     let Job { mut seat, seed } = job;
     let mut words = Xoshiro256PlusPlus::seed_from_u64(seed);
@@ -125,23 +143,20 @@ fn make_calls<O: WordObject>(
     Ok(Done { seat, told })
 }
 
-/// The seats, and what their threads were told.
+/// The seats, and what their threads were told, in order.
 ///
-/// An `Err` says that memory was refused, to a thread or here.
-fn parted<O: WordObject>(
+/// An `Err` says that memory was refused.
+fn parted(
     alloc: Global,
-    log: &WordLog<O>,
-    done: Vec<Result<Done, AllocError>>,
+    done: Vec<Done>,
 ) -> Result<(Vec<WordSeat>, Vec<Vec<(u64, u32)>>), AllocError>
-    requires { All (λ one. IfOk one (IsDone log.now)) done.items }
-    ensures count { IfOk result (λ parts. (vec_len parts.0 ≡ vec_len done) × (vec_len parts.1 ≡ vec_len done)) }
-    ensures seats { IfOk result (λ parts. All (IsSeatOf log.now) parts.0.items) }
-    ensures told { IfOk result (λ parts. All (λ told. vec_len told ≡ row_of log.now) parts.1.items) }
+    ensures seats { IfOk result (λ parts. parts.0.items ≡ map (λ one. one.seat) done.items) }
+    ensures told { IfOk result (λ parts. parts.1.items ≡ map (λ one. one.told) done.items) }
 {
     let mut seats = Vec::new(alloc);
     let mut lists = Vec::new(alloc);
     for one in done {
-        let Done { seat, told } = one?;
+        let Done { seat, told } = one;
         seats.push(seat)?;
         lists.push(told)?;
     }
@@ -161,6 +176,31 @@ fn replies_in(lists: &[Vec<(u64, u32)>]) -> u64
     replies
 }
 
+/// Closes a log with the seats of all its processes, whose calls are made, and compares it with what
+/// the threads were told: how many replies that is. They agree.
+fn close_words<O: WordObject>(
+    alloc: Global,
+    object: &O,
+    log: WordLog<O>,
+    done: Vec<Done>,
+) -> Result<u64, ThreadsFault>
+    requires object { object.now ≡ object_of log }
+    requires done { AreDone log done.items }
+    requires few { (processes_of log ≤ 64) × (1 ≤ processes_of log) × (row_of log ≤ 4096) }
+    ensures replies { IfOk result (λ replies. replies ≡ processes_of log * row_of log) }
+    ensures run { OnOk result
+        (IsRunOfThreads (O.sequential object.now) (processes_of log) (row_of log) (map told_to done.items)) }
+    ensures faults { (fault : ThreadsFault) → IsErrOf result fault → fault ≡ ThreadsFault.Memory }
+{
+    let (seats, lists) = parted(alloc, done)?;
+    let words = log.close_all(seats);
+    let entries = read_log(alloc, &words)?;
+    match differs(object, &entries, &lists) {
+        Some(call) => Err(ThreadsFault::Differs(call)),
+        None => Ok(replies_in(&lists)),
+    }
+}
+
 /// Makes the calls of a plan on an object of words, each seat's in a thread of its own where one can
 /// be made: how many replies the threads were given. The log agrees with what they were told.
 fn run_on_words<R: Threads + Sync, O: WordObject + Copy + Sync>(
@@ -169,22 +209,24 @@ fn run_on_words<R: Threads + Sync, O: WordObject + Copy + Sync>(
     object: O,
     plan: &Plan,
 ) -> Result<u64, ThreadsFault>
-    ensures replies { IfOk result (λ replies. replies ≡ plan.now.processes * plan.now.calls) }
-    ensures others { (IsErrOf result ThreadsFault.NoSuchObject → ⊥) × (IsErrOf result ThreadsFault.CallsTooMany → ⊥) × (IsErrOf result ThreadsFault.Write → ⊥) }
-    ensures audited { (verdict : Verdict) → IsErrOf result (ThreadsFault.Audit verdict) → ⊥ }
+    ensures run { IfOk result (HasRun (O.sequential object) plan.now.processes plan.now.calls) }
+    ensures faults { (fault : ThreadsFault) → IsErrOf result fault → fault ≡ ThreadsFault.Memory }
 {
     let Ok((log, seats)) = WordLog::open(alloc, object, plan.processes, plan.calls) else {
         return Err(ThreadsFault::Memory);
     };
-    let jobs = jobs_of(alloc, &log, seats, plan.seed)?;
-    let done = thread::map_vec(rt, jobs, &|job| make_calls(alloc, &log, job, plan.calls))?;
-    let (mut seats, lists) = parted(alloc, &log, done)?;
-    let words = log.close_with(seats.remove(0));
-    let entries = read_log(alloc, &words)?;
-    match differs(&object, &entries, &lists) {
-        Some(call) => Err(ThreadsFault::Differs(call)),
-        None => Ok(replies_in(&lists)),
-    }
+    let jobs = jobs_of(alloc, seats, plan.seed)?;
+    let calls = plan.calls;
+    let done = thread::map_vec(
+        rt,
+        jobs,
+        &|job: Job<WordSeat>| -> Result<Done, AllocError>
+            requires { IsJob log job × (calls ≡ row_of log) }
+            ensures { IfOk result (λ done. IsDone log done × (process_of done.seat ≡ process_of job.seat)) }
+        { make_calls(alloc, &log, job, calls) },
+    )?;
+    let done = all_done(alloc, done)?;
+    close_words(alloc, &object, log, done)
 }
 
 /// Makes the calls of a plan: how many replies the threads were given.
@@ -199,6 +241,8 @@ pub fn run_plan<R: Threads + Wait + Sync>(
     ensures few { IsErrOf result ThreadsFault.CallsTooMany ↔ (refusal_of plan.now ≡ Some ThreadsFault.CallsTooMany) }
     ensures written { IsErrOf result ThreadsFault.Write → ⊥ }
     ensures audited { (verdict : Verdict) → IsErrOf result (ThreadsFault.Audit verdict) → ⊥ }
+    ensures closing { (fault : ThreadsFault) → IsErrOf result fault →
+        status_of_threads fault ≡ 5 → plan.now.form ≡ Form.Lock }
 {
     match (plan.form, plan.object) {
         (Form::Words, ThreadsObject::Sticky) => run_on_words(rt, alloc, WordSticky, plan),

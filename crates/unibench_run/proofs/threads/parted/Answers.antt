@@ -1,27 +1,18 @@
-use Rattle.std.proofs.Common.{◌≡◌, ◌∷◌, IfOk, Result, sym, subst, arith, vec_len}
+use Rattle.std.proofs.Common.{◌≡◌, ◌∙◌, ◌++◌, ◌∷◌, [], List, map, ap, sym, append_assoc}
 use Rattle.std.specs.Vec.Iter.{into_iter_items}
-use Rattle.std.proofs.lemmas.List.Elements.{All-head, All-tail, All-push, All-same}
-use Rattle.std.specs.declared.alloc.AllocError.{AllocError}
-use Rattle.uni_words.specs.Belongs.{IsSeatOf, row_of}
-use Rattle.unibench_run.specs.Threads.{IsDone}
 use Rattle.unibench_run.specs.declared.threads.Done.{Done}
 use Rattle.unibench_run.proofs.threads.parted.Goals as goal
 
+-- one more has been taken, and its part pushed
+further : {A : Type 0} (part : Done → A) (all was now : List Done) (one : Done) (parts more : List A) → was ≡ one ∷ now → more ≡ parts ++ part one ∷ []
+    → map part all ≡ parts ++ map part was → map part all ≡ more ++ map part now
+further part all was now one parts more taken pushed before =
+    before ∙ ap (λ l. parts ++ map part l) taken ∙ sym (append_assoc parts (part one ∷ []) (map part now)) ∙ ap (λ l. l ++ map part now) (sym pushed)
+
 pub loop-one-preserved : goal.loop-one-preserved
-loop-one-preserved g c =
-    let at = c.loop-one in
-    let P : Result Done AllocError → Type 0 = λ one. IfOk one (IsDone c.args.log.now) in
-    let all = All-same P (c.in-Some.one ∷ into_iter_items c.next.new.self) _ (sym c.in-Some.ensures.steps.0) at.invariant.0 in
-    let done : IsDone c.args.log.now c.in_ok-seat.field-0 = subst P c.in_ok-seat.was (All-head P _ _ all) in (
-      All-tail P _ _ all,
-      All-same (IsSeatOf c.args.log.now) _ _ c.in_ok-push.ensures.items (All-push (IsSeatOf c.args.log.now) _ _ at.invariant.1 done.0),
-      All-same (λ told. vec_len told ≡ row_of c.args.log.now) _ _ c.in_ok-push-2.ensures.items (All-push (λ told. vec_len told ≡ row_of c.args.log.now) _ _ at.invariant.2 done.1),
-      (let before = at.invariant.3 in
-          let gone = c.in-Some.ensures.steps.1 in
-          let more = c.in_ok-push.ensures.len in
-          omega arith),
-      (let before = at.invariant.4 in
-          let more = c.in_ok-push.ensures.len in
-          let also = c.in_ok-push-2.ensures.len in
-          omega arith),
+loop-one-preserved c =
+    let was = into_iter_items c.loop-one.one-iterator in
+    let now = into_iter_items c.next.new.self in (
+      further (λ one. one.seat) _ was now c.in-Some.one c.loop-one.seats.items _ c.in-Some.ensures.steps.0 c.in_ok-push.ensures.items c.loop-one.invariant.0,
+      further (λ one. one.told) _ was now c.in-Some.one c.loop-one.lists.items _ c.in-Some.ensures.steps.0 c.in_ok-push-2.ensures.items c.loop-one.invariant.1,
     )

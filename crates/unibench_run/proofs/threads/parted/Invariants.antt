@@ -1,14 +1,10 @@
-use Rattle.std.proofs.Common.{◌≡◌, ◌+◌, vec_len, IfOk}
-use Rattle.std.specs.List.{All}
-use Rattle.std.specs.Vec.Iter.{into_iter_items, into_iter_len}
-use Rattle.uni_words.specs.Belongs.{IsSeatOf, row_of}
-use Rattle.unibench_run.specs.Threads.{IsDone}
+use Rattle.std.proofs.Common.{◌≡◌, ◌++◌, map}
+use Rattle.std.specs.Vec.Iter.{into_iter_items}
+use Rattle.unibench_run.specs.declared.threads.Done.{Done}
 use Rattle.unibench_run.proofs.threads.parted.Given as goal
 
+-- what was taken so far is parted
 abbrev pub invariant-loop-one : goal.invariant-loop-one
-invariant-loop-one g l =
-    All (λ one. IfOk one (IsDone l.log)) (into_iter_items l.one-iterator)
-    × All (IsSeatOf l.log) l.seats.items
-    × All (λ told. vec_len told ≡ row_of l.log) l.lists.items
-    × (vec_len l.seats + into_iter_len l.one-iterator ≡ into_iter_len l.initial.one-iterator)
-    × (vec_len l.lists ≡ vec_len l.seats)
+invariant-loop-one l =
+    (map (λ (one : Done). one.seat) (into_iter_items l.initial.one-iterator) ≡ l.seats.items ++ map (λ (one : Done). one.seat) (into_iter_items l.one-iterator))
+    × (map (λ (one : Done). one.told) (into_iter_items l.initial.one-iterator) ≡ l.lists.items ++ map (λ (one : Done). one.told) (into_iter_items l.one-iterator))

@@ -2,12 +2,10 @@ use Rattle.std.proofs.Common.{map, ◌≡◌, ◌∙◌, ◌∷◌, ◌++◌, []
 use Rattle.std.proofs.lemmas.List.Elements.{All-contains, All-head, All-map, All-same, All-tail, Contains-append_left, Contains-push}
 use Rattle.std.proofs.lemmas.List.{nil_from_length}
 use Rattle.std.specs.Vec.Iter.{into_iter_items}
-use Rattle.uni_model.specs.History.{history_of}
-use Rattle.uni_model.specs.Worlds.{opened_world}
-use Rattle.uni_words.specs.Belongs.{IsSeatOf, calls_of, known_calls, count_in, row_in, words_in}
-use Rattle.uni_words.specs.Log.{log_of, calls_by, replied}
-use Rattle.uni_words.specs.Run.{acts_by, acts_from}
-use Rattle.uni_words.specs.View.{CallsOf}
+use Rattle.uni_words.specs.Belongs.{IsSeatOf, calls_of, known_calls, log_in}
+use Rattle.uni_words.specs.Log.{IsLogged}
+use Rattle.uni_words.specs.Run.{acts_by, run_history, sequential_acts}
+use Rattle.uni_words.specs.View.{ProcessCalls}
 use Rattle.uni_words.specs.declared.steps.WordSeat.{WordSeat}
 use Rattle.uni_words.proofs.Agreeing.{agrees_all}
 use Rattle.uni_words.proofs.Accounted.{All-each, accounted_first, accounted_more, accounted_all}
@@ -41,9 +39,9 @@ loop-seat-preserved g c =
 pub close_with-requires : goal.close_with-requires
 close_with-requires g c = record { seat = c.loop-seat.invariant.0 }
 
-pub returns-clause-own : goal.returns-clause-own
-returns-clause-own g c =
-    let P : CallsOf → Type 0 = λ calls. calls_by calls.process (log_of (count_in c.close_with.result) (row_in c.close_with.result) (words_in c.close_with.result)) ≡ map replied calls.own in
+pub returns-clause-known : goal.returns-clause-known
+returns-clause-known g c =
+    let P : ProcessCalls → Type 0 = IsLogged (log_in c.close_with.result) in
     All-each (λ x. P (calls_of x)) c.args.seats.items
     (λ x has. All-contains P (known_calls c.loop-seat.first) (calls_of x) c.close_with.ensures.known
     (accounted_all c.args.seats.items _ c.loop-seat.first (nil_from_length _ (sym c.loop-seat.seat-iterator.rest.ok.0 ∙ c.in-None.ensures.steps.0)) c.loop-seat.invariant.2 x has))
@@ -51,7 +49,8 @@ returns-clause-own g c =
 pub returns-clause-run : goal.returns-clause-run
 returns-clause-run g c =
     let run = c.close_with.ensures.run in
-    let P : CallsOf → Type 0 = λ calls. acts_by calls.process (history_of (g.O.WordObject.sequential c.args.self.setup.object) (opened_world c.args.self.setup.n (g.O.WordObject.sequential c.args.self.setup.object).initial 1) run.events) ≡ acts_from calls.process 0 calls.own in
+    let object = g.O.WordObject.sequential c.args.self.setup.object in
+    let P : ProcessCalls → Type 0 = λ its. acts_by its.process (run_history object c.args.self.setup.n run.events) ≡ sequential_acts its.process 0 its.calls in
     record {
       events = run.events;
       accepted = run.accepted;
@@ -59,10 +58,10 @@ returns-clause-run g c =
       real_time = run.real_time;
       responses = run.responses;
       joined = run.joined;
-      acts = λ calls has. All-contains P (map calls_of c.args.seats.items) calls (All-map P calls_of c.args.seats.items
+      acts = λ its has. All-contains P (map calls_of c.args.seats.items) its (All-map P calls_of c.args.seats.items
           (All-each (λ x. P (calls_of x)) c.args.seats.items (λ x there. run.acts (calls_of x) (accounted_all c.args.seats.items _ c.loop-seat.first (nil_from_length _ (sym c.loop-seat.seat-iterator.rest.ok.0 ∙ c.in-None.ensures.steps.0)) c.loop-seat.invariant.2 x there)))) has;
     }
 
 pub returns-clause-agrees : goal.returns-clause-agrees
 returns-clause-agrees g c all =
-    agrees_all c.args.self (g.O.WordObject.sequential c.args.self.setup.object) _ c.args.seats.items all c.close_with.ensures.legal c.close_with.ensures.inside (returns-clause-own g c)
+    agrees_all c.args.self (g.O.WordObject.sequential c.args.self.setup.object) _ c.args.seats.items all c.close_with.ensures.legal c.close_with.ensures.inside (returns-clause-known g c)

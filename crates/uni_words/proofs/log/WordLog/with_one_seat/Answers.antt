@@ -1,6 +1,6 @@
-use Rattle.std.proofs.Common.{◌≡◌, ℕ, ◌+◌, [], List, arith, replicate, slice_set, sym, subst, ◌∙◌, refl}
+use Rattle.std.proofs.Common.{◌≡◌, ℕ, [], List, arith, sym, subst, ◌∙◌}
 use Rattle.atomic_table.specs.Table.{opening}
-use Rattle.uni_words.specs.Words.{words_of, start_of, settled_word}
+use Rattle.uni_words.specs.Words.{first_words}
 use Rattle.uni_words.specs.Seats.{first_view}
 use Rattle.uni_words.specs.Shown.{ShowsRun}
 use Rattle.uni_words.proofs.Opening.{opening_shows, words_made}
@@ -12,7 +12,7 @@ of_words-requires g c =
     let k = c.args.k in
     let object = g.O.WordObject.sequential c.args.object in
     let start = object.initial in
-    let words : c.deref.result.now ≡ slice_set (slice_set (replicate (words_of n k) 0) (start_of n k 3 + 0) 1) (start_of n k 6 + 0) (settled_word start 0)
+    let words : c.deref.result.now ≡ first_words n k start
     = c.deref.ensures.value ∙ words_made c.in_ok-words.words.items n k c.start-start.result start (c.in_ok-words.ensures.items_if_clones_equal (λ y same. same)) c.start-start.ensures.value in
     subst (λ (ws : List ℕ). ShowsRun object n k (opening {S = ℕ} ws [] (first_view n k))) (sym words)
-    (opening_shows object n k (let a = c.start-start.ensures.value in let b = c.start-start.ensures.fits in omega arith) (start_of n k 3 + 0) (start_of n k 6 + 0) refl refl)
+    (opening_shows object n k (let a = c.start-start.ensures.value in let b = c.start-start.ensures.fits in omega arith))

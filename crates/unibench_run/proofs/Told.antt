@@ -1,0 +1,107 @@
+-- Threads whose calls are all made: their seats, and what they were told.
+use Rattle.std.proofs.Common.{◌≡◌, ◌∙◌, ℕ, zero, suc, ◌<◌, List, [], ◌∷◌, length, map, slice_get, slice_index_or, vec_len, All, Vec, Global, Result, Ok, IfOk, Some, None, refl, sym, ap, subst, arith}
+use Rattle.std.proofs.lemmas.List.{length-map}
+use Rattle.std.proofs.lemmas.List.Elements.{All-map}
+use Rattle.seq_object.specs.Sequential.{Sequential}
+use Rattle.uni_model.specs.Chain.{Entry}
+use Rattle.std.specs.declared.alloc.AllocError.{AllocError}
+use Rattle.uni_words.specs.Belongs.{AreAllSeats, AreFirstSeats, IsFreshSeat, IsSeatOf, calls_of, own_calls, process_of, processes_of, row_of}
+use Rattle.uni_words.specs.Compare.{Agrees}
+use Rattle.uni_words.specs.Run.{IsLogOfRun}
+use Rattle.uni_words.specs.View.{ProcessCalls}
+use Rattle.uni_words.specs.declared.log.WordLog.{WordLog}
+use Rattle.uni_words.specs.declared.steps.WordSeat.{WordSeat}
+use Rattle.uni_words.proofs.Agreeing.{at_of_map}
+use Rattle.uni_words.proofs.Comparing.{slice_get-index, slice_get-map}
+use Rattle.unibench_run.specs.Threads.{AreDone, IsDone, IsRunOfThreads, told_to}
+use Rattle.unibench_run.specs.declared.threads.Done.{Done}
+use Rattle.unibench_run.specs.declared.threads.Job.{Job}
+
+at_below : {A : Type 0} (l : List A) (i : ℕ) (a : A) → slice_get l i ≡ Some a → i < length l
+at_below [] i a e = absurd (let f : None ≡ Some a = e in cc)
+at_below (x ∷ xs) zero a e = omega arith
+at_below (x ∷ xs) (suc i) a e = let h = at_below xs i a e in omega arith
+
+-- functions that give the same of each element
+map-same : {A B : Type 0} (f g : A → B) (xs : List A) → ((i : ℕ) (x : A) → slice_get xs i ≡ Some x → f x ≡ g x) → map f xs ≡ map g xs
+map-same f g [] each = refl
+map-same f g (x ∷ xs) each = ap (λ y. y ∷ map f xs) (each 0 x refl) ∙ ap (λ l. g x ∷ l) (map-same f g xs (λ i y at. each (suc i) y at))
+
+pub map-map : {A B C : Type 0} (f : A → B) (g : B → C) (xs : List A) → map g (map f xs) ≡ map (λ x. g (f x)) xs
+map-map f g [] = refl
+map-map f g (x ∷ xs) = ap (λ l. g (f x) ∷ l) (map-map f g xs)
+
+abbrev pub seat_in : Done → WordSeat
+seat_in one = one.seat
+
+abbrev pub list_in : Done → Vec (ℕ × ℕ) Global
+list_in one = one.told
+
+abbrev pub seat_of : Job WordSeat → WordSeat
+seat_of job = job.seat
+
+told_length : (one : Done) {n : ℕ} → vec_len one.told ≡ n → length one.told.items ≡ n
+told_length one made = let all = one.told.ok.0 in omega arith
+
+-- a job has the seat of its place, which has made no call
+pub fresh_job : {O : Type 0} (log : WordLog O) (count : ℕ) (jobs : List (Job WordSeat)) (seats : List WordSeat) → map seat_of jobs ≡ seats → AreFirstSeats log count seats
+    → (i : ℕ) (job : Job WordSeat) → i < length jobs → job ≡ slice_index_or jobs i job → IsFreshSeat log i job.seat
+fresh_job log count jobs seats of first i job below here =
+    first.each i job.seat (subst (λ l. slice_get l i ≡ Some job.seat) of (slice_get-map seat_of jobs i job (slice_get-index jobs i job below ∙ ap Some (sym here))))
+
+-- what is done with all jobs, each result being that of the job at its place
+pub all_are_done : {O : Type 0} (log : WordLog O) (jobs : List (Job WordSeat)) (seats : List WordSeat) → map seat_of jobs ≡ seats → AreFirstSeats log (processes_of log) seats
+    → (results : List (Result Done AllocError)) (done : List Done) → results ≡ map Ok done → length results ≡ length jobs
+    → ((p : ℕ) (d : Result Done AllocError) → p < length jobs → (job : Job WordSeat) × (job ≡ slice_index_or jobs p job)
+    × IfOk (slice_index_or results p d) (λ one. IsDone log one × (process_of one.seat ≡ process_of job.seat)))
+    → AreDone log done
+all_are_done log jobs seats of first results done are count given = record {
+  many = sym (length-map {B = Result Done AllocError} done Ok) ∙ ap length (sym are) ∙ count ∙ sym (length-map jobs seat_of) ∙ ap length of ∙ first.many;
+  each = λ p one at.
+      let result : slice_get results p ≡ Some (Ok one) = ap (λ l. slice_get l p) are ∙ slice_get-map Ok done p one at in
+      let below : p < length results = at_below results p (Ok one) result in
+      let its = given p (Ok one) (omega (arith, below, count)) in
+      let here : slice_index_or results p (Ok one) ≡ Ok one = (let e = sym (slice_get-index results p (Ok one) below) ∙ result in cc) in
+      let made : IsDone log one × (process_of one.seat ≡ process_of its.0.seat) = subst (λ r. IfOk r (λ one. IsDone log one × (process_of one.seat ≡ process_of its.0.seat))) here its.2 in
+      (made.0, made.1 ∙ (fresh_job log (processes_of log) jobs seats of first p its.0 (omega (arith, below, count)) its.1).process);
+}
+
+module _ {O : Type 0} (log : WordLog O) (done : List Done) (are : AreDone log done) where
+  pub done_seats : All (IsSeatOf log) (map seat_in done)
+  done_seats = All-map (IsSeatOf log) seat_in done (λ k d below. (are.each k (slice_index_or done k d) (slice_get-index done k d below)).0.0)
+
+  pub all_seats : AreAllSeats log (map seat_in done)
+  all_seats = record {
+    many = length-map done seat_in ∙ are.many;
+    each = λ p seat at. let one = at_of_map seat_in done p seat at in ap process_of (sym one.2) ∙ (are.each p one.0 one.1).1;
+  }
+
+  -- the calls of the seats are what their threads were told
+  pub seats_told : map calls_of (map seat_in done) ≡ map told_to done
+  seats_told = map-map seat_in calls_of done
+      ∙ map-same (λ one. calls_of one.seat) told_to done (λ i one at. ap (λ calls. record { process = process_of one.seat; calls = calls }) (sym (are.each i one at).0.2))
+
+  -- the lists that they were told
+  pub lists_are : map own_calls (map seat_in done) ≡ map (λ (own : Vec (ℕ × ℕ) Global). own.items) (map list_in done)
+  lists_are = map-map seat_in own_calls done ∙ map-same (λ one. own_calls one.seat) (λ one. one.told.items) done (λ i one at. sym (are.each i one at).0.2)
+      ∙ sym (map-map list_in (λ (own : Vec (ℕ × ℕ) Global). own.items) done)
+
+  pub lists_whole : All (λ told. vec_len told ≡ row_of log) (map list_in done)
+  lists_whole = All-map (λ told. vec_len told ≡ row_of log) list_in done (λ k d below. (are.each k (slice_index_or done k d) (slice_get-index done k d below)).0.1)
+
+  lists_told : map own_calls (map seat_in done) ≡ map (λ (its : ProcessCalls). its.calls) (map told_to done)
+  lists_told = sym (map-map calls_of (λ (its : ProcessCalls). its.calls) (map seat_in done)) ∙ ap (map (λ (its : ProcessCalls). its.calls)) seats_told
+
+  -- a log of a run of the seats' calls, with which they agree, is that of a run of the threads
+  pub run_of_threads : (object : Sequential ℕ ℕ ℕ) (entries : List (Entry ℕ ℕ)) (seats : List WordSeat) → seats ≡ map seat_in done → IsLogOfRun object (processes_of log) entries (map calls_of seats)
+      → Agrees object entries (map own_calls seats) → IsRunOfThreads object (processes_of log) (row_of log) (map told_to done)
+  run_of_threads object entries seats seats_are run agrees = record {
+    many = length-map done told_to ∙ are.many;
+    each = λ p its at.
+        let one = at_of_map told_to done p its at in
+        let made = are.each p one.0 one.1 in
+        (ap (λ (k : ProcessCalls). k.process) (sym one.2) ∙ made.1, ap (λ (k : ProcessCalls). length k.calls) (sym one.2) ∙ told_length one.0 made.0.1);
+    log = entries;
+    run = subst (IsLogOfRun object (processes_of log) entries) (ap (map calls_of) seats_are ∙ seats_told) run;
+    agrees = subst (Agrees object entries) (ap (map own_calls) seats_are ∙ lists_told) agrees;
+  }

@@ -1,0 +1,7 @@
+use Rattle.std.proofs.Common.{◌≡◌, ◌++◌, map, Ok}
+use Rattle.std.specs.Vec.Iter.{into_iter_items}
+use Rattle.unibench_run.proofs.threads.all_done.Given as goal
+
+-- what was taken so far are these
+abbrev pub invariant-loop-one : goal.invariant-loop-one
+invariant-loop-one g l = into_iter_items l.initial.one-iterator ≡ map Ok l.all.items ++ into_iter_items l.one-iterator
