@@ -1,4 +1,5 @@
 -- What a cell contains, and how the cells of an arena change.
+pub use Rattle.seq_object.specs.Indices.{index_of}
 use Rattle.std.specs.Prelude.{◌≡◌, ◌==◌, ◌+◌, ◌-◌, ◌*◌, ◌/◌, ◌%◌, ℕ, Option, None, Some, if◌then◌else◌, option_map, unwrap_or, refl}
 
 -- the fields of a cell; other cells are named by their index
@@ -24,10 +25,6 @@ anchor_with state seq = record { inv = None; seq = seq; before = None; after = N
 -- the anchor that stands for a cell: its state and its number alone
 abbrev pub anchor_for : {S I R : Type 0} → CellRecord S I R → CellRecord S I R
 anchor_for c = record { inv = None; seq = c.seq; before = None; after = None; new = option_map (λ new. (new.0, None)) c.new }
-
--- the index of the nth cell of an owner among n, both from 0; the anchor has index 0
-abbrev pub index_of : (n owner nth : ℕ) → ℕ
-index_of n owner nth = 1 + nth * n + owner
 
 -- who made the cell at an index, and as its which one
 abbrev pub owner_of : (n index : ℕ) → ℕ

@@ -1,7 +1,8 @@
 -- The dots of a step, by the entries that the log has more.
 use Rattle.std.proofs.Common.{◌≡◌, ◌∙◌, ℕ, sym, ap, List, map, drop}
 use Rattle.std.proofs.lemmas.List.{drop-map}
-use Rattle.uni_model.specs.Chain.{Invoked, Entry as Logged}
+use Rattle.uni_model.specs.Chain.{Entry as Logged}
+use Rattle.uni_model.specs.AtomicObject.{Invoked}
 use Rattle.uni_model.specs.Worlds.{WorldOf}
 use Rattle.uni_model.specs.History.{calls_of, log}
 use Rattle.uni_log.specs.declared.entry.Entry.{Entry}

@@ -6,7 +6,7 @@ use Rattle.std.specs.List.{AllByRecursion}
 use Rattle.std.proofs.lemmas.Bool.{ne_eqb}
 use Rattle.std.proofs.lemmas.List.Elements.{All-from_recursion, Contains-append_right}
 use Rattle.seq_object.specs.declared.call_id.CallId.{CallId}
-use Rattle.uni_model.specs.Chain.{Invoked}
+use Rattle.uni_model.specs.AtomicObject.{Invoked}
 use Rattle.uni_model.specs.Worlds.{WorldOf, Event, opened_world, world_after, response_of_step, IsAccepted, AreAccepted}
 use Rattle.uni_model.specs.Worlds.Event.{Call, Step, Trim, Reshape}
 use Rattle.uni_model.specs.Invariant.{Invariant}

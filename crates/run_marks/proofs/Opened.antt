@@ -9,10 +9,11 @@ use Rattle.uni_model.specs.Places.Name.{Of}
 use Rattle.uni_model.specs.Stages.{Stage, Pending}
 use Rattle.uni_model.specs.Stages.Stage.{Announce, ScanHead, ScanSeq, WriteScan, Test, ReadAnnounce, ReadHelpSeq, DecideAfter, DecideNew, WriteBefore, WriteSeq, WriteHead, Finish}
 use Rattle.uni_model.specs.Transition.{Beside, beside, place_of, stage_after, response_after}
-use Rattle.uni_model.specs.Chain.{Invoked, invoked_at}
-use Rattle.uni_model.specs.Worlds.{WorldOf, anchor_memory, call_after, last_cell, world_after, world_after_step, world_after_era, response_of_step, IsAccepted}
+use Rattle.uni_model.specs.Chain.{invoked_at}
+use Rattle.uni_model.specs.Worlds.{WorldOf, anchor_memory, last_cell, world_after, world_after_step, world_after_era, response_of_step, IsAccepted}
+use Rattle.uni_model.specs.Effects.{call_after}
 use Rattle.uni_model.specs.Worlds.Event.{Call, Step}
-use Rattle.uni_model.specs.AtomicObject.{Atomic, Open, Act, AcceptsAll}
+use Rattle.uni_model.specs.AtomicObject.{Atomic, Act, AcceptsAll, Invoked}
 use Rattle.uni_model.specs.AtomicObject.Act.{Linearize}
 use Rattle.uni_model.specs.History.{Shows, open_at, calls_of, acts_of}
 use Rattle.uni_model.specs.Invariant.{Invariant, AreCalls}
@@ -23,7 +24,7 @@ use Rattle.run_marks.proofs.Replayed.{linearized_by_step}
 
 -- an atomic object has this call open
 abbrev IsOpenIn : {S I : Type 0} → Atomic S I → Invoked I → Type 0
-IsOpenIn a c = a.open_call c.process ≡ Some (record { nth = c.nth; inv = c.inv })
+IsOpenIn a c = a.open_call c.process ≡ Some c
 
 -- a process has this call pending: the latest that it has begun
 pub record IsCurrent {S I R : Type 0} (w : WorldOf S I R) (p nth : ℕ) : Type 0 where
@@ -38,16 +39,16 @@ placed_open {S} {I} object (x ∷ xs) rest a b is = (is.1.0, subst (λ (o : Atom
 
 module _ {S I R : Type 0} where
   -- an open call is the pending one
-  open_is_current : (w : WorldOf S I R) (num : Name → ℕ) → AreCalls w num → (p nth : ℕ) (inv : I) → open_at w.memory (w.call p) ≡ Some (record { nth = nth; inv = inv }) → IsCurrent w p nth
+  open_is_current : (w : WorldOf S I R) (num : Name → ℕ) → AreCalls w num → (p nth : ℕ) (inv : I) → open_at w.memory (w.call p) ≡ Some (record { process = p; nth = nth; inv = inv }) → IsCurrent w p nth
   open_is_current w num calls p nth inv is = by_call (w.call p) refl is
     where
-      by_call : (o : Option Pending) → w.call p ≡ o → open_at w.memory o ≡ Some (record { nth = nth; inv = inv }) → IsCurrent w p nth
+      by_call : (o : Option Pending) → w.call p ≡ o → open_at w.memory o ≡ Some (record { process = p; nth = nth; inv = inv }) → IsCurrent w p nth
       by_call None none e = absurd (cc)
       by_call (Some call) some e =
           let its = calls.mine p call some in
-          let there : open_at w.memory (Some call) ≡ Some (record { nth = its.0; inv = its.3.0 }) =
-          ap (λ x. option_map (λ (i : Invoked I). let o : Open I = record { nth = i.nth; inv = i.inv } in o) (invoked_at w.memory x)) its.1 ∙ rw its.3.1 refl in
-          let k : its.0 ≡ nth = ap (λ (o : Option (Open I)). option_map_or (λ (x : Open I). x.nth) o 0) (sym there ∙ e) in
+          let there : open_at w.memory (Some call) ≡ Some (record { process = p; nth = its.0; inv = its.3.0 }) =
+          ap (invoked_at w.memory) its.1 ∙ rw its.3.1 refl in
+          let k : its.0 ≡ nth = ap (λ (o : Option (Invoked I)). option_map_or (λ (x : Invoked I). x.nth) o 0) (sym there ∙ e) in
           let begun : w.begun p ≡ its.0 + 1 = its.2 in
           record { call = call; pending = some; latest = omega arith }
 

@@ -7,15 +7,17 @@ use Rattle.std.proofs.lemmas.Bool.{ne_eqb}
 use Rattle.std.proofs.lemmas.List.{append-nil, map-append}
 use Rattle.std.proofs.lemmas.List.Concat.{flat_map-append}
 use Rattle.seq_object.specs.declared.call_id.CallId.{CallId}
-use Rattle.uni_model.specs.Places.{set_at, seq_of, new_of}
+use Rattle.uni_model.specs.Places.{seq_of, new_of}
+use Rattle.uni_model.specs.AtomicObject.{set_at}
 use Rattle.uni_model.specs.Places.Name.{Of}
 use Rattle.uni_model.specs.Stages.{Pending}
 use Rattle.uni_model.specs.Stages.Stage.{Announce}
 use Rattle.uni_model.specs.Transition.{beside, place_of, stage_after, response_after}
-use Rattle.uni_model.specs.Worlds.{WorldOf, Event, anchor_memory, last_cell, opened_world, world_after, world_after_step, world_after_era, response_of_step, call_after, AreAccepted}
+use Rattle.uni_model.specs.Worlds.{WorldOf, Event, anchor_memory, last_cell, opened_world, world_after, world_after_step, world_after_era, response_of_step, AreAccepted}
+use Rattle.uni_model.specs.Effects.{call_after}
 use Rattle.uni_model.specs.Worlds.Event.{Call, Step, Trim, Reshape}
 use Rattle.uni_model.specs.Helping.{HelpingInvariant}
-use Rattle.uni_model.specs.Bound.{CountsSteps}
+use Rattle.uni_model.specs.Counting.{CountsSteps}
 use Rattle.uni_model.proofs.Bounded.{HelpingInvariant-opened_world, HelpingInvariant-world_after}
 use Rattle.uni_model.proofs.Counted.{CountsSteps-opened_world, CountsSteps-world_after}
 use Rattle.uni_model.proofs.Written.{number_cases, set_at-cases}

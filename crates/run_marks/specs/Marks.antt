@@ -8,10 +8,10 @@ use Rattle.ready_objects.specs.Spoken.{Language}
 use Rattle.uni_model.specs.Places.{seq_of}
 use Rattle.uni_model.specs.Places.Name.{Anchor}
 use Rattle.uni_model.specs.Stages.{Pending}
-use Rattle.uni_model.specs.Chain.{Entry, Invoked}
+use Rattle.uni_model.specs.Chain.{Entry}
 use Rattle.uni_model.specs.Worlds.{WorldOf, Event, world_after, response_of_step, opened_world}
 use Rattle.uni_model.specs.Worlds.Event.{Call, Step, Trim, Reshape}
-use Rattle.uni_model.specs.AtomicObject.{Act}
+use Rattle.uni_model.specs.AtomicObject.{Act, Invoked}
 use Rattle.uni_model.specs.AtomicObject.Act.{Invoke, Linearize, Respond}
 use Rattle.uni_model.specs.History.{log, acts_of}
 use Rattle.uni_core.specs.Readers.{kind_of}

@@ -8,7 +8,7 @@ use Rattle.uni_model.specs.Places.{Memory, seq_of}
 use Rattle.uni_model.specs.Places.Name.{Anchor}
 use Rattle.uni_model.specs.Worlds.{WorldOf, anchor_memory, opened_world}
 use Rattle.uni_model.specs.Helping.{HelpingInvariant}
-use Rattle.uni_model.specs.Bound.{CountsSteps}
+use Rattle.uni_model.specs.Counting.{CountsSteps}
 use Rattle.uni_model.proofs.Counted.{CountsSteps-opened_world}
 use Rattle.uni_model.proofs.Bounded.{HelpingInvariant-opened_world}
 use Rattle.uni_core.specs.declared.local.Local.{Local}

@@ -10,7 +10,7 @@ use Rattle.uni_model.specs.Worlds.{anchor_memory, last_cell, era_calls, calls_in
 use Rattle.uni_model.specs.Worlds.Event.{Reshape}
 use Rattle.uni_model.specs.Invariant.{Has}
 use Rattle.uni_model.specs.Helping.{HelpingInvariant}
-use Rattle.uni_model.specs.Bound.{CountsSteps}
+use Rattle.uni_model.specs.Counting.{CountsSteps}
 use Rattle.uni_model.proofs.Kept.{idle_when_quiescent, last_cell_threaded}
 use Rattle.uni_model.proofs.Simulation.{enough}
 use Rattle.uni_model.proofs.OneLists.{number-last_of}

@@ -6,18 +6,20 @@ use Rattle.seq_object.specs.Sequential.{Sequential}
 use Rattle.cell_arena.proofs.Lists.{slice_get-set_same, slice_get-set_other}
 use Rattle.cell_arena.specs.Arena.{processes_of, made_of}
 use Rattle.cell_arena.specs.CellRecord.{ChangesOnly}
-use Rattle.uni_model.specs.Places.{Memory, memory_with, set_at, seq_of}
+use Rattle.uni_model.specs.Places.{Memory, memory_with, seq_of}
+use Rattle.uni_model.specs.AtomicObject.{set_at}
 use Rattle.uni_model.specs.Places.Name.{Anchor, Of}
 use Rattle.uni_model.specs.Places.Place.{InvOf}
 use Rattle.uni_model.specs.Places.Content.{Invocation}
 use Rattle.uni_model.specs.Stages.{Stage as at, Pending as PendingAt}
 use Rattle.uni_model.specs.Transition.{place_of, turn_of}
-use Rattle.uni_model.specs.Worlds.{WorldOf, world_after_call, world_after_step, call_after, world_after, IsAccepted}
+use Rattle.uni_model.specs.Worlds.{WorldOf, world_after_call, world_after_step, world_after, IsAccepted}
+use Rattle.uni_model.specs.Effects.{call_after}
 use Rattle.uni_model.specs.Worlds.Event.{Call, Step}
 use Rattle.uni_model.specs.Settled.{Grows}
 use Rattle.uni_model.specs.Invariant.{Invariant}
 use Rattle.uni_model.specs.Helping.{HelpingInvariant}
-use Rattle.uni_model.specs.Bound.{CountsSteps}
+use Rattle.uni_model.specs.Counting.{CountsSteps}
 use Rattle.uni_model.proofs.Written.{number_cases}
 use Rattle.uni_model.proofs.Kept.{Invariant-world_after_step}
 use Rattle.uni_model.proofs.Counted.{CountsSteps-world_after}

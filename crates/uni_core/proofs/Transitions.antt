@@ -10,7 +10,7 @@ use Rattle.uni_model.specs.Places.Place.{HeadOf, AfterOf}
 use Rattle.uni_model.specs.Places.Content.{CellName, Link}
 use Rattle.uni_model.specs.Stages.{Stage as at}
 use Rattle.uni_model.specs.Chain.{response_in}
-use Rattle.uni_model.specs.Transition.{decision, value_after, place_of, stage_after_scan}
+use Rattle.uni_model.specs.Transition.{decision, value_after, place_of, beside, response_after, stage_after_scan}
 use Rattle.cell_arena.specs.Arena.{processes_of}
 use Rattle.uni_model.proofs.Written.{written_same, lt_cases}
 use Rattle.uni_core.specs.Shared.{Shared, named, memory_of, HasShapeOf}
@@ -50,7 +50,7 @@ HasShapeOf-same a = record { processes = refl; row = refl; made = λ p. refl; fi
 -- a step that only reads its place
 pub Takes-read : {S I R : Type 0} (object : Sequential S I R) (p : ℕ) (mine : Name) (from : at) (a : Shared S I R) (to : Option at) (response : Option R)
     → (effect_at object a p mine from).content ≡ memory_of a (place_of (processes_of a.cells) p mine from)
-    → to ≡ (effect_at object a p mine from).stage → response ≡ (effect_at object a p mine from).response → Takes object p mine from a a to response
+    → to ≡ (effect_at object a p mine from).stage → response ≡ response_after from (beside (memory_of a) mine from) → Takes object p mine from a a to response
 Takes-read object p mine from a to response same stage told = record {
   shape = HasShapeOf-same a;
   memory = subst (λ v. memory_of a ≡ memory_with (memory_of a) (place_of (processes_of a.cells) p mine from) v) (sym same) (sym (written_same (memory_of a) (place_of (processes_of a.cells) p mine from)));

@@ -15,3 +15,4 @@ pub use Rattle.uni_model.specs.Frontier
 pub use Rattle.uni_model.specs.Invariant
 pub use Rattle.uni_model.specs.Helping
 pub use Rattle.uni_model.specs.Bound
+pub use Rattle.uni_model.specs.Counting

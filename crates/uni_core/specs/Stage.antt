@@ -6,7 +6,8 @@ use Rattle.uni_model.specs.Places.{Name, memory_with, inv_of, new_of}
 use Rattle.uni_model.specs.Stages.{Pending as PendingAt}
 use Rattle.uni_model.specs.Stages.{Stage as at}
 use Rattle.uni_model.specs.Chain.{response_in}
-use Rattle.uni_model.specs.Transition.{Effect, place_of, beside, effect_of}
+use Rattle.uni_model.specs.Transition.{place_of, beside, response_after}
+use Rattle.uni_model.specs.Effects.{Effect, effect_of}
 use Rattle.uni_core.specs.declared.stage.Stage.{Stage}
 use Rattle.uni_core.specs.declared.stage.Stage.TheVariants.{Announce, ScanHead, ScanSeq, WriteScan, Test, ReadAnnounce, ReadHelpSeq, DecideAfter, DecideNew, WriteBefore, WriteSeq, WriteHead, Finish}
 use Rattle.uni_core.specs.declared.stage.Pending.{Pending}
@@ -52,7 +53,7 @@ pub record Takes {S I R : Type 0} (object : Sequential S I R) (p : ℕ) (mine : 
   pub shape : HasShapeOf old new
   pub memory : memory_of new ≡ memory_with (memory_of old) (place_of (processes_of old.cells) p mine from) (effect_at object old p mine from).content
   pub stage : to ≡ (effect_at object old p mine from).stage
-  pub told : response ≡ (effect_at object old p mine from).response
+  pub told : response ≡ response_after from (beside (memory_of old) mine from)
 
 -- there is a cell at the index
 abbrev pub IsThere : {S I R : Type 0} → Shared S I R → ℕ → Type 0

@@ -10,7 +10,7 @@ use Rattle.uni_model.specs.Worlds.{WorldOf, Event, world_after, response_of_step
 use Rattle.uni_model.specs.AtomicObject.{Atomic, Act, AcceptsAll}
 use Rattle.uni_model.specs.History.{Shows, acts_of}
 use Rattle.uni_model.specs.Helping.{HelpingInvariant}
-use Rattle.uni_model.specs.Bound.{CountsSteps}
+use Rattle.uni_model.specs.Counting.{CountsSteps}
 use Rattle.seq_object.specs.declared.call_id.CallId.{CallId}
 use Rattle.uni_core.specs.declared.local.Local.{Local}
 use Rattle.uni_core.specs.declared.fault.StepFault.{StepFault}

@@ -8,7 +8,8 @@ ghost use Rattle.uni_model.specs.Places.{seq_of, head_seq, inv_of, after_of, new
 ghost use Rattle.uni_model.specs.Places.Name.{Anchor, Of};
 ghost use Rattle.uni_model.specs.Invariant.{Invariant};
 ghost use Rattle.uni_model.specs.Frontier.{frontier};
-ghost use Rattle.uni_model.specs.Bound.{IsBounded, CountsSteps};
+ghost use Rattle.uni_model.specs.Bound.{IsBounded};
+ghost use Rattle.uni_model.specs.Counting.{CountsSteps};
 ghost use Rattle.uni_model.specs.Helping.{HelpingInvariant};
 ghost use Rattle.uni_model.specs.OneList.{HasOneList, HasLegalLog};
 ghost use Rattle.uni_model.specs.Worlds.{chain, calls_in_era, last_cell, IsQuiescent};

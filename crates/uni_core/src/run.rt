@@ -1,9 +1,8 @@
 //! The run of a list of commands.
 
 ghost use Rattle.std.specs.Prelude.{◌≡◌, IfOk, OnOk, OnErr};
-ghost use Rattle.uni_model.specs.Bound.{IsBounded};
 ghost use Rattle.uni_model.specs.Worlds.{AreAccepted, world_after_all};
-ghost use Rattle.uni_model.specs.Laws.{LogGrows};
+ghost use Rattle.uni_model.specs.Laws.{LogGrows, BoundedAlong};
 ghost use Rattle.uni_model.specs.History.{history_of};
 ghost use Rattle.uni_core.specs.World.{world_of, Follows, KeepsFixed};
 ghost use Rattle.uni_core.specs.Run.{TakesCommand, AreOutcomes, events_of};
@@ -61,7 +60,8 @@ impl<O: SeqObject> World<O> {
     }
 
     /// The world takes these commands, one after the other, and answers what each did. A command
-    /// that is refused changes nothing and is passed over: the run goes on with the next one.
+    /// that is refused changes nothing and is passed over: the run goes on with the next one. The bound
+    /// holds all along, also of a call that returned and was followed by another.
     ///
     /// An `Err` says that memory for the answer was refused; then nothing is done.
     pub fn run(
@@ -75,7 +75,7 @@ impl<O: SeqObject> World<O> {
             (history_of (O.sequential self.old.object) (world_of self.old) (events_of commands.now outcomes.items))) }
         ensures events { IfOk result (λ outcomes. AreAccepted (O.sequential self.old.object) (world_of self.old) (events_of commands.now outcomes.items)) }
         ensures log { IfOk result (λ outcomes. LogGrows (O.sequential self.old.object) (world_of self.old) (events_of commands.now outcomes.items)) }
-        ensures bounded { OnOk result (IsBounded (world_of self.new)) }
+        ensures bounded { IfOk result (λ outcomes. BoundedAlong (O.sequential self.old.object) (world_of self.old) (events_of commands.now outcomes.items)) }
         ensures fixed { KeepsFixed self.old self.new }
         ensures unchanged { OnErr result (self.new ≡ self.old) }
     {
@@ -85,7 +85,6 @@ impl<O: SeqObject> World<O> {
             let outcome = self.take(alloc, command);
             outcomes.push_reserved(outcome);
         }
-        self.shape();
         Ok(outcomes)
     }
 }

@@ -5,7 +5,7 @@ use Rattle.seq_object.specs.Sequential.{Sequential}
 use Rattle.seq_object.specs.History.{state_after}
 use Rattle.uni_model.specs.Places.{Name, new_of}
 use Rattle.uni_model.specs.Places.Name.{Anchor}
-use Rattle.uni_model.specs.Chain.{Invoked}
+use Rattle.uni_model.specs.AtomicObject.{Invoked}
 use Rattle.uni_model.specs.Worlds.{WorldOf, era_calls, chain}
 use Rattle.uni_model.specs.History.{invocations_of}
 use Rattle.uni_model.specs.Invariant.{Invariant}

@@ -7,11 +7,12 @@ use Rattle.uni_model.specs.Places.Place.{Announced, HeadOf, SeqOf}
 use Rattle.uni_model.specs.Places.Content.{CellName}
 use Rattle.uni_model.specs.Stages.{Stage, Pending}
 use Rattle.uni_model.specs.Stages.Stage.{Announce, ScanHead, ScanSeq, WriteScan, Test, ReadAnnounce, ReadHelpSeq, DecideAfter, DecideNew, WriteBefore, WriteSeq, WriteHead, Finish}
-use Rattle.uni_model.specs.Transition.{place_of, effect_of, turn_of, stage_after_scan, best_of, beside}
+use Rattle.uni_model.specs.Transition.{place_of, turn_of, stage_after_scan, best_of, beside}
+use Rattle.uni_model.specs.Effects.{effect_of}
 use Rattle.uni_model.specs.Worlds.{WorldOf}
 use Rattle.uni_model.specs.Settled.{Grows}
 use Rattle.uni_model.specs.Invariant.{AtHead, IsPast, Stands, IsSound}
-use Rattle.uni_model.specs.Bound.{HasTurns}
+use Rattle.uni_model.specs.Counting.{HasTurns}
 use Rattle.uni_model.proofs.Written.{number_cases, lt_cases, head_of-memory_with, announce_of-memory_with, written_same}
 use Rattle.uni_model.proofs.Grows.{NumbersGrow, head_seq-at}
 use Rattle.uni_model.proofs.Numbered.{IsPast-threaded}

@@ -6,10 +6,11 @@ use Rattle.uni_model.specs.Places.{Name, name_eq, seq_of, new_of}
 use Rattle.uni_model.specs.Places.Name.{Of}
 use Rattle.uni_model.specs.Stages.{Stage, Pending}
 use Rattle.uni_model.specs.Stages.Stage.{Announce}
-use Rattle.uni_model.specs.Worlds.{WorldOf, Event, call_after, anchor_memory, last_cell, world_after_step, opened_world, world_after, world_after_all, world_after_era}
+use Rattle.uni_model.specs.Worlds.{WorldOf, Event, anchor_memory, last_cell, world_after_step, opened_world, world_after, world_after_all, world_after_era}
+use Rattle.uni_model.specs.Effects.{call_after}
 use Rattle.uni_model.specs.Worlds.Event.{Call, Step, Trim, Reshape}
 use Rattle.uni_model.specs.Frontier.{frontier, announces, announces_at, floor_of}
-use Rattle.uni_model.specs.Bound.{CountsSteps}
+use Rattle.uni_model.specs.Counting.{CountsSteps}
 use Rattle.uni_model.specs.Helping.{HelpingInvariant}
 use Rattle.uni_model.specs.Laws.{HasFloorOnceAnnounced}
 use Rattle.uni_model.proofs.Written.{name_eq_same, number_cases}

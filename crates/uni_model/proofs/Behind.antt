@@ -4,9 +4,7 @@ use Rattle.std.proofs.lemmas.List.{append_assoc, map-append, length-map}
 use Rattle.std.proofs.lemmas.List.Elements.{Contains-append_cases}
 use Rattle.seq_object.specs.Sequential.{Sequential}
 use Rattle.seq_object.specs.History.{state_after, response_at}
-use Rattle.uni_model.specs.Places.{set_at}
-use Rattle.uni_model.specs.Chain.{Invoked}
-use Rattle.uni_model.specs.AtomicObject.{Open, Atomic, Act, Accepts, AcceptsAll}
+use Rattle.uni_model.specs.AtomicObject.{Atomic, Act, Accepts, AcceptsAll, set_at, Invoked}
 use Rattle.uni_model.specs.AtomicObject.Act.{Invoke, Linearize, Respond}
 use Rattle.uni_model.proofs.Written.{set_at-cases}
 use Rattle.uni_model.proofs.Appended.{slice_get-append_right, response_at-append}
@@ -21,15 +19,15 @@ module _ {S I R : Type 0} (object : Sequential S I R) (start : S) (front : List 
   pub record IsBehind (first : ℕ → ℕ) (a : Atomic S I) : Type 0 where
     pub state : state_after object start (map (λ (c : Invoked I). c.inv) front) ≡ a.start
     pub old : (c : Invoked I) → Contains front c → c.nth < first c.process
-    pub open_call : (p : ℕ) (o : Open I) → a.open_call p ≡ Some o → first p ≤ o.nth
+    pub open_call : (p : ℕ) (o : Invoked I) → a.open_call p ≡ Some o → first p ≤ o.nth
     pub next_nth : (p : ℕ) → first p ≤ a.next_nth p
 
   module _ (first : ℕ → ℕ) (a : Atomic S I) (h : IsBehind first a) where
-    open_later : (p k : ℕ) (i : I) → a.next_nth p ≡ k → (q : ℕ) (o : Open I) → set_at a.open_call p (Some (record { nth = k; inv = i })) q ≡ Some o → first q ≤ o.nth
-    open_later p k i number q o e = elim (set_at-cases a.open_call p (Some (record { nth = k; inv = i })) q) [
+    open_later : (p k : ℕ) (i : I) → a.next_nth p ≡ k → (q : ℕ) (o : Invoked I) → set_at a.open_call p (Some (record { process = p; nth = k; inv = i })) q ≡ Some o → first q ≤ o.nth
+    open_later p k i number q o e = elim (set_at-cases a.open_call p (Some (record { process = p; nth = k; inv = i })) q) [
       | inl here ↦
-          let same : record { nth = k; inv = i } ≡ o = (let f = here.1 in cc) in
-          let nth : k ≡ o.nth = ap (λ (x : Open I). x.nth) same in
+          let same : record { process = p; nth = k; inv = i } ≡ o = (let f = here.1 in cc) in
+          let nth : k ≡ o.nth = ap (λ (x : Invoked I). x.nth) same in
           let least : first p ≤ a.next_nth p = h.next_nth p in
           subst (λ r. first r ≤ o.nth) (sym here.0) (omega arith)
       | inr other ↦ h.open_call q o (sym other.1 ∙ e)
@@ -41,13 +39,13 @@ module _ {S I R : Type 0} (object : Sequential S I R) (start : S) (front : List 
       | inr other ↦ rw other.1 (h.next_nth q)
     ]
 
-    closed_later : (p q : ℕ) (o : Open I) → set_at a.open_call p None q ≡ Some o → first q ≤ o.nth
+    closed_later : (p q : ℕ) (o : Invoked I) → set_at a.open_call p None q ≡ Some o → first q ≤ o.nth
     closed_later p q o e = elim (set_at-cases a.open_call p None q) [ inl here ↦ absurd (let f = here.1 in cc) | inr other ↦ h.open_call q o (sym other.1 ∙ e) ]
 
     -- a call that is open isn't one of those in front
-    not_in_front : (c : Invoked I) → a.open_call c.process ≡ Some (record { nth = c.nth; inv = c.inv }) → ¬ (Contains front c)
+    not_in_front : (c : Invoked I) → a.open_call c.process ≡ Some c → ¬ (Contains front c)
     not_in_front c is there =
-        let recent : first c.process ≤ c.nth = h.open_call c.process (record { nth = c.nth; inv = c.inv }) is in
+        let recent : first c.process ≤ c.nth = h.open_call c.process c is in
         let old : c.nth < first c.process = h.old c there in
         omega arith
 

@@ -2,14 +2,17 @@
 use Rattle.std.proofs.Common.{◌≡◌, ℕ, ◌+◌, ◌*◌, ◌<◌, ◌≤◌, refl, sym, subst, List, [], ◌∷◌, Option, Some, None, arith}
 use Rattle.std.specs.Option.{option_map_or}
 use Rattle.seq_object.specs.Sequential.{Sequential}
-use Rattle.uni_model.specs.Places.{Name, Memory, memory_with, set_at, head_seq, seq_of, new_of}
+use Rattle.uni_model.specs.Places.{Name, Memory, memory_with, head_seq, seq_of, new_of}
+use Rattle.uni_model.specs.AtomicObject.{set_at}
 use Rattle.uni_model.specs.Stages.{Stage, Pending}
 use Rattle.uni_model.specs.Stages.Stage.{Announce, ScanHead, ScanSeq, WriteScan, Test, ReadAnnounce, ReadHelpSeq, DecideAfter, DecideNew, WriteBefore, WriteSeq, WriteHead, Finish}
-use Rattle.uni_model.specs.Transition.{place_of, effect_of, turn_of, beside}
+use Rattle.uni_model.specs.Transition.{place_of, turn_of, beside}
+use Rattle.uni_model.specs.Effects.{effect_of}
 use Rattle.uni_model.specs.Worlds.{WorldOf, Event, world_after_call, world_after_step, opened_world, anchor_memory, world_after_era, last_cell, world_after, world_after_all, IsAccepted, AreAccepted, IsQuiescent}
 use Rattle.uni_model.specs.Worlds.Event.{Call, Step, Trim, Reshape}
 use Rattle.uni_model.specs.Invariant.{Stands}
-use Rattle.uni_model.specs.Bound.{steps_at, IsCounted, CountsSteps, IsWithinBound, IsBounded}
+use Rattle.uni_model.specs.Bound.{IsWithinBound, IsBounded}
+use Rattle.uni_model.specs.Counting.{steps_at, IsCounted, CountsSteps}
 use Rattle.uni_model.proofs.Moves.{IsSound-moved}
 use Rattle.uni_model.proofs.Steps.{leads}
 use Rattle.uni_model.proofs.Anchored.{alone, IsSound-anchor_memory}

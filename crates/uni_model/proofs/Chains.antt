@@ -9,7 +9,8 @@ use Rattle.uni_model.specs.Places.{Name, Memory, memory_with, seq_of, after_of, 
 use Rattle.uni_model.specs.Places.Name.{Anchor, Of}
 use Rattle.uni_model.specs.Places.Place.{AfterOf}
 use Rattle.uni_model.specs.Places.Content.{Link}
-use Rattle.uni_model.specs.Chain.{cells_from, Invoked, invoked_at, Entry, entries_from, response_in}
+use Rattle.uni_model.specs.Chain.{cells_from, invoked_at, Entry, entries_from, response_in}
+use Rattle.uni_model.specs.AtomicObject.{Invoked}
 use Rattle.uni_model.specs.Invariant.{Has, IsNumbered, HasValues}
 use Rattle.uni_model.proofs.Written.{after_of-memory_with}
 use Rattle.uni_model.proofs.Numbered.{end_number}

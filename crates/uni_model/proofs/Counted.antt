@@ -5,11 +5,12 @@ use Rattle.seq_object.specs.Sequential.{Sequential}
 use Rattle.uni_model.specs.Places.{Name, Content, Memory, number_in, seq_of, new_of}
 use Rattle.uni_model.specs.Stages.{Stage, Pending}
 use Rattle.uni_model.specs.Stages.Stage.{Announce, ScanHead, ScanSeq, WriteScan, Test, ReadAnnounce, ReadHelpSeq, DecideAfter, DecideNew, WriteBefore, WriteSeq, WriteHead, Finish}
-use Rattle.uni_model.specs.Transition.{place_of, effect_of, turn_of, Beside, beside}
-use Rattle.uni_model.specs.Worlds.{world_after_era, IsQuiescent, WorldOf, Event, anchor_memory, last_cell, opened_world, world_after_step, world_after_call, call_after, world_after, world_after_all, IsAccepted, AreAccepted}
+use Rattle.uni_model.specs.Transition.{place_of, turn_of, Beside, beside}
+use Rattle.uni_model.specs.Effects.{effect_of, call_after}
+use Rattle.uni_model.specs.Worlds.{world_after_era, IsQuiescent, WorldOf, Event, anchor_memory, last_cell, opened_world, world_after_step, world_after_call, world_after, world_after_all, IsAccepted, AreAccepted}
 use Rattle.uni_model.specs.Worlds.Event.{Call, Step, Trim, Reshape}
 use Rattle.uni_model.specs.Invariant.{Stands, Invariant}
-use Rattle.uni_model.specs.Bound.{steps_at, HasTurns, IsCounted, CountsSteps}
+use Rattle.uni_model.specs.Counting.{steps_at, HasTurns, IsCounted, CountsSteps}
 use Rattle.uni_model.proofs.Written.{number_cases, lt_cases}
 use Rattle.uni_model.proofs.Kept.{idle_when_quiescent, Invariant-world_after}
 

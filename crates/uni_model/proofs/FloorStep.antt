@@ -1,12 +1,14 @@
 -- A step keeps the floor of a call.
 use Rattle.std.proofs.Common.{◌≡◌, ◌≢◌, ◌∙◌, ℕ, ◌+◌, ◌<◌, ◌≤◌, ◌%◌, ◌⊎◌, inl, inr, sym, ap, subst, Option, Some, None, arith}
 use Rattle.seq_object.specs.Sequential.{Sequential}
-use Rattle.uni_model.specs.Places.{Name, Memory, set_at, announce_of, seq_of}
+use Rattle.uni_model.specs.Places.{Name, Memory, announce_of, seq_of}
+use Rattle.uni_model.specs.AtomicObject.{set_at}
 use Rattle.uni_model.specs.Places.Name.{Anchor, Of}
 use Rattle.uni_model.specs.Stages.{Stage, Pending}
 use Rattle.uni_model.specs.Stages.Stage.{Announce, ScanHead, ScanSeq, WriteScan, Test, ReadAnnounce, ReadHelpSeq, DecideAfter, DecideNew, WriteBefore, WriteSeq, WriteHead, Finish}
-use Rattle.uni_model.specs.Transition.{place_of, effect_of, beside}
-use Rattle.uni_model.specs.Worlds.{WorldOf, call_after}
+use Rattle.uni_model.specs.Transition.{place_of, beside}
+use Rattle.uni_model.specs.Effects.{effect_of, call_after}
+use Rattle.uni_model.specs.Worlds.{WorldOf}
 use Rattle.uni_model.specs.Invariant.{IsSound}
 use Rattle.uni_model.specs.Helping.{OfConsidered, Helps}
 use Rattle.uni_model.proofs.Floored.{IsBelowFloor, Waits, HasFloor, IsAnnounced}

@@ -8,7 +8,8 @@ use Rattle.seq_object.specs.Sequential.{Sequential}
 use Rattle.uni_model.specs.Places.{Name, Memory, seq_of, after_of, inv_of, new_of}
 use Rattle.uni_model.specs.Places.Name.{Anchor, Of}
 use Rattle.uni_model.specs.Stages.{Pending}
-use Rattle.uni_model.specs.Chain.{cells_from, Invoked, invoked_at, Entry, entries_from, response_in}
+use Rattle.uni_model.specs.Chain.{cells_from, invoked_at, Entry, entries_from, response_in}
+use Rattle.uni_model.specs.AtomicObject.{Invoked}
 use Rattle.uni_model.specs.Worlds.{WorldOf, Event, chain, era_calls, world_after, world_after_step, world_after_all, IsAccepted, AreAccepted, calls_in_era}
 use Rattle.uni_model.specs.Worlds.Event.{Call, Step, Trim, Reshape}
 use Rattle.uni_model.specs.History.{log}

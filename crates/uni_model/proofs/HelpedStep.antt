@@ -1,10 +1,12 @@
 -- A step goes on helping every call that is pending.
 use Rattle.std.proofs.Common.{◌≡◌, ◌≢◌, ◌∙◌, ℕ, ◌+◌, ◌<◌, ◌≤◌, inl, inr, sym, ap, subst, Option, Some, None, arith}
 use Rattle.seq_object.specs.Sequential.{Sequential}
-use Rattle.uni_model.specs.Places.{Name, Memory, set_at, head_of, head_seq, seq_of}
+use Rattle.uni_model.specs.Places.{Name, Memory, head_of, head_seq, seq_of}
+use Rattle.uni_model.specs.AtomicObject.{set_at}
 use Rattle.uni_model.specs.Stages.{Stage, Pending}
 use Rattle.uni_model.specs.Stages.Stage.{DecideAfter}
-use Rattle.uni_model.specs.Worlds.{WorldOf, call_after}
+use Rattle.uni_model.specs.Worlds.{WorldOf}
+use Rattle.uni_model.specs.Effects.{call_after}
 use Rattle.uni_model.specs.Invariant.{Stands, IsSound}
 use Rattle.uni_model.proofs.Written.{number_cases}
 use Rattle.uni_model.proofs.Moves.{Moves, Extends}

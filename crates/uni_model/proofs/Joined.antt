@@ -5,13 +5,15 @@ use Rattle.seq_object.specs.Sequential.{Sequential}
 use Rattle.seq_object.specs.History.{Call, state_after, IsLegal}
 use Rattle.uni_model.specs.Places.{seq_of, new_of}
 use Rattle.uni_model.specs.Places.Name.{Anchor}
-use Rattle.uni_model.specs.Chain.{Invoked, Entry}
+use Rattle.uni_model.specs.Chain.{Entry}
+use Rattle.uni_model.specs.AtomicObject.{Invoked}
 use Rattle.uni_model.specs.Worlds.{WorldOf, Event, anchor_memory, opened_world, world_after, world_after_all, AreAccepted}
 use Rattle.uni_model.specs.History.{log, invocations_of, logged_call, log_of_run}
 use Rattle.uni_model.specs.Invariant.{Invariant}
 use Rattle.uni_model.specs.Growth.{IsFrontOf}
 use Rattle.uni_model.specs.Eras.{EraLeaves, EraOfRunLeaves, JoinsLegalLogs, JoinedLogGrows}
 use Rattle.uni_model.proofs.Kept.{Invariant-opened_world, Invariant-world_after, Invariant-world_after_all}
+use Rattle.uni_model.proofs.LawProofs.{AreAccepted-take}
 use Rattle.uni_model.proofs.OneLists.{IsLegalLog-sound}
 use Rattle.uni_model.proofs.Growing.{log-world_after, IsFrontOf-same, IsFrontOf-then}
 use Rattle.uni_model.proofs.Appended.{slice_get-append_cases, state_after-append, IsLegal-append}
@@ -40,11 +42,7 @@ module _ {S I R : Type 0} (object : Sequential S I R) where
   IsRun-opened_world n start number es positive ok = record { inv = Invariant-opened_world object n start number positive; anchor = refl; accepted = ok }
 
   pub IsRun-take : (j : ℕ) (w : WorldOf S I R) (es : List (Event I)) (start : S) → IsRun w es start → IsRun w (take j es) start
-  IsRun-take j w es start run = record { inv = run.inv; anchor = run.anchor; accepted = accepted j w es run.accepted } where
-    accepted : (j : ℕ) (w : WorldOf S I R) (es : List (Event I)) → AreAccepted object w es → AreAccepted object w (take j es)
-    accepted zero w es ok = tt
-    accepted (suc j) w [] ok = tt
-    accepted (suc j) w (e ∷ es) ok = (ok.0, accepted j (world_after object w e) es ok.1)
+  IsRun-take j w es start run = record { inv = run.inv; anchor = run.anchor; accepted = AreAccepted-take object j w es run.accepted }
 
   -- the first event, and the run after it
   pub run_cases : (w : WorldOf S I R) (e : Event I) (es : List (Event I)) (start : S) → IsRun w (e ∷ es) start

@@ -2,10 +2,12 @@
 use Rattle.std.proofs.Common.{◌≡◌, ℕ, zero, suc, ◌+◌, ◌<◌, ◌≤◌, inl, inr, refl, subst, List, [], ◌∷◌, Option, Some, None, arith, IsSome, true, false}
 use Rattle.std.specs.Option.{option_map_or}
 use Rattle.seq_object.specs.Sequential.{Sequential}
-use Rattle.uni_model.specs.Places.{Name, Memory, memory_with, set_at, seq_of, after_of, new_of}
+use Rattle.uni_model.specs.Places.{Name, Memory, memory_with, seq_of, after_of, new_of}
+use Rattle.uni_model.specs.AtomicObject.{set_at}
 use Rattle.uni_model.specs.Places.Name.{Anchor, Of}
 use Rattle.uni_model.specs.Stages.{Pending}
-use Rattle.uni_model.specs.Transition.{place_of, effect_of, turn_of, beside}
+use Rattle.uni_model.specs.Transition.{place_of, turn_of, beside}
+use Rattle.uni_model.specs.Effects.{effect_of}
 use Rattle.uni_model.specs.Chain.{cells_from, last_of}
 use Rattle.uni_model.specs.Worlds.{WorldOf, Event, world_after_step, world_after_call, opened_world, anchor_memory, world_after_era, world_after, world_after_all, last_cell, era_calls, IsAccepted, AreAccepted, IsQuiescent}
 use Rattle.uni_model.specs.Worlds.Event.{Call, Step, Trim, Reshape}

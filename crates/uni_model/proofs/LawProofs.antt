@@ -1,20 +1,21 @@
 -- The laws over every list of accepted events.
-use Rattle.std.proofs.Common.{◌≡◌, ◌≢◌, ℕ, inl, inr, refl, sym, subst, List, [], ◌∷◌, ◌++◌, Option, Some, None, IsSome, Bool, true, false, cond}
+use Rattle.std.proofs.Common.{◌≡◌, ◌≢◌, ℕ, zero, suc, take, inl, inr, refl, sym, subst, List, [], ◌∷◌, ◌++◌, Option, Some, None, IsSome, Bool, true, false, cond}
 use Rattle.seq_object.specs.Sequential.{Sequential}
-use Rattle.uni_model.specs.Places.{Place, Content, Memory, memory_with, place_eq, set_at}
+use Rattle.uni_model.specs.Places.{Place, Content, Memory, memory_with, place_eq}
 use Rattle.uni_model.specs.Stages.{Pending}
 use Rattle.uni_model.specs.Transition.{place_of}
-use Rattle.uni_model.specs.Worlds.{WorldOf, Event, opened_world, world_after, world_after_step, IsAccepted}
+use Rattle.uni_model.specs.Worlds.{WorldOf, Event, opened_world, world_after, world_after_step, world_after_all, IsAccepted, AreAccepted}
 use Rattle.uni_model.specs.Worlds.Event.{Call, Step, Trim, Reshape}
-use Rattle.uni_model.specs.AtomicObject.{Atomic, Act, AcceptsAll}
+use Rattle.uni_model.specs.AtomicObject.{Atomic, Act, AcceptsAll, set_at}
 use Rattle.uni_model.specs.History.{Shows, acts_of}
 use Rattle.uni_model.specs.Growth.{EndsNoEra}
 use Rattle.uni_model.specs.Settled.{ChangesOnly}
 use Rattle.uni_model.specs.Invariant.{Invariant}
-use Rattle.uni_model.specs.Laws.{IsReached, StepIsLocal, SettledStays, Simulates}
+use Rattle.uni_model.specs.Laws.{IsReached, BoundedAlong, StepIsLocal, SettledStays, Simulates}
 use Rattle.uni_model.proofs.Written.{set_at-cases, place_eq_true}
 use Rattle.uni_model.proofs.Kept.{Invariant-opened_world, Invariant-world_after_all, Grows-world_after}
-use Rattle.uni_model.specs.Bound.{CountsSteps, IsBounded}
+use Rattle.uni_model.specs.Bound.{IsBounded}
+use Rattle.uni_model.specs.Counting.{CountsSteps}
 use Rattle.uni_model.proofs.Counted.{CountsSteps-opened_world, CountsSteps-world_after_all}
 use Rattle.uni_model.specs.Helping.{HelpingInvariant}
 use Rattle.uni_model.proofs.Bounded.{HelpingInvariant-opened_world, HelpingInvariant-world_after_all, IsBounded-held}
@@ -56,6 +57,17 @@ module _ {S I R : Type 0} (object : Sequential S I R) where
   pub IsBounded-reached : (w : WorldOf S I R) → IsReached object w → IsBounded w
   IsBounded-reached w r = IsBounded-held object w (CountsSteps-reached w r) (subst (λ v. HelpingInvariant object v) r.reached
       (HelpingInvariant-world_after_all object (opened_world r.n r.start r.number) r.events r.accepted (CountsSteps-opened_world object r.n r.start r.number) (HelpingInvariant-opened_world object r.n r.start r.number r.positive)))
+
+  pub AreAccepted-take : (j : ℕ) (w : WorldOf S I R) (es : List (Event I)) → AreAccepted object w es → AreAccepted object w (take j es)
+  AreAccepted-take zero w es ok = tt
+  AreAccepted-take (suc j) w [] ok = tt
+  AreAccepted-take (suc j) w (e ∷ es) ok = (ok.0, AreAccepted-take j (world_after object w e) es ok.1)
+
+  pub IsBounded-along : (w : WorldOf S I R) (es : List (Event I)) → AreAccepted object w es → CountsSteps w → HelpingInvariant object w → BoundedAlong object w es
+  IsBounded-along w es ok counts inv j =
+      let first = AreAccepted-take j w es ok in
+      IsBounded-held object (world_after_all object w (take j es)) (CountsSteps-world_after_all object w (take j es) first (inv.0, inv.1, inv.2) counts)
+      (HelpingInvariant-world_after_all object w (take j es) first counts inv)
 
   pub SettledStays-holds : (w : WorldOf S I R) (e : Event I) → SettledStays object w e
   SettledStays-holds w e reached ok other = Grows-world_after object w e (Invariant-reached w reached) ok other

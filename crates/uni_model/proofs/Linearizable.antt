@@ -4,10 +4,9 @@ use Rattle.std.specs.Option.{option_map_or}
 use Rattle.seq_object.specs.Sequential.{Sequential}
 use Rattle.uni_model.specs.Places.{Name, Memory}
 use Rattle.uni_model.specs.Stages.{Pending}
-use Rattle.uni_model.specs.Chain.{Invoked}
-use Rattle.uni_model.specs.Worlds.{WorldOf, Event, opened_world, effect_in, world_after}
+use Rattle.uni_model.specs.Worlds.{WorldOf, Event, opened_world, world_after, response_of_call}
 use Rattle.uni_model.specs.Worlds.Event.{Call, Step, Trim, Reshape}
-use Rattle.uni_model.specs.AtomicObject.{Act}
+use Rattle.uni_model.specs.AtomicObject.{Act, Invoked}
 use Rattle.uni_model.specs.AtomicObject.Act.{Invoke, Linearize, Respond}
 use Rattle.uni_model.specs.History.{calls_of, responses_of, acts_of, history_of}
 use Rattle.uni_model.specs.Linearizable.{observed, observed_at, observed_in, ObservesLinearizable}
@@ -33,9 +32,9 @@ module _ {S I R : Type 0} (object : Sequential S I R) where
     by_cell (Some c) = refl
 
   abbrev responses_by : WorldOf S I R → ℕ → Option Pending → List (Act I R)
-  responses_by w p o = option_map_or (λ call. responses_of w.memory p call.mine (effect_in object w p call).response) o []
+  responses_by w p o = option_map_or (λ call. responses_of w.memory p call.mine (response_of_call w call)) o []
 
-  observed-acts_of : (w : WorldOf S I R) (e : Event I) → observed (acts_of object w e) ≡ observed_at object w e
+  observed-acts_of : (w : WorldOf S I R) (e : Event I) → observed (acts_of object w e) ≡ observed_at w e
   observed-acts_of w (Call p i) = refl
   observed-acts_of w (Step p) =
       observed-append (map Linearize (drop (length (calls_of w)) (calls_of (world_after object w (Step p))))) (responses_by w p (w.call p))
@@ -43,7 +42,7 @@ module _ {S I R : Type 0} (object : Sequential S I R) where
       ∙ by_call (w.call p) where
         by_call : (o : Option Pending) → observed (responses_by w p o) ≡ responses_by w p o
         by_call None = refl
-        by_call (Some call) = observed-responses w.memory p call.mine (effect_in object w p call).response
+        by_call (Some call) = observed-responses w.memory p call.mine (response_of_call w call)
   observed-acts_of w Trim = refl
   observed-acts_of w (Reshape n) = refl
 
@@ -52,7 +51,7 @@ module _ {S I R : Type 0} (object : Sequential S I R) where
   observed-history_of w (e ∷ es) =
       observed-append (acts_of object w e) (history_of object (world_after object w e) es)
       ∙ ap (λ acts. acts ++ observed (history_of object (world_after object w e) es)) (observed-acts_of w e)
-      ∙ ap (λ acts. observed_at object w e ++ acts) (observed-history_of (world_after object w e) es)
+      ∙ ap (λ acts. observed_at w e ++ acts) (observed-history_of (world_after object w e) es)
 
   pub ObservesLinearizable-holds : (n : ℕ) (start : S) (number : ℕ) (events : List (Event I)) → ObservesLinearizable object n start number events
   ObservesLinearizable-holds n start number events positive ok =

@@ -5,7 +5,8 @@ use Rattle.seq_object.specs.Sequential.{Sequential}
 use Rattle.seq_object.specs.History.{IsLegal, state_after}
 use Rattle.uni_model.specs.Places.{Name, seq_of, after_of, new_of, inv_of}
 use Rattle.uni_model.specs.Places.Name.{Anchor, Of}
-use Rattle.uni_model.specs.Chain.{cells_from, Invoked, invoked_at, Entry, entries_from, response_in}
+use Rattle.uni_model.specs.Chain.{cells_from, invoked_at, Entry, entries_from, response_in}
+use Rattle.uni_model.specs.AtomicObject.{Invoked}
 use Rattle.uni_model.specs.Worlds.{WorldOf}
 use Rattle.uni_model.specs.History.{logged_call}
 use Rattle.uni_model.specs.Invariant.{IsSound}

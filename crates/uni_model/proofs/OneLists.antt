@@ -7,7 +7,8 @@ use Rattle.seq_object.specs.Sequential.{Sequential}
 use Rattle.seq_object.specs.History.{state_after, response_at}
 use Rattle.uni_model.specs.Places.{Name, seq_of, after_of, new_of, before_of}
 use Rattle.uni_model.specs.Places.Name.{Anchor, Of}
-use Rattle.uni_model.specs.Chain.{cells_from, last_of, Invoked}
+use Rattle.uni_model.specs.Chain.{cells_from, last_of}
+use Rattle.uni_model.specs.AtomicObject.{Invoked}
 use Rattle.uni_model.specs.Worlds.{WorldOf, chain, last_cell, era_calls}
 use Rattle.uni_model.specs.Invariant.{IsSound, Invariant}
 use Rattle.uni_model.specs.OneList.{value_at, IsOneList, HasOneList, IsLegalLog, HasLegalLog}

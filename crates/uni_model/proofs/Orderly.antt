@@ -6,9 +6,7 @@ use Rattle.std.proofs.lemmas.List.Sums.{count_by_more_yes, sum_by_push, sum_by-t
 use Rattle.std.proofs.lemmas.Option.{get_or_from_slice_get, slice_get_within}
 use Rattle.seq_object.specs.Sequential.{Sequential}
 use Rattle.seq_object.specs.History.{response_at}
-use Rattle.uni_model.specs.Places.{set_at}
-use Rattle.uni_model.specs.Chain.{Invoked}
-use Rattle.uni_model.specs.AtomicObject.{Atomic, Open, Act, Accepts, AcceptsAll, at_start}
+use Rattle.uni_model.specs.AtomicObject.{Atomic, Act, Accepts, AcceptsAll, at_start, set_at, Invoked}
 use Rattle.uni_model.specs.AtomicObject.Act.{Invoke, Linearize, Respond}
 use Rattle.uni_model.proofs.Written.{number_cases, set_at-cases}
 use Rattle.uni_model.proofs.Appended.{slice_get-append_left, slice_get-append_cases}
@@ -46,14 +44,14 @@ module _ {I : Type 0} where
 pub record IsOrderly {S I : Type 0} (a : Atomic S I) : Type 0 where
   pub numbered : (i : ℕ) (c : Invoked I) → slice_get a.agreed i ≡ Some c → c.nth ≡ effects c.process (take i a.agreed)
   pub idle : (p : ℕ) → a.open_call p ≡ None → effects p a.agreed ≡ a.next_nth p
-  pub latest : (p : ℕ) (o : Open I) → a.open_call p ≡ Some o → a.next_nth p ≡ o.nth + 1
-  pub placed : (p : ℕ) (o : Open I) → a.open_call p ≡ Some o
+  pub latest : (p : ℕ) (o : Invoked I) → a.open_call p ≡ Some o → a.next_nth p ≡ o.nth + 1
+  pub placed : (p : ℕ) (o : Invoked I) → a.open_call p ≡ Some o
       → (effects p a.agreed ≡ o.nth) ⊎ ((effects p a.agreed ≡ o.nth + 1) × Contains a.agreed (record { process = p; nth = o.nth; inv = o.inv }))
 
 -- the call k of p was begun, and is open no more
 pub record IsOver {S I : Type 0} (a : Atomic S I) (p k : ℕ) : Type 0 where
   pub begun : k < a.next_nth p
-  pub later : (o : Open I) → a.open_call p ≡ Some o → k < o.nth
+  pub later : (o : Invoked I) → a.open_call p ≡ Some o → k < o.nth
 
 -- the call k of p took effect at a place where the object answers r
 pub record IsAnswered {S I R : Type 0} (object : Sequential S I R) (a : Atomic S I) (p k : ℕ) (r : R) : Type 0 where
@@ -78,10 +76,10 @@ module _ {S I R : Type 0} (object : Sequential S I R) where
 
   module _ (a : Atomic S I) (p k : ℕ) (i : I) (h : IsOrderly a) (none : a.open_call p ≡ None) (nth : a.next_nth p ≡ k) where
     abbrev invoked : Atomic S I
-    invoked = record a { open_call = set_at a.open_call p (Some (record { nth = k; inv = i })); next_nth = set_at a.next_nth p (k + 1) }
+    invoked = record a { open_call = set_at a.open_call p (Some (record { process = p; nth = k; inv = i })); next_nth = set_at a.next_nth p (k + 1) }
 
     -- the open call and the next number of each process
-    invoked-cases : (q : ℕ) → ((q ≡ p) × (invoked.open_call q ≡ Some (record { nth = k; inv = i })) × (invoked.next_nth q ≡ k + 1))
+    invoked-cases : (q : ℕ) → ((q ≡ p) × (invoked.open_call q ≡ Some (record { process = p; nth = k; inv = i })) × (invoked.next_nth q ≡ k + 1))
         ⊎ ((q ≢ p) × (invoked.open_call q ≡ a.open_call q) × (invoked.next_nth q ≡ a.next_nth q))
     invoked-cases q = elim (number_cases q p) [ inl same ↦ inl (same.0, rw same.1 refl, rw same.1 refl) | inr other ↦ inr (other.0, rw other.1 refl, rw other.1 refl) ]
 
@@ -93,23 +91,23 @@ module _ {S I R : Type 0} (object : Sequential S I R) where
         | inr other ↦ h.idle q (sym other.1 ∙ idle) ∙ sym other.2
       ];
       latest = λ q o is. elim (invoked-cases q) [
-        | inl own ↦ let same : record { nth = k; inv = i } ≡ o = (let some = own.1 in cc) in own.2 ∙ ap (λ (x : Open I). x.nth + 1) same
+        | inl own ↦ let same : record { process = p; nth = k; inv = i } ≡ o = (let some = own.1 in cc) in own.2 ∙ ap (λ (x : Invoked I). x.nth + 1) same
         | inr other ↦ other.2 ∙ h.latest q o (sym other.1 ∙ is)
       ];
       placed = λ q o is. elim (invoked-cases q) [
         | inl own ↦
-            let same : record { nth = k; inv = i } ≡ o = (let some = own.1 in cc) in
-            inl (ap (λ x. effects x a.agreed) own.0 ∙ h.idle p none ∙ nth ∙ ap (λ (x : Open I). x.nth) same)
+            let same : record { process = p; nth = k; inv = i } ≡ o = (let some = own.1 in cc) in
+            inl (ap (λ x. effects x a.agreed) own.0 ∙ h.idle p none ∙ nth ∙ ap (λ (x : Invoked I). x.nth) same)
         | inr other ↦ h.placed q o (sym other.1 ∙ is)
       ];
     }
 
-  module _ (a : Atomic S I) (c : Invoked I) (h : IsOrderly a) (its : a.open_call c.process ≡ Some (record { nth = c.nth; inv = c.inv })) (new : ¬ (Contains a.agreed c)) where
+  module _ (a : Atomic S I) (c : Invoked I) (h : IsOrderly a) (its : a.open_call c.process ≡ Some c) (new : ¬ (Contains a.agreed c)) where
     abbrev linearized : Atomic S I
     linearized = record a { agreed = a.agreed ++ c ∷ [] }
 
     not_placed : effects c.process a.agreed ≡ c.nth
-    not_placed = elim (h.placed c.process (record { nth = c.nth; inv = c.inv }) its) [ inl before ↦ before | inr after ↦ absurd (new after.1) ]
+    not_placed = elim (h.placed c.process c its) [ inl before ↦ before | inr after ↦ absurd (new after.1) ]
 
     numbered_linearized : (j : ℕ) (d : Invoked I) → slice_get (a.agreed ++ c ∷ []) j ≡ Some d → d.nth ≡ effects d.process (take j (a.agreed ++ c ∷ []))
     numbered_linearized j d at = elim (slice_get-append_cases a.agreed (c ∷ []) j d at) [
@@ -136,12 +134,12 @@ module _ {S I R : Type 0} (object : Sequential S I R) where
       latest = h.latest;
       placed = λ q o is. elim (number_cases c.process q) [
         | inl same ↦
-            let its_call : Some (record { nth = c.nth; inv = c.inv }) ≡ Some o = sym its ∙ ap a.open_call same.0 ∙ is in
-            let own : record { nth = c.nth; inv = c.inv } ≡ o = cc in
+            let its_call : Some c ≡ Some o = sym its ∙ ap a.open_call same.0 ∙ is in
+            let own : c ≡ o = cc in
             let count = effects-own q a.agreed c same.0 in
             let before : effects q a.agreed ≡ c.nth = ap (λ x. effects x a.agreed) (sym same.0) ∙ not_placed in
-            let nth : c.nth ≡ o.nth = ap (λ (x : Open I). x.nth) own in
-            let call : c ≡ record { process = q; nth = o.nth; inv = o.inv } = ap (λ x. call_with x c.nth c.inv) same.0 ∙ ap (λ (x : Open I). call_with q x.nth x.inv) own in
+            let nth : c.nth ≡ o.nth = ap (λ (x : Invoked I). x.nth) own in
+            let call : c ≡ record { process = q; nth = o.nth; inv = o.inv } = ap (λ x. call_with x c.nth c.inv) same.0 ∙ ap (λ (x : Invoked I). call_with q x.nth x.inv) own in
             inr ((omega arith), subst (Contains (a.agreed ++ c ∷ [])) call (Contains-push a.agreed c))
         | inr other ↦ elim (h.placed q o is) [
           | inl before ↦ inl (effects-other q a.agreed c other.0 ∙ before)
@@ -150,7 +148,7 @@ module _ {S I R : Type 0} (object : Sequential S I R) where
       ];
     }
 
-  module _ (a : Atomic S I) (p k : ℕ) (i : I) (place : ℕ) (h : IsOrderly a) (its : a.open_call p ≡ Some (record { nth = k; inv = i })) (placed : slice_get a.agreed place ≡ Some (record { process = p; nth = k; inv = i })) where
+  module _ (a : Atomic S I) (p k : ℕ) (i : I) (place : ℕ) (h : IsOrderly a) (its : a.open_call p ≡ Some (record { process = p; nth = k; inv = i })) (placed : slice_get a.agreed place ≡ Some (record { process = p; nth = k; inv = i })) where
     abbrev responded : Atomic S I
     responded = record a { open_call = set_at a.open_call p None }
 
@@ -158,7 +156,7 @@ module _ {S I R : Type 0} (object : Sequential S I R) where
     responded-cases q = set_at-cases a.open_call p None q
 
     placed_before : effects p a.agreed ≡ k + 1
-    placed_before = elim (h.placed p (record { nth = k; inv = i }) its) [
+    placed_before = elim (h.placed p (record { process = p; nth = k; inv = i }) its) [
       | inl before ↦ absurd (
           let more = effects-before p a.agreed place (record { process = p; nth = k; inv = i }) placed refl in
           let number : k ≡ effects p (take place a.agreed) = h.numbered place (record { process = p; nth = k; inv = i }) placed in
@@ -170,7 +168,7 @@ module _ {S I R : Type 0} (object : Sequential S I R) where
     orderly_responded = record {
       numbered = h.numbered;
       idle = λ q idle. elim (responded-cases q) [
-        | inl own ↦ ap (λ x. effects x a.agreed) own.0 ∙ placed_before ∙ sym (h.latest p (record { nth = k; inv = i }) its) ∙ ap a.next_nth (sym own.0)
+        | inl own ↦ ap (λ x. effects x a.agreed) own.0 ∙ placed_before ∙ sym (h.latest p (record { process = p; nth = k; inv = i }) its) ∙ ap a.next_nth (sym own.0)
         | inr other ↦ h.idle q (sym other.1 ∙ idle)
       ];
       latest = λ q o is. elim (responded-cases q) [ inl own ↦ absurd (let none = own.1 in cc) | inr other ↦ h.latest q o (sym other.1 ∙ is) ];
@@ -179,7 +177,7 @@ module _ {S I R : Type 0} (object : Sequential S I R) where
 
     IsOver-responded : IsOver responded p k
     IsOver-responded = record {
-      begun = (let next = h.latest p (record { nth = k; inv = i }) its in let n : a.next_nth p ≡ k + 1 = next in omega arith);
+      begun = (let next = h.latest p (record { process = p; nth = k; inv = i }) its in let n : a.next_nth p ≡ k + 1 = next in omega arith);
       later = λ o is. elim (responded-cases p) [ inl own ↦ absurd (let none = own.1 in cc) | inr other ↦ absurd (other.0 refl) ];
     }
 
@@ -191,10 +189,10 @@ module _ {S I R : Type 0} (object : Sequential S I R) where
   -- what has ended stays so
   IsOver-kept : (a b : Atomic S I) (act : Act I R) (p k : ℕ) → IsOver a p k → Accepts object a act b → IsOver b p k
   IsOver-kept a b (Invoke q j i) p k over ok = subst (λ x. IsOver x p k) (sym ok.2) (by_process (number_cases p q)) where
-    by_process : ((p ≡ q) × (nat_eq p q ≡ true)) ⊎ ((p ≢ q) × (nat_eq p q ≡ false)) → IsOver (record a { open_call = set_at a.open_call q (Some (record { nth = j; inv = i })); next_nth = set_at a.next_nth q (j + 1) }) p k
+    by_process : ((p ≡ q) × (nat_eq p q ≡ true)) ⊎ ((p ≢ q) × (nat_eq p q ≡ false)) → IsOver (record a { open_call = set_at a.open_call q (Some (record { process = q; nth = j; inv = i })); next_nth = set_at a.next_nth q (j + 1) }) p k
     by_process (inl same) =
         let before : k < j = subst (λ n. k < n) (ap a.next_nth same.0 ∙ ok.1) over.begun in
-        record { begun = rw same.1 (omega arith); later = λ o is. let some : Some (record { nth = j; inv = i }) ≡ Some o = (rw same.1 at is) in let own : record { nth = j; inv = i } ≡ o = cc in subst (λ (x : Open I). k < x.nth) own before }
+        record { begun = rw same.1 (omega arith); later = λ o is. let some : Some (record { process = q; nth = j; inv = i }) ≡ Some o = (rw same.1 at is) in let own : record { process = q; nth = j; inv = i } ≡ o = cc in subst (λ (x : Invoked I). k < x.nth) own before }
     by_process (inr other) = record { begun = rw other.1 over.begun; later = λ o is. over.later o (rw other.1 at is) }
   IsOver-kept a b (Linearize c) p k over ok = subst (λ x. IsOver x p k) (sym ok.2) (record { begun = over.begun; later = over.later })
   IsOver-kept a b (Respond q j r) p k over ok = subst (λ x. IsOver x p k) (sym ok.1) (record {
@@ -212,7 +210,7 @@ module _ {S I R : Type 0} (object : Sequential S I R) where
   not_again a b (act ∷ acts) p k r zero over ok is =
       let same : act ≡ Respond p k r = cc in
       let its = subst (λ x. Accepts object a x ok.0) same ok.1 in
-      let later : k < k = over.later (record { nth = k; inv = its.0.0 }) its.0.2 in
+      let later : k < k = over.later (record { process = p; nth = k; inv = its.0.0 }) its.0.2 in
       omega arith
   not_again a b (act ∷ acts) p k r (suc j) over ok is = not_again ok.0 b acts p k r j (IsOver-kept a ok.0 act p k over ok.1) ok.2 is
 

@@ -3,13 +3,15 @@
 use Rattle.std.proofs.Common.{◌≡◌, ◌∙◌, ℕ, ◌<◌, ◌≤◌, ◌⊎◌, inl, inr, refl, sym, ap, subst, Option, Some, None, arith}
 use Rattle.std.proofs.lemmas.Bool.{cases_lt}
 use Rattle.seq_object.specs.Sequential.{Sequential}
-use Rattle.uni_model.specs.Places.{Name, Memory, memory_with, set_at, head_of, head_seq, inv_of, seq_of}
+use Rattle.uni_model.specs.Places.{Name, Memory, memory_with, head_of, head_seq, inv_of, seq_of}
+use Rattle.uni_model.specs.AtomicObject.{set_at}
 use Rattle.uni_model.specs.Places.Name.{Anchor, Of}
 use Rattle.uni_model.specs.Places.Place.{HeadOf}
 use Rattle.uni_model.specs.Stages.{Stage, Pending}
 use Rattle.uni_model.specs.Stages.Stage.{Announce, ScanHead, ScanSeq, WriteScan, Test, ReadAnnounce, ReadHelpSeq, DecideAfter, DecideNew, WriteBefore, WriteSeq, WriteHead, Finish}
-use Rattle.uni_model.specs.Transition.{place_of, beside, effect_of}
-use Rattle.uni_model.specs.Worlds.{WorldOf, IsQuiescent, last_cell, era_calls, call_after, world_after_call}
+use Rattle.uni_model.specs.Transition.{place_of, beside}
+use Rattle.uni_model.specs.Effects.{effect_of, call_after}
+use Rattle.uni_model.specs.Worlds.{WorldOf, IsQuiescent, last_cell, era_calls, world_after_call}
 use Rattle.uni_model.specs.Invariant.{Has, Stands, IsSound}
 use Rattle.uni_model.specs.Helping.{SomeHead}
 use Rattle.uni_model.proofs.Written.{lt_cases, set_at-cases, written_same, head_of-memory_with}

@@ -7,10 +7,11 @@ use Rattle.uni_model.specs.Places.Place.{Announced, HeadOf, SeqOf, AfterOf, NewO
 use Rattle.uni_model.specs.Places.Content.{Link, Settled}
 use Rattle.uni_model.specs.Stages.{Stage}
 use Rattle.uni_model.specs.Stages.Stage.{Announce, ScanHead, ScanSeq, WriteScan, Test, ReadAnnounce, ReadHelpSeq, DecideAfter, DecideNew, WriteBefore, WriteSeq, WriteHead, Finish}
-use Rattle.uni_model.specs.Transition.{place_of, beside, effect_of, Effect, turn_of, best_of, stage_after_scan, decision, value_after}
+use Rattle.uni_model.specs.Transition.{place_of, beside, response_after, turn_of, best_of, stage_after_scan, decision, value_after}
+use Rattle.uni_model.specs.Effects.{effect_of, Effect}
 use Rattle.uni_model.specs.Invariant.{IsNumbered, HasBest, AtHead, Stands}
 use Rattle.uni_model.specs.Helping.{Finds}
-use Rattle.uni_model.specs.Bound.{HasTurns}
+use Rattle.uni_model.specs.Counting.{HasTurns}
 use Rattle.uni_model.proofs.Written.{number_cases, lt_cases, written_same}
 use Rattle.uni_model.proofs.Renamed.{at_least, at_least-cases, at_least-past, stage_renamed, IsNew, IsRecent, state_in, IsRenamed, era_cases, rename-anchor, IsRenamed-head, IsRenamed-announced, IsRenamed-before, IsRenamed-after, IsRenamed-value, IsNew-numbered, IsRenamed-seq}
 
@@ -69,7 +70,7 @@ module _ {S I R : Type 0} (object : Sequential S I R) (m' m : Memory S I R) (n :
   pub record StepsAlike (stage : Stage) : Type 0 where
     pub stage_same : (effect_renamed stage).stage ≡ option_map (stage_renamed rename base) (effect stage).stage
     pub turn : turn_of (stage_renamed rename base stage) (m' (place_of n p mine (stage_renamed rename base stage))) ≡ turn_of stage (m (place_of n p mine stage))
-    pub response : (effect_renamed stage).response ≡ (effect stage).response
+    pub response : response_after (stage_renamed rename base stage) (beside m' mine (stage_renamed rename base stage)) ≡ response_after stage (beside m mine stage)
     pub memory : IsRenamed (memory_with m' (place_of n p mine (stage_renamed rename base stage)) (effect_renamed stage).content) (memory_later stage) n rename base
     pub still_new : (x : Name) → IsNew m base x → IsNew (memory_later stage) base x
 

@@ -2,14 +2,16 @@
 use Rattle.std.proofs.Common.{◌≡◌, ◌∙◌, ℕ, ◌+◌, ◌<◌, ◌≤◌, inl, inr, refl, sym, ap, subst, Option, Some, None, option_map, arith}
 use Rattle.std.proofs.lemmas.Bool.{cases_lt}
 use Rattle.seq_object.specs.Sequential.{Sequential}
-use Rattle.uni_model.specs.Places.{Name, Memory, set_at, head_seq, seq_of}
+use Rattle.uni_model.specs.Places.{Name, Memory, head_seq, seq_of}
+use Rattle.uni_model.specs.AtomicObject.{set_at}
 use Rattle.uni_model.specs.Places.Name.{Of}
 use Rattle.uni_model.specs.Stages.{Stage, Pending}
 use Rattle.uni_model.specs.Stages.Stage.{Announce}
-use Rattle.uni_model.specs.Transition.{place_of, beside, effect_of, turn_of}
-use Rattle.uni_model.specs.Worlds.{WorldOf, call_after, world_after_call, world_after_step}
+use Rattle.uni_model.specs.Transition.{place_of, beside, turn_of}
+use Rattle.uni_model.specs.Effects.{effect_of, call_after}
+use Rattle.uni_model.specs.Worlds.{WorldOf, world_after_call, world_after_step}
 use Rattle.uni_model.specs.Helping.{SomeHead, Finds, HelpingInvariant}
-use Rattle.uni_model.specs.Bound.{CountsSteps}
+use Rattle.uni_model.specs.Counting.{CountsSteps}
 use Rattle.uni_model.proofs.Written.{set_at-cases, number_cases}
 use Rattle.uni_model.proofs.Moves.{was_pending}
 use Rattle.uni_model.proofs.Steps.{leads}

@@ -8,9 +8,9 @@ use Rattle.seq_object.specs.History.{IsLegal, state_after, response_at}
 use Rattle.seq_object.proofs.Legality.{IsLegalByPlaces-from_IsLegal}
 use Rattle.uni_model.specs.Places.Name.{Of}
 use Rattle.uni_model.specs.Stages.{Pending}
-use Rattle.uni_model.specs.Chain.{Invoked, Entry}
+use Rattle.uni_model.specs.Chain.{Entry}
 use Rattle.uni_model.specs.Worlds.{WorldOf, Event, opened_world, world_after, world_after_all}
-use Rattle.uni_model.specs.AtomicObject.{Atomic, at_start}
+use Rattle.uni_model.specs.AtomicObject.{Atomic, at_start, Invoked}
 use Rattle.uni_model.specs.History.{RunShows, invocations_of, log, logged_call, log_of_run, history_of, open_at}
 use Rattle.uni_model.specs.Eras.{StandsAt}
 use Rattle.uni_model.specs.Responses.{LogsResponses, calls_among}
@@ -78,8 +78,8 @@ module _ {S I R : Type 0} (object : Sequential S I R) where
           let own = (Invariant-world_after_all object (opened_world n start number) es run.accepted run.inv).2.calls.mine x.call.process pending.0 pending.1 in
           let cell : Of x.call.process own.0 ≡ Of x.call.process x.call.nth = sym own.1 ∙ pending.2 in
           let its_nth : own.0 ≡ x.call.nth = cc in
-          let its_open : b.open_call x.call.process ≡ Some (record { nth = own.0; inv = own.3.0 }) = sym (shows.open_call x.call.process) ∙ ap (open_at last.memory) pending.1 ∙ rw (own.1, own.3.1) refl in
-          let later : k < own.0 = over.later (record { nth = own.0; inv = own.3.0 }) (ap b.open_call (sym process) ∙ its_open) in
+          let its_open : b.open_call x.call.process ≡ Some (record { process = x.call.process; nth = own.0; inv = own.3.0 }) = sym (shows.open_call x.call.process) ∙ ap (open_at last.memory) pending.1 ∙ rw (own.1, own.3.1) refl in
+          let later : k < own.0 = over.later (record { process = x.call.process; nth = own.0; inv = own.3.0 }) (ap b.open_call (sym process) ∙ its_open) in
           omega arith)
 
     numbered_joined : IsOrderly b → (i : ℕ) (e : Entry I R) → slice_get joined i ≡ Some e → e.call.nth ≡ calls_among e.call.process (take i joined)

@@ -1,5 +1,5 @@
 -- What a step reads beside its one place is settled, and is told by the places that the definitions name.
-use Rattle.std.proofs.Common.{◌≡◌, ◌∙◌, ℕ, ◌≤◌, refl, sym, ap, subst, Option, Some, None, IfSome}
+use Rattle.std.proofs.Common.{◌≡◌, ◌∙◌, ℕ, ◌≤◌, refl, sym, ap, subst, Option, option_and_then, Some, None, IfSome}
 use Rattle.seq_object.specs.Sequential.{Sequential}
 use Rattle.uni_model.specs.Places.{Name, Memory, inv_of, new_of, invocation_in, settled_in}
 use Rattle.uni_model.specs.Stages.{Stage, Pending}
@@ -50,4 +50,4 @@ SeesOnly-holds {S} {I} {R} m m' mine (DecideNew c s d) same =
 SeesOnly-holds m m' mine (WriteBefore c s d) same = refl
 SeesOnly-holds m m' mine (WriteSeq c s d) same = refl
 SeesOnly-holds m m' mine (WriteHead c s d) same = refl
-SeesOnly-holds {S} {I} {R} m m' mine (Finish s t) same = ap (λ o. let b : Beside S I R = ForResponse o in b) (ap settled_in same.0)
+SeesOnly-holds {S} {I} {R} m m' mine (Finish s t) same = ap (λ o. let b : Beside S I R = ForResponse o in b) (ap (λ v. option_and_then (λ (new : S × Option R). new.1) (settled_in v)) same.0)

@@ -6,17 +6,18 @@ use Rattle.std.proofs.lemmas.Option.{slice_get-map}
 use Rattle.std.proofs.lemmas.List.Elements.{All-contains, All-from_recursion}
 use Rattle.seq_object.specs.Sequential.{Sequential}
 use Rattle.seq_object.specs.History.{response_at, state_after}
-use Rattle.uni_model.specs.Places.{Name, Memory, memory_with, set_at, seq_of, after_of, new_of, inv_of}
+use Rattle.uni_model.specs.Places.{Name, Memory, memory_with, seq_of, after_of, new_of, inv_of}
 use Rattle.uni_model.specs.Places.Name.{Anchor, Of}
 use Rattle.uni_model.specs.Places.Place.{AfterOf, InvOf}
 use Rattle.uni_model.specs.Places.Content.{Invocation, Link}
 use Rattle.uni_model.specs.Stages.{Stage, Pending}
 use Rattle.uni_model.specs.Stages.Stage.{Announce, ScanHead, ScanSeq, WriteScan, Test, ReadAnnounce, ReadHelpSeq, DecideAfter, DecideNew, WriteBefore, WriteSeq, WriteHead, Finish}
-use Rattle.uni_model.specs.Transition.{place_of, effect_of, decision, turn_of, beside, response_after}
-use Rattle.uni_model.specs.Chain.{Invoked, invoked_at, response_in}
-use Rattle.uni_model.specs.Worlds.{WorldOf, effect_in, world_after_step, world_after_call, call_after, chain, era_calls, sum_below, world_after, calls_in_era}
+use Rattle.uni_model.specs.Transition.{place_of, decision, turn_of, beside, response_after}
+use Rattle.uni_model.specs.Effects.{effect_of, call_after}
+use Rattle.uni_model.specs.Chain.{invoked_at, response_in}
+use Rattle.uni_model.specs.Worlds.{WorldOf, world_after_step, world_after_call, chain, era_calls, sum_below, world_after, calls_in_era, response_of_call}
 use Rattle.uni_model.specs.Worlds.Event.{Call, Step}
-use Rattle.uni_model.specs.AtomicObject.{Atomic, Act, AcceptsAll}
+use Rattle.uni_model.specs.AtomicObject.{Atomic, Act, AcceptsAll, set_at, Invoked}
 use Rattle.uni_model.specs.AtomicObject.Act.{Linearize}
 use Rattle.uni_model.specs.History.{calls_of, open_at, Shows, responses_of, acts_of}
 use Rattle.uni_model.specs.Invariant.{Has, IsSound, can_be_linked, AtHead, IsPast, IsCellOf}
@@ -68,7 +69,7 @@ module _ {S I R : Type 0} (object : Sequential S I R) (w : WorldOf S I R) (num :
     own_invoked : (k : ℕ) (i : I) → mine ≡ Of p k → inv_of w.memory (Of p k) ≡ Some i → invoked_at w.memory mine ≡ Some (record { process = p; nth = k; inv = i })
     own_invoked k i its inv = ap (invoked_at w.memory) its ∙ rw inv refl
 
-    own_open : a.open_call p ≡ Some (record { nth = own.0; inv = own.1 })
+    own_open : a.open_call p ≡ Some (record { process = p; nth = own.0; inv = own.1 })
     own_open =
         sym (shows.open_call p) ∙ (ap (open_at w.memory) is ∙ rw (own_invoked own.0 own.1 own.2 own.3) refl)
 
@@ -92,13 +93,13 @@ module _ {S I R : Type 0} (object : Sequential S I R) (w : WorldOf S I R) (num :
 
       open_at-kept : (o : Option Pending) → open_at m o ≡ open_at w.memory o
       open_at-kept None = refl
-      open_at-kept (Some c) = ap (λ o. option_map (λ (c : Invoked I). record { nth = c.nth; inv = c.inv }) o) (invoked_kept c.mine)
+      open_at-kept (Some c) = invoked_kept c.mine
 
       open_kept : (k : Stage) → stage ≡ Some k → (q : ℕ) → open_at m (set_at w.call p (call_after mine stage) q) ≡ a.open_call q
       open_kept k on q = elim (set_at-cases w.call p (call_after mine stage) q) [
         | inl at_p ↦
             rw (at_p.1, on) (
-            ap (λ o. option_map (λ (c : Invoked I). record { nth = c.nth; inv = c.inv }) o) (invoked_kept mine)
+            invoked_kept mine
             ∙ sym (ap (open_at w.memory) (ap w.call at_p.0 ∙ is)) ∙ shows.open_call q)
         | inr other ↦ rw other.1 (open_at-kept (w.call q) ∙ shows.open_call q)
       ]
@@ -215,14 +216,14 @@ module _ {S I R : Type 0} (object : Sequential S I R) (w : WorldOf S I R) (num :
           ∙ ap (λ o. calls_at w.memory (chain w) ++ option_map_or (λ (call : Invoked I). call ∷ []) o []) its_invoked
           ∙ ap (λ cs. cs ++ its_call ∷ []) (sym (calls_of-calls_at w))
 
-      its_open : a.open_call its.0 ≡ Some (record { nth = its.1; inv = its.3.0 })
+      its_open : a.open_call its.0 ≡ Some (record { process = its.0; nth = its.1; inv = its.3.0 })
       its_open = elim (sound.calls.threaded its.0 its.1 its.3) [
         | inl threaded ↦ absurd (
             let number : seq_of w.memory (Of its.0 its.1) ≡ num (Of its.0 its.1) = sound.numbered.seq (Of its.0 its.1) threaded in
             let zero : num (Of its.0 its.1) ≡ 0 = subst (λ x. num x ≡ 0) its.2 outside_chain in omega arith)
         | inr pending ↦ sym (shows.open_call its.0) ∙ (ap (open_at w.memory) pending.1
-            ∙ ap (λ x. option_map (λ (c : Invoked I). record { nth = c.nth; inv = c.inv }) (invoked_at w.memory x)) (pending.2 ∙ sym its.2)
-            ∙ ap (option_map (λ (c : Invoked I). record { nth = c.nth; inv = c.inv })) its_invoked)
+            ∙ ap (invoked_at w.memory) (pending.2 ∙ sym its.2)
+            ∙ its_invoked)
       ]
 
       its_new : ¬ (Contains a.agreed its_call)
@@ -257,13 +258,13 @@ module _ {S I R : Type 0} (object : Sequential S I R) (w : WorldOf S I R) (num :
   abbrev pub SimulatesAt : (p : ℕ) → Atomic S I → Option Pending → Type 0
   SimulatesAt p a call =
       let later = world_after_step object w p call in
-      (b : Atomic S I) × Shows later b × AcceptsAll object a (map Linearize (drop (length (calls_of w)) (calls_of later)) ++ option_map_or (λ (c : Pending). responses_of w.memory p c.mine (effect_in object w p c).response) call []) b
+      (b : Atomic S I) × Shows later b × AcceptsAll object a (map Linearize (drop (length (calls_of w)) (calls_of later)) ++ option_map_or (λ (c : Pending). responses_of w.memory p c.mine (response_of_call w c)) call []) b
 
   module _ (p : ℕ) (mine : Name) (a : Atomic S I) (shows : Shows w a) where
     quiet : (stage : Stage) → w.call p ≡ Some (record { mine = mine; stage = stage })
         → let place = place_of w.n p mine stage in
         let e = effect_of object w.n mine stage (w.memory place) (beside w.memory mine stage) in
-        ((x : Name) → after_of (memory_with w.memory place e.content) x ≡ after_of w.memory x) → (k : Stage) → e.stage ≡ Some k → e.response ≡ None
+        ((x : Name) → after_of (memory_with w.memory place e.content) x ≡ after_of w.memory x) → (k : Stage) → e.stage ≡ Some k → response_after stage (beside w.memory mine stage) ≡ None
         → SimulatesAt p a (Some (record { mine = mine; stage = stage }))
     quiet stage is same k on nothing =
         let place = place_of w.n p mine stage in
@@ -346,18 +347,17 @@ module _ {S I R : Type 0} (object : Sequential S I R) (w : WorldOf S I R) (num :
     open_others q apart None e = refl
     open_others q apart (Some c) e =
         let its = open_call_of q c e in
-        ap (option_map (λ (c : Invoked I). record { nth = c.nth; inv = c.inv }))
-        (invoked_elsewhere c.mine (λ same. apart (let name = its.2 in cc)))
+        invoked_elsewhere c.mine (λ same. apart (let name = its.2 in cc))
 
     -- the atomic object accepts a call that is begun
     pub call_accepted : (b : Atomic S I) × Shows (world_after_call w p i) b × AcceptsAll object a (acts_of object w (Call p i)) b
     call_accepted =
-        let b : Atomic S I = record a { open_call = set_at a.open_call p (Some (record { nth = w.begun p; inv = i })); next_nth = set_at a.next_nth p (w.begun p + 1) } in (
+        let b : Atomic S I = record a { open_call = set_at a.open_call p (Some (record { process = p; nth = w.begun p; inv = i })); next_nth = set_at a.next_nth p (w.begun p + 1) } in (
           b,
           record { start = shows.start; agreed = calls_same ∙ shows.agreed; open_call = open_later; next_nth = next_later },
           (b, (sym (shows.open_call p) ∙ ap (open_at w.memory) idle, sym (shows.next_nth p), refl), refl),
         ) where
-          open_later : (q : ℕ) → open_at begun_memory (set_at w.call p (Some (record { mine = Of p (w.begun p); stage = Announce })) q) ≡ set_at a.open_call p (Some (record { nth = w.begun p; inv = i })) q
+          open_later : (q : ℕ) → open_at begun_memory (set_at w.call p (Some (record { mine = Of p (w.begun p); stage = Announce })) q) ≡ set_at a.open_call p (Some (record { process = p; nth = w.begun p; inv = i })) q
           open_later q = elim (number_cases q p) [
             | inl h ↦ rw (h.1, invoked_new) refl
             | inr h ↦ rw h.1 (open_others q h.0 (w.call q) refl ∙ shows.open_call q)

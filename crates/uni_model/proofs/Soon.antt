@@ -10,7 +10,7 @@ use Rattle.uni_model.specs.Stages.Stage.{Announce}
 use Rattle.uni_model.specs.Worlds.{WorldOf, Event, chain, era_calls, world_after_step, opened_world, world_after, world_after_all, AreAccepted}
 use Rattle.uni_model.specs.Worlds.Event.{Call, Step, Trim, Reshape}
 use Rattle.uni_model.specs.Frontier.{frontier, announces, announces_at, floor_of}
-use Rattle.uni_model.specs.Bound.{CountsSteps}
+use Rattle.uni_model.specs.Counting.{CountsSteps}
 use Rattle.uni_model.specs.Helping.{HelpingInvariant}
 use Rattle.uni_model.proofs.Floored.{FloorInvariant}
 use Rattle.uni_model.specs.Laws.{IsLinkedSoon, LinksSoon}

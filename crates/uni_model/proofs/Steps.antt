@@ -8,7 +8,8 @@ use Rattle.uni_model.specs.Places.Place.{Announced, HeadOf, SeqOf, AfterOf, NewO
 use Rattle.uni_model.specs.Places.Content.{CellName, Invocation, Number, Link, Settled}
 use Rattle.uni_model.specs.Stages.{Stage, Pending}
 use Rattle.uni_model.specs.Stages.Stage.{Announce, ScanHead, ScanSeq, WriteScan, Test, ReadAnnounce, ReadHelpSeq, DecideAfter, DecideNew, WriteBefore, WriteSeq, WriteHead, Finish}
-use Rattle.uni_model.specs.Transition.{place_of, effect_of, decision, value_after, stage_after_scan, best_of, beside}
+use Rattle.uni_model.specs.Transition.{place_of, decision, value_after, stage_after_scan, best_of, beside}
+use Rattle.uni_model.specs.Effects.{effect_of}
 use Rattle.uni_model.specs.Worlds.{WorldOf, sum_below, calls_in_era}
 use Rattle.uni_model.specs.Invariant.{Has, HasBest, AtHead, IsPast, IsCellOf, Stands, IsSound, can_be_linked}
 use Rattle.uni_model.proofs.Written.{number_cases, head_of-memory_with, announce_of-memory_with, written_same, lt_cases, after_of-memory_with, seq_of-memory_with, new_of-memory_with, before_of-memory_with}

@@ -6,7 +6,7 @@ use Rattle.uni_model.specs.Places.Name.{Anchor}
 use Rattle.uni_model.specs.Stages.{Stage}
 use Rattle.uni_model.specs.Stages.Stage.{Announce, ScanHead, ScanSeq, WriteScan, Test, ReadAnnounce, ReadHelpSeq, DecideAfter, DecideNew, WriteBefore, WriteSeq, WriteHead, Finish}
 use Rattle.uni_model.specs.Invariant.{IsNumbered, IsPast, Stands}
-use Rattle.uni_model.specs.Bound.{HasTurns}
+use Rattle.uni_model.specs.Counting.{HasTurns}
 use Rattle.uni_model.proofs.Grows.{head_seq-at}
 use Rattle.uni_model.proofs.Residues.{with_remainder}
 use Rattle.uni_model.specs.Helping.{IsHelped}

@@ -1,34 +1,41 @@
 -- The main law, from the laws that it is made of.
-use Rattle.std.proofs.Common.{ℕ, refl, subst, List, length, take, arith}
-use Rattle.std.proofs.lemmas.List.{take_all}
+use Rattle.std.proofs.Common.{◌∙◌, ℕ, refl, sym, ap, subst, List, ◌∷◌, take}
 use Rattle.seq_object.specs.Sequential.{Sequential}
-use Rattle.uni_model.specs.Worlds.{Event, opened_world, world_after_all}
+use Rattle.uni_model.specs.Worlds.{WorldOf, Event, opened_world, world_after_all, without_trims, AreAccepted}
+use Rattle.uni_model.specs.Worlds.Event.{Call}
+use Rattle.uni_model.specs.Linearizable.{observed}
 use Rattle.uni_model.specs.Trims.{IsSameUntrimmed}
-use Rattle.uni_model.specs.Universal.{IsUniversal, RunIsUniversal}
-use Rattle.uni_model.proofs.LawProofs.{IsBounded-reached}
+use Rattle.uni_model.specs.Untrimmed.{ShowsSameUntrimmed}
+use Rattle.uni_model.specs.Universal.{RunIsUniversal}
+use Rattle.uni_model.proofs.LawProofs.{AreAccepted-take, IsBounded-along}
+use Rattle.uni_model.proofs.Counted.{CountsSteps-opened_world}
+use Rattle.uni_model.proofs.Bounded.{HelpingInvariant-opened_world}
 use Rattle.uni_model.proofs.Linearized.{IsLinearizable-holds}
-use Rattle.uni_model.proofs.Joined.{IsRun-opened_world, IsRun-take}
+use Rattle.uni_model.proofs.Linearizable.{observed-history_of, ObservesLinearizable-holds}
+use Rattle.uni_model.proofs.WaitFree.{AreAccepted-split, NeverBlocks-holds, CallIsWaitFree-holds}
 use Rattle.uni_model.proofs.RenamedRun.{TrimsChangeNothing-holds}
 
 module _ {S I R : Type 0} (object : Sequential S I R) where
+  -- what is shown alike has the same history, the same log and the same counts
+  IsSameUntrimmed-shown : (w : WorldOf S I R) (events : List (Event I)) → ShowsSameUntrimmed object w events → IsSameUntrimmed object w events
+  IsSameUntrimmed-shown w events same = record {
+    accepted = same.accepted;
+    history = sym (observed-history_of object w events) ∙ ap observed same.history ∙ observed-history_of object w (without_trims events);
+    joined = same.joined;
+    counts = record { n = same.shown.n; begun = same.shown.begun; among = same.shown.among; steps = same.shown.steps; turns = same.shown.turns };
+  }
+
   pub RunIsUniversal-holds : (n : ℕ) (start : S) (number : ℕ) (events : List (Event I)) → RunIsUniversal object n start number events
   RunIsUniversal-holds n start number events positive ok =
-      let front = λ (j : ℕ). (IsRun-take object j (opened_world n start number) events start (IsRun-opened_world object n start number events positive ok)).accepted in
+      let opened : WorldOf S I R = opened_world n start number in
+      let front : (j : ℕ) → AreAccepted object opened (take j events) = λ j. AreAccepted-take object j opened events ok in
       record {
-        linearizable = IsLinearizable-holds object n start number events positive ok;
-        bounded = λ j. IsBounded-reached object (world_after_all object (opened_world n start number) (take j events)) (record {
-          n = n;
-          start = start;
-          number = number;
-          events = take j events;
-          positive = positive;
-          accepted = front j;
-          reached = refl;
-        });
-        untrimmed = λ j. TrimsChangeNothing-holds object n start number (take j events) positive (front j);
+        linearizable = ObservesLinearizable-holds object n start number events positive ok;
+        agreed = IsLinearizable-holds object n start number events positive ok;
+        never_blocks = λ j p. NeverBlocks-holds (world_after_all object opened (take j events)) p;
+        wait_free = λ j before later p i is none.
+            let parts = AreAccepted-split object opened before (Call p i ∷ later) (subst (AreAccepted object opened) is (front j)) in
+            CallIsWaitFree-holds object (world_after_all object opened before) p i later (record { n = n; start = start; number = number; events = before; positive = positive; accepted = parts.0; reached = refl }) parts.1 none;
+        bounded = IsBounded-along object opened events ok (CountsSteps-opened_world object n start number) (HelpingInvariant-opened_world object n start number positive);
+        untrimmed = λ j. IsSameUntrimmed-shown opened (take j events) (TrimsChangeNothing-holds object n start number (take j events) positive (front j));
       }
-
-  -- all of the events show the same without the trims
-  pub IsUniversal-untrimmed : (n : ℕ) (start : S) (number : ℕ) (events : List (Event I)) → IsUniversal object n start number events → IsSameUntrimmed object (opened_world n start number) events
-  IsUniversal-untrimmed n start number events is =
-      subst (λ es. IsSameUntrimmed object (opened_world n start number) es) (take_all (length events) events (omega arith)) (is.untrimmed (length events))

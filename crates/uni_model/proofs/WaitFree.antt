@@ -5,17 +5,17 @@ use Rattle.std.proofs.lemmas.List.Elements.{Contains-append_left, Contains-appen
 use Rattle.std.proofs.lemmas.List.Sums.{sum_by-cons}
 use Rattle.std.specs.Option.{option_map_or}
 use Rattle.seq_object.specs.Sequential.{Sequential}
-use Rattle.uni_model.specs.Places.{set_at, seq_of, new_of}
+use Rattle.uni_model.specs.Places.{seq_of, new_of}
 use Rattle.uni_model.specs.Stages.{Pending}
 use Rattle.uni_model.specs.Worlds.{WorldOf, Event, anchor_memory, opened_world, last_cell, world_after, world_after_step, world_after_era, world_after_all, IsAccepted, AreAccepted}
 use Rattle.uni_model.specs.Worlds.Event.{Call, Step, Trim, Reshape}
-use Rattle.uni_model.specs.AtomicObject.{Atomic, Open, Act, AcceptsAll, at_start}
+use Rattle.uni_model.specs.AtomicObject.{Atomic, Act, AcceptsAll, at_start, set_at, Invoked}
 use Rattle.uni_model.specs.AtomicObject.Act.{Invoke, Linearize, Respond}
 use Rattle.uni_model.specs.History.{acts_of, history_of, open_at}
 use Rattle.uni_model.specs.Linearizable.{observed, observed_in}
 use Rattle.uni_model.specs.Bound.{IsBounded, IsWithinBound}
 use Rattle.uni_model.specs.Laws.{IsReached}
-use Rattle.uni_model.specs.WaitFree.{is_step_of, steps_among, IsNoCallOf, AreNoCallsOf, NeverBlocks, IsWaitFree, CallIsWaitFree, EndsAlone, CallEndsAlone}
+use Rattle.uni_model.specs.WaitFree.{is_step_of, steps_among, AreNoCallsOf, NeverBlocks, IsWaitFree, CallIsWaitFree, EndsAlone, CallEndsAlone}
 use Rattle.uni_model.proofs.Written.{number_cases, set_at-cases}
 use Rattle.uni_model.proofs.LawProofs.{set_at_elsewhere, IsBounded-reached}
 use Rattle.uni_model.proofs.Linearized.{IsLinearizable-holds}
@@ -30,6 +30,20 @@ counted p e = cond (is_step_of p e) 1 0
 steps_among-cons : {I : Type 0} (p : ℕ) (e : Event I) (es : List (Event I)) → steps_among p (e ∷ es) ≡ counted p e + steps_among p es
 steps_among-cons p e es = sum_by-cons (counted p) e es
 
+-- an event by which p begins no call
+abbrev IsNotCallOf : {I : Type 0} → ℕ → Event I → Type 0
+IsNotCallOf p (Call q i) = p ≢ q
+IsNotCallOf p _ = Unit {0}
+
+none_first : {I : Type 0} (p : ℕ) (e : Event I) (es : List (Event I)) → AreNoCallsOf p (e ∷ es) → IsNotCallOf p e
+none_first p (Call q i) es none = λ same. none i (subst (λ r. Contains (Call q i ∷ es) (Call r i)) (sym same) (Contains-append_left (Call q i ∷ []) es (Call q i) (Contains-push [] (Call q i))))
+none_first p (Step q) es none = tt
+none_first p Trim es none = tt
+none_first p (Reshape n) es none = tt
+
+none_later : {I : Type 0} (p : ℕ) (e : Event I) (es : List (Event I)) → AreNoCallsOf p (e ∷ es) → AreNoCallsOf p es
+none_later p e es none = λ i there. none i (Contains-append_right (e ∷ []) es (Call p i) there)
+
 -- the latest call of p is the same one, so many steps later
 record IsSameCall {S I R : Type 0} (w v : WorldOf S I R) (p more : ℕ) : Type 0 where
   begun : v.begun p ≡ w.begun p
@@ -43,7 +57,7 @@ module _ {S I R : Type 0} (object : Sequential S I R) where
     by_new None = record { begun = refl; among = refl; steps = omega arith }
     by_new (Some new) = record { begun = refl; among = refl; steps = omega arith }
 
-  same_call_after : (w : WorldOf S I R) (e : Event I) (p : ℕ) → IsAccepted w e → IsNoCallOf p e → IsSameCall w (world_after object w e) p (counted p e)
+  same_call_after : (w : WorldOf S I R) (e : Event I) (p : ℕ) → IsAccepted w e → IsNotCallOf p e → IsSameCall w (world_after object w e) p (counted p e)
   same_call_after w (Call q i) p ok other = record {
     begun = set_at_elsewhere w.begun q _ p other;
     among = set_at_elsewhere w.among q _ p other;
@@ -66,20 +80,24 @@ module _ {S I R : Type 0} (object : Sequential S I R) where
   same_call_along : (w : WorldOf S I R) (es : List (Event I)) (p : ℕ) → AreAccepted object w es → AreNoCallsOf p es → IsSameCall w (world_after_all object w es) p (steps_among p es)
   same_call_along w [] p ok others = record { begun = refl; among = refl; steps = let none : steps_among {I = I} p [] ≡ 0 = refl in omega arith }
   same_call_along w (e ∷ es) p ok others =
-      let first = same_call_after w e p ok.0 others.0 in
-      let rest = same_call_along (world_after object w e) es p ok.1 others.1 in record {
+      let first = same_call_after w e p ok.0 (none_first p e es others) in
+      let rest = same_call_along (world_after object w e) es p ok.1 (none_later p e es others) in record {
         begun = rest.begun ∙ first.begun;
         among = rest.among ∙ first.among;
         steps = let sum = steps_among-cons p e es in let one = first.steps in let more = rest.steps in omega arith;
       }
 
-  world_after_all-append : (w : WorldOf S I R) (es fs : List (Event I)) → world_after_all object w (es ++ fs) ≡ world_after_all object (world_after_all object w es) fs
+  pub world_after_all-append : (w : WorldOf S I R) (es fs : List (Event I)) → world_after_all object w (es ++ fs) ≡ world_after_all object (world_after_all object w es) fs
   world_after_all-append w [] fs = refl
   world_after_all-append w (e ∷ es) fs = world_after_all-append (world_after object w e) es fs
 
-  AreAccepted-append : (w : WorldOf S I R) (es fs : List (Event I)) → AreAccepted object w es → AreAccepted object (world_after_all object w es) fs → AreAccepted object w (es ++ fs)
+  pub AreAccepted-append : (w : WorldOf S I R) (es fs : List (Event I)) → AreAccepted object w es → AreAccepted object (world_after_all object w es) fs → AreAccepted object w (es ++ fs)
   AreAccepted-append w [] fs ok more = more
   AreAccepted-append w (e ∷ es) fs ok more = (ok.0, AreAccepted-append (world_after object w e) es fs ok.1 more)
+
+  pub AreAccepted-split : (w : WorldOf S I R) (es fs : List (Event I)) → AreAccepted object w (es ++ fs) → AreAccepted object w es × AreAccepted object (world_after_all object w es) fs
+  AreAccepted-split w [] fs ok = (tt, ok)
+  AreAccepted-split w (e ∷ es) fs ok = let rest = AreAccepted-split (world_after object w e) es fs ok.1 in ((ok.0, rest.0), rest.1)
 
   history_of-append : (w : WorldOf S I R) (es fs : List (Event I)) → history_of object w (es ++ fs) ≡ history_of object w es ++ history_of object (world_after_all object w es) fs
   history_of-append w [] fs = refl
@@ -93,7 +111,7 @@ module _ {S I R : Type 0} (object : Sequential S I R) where
   AcceptsAll-split a b (x ∷ xs) ys h = let rest = AcceptsAll-split h.0 b xs ys h.2 in (rest.0, (h.0, h.1, rest.1), rest.2)
 
   -- an open call that is open no more has responded
-  responded : (a b : Atomic S I) (acts : List (Act I R)) (p : ℕ) (o : Open I) → a.open_call p ≡ Some o → b.open_call p ≡ None → AcceptsAll object a acts b
+  responded : (a b : Atomic S I) (acts : List (Act I R)) (p : ℕ) (o : Invoked I) → a.open_call p ≡ Some o → b.open_call p ≡ None → AcceptsAll object a acts b
       → (r : R) × Contains (observed acts) (Respond p o.nth r)
   responded a b [] p o is over h = absurd (let none : Some o ≡ None = sym is ∙ ap (λ (x : Atomic S I). x.open_call p) (sym h) ∙ over in cc)
   responded a b (Invoke q k i ∷ acts) p o is over h =
@@ -104,9 +122,9 @@ module _ {S I R : Type 0} (object : Sequential S I R) where
   responded a b (Linearize c ∷ acts) p o is over h = responded h.0 b acts p o (ap (λ (x : Atomic S I). x.open_call p) h.1.2 ∙ is) over h.2
   responded a b (Respond q k r ∷ acts) p o is over h = elim (number_cases p q) [
     | inl same ↦
-        let its_open : Some o ≡ Some (record { nth = k; inv = h.1.0.0 }) = sym is ∙ ap a.open_call same.0 ∙ h.1.0.2 in
-        let its : o ≡ record { nth = k; inv = h.1.0.0 } = cc in
-        let nth : o.nth ≡ k = ap (λ (x : Open I). x.nth) its in
+        let its_open : Some o ≡ Some (record { process = q; nth = k; inv = h.1.0.0 }) = sym is ∙ ap a.open_call same.0 ∙ h.1.0.2 in
+        let its : o ≡ record { process = q; nth = k; inv = h.1.0.0 } = cc in
+        let nth : o.nth ≡ k = ap (λ (x : Invoked I). x.nth) its in
         let first = Contains-append_left (Respond q k r ∷ []) (observed acts) (Respond q k r) (Contains-push [] (Respond q k r)) in
         (r, subst (λ m. Contains (Respond q k r ∷ observed acts) (Respond m o.nth r)) (sym same.0) (subst (λ m. Contains (Respond q k r ∷ observed acts) (Respond q m r)) (sym nth) first))
     | inr apart ↦
@@ -141,10 +159,10 @@ module _ {S I R : Type 0} (object : Sequential S I R) where
       let before = AcceptsAll-split (at_start start) shown.0 (history_of object opened es) (history_of object w (Call p i ∷ fs))
       (subst (λ acts. AcceptsAll object (at_start start) acts shown.0) (history_of-append opened es (Call p i ∷ fs)) shown.2) in
       let later = before.2 in
-      let is : later.0.open_call p ≡ Some (record { nth = w.begun p; inv = i })
-      = ap (λ (x : Atomic S I). x.open_call p) later.1.2 ∙ set_at_here before.0.open_call p (Some (record { nth = w.begun p; inv = i })) in
+      let is : later.0.open_call p ≡ Some (record { process = p; nth = w.begun p; inv = i })
+      = ap (λ (x : Atomic S I). x.open_call p) later.1.2 ∙ set_at_here before.0.open_call p (Some (record { process = p; nth = w.begun p; inv = i })) in
       let over : shown.0.open_call p ≡ None = sym (shown.1.open_call p) ∙ ap (open_at last.memory) none in
-      let found = responded later.0 shown.0 (history_of object (world_after object w (Call p i)) fs) p (record { nth = w.begun p; inv = i }) is over later.2 in
+      let found = responded later.0 shown.0 (history_of object (world_after object w (Call p i)) fs) p (record { process = p; nth = w.begun p; inv = i }) is over later.2 in
       let there = Contains-append_right (Invoke p (w.begun p) i ∷ []) (observed (history_of object (world_after object w (Call p i)) fs)) (Respond p (w.begun p) found.0) found.1 in
       (found.0, subst (λ acts. Contains acts (Respond p (w.begun p) found.0)) (observed-history_of object w (Call p i ∷ fs)) there)
 

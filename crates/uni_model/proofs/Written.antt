@@ -1,7 +1,8 @@
 -- What a memory contains after one place is written.
 use Rattle.std.proofs.Common.{◌≡◌, ◌≢◌, ℕ, Bool, true, false, cond, ◌⊎◌, inl, inr, refl, Option, arith, nat_eq, nat_lt, ◌<◌, ◌≤◌, ap, sym}
 use Rattle.std.proofs.lemmas.Bool.Decides.{nat_tests}
-use Rattle.uni_model.specs.Places.{Name, Place, Memory, name_eq, place_eq, memory_with, set_at, seq_of, after_of, new_of, before_of, inv_of, head_of, announce_of}
+use Rattle.uni_model.specs.Places.{Name, Place, Memory, name_eq, place_eq, memory_with, seq_of, after_of, new_of, before_of, inv_of, head_of, announce_of}
+use Rattle.uni_model.specs.AtomicObject.{set_at}
 use Rattle.uni_model.specs.Places.Name.{Anchor, Of}
 use Rattle.uni_model.specs.Places.Place.{Announced, HeadOf, InvOf, SeqOf, AfterOf, NewOf, BeforeOf}
 use Rattle.uni_model.specs.Places.Content.{CellName, Invocation, Number, Link, Settled}

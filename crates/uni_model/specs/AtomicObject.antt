@@ -1,21 +1,24 @@
 -- The atomic object: a machine that knows no list of cells, no helping, no number and no trim.
-use Rattle.std.specs.Prelude.{◌≡◌, ℕ, ◌+◌, List, [], ◌∷◌, ◌++◌, Option, None, Some, map, slice_get, Contains}
+use Rattle.std.specs.Prelude.{◌≡◌, ℕ, ◌+◌, ◌==◌, if◌then◌else◌, List, [], ◌∷◌, ◌++◌, Option, None, Some, map, slice_get, Contains}
 use Rattle.seq_object.specs.Sequential.{Sequential}
 use Rattle.seq_object.specs.History.{response_at}
-use Rattle.uni_model.specs.Places.{set_at}
-use Rattle.uni_model.specs.Chain.{Invoked}
 
--- an open call: its number among its process's calls, and its invocation
-pub record Open (I : Type 0) : Type 0 where
+-- a call with its invocation: which one of its process, from 0
+pub record Invoked (I : Type 0) : Type 0 where
+  pub process : ℕ
   pub nth : ℕ
   pub inv : I
+
+-- a function with another value at a number
+abbrev pub set_at : {A : Type 0} → (ℕ → A) → ℕ → A → ℕ → A
+set_at f p v q = if q == p then v else f q
 
 -- a start state, the list of the calls in the order in which they took effect, each process's open call, and the number
 -- that its next call has
 pub record Atomic (S I : Type 0) : Type 0 where
   pub start : S
   pub agreed : List (Invoked I)
-  pub open_call : ℕ → Option (Open I)
+  pub open_call : ℕ → Option (Invoked I)
   pub next_nth : ℕ → ℕ
 
 -- nothing is called yet
@@ -33,15 +36,15 @@ abbrev pub Accepts : {S I R : Type 0} → Sequential S I R → Atomic S I → Ac
 -- a process begins a call only where it has none open, with its next number
 Accepts object a (Invoke p k i) b =
     (a.open_call p ≡ None) × (a.next_nth p ≡ k)
-    × (b ≡ record a { open_call = set_at a.open_call p (Some (record { nth = k; inv = i })); next_nth = set_at a.next_nth p (k + 1) })
+    × (b ≡ record a { open_call = set_at a.open_call p (Some (record { process = p; nth = k; inv = i })); next_nth = set_at a.next_nth p (k + 1) })
 -- an open call takes effect once, after all that took effect before
 Accepts object a (Linearize c) b =
-    (a.open_call c.process ≡ Some (record { nth = c.nth; inv = c.inv })) × (¬ (Contains a.agreed c))
+    (a.open_call c.process ≡ Some c) × (¬ (Contains a.agreed c))
     × (b ≡ record a { agreed = a.agreed ++ c ∷ [] })
 -- it ends after it took effect, and its response is the object's at its place
 Accepts {S} {I} {R} object a (Respond p k r) b =
     ((i : I) × (place : ℕ)
-    × (a.open_call p ≡ Some (record { nth = k; inv = i }))
+    × (a.open_call p ≡ Some (record { process = p; nth = k; inv = i }))
     × (slice_get a.agreed place ≡ Some (record { process = p; nth = k; inv = i }))
     × (response_at object a.start (map (λ c. c.inv) a.agreed) place ≡ Some r))
     × (b ≡ record a { open_call = set_at a.open_call p None })

@@ -1,6 +1,7 @@
 -- The chain: the cells that are reached from the anchor by settled `after`.
 use Rattle.std.specs.Prelude.{ℕ, zero, suc, ◌+◌, List, [], ◌∷◌, Option, None, option_map, option_and_then}
 use Rattle.std.specs.Option.{option_map_or}
+use Rattle.uni_model.specs.AtomicObject.{Invoked}
 use Rattle.uni_model.specs.Places.{Name, Memory, inv_of, after_of, new_of}
 use Rattle.uni_model.specs.Places.Name.{Anchor, Of}
 
@@ -13,12 +14,6 @@ cells_from (suc most) m x = option_map_or (λ y. y ∷ cells_from most m y) (aft
 abbrev pub last_of : {A : Type 0} → A → List A → A
 last_of x [] = x
 last_of x (y ∷ ys) = last_of y ys
-
--- a call with its invocation
-pub record Invoked (I : Type 0) : Type 0 where
-  pub process : ℕ
-  pub nth : ℕ
-  pub inv : I
 
 -- the call that a cell was made for; nothing of the anchor
 abbrev pub invoked_at : {S I R : Type 0} → Memory S I R → Name → Option (Invoked I)

@@ -52,11 +52,15 @@ module _ {S I R : Type 0} (object : Sequential S I R) where
   JoinsLegalLogs n start number events =
       1 ≤ number → AreAccepted object (opened_world n start number) events → IsJoinedLog object start number (log_of_run object (opened_world n start number) events)
 
-  -- The joined log after each front of the events is a front of the joined log after all.
+  -- The joined log only grows: that of each prefix of the events is a prefix of that of all, but for a response that is missing in
+  -- its last entry.
+  abbrev pub JoinedGrows : WorldOf S I R → List (Event I) → Type 0
+  JoinedGrows w events = (j : ℕ) → IsFrontOf (log_of_run object w (take j events)) (log_of_run object w events)
+
+  -- so does that of every run from the opening
   abbrev pub JoinedLogGrows : (n : ℕ) → (start : S) → (number : ℕ) → List (Event I) → Type 0
   JoinedLogGrows n start number events =
-      1 ≤ number → AreAccepted object (opened_world n start number) events
-      → (j : ℕ) → IsFrontOf (log_of_run object (opened_world n start number) (take j events)) (log_of_run object (opened_world n start number) events)
+      1 ≤ number → AreAccepted object (opened_world n start number) events → JoinedGrows (opened_world n start number) events
 
   -- The joined log keeps real-time order: after j events the call k of p has returned, and the call i of q hasn't begun; so
   -- wherever the call of q comes to stand, the call of p stands before it.

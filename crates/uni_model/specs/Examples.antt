@@ -1,17 +1,18 @@
 -- Worked examples: what the definitions compute over a queue of numbers.
-use Rattle.std.specs.Prelude.{◌≡◌, refl, ℕ, zero, suc, ◌+◌, List, [], ◌∷◌, ◌++◌, length, Option, None, Some, map}
+use Rattle.std.specs.Prelude.{◌≡◌, refl, ℕ, zero, suc, ◌+◌, List, [], ◌∷◌, ◌++◌, length, take, Option, None, Some, map}
 use Rattle.seq_object.specs.Sequential.{Sequential}
 use Rattle.uni_model.specs.Places.{Name, seq_of, new_of, head_of, head_seq}
 use Rattle.uni_model.specs.Places.Name.{Anchor, Of}
 use Rattle.uni_model.specs.Stages.Stage.{Announce, ScanHead, Test, WriteHead, Finish}
-use Rattle.uni_model.specs.Bound.{steps_at}
+use Rattle.uni_model.specs.Counting.{steps_at}
 use Rattle.uni_model.specs.Chain.{Entry}
 use Rattle.uni_model.specs.Frontier.{floor_of}
-use Rattle.uni_model.specs.Worlds.{WorldOf, Event, calls_in_era, chain, opened_world, world_after_all, without_trims}
+use Rattle.uni_model.specs.Worlds.{WorldOf, Event, calls_in_era, chain, opened_world, world_after_all, without_trims, IsAccepted}
 use Rattle.uni_model.specs.Worlds.Event.{Call, Step, Trim, Reshape}
 use Rattle.uni_model.specs.AtomicObject.Act.{Invoke, Linearize, Respond}
 use Rattle.uni_model.specs.History.{log, log_of_run, history_of}
-use Rattle.uni_model.specs.Linearizable.{observed_in}
+use Rattle.uni_model.specs.Linearizable.{observed, observed_in}
+use Rattle.uni_model.specs.WaitFree.{steps_among}
 
 data QueueCall : Type 0 where
   Enq : ℕ → QueueCall
@@ -107,6 +108,14 @@ bound_met-steps = refl
 bound_met-turns : (run 2 bound_met).turns 1 ≡ 3
 unfolding bound_met
 bound_met-turns = refl
+
+-- so the call of process 1 has returned at the 32nd of its process's steps since its begin, which is the latest possible: 10n + 12
+bound_met-among : steps_among 1 (steps 1 14 ++ (steps 0 6 ++ Call 0 (Enq 20) ∷ Step 0 ∷ steps 1 18)) ≡ 32
+bound_met-among = refl
+
+bound_met-call : (run 2 bound_met).call 1 ≡ None
+unfolding bound_met
+bound_met-call = refl
 
 -- the call's number, 4, is n + 1 past its floor
 bound_met-floor : floor 2 (Of 1 0) bound_met ≡ Some 1
@@ -266,6 +275,50 @@ untrimmed-heads = refl
 trimmed-joined : joined 2 (trimmed 16) ≡ entry 2 1 0 (Enq 5) Ok ∷ entry 3 0 0 Deq (Value 5) ∷ []
 unfolding trimmed
 trimmed-joined = refl
+
+-- what is observed of both: each call with its response; in the history of the one with the trim each call takes effect between
+trimmed-observed : observed_in queue (opened_world 2 [] 1) (trimmed 16)
+    ≡ Invoke 1 0 (Enq 5) ∷ Respond 1 0 Ok ∷ Invoke 0 0 Deq ∷ Respond 0 0 (Value 5) ∷ []
+unfolding trimmed
+trimmed-observed = refl
+
+untrimmed-observed : observed_in queue (opened_world 2 [] 1) (without_trims (trimmed 16)) ≡ observed_in queue (opened_world 2 [] 1) (trimmed 16)
+unfolding trimmed
+untrimmed-observed = refl
+
+trimmed-history : history_of queue (opened_world 2 [] 1) (trimmed 16)
+    ≡ Invoke 1 0 (Enq 5) ∷ Linearize (record { process = 1; nth = 0; inv = Enq 5 }) ∷ Respond 1 0 Ok
+    ∷ Invoke 0 0 Deq ∷ Linearize (record { process = 0; nth = 0; inv = Deq }) ∷ Respond 0 0 (Value 5) ∷ []
+unfolding trimmed
+trimmed-history = refl
+
+trimmed-linearized : observed (history_of queue (opened_world 2 [] 1) (trimmed 16)) ≡ observed_in queue (opened_world 2 [] 1) (trimmed 16)
+unfolding trimmed
+trimmed-linearized = refl
+
+-- within its call process 0 can step before each of its 16 steps, and has returned then, below the bound of 32; the trim between
+-- is no step of its
+trimmed-can_step : IsAccepted (run 2 (trimmed 15)) (Step 0)
+unfolding trimmed
+trimmed-can_step = refl
+
+trimmed-steps_among : (steps_among 0 (steps 0 16) ≡ 16) × (steps_among 1 (steps 1 16 ++ Trim ∷ Call 0 Deq ∷ steps 0 16) ≡ 16)
+trimmed-steps_among = (refl, refl)
+
+trimmed-returned : ((run 2 (trimmed 16)).call 0 ≡ None) × ((run 2 (trimmed 16)).call 1 ≡ None)
+unfolding trimmed
+trimmed-returned = (refl, refl)
+
+-- the counts are the same, also after the prefix that ends with the trim
+trimmed-counts : ((run 2 (trimmed 16)).begun ≡ (run 2 (untrimmed 16)).begun) × ((run 2 (trimmed 16)).steps 0 ≡ (run 2 (untrimmed 16)).steps 0)
+    × ((run 2 (trimmed 16)).turns 0 ≡ (run 2 (untrimmed 16)).turns 0)
+unfolding trimmed untrimmed
+trimmed-counts = (refl, refl, refl)
+
+trimmed-prefix : ((run 2 (take 18 (trimmed 16))).steps 1 ≡ 16) × ((run 2 (take 18 (trimmed 16))).turns 1 ≡ 1)
+    × (log_of_run queue (opened_world 2 [] 1) (take 18 (trimmed 16)) ≡ entry 2 1 0 (Enq 5) Ok ∷ [])
+unfolding trimmed
+trimmed-prefix = (refl, refl, refl)
 
 untrimmed-log : log (run 2 (untrimmed 16)) ≡ entry 2 1 0 (Enq 5) Ok ∷ entry 3 0 0 Deq (Value 5) ∷ []
 unfolding untrimmed

@@ -1,15 +1,15 @@
 -- What a run of the construction is as a history of the atomic object.
-use Rattle.std.specs.Prelude.{◌≡◌, ℕ, ◌+◌, List, [], ◌∷◌, ◌++◌, Option, None, Some, map, drop, length, option_map, option_and_then}
+use Rattle.std.specs.Prelude.{◌≡◌, ℕ, ◌+◌, List, [], ◌∷◌, ◌++◌, Option, None, Some, map, drop, length, option_and_then}
 use Rattle.std.specs.Option.{option_map_or}
 use Rattle.seq_object.specs.Sequential.{Sequential}
 use Rattle.seq_object.specs.History.{Call as Answered}
 use Rattle.uni_model.specs.Places.{Name, Memory, seq_of, new_of}
 use Rattle.uni_model.specs.Places.Name.{Anchor}
 use Rattle.uni_model.specs.Stages.{Pending}
-use Rattle.uni_model.specs.Chain.{Invoked, Entry, entries_from, invoked_at}
-use Rattle.uni_model.specs.Worlds.{WorldOf, Event, chain, effect_in, world_after, world_after_all}
+use Rattle.uni_model.specs.Chain.{Entry, entries_from, invoked_at}
+use Rattle.uni_model.specs.Worlds.{WorldOf, Event, chain, response_of_call, world_after, world_after_all}
 use Rattle.uni_model.specs.Worlds.Event.{Call, Step, Trim, Reshape}
-use Rattle.uni_model.specs.AtomicObject.{Atomic, Open, Act}
+use Rattle.uni_model.specs.AtomicObject.{Atomic, Act, Invoked}
 use Rattle.uni_model.specs.AtomicObject.Act.{Invoke, Linearize, Respond}
 
 -- the entries of the present era, numbered after the anchor
@@ -37,8 +37,8 @@ log_of_run object w (Trim ∷ es) = log w ++ log_of_run object (world_after obje
 log_of_run object w (Reshape n ∷ es) = log w ++ log_of_run object (world_after object w (Reshape n)) es
 
 -- the open call of a process
-abbrev pub open_at : {S I R : Type 0} → Memory S I R → Option Pending → Option (Open I)
-open_at m call = option_and_then (λ c. option_map (λ i. record { nth = i.nth; inv = i.inv }) (invoked_at m c.mine)) call
+abbrev pub open_at : {S I R : Type 0} → Memory S I R → Option Pending → Option (Invoked I)
+open_at m call = option_and_then (λ c. invoked_at m c.mine) call
 
 -- the world shows this atomic object
 pub record Shows {S I R : Type 0} (w : WorldOf S I R) (a : Atomic S I) : Type 0 where
@@ -52,12 +52,14 @@ abbrev pub responses_of : {S I R : Type 0} → Memory S I R → (p : ℕ) → (m
 responses_of m p mine None = []
 responses_of m p mine (Some r) = option_map_or (λ c. Respond p c.nth r ∷ []) (invoked_at m mine) []
 
+-- the response of the next step of a process as an act, where it is the last one of its call
+abbrev pub responses_by : {S I R : Type 0} → WorldOf S I R → ℕ → List (Act I R)
+responses_by w p = option_map_or (λ call. responses_of w.memory p call.mine (response_of_call w call)) (w.call p) []
+
 -- the acts of an event: a call is invoked; what the chain has more takes effect; a call whose last step it is responds
 abbrev pub acts_of : {S I R : Type 0} → Sequential S I R → WorldOf S I R → Event I → List (Act I R)
 acts_of object w (Call p i) = Invoke p (w.begun p) i ∷ []
-acts_of object w (Step p) =
-    map Linearize (drop (length (calls_of w)) (calls_of (world_after object w (Step p))))
-    ++ option_map_or (λ call. responses_of w.memory p call.mine (effect_in object w p call).response) (w.call p) []
+acts_of object w (Step p) = map Linearize (drop (length (calls_of w)) (calls_of (world_after object w (Step p)))) ++ responses_by w p
 acts_of object w Trim = []
 acts_of object w (Reshape n) = []
 

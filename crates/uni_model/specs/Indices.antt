@@ -1,11 +1,8 @@
--- Cells in a row: the anchor at 0, then the cells of the first calls of all processes, those of the second ones, and so on.
-use Rattle.std.specs.Prelude.{◌≡◌, ℕ, zero, suc, ◌+◌, ◌*◌, ◌/◌, ◌%◌, refl}
+-- The names of the cells in a row: the anchor at 0, and each other cell at the index of its call.
+pub use Rattle.seq_object.specs.Indices.{index_of}
+use Rattle.std.specs.Prelude.{◌≡◌, ℕ, zero, suc, ◌+◌, ◌/◌, ◌%◌, refl}
 use Rattle.uni_model.specs.Places.{Name}
 use Rattle.uni_model.specs.Places.Name.{Anchor, Of}
-
--- the index of the cell of a call, among n processes
-abbrev pub index_of : (n process nth : ℕ) → ℕ
-index_of n p k = 1 + k * n + p
 
 -- the name of the cell at an index
 abbrev pub name_of : (n index : ℕ) → Name
@@ -18,9 +15,6 @@ name_from n first zero = Anchor
 name_from n first (suc i) = Of (i % n) (first (i % n) + i / n)
 
 -- of two processes: the second call of process 1
-sample_index : index_of 2 1 1 ≡ 4
-sample_index = refl
-
 sample_name : name_of 2 4 ≡ Of 1 1
 sample_name = refl
 

@@ -13,7 +13,8 @@ use Rattle.uni_model.specs.AtomicObject.{Atomic, AcceptsAll, at_start}
 use Rattle.uni_model.specs.History.{Shows, RunShows, log, history_of, acts_of}
 use Rattle.uni_model.specs.Invariant.{Invariant}
 use Rattle.uni_model.specs.Helping.{HelpingInvariant}
-use Rattle.uni_model.specs.Bound.{CountsSteps}
+use Rattle.uni_model.specs.Counting.{CountsSteps}
+use Rattle.uni_model.specs.Bound.{IsBounded}
 use Rattle.uni_model.specs.Growth.{IsFrontOf, EndsNoEra, EndNoEra}
 use Rattle.uni_model.specs.Settled.{Grows, ChangesOnly}
 
@@ -55,6 +56,10 @@ module _ {S I R : Type 0} (object : Sequential S I R) where
   abbrev pub LogGrows : WorldOf S I R → List (Event I) → Type 0
   LogGrows w es = (j : ℕ) → IsFrontOf (log (world_after_all object w (take j es))) (log (world_after_all object w es))
 
+  -- after each prefix of these events, whichever eras end in it, every process's latest call is within the bound
+  abbrev pub BoundedAlong : WorldOf S I R → List (Event I) → Type 0
+  BoundedAlong w es = (j : ℕ) → IsBounded (world_after_all object w (take j es))
+
   -- An accepted event that ends no era leaves the log a front of the later one; so do such events, one after another.
   abbrev pub KeepsLog : WorldOf S I R → Event I → Type 0
   KeepsLog w e = IsAccepted w e → Invariant object w → EndsNoEra e → IsFrontOf (log w) (log (world_after object w e))
@@ -85,6 +90,10 @@ module _ {S I R : Type 0} (object : Sequential S I R) where
       1 ≤ number → AreAccepted object (opened_world n start number) events
       → (b : Atomic S I) × RunShows object start (opened_world n start number) events b
       × AcceptsAll object (at_start start) (history_of object (opened_world n start number) events) b
+
+  -- after each prefix of these events, whichever eras end in it, each call that has a floor then is linked soon
+  abbrev pub LinkedSoonAlong : WorldOf S I R → List (Event I) → Type 0
+  LinkedSoonAlong w es = (j p k floor : ℕ) → floor_of object (Of p k) w (take j es) ≡ Some floor → IsLinkedSoon (world_after_all object w (take j es)) p k floor
 
   -- in a run from the opening, each call that has a floor is linked soon
   abbrev pub LinksSoon : (n : ℕ) → (start : S) → (number : ℕ) → List (Event I) → Type 0

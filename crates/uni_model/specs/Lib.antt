@@ -12,11 +12,14 @@ pub mod OneList
 pub mod Growth
 pub mod Eras
 pub mod Responses
-pub mod Trims
 pub mod Linearizable
+pub mod Trims
+pub mod Untrimmed
 pub mod Universal
 pub mod Helping
 pub mod Bound
+pub mod Counting
+pub mod Effects
 pub mod Examples
 pub mod Laws
 pub mod Indices

@@ -1,37 +1,33 @@
 -- Linearizability as the textbooks state it: the calls and responses alone, and linearization points that can be put among them.
 use Rattle.std.specs.Prelude.{◌≡◌, ℕ, ◌≤◌, List, [], ◌∷◌, ◌++◌}
-use Rattle.std.specs.Option.{option_map_or}
 use Rattle.seq_object.specs.Sequential.{Sequential}
-use Rattle.uni_model.specs.Worlds.{WorldOf, Event, opened_world, effect_in, world_after, AreAccepted}
-use Rattle.uni_model.specs.Worlds.Event.{Call, Step, Trim, Reshape}
+use Rattle.uni_model.specs.Worlds.{WorldOf, Event, opened_world, world_after, AreAccepted}
+use Rattle.uni_model.specs.Worlds.Event.{Call, Step}
 use Rattle.uni_model.specs.AtomicObject.{Atomic, Act, AcceptsAll, at_start}
-use Rattle.uni_model.specs.AtomicObject.Act.{Invoke, Linearize, Respond}
-use Rattle.uni_model.specs.History.{responses_of}
+use Rattle.uni_model.specs.AtomicObject.Act.{Invoke, Linearize}
+use Rattle.uni_model.specs.History.{responses_by}
 
 -- what is observed of acts: all but the linearization points
 abbrev pub observed : {I R : Type 0} → List (Act I R) → List (Act I R)
 observed [] = []
-observed (Invoke p k i ∷ acts) = Invoke p k i ∷ observed acts
 observed (Linearize c ∷ acts) = observed acts
-observed (Respond p k r ∷ acts) = Respond p k r ∷ observed acts
+observed (act ∷ acts) = act ∷ observed acts
 
 -- what is observed of an event: a call begins, and a call whose last step it is responds
-abbrev pub observed_at : {S I R : Type 0} → Sequential S I R → WorldOf S I R → Event I → List (Act I R)
-observed_at object w (Call p i) = Invoke p (w.begun p) i ∷ []
-observed_at object w (Step p) = option_map_or (λ call. responses_of w.memory p call.mine (effect_in object w p call).response) (w.call p) []
-observed_at object w Trim = []
-observed_at object w (Reshape n) = []
+abbrev pub observed_at : {S I R : Type 0} → WorldOf S I R → Event I → List (Act I R)
+observed_at w (Call p i) = Invoke p (w.begun p) i ∷ []
+observed_at w (Step p) = responses_by w p
+observed_at w _ = []
 
--- what is observed of a run; no list of cells is named here
+-- what is observed of a run: the calls and the responses, in order
 abbrev pub observed_in : {S I R : Type 0} → Sequential S I R → WorldOf S I R → List (Event I) → List (Act I R)
 observed_in object w [] = []
-observed_in object w (e ∷ es) = observed_at object w e ++ observed_in object (world_after object w e) es
+observed_in object w (e ∷ es) = observed_at w e ++ observed_in object (world_after object w e) es
 
 module _ {S I R : Type 0} (object : Sequential S I R) where
   -- An observed history is linearizable: with linearization points put in at some places, it is one of the atomic object.
   abbrev pub IsLinearizableHistory : S → List (Act I R) → Type 0
-  IsLinearizableHistory start history =
-      (acts : List (Act I R)) × (observed acts ≡ history) × (b : Atomic S I) × AcceptsAll object (at_start start) acts b
+  IsLinearizableHistory start history = (acts : List (Act I R)) × (observed acts ≡ history) × (b : Atomic S I) × AcceptsAll object (at_start start) acts b
 
   -- what is observed of every run from the opening is linearizable
   abbrev pub ObservesLinearizable : (n : ℕ) → (start : S) → (number : ℕ) → List (Event I) → Type 0

@@ -50,10 +50,6 @@ place_eq _ _ = false
 abbrev pub memory_with : {S I R : Type 0} → Memory S I R → Place → Content S I R → Memory S I R
 memory_with m place v x = if place_eq x place then v else m x
 
--- a function with another value at a number
-abbrev pub set_at : {A : Type 0} → (ℕ → A) → ℕ → A → ℕ → A
-set_at f p v q = if q == p then v else f q
-
 -- Each kind of content, read.
 abbrev pub name_in : {S I R : Type 0} → Content S I R → Name
 name_in (CellName x) = x

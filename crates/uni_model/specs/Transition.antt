@@ -1,7 +1,8 @@
 -- The transition of each kind of step: the one place that it touches, and what it does there (Herlihy 1991, section 4).
-use Rattle.std.specs.Prelude.{ℕ, ◌+◌, ◌%◌, List, [], ◌∷◌, Option, None, Some, option_and_then, if◌then◌else◌, ◌==◌, nat_lt, unwrap_or}
+use Rattle.std.specs.Prelude.{ℕ, ◌+◌, ◌%◌, List, [], ◌∷◌, Option, None, Some, if◌then◌else◌, ◌==◌, nat_lt, unwrap_or}
 use Rattle.seq_object.specs.Sequential.{Sequential}
 use Rattle.uni_model.specs.Places.{Name, Place, Content, Memory, name_in, number_in, link_in, settled_in, inv_of, new_of}
+use Rattle.uni_model.specs.Chain.{response_in}
 use Rattle.uni_model.specs.Places.Name.{Anchor}
 use Rattle.uni_model.specs.Places.Place.{Announced, HeadOf, InvOf, SeqOf, AfterOf, NewOf, BeforeOf}
 use Rattle.uni_model.specs.Places.Content.{CellName, Number, Link, Settled}
@@ -25,15 +26,15 @@ place_of n p mine (WriteHead c c_seq d) = HeadOf p
 place_of n p mine (Finish c_seq mine_seq) = HeadOf p
 
 -- What a step reads beside its one place: only what can't change again. The step that decides the value of a cell d after c
--- reads what d's call asks for and the value that is settled in c; the last step reads the one in the process's own cell.
+-- reads what d's call asks for and the value that is settled in c; the last step reads the response in the process's own cell.
 pub data Beside (S I R : Type 0) : Type 0 where
   Nothing : Beside S I R
   ForValue : (inv : Option I) (before : Option (S × Option R)) → Beside S I R
-  ForResponse : (own : Option (S × Option R)) → Beside S I R
+  ForResponse : (own : Option R) → Beside S I R
 
 abbrev pub beside : {S I R : Type 0} → Memory S I R → (mine : Name) → Stage → Beside S I R
 beside m mine (DecideNew c c_seq d) = ForValue (inv_of m d) (new_of m c)
-beside m mine (Finish c_seq mine_seq) = ForResponse (new_of m mine)
+beside m mine (Finish c_seq mine_seq) = ForResponse (response_in m mine)
 beside m mine _ = Nothing
 
 -- the places that these are
@@ -79,17 +80,12 @@ stage_after n mine (WriteSeq c c_seq d) v = Some (WriteHead c c_seq d)
 stage_after n mine (WriteHead c c_seq d) v = Some (Test d (c_seq + 1))
 stage_after n mine (Finish c_seq mine_seq) v = None
 
--- the value that the object gives for what was read beside the place
-abbrev pub value_of : {S I R : Type 0} → Sequential S I R → Beside S I R → Option (S × Option R)
-value_of object (ForValue inv before) = value_after object before inv
-value_of object _ = None
-
 -- what the step writes to its place, which contained v; where it only reads, that is v
 abbrev pub content_after : {S I R : Type 0} → Sequential S I R → (mine : Name) → Stage → (v : Content S I R) → Beside S I R → Content S I R
 content_after object mine Announce v seen = CellName mine
 content_after object mine (WriteScan best best_seq) v seen = CellName best
 content_after object mine (DecideAfter c c_seq prefer) v seen = Link (decision (link_in v) (Some prefer))
-content_after object mine (DecideNew c c_seq d) v seen = Settled (decision (settled_in v) (value_of object seen))
+content_after object mine (DecideNew c c_seq d) v (ForValue inv before) = Settled (decision (settled_in v) (value_after object before inv))
 content_after object mine (WriteBefore c c_seq d) v seen = Link (Some c)
 content_after object mine (WriteSeq c c_seq d) v seen = Number (c_seq + 1)
 content_after object mine (WriteHead c c_seq d) v seen = CellName d
@@ -98,19 +94,8 @@ content_after object mine _ v seen = v
 
 -- the response of the last step: the one that is settled in the process's own cell
 abbrev pub response_after : {S I R : Type 0} → Stage → Beside S I R → Option R
-response_after (Finish c_seq mine_seq) (ForResponse own) = option_and_then (λ new. new.1) own
+response_after (Finish c_seq mine_seq) (ForResponse own) = own
 response_after _ seen = None
-
--- what a step comes to: what its place contains then, where its process stands, and the response, where the call ends
-pub record Effect (S I R : Type 0) : Type 0 where
-  pub content : Content S I R
-  pub stage : Option Stage
-  pub response : Option R
-
--- the step of a process whose cell is mine, where its place contains v, with what it sees beside it
-abbrev pub effect_of : {S I R : Type 0} → Sequential S I R → (n : ℕ) → (mine : Name) → Stage → (v : Content S I R) → Beside S I R → Effect S I R
-effect_of object n mine stage v seen =
-    record { content = content_after object mine stage v seen; stage = stage_after n mine stage v; response = response_after stage seen }
 
 -- how many turns a step adds: one, where it is a test that finds no number yet
 abbrev pub turn_of : {S I R : Type 0} → Stage → Content S I R → ℕ

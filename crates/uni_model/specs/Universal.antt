@@ -1,20 +1,32 @@
 -- The main law: what holds of every run of the construction.
-use Rattle.std.specs.Prelude.{ℕ, ◌≤◌, List, take}
+use Rattle.std.specs.Prelude.{◌≡◌, ℕ, ◌≤◌, List, ◌∷◌, ◌++◌, take}
 use Rattle.seq_object.specs.Sequential.{Sequential}
 use Rattle.uni_model.specs.Worlds.{Event, opened_world, world_after_all, AreAccepted}
+use Rattle.uni_model.specs.Worlds.Event.{Call}
 use Rattle.uni_model.specs.AtomicObject.{Atomic, AcceptsAll, at_start}
+use Rattle.uni_model.specs.Linearizable.{observed_in, IsLinearizableHistory}
 use Rattle.uni_model.specs.History.{RunShows, history_of}
+use Rattle.uni_model.specs.WaitFree.{NeverBlocks, AreNoCallsOf, IsWaitFree}
 use Rattle.uni_model.specs.Bound.{IsBounded}
 use Rattle.uni_model.specs.Trims.{IsSameUntrimmed}
 
 module _ {S I R : Type 0} (object : Sequential S I R) where
-  -- Calls and replies are those of an atomic object that starts in this state. After each front of the events, each process's
-  -- latest call has taken at most n + 1 turns and, while it is pending, fewer than 10n + 12 own steps, for the n processes
-  -- among which it runs; and the front shows the same without its trims.
+  -- What holds of accepted events, from an opening of n processes over a state and a first number.
   pub record IsUniversal (n : ℕ) (start : S) (number : ℕ) (events : List (Event I)) : Type 0 where
-    pub linearizable : (b : Atomic S I) × RunShows object start (opened_world n start number) events b
+    -- what is observed, calls and responses, is a linearizable history of the object from this state (Herlihy and Wing 1990)
+    pub linearizable : IsLinearizableHistory object start (observed_in object (opened_world n start number) events)
+    -- The stronger law: linearization points stand where the definitions have them, so that the list of the atomic object is the
+    -- joined log.
+    pub agreed : (b : Atomic S I) × RunShows object start (opened_world n start number) events b
         × AcceptsAll object (at_start start) (history_of object (opened_world n start number) events) b
+    -- after each prefix of the events, a process whose call is pending can take its next step
+    pub never_blocks : (j p : ℕ) → NeverBlocks (world_after_all object (opened_world n start number) (take j events)) p
+    -- within each prefix, a call has returned at the latest at the (10n + 12)th step of its process since its begin
+    pub wait_free : (j : ℕ) (before later : List (Event I)) (p : ℕ) (i : I) → take j events ≡ before ++ Call p i ∷ later → AreNoCallsOf p later
+        → IsWaitFree object (world_after_all object (opened_world n start number) before) p i later
+    -- after each prefix, each process's latest call is within the bound of turns and own steps
     pub bounded : (j : ℕ) → IsBounded (world_after_all object (opened_world n start number) (take j events))
+    -- each prefix has the same history, joined log and counts without its trims
     pub untrimmed : (j : ℕ) → IsSameUntrimmed object (opened_world n start number) (take j events)
 
   -- every run from the opening is so

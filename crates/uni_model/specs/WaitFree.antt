@@ -1,35 +1,26 @@
 -- Wait-freedom as the textbooks state it: a pending process can always take its next step, and its call has returned after a
 -- known number of them, whatever the others do meanwhile.
-use Rattle.std.specs.Prelude.{◌≡◌, ◌≢◌, refl, ℕ, ◌+◌, ◌*◌, ◌≤◌, ◌==◌, Bool, false, List, [], ◌∷◌, Some, None, Contains, count_by, replicate}
+use Rattle.std.specs.Prelude.{◌≡◌, refl, ℕ, ◌+◌, ◌*◌, ◌≤◌, ◌==◌, Bool, false, List, [], ◌∷◌, Some, None, Contains, count_by, replicate}
 use Rattle.seq_object.specs.Sequential.{Sequential}
 use Rattle.uni_model.specs.Stages.{Pending}
 use Rattle.uni_model.specs.Worlds.{WorldOf, Event, world_after_all, IsAccepted, AreAccepted}
-use Rattle.uni_model.specs.Worlds.Event.{Call, Step, Trim, Reshape}
+use Rattle.uni_model.specs.Worlds.Event.{Call, Step, Trim}
 use Rattle.uni_model.specs.AtomicObject.Act.{Respond}
 use Rattle.uni_model.specs.Linearizable.{observed_in}
 use Rattle.uni_model.specs.Laws.{IsReached}
 
 -- whether an event is a step of p
 abbrev pub is_step_of : {I : Type 0} → ℕ → Event I → Bool
-is_step_of p (Call q i) = false
 is_step_of p (Step q) = p == q
-is_step_of p Trim = false
-is_step_of p (Reshape n) = false
+is_step_of p _ = false
 
 -- how many of these events are steps of p
 abbrev pub steps_among : {I : Type 0} → ℕ → List (Event I) → ℕ
 steps_among p events = count_by (is_step_of p) events
 
--- p begins no call
-abbrev pub IsNoCallOf : {I : Type 0} → ℕ → Event I → Type 0
-IsNoCallOf p (Call q i) = p ≢ q
-IsNoCallOf p (Step q) = Unit {0}
-IsNoCallOf p Trim = Unit {0}
-IsNoCallOf p (Reshape n) = Unit {0}
-
+-- p begins no call among these events
 abbrev pub AreNoCallsOf : {I : Type 0} → ℕ → List (Event I) → Type 0
-AreNoCallsOf p [] = Unit {0}
-AreNoCallsOf p (e ∷ es) = IsNoCallOf p e × AreNoCallsOf p es
+AreNoCallsOf {I} p events = (i : I) → ¬ (Contains events (Call p i))
 
 -- of five events two are steps of process 1
 sample_steps : steps_among {I = ℕ} 1 (Step 1 ∷ Step 0 ∷ Call 1 7 ∷ Trim ∷ Step 1 ∷ []) ≡ 2

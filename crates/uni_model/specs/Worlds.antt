@@ -2,14 +2,15 @@
 use Rattle.std.specs.Prelude.{◌≡◌, ℕ, zero, suc, ◌+◌, ◌-◌, ◌<◌, ◌≤◌, List, [], ◌∷◌, Option, None, Some, option_map, option_and_then, IsSome}
 use Rattle.std.specs.Option.{option_map_or}
 use Rattle.seq_object.specs.Sequential.{Sequential}
-use Rattle.uni_model.specs.Places.{Name, Memory, memory_with, set_at, seq_of, new_of}
+use Rattle.uni_model.specs.Places.{Name, Memory, memory_with, seq_of, new_of}
+use Rattle.uni_model.specs.AtomicObject.{set_at}
 use Rattle.uni_model.specs.Places.Name.{Anchor, Of}
-use Rattle.uni_model.specs.Places.Place.{Announced, HeadOf, InvOf, SeqOf, AfterOf, NewOf, BeforeOf}
+use Rattle.uni_model.specs.Places.Place.{Announced, HeadOf, InvOf, SeqOf, NewOf}
 use Rattle.uni_model.specs.Places.Content.{CellName, Invocation, Number, Link, Settled}
-use Rattle.uni_model.specs.Stages.{Stage, Pending}
+use Rattle.uni_model.specs.Stages.{Pending}
 use Rattle.uni_model.specs.Stages.Stage.{Announce}
 use Rattle.uni_model.specs.Chain.{cells_from, last_of}
-use Rattle.uni_model.specs.Transition.{Effect, place_of, beside, effect_of, turn_of, response_after}
+use Rattle.uni_model.specs.Transition.{place_of, beside, stage_after, content_after, turn_of, response_after}
 
 -- n processes: the shared places; of each process its pending call, how many calls it has begun since the opening, the
 -- number of its first call of the present era, and of its latest call among how many processes it ran (0 where it has begun
@@ -35,56 +36,45 @@ pub data Event (I : Type 0) : Type 0 where
 -- a process begins a call: it makes a cell that no other process knows yet
 abbrev pub world_after_call : {S I R : Type 0} → WorldOf S I R → ℕ → I → WorldOf S I R
 world_after_call w p i =
-    record {
-      n = w.n;
+    record w {
       memory = memory_with w.memory (InvOf (Of p (w.begun p))) (Invocation (Some i));
       call = set_at w.call p (Some (record { mine = Of p (w.begun p); stage = Announce }));
       begun = set_at w.begun p (w.begun p + 1);
-      first = w.first;
       among = set_at w.among p w.n;
       steps = set_at w.steps p 0;
       turns = set_at w.turns p 0;
     }
-
-abbrev pub call_after : Name → Option Stage → Option Pending
-call_after mine stage = option_map (λ k. record { mine = mine; stage = k }) stage
-
--- what the next step of a process comes to, whose call is pending
-abbrev pub effect_in : {S I R : Type 0} → Sequential S I R → WorldOf S I R → ℕ → Pending → Effect S I R
-effect_in object w p call =
-    effect_of object w.n call.mine call.stage (w.memory (place_of w.n p call.mine call.stage)) (beside w.memory call.mine call.stage)
 
 -- a process whose call is pending takes a step: it touches one place, and moves to its next stage
 abbrev pub world_after_step : {S I R : Type 0} → Sequential S I R → WorldOf S I R → ℕ → Option Pending → WorldOf S I R
 world_after_step object w p None = w
 world_after_step object w p (Some call) =
     let place = place_of w.n p call.mine call.stage in
-    record {
-      n = w.n;
-      memory = memory_with w.memory place (effect_in object w p call).content;
-      call = set_at w.call p (call_after call.mine (effect_in object w p call).stage);
-      begun = w.begun;
-      first = w.first;
-      among = w.among;
+    record w {
+      memory = memory_with w.memory place (content_after object call.mine call.stage (w.memory place) (beside w.memory call.mine call.stage));
+      call = set_at w.call p (option_map (λ k. record { mine = call.mine; stage = k }) (stage_after w.n call.mine call.stage (w.memory place)));
       steps = set_at w.steps p (w.steps p + 1);
       turns = set_at w.turns p (w.turns p + turn_of call.stage (w.memory place));
     }
 
--- the response of the next step of a process, where it is the last one of its call
+-- the response of the next step of a pending call, where it is the last one
+abbrev pub response_of_call : {S I R : Type 0} → WorldOf S I R → Pending → Option R
+response_of_call w call = response_after call.stage (beside w.memory call.mine call.stage)
+
+-- the same of a process, whose call may be pending
 abbrev pub response_of_step : {S I R : Type 0} → WorldOf S I R → ℕ → Option R
-response_of_step w p = option_and_then (λ (call : Pending). response_after call.stage (beside w.memory call.mine call.stage)) (w.call p)
+response_of_step w p = option_and_then (response_of_call w) (w.call p)
 
 -- the anchor alone, with a state and a number: all announce and head entries name it
 abbrev pub anchor_memory : {S I R : Type 0} → S → ℕ → Memory S I R
 anchor_memory s number (Announced p) = CellName Anchor
 anchor_memory s number (HeadOf p) = CellName Anchor
-anchor_memory s number (SeqOf Anchor) = Number number
-anchor_memory s number (NewOf Anchor) = Settled (Some (s, None))
 anchor_memory s number (InvOf x) = Invocation None
+anchor_memory s number (SeqOf Anchor) = Number number
 anchor_memory s number (SeqOf x) = Number 0
+anchor_memory s number (NewOf Anchor) = Settled (Some (s, None))
 anchor_memory s number (NewOf x) = Settled None
-anchor_memory s number (AfterOf x) = Link None
-anchor_memory s number (BeforeOf x) = Link None
+anchor_memory s number _ = Link None
 
 -- n processes of which none has called, over a state and a first number
 abbrev pub opened_world : {S I R : Type 0} → ℕ → S → ℕ → WorldOf S I R
@@ -103,7 +93,8 @@ sum_below (suc p) f = sum_below p f + f p
 abbrev pub era_calls : {S I R : Type 0} → WorldOf S I R → ℕ
 era_calls w = sum_below w.n (calls_in_era w)
 
--- the cells that are linked, in order
+-- The cells that are linked, in order. Each cell after the anchor is that of one call of the era, and no cell is linked twice, so
+-- there are at most as many as the era has calls: that many are followed, and none is left out.
 abbrev pub chain : {S I R : Type 0} → WorldOf S I R → List Name
 chain w = cells_from (era_calls w) w.memory Anchor
 
@@ -148,7 +139,5 @@ AreAccepted object w (e ∷ es) = IsAccepted w e × AreAccepted object (world_af
 -- the events without the trims; the reshapes stay
 abbrev pub without_trims : {I : Type 0} → List (Event I) → List (Event I)
 without_trims [] = []
-without_trims (Call p i ∷ es) = Call p i ∷ without_trims es
-without_trims (Step p ∷ es) = Step p ∷ without_trims es
 without_trims (Trim ∷ es) = without_trims es
-without_trims (Reshape n ∷ es) = Reshape n ∷ without_trims es
+without_trims (e ∷ es) = e ∷ without_trims es

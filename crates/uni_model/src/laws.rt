@@ -6,11 +6,12 @@ ghost use Rattle.uni_model.specs.Stages.{Stage, Pending};
 ghost use Rattle.uni_model.specs.Settled.{SeesSettled, SeesOnly};
 ghost use Rattle.uni_model.specs.Worlds.{WorldOf, Event};
 ghost use Rattle.uni_model.specs.Invariant.{Invariant};
-ghost use Rattle.uni_model.specs.Bound.{CountsSteps, IsBounded};
+ghost use Rattle.uni_model.specs.Bound.{IsBounded};
+ghost use Rattle.uni_model.specs.Counting.{CountsSteps};
 ghost use Rattle.uni_model.specs.OneList.{HasOneList, HasLegalLog};
 ghost use Rattle.uni_model.specs.Eras.{EraLeaves, EraOfRunLeaves, JoinsLegalLogs, JoinedLogGrows, KeepsRealTime};
 ghost use Rattle.uni_model.specs.Responses.{LogsResponses};
-ghost use Rattle.uni_model.specs.Trims.{TrimsChangeNothing};
+ghost use Rattle.uni_model.specs.Untrimmed.{TrimsChangeNothing};
 ghost use Rattle.uni_model.specs.Linearizable.{ObservesLinearizable};
 ghost use Rattle.uni_model.specs.WaitFree.{NeverBlocks, CallIsWaitFree, CallEndsAlone};
 ghost use Rattle.uni_model.specs.Universal.{RunIsUniversal};
@@ -19,9 +20,11 @@ ghost use Rattle.uni_model.specs.Laws.{IsReached, KeepsInvariant, KeepsHelping, 
 use seq_object::SeqObject;
 
 /// The main law. For every object, every number of processes and every list of accepted events, with
-/// the ends of eras among them: calls and replies are those of an atomic object; no call takes more
-/// than n + 1 turns, and a pending one has taken fewer than 10n + 12 own steps; and the run without its
-/// trims is accepted too, and shows the same (Herlihy 1991, section 4).
+/// the ends of eras among them: the calls and responses are a linearizable history (Herlihy and Wing
+/// 1990), with the joined log as its linearization; after each prefix of the events a process whose
+/// call is pending can step, and a call has returned at the latest at its process's (10n + 12)th step
+/// since its begin, in at most n + 1 turns (Herlihy 1991, section 4); and the prefix without its trims
+/// is accepted too, with the same history, joined log and counts.
 pub fn is_universal<O: SeqObject>()
     ensures { (object : O) (n : ℕ) (start : O.State) (number : ℕ) (events : List (Event O.Inv)) →
         RunIsUniversal (O.sequential object) n start number events }

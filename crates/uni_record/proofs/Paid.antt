@@ -6,7 +6,8 @@ use Rattle.uni_model.specs.Stages.{Stage, Pending}
 use Rattle.uni_model.specs.Stages.Stage.{Finish}
 use Rattle.uni_model.specs.Transition.{Beside, beside, place_of, stage_after, response_after}
 use Rattle.uni_model.specs.Bound.{IsBounded}
-use Rattle.uni_model.specs.Worlds.{WorldOf, call_after, world_after, world_after_step, effect_in, response_of_step}
+use Rattle.uni_model.specs.Worlds.{WorldOf, world_after, world_after_step, response_of_step}
+use Rattle.uni_model.specs.Effects.{effect_in, call_after}
 use Rattle.uni_model.specs.Worlds.Event.{Step}
 use Rattle.uni_core.specs.World.{current_of}
 use Rattle.uni_record.specs.Event.{Completed, completed_by}

@@ -1,5 +1,5 @@
 -- The returns of a run are the responses of its history.
-use Rattle.std.proofs.Common.{◌≡◌, ◌∙◌, ℕ, ◌+◌, ◌-◌, List, [], ◌∷◌, ◌++◌, map, arith, refl, subst, sym, ap, Option, Some, None, option_map, option_and_then, option_to_list, drop, length}
+use Rattle.std.proofs.Common.{◌≡◌, ◌∙◌, ℕ, ◌+◌, ◌-◌, List, [], ◌∷◌, ◌++◌, map, arith, refl, subst, sym, ap, Option, Some, None, option_map, option_and_then, option_to_list, drop, take, length}
 use Rattle.std.proofs.lemmas.List.{map-append}
 use Rattle.std.specs.Option.{option_map_or}
 use Rattle.seq_object.specs.Sequential.{Sequential}
@@ -7,16 +7,18 @@ use Rattle.seq_object.specs.declared.call_id.CallId.{CallId}
 use Rattle.uni_model.specs.Places.{Name, Memory, inv_of}
 use Rattle.uni_model.specs.Transition.{beside, response_after}
 use Rattle.uni_model.specs.Places.Name.{Of}
-use Rattle.uni_model.specs.Chain.{Invoked, invoked_at}
+use Rattle.uni_model.specs.Chain.{invoked_at}
 use Rattle.uni_model.specs.Stages.{Pending}
 use Rattle.uni_model.specs.Invariant.{Invariant}
-use Rattle.uni_model.specs.Worlds.{WorldOf, Event, world_after, effect_in, IsAccepted, AreAccepted}
+use Rattle.uni_model.specs.Worlds.{WorldOf, Event, world_after, IsAccepted, AreAccepted, response_of_call}
 use Rattle.uni_model.specs.Worlds.Event.{Call, Step, Trim, Reshape}
-use Rattle.uni_model.specs.AtomicObject.{Act}
+use Rattle.uni_model.specs.AtomicObject.{Act, Invoked}
 use Rattle.uni_model.specs.AtomicObject.Act.{Invoke, Linearize, Respond}
 use Rattle.uni_model.specs.History.{acts_of, calls_of, history_of, log, log_of_run, responses_of}
-use Rattle.uni_model.specs.Laws.{IsLinkedSoon, LinksSoon}
+use Rattle.uni_model.specs.Laws.{LinksSoon}
+use Rattle.uni_model.specs.Eras.{JoinedLogGrows}
 use Rattle.uni_model.specs.Universal.{RunIsUniversal}
+use Rattle.uni_model.proofs.LawProofs.{AreAccepted-take}
 use Rattle.uni_model.proofs.Kept.{Invariant-opened_world, Invariant-world_after}
 use Rattle.uni_core.specs.World.{world_of}
 use Rattle.uni_log.specs.declared.entry.Entry.{Entry as Logged}
@@ -62,11 +64,11 @@ module _ {S I R : Type 0} (object : Sequential S I R) where
     Returns o =
         map (λ (c : Completed R). c.returned) (option_to_list (option_and_then (λ id. option_map (λ reply. record { returned = record { call = id; reply = reply }; counts = counts })
         (option_and_then (λ (c : Pending). response_after c.stage (beside w.memory c.mine c.stage)) o)) (option_map (λ (c : Pending). let id : CallId = record { process = p; nth = w.begun p - 1 } in id) o)))
-        ≡ responses_in (option_map_or (λ (c : Pending). responses_of w.memory p c.mine (effect_in object w p c).response) o [])
+        ≡ responses_in (option_map_or (λ (c : Pending). responses_of w.memory p c.mine (response_of_call w c)) o [])
 
     by_call : (call : Option Pending) → w.call p ≡ call → Returns (w.call p)
     by_call None is = subst Returns (sym is) refl
-    by_call (Some c) is = subst Returns (sym is) (returned_by_step w p inv c is counts (effect_in object w p c).response)
+    by_call (Some c) is = subst Returns (sym is) (returned_by_step w p inv c is counts (response_of_call w c))
   returned_by w Trim inv ok = refl
   returned_by w (Reshape n) inv ok = refl
 
@@ -84,11 +86,14 @@ module _ {O S I R : Type 0} (sequential : O → Sequential S I R) where
   pub IsPromised-kept : (r : Recording O S I R) → IsRecording sequential r
       → ((n : ℕ) (start : S) (number : ℕ) (events : List (Event I)) → RunIsUniversal (meaning sequential r) n start number events)
       → ((n : ℕ) (start : S) (number : ℕ) (events : List (Event I)) → LinksSoon (meaning sequential r) n start number events)
+      → ((n : ℕ) (start : S) (number : ℕ) (events : List (Event I)) → JoinedLogGrows (meaning sequential r) n start number events)
       → IsPromised sequential r
-  IsPromised-kept r is universal soon = record {
+  IsPromised-kept r is universal soon grows = record {
     universal = universal r.processes (meaning sequential r).initial r.first (events_shown r.events) is.positive is.accepted;
     responses = is.returned ∙ returns_are_responses (meaning sequential r) (opening sequential r) (events_shown r.events) (Invariant-opened_world (meaning sequential r) r.processes (meaning sequential r).initial r.first is.positive) is.accepted;
-    soon = λ p k floor e. subst (λ w. IsLinkedSoon w p k floor) (sym is.replay) (soon r.processes (meaning sequential r).initial r.first (events_shown r.events) is.positive is.accepted p k floor e);
+    soon = λ j p k floor e. soon r.processes (meaning sequential r).initial r.first (take j (events_shown r.events)) is.positive
+        (AreAccepted-take (meaning sequential r) j (opening sequential r) (events_shown r.events) is.accepted) p k floor e;
+    log = grows r.processes (meaning sequential r).initial r.first (events_shown r.events) is.positive is.accepted;
   }
 
   -- the entries of all eras are the joined log

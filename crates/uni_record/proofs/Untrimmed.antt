@@ -8,8 +8,9 @@ use Rattle.uni_model.specs.Places.{Name}
 use Rattle.uni_model.specs.Stages.{Pending}
 use Rattle.uni_model.specs.Worlds.{AreAccepted, Event, IsAccepted, WorldOf, opened_world, without_trims, world_after, world_after_all}
 use Rattle.uni_model.specs.Worlds.Event.{Call, Step, Trim, Reshape}
-use Rattle.uni_model.specs.Trims.{ShowsSame, TrimsChangeNothing}
-use Rattle.uni_model.proofs.Universal.{IsUniversal-untrimmed}
+use Rattle.uni_model.specs.Untrimmed.{ShowsSame, TrimsChangeNothing}
+use Rattle.uni_model.proofs.RenamedRun.{TrimsChangeNothing-holds}
+use Rattle.uni_model.proofs.WaitFree.{world_after_all-append}
 use Rattle.uni_core.specs.World.{IsProgress, current_of, progress_of, world_of}
 use Rattle.uni_core.specs.declared.fault.Progress.{Progress}
 use Rattle.uni_record.specs.declared.command.Command.{Command}
@@ -20,7 +21,7 @@ use Rattle.uni_record.specs.declared.event.Event.{Event as Stored}
 use Rattle.uni_record.specs.declared.event.Event.TheVariants as stored
 use Rattle.uni_record.specs.Event.{event_shown, events_shown}
 use Rattle.uni_record.specs.Run.{AreAnswersUntrimmed, AreOutcomes, IsAnswerIn, IsOutcome, event_of, standing_after}
-use Rattle.uni_record.specs.Recorded.{IsPromised, IsRecording, KeepsOpening, Recording, Standing, meaning, opening, standing_of, untrimmed_world}
+use Rattle.uni_record.specs.Recorded.{IsRecording, KeepsOpening, Recording, Standing, meaning, opening, standing_of, untrimmed_world}
 use Rattle.uni_record.proofs.Runs.{AreAccepted-snoc, world_after_all-snoc}
 
 without_trims-trim : {I : Type 0} (es : List (Event I)) → without_trims (es ++ Trim ∷ []) ≡ without_trims es
@@ -38,10 +39,6 @@ without_trims-append (Trim ∷ es) fs = without_trims-append es fs
 without_trims-append (Reshape n ∷ es) fs = ap (λ xs. Reshape n ∷ xs) (without_trims-append es fs)
 
 module _ {S I R : Type 0} (object : Sequential S I R) where
-  world_after_all-append : (w : WorldOf S I R) (es fs : List (Event I)) → world_after_all object w (es ++ fs) ≡ world_after_all object (world_after_all object w es) fs
-  world_after_all-append w [] fs = refl
-  world_after_all-append w (e ∷ es) fs = world_after_all-append (world_after object w e) es fs
-
   -- worlds that show the same have the same calls
   current_shown : (w u : WorldOf S I R) → ShowsSame w u → (p : ℕ) → current_of w p ≡ current_of u p
   current_shown w u shows p = by_calls (w.call p) (u.call p) (shows.pending p) where
@@ -125,13 +122,14 @@ module _ {S I R : Type 0} (object : Sequential S I R) where
         let rest = answers_untrimmed (events ++ more) (standing_after object s c outcome) commands outcomes (LeadsTo-next events s to c outcome are.0) are.1 in (
           answer_shown s (world_after_all object first (without_trims events)) (subst (λ w. ShowsSame w (world_after_all object first (without_trims events))) (sym to.leads) (same events positive to.accepted).shown) c outcome are.0,
           subst (λ w. AreAnswersUntrimmed object w commands outcomes)
-              (ap (world_after_all object first) (without_trims-append events more) ∙ world_after_all-append first (without_trims events) (without_trims more)) rest,
+              (ap (world_after_all object first) (without_trims-append events more) ∙ world_after_all-append object first (without_trims events) (without_trims more)) rest,
         )
 
 module _ {O S I R : Type 0} (sequential : O → Sequential S I R) (r : Recording O S I R) where
-  module _ (recording : IsRecording sequential r) (promised : IsPromised sequential r) where
+  module _ (recording : IsRecording sequential r) where
     shown : ShowsSame (world_of r.world) (untrimmed_world sequential r)
-    shown = subst (λ w. ShowsSame w (untrimmed_world sequential r)) (sym recording.replay) (IsUniversal-untrimmed (meaning sequential r) r.processes (meaning sequential r).initial r.first (events_shown r.events) promised.universal).shown
+    shown = subst (λ w. ShowsSame w (untrimmed_world sequential r)) (sym recording.replay)
+        (TrimsChangeNothing-holds (meaning sequential r) r.processes (meaning sequential r).initial r.first (events_shown r.events) recording.positive recording.accepted).shown
 
     pub begun-untrimmed : (p : ℕ) → (world_of r.world).begun p ≡ (untrimmed_world sequential r).begun p
     begun-untrimmed p = ap (λ f. f p) shown.begun

@@ -3,12 +3,11 @@ use Rattle.std.specs.Prelude.{◌≡◌, ℕ, ◌+◌, ◌-◌, ◌*◌, ◌≤�
 use Rattle.std.specs.Option.{option_map_or}
 use Rattle.std.proofs.Common.{arith}
 use Rattle.seq_object.specs.Sequential.{Sequential}
-use Rattle.uni_model.specs.Places.Name.{Of}
 use Rattle.uni_model.specs.Stages.{Pending}
 use Rattle.uni_model.specs.Worlds.{WorldOf, opened_world, world_after_all, AreAccepted, without_trims, sum_below, calls_in_era, IsQuiescent}
 use Rattle.uni_model.specs.History.{history_of}
-use Rattle.uni_model.specs.Frontier.{floor_of}
-use Rattle.uni_model.specs.Laws.{IsLinkedSoon}
+use Rattle.uni_model.specs.Laws.{LinkedSoonAlong}
+use Rattle.uni_model.specs.Eras.{JoinedGrows}
 use Rattle.uni_model.specs.Universal.{IsUniversal}
 use Rattle.uni_core.specs.World.{Whole, world_of, IsIdle, MayNeedMemory}
 use Rattle.uni_core.specs.Run.{CanCall, CanGo}
@@ -84,13 +83,14 @@ module _ {O S I R : Type 0} (sequential : O → Sequential S I R) where
     pub fits : length r.events + set_aside (world_of r.world) ≤ r.limit
     pub limited : r.limit ≤ 2 ^ 24
 
-  -- The promise, of the stored events: they are a run of the construction whose calls and replies are those of an atomic object, which
-  -- is within the bound after each front of them and shows the same without its trims; the returns are the responses of its history;
-  -- and each call that has been announced is linked soon.
+  -- The promise, of the stored events: the main law holds of them; the returns are the responses of their history; after each prefix
+  -- of them each call that has been announced is linked soon, also one of an era that has ended since; and the joined log of each
+  -- prefix is a prefix of that of all, but for a response that is missing in its last entry.
   pub record IsPromised (r : Recording O S I R) : Type 0 where
     pub universal : IsUniversal (meaning r) r.processes (meaning r).initial r.first (events_shown r.events)
     pub responses : r.returns ≡ responses_in (history_of (meaning r) (opening r) (events_shown r.events))
-    pub soon : (p k floor : ℕ) → floor_of (meaning r) (Of p k) (opening r) (events_shown r.events) ≡ Some floor → IsLinkedSoon (world_of r.world) p k floor
+    pub soon : LinkedSoonAlong (meaning r) (opening r) (events_shown r.events)
+    pub log : JoinedGrows (meaning r) (opening r) (events_shown r.events)
 
   -- a record that was opened so: with no event yet
   pub record HasOpened (of : O) (n k number most : ℕ) (r : Recording O S I R) : Type 0 where

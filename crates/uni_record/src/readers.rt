@@ -15,7 +15,10 @@ use seq_object::SeqObject;
 use std::alloc::{AllocError, Global};
 use uni_core::World;
 use uni_log::{Entry, Log};
-use uni_model::{is_universal, joined_log_holds_responses, joined_log_is_legal, links_soon};
+use uni_model::{
+    is_universal, joined_log_holds_responses, joined_log_is_legal, joined_log_only_grows,
+    links_soon,
+};
 
 impl<O: SeqObject> Recorded<O> {
     /// The world, to be read.
@@ -100,6 +103,7 @@ impl<O: SeqObject> Recorded<O> {
         self.world.shape();
         is_universal::<O>();
         links_soon::<O>();
+        joined_log_only_grows::<O>();
     }
 }
 

@@ -6,7 +6,8 @@ use Rattle.uni_model.specs.Stages.{Stage, Pending}
 use Rattle.uni_model.specs.Stages.Stage.{Announce, ScanHead, ScanSeq, WriteScan, Test, ReadAnnounce, ReadHelpSeq, DecideAfter, DecideNew, WriteBefore, WriteSeq, WriteHead, Finish}
 use Rattle.uni_model.specs.Transition.{beside, place_of, stage_after, response_after}
 use Rattle.uni_model.specs.Chain.{response_in}
-use Rattle.uni_model.specs.Worlds.{WorldOf, call_after, opened_world, world_after, world_after_step, response_of_step}
+use Rattle.uni_model.specs.Worlds.{WorldOf, opened_world, world_after, world_after_step, response_of_step}
+use Rattle.uni_model.specs.Effects.{call_after}
 use Rattle.uni_model.specs.Worlds.Event.{Step}
 use Rattle.uni_model.specs.Helping.{HelpingInvariant}
 use Rattle.uni_model.specs.Laws.{IsReached}

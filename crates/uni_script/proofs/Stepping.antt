@@ -5,7 +5,8 @@ use Rattle.seq_object.specs.Sequential.{Sequential}
 use Rattle.uni_model.specs.Stages.{Pending}
 use Rattle.uni_model.specs.Worlds.{WorldOf, Event, world_after, world_after_all, response_of_step}
 use Rattle.uni_model.specs.Worlds.Event.{Step}
-use Rattle.uni_model.specs.Bound.{CountsSteps, IsWithinBound}
+use Rattle.uni_model.specs.Bound.{IsWithinBound}
+use Rattle.uni_model.specs.Counting.{CountsSteps}
 use Rattle.uni_model.specs.Helping.{HelpingInvariant}
 use Rattle.uni_model.specs.Laws.{IsReached}
 use Rattle.uni_model.proofs.Bounded.{HelpingInvariant-world_after, IsBounded-held}

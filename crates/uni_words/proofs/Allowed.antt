@@ -15,7 +15,7 @@ use Rattle.uni_model.proofs.Written.{lt_cases}
 use Rattle.uni_model.specs.Indices.{index_of, name_of}
 use Rattle.uni_model.proofs.Indices.{name_of-index_of}
 use Rattle.uni_words.specs.Words.{cells_of, start_of, index_in, link_of, word_of, content_of}
-use Rattle.uni_model.specs.Worlds.{call_after}
+use Rattle.uni_model.specs.Effects.{call_after}
 use Rattle.uni_words.specs.View.{Known, Reading, stage_found, moved_at, looked_at, begun_by}
 use Rattle.uni_words.specs.Seats.{HasMoved, HasLooked, Moved, IsWithin}
 use Rattle.uni_words.specs.Standing.{StandsAt, GoesBy, IsIdle}

@@ -8,11 +8,12 @@ use Rattle.seq_object.specs.Sequential.{Sequential}
 use Rattle.uni_model.specs.Places.{Name, Place, memory_with, new_of}
 use Rattle.uni_model.specs.Places.Name.{Anchor, Of}
 use Rattle.uni_model.specs.Stages.{Pending}
-use Rattle.uni_model.specs.Transition.{Effect, place_of, turn_of}
-use Rattle.uni_model.specs.Worlds.{WorldOf, effect_in, world_after_step, world_after, call_after}
+use Rattle.uni_model.specs.Transition.{place_of, turn_of}
+use Rattle.uni_model.specs.Worlds.{WorldOf, world_after_step, world_after}
+use Rattle.uni_model.specs.Effects.{effect_in, Effect, call_after}
 use Rattle.uni_model.specs.Worlds.Event.{Step}
 use Rattle.uni_model.specs.Helping.{HelpingInvariant}
-use Rattle.uni_model.specs.Bound.{CountsSteps}
+use Rattle.uni_model.specs.Counting.{CountsSteps}
 use Rattle.uni_model.specs.Settled.{Grows}
 use Rattle.uni_model.proofs.Written.{number_cases}
 use Rattle.uni_model.proofs.LawProofs.{set_at_elsewhere}

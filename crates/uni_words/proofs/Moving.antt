@@ -9,8 +9,9 @@ use Rattle.uni_model.specs.Places.Name.{Of}
 use Rattle.uni_model.specs.Places.Place.{Announced, HeadOf, InvOf, SeqOf, AfterOf, NewOf, BeforeOf}
 use Rattle.uni_model.specs.Stages.{Stage, Pending}
 use Rattle.uni_model.specs.Stages.Stage.{Announce, ScanHead, ScanSeq, WriteScan, Test, ReadAnnounce, ReadHelpSeq, DecideAfter, DecideNew, WriteBefore, WriteSeq, WriteHead, Finish}
-use Rattle.uni_model.specs.Transition.{Effect, Beside, place_of, beside, stage_after, content_after, response_after, turn_of}
-use Rattle.uni_model.specs.Worlds.{WorldOf, call_after}
+use Rattle.uni_model.specs.Transition.{Beside, place_of, beside, stage_after, content_after, response_after, turn_of}
+use Rattle.uni_model.specs.Effects.{Effect, call_after}
+use Rattle.uni_model.specs.Worlds.{WorldOf}
 use Rattle.uni_model.specs.Settled.{Grows}
 use Rattle.uni_model.proofs.Counted.{IsCounted-pending}
 use Rattle.uni_model.proofs.Bounded.{turns_bounded}

@@ -6,7 +6,8 @@ use lib.ListN.{get_elem?}
 use Rattle.uni_model.specs.Indices.{name_of}
 use Rattle.uni_model.specs.Places.{Name, Memory, after_of, seq_of}
 use Rattle.uni_model.specs.Places.Name.{Anchor}
-use Rattle.uni_model.specs.Chain.{Invoked, Entry, cells_from, entries_from, invoked_at, response_in}
+use Rattle.uni_model.specs.Chain.{Entry, cells_from, entries_from, invoked_at, response_in}
+use Rattle.uni_model.specs.AtomicObject.{Invoked}
 use Rattle.uni_model.proofs.Written.{lt_cases}
 use Rattle.uni_words.specs.Log.{AreCallCells, is_call_cell, log_of, told_memory}
 use Rattle.uni_words.specs.Words.{cells_of, link_of, start_of}

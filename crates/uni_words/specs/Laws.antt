@@ -11,7 +11,8 @@ use Rattle.uni_model.specs.Places.Place.{InvOf, NewOf, HeadOf}
 use Rattle.uni_model.specs.Stages.{Stage, Pending}
 use Rattle.uni_model.specs.Stages.Stage.{DecideNew, Finish}
 use Rattle.uni_model.specs.Transition.{place_of}
-use Rattle.uni_model.specs.Worlds.{WorldOf, effect_in, world_after}
+use Rattle.uni_model.specs.Worlds.{WorldOf, world_after}
+use Rattle.uni_model.specs.Effects.{effect_in}
 use Rattle.uni_model.specs.Worlds.Event.{Call, Step}
 use Rattle.uni_words.specs.Shown.{IsShown}
 use Rattle.uni_words.specs.View.{Known, Reading, stage_found, begun_by, moved_at, looked_at, finished_by}

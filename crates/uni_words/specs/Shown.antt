@@ -14,7 +14,7 @@ use Rattle.uni_model.specs.Growth.{EndNoEra}
 use Rattle.uni_model.specs.History.{history_of}
 use Rattle.uni_model.specs.Worlds.{WorldOf, Event, opened_world, world_after_all, AreAccepted}
 use Rattle.uni_model.specs.Helping.{HelpingInvariant}
-use Rattle.uni_model.specs.Bound.{CountsSteps}
+use Rattle.uni_model.specs.Counting.{CountsSteps}
 use Rattle.uni_words.specs.Words.{words_of, memory_of}
 use Rattle.uni_words.specs.Run.{acts_by, acts_from, acts_pending}
 use Rattle.uni_words.specs.View.{CallsOf, Known, Reading}

@@ -5,7 +5,7 @@ use Rattle.uni_model.specs.Places.Name.{Of}
 use Rattle.uni_model.specs.Stages.Stage.{Announce}
 use Rattle.uni_model.specs.Stages.{Stage, Pending}
 use Rattle.uni_model.specs.Transition.{place_of, stage_after, turn_of}
-use Rattle.uni_model.specs.Worlds.{call_after}
+use Rattle.uni_model.specs.Effects.{call_after}
 use Rattle.uni_words.specs.Words.{content_of}
 
 -- what a process has read of settled words since its last step

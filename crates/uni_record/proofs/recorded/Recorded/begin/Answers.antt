@@ -47,4 +47,4 @@ pub returns-clause-event : goal.returns-clause-event
 returns-clause-event g c = search rules
 
 pub returns-clause-untrimmed : goal.returns-clause-untrimmed
-returns-clause-untrimmed g c = let same = begun-untrimmed g.O.SeqObject.sequential c.args.self.now c.promise.ensures.recording c.promise.ensures.promised c.args.p in search rules
+returns-clause-untrimmed g c = let same = begun-untrimmed g.O.SeqObject.sequential c.args.self.now c.promise.ensures.recording c.args.p in search rules

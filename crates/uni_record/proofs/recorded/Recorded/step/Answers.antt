@@ -131,9 +131,9 @@ returns-in-Ok-Done-clause-could g c = subst (λ r. CanGo (world_of r.world) c.ar
     (rw c.processes.ensures at c.if-p-processes.false, current_some (world_of c.self.inside.world) c.args.p c.in-Some.call c.in-Some.ensures)
 
 pub returns-in-Ok-Going-clause-untrimmed : goal.returns-in-Ok-Going-clause-untrimmed
-returns-in-Ok-Going-clause-untrimmed g c = progress-untrimmed g.O.SeqObject.sequential c.args.self.now c.promise.ensures.recording c.promise.ensures.promised c.args.p Going
+returns-in-Ok-Going-clause-untrimmed g c = progress-untrimmed g.O.SeqObject.sequential c.args.self.now c.promise.ensures.recording c.args.p Going
     (subst (λ r. IsProgress (world_of r.world) c.args.p Going) c.self.view_is (sym c.in-Ok-Going.field-0-is ∙ c.in-Ok-Going.ensures.progress))
 
 pub returns-in-Ok-Done-clause-untrimmed : goal.returns-in-Ok-Done-clause-untrimmed
-returns-in-Ok-Done-clause-untrimmed g c = progress-untrimmed g.O.SeqObject.sequential c.args.self.now c.promise.ensures.recording c.promise.ensures.promised c.args.p (Done c.in-Ok-Done.reply)
+returns-in-Ok-Done-clause-untrimmed g c = progress-untrimmed g.O.SeqObject.sequential c.args.self.now c.promise.ensures.recording c.args.p (Done c.in-Ok-Done.reply)
     (subst (λ r. IsProgress (world_of r.world) c.args.p (Done c.in-Ok-Done.reply)) c.self.view_is (sym c.in-Ok-Done.field-0-is ∙ c.in-Ok-Done.ensures.progress))
