@@ -1,5 +1,5 @@
 -- What was read of a script, and the whole script.
-use Rattle.std.proofs.Common.{◌≡◌, ◌∙◌, ◌⊎◌, inl, inr, ℕ, ◌+◌, ◌==◌, nat_lt, not, if◌then◌else◌, Bool, true, false, List, [], ◌∷◌, ◌++◌, length, Option, None, Some, option_map, Result, Ok, Err, IfOk, IfErr, OnOk, refl, sym, ap, subst, arith, append_assoc, append-nil}
+use Rattle.std.proofs.Common.{◌≡◌, ◌∙◌, ◌⊎◌, inl, inr, ℕ, ◌+◌, ◌≤◌, ◌==◌, nat_lt, not, if◌then◌else◌, Bool, true, false, List, [], ◌∷◌, ◌++◌, length, Option, None, Some, option_map, Result, Ok, Err, IfOk, IfErr, OnOk, refl, sym, ap, subst, arith, append_assoc, append-nil}
 use Rattle.std.proofs.lemmas.Bool.Decides.{nat_tests}
 use Rattle.std.specs.Option.{option_map_or}
 use Rattle.std.specs.Io.KnownBytes.{Appends, Consumes, IsAtEnd}
@@ -7,8 +7,6 @@ use Rattle.uni_record.specs.declared.verdict.Verdict.{Verdict}
 use Rattle.uni_script.specs.declared.fault.BenchFault.{BenchFault}
 use Rattle.uni_script.specs.declared.fault.BenchFault.TheVariants.{NoHeader, Read, Write, Memory}
 use Rattle.uni_script.specs.declared.fault.BenchFault.TheVariants as fault
-use Rattle.uni_script.specs.declared.lines.Stop.{Stop}
-use Rattle.uni_script.specs.declared.lines.Stop.TheVariants.{End, Failed, TooLong, TooMany}
 use Rattle.uni_script.specs.declared.grammar.Version.{Version}
 use Rattle.uni_script.specs.Ends.{AppendsFront}
 use Rattle.std.specs.List.{list_all}
@@ -17,13 +15,19 @@ use Rattle.uni_script.specs.Answer.{end_text}
 use Rattle.uni_script.specs.Grammar.{cut, lines_of, is_plain_byte, is_note, header_of_words, command_of_words}
 use Rattle.uni_script.specs.Objects.{SpokenObject, spoken_of}
 use Rattle.uni_script.specs.Meaning.{Session, session_after, ScriptSession, session_of_header, result_of_command, outcome_of_text, Outcome, script_session, outcome_of_command, outcome_of_fault, and_then, and_then_from, outcome_of_words, outcome_of_line, outcome_of_lines, outcome_of_end, outcome_of_script}
-use Rattle.uni_script.specs.Lines.{lines_of_read, outcome_of_stop, outcome_of_read, StopsAt, IsRead, HasEnded}
+use Rattle.uni_script.specs.Lines.{Stop, lines_of_read, outcome_of_stop, outcome_of_read, StopsAt, IsRead, HasEnded}
+use Rattle.uni_script.specs.Lines.Stop.{End, Failed, TooLong, TooMany}
+use Rattle.uni_script.specs.ScriptRun.{IsRan, session_of_record}
+use Rattle.uni_script.specs.declared.script_run.Ran.{Ran}
+use Rattle.uni_script.specs.declared.script_run.ScriptRecord.{ScriptRecord}
+use Rattle.uni_script.specs.Told.{Telling, Tells, told_of_lines, told_of_script}
 use Rattle.uni_script.specs.declared.summary.Summary.{Summary}
 use Rattle.uni_script.specs.Summary.{summary_of_session}
 use Rattle.uni_script.specs.Promises.{IsPromisedSession}
-use Rattle.uni_script.specs.Replay.{IsInput, IsReplay, IsSummary, IsPromisedScript, IsPartOfReplay, HasAnswered, IsFaultOfScript, text_of_script}
+use Rattle.uni_script.specs.Replay.{IsInput, IsReplay, IsSummary, IsPromisedScript, IsPartOfReplay, HasAnswered, IsFaultOfScript, text_of_script, fault_of_script}
 use Rattle.uni_script.proofs.Cutting.{GoesOn-start, GoesOn-start_other, GoesOn-after, lines_of-append}
-use Rattle.uni_script.proofs.Running.{after_text, and_then-same, and_then-assoc, and_then-none, and_then-some, outcome_of_lines-append, outcome_of_lines-too_long, outcome_of_lines-too_many}
+use Rattle.uni_script.proofs.Running.{after_text, and_then-same, and_then-assoc, and_then-none, and_then-some, and_then-quiet, outcome_of_lines-append, outcome_of_lines-too_long, outcome_of_lines-too_many, few_lines}
+use Rattle.uni_script.proofs.Telling.{told_of_lines-length}
 use Rattle.uni_script.proofs.Written.{IsWritten-start, AppendsFront-all, AppendsFront-more}
 
 other_byte : (b : ℕ) → (b ≡ 10 → ⊥) → (b == 10) ≡ false
@@ -328,25 +332,49 @@ module _ (limit : ℕ) where
     ]
 
   -- what is told of a run that has ended
-  module _ (left left_after old new : Option (List ℕ)) where
-    abbrev Ended : Result Summary BenchFault → Type 0
-    Ended result = HasEnded limit left left_after old new result
+  module _ (left left_after old new : Option (List ℕ)) (told_old told : Option (List Telling)) where
+    abbrev Ended : Result (Ran ScriptRecord) BenchFault → Type 0
+    Ended result = HasEnded limit left left_after old new told_old told IsRan result
 
-    pub HasEnded-replayed : (result : Result Summary BenchFault) → Ended result → OnOk result (IsReplay limit left old new None)
-    HasEnded-replayed (Ok s) is = replayed_as left left_after is.stop is.bytes is.read old new None (same_run left left_after is.stop is.bytes is.read (not_failed left left_after is.stop is.bytes is.read is.ends.0)) is.ends.0 is.ends.1
+    pub HasEnded-replayed : (result : Result (Ran ScriptRecord) BenchFault) → Ended result → OnOk result (IsReplay limit left old new None)
+    HasEnded-replayed (Ok ran) is = replayed_as left left_after is.stop is.bytes is.read old new None (same_run left left_after is.stop is.bytes is.read (not_failed left left_after is.stop is.bytes is.read is.ends.0)) is.ends.0 is.ends.1
     HasEnded-replayed (Err e) is = tt
 
-    pub HasEnded-summary : (result : Result Summary BenchFault) → Ended result → IfOk result (IsSummary limit left)
-    HasEnded-summary (Ok s) is = same_summary left left_after is.stop is.bytes is.read s is.ends.0 is.summary
+    -- it was read to its end, without a fault; its session is that of the record, and what it tells was heard
+    pub HasEnded-whole : (ran : Ran ScriptRecord) → Ended (Ok ran)
+        → (bytes : List ℕ) × IsInput left bytes × (fault_of_script limit bytes ≡ None)
+        × ((b : ScriptSession) × ((outcome_of_script limit bytes).session ≡ Some b) × ((version : Version) × (b ≡ session_of_record version ran.«record»)) × Tells told_old told (told_of_script limit bytes) × (length (told_of_script limit bytes) ≤ 100000))
+    HasEnded-whole ran is =
+        let s = script left left_after is.stop is.bytes is.read in
+        let end = end_of_run is.stop is.bytes is.ends.0 in
+        let same = same_run left left_after is.stop is.bytes is.read (not_failed left left_after is.stop is.bytes is.read is.ends.0) in
+        let lines : lines_of_read is.stop is.bytes ≡ lines_of s = ap (λ k. lines_of_read k is.bytes) end ∙ ap lines_of (sym (script_whole left left_after is.stop is.bytes is.read end)) in
+        let quiet : (outcome_of_script limit s).fault ≡ None = ap (λ (o : Outcome). o.fault) same ∙ is.ends.0 in (
+          s,
+          is_input left left_after is.stop is.bytes is.read,
+          quiet,
+          (
+            is.made.0,
+            ap (λ (o : Outcome). o.session) same ∙ is.made.1,
+            is.made.2.2,
+            subst (λ l. Tells told_old told (told_of_lines limit 1 None l)) lines is.told_as,
+            (let few = few_lines limit 1 None (lines_of s) (omega arith) (and_then-quiet (outcome_of_lines limit 1 None (lines_of s)) (λ after. outcome_of_end (length (lines_of s)) after) quiet) in
+                let told = told_of_lines-length limit 1 None (lines_of s) in
+                omega arith),
+          ),
+        )
+
+    pub HasEnded-summary : (result : Result (Ran ScriptRecord) BenchFault) → Ended result → IfOk result (λ (ran : Ran ScriptRecord). IsSummary limit left ran.summary)
+    HasEnded-summary (Ok ran) is = same_summary left left_after is.stop is.bytes is.read ran.summary is.ends.0 (ap (λ o. option_map (summary_of_session (length (lines_of_read is.stop is.bytes))) o) is.made.1 ∙ ap Some (sym is.made.2.0))
     HasEnded-summary (Err e) is = tt
 
-    pub HasEnded-promised : (result : Result Summary BenchFault) → Ended result → OnOk result (IsPromisedScript limit left)
-    HasEnded-promised (Ok s) is = same_promise left left_after is.stop is.bytes is.read is.ends.0 is.promised
+    pub HasEnded-promised : (result : Result (Ran ScriptRecord) BenchFault) → Ended result → OnOk result (IsPromisedScript limit left)
+    HasEnded-promised (Ok ran) is = same_promise left left_after is.stop is.bytes is.read is.ends.0 (is.made.0, is.made.1, is.made.2.1)
     HasEnded-promised (Err e) is = tt
 
     -- no audit ends it
-    pub HasEnded-audited : (result : Result Summary BenchFault) → Ended result → (verdict : Verdict) → result ≡ Err (fault.Audit verdict) → ⊥
-    HasEnded-audited (Ok s) is verdict bad = let f : Ok s ≡ Err (fault.Audit verdict) = bad in cc
+    pub HasEnded-audited : (result : Result (Ran ScriptRecord) BenchFault) → Ended result → (verdict : Verdict) → result ≡ Err (fault.Audit verdict) → ⊥
+    HasEnded-audited (Ok ran) is verdict bad = let f : Ok ran ≡ Err (fault.Audit verdict) = bad in cc
     HasEnded-audited (Err e) is verdict same =
         let audit : e ≡ fault.Audit verdict = let f : Err e ≡ Err (fault.Audit verdict) = same in cc in
         elim is.ends [
@@ -357,23 +385,23 @@ module _ (limit : ℕ) where
           ]
         ]
 
-    pub HasEnded-all_read : (result : Result Summary BenchFault) → Ended result → OnOk result (IsAtEnd left_after)
-    HasEnded-all_read (Ok s) is = (subst (λ s. StopsAt s is.bytes is.read.past left_after) (end_of_run is.stop is.bytes is.ends.0) is.read.stops).1
+    pub HasEnded-all_read : (result : Result (Ran ScriptRecord) BenchFault) → Ended result → OnOk result (IsAtEnd left_after)
+    HasEnded-all_read (Ok ran) is = (subst (λ s. StopsAt s is.bytes is.read.past left_after) (end_of_run is.stop is.bytes is.ends.0) is.read.stops).1
     HasEnded-all_read (Err e) is = tt
 
-    pub HasEnded-fault : (result : Result Summary BenchFault) → Ended result → IfErr result (λ e. IsFaultOfScript e → IsReplay limit left old new (Some e))
-    HasEnded-fault (Ok s) is = tt
-    HasEnded-fault (Err e) is = λ own. elim is.ends [
+    pub HasEnded-bad : (result : Result (Ran ScriptRecord) BenchFault) → Ended result → IfErr result (λ e. IsFaultOfScript e → IsReplay limit left old new (Some e))
+    HasEnded-bad (Ok ran) is = tt
+    HasEnded-bad (Err e) is = λ own. elim is.ends [
       | inl early ↦ absurd (elim early.0 [ inl memory ↦ subst IsFaultOfScript memory own | inr write ↦ subst IsFaultOfScript write own ])
       | inr has ↦ replayed_as left left_after is.stop is.bytes is.read old new (Some e) (same_fault left left_after is.stop is.bytes is.read e has.0 own) has.0 has.1
     ]
 
-    pub HasEnded-part : (result : Result Summary BenchFault) → Ended result → IfErr result (λ e. IsPartOfReplay limit left old new)
-    HasEnded-part (Ok s) is = tt
+    pub HasEnded-part : (result : Result (Ran ScriptRecord) BenchFault) → Ended result → IfErr result (λ e. IsPartOfReplay limit left old new)
+    HasEnded-part (Ok ran) is = tt
     HasEnded-part (Err e) is = part_of left left_after is.stop is.bytes is.read old new (elim is.ends [ inl early ↦ early.1 | inr has ↦ AppendsFront-all old new _ has.1 ])
 
-    pub HasEnded-read : (result : Result Summary BenchFault) → Ended result → result ≡ Err Read → HasAnswered limit left left_after old new
-    HasEnded-read (Ok s) is bad = absurd (let f : Ok s ≡ Err Read = bad in cc)
+    pub HasEnded-read : (result : Result (Ran ScriptRecord) BenchFault) → Ended result → result ≡ Err Read → HasAnswered limit left left_after old new
+    HasEnded-read (Ok ran) is bad = absurd (let f : Ok ran ≡ Err Read = bad in cc)
     HasEnded-read (Err e) is same =
         let read : e ≡ Read = let f : Err e ≡ Err Read = same in cc in
         elim is.ends [

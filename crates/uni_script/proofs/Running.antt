@@ -3,10 +3,13 @@ use Rattle.std.proofs.Common.{◌≡◌, ◌∙◌, ℕ, ◌+◌, ◌<◌, ◌�
 use Rattle.std.proofs.lemmas.Bool.Decides.{nat_tests}
 use Rattle.std.specs.List.{list_all}
 use Rattle.uni_script.specs.declared.fault.BenchFault.{BenchFault}
-use Rattle.uni_script.specs.declared.fault.BenchFault.TheVariants.{TooLong, TooMany}
+use Rattle.uni_script.specs.declared.fault.BenchFault.TheVariants.{BadLine, TooLong, TooMany}
 use Rattle.ready_objects.specs.Words.{words_of_text}
-use Rattle.uni_script.specs.Grammar.{is_plain_byte, is_note}
-use Rattle.uni_script.specs.Meaning.{ScriptSession, Outcome, outcome_of_fault, and_then, and_then_from, outcome_of_line, outcome_of_words, outcome_of_short_line, outcome_of_lines}
+use Rattle.uni_script.specs.declared.grammar.Version.{Version}
+use Rattle.uni_script.specs.declared.grammar.Command.{Command}
+use Rattle.uni_script.specs.Grammar.{is_plain_byte, is_note, command_of_words}
+use Rattle.uni_script.specs.Objects.{SpokenObject}
+use Rattle.uni_script.specs.Meaning.{Session, session_after, ScriptSession, Outcome, result_of_command, outcome_of_text, outcome_of_command, outcome_of_fault, and_then, and_then_from, outcome_of_line, outcome_of_words, outcome_of_short_line, outcome_of_lines}
 
 -- a line that isn't too long
 abbrev pub is_short : List ℕ → Bool
@@ -38,6 +41,24 @@ and_then-none first rest none = rw none refl
 
 pub and_then-some : (first : Outcome) (rest : Option ScriptSession → Outcome) (e : BenchFault) → first.fault ≡ Some e → and_then first rest ≡ first
 and_then-some first rest e some = rw some refl
+
+-- an outcome that goes on without a fault had none
+pub and_then-quiet : (first : Outcome) (rest : Option ScriptSession → Outcome) → (and_then first rest).fault ≡ None → first.fault ≡ None
+and_then-quiet first rest none = at first.fault refl
+  where
+    at : (f : Option BenchFault) → first.fault ≡ f → first.fault ≡ None
+    at None e = e
+    at (Some f) e = absurd (let h : Some f ≡ None = sym e ∙ sym (ap (λ (o : Outcome). o.fault) (and_then-some first rest f e)) ∙ none in cc)
+
+-- words that are a command, and words that are none
+pub outcome_of_command-some : {S I R : Type 0} (o : SpokenObject S I R) (inside : Version → Session S I R → ScriptSession) (version : Version) (number : ℕ) (b : Session S I R) (words : List (List ℕ)) (command : Command I)
+    → command_of_words version o.language.inv_of_words words ≡ Some command
+    → outcome_of_command o inside version number b words ≡ outcome_of_text (inside version (session_after o b (result_of_command o b command).events)) (result_of_command o b command).text
+outcome_of_command-some o inside version number b words command is = rw is refl
+
+pub outcome_of_command-none : {S I R : Type 0} (o : SpokenObject S I R) (inside : Version → Session S I R → ScriptSession) (version : Version) (number : ℕ) (b : Session S I R) (words : List (List ℕ))
+    → command_of_words version o.language.inv_of_words words ≡ None → outcome_of_command o inside version number b words ≡ outcome_of_fault (Some (inside version b)) (BadLine number)
+outcome_of_command-none o inside version number b words none = rw none refl
 
 -- where the history can have so many events
 module _ (limit : ℕ) where
@@ -78,3 +99,23 @@ module _ (limit : ℕ) where
   outcome_of_short_line-words number b line words known plain note same is =
       let meant : outcome_of_short_line limit number b line ≡ outcome_of_words limit number b words = rw plain (rw note (rw same refl)) in
       sym (meant ∙ is)
+
+  -- lines without a fault are no more than a script may have
+  pub few_lines : (number : ℕ) (b : Option ScriptSession) (lines : List (List ℕ)) → number ≤ 100001 → (outcome_of_lines limit number b lines).fault ≡ None → number + length lines ≤ 100001
+  few_lines number b [] low none = omega arith
+  few_lines number b (x ∷ xs) low none = at (nat_lt 100000 number) refl (λ low none. few_lines (number + 1) (outcome_of_line limit number b x).session xs low none)
+    where
+      rest : Option ScriptSession → Outcome
+      rest after = outcome_of_lines limit (number + 1) after xs
+
+      first : (outcome_of_line limit number b x).fault ≡ None
+      first = and_then-quiet (outcome_of_line limit number b x) rest none
+
+      later : (rest (outcome_of_line limit number b x).session).fault ≡ None
+      later = sym (ap (λ (o : Outcome). o.fault) (and_then-none (outcome_of_line limit number b x) rest first)) ∙ none
+
+      at : (q : Bool) → nat_lt 100000 number ≡ q → (number + 1 ≤ 100001 → (rest (outcome_of_line limit number b x).session).fault ≡ None → number + 1 + length xs ≤ 100001) → number + length (x ∷ xs) ≤ 100001
+      at true e further =
+          let many : outcome_of_line limit number b x ≡ outcome_of_fault b TooMany = rw e refl in
+          absurd (let h : Some TooMany ≡ None = sym (ap (λ (o : Outcome). o.fault) many) ∙ first in cc)
+      at false e further = let few = further (grind (arith, nat_tests)) later in omega arith

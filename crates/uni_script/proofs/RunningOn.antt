@@ -1,5 +1,5 @@
 -- The run of the lines of a script, one after the other.
-use Rattle.std.proofs.Common.{◌≡◌, ◌∙◌, ◌↔◌, ◌⊎◌, inl, inr, ℕ, ◌+◌, ◌≤◌, Bool, not, if◌then◌else◌, true, false, List, [], ◌∷◌, ◌++◌, length, Option, None, Some, option_map, Result, Ok, Err, IfOk, IfSome, IfNone, OnOk, refl, sym, ap, subst, arith, append-nil}
+use Rattle.std.proofs.Common.{◌≡◌, ◌∙◌, ◌↔◌, ◌⊎◌, inl, inr, ℕ, ◌+◌, ◌≤◌, Bool, not, if◌then◌else◌, true, false, List, [], ◌∷◌, ◌++◌, length, Option, None, Some, Result, Ok, Err, IfOk, IfSome, IfNone, OnOk, refl, sym, ap, subst, arith, append_assoc, append-nil}
 use Rattle.std.proofs.KnownBytes.{Appends-nil, Appends-trans}
 use Rattle.std.specs.Io.KnownBytes.{Appends, Consumes}
 use Rattle.std.specs.List.{list_all}
@@ -7,21 +7,22 @@ use Rattle.std.proofs.lemmas.Bool.Decides.{nat_tests}
 use Rattle.std.specs.Option.{option_map_or}
 use Rattle.ready_objects.specs.Words.{words_of_text}
 use Rattle.uni_script.specs.declared.fault.BenchFault.{BenchFault}
-use Rattle.uni_script.specs.declared.fault.BenchFault.TheVariants.{BadByte, BadLine, BadHeader, Write, Memory}
+use Rattle.uni_script.specs.declared.fault.BenchFault.TheVariants.{BadByte, BadLine, BadHeader, Read, Write, Memory}
+use Rattle.uni_script.specs.declared.fault.BenchFault.TheVariants as fault
 use Rattle.uni_script.specs.declared.lines.Lines.{Lines}
 use Rattle.uni_script.specs.declared.lines.Source.{Source}
 use Rattle.uni_script.specs.declared.lines.Source.TheVariants.{Open, Ended}
-use Rattle.uni_script.specs.declared.lines.Stop.{Stop}
-use Rattle.uni_script.specs.declared.lines.Stop.TheVariants.{End, Failed}
 use Rattle.uni_script.specs.declared.summary.Summary.{Summary}
 use Rattle.uni_script.specs.declared.grammar.Version.{Version}
 use Rattle.uni_script.specs.Ends.{AppendsFront}
 use Rattle.uni_script.specs.Grammar.{cut, last_line, is_plain_byte, is_note, header_of_words, command_of_words}
 use Rattle.uni_script.specs.Objects.{SpokenObject, spoken_of}
-use Rattle.uni_script.specs.Meaning.{Session, session_after, ScriptSession, Outcome, script_session, session_of_header, result_of_command, outcome_of_fault, outcome_of_text, and_then, outcome_of_command, outcome_of_words, outcome_of_short_line, outcome_of_lines, outcome_of_end}
+use Rattle.uni_script.specs.Meaning.{Session, session_after, ScriptSession, Outcome, script_session, session_of_header, result_of_command, outcome_of_fault, outcome_of_text, and_then, outcome_of_command, outcome_of_words, outcome_of_line, outcome_of_short_line, outcome_of_lines, outcome_of_end}
 use Rattle.uni_script.specs.Summary.{summary_of_session}
 use Rattle.uni_script.specs.Promises.{IsPromisedSession}
-use Rattle.uni_script.specs.Lines.{IsHeld, line_of, rest_of, HasTaken, HasStopped, HasRun, HasEnded, IsRead, lines_of_read, outcome_of_stop, outcome_of_read, EndsAs, WritesAs}
+use Rattle.uni_script.specs.Told.{Telling, Tells, told_of_line, told_of_lines}
+use Rattle.uni_script.specs.Lines.{Stop, IsHeld, line_of, rest_of, HasTaken, HasStopped, HasRun, HasEnded, IsRead, lines_of_read, fault_of_stop, outcome_of_stop, outcome_of_read, EndsAs, WritesAs, IsSummaryOf}
+use Rattle.uni_script.specs.Lines.Stop.{End, Failed, TooLong, TooMany}
 use Rattle.uni_script.proofs.Cutting.{cut-append}
 use Rattle.uni_script.proofs.Running.{is_short, after_text, and_then-none, and_then-some, and_then-assoc, outcome_of_line-short, outcome_of_lines-append}
 use Rattle.uni_script.proofs.Taking.{line_of-length}
@@ -47,10 +48,32 @@ IsSilent-outcome_of_command o inside version number b words =
     IsSilent-map_or (λ command. outcome_of_text (inside version (session_after o b (result_of_command o b command).events)) (result_of_command o b command).text) (command_of_words version o.language.inv_of_words words) (outcome_of_fault (Some (inside version b)) (BadLine number))
     (λ command. IsSilent-none (Some (inside version (session_after o b (result_of_command o b command).events))) (result_of_command o b command).text) (λ e q. refl)
 
+-- nothing more is told
+pub Tells-nil : (told : Option (List Telling)) → Tells told told []
+Tells-nil None = tt
+Tells-nil (Some told) = sym (append-nil told)
+
+Tells-trans : (a b c : Option (List Telling)) (xs ys : List Telling) → Tells a b xs → Tells b c ys → Tells a c (xs ++ ys)
+Tells-trans None b c xs ys p q = tt
+Tells-trans (Some a) None c xs ys p q = absurd p
+Tells-trans (Some a) (Some b) None xs ys p q = absurd q
+Tells-trans (Some a) (Some b) (Some c) xs ys p q = q ∙ ap (λ l. l ++ ys) p ∙ append_assoc a xs ys
+
+-- the fault with which reading stopped ends the run
+stop_faults : (stop : Stop) (b : Option ScriptSession) (n : ℕ) (e : BenchFault) → fault_of_stop stop n ≡ Some e → outcome_of_stop stop n b ≡ outcome_of_fault b e
+stop_faults End b n e is = absurd (let f : None ≡ Some e = is in cc)
+stop_faults Failed b n e is = ap (outcome_of_fault b) (let f : Some Read ≡ Some e = is in let g : Read ≡ e = cc in g)
+stop_faults TooLong b n e is = ap (outcome_of_fault b) (let f : Some (fault.TooLong (n + 1)) ≡ Some e = is in let g : fault.TooLong (n + 1) ≡ e = cc in g)
+stop_faults TooMany b n e is = ap (outcome_of_fault b) (let f : Some fault.TooMany ≡ Some e = is in let g : fault.TooMany ≡ e = cc in g)
+
 -- a call that didn't fail so leaves an end as it was
 pub stays_false : (b : Bool) (P : Type 0) → (P ↔ (b ≡ true)) → (P → ⊥) → b ≡ false
 stays_false true P same other = absurd (other (same.1 refl))
 stays_false false P same other = refl
+
+-- a result has one fault
+pub one_fault : {A : Type 0} (e f : BenchFault) (r : Result A BenchFault) → r ≡ Err e → r ≡ Err f → e ≡ f
+one_fault e f r p q = let h : Err e ≡ Err f = sym p ∙ q in cc
 
 pub OnOk-always : {A B : Type 0} (r : Result A B) (P : Type 0) → P → OnOk r P
 OnOk-always (Ok x) P p = p
@@ -63,9 +86,9 @@ IfOk-map (Err e) P Q f p = tt
 pub is_short-line : (lines : Lines) → IsHeld lines → is_short (line_of lines) ≡ true
 is_short-line lines held = let n = line_of-length lines held in let w = held.width in grind (arith, nat_tests)
 
-pub WritesAs-header : (outcome : Outcome) (b : Option ScriptSession) (e : BenchFault) (old : Option (List ℕ)) → (e ≡ Memory) ⊎ (outcome ≡ outcome_of_fault b e) → WritesAs {A = Summary} outcome old old (Err e)
-WritesAs-header outcome b e old (inl memory) = inl (inl memory, AppendsFront-nil old outcome.text)
-WritesAs-header outcome b e old (inr same) = inr (ap (λ (o : Outcome). o.fault) same, subst (Appends old old) (sym (ap (λ (o : Outcome). o.text) same)) (Appends-nil old))
+pub WritesAs-header : (B : Type 0) (outcome : Outcome) (b : Option ScriptSession) (e : BenchFault) (old : Option (List ℕ)) → (e ≡ Memory) ⊎ (outcome ≡ outcome_of_fault b e) → WritesAs {A = B} outcome old old (Err e)
+WritesAs-header B outcome b e old (inl memory) = inl (inl memory, AppendsFront-nil old outcome.text)
+WritesAs-header B outcome b e old (inr same) = inr (ap (λ (o : Outcome). o.fault) same, subst (Appends old old) (sym (ap (λ (o : Outcome). o.text) same)) (Appends-nil old))
 
 pub of_some : {A : Type 0} (o : Option A) (x : A) (P : A → Type 0) → o ≡ Some x → IfSome o P → P x
 of_some o x P e h = let g : IfSome (Some x) P = subst (λ q. IfSome q P) e h in g
@@ -123,6 +146,34 @@ IsWhole-taken old now lines taken has = at lines.source refl
 
 -- where the history can have so many events
 module _ (limit : ℕ) where
+  -- lines without a fault tell what they do, and then the further lines what they do
+  told_of_lines-append : (number : ℕ) (a : Option ScriptSession) (xs ys : List (List ℕ)) → (outcome_of_lines limit number a xs).fault ≡ None
+      → told_of_lines limit number a (xs ++ ys) ≡ told_of_lines limit number a xs ++ told_of_lines limit (number + length xs) (outcome_of_lines limit number a xs).session ys
+  told_of_lines-append number a [] ys none = let e : number + 0 ≡ number = omega arith in rw e refl
+  told_of_lines-append number a (x ∷ xs) ys none = at first.fault refl (λ quiet. told_of_lines-append (number + 1) first.session xs ys quiet)
+    where
+      first : Outcome
+      first = outcome_of_line limit number a x
+
+      rest : Option ScriptSession → Outcome
+      rest after = outcome_of_lines limit (number + 1) after xs
+
+      front : List Telling
+      front = told_of_line a x ++ told_of_lines limit (number + 1) first.session xs
+
+      at : (f : Option BenchFault) → first.fault ≡ f
+          → ((rest first.session).fault ≡ None
+          → told_of_lines limit (number + 1) first.session (xs ++ ys) ≡ told_of_lines limit (number + 1) first.session xs ++ told_of_lines limit (number + 1 + length xs) (rest first.session).session ys)
+          → told_of_lines limit number a (x ∷ xs ++ ys) ≡ told_of_lines limit number a (x ∷ xs) ++ told_of_lines limit (number + length (x ∷ xs)) (outcome_of_lines limit number a (x ∷ xs)).session ys
+      at (Some f) e further = absurd (let h : None ≡ Some f = sym none ∙ ap (λ (o : Outcome). o.fault) (and_then-some first rest f e) ∙ e in cc)
+      at None e further =
+          let is = and_then-none first rest e in
+          let quiet = sym (ap (λ (o : Outcome). o.fault) is) ∙ none in
+          ap (λ l. told_of_line a x ++ l) (further quiet)
+          ∙ sym (append_assoc (told_of_line a x) (told_of_lines limit (number + 1) first.session xs) (told_of_lines limit (number + 1 + length xs) (rest first.session).session ys))
+          ∙ ap (λ k. front ++ told_of_lines limit k (rest first.session).session ys) (let k : number + 1 + length xs ≡ number + length (x ∷ xs) = omega arith in k)
+          ∙ ap (λ (o : Outcome). front ++ told_of_lines limit (number + length (x ∷ xs)) o.session ys) (sym is)
+
   IsSilent-outcome_of_words : (number : ℕ) (b : Option ScriptSession) (words : List (List ℕ)) → IsSilent (outcome_of_words limit number b words)
   IsSilent-outcome_of_words number None words =
       IsSilent-map_or (λ header. outcome_of_text (session_of_header limit header) []) (header_of_words words) (outcome_of_fault None (BadHeader number)) (λ header. IsSilent-none (Some (session_of_header limit header)) []) (λ e q. refl)
@@ -138,17 +189,18 @@ module _ (limit : ℕ) where
 
   -- a line that has a fault, or is refused memory, writes nothing
   pub WritesAs-faulted : {B : Type 0} (number : ℕ) (b : Option ScriptSession) (line : List ℕ) (e : BenchFault) (text : List ℕ) (old : Option (List ℕ)) (result : Result B BenchFault) → result ≡ Err e
-      → EndsAs {A = Summary} (outcome_of_short_line limit number b line) [] text (Err e) → WritesAs (outcome_of_short_line limit number b line) old old result
+      → EndsAs {A = Unit {0}} (outcome_of_short_line limit number b line) [] text (Err e) → WritesAs (outcome_of_short_line limit number b line) old old result
   WritesAs-faulted number b line e text old (Ok x) bad ends = cc
   WritesAs-faulted number b line e text old (Err f) same (inl memory) = inl (inl (let g : f ≡ e = cc in g ∙ memory), AppendsFront-nil old (outcome_of_short_line limit number b line).text)
   WritesAs-faulted number b line e text old (Err f) same (inr has) =
       let g : f ≡ e = cc in
       inr (has.0 ∙ ap Some (sym g), subst (Appends old old) (sym (IsSilent-outcome_of_short_line number b line e has.0)) (Appends-nil old))
 
-  pub HasRun-start : (left written : Option (List ℕ)) (lines : Lines) → HasTaken left left lines [] → HasRun limit left left lines written written [] None
-  HasRun-start left written lines has = record { reading = has; fault = refl; session_after = refl; written_as = Appends-nil written }
+  pub HasRun-start : (left written : Option (List ℕ)) (told : Option (List Telling)) (lines : Lines) → HasTaken left left lines [] → HasRun limit left left lines written written told told [] None
+  HasRun-start left written told lines has = record { reading = has; fault = refl; session_after = refl; written_as = Appends-nil written; told_as = Tells-nil told }
 
-  module _ (old now : Option (List ℕ)) (lines : Lines) (written_old written : Option (List ℕ)) (taken : List (List ℕ)) (b : Option ScriptSession) (run : HasRun limit old now lines written_old written taken b) where
+  module _ (old now : Option (List ℕ)) (lines : Lines) (written_old written : Option (List ℕ)) (told_old told : Option (List Telling)) (taken : List (List ℕ)) (b : Option ScriptSession)
+      (run : HasRun limit old now lines written_old written told_old told taken b) where
     abbrev pub before : Outcome
     before = outcome_of_lines limit 1 None taken
 
@@ -172,20 +224,29 @@ module _ (limit : ℕ) where
           ∙ ap (λ o. after_text before.text (and_then o (λ c. record { session = c; text = []; fault = None }))) (outcome_of_line-short limit after.count b line few short)
           ∙ ap (after_text before.text) (and_then-done first)
 
-      -- a line without a fault was run, and its answer written
-      pub HasRun-line : (b' : Option ScriptSession) (written_new : Option (List ℕ)) → first.fault ≡ None → first.session ≡ b' → Appends written written_new first.text
-          → HasRun limit old new after written_old written_new (taken ++ line ∷ []) b'
-      HasRun-line b' written_new none same wrote = record {
+      told_with_line : told_of_lines limit 1 None taken ++ told_of_line b line ≡ told_of_lines limit 1 None (taken ++ line ∷ [])
+      told_with_line =
+          let one : told_of_line b line ≡ told_of_lines limit (1 + length taken) b (line ∷ []) = sym (append-nil (told_of_line b line)) in
+          ap (λ l. told_of_lines limit 1 None taken ++ l) one
+          ∙ ap (λ s. told_of_lines limit 1 None taken ++ told_of_lines limit (1 + length taken) s (line ∷ [])) (sym run.session_after)
+          ∙ sym (told_of_lines-append 1 None taken (line ∷ []) run.fault)
+
+      -- a line without a fault was run, its answer written, and what it tells heard
+      pub HasRun-line : (b' : Option ScriptSession) (written_new : Option (List ℕ)) (told_new : Option (List Telling)) → first.fault ≡ None → first.session ≡ b' → Appends written written_new first.text → Tells told told_new (told_of_line b line)
+          → HasRun limit old new after written_old written_new told_old told_new (taken ++ line ∷ []) b'
+      HasRun-line b' written_new told_new none same wrote tells = record {
         reading = has;
         fault = ap (λ (o : Outcome). o.fault) outcome_with_line ∙ none;
         session_after = ap (λ (o : Outcome). o.session) outcome_with_line ∙ same;
         written_as = subst (Appends written_old written_new) (sym (ap (λ (o : Outcome). o.text) outcome_with_line)) (Appends-trans written_old written written_new before.text first.text run.written_as wrote);
+        told_as = subst (Tells told_old told_new) told_with_line (Tells-trans told_old told told_new (told_of_lines limit 1 None taken) (told_of_line b line) run.told_as tells);
       }
 
       -- a line without a fault and without an answer was run
-      pub HasRun-quiet : (b' : Option ScriptSession) → first ≡ record { session = b'; text = []; fault = None } → HasRun limit old new after written_old written (taken ++ line ∷ []) b'
-      HasRun-quiet b' quiet =
-          HasRun-line b' written (ap (λ (o : Outcome). o.fault) quiet) (ap (λ (o : Outcome). o.session) quiet) (subst (Appends written written) (sym (ap (λ (o : Outcome). o.text) quiet)) (Appends-nil written))
+      pub HasRun-quiet : (b' : Option ScriptSession) (told_new : Option (List Telling)) → first ≡ record { session = b'; text = []; fault = None } → Tells told told_new (told_of_line b line)
+          → HasRun limit old new after written_old written told_old told_new (taken ++ line ∷ []) b'
+      HasRun-quiet b' told_new quiet tells =
+          HasRun-line b' written told_new (ap (λ (o : Outcome). o.fault) quiet) (ap (λ (o : Outcome). o.session) quiet) (subst (Appends written written) (sym (ap (λ (o : Outcome). o.text) quiet)) (Appends-nil written)) tells
 
       abbrev pub whole : IsWhole old new (taken ++ line ∷ [])
       whole = IsWhole-taken old new after (taken ++ line ∷ []) has
@@ -202,11 +263,12 @@ module _ (limit : ℕ) where
           ∙ ap (λ o. and_then o rest_of_run) outcome_with_line
 
       -- the run ends at a line
-      pub HasEnded-line : (e : BenchFault) (written_new : Option (List ℕ)) → WritesAs {A = Summary} first written written_new (Err e) → HasEnded limit old new written_old written_new (Err e)
-      HasEnded-line e written_new ends = record { stop = whole.stop; bytes = whole.bytes; read = whole.read; ends = ended ends; summary = tt; promised = tt }
+      pub HasEnded-line : {Made : Type 0} (IsMade : (lines : ℕ) → ScriptSession → Made → Type 0) (e : BenchFault) (written_new : Option (List ℕ)) (told_new : Option (List Telling)) → WritesAs {A = Made} first written written_new (Err e)
+          → HasEnded limit old new written_old written_new told_old told_new IsMade (Err e)
+      HasEnded-line {Made} IsMade e written_new told_new ends = record { stop = whole.stop; bytes = whole.bytes; read = whole.read; ends = ended ends; made = tt; told_as = tt }
         where
           ended : ((((e ≡ Memory) ⊎ (e ≡ Write)) × AppendsFront written written_new first.text) ⊎ ((first.fault ≡ Some e) × Appends written written_new first.text))
-              → WritesAs {A = Summary} (outcome_of_read limit whole.stop whole.bytes) written_old written_new (Err e)
+              → WritesAs {A = Made} (outcome_of_read limit whole.stop whole.bytes) written_old written_new (Err e)
           ended (inl early) =
               let goes = text_goes_on (after_text before.text first) rest_of_run in
               inl (
@@ -219,8 +281,8 @@ module _ (limit : ℕ) where
               inr (ap (λ (o : Outcome). o.fault) same ∙ has.0, subst (Appends written_old written_new) (sym (ap (λ (o : Outcome). o.text) same)) (Appends-trans written_old written written_new before.text first.text run.written_as has.1))
 
     -- memory was refused before a further line was taken
-    pub HasEnded-memory : HasEnded limit old now written_old written (Err Memory)
-    HasEnded-memory =
+    pub HasEnded-memory : {Made : Type 0} (IsMade : (lines : ℕ) → ScriptSession → Made → Type 0) (told_new : Option (List Telling)) → HasEnded limit old now written_old written told_old told_new IsMade (Err Memory)
+    HasEnded-memory IsMade told_new =
         let whole : IsWhole old now taken = IsWhole-taken old now lines taken run.reading in
         let stopped : Option ScriptSession → Outcome = λ d. outcome_of_stop whole.stop (length (lines_of_read whole.stop whole.bytes)) d in
         let rest : Option ScriptSession → Outcome = λ c. and_then (outcome_of_lines limit (1 + length taken) c whole.more) stopped in
@@ -232,56 +294,74 @@ module _ (limit : ℕ) where
           bytes = whole.bytes;
           read = whole.read;
           ends = inl (inl refl, subst (AppendsFront written_old written) (sym (ap (λ (o : Outcome). o.text) same ∙ goes.1)) (AppendsFront-more written_old written before.text goes.0 (AppendsFront-all written_old written before.text run.written_as)));
-          summary = tt;
-          promised = tt;
+          made = tt;
+          told_as = tt;
         }
 
     module _ (new : Option (List ℕ)) (stop : Stop) (has : HasStopped old new stop taken) where
-      pub outcome_of_stopped : (session : Option ScriptSession) → session ≡ b → outcome_of_read limit stop has.bytes ≡ after_text before.text (outcome_of_stop stop (length taken) session)
+      outcome_of_stopped : (session : Option ScriptSession) → session ≡ b → outcome_of_read limit stop has.bytes ≡ after_text before.text (outcome_of_stop stop (length taken) session)
       outcome_of_stopped session same =
           ap (λ l. and_then (outcome_of_lines limit 1 None l) (λ c. outcome_of_stop stop (length l) c)) has.taken_as
           ∙ and_then-none before (λ c. outcome_of_stop stop (length taken) c) run.fault
           ∙ ap (λ c. after_text before.text (outcome_of_stop stop (length taken) c)) (run.session_after ∙ sym same)
 
       -- the run ends where no further line was taken
-      pub HasEnded-stop : (e : BenchFault) → outcome_of_stop stop (length taken) b ≡ outcome_of_fault b e → HasEnded limit old new written_old written (Err e)
-      HasEnded-stop e is =
+      pub HasEnded-stop : {Made : Type 0} (IsMade : (lines : ℕ) → ScriptSession → Made → Type 0) (e : BenchFault) → outcome_of_stop stop (length taken) b ≡ outcome_of_fault b e
+          → HasEnded limit old new written_old written told_old told IsMade (Err e)
+      HasEnded-stop IsMade e is =
           let same = outcome_of_stopped b refl ∙ ap (after_text before.text) is in record {
             stop = stop;
             bytes = has.bytes;
             read = has.read;
             ends = inr (ap (λ (o : Outcome). o.fault) same, subst (Appends written_old written) (sym (ap (λ (o : Outcome). o.text) same ∙ append-nil before.text)) run.written_as);
-            summary = tt;
-            promised = tt;
+            made = tt;
+            told_as = tt;
           }
 
+      -- so it does where reading stopped with a fault
+      pub HasEnded-fault : {Made : Type 0} (IsMade : (lines : ℕ) → ScriptSession → Made → Type 0) (e : BenchFault) → fault_of_stop stop lines.count ≡ Some e → HasEnded limit old new written_old written told_old told IsMade (Err e)
+      HasEnded-fault IsMade e is = HasEnded-stop IsMade e (stop_faults stop b (length taken) e (ap (λ n. fault_of_stop stop n) run.reading.count ∙ is))
+
   -- the run ends where the script does
-  pub HasEnded-end : (old now : Option (List ℕ)) (lines : Lines) (written_old written : Option (List ℕ)) (taken : List (List ℕ)) (b : ScriptSession) → HasRun limit old now lines written_old written taken (Some b)
-      → (new : Option (List ℕ)) → HasStopped old new End taken → (written_new : Option (List ℕ)) (result : Result Summary BenchFault) → WritesAs (outcome_of_end lines.count (Some b)) written written_new result
-      → IfOk result (λ s. summary_of_session lines.count b ≡ s) → OnOk result (IsPromisedSession b) → HasEnded limit old new written_old written_new result
-  HasEnded-end old now lines written_old written taken b run new has written_new result ends summary kept = record {
+  pub HasEnded-end : (old now : Option (List ℕ)) (lines : Lines) (written_old written : Option (List ℕ)) (told_old told : Option (List Telling)) (taken : List (List ℕ)) (b : ScriptSession)
+      → HasRun limit old now lines written_old written told_old told taken (Some b) → (new : Option (List ℕ)) → HasStopped old new End taken → (written_new : Option (List ℕ)) (result : Result Summary BenchFault)
+      → WritesAs (outcome_of_end lines.count (Some b)) written written_new result → IfOk result (λ s. summary_of_session lines.count b ≡ s) → OnOk result (IsPromisedSession b)
+      → HasEnded limit old new written_old written_new told_old told (IsSummaryOf b) result
+  HasEnded-end old now lines written_old written told_old told taken b run new has written_new result ends summary kept = record {
     stop = End;
     bytes = has.bytes;
     read = has.read;
     ends = ended result (subst (λ n. WritesAs (outcome_of_end n (Some b)) written written_new result) (sym run.reading.count) ends);
-    summary = summed result summary;
-    promised = promised result kept;
+    made = made result summary kept;
+    told_as = OnOk-always result _ (subst (λ l. Tells told_old told (told_of_lines limit 1 None l)) (sym has.taken_as) run.told_as);
   }
     where
       same : outcome_of_read limit End has.bytes ≡ after_text (outcome_of_lines limit 1 None taken).text (outcome_of_end (length taken) (Some b))
-      same = outcome_of_stopped old now lines written_old written taken (Some b) run new End has (Some b) refl
+      same = outcome_of_stopped old now lines written_old written told_old told taken (Some b) run new End has (Some b) refl
 
       ended : (r : Result Summary BenchFault) → WritesAs (outcome_of_end (length taken) (Some b)) written written_new r → WritesAs (outcome_of_read limit End has.bytes) written_old written_new r
       ended (Ok s) w = (ap (λ (o : Outcome). o.fault) same, subst (Appends written_old written_new) (sym (ap (λ (o : Outcome). o.text) same)) (Appends-trans written_old written written_new (outcome_of_lines limit 1 None taken).text _ run.written_as w.1))
       ended (Err e) (inl early) = inl (early.0, subst (AppendsFront written_old written_new) (sym (ap (λ (o : Outcome). o.text) same)) (AppendsFront-after written_old written written_new (outcome_of_lines limit 1 None taken).text _ run.written_as early.1))
       ended (Err e) (inr bad) = absurd (let f : None ≡ Some e = bad.0 in cc)
 
-      summed : (r : Result Summary BenchFault) → IfOk r (λ s. summary_of_session lines.count b ≡ s) → IfOk r (λ s. option_map (summary_of_session (length (lines_of_read End has.bytes))) (outcome_of_read limit End has.bytes).session ≡ Some s)
-      summed (Ok s) h =
-          ap (λ (o : Outcome). option_map (summary_of_session (length (lines_of_read End has.bytes))) o.session) same
-          ∙ ap (λ n. Some (summary_of_session n b)) (ap length has.taken_as ∙ run.reading.count) ∙ ap Some h
-      summed (Err e) h = tt
+      made : (r : Result Summary BenchFault) → IfOk r (λ s. summary_of_session lines.count b ≡ s) → OnOk r (IsPromisedSession b)
+          → IfOk r (λ s. (c : ScriptSession) × ((outcome_of_read limit End has.bytes).session ≡ Some c) × IsSummaryOf b (length (lines_of_read End has.bytes)) c s)
+      made (Ok s) h kept = (b, ap (λ (o : Outcome). o.session) same, (refl, sym h ∙ ap (λ n. summary_of_session n b) (sym (ap length has.taken_as ∙ run.reading.count)), kept))
+      made (Err e) h kept = tt
 
-      promised : (r : Result Summary BenchFault) → OnOk r (IsPromisedSession b) → OnOk r ((c : ScriptSession) × ((outcome_of_read limit End has.bytes).session ≡ Some c) × IsPromisedSession c)
-      promised (Ok s) kept = (b, ap (λ (o : Outcome). o.session) same, kept)
-      promised (Err e) kept = tt
+-- what was made of a script, seen otherwise
+pub HasEnded-map : (limit : ℕ) (old new written_old written : Option (List ℕ)) (told_old told : Option (List Telling)) {A B : Type 0} (P : (lines : ℕ) → ScriptSession → A → Type 0) (Q : (lines : ℕ) → ScriptSession → B → Type 0) (a : A) (b : B)
+    → ((n : ℕ) (s : ScriptSession) → P n s a → Q n s b) → HasEnded limit old new written_old written told_old told P (Ok a) → HasEnded limit old new written_old written told_old told Q (Ok b)
+HasEnded-map limit old new written_old written told_old told P Q a b f is = record {
+  stop = is.stop;
+  bytes = is.bytes;
+  read = is.read;
+  ends = is.ends;
+  made = (is.made.0, is.made.1, f (length (lines_of_read is.stop is.bytes)) is.made.0 is.made.2);
+  told_as = is.told_as;
+}
+
+-- a fault is a fault, whatever would have been made
+pub HasEnded-err : (limit : ℕ) (old new written_old written : Option (List ℕ)) (told_old told : Option (List Telling)) {A B : Type 0} (P : (lines : ℕ) → ScriptSession → A → Type 0) (Q : (lines : ℕ) → ScriptSession → B → Type 0) (e : BenchFault)
+    → HasEnded limit old new written_old written told_old told P (Err e) → HasEnded limit old new written_old written told_old told Q (Err e)
+HasEnded-err limit old new written_old written told_old told P Q e is = record { stop = is.stop; bytes = is.bytes; read = is.read; ends = is.ends; made = tt; told_as = tt }

@@ -1,5 +1,5 @@
 -- How lines are taken of the bytes that a reader gives.
-use Rattle.std.proofs.Common.{◌≡◌, ◌≢◌, ◌∙◌, ℕ, zero, suc, ◌+◌, ◌-◌, ◌<◌, ◌≤◌, ◌==◌, not, ◌&&◌, Bool, true, false, List, [], ◌∷◌, ◌++◌, length, take, drop, Option, Result, Ok, Err, OnOk, IfErr, refl, sym, ap, subst, arith, append_assoc, append-nil}
+use Rattle.std.proofs.Common.{◌≡◌, ◌≢◌, ◌∙◌, ℕ, zero, suc, ◌+◌, ◌-◌, ◌<◌, ◌≤◌, ◌==◌, not, ◌&&◌, Bool, true, false, List, [], ◌∷◌, ◌++◌, length, take, drop, Option, refl, sym, ap, subst, arith, append_assoc, append-nil}
 use Rattle.std.proofs.lemmas.Bool.Decides.{nat_tests}
 use Rattle.std.proofs.lemmas.List.{length-append, length-take-le, length-drop, drop-take, drop-drop, take_all}
 use Rattle.std.proofs.lemmas.List.Folds.{list_all-append}
@@ -9,9 +9,11 @@ use Rattle.std.specs.Io.KnownBytes.{Consumes, Keeps, IsAtEnd}
 use Rattle.std.specs.List.{list_all}
 use Rattle.uni_script.specs.declared.lines.Lines.{Lines}
 use Rattle.uni_script.specs.declared.lines.Source.TheVariants.{Open, Ended}
-use Rattle.uni_script.specs.declared.lines.Stop.TheVariants.{End, Failed, TooLong, TooMany}
+use Rattle.uni_script.specs.declared.lines.Taken.{Taken}
+use Rattle.uni_script.specs.declared.lines.Taken.TheVariants as taken
 use Rattle.uni_script.specs.Grammar.{Cut, cut, last_line}
-use Rattle.uni_script.specs.Lines.{IsHeld, line_of, rest_of, HasTaken, HasStopped}
+use Rattle.uni_script.specs.Lines.{IsHeld, line_of, rest_of, HasTaken, HasStopped, TakesOn}
+use Rattle.uni_script.specs.Lines.Stop.{End, Failed, TooLong, TooMany}
 use Rattle.uni_script.proofs.Cutting.{end_of, end_of-end, end_of-other, cut_is, cut-append}
 
 -- a byte that ends no line
@@ -265,10 +267,7 @@ module _ (left old now : Option (List ℕ)) (lines : Lines) (taken : List (List 
       begins [] h = absurd (grind arith)
       begins (b ∷ l) h = (b, l, refl)
 
-pub OnOk-map : {A B : Type 0} (r : Result A B) (P Q : Type 0) → (P → Q) → OnOk r P → OnOk r Q
-OnOk-map (Ok x) P Q f p = f p
-OnOk-map (Err e) P Q f p = tt
-
-pub IfErr-map : {A B : Type 0} (r : Result A B) (P Q : B → Type 0) → ((e : B) → P e → Q e) → IfErr r P → IfErr r Q
-IfErr-map (Ok x) P Q f p = tt
-IfErr-map (Err e) P Q f p = f e p
+-- the last line was taken, or there was none
+pub TakesOn-cases : (old new : Option (List ℕ)) (before after : Lines) (t : Taken) → (t ≡ taken.Line → TakesOn old new before after taken.Line) → (t ≡ taken.End → TakesOn old new before after taken.End) → TakesOn old new before after t
+TakesOn-cases old new before after taken.Line line end = line refl
+TakesOn-cases old new before after taken.End line end = end refl

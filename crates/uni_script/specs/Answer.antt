@@ -5,8 +5,6 @@ use Rattle.std.specs.Option.{option_map_or}
 use Rattle.seq_object.specs.declared.call_id.CallId.{CallId}
 use Rattle.uni_script.specs.declared.answer.Refusal.{Refusal}
 use Rattle.uni_script.specs.declared.answer.Refusal.TheVariants.{Process, Busy, Row, Idle, Pending, Sequence, History, Count}
-use Rattle.uni_script.specs.declared.answer.Answer.{Answer}
-use Rattle.uni_script.specs.declared.answer.Answer.TheVariants.{Called, Refused, Returned, Going, Trimmed, Reshaped, End}
 use Rattle.uni_model.specs.Chain.{Entry}
 
 -- the text of a call's name
@@ -65,26 +63,6 @@ reshaped_text count number = codes "reshaped " ++ decimal count ++ codes " at " 
 abbrev pub end_text : List ℕ
 end_text = codes "end" ++ 10 ∷ []
 
--- the line of an answer
-abbrev pub answer_text : Answer → List ℕ
-answer_text (Called call) = called_text call
-answer_text (Refused refusal) = refused_text refusal
-answer_text (Returned call reply steps turns) = returned_text call reply.items steps turns
-answer_text (Going call steps turns) = going_text call steps turns
-answer_text (Trimmed number) = trimmed_text number
-answer_text (Reshaped count number) = reshaped_text count number
-answer_text End = end_text
-
--- why a command was refused, where that is the answer
-abbrev pub refusal_in : Answer → Option Refusal
-refusal_in (Refused refusal) = Some refusal
-refusal_in (Called call) = None
-refusal_in (Returned call reply steps turns) = None
-refusal_in (Going call steps turns) = None
-refusal_in (Trimmed number) = None
-refusal_in (Reshaped count number) = None
-refusal_in End = None
-
 -- the line of an entry of the log, with these texts of invocations and responses; the response is a question mark where
 -- there is none yet
 abbrev pub entry_text : {I R : Type 0} → (I → List ℕ) → (R → List ℕ) → Entry I R → List ℕ
@@ -92,30 +70,25 @@ entry_text inv_text resp_text entry =
     decimal entry.number ++ codes " " ++ decimal entry.call.process ++ codes "." ++ decimal entry.call.nth ++ codes " "
     ++ inv_text entry.call.inv ++ codes " -> " ++ option_map_or resp_text entry.response (codes "?") ++ 10 ∷ []
 
-a_call_began : answer_text (Called (record { process = 0; nth = 1 })) ≡ codes "called 0.1" ++ 10 ∷ []
+a_call_began : called_text (record { process = 0; nth = 1 }) ≡ codes "called 0.1" ++ 10 ∷ []
 unfolding digits
 a_call_began = refl
 
-a_process_is_refused : answer_text (Refused (Process 9)) ≡ codes "refused process 9" ++ 10 ∷ []
+a_process_is_refused : refused_text (Process 9) ≡ codes "refused process 9" ++ 10 ∷ []
 unfolding digits
 a_process_is_refused = refl
 
-a_call_goes_on : answer_text (Going (record { process = 0; nth = 0 }) 10 1) ≡ codes "going 0.0 steps 10 turns 1" ++ 10 ∷ []
+a_call_goes_on : going_text (record { process = 0; nth = 0 }) 10 1 ≡ codes "going 0.0 steps 10 turns 1" ++ 10 ∷ []
 unfolding digits
 a_call_goes_on = refl
 
-an_era_ends : answer_text (Reshaped 2 3) ≡ codes "reshaped 2 at 3" ++ 10 ∷ []
+an_era_ends : reshaped_text 2 3 ≡ codes "reshaped 2 at 3" ++ 10 ∷ []
 unfolding digits
 an_era_ends = refl
 
 two_heads : heads_text 2 (λ p. p + 3) ≡ codes "heads 3 4" ++ 10 ∷ []
 unfolding digits
 two_heads = refl
-
--- the answer to a command after which the process has no call pending
-abbrev pub IsOver : Answer → Type 0
-IsOver (Going call steps turns) = ⊥
-IsOver _ = Unit {0}
 
 -- each text once
 texts_of_refusals : map refusal_text (Process 9 ∷ Busy 9 ∷ Row 9 ∷ Idle 9 ∷ Pending 9 ∷ Sequence ∷ History ∷ Count 65 ∷ [])
@@ -128,11 +101,11 @@ a_call_has_returned : returned_text (record { process = 63; nth = 4095 }) (codes
 unfolding digits
 a_call_has_returned = refl
 
-an_era_is_trimmed : answer_text (Trimmed 281474976710655) ≡ codes "trimmed 281474976710655" ++ 10 ∷ []
+an_era_is_trimmed : trimmed_text 281474976710655 ≡ codes "trimmed 281474976710655" ++ 10 ∷ []
 unfolding digits
 an_era_is_trimmed = refl
 
-a_script_ends : answer_text End ≡ codes "end" ++ 10 ∷ []
+a_script_ends : end_text ≡ codes "end" ++ 10 ∷ []
 a_script_ends = refl
 
 no_heads : heads_text 0 (λ p. p) ≡ codes "heads" ++ 10 ∷ []

@@ -1,5 +1,5 @@
 -- How the lines of a script are taken from a reader, and what is run of them.
-use Rattle.std.specs.Prelude.{◌≡◌, ◌≢◌, ◌⊎◌, ℕ, ◌+◌, ◌-◌, ◌<◌, ◌≤◌, List, [], ◌∷◌, ◌++◌, length, take, drop, replicate, slice_index, Option, Some, None, Result, Ok, Err, IfOk, OnOk, option_map, refl}
+use Rattle.std.specs.Prelude.{◌≡◌, ◌≢◌, ◌⊎◌, ℕ, ◌+◌, ◌-◌, ◌<◌, ◌≤◌, List, [], ◌∷◌, ◌++◌, length, take, drop, replicate, slice_index, Option, Some, None, Result, Ok, Err, IfOk, OnOk, refl}
 use Rattle.std.proofs.Common.{arith, ap, sym}
 use Rattle.std.specs.Io.KnownBytes.{Consumes, Appends, IsAtEnd}
 use Rattle.uni_script.specs.Ends.{AppendsFront}
@@ -8,13 +8,14 @@ use Rattle.uni_script.specs.declared.fault.BenchFault.TheVariants.{Read, Write, 
 use Rattle.uni_script.specs.declared.fault.BenchFault.TheVariants as fault
 use Rattle.uni_script.specs.declared.lines.Lines.{Lines}
 use Rattle.uni_script.specs.declared.lines.Source.TheVariants.{Open, Ended}
-use Rattle.uni_script.specs.declared.lines.Stop.{Stop}
-use Rattle.uni_script.specs.declared.lines.Stop.TheVariants.{End, Failed, TooLong, TooMany}
+use Rattle.uni_script.specs.declared.lines.Taken.{Taken}
+use Rattle.uni_script.specs.declared.lines.Taken.TheVariants as taken
 use Rattle.uni_script.specs.declared.summary.Summary.{Summary}
 use Rattle.uni_script.specs.Grammar.{cut, lines_of}
 use Rattle.uni_script.specs.Meaning.{ScriptSession, Outcome, outcome_of_fault, and_then, outcome_of_lines, outcome_of_end}
 use Rattle.uni_script.specs.Summary.{summary_of_session}
 use Rattle.uni_script.specs.Promises.{IsPromisedSession}
+use Rattle.uni_script.specs.Told.{Telling, Tells, told_of_lines}
 
 -- the numbers of the lines are in range
 pub record IsHeld (lines : Lines) : Type 0 where
@@ -41,6 +42,13 @@ pub record HasTaken (old now : Option (List ℕ)) (lines : Lines) (taken : List 
   pub count : length taken ≡ lines.count
   pub whole : lines.source ≡ Open → (cut bytes).tail ≡ []
   pub ended : lines.source ≡ Ended → (rest_of lines ≡ []) × IsAtEnd now
+
+-- why no further line was taken: the script has ended, the reader has failed, or there is a byte that a script may not have
+pub data Stop : Type 0 where
+  End : Stop
+  Failed : Stop
+  TooLong : Stop
+  TooMany : Stop
 
 -- reading stopped here after these bytes: nothing was read past them, but for the byte that a script may not have
 abbrev pub StopsAt : Stop → (bytes past : List ℕ) → Option (List ℕ) → Type 0
@@ -76,6 +84,27 @@ pub record HasStopped (old new : Option (List ℕ)) (stop : Stop) (taken : List 
   pub read : IsRead old new stop bytes
   pub taken_as : lines_of_read stop bytes ≡ taken
 
+-- the fault of it, where so many lines were taken
+abbrev pub fault_of_stop : Stop → (lines : ℕ) → Option BenchFault
+fault_of_stop End lines = None
+fault_of_stop Failed lines = Some Read
+fault_of_stop TooLong lines = Some (fault.TooLong (lines + 1))
+fault_of_stop TooMany lines = Some fault.TooMany
+
+-- after lines that were taken a line more was, or the script has ended there
+abbrev pub TakesOn : (old new : Option (List ℕ)) (before after : Lines) → Taken → Type 0
+TakesOn old new before after taken.Line =
+    (after.count ≡ before.count + 1)
+    × ((left : Option (List ℕ)) (lines : List (List ℕ)) → HasTaken left old before lines → HasTaken left new after (lines ++ line_of after ∷ []))
+TakesOn old new before after taken.End =
+    (after.count ≡ before.count) × ((left : Option (List ℕ)) (lines : List (List ℕ)) → HasTaken left old before lines → HasStopped left new End lines)
+
+-- after lines that were taken reading stopped with this fault
+abbrev pub StopsWith : (old new : Option (List ℕ)) (before : Lines) → BenchFault → Type 0
+StopsWith old new before e =
+    (stop : Stop) × (fault_of_stop stop before.count ≡ Some e)
+    × ((left : Option (List ℕ)) (lines : List (List ℕ)) → HasTaken left old before lines → HasStopped left new stop lines)
+
 -- what comes after those lines
 abbrev pub outcome_of_stop : Stop → (lines : ℕ) → Option ScriptSession → Outcome
 outcome_of_stop End lines b = outcome_of_end lines b
@@ -99,26 +128,33 @@ abbrev pub WritesAs : {A : Type 0} → Outcome → (old new : Option (List ℕ))
 WritesAs outcome old new (Ok _) = (outcome.fault ≡ None) × Appends old new outcome.text
 WritesAs outcome old new (Err e) = (((e ≡ Memory) ⊎ (e ≡ Write)) × AppendsFront old new outcome.text) ⊎ ((outcome.fault ≡ Some e) × Appends old new outcome.text)
 
--- the lines that were taken have left this session and no fault, and the text of their answers was written
-pub record HasRun (limit : ℕ) (old now : Option (List ℕ)) (lines : Lines) (written_old written : Option (List ℕ)) (taken : List (List ℕ)) (session : Option ScriptSession) : Type 0 where
+-- the lines that were taken have left this session and no fault; the text of their answers was written, and what they tell was heard
+pub record HasRun (limit : ℕ) (old now : Option (List ℕ)) (lines : Lines) (written_old written : Option (List ℕ)) (told_old told : Option (List Telling)) (taken : List (List ℕ)) (session : Option ScriptSession) : Type 0 where
   pub reading : HasTaken old now lines taken
   pub fault : (outcome_of_lines limit 1 None taken).fault ≡ None
   pub session_after : (outcome_of_lines limit 1 None taken).session ≡ session
   pub written_as : Appends written_old written (outcome_of_lines limit 1 None taken).text
+  pub told_as : Tells told_old told (told_of_lines limit 1 None taken)
 
--- the run of what was read has ended as it should
-pub record HasEnded (limit : ℕ) (old new : Option (List ℕ)) (written_old written : Option (List ℕ)) (result : Result Summary BenchFault) : Type 0 where
+-- the run of what was read has ended as it should, and this was made of a script of so many lines and the session that it leaves
+pub record HasEnded (limit : ℕ) (old new : Option (List ℕ)) (written_old written : Option (List ℕ)) (told_old told : Option (List Telling)) {Made : Type 0} (IsMade : (lines : ℕ) → ScriptSession → Made → Type 0) (result : Result Made BenchFault) : Type 0 where
   pub stop : Stop
   pub bytes : List ℕ
   pub read : IsRead old new stop bytes
   pub ends : WritesAs (outcome_of_read limit stop bytes) written_old written result
-  pub summary : IfOk result (λ s. option_map (summary_of_session (length (lines_of_read stop bytes))) (outcome_of_read limit stop bytes).session ≡ Some s)
-  pub promised : OnOk result ((b : ScriptSession) × ((outcome_of_read limit stop bytes).session ≡ Some b) × IsPromisedSession b)
+  pub made : IfOk result (λ made. (b : ScriptSession) × ((outcome_of_read limit stop bytes).session ≡ Some b) × IsMade (length (lines_of_read stop bytes)) b made)
+  pub told_as : OnOk result (Tells told_old told (told_of_lines limit 1 None (lines_of_read stop bytes)))
 
 -- the lines that are left are run from this session on, whatever lines came before it
-abbrev pub RunsOn : (limit : ℕ) (now : Option (List ℕ)) (lines : Lines) (written : Option (List ℕ)) → Option ScriptSession → (new written_new : Option (List ℕ)) → Result Summary BenchFault → Type 0
-RunsOn limit now lines written session new written_new result =
-    (old written_old : Option (List ℕ)) (taken : List (List ℕ)) → HasRun limit old now lines written_old written taken session → HasEnded limit old new written_old written_new result
+abbrev pub RunsOn : (limit : ℕ) (now : Option (List ℕ)) (lines : Lines) (written : Option (List ℕ)) (told : Option (List Telling)) → Option ScriptSession → (new written_new : Option (List ℕ)) (told_new : Option (List Telling))
+    → {Made : Type 0} (IsMade : (lines : ℕ) → ScriptSession → Made → Type 0) → Result Made BenchFault → Type 0
+RunsOn limit now lines written told session new written_new told_new IsMade result =
+    (old written_old : Option (List ℕ)) (told_old : Option (List Telling)) (taken : List (List ℕ))
+    → HasRun limit old now lines written_old written told_old told taken session → HasEnded limit old new written_old written_new told_old told_new IsMade result
+
+-- how much a script of so many lines has done, and what is promised of it, where it leaves this session
+abbrev pub IsSummaryOf : ScriptSession → (lines : ℕ) → ScriptSession → Summary → Type 0
+IsSummaryOf session lines b summary = (b ≡ session) × (summary ≡ summary_of_session lines b) × IsPromisedSession b
 
 -- a fault that the run of a line can have
 abbrev pub IsFaultOfLine : BenchFault → Type 0

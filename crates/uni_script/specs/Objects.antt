@@ -22,6 +22,10 @@ pub record SpokenObject (S I R : Type 0) : Type 0 where
   pub object : Sequential S I R
   pub language : Language I R
 
+-- the one that an object of the code means, with its language
+abbrev pub spoken : {O S I R : Type 0} → (O → Sequential S I R) → Language I R → O → SpokenObject S I R
+spoken sequential language object = record { object = sequential object; language = language }
+
 -- the states of an object
 abbrev pub StateOf : ObjectName → Type 0
 StateOf Queue = List ℕ

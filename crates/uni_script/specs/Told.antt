@@ -51,6 +51,17 @@ abbrev pub told_after : ℕ → Option Saying → List Telling
 told_after before None = []
 told_after before (Some saying) = record { before = before; saying = saying } ∷ []
 
+-- what a note tells after so many events, or before the header
+abbrev pub note_told : Option ℕ → List ℕ → List Telling
+note_told None line = told_after 0 (Some (Heading (text_of_note line)))
+note_told (Some before) line = told_after before (Some (Note (text_of_note line)))
+
+-- what was heard grew by this, where it is kept
+abbrev pub Tells : (old new : Option (List Telling)) → List Telling → Type 0
+Tells None new more = Unit {0}
+Tells (Some old) None more = ⊥
+Tells (Some old) (Some new) more = new ≡ old ++ more
+
 -- what a line before the header says, if it is a note
 abbrev pub heading_of_line : List ℕ → Option Saying
 heading_of_line line = if is_note line then Some (Heading (text_of_note line)) else None

@@ -1,13 +1,12 @@
 //! What is written in answer to a line of a script.
 
 ghost use Rattle.std.specs.Prelude.{◌≡◌, ◌++◌, OnOk, Some};
-ghost use Rattle.uni_script.specs.Answer.{call_text, progress_text, refusal_text, answer_text};
+ghost use Rattle.uni_script.specs.Answer.{call_text, called_text, progress_text, refusal_text};
 
 use ready_objects::push_number;
 use seq_object::CallId;
 use std::alloc::AllocError;
 use std::fmt;
-use std::io::Write;
 
 /// A command that the construction refused, with the number as the script gave it.
 #[derive(Clone, Copy)]
@@ -47,9 +46,9 @@ impl fmt::Display for Refusal {
     }
 }
 
-/// An answer.
-#[derive(Drop)]
-pub enum Answer {
+/// The answer to a command.
+#[derive(Clone, Copy)]
+pub enum Answer<R> {
     /// A call began.
     Called(CallId),
     /// The command was refused.
@@ -58,8 +57,8 @@ pub enum Answer {
     Returned {
         /// The call.
         call: CallId,
-        /// The text of its response.
-        reply: Vec<u8>,
+        /// Its response.
+        response: R,
         /// How many steps it took.
         steps: u64,
         /// How many turns it took.
@@ -83,52 +82,27 @@ pub enum Answer {
         /// The number of the new anchor.
         number: u64,
     },
-    /// The script ended.
-    End,
+    /// The heads are told.
+    Heads,
+    /// The log is told.
+    Log,
 }
 
-/// Writes an answer and the end of its line after a text.
+/// Writes the line of a call that began after a text.
 ///
 /// An `Err` says that memory was refused.
-pub fn push_answer(text: &mut Vec<u8>, answer: &Answer) -> Result<(), AllocError>
-    ensures { OnOk result (text.new.items ≡ text.old.items ++ answer_text answer.now) }
+pub(crate) fn push_called(text: &mut Vec<u8>, call: CallId) -> Result<(), AllocError>
+    ensures { OnOk result (text.new.items ≡ text.old.items ++ called_text call) }
 {
-    match answer {
-        Answer::Called(call) => {
-            text.extend_from_slice(b"called ")?;
-            push_call(text, *call)?;
-            text.extend_from_slice(b"\n")
-        }
-        Answer::Refused(refusal) => writeln!(text, "{refusal}").map_err(|_| AllocError),
-        Answer::Returned {
-            call,
-            reply,
-            steps,
-            turns,
-        } => {
-            text.extend_from_slice(b"returned ")?;
-            push_call(text, *call)?;
-            text.extend_from_slice(b" ")?;
-            text.extend_from_slice(reply)?;
-            push_progress(text, *steps, *turns)
-        }
-        Answer::Going { call, steps, turns } => {
-            text.extend_from_slice(b"going ")?;
-            push_call(text, *call)?;
-            push_progress(text, *steps, *turns)
-        }
-        Answer::Trimmed(number) => writeln!(text, "trimmed {number}").map_err(|_| AllocError),
-        Answer::Reshaped { count, number } => {
-            writeln!(text, "reshaped {count} at {number}").map_err(|_| AllocError)
-        }
-        Answer::End => writeln!(text, "end").map_err(|_| AllocError),
-    }
+    text.extend_from_slice(b"called ")?;
+    push_call(text, call)?;
+    text.extend_from_slice(b"\n")
 }
 
 /// Writes how far a call has come, and the end of the line, after a text.
 ///
 /// An `Err` says that memory was refused.
-fn push_progress(text: &mut Vec<u8>, steps: u64, turns: u64) -> Result<(), AllocError>
+pub(crate) fn push_progress(text: &mut Vec<u8>, steps: u64, turns: u64) -> Result<(), AllocError>
     ensures { OnOk result (text.new.items ≡ text.old.items ++ progress_text steps turns) }
 {
     text.extend_from_slice(b" steps ")?;

@@ -8,15 +8,17 @@ ghost use Rattle.uni_core.specs.World.{world_of};
 ghost use Rattle.uni_log.specs.Entry.{entry_shown};
 ghost use Rattle.uni_script.specs.Replay.{IsHistory};
 ghost use Rattle.uni_script.specs.Grammar.{IsInRange};
-ghost use Rattle.uni_script.specs.Commands.{output_text, refusal_in_output};
-ghost use Rattle.uni_script.specs.Answer.{answer_text, call_text, refusal_in, numbers_text, heads_text, entry_text, IsOver};
+ghost use Rattle.uni_script.specs.Commands.{answer_text, refusal_in, IsOver};
+ghost use Rattle.uni_script.specs.Answer.{call_text, numbers_text, heads_text, entry_text};
+ghost use Rattle.uni_script.specs.Objects.{spoken};
 ghost use Rattle.uni_script.specs.Meaning.{session_of, session_after, opened_session, result_of_command, result_of_call, result_of_steps, result_of_trim, result_of_reshape, last_step, steps_of, steps_taken, most_steps, log_text, refusal_of_call, refusal_of_step, refusal_of_end, refusal_of_reshape, refusal_of_command};
 
-use crate::answer::{Answer, Refusal, push_answer, push_call};
+use crate::answer::{Answer, Refusal, push_call, push_called, push_progress};
 use crate::grammar::{Command, Header};
 use ready_objects::{Spoken, push_number};
 use seq_object::CallId;
 use std::alloc::{AllocError, Global};
+use std::io::Write;
 use uni_core::{Progress, World};
 use uni_log::{Entry, Log};
 use uni_record::{
@@ -36,7 +38,7 @@ pub fn open<O: Spoken>(
 ) -> Result<Recorded<O>, AllocError>
     requires range { IsInRange header }
     requires history { IsHistory history }
-    ensures session { IfOk result (λ session. session_of session ≡ opened_session (record { object = O.sequential object; language = O.language }) history header) }
+    ensures session { IfOk result (λ session. session_of session ≡ opened_session (spoken O.sequential O.language object) history header) }
     ensures object { IfOk result (λ session. session.world.object ≡ object) }
 {
     match Recorded::open(alloc, object, header.processes, header.row, history) {
@@ -52,18 +54,7 @@ pub fn open<O: Spoken>(
     }
 }
 
-/// What is written of a command that was made.
-#[derive(Drop)]
-enum Output {
-    /// Its answer.
-    Answer(Answer),
-    /// The heads.
-    Heads,
-    /// The log.
-    Log,
-}
-
-/// Makes a command, and writes its answer after a text.
+/// Makes a command, and writes its answer after a text; the answer is why it was refused, where it was.
 ///
 /// An `Err` says that memory was refused.
 pub fn make<O: Spoken>(
@@ -71,85 +62,90 @@ pub fn make<O: Spoken>(
     alloc: Global,
     command: Command<O::Inv>,
     text: &mut Vec<u8>,
-) -> Result<(), AllocError>
-    ensures object { session.new.world.object ≡ session.old.world.object }
-    ensures session { OnOk result (session_of session.new ≡ session_after (record { object = O.sequential session.old.world.object; language = O.language }) (session_of session.old)
-        (result_of_command (record { object = O.sequential session.old.world.object; language = O.language }) (session_of session.old) command).events) }
-    ensures text { OnOk result (text.new.items ≡ text.old.items ++ (result_of_command (record { object = O.sequential session.old.world.object; language = O.language }) (session_of session.old) command).text) }
-{
-    match output_of(session, alloc, command)? {
-        Output::Answer(answer) => push_answer(text, &answer),
-        Output::Heads => push_heads(session.world(), text),
-        Output::Log => push_log(session.world(), alloc, text),
-    }
-}
-
-/// Makes a command, and tells why it was refused, where it was. `log` and `heads` do nothing here.
-///
-/// An `Err` says that memory was refused.
-pub fn refusal_of<O: Spoken>(
-    session: &mut Recorded<O>,
-    alloc: Global,
-    command: Command<O::Inv>,
 ) -> Result<Option<Refusal>, AllocError>
     ensures object { session.new.world.object ≡ session.old.world.object }
-    ensures session { OnOk result (session_of session.new ≡ session_after (record { object = O.sequential session.old.world.object; language = O.language }) (session_of session.old)
-        (result_of_command (record { object = O.sequential session.old.world.object; language = O.language }) (session_of session.old) command).events) }
+    ensures session { OnOk result (session_of session.new ≡ session_after (spoken O.sequential O.language session.old.world.object) (session_of session.old)
+        (result_of_command (spoken O.sequential O.language session.old.world.object) (session_of session.old) command).events) }
+    ensures text { OnOk result (text.new.items ≡ text.old.items ++ (result_of_command (spoken O.sequential O.language session.old.world.object) (session_of session.old) command).text) }
     ensures refusal { IfOk result (λ refusal. refusal ≡ refusal_of_command (session_of session.old) command) }
 {
-    match output_of(session, alloc, command)? {
-        Output::Answer(answer) => Ok(refusal_in(answer)),
-        Output::Heads | Output::Log => Ok(None),
-    }
+    let answer = answer_to(session, alloc, command)?;
+    push_answer(session.world(), alloc, &answer, text)?;
+    Ok(refusal_in(&answer))
 }
 
 /// Makes a command; the answer is what is to be written of it.
 ///
 /// An `Err` says that memory was refused.
-fn output_of<O: Spoken>(
+fn answer_to<O: Spoken>(
     session: &mut Recorded<O>,
     alloc: Global,
     command: Command<O::Inv>,
-) -> Result<Output, AllocError>
+) -> Result<Answer<O::Resp>, AllocError>
     ensures object { session.new.world.object ≡ session.old.world.object }
-    ensures session { OnOk result (session_of session.new ≡ session_after (record { object = O.sequential session.old.world.object; language = O.language }) (session_of session.old)
-        (result_of_command (record { object = O.sequential session.old.world.object; language = O.language }) (session_of session.old) command).events) }
-    ensures text { IfOk result (λ output. output_text (record { object = O.sequential session.old.world.object; language = O.language }) (world_of session.new.world) output ≡ (result_of_command (record { object = O.sequential session.old.world.object; language = O.language }) (session_of session.old) command).text) }
-    ensures refusal { IfOk result (λ output. refusal_in_output output ≡ refusal_of_command (session_of session.old) command) }
+    ensures session { OnOk result (session_of session.new ≡ session_after (spoken O.sequential O.language session.old.world.object) (session_of session.old)
+        (result_of_command (spoken O.sequential O.language session.old.world.object) (session_of session.old) command).events) }
+    ensures text { IfOk result (λ answer. answer_text (spoken O.sequential O.language session.old.world.object) (world_of session.new.world) answer ≡ (result_of_command (spoken O.sequential O.language session.old.world.object) (session_of session.old) command).text) }
+    ensures refusal { IfOk result (λ answer. refusal_in answer ≡ refusal_of_command (session_of session.old) command) }
 {
     match command {
-        Command::Call { process, inv } => {
-            let answer = call(session, alloc, process, &inv)?;
-            Ok(Output::Answer(answer))
-        }
-        Command::Step { process, count } => {
-            let answer = step(session, alloc, process, count)?;
-            Ok(Output::Answer(answer))
-        }
-        Command::Finish { process } => {
-            let answer = finish(session, alloc, process)?;
-            Ok(Output::Answer(answer))
-        }
-        Command::Log => Ok(Output::Log),
-        Command::Heads => Ok(Output::Heads),
-        Command::Trim => {
-            let answer = trim(session, alloc)?;
-            Ok(Output::Answer(answer))
-        }
-        Command::Reshape { processes } => {
-            let answer = reshape(session, alloc, processes)?;
-            Ok(Output::Answer(answer))
-        }
+        Command::Call { process, inv } => call(session, alloc, process, &inv),
+        Command::Step { process, count } => step(session, alloc, process, count),
+        Command::Finish { process } => finish(session, alloc, process),
+        Command::Log => Ok(Answer::Log),
+        Command::Heads => Ok(Answer::Heads),
+        Command::Trim => trim(session, alloc),
+        Command::Reshape { processes } => reshape(session, alloc, processes),
     }
 }
 
 /// Why a command was refused, where this answers it.
-fn refusal_in(answer: Answer) -> Option<Refusal>
-    ensures { result ≡ refusal_in answer }
+fn refusal_in<R>(answer: &Answer<R>) -> Option<Refusal>
+    ensures { result ≡ refusal_in answer.now }
 {
     match answer {
-        Answer::Refused(refusal) => Some(refusal),
+        Answer::Refused(refusal) => Some(*refusal),
         _ => None,
+    }
+}
+
+/// Writes the answer to a command that has led to a world, and the end of its line, after a text.
+///
+/// An `Err` says that memory was refused.
+fn push_answer<O: Spoken>(
+    world: &World<O>,
+    alloc: Global,
+    answer: &Answer<O::Resp>,
+    text: &mut Vec<u8>,
+) -> Result<(), AllocError>
+    ensures { OnOk result (text.new.items ≡ text.old.items ++ answer_text (spoken O.sequential O.language world.now.object) (world_of world.now) answer.now) }
+{
+    match *answer {
+        Answer::Called(call) => push_called(text, call),
+        Answer::Refused(refusal) => writeln!(text, "{refusal}").map_err(|_| AllocError),
+        Answer::Returned {
+            call,
+            response,
+            steps,
+            turns,
+        } => {
+            text.extend_from_slice(b"returned ")?;
+            push_call(text, call)?;
+            text.extend_from_slice(b" ")?;
+            O::push_resp(text, response)?;
+            push_progress(text, steps, turns)
+        }
+        Answer::Going { call, steps, turns } => {
+            text.extend_from_slice(b"going ")?;
+            push_call(text, call)?;
+            push_progress(text, steps, turns)
+        }
+        Answer::Trimmed(number) => writeln!(text, "trimmed {number}").map_err(|_| AllocError),
+        Answer::Reshaped { count, number } => {
+            writeln!(text, "reshaped {count} at {number}").map_err(|_| AllocError)
+        }
+        Answer::Heads => push_heads(world, text),
+        Answer::Log => push_log(world, alloc, text),
     }
 }
 
@@ -161,10 +157,10 @@ fn call<O: Spoken>(
     alloc: Global,
     process: u64,
     inv: &O::Inv,
-) -> Result<Answer, AllocError>
+) -> Result<Answer<O::Resp>, AllocError>
     ensures object { session.new.world.object ≡ session.old.world.object }
-    ensures session { OnOk result (session_of session.new ≡ session_after (record { object = O.sequential session.old.world.object; language = O.language }) (session_of session.old) (result_of_call (session_of session.old) process inv.now).events) }
-    ensures answer { IfOk result (λ answer. answer_text answer ≡ (result_of_call (session_of session.old) process inv.now).text) }
+    ensures session { OnOk result (session_of session.new ≡ session_after (spoken O.sequential O.language session.old.world.object) (session_of session.old) (result_of_call (session_of session.old) process inv.now).events) }
+    ensures answer { IfOk result (λ answer. answer_text (spoken O.sequential O.language session.old.world.object) (world_of session.new.world) answer ≡ (result_of_call (session_of session.old) process inv.now).text) }
     ensures refusal { IfOk result (λ answer. refusal_in answer ≡ refusal_of_call (session_of session.old) process) }
 {
     match session.begin(alloc, process, inv) {
@@ -185,11 +181,11 @@ fn finish<O: Spoken>(
     session: &mut Recorded<O>,
     alloc: Global,
     process: u64,
-) -> Result<Answer, AllocError>
+) -> Result<Answer<O::Resp>, AllocError>
     ensures object { session.new.world.object ≡ session.old.world.object }
-    ensures session { OnOk result (session_of session.new ≡ session_after (record { object = O.sequential session.old.world.object; language = O.language }) (session_of session.old)
-        (result_of_steps (record { object = O.sequential session.old.world.object; language = O.language }) (world_of session.old.world) process (most_steps (world_of session.old.world).n)).events) }
-    ensures answer { IfOk result (λ answer. answer_text answer ≡ (result_of_steps (record { object = O.sequential session.old.world.object; language = O.language }) (world_of session.old.world) process (most_steps (world_of session.old.world).n)).text) }
+    ensures session { OnOk result (session_of session.new ≡ session_after (spoken O.sequential O.language session.old.world.object) (session_of session.old)
+        (result_of_steps (spoken O.sequential O.language session.old.world.object) (world_of session.old.world) process (most_steps (world_of session.old.world).n)).events) }
+    ensures answer { IfOk result (λ answer. answer_text (spoken O.sequential O.language session.old.world.object) (world_of session.new.world) answer ≡ (result_of_steps (spoken O.sequential O.language session.old.world.object) (world_of session.old.world) process (most_steps (world_of session.old.world).n)).text) }
     ensures refusal { IfOk result (λ answer. refusal_in answer ≡ refusal_of_step (world_of session.old.world) process) }
     ensures over { IfOk result IsOver }
 {
@@ -207,11 +203,11 @@ fn step<O: Spoken>(
     alloc: Global,
     process: u64,
     most: u64,
-) -> Result<Answer, AllocError>
+) -> Result<Answer<O::Resp>, AllocError>
     ensures object { session.new.world.object ≡ session.old.world.object }
-    ensures session { OnOk result (session_of session.new ≡ session_after (record { object = O.sequential session.old.world.object; language = O.language }) (session_of session.old)
-        (result_of_steps (record { object = O.sequential session.old.world.object; language = O.language }) (world_of session.old.world) process most).events) }
-    ensures answer { IfOk result (λ answer. answer_text answer ≡ (result_of_steps (record { object = O.sequential session.old.world.object; language = O.language }) (world_of session.old.world) process most).text) }
+    ensures session { OnOk result (session_of session.new ≡ session_after (spoken O.sequential O.language session.old.world.object) (session_of session.old)
+        (result_of_steps (spoken O.sequential O.language session.old.world.object) (world_of session.old.world) process most).events) }
+    ensures answer { IfOk result (λ answer. answer_text (spoken O.sequential O.language session.old.world.object) (world_of session.new.world) answer ≡ (result_of_steps (spoken O.sequential O.language session.old.world.object) (world_of session.old.world) process most).text) }
     ensures refusal { IfOk result (λ answer. refusal_in answer ≡ refusal_of_step (world_of session.old.world) process) }
     ensures over { IfOk result (λ answer. most_steps (world_of session.old.world).n ≤ most → IsOver answer) }
 {
@@ -227,10 +223,9 @@ fn step<O: Spoken>(
     let Some(response) = response else {
         return Ok(Answer::Going { call, steps, turns });
     };
-    let reply = O::resp_text(alloc, response)?;
     Ok(Answer::Returned {
         call,
-        reply,
+        response,
         steps,
         turns,
     })
@@ -249,10 +244,10 @@ fn step_on<O: Spoken>(
     requires process { process < (world_of session.old.world).n }
     requires pending { IsSome ((world_of session.old.world).call process) }
     ensures object { session.new.world.object ≡ session.old.world.object }
-    ensures session { OnOk result (session_of session.new ≡ session_after (record { object = O.sequential session.old.world.object; language = O.language }) (session_of session.old)
-        (steps_of process (steps_taken most (last_step (record { object = O.sequential session.old.world.object; language = O.language }) (world_of session.old.world) process most)))) }
+    ensures session { OnOk result (session_of session.new ≡ session_after (spoken O.sequential O.language session.old.world.object) (session_of session.old)
+        (steps_of process (steps_taken most (last_step (spoken O.sequential O.language session.old.world.object) (world_of session.old.world) process most)))) }
     ensures processes { (world_of session.new.world).n ≡ (world_of session.old.world).n }
-    ensures response { IfOk result (λ response. response ≡ option_map (λ last. last.response) (last_step (record { object = O.sequential session.old.world.object; language = O.language }) (world_of session.old.world) process most)) }
+    ensures response { IfOk result (λ response. response ≡ option_map (λ last. last.response) (last_step (spoken O.sequential O.language session.old.world.object) (world_of session.old.world) process most)) }
     ensures over { IfOk result (λ response. most_steps (world_of session.old.world).n ≤ most → IsSome response) }
 {
     session.promise();
@@ -272,10 +267,10 @@ fn step_on<O: Spoken>(
 /// didn't end.
 ///
 /// An `Err` says that memory was refused.
-fn trim<O: Spoken>(session: &mut Recorded<O>, alloc: Global) -> Result<Answer, AllocError>
+fn trim<O: Spoken>(session: &mut Recorded<O>, alloc: Global) -> Result<Answer<O::Resp>, AllocError>
     ensures object { session.new.world.object ≡ session.old.world.object }
-    ensures session { OnOk result (session_of session.new ≡ session_after (record { object = O.sequential session.old.world.object; language = O.language }) (session_of session.old) (result_of_trim (session_of session.old)).events) }
-    ensures answer { IfOk result (λ answer. answer_text answer ≡ (result_of_trim (session_of session.old)).text) }
+    ensures session { OnOk result (session_of session.new ≡ session_after (spoken O.sequential O.language session.old.world.object) (session_of session.old) (result_of_trim (session_of session.old)).events) }
+    ensures answer { IfOk result (λ answer. answer_text (spoken O.sequential O.language session.old.world.object) (world_of session.new.world) answer ≡ (result_of_trim (session_of session.old)).text) }
     ensures refusal { IfOk result (λ answer. refusal_in answer ≡ refusal_of_end (session_of session.old) (world_of session.old.world).n) }
 {
     match session.trim(alloc) {
@@ -295,10 +290,10 @@ fn reshape<O: Spoken>(
     session: &mut Recorded<O>,
     alloc: Global,
     processes: u64,
-) -> Result<Answer, AllocError>
+) -> Result<Answer<O::Resp>, AllocError>
     ensures object { session.new.world.object ≡ session.old.world.object }
-    ensures session { OnOk result (session_of session.new ≡ session_after (record { object = O.sequential session.old.world.object; language = O.language }) (session_of session.old) (result_of_reshape (session_of session.old) processes).events) }
-    ensures answer { IfOk result (λ answer. answer_text answer ≡ (result_of_reshape (session_of session.old) processes).text) }
+    ensures session { OnOk result (session_of session.new ≡ session_after (spoken O.sequential O.language session.old.world.object) (session_of session.old) (result_of_reshape (session_of session.old) processes).events) }
+    ensures answer { IfOk result (λ answer. answer_text (spoken O.sequential O.language session.old.world.object) (world_of session.new.world) answer ≡ (result_of_reshape (session_of session.old) processes).text) }
     ensures refusal { IfOk result (λ answer. refusal_in answer ≡ refusal_of_reshape (session_of session.old) processes) }
 {
     match session.reshape(alloc, processes) {
@@ -346,7 +341,7 @@ fn push_log<O: Spoken>(
     alloc: Global,
     text: &mut Vec<u8>,
 ) -> Result<(), AllocError>
-    ensures { OnOk result (text.new.items ≡ text.old.items ++ log_text (record { object = O.sequential world.now.object; language = O.language }) (world_of world.now)) }
+    ensures { OnOk result (text.new.items ≡ text.old.items ++ log_text (spoken O.sequential O.language world.now.object) (world_of world.now)) }
 {
     let entries = Log::of(world).entries(alloc)?;
     for entry in &entries {

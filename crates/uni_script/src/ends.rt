@@ -133,6 +133,26 @@ impl<T: Write + Drop> TextOut for Checked<T> {
     }
 }
 
+/// Where text is let go: it is written nowhere, and never fails.
+#[derive(Drop)]
+pub(crate) struct Unwritten;
+
+impl TextOut for Unwritten {
+    ghost use Rattle.std.specs.Prelude.{None, false};
+
+    ghost contents = { λ _. None };
+
+    ghost has_failed = { λ _. false };
+
+    fn write(&mut self, bytes: &[u8]) -> Result<usize, Failed> {
+        Ok(bytes.len())
+    }
+
+    fn failed(&self) -> bool {
+        false
+    }
+}
+
 /// Writes all bytes.
 ///
 /// An `Err` says that the end failed; a front of the bytes is written then.

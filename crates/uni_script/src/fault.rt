@@ -60,6 +60,17 @@ impl fmt::Display for BenchFault {
 
 impl Error for BenchFault {}
 
+impl From<AllocError> for BenchFault {
+    ghost use Rattle.std.specs.Prelude.{◌≡◌};
+    ghost use Rattle.uni_script.specs.declared.fault.BenchFault.TheVariants.{Memory};
+
+    ghost from_gives = { λ _ fault. fault ≡ Memory };
+
+    fn from(_: AllocError) -> BenchFault {
+        BenchFault::Memory
+    }
+}
+
 /// Writes the text of a fault and the end of its line after a text.
 ///
 /// An `Err` says that memory was refused.

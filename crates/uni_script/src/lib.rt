@@ -6,6 +6,7 @@
 
 mod answer;
 mod commands;
+mod driver;
 mod ends;
 mod fault;
 mod grammar;

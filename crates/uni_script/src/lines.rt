@@ -1,10 +1,11 @@
 //! The lines of a script, taken one after the other from a reader.
 
-ghost use Rattle.std.specs.Prelude.{◌≡◌, ◌==◌, ◌+◌, ◌-◌, ◌<◌, ◌≤◌, ◌++◌, ◌∷◌, [], ◌↔◌, true, false, List, ℕ, Option, IfErr, IsErrOf, OnOk, OnErr, take};
+ghost use Rattle.std.specs.Prelude.{◌≡◌, ◌==◌, ◌+◌, ◌-◌, ◌<◌, ◌≤◌, ◌++◌, [], ◌↔◌, true, false, List, ℕ, Option, IfOk, IfErr, IsErrOf, OnOk, take};
 ghost use Rattle.std.specs.List.{position};
-ghost use Rattle.uni_script.specs.Lines.{IsHeld, line_of, rest_of, HasTaken, HasStopped};
+ghost use Rattle.uni_script.specs.Lines.{IsHeld, line_of, rest_of, HasTaken, TakesOn, StopsWith};
 
 use crate::ends::TextIn;
+use crate::fault::BenchFault;
 use memchr::memchr;
 
 /// How many bytes a line may have.
@@ -13,17 +14,13 @@ const MOST_BYTES: usize = 200;
 /// How many lines a script may have.
 const MOST_LINES: u64 = 100_000;
 
-/// Why no further line was taken.
+/// What was found of a further line.
 #[derive(Clone, Copy)]
-pub enum Stop {
+pub enum Taken {
+    /// A line was taken.
+    Line,
     /// The text has ended.
     End,
-    /// The reader has failed.
-    Failed,
-    /// The line has more bytes than a line may have.
-    TooLong,
-    /// There is a byte past the most lines that a script may have.
-    TooMany,
 }
 
 /// Whether a reader has told the end of its text.
@@ -79,39 +76,36 @@ impl Lines {
         &self.line[..self.width]
     }
 
-    /// Takes the next line. The reader is asked only where the piece has no end of the line.
+    /// Takes the next line, where there is one. The reader is asked only where the piece has no end of the line.
     ///
-    /// An `Err` says why there is none.
-    pub fn take<I: TextIn>(&mut self, reader: &mut I) -> Result<(), Stop>
+    /// An `Err` is `TooMany` where 100,000 lines were taken and a byte is left; `TooLong` where the line has more
+    /// than 200 bytes; or `Read` where the reader failed.
+    pub fn take<I: TextIn>(&mut self, reader: &mut I) -> Result<Taken, BenchFault>
         requires held { IsHeld self.old }
         requires reader { I.has_failed reader.old ≡ false }
         ensures held { IsHeld self.new }
-        ensures line { OnOk result ((left : Option (List ℕ)) → (lines : List (List ℕ)) → HasTaken left (I.remaining reader.old) self.old lines
-            → HasTaken left (I.remaining reader.new) self.new (lines ++ line_of self.new ∷ [])) }
-        ensures count { OnOk result (self.new.count ≡ self.old.count + 1) }
-        ensures stop { IfErr result (λ stop. (left : Option (List ℕ)) → (lines : List (List ℕ)) → HasTaken left (I.remaining reader.old) self.old lines
-            → HasStopped left (I.remaining reader.new) stop lines) }
-        ensures same { OnErr result (self.new.count ≡ self.old.count) }
-        ensures failed { IsErrOf result Stop.Failed ↔ (I.has_failed reader.new ≡ true) }
+        ensures line { IfOk result (λ taken. TakesOn (I.remaining reader.old) (I.remaining reader.new) self.old self.new taken) }
+        ensures fault { IfErr result (λ e. StopsWith (I.remaining reader.old) (I.remaining reader.new) self.old e) }
+        ensures failed { IsErrOf result BenchFault.Read ↔ (I.has_failed reader.new ≡ true) }
     {
         if self.source == Source::Ended {
-            return Err(Stop::End);
+            return Ok(Taken::End);
         }
         self.width = 0;
         loop {
             if self.count >= MOST_LINES && self.start < self.end {
-                return Err(Stop::TooMany);
+                return Err(BenchFault::TooMany);
             }
             if let Some(at) = self.end_of_line() {
                 self.copy_part(at)?;
                 self.start += 1;
                 self.count += 1;
-                return Ok(());
+                return Ok(Taken::Line);
             }
             self.copy_part(self.end - self.start)?;
             match reader.read(&mut self.piece) {
-                Err(_) => return Err(Stop::Failed),
-                Ok(0) => return self.take_last(),
+                Err(_) => return Err(BenchFault::Read),
+                Ok(0) => return Ok(self.take_last()),
                 Ok(count) => {
                     self.start = 0;
                     self.end = count;
@@ -121,18 +115,18 @@ impl Lines {
     }
 
     /// Takes the last line, which lacks its end, where there is one.
-    fn take_last(&mut self) -> Result<(), Stop>
+    fn take_last(&mut self) -> Taken
         requires { self.old.count ≤ 100000 }
         ensures ended { self.new ≡ record self.old { source = Source.Ended; count = self.new.count } }
-        ensures line { OnOk result ((0 < self.old.width) × (self.new.count ≡ self.old.count + 1)) }
-        ensures none { IfErr result (λ stop. (stop ≡ Stop.End) × (self.old.width ≡ 0) × (self.new.count ≡ self.old.count)) }
+        ensures line { result ≡ Taken.Line → (0 < self.old.width) × (self.new.count ≡ self.old.count + 1) }
+        ensures none { result ≡ Taken.End → (self.old.width ≡ 0) × (self.new.count ≡ self.old.count) }
     {
         self.source = Source::Ended;
         if self.width == 0 {
-            return Err(Stop::End);
+            return Taken::End;
         }
         self.count += 1;
-        Ok(())
+        Taken::Line
     }
 
     /// Where the first line of the bytes that are left ends.
@@ -145,18 +139,19 @@ impl Lines {
 
     /// Moves so many bytes of those that are left to the line.
     ///
-    /// An `Err` says that the line would be too long; nothing is changed then.
-    fn copy_part(&mut self, count: usize) -> Result<(), Stop>
+    /// An `Err` says that the line, whose number is one more than those that were taken, would be too long; nothing
+    /// is changed then.
+    fn copy_part(&mut self, count: usize) -> Result<(), BenchFault>
         requires held { IsHeld self.old }
         requires inside { count ≤ self.old.end - self.old.start }
         ensures held { IsHeld self.new }
         ensures line { OnOk result (line_of self.new ≡ line_of self.old ++ take count (rest_of self.old)) }
         ensures moved { OnOk result ((self.new.width ≡ self.old.width + count) × (self.new.start ≡ self.old.start + count)) }
         ensures kept { (self.new.piece ≡ self.old.piece) × (self.new.end ≡ self.old.end) × (self.new.count ≡ self.old.count) × (self.new.source ≡ self.old.source) }
-        ensures long { IfErr result (λ stop. (stop ≡ Stop.TooLong) × (200 < self.old.width + count) × (self.new ≡ self.old)) }
+        ensures long { IfErr result (λ e. (e ≡ BenchFault.TooLong (self.old.count + 1)) × (200 < self.old.width + count) × (self.new ≡ self.old)) }
     {
         if count > MOST_BYTES - self.width {
-            return Err(Stop::TooLong);
+            return Err(BenchFault::TooLong(self.count + 1));
         }
         let from = self.start;
         let to = self.width;

@@ -1,12 +1,11 @@
-//! The objects that a script can share. The one place of the code that tells them apart is
-//! `run_header`.
+//! The objects that a script can share, by their names. The one place of the code that tells them apart is `run_header`.
 
 ghost use Rattle.std.specs.Prelude.{ℕ, List};
 
 use ready_objects::{BookObject, DirectoryObject, QueueObject, Spoken, StickyObject};
 
-/// An object that a script can share. The trait has no call: it tells which session of a script is
-/// one of the object.
+/// An object that a script can share, one of those that are named. The trait has no call: it tells which session of a
+/// script is one of the object.
 pub trait Shared: Spoken {
     ghost use Rattle.std.specs.Prelude.{◌≡◌, Some};
     ghost use Rattle.uni_script.specs.Meaning.{Session, ScriptSession, outcome_of_words, outcome_of_command};

@@ -1,7 +1,7 @@
 use Rattle.std.proofs.Common.{◌≡◌, ◌∙◌, ap, subst, OnOk, IfOk}
 use Rattle.uni_core.specs.World.{world_of}
-use Rattle.uni_script.specs.Answer.{answer_text}
-use Rattle.uni_script.specs.Objects.{SpokenObject}
+use Rattle.uni_script.specs.Commands.{answer_text}
+use Rattle.uni_script.specs.Objects.{SpokenObject, spoken}
 use Rattle.uni_script.specs.Meaning.{session_of, session_after, result_of_steps, most_steps}
 use Rattle.uni_script.proofs.commands.finish.Goals as goal
 
@@ -13,6 +13,6 @@ returns-clause-session g c =
 
 pub returns-clause-answer : goal.returns-clause-answer
 returns-clause-answer g c =
-    let o : SpokenObject _ _ _ = record { object = g.O.SeqObject.sequential c.args.session.now.world.object; language = g.O.Spoken.language } in
-    subst (λ n. IfOk c.step.result (λ answer. answer_text answer ≡ (result_of_steps o (world_of c.args.session.now.world) c.args.process (most_steps n)).text))
+    let o : SpokenObject _ _ _ = spoken g.O.SeqObject.sequential g.O.Spoken.language c.args.session.now.world.object in
+    subst (λ n. IfOk c.step.result (λ answer. answer_text o (world_of c.step.new.session.world) answer ≡ (result_of_steps o (world_of c.args.session.now.world) c.args.process (most_steps n)).text))
     (c.processes.ensures ∙ ap (λ w. (world_of w).n) c.world-2.ensures) c.step.ensures.answer

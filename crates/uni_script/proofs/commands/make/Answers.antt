@@ -1,16 +1,13 @@
-use Rattle.std.proofs.Common.{◌≡◌, ◌∙◌, ◌++◌, sym, ap, subst, OnOk}
+use Rattle.std.proofs.Common.{◌≡◌, ◌∙◌, ◌++◌, ap, subst}
 use Rattle.uni_core.specs.World.{world_of}
-use Rattle.uni_script.specs.Objects.{SpokenObject}
-use Rattle.uni_script.specs.Commands.{output_text}
-use Rattle.uni_script.specs.Meaning.{log_text}
+use Rattle.uni_script.specs.Commands.{answer_text}
+use Rattle.uni_script.specs.Objects.{spoken}
 use Rattle.uni_script.proofs.commands.make.Goals as goal
 
-pub returns-in-Log-clause-text : goal.returns-in-Log-clause-text
-returns-in-Log-clause-text g c =
-    let o : SpokenObject _ _ _ = record { object = g.O.SeqObject.sequential c.args.session.now.world.object; language = g.O.Spoken.language } in
-    let after = c.output_of.new.session.world in
-    let pushed =
-    subst (λ w. OnOk c.push_log.result (c.push_log.new.text.items ≡ c.args.text.now.items ++ log_text (record { object = g.O.SeqObject.sequential w.object; language = g.O.Spoken.language }) (world_of w))) c.world-in-Log.ensures c.push_log.ensures in
-    let here =
-    subst (λ object. OnOk c.push_log.result (c.push_log.new.text.items ≡ c.args.text.now.items ++ log_text (record { object = g.O.SeqObject.sequential object; language = g.O.Spoken.language }) (world_of after))) c.in_ok-answer.ensures.object pushed in
-    subst (λ text. OnOk c.push_log.result (c.push_log.new.text.items ≡ c.args.text.now.items ++ text)) (sym (ap (output_text o (world_of after)) c.in-Log.is) ∙ c.in_ok-answer.ensures.text) here
+pub returns-clause-text : goal.returns-clause-text
+returns-clause-text g c =
+    let answer = c.in_ok-answer.answer in
+    let pushed = subst (λ w. c.push_answer.new.text.items ≡ c.args.text.now.items ++ answer_text (spoken g.O.SeqObject.sequential g.O.Spoken.language w.object) (world_of w) answer) c.world.ensures c.in_ok-push_answer.ensures in
+    pushed
+    ∙ ap (λ object. c.args.text.now.items ++ answer_text (spoken g.O.SeqObject.sequential g.O.Spoken.language object) (world_of c.answer_to.new.session.world) answer) c.in_ok-answer.ensures.object
+    ∙ ap (λ t. c.args.text.now.items ++ t) c.in_ok-answer.ensures.text

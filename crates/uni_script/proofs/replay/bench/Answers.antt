@@ -1,20 +1,26 @@
-use Rattle.std.proofs.Common.{[]}
-use Rattle.uni_script.proofs.Replaying.{HasEnded-replayed, HasEnded-summary, HasEnded-promised, HasEnded-audited, HasEnded-all_read, HasEnded-fault, HasEnded-part, HasEnded-read}
-use Rattle.uni_script.proofs.RunningOn.{HasRun-start}
+use Rattle.std.proofs.Common.{Ok, Err, refl, ap}
+use Rattle.uni_script.specs.declared.fault.BenchFault.TheVariants.{Read, Audit}
+use Rattle.uni_script.proofs.RunningOn.{one_fault}
+use Rattle.uni_script.proofs.Replaying.{HasEnded-replayed, HasEnded-summary, HasEnded-promised, HasEnded-audited, HasEnded-bad, HasEnded-part, HasEnded-read}
 use Rattle.uni_script.proofs.replay.bench.Goals as goal
 
-pub returns : goal.returns
-returns g c =
-    let ended = c.run_script.ensures.run _ _ [] (HasRun-start _ _ _ c.new-lines.result (c.new-lines.ensures.taken _)) in record {
-      replayed = HasEnded-replayed c.args.options.now.history _ _ _ _ c.run_script.result ended;
-      summary = HasEnded-summary c.args.options.now.history _ _ _ _ c.run_script.result ended;
-      promised = HasEnded-promised c.args.options.now.history _ _ _ _ c.run_script.result ended;
-      audited = HasEnded-audited c.args.options.now.history _ _ _ _ c.run_script.result ended;
-      all_read = HasEnded-all_read c.args.options.now.history _ _ _ _ c.run_script.result ended;
-      fault = HasEnded-fault c.args.options.now.history _ _ _ _ c.run_script.result ended;
-      read = HasEnded-read c.args.options.now.history _ _ _ _ c.run_script.result ended;
-      part = HasEnded-part c.args.options.now.history _ _ _ _ c.run_script.result ended;
-      reader = c.run_script.ensures.reader;
-      reader_ok = c.run_script.ensures.reader_ok;
-      writer = c.run_script.ensures.writer;
-    }
+pub returns-in-Ok-clause-replayed : goal.returns-in-Ok-clause-replayed
+returns-in-Ok-clause-replayed g c = HasEnded-replayed c.args.options.now.history _ _ _ _ _ _ (Ok c.in-Ok.ran) c.in-Ok.ensures.run
+
+pub returns-in-Ok-clause-summary : goal.returns-in-Ok-clause-summary
+returns-in-Ok-clause-summary g c = HasEnded-summary c.args.options.now.history _ _ _ _ _ _ (Ok c.in-Ok.ran) c.in-Ok.ensures.run
+
+pub returns-in-Ok-clause-promised : goal.returns-in-Ok-clause-promised
+returns-in-Ok-clause-promised g c = HasEnded-promised c.args.options.now.history _ _ _ _ _ _ (Ok c.in-Ok.ran) c.in-Ok.ensures.run
+
+pub returns-in-Err-clause-audited : goal.returns-in-Err-clause-audited
+returns-in-Err-clause-audited g c = λ verdict same. HasEnded-audited c.args.options.now.history _ _ _ _ _ _ (Err c.in-Err.fault) c.in-Err.ensures.run verdict (ap Err (one_fault c.in-Err.fault (Audit verdict) _ refl same))
+
+pub returns-in-Err-clause-fault : goal.returns-in-Err-clause-fault
+returns-in-Err-clause-fault g c = HasEnded-bad c.args.options.now.history _ _ _ _ _ _ (Err c.in-Err.fault) c.in-Err.ensures.run
+
+pub returns-in-Err-clause-part : goal.returns-in-Err-clause-part
+returns-in-Err-clause-part g c = HasEnded-part c.args.options.now.history _ _ _ _ _ _ (Err c.in-Err.fault) c.in-Err.ensures.run
+
+pub returns-in-Err-clause-read : goal.returns-in-Err-clause-read
+returns-in-Err-clause-read g c = λ same. HasEnded-read c.args.options.now.history _ _ _ _ _ _ (Err c.in-Err.fault) c.in-Err.ensures.run (ap Err (one_fault c.in-Err.fault Read _ refl same))

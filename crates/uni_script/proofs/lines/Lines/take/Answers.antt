@@ -1,24 +1,30 @@
 use Rattle.std.proofs.lemmas.List.{length-take-le}
-use Rattle.std.proofs.Common.{rules, ◌≡◌, ◌∙◌, inl, inr, refl, sym, ap, subst, arith, ◌+◌, ◌-◌, ◌<◌, ◌≤◌, ◌++◌, ◌∷◌, [], Err, IfErr, List, ℕ, Option, take, drop, length, append-nil}
-use Rattle.uni_script.specs.Lines.{line_of, rest_of, HasTaken, HasStopped}
+use Rattle.std.proofs.Common.{rules, ◌≡◌, ◌∙◌, inl, inr, refl, sym, ap, subst, arith, ◌+◌, ◌-◌, ◌<◌, ◌≤◌, ◌++◌, ◌∷◌, [], Some, Err, IfErr, take, drop, length, append-nil}
+use Rattle.uni_script.specs.declared.fault.BenchFault.TheVariants as fault
+use Rattle.uni_script.specs.Lines.{line_of, rest_of, StopsWith}
+use Rattle.uni_script.specs.Lines.Stop.{Failed, TooLong, TooMany}
 use Rattle.uni_script.proofs.Cutting.{end_of, end_is, none_is}
-use Rattle.uni_script.proofs.Taking.{IsTaking-part, IsTaking-read, IsTaking-kept, IsOneLine-take, IsOneLine-all, split_at_end, line_of-none, rest_of-none, rest_of-moved, line_of-length, rest_of-length, rest_of-all, HasTaken-line, HasTaken-last, HasStopped-end, HasStopped-failed, HasStopped-long, HasStopped-many, OnOk-map, IfErr-map}
+use Rattle.uni_script.proofs.Taking.{IsTaking-part, IsTaking-read, IsTaking-kept, IsOneLine-take, IsOneLine-all, split_at_end, line_of-none, rest_of-none, rest_of-moved, line_of-length, rest_of-length, rest_of-all, HasTaken-line, HasTaken-last, HasStopped-end, HasStopped-failed, HasStopped-long, HasStopped-many, TakesOn-cases}
 use Rattle.uni_script.proofs.lines.Lines.take.Goals as goal
 use Rattle.uni_script.proofs.lines.Lines.take.Goals.{else-self-ge-MOST_LINES-via-then-self-ge-MOST_LINES+else-self, else-self-ge-MOST_LINES-via-else-self-ge-MOST_LINES}
 
-pub returns-then-self-clause-stop : goal.returns-then-self-clause-stop
-returns-then-self-clause-stop g c = λ left lines has.
-    let i = c.loop-self.invariant in
-    let full = c.if-self-ge-MOST_LINES.true in
-    let some = c.if-self.true in
-    let same = i.3 in
-    let most = i.0.count in
-    let n = rest_of-length c.loop-self.self i.0 in
-    let none : line_of c.loop-self.self ≡ [] = elim i.4 [ inl e ↦ line_of-none c.loop-self.self e | inr few ↦ absurd (omega arith) ] in
-    HasStopped-many left _ _ c.args.self.now lines has i.2 (line_of c.loop-self.self) (rest_of c.loop-self.self) i.6 none (omega arith) (omega arith)
+pub returns-then-self-clause-fault : goal.returns-then-self-clause-fault
+returns-then-self-clause-fault g c = (
+  TooMany,
+  refl,
+  λ left lines has.
+      let i = c.loop-self.invariant in
+      let full = c.if-self-ge-MOST_LINES.true in
+      let some = c.if-self.true in
+      let same = i.3 in
+      let most = i.0.count in
+      let n = rest_of-length c.loop-self.self i.0 in
+      let none : line_of c.loop-self.self ≡ [] = elim i.4 [ inl e ↦ line_of-none c.loop-self.self e | inr few ↦ absurd (omega arith) ] in
+      HasStopped-many left _ _ c.args.self.now lines has i.2 (line_of c.loop-self.self) (rest_of c.loop-self.self) i.6 none (omega arith) (omega arith),
+)
 
-pub returns-in_err-copy_part-clause-stop : goal.returns-in_err-copy_part-clause-stop
-returns-in_err-copy_part-clause-stop g c =
+pub returns-in_err-copy_part-clause-fault : goal.returns-in_err-copy_part-clause-fault
+returns-in_err-copy_part-clause-fault g c =
     let i = c.loop-self.invariant in
     let self = c.loop-self.self in
     let long = c.in_err-copy_part.ensures.long in
@@ -31,19 +37,21 @@ returns-in_err-copy_part-clause-stop g c =
     let width = i.0.width in
     let same = i.3 in
     let e : c.from_residual.result ≡ Err c.in_err-copy_part.field-0.0 = search rules in
-    subst (λ r. IfErr r (λ stop. (left : Option (List ℕ)) → (lines : List (List ℕ)) → HasTaken left (g.I.TextIn.remaining c.args.reader.now) c.args.self.now lines → HasStopped left (g.I.TextIn.remaining c.loop-self.reader) stop lines)) (sym e)
-    (λ left lines has.
-    subst (λ s. HasStopped left (g.I.TextIn.remaining c.loop-self.reader) s lines) (sym long.0)
-    (let few : c.args.self.now.count < 100000 = elim c.else-self-ge-MOST_LINES.branch [
-      | else-self-ge-MOST_LINES-via-then-self-ge-MOST_LINES+else-self v ↦ (let none = v.if-self.false in absurd (omega arith))
-      | else-self-ge-MOST_LINES-via-else-self-ge-MOST_LINES v ↦ (let f = v.if-self-ge-MOST_LINES.false in let h : c.args.self.now.count < 100000 = omega arith in h)
-    ] in
-    let k = 200 - self.width in
-    let p = length-take-le k (rest_of self) (let f : k ≤ length (rest_of self) = omega arith in f) in
-    HasStopped-long left _ _ c.args.self.now lines has i.2 (line_of self) (rest_of self) i.6 k (omega arith) (omega arith) few))
+    subst (λ r. IfErr r (StopsWith (g.I.TextIn.remaining c.args.reader.now) (g.I.TextIn.remaining c.loop-self.reader) c.args.self.now)) (sym e) (
+      TooLong,
+      ap Some (sym (long.0 ∙ ap (λ n. fault.TooLong (n + 1)) same)),
+      λ left lines has.
+          (let few : c.args.self.now.count < 100000 = elim c.else-self-ge-MOST_LINES.branch [
+            | else-self-ge-MOST_LINES-via-then-self-ge-MOST_LINES+else-self v ↦ (let none = v.if-self.false in absurd (omega arith))
+            | else-self-ge-MOST_LINES-via-else-self-ge-MOST_LINES v ↦ (let f = v.if-self-ge-MOST_LINES.false in let h : c.args.self.now.count < 100000 = omega arith in h)
+          ] in
+          let k = 200 - self.width in
+          let p = length-take-le k (rest_of self) (let f : k ≤ length (rest_of self) = omega arith in f) in
+          HasStopped-long left _ _ c.args.self.now lines has i.2 (line_of self) (rest_of self) i.6 k (omega arith) (omega arith) few),
+    )
 
 pub returns-in-Some-clause-line : goal.returns-in-Some-clause-line
-returns-in-Some-clause-line g c = λ left lines has.
+returns-in-Some-clause-line g c =
     let i = c.loop-self.invariant in
     let self = c.loop-self.self in
     let found = end_is (rest_of self) c.in-Some.at (sym c.in-Some.is ∙ c.end_of_line.ensures) in
@@ -61,10 +69,11 @@ returns-in-Some-clause-line g c = λ left lines has.
     let start = moved.1 in
     let step : new.start ≡ self.start + (end_of (rest_of self) + 1) = omega arith in
     let ends = ap (λ l. 10 ∷ l) (sym (rest_of-moved self new (end_of (rest_of self) + 1) (omega arith) kept.0 kept.1 step)) in
-    HasTaken-line left _ _ c.args.self.now lines has i.2 (line_of after) (10 ∷ left_over) taking new ends refl (ap (λ k. k + 1) (kept.2 ∙ i.3)) (kept.3 ∙ i.1)
+    let counted = ap (λ k. k + 1) (kept.2 ∙ i.3) in
+    (counted, λ left lines has. HasTaken-line left _ _ c.args.self.now lines has i.2 (line_of after) (10 ∷ left_over) taking new ends refl counted (kept.3 ∙ i.1))
 
-pub returns-in_err-copy_part-2-clause-stop : goal.returns-in_err-copy_part-2-clause-stop
-returns-in_err-copy_part-2-clause-stop g c =
+pub returns-in_err-copy_part-2-clause-fault : goal.returns-in_err-copy_part-2-clause-fault
+returns-in_err-copy_part-2-clause-fault g c =
     let i = c.loop-self.invariant in
     let self = c.loop-self.self in
     let long = c.in_err-copy_part-2.ensures.long in
@@ -75,31 +84,35 @@ returns-in_err-copy_part-2-clause-stop g c =
     let width = i.0.width in
     let same = i.3 in
     let e : c.from_residual-in_err-copy_part-2.result ≡ Err c.in_err-copy_part-2.field-0.0 = search rules in
-    subst (λ r. IfErr r (λ stop. (left : Option (List ℕ)) → (lines : List (List ℕ)) → HasTaken left (g.I.TextIn.remaining c.args.reader.now) c.args.self.now lines → HasStopped left (g.I.TextIn.remaining c.loop-self.reader) stop lines)) (sym e)
-    (λ left lines has.
-    subst (λ s. HasStopped left (g.I.TextIn.remaining c.loop-self.reader) s lines) (sym long.0)
-    (let few : c.args.self.now.count < 100000 = elim c.else-self-ge-MOST_LINES.branch [
-      | else-self-ge-MOST_LINES-via-then-self-ge-MOST_LINES+else-self v ↦ (let none = v.if-self.false in absurd (omega arith))
-      | else-self-ge-MOST_LINES-via-else-self-ge-MOST_LINES v ↦ (let f = v.if-self-ge-MOST_LINES.false in let h : c.args.self.now.count < 100000 = omega arith in h)
-    ] in
-    let k = 200 - self.width in
-    let p = length-take-le k (rest_of self) (let f : k ≤ length (rest_of self) = omega arith in f) in
-    HasStopped-long left _ _ c.args.self.now lines has i.2 (line_of self) (rest_of self) i.6 k (omega arith) (omega arith) few))
+    subst (λ r. IfErr r (StopsWith (g.I.TextIn.remaining c.args.reader.now) (g.I.TextIn.remaining c.loop-self.reader) c.args.self.now)) (sym e) (
+      TooLong,
+      ap Some (sym (long.0 ∙ ap (λ n. fault.TooLong (n + 1)) same)),
+      λ left lines has.
+          (let few : c.args.self.now.count < 100000 = elim c.else-self-ge-MOST_LINES.branch [
+            | else-self-ge-MOST_LINES-via-then-self-ge-MOST_LINES+else-self v ↦ (let none = v.if-self.false in absurd (omega arith))
+            | else-self-ge-MOST_LINES-via-else-self-ge-MOST_LINES v ↦ (let f = v.if-self-ge-MOST_LINES.false in let h : c.args.self.now.count < 100000 = omega arith in h)
+          ] in
+          let k = 200 - self.width in
+          let p = length-take-le k (rest_of self) (let f : k ≤ length (rest_of self) = omega arith in f) in
+          HasStopped-long left _ _ c.args.self.now lines has i.2 (line_of self) (rest_of self) i.6 k (omega arith) (omega arith) few),
+    )
 
-pub returns-in-Err-clause-stop : goal.returns-in-Err-clause-stop
-returns-in-Err-clause-stop g c = λ left lines has.
-    let i = c.loop-self.invariant in
-    let self = c.loop-self.self in
-    let none = none_is (rest_of self) (sym c.in_default.is ∙ c.end_of_line.ensures) in
-    let after = c.copy_part-in-loop-self.new.self in
-    let grown : line_of after ≡ line_of self ++ rest_of self = c.in_ok-copy_part-2.ensures.line ∙ ap (λ l. line_of self ++ l) (rest_of-all self i.0) in
-    let taking = IsTaking-part _ _ _ _ _ i.6 (rest_of self) [] (line_of after) (IsOneLine-all (rest_of self) none) (sym (append-nil (rest_of self))) grown in
-    HasStopped-failed left _ _ c.args.self.now lines has i.2 (line_of after) [] (IsTaking-kept _ _ _ _ _ _ taking c.in-Err.ensures.bytes) refl
+pub returns-in-Err-clause-fault : goal.returns-in-Err-clause-fault
+returns-in-Err-clause-fault g c = (
+  Failed,
+  refl,
+  λ left lines has.
+      let i = c.loop-self.invariant in
+      let self = c.loop-self.self in
+      let none = none_is (rest_of self) (sym c.in_default.is ∙ c.end_of_line.ensures) in
+      let after = c.copy_part-in-loop-self.new.self in
+      let grown : line_of after ≡ line_of self ++ rest_of self = c.in_ok-copy_part-2.ensures.line ∙ ap (λ l. line_of self ++ l) (rest_of-all self i.0) in
+      let taking = IsTaking-part _ _ _ _ _ i.6 (rest_of self) [] (line_of after) (IsOneLine-all (rest_of self) none) (sym (append-nil (rest_of self))) grown in
+      HasStopped-failed left _ _ c.args.self.now lines has i.2 (line_of after) [] (IsTaking-kept _ _ _ _ _ _ taking c.in-Err.ensures.bytes) refl,
+)
 
 pub returns-in-Ok-eq0-clause-line : goal.returns-in-Ok-eq0-clause-line
 returns-in-Ok-eq0-clause-line g c =
-    OnOk-map c.take_last.result _ _
-    (λ last. λ left lines has.
     let i = c.loop-self.invariant in
     let self = c.loop-self.self in
     let none = none_is (rest_of self) (sym c.in_default.is ∙ c.end_of_line.ensures) in
@@ -114,29 +127,24 @@ returns-in-Ok-eq0-clause-line g c =
     let zero : c.in-Ok-eq0.field-0 ≡ 0 = search rules in
     let bytes = c.in-Ok-eq0.ensures.bytes in
     let read = IsTaking-read _ _ _ _ _ taking _ _ [] refl bytes.0 (ap (λ k. take k c.read.new.buffer) (sym zero)) in
+    let at_end = bytes.1 zero (search rules) in
     let ended = c.take_last.ensures.ended in
     let w = line_of-length after c.in_ok-copy_part-2.ensures.held in
+    TakesOn-cases _ _ c.args.self.now c.take_last.new.self c.take_last.result
+    (λ e.
+    let last = c.take_last.ensures.line e in
     let some = last.0 in
-    HasTaken-last left _ _ c.args.self.now lines has i.2 (line_of after) [] read c.take_last.new.self refl (ap line_of ended) (omega arith) (last.1 ∙ ap (λ k. k + 1) (kept.2 ∙ i.3)) (ap (λ l. l.source) ended)
-    (ap rest_of ended ∙ rest_of-none (record after { piece = c.read.new.buffer }) (omega arith)) (bytes.1 zero (search rules)))
-    c.take_last.ensures.line
-
-pub returns-in-Ok-eq0-clause-stop : goal.returns-in-Ok-eq0-clause-stop
-returns-in-Ok-eq0-clause-stop g c =
-    IfErr-map c.take_last.result _ _
-    (λ stop last. λ left lines has.
-    let i = c.loop-self.invariant in
-    let self = c.loop-self.self in
-    let none = none_is (rest_of self) (sym c.in_default.is ∙ c.end_of_line.ensures) in
-    let after = c.copy_part-in-loop-self.new.self in
-    let grown : line_of after ≡ line_of self ++ rest_of self = c.in_ok-copy_part-2.ensures.line ∙ ap (λ l. line_of self ++ l) (rest_of-all self i.0) in
-    let taking = IsTaking-part _ _ _ _ _ i.6 (rest_of self) [] (line_of after) (IsOneLine-all (rest_of self) none) (sym (append-nil (rest_of self))) grown in
-    let zero : c.in-Ok-eq0.field-0 ≡ 0 = search rules in
-    let bytes = c.in-Ok-eq0.ensures.bytes in
-    let read = IsTaking-read _ _ _ _ _ taking _ _ [] refl bytes.0 (ap (λ k. take k c.read.new.buffer) (sym zero)) in
-    subst (λ s. HasStopped left (g.I.TextIn.remaining c.read.new.self) s lines) (sym last.0)
-    (HasStopped-end left _ _ c.args.self.now lines has i.2 (line_of after) [] read (line_of-none after last.1) refl (bytes.1 zero (search rules))))
-    c.take_last.ensures.none
+    let counted = last.1 ∙ ap (λ k. k + 1) (kept.2 ∙ i.3) in (
+      counted,
+      λ left lines has.
+          HasTaken-last left _ _ c.args.self.now lines has i.2 (line_of after) [] read c.take_last.new.self refl (ap line_of ended) (omega arith) counted (ap (λ l. l.source) ended)
+          (ap rest_of ended ∙ rest_of-none (record after { piece = c.read.new.buffer }) (omega arith)) at_end,
+    ))
+    (λ e.
+    let last = c.take_last.ensures.none e in (
+      last.1 ∙ kept.2 ∙ i.3,
+      λ left lines has. HasStopped-end left _ _ c.args.self.now lines has i.2 (line_of after) [] read (line_of-none after last.0) refl at_end,
+    ))
 
 pub loop-self-preserved : goal.loop-self-preserved
 loop-self-preserved g c =

@@ -1,6 +1,6 @@
 use Rattle.std.proofs.Common.{arith, ◌≡◌, ◌<◌, ℕ, List, [], ◌∷◌, length, refl}
 use Rattle.uni_script.specs.Told.{without}
-use Rattle.uni_script.proofs.script_run.without.Goals as goal
+use Rattle.uni_script.proofs.told.without.Goals as goal
 
 without-none : (b : ℕ) (text : List ℕ) → length text < 1 → text ≡ without b text
 without-none b [] short = refl
