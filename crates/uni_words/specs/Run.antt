@@ -1,5 +1,5 @@
 -- What a run tells: the acts of one process in a history, and that a log is a run's.
-use Rattle.std.specs.Prelude.{◌≡◌, ℕ, ◌+◌, ◌==◌, List, [], ◌∷◌, if◌then◌else◌, refl, Contains}
+use Rattle.std.specs.Prelude.{◌≡◌, ℕ, ◌+◌, ◌==◌, List, [], ◌∷◌, if◌then◌else◌, refl, replicate, Contains, Some}
 use Rattle.seq_object.specs.Sequential.{Sequential}
 use Rattle.uni_model.specs.AtomicObject.{Act}
 use Rattle.uni_model.specs.AtomicObject.Act.{Invoke, Linearize, Respond}
@@ -9,6 +9,8 @@ use Rattle.uni_model.specs.History.{history_of, log_of_run}
 use Rattle.uni_model.specs.Responses.{HoldsResponses}
 use Rattle.uni_model.specs.Universal.{IsUniversal}
 use Rattle.uni_model.specs.Worlds.{WorldOf, Event, opened_world, AreAccepted}
+use Rattle.uni_model.specs.Worlds.Event.{Call, Step}
+use Rattle.uni_words.specs.Objects.{tally}
 use Rattle.uni_words.specs.View.{ProcessCalls}
 
 -- the acts of a process in a history, in its order: it begins its calls, and is given its replies
@@ -53,3 +55,19 @@ sample_acts = refl
 -- two calls, one after the other
 sample_calls : sequential_acts 1 0 ((7, 3) ∷ (8, 4) ∷ []) ≡ Invoke 1 0 7 ∷ Respond 1 0 3 ∷ Invoke 1 1 8 ∷ Respond 1 1 4 ∷ []
 sample_calls = refl
+
+-- one process adds 5 to a tally, in its 14 own steps
+abbrev sample_run : List (Event ℕ)
+sample_run = Call 0 5 ∷ replicate 14 (Step 0)
+
+sample_history : run_history tally 1 sample_run
+    ≡ Invoke 0 0 5 ∷ Linearize (record { process = 0; nth = 0; inv = 5 }) ∷ Respond 0 0 0 ∷ []
+sample_history = refl
+
+sample_of_run : acts_by 0 (run_history tally 1 sample_run) ≡ sequential_acts 0 0 ((5, 0) ∷ [])
+sample_of_run = refl
+
+-- its log is the one that the sample words of Log tell
+sample_joined : log_of_run tally (opened tally 1) sample_run
+    ≡ record { number = 2; call = record { process = 0; nth = 0; inv = 5 }; response = Some 0 } ∷ []
+sample_joined = refl
