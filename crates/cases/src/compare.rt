@@ -1,14 +1,18 @@
 //! What a run of a program writes, beside what it should.
 
-ghost use Rattle.std.specs.Prelude.{◌≡◌, ◌≤◌, ◌↔◌, [], true, false, None, Some, IfOk, map};
-ghost use Rattle.uni_script.specs.Replay.{fault_of_script, text_of_script};
+ghost use Rattle.std.specs.Prelude.{◌≡◌, ◌≢◌, ◌≤◌, ◌↔◌, ℕ, List, [], true, false, Some, IfOk, map};
+ghost use Rattle.unibench_run.specs.CommandLine.{AsksFor};
+ghost use Rattle.unibench_run.specs.Runs.{IsRunOf};
+ghost use Rattle.unibench_run.specs.Statuses.{Tells};
 ghost use Rattle.unidraw_run.specs.Drawn.{form_of_words, IsDrawn};
+ghost use Rattle.cases.specs.Comparing.{AsksForReplayOf, IsAnsweredBy};
 
 use std::alloc::Global;
 use std::convert::AsStr;
 use std::sync::Wait;
 use std::thread::Threads;
-use uni_script::{BenchFault, Checked, Options, TextIn, TextOut, bench};
+use uni_script::{Checked, TextIn, TextOut};
+use unibench_run::Request;
 use unidraw_run::Form;
 
 /// What a run is to write, and how it is to end.
@@ -39,31 +43,6 @@ fn is_wanted(status: u8, output: &[u8], told: &[u8], wanted: &Wanted) -> Result<
     )
 }
 
-/// Whether a script is a good one whose answers are this text.
-///
-/// An `Err` is no fault of the script: memory was refused, or one of the ends failed.
-pub fn has_answers(alloc: Global, script: &[u8], answers: &[u8]) -> Result<bool, BenchFault>
-    ensures { IfOk result (λ same. same ≡ true ↔ (fault_of_script 1048576 script.now ≡ None) × (text_of_script 1048576 script.now ≡ answers.now)) }
-{
-    let mut writer = Checked::new(Vec::new(alloc));
-    let ended = bench(
-        alloc,
-        &mut Checked::new(script),
-        &mut writer,
-        &Options { history: 1_048_576 },
-    );
-    match ended {
-        Ok(_) => Ok(writer.end().as_slice() == answers),
-        Err(
-            fault @ (BenchFault::Read
-            | BenchFault::Write
-            | BenchFault::Memory
-            | BenchFault::Audit(_)),
-        ) => Err(fault),
-        Err(_) => Ok(false),
-    }
-}
-
 /// Whether `unibench`, over these words and what a reader has, writes and tells what it should, and ends so.
 ///
 /// An `Err` is a status above 2: memory was refused, an end failed, or threads didn't agree.
@@ -75,6 +54,13 @@ pub fn is_run<R: Threads + Wait + Sync, S: AsStr, I: TextIn>(
     wanted: &Wanted,
 ) -> Result<bool, u8>
     requires { I.has_failed input.old ≡ false }
+    ensures run { (r : Request) → AsksFor (map S.text words.now) r → IfOk result (λ same. same ≡ true
+        → IsRunOf r (I.remaining input.old) (I.remaining input.new) (Some []) (Some wanted.now.answers.items) false wanted.now.status) }
+    ensures told { (r : Request) → AsksFor (map S.text words.now) r → wanted.now.status ≢ 0 → IfOk result (λ same. same ≡ true
+        → Tells r (Some []) (Some wanted.now.fault.items) false wanted.now.status) }
+    ensures good { (limit : ℕ) (script : List ℕ) → AsksForReplayOf (map S.text words.now) limit (I.remaining input.old) script
+        → wanted.now.status ≡ 0 → wanted.now.fault.items ≡ []
+        → IfOk result (λ same. same ≡ true ↔ IsAnsweredBy limit script wanted.now.answers.items) }
 {
     let mut output = Checked::new(Vec::new(alloc));
     let mut told = Checked::new(Vec::new(alloc));
