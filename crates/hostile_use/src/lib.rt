@@ -1,13 +1,11 @@
 //! Tests of hostile use, across the crates below: processes that stop for good, malicious scripts,
-//! ends that fail, the limits of the language, and objects that are refused memory.
+//! ends that fail, and objects that are refused memory.
 #![tactic(auto)]
 
 #[cfg(test)]
 mod ends;
 #[cfg(test)]
 mod failing_ends;
-#[cfg(test)]
-mod limits;
 #[cfg(test)]
 mod scarce;
 #[cfg(test)]

@@ -4,8 +4,6 @@
 #[cfg(test)]
 mod layouts;
 #[cfg(test)]
-mod lines;
-#[cfg(test)]
 mod marks;
 #[cfg(test)]
 mod pictures;

@@ -1,9 +1,10 @@
-//! A test of a whole picture, and of a script that has none.
+//! A test of a whole picture, and of the status that it is written with.
 
-use run_layout::PictureFault;
 use run_picture::picture_of;
+use std::alloc::Global;
 use std::process::Abort;
-use uni_script::{BenchFault, Checked};
+use uni_script::Checked;
+use unidraw_run::run;
 
 /// Process 0 helps process 1, which stopped after its first step.
 const HELPED: &str = "universal 1 queue 2 8
@@ -54,10 +55,24 @@ fn stopped_process_is_helped(rt: HostRuntime) {
     }
 }
 
+/// Asserts that a picture of a call that hasn't returned is written in the form that these words ask for.
+fn is_written(rt: &impl Abort, alloc: Global, words: &[&str]) {
+    let mut output = Checked::new(Vec::new(alloc));
+    let mut faults = Checked::new(Vec::new(alloc));
+    let status = run(
+        alloc,
+        words,
+        &mut Checked::new(b"universal 1 queue 1 4\ncall 0 deq\n".as_slice()),
+        &mut output,
+        &mut faults,
+    );
+    assert!(rt; status == 0);
+    assert!(rt; faults.end().is_empty());
+    assert!(rt; !output.end().is_empty());
+}
+
 #[test]
-fn no_script(rt: HostRuntime) {
-    match picture_of(rt.alloc(), &mut Checked::new(b"".as_slice())) {
-        Ok(_) => assert!(rt; false),
-        Err(fault) => assert!(rt; fault == PictureFault::Script(BenchFault::NoHeader(1))),
-    }
+fn status_of_a_picture(rt: HostRuntime) {
+    is_written(&rt, rt.alloc(), &["unidraw"]);
+    is_written(&rt, rt.alloc(), &["unidraw", "--text"]);
 }

@@ -2,4 +2,6 @@
 #![tactic(auto)]
 
 #[cfg(test)]
+mod schedules;
+#[cfg(test)]
 mod scripts;

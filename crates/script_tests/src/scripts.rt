@@ -1,9 +1,5 @@
 //! Tests of `bench` over memory, of a script's run, and of objects that processes share through a world.
 
-ghost use Rattle.uni_script.specs.Replay.{IsHistory};
-
-use rand_xoshiro::Xoshiro256PlusPlus;
-use rand_xoshiro::rand_core::SeedableRng;
 use ready_objects::{Amount, QueueObject, StickyInv, StickyObject, StickyResp};
 use seq_object::CallId;
 use std::alloc::Global;
@@ -16,148 +12,12 @@ use uni_core::{Progress, World};
 use uni_log::{Entry, Log};
 use uni_record::Verdict;
 use uni_script::{
-    BenchFault, Checked, Drawn, Failed, ObjectName, Options, Plan, Remark, ScriptRecord, ScriptRun,
-    Summary, TextIn, TextOut, Told, bench, finish_returns, push_fault, run_of_script, schedule,
-    write_all,
+    BenchFault, Checked, Failed, Options, Remark, ScriptRecord, ScriptRun, Summary, TextIn,
+    TextOut, Told, bench, finish_returns, push_fault, run_of_script, write_all,
 };
 
 /// What `bench` is told where its history is long enough.
 const OPTIONS: Options = Options { history: 1_048_576 };
-
-/// Asserts what `bench` writes for a script, and how it ends.
-fn runs(rt: &impl Abort, alloc: Global, script: &str, want: &str, outcome: Result<(), BenchFault>) {
-    runs_with(rt, alloc, &OPTIONS, script, want, outcome);
-}
-
-/// Asserts what `bench` writes for a script where it is told this, and how it ends.
-fn runs_with(
-    rt: &impl Abort,
-    alloc: Global,
-    options: &Options,
-    script: &str,
-    want: &str,
-    outcome: Result<(), BenchFault>,
-)
-    requires { IsHistory options.now.history }
-{
-    let mut reader = Checked::new(script.as_bytes());
-    let mut writer = Checked::new(Vec::new(alloc));
-    let ended = bench(alloc, &mut reader, &mut writer, options).map(|_| ());
-    assert!(rt; ended == outcome, "{script}");
-    assert!(rt; !TextIn::failed(&reader) && !TextOut::failed(&writer));
-    assert!(rt; writer.end().as_slice() == want.as_bytes(), "{script}");
-}
-
-/// Scripts, each with its answers and how it ends.
-const SCRIPTS: &[(&str, &str, Result<(), BenchFault>)] = &[
-    (
-        "universal 1 queue 1 8\ncall 0 enq 7\nfinish 0\nlog\n",
-        "called 0.0\nreturned 0.0 ok steps 14 turns 1\n2 0.0 enq 7 -> ok\nend\n",
-        Ok(()),
-    ),
-    (
-        "universal 1 queue 1 8\ncall 0 enq 7\nfin\n",
-        "called 0.0\n",
-        Err(BenchFault::BadLine(3)),
-    ),
-    ("", "", Err(BenchFault::NoHeader(1))),
-    ("universal 1 queue 16 4096\n", "end\n", Ok(())),
-    (
-        "universal 1 queue 17 8\n",
-        "",
-        Err(BenchFault::BadHeader(1)),
-    ),
-    ("universal 1 queue 0 8\n", "", Err(BenchFault::BadHeader(1))),
-    ("universal 1 stack 1 8\n", "", Err(BenchFault::BadHeader(1))),
-    // The words of another object's call.
-    (
-        "universal 1 directory 1 8\ncall 0 enq 1\n",
-        "",
-        Err(BenchFault::BadLine(2)),
-    ),
-    // A cell that is linked, and has no response yet.
-    (
-        "universal 1 queue 1 8\ncall 0 enq 7\nstep 0 8\nlog\nstep 0\nlog\nheads\n",
-        "called 0.0\ngoing 0.0 steps 8 turns 1\n2 0.0 enq 7 -> ?\ngoing 0.0 steps 9 turns 1\n2 0.0 enq 7 -> ok\nheads 1\nend\n",
-        Ok(()),
-    ),
-    // A step that ends the call is the last one.
-    (
-        "universal 1 queue 1 8\ncall 0 deq\nstep 0 1000\nstep 0\n",
-        "called 0.0\nreturned 0.0 empty steps 14 turns 1\nrefused idle 0\nend\n",
-        Ok(()),
-    ),
-];
-
-#[test]
-fn scripts(rt: HostRuntime) {
-    finish_returns::<QueueObject>();
-    for &(script, want, outcome) in SCRIPTS {
-        runs(&rt, rt.alloc(), script, want, outcome);
-    }
-}
-
-#[test]
-fn histories_that_are_full(rt: HostRuntime) {
-    let script = "universal 1 queue 1 8\ncall 0 enq 7\nfinish 0\ncall 0 deq\ntrim\n";
-    let answers = "called 0.0\nreturned 0.0 ok steps 14 turns 1\nrefused history\ntrimmed 2\nend\n";
-    runs_with(
-        &rt,
-        rt.alloc(),
-        &Options { history: 23 },
-        script,
-        answers,
-        Ok(()),
-    );
-    let refusals = "refused history\nrefused idle 0\nrefused history\ntrimmed 1\nend\n";
-    runs_with(
-        &rt,
-        rt.alloc(),
-        &Options { history: 22 },
-        script,
-        refusals,
-        Ok(()),
-    );
-    let trims = "universal 2 queue 1 8\ntrim\ntrim\nreshape 2\n";
-    let full = "trimmed 1\nrefused history\nrefused history\nend\n";
-    runs_with(
-        &rt,
-        rt.alloc(),
-        &Options { history: 1 },
-        trims,
-        full,
-        Ok(()),
-    );
-}
-
-/// Scripts of both versions, and of none.
-const VERSIONS: &[(&str, &str, Result<(), BenchFault>)] = &[
-    (
-        "universal 2 queue 1 8\nreshape 2\nheads\n",
-        "reshaped 2 at 1\nheads 1 1\nend\n",
-        Ok(()),
-    ),
-    ("universal 2 queue 64 8\n", "end\n", Ok(())),
-    (
-        "universal 2 queue 65 8\n",
-        "",
-        Err(BenchFault::BadHeader(1)),
-    ),
-    ("universal 3 queue 1 8\n", "", Err(BenchFault::BadHeader(1))),
-    // Version 1 has no change.
-    (
-        "universal 1 queue 1 8\nlog\nreshape 2\n",
-        "",
-        Err(BenchFault::BadLine(3)),
-    ),
-];
-
-#[test]
-fn versions(rt: HostRuntime) {
-    for &(script, want, outcome) in VERSIONS {
-        runs(&rt, rt.alloc(), script, want, outcome);
-    }
-}
 
 /// Scripts, each with its lines, its calls and its returns.
 const SUMMARIES: &[(&str, u64, u64, u64)] = &[
@@ -247,35 +107,6 @@ fn texts_of_faults(rt: HostRuntime) {
         let mut text = Vec::new(rt.alloc());
         assert!(rt; push_fault(&mut text, fault).is_ok());
         assert!(rt; text.as_slice() == want.as_bytes());
-    }
-}
-
-#[test]
-fn lines_that_are_no_commands(rt: HostRuntime) {
-    for line in [
-        "step 0 0",
-        "step 0 1001",
-        "step 00",
-        "step",
-        "step 0 1 1",
-        "finish 0 1",
-        "heads 0",
-        "call 0",
-    ] {
-        let mut script = Vec::new(rt.alloc());
-        let wrote = writeln!(script, "universal 1 queue 2 8").is_ok()
-            && write!(script, "{line}").is_ok();
-        assert!(rt; wrote);
-        let mut reader = Checked::new(script.as_slice());
-        let mut text = Vec::new(rt.alloc());
-        let outcome = bench(
-            rt.alloc(),
-            &mut reader,
-            &mut Checked::new(&mut text),
-            &OPTIONS,
-        );
-        assert!(rt; outcome == Err(BenchFault::BadLine(2)), "{line}");
-        assert!(rt; text.len() == 0, "{line}");
     }
 }
 
@@ -374,114 +205,6 @@ fn three_processes_share_the_first_proposal(rt: HostRuntime) -> Result<(), Fail>
     });
     assert!(rt; entries.as_slice() == want.as_slice());
     Ok(())
-}
-
-/// A source of the words of a list, and then of zeros.
-#[derive(Drop)]
-struct Listed<'a> {
-    words: &'a [u64],
-}
-
-impl Drawn for Listed<'_> {
-    ghost use Rattle.uni_script.specs.Schedules.{listed};
-
-    ghost word = { λ source. listed source.words.now };
-
-    fn draw(&mut self) -> u64 {
-        match self.words {
-            [] => 0,
-            [first, rest @ ..] => {
-                self.words = rest;
-                *first
-            }
-        }
-    }
-}
-
-#[test]
-fn four_words_make_three_events(rt: HostRuntime) {
-    let plan = Plan {
-        object: ObjectName::Queue,
-        processes: 2,
-        row: 8,
-        events: 3,
-    };
-    let words = [33, 22, 20, 16, 5];
-    let mut source = Listed {
-        words: words.as_slice(),
-    };
-    let mut text = Vec::new(rt.alloc());
-    let mut writer = Checked::new(&mut text);
-    let outcome = schedule(rt.alloc(), &mut source, &mut writer, &plan);
-    assert!(rt; outcome == Ok(()));
-    assert!(rt;
-        text.as_slice()
-            == b"universal 1 queue 2 8\ncall 0 enq 7\nstep 1\ntrim\nfinish 0\nfinish 1\nlog\n".as_slice()
-    );
-    // The fifth word was not drawn.
-    assert!(rt; source.draw() == 5);
-
-    let mut room = [0; 4];
-    let mut writer = Checked::new(room.as_mut_slice());
-    let outcome = schedule(
-        rt.alloc(),
-        &mut Listed {
-            words: words.as_slice(),
-        },
-        &mut writer,
-        &plan,
-    );
-    assert!(rt; outcome == Err(BenchFault::Write));
-    assert!(rt; writer.failed());
-    assert!(rt; room == *b"univ");
-}
-
-/// Plans by their object, processes and row, each with its header.
-const HEADERS: &[(ObjectName, u64, u64, &str)] = &[
-    (
-        ObjectName::Directory,
-        1,
-        4096,
-        "universal 1 directory 1 4096\n",
-    ),
-    (ObjectName::Book, 16, 1, "universal 1 book 16 1\n"),
-    (ObjectName::Sticky, 17, 2, "universal 2 sticky 17 2\n"),
-    (ObjectName::Queue, 64, 2, "universal 2 queue 64 2\n"),
-];
-
-#[test]
-fn headers_of_schedules(rt: HostRuntime) {
-    for &(object, processes, row, want) in HEADERS {
-        let plan = Plan {
-            object,
-            processes,
-            row,
-            events: 1,
-        };
-        let mut text = Vec::new(rt.alloc());
-        let outcome = schedule(
-            rt.alloc(),
-            &mut Listed { words: &[] },
-            &mut Checked::new(&mut text),
-            &plan,
-        );
-        assert!(rt; outcome == Ok(()));
-        assert!(rt; text.starts_with(want.as_bytes()), "{want}");
-    }
-}
-
-#[test]
-fn words_of_xoshiro(rt: HostRuntime) {
-    let mut source = Xoshiro256PlusPlus::seed_from_u64(1);
-    for word in [
-        14_971_601_782_005_023_387,
-        13_781_649_495_232_077_965,
-        1_847_458_086_238_483_744,
-        13_765_271_635_752_736_470,
-        3_406_718_355_780_431_780,
-    ] {
-        assert!(rt; source.draw() == word);
-    }
 }
 
 /// A reader that gives at most so many bytes of a text at a time.
@@ -704,9 +427,39 @@ fn run_with_its_record(rt: HostRuntime) -> Result<(), Fail> {
     }
 }
 
+/// Scripts, each with how its run ends.
+const RUNS: &[(&str, Result<(), BenchFault>)] = &[
+    (
+        "universal 1 queue 1 8\ncall 0 enq 7\nfinish 0\nlog\n",
+        Ok(()),
+    ),
+    (
+        "universal 1 queue 1 8\ncall 0 enq 7\nfin\n",
+        Err(BenchFault::BadLine(3)),
+    ),
+    ("", Err(BenchFault::NoHeader(1))),
+    ("universal 1 queue 16 4096\n", Ok(())),
+    ("universal 1 queue 17 8\n", Err(BenchFault::BadHeader(1))),
+    ("universal 1 queue 0 8\n", Err(BenchFault::BadHeader(1))),
+    ("universal 1 stack 1 8\n", Err(BenchFault::BadHeader(1))),
+    (
+        "universal 1 directory 1 8\ncall 0 enq 1\n",
+        Err(BenchFault::BadLine(2)),
+    ),
+    (
+        "universal 1 queue 1 8\ncall 0 enq 7\nstep 0 8\nlog\nstep 0\nlog\nheads\n",
+        Ok(()),
+    ),
+    (
+        "universal 1 queue 1 8\ncall 0 deq\nstep 0 1000\nstep 0\n",
+        Ok(()),
+    ),
+];
+
 #[test]
 fn runs_with_a_fault(rt: HostRuntime) {
-    for &(script, _, outcome) in SCRIPTS {
+    finish_returns::<QueueObject>();
+    for &(script, outcome) in RUNS {
         let run = run_of_script(rt.alloc(), &mut Checked::new(script.as_bytes()), &OPTIONS);
         assert!(rt; run.map(|_| ()) == outcome, "{script}");
     }

@@ -1,8 +1,6 @@
 //! Tests of the program over memory: what it writes, and its status.
 
-mod command_line;
 mod drawn;
-mod rows;
 
 use seq_object::CallId;
 use std::alloc::{AllocError, Global};
@@ -125,145 +123,12 @@ fn replays<R: Abort + Threads + Wait + Sync>(
     assert!(rt; is_right, "{output:?} {faults:?}");
 }
 
-/// Asserts what the replay of a good script writes, in whatever pieces the script is read.
-fn answers<R: Abort + Threads + Wait + Sync>(rt: &R, alloc: Global, script: &str, output: &str) {
-    for most in [1, 2, 7, 5_000] {
-        let reader = Trickle {
-            left: script.as_bytes(),
-            most,
-            fails: false,
-        };
-        replays(rt, alloc, reader, (output, "", 0));
-    }
-}
-
-/// Scripts, each with its answers.
-const GOOD: &[(&str, &str)] = &[
-    (
-        "universal 1 queue 1 8\ncall 0 enq 7\nfinish 0\nlog\n",
-        "called 0.0\nreturned 0.0 ok steps 14 turns 1\n2 0.0 enq 7 -> ok\nend\n",
-    ),
-    (
-        "universal 1 queue 1 8\ncall 0 enq 7\nfinish 0\nlog",
-        "called 0.0\nreturned 0.0 ok steps 14 turns 1\n2 0.0 enq 7 -> ok\nend\n",
-    ),
-    (
-        "universal 1 queue 1 8\ncall 0 enq 7\nfinish 0\nlog\ncall 0 deq\nfinish 0\n",
-        "called 0.0\nreturned 0.0 ok steps 14 turns 1\n2 0.0 enq 7 -> ok\ncalled 0.1\nreturned 0.1 7 steps 14 turns 1\nend\n",
-    ),
-    (
-        "universal 1 queue 1 8\ncall 0 enq 7\nfinish 0\ncall 0 deq\nfinish 0\nlog\n",
-        "called 0.0\nreturned 0.0 ok steps 14 turns 1\ncalled 0.1\nreturned 0.1 7 steps 14 turns 1\n2 0.0 enq 7 -> ok\n3 0.1 deq -> 7\nend\n",
-    ),
-    // A call that was begun and took no step isn't in the log.
-    (
-        "universal 1 queue 1 8\ncall 0 enq 7\nfinish 0\ncall 0 deq\nlog\n",
-        "called 0.0\nreturned 0.0 ok steps 14 turns 1\ncalled 0.1\n2 0.0 enq 7 -> ok\nend\n",
-    ),
-    ("universal 1 queue 1 1\n", "end\n"),
-    ("# a note\n\nuniversal 1 queue 1 4096\n#\n", "end\n"),
-    (
-        "universal 1 queue 1 1\nfinish 0\ncall 0 enq 0\ncall 0 deq\nlog\nfinish 0\ncall 0 deq\nlog\n",
-        "refused idle 0\ncalled 0.0\nrefused busy 0\nreturned 0.0 ok steps 14 turns 1\nrefused row 0\n2 0.0 enq 0 -> ok\nend\n",
-    ),
-    (
-        "universal 1 queue 1 8\ncall 1 deq\nfinish 999999999999\nlog\n",
-        "refused process 1\nrefused process 999999999999\nend\n",
-    ),
-];
-
-#[test]
-fn good_scripts(rt: HostRuntime) {
-    for &(script, output) in GOOD {
-        answers(&rt, rt.alloc(), script, output);
-    }
-}
-
-/// Histories, each with the answers that a script gets.
-const HISTORIES: &[(&str, &str)] = &[
-    (
-        "23",
-        "called 0.0\nreturned 0.0 ok steps 14 turns 1\nrefused history\ntrimmed 2\nend\n",
-    ),
-    (
-        "22",
-        "refused history\nrefused idle 0\nrefused history\ntrimmed 1\nend\n",
-    ),
-];
-
-#[test]
-fn histories_of_few_events(rt: HostRuntime) {
-    let script = "universal 1 queue 1 8\ncall 0 enq 7\nfinish 0\ncall 0 deq\ntrim\n";
-    for &(history, output) in HISTORIES {
-        let words = ["unibench", "replay", "--history", history];
-        let reader = by_sevens(script.as_bytes(), false);
-        let outcome = outcome_of(&rt, rt.alloc(), words.as_slice(), reader);
-        assert!(rt; outcome.is(output.as_bytes(), b"", 0), "{history}");
-    }
-}
-
 /// A script of one call of a queue. Its lines end after 22, 35, 44 and 48 bytes.
 const ONE_CALL: &[u8] = b"universal 1 queue 1 8\ncall 0 enq 7\nfinish 0\nlog\n";
 
 /// What is written for it: lines of 11, 33, 18 and 4 bytes.
 const ONE_CALL_ANSWERED: &str =
     "called 0.0\nreturned 0.0 ok steps 14 turns 1\n2 0.0 enq 7 -> ok\nend\n";
-
-/// Scripts that have a fault, each with its answers and the fault.
-const BAD: &[(&str, &str, &str)] = &[
-    ("", "", "line 1: no header\n"),
-    ("# a", "", "line 2: no header\n"),
-    ("universal 1 queue 17 8\n", "", "line 1: bad header\n"),
-    ("\nuniversal 1 queue 1 4097\n", "", "line 2: bad header\n"),
-    ("universal 1 queue 1 0\n", "", "line 1: bad header\n"),
-    ("universal 1 queue 1 08\n", "", "line 1: bad header\n"),
-    (" universal 1 queue 1 8\n", "", "line 1: bad header\n"),
-    (
-        "universal 1 queue 1 8\ncall 0 enq 7\nfin\nlog\n",
-        "called 0.0\n",
-        "line 3: bad line\n",
-    ),
-    (
-        "universal 1 queue 1 8\ncall 0 enq 007\n",
-        "",
-        "line 2: bad line\n",
-    ),
-    (
-        "universal 1 queue 1 8\ncall 0 get a\n",
-        "",
-        "line 2: bad line\n",
-    ),
-    (
-        "universal 1 queue 1 8\ncall 9 get a\n",
-        "",
-        "line 2: bad line\n",
-    ),
-    (
-        "universal 1 queue 1 8\ncall  0 deq\n",
-        "",
-        "line 2: bad line\n",
-    ),
-    (
-        "universal 1 queue 1 8\ncall 0 deq \n",
-        "",
-        "line 2: bad line\n",
-    ),
-    (
-        "universal 1 queue 1 8\nfinish 0 1\n",
-        "",
-        "line 2: bad line\n",
-    ),
-    ("universal 1 queue 1 8\nlog\tx\n", "", "line 2: bad byte\n"),
-    ("universal 1 queue 1 8\n#\r\nx\n", "", "line 2: bad byte\n"),
-];
-
-#[test]
-fn bad_scripts(rt: HostRuntime) {
-    for &(script, output, faults) in BAD {
-        let reader = by_sevens(script.as_bytes(), false);
-        replays(&rt, rt.alloc(), reader, (output, faults, 2));
-    }
-}
 
 /// A header, and a line of so many bytes.
 fn long_line(alloc: Global, length: usize) -> Result<Vec<u8>, AllocError> {
@@ -289,8 +154,6 @@ fn greatest_scripts(rt: HostRuntime) -> Result<(), Fail> {
     let long = "line 2: too long\n";
     let many = "line 100001: too many lines\n";
     let rows = [
-        (long_line(alloc, 200)?, false, ("end\n", "", 0)),
-        (long_line(alloc, 201)?, false, ("", long, 2)),
         // Reading stops at the 201st byte, before the reader fails.
         (long_line(alloc, 201)?, true, ("", long, 2)),
         (long_line(alloc, 200)?, true, ("", "cannot read\n", 3)),
@@ -549,49 +412,6 @@ fn threads_under_a_lock_that_agree(rt: HostRuntime) {
     }
 }
 
-/// Plans under a lock that are refused, each with why.
-const TOO_MANY: &[(&str, &str, &str, &str)] = &[
-    // 64 * 4096 * 653 events, and 64 * 402 * 653: 23,168 more than the limit.
-    ("queue", "64", "4096", "calls too many\n"),
-    ("sticky", "64", "402", "calls too many\n"),
-    // That the form has no such object is said first.
-    ("tally", "64", "4096", "no such object in this form\n"),
-];
-
-#[test]
-fn calls_that_no_history_has_room_for(rt: HostRuntime) {
-    for &(object, processes, calls, faults) in TOO_MANY {
-        let words = [
-            "unibench",
-            "threads",
-            "--object",
-            object,
-            "--processes",
-            processes,
-            "--calls",
-            calls,
-        ];
-        runs(&rt, rt.alloc(), words.as_slice(), ("", faults, 2));
-    }
-}
-
-/// Forms, each with an object that it hasn't.
-const NOT_THERE: &[(&str, &str)] = &[
-    ("words", "queue"),
-    ("words", "directory"),
-    ("words", "book"),
-    ("lock", "tally"),
-];
-
-#[test]
-fn objects_that_a_form_has_not(rt: HostRuntime) {
-    let want = ("", "no such object in this form\n", 2);
-    for &(form, object) in NOT_THERE {
-        let words = ["unibench", "threads", "--form", form, "--object", object];
-        runs(&rt, rt.alloc(), words.as_slice(), want);
-    }
-}
-
 /// The call 1.2.
 const CALL: CallId = CallId { process: 1, nth: 2 };
 
@@ -621,19 +441,26 @@ fn lines_of_faults_of_threads(rt: HostRuntime) -> Result<(), Fail> {
 }
 
 #[test]
-fn names_of_threads_that_are_none(rt: HostRuntime) {
-    let want = ("", "no such object or form\n", 2);
-    for (option, value) in [("--form", "free"), ("--object", "stack")] {
-        let words = ["unibench", "threads", option, value];
-        runs(&rt, rt.alloc(), words.as_slice(), want);
-    }
-}
-
-#[test]
 fn agreement_that_nobody_takes(rt: HostRuntime) {
     let words = ["unibench", "threads", "--form=words", "--object=tally"].as_slice();
     let line = "threads 2 calls 200 agrees\n".as_bytes();
     for room in [0, 1, 26] {
         fails_after(&rt, rt.alloc(), words, b"", &line[..room]);
+    }
+}
+
+#[test]
+fn lines_of_help_fit_80_columns(rt: HostRuntime) {
+    let helps = [
+        ["unibench", "help"].as_slice(),
+        ["unibench", "help", "replay"].as_slice(),
+        ["unibench", "help", "random"].as_slice(),
+        ["unibench", "help", "threads"].as_slice(),
+    ];
+    for words in helps {
+        let outcome = outcome_of(&rt, rt.alloc(), words, by_sevens(b"", false));
+        for line in outcome.output.split(|byte| *byte == b'\n') {
+            assert!(rt; line.len() <= 80, "{words:?}");
+        }
     }
 }

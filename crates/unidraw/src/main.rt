@@ -1,16 +1,13 @@
-//! The program: a script on standard input, its picture on standard output.
+//! The program: hands its words and its standard streams to `run` of `unidraw_run`, and ends with the status
+//! that it answers.
 #![tactic(auto)]
 
-mod program;
-#[cfg(test)]
-mod tests;
-
-use crate::program::run;
 use std::alloc::Global;
 use std::env::Env;
 use std::process::ExitCode;
 use std::{env, io};
 use uni_script::{Checked, refuse_words};
+use unidraw_run::run;
 
 /// The argument texts, the program's name first.
 fn words<R: Env + Alloc<A = Global>>(rt: &R) -> io::Result<Vec<String>> {

@@ -1,10 +1,14 @@
 //! Tests of the schedules that the program draws.
 
-use super::{by_sevens, fails_after, outcome_of, runs};
+use super::{by_sevens, fails_after, outcome_of};
+use std::alloc::Global;
+use std::process::Abort;
+use std::sync::Wait;
+use std::thread::Threads;
 
-// A script in Python gave these lines. It was written from the published algorithms, SplitMix64 for the
-// state and xoshiro256++ for the words, and from the table of schedules; it gives the published
-// vectors of both generators.
+/// The schedule of 20 events of a queue of three processes, from seed 741. A script in Python gave it, which was
+/// written from the published algorithms, SplitMix64 for the state and xoshiro256++ for the words, and from the
+/// table of schedules; it gives the published vectors of both generators.
 const QUEUE_OF_741: &str = "\
 universal 1 queue 3 8
 step 1
@@ -32,124 +36,6 @@ finish 1
 finish 2
 log
 ";
-
-const DIRECTORY_OF_741: &str = "\
-universal 1 directory 3 8
-step 1
-step 0
-step 1
-trim
-call 2 size
-step 2
-step 2
-call 0 get n8
-call 0 del n8
-step 1
-call 0 put n0 215
-step 2
-step 0
-step 2
-call 1 put n4 862
-trim
-trim
-call 0 at 8
-trim
-step 0
-finish 0
-finish 1
-finish 2
-log
-";
-
-const BOOK_OF_741: &str = "\
-universal 1 book 3 8
-step 1
-step 0
-step 1
-trim
-call 2 move 3 6 304
-step 2
-step 2
-call 0 total
-call 0 withdraw 13 576
-step 1
-call 0 deposit 12 469
-step 2
-step 0
-step 2
-call 1 move 0 2 161
-trim
-trim
-call 0 total
-trim
-step 0
-finish 0
-finish 1
-finish 2
-log
-";
-
-const STICKY_OF_741: &str = "\
-universal 1 sticky 3 8
-step 1
-step 0
-step 1
-trim
-call 2 read
-step 2
-step 2
-call 0 stick 433
-call 0 stick 354
-step 1
-call 0 read
-step 2
-step 0
-step 2
-call 1 read
-trim
-trim
-call 0 stick 835
-trim
-step 0
-finish 0
-finish 1
-finish 2
-log
-";
-
-/// The words that ask for 20 events of an object of three processes, from seed 741.
-fn words_of_741(object: &str) -> [&str; 12] {
-    [
-        "unibench",
-        "random",
-        "--object",
-        object,
-        "--processes",
-        "3",
-        "--row",
-        "8",
-        "--seed",
-        "741",
-        "--events",
-        "20",
-    ]
-}
-
-/// Objects, each with the schedule that is drawn from seed 741.
-const OF_741: &[(&str, &str)] = &[
-    ("queue", QUEUE_OF_741),
-    ("directory", DIRECTORY_OF_741),
-    ("book", BOOK_OF_741),
-    ("sticky", STICKY_OF_741),
-];
-
-#[test]
-fn schedules_of_one_seed(rt: HostRuntime) {
-    for &(object, schedule) in OF_741 {
-        let words = words_of_741(object);
-        runs(&rt, rt.alloc(), words.as_slice(), (schedule, "", 0));
-    }
-}
 
 /// How many lines a text has.
 fn lines_of(text: &[u8]) -> usize {
@@ -203,19 +89,58 @@ fn as_many_events_as_can_be_drawn(rt: HostRuntime) {
 }
 
 #[test]
-fn names_of_drawn_objects_that_are_none(rt: HostRuntime) {
-    let want = ("", "no such object or form\n", 2);
-    for name in ["tally", "Queue", ""] {
-        let words = ["unibench", "random", "--object", name];
-        runs(&rt, rt.alloc(), words.as_slice(), want);
-    }
-}
-
-#[test]
 fn schedule_that_nobody_takes(rt: HostRuntime) {
-    let words = words_of_741("queue");
+    let words = [
+        "unibench",
+        "random",
+        "--processes=3",
+        "--row=8",
+        "--seed=741",
+        "--events=20",
+    ];
     let schedule = QUEUE_OF_741.as_bytes();
     for room in [0, 1, 21, 22, schedule.len() - 1] {
         fails_after(&rt, rt.alloc(), words.as_slice(), b"", &schedule[..room]);
+    }
+}
+
+/// Whether the replay of a script ends well.
+fn is_replayed<R: Threads + Wait + Sync>(rt: &R, alloc: Global, script: &[u8]) -> bool {
+    let words = ["unibench", "replay"].as_slice();
+    let outcome = outcome_of(rt, alloc, words, by_sevens(script, false));
+    outcome.status == 0 && outcome.faults.is_empty() && outcome.output.ends_with(b"\nend\n")
+}
+
+/// Asserts that a schedule of 1,000 events is drawn for an object and so many processes, and that its
+/// replay ends well.
+fn drawn_is_replayed<R: Abort + Threads + Wait + Sync>(
+    rt: &R,
+    alloc: Global,
+    object: &str,
+    processes: &str,
+) {
+    let words = [
+        "unibench",
+        "random",
+        "--object",
+        object,
+        "--processes",
+        processes,
+        "--seed",
+        "1",
+        "--events",
+        "1000",
+    ];
+    let drawn = outcome_of(rt, alloc, words.as_slice(), by_sevens(b"", false));
+    let is_right = drawn.status == 0 && is_replayed(rt, alloc, &drawn.output);
+    assert!(rt; is_right, "{object} {processes}");
+}
+
+#[test]
+fn schedules_that_are_replayed(rt: HostRuntime) {
+    for object in ["queue", "directory", "book", "sticky"] {
+        for processes in ["1", "2", "3", "16", "64"] {
+            drawn_is_replayed(&rt, rt.alloc(), object, processes);
+        }
     }
 }

@@ -1,0 +1,68 @@
+-- A run of the program that has drawn nothing, by its fault.
+use Rattle.std.proofs.Common.{◌≡◌, ◌∙◌, ◌≢◌, ◌≤◌, ℕ, List, Option, Result, Err, IsErrOf, inl, inr, refl, sym, ap, arith}
+use Rattle.uni_script.specs.Replay.{IsFaultOfScript}
+use Rattle.uni_script.specs.ScriptRun.{HasFault}
+use Rattle.uni_script.specs.Statuses.{status_of}
+use Rattle.uni_script.specs.declared.fault.BenchFault.{BenchFault}
+use Rattle.uni_script.specs.declared.fault.BenchFault.TheVariants.{NoHeader, BadHeader, TooLong, BadByte, BadLine, TooMany, Read, Write, Memory, Audit}
+use Rattle.run_layout.specs.Subject.{HasTooManyEvents}
+use Rattle.run_layout.specs.declared.subject.PictureFault.{PictureFault}
+use Rattle.run_layout.specs.declared.subject.PictureFault.TheVariants.{Script, TooManyEvents}
+use Rattle.unidraw_run.specs.Drawn.{HasNoPicture, IsDrawn}
+use Rattle.unidraw_run.specs.Statuses.{status_of_picture, IsStatusOfPicture}
+use Rattle.unidraw_run.specs.declared.program.Form.{Form}
+
+-- no fault ends with 0, nor does the want of memory for its text
+least_status : (f : BenchFault) → 2 ≤ status_of f
+least_status (NoHeader l) = omega arith
+least_status (BadHeader l) = omega arith
+least_status (TooLong l) = omega arith
+least_status (BadByte l) = omega arith
+least_status (BadLine l) = omega arith
+least_status TooMany = omega arith
+least_status Read = omega arith
+least_status Write = omega arith
+least_status Memory = omega arith
+least_status (Audit verdict) = omega arith
+
+status_not_0 : (f : PictureFault) (status : ℕ) → IsStatusOfPicture f status → status ≢ 0
+status_not_0 TooManyEvents status is zero = omega arith
+status_not_0 (Script f) status is zero = elim is [
+  | inl same ↦ let least = least_status f in omega arith
+  | inr other ↦ let four = other.1 in omega arith
+]
+
+-- a status of 2 is that of the fault
+status_2 : (f : PictureFault) (status : ℕ) → IsStatusOfPicture f status → status ≡ 2 → status_of_picture f ≡ 2
+status_2 TooManyEvents status is two = refl
+status_2 (Script f) status is two = elim is [
+  | inl same ↦ sym same ∙ two
+  | inr other ↦ let four = other.1 in absurd (omega arith)
+]
+
+-- a fault that ends with 2 is one of a script, or that there are too many events
+no_picture : (left : Option (List ℕ)) (f : PictureFault) → status_of_picture f ≡ 2 → (f ≡ TooManyEvents → HasTooManyEvents left)
+    → ((e : BenchFault) → f ≡ Script e → IsFaultOfScript e → HasFault 1048576 left e) → HasNoPicture left
+no_picture left TooManyEvents two many fault = inl (many refl)
+no_picture left (Script (NoHeader l)) two many fault = inr (NoHeader l, tt, fault (NoHeader l) refl tt)
+no_picture left (Script (BadHeader l)) two many fault = inr (BadHeader l, tt, fault (BadHeader l) refl tt)
+no_picture left (Script (TooLong l)) two many fault = inr (TooLong l, tt, fault (TooLong l) refl tt)
+no_picture left (Script (BadByte l)) two many fault = inr (BadByte l, tt, fault (BadByte l) refl tt)
+no_picture left (Script (BadLine l)) two many fault = inr (BadLine l, tt, fault (BadLine l) refl tt)
+no_picture left (Script TooMany) two many fault = inr (TooMany, tt, fault TooMany refl tt)
+no_picture left (Script Read) two many fault = absurd (omega arith)
+no_picture left (Script Write) two many fault = absurd (omega arith)
+no_picture left (Script Memory) two many fault = absurd (omega arith)
+no_picture left (Script (Audit verdict)) two many fault = absurd (omega arith)
+
+-- where a picture was refused with a fault, nothing was written
+pub IsDrawn-fault : {A : Type 0} (form : Form) (left old : Option (List ℕ)) (status : ℕ) (r : Result A PictureFault) (f : PictureFault) → r ≡ Err f
+    → (IsErrOf r TooManyEvents → HasTooManyEvents left) → ((e : BenchFault) → IsErrOf r (Script e) → IsFaultOfScript e → HasFault 1048576 left e)
+    → IsStatusOfPicture f status → IsDrawn form left old old status
+IsDrawn-fault {A} form left old status r f is many fault ends =
+    let told : (g : PictureFault) → f ≡ g → IsErrOf r g = λ g same. is ∙ ap Err same in record {
+      drawn = λ zero. absurd (status_not_0 f status ends zero);
+      bad = λ two. (no_picture left f (status_2 f status ends two) (λ same. many (told TooManyEvents same)) (λ e same. fault e (told (Script e) same)), refl);
+      front = λ _. inl refl;
+      nothing = λ _. refl;
+    }
