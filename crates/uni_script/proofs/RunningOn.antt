@@ -14,19 +14,19 @@ use Rattle.uni_script.specs.declared.lines.Source.{Source}
 use Rattle.uni_script.specs.declared.lines.Source.TheVariants.{Open, Ended}
 use Rattle.uni_script.specs.declared.summary.Summary.{Summary}
 use Rattle.uni_script.specs.declared.grammar.Version.{Version}
-use Rattle.uni_script.specs.Ends.{AppendsFront}
+use Rattle.uni_script.specs.Ends.{AppendsFront, Moves}
 use Rattle.uni_script.specs.Grammar.{cut, last_line, is_plain_byte, is_note, header_of_words, command_of_words}
 use Rattle.uni_script.specs.Objects.{SpokenObject, spoken_of}
 use Rattle.uni_script.specs.Meaning.{Session, session_after, ScriptSession, Outcome, script_session, session_of_header, result_of_command, outcome_of_fault, outcome_of_text, and_then, outcome_of_command, outcome_of_words, outcome_of_line, outcome_of_short_line, outcome_of_lines, outcome_of_end}
 use Rattle.uni_script.specs.Summary.{summary_of_session}
 use Rattle.uni_script.specs.Promises.{IsPromisedSession}
 use Rattle.uni_script.specs.Told.{Telling, Tells, told_of_line, told_of_lines}
-use Rattle.uni_script.specs.Lines.{Stop, IsHeld, line_of, rest_of, HasTaken, HasStopped, HasRun, HasEnded, IsRead, lines_of_read, fault_of_stop, outcome_of_stop, outcome_of_read, EndsAs, WritesAs, IsSummaryOf}
+use Rattle.uni_script.specs.Lines.{Stop, IsHeld, line_of, rest_of, HasTaken, HasStopped, HasRun, HasEnded, ReadsOn, HasFaultAfter, FaultsAfter, lines_of_read, fault_of_stop, outcome_of_stop, outcome_of_read, EndsAs, WritesAs, IsSummaryOf}
 use Rattle.uni_script.specs.Lines.Stop.{End, Failed, TooLong, TooMany}
 use Rattle.uni_script.proofs.Cutting.{cut-append}
 use Rattle.uni_script.proofs.Running.{is_short, after_text, and_then-none, and_then-some, and_then-assoc, outcome_of_line-short, outcome_of_lines-append}
 use Rattle.uni_script.proofs.Taking.{line_of-length}
-use Rattle.uni_script.proofs.Written.{AppendsFront-all, AppendsFront-more, AppendsFront-after, AppendsFront-nil}
+use Rattle.uni_script.proofs.Written.{AppendsFront-all, AppendsFront-more, AppendsFront-after}
 
 -- a fault has no answer
 abbrev IsSilent : Outcome → Type 0
@@ -86,10 +86,6 @@ IfOk-map (Err e) P Q f p = tt
 pub is_short-line : (lines : Lines) → IsHeld lines → is_short (line_of lines) ≡ true
 is_short-line lines held = let n = line_of-length lines held in let w = held.width in grind (arith, nat_tests)
 
-pub WritesAs-header : (B : Type 0) (outcome : Outcome) (b : Option ScriptSession) (e : BenchFault) (old : Option (List ℕ)) → (e ≡ Memory) ⊎ (outcome ≡ outcome_of_fault b e) → WritesAs {A = B} outcome old old (Err e)
-WritesAs-header B outcome b e old (inl memory) = inl (inl memory, AppendsFront-nil old outcome.text)
-WritesAs-header B outcome b e old (inr same) = inr (ap (λ (o : Outcome). o.fault) same, subst (Appends old old) (sym (ap (λ (o : Outcome). o.text) same)) (Appends-nil old))
-
 pub of_some : {A : Type 0} (o : Option A) (x : A) (P : A → Type 0) → o ≡ Some x → IfSome o P → P x
 of_some o x P e h = let g : IfSome (Some x) P = subst (λ q. IfSome q P) e h in g
 
@@ -116,17 +112,10 @@ text_goes_on o rest = at o.fault refl
     at (Some f) e = ([], ap (λ (x : Outcome). x.text) (and_then-some o rest f e) ∙ sym (append-nil o.text))
 
 -- the lines of what was read so far, and the whole lines of the piece
-pub record IsWhole (old now : Option (List ℕ)) (taken : List (List ℕ)) : Type 0 where
-  pub stop : Stop
-  pub bytes : List ℕ
-  pub read : IsRead old now stop bytes
-  pub more : List (List ℕ)
-  pub lines : lines_of_read stop bytes ≡ taken ++ more
-
-abbrev pub IsWhole-taken : (old now : Option (List ℕ)) (lines : Lines) (taken : List (List ℕ)) → HasTaken old now lines taken → IsWhole old now taken
-IsWhole-taken old now lines taken has = at lines.source refl
+abbrev pub ReadsOn-taken : (old now : Option (List ℕ)) (lines : Lines) (taken : List (List ℕ)) → HasTaken old now lines taken → ReadsOn old now taken
+ReadsOn-taken old now lines taken has = at lines.source refl
   where
-    at : (s : Source) → lines.source ≡ s → IsWhole old now taken
+    at : (s : Source) → lines.source ≡ s → ReadsOn old now taken
     at Ended e = record {
       stop = End;
       bytes = has.bytes;
@@ -187,22 +176,32 @@ module _ (limit : ℕ) where
       IsSilent-if (not (list_all is_plain_byte line)) (outcome_of_fault b (BadByte number)) plain (λ e q. refl)
       (IsSilent-if (is_note line) noted worded (IsSilent-none b []) (IsSilent-outcome_of_words number b (words_of_text line)))
 
-  -- a line that has a fault, or is refused memory, writes nothing
-  pub WritesAs-faulted : {B : Type 0} (number : ℕ) (b : Option ScriptSession) (line : List ℕ) (e : BenchFault) (text : List ℕ) (old : Option (List ℕ)) (result : Result B BenchFault) → result ≡ Err e
-      → EndsAs {A = Unit {0}} (outcome_of_short_line limit number b line) [] text (Err e) → WritesAs (outcome_of_short_line limit number b line) old old result
-  WritesAs-faulted number b line e text old (Ok x) bad ends = cc
-  WritesAs-faulted number b line e text old (Err f) same (inl memory) = inl (inl (let g : f ≡ e = cc in g ∙ memory), AppendsFront-nil old (outcome_of_short_line limit number b line).text)
-  WritesAs-faulted number b line e text old (Err f) same (inr has) =
-      let g : f ≡ e = cc in
-      inr (has.0 ∙ ap Some (sym g), subst (Appends old old) (sym (IsSilent-outcome_of_short_line number b line e has.0)) (Appends-nil old))
+  pub HasRun-start : (left written : Option (List ℕ)) (told : Option (List Telling)) (lines : Lines) → HasTaken left left lines [] → HasRun limit left left lines written written [] told told [] None
+  HasRun-start left written told lines has = record { reading = has; fault = refl; session_after = refl; front = []; written_as = Appends-nil written; text_is = refl; told_as = Tells-nil told }
 
-  pub HasRun-start : (left written : Option (List ℕ)) (told : Option (List Telling)) (lines : Lines) → HasTaken left left lines [] → HasRun limit left left lines written written told told [] None
-  HasRun-start left written told lines has = record { reading = has; fault = refl; session_after = refl; written_as = Appends-nil written; told_as = Tells-nil told }
-
-  module _ (old now : Option (List ℕ)) (lines : Lines) (written_old written : Option (List ℕ)) (told_old told : Option (List Telling)) (taken : List (List ℕ)) (b : Option ScriptSession)
-      (run : HasRun limit old now lines written_old written told_old told taken b) where
+  module _ (old now : Option (List ℕ)) (lines : Lines) (written_old written : Option (List ℕ)) (gathered : List ℕ) (told_old told : Option (List Telling)) (taken : List (List ℕ)) (b : Option ScriptSession)
+      (run : HasRun limit old now lines written_old written gathered told_old told taken b) where
     abbrev pub before : Outcome
     before = outcome_of_lines limit 1 None taken
+
+    -- a part of what was gathered was written
+    pub HasRun-moved : (written_new : Option (List ℕ)) (left : List ℕ) → Moves written written_new gathered left → HasRun limit old now lines written_old written_new left told_old told taken b
+    HasRun-moved written_new left moved = record {
+      reading = run.reading;
+      fault = run.fault;
+      session_after = run.session_after;
+      front = run.front ++ moved.0;
+      written_as = Appends-trans written_old written written_new run.front moved.0 run.written_as moved.1;
+      text_is = run.text_is ∙ ap (λ t. run.front ++ t) moved.2 ∙ sym (append_assoc run.front moved.0 left);
+      told_as = run.told_as;
+    }
+
+    -- all of the text was written, or a front of it
+    pub text_written : gathered ≡ [] → Appends written_old written before.text
+    text_written none = subst (Appends written_old written) (sym (run.text_is ∙ ap (λ t. run.front ++ t) none ∙ append-nil run.front)) run.written_as
+
+    pub text_part : (written_new : Option (List ℕ)) → AppendsFront written written_new gathered → AppendsFront written_old written_new before.text
+    text_part written_new part = subst (AppendsFront written_old written_new) (sym run.text_is) (AppendsFront-after written_old written written_new run.front gathered run.written_as part)
 
     module _ (new : Option (List ℕ)) (after : Lines) (line : List ℕ) (has : HasTaken old new after (taken ++ line ∷ [])) (short : is_short line ≡ true) (few : after.count ≤ 100000) where
       abbrev pub first : Outcome
@@ -231,25 +230,33 @@ module _ (limit : ℕ) where
           ∙ ap (λ s. told_of_lines limit 1 None taken ++ told_of_lines limit (1 + length taken) s (line ∷ [])) (sym run.session_after)
           ∙ sym (told_of_lines-append 1 None taken (line ∷ []) run.fault)
 
-      -- a line without a fault was run, its answer written, and what it tells heard
-      pub HasRun-line : (b' : Option ScriptSession) (written_new : Option (List ℕ)) (told_new : Option (List Telling)) → first.fault ≡ None → first.session ≡ b' → Appends written written_new first.text → Tells told told_new (told_of_line b line)
-          → HasRun limit old new after written_old written_new told_old told_new (taken ++ line ∷ []) b'
-      HasRun-line b' written_new told_new none same wrote tells = record {
+      -- a line without a fault was run, its answer gathered, and what it tells heard
+      pub HasRun-line : (b' : Option ScriptSession) (gathered_new : List ℕ) (told_new : Option (List Telling)) → first.fault ≡ None → first.session ≡ b' → gathered_new ≡ gathered ++ first.text → Tells told told_new (told_of_line b line)
+          → HasRun limit old new after written_old written gathered_new told_old told_new (taken ++ line ∷ []) b'
+      HasRun-line b' gathered_new told_new none same gathers tells = record {
         reading = has;
         fault = ap (λ (o : Outcome). o.fault) outcome_with_line ∙ none;
         session_after = ap (λ (o : Outcome). o.session) outcome_with_line ∙ same;
-        written_as = subst (Appends written_old written_new) (sym (ap (λ (o : Outcome). o.text) outcome_with_line)) (Appends-trans written_old written written_new before.text first.text run.written_as wrote);
+        front = run.front;
+        written_as = run.written_as;
+        text_is =
+            ap (λ (o : Outcome). o.text) outcome_with_line ∙ ap (λ t. t ++ first.text) run.text_is ∙ append_assoc run.front gathered first.text
+            ∙ ap (λ t. run.front ++ t) (sym gathers);
         told_as = subst (Tells told_old told_new) told_with_line (Tells-trans told_old told told_new (told_of_lines limit 1 None taken) (told_of_line b line) run.told_as tells);
       }
 
       -- a line without a fault and without an answer was run
       pub HasRun-quiet : (b' : Option ScriptSession) (told_new : Option (List Telling)) → first ≡ record { session = b'; text = []; fault = None } → Tells told told_new (told_of_line b line)
-          → HasRun limit old new after written_old written told_old told_new (taken ++ line ∷ []) b'
+          → HasRun limit old new after written_old written gathered told_old told_new (taken ++ line ∷ []) b'
       HasRun-quiet b' told_new quiet tells =
-          HasRun-line b' written told_new (ap (λ (o : Outcome). o.fault) quiet) (ap (λ (o : Outcome). o.session) quiet) (subst (Appends written written) (sym (ap (λ (o : Outcome). o.text) quiet)) (Appends-nil written)) tells
+          HasRun-line b' gathered told_new (ap (λ (o : Outcome). o.fault) quiet) (ap (λ (o : Outcome). o.session) quiet) (sym (append-nil gathered) ∙ ap (λ t. gathered ++ t) (sym (ap (λ (o : Outcome). o.text) quiet))) tells
 
-      abbrev pub whole : IsWhole old new (taken ++ line ∷ [])
-      whole = IsWhole-taken old new after (taken ++ line ∷ []) has
+      abbrev pub whole : ReadsOn old new (taken ++ line ∷ [])
+      whole = ReadsOn-taken old new after (taken ++ line ∷ []) has
+
+      -- what was read has the lines before it too
+      pub ReadsOn-before : ReadsOn old new taken
+      ReadsOn-before = record { stop = whole.stop; bytes = whole.bytes; read = whole.read; more = line ∷ whole.more; lines = whole.lines ∙ append_assoc taken (line ∷ []) whole.more }
 
       abbrev pub rest_of_run : Option ScriptSession → Outcome
       rest_of_run c = and_then (outcome_of_lines limit (1 + length (taken ++ line ∷ [])) c whole.more) (λ d. outcome_of_stop whole.stop (length (lines_of_read whole.stop whole.bytes)) d)
@@ -262,41 +269,25 @@ module _ (limit : ℕ) where
           ∙ and_then-assoc (outcome_of_lines limit 1 None (taken ++ line ∷ [])) (λ c. outcome_of_lines limit (1 + length (taken ++ line ∷ [])) c whole.more) stopped
           ∙ ap (λ o. and_then o rest_of_run) outcome_with_line
 
-      -- the run ends at a line
-      pub HasEnded-line : {Made : Type 0} (IsMade : (lines : ℕ) → ScriptSession → Made → Type 0) (e : BenchFault) (written_new : Option (List ℕ)) (told_new : Option (List Telling)) → WritesAs {A = Made} first written written_new (Err e)
-          → HasEnded limit old new written_old written_new told_old told_new IsMade (Err e)
-      HasEnded-line {Made} IsMade e written_new told_new ends = record { stop = whole.stop; bytes = whole.bytes; read = whole.read; ends = ended ends; made = tt; told_as = tt }
-        where
-          ended : ((((e ≡ Memory) ⊎ (e ≡ Write)) × AppendsFront written written_new first.text) ⊎ ((first.fault ≡ Some e) × Appends written written_new first.text))
-              → WritesAs {A = Made} (outcome_of_read limit whole.stop whole.bytes) written_old written_new (Err e)
-          ended (inl early) =
-              let goes = text_goes_on (after_text before.text first) rest_of_run in
-              inl (
-                early.0,
-                subst (AppendsFront written_old written_new) (sym (ap (λ (o : Outcome). o.text) outcome_is ∙ goes.1))
-                    (AppendsFront-more written_old written_new (before.text ++ first.text) goes.0 (AppendsFront-after written_old written written_new before.text first.text run.written_as early.1)),
-              )
-          ended (inr has) =
-              let same = outcome_is ∙ and_then-some (after_text before.text first) rest_of_run e has.0 in
-              inr (ap (λ (o : Outcome). o.fault) same ∙ has.0, subst (Appends written_old written_new) (sym (ap (λ (o : Outcome). o.text) same)) (Appends-trans written_old written written_new before.text first.text run.written_as has.1))
+      -- the line has a fault
+      HasFaultAfter-line : (e : BenchFault) → first.fault ≡ Some e → HasFaultAfter limit old new taken e
+      HasFaultAfter-line e has =
+          let same = outcome_is ∙ and_then-some (after_text before.text first) rest_of_run e has in record {
+            stop = whole.stop;
+            bytes = whole.bytes;
+            read = whole.read;
+            fault = ap (λ (o : Outcome). o.fault) same ∙ has;
+            text = ap (λ (o : Outcome). o.text) same ∙ ap (λ t. before.text ++ t) (IsSilent-outcome_of_short_line after.count b line e has) ∙ append-nil before.text;
+          }
 
-    -- memory was refused before a further line was taken
-    pub HasEnded-memory : {Made : Type 0} (IsMade : (lines : ℕ) → ScriptSession → Made → Type 0) (told_new : Option (List Telling)) → HasEnded limit old now written_old written told_old told_new IsMade (Err Memory)
-    HasEnded-memory IsMade told_new =
-        let whole : IsWhole old now taken = IsWhole-taken old now lines taken run.reading in
-        let stopped : Option ScriptSession → Outcome = λ d. outcome_of_stop whole.stop (length (lines_of_read whole.stop whole.bytes)) d in
-        let rest : Option ScriptSession → Outcome = λ c. and_then (outcome_of_lines limit (1 + length taken) c whole.more) stopped in
-        let same : outcome_of_read limit whole.stop whole.bytes ≡ and_then before rest =
-        ap (λ l. and_then (outcome_of_lines limit 1 None l) stopped) whole.lines ∙ ap (λ o. and_then o stopped) (outcome_of_lines-append limit 1 None taken whole.more)
-        ∙ and_then-assoc before (λ c. outcome_of_lines limit (1 + length taken) c whole.more) stopped in
-        let goes = text_goes_on before rest in record {
-          stop = whole.stop;
-          bytes = whole.bytes;
-          read = whole.read;
-          ends = inl (inl refl, subst (AppendsFront written_old written) (sym (ap (λ (o : Outcome). o.text) same ∙ goes.1)) (AppendsFront-more written_old written before.text goes.0 (AppendsFront-all written_old written before.text run.written_as)));
-          made = tt;
-          told_as = tt;
-        }
+      -- or memory was refused for it
+      pub FaultsAfter-line : (e : BenchFault) (before_line after_line : List ℕ) → EndsAs {A = Unit {0}} first before_line after_line (Err e) → FaultsAfter limit old new taken e
+      FaultsAfter-line e before_line after_line (inl memory) = inl (memory, ReadsOn-before)
+      FaultsAfter-line e before_line after_line (inr has) = inr (HasFaultAfter-line e has.0)
+
+      pub FaultsAfter-header : (c : Option ScriptSession) (e : BenchFault) → (e ≡ Memory) ⊎ (first ≡ outcome_of_fault c e) → FaultsAfter limit old new taken e
+      FaultsAfter-header c e (inl memory) = inl (memory, ReadsOn-before)
+      FaultsAfter-header c e (inr same) = inr (HasFaultAfter-line e (ap (λ (o : Outcome). o.fault) same))
 
     module _ (new : Option (List ℕ)) (stop : Stop) (has : HasStopped old new stop taken) where
       outcome_of_stopped : (session : Option ScriptSession) → session ≡ b → outcome_of_read limit stop has.bytes ≡ after_text before.text (outcome_of_stop stop (length taken) session)
@@ -305,29 +296,53 @@ module _ (limit : ℕ) where
           ∙ and_then-none before (λ c. outcome_of_stop stop (length taken) c) run.fault
           ∙ ap (λ c. after_text before.text (outcome_of_stop stop (length taken) c)) (run.session_after ∙ sym same)
 
-      -- the run ends where no further line was taken
-      pub HasEnded-stop : {Made : Type 0} (IsMade : (lines : ℕ) → ScriptSession → Made → Type 0) (e : BenchFault) → outcome_of_stop stop (length taken) b ≡ outcome_of_fault b e
-          → HasEnded limit old new written_old written told_old told IsMade (Err e)
-      HasEnded-stop IsMade e is =
-          let same = outcome_of_stopped b refl ∙ ap (after_text before.text) is in record {
-            stop = stop;
-            bytes = has.bytes;
-            read = has.read;
-            ends = inr (ap (λ (o : Outcome). o.fault) same, subst (Appends written_old written) (sym (ap (λ (o : Outcome). o.text) same ∙ append-nil before.text)) run.written_as);
-            made = tt;
-            told_as = tt;
-          }
+      pub ReadsOn-stopped : ReadsOn old new taken
+      ReadsOn-stopped = record { stop = stop; bytes = has.bytes; read = has.read; more = []; lines = has.taken_as ∙ sym (append-nil taken) }
 
-      -- so it does where reading stopped with a fault
-      pub HasEnded-fault : {Made : Type 0} (IsMade : (lines : ℕ) → ScriptSession → Made → Type 0) (e : BenchFault) → fault_of_stop stop lines.count ≡ Some e → HasEnded limit old new written_old written told_old told IsMade (Err e)
-      HasEnded-fault IsMade e is = HasEnded-stop IsMade e (stop_faults stop b (length taken) e (ap (λ n. fault_of_stop stop n) run.reading.count ∙ is))
+      -- no further line was taken, which is a fault
+      pub FaultsAfter-stop : (e : BenchFault) → outcome_of_stop stop (length taken) b ≡ outcome_of_fault b e → FaultsAfter limit old new taken e
+      FaultsAfter-stop e is =
+          let same = outcome_of_stopped b refl ∙ ap (after_text before.text) is in
+          inr (record { stop = stop; bytes = has.bytes; read = has.read; fault = ap (λ (o : Outcome). o.fault) same; text = ap (λ (o : Outcome). o.text) same ∙ append-nil before.text })
+
+      pub FaultsAfter-take : (e : BenchFault) → fault_of_stop stop lines.count ≡ Some e → FaultsAfter limit old new taken e
+      FaultsAfter-take e is = FaultsAfter-stop e (stop_faults stop b (length taken) e (ap (λ n. fault_of_stop stop n) run.reading.count ∙ is))
+
+  module _ (old new written_old written : Option (List ℕ)) (told_old told : Option (List Telling)) (taken : List (List ℕ)) {Made : Type 0} (IsMade : (lines : ℕ) → ScriptSession → Made → Type 0) where
+    -- the run ends early: memory was refused, or the writer failed
+    pub HasEnded-early : (e : BenchFault) → (e ≡ Memory) ⊎ (e ≡ Write) → ReadsOn old new taken → AppendsFront written_old written (outcome_of_lines limit 1 None taken).text → HasEnded limit old new written_old written told_old told IsMade (Err e)
+    HasEnded-early e early whole part =
+        let run = outcome_of_lines limit 1 None taken in
+        let stopped : Option ScriptSession → Outcome = λ d. outcome_of_stop whole.stop (length (lines_of_read whole.stop whole.bytes)) d in
+        let rest : Option ScriptSession → Outcome = λ c. and_then (outcome_of_lines limit (1 + length taken) c whole.more) stopped in
+        let same : outcome_of_read limit whole.stop whole.bytes ≡ and_then run rest =
+        ap (λ l. and_then (outcome_of_lines limit 1 None l) stopped) whole.lines ∙ ap (λ o. and_then o stopped) (outcome_of_lines-append limit 1 None taken whole.more)
+        ∙ and_then-assoc run (λ c. outcome_of_lines limit (1 + length taken) c whole.more) stopped in
+        let goes = text_goes_on run rest in record {
+          stop = whole.stop;
+          bytes = whole.bytes;
+          read = whole.read;
+          ends = inl (early, subst (AppendsFront written_old written) (sym (ap (λ (o : Outcome). o.text) same ∙ goes.1)) (AppendsFront-more written_old written run.text goes.0 part));
+          made = tt;
+          told_as = tt;
+        }
+
+    -- the run ends with its fault, after all answers were written
+    pub HasEnded-fault : (e : BenchFault) → FaultsAfter limit old new taken e → Appends written_old written (outcome_of_lines limit 1 None taken).text → HasEnded limit old new written_old written told_old told IsMade (Err e)
+    HasEnded-fault e (inl memory) all = HasEnded-early e (inl memory.0) memory.1 (AppendsFront-all written_old written _ all)
+    HasEnded-fault e (inr has) all = record { stop = has.stop; bytes = has.bytes; read = has.read; ends = inr (has.fault, subst (Appends written_old written) (sym has.text) all); made = tt; told_as = tt }
+
+    -- or the writer failed before that
+    pub HasEnded-unwritten : (e : BenchFault) → FaultsAfter limit old new taken e → AppendsFront written_old written (outcome_of_lines limit 1 None taken).text → HasEnded limit old new written_old written told_old told IsMade (Err Write)
+    HasEnded-unwritten e (inl memory) part = HasEnded-early Write (inr refl) memory.1 part
+    HasEnded-unwritten e (inr has) part = record { stop = has.stop; bytes = has.bytes; read = has.read; ends = inl (inr refl, subst (AppendsFront written_old written) (sym has.text) part); made = tt; told_as = tt }
 
   -- the run ends where the script does
-  pub HasEnded-end : (old now : Option (List ℕ)) (lines : Lines) (written_old written : Option (List ℕ)) (told_old told : Option (List Telling)) (taken : List (List ℕ)) (b : ScriptSession)
-      → HasRun limit old now lines written_old written told_old told taken (Some b) → (new : Option (List ℕ)) → HasStopped old new End taken → (written_new : Option (List ℕ)) (result : Result Summary BenchFault)
+  pub HasEnded-end : (old now : Option (List ℕ)) (lines : Lines) (written_old written : Option (List ℕ)) (gathered : List ℕ) (told_old told : Option (List Telling)) (taken : List (List ℕ)) (b : ScriptSession)
+      → HasRun limit old now lines written_old written gathered told_old told taken (Some b) → gathered ≡ [] → (new : Option (List ℕ)) → HasStopped old new End taken → (written_new : Option (List ℕ)) (result : Result Summary BenchFault)
       → WritesAs (outcome_of_end lines.count (Some b)) written written_new result → IfOk result (λ s. summary_of_session lines.count b ≡ s) → OnOk result (IsPromisedSession b)
       → HasEnded limit old new written_old written_new told_old told (IsSummaryOf b) result
-  HasEnded-end old now lines written_old written told_old told taken b run new has written_new result ends summary kept = record {
+  HasEnded-end old now lines written_old written gathered told_old told taken b run none new has written_new result ends summary kept = record {
     stop = End;
     bytes = has.bytes;
     read = has.read;
@@ -337,11 +352,14 @@ module _ (limit : ℕ) where
   }
     where
       same : outcome_of_read limit End has.bytes ≡ after_text (outcome_of_lines limit 1 None taken).text (outcome_of_end (length taken) (Some b))
-      same = outcome_of_stopped old now lines written_old written told_old told taken (Some b) run new End has (Some b) refl
+      same = outcome_of_stopped old now lines written_old written gathered told_old told taken (Some b) run new End has (Some b) refl
+
+      written_as : Appends written_old written (outcome_of_lines limit 1 None taken).text
+      written_as = text_written old now lines written_old written gathered told_old told taken (Some b) run none
 
       ended : (r : Result Summary BenchFault) → WritesAs (outcome_of_end (length taken) (Some b)) written written_new r → WritesAs (outcome_of_read limit End has.bytes) written_old written_new r
-      ended (Ok s) w = (ap (λ (o : Outcome). o.fault) same, subst (Appends written_old written_new) (sym (ap (λ (o : Outcome). o.text) same)) (Appends-trans written_old written written_new (outcome_of_lines limit 1 None taken).text _ run.written_as w.1))
-      ended (Err e) (inl early) = inl (early.0, subst (AppendsFront written_old written_new) (sym (ap (λ (o : Outcome). o.text) same)) (AppendsFront-after written_old written written_new (outcome_of_lines limit 1 None taken).text _ run.written_as early.1))
+      ended (Ok s) w = (ap (λ (o : Outcome). o.fault) same, subst (Appends written_old written_new) (sym (ap (λ (o : Outcome). o.text) same)) (Appends-trans written_old written written_new (outcome_of_lines limit 1 None taken).text _ written_as w.1))
+      ended (Err e) (inl early) = inl (early.0, subst (AppendsFront written_old written_new) (sym (ap (λ (o : Outcome). o.text) same)) (AppendsFront-after written_old written written_new (outcome_of_lines limit 1 None taken).text _ written_as early.1))
       ended (Err e) (inr bad) = absurd (let f : None ≡ Some e = bad.0 in cc)
 
       made : (r : Result Summary BenchFault) → IfOk r (λ s. summary_of_session lines.count b ≡ s) → OnOk r (IsPromisedSession b)

@@ -16,3 +16,7 @@ pub record IsWritten (old new : Option (List ℕ)) (bytes rest : List ℕ) : Typ
 -- known bytes grew by a front of these bytes
 abbrev pub AppendsFront : Option (List ℕ) → Option (List ℕ) → List ℕ → Type 0
 AppendsFront old new bytes = (rest : List ℕ) × IsWritten old new bytes rest
+
+-- a text that was gathered was written from its start on, and this is left of it
+abbrev pub Moves : (old new : Option (List ℕ)) → (before after : List ℕ) → Type 0
+Moves old new before after = (front : List ℕ) × Appends old new front × (before ≡ front ++ after)

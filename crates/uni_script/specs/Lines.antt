@@ -128,13 +128,46 @@ abbrev pub WritesAs : {A : Type 0} → Outcome → (old new : Option (List ℕ))
 WritesAs outcome old new (Ok _) = (outcome.fault ≡ None) × Appends old new outcome.text
 WritesAs outcome old new (Err e) = (((e ≡ Memory) ⊎ (e ≡ Write)) × AppendsFront old new outcome.text) ⊎ ((outcome.fault ≡ Some e) × Appends old new outcome.text)
 
--- the lines that were taken have left this session and no fault; the text of their answers was written, and what they tell was heard
-pub record HasRun (limit : ℕ) (old now : Option (List ℕ)) (lines : Lines) (written_old written : Option (List ℕ)) (told_old told : Option (List Telling)) (taken : List (List ℕ)) (session : Option ScriptSession) : Type 0 where
+-- The lines that were taken have left this session and no fault. The text of their answers was written, but for what is gathered of
+-- it, and what they tell was heard.
+pub record HasRun (limit : ℕ) (old now : Option (List ℕ)) (lines : Lines) (written_old written : Option (List ℕ)) (gathered : List ℕ) (told_old told : Option (List Telling)) (taken : List (List ℕ)) (session : Option ScriptSession) : Type 0 where
   pub reading : HasTaken old now lines taken
   pub fault : (outcome_of_lines limit 1 None taken).fault ≡ None
   pub session_after : (outcome_of_lines limit 1 None taken).session ≡ session
-  pub written_as : Appends written_old written (outcome_of_lines limit 1 None taken).text
+  pub front : List ℕ
+  pub written_as : Appends written_old written front
+  pub text_is : (outcome_of_lines limit 1 None taken).text ≡ front ++ gathered
   pub told_as : Tells told_old told (told_of_lines limit 1 None taken)
+
+-- what was read has the lines that were taken, and may have more whole ones
+pub record ReadsOn (old now : Option (List ℕ)) (taken : List (List ℕ)) : Type 0 where
+  pub stop : Stop
+  pub bytes : List ℕ
+  pub read : IsRead old now stop bytes
+  pub more : List (List ℕ)
+  pub lines : lines_of_read stop bytes ≡ taken ++ more
+
+-- what was read has this first fault, and the text of the lines that were taken
+pub record HasFaultAfter (limit : ℕ) (old now : Option (List ℕ)) (taken : List (List ℕ)) (e : BenchFault) : Type 0 where
+  pub stop : Stop
+  pub bytes : List ℕ
+  pub read : IsRead old now stop bytes
+  pub fault : (outcome_of_read limit stop bytes).fault ≡ Some e
+  pub text : (outcome_of_read limit stop bytes).text ≡ (outcome_of_lines limit 1 None taken).text
+
+-- after the lines that were taken memory was refused, or this is the first fault of what was read
+abbrev pub FaultsAfter : (limit : ℕ) (old now : Option (List ℕ)) (taken : List (List ℕ)) (e : BenchFault) → Type 0
+FaultsAfter limit old now taken e = ((e ≡ Memory) × ReadsOn old now taken) ⊎ HasFaultAfter limit old now taken e
+
+-- after the lines that were taken a further one was run, or the script has ended, or it has a fault
+abbrev pub GoesOn : (limit : ℕ) (old new : Option (List ℕ)) (lines after : Lines) (written_old written : Option (List ℕ)) (gathered gathered_new : List ℕ) (told_old told told_new : Option (List Telling)) (earlier : List (List ℕ)) (b b_new : ScriptSession)
+    → Result Taken BenchFault → Type 0
+GoesOn limit old new lines after written_old written gathered gathered_new told_old told told_new earlier b b_new (Ok taken.Line) =
+    (further : List (List ℕ)) × HasRun limit old new after written_old written gathered_new told_old told_new further (Some b_new)
+GoesOn limit old new lines after written_old written gathered gathered_new told_old told told_new earlier b b_new (Ok taken.End) =
+    HasStopped old new End earlier × (gathered_new ≡ gathered) × (told_new ≡ told) × (b_new ≡ b) × (after.count ≡ lines.count)
+GoesOn limit old new lines after written_old written gathered gathered_new told_old told told_new earlier b b_new (Err e) =
+    (gathered_new ≡ gathered) × FaultsAfter limit old new earlier e
 
 -- the run of what was read has ended as it should, and this was made of a script of so many lines and the session that it leaves
 pub record HasEnded (limit : ℕ) (old new : Option (List ℕ)) (written_old written : Option (List ℕ)) (told_old told : Option (List Telling)) {Made : Type 0} (IsMade : (lines : ℕ) → ScriptSession → Made → Type 0) (result : Result Made BenchFault) : Type 0 where
@@ -150,7 +183,7 @@ abbrev pub RunsOn : (limit : ℕ) (now : Option (List ℕ)) (lines : Lines) (wri
     → {Made : Type 0} (IsMade : (lines : ℕ) → ScriptSession → Made → Type 0) → Result Made BenchFault → Type 0
 RunsOn limit now lines written told session new written_new told_new IsMade result =
     (old written_old : Option (List ℕ)) (told_old : Option (List Telling)) (taken : List (List ℕ))
-    → HasRun limit old now lines written_old written told_old told taken session → HasEnded limit old new written_old written_new told_old told_new IsMade result
+    → HasRun limit old now lines written_old written [] told_old told taken session → HasEnded limit old new written_old written_new told_old told_new IsMade result
 
 -- how much a script of so many lines has done, and what is promised of it, where it leaves this session
 abbrev pub IsSummaryOf : ScriptSession → (lines : ℕ) → ScriptSession → Summary → Type 0

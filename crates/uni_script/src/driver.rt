@@ -1,15 +1,16 @@
 //! The run of a script: its lines are taken and run in turn, what they answer is written, and what they tell is heard.
 
-ghost use Rattle.std.specs.Prelude.{ℕ, ◌≡◌, ◌≢◌, ◌↔◌, ◌⊎◌, [], true, false, None, Some, is_none, IfSome, IfNone, IfOk, IfErr, OnOk, IsErrOf};
+ghost use Rattle.std.specs.Prelude.{ℕ, ◌+◌, ◌≡◌, ◌≢◌, ◌↔◌, ◌⊎◌, [], true, false, List, Option, None, Some, is_none, IfSome, IfNone, IfOk, IfErr, OnOk, OnErr, IsErrOf};
 ghost use Rattle.uni_script.specs.Grammar.{IsInRange, is_note};
-ghost use Rattle.uni_script.specs.Lines.{IsHeld, EndsAs, WritesAs, HasEnded, RunsOn, IsFaultOfLine, IsSummaryOf};
+ghost use Rattle.uni_script.specs.Ends.{AppendsFront, Moves};
+ghost use Rattle.uni_script.specs.Lines.{IsHeld, EndsAs, WritesAs, HasRun, HasEnded, GoesOn, RunsOn, IsFaultOfLine, IsSummaryOf};
 ghost use Rattle.uni_script.specs.Objects.{spoken};
 ghost use Rattle.uni_script.specs.ScriptRun.{IsRan, IsRanAs};
 ghost use Rattle.uni_script.specs.Meaning.{session_of, opened_session, session_of_header, outcome_of_text, outcome_of_fault, outcome_of_short_line, outcome_of_end};
 ghost use Rattle.uni_script.specs.Promises.{IsPromisedSession};
 ghost use Rattle.uni_script.specs.Replay.{IsHistory};
 ghost use Rattle.uni_script.specs.Summary.{summary_of};
-ghost use Rattle.uni_script.specs.Told.{Tells, told_of_line};
+ghost use Rattle.uni_script.specs.Told.{Telling, Tells, told_of_line};
 
 use crate::commands::{make, open};
 use crate::ends::{TextIn, TextOut, write_all};
@@ -25,6 +26,9 @@ use crate::told::Listener;
 use ready_objects::{BookObject, DirectoryObject, QueueObject, StickyObject};
 use std::alloc::Global;
 use uni_record::{Recorded, Verdict};
+
+/// How many bytes of answers are gathered before they are written.
+const MOST_TEXT: usize = 65_536;
 
 /// Runs the script that a reader has, with a history of so many events at most; the answer is the record that it
 /// leaves, and how much it has done.
@@ -219,6 +223,9 @@ fn run_object<O: Shared, I: TextIn, W: TextOut, L: Listener>(
 
 /// Runs the lines that are left on a record; the answer is how much the script has done.
 ///
+/// Their answers gather in one text. It is written before the reader is asked for more, before a fault is answered, at
+/// the end, and where it has 64 KiB.
+///
 /// `Memory` where memory was refused, `Write` where the writer failed; any other `Err` is the first fault of what was
 /// read.
 fn run_commands<O: Shared, I: TextIn, W: TextOut, L: Listener>(
@@ -238,28 +245,115 @@ fn run_commands<O: Shared, I: TextIn, W: TextOut, L: Listener>(
     ensures reader_ok { OnOk result (I.has_failed reader.new ≡ false) }
     ensures writer { IsErrOf result BenchFault.Write ↔ (W.has_failed writer.new ≡ true) }
 {
-    // One text for all lines, so that most answers take no memory.
     let mut text = Vec::new(alloc);
+    let mut answer = Vec::new(alloc);
     loop {
-        match lines.take(reader)? {
-            Taken::Line => {
-                text.clear();
-                run_line(
-                    alloc,
-                    version,
-                    session,
-                    lines.count,
-                    lines.line(),
-                    &mut text,
-                    listener,
-                )?;
-                match write_all(writer, text.as_slice()) {
-                    Ok(()) => {}
-                    Err(_) => return Err(BenchFault::Write),
-                }
+        make_room(lines, &mut text, writer)?;
+        match run_next(
+            alloc,
+            version,
+            session,
+            lines,
+            reader,
+            &mut answer,
+            &mut text,
+            listener,
+        ) {
+            Ok(Taken::Line) => {}
+            Ok(Taken::End) => {
+                write_text(&mut text, writer)?;
+                return run_end(alloc, version, session, lines.count, writer);
             }
-            Taken::End => return run_end(alloc, version, session, lines.count, writer),
+            Err(fault) => {
+                write_text(&mut text, writer)?;
+                return Err(fault);
+            }
         }
+    }
+}
+
+/// Writes the answers that were gathered where the reader will be asked for more, or where they have 64 KiB.
+///
+/// An `Err` is `Write`: the writer failed.
+fn make_room<W: TextOut>(
+    lines: &Lines,
+    text: &mut Vec<u8>,
+    writer: &mut W,
+) -> Result<(), BenchFault>
+    requires held { IsHeld lines.now }
+    requires writer { W.has_failed writer.old ≡ false }
+    ensures moved { OnOk result (Moves (W.contents writer.old) (W.contents writer.new) text.old.items text.new.items) }
+    ensures front { OnErr result (AppendsFront (W.contents writer.old) (W.contents writer.new) text.old.items) }
+    ensures fault { IfErr result (λ e. e ≡ BenchFault.Write) }
+    ensures writer { IsErrOf result BenchFault.Write ↔ (W.has_failed writer.new ≡ true) }
+{
+    if lines.has_line() && text.len() < MOST_TEXT {
+        return Ok(());
+    }
+    write_text(text, writer)
+}
+
+/// Writes the answers that were gathered; none is left then.
+///
+/// An `Err` is `Write`: the writer failed.
+fn write_text<W: TextOut>(text: &mut Vec<u8>, writer: &mut W) -> Result<(), BenchFault>
+    requires { W.has_failed writer.old ≡ false }
+    ensures moved { OnOk result (Moves (W.contents writer.old) (W.contents writer.new) text.old.items text.new.items) }
+    ensures all { OnOk result (text.new.items ≡ []) }
+    ensures front { OnErr result (AppendsFront (W.contents writer.old) (W.contents writer.new) text.old.items) }
+    ensures fault { IfErr result (λ e. e ≡ BenchFault.Write) }
+    ensures writer { IsErrOf result BenchFault.Write ↔ (W.has_failed writer.new ≡ true) }
+{
+    match write_all(writer, text.as_slice()) {
+        Ok(()) => {
+            text.clear();
+            Ok(())
+        }
+        Err(_) => Err(BenchFault::Write),
+    }
+}
+
+/// Takes the next line and runs it, and gathers its answer, which is made in a text of its own.
+///
+/// `Memory` where memory was refused; any other `Err` is the first fault of what was read. No answer is gathered then.
+fn run_next<O: Shared, I: TextIn, L: Listener>(
+    alloc: Global,
+    version: Version,
+    session: &mut Recorded<O>,
+    lines: &mut Lines,
+    reader: &mut I,
+    answer: &mut Vec<u8>,
+    text: &mut Vec<u8>,
+    listener: &mut L,
+) -> Result<Taken, BenchFault>
+    requires held { IsHeld lines.old }
+    requires reader { I.has_failed reader.old ≡ false }
+    ensures held { IsHeld lines.new }
+    ensures next { (limit : ℕ) (old written_old written : Option (List ℕ)) (told_old : Option (List Telling)) (taken : List (List ℕ))
+        → HasRun limit old (I.remaining reader.old) lines.old written_old written text.old.items told_old (L.heard listener.old) taken (Some (O.session version (session_of session.old)))
+        → GoesOn limit old (I.remaining reader.new) lines.old lines.new written_old written text.old.items text.new.items told_old (L.heard listener.old) (L.heard listener.new) taken
+        (O.session version (session_of session.old)) (O.session version (session_of session.new)) result }
+    ensures reader { IsErrOf result BenchFault.Read → I.has_failed reader.new ≡ true }
+    ensures reader_ok { OnOk result (I.has_failed reader.new ≡ false) }
+    ensures other { IfErr result (λ e. e ≢ BenchFault.Write) }
+    ensures count { result ≡ Ok Taken.Line → lines.new.count ≡ lines.old.count + 1 }
+{
+    match lines.take(reader)? {
+        Taken::Line => {
+            answer.clear();
+            run_line(
+                alloc,
+                version,
+                session,
+                lines.count,
+                lines.line(),
+                answer,
+                listener,
+            )?;
+            text.extend_from_slice(answer.as_slice())?;
+            Ok(Taken::Line)
+        }
+        Taken::End => Ok(Taken::End),
     }
 }
 

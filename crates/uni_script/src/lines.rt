@@ -1,6 +1,6 @@
 //! The lines of a script, taken one after the other from a reader.
 
-ghost use Rattle.std.specs.Prelude.{◌≡◌, ◌==◌, ◌+◌, ◌-◌, ◌<◌, ◌≤◌, ◌++◌, [], ◌↔◌, true, false, List, ℕ, Option, IfOk, IfErr, IsErrOf, OnOk, take};
+ghost use Rattle.std.specs.Prelude.{◌≡◌, ◌==◌, ◌+◌, ◌-◌, ◌<◌, ◌≤◌, ◌++◌, [], ◌↔◌, true, false, List, ℕ, Option, IfOk, IfErr, IsErrOf, OnOk, is_some, take};
 ghost use Rattle.std.specs.List.{position};
 ghost use Rattle.uni_script.specs.Lines.{IsHeld, line_of, rest_of, HasTaken, TakesOn, StopsWith};
 
@@ -74,6 +74,14 @@ impl Lines {
         ensures { result.now ≡ line_of self.now }
     {
         &self.line[..self.width]
+    }
+
+    /// Whether the piece has the end of a further line, so that the next one is taken without the reader.
+    pub fn has_line(&self) -> bool
+        requires { IsHeld self.now }
+        ensures { result ≡ is_some (position (λ b. b == 10) (rest_of self.now)) }
+    {
+        self.end_of_line().is_some()
     }
 
     /// Takes the next line, where there is one. The reader is asked only where the piece has no end of the line.
