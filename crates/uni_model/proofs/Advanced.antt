@@ -1,5 +1,5 @@
 -- What the step of a process does for its own call, and what the process considers then.
-use Rattle.std.proofs.Common.{◌≡◌, ◌≢◌, ◌∙◌, ℕ, ◌+◌, ◌<◌, ◌≤◌, ◌%◌, inl, inr, refl, sym, ap, subst, Option, Some, None, arith, if◌then◌else◌, nat_lt}
+use Rattle.std.proofs.Common.{◌≡◌, ◌≢◌, ◌∙◌, ℕ, ◌+◌, ◌<◌, ◌≤◌, ◌%◌, inl, inr, refl, sym, ap, subst, Option, Some, None, arith}
 use Rattle.seq_object.specs.Sequential.{Sequential}
 use Rattle.uni_model.specs.Places.{Name, Memory, memory_with, announce_of, head_of, head_seq, seq_of}
 use Rattle.uni_model.specs.Places.Name.{Anchor, Of}

@@ -1,6 +1,6 @@
 -- Wait-freedom as the textbooks state it: a pending process can always take its next step, and its call has returned after a
 -- known number of them, whatever the others do meanwhile.
-use Rattle.std.specs.Prelude.{◌≡◌, refl, ℕ, ◌+◌, ◌*◌, ◌≤◌, ◌==◌, Bool, false, List, [], ◌∷◌, Some, None, Contains, count_by, replicate}
+use Rattle.std.specs.Prelude.{◌≡◌, refl, ℕ, ◌+◌, ◌≤◌, ◌==◌, Bool, false, List, [], ◌∷◌, Some, None, Contains, count_by, replicate}
 use Rattle.seq_object.specs.Sequential.{Sequential}
 use Rattle.uni_model.specs.Stages.{Pending}
 use Rattle.uni_model.specs.Worlds.{WorldOf, Event, world_after_all, IsAccepted, AreAccepted}

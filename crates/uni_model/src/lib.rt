@@ -16,4 +16,4 @@ pub use laws::{
     log_is_legal, log_only_grows, observes_linearizable, opening_is_sound, simulates,
     step_sees_settled, trims_change_nothing,
 };
-pub use limits::{most_steps, MAX_PROCESSES, MAX_ROW, MAX_SEQ};
+pub use limits::{MAX_PROCESSES, MAX_ROW, MAX_SEQ, most_steps};

@@ -1,7 +1,7 @@
 -- What a step pays: an event of those that are set aside, and where the call returns, its place among the pending calls.
 use Rattle.std.proofs.Common.{◌≡◌, ℕ, ◌+◌, ◌-◌, ◌*◌, ◌<◌, ◌≤◌, List, length, arith, refl, sym, subst, Option, Some, None, IsSome, option_map, option_and_then, option_to_list}
 use Rattle.seq_object.specs.Sequential.{Sequential}
-use Rattle.uni_model.specs.Places.{Name, Content}
+use Rattle.uni_model.specs.Places.{Memory, Name, Content}
 use Rattle.uni_model.specs.Stages.{Stage, Pending}
 use Rattle.uni_model.specs.Stages.Stage.{Finish}
 use Rattle.uni_model.specs.Transition.{place_of, stage_after, response_after}

@@ -5,7 +5,7 @@ use prog.Atomic.{either}
 use Rattle.atomic_table.specs.Table.{Me, Step, Allows}
 use Rattle.atomic_table.proofs.Lists.{exchanged}
 use Rattle.seq_object.specs.Sequential.{Sequential}
-use Rattle.uni_model.specs.Places.{Name, Content}
+use Rattle.uni_model.specs.Places.{Memory, Name, Content}
 use Rattle.uni_model.specs.Places.Name.{Of}
 use Rattle.uni_model.specs.Places.Place.{InvOf}
 use Rattle.uni_model.specs.Places.Content.{Link}

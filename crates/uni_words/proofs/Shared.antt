@@ -3,7 +3,7 @@ use Rattle.std.proofs.Common.{◌≡◌, ◌∙◌, ℕ, ◌<◌, refl, sym, ap,
 use Rattle.atomic_table.specs.Table.{State, Me, Step, Allows}
 use Rattle.seq_object.specs.Sequential.{Sequential}
 use Rattle.uni_model.specs.Indices.{name_of}
-use Rattle.uni_model.specs.Places.{Name}
+use Rattle.uni_model.specs.Places.{Memory, Name}
 use Rattle.uni_model.specs.Places.Place.{HeadOf, SeqOf}
 use Rattle.uni_model.specs.Places.Content.{CellName}
 use Rattle.uni_model.specs.Stages.{Stage, Pending}
