@@ -6,3 +6,6 @@ mod register;
 
 pub use machine::{MachineFault, WordMachine};
 pub use register::{RegisterCall, WordRegister};
+
+#[cfg(test)]
+mod tests;
