@@ -1,0 +1,18 @@
+//! Herlihy's wait-free universal construction: what a user of it takes, under one name.
+//!
+//! An object of your own is a `SeqObject`. Give it to a `World`, whose calls run step by step as you
+//! say; to a `Recorded`, which keeps the events and can be audited; or to a `Shared`, which threads
+//! call, each by its `Seat`. An object of numbers is a `WordObject`, and a `WordLog` shares it among
+//! threads without a lock.
+#![tactic(auto)]
+
+pub use seq_object::{CallId, SeqObject};
+pub use uni_core::{BeginFault, OpenFault, Progress, StepFault, World};
+pub use uni_log::{Entry, Log};
+pub use uni_record::{
+    RecordBeginFault, RecordOpenFault, RecordReshapeFault, RecordStepFault, RecordTrimFault,
+    Recorded, audit,
+};
+pub use uni_shared::{ApplyFault, CloseFault, Gate, GaveUp, NoGate, Seat, Shared};
+pub use uni_trim::{ReshapeFault, TrimFault, reshape, trim};
+pub use uni_words::{RowFull, WordLog, WordObject, WordOpenFault, WordSeat, read_log};

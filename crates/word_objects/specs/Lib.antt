@@ -1,0 +1,3 @@
+pub mod Register
+pub mod Tables
+pub mod Machine
