@@ -11,7 +11,7 @@ pub use uni_core::{BeginFault, OpenFault, Progress, StepFault, World};
 pub use uni_log::{Entry, Log};
 pub use uni_record::{
     RecordBeginFault, RecordOpenFault, RecordReshapeFault, RecordStepFault, RecordTrimFault,
-    Recorded, audit,
+    Recorded, Verdict, audit,
 };
 pub use uni_shared::{ApplyFault, CloseFault, Gate, GaveUp, NoGate, Seat, Shared};
 pub use uni_trim::{ReshapeFault, TrimFault, reshape, trim};
