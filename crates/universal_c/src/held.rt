@@ -63,7 +63,8 @@ impl<O: WordObject> Opened<O> {
     pub(crate) fn open(alloc: Global, object: O, n: u64, k: u64) -> Result<Opened<O>, WordOpenFault>
         ensures count { IsErrOf result WordOpenFault.BadCount ↔ ((n ≡ 0) ⊎ (64 < n)) }
         ensures row { IsErrOf result WordOpenFault.BadRow ↔ ((1 ≤ n) × (n ≤ 64) × ((k ≡ 0) ⊎ (4096 < k))) }
-        ensures shape { IfOk result (λ opened. (processes_of opened.log.value ≡ n) × (row_of opened.log.value ≡ k) × (vec_len opened.seats ≡ n)) }
+        ensures shape { IfOk result (λ opened.
+            (processes_of opened.log.value ≡ n) × (row_of opened.log.value ≡ k) × (vec_len opened.seats ≡ n)) }
     {
         let (log, seats) = WordLog::open(alloc, object, n, k)?;
         match Arc::new(alloc, log) {
@@ -78,7 +79,8 @@ impl<O: WordObject> Opened<O> {
         ensures given { IsErrOf result SeatFault.Given → vec_len self.old.seats ≡ 0 }
         ensures left { OnOk result (vec_len self.new.seats + 1 ≡ vec_len self.old.seats) }
         ensures same { OnErr result (self.new.seats.items ≡ self.old.seats.items) }
-        ensures first { IfOk result (λ given. (given.0.log.value ≡ self.old.log.value) × (process_of given.0.seat ≡ given.1) × (own_calls given.0.seat ≡ []) × (calls_made given.0.seat ≡ 0)) }
+        ensures first { IfOk result (λ given. (given.0.log.value ≡ self.old.log.value)
+            × (process_of given.0.seat ≡ given.1) × (own_calls given.0.seat ≡ []) × (calls_made given.0.seat ≡ 0)) }
     {
         let Ok(log) = Arc::try_clone(&self.log) else {
             return Err(SeatFault::Memory);
@@ -100,24 +102,29 @@ impl<O: WordObject> Seated<O> {
         ensures process { process_of self.new.seat ≡ process_of self.old.seat }
         ensures full { IsErr result ↔ (calls_made self.old.seat ≡ row_of self.old.log.value) }
         ensures unchanged { OnErr result (self.new.seat ≡ self.old.seat) }
-        ensures own { IfOk result (λ answer. own_calls self.new.seat ≡ own_calls self.old.seat ++ (inv, answer.reply) ∷ []) }
+        ensures own { IfOk result (λ answer.
+            own_calls self.new.seat ≡ own_calls self.old.seat ++ (inv, answer.reply) ∷ []) }
         ensures made { OnOk result (calls_made self.new.seat ≡ calls_made self.old.seat + 1) }
         ensures turns { IfOk result (λ answer. latest_turns self.new.seat ≡ answer.turns) }
-        ensures steps { OnOk result (word_steps_of self.new.seat ≤ word_steps_of self.old.seat + (12 * processes_of self.old.log.value + 16)) }
+        ensures steps { OnOk result
+            (word_steps_of self.new.seat ≤ word_steps_of self.old.seat + (12 * processes_of self.old.log.value + 16)) }
     {
         self.seat.apply(&self.log, inv)
     }
 
     /// Closes the log, where this is the last that has it: the entries.
     pub(crate) fn close(self, alloc: Global) -> Result<Vec<WordEntry>, CloseFault<O>>
-        ensures busy { IfErr result (λ fault. (fault ≡ Memory) ⊎ ((seated : Seated O) × (fault ≡ Busy seated) × (seated.log ≡ self.log) × (seated.seat ≡ self.seat))) }
+        ensures busy { IfErr result (λ fault. (fault ≡ Memory)
+            ⊎ ((seated : Seated O) × (fault ≡ Busy seated) × (seated.log ≡ self.log) × (seated.seat ≡ self.seat))) }
         ensures legal { let object = O.sequential (object_of self.log.value) in
             IfOk result (λ entries. IsLegal object object.initial (map logged_call (map entry_shown entries.items))) }
         ensures answered { IfOk result (λ entries. AreAnswered (map entry_shown entries.items)) }
-        ensures inside { IfOk result (λ entries. AreCallsOf (processes_of self.log.value) (map entry_shown entries.items)) }
+        ensures inside { IfOk result (λ entries.
+            AreCallsOf (processes_of self.log.value) (map entry_shown entries.items)) }
         ensures own { IfOk result (λ entries. IsLogged (map entry_shown entries.items) (calls_of self.seat)) }
         ensures run { let object = O.sequential (object_of self.log.value) in
-            IfOk result (λ entries. IsLogOfRun object (processes_of self.log.value) (map entry_shown entries.items) (known_calls self.seat)) }
+            IfOk result (λ entries.
+            IsLogOfRun object (processes_of self.log.value) (map entry_shown entries.items) (known_calls self.seat)) }
     {
         let Seated { log, seat } = self;
         match Arc::try_unwrap(log) {

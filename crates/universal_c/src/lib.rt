@@ -38,7 +38,9 @@ pub struct Reply {
     pub turns: u32,
 }
 
-/// A call that took effect.
+/// A call that took effect: its number in the log, of which the first is 2; its process, and the
+/// how many-th of the process it is, from 0 on; its invocation and its reply. `is_replied` is 0 only
+/// in a last entry whose call never returned, and 1 else.
 #[repr(C)]
 #[derive(Clone, Copy, Drop)]
 pub struct Entry {
@@ -51,6 +53,7 @@ pub struct Entry {
 }
 
 /// A log of a tally of n processes, of which each can make k calls, with all its seats.
+/// Errors, in this order: `n` isn't from 1 to 64; `k` isn't from 1 to 4096; memory was refused.
 pub fn open_tally(alloc: Global, n: u64, k: u64) -> Result<Held, WordOpenFault>
     ensures count { IsErrOf result WordOpenFault.BadCount ↔ ((n ≡ 0) ⊎ (64 < n)) }
     ensures row { IsErrOf result WordOpenFault.BadRow ↔ ((1 ≤ n) × (n ≤ 64) × ((k ≡ 0) ⊎ (4096 < k))) }
@@ -63,6 +66,7 @@ pub fn open_tally(alloc: Global, n: u64, k: u64) -> Result<Held, WordOpenFault>
 }
 
 /// A log of a sticky register of n processes, of which each can make k calls, with all its seats.
+/// Errors, in this order: `n` isn't from 1 to 64; `k` isn't from 1 to 4096; memory was refused.
 pub fn open_sticky(alloc: Global, n: u64, k: u64) -> Result<Held, WordOpenFault>
     ensures count { IsErrOf result WordOpenFault.BadCount ↔ ((n ≡ 0) ⊎ (64 < n)) }
     ensures row { IsErrOf result WordOpenFault.BadRow ↔ ((1 ≤ n) × (n ≤ 64) × ((k ≡ 0) ⊎ (4096 < k))) }
@@ -83,11 +87,14 @@ fn status_of_seat(fault: SeatFault) -> u32
     }
 }
 
-/// The next seat of a log, and its process.
+/// The next seat of a log, of the greatest process that has none yet, and its process.
+/// Errors: 3, memory was refused; 5, all seats are given out; 7, no log is held.
 pub fn next_of(held: &mut Held, process: &mut u64) -> Result<Held, u32>
     ensures same { SameObject held.old held.new }
     ensures fault { IfErr result (λ status. (status ≡ 3) ⊎ (status ≡ 5) ⊎ (status ≡ 7)) }
-    ensures first { IfOk result (λ given. SameObject held.old given × IsSomeAnd (seat_of given) (λ s. (process_of s ≡ process.new) × (own_calls s ≡ []) × (calls_made s ≡ 0))) }
+    ensures object { IfOk result (SameObject held.old) }
+    ensures first { IfOk result (λ given. IsSomeAnd (seat_of given) (λ s.
+        (process_of s ≡ process.new) × (own_calls s ≡ []) × (calls_made s ≡ 0))) }
 {
     match held {
         Held::TallyLog(opened) => match opened.next() {
@@ -108,7 +115,8 @@ pub fn next_of(held: &mut Held, process: &mut u64) -> Result<Held, u32>
     }
 }
 
-/// Applies the invocation by the seat that is held: 0 done, 4 where the seat has made its k calls, 7 where no seat is held.
+/// Applies the invocation by the seat that is held. 0: done. 4: the seat has made its k calls.
+/// 7: no seat is held. After 4 and 7 nothing is changed.
 pub fn apply_to(held: &mut Held, inv: u64, answer: &mut Reply) -> u32
     ensures wrong { (result ≡ 7) ↔ (seat_of held.old ≡ None) }
     ensures full { (s : WordSeat) → seat_of held.old ≡ Some s → (result ≡ 4) ↔ (calls_made s ≡ k_of held.old) }
@@ -131,7 +139,9 @@ pub fn apply_to(held: &mut Held, inv: u64, answer: &mut Reply) -> u32
     }
 }
 
-/// Closes the log of the seat that is held, by the last that has it: 0, 3 memory (the log is lost), 6 busy, 7 where no seat is held.
+/// Closes the log of the seat that is held, by the last that has it. 0: done, and the entries are
+/// held in place of the seat. 3: memory was refused, and the log is lost. 6: another still has the
+/// log. 7: no seat is held. After 6 and 7 the seat is as before.
 pub fn close_in(alloc: Global, held: &mut Held) -> u32
     ensures wrong { (result ≡ 7) ↔ (seat_of held.old ≡ None) }
     ensures busy { (result ≡ 6) ⊎ (result ≡ 7) → seat_of held.new ≡ seat_of held.old }
@@ -195,10 +205,14 @@ fn read(log: &[WordEntry], entries: &mut [Entry], count: &mut usize)
     }
 }
 
-/// The first calls of a closed log, in order, and how many there are in all: 0, or 7 where no entries are held.
+/// Writes the first calls of a closed log, in order, as many as there is room for, and how many
+/// there are in all. 0: done. 7: no entries are held.
 pub fn read_in(held: &Held, entries: &mut [Entry], count: &mut usize) -> u32
     ensures wrong { (result ≡ 7) ↔ (entries_of held.now ≡ None) }
-    ensures read { (log : List WordEntry) → entries_of held.now ≡ Some log → (result ≡ 0) × (count.new ≡ length log) × (entries.new ≡ map told (take (length entries.old) log) ++ drop (length log) entries.old) }
+    ensures done { (log : List WordEntry) → entries_of held.now ≡ Some log → result ≡ 0 }
+    ensures count { (log : List WordEntry) → entries_of held.now ≡ Some log → count.new ≡ length log }
+    ensures read { (log : List WordEntry) → entries_of held.now ≡ Some log →
+        entries.new ≡ map told (take (length entries.old) log) ++ drop (length log) entries.old }
 {
     match held {
         Held::TallyEntries(log) | Held::StickyEntries(log) => {
