@@ -1,4 +1,3 @@
-pub mod Exact
 pub mod Number
 pub mod Words
 pub mod Spoken

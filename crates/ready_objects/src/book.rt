@@ -1,11 +1,9 @@
 //! A book of sixteen accounts.
 
 ghost use Rattle.std.specs.Prelude.{◌≡◌, ℕ, ◌+◌, ◌≤◌, List, [], ◌∷◌, ◌++◌, OnOk, decimal, sum, length, refl};
-ghost use Rattle.std.proofs.Common.{ap, eqb-true, eq-eqb};
-ghost use Rattle.std.proofs.lemmas.Bool.{false≢true};
 ghost use Rattle.ready_objects.specs.declared.book.BookInv.TheVariants.{Deposit, Withdraw, Move, Total};
 ghost use Rattle.ready_objects.specs.declared.book.BookResp.TheVariants.{Balance, Over, Short, Moved, Sum};
-ghost use Rattle.ready_objects.specs.Exact.{exact_from, itself_two, itself_three, only_two, only_three};
+ghost use Rattle.seq_object.proofs.Cases.{exact_by_cases, other, itself_one, only_one, itself_two, only_two, itself_three, only_three};
 ghost use Rattle.ready_objects.specs.Book.{book, book_start, book_next, book_answer, book_inv_of_words, book_language, HasAccounts, added_by, taken_by, total_added, total_taken};
 ghost use Rattle.std.specs.List.{All};
 ghost use Rattle.seq_object.specs.History.{state_after};
@@ -148,24 +146,20 @@ impl SeqObject for BookObject {
         Ok(*inv)
     }
 
-    ghost same_inv = { exact_from _
-        (elim [ Deposit a b ↦ itself_two a b | Withdraw a b ↦ itself_two a b | Move a b c ↦ itself_three a b c | Total ↦ refl ])
-        (elim [
-          | Deposit a b ↦ elim [ Deposit x y ↦ λ e. only_two Deposit a b x y e | Withdraw x y ↦ λ e. absurd (false≢true e) | Move x y z ↦ λ e. absurd (false≢true e) | Total ↦ λ e. absurd (false≢true e) ]
-          | Withdraw a b ↦ elim [ Deposit x y ↦ λ e. absurd (false≢true e) | Withdraw x y ↦ λ e. only_two Withdraw a b x y e | Move x y z ↦ λ e. absurd (false≢true e) | Total ↦ λ e. absurd (false≢true e) ]
-          | Move a b c ↦ elim [ Deposit x y ↦ λ e. absurd (false≢true e) | Withdraw x y ↦ λ e. absurd (false≢true e) | Move x y z ↦ λ e. only_three Move a b c x y z e | Total ↦ λ e. absurd (false≢true e) ]
-          | Total ↦ elim [ Deposit x y ↦ λ e. absurd (false≢true e) | Withdraw x y ↦ λ e. absurd (false≢true e) | Move x y z ↦ λ e. absurd (false≢true e) | Total ↦ λ e. refl ]
-        ]) };
+    ghost same_inv = { exact_by_cases _ (elim [
+      | Deposit a b ↦ (itself_two a b, elim [ Deposit x y ↦ only_two Deposit a b x y | _ ↦ other ])
+      | Withdraw a b ↦ (itself_two a b, elim [ Withdraw x y ↦ only_two Withdraw a b x y | _ ↦ other ])
+      | Move a b c ↦ (itself_three a b c, elim [ Move x y z ↦ only_three Move a b c x y z | _ ↦ other ])
+      | Total ↦ (refl, elim [ Total ↦ λ e. refl | _ ↦ other ])
+    ]) };
 
-    ghost same_resp = { exact_from _
-        (elim [ Balance a ↦ eq-eqb a a refl | Over ↦ refl | Short ↦ refl | Moved ↦ refl | Sum a ↦ eq-eqb a a refl ])
-        (elim [
-          | Balance a ↦ elim [ Balance x ↦ λ e. ap Balance (eqb-true a x e) | Over ↦ λ e. absurd (false≢true e) | Short ↦ λ e. absurd (false≢true e) | Moved ↦ λ e. absurd (false≢true e) | Sum x ↦ λ e. absurd (false≢true e) ]
-          | Over ↦ elim [ Balance x ↦ λ e. absurd (false≢true e) | Over ↦ λ e. refl | Short ↦ λ e. absurd (false≢true e) | Moved ↦ λ e. absurd (false≢true e) | Sum x ↦ λ e. absurd (false≢true e) ]
-          | Short ↦ elim [ Balance x ↦ λ e. absurd (false≢true e) | Over ↦ λ e. absurd (false≢true e) | Short ↦ λ e. refl | Moved ↦ λ e. absurd (false≢true e) | Sum x ↦ λ e. absurd (false≢true e) ]
-          | Moved ↦ elim [ Balance x ↦ λ e. absurd (false≢true e) | Over ↦ λ e. absurd (false≢true e) | Short ↦ λ e. absurd (false≢true e) | Moved ↦ λ e. refl | Sum x ↦ λ e. absurd (false≢true e) ]
-          | Sum a ↦ elim [ Balance x ↦ λ e. absurd (false≢true e) | Over ↦ λ e. absurd (false≢true e) | Short ↦ λ e. absurd (false≢true e) | Moved ↦ λ e. absurd (false≢true e) | Sum x ↦ λ e. ap Sum (eqb-true a x e) ]
-        ]) };
+    ghost same_resp = { exact_by_cases _ (elim [
+      | Balance a ↦ (itself_one a, elim [ Balance x ↦ only_one Balance a x | _ ↦ other ])
+      | Over ↦ (refl, elim [ Over ↦ λ e. refl | _ ↦ other ])
+      | Short ↦ (refl, elim [ Short ↦ λ e. refl | _ ↦ other ])
+      | Moved ↦ (refl, elim [ Moved ↦ λ e. refl | _ ↦ other ])
+      | Sum a ↦ (itself_one a, elim [ Sum x ↦ only_one Sum a x | _ ↦ other ])
+    ]) };
 }
 
 impl Spoken for BookObject {

@@ -5,10 +5,7 @@ ghost use Rattle.std.specs.Arc.{arc_value};
 ghost use Rattle.std.specs.List.{IsDistinct};
 ghost use Rattle.std.specs.Map.{set_value};
 ghost use Rattle.std.specs.Str.{bytes_eq};
-ghost use Rattle.std.proofs.Common.{ap, eqb-true, eq-eqb};
-ghost use Rattle.std.proofs.lemmas.Bool.{false≢true};
-ghost use Rattle.std.specs.Cmp.Lexicographic.{bytes_decides};
-ghost use Rattle.ready_objects.specs.Exact.{exact_from, itself_named, only_named};
+ghost use Rattle.seq_object.proofs.Cases.{exact_by_cases, other, itself_one, only_one, itself_text, only_text, itself_named, only_named};
 ghost use Rattle.ready_objects.specs.SharedNames.{AddsName};
 ghost use Rattle.ready_objects.specs.declared.directory.DirectoryInv.TheVariants.{Put, Get, Del, Size, At};
 ghost use Rattle.ready_objects.specs.declared.directory.DirectoryResp.TheVariants.{Was, New, Full, Found, Absent, Count};
@@ -324,26 +321,22 @@ impl SeqObject for DirectoryObject {
         })
     }
 
-    ghost same_inv = { exact_from _
-        (elim [ Put a v ↦ itself_named a v | Get a ↦ (bytes_decides a a).1 refl | Del a ↦ (bytes_decides a a).1 refl | Size ↦ refl | At v ↦ eq-eqb v v refl ])
-        (elim [
-          | Put a v ↦ elim [ Put b w ↦ λ e. only_named Put a v b w e | Get b ↦ λ e. absurd (false≢true e) | Del b ↦ λ e. absurd (false≢true e) | Size ↦ λ e. absurd (false≢true e) | At w ↦ λ e. absurd (false≢true e) ]
-          | Get a ↦ elim [ Put b w ↦ λ e. absurd (false≢true e) | Get b ↦ λ e. ap Get ((bytes_decides a b).0 e) | Del b ↦ λ e. absurd (false≢true e) | Size ↦ λ e. absurd (false≢true e) | At w ↦ λ e. absurd (false≢true e) ]
-          | Del a ↦ elim [ Put b w ↦ λ e. absurd (false≢true e) | Get b ↦ λ e. absurd (false≢true e) | Del b ↦ λ e. ap Del ((bytes_decides a b).0 e) | Size ↦ λ e. absurd (false≢true e) | At w ↦ λ e. absurd (false≢true e) ]
-          | Size ↦ elim [ Put b w ↦ λ e. absurd (false≢true e) | Get b ↦ λ e. absurd (false≢true e) | Del b ↦ λ e. absurd (false≢true e) | Size ↦ λ e. refl | At w ↦ λ e. absurd (false≢true e) ]
-          | At v ↦ elim [ Put b w ↦ λ e. absurd (false≢true e) | Get b ↦ λ e. absurd (false≢true e) | Del b ↦ λ e. absurd (false≢true e) | Size ↦ λ e. absurd (false≢true e) | At w ↦ λ e. ap At (eqb-true v w e) ]
-        ]) };
+    ghost same_inv = { exact_by_cases _ (elim [
+      | Put a v ↦ (itself_named a v, elim [ Put b w ↦ only_named Put a v b w | _ ↦ other ])
+      | Get a ↦ (itself_text a, elim [ Get b ↦ only_text Get a b | _ ↦ other ])
+      | Del a ↦ (itself_text a, elim [ Del b ↦ only_text Del a b | _ ↦ other ])
+      | Size ↦ (refl, elim [ Size ↦ λ e. refl | _ ↦ other ])
+      | At a ↦ (itself_one a, elim [ At x ↦ only_one At a x | _ ↦ other ])
+    ]) };
 
-    ghost same_resp = { exact_from _
-        (elim [ Was v ↦ eq-eqb v v refl | New ↦ refl | Full ↦ refl | Found v ↦ eq-eqb v v refl | Absent ↦ refl | Count v ↦ eq-eqb v v refl ])
-        (elim [
-          | Was v ↦ elim [ Was w ↦ λ e. ap Was (eqb-true v w e) | New ↦ λ e. absurd (false≢true e) | Full ↦ λ e. absurd (false≢true e) | Found w ↦ λ e. absurd (false≢true e) | Absent ↦ λ e. absurd (false≢true e) | Count w ↦ λ e. absurd (false≢true e) ]
-          | New ↦ elim [ Was w ↦ λ e. absurd (false≢true e) | New ↦ λ e. refl | Full ↦ λ e. absurd (false≢true e) | Found w ↦ λ e. absurd (false≢true e) | Absent ↦ λ e. absurd (false≢true e) | Count w ↦ λ e. absurd (false≢true e) ]
-          | Full ↦ elim [ Was w ↦ λ e. absurd (false≢true e) | New ↦ λ e. absurd (false≢true e) | Full ↦ λ e. refl | Found w ↦ λ e. absurd (false≢true e) | Absent ↦ λ e. absurd (false≢true e) | Count w ↦ λ e. absurd (false≢true e) ]
-          | Found v ↦ elim [ Was w ↦ λ e. absurd (false≢true e) | New ↦ λ e. absurd (false≢true e) | Full ↦ λ e. absurd (false≢true e) | Found w ↦ λ e. ap Found (eqb-true v w e) | Absent ↦ λ e. absurd (false≢true e) | Count w ↦ λ e. absurd (false≢true e) ]
-          | Absent ↦ elim [ Was w ↦ λ e. absurd (false≢true e) | New ↦ λ e. absurd (false≢true e) | Full ↦ λ e. absurd (false≢true e) | Found w ↦ λ e. absurd (false≢true e) | Absent ↦ λ e. refl | Count w ↦ λ e. absurd (false≢true e) ]
-          | Count v ↦ elim [ Was w ↦ λ e. absurd (false≢true e) | New ↦ λ e. absurd (false≢true e) | Full ↦ λ e. absurd (false≢true e) | Found w ↦ λ e. absurd (false≢true e) | Absent ↦ λ e. absurd (false≢true e) | Count w ↦ λ e. ap Count (eqb-true v w e) ]
-        ]) };
+    ghost same_resp = { exact_by_cases _ (elim [
+      | Was a ↦ (itself_one a, elim [ Was x ↦ only_one Was a x | _ ↦ other ])
+      | New ↦ (refl, elim [ New ↦ λ e. refl | _ ↦ other ])
+      | Full ↦ (refl, elim [ Full ↦ λ e. refl | _ ↦ other ])
+      | Found a ↦ (itself_one a, elim [ Found x ↦ only_one Found a x | _ ↦ other ])
+      | Absent ↦ (refl, elim [ Absent ↦ λ e. refl | _ ↦ other ])
+      | Count a ↦ (itself_one a, elim [ Count x ↦ only_one Count a x | _ ↦ other ])
+    ]) };
 }
 
 impl Spoken for DirectoryObject {

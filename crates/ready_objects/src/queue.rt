@@ -1,11 +1,10 @@
 //! A queue of at most 1,000 values.
 
 ghost use Rattle.std.specs.Prelude.{◌≡◌, IfOk};
-ghost use Rattle.std.proofs.Common.{refl, ap, eqb-true, eq-eqb};
-ghost use Rattle.std.proofs.lemmas.Bool.{false≢true};
+ghost use Rattle.std.proofs.Common.{refl};
 ghost use Rattle.ready_objects.specs.declared.queue.QueueInv.TheVariants.{Enq, Deq};
 ghost use Rattle.ready_objects.specs.declared.queue.QueueResp.TheVariants.{Added, Full, Taken, Empty};
-ghost use Rattle.ready_objects.specs.Exact.{exact_from};
+ghost use Rattle.seq_object.proofs.Cases.{exact_by_cases, other, itself_one, only_one};
 ghost use Rattle.ready_objects.specs.Queue.{queue, queue_next, queue_answer, queue_language};
 
 use crate::number::{Amount, push_number, push_with_number};
@@ -143,21 +142,17 @@ impl SeqObject for QueueObject {
         Ok(*inv)
     }
 
-    ghost same_inv = { exact_from _
-        (elim [ Enq v ↦ eq-eqb v v refl | Deq ↦ refl ])
-        (elim [
-          | Enq v ↦ elim [ Enq w ↦ λ e. ap Enq (eqb-true v w e) | Deq ↦ λ e. absurd (false≢true e) ]
-          | Deq ↦ elim [ Enq w ↦ λ e. absurd (false≢true e) | Deq ↦ λ e. refl ]
-        ]) };
+    ghost same_inv = { exact_by_cases _ (elim [
+      | Enq a ↦ (itself_one a, elim [ Enq x ↦ only_one Enq a x | _ ↦ other ])
+      | Deq ↦ (refl, elim [ Deq ↦ λ e. refl | _ ↦ other ])
+    ]) };
 
-    ghost same_resp = { exact_from _
-        (elim [ Added ↦ refl | Full ↦ refl | Taken v ↦ eq-eqb v v refl | Empty ↦ refl ])
-        (elim [
-          | Added ↦ elim [ Added ↦ λ e. refl | Full ↦ λ e. absurd (false≢true e) | Taken w ↦ λ e. absurd (false≢true e) | Empty ↦ λ e. absurd (false≢true e) ]
-          | Full ↦ elim [ Added ↦ λ e. absurd (false≢true e) | Full ↦ λ e. refl | Taken w ↦ λ e. absurd (false≢true e) | Empty ↦ λ e. absurd (false≢true e) ]
-          | Taken v ↦ elim [ Added ↦ λ e. absurd (false≢true e) | Full ↦ λ e. absurd (false≢true e) | Taken w ↦ λ e. ap Taken (eqb-true v w e) | Empty ↦ λ e. absurd (false≢true e) ]
-          | Empty ↦ elim [ Added ↦ λ e. absurd (false≢true e) | Full ↦ λ e. absurd (false≢true e) | Taken w ↦ λ e. absurd (false≢true e) | Empty ↦ λ e. refl ]
-        ]) };
+    ghost same_resp = { exact_by_cases _ (elim [
+      | Added ↦ (refl, elim [ Added ↦ λ e. refl | _ ↦ other ])
+      | Full ↦ (refl, elim [ Full ↦ λ e. refl | _ ↦ other ])
+      | Taken a ↦ (itself_one a, elim [ Taken x ↦ only_one Taken a x | _ ↦ other ])
+      | Empty ↦ (refl, elim [ Empty ↦ λ e. refl | _ ↦ other ])
+    ]) };
 }
 
 impl Spoken for QueueObject {

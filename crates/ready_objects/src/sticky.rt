@@ -2,14 +2,12 @@
 
 ghost use Rattle.std.specs.Prelude.{◌≡◌, ℕ, List, None, refl};
 ghost use Rattle.std.specs.List.{All};
-ghost use Rattle.std.proofs.Common.{ap, eqb-true, eq-eqb};
-ghost use Rattle.std.proofs.lemmas.Bool.{false≢true};
 ghost use Rattle.seq_object.specs.History.{Call, IsLegal};
 ghost use Rattle.ready_objects.specs.declared.sticky.StickyInv.{StickyInv};
 ghost use Rattle.ready_objects.specs.declared.sticky.StickyInv.TheVariants.{Stick, Read};
 ghost use Rattle.ready_objects.specs.declared.sticky.StickyResp.{StickyResp};
 ghost use Rattle.ready_objects.specs.declared.sticky.StickyResp.TheVariants.{Settled, Unset};
-ghost use Rattle.ready_objects.specs.Exact.{exact_from};
+ghost use Rattle.seq_object.proofs.Cases.{exact_by_cases, other, itself_one, only_one};
 ghost use Rattle.ready_objects.specs.Sticky.{sticky, sticky_language, stick_replies};
 
 use crate::number::{Amount, push_number, push_with_number};
@@ -87,19 +85,15 @@ impl SeqObject for StickyObject {
         Ok(*inv)
     }
 
-    ghost same_inv = { exact_from _
-        (elim [ Stick v ↦ eq-eqb v v refl | Read ↦ refl ])
-        (elim [
-          | Stick v ↦ elim [ Stick w ↦ λ e. ap Stick (eqb-true v w e) | Read ↦ λ e. absurd (false≢true e) ]
-          | Read ↦ elim [ Stick w ↦ λ e. absurd (false≢true e) | Read ↦ λ e. refl ]
-        ]) };
+    ghost same_inv = { exact_by_cases _ (elim [
+      | Stick a ↦ (itself_one a, elim [ Stick x ↦ only_one Stick a x | _ ↦ other ])
+      | Read ↦ (refl, elim [ Read ↦ λ e. refl | _ ↦ other ])
+    ]) };
 
-    ghost same_resp = { exact_from _
-        (elim [ Settled v ↦ eq-eqb v v refl | Unset ↦ refl ])
-        (elim [
-          | Settled v ↦ elim [ Settled w ↦ λ e. ap Settled (eqb-true v w e) | Unset ↦ λ e. absurd (false≢true e) ]
-          | Unset ↦ elim [ Settled w ↦ λ e. absurd (false≢true e) | Unset ↦ λ e. refl ]
-        ]) };
+    ghost same_resp = { exact_by_cases _ (elim [
+      | Settled a ↦ (itself_one a, elim [ Settled x ↦ only_one Settled a x | _ ↦ other ])
+      | Unset ↦ (refl, elim [ Unset ↦ λ e. refl | _ ↦ other ])
+    ]) };
 }
 
 impl Spoken for StickyObject {

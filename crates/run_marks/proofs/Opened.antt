@@ -4,11 +4,11 @@ use Rattle.std.specs.Prelude.{option_map, option_and_then}
 use Rattle.std.specs.Option.{option_map_or}
 use Rattle.std.specs.List.{AllByRecursion}
 use Rattle.seq_object.specs.Sequential.{Sequential}
-use Rattle.uni_model.specs.Places.{Name, Content, seq_of, new_of}
+use Rattle.uni_model.specs.Places.{Memory, Name, Content, seq_of, new_of}
 use Rattle.uni_model.specs.Places.Name.{Of}
 use Rattle.uni_model.specs.Stages.{Stage, Pending}
 use Rattle.uni_model.specs.Stages.Stage.{Announce, ScanHead, ScanSeq, WriteScan, Test, ReadAnnounce, ReadHelpSeq, DecideAfter, DecideNew, WriteBefore, WriteSeq, WriteHead, Finish}
-use Rattle.uni_model.specs.Transition.{Beside, beside, place_of, stage_after, response_after}
+use Rattle.uni_model.specs.Transition.{place_of, stage_after, response_after}
 use Rattle.uni_model.specs.Chain.{invoked_at}
 use Rattle.uni_model.specs.Worlds.{WorldOf, anchor_memory, last_cell, world_after, world_after_step, world_after_era, response_of_step, IsAccepted}
 use Rattle.uni_model.specs.Effects.{call_after}
@@ -69,7 +69,7 @@ module _ {S I R : Type 0} where
       each (x ∷ xs) all = (open_is_current w inv.0 inv.2.calls x.process x.nth x.inv all.0, each xs all.1)
 
   -- a step with a response is the last of its call
-  pub last_or_silent : (n : ℕ) (mine : Name) (stage : Stage) (v : Content S I R) (seen : Beside S I R) → (response_after stage seen ≡ None) ⊎ (stage_after n mine stage v ≡ None)
+  pub last_or_silent : (n : ℕ) (mine : Name) (stage : Stage) (v : Content S I R) (seen : Memory S I R) → (response_after mine stage seen ≡ None) ⊎ (stage_after n mine stage v ≡ None)
   last_or_silent n mine Announce v seen = inl refl
   last_or_silent n mine (ScanHead q best best_seq) v seen = inl refl
   last_or_silent n mine (ScanSeq q best best_seq h) v seen = inl refl
@@ -98,8 +98,8 @@ module _ {S I R : Type 0} where
               | inl here ↦ (
                 record { call = own; pending = ap w.call here.0 ∙ some; latest = latest },
                 inr (
-                    elim (last_or_silent w.n own.mine own.stage (w.memory (place_of w.n q own.mine own.stage)) (beside w.memory own.mine own.stage)) [
-                      | inl silent ↦ ap (option_and_then (λ (c : Pending). response_after c.stage (beside w.memory c.mine c.stage))) some ∙ silent
+                    elim (last_or_silent w.n own.mine own.stage (w.memory (place_of w.n q own.mine own.stage)) w.memory) [
+                      | inl silent ↦ ap (option_and_then (λ (c : Pending). response_after c.mine c.stage w.memory)) some ∙ silent
                       | inr over ↦ absurd (let none : Some call ≡ None = sym pending ∙ here.1 ∙ ap (call_after own.mine) over in cc)
                     ]),
               )

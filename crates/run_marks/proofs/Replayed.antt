@@ -7,7 +7,8 @@ use Rattle.seq_object.specs.Sequential.{Sequential}
 use Rattle.uni_model.specs.Places.{Name, Memory}
 use Rattle.uni_model.specs.Stages.{Pending}
 use Rattle.uni_model.specs.Chain.{Entry as Logged, invoked_at}
-use Rattle.uni_model.specs.Worlds.{WorldOf, world_after, response_of_step, response_of_call}
+use Rattle.uni_model.specs.Worlds.{WorldOf, world_after, response_of_step}
+use Rattle.uni_model.specs.Transition.{response_after}
 use Rattle.uni_model.specs.Worlds.Event.{Step}
 use Rattle.uni_model.specs.AtomicObject.{Act, Invoked}
 use Rattle.uni_model.specs.AtomicObject.Act.{Linearize, Respond}
@@ -79,9 +80,9 @@ module _ {S I R : Type 0} where
       ∙ ap (λ l. drop (length (calls_of w)) (calls_of (world_after object w (Step p))) ++ l) (by_call (w.call p))
       ∙ append-nil (drop (length (calls_of w)) (calls_of (world_after object w (Step p))))
     where
-      by_call : (o : Option Pending) → linearized_in {I = I} {R = R} (option_map_or (λ (call : Pending). responses_of w.memory p call.mine (response_of_call w call)) o []) ≡ []
+      by_call : (o : Option Pending) → linearized_in {I = I} {R = R} (option_map_or (λ (call : Pending). responses_of w.memory p call.mine (response_after call.mine call.stage w.memory)) o []) ≡ []
       by_call None = refl
-      by_call (Some call) = none_linearized w.memory p call.mine (response_of_call w call)
+      by_call (Some call) = none_linearized w.memory p call.mine (response_after call.mine call.stage w.memory)
 
   pub dots_by-step : (object : Sequential S I R) (w v : WorldOf S I R) (place p before : ℕ) → v ≡ world_after object w (Step p) → before ≡ length (calls_of w)
       → dots_of place p (drop before (calls_of v)) ≡ dots_by object w place (Step p)

@@ -12,7 +12,7 @@ use Rattle.uni_model.specs.AtomicObject.{set_at}
 use Rattle.uni_model.specs.Places.Name.{Of}
 use Rattle.uni_model.specs.Stages.{Pending}
 use Rattle.uni_model.specs.Stages.Stage.{Announce}
-use Rattle.uni_model.specs.Transition.{beside, place_of, stage_after, response_after}
+use Rattle.uni_model.specs.Transition.{place_of, stage_after, response_after}
 use Rattle.uni_model.specs.Worlds.{WorldOf, Event, anchor_memory, last_cell, opened_world, world_after, world_after_step, world_after_era, response_of_step, AreAccepted}
 use Rattle.uni_model.specs.Effects.{call_after}
 use Rattle.uni_model.specs.Worlds.Event.{Call, Step, Trim, Reshape}
@@ -215,9 +215,9 @@ module _ {S I R : Type 0} (o : SpokenObject S I R) where
   call_of_last w q r some None is h = absurd (let e : false ≡ true = h in cc)
   call_of_last w q r some (Some c) is h =
       set_at_same w.call q (call_after c.mine (stage_after w.n c.mine c.stage (w.memory (place_of w.n q c.mine c.stage))))
-      ∙ (elim (last_or_silent w.n c.mine c.stage (w.memory (place_of w.n q c.mine c.stage)) (beside w.memory c.mine c.stage)) [
+      ∙ (elim (last_or_silent w.n c.mine c.stage (w.memory (place_of w.n q c.mine c.stage)) w.memory) [
         | inl silent ↦ absurd (
-            let none : Some r ≡ None = sym some ∙ ap (option_and_then (λ (c : Pending). response_after c.stage (beside w.memory c.mine c.stage))) is ∙ silent in cc)
+            let none : Some r ≡ None = sym some ∙ ap (option_and_then (λ (c : Pending). response_after c.mine c.stage w.memory)) is ∙ silent in cc)
         | inr over ↦ ap (call_after c.mine) over
       ])
 

@@ -6,7 +6,8 @@ use Rattle.cell_arena.specs.CellRecord.{CellRecord}
 use Rattle.cell_arena.specs.Arena.{processes_of, made_of, cell_of}
 use Rattle.uni_model.specs.Places.{Name, Memory, seq_of, new_of}
 use Rattle.uni_model.specs.Places.Name.{Anchor}
-use Rattle.uni_model.specs.Worlds.{anchor_memory, last_cell, era_calls, calls_in_era, world_after_era, IsQuiescent}
+use Rattle.uni_model.specs.Worlds.{anchor_memory, last_cell, calls_in_era, world_after_era, IsQuiescent}
+use Rattle.uni_model.specs.Counting.{era_calls}
 use Rattle.uni_model.specs.Worlds.Event.{Reshape}
 use Rattle.uni_model.specs.Invariant.{Has}
 use Rattle.uni_model.specs.Helping.{HelpingInvariant}

@@ -1,13 +1,12 @@
 -- The shared places after each call of the arena and of the entries.
 use Rattle.std.proofs.Common.{◌≡◌, ◌∙◌, ℕ, ◌<◌, ◌≤◌, refl, sym, ap, subst, List, Option, Some, None, option_map, IsSome, arith, true, false, length, slice_get, slice_set, unwrap_or, replicate, zero, suc, inl, inr, ◌+◌, ◌-◌, IfSome}
-use Rattle.std.specs.Option.{option_map_or}
+use Rattle.std.specs.Option.{option_map_or, option_or}
 use Rattle.cell_arena.specs.CellRecord.{CellRecord, index_of, ChangesOnly, with_seq, with_before, with_after, with_new, fresh, settled, anchor_with, anchor_for, HasOnlyAnchor}
 use Rattle.cell_arena.specs.Arena.{Arena, processes_of, made_of, cell_of}
 use Rattle.uni_model.specs.Places.{Name, Place, Content, memory_with, after_of, new_of}
 use Rattle.uni_model.specs.Places.Name.{Anchor, Of}
 use Rattle.uni_model.specs.Places.Place.{Announced, HeadOf, InvOf, SeqOf, AfterOf, NewOf, BeforeOf}
 use Rattle.uni_model.specs.Places.Content.{CellName, Invocation, Number, Link, Settled}
-use Rattle.uni_model.specs.Transition.{decision}
 use Rattle.uni_model.specs.Worlds.{anchor_memory}
 use Rattle.uni_model.proofs.Written.{number_cases, lt_cases}
 use Rattle.uni_model.specs.Indices.{name_from}
@@ -38,10 +37,10 @@ module _ {S I R : Type 0} (a now : Shared S I R) (view : a ≡ now) where
       -- what is settled after a proposal, by name
       decided_name : (name : ℕ → Name) (next d : ℕ) (o : Option (CellRecord S I R)) → IsSome o → option_map (λ (c : CellRecord S I R). settled c.after next) o ≡ Some d
           → (unwrap_or (option_map_or (λ (c : CellRecord S I R). option_map name c.after) o None) (name next) ≡ name d)
-          × (decision (option_map_or (λ (c : CellRecord S I R). option_map name c.after) o None) (Some (name next)) ≡ Some (name d))
+          × (option_or (option_map_or (λ (c : CellRecord S I R). option_map name c.after) o None) (Some (name next)) ≡ Some (name d))
       decided_name name next d None some e = absurd (let f : false ≡ true = some in cc)
       decided_name name next d (Some c) some e = by_after c.after (let same : settled c.after next ≡ d = cc in same) where
-        by_after : (o : Option ℕ) → settled o next ≡ d → (unwrap_or (option_map name o) (name next) ≡ name d) × (decision (option_map name o) (Some (name next)) ≡ Some (name d))
+        by_after : (o : Option ℕ) → settled o next ≡ d → (unwrap_or (option_map name o) (name next) ≡ name d) × (option_or (option_map name o) (Some (name next)) ≡ Some (name d))
         by_after None f = (ap name f, ap (λ k. Some (name k)) f)
         by_after (Some x) f = (ap name f, ap (λ k. Some (name k)) f)
 
@@ -53,21 +52,21 @@ module _ {S I R : Type 0} (a now : Shared S I R) (view : a ≡ now) where
       pub after_written : (next d : ℕ) → option_map (λ (c : CellRecord S I R). settled c.after next) (cell_of a.cells id) ≡ Some d
           → ChangesOnly (cell_of a.cells) (cell_of cells') id (option_map (with_after next) (cell_of a.cells id))
           → memory_of (record { cells = cells'; announce = a.announce; heads = a.heads; first = a.first }) ≡ memory_with (memory_of now) (AfterOf (named now id))
-          (Link (decision (after_of (memory_of now) (named now id)) (Some (named now next))))
+          (Link (option_or (after_of (memory_of now) (named now id)) (Some (named now next))))
       after_written next d answer changes = subst (λ v. memory_of (record { cells = cells'; announce = a.announce; heads = a.heads; first = a.first }) ≡ memory_with (memory_of v) (AfterOf (named v id))
-          (Link (decision (after_of (memory_of v) (named v id)) (Some (named v next))))) view
+          (Link (option_or (after_of (memory_of v) (named v id)) (Some (named v next))))) view
           (rw (cell_named-name_from (processes_of a.cells) (first_of a) positive (cell_of a.cells) id, (decided_name (named a) next d (cell_of a.cells id) here answer).1)
           (counted a.announce a.heads ∙ memory_at-with_after (processes_of a.cells) (first_of a) positive (cell_of a.cells) (cell_of cells') a.announce a.heads id here next changes d answer))
 
-      decided_settled : {A : Type 0} (o : Option A) (x : A) → decision o (Some x) ≡ Some (settled o x)
+      decided_settled : {A : Type 0} (o : Option A) (x : A) → option_or o (Some x) ≡ Some (settled o x)
       decided_settled None x = refl
       decided_settled (Some y) x = refl
 
       pub new_written : (new : S × Option R) → ChangesOnly (cell_of a.cells) (cell_of cells') id (option_map (with_new new) (cell_of a.cells id))
           → memory_of (record { cells = cells'; announce = a.announce; heads = a.heads; first = a.first }) ≡ memory_with (memory_of now) (NewOf (named now id))
-          (Settled (decision (new_of (memory_of now) (named now id)) (Some new)))
+          (Settled (option_or (new_of (memory_of now) (named now id)) (Some new)))
       new_written new changes = subst (λ v. memory_of (record { cells = cells'; announce = a.announce; heads = a.heads; first = a.first }) ≡ memory_with (memory_of v) (NewOf (named v id))
-          (Settled (decision (new_of (memory_of v) (named v id)) (Some new)))) view
+          (Settled (option_or (new_of (memory_of v) (named v id)) (Some new)))) view
           (rw (cell_named-name_from (processes_of a.cells) (first_of a) positive (cell_of a.cells) id, decided_settled)
           (counted a.announce a.heads ∙ memory_at-with_new (processes_of a.cells) (first_of a) positive (cell_of a.cells) (cell_of cells') a.announce a.heads id here new changes))
 

@@ -8,7 +8,8 @@ use Rattle.uni_model.specs.Places.{Name, Content, number_in, seq_of, inv_of, aft
 use Rattle.uni_model.specs.Places.Name.{Anchor, Of}
 use Rattle.uni_model.specs.Stages.{Stage as at}
 use Rattle.uni_model.specs.Chain.{response_in}
-use Rattle.uni_model.specs.Worlds.{calls_in_era, era_calls}
+use Rattle.uni_model.specs.Worlds.{calls_in_era}
+use Rattle.uni_model.specs.Counting.{era_calls}
 use Rattle.uni_model.specs.Invariant.{Has, AtHead, IsCellOf, Stands}
 use Rattle.uni_model.proofs.Steps.{linked_call, head_number}
 use Rattle.uni_model.proofs.Values.{response-settled}
@@ -18,7 +19,7 @@ use Rattle.uni_core.specs.declared.stage.Stage.{Stage}
 use Rattle.uni_core.specs.declared.stage.Stage.TheVariants.{Announce, ScanHead, ScanSeq, WriteScan, Test, ReadAnnounce, ReadHelpSeq, DecideAfter, DecideNew, WriteBefore, WriteSeq, WriteHead, Finish}
 use Rattle.uni_core.specs.Shared.{Shared, first_of, named, memory_of}
 use Rattle.uni_core.specs.Stage.{stage_of, CanStep, IsThere, effect_at, turns_to}
-use Rattle.uni_model.specs.Transition.{place_of, turn_of, stage_after, best_of}
+use Rattle.uni_model.specs.Transition.{place_of, turn_of, stage_after}
 use Rattle.uni_core.specs.World.{Whole, world_of, IsWorld}
 use Rattle.uni_core.proofs.Named.{cell_named-name_from}
 
@@ -141,10 +142,13 @@ turn_of-stage_after : {S I R : Type 0} (n : ℕ) (mine : Name) (stage : at) (v :
     → turn_of stage v ≡ turns_at (stage_after n mine stage v)
 turn_of-stage_after n mine at.Announce v = refl
 turn_of-stage_after n mine (at.ScanHead q best s) v = refl
-turn_of-stage_after n mine (at.ScanSeq q best s head) v = by_test (nat_lt (q + 1) n) where
-  by_test : (b : Bool) → 0 ≡ turns_at (Some (cond b (at.ScanHead (q + 1) (best_of s (number_in v) head best) (best_of s (number_in v) (number_in v) s)) (at.WriteScan (best_of s (number_in v) head best) (best_of s (number_in v) (number_in v) s))))
-  by_test true = refl
-  by_test false = refl
+turn_of-stage_after n mine (at.ScanSeq q best s head) v = by_test (nat_lt s (number_in v)) (nat_lt (q + 1) n) where
+  by_test : (better more : Bool) → 0 ≡ turns_at (Some (cond better (cond more (at.ScanHead (q + 1) head (number_in v)) (at.WriteScan head (number_in v)))
+      (cond more (at.ScanHead (q + 1) best s) (at.WriteScan best s))))
+  by_test true true = refl
+  by_test true false = refl
+  by_test false true = refl
+  by_test false false = refl
 turn_of-stage_after n mine (at.WriteScan best s) v = refl
 turn_of-stage_after n mine (at.Test c s) v = by_test (nat_eq (number_in v) 0) where
   by_test : (b : Bool) → cond b 1 0 ≡ turns_at (Some (cond b (at.ReadAnnounce c s) (at.Finish s (number_in v))))

@@ -1,6 +1,6 @@
 -- Single steps over the shared places.
 use Rattle.std.proofs.Common.{◌≡◌, ◌∙◌, ℕ, refl, sym, ap, subst, Option, Some, None, is_some, IsSome, arith, true, false, ◌<◌, ◌≤◌, ◌⊎◌, inl, inr, ◌%◌, ◌==◌, if◌then◌else◌, unwrap_or}
-use Rattle.std.specs.Option.{option_copied}
+use Rattle.std.specs.Option.{option_copied, option_or}
 use Rattle.std.specs.Borrow.{Bor}
 use Rattle.seq_object.specs.Sequential.{Sequential}
 use Rattle.uni_model.specs.Places.{Name, Content, memory_with, new_of, announce_of, head_of, seq_of, after_of}
@@ -10,7 +10,7 @@ use Rattle.uni_model.specs.Places.Place.{HeadOf, AfterOf}
 use Rattle.uni_model.specs.Places.Content.{CellName, Link}
 use Rattle.uni_model.specs.Stages.{Stage as at}
 use Rattle.uni_model.specs.Chain.{response_in}
-use Rattle.uni_model.specs.Transition.{decision, value_after, place_of, beside, response_after, stage_after_scan}
+use Rattle.uni_model.specs.Transition.{value_after, place_of, response_after, stage_after_scan}
 use Rattle.cell_arena.specs.Arena.{processes_of}
 use Rattle.uni_model.proofs.Written.{written_same, lt_cases}
 use Rattle.uni_core.specs.Shared.{Shared, named, memory_of, HasShapeOf}
@@ -20,12 +20,12 @@ use Rattle.uni_core.specs.declared.stage.Stage.{Stage}
 module _ {S I R : Type 0} (a : Shared S I R) (d : Name) where
   -- what is settled stays, whatever is proposed
   pub settled_kept : (proposal : Option (S × Option R)) → IsSome (new_of (memory_of a) d)
-      → memory_of a ≡ memory_with (memory_of a) (NewOf d) (Settled (decision (new_of (memory_of a) d) proposal))
+      → memory_of a ≡ memory_with (memory_of a) (NewOf d) (Settled (option_or (new_of (memory_of a) d) proposal))
   settled_kept proposal some = by_new (new_of (memory_of a) d) refl some where
-    by_new : (o : Option (S × Option R)) → new_of (memory_of a) d ≡ o → IsSome o → memory_of a ≡ memory_with (memory_of a) (NewOf d) (Settled (decision (new_of (memory_of a) d) proposal))
+    by_new : (o : Option (S × Option R)) → new_of (memory_of a) d ≡ o → IsSome o → memory_of a ≡ memory_with (memory_of a) (NewOf d) (Settled (option_or (new_of (memory_of a) d) proposal))
     by_new None e h = absurd (let f : false ≡ true = h in cc)
     by_new (Some v) e h =
-        subst (λ x. memory_of a ≡ memory_with (memory_of a) (NewOf d) (Settled (decision x proposal))) (sym e)
+        subst (λ x. memory_of a ≡ memory_with (memory_of a) (NewOf d) (Settled (option_or x proposal))) (sym e)
         (subst (λ x. memory_of a ≡ memory_with (memory_of a) (NewOf d) x) (ap (λ (x : Option (S × Option R)). let c : Content S I R = Settled x in c) e) (sym (written_same (memory_of a) (NewOf d))))
 
 -- the object applied to what is there
@@ -39,9 +39,9 @@ copied_some (Some x) e = refl
 
 -- one proposal for another that is the same
 pub proposed_same : {S I R : Type 0} (a a' : Shared S I R) (d : Name) (p q : Option (S × Option R)) → p ≡ q
-    → memory_of a' ≡ memory_with (memory_of a) (NewOf d) (Settled (decision (new_of (memory_of a) d) q))
-    → memory_of a' ≡ memory_with (memory_of a) (NewOf d) (Settled (decision (new_of (memory_of a) d) p))
-proposed_same a a' d p q e h = subst (λ x. memory_of a' ≡ memory_with (memory_of a) (NewOf d) (Settled (decision (new_of (memory_of a) d) x))) (sym e) h
+    → memory_of a' ≡ memory_with (memory_of a) (NewOf d) (Settled (option_or (new_of (memory_of a) d) q))
+    → memory_of a' ≡ memory_with (memory_of a) (NewOf d) (Settled (option_or (new_of (memory_of a) d) p))
+proposed_same a a' d p q e h = subst (λ x. memory_of a' ≡ memory_with (memory_of a) (NewOf d) (Settled (option_or (new_of (memory_of a) d) x))) (sym e) h
 
 -- the shape of what is unchanged
 pub HasShapeOf-same : {S I R : Type 0} (a : Shared S I R) → HasShapeOf a a
@@ -50,7 +50,7 @@ HasShapeOf-same a = record { processes = refl; row = refl; made = λ p. refl; fi
 -- a step that only reads its place
 pub Takes-read : {S I R : Type 0} (object : Sequential S I R) (p : ℕ) (mine : Name) (from : at) (a : Shared S I R) (to : Option at) (response : Option R)
     → (effect_at object a p mine from).content ≡ memory_of a (place_of (processes_of a.cells) p mine from)
-    → to ≡ (effect_at object a p mine from).stage → response ≡ response_after from (beside (memory_of a) mine from) → Takes object p mine from a a to response
+    → to ≡ (effect_at object a p mine from).stage → response ≡ response_after mine from (memory_of a) → Takes object p mine from a a to response
 Takes-read object p mine from a to response same stage told = record {
   shape = HasShapeOf-same a;
   memory = subst (λ v. memory_of a ≡ memory_with (memory_of a) (place_of (processes_of a.cells) p mine from) v) (sym same) (sym (written_same (memory_of a) (place_of (processes_of a.cells) p mine from)));
@@ -110,7 +110,7 @@ module _ {S I R : Type 0} (object : Sequential S I R) (p : ℕ) (mine : Name) (a
       ∙ ap (λ y. if seq_of (memory_of a) (named a help) == 0 then named a help else y) (sym is_mine))) refl
 
   pub Takes-decide_after : (c s prefer d : ℕ) (a' : Shared S I R) → HasShapeOf a a'
-      → memory_of a' ≡ memory_with (memory_of a) (AfterOf (named a c)) (Link (decision (after_of (memory_of a) (named a c)) (Some (named a prefer))))
+      → memory_of a' ≡ memory_with (memory_of a) (AfterOf (named a c)) (Link (option_or (after_of (memory_of a) (named a c)) (Some (named a prefer))))
       → named a d ≡ unwrap_or (after_of (memory_of a) (named a c)) (named a prefer)
       → Takes object p mine (at.DecideAfter (named a c) s (named a prefer)) a a' (Some (at.DecideNew (named a c) s (named a d))) None
   Takes-decide_after c s prefer d a' shape wrote e = record {

@@ -6,7 +6,8 @@ use Rattle.cell_arena.specs.Arena.{processes_of, cell_of}
 use Rattle.uni_model.specs.Places.{Name, after_of}
 use Rattle.uni_model.specs.Places.Name.{Anchor}
 use Rattle.uni_model.specs.Chain.{cells_from, last_of}
-use Rattle.uni_model.specs.Worlds.{WorldOf, era_calls, calls_in_era, last_cell}
+use Rattle.uni_model.specs.Worlds.{WorldOf, calls_in_era, last_cell}
+use Rattle.uni_model.specs.Counting.{era_calls}
 use Rattle.uni_model.specs.Invariant.{Invariant}
 use Rattle.uni_model.proofs.Simulation.{enough}
 use Rattle.uni_model.proofs.Chains.{cells_from-enough}

@@ -6,7 +6,7 @@ use Rattle.uni_model.specs.Places.{Name, memory_with, inv_of, new_of}
 use Rattle.uni_model.specs.Stages.{Pending as PendingAt}
 use Rattle.uni_model.specs.Stages.{Stage as at}
 use Rattle.uni_model.specs.Chain.{response_in}
-use Rattle.uni_model.specs.Transition.{place_of, beside, response_after}
+use Rattle.uni_model.specs.Transition.{place_of, response_after}
 use Rattle.uni_model.specs.Effects.{Effect, effect_of}
 use Rattle.uni_core.specs.declared.stage.Stage.{Stage}
 use Rattle.uni_core.specs.declared.stage.Stage.TheVariants.{Announce, ScanHead, ScanSeq, WriteScan, Test, ReadAnnounce, ReadHelpSeq, DecideAfter, DecideNew, WriteBefore, WriteSeq, WriteHead, Finish}
@@ -37,7 +37,7 @@ pending_of name call = record { mine = name call.mine; stage = stage_of name cal
 -- what the step of a process comes to at these shared places
 abbrev pub effect_at : {S I R : Type 0} → Sequential S I R → Shared S I R → (p : ℕ) → (mine : Name) → at → Effect S I R
 effect_at object a p mine stage =
-    effect_of object (processes_of a.cells) mine stage (memory_of a (place_of (processes_of a.cells) p mine stage)) (beside (memory_of a) mine stage)
+    effect_of object (processes_of a.cells) mine stage (memory_of a (place_of (processes_of a.cells) p mine stage)) (memory_of a)
 
 -- where the process stands after a step, and the response, where its call has ended
 abbrev pub stage_told : {R : Type 0} → (name : ℕ → Name) → After R → Option at
@@ -53,7 +53,7 @@ pub record Takes {S I R : Type 0} (object : Sequential S I R) (p : ℕ) (mine : 
   pub shape : HasShapeOf old new
   pub memory : memory_of new ≡ memory_with (memory_of old) (place_of (processes_of old.cells) p mine from) (effect_at object old p mine from).content
   pub stage : to ≡ (effect_at object old p mine from).stage
-  pub told : response ≡ response_after from (beside (memory_of old) mine from)
+  pub told : response ≡ response_after mine from (memory_of old)
 
 -- there is a cell at the index
 abbrev pub IsThere : {S I R : Type 0} → Shared S I R → ℕ → Type 0

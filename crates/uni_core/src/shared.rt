@@ -9,7 +9,7 @@ ghost use Rattle.uni_model.specs.Places.Place.{Announced, HeadOf, InvOf, SeqOf, 
 ghost use Rattle.uni_model.specs.Places.Content.{CellName, Invocation, Number, Link, Settled};
 ghost use Rattle.uni_model.specs.Places.Name.{Of};
 ghost use Rattle.uni_model.specs.Chain.{response_in};
-ghost use Rattle.uni_model.specs.Transition.{decision};
+ghost use Rattle.std.specs.Option.{option_or};
 ghost use Rattle.uni_model.specs.Worlds.{anchor_memory};
 ghost use Rattle.uni_core.specs.Shared.{named, first_of, memory_of, HasShapeOf, IsRenewed};
 ghost use Rattle.uni_core.specs.Local.{new_local};
@@ -269,7 +269,7 @@ impl<S: Drop, I: Drop, R: Copy> Shared<S, I, R> {
         ensures answer { named self.old result
             ≡ unwrap_or (after_of (memory_of self.old) (named self.old id)) (named self.old next) }
         ensures memory { memory_of self.new ≡ memory_with (memory_of self.old) (AfterOf (named self.old id))
-            (Link (decision (after_of (memory_of self.old) (named self.old id)) (Some (named self.old next)))) }
+            (Link (option_or (after_of (memory_of self.old) (named self.old id)) (Some (named self.old next)))) }
     {
         self.cells.shape();
         self.cells.decide_after(id, next)
@@ -298,7 +298,7 @@ impl<S: Drop, I: Drop, R: Copy> Shared<S, I, R> {
         requires { IsSome (cell_of self.old.cells id) }
         ensures shape { HasShapeOf self.old self.new }
         ensures memory { memory_of self.new ≡ memory_with (memory_of self.old) (NewOf (named self.old id))
-            (Settled (decision (new_of (memory_of self.old) (named self.old id)) (Some new))) }
+            (Settled (option_or (new_of (memory_of self.old) (named self.old id)) (Some new))) }
     {
         self.cells.shape();
         let _ = self.cells.decide_new(id, new);

@@ -2,12 +2,13 @@
 //! its process stands then.
 
 ghost use Rattle.std.specs.Prelude.{◌≡◌, ◌+◌, ◌<◌, ◌==◌, if◌then◌else◌, ℕ, IsSome, Some, None, OnOk, IfOk, OnErr, option_map};
+ghost use Rattle.std.specs.Option.{option_or};
 ghost use Rattle.cell_arena.specs.Arena.{processes_of, cell_of};
 ghost use Rattle.uni_model.specs.Places.{Name, new_of, inv_of, memory_with};
 ghost use Rattle.uni_model.specs.Places.Place.{NewOf};
 ghost use Rattle.uni_model.specs.Places.Content.{Settled};
 ghost use Rattle.uni_model.specs.Stages.{Stage as at};
-ghost use Rattle.uni_model.specs.Transition.{stage_after_scan, decision, value_after};
+ghost use Rattle.uni_model.specs.Transition.{stage_after_scan, value_after};
 ghost use Rattle.uni_core.specs.Shared.{named, memory_of, HasShapeOf};
 ghost use Rattle.uni_core.specs.Stage.{stage_of, stage_told, response_told, Takes, CanStep, MayBeRefused};
 
@@ -102,7 +103,7 @@ impl<O: SeqObject> Machine<O> {
         requires inv { IsSome (inv_of (memory_of self.old.shared) (named self.old.shared d)) }
         ensures shape { HasShapeOf self.old.shared self.new.shared }
         ensures memory { OnOk result (memory_of self.new.shared ≡ memory_with (memory_of self.old.shared) (NewOf (named self.old.shared d))
-            (Settled (decision (new_of (memory_of self.old.shared) (named self.old.shared d))
+            (Settled (option_or (new_of (memory_of self.old.shared) (named self.old.shared d))
             (value_after (O.sequential self.old.object) (new_of (memory_of self.old.shared) (named self.old.shared c))
             (inv_of (memory_of self.old.shared) (named self.old.shared d)))))) }
         ensures refused { OnErr result (new_of (memory_of self.old.shared) (named self.old.shared d) ≡ None) }

@@ -15,15 +15,7 @@ use crate::transition::Machine;
 use seq_object::{CallId, SeqObject};
 use std::alloc::{AllocError, Global};
 use std::marker::Model;
-
-/// The greatest number of processes.
-const MAX_PROCESSES: u64 = 64;
-
-/// The greatest number of calls of a process in an era.
-const MAX_ROW: u64 = 4096;
-
-/// The greatest number of a cell.
-const MAX_SEQ: u64 = 281_474_976_710_655;
+use uni_model::{MAX_PROCESSES, MAX_ROW, MAX_SEQ};
 
 /// Processes that share an object, of which each takes its steps one at a time.
 ///

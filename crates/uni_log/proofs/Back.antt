@@ -6,7 +6,8 @@ use Rattle.seq_object.specs.Sequential.{Sequential}
 use Rattle.uni_model.specs.Places.{Name, Memory, seq_of, after_of, before_of}
 use Rattle.uni_model.specs.Places.Name.{Anchor, Of}
 use Rattle.uni_model.specs.Chain.{cells_from}
-use Rattle.uni_model.specs.Worlds.{WorldOf, era_calls, chain}
+use Rattle.uni_model.specs.Worlds.{WorldOf, chain}
+use Rattle.uni_model.specs.Counting.{era_calls}
 use Rattle.uni_model.specs.Invariant.{Invariant}
 use Rattle.uni_model.proofs.Simulation.{enough}
 

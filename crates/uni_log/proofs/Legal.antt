@@ -4,7 +4,8 @@ use Rattle.seq_object.specs.Sequential.{Sequential}
 use Rattle.seq_object.specs.History.{IsLegal}
 use Rattle.uni_model.specs.Places.{new_of}
 use Rattle.uni_model.specs.Places.Name.{Anchor}
-use Rattle.uni_model.specs.Worlds.{WorldOf, era_calls}
+use Rattle.uni_model.specs.Worlds.{WorldOf}
+use Rattle.uni_model.specs.Counting.{era_calls}
 use Rattle.uni_model.specs.Invariant.{Invariant}
 use Rattle.uni_model.specs.History.{log, logged_call}
 use Rattle.uni_model.proofs.Logged.{legal_from}

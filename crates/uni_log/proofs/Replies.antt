@@ -6,7 +6,8 @@ use Rattle.std.proofs.lemmas.List.{length-map}
 use Rattle.seq_object.specs.Sequential.{Sequential}
 use Rattle.uni_model.specs.Places.Name.{Anchor}
 use Rattle.uni_model.specs.Chain.{Entry}
-use Rattle.uni_model.specs.Worlds.{WorldOf, era_calls}
+use Rattle.uni_model.specs.Worlds.{WorldOf}
+use Rattle.uni_model.specs.Counting.{era_calls}
 use Rattle.uni_model.specs.History.{log}
 use Rattle.uni_model.specs.Invariant.{Invariant}
 use Rattle.uni_model.proofs.Logged.{settled_from}

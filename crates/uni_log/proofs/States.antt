@@ -6,7 +6,8 @@ use Rattle.seq_object.specs.History.{state_after}
 use Rattle.uni_model.specs.Places.{Name, new_of}
 use Rattle.uni_model.specs.Places.Name.{Anchor}
 use Rattle.uni_model.specs.AtomicObject.{Invoked}
-use Rattle.uni_model.specs.Worlds.{WorldOf, era_calls, chain}
+use Rattle.uni_model.specs.Worlds.{WorldOf, chain}
+use Rattle.uni_model.specs.Counting.{era_calls}
 use Rattle.uni_model.specs.History.{invocations_of}
 use Rattle.uni_model.specs.Invariant.{Invariant}
 use Rattle.uni_model.proofs.Simulation.{calls_of-calls_at}

@@ -4,7 +4,8 @@ use Rattle.seq_object.specs.Sequential.{Sequential}
 use Rattle.uni_model.specs.Places.{Name, seq_of, after_of, inv_of}
 use Rattle.uni_model.specs.Places.Name.{Anchor, Of}
 use Rattle.uni_model.specs.Chain.{cells_from, invoked_at}
-use Rattle.uni_model.specs.Worlds.{WorldOf, era_calls, chain}
+use Rattle.uni_model.specs.Worlds.{WorldOf, chain}
+use Rattle.uni_model.specs.Counting.{era_calls}
 use Rattle.uni_model.specs.Invariant.{Has, IsNumbered, Invariant}
 use Rattle.uni_model.proofs.Chains.{invoked_past_anchor}
 use Rattle.uni_model.proofs.Simulation.{enough}

@@ -1,5 +1,5 @@
 -- What the step of a process does for its own call, and what the process considers then.
-use Rattle.std.proofs.Common.{◌≡◌, ◌≢◌, ◌∙◌, ℕ, ◌+◌, ◌<◌, ◌≤◌, ◌%◌, inl, inr, refl, sym, ap, subst, Option, Some, None, arith, if◌then◌else◌, nat_lt}
+use Rattle.std.proofs.Common.{◌≡◌, ◌≢◌, ◌∙◌, ℕ, ◌+◌, ◌<◌, ◌≤◌, ◌%◌, inl, inr, refl, sym, ap, subst, Option, Some, None, arith}
 use Rattle.seq_object.specs.Sequential.{Sequential}
 use Rattle.uni_model.specs.Places.{Name, Memory, memory_with, announce_of, head_of, head_seq, seq_of}
 use Rattle.uni_model.specs.Places.Name.{Anchor, Of}
@@ -7,7 +7,7 @@ use Rattle.uni_model.specs.Places.Place.{Announced, HeadOf, SeqOf}
 use Rattle.uni_model.specs.Places.Content.{CellName}
 use Rattle.uni_model.specs.Stages.{Stage, Pending}
 use Rattle.uni_model.specs.Stages.Stage.{Announce, ScanHead, ScanSeq, WriteScan, Test, ReadAnnounce, ReadHelpSeq, DecideAfter, DecideNew, WriteBefore, WriteSeq, WriteHead, Finish}
-use Rattle.uni_model.specs.Transition.{place_of, turn_of, stage_after_scan, best_of, beside}
+use Rattle.uni_model.specs.Transition.{place_of, turn_of, next_in_scan, stage_after_scan}
 use Rattle.uni_model.specs.Effects.{effect_of}
 use Rattle.uni_model.specs.Worlds.{WorldOf}
 use Rattle.uni_model.specs.Settled.{Grows}
@@ -85,16 +85,10 @@ module _ {S I R : Type 0} (object : Sequential S I R) (w : WorldOf S I R) (num :
     past : (c : Name) (s : ℕ) → AtHead w.memory p c s → IsPast num mine s → IsPast num' mine s
     past c s h is = IsPast-later w.memory num num' numbers p threaded mine s (head_seq-at w.memory p c s h) is
 
-    best_of-le : (b s : ℕ) → (b ≤ best_of b s s b) × (s ≤ best_of b s s b)
-    best_of-le b s = elim (lt_cases b s) [
-      | inl less ↦ rw less.1 (omega arith, omega arith)
-      | inr more ↦ rw more.1 (omega arith, omega arith)
-    ]
-
     -- the scan goes on from a head, with the best cell so far
     scans_on : (q : ℕ) (best : Name) (b : ℕ) (x : Name) → q < w.n → IsHelped w.memory num last w.n p mine (ScanSeq q best b x) (w.turns p)
         → (found : Name) (top : ℕ) → b ≤ top → seq_of w.memory x ≤ top
-        → Advances w num p mine (ScanSeq q best b x) w.memory num' (if nat_lt (q + 1) w.n then ScanHead (q + 1) found top else WriteScan found top) (w.turns p + 0)
+        → Advances w num p mine (ScanSeq q best b x) w.memory num' (next_in_scan w.n q found top) (w.turns p + 0)
     scans_on q best b x below h found top old new = elim (lt_cases (q + 1) w.n) [
       | inl more ↦ rw more.1 (record {
         later = λ e. cc;
@@ -135,7 +129,7 @@ module _ {S I R : Type 0} (object : Sequential S I R) (w : WorldOf S I R) (num :
     pub advances : (stage : Stage) → w.call p ≡ Some (record { mine = mine; stage = stage }) → Stands w.memory num w.n p mine stage
         → IsHelped w.memory num last w.n p mine stage (w.turns p) → HasTurns stage (w.turns p)
         → let place = place_of w.n p mine stage in
-        let e = effect_of object w.n mine stage (w.memory place) (beside w.memory mine stage) in
+        let e = effect_of object w.n mine stage (w.memory place) w.memory in
         AdvancesTo w num p mine stage (memory_with w.memory place e.content) num' e.stage (w.turns p + turn_of stage (w.memory place))
     advances Announce is stands h turns = record {
       later = λ e. cc;
@@ -162,7 +156,10 @@ module _ {S I R : Type 0} (object : Sequential S I R) (w : WorldOf S I R) (num :
         })
     advances (ScanSeq q best b x) is stands h turns =
         subst (λ m. Advances w num p mine (ScanSeq q best b x) m num' (stage_after_scan w.n q best b x (seq_of w.memory x)) (w.turns p + 0)) (sym (written_same w.memory (SeqOf x)))
-        (scans_on q best b x stands.0 h _ _ (best_of-le b (seq_of w.memory x)).0 (best_of-le b (seq_of w.memory x)).1)
+        (elim (lt_cases b (seq_of w.memory x)) [
+          | inl less ↦ rw less.1 (scans_on q best b x stands.0 h x (seq_of w.memory x) (let f = less.0 in omega arith) (omega arith))
+          | inr more ↦ rw more.1 (scans_on q best b x stands.0 h best b (omega arith) more.0)
+        ])
     advances (WriteScan best b) is stands h turns = record {
       later = λ e. cc;
       finds = λ s found. omega arith;
@@ -268,7 +265,7 @@ module _ {S I R : Type 0} (object : Sequential S I R) (w : WorldOf S I R) (num :
   -- the number of p's head doesn't fall
   pub head_rises : (threaded : 1 ≤ head_seq w.memory p) (stage : Stage) → Stands w.memory num w.n p mine stage → CountsOwnHead w.memory p stage
       → let place = place_of w.n p mine stage in
-      let e = effect_of object w.n mine stage (w.memory place) (beside w.memory mine stage) in
+      let e = effect_of object w.n mine stage (w.memory place) w.memory in
       Grows w.memory (memory_with w.memory place e.content) → head_seq w.memory p ≤ head_seq (memory_with w.memory place e.content) p
   head_rises threaded Announce stands own grows = omega arith
   head_rises threaded (ScanHead q best b) stands own grows = still _ grows threaded (ap (λ k. head_of k p) (written_same w.memory (HeadOf q)))

@@ -6,7 +6,7 @@ use Rattle.uni_model.specs.Places.{Name, Memory, memory_with, head_seq, seq_of, 
 use Rattle.uni_model.specs.AtomicObject.{set_at}
 use Rattle.uni_model.specs.Stages.{Stage, Pending}
 use Rattle.uni_model.specs.Stages.Stage.{Announce, ScanHead, ScanSeq, WriteScan, Test, ReadAnnounce, ReadHelpSeq, DecideAfter, DecideNew, WriteBefore, WriteSeq, WriteHead, Finish}
-use Rattle.uni_model.specs.Transition.{place_of, turn_of, beside}
+use Rattle.uni_model.specs.Transition.{place_of, turn_of}
 use Rattle.uni_model.specs.Effects.{effect_of}
 use Rattle.uni_model.specs.Worlds.{WorldOf, Event, world_after_call, world_after_step, opened_world, anchor_memory, world_after_era, last_cell, world_after, world_after_all, IsAccepted, AreAccepted, IsQuiescent}
 use Rattle.uni_model.specs.Worlds.Event.{Call, Step, Trim, Reshape}
@@ -41,7 +41,7 @@ module _ {S I R : Type 0} (object : Sequential S I R) where
       let moved = leads object w inv.0 inv.1 inv.2 p c.mine c.stage is c.stage (inv.2.stands p c is) in
       let own = IsCounted-pending w counts p c is in
       let place = place_of w.n p c.mine c.stage in
-      let e = effect_of object w.n c.mine c.stage (w.memory place) (beside w.memory c.mine c.stage) in
+      let e = effect_of object w.n c.mine c.stage (w.memory place) w.memory in
       let inside : p < w.n = inv.2.calls.process p c is in
       let threaded : 1 ≤ head_seq w.memory p = inv.2.calls.head p inside in
       let helped = inv.3.each p c is in (

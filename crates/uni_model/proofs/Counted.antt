@@ -5,7 +5,7 @@ use Rattle.seq_object.specs.Sequential.{Sequential}
 use Rattle.uni_model.specs.Places.{Name, Content, Memory, number_in, seq_of, new_of}
 use Rattle.uni_model.specs.Stages.{Stage, Pending}
 use Rattle.uni_model.specs.Stages.Stage.{Announce, ScanHead, ScanSeq, WriteScan, Test, ReadAnnounce, ReadHelpSeq, DecideAfter, DecideNew, WriteBefore, WriteSeq, WriteHead, Finish}
-use Rattle.uni_model.specs.Transition.{place_of, turn_of, Beside, beside}
+use Rattle.uni_model.specs.Transition.{place_of, next_in_scan, turn_of}
 use Rattle.uni_model.specs.Effects.{effect_of, call_after}
 use Rattle.uni_model.specs.Worlds.{world_after_era, IsQuiescent, WorldOf, Event, anchor_memory, last_cell, opened_world, world_after_step, world_after_call, world_after, world_after_all, IsAccepted, AreAccepted}
 use Rattle.uni_model.specs.Worlds.Event.{Call, Step, Trim, Reshape}
@@ -14,18 +14,23 @@ use Rattle.uni_model.specs.Counting.{steps_at, HasTurns, IsCounted, CountsSteps}
 use Rattle.uni_model.proofs.Written.{number_cases, lt_cases}
 use Rattle.uni_model.proofs.Kept.{idle_when_quiescent, Invariant-world_after}
 
-module _ {S I R : Type 0} (object : Sequential S I R) (m : Memory S I R) (num : Name → ℕ) (n p : ℕ) (mine : Name) (v : Content S I R) (seen : Beside S I R) (begun among u t : ℕ) (same : among ≡ n) where
+module _ {S I R : Type 0} (object : Sequential S I R) (m : Memory S I R) (num : Name → ℕ) (n p : ℕ) (mine : Name) (v : Content S I R) (seen : Memory S I R) (begun among u t : ℕ) (same : among ≡ n) where
   -- each kind of step
   pub IsCounted-effect : (stage : Stage) → Stands m num n p mine stage → HasTurns stage t → u ≡ steps_at n stage t
       → IsCounted n (call_after mine (effect_of object n mine stage v seen).stage) begun among (u + 1) (t + turn_of stage v)
   IsCounted-effect Announce h turns e = (same, omega arith, omega arith)
   IsCounted-effect (ScanHead q best s) h turns e = (same, omega arith, omega arith)
-  IsCounted-effect (ScanSeq q best s x) h turns e =
-      let below : q < n = h.0 in
-      elim (lt_cases (q + 1) n) [
-        | inl more ↦ rw more.1 (same, omega arith, omega arith)
-        | inr done ↦ rw done.1 (same, omega arith, omega arith)
-      ]
+  IsCounted-effect (ScanSeq q best s x) h turns e = elim (lt_cases s (number_in v)) [
+    | inl better ↦ rw better.1 (goes_on x (number_in v))
+    | inr worse ↦ rw worse.1 (goes_on best s)
+  ] where
+    goes_on : (found : Name) (top : ℕ) → IsCounted n (call_after mine (Some (next_in_scan n q found top))) begun among (u + 1) (t + 0)
+    goes_on found top =
+        let below : q < n = h.0 in
+        elim (lt_cases (q + 1) n) [
+          | inl more ↦ rw more.1 (same, omega arith, omega arith)
+          | inr done ↦ rw done.1 (same, omega arith, omega arith)
+        ]
   IsCounted-effect (WriteScan best s) h turns e = (same, tt, omega arith)
   IsCounted-effect (Test c s) h turns e = elim (number_cases (number_in v) 0) [
     | inl none ↦ rw none.1 (same, omega arith, omega arith)
@@ -55,7 +60,7 @@ module _ {S I R : Type 0} (object : Sequential S I R) where
   CountsSteps-world_after_step w num p c is stands counts q =
       let own = IsCounted-pending w counts p c is in
       elim (number_cases q p) [
-        | inl here ↦ rw here.1 (IsCounted-effect object w.memory num w.n p c.mine (w.memory (place_of w.n p c.mine c.stage)) (beside w.memory c.mine c.stage)
+        | inl here ↦ rw here.1 (IsCounted-effect object w.memory num w.n p c.mine (w.memory (place_of w.n p c.mine c.stage)) w.memory
             (w.begun q) (w.among q) (w.steps p) (w.turns p) (ap w.among here.0 ∙ own.0) c.stage stands own.1 own.2)
         | inr other ↦ rw other.1 (counts q)
       ]

@@ -9,7 +9,8 @@ use Rattle.uni_model.specs.Places.{Name, Memory, seq_of, new_of}
 use Rattle.uni_model.specs.Places.Name.{Anchor}
 use Rattle.uni_model.specs.Chain.{invoked_at, entries_from, last_of}
 use Rattle.uni_model.specs.AtomicObject.{Invoked}
-use Rattle.uni_model.specs.Worlds.{WorldOf, IsQuiescent, anchor_memory, chain, era_calls, last_cell, world_after_era}
+use Rattle.uni_model.specs.Worlds.{WorldOf, IsQuiescent, anchor_memory, chain, last_cell, world_after_era}
+use Rattle.uni_model.specs.Counting.{era_calls}
 use Rattle.uni_model.specs.History.{log, invocations_of}
 use Rattle.uni_model.specs.Invariant.{Has, IsSound}
 use Rattle.uni_model.proofs.Chains.{calls_at}

@@ -6,7 +6,8 @@ use Rattle.uni_model.specs.Places.{Name, seq_of, inv_of, new_of}
 use Rattle.uni_model.specs.Places.Name.{Anchor, Of}
 use Rattle.uni_model.specs.Stages.{Pending}
 use Rattle.uni_model.specs.Chain.{Entry, response_in}
-use Rattle.uni_model.specs.Worlds.{WorldOf, Event, IsQuiescent, chain, era_calls, world_after, world_after_step, world_after_era, IsAccepted}
+use Rattle.uni_model.specs.Worlds.{WorldOf, Event, IsQuiescent, chain, world_after, world_after_step, world_after_era, IsAccepted}
+use Rattle.uni_model.specs.Counting.{era_calls}
 use Rattle.uni_model.specs.Worlds.Event.{Call, Step, Trim, Reshape}
 use Rattle.uni_model.specs.History.{log, invocations_of, log_of_run}
 use Rattle.uni_model.specs.Invariant.{IsSound, Invariant}

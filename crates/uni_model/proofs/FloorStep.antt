@@ -6,7 +6,7 @@ use Rattle.uni_model.specs.AtomicObject.{set_at}
 use Rattle.uni_model.specs.Places.Name.{Anchor, Of}
 use Rattle.uni_model.specs.Stages.{Stage, Pending}
 use Rattle.uni_model.specs.Stages.Stage.{Announce, ScanHead, ScanSeq, WriteScan, Test, ReadAnnounce, ReadHelpSeq, DecideAfter, DecideNew, WriteBefore, WriteSeq, WriteHead, Finish}
-use Rattle.uni_model.specs.Transition.{place_of, beside}
+use Rattle.uni_model.specs.Transition.{place_of, next_in_scan}
 use Rattle.uni_model.specs.Effects.{effect_of, call_after}
 use Rattle.uni_model.specs.Worlds.{WorldOf}
 use Rattle.uni_model.specs.Invariant.{IsSound}
@@ -37,11 +37,13 @@ module _ {S I R : Type 0} (object : Sequential S I R) (w : WorldOf S I R) (num :
   -- Where it is q's turn, what p may link after its step is x, or comes after a number that isn't past the floor: in q's entry
   -- of announce p finds x.
   pub considers_below : (stage : Stage) → (stage ≢ Announce → announce_of w.memory q ≡ x) → OfConsidered stage (IsBelowFloor num w.n q x floor)
-      → OfNext (effect_of object w.n mine stage (w.memory (place_of w.n p mine stage)) (beside w.memory mine stage)).stage
+      → OfNext (effect_of object w.n mine stage (w.memory (place_of w.n p mine stage)) w.memory).stage
       (IsBelowFloor num w.n q x floor)
   considers_below Announce known h = tt
   considers_below (ScanHead r best b) known h = tt
-  considers_below (ScanSeq r best b y) known h = elim (lt_cases (r + 1) w.n) [ inl more ↦ rw more.1 tt | inr done ↦ rw done.1 tt ]
+  considers_below (ScanSeq r best b y) known h = elim (lt_cases b (seq_of w.memory y)) [ inl better ↦ rw better.1 (goes_on y (seq_of w.memory y)) | inr worse ↦ rw worse.1 (goes_on best b) ] where
+    goes_on : (found : Name) (top : ℕ) → OfNext (Some (next_in_scan w.n r found top)) (IsBelowFloor num w.n q x floor)
+    goes_on found top = elim (lt_cases (r + 1) w.n) [ inl more ↦ rw more.1 tt | inr done ↦ rw done.1 tt ]
   considers_below (WriteScan best b) known h = tt
   considers_below (Test c s) known h = elim (number_cases (seq_of w.memory mine) 0) [ inl none ↦ rw none.1 tt | inr some ↦ rw some.1 tt ]
   considers_below (ReadAnnounce c s) known h = λ none other its_turn. absurd (other (ap (announce_of w.memory) its_turn ∙ known (λ e. cc)))

@@ -7,7 +7,7 @@ use Rattle.uni_model.specs.AtomicObject.{set_at}
 use Rattle.uni_model.specs.Places.Name.{Of}
 use Rattle.uni_model.specs.Stages.{Pending}
 use Rattle.uni_model.specs.Stages.Stage.{Announce}
-use Rattle.uni_model.specs.Transition.{place_of, turn_of, beside}
+use Rattle.uni_model.specs.Transition.{place_of, turn_of}
 use Rattle.uni_model.specs.Effects.{effect_of}
 use Rattle.uni_model.specs.Worlds.{WorldOf, Event, world_after_step, anchor_memory, world_after_era, last_cell, world_after, world_after_all, IsAccepted, AreAccepted, IsQuiescent}
 use Rattle.uni_model.specs.Worlds.Event.{Call, Step, Trim, Reshape}
@@ -32,7 +32,7 @@ module _ {S I R : Type 0} (object : Sequential S I R) where
       let moved = leads object w inv.0 inv.1 inv.2 p d.mine d.stage is d.stage (inv.2.stands p d is) in
       let own = IsCounted-pending w counts p d is in
       let place = place_of w.n p d.mine d.stage in
-      let e = effect_of object w.n d.mine d.stage (w.memory place) (beside w.memory d.mine d.stage) in
+      let e = effect_of object w.n d.mine d.stage (w.memory place) w.memory in
       let inside = inv.2.calls.process p d is in
       let on = advances object w inv.0 inv.1 inv.2 inv.3 p d.mine inside (inv.2.calls.head p inside) moved.0 moved.3.numbers d.stage is (inv.2.stands p d is) (inv.3.each p d is) own.1 in
       let considers = considers_below object w inv.0 inv.1 inv.2 p d.mine q (Of q k) floor d.stage in (

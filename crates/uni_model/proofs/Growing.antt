@@ -10,7 +10,8 @@ use Rattle.uni_model.specs.Places.Name.{Anchor, Of}
 use Rattle.uni_model.specs.Stages.{Pending}
 use Rattle.uni_model.specs.Chain.{cells_from, invoked_at, Entry, entries_from, response_in}
 use Rattle.uni_model.specs.AtomicObject.{Invoked}
-use Rattle.uni_model.specs.Worlds.{WorldOf, Event, chain, era_calls, world_after, world_after_step, world_after_all, IsAccepted, AreAccepted, calls_in_era}
+use Rattle.uni_model.specs.Worlds.{WorldOf, Event, chain, world_after, world_after_step, world_after_all, IsAccepted, AreAccepted, calls_in_era}
+use Rattle.uni_model.specs.Counting.{era_calls}
 use Rattle.uni_model.specs.Worlds.Event.{Call, Step, Trim, Reshape}
 use Rattle.uni_model.specs.History.{log}
 use Rattle.uni_model.specs.Settled.{Grows}

@@ -6,10 +6,11 @@ use Rattle.uni_model.specs.Places.{Name, Memory, memory_with, seq_of, after_of, 
 use Rattle.uni_model.specs.AtomicObject.{set_at}
 use Rattle.uni_model.specs.Places.Name.{Anchor, Of}
 use Rattle.uni_model.specs.Stages.{Pending}
-use Rattle.uni_model.specs.Transition.{place_of, turn_of, beside}
+use Rattle.uni_model.specs.Transition.{place_of, turn_of}
 use Rattle.uni_model.specs.Effects.{effect_of}
 use Rattle.uni_model.specs.Chain.{cells_from, last_of}
-use Rattle.uni_model.specs.Worlds.{WorldOf, Event, world_after_step, world_after_call, opened_world, anchor_memory, world_after_era, world_after, world_after_all, last_cell, era_calls, IsAccepted, AreAccepted, IsQuiescent}
+use Rattle.uni_model.specs.Worlds.{WorldOf, Event, world_after_step, world_after_call, opened_world, anchor_memory, world_after_era, world_after, world_after_all, last_cell, IsAccepted, AreAccepted, IsQuiescent}
+use Rattle.uni_model.specs.Counting.{era_calls}
 use Rattle.uni_model.specs.Worlds.Event.{Call, Step, Trim, Reshape}
 use Rattle.uni_model.specs.Invariant.{IsNumbered, IsSound, Invariant}
 use Rattle.uni_model.specs.Growth.{EndsNoEra}
@@ -26,7 +27,7 @@ module _ {S I R : Type 0} (object : Sequential S I R) where
   Invariant-world_after_step w p c is inv =
       let moved = leads object w inv.0 inv.1 inv.2 p c.mine c.stage is c.stage (inv.2.stands p c is) in
       let place = place_of w.n p c.mine c.stage in
-      let e = effect_of object w.n c.mine c.stage (w.memory place) (beside w.memory c.mine c.stage) in (
+      let e = effect_of object w.n c.mine c.stage (w.memory place) w.memory in (
         (
           moved.0,
           moved.1,

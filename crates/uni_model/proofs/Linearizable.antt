@@ -1,15 +1,17 @@
 -- What is observed of a run is linearizable: its history has the linearization points.
-use Rattle.std.proofs.Common.{◌≡◌, ◌∙◌, ℕ, refl, ap, List, [], ◌∷◌, ◌++◌, map, drop, length, Option, Some, None}
+use Rattle.std.proofs.Common.{◌≡◌, ◌∙◌, ℕ, ◌≤◌, refl, sym, ap, List, [], ◌∷◌, ◌++◌, map, drop, length, Option, Some, None}
 use Rattle.std.specs.Option.{option_map_or}
 use Rattle.seq_object.specs.Sequential.{Sequential}
 use Rattle.uni_model.specs.Places.{Name, Memory}
 use Rattle.uni_model.specs.Stages.{Pending}
-use Rattle.uni_model.specs.Worlds.{WorldOf, Event, opened_world, world_after, response_of_call}
+use Rattle.uni_model.specs.Worlds.{WorldOf, Event, opened_world, world_after, AreAccepted}
+use Rattle.uni_model.specs.Transition.{response_after}
 use Rattle.uni_model.specs.Worlds.Event.{Call, Step, Trim, Reshape}
+use Rattle.uni_model.specs.Chain.{Entry}
 use Rattle.uni_model.specs.AtomicObject.{Act, Invoked}
 use Rattle.uni_model.specs.AtomicObject.Act.{Invoke, Linearize, Respond}
-use Rattle.uni_model.specs.History.{calls_of, responses_of, acts_of, history_of}
-use Rattle.uni_model.specs.Linearizable.{observed, observed_at, observed_in, ObservesLinearizable}
+use Rattle.uni_model.specs.History.{calls_of, responses_of, acts_of, history_of, log_of_run}
+use Rattle.uni_model.specs.Linearizable.{observed, observed_at, observed_in, IsLinearizedAs, ObservesLinearizable}
 use Rattle.uni_model.proofs.Linearized.{IsLinearizable-holds}
 
 module _ {I R : Type 0} where
@@ -32,7 +34,7 @@ module _ {S I R : Type 0} (object : Sequential S I R) where
     by_cell (Some c) = refl
 
   abbrev responses_by : WorldOf S I R → ℕ → Option Pending → List (Act I R)
-  responses_by w p o = option_map_or (λ call. responses_of w.memory p call.mine (response_of_call w call)) o []
+  responses_by w p o = option_map_or (λ call. responses_of w.memory p call.mine (response_after call.mine call.stage w.memory)) o []
 
   observed-acts_of : (w : WorldOf S I R) (e : Event I) → observed (acts_of object w e) ≡ observed_at w e
   observed-acts_of w (Call p i) = refl
@@ -42,7 +44,7 @@ module _ {S I R : Type 0} (object : Sequential S I R) where
       ∙ by_call (w.call p) where
         by_call : (o : Option Pending) → observed (responses_by w p o) ≡ responses_by w p o
         by_call None = refl
-        by_call (Some call) = observed-responses w.memory p call.mine (response_of_call w call)
+        by_call (Some call) = observed-responses w.memory p call.mine (response_after call.mine call.stage w.memory)
   observed-acts_of w Trim = refl
   observed-acts_of w (Reshape n) = refl
 
@@ -53,7 +55,13 @@ module _ {S I R : Type 0} (object : Sequential S I R) where
       ∙ ap (λ acts. acts ++ observed (history_of object (world_after object w e) es)) (observed-acts_of w e)
       ∙ ap (λ acts. observed_at w e ++ acts) (observed-history_of (world_after object w e) es)
 
+  -- what is observed of a run is linearizable in the order of the joined log
+  pub IsLinearizedAs-holds : (n : ℕ) (start : S) (number : ℕ) (events : List (Event I)) → 1 ≤ number → AreAccepted object (opened_world n start number) events
+      → IsLinearizedAs object start (observed_in object (opened_world n start number) events) (map (λ (e : Entry I R). e.call) (log_of_run object (opened_world n start number) events))
+  IsLinearizedAs-holds n start number events positive ok =
+      let shown = IsLinearizable-holds object n start number events positive ok in
+      (history_of object (opened_world n start number) events, shown.0, observed-history_of (opened_world n start number) events, shown.2, sym shown.1.agreed)
+
   pub ObservesLinearizable-holds : (n : ℕ) (start : S) (number : ℕ) (events : List (Event I)) → ObservesLinearizable object n start number events
   ObservesLinearizable-holds n start number events positive ok =
-      let shown = IsLinearizable-holds object n start number events positive ok in
-      (history_of object (opened_world n start number) events, observed-history_of (opened_world n start number) events, shown.0, shown.2)
+      (map (λ (e : Entry I R). e.call) (log_of_run object (opened_world n start number) events), IsLinearizedAs-holds n start number events positive ok)

@@ -7,7 +7,8 @@ use Rattle.seq_object.specs.History.{state_after}
 use Rattle.uni_model.specs.Places.{Name, Memory, seq_of}
 use Rattle.uni_model.specs.Places.Name.{Anchor, Of}
 use Rattle.uni_model.specs.Chain.{Entry, cells_from}
-use Rattle.uni_model.specs.Worlds.{WorldOf, Event, IsQuiescent, anchor_memory, chain, era_calls, opened_world, world_after, world_after_era, world_after_all, AreAccepted}
+use Rattle.uni_model.specs.Worlds.{WorldOf, Event, IsQuiescent, anchor_memory, chain, opened_world, world_after, world_after_era, world_after_all, AreAccepted}
+use Rattle.uni_model.specs.Counting.{era_calls}
 use Rattle.uni_model.specs.Worlds.Event.{Call, Step, Trim, Reshape}
 use Rattle.uni_model.specs.AtomicObject.{Atomic, AcceptsAll, at_start, Invoked}
 use Rattle.uni_model.specs.History.{Shows, open_at, log, log_of_run, calls_of, invocations_of, history_of, acts_of}

@@ -9,7 +9,8 @@ use Rattle.uni_model.specs.Places.{Name, seq_of, after_of, new_of, before_of}
 use Rattle.uni_model.specs.Places.Name.{Anchor, Of}
 use Rattle.uni_model.specs.Chain.{cells_from, last_of}
 use Rattle.uni_model.specs.AtomicObject.{Invoked}
-use Rattle.uni_model.specs.Worlds.{WorldOf, chain, last_cell, era_calls}
+use Rattle.uni_model.specs.Worlds.{WorldOf, chain, last_cell}
+use Rattle.uni_model.specs.Counting.{era_calls}
 use Rattle.uni_model.specs.Invariant.{IsSound, Invariant}
 use Rattle.uni_model.specs.OneList.{value_at, IsOneList, HasOneList, IsLegalLog, HasLegalLog}
 use Rattle.uni_model.proofs.Chains.{calls_at, number_at, slice_get-cells_from, length-cells_from, slice_get-calls_at, invoked_past_anchor, response_at-calls_at}

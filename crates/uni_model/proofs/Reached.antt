@@ -9,9 +9,10 @@ use Rattle.uni_model.specs.Places.Name.{Anchor, Of}
 use Rattle.uni_model.specs.Places.Place.{HeadOf}
 use Rattle.uni_model.specs.Stages.{Stage, Pending}
 use Rattle.uni_model.specs.Stages.Stage.{Announce, ScanHead, ScanSeq, WriteScan, Test, ReadAnnounce, ReadHelpSeq, DecideAfter, DecideNew, WriteBefore, WriteSeq, WriteHead, Finish}
-use Rattle.uni_model.specs.Transition.{place_of, beside}
+use Rattle.uni_model.specs.Transition.{place_of}
 use Rattle.uni_model.specs.Effects.{effect_of, call_after}
-use Rattle.uni_model.specs.Worlds.{WorldOf, IsQuiescent, last_cell, era_calls, world_after_call}
+use Rattle.uni_model.specs.Worlds.{WorldOf, IsQuiescent, last_cell, world_after_call}
+use Rattle.uni_model.specs.Counting.{era_calls}
 use Rattle.uni_model.specs.Invariant.{Has, Stands, IsSound}
 use Rattle.uni_model.specs.Helping.{SomeHead}
 use Rattle.uni_model.proofs.Written.{lt_cases, set_at-cases, written_same, head_of-memory_with}
@@ -27,7 +28,7 @@ ReachesOwn w = (p k : ℕ) → 1 ≤ seq_of w.memory (Of p k)
 module _ {S I R : Type 0} (object : Sequential S I R) (m : Memory S I R) (num : Name → ℕ) (n p : ℕ) (mine : Name) where
   -- the last step of a call leaves p's head at its cell, or past it
   pub finished : (stage : Stage) → Stands m num n p mine stage
-      → let e = effect_of object n mine stage (m (place_of n p mine stage)) (beside m mine stage) in
+      → let e = effect_of object n mine stage (m (place_of n p mine stage)) m in
       let later = memory_with m (place_of n p mine stage) e.content in
       e.stage ≡ None → seq_of later mine ≤ head_seq later p
   finished Announce stands done = cc

@@ -6,7 +6,8 @@ use Rattle.seq_object.specs.Sequential.{Sequential}
 use Rattle.uni_model.specs.Places.{Name, Memory, seq_of, after_of}
 use Rattle.uni_model.specs.Places.Name.{Anchor, Of}
 use Rattle.uni_model.specs.Chain.{cells_from, last_of, Entry}
-use Rattle.uni_model.specs.Worlds.{WorldOf, chain, last_cell, era_calls}
+use Rattle.uni_model.specs.Worlds.{WorldOf, chain, last_cell}
+use Rattle.uni_model.specs.Counting.{era_calls}
 use Rattle.uni_model.specs.History.{log}
 use Rattle.uni_model.specs.Invariant.{IsSound, Invariant}
 use Rattle.uni_model.specs.Growth.{IsFrontOf}

@@ -5,7 +5,8 @@ use Rattle.std.proofs.lemmas.Bool.{cases_lt}
 use Rattle.seq_object.specs.Sequential.{Sequential}
 use Rattle.uni_model.specs.Places.{Name, Memory, head_of, inv_of, seq_of, after_of, new_of}
 use Rattle.uni_model.specs.Places.Name.{Anchor, Of}
-use Rattle.uni_model.specs.Worlds.{WorldOf, IsQuiescent, anchor_memory, last_cell, era_calls, world_after_era}
+use Rattle.uni_model.specs.Worlds.{WorldOf, IsQuiescent, anchor_memory, last_cell, world_after_era}
+use Rattle.uni_model.specs.Counting.{era_calls}
 use Rattle.uni_model.specs.Invariant.{Has, IsSound, Invariant}
 use Rattle.uni_model.proofs.Written.{number_cases}
 use Rattle.uni_model.proofs.Kept.{threaded_when_quiescent, idle_when_quiescent, last_cell_threaded}

@@ -8,9 +8,9 @@ use Rattle.uni_model.specs.Places.{Name, Memory, head_of, head_seq, seq_of}
 use Rattle.uni_model.specs.Places.Name.{Anchor, Of}
 use Rattle.uni_model.specs.Stages.{Stage, Pending}
 use Rattle.uni_model.specs.Stages.Stage.{Announce, ScanHead, ScanSeq, WriteScan, Test, ReadAnnounce, ReadHelpSeq, DecideAfter, DecideNew, WriteBefore, WriteSeq, WriteHead, Finish}
-use Rattle.uni_model.specs.Transition.{beside, response_after}
+use Rattle.uni_model.specs.Transition.{response_after}
 use Rattle.uni_model.specs.Chain.{Entry, invoked_at}
-use Rattle.uni_model.specs.Worlds.{WorldOf, Event, IsQuiescent, anchor_memory, world_after, world_after_call, world_after_step, world_after_era, world_after_all, opened_world, IsAccepted, AreAccepted, without_trims, response_of_call}
+use Rattle.uni_model.specs.Worlds.{WorldOf, Event, IsQuiescent, anchor_memory, world_after, world_after_call, world_after_step, world_after_era, world_after_all, opened_world, IsAccepted, AreAccepted, without_trims}
 use Rattle.uni_model.specs.Worlds.Event.{Call, Step, Trim, Reshape}
 use Rattle.uni_model.specs.AtomicObject.{Act}
 use Rattle.uni_model.specs.AtomicObject.Act.{Linearize}
@@ -112,8 +112,8 @@ module _ {S I R : Type 0} (object : Sequential S I R) where
         omega arith
 
     response_same : (p : ℕ) (o : Option Pending) → u.call p ≡ o
-        → option_and_then (λ (c : Pending). response_after c.stage (beside m c.mine c.stage)) (option_map (pending_renamed rename base) o)
-        ≡ option_and_then (λ (c : Pending). response_after c.stage (beside u.memory c.mine c.stage)) o
+        → option_and_then (λ (c : Pending). response_after c.mine c.stage m) (option_map (pending_renamed rename base) o)
+        ≡ option_and_then (λ (c : Pending). response_after c.mine c.stage u.memory) o
     response_same p None is = refl
     response_same p (Some c) is = (alike object u f.inv m first rename base f.keeps f.counts p c is).response
 
@@ -185,7 +185,7 @@ module _ {S I R : Type 0} (object : Sequential S I R) where
     -- the acts of a step, by what p's call is
     abbrev acts_by : WorldOf S I R → ℕ → Option Pending → List (Act I R)
     acts_by v p o = map Linearize (drop (length (calls_of v)) (calls_of (world_after_step object v p o)))
-        ++ option_map_or (λ call. responses_of v.memory p call.mine (response_of_call v call)) o []
+        ++ option_map_or (λ call. responses_of v.memory p call.mine (response_after call.mine call.stage v.memory)) o []
 
     invoked_same : (x : Name) → IsNew u.memory base x → invoked_at m x ≡ invoked_at u.memory x
     invoked_same Anchor new = refl
@@ -224,11 +224,11 @@ module _ {S I R : Type 0} (object : Sequential S I R) where
         = ap (λ xs. drop (length xs) (calls_of u')) (calls_are u m first rename base f)
         ∙ ap (drop (length (map (λ (e : Entry I R). e.call) (front u m first rename base f) ++ calls_of w))) calls'
         ∙ drop-append (map (λ (e : Entry I R). e.call) (front u m first rename base f)) (calls_of w) (calls_of w') in
-        let responds : responses_of m p c.mine (response_of_call w (pending_renamed rename base c)) ≡ responses_of u.memory p c.mine (response_of_call u c)
+        let responds : responses_of m p c.mine (response_after c.mine (stage_renamed rename base c.stage) m) ≡ responses_of u.memory p c.mine (response_after c.mine c.stage u.memory)
         = ap (responses_of m p c.mine) (alike object u f.inv m first rename base f.keeps f.counts p c is).response ∙ responses_same p c.mine (f.keeps.mine p c is) _ in (
           refl,
           Alike-reached es rest w' u' w'.memory first rename base later same ok (front u m first rename base f) kept,
-          ap (λ xs. map Linearize xs ++ responses_of m p c.mine (response_of_call w (pending_renamed rename base c))) (sym linked)
+          ap (λ xs. map Linearize xs ++ responses_of m p c.mine (response_after c.mine (stage_renamed rename base c.stage) m)) (sym linked)
               ∙ ap (λ rs. map Linearize (drop (length (calls_of u)) (calls_of u')) ++ rs) responds,
         )
 

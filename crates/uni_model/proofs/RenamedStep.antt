@@ -1,5 +1,6 @@
 -- Each kind of step does the same with its cells renamed.
 use Rattle.std.proofs.Common.{◌≡◌, ◌≢◌, ◌∙◌, ℕ, ◌+◌, ◌<◌, ◌≤◌, ◌%◌, inl, inr, refl, sym, ap, subst, Option, Some, None, option_map, option_and_then, arith, unwrap_or}
+use Rattle.std.specs.Option.{option_or}
 use Rattle.seq_object.specs.Sequential.{Sequential}
 use Rattle.uni_model.specs.Places.{Name, Place, Memory, memory_with, inv_of, seq_of, after_of, new_of}
 use Rattle.uni_model.specs.Places.Name.{Anchor}
@@ -7,7 +8,7 @@ use Rattle.uni_model.specs.Places.Place.{Announced, HeadOf, SeqOf, AfterOf, NewO
 use Rattle.uni_model.specs.Places.Content.{Link, Settled}
 use Rattle.uni_model.specs.Stages.{Stage}
 use Rattle.uni_model.specs.Stages.Stage.{Announce, ScanHead, ScanSeq, WriteScan, Test, ReadAnnounce, ReadHelpSeq, DecideAfter, DecideNew, WriteBefore, WriteSeq, WriteHead, Finish}
-use Rattle.uni_model.specs.Transition.{place_of, beside, response_after, turn_of, best_of, stage_after_scan, decision, value_after}
+use Rattle.uni_model.specs.Transition.{place_of, response_after, turn_of, next_in_scan, stage_after_scan, value_after}
 use Rattle.uni_model.specs.Effects.{effect_of, Effect}
 use Rattle.uni_model.specs.Invariant.{IsNumbered, HasBest, AtHead, Stands}
 use Rattle.uni_model.specs.Helping.{Finds}
@@ -58,10 +59,10 @@ module _ {S I R : Type 0} (object : Sequential S I R) (m' m : Memory S I R) (n :
     (p : ℕ) (mine : Name) where
   -- what the step comes to in each memory
   abbrev pub effect : Stage → Effect S I R
-  effect stage = effect_of object n mine stage (m (place_of n p mine stage)) (beside m mine stage)
+  effect stage = effect_of object n mine stage (m (place_of n p mine stage)) m
 
   abbrev pub effect_renamed : Stage → Effect S I R
-  effect_renamed stage = let k = stage_renamed rename base stage in effect_of object n mine k (m' (place_of n p mine k)) (beside m' mine k)
+  effect_renamed stage = let k = stage_renamed rename base stage in effect_of object n mine k (m' (place_of n p mine k)) m'
 
   abbrev pub memory_later : Stage → Memory S I R
   memory_later stage = memory_with m (place_of n p mine stage) (effect stage).content
@@ -70,7 +71,7 @@ module _ {S I R : Type 0} (object : Sequential S I R) (m' m : Memory S I R) (n :
   pub record StepsAlike (stage : Stage) : Type 0 where
     pub stage_same : (effect_renamed stage).stage ≡ option_map (stage_renamed rename base) (effect stage).stage
     pub turn : turn_of (stage_renamed rename base stage) (m' (place_of n p mine (stage_renamed rename base stage))) ≡ turn_of stage (m (place_of n p mine stage))
-    pub response : response_after (stage_renamed rename base stage) (beside m' mine (stage_renamed rename base stage)) ≡ response_after stage (beside m mine stage)
+    pub response : response_after mine (stage_renamed rename base stage) m' ≡ response_after mine stage m
     pub memory : IsRenamed (memory_with m' (place_of n p mine (stage_renamed rename base stage)) (effect_renamed stage).content) (memory_later stage) n rename base
     pub still_new : (x : Name) → IsNew m base x → IsNew (memory_later stage) base x
 
@@ -115,13 +116,12 @@ module _ {S I R : Type 0} (object : Sequential S I R) (m' m : Memory S I R) (n :
     recent_c : (c : Name) (s : ℕ) → AtHead m p c s → base ≤ s → IsRecent m base c
     recent_c c s h past = inr (subst (λ k. base ≤ k) (sym h.seq) past)
 
-    -- the best cell so far, where one more head is compared
-    better : (q : ℕ) (best : Name) (b : ℕ) (h : Name) → HasBest m q best b → 1 ≤ seq_of m h → let s = seq_of m h in
-        (best_of (at_least base b) (at_least base s) (rename h) (rename best) ≡ rename (best_of b s h best))
-        × (best_of (at_least base b) (at_least base s) (at_least base s) (at_least base b) ≡ at_least base (best_of b s s b))
-    better q best b h has some = elim (lt_cases b (seq_of m h)) [
+    -- one more head is compared with the best cell so far
+    scanned : (q : ℕ) (best : Name) (b : ℕ) (h : Name) → HasBest m q best b → 1 ≤ seq_of m h
+        → stage_after_scan n q (rename best) (at_least base b) (rename h) (at_least base (seq_of m h)) ≡ stage_renamed rename base (stage_after_scan n q best b h (seq_of m h))
+    scanned q best b h has some = elim (lt_cases b (seq_of m h)) [
       | inl less ↦ elim (lt_cases (at_least base b) (at_least base (seq_of m h))) [
-        | inl seen ↦ rw (less.1, seen.1) (refl, refl)
+        | inl seen ↦ rw (less.1, seen.1) (goes_on h (seq_of m h))
         | inr unseen ↦
             let both = at_least-same base b (seq_of m h) less.0 unseen.0 in
             let old_h : rename h ≡ Anchor = r.old h some both.2 in
@@ -129,22 +129,15 @@ module _ {S I R : Type 0} (object : Sequential S I R) (m' m : Memory S I R) (n :
               | inl none ↦ absurd (let zero_b = none.1 in let some_b = both.0 in omega arith)
               | inr found ↦ r.old best (let number = found.1 in let positive = found.0 in omega arith) (let number = found.1 in let most = both.1 in omega arith)
             ] in
-            rw (less.1, unseen.1) (old_best ∙ sym old_h, both.3)
+            rw (less.1, unseen.1) (ap (λ x. next_in_scan n q x (at_least base b)) (old_best ∙ sym old_h) ∙ ap (next_in_scan n q (rename h)) both.3 ∙ goes_on h (seq_of m h))
       ]
       | inr more ↦ elim (lt_cases (at_least base b) (at_least base (seq_of m h))) [
         | inl seen ↦ absurd (let le = at_least-le base (seq_of m h) b some more.0 in let less = seen.0 in omega arith)
-        | inr unseen ↦ rw (more.1, unseen.1) (refl, refl)
+        | inr unseen ↦ rw (more.1, unseen.1) (goes_on best b)
       ]
-    ]
-
-    scanned : (q : ℕ) (best : Name) (b : ℕ) (h : Name) → HasBest m q best b → 1 ≤ seq_of m h
-        → stage_after_scan n q (rename best) (at_least base b) (rename h) (at_least base (seq_of m h)) ≡ stage_renamed rename base (stage_after_scan n q best b h (seq_of m h))
-    scanned q best b h has some =
-        let both = better q best b h has some in
-        elim (lt_cases (q + 1) n) [
-          | inl more ↦ rw (more.1, both.0, both.1) refl
-          | inr done ↦ rw (done.1, both.0, both.1) refl
-        ]
+    ] where
+      goes_on : (found : Name) (top : ℕ) → next_in_scan n q (rename found) (at_least base top) ≡ stage_renamed rename base (next_in_scan n q found top)
+      goes_on found top = elim (lt_cases (q + 1) n) [ inl on ↦ rw on.1 refl | inr done ↦ rw done.1 refl ]
 
     -- each kind of step
     pub steps_alike : (stage : Stage) → Stands m num n p mine stage → Finds m n stage turns base → HasTurns stage turns → StepsAlike stage
@@ -220,21 +213,21 @@ module _ {S I R : Type 0} (object : Sequential S I R) (m' m : Memory S I R) (n :
           stage_same = ap (λ o. Some (DecideNew (rename c) s (unwrap_or o prefer))) (r.after c recent);
           turn = refl;
           response = refl;
-          memory = subst (λ o. IsRenamed (memory_with m' (AfterOf (rename c)) (Link (decision o (Some prefer)))) (memory_later (DecideAfter c s prefer)) n rename base)
-              (sym (r.after c recent)) (IsRenamed-after m' m n rename base r c (decision (after_of m c) (Some prefer)) recent);
+          memory = subst (λ o. IsRenamed (memory_with m' (AfterOf (rename c)) (Link (option_or o (Some prefer)))) (memory_later (DecideAfter c s prefer)) n rename base)
+              (sym (r.after c recent)) (IsRenamed-after m' m n rename base r c (option_or (after_of m c) (Some prefer)) recent);
           still_new = λ x h. h;
         }
     steps_alike (DecideNew c s d) stands finds has =
         let recent : IsRecent m base c = recent_c c s stands.0 (omega arith) in
         let new_d : IsNew m base d = new_after c d s stands.0.seq (omega arith) stands.1 in
-        let same : decision (new_of m' d) (value_after object (new_of m' (rename c)) (inv_of m' d)) ≡ decision (new_of m d) (value_after object (new_of m c) (inv_of m d))
-        = rw (r.new d new_d, r.inv d new_d) (ap (decision (new_of m d)) (value_after-state object (new_of m' (rename c)) (new_of m c) (inv_of m d) (r.state c recent))) in
+        let same : option_or (new_of m' d) (value_after object (new_of m' (rename c)) (inv_of m' d)) ≡ option_or (new_of m d) (value_after object (new_of m c) (inv_of m d))
+        = rw (r.new d new_d, r.inv d new_d) (ap (option_or (new_of m d)) (value_after-state object (new_of m' (rename c)) (new_of m c) (inv_of m d) (r.state c recent))) in
         record {
           stage_same = refl;
           turn = refl;
           response = refl;
           memory = subst (λ v. IsRenamed (memory_with m' (NewOf d) (Settled v)) (memory_later (DecideNew c s d)) n rename base) (sym same)
-              (IsRenamed-value m' m n rename base r d (decision (new_of m d) (value_after object (new_of m c) (inv_of m d))) new_d);
+              (IsRenamed-value m' m n rename base r d (option_or (new_of m d) (value_after object (new_of m c) (inv_of m d))) new_d);
           still_new = λ x h. h;
         }
     steps_alike (WriteBefore c s d) stands finds has = record {

@@ -7,7 +7,7 @@ use Rattle.uni_model.specs.AtomicObject.{set_at}
 use Rattle.uni_model.specs.Places.Name.{Of}
 use Rattle.uni_model.specs.Stages.{Stage, Pending}
 use Rattle.uni_model.specs.Stages.Stage.{Announce}
-use Rattle.uni_model.specs.Transition.{place_of, beside, turn_of}
+use Rattle.uni_model.specs.Transition.{place_of, turn_of}
 use Rattle.uni_model.specs.Effects.{effect_of, call_after}
 use Rattle.uni_model.specs.Worlds.{WorldOf, world_after_call, world_after_step}
 use Rattle.uni_model.specs.Helping.{SomeHead, Finds, HelpingInvariant}
@@ -73,7 +73,7 @@ module _ {S I R : Type 0} (object : Sequential S I R) (u : WorldOf S I R) (inv :
         let moved = leads object u inv.0 inv.1 inv.2 p c.mine c.stage is c.stage (inv.2.stands p c is) in
         let own = IsCounted-pending u counts p c is in
         let place = place_of u.n p c.mine c.stage in
-        let e = effect_of object u.n c.mine c.stage (u.memory place) (beside u.memory c.mine c.stage) in
+        let e = effect_of object u.n c.mine c.stage (u.memory place) u.memory in
         let inside = inv.2.calls.process p c is in
         let threaded = inv.2.calls.head p inside in
         let helped = inv.3.each p c is in
@@ -94,7 +94,7 @@ module _ {S I R : Type 0} (object : Sequential S I R) (u : WorldOf S I R) (inv :
         let moved = leads object u inv.0 inv.1 inv.2 p c.mine c.stage is c.stage (inv.2.stands p c is) in
         let own = IsCounted-pending u counts p c is in
         let place = place_of u.n p c.mine c.stage in
-        let e = effect_of object u.n c.mine c.stage (u.memory place) (beside u.memory c.mine c.stage) in
+        let e = effect_of object u.n c.mine c.stage (u.memory place) u.memory in
         let inside = inv.2.calls.process p c is in
         let on = advances object u inv.0 inv.1 inv.2 inv.3 p c.mine inside (inv.2.calls.head p inside) moved.0 moved.3.numbers c.stage is (inv.2.stands p c is) (inv.3.each p c is) own.1 in
         record {
@@ -115,7 +115,7 @@ module _ {S I R : Type 0} (object : Sequential S I R) (u : WorldOf S I R) (inv :
     ReachesOwn-step reaches =
         let moved = leads object u inv.0 inv.1 inv.2 p c.mine c.stage is c.stage (inv.2.stands p c is) in
         let place = place_of u.n p c.mine c.stage in
-        let e = effect_of object u.n c.mine c.stage (u.memory place) (beside u.memory c.mine c.stage) in
+        let e = effect_of object u.n c.mine c.stage (u.memory place) u.memory in
         ReachesOwn-moved object u inv.0 inv.1 inv.2 reaches p c.mine c.stage is later.memory moved.0 moved.1 e.stage moved.3 rises
         (finished object u.memory inv.0 u.n p c.mine c.stage (inv.2.stands p c is))
 

@@ -1,11 +1,12 @@
 -- What a step reads beside its one place is settled, and is told by the places that the definitions name.
 use Rattle.std.proofs.Common.{◌≡◌, ◌∙◌, ℕ, ◌≤◌, refl, sym, ap, subst, Option, option_and_then, Some, None, IfSome}
 use Rattle.seq_object.specs.Sequential.{Sequential}
-use Rattle.uni_model.specs.Places.{Name, Memory, inv_of, new_of, invocation_in, settled_in}
+use Rattle.uni_model.specs.Places.{Name, Content, Memory, inv_of, new_of, invocation_in, settled_in}
+use Rattle.std.specs.Option.{option_or}
+use Rattle.uni_model.specs.Places.Content.{Settled}
 use Rattle.uni_model.specs.Stages.{Stage, Pending}
 use Rattle.uni_model.specs.Stages.Stage.{Announce, ScanHead, ScanSeq, WriteScan, Test, ReadAnnounce, ReadHelpSeq, DecideAfter, DecideNew, WriteBefore, WriteSeq, WriteHead, Finish}
-use Rattle.uni_model.specs.Transition.{Beside, places_beside}
-use Rattle.uni_model.specs.Transition.Beside.{ForValue, ForResponse}
+use Rattle.uni_model.specs.Transition.{places_beside, value_after}
 use Rattle.uni_model.specs.Worlds.{WorldOf}
 use Rattle.uni_model.specs.Invariant.{IsSound, Invariant, Stands}
 use Rattle.uni_model.specs.Settled.{AreSettledPlaces, SeesSettled, SeesOnly}
@@ -36,18 +37,21 @@ SeesSettled-held object w inv p = by_call (w.call p) refl where
   by_call None is = tt
   by_call (Some c) is = settled_beside object w inv.0 inv.1 inv.2 p c.mine c.stage is (inv.2.stands p c is)
 
-pub SeesOnly-holds : {S I R : Type 0} (m m' : Memory S I R) (mine : Name) (stage : Stage) → SeesOnly m m' mine stage
-SeesOnly-holds m m' mine Announce same = refl
-SeesOnly-holds m m' mine (ScanHead q best s) same = refl
-SeesOnly-holds m m' mine (ScanSeq q best s x) same = refl
-SeesOnly-holds m m' mine (WriteScan best s) same = refl
-SeesOnly-holds m m' mine (Test c s) same = refl
-SeesOnly-holds m m' mine (ReadAnnounce c s) same = refl
-SeesOnly-holds m m' mine (ReadHelpSeq c s help) same = refl
-SeesOnly-holds m m' mine (DecideAfter c s prefer) same = refl
-SeesOnly-holds {S} {I} {R} m m' mine (DecideNew c s d) same =
-    ap (λ o. let b : Beside S I R = ForValue o (new_of m' c) in b) (ap invocation_in same.0) ∙ ap (λ o. let b : Beside S I R = ForValue (inv_of m d) o in b) (ap settled_in same.1.0)
-SeesOnly-holds m m' mine (WriteBefore c s d) same = refl
-SeesOnly-holds m m' mine (WriteSeq c s d) same = refl
-SeesOnly-holds m m' mine (WriteHead c s d) same = refl
-SeesOnly-holds {S} {I} {R} m m' mine (Finish s t) same = ap (λ o. let b : Beside S I R = ForResponse o in b) (ap (λ v. option_and_then (λ (new : S × Option R). new.1) (settled_in v)) same.0)
+pub SeesOnly-holds : {S I R : Type 0} (object : Sequential S I R) (m m' : Memory S I R) (mine : Name) (stage : Stage) → SeesOnly object m m' mine stage
+SeesOnly-holds object m m' mine Announce same = (λ v. refl, refl)
+SeesOnly-holds object m m' mine (ScanHead q best s) same = (λ v. refl, refl)
+SeesOnly-holds object m m' mine (ScanSeq q best s x) same = (λ v. refl, refl)
+SeesOnly-holds object m m' mine (WriteScan best s) same = (λ v. refl, refl)
+SeesOnly-holds object m m' mine (Test c s) same = (λ v. refl, refl)
+SeesOnly-holds object m m' mine (ReadAnnounce c s) same = (λ v. refl, refl)
+SeesOnly-holds object m m' mine (ReadHelpSeq c s help) same = (λ v. refl, refl)
+SeesOnly-holds object m m' mine (DecideAfter c s prefer) same = (λ v. refl, refl)
+SeesOnly-holds {S} {I} {R} object m m' mine (DecideNew c s d) same = (
+  (λ v. ap (λ o. let x : Content S I R = Settled (option_or (settled_in v) (value_after object o (inv_of m' d))) in x) (ap settled_in same.1.0)
+      ∙ ap (λ o. let x : Content S I R = Settled (option_or (settled_in v) (value_after object (new_of m c) o)) in x) (ap invocation_in same.0)),
+  refl,
+)
+SeesOnly-holds object m m' mine (WriteBefore c s d) same = (λ v. refl, refl)
+SeesOnly-holds object m m' mine (WriteSeq c s d) same = (λ v. refl, refl)
+SeesOnly-holds object m m' mine (WriteHead c s d) same = (λ v. refl, refl)
+SeesOnly-holds {S} {I} {R} object m m' mine (Finish s t) same = (λ v. refl, ap (λ v. option_and_then (λ (new : S × Option R). new.1) (settled_in v)) same.0)

@@ -1,6 +1,6 @@
 -- The atomic object accepts what each event does.
 use Rattle.std.proofs.Common.{◌≡◌, ◌≢◌, ◌∙◌, ℕ, ◌+◌, ◌-◌, ◌<◌, ◌≤◌, ◌⊎◌, inl, inr, refl, sym, ap, subst, List, [], ◌∷◌, ◌++◌, map, drop, length, slice_get, Option, Some, None, option_map, arith, Contains, unwrap_or, nat_eq, Bool, true, false, cond, take, ◌%◌}
-use Rattle.std.specs.Option.{option_map_or}
+use Rattle.std.specs.Option.{option_map_or, option_or}
 use Rattle.std.proofs.lemmas.Bool.{cases_lt}
 use Rattle.std.proofs.lemmas.Option.{slice_get-map}
 use Rattle.std.proofs.lemmas.List.Elements.{All-contains, All-from_recursion}
@@ -12,10 +12,11 @@ use Rattle.uni_model.specs.Places.Place.{AfterOf, InvOf}
 use Rattle.uni_model.specs.Places.Content.{Invocation, Link}
 use Rattle.uni_model.specs.Stages.{Stage, Pending}
 use Rattle.uni_model.specs.Stages.Stage.{Announce, ScanHead, ScanSeq, WriteScan, Test, ReadAnnounce, ReadHelpSeq, DecideAfter, DecideNew, WriteBefore, WriteSeq, WriteHead, Finish}
-use Rattle.uni_model.specs.Transition.{place_of, decision, turn_of, beside, response_after}
+use Rattle.uni_model.specs.Transition.{place_of, turn_of, response_after}
 use Rattle.uni_model.specs.Effects.{effect_of, call_after}
 use Rattle.uni_model.specs.Chain.{invoked_at, response_in}
-use Rattle.uni_model.specs.Worlds.{WorldOf, world_after_step, world_after_call, chain, era_calls, sum_below, world_after, calls_in_era, response_of_call}
+use Rattle.uni_model.specs.Worlds.{WorldOf, world_after_step, world_after_call, chain, sum_below, world_after, calls_in_era}
+use Rattle.uni_model.specs.Counting.{era_calls}
 use Rattle.uni_model.specs.Worlds.Event.{Call, Step}
 use Rattle.uni_model.specs.AtomicObject.{Atomic, Act, AcceptsAll, set_at, Invoked}
 use Rattle.uni_model.specs.AtomicObject.Act.{Linearize}
@@ -106,10 +107,10 @@ module _ {S I R : Type 0} (object : Sequential S I R) (w : WorldOf S I R) (num :
 
       -- the acts of a step
       abbrev pub acts : List (Act I R)
-      acts = map Linearize (drop (length (calls_of w)) (calls_of later)) ++ responses_of w.memory p mine (response_after from (beside w.memory mine from))
+      acts = map Linearize (drop (length (calls_of w)) (calls_of later)) ++ responses_of w.memory p mine (response_after mine from w.memory)
 
       -- a step that links nothing and ends nothing
-      pub silent : ((x : Name) → after_of m x ≡ after_of w.memory x) → (k : Stage) → stage ≡ Some k → response_after from (beside w.memory mine from) ≡ None
+      pub silent : ((x : Name) → after_of m x ≡ after_of w.memory x) → (k : Stage) → stage ≡ Some k → response_after mine from w.memory ≡ None
           → (b : Atomic S I) × Shows later b × AcceptsAll object a acts b
       silent same k on nothing = (
         a,
@@ -118,7 +119,7 @@ module _ {S I R : Type 0} (object : Sequential S I R) (w : WorldOf S I R) (num :
       )
 
       -- the last step of a call
-      pub ends : ((x : Name) → after_of m x ≡ after_of w.memory x) → stage ≡ None → response_after from (beside w.memory mine from) ≡ response_in w.memory mine → 1 ≤ seq_of w.memory mine
+      pub ends : ((x : Name) → after_of m x ≡ after_of w.memory x) → stage ≡ None → response_after mine from w.memory ≡ response_in w.memory mine → 1 ≤ seq_of w.memory mine
           → (b : Atomic S I) × Shows later b × AcceptsAll object a acts b
       ends same done responds threaded =
           let number : seq_of w.memory mine ≡ num mine = sound.numbered.seq mine threaded in
@@ -157,7 +158,7 @@ module _ {S I R : Type 0} (object : Sequential S I R) (w : WorldOf S I R) (num :
                 = slice_get-map (λ (c : Invoked I). c.inv) (calls_at w.memory (chain w)) place ∙ ap (option_map (λ (c : Invoked I). c.inv)) stands in
                 let r : R = object.answer (state_after object a.start (take place (map (λ (c : Invoked I). c.inv) (calls_at w.memory (chain w))))) own.1 in
                 let is_r : response_at object a.start (map (λ (c : Invoked I). c.inv) (calls_at w.memory (chain w))) place ≡ Some r = rw at_place refl in
-                let told : response_after from (beside w.memory mine from) ≡ Some r = responds ∙ rw settled (sym response ∙ is_r) in
+                let told : response_after mine from w.memory ≡ Some r = responds ∙ rw settled (sym response ∙ is_r) in
                 let call : invoked_at w.memory mine ≡ Some (record { process = p; nth = own.0; inv = own.1 }) = own_invoked own.0 own.1 own.2 own.3 in (
                   record a { open_call = set_at a.open_call p None },
                   record { start = start_kept; agreed = calls_kept same ∙ shows.agreed; open_call = open_later; next_nth = shows.next_nth },
@@ -234,7 +235,7 @@ module _ {S I R : Type 0} (object : Sequential S I R) (w : WorldOf S I R) (num :
           let zero : num (Of its.0 its.1) ≡ 0 = subst (λ x. num x ≡ 0) its.2 outside_chain in
           omega arith
 
-      pub linearizes : response_after from (beside w.memory mine from) ≡ None → (b : Atomic S I) × Shows linked_world b
+      pub linearizes : response_after mine from w.memory ≡ None → (b : Atomic S I) × Shows linked_world b
           × AcceptsAll object a (acts linked_memory _ (last + 1) (Some (DecideNew c s prefer)) moves_link steps turns) b
       linearizes nothing = (
         record a { agreed = a.agreed ++ its_call ∷ [] },
@@ -253,22 +254,22 @@ module _ {S I R : Type 0} (object : Sequential S I R) (w : WorldOf S I R) (num :
     Outcome m stage = let steps = set_at w.steps p (w.steps p + 1) in let turns = set_at w.turns p (w.turns p + turn_of from (w.memory (place_of w.n p mine from))) in
         let later : WorldOf S I R = record { n = w.n; memory = m; call = set_at w.call p (call_after mine stage); begun = w.begun; first = w.first; among = w.among; steps = steps; turns = turns } in
         (b : Atomic S I) × Shows later b
-        × AcceptsAll object a (map Linearize (drop (length (calls_of w)) (calls_of later)) ++ responses_of w.memory p mine (response_after from (beside w.memory mine from))) b
+        × AcceptsAll object a (map Linearize (drop (length (calls_of w)) (calls_of later)) ++ responses_of w.memory p mine (response_after mine from w.memory)) b
 
   abbrev pub SimulatesAt : (p : ℕ) → Atomic S I → Option Pending → Type 0
   SimulatesAt p a call =
       let later = world_after_step object w p call in
-      (b : Atomic S I) × Shows later b × AcceptsAll object a (map Linearize (drop (length (calls_of w)) (calls_of later)) ++ option_map_or (λ (c : Pending). responses_of w.memory p c.mine (response_of_call w c)) call []) b
+      (b : Atomic S I) × Shows later b × AcceptsAll object a (map Linearize (drop (length (calls_of w)) (calls_of later)) ++ option_map_or (λ (c : Pending). responses_of w.memory p c.mine (response_after c.mine c.stage w.memory)) call []) b
 
   module _ (p : ℕ) (mine : Name) (a : Atomic S I) (shows : Shows w a) where
     quiet : (stage : Stage) → w.call p ≡ Some (record { mine = mine; stage = stage })
         → let place = place_of w.n p mine stage in
-        let e = effect_of object w.n mine stage (w.memory place) (beside w.memory mine stage) in
-        ((x : Name) → after_of (memory_with w.memory place e.content) x ≡ after_of w.memory x) → (k : Stage) → e.stage ≡ Some k → response_after stage (beside w.memory mine stage) ≡ None
+        let e = effect_of object w.n mine stage (w.memory place) w.memory in
+        ((x : Name) → after_of (memory_with w.memory place e.content) x ≡ after_of w.memory x) → (k : Stage) → e.stage ≡ Some k → response_after mine stage w.memory ≡ None
         → SimulatesAt p a (Some (record { mine = mine; stage = stage }))
     quiet stage is same k on nothing =
         let place = place_of w.n p mine stage in
-        let e = effect_of object w.n mine stage (w.memory place) (beside w.memory mine stage) in
+        let e = effect_of object w.n mine stage (w.memory place) w.memory in
         let moved = leads object w num last sound p mine stage is stage (sound.stands p (record { mine = mine; stage = stage }) is) in
         silent p mine stage is a shows (memory_with w.memory place e.content) moved.0 moved.1 e.stage moved.3
         (set_at w.steps p (w.steps p + 1)) (set_at w.turns p (w.turns p + turn_of stage (w.memory place))) same k on nothing
@@ -276,14 +277,14 @@ module _ {S I R : Type 0} (object : Sequential S I R) (w : WorldOf S I R) (num :
     decides : (c : Name) (s : ℕ) (prefer : Name) → w.call p ≡ Some (record { mine = mine; stage = DecideAfter c s prefer })
         → (o : Option Name) → after_of w.memory c ≡ o → SimulatesAt p a (Some (record { mine = mine; stage = DecideAfter c s prefer }))
     decides c s prefer is (Some d) link = quiet (DecideAfter c s prefer) is same (DecideNew c s (unwrap_or (after_of w.memory c) prefer)) refl refl where
-      same : (x : Name) → after_of (memory_with w.memory (AfterOf c) (Link (decision (after_of w.memory c) (Some prefer)))) x ≡ after_of w.memory x
-      same x = elim (after_of-memory_with w.memory c x (decision (after_of w.memory c) (Some prefer))) [
+      same : (x : Name) → after_of (memory_with w.memory (AfterOf c) (Link (option_or (after_of w.memory c) (Some prefer)))) x ≡ after_of w.memory x
+      same x = elim (after_of-memory_with w.memory c x (option_or (after_of w.memory c) (Some prefer))) [
         | inl h ↦ h.1 ∙ (rw link refl ∙ sym link) ∙ ap (after_of w.memory) (sym h.0)
         | inr h ↦ h.1
       ]
     decides c s prefer is None at_end =
         let h = sound.stands p (record { mine = mine; stage = DecideAfter c s prefer }) is in
-        subst (λ o. Outcome p mine (DecideAfter c s prefer) is a shows (memory_with w.memory (AfterOf c) (Link (decision o (Some prefer)))) (Some (DecideNew c s (unwrap_or o prefer)))) (sym at_end)
+        subst (λ o. Outcome p mine (DecideAfter c s prefer) is a shows (memory_with w.memory (AfterOf c) (Link (option_or o (Some prefer)))) (Some (DecideNew c s (unwrap_or o prefer)))) (sym at_end)
         (linearizes p mine (DecideAfter c s prefer) is a shows c s prefer h.0 h.1 h.2 at_end
         (set_at w.steps p (w.steps p + 1)) (set_at w.turns p (w.turns p + 0)) refl)
 
@@ -291,7 +292,7 @@ module _ {S I R : Type 0} (object : Sequential S I R) (w : WorldOf S I R) (num :
     finishing s t is =
         let h = sound.stands p (record { mine = mine; stage = Finish s t }) is in
         let place = place_of w.n p mine (Finish s t) in
-        let e = effect_of object w.n mine (Finish s t) (w.memory place) (beside w.memory mine (Finish s t)) in
+        let e = effect_of object w.n mine (Finish s t) (w.memory place) w.memory in
         let moved = leads object w num last sound p mine (Finish s t) is (Finish s t) h in
         ends p mine (Finish s t) is a shows (memory_with w.memory place e.content) moved.0 moved.1 e.stage moved.3
         (set_at w.steps p (w.steps p + 1)) (set_at w.turns p (w.turns p + 0)) (λ x. refl) refl refl (subst (λ k. 1 ≤ k) (sym h.2) h.1)

@@ -7,7 +7,8 @@ use Rattle.uni_model.specs.Places.{Name, name_eq, seq_of}
 use Rattle.uni_model.specs.Places.Name.{Anchor, Of}
 use Rattle.uni_model.specs.Stages.{Stage, Pending}
 use Rattle.uni_model.specs.Stages.Stage.{Announce}
-use Rattle.uni_model.specs.Worlds.{WorldOf, Event, chain, era_calls, world_after_step, opened_world, world_after, world_after_all, AreAccepted}
+use Rattle.uni_model.specs.Worlds.{WorldOf, Event, chain, world_after_step, opened_world, world_after, world_after_all, AreAccepted}
+use Rattle.uni_model.specs.Counting.{era_calls}
 use Rattle.uni_model.specs.Worlds.Event.{Call, Step, Trim, Reshape}
 use Rattle.uni_model.specs.Frontier.{frontier, announces, announces_at, floor_of}
 use Rattle.uni_model.specs.Counting.{CountsSteps}

@@ -1,6 +1,7 @@
 -- Each kind of step keeps the invariant.
 use Rattle.std.proofs.Common.{◌≡◌, ◌∙◌, ℕ, ◌+◌, ◌-◌, ◌<◌, ◌≤◌, ◌%◌, ◌⊎◌, inl, inr, refl, sym, ap, subst, Option, Some, None, arith, cond, Bool, true, false, nat_eq, nat_lt, unwrap_or, if◌then◌else◌}
 use Rattle.std.proofs.lemmas.Bool.{cases_lt}
+use Rattle.std.specs.Option.{option_or}
 use Rattle.seq_object.specs.Sequential.{Sequential}
 use Rattle.uni_model.specs.Places.{Name, Place, Content, memory_with, head_of, head_seq, announce_of, seq_of, after_of, new_of, before_of, inv_of, link_in, settled_in}
 use Rattle.uni_model.specs.Places.Name.{Anchor, Of}
@@ -8,7 +9,7 @@ use Rattle.uni_model.specs.Places.Place.{Announced, HeadOf, SeqOf, AfterOf, NewO
 use Rattle.uni_model.specs.Places.Content.{CellName, Invocation, Number, Link, Settled}
 use Rattle.uni_model.specs.Stages.{Stage, Pending}
 use Rattle.uni_model.specs.Stages.Stage.{Announce, ScanHead, ScanSeq, WriteScan, Test, ReadAnnounce, ReadHelpSeq, DecideAfter, DecideNew, WriteBefore, WriteSeq, WriteHead, Finish}
-use Rattle.uni_model.specs.Transition.{place_of, decision, value_after, stage_after_scan, best_of, beside}
+use Rattle.uni_model.specs.Transition.{place_of, value_after, next_in_scan, stage_after_scan}
 use Rattle.uni_model.specs.Effects.{effect_of}
 use Rattle.uni_model.specs.Worlds.{WorldOf, sum_below, calls_in_era}
 use Rattle.uni_model.specs.Invariant.{Has, HasBest, AtHead, IsPast, IsCellOf, Stands, IsSound, can_be_linked}
@@ -118,20 +119,17 @@ module _ {S I R : Type 0} (object : Sequential S I R) (w : WorldOf S I R) (num :
   -- what the scan stands at after it has compared the number of one more head
   scans_on : (q : ℕ) (best : Name) (s : ℕ) (h : Name) → HasBest w.memory q best s → 1 ≤ seq_of w.memory h
       → StandsNext w.memory num w.n p mine (Some (stage_after_scan w.n q best s h (seq_of w.memory h)))
-  scans_on q best s h has threaded = on (better_stands (nat_lt s (seq_of w.memory h)) refl) where
-    better_stands : (b : Bool) → nat_lt s (seq_of w.memory h) ≡ b
-        → (1 ≤ cond b (seq_of w.memory h) s) × (seq_of w.memory (cond b h best) ≡ cond b (seq_of w.memory h) s)
-    better_stands true e = (threaded, refl)
-    better_stands false e = elim has [
-      | inl none ↦ absurd (elim (lt_cases s (seq_of w.memory h)) [ inl less ↦ (let f = less.1 in cc) | inr more ↦ (let z : s ≡ 0 = none.1 in omega arith) ])
-      | inr some ↦ some
-    ]
-
-    on : (1 ≤ best_of s (seq_of w.memory h) (seq_of w.memory h) s) × (seq_of w.memory (best_of s (seq_of w.memory h) h best) ≡ best_of s (seq_of w.memory h) (seq_of w.memory h) s)
-        → StandsNext w.memory num w.n p mine (Some (stage_after_scan w.n q best s h (seq_of w.memory h)))
-    on found = elim (lt_cases (q + 1) w.n) [
-      | inl more ↦ rw more.1 (more.0, inr found)
-      | inr done ↦ rw done.1 found
+  scans_on q best s h has threaded = elim (lt_cases s (seq_of w.memory h)) [
+    | inl less ↦ rw less.1 (on h (seq_of w.memory h) threaded refl)
+    | inr more ↦ rw more.1 (elim has [
+      | inl none ↦ absurd (let z : s ≡ 0 = none.1 in let le = more.0 in omega arith)
+      | inr some ↦ on best s some.0 some.1
+    ])
+  ] where
+    on : (found : Name) (top : ℕ) → 1 ≤ top → seq_of w.memory found ≡ top → StandsNext w.memory num w.n p mine (Some (next_in_scan w.n q found top))
+    on found top positive number = elim (lt_cases (q + 1) w.n) [
+      | inl more ↦ rw more.1 (more.0, inr (positive, number))
+      | inr done ↦ rw done.1 (positive, number)
     ]
 
   -- the number of p's head, at a stage that knows it
@@ -412,7 +410,7 @@ module _ {S I R : Type 0} (object : Sequential S I R) (w : WorldOf S I R) (num :
       (_, _, inr (c, prefer, ap (λ k. DecideAfter c k prefer) number, outside c s prefer h past cell at_end, refl, refl), links c s prefer h past cell at_end)
 
   decides_after : (c : Name) (s : ℕ) (prefer : Name) → AtHead w.memory p c s → IsPast num prefer s → (prefer ≡ mine) ⊎ IsCellOf w.memory (s % w.n) prefer
-      → (v : Content S I R) → w.memory (AfterOf c) ≡ v → Leads (DecideAfter c s prefer) (Link (decision (link_in v) (Some prefer))) (Some (DecideNew c s (unwrap_or (link_in v) prefer))) (AfterOf c)
+      → (v : Content S I R) → w.memory (AfterOf c) ≡ v → Leads (DecideAfter c s prefer) (Link (option_or (link_in v) (Some prefer))) (Some (DecideNew c s (unwrap_or (link_in v) prefer))) (AfterOf c)
   decides_after c s prefer h past cell (Link (Some d)) is_v = reads (AfterOf c) (Link (Some d)) is_v (Some (DecideNew c s d)) (h, ap link_in is_v)
   decides_after c s prefer h past cell (Link None) is_v = links_on c s prefer h past cell (ap link_in is_v)
   decides_after c s prefer h past cell (CellName x) is_v = links_on c s prefer h past cell (ap link_in is_v)
@@ -421,14 +419,14 @@ module _ {S I R : Type 0} (object : Sequential S I R) (w : WorldOf S I R) (num :
   decides_after c s prefer h past cell (Settled x) is_v = links_on c s prefer h past cell (ap link_in is_v)
 
   settles_new : (c : Name) (s : ℕ) (d : Name) → AtHead w.memory p c s → after_of w.memory c ≡ Some d → new_of w.memory d ≡ None
-      → Leads (DecideNew c s d) (Settled (decision None (value_after object (new_of w.memory c) (inv_of w.memory d)))) (Some (WriteBefore c s d)) (NewOf d)
+      → Leads (DecideNew c s d) (Settled (option_or None (value_after object (new_of w.memory c) (inv_of w.memory d)))) (Some (WriteBefore c s d)) (NewOf d)
   settles_new c s d h link unsettled =
       let u = sound.values.threaded c (head_number c s h).0 in
       let i = linked_call c s d h link in
       rw (u.1, i.1) (num, last, inl (refl, refl), settles c s d h link u.0 i.0 u.1 i.1 unsettled)
 
   decides_new : (c : Name) (s : ℕ) (d : Name) → AtHead w.memory p c s → after_of w.memory c ≡ Some d
-      → (v : Content S I R) → w.memory (NewOf d) ≡ v → Leads (DecideNew c s d) (Settled (decision (settled_in v) (value_after object (new_of w.memory c) (inv_of w.memory d)))) (Some (WriteBefore c s d)) (NewOf d)
+      → (v : Content S I R) → w.memory (NewOf d) ≡ v → Leads (DecideNew c s d) (Settled (option_or (settled_in v) (value_after object (new_of w.memory c) (inv_of w.memory d)))) (Some (WriteBefore c s d)) (NewOf d)
   decides_new c s d h link (Settled (Some u)) is_v = reads (NewOf d) (Settled (Some u)) is_v (Some (WriteBefore c s d)) (h, link, (u, ap settled_in is_v))
   decides_new c s d h link (Settled None) is_v = settles_new c s d h link (ap settled_in is_v)
   decides_new c s d h link (CellName x) is_v = settles_new c s d h link (ap settled_in is_v)
@@ -447,7 +445,7 @@ module _ {S I R : Type 0} (object : Sequential S I R) (w : WorldOf S I R) (num :
 
   -- each kind of step
   pub leads : (stage : Stage) → Stands w.memory num w.n p mine stage
-      → let e = effect_of object w.n mine stage (w.memory (place_of w.n p mine stage)) (beside w.memory mine stage) in
+      → let e = effect_of object w.n mine stage (w.memory (place_of w.n p mine stage)) w.memory in
       Leads stage e.content e.stage (place_of w.n p mine stage)
   leads Announce h = (num, last, inl (refl, refl), announces)
   leads (ScanHead q best s) h = reads (HeadOf q) _ refl (Some (ScanSeq q best s (head_of w.memory q))) (h.0, h.1, sound.calls.head q h.0)

@@ -2,7 +2,11 @@
 use Rattle.std.specs.Prelude.{◌≡◌, ℕ, ◌+◌, ◌-◌, ◌*◌, ◌≤◌, Option, None, Some}
 use Rattle.uni_model.specs.Stages.{Stage, Pending}
 use Rattle.uni_model.specs.Stages.Stage.{Announce, ScanHead, ScanSeq, WriteScan, Test, ReadAnnounce, ReadHelpSeq, DecideAfter, DecideNew, WriteBefore, WriteSeq, WriteHead, Finish}
-use Rattle.uni_model.specs.Worlds.{WorldOf}
+use Rattle.uni_model.specs.Worlds.{WorldOf, sum_below, calls_in_era}
+
+-- how many calls the present era has
+abbrev pub era_calls : {S I R : Type 0} → WorldOf S I R → ℕ
+era_calls w = sum_below w.n (calls_in_era w)
 
 -- the own steps that a call has taken when its process stands at a stage, after so many turns: the announcement, two for
 -- each of n heads and the write of the best of them; then eight a turn, and the test that finds the number

@@ -7,7 +7,8 @@ use Rattle.uni_model.specs.Places.{Name, Memory, seq_of, new_of}
 use Rattle.uni_model.specs.Places.Name.{Anchor}
 use Rattle.uni_model.specs.Stages.{Pending}
 use Rattle.uni_model.specs.Chain.{Entry, entries_from, invoked_at}
-use Rattle.uni_model.specs.Worlds.{WorldOf, Event, chain, response_of_call, world_after, world_after_all}
+use Rattle.uni_model.specs.Transition.{response_after}
+use Rattle.uni_model.specs.Worlds.{WorldOf, Event, chain, world_after, world_after_all}
 use Rattle.uni_model.specs.Worlds.Event.{Call, Step, Trim, Reshape}
 use Rattle.uni_model.specs.AtomicObject.{Atomic, Act, Invoked}
 use Rattle.uni_model.specs.AtomicObject.Act.{Invoke, Linearize, Respond}
@@ -31,10 +32,9 @@ logged_call e = record { inv = e.call.inv; response = e.response }
 -- the entries of all eras of a run from w
 abbrev pub log_of_run : {S I R : Type 0} → Sequential S I R → WorldOf S I R → List (Event I) → List (Entry I R)
 log_of_run object w [] = log w
-log_of_run object w (Call p i ∷ es) = log_of_run object (world_after object w (Call p i)) es
-log_of_run object w (Step p ∷ es) = log_of_run object (world_after object w (Step p)) es
 log_of_run object w (Trim ∷ es) = log w ++ log_of_run object (world_after object w Trim) es
 log_of_run object w (Reshape n ∷ es) = log w ++ log_of_run object (world_after object w (Reshape n)) es
+log_of_run object w (e ∷ es) = log_of_run object (world_after object w e) es
 
 -- the open call of a process
 abbrev pub open_at : {S I R : Type 0} → Memory S I R → Option Pending → Option (Invoked I)
@@ -54,7 +54,7 @@ responses_of m p mine (Some r) = option_map_or (λ c. Respond p c.nth r ∷ []) 
 
 -- the response of the next step of a process as an act, where it is the last one of its call
 abbrev pub responses_by : {S I R : Type 0} → WorldOf S I R → ℕ → List (Act I R)
-responses_by w p = option_map_or (λ call. responses_of w.memory p call.mine (response_of_call w call)) (w.call p) []
+responses_by w p = option_map_or (λ call. responses_of w.memory p call.mine (response_after call.mine call.stage w.memory)) (w.call p) []
 
 -- the acts of an event: a call is invoked; what the chain has more takes effect; a call whose last step it is responds
 abbrev pub acts_of : {S I R : Type 0} → Sequential S I R → WorldOf S I R → Event I → List (Act I R)

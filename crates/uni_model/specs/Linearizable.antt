@@ -3,7 +3,7 @@ use Rattle.std.specs.Prelude.{◌≡◌, ℕ, ◌≤◌, List, [], ◌∷◌, �
 use Rattle.seq_object.specs.Sequential.{Sequential}
 use Rattle.uni_model.specs.Worlds.{WorldOf, Event, opened_world, world_after, AreAccepted}
 use Rattle.uni_model.specs.Worlds.Event.{Call, Step}
-use Rattle.uni_model.specs.AtomicObject.{Atomic, Act, AcceptsAll, at_start}
+use Rattle.uni_model.specs.AtomicObject.{Atomic, Act, Invoked, AcceptsAll, at_start}
 use Rattle.uni_model.specs.AtomicObject.Act.{Invoke, Linearize}
 use Rattle.uni_model.specs.History.{responses_by}
 
@@ -25,9 +25,15 @@ observed_in object w [] = []
 observed_in object w (e ∷ es) = observed_at w e ++ observed_in object (world_after object w e) es
 
 module _ {S I R : Type 0} (object : Sequential S I R) where
-  -- An observed history is linearizable: with linearization points put in at some places, it is one of the atomic object.
+  -- With linearization points put in at some places, an observed history is one of the atomic object, whose calls take effect in
+  -- this order.
+  abbrev pub IsLinearizedAs : S → List (Act I R) → List (Invoked I) → Type 0
+  IsLinearizedAs start history order =
+      (acts : List (Act I R)) × (b : Atomic S I) × (observed acts ≡ history) × AcceptsAll object (at_start start) acts b × (b.agreed ≡ order)
+
+  -- an observed history is linearizable: it is so in some order
   abbrev pub IsLinearizableHistory : S → List (Act I R) → Type 0
-  IsLinearizableHistory start history = (acts : List (Act I R)) × (observed acts ≡ history) × (b : Atomic S I) × AcceptsAll object (at_start start) acts b
+  IsLinearizableHistory start history = (order : List (Invoked I)) × IsLinearizedAs start history order
 
   -- what is observed of every run from the opening is linearizable
   abbrev pub ObservesLinearizable : (n : ℕ) → (start : S) → (number : ℕ) → List (Event I) → Type 0

@@ -31,9 +31,8 @@ Memory S I R = Place → Content S I R
 -- whether two names are the same
 abbrev pub name_eq : Name → Name → Bool
 name_eq Anchor Anchor = true
-name_eq Anchor (Of q m) = false
-name_eq (Of p k) Anchor = false
 name_eq (Of p k) (Of q m) = (p == q) && (k == m)
+name_eq _ _ = false
 
 -- whether two places are the same
 abbrev pub place_eq : Place → Place → Bool

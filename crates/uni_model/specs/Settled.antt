@@ -1,10 +1,11 @@
 -- What stays in an era, and what a step leaves alone.
 use Rattle.std.specs.Prelude.{◌≡◌, ◌≢◌, ℕ, ◌≤◌, List, Option, Some, IfSome}
 use Rattle.std.specs.List.{AllByRecursion}
-use Rattle.uni_model.specs.Places.{Name, Place, Memory, inv_of, seq_of, after_of, new_of, before_of}
+use Rattle.seq_object.specs.Sequential.{Sequential}
+use Rattle.uni_model.specs.Places.{Name, Place, Content, Memory, inv_of, seq_of, after_of, new_of, before_of}
 use Rattle.uni_model.specs.Places.Place.{InvOf, SeqOf, AfterOf, NewOf, BeforeOf}
 use Rattle.uni_model.specs.Stages.{Stage}
-use Rattle.uni_model.specs.Transition.{beside, places_beside}
+use Rattle.uni_model.specs.Transition.{places_beside, content_after, response_after}
 use Rattle.uni_model.specs.Worlds.{WorldOf}
 use Rattle.uni_model.specs.Invariant.{Has}
 
@@ -41,6 +42,8 @@ AreSettledPlaces m places = AllByRecursion (IsSettledPlace m) places
 abbrev pub SeesSettled : {S I R : Type 0} → WorldOf S I R → ℕ → Type 0
 SeesSettled w p = IfSome (w.call p) (λ call. AreSettledPlaces w.memory (places_beside call.mine call.stage))
 
--- what a step sees beside its place is told by these places
-abbrev pub SeesOnly : {S I R : Type 0} → Memory S I R → Memory S I R → Name → Stage → Type 0
-SeesOnly m m' mine stage = AllByRecursion (λ place. m' place ≡ m place) (places_beside mine stage) → beside m' mine stage ≡ beside m mine stage
+-- what a step does, where its place contains v, is told by these places
+abbrev pub SeesOnly : {S I R : Type 0} → Sequential S I R → Memory S I R → Memory S I R → Name → Stage → Type 0
+SeesOnly {S} {I} {R} object m m' mine stage =
+    AllByRecursion (λ place. m' place ≡ m place) (places_beside mine stage)
+    → ((v : Content S I R) → content_after object mine stage v m' ≡ content_after object mine stage v m) × (response_after mine stage m' ≡ response_after mine stage m)

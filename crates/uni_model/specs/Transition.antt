@@ -1,5 +1,6 @@
 -- The transition of each kind of step: the one place that it touches, and what it does there (Herlihy 1991, section 4).
 use Rattle.std.specs.Prelude.{ℕ, ◌+◌, ◌%◌, List, [], ◌∷◌, Option, None, Some, if◌then◌else◌, ◌==◌, nat_lt, unwrap_or}
+use Rattle.std.specs.Option.{option_or}
 use Rattle.seq_object.specs.Sequential.{Sequential}
 use Rattle.uni_model.specs.Places.{Name, Place, Content, Memory, name_in, number_in, link_in, settled_in, inv_of, new_of}
 use Rattle.uni_model.specs.Chain.{response_in}
@@ -25,43 +26,25 @@ place_of n p mine (WriteSeq c c_seq d) = SeqOf d
 place_of n p mine (WriteHead c c_seq d) = HeadOf p
 place_of n p mine (Finish c_seq mine_seq) = HeadOf p
 
--- What a step reads beside its one place: only what can't change again. The step that decides the value of a cell d after c
+-- What a step reads beside its one place is only what can't change again: the step that decides the value of a cell d after c
 -- reads what d's call asks for and the value that is settled in c; the last step reads the response in the process's own cell.
-pub data Beside (S I R : Type 0) : Type 0 where
-  Nothing : Beside S I R
-  ForValue : (inv : Option I) (before : Option (S × Option R)) → Beside S I R
-  ForResponse : (own : Option R) → Beside S I R
-
-abbrev pub beside : {S I R : Type 0} → Memory S I R → (mine : Name) → Stage → Beside S I R
-beside m mine (DecideNew c c_seq d) = ForValue (inv_of m d) (new_of m c)
-beside m mine (Finish c_seq mine_seq) = ForResponse (response_in m mine)
-beside m mine _ = Nothing
-
--- the places that these are
 abbrev pub places_beside : (mine : Name) → Stage → List Place
 places_beside mine (DecideNew c c_seq d) = InvOf d ∷ NewOf c ∷ []
 places_beside mine (Finish c_seq mine_seq) = NewOf mine ∷ []
 places_beside mine _ = []
-
--- the first proposal stands
-abbrev pub decision : {A : Type 0} → Option A → Option A → Option A
-decision (Some x) proposal = Some x
-decision None proposal = proposal
 
 -- the object applied to an invocation, after a settled state
 abbrev pub value_after : {S I R : Type 0} → Sequential S I R → Option (S × Option R) → Option I → Option (S × Option R)
 value_after object (Some s) (Some i) = Some (object.next s.0 i, Some (object.answer s.0 i))
 value_after object _ _ = None
 
--- the best cell so far, h with the number s, or the one before it
-abbrev pub best_of : {A : Type 0} → (best_seq s : ℕ) → A → A → A
-best_of best_seq s new old = if nat_lt best_seq s then new else old
+-- the scan goes on with the head of the process after q, or ends
+abbrev pub next_in_scan : (n q : ℕ) → (best : Name) → (best_seq : ℕ) → Stage
+next_in_scan n q best best_seq = if nat_lt (q + 1) n then ScanHead (q + 1) best best_seq else WriteScan best best_seq
 
--- after the scan has read the number s of the head h of process q
+-- after the scan has read the number s of the head h of process q: the cell with the greater number is the best so far
 abbrev pub stage_after_scan : (n q : ℕ) → (best : Name) → (best_seq : ℕ) → (h : Name) → (s : ℕ) → Stage
-stage_after_scan n q best best_seq h s =
-    if nat_lt (q + 1) n then ScanHead (q + 1) (best_of best_seq s h best) (best_of best_seq s s best_seq)
-    else WriteScan (best_of best_seq s h best) (best_of best_seq s s best_seq)
+stage_after_scan n q best best_seq h s = if nat_lt best_seq s then next_in_scan n q h s else next_in_scan n q best best_seq
 
 -- Where a process stands after the step of a stage, whose place contained v; nowhere after the last one. That depends on
 -- neither the object nor what is settled.
@@ -80,22 +63,22 @@ stage_after n mine (WriteSeq c c_seq d) v = Some (WriteHead c c_seq d)
 stage_after n mine (WriteHead c c_seq d) v = Some (Test d (c_seq + 1))
 stage_after n mine (Finish c_seq mine_seq) v = None
 
--- what the step writes to its place, which contained v; where it only reads, that is v
-abbrev pub content_after : {S I R : Type 0} → Sequential S I R → (mine : Name) → Stage → (v : Content S I R) → Beside S I R → Content S I R
-content_after object mine Announce v seen = CellName mine
-content_after object mine (WriteScan best best_seq) v seen = CellName best
-content_after object mine (DecideAfter c c_seq prefer) v seen = Link (decision (link_in v) (Some prefer))
-content_after object mine (DecideNew c c_seq d) v (ForValue inv before) = Settled (decision (settled_in v) (value_after object before inv))
-content_after object mine (WriteBefore c c_seq d) v seen = Link (Some c)
-content_after object mine (WriteSeq c c_seq d) v seen = Number (c_seq + 1)
-content_after object mine (WriteHead c c_seq d) v seen = CellName d
-content_after object mine (Finish c_seq mine_seq) v seen = if nat_lt c_seq mine_seq then CellName mine else v
-content_after object mine _ v seen = v
+-- What the step writes to its place, which contained v; where it only reads, that is v. Of two proposals the first stands.
+abbrev pub content_after : {S I R : Type 0} → Sequential S I R → (mine : Name) → Stage → (v : Content S I R) → Memory S I R → Content S I R
+content_after object mine Announce v m = CellName mine
+content_after object mine (WriteScan best best_seq) v m = CellName best
+content_after object mine (DecideAfter c c_seq prefer) v m = Link (option_or (link_in v) (Some prefer))
+content_after object mine (DecideNew c c_seq d) v m = Settled (option_or (settled_in v) (value_after object (new_of m c) (inv_of m d)))
+content_after object mine (WriteBefore c c_seq d) v m = Link (Some c)
+content_after object mine (WriteSeq c c_seq d) v m = Number (c_seq + 1)
+content_after object mine (WriteHead c c_seq d) v m = CellName d
+content_after object mine (Finish c_seq mine_seq) v m = if nat_lt c_seq mine_seq then CellName mine else v
+content_after object mine _ v m = v
 
 -- the response of the last step: the one that is settled in the process's own cell
-abbrev pub response_after : {S I R : Type 0} → Stage → Beside S I R → Option R
-response_after (Finish c_seq mine_seq) (ForResponse own) = own
-response_after _ seen = None
+abbrev pub response_after : {S I R : Type 0} → (mine : Name) → Stage → Memory S I R → Option R
+response_after mine (Finish c_seq mine_seq) m = response_in m mine
+response_after mine _ m = None
 
 -- how many turns a step adds: one, where it is a test that finds no number yet
 abbrev pub turn_of : {S I R : Type 0} → Stage → Content S I R → ℕ

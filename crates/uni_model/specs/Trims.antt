@@ -5,13 +5,9 @@ use Rattle.uni_model.specs.Worlds.{WorldOf, Event, world_after_all, AreAccepted,
 use Rattle.uni_model.specs.Linearizable.{observed_in}
 use Rattle.uni_model.specs.History.{log_of_run}
 
--- two worlds have as many processes, and of each process the same counts
-pub record CountsSame {S I R : Type 0} (w u : WorldOf S I R) : Type 0 where
-  pub n : w.n ≡ u.n
-  pub begun : w.begun ≡ u.begun
-  pub among : w.among ≡ u.among
-  pub steps : w.steps ≡ u.steps
-  pub turns : w.turns ≡ u.turns
+-- two worlds differ at most in their memory, their pending calls and where their eras begin: all counts are the same
+abbrev pub CountsSame : {S I R : Type 0} → WorldOf S I R → WorldOf S I R → Type 0
+CountsSame w u = w ≡ record u { memory = w.memory; call = w.call; first = w.first }
 
 -- The same events without the trims are accepted too, from the same world, with the same history of calls and responses, the
 -- same joined log and the same counts.

@@ -1,11 +1,10 @@
 -- The main law: what holds of every run of the construction.
-use Rattle.std.specs.Prelude.{◌≡◌, ℕ, ◌≤◌, List, ◌∷◌, ◌++◌, take}
+use Rattle.std.specs.Prelude.{◌≡◌, ℕ, ◌≤◌, List, ◌∷◌, ◌++◌, map, take}
 use Rattle.seq_object.specs.Sequential.{Sequential}
 use Rattle.uni_model.specs.Worlds.{Event, opened_world, world_after_all, AreAccepted}
 use Rattle.uni_model.specs.Worlds.Event.{Call}
-use Rattle.uni_model.specs.AtomicObject.{Atomic, AcceptsAll, at_start}
-use Rattle.uni_model.specs.Linearizable.{observed_in, IsLinearizableHistory}
-use Rattle.uni_model.specs.History.{RunShows, history_of}
+use Rattle.uni_model.specs.Linearizable.{observed_in, IsLinearizedAs, IsLinearizableHistory}
+use Rattle.uni_model.specs.History.{log_of_run}
 use Rattle.uni_model.specs.WaitFree.{NeverBlocks, AreNoCallsOf, IsWaitFree}
 use Rattle.uni_model.specs.Bound.{IsBounded}
 use Rattle.uni_model.specs.Trims.{IsSameUntrimmed}
@@ -15,10 +14,8 @@ module _ {S I R : Type 0} (object : Sequential S I R) where
   pub record IsUniversal (n : ℕ) (start : S) (number : ℕ) (events : List (Event I)) : Type 0 where
     -- what is observed, calls and responses, is a linearizable history of the object from this state (Herlihy and Wing 1990)
     pub linearizable : IsLinearizableHistory object start (observed_in object (opened_world n start number) events)
-    -- The stronger law: linearization points stand where the definitions have them, so that the list of the atomic object is the
-    -- joined log.
-    pub agreed : (b : Atomic S I) × RunShows object start (opened_world n start number) events b
-        × AcceptsAll object (at_start start) (history_of object (opened_world n start number) events) b
+    -- the stronger law: it is so in the order of the joined log
+    pub agreed : IsLinearizedAs object start (observed_in object (opened_world n start number) events) (map (λ e. e.call) (log_of_run object (opened_world n start number) events))
     -- after each prefix of the events, a process whose call is pending can take its next step
     pub never_blocks : (j p : ℕ) → NeverBlocks (world_after_all object (opened_world n start number) (take j events)) p
     -- within each prefix, a call has returned at the latest at the (10n + 12)th step of its process since its begin

@@ -1,12 +1,13 @@
 -- Wait-freedom as the textbooks state it: a pending process can always take its next step, and its call has returned after a
 -- known number of them, whatever the others do meanwhile.
-use Rattle.std.specs.Prelude.{◌≡◌, refl, ℕ, ◌+◌, ◌*◌, ◌≤◌, ◌==◌, Bool, false, List, [], ◌∷◌, Some, None, Contains, count_by, replicate}
+use Rattle.std.specs.Prelude.{◌≡◌, refl, ℕ, ◌+◌, ◌≤◌, ◌==◌, Bool, false, List, [], ◌∷◌, Some, None, Contains, count_by, replicate}
 use Rattle.seq_object.specs.Sequential.{Sequential}
 use Rattle.uni_model.specs.Stages.{Pending}
 use Rattle.uni_model.specs.Worlds.{WorldOf, Event, world_after_all, IsAccepted, AreAccepted}
 use Rattle.uni_model.specs.Worlds.Event.{Call, Step, Trim}
 use Rattle.uni_model.specs.AtomicObject.Act.{Respond}
 use Rattle.uni_model.specs.Linearizable.{observed_in}
+use Rattle.uni_model.specs.Bound.{most_steps}
 use Rattle.uni_model.specs.Laws.{IsReached}
 
 -- whether an event is a step of p
@@ -34,8 +35,8 @@ module _ {S I R : Type 0} (object : Sequential S I R) where
   -- From this world on p begins a call, and no other one later. Of the later events at most 10n + 12 are steps of p, for the n
   -- processes that there are at the call; once there are as many, the call has returned, and wherever it has, with a response.
   pub record IsWaitFree (w : WorldOf S I R) (p : ℕ) (i : I) (later : List (Event I)) : Type 0 where
-    pub few : steps_among p later ≤ 10 * w.n + 12
-    pub returned : steps_among p later ≡ 10 * w.n + 12 → (world_after_all object w (Call p i ∷ later)).call p ≡ None
+    pub few : steps_among p later ≤ most_steps w.n
+    pub returned : steps_among p later ≡ most_steps w.n → (world_after_all object w (Call p i ∷ later)).call p ≡ None
     pub answered : (world_after_all object w (Call p i ∷ later)).call p ≡ None
         → (r : R) × Contains (observed_in object w (Call p i ∷ later)) (Respond p (w.begun p) r)
 
@@ -49,7 +50,7 @@ module _ {S I R : Type 0} (object : Sequential S I R) where
     pub further : ℕ
     pub accepted : AreAccepted object w (replicate further (Step p))
     pub returned : (world_after_all object w (replicate further (Step p))).call p ≡ None
-    pub few : w.steps p + further ≤ 10 * w.n + 12
+    pub few : w.steps p + further ≤ most_steps w.n
 
   -- every pending call ends so, wherever the other processes have stopped
   abbrev pub CallEndsAlone : WorldOf S I R → ℕ → Type 0

@@ -10,7 +10,7 @@ use Rattle.uni_model.specs.Places.Content.{CellName, Invocation, Number, Link, S
 use Rattle.uni_model.specs.Stages.{Pending}
 use Rattle.uni_model.specs.Stages.Stage.{Announce}
 use Rattle.uni_model.specs.Chain.{cells_from, last_of}
-use Rattle.uni_model.specs.Transition.{place_of, beside, stage_after, content_after, turn_of, response_after}
+use Rattle.uni_model.specs.Transition.{place_of, stage_after, content_after, turn_of, response_after}
 
 -- n processes: the shared places; of each process its pending call, how many calls it has begun since the opening, the
 -- number of its first call of the present era, and of its latest call among how many processes it ran (0 where it has begun
@@ -51,19 +51,15 @@ world_after_step object w p None = w
 world_after_step object w p (Some call) =
     let place = place_of w.n p call.mine call.stage in
     record w {
-      memory = memory_with w.memory place (content_after object call.mine call.stage (w.memory place) (beside w.memory call.mine call.stage));
+      memory = memory_with w.memory place (content_after object call.mine call.stage (w.memory place) w.memory);
       call = set_at w.call p (option_map (λ k. record { mine = call.mine; stage = k }) (stage_after w.n call.mine call.stage (w.memory place)));
       steps = set_at w.steps p (w.steps p + 1);
       turns = set_at w.turns p (w.turns p + turn_of call.stage (w.memory place));
     }
 
--- the response of the next step of a pending call, where it is the last one
-abbrev pub response_of_call : {S I R : Type 0} → WorldOf S I R → Pending → Option R
-response_of_call w call = response_after call.stage (beside w.memory call.mine call.stage)
-
--- the same of a process, whose call may be pending
+-- the response of the next step of a process, where that is the last one of its call
 abbrev pub response_of_step : {S I R : Type 0} → WorldOf S I R → ℕ → Option R
-response_of_step w p = option_and_then (response_of_call w) (w.call p)
+response_of_step w p = option_and_then (λ call. response_after call.mine call.stage w.memory) (w.call p)
 
 -- the anchor alone, with a state and a number: all announce and head entries name it
 abbrev pub anchor_memory : {S I R : Type 0} → S → ℕ → Memory S I R
@@ -89,14 +85,10 @@ abbrev pub sum_below : ℕ → (ℕ → ℕ) → ℕ
 sum_below zero f = 0
 sum_below (suc p) f = sum_below p f + f p
 
--- how many calls the present era has
-abbrev pub era_calls : {S I R : Type 0} → WorldOf S I R → ℕ
-era_calls w = sum_below w.n (calls_in_era w)
-
 -- The cells that are linked, in order. Each cell after the anchor is that of one call of the era, and no cell is linked twice, so
 -- there are at most as many as the era has calls: that many are followed, and none is left out.
 abbrev pub chain : {S I R : Type 0} → WorldOf S I R → List Name
-chain w = cells_from (era_calls w) w.memory Anchor
+chain w = cells_from (sum_below w.n (calls_in_era w)) w.memory Anchor
 
 -- the last linked cell, or the anchor
 abbrev pub last_cell : {S I R : Type 0} → WorldOf S I R → Name

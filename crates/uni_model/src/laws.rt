@@ -41,7 +41,8 @@ pub fn changes_one_place<O: SeqObject>()
 /// for its stage: what a call asks for, and settled values.
 pub fn step_sees_settled<O: SeqObject>()
     ensures settled { (object : O) (w : WorldOf O.State O.Inv O.Resp) (p : ℕ) → Invariant (O.sequential object) w → SeesSettled w p }
-    ensures only { (m later : Memory O.State O.Inv O.Resp) (mine : Name) (stage : Stage) → SeesOnly m later mine stage }
+    ensures only { (object : O) (m later : Memory O.State O.Inv O.Resp) (mine : Name) (stage : Stage) →
+        SeesOnly (O.sequential object) m later mine stage }
 {}
 
 /// Every opening has the invariant, with the facts of helping and the counts of own steps.

@@ -6,6 +6,7 @@
 #![tactic(auto)]
 
 mod laws;
+mod limits;
 
 pub use laws::{
     changes_one_place, counts_steps, era_leaves_anchor, event_is_atomic, event_keeps_helping,
@@ -15,3 +16,4 @@ pub use laws::{
     log_is_legal, log_only_grows, observes_linearizable, opening_is_sound, simulates,
     step_sees_settled, trims_change_nothing,
 };
+pub use limits::{MAX_PROCESSES, MAX_ROW, MAX_SEQ, most_steps};

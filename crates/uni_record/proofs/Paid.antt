@@ -1,10 +1,10 @@
 -- What a step pays: an event of those that are set aside, and where the call returns, its place among the pending calls.
 use Rattle.std.proofs.Common.{◌≡◌, ℕ, ◌+◌, ◌-◌, ◌*◌, ◌<◌, ◌≤◌, List, length, arith, refl, sym, subst, Option, Some, None, IsSome, option_map, option_and_then, option_to_list}
 use Rattle.seq_object.specs.Sequential.{Sequential}
-use Rattle.uni_model.specs.Places.{Name, Content}
+use Rattle.uni_model.specs.Places.{Memory, Name, Content}
 use Rattle.uni_model.specs.Stages.{Stage, Pending}
 use Rattle.uni_model.specs.Stages.Stage.{Finish}
-use Rattle.uni_model.specs.Transition.{Beside, beside, place_of, stage_after, response_after}
+use Rattle.uni_model.specs.Transition.{place_of, stage_after, response_after}
 use Rattle.uni_model.specs.Bound.{IsBounded}
 use Rattle.uni_model.specs.Worlds.{WorldOf, world_after, world_after_step, response_of_step}
 use Rattle.uni_model.specs.Effects.{effect_in, call_after}
@@ -19,9 +19,9 @@ abbrev completions : {A R : Type 0} → Option A → (A → R → Completed R) �
 completions call make response = length (option_to_list (option_and_then (λ id. option_map (make id) response) call))
 
 -- a step has a response, or leaves its call pending, and not both
-one_or_other : {S I R A : Type 0} (n : ℕ) (mine : Name) (stage : Stage) (v : Content S I R) (seen : Beside S I R) (call : Option A) (make : A → R → Completed R) (steps : ℕ)
-    → completions call make (response_after stage seen) + weight (λ steps. 1) (call_after mine (stage_after n mine stage v)) steps ≤ 1
-one_or_other {R = R} {A = A} n mine (Finish c_seq mine_seq) v seen call make steps = let few = at_most_one call (response_after (Finish c_seq mine_seq) seen) in omega arith where
+one_or_other : {S I R A : Type 0} (n : ℕ) (mine : Name) (stage : Stage) (v : Content S I R) (seen : Memory S I R) (call : Option A) (make : A → R → Completed R) (steps : ℕ)
+    → completions call make (response_after mine stage seen) + weight (λ steps. 1) (call_after mine (stage_after n mine stage v)) steps ≤ 1
+one_or_other {R = R} {A = A} n mine (Finish c_seq mine_seq) v seen call make steps = let few = at_most_one call (response_after mine (Finish c_seq mine_seq) seen) in omega arith where
   at_most_one : (o : Option A) (r : Option R) → completions o make r ≤ 1
   at_most_one None r = omega arith
   at_most_one (Some id) None = omega arith
@@ -46,9 +46,9 @@ module _ {S I R : Type 0} (object : Sequential S I R) (w : WorldOf S I R) (p : �
       let count : pending_count v + 1 ≡ pending_count w + weight (λ steps. 1) (v.call p) (w.steps p + 1) = owed-stepped (λ steps. 1) w object p c inside is in
       let place = place_of w.n p c.mine c.stage in
       let after = world_after object w (Step p) in
-      let once = one_or_other w.n c.mine c.stage (w.memory place) (beside w.memory c.mine c.stage) (current_of w p) (λ id reply. record { returned = record { call = id; reply = reply }; counts = record { steps = after.steps p; turns = after.turns p } }) (w.steps p + 1) in
+      let once = one_or_other w.n c.mine c.stage (w.memory place) w.memory (current_of w p) (λ id reply. record { returned = record { call = id; reply = reply }; counts = record { steps = after.steps p; turns = after.turns p } }) (w.steps p + 1) in
       let here : v.call p ≡ call_after c.mine (effect_in object w p c).stage = set_at_here w.call p _ in
-      let response : response_of_step w p ≡ response_after c.stage (beside w.memory c.mine c.stage) = rw is refl in
+      let response : response_of_step w p ≡ response_after c.mine c.stage w.memory = rw is refl in
       let once' = rw (← here, ← response) at once in
       record { events = omega (arith, aside, aside_then, bound); returns = omega (arith, count, once') }
 

@@ -5,12 +5,12 @@ use Rattle.std.specs.Option.{option_map_or}
 use Rattle.seq_object.specs.Sequential.{Sequential}
 use Rattle.seq_object.specs.declared.call_id.CallId.{CallId}
 use Rattle.uni_model.specs.Places.{Name, Memory, inv_of}
-use Rattle.uni_model.specs.Transition.{beside, response_after}
+use Rattle.uni_model.specs.Transition.{response_after}
 use Rattle.uni_model.specs.Places.Name.{Of}
 use Rattle.uni_model.specs.Chain.{invoked_at}
 use Rattle.uni_model.specs.Stages.{Pending}
 use Rattle.uni_model.specs.Invariant.{Invariant}
-use Rattle.uni_model.specs.Worlds.{WorldOf, Event, world_after, IsAccepted, AreAccepted, response_of_call}
+use Rattle.uni_model.specs.Worlds.{WorldOf, Event, world_after, IsAccepted, AreAccepted}
 use Rattle.uni_model.specs.Worlds.Event.{Call, Step, Trim, Reshape}
 use Rattle.uni_model.specs.AtomicObject.{Act, Invoked}
 use Rattle.uni_model.specs.AtomicObject.Act.{Invoke, Linearize, Respond}
@@ -63,12 +63,12 @@ module _ {S I R : Type 0} (object : Sequential S I R) where
     Returns : Option Pending → Type 0
     Returns o =
         map (λ (c : Completed R). c.returned) (option_to_list (option_and_then (λ id. option_map (λ reply. record { returned = record { call = id; reply = reply }; counts = counts })
-        (option_and_then (λ (c : Pending). response_after c.stage (beside w.memory c.mine c.stage)) o)) (option_map (λ (c : Pending). let id : CallId = record { process = p; nth = w.begun p - 1 } in id) o)))
-        ≡ responses_in (option_map_or (λ (c : Pending). responses_of w.memory p c.mine (response_of_call w c)) o [])
+        (option_and_then (λ (c : Pending). response_after c.mine c.stage w.memory) o)) (option_map (λ (c : Pending). let id : CallId = record { process = p; nth = w.begun p - 1 } in id) o)))
+        ≡ responses_in (option_map_or (λ (c : Pending). responses_of w.memory p c.mine (response_after c.mine c.stage w.memory)) o [])
 
     by_call : (call : Option Pending) → w.call p ≡ call → Returns (w.call p)
     by_call None is = subst Returns (sym is) refl
-    by_call (Some c) is = subst Returns (sym is) (returned_by_step w p inv c is counts (response_of_call w c))
+    by_call (Some c) is = subst Returns (sym is) (returned_by_step w p inv c is counts (response_after c.mine c.stage w.memory))
   returned_by w Trim inv ok = refl
   returned_by w (Reshape n) inv ok = refl
 

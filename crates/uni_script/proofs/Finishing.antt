@@ -1,5 +1,6 @@
 -- A call returns within the bound.
 use Rattle.std.proofs.Common.{◌≡◌, ◌∙◌, ◌⊎◌, inl, inr, ℕ, zero, suc, ◌+◌, ◌≤◌, [], ◌∷◌, refl, sym, Option, None, Some, IsSome, Bool, true, false, nat_le, arith}
+use Rattle.uni_model.specs.Bound.{most_steps}
 use Rattle.uni_model.specs.Stages.{Pending}
 use Rattle.uni_model.specs.Worlds.{WorldOf, response_of_step}
 use Rattle.uni_model.specs.Worlds.Event.{Step}
@@ -7,7 +8,7 @@ use Rattle.uni_model.specs.Laws.{IsReached}
 use Rattle.uni_script.specs.declared.answer.Refusal.{Refusal}
 use Rattle.uni_script.specs.declared.answer.Refusal.TheVariants.{Process, Idle}
 use Rattle.uni_script.specs.Objects.{SpokenObject}
-use Rattle.uni_script.specs.Meaning.{Session, LastStep, session_after, last_step, steps_of, steps_taken, latest, most_steps, refusal_of_step, result_of_steps}
+use Rattle.uni_script.specs.Meaning.{Session, LastStep, session_after, last_step, steps_of, steps_taken, latest, refusal_of_step, result_of_steps}
 use Rattle.uni_model.specs.Worlds.{world_after_all}
 use Rattle.uni_script.specs.Laws.{FinishReturns, IsReturned}
 use Rattle.uni_script.proofs.Stepping.{IsOnTheWay, IsOnTheWay-start, IsOnTheWay-going, IsOnTheWay-few, last_step-done}

@@ -4,7 +4,7 @@ use Rattle.uni_model.specs.Places.{Name, seq_of}
 use Rattle.uni_model.specs.Places.Name.{Of}
 use Rattle.uni_model.specs.Stages.{Stage, Pending}
 use Rattle.uni_model.specs.Stages.Stage.{Announce, ScanHead, ScanSeq, WriteScan, Test, ReadAnnounce, ReadHelpSeq, DecideAfter, DecideNew, WriteBefore, WriteSeq, WriteHead, Finish}
-use Rattle.uni_model.specs.Transition.{beside, place_of, stage_after, response_after}
+use Rattle.uni_model.specs.Transition.{place_of, stage_after, response_after}
 use Rattle.uni_model.specs.Chain.{response_in}
 use Rattle.uni_model.specs.Worlds.{WorldOf, opened_world, world_after, world_after_step, response_of_step}
 use Rattle.uni_model.specs.Effects.{call_after}
@@ -44,7 +44,7 @@ IsReached-IsRecording sequential r is = record { n = r.processes; start = (meani
 module _ {S I R : Type 0} (o : SpokenObject S I R) (p : ℕ) where
   -- where a process stands after a step without a response
   stands_somewhere : (w : WorldOf S I R) (mine : Name) (stage : Stage) → w.call p ≡ Some (record { mine = mine; stage = stage }) → HelpingInvariant o.object w
-      → response_after stage (beside w.memory mine stage) ≡ None → IsSome (call_after mine (stage_after w.n mine stage (w.memory (place_of w.n p mine stage))))
+      → response_after mine stage w.memory ≡ None → IsSome (call_after mine (stage_after w.n mine stage (w.memory (place_of w.n p mine stage))))
   stands_somewhere w mine Announce is inv none = refl
   stands_somewhere w mine (ScanHead q best best_seq) is inv none = refl
   stands_somewhere w mine (ScanSeq q best best_seq h) is inv none = refl
@@ -72,8 +72,8 @@ module _ {S I R : Type 0} (o : SpokenObject S I R) (p : ℕ) where
       at : (call : Option Pending) → w.call p ≡ call → IsSome call → IsSome ((world_after o.object w (Step p)).call p)
       at None is h = absurd (let e : false ≡ true = h in cc)
       at (Some c) is h =
-          let silent : response_after c.stage (beside w.memory c.mine c.stage) ≡ None =
-          sym (ap (option_and_then (λ (x : Pending). response_after x.stage (beside w.memory x.mine x.stage))) is) ∙ none in
+          let silent : response_after c.mine c.stage w.memory ≡ None =
+          sym (ap (option_and_then (λ (x : Pending). response_after x.mine x.stage w.memory)) is) ∙ none in
           rw is (subst (λ x. IsSome x) (sym (set_at_same w.call p _)) (stands_somewhere w c.mine c.stage is inv silent))
 
   pub HelpingInvariant-reached : (w : WorldOf S I R) → IsReached o.object w → HelpingInvariant o.object w

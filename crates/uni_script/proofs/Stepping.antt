@@ -2,6 +2,7 @@
 use Rattle.std.proofs.Common.{◌≡◌, ◌∙◌, ℕ, zero, suc, ◌+◌, ◌-◌, ◌<◌, ◌≤◌, List, [], ◌∷◌, ◌++◌, refl, sym, ap, subst, Option, None, Some, IsSome, true, false, arith, append_assoc, append-nil}
 use Rattle.std.proofs.lemmas.List.{map-append, replicate-append-replicate}
 use Rattle.seq_object.specs.Sequential.{Sequential}
+use Rattle.uni_model.specs.Bound.{most_steps}
 use Rattle.uni_model.specs.Stages.{Pending}
 use Rattle.uni_model.specs.Worlds.{WorldOf, Event, world_after, world_after_all, response_of_step}
 use Rattle.uni_model.specs.Worlds.Event.{Step}
@@ -19,7 +20,7 @@ use Rattle.uni_record.specs.declared.event.Event.{Event as Stored}
 use Rattle.uni_record.specs.Recorded.{Recording, KeepsOpening}
 use Rattle.uni_record.specs.Event.{event_shown, events_shown}
 use Rattle.uni_script.specs.Objects.{SpokenObject}
-use Rattle.uni_script.specs.Meaning.{Session, session_of, session_after, response_after, last_step, steps_of, steps_taken, most_steps}
+use Rattle.uni_script.specs.Meaning.{Session, session_of, session_after, response_after, last_step, steps_of, steps_taken}
 use Rattle.uni_script.proofs.Helped.{n-world_after_step, steps-world_after_step, pending-world_after_step, HelpingInvariant-reached}
 
 -- a step that answers `Going` has no response

@@ -3,9 +3,10 @@ use Rattle.std.specs.Prelude.{◌≡◌, ℕ, List, [], ◌∷◌, ◌++◌, map
 use Rattle.std.specs.Fmt.{digits}
 use Rattle.ready_objects.specs.Number.{number_of_word, number_below}
 use Rattle.uni_script.specs.declared.fault.BenchFault.TheVariants.{NoHeader, BadHeader, TooLong, BadByte, BadLine, TooMany}
+use Rattle.uni_model.specs.Bound.{most_steps}
 use Rattle.uni_model.specs.Worlds.{opened_world}
 use Rattle.uni_script.specs.declared.answer.Refusal.TheVariants.{Row, Sequence, History, Count}
-use Rattle.uni_script.specs.Meaning.{Session, outcome_of_line, outcome_of_fault, refusal_of_call, refusal_of_end, refusal_of_reshape, most_steps}
+use Rattle.uni_script.specs.Meaning.{Session, outcome_of_line, outcome_of_fault, refusal_of_call, refusal_of_end, refusal_of_reshape}
 use Rattle.uni_script.specs.Summary.{summary_of_script}
 use Rattle.uni_script.specs.Replay.{text_of_script, fault_of_script}
 

@@ -5,6 +5,7 @@ use Rattle.std.specs.Option.{option_map_or}
 use Rattle.std.specs.List.{list_all, concat}
 use Rattle.seq_object.specs.declared.call_id.CallId.{CallId}
 use Rattle.ready_objects.specs.Words.{text_of_words, words_of_text}
+use Rattle.uni_model.specs.Bound.{most_steps}
 use Rattle.uni_model.specs.Places.{head_seq}
 use Rattle.uni_model.specs.Worlds.{WorldOf, Event, world_after_all, opened_world, response_of_step, calls_in_era}
 use Rattle.uni_model.specs.Worlds.Event.{Call, Step, Trim, Reshape}
@@ -103,10 +104,6 @@ last_step o w p (suc m) = option_map_or Some (last_step o w p m) (option_map (λ
 -- how many steps are taken of so many: none after the last one of a call
 abbrev pub steps_taken : {R : Type 0} → (most : ℕ) → Option (LastStep R) → ℕ
 steps_taken most last = option_map_or (λ step. step.earlier + 1) last most
-
--- how many steps a call of n processes takes at most
-abbrev pub most_steps : ℕ → ℕ
-most_steps n = 10 * n + 12
 
 -- what is answered after steps of a process in this call
 abbrev pub text_of_steps : {S I R : Type 0} → SpokenObject S I R → WorldOf S I R → Option (LastStep R) → ℕ → CallId → List ℕ

@@ -3,6 +3,7 @@
 ghost use Rattle.std.specs.Prelude.{◌≡◌, ◌<◌, ◌≤◌, ◌++◌, IfOk, IsSome, OnOk, codes, decimal, option_map};
 ghost use Rattle.std.specs.Option.{option_map_or};
 ghost use Rattle.ready_objects.specs.Words.{text_of_words};
+ghost use Rattle.uni_model.specs.Bound.{most_steps};
 ghost use Rattle.uni_model.specs.Places.{head_seq};
 ghost use Rattle.uni_core.specs.World.{world_of};
 ghost use Rattle.uni_log.specs.Entry.{entry_shown};
@@ -11,7 +12,7 @@ ghost use Rattle.uni_script.specs.Grammar.{IsInRange};
 ghost use Rattle.uni_script.specs.Commands.{answer_text, refusal_in, IsOver};
 ghost use Rattle.uni_script.specs.Answer.{call_text, numbers_text, heads_text, entry_text};
 ghost use Rattle.uni_script.specs.Objects.{spoken};
-ghost use Rattle.uni_script.specs.Meaning.{session_of, session_after, opened_session, result_of_command, result_of_call, result_of_steps, result_of_trim, result_of_reshape, last_step, steps_of, steps_taken, most_steps, log_text, refusal_of_call, refusal_of_step, refusal_of_end, refusal_of_reshape, refusal_of_command};
+ghost use Rattle.uni_script.specs.Meaning.{session_of, session_after, opened_session, result_of_command, result_of_call, result_of_steps, result_of_trim, result_of_reshape, last_step, steps_of, steps_taken, log_text, refusal_of_call, refusal_of_step, refusal_of_end, refusal_of_reshape, refusal_of_command};
 
 use crate::answer::{Answer, Refusal, push_call, push_called, push_progress};
 use crate::grammar::{Command, Header};

@@ -10,12 +10,7 @@ use crate::fault::{ReshapeFault, TrimFault};
 use seq_object::SeqObject;
 use std::alloc::Global;
 use uni_core::World;
-
-/// The greatest number of a cell.
-const MAX_SEQ: u64 = 281_474_976_710_655;
-
-/// The greatest number of processes.
-const MAX_PROCESSES: u64 = 64;
+use uni_model::{MAX_PROCESSES, MAX_SEQ};
 
 /// The number that the next anchor would have, which is the last cell's, where the numbers of an era
 /// of `m` processes, at most 64, fit after it: `last + m * k` doesn't pass 2^48 - 1. `None` where they

@@ -1,16 +1,17 @@
 -- What the functions of the word steps ask, in parts.
 use Rattle.std.proofs.Common.{◌≡◌, ◌∙◌, ℕ, zero, suc, ◌+◌, ◌*◌, ◌<◌, ◌≤◌, inl, inr, refl, sym, ap, subst, Option, Some, None, option_map, arith, nat_lt, eqb, if◌then◌else◌}
+use Rattle.std.specs.Option.{option_or}
 use prog.Atomic.{either}
 use Rattle.atomic_table.specs.Table.{Me, Step, Allows}
 use Rattle.atomic_table.proofs.Lists.{exchanged}
 use Rattle.seq_object.specs.Sequential.{Sequential}
-use Rattle.uni_model.specs.Places.{Name, Content}
+use Rattle.uni_model.specs.Places.{Memory, Name, Content}
 use Rattle.uni_model.specs.Places.Name.{Of}
 use Rattle.uni_model.specs.Places.Place.{InvOf}
 use Rattle.uni_model.specs.Places.Content.{Link}
 use Rattle.uni_model.specs.Stages.{Stage, Pending}
 use Rattle.uni_model.specs.Stages.Stage.{Announce}
-use Rattle.uni_model.specs.Transition.{Beside, decision, place_of, content_after, turn_of}
+use Rattle.uni_model.specs.Transition.{place_of, content_after, turn_of}
 use Rattle.uni_model.proofs.Written.{lt_cases}
 use Rattle.uni_model.specs.Indices.{index_of, name_of}
 use Rattle.uni_model.proofs.Indices.{name_of-index_of}
@@ -29,7 +30,7 @@ use Rattle.uni_words.proofs.Moving.{GoesOn, moves}
 pub may_move : {O : Type 0} (meaning : O → Sequential ℕ ℕ ℕ) (told setup : Setup O) → told ≡ setup
     → (slots id i : ℕ) (st : Step ℕ) (me : Me ℕ View) (f said : ℕ → ℕ) → me.0.known.count ≡ 1 → (c : Pending) → me.0.known.call ≡ Some c → GoesOn c.stage
     → word_of setup.n setup.k (place_of setup.n me.0.known.first c.mine c.stage) ≡ Some i
-    → ((found : ℕ) (seen : Beside ℕ ℕ ℕ) → content_of setup.n (place_of setup.n me.0.known.first c.mine c.stage) (f found)
+    → ((found : ℕ) (seen : Memory ℕ ℕ ℕ) → content_of setup.n (place_of setup.n me.0.known.first c.mine c.stage) (f found)
     ≡ content_after (meaning setup.object) c.mine c.stage (content_of setup.n (place_of setup.n me.0.known.first c.mine c.stage) found) seen)
     → ((found : ℕ) → moved_at me.0.known c found ≡ moved_at me.0.known c (said found))
     → ((found : ℕ) → IsWithin setup.n setup.k (place_of setup.n me.0.known.first c.mine c.stage) found → IsWithin setup.n setup.k (place_of setup.n me.0.known.first c.mine c.stage) (f found) → IsWithin setup.n setup.k (place_of setup.n me.0.known.first c.mine c.stage) (said found))
@@ -67,9 +68,9 @@ link_to n prefer = let e : prefer + 1 ≡ suc prefer = omega arith in ap (link_o
 pub link_is : (n c : ℕ) → link (link_of n (1 + c)) ≡ link (Some (name_of n c))
 link_is n c = let e : 1 + c ≡ suc c = omega arith in ap (λ x. link (link_of n x)) e
 
-pub link_decided : (n prefer found : ℕ) → link (link_of n (either (eqb found 0) (prefer + 1) found)) ≡ link (decision (link_of n found) (Some (name_of n prefer)))
+pub link_decided : (n prefer found : ℕ) → link (link_of n (either (eqb found 0) (prefer + 1) found)) ≡ link (option_or (link_of n found) (Some (name_of n prefer)))
 link_decided n prefer zero = ap link (link_to n prefer)
-link_decided n prefer (suc found) = exchanged (suc found) 0 (prefer + 1) (λ x. link (link_of n x) ≡ link (decision (link_of n (suc found)) (Some (name_of n prefer)))) (λ e. absurd (omega arith)) (λ apart. refl)
+link_decided n prefer (suc found) = exchanged (suc found) 0 (prefer + 1) (λ x. link (link_of n x) ≡ link (option_or (link_of n (suc found)) (Some (name_of n prefer)))) (λ e. absurd (omega arith)) (λ apart. refl)
 
 -- where a seat stands after a step
 pub stands_next : (n row p : ℕ) (mine : Name) (stage next : Stage) (found : ℕ) (me me' : Me ℕ View) → StandsAt n row p mine stage me → HasMoved me (record { mine = mine; stage = stage }) found me'

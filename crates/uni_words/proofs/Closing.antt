@@ -7,7 +7,8 @@ use Rattle.uni_model.specs.Places.{Name, Memory, inv_of, seq_of, after_of}
 use Rattle.uni_model.specs.Places.Name.{Anchor, Of}
 use Rattle.uni_model.specs.Chain.{cells_from, entries_from, invoked_at, response_in}
 use Rattle.uni_model.specs.History.{log, logged_call}
-use Rattle.uni_model.specs.Worlds.{WorldOf, calls_in_era, era_calls}
+use Rattle.uni_model.specs.Worlds.{WorldOf, calls_in_era}
+use Rattle.uni_model.specs.Counting.{era_calls}
 use Rattle.uni_model.specs.Invariant.{IsNumbered, IsSound}
 use Rattle.uni_model.proofs.Chains.{cells_from-enough, cells_from-same, number_at}
 use Rattle.uni_model.proofs.Eras.{number_of_entry}

@@ -1,5 +1,6 @@
 -- The exchange of `new`, which is always tried.
 use Rattle.std.proofs.Common.{◌≡◌, ◌≢◌, ◌∙◌, ℕ, zero, suc, ◌+◌, ◌*◌, ◌<◌, ◌^◌, inl, inr, refl, sym, ap, subst, slice_index, Option, Some, arith, eqb}
+use Rattle.std.specs.Option.{option_or}
 use prog.Atomic.{either}
 use Rattle.atomic_table.specs.Table.{Me, Step, keeps, Allows}
 use Rattle.atomic_table.proofs.Lists.{exchanged}
@@ -10,7 +11,7 @@ use Rattle.uni_model.specs.Places.Place.{NewOf}
 use Rattle.uni_model.specs.Places.Content.{Settled}
 use Rattle.uni_model.specs.Stages.{Stage, Pending}
 use Rattle.uni_model.specs.Stages.Stage.{DecideNew, WriteBefore}
-use Rattle.uni_model.specs.Transition.{decision, value_after}
+use Rattle.uni_model.specs.Transition.{value_after}
 use Rattle.uni_model.specs.Worlds.{WorldOf}
 use Rattle.uni_model.proofs.Written.{new_of-memory_with}
 use Rattle.uni_model.proofs.Values.{not_anchor}
@@ -27,13 +28,13 @@ use Rattle.uni_words.proofs.Moving.{moved_leads, moved_told}
 use Rattle.uni_words.proofs.Running.{led}
 use Rattle.uni_words.proofs.Looks.{stands, underway}
 
--- the word after the exchange is what is decision
+-- the word after the exchange is what is decided
 exchanged_is : (d : Name) → d ≢ Anchor → (state reply : ℕ) → reply < 2 ^ 31 → (found : ℕ)
-    → settled_at d (either (eqb found 0) (settled_word state reply) found) ≡ decision (settled_at d found) (Some (state, Some reply))
+    → settled_at d (either (eqb found 0) (settled_word state reply) found) ≡ option_or (settled_at d found) (Some (state, Some reply))
 exchanged_is Anchor apart state reply small found = absurd (apart refl)
 exchanged_is (Of q k) apart state reply small zero = settled_at-word q k state reply small
 exchanged_is (Of q k) apart state reply small (suc found) = exchanged (suc found) 0 (settled_word state reply)
-    (λ x. settled_at (Of q k) x ≡ decision (settled_at (Of q k) (suc found)) (Some (state, Some reply))) (λ e. absurd (omega arith)) (λ apart'. refl)
+    (λ x. settled_at (Of q k) x ≡ option_or (settled_at (Of q k) (suc found)) (Some (state, Some reply))) (λ e. absurd (omega arith)) (λ apart'. refl)
 
 module _ (object : Sequential ℕ ℕ ℕ) (row : ℕ) where
   pub decides : (n slots id i : ℕ) (st : Step ℕ) (me : Me ℕ View) → me.0.known.count ≡ 1 → (mine c d : Name) (c_seq inv state : ℕ)
@@ -53,12 +54,12 @@ module _ (object : Sequential ℕ ℕ ℕ) (row : ℕ) where
       let under = underway object row w s is id v at single mine stage pending in
       let had : HasRead w.memory mine stage (Applied inv state) = subst (λ r. HasRead w.memory mine stage r) read under.1 in
       let x : ℕ = either (eqb found 0) (settled_word (object.next state inv) (object.answer state inv)) found in
-      let value : Option (ℕ × Option ℕ) = decision (settled_in (w.memory (NewOf d))) (value_after object (new_of w.memory c) (inv_of w.memory d)) in
+      let value : Option (ℕ × Option ℕ) = option_or (settled_in (w.memory (NewOf d))) (value_after object (new_of w.memory c) (inv_of w.memory d)) in
       let is_there : w.memory (NewOf d) ≡ content_of w.n (NewOf d) found = there object row w s is id v at single call pending i word in
       let value_is : settled_at d x ≡ value
       = exchanged_is d apart (object.next state inv) (object.answer state inv) answer_fits found
-      ∙ ap (λ (u : Content ℕ ℕ ℕ). decision (settled_in u) (Some (object.next state inv, Some (object.answer state inv)))) (sym is_there)
-      ∙ ap (λ o. decision (settled_in (w.memory (NewOf d))) o) (sym (ap (λ o. value_after object o (inv_of w.memory d)) had.1.1 ∙ ap (λ o. value_after object (Some (state, had.1.0)) o) had.0)) in
+      ∙ ap (λ (u : Content ℕ ℕ ℕ). option_or (settled_in u) (Some (object.next state inv, Some (object.answer state inv)))) (sym is_there)
+      ∙ ap (λ o. option_or (settled_in (w.memory (NewOf d))) o) (sym (ap (λ o. value_after object o (inv_of w.memory d)) had.1.1 ∙ ap (λ o. value_after object (Some (state, had.1.0)) o) had.0)) in
       let writes : content_of w.n (NewOf d) x ≡ (effect object row w s is id v at single call pending).content = ap (λ o. Settled o) value_is in
       let after : WorldOf ℕ ℕ ℕ = later object row w s is id v at single call pending in
       let fits : (y : Name) (u : ℕ × Option ℕ) → new_of after.memory y ≡ Some u → u.0 < 2 ^ 31
@@ -78,7 +79,7 @@ module _ (object : Sequential ℕ ℕ ℕ) (row : ℕ) where
       )
     where
       decision_fits : (found : ℕ) (d : Name) (state reply : ℕ) → state < 2 ^ 31 → {m' : Option (ℕ × Option ℕ)} → ((u : ℕ × Option ℕ) → m' ≡ Some u → u.0 < 2 ^ 31) → settled_at d found ≡ m'
-          → (u : ℕ × Option ℕ) → decision (settled_at d found) (Some (state, Some reply)) ≡ Some u → u.0 < 2 ^ 31
+          → (u : ℕ × Option ℕ) → option_or (settled_at d found) (Some (state, Some reply)) ≡ Some u → u.0 < 2 ^ 31
       decision_fits zero d state reply below old same u e = let f : (state, Some reply) ≡ u = cc in subst (λ (k : ℕ × Option ℕ). k.0 < 2 ^ 31) f below
       decision_fits (suc found) d state reply below old same u e = old u (sym same ∙ e)
 

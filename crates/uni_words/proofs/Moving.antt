@@ -10,7 +10,7 @@ use Rattle.uni_model.specs.Places.Name.{Of}
 use Rattle.uni_model.specs.Places.Place.{Announced, HeadOf, InvOf, SeqOf, AfterOf, NewOf, BeforeOf}
 use Rattle.uni_model.specs.Stages.{Stage, Pending}
 use Rattle.uni_model.specs.Stages.Stage.{Announce, ScanHead, ScanSeq, WriteScan, Test, ReadAnnounce, ReadHelpSeq, DecideAfter, DecideNew, WriteBefore, WriteSeq, WriteHead, Finish}
-use Rattle.uni_model.specs.Transition.{Beside, place_of, beside, stage_after, content_after, response_after, turn_of}
+use Rattle.uni_model.specs.Transition.{place_of, stage_after, content_after, response_after, turn_of}
 use Rattle.uni_model.specs.Effects.{Effect, call_after}
 use Rattle.uni_model.specs.Worlds.{WorldOf}
 use Rattle.uni_model.specs.Worlds.Event.{Step}
@@ -81,7 +81,7 @@ goes_on n p mine (WriteHead c s d) found h = (_, refl)
 goes_on n p mine (Finish s t) found h = absurd h
 
 -- a step after which the call goes on has no response
-silent : (n p : ℕ) (mine : Name) (stage : Stage) (found : ℕ) (next : Stage) (seen : Beside ℕ ℕ ℕ) → stage_found n p mine stage found ≡ Some next → response_after stage seen ≡ None
+silent : (n p : ℕ) (mine : Name) (stage : Stage) (found : ℕ) (next : Stage) (seen : Memory ℕ ℕ ℕ) → stage_found n p mine stage found ≡ Some next → response_after mine stage seen ≡ None
 silent n p mine Announce found next seen on = refl
 silent n p mine (ScanHead q best s) found next seen on = refl
 silent n p mine (ScanSeq q best s x) found next seen on = refl
@@ -161,7 +161,7 @@ module _ (object : Sequential ℕ ℕ ℕ) (row : ℕ) where
       moved_leads fits = record {
         shown = moved_kept fits;
         run = λ n events run.
-            run_moves object n row w s is events run id v at single c pending (silent v.n v.first c.mine c.stage found on.0 (beside w.memory c.mine c.stage) on.1)
+            run_moves object n row w s is events run id v at single c pending (silent v.n v.first c.mine c.stage found on.0 w.memory on.1)
             (record { mine = c.mine; stage = on.0 }) (moved_at v c found) refl single refl refl refl (ap (call_after c.mine) on.1);
       }
 
@@ -187,7 +187,7 @@ module _ (object : Sequential ℕ ℕ ℕ) (row : ℕ) where
   -- The seat may take the step, by which the word becomes f of what it was, and it is told so of what it found.
   pub moves : (n slots id i : ℕ) (st : table.Step ℕ) (me : Me ℕ View) (f said : ℕ → ℕ) → me.0.known.count ≡ 1 → (c : Pending) → me.0.known.call ≡ Some c → GoesOn c.stage
       → word_of n row (place_of n me.0.known.first c.mine c.stage) ≡ Some i
-      → ((found : ℕ) (seen : Beside ℕ ℕ ℕ) → content_of n (place_of n me.0.known.first c.mine c.stage) (f found)
+      → ((found : ℕ) (seen : Memory ℕ ℕ ℕ) → content_of n (place_of n me.0.known.first c.mine c.stage) (f found)
       ≡ content_after object c.mine c.stage (content_of n (place_of n me.0.known.first c.mine c.stage) found) seen)
       → ((found : ℕ) → moved_at me.0.known c found ≡ moved_at me.0.known c (said found))
       → ((found : ℕ) → IsWithin n row (place_of n me.0.known.first c.mine c.stage) found → IsWithin n row (place_of n me.0.known.first c.mine c.stage) (f found) → IsWithin n row (place_of n me.0.known.first c.mine c.stage) (said found))
@@ -197,7 +197,7 @@ module _ (object : Sequential ℕ ℕ ℕ) (row : ℕ) where
       let is : IsShown object row w s = shown.2 in
       let found : ℕ = slice_index s.words i in
       let v : Known = me.0.known in
-      let seen : Beside ℕ ℕ ℕ = beside w.memory c.mine c.stage in
+      let seen : Memory ℕ ℕ ℕ = w.memory in
       let place : Place = place_of w.n v.first c.mine c.stage in
       let word : word_of w.n row place ≡ Some i = subst (λ k. word_of k row (place_of k v.first c.mine c.stage) ≡ Some i) (sym shown.1) word_n in
       let writes : content_of w.n place (f found) ≡ content_after object c.mine c.stage (content_of w.n place found) seen

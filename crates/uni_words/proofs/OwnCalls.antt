@@ -6,7 +6,8 @@ use Rattle.seq_object.specs.Sequential.{Sequential}
 use Rattle.uni_model.specs.Places.{Name, inv_of, after_of}
 use Rattle.uni_model.specs.Places.Name.{Anchor, Of}
 use Rattle.uni_model.specs.Chain.{cells_from, entries_from, invoked_at, response_in}
-use Rattle.uni_model.specs.Worlds.{WorldOf, calls_in_era, era_calls}
+use Rattle.uni_model.specs.Worlds.{WorldOf, calls_in_era}
+use Rattle.uni_model.specs.Counting.{era_calls}
 use Rattle.uni_model.specs.Invariant.{IsSound}
 use Rattle.uni_model.proofs.Ranges.{sum_below-bound}
 use Rattle.uni_model.proofs.Simulation.{enough}

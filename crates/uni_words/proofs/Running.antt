@@ -14,7 +14,8 @@ use Rattle.uni_model.specs.History.{acts_of, calls_of, history_of, log, log_of_r
 use Rattle.uni_model.specs.Places.{Name, Memory, inv_of}
 use Rattle.uni_model.specs.Places.Name.{Of}
 use Rattle.uni_model.specs.Stages.{Pending}
-use Rattle.uni_model.specs.Worlds.{WorldOf, Event, world_after, world_after_all, world_after_call, world_after_step, IsAccepted, AreAccepted, response_of_call}
+use Rattle.uni_model.specs.Worlds.{WorldOf, Event, world_after, world_after_all, world_after_call, world_after_step, IsAccepted, AreAccepted}
+use Rattle.uni_model.specs.Transition.{response_after}
 use Rattle.uni_model.specs.Worlds.Event.{Call, Step, Trim, Reshape}
 use Rattle.uni_model.proofs.Written.{number_cases}
 use Rattle.uni_words.specs.Laws.{Leads}
@@ -77,10 +78,10 @@ module _ (object : Sequential ℕ ℕ ℕ) where
 
   -- the acts of a step: a response, if its call ends
   step_acts : (w : WorldOf ℕ ℕ ℕ) (p : ℕ) (c : Pending) → w.call p ≡ Some c → (q : ℕ)
-      → acts_by q (acts_of object w (Step p)) ≡ acts_by q (responses_of w.memory p c.mine (response_of_call w c))
+      → acts_by q (acts_of object w (Step p)) ≡ acts_by q (responses_of w.memory p c.mine (response_after c.mine c.stage w.memory))
   step_acts w p c pending q =
-      acts_by-linearized q (drop (length (calls_of w)) (calls_of (world_after object w (Step p)))) (option_map_or (λ (call : Pending). responses_of w.memory p call.mine (response_of_call w call)) (w.call p) [])
-      ∙ ap (λ o. acts_by q (option_map_or (λ (call : Pending). responses_of w.memory p call.mine (response_of_call w call)) o [])) pending
+      acts_by-linearized q (drop (length (calls_of w)) (calls_of (world_after object w (Step p)))) (option_map_or (λ (call : Pending). responses_of w.memory p call.mine (response_after call.mine call.stage w.memory)) (w.call p) [])
+      ∙ ap (λ o. acts_by q (option_map_or (λ (call : Pending). responses_of w.memory p call.mine (response_after call.mine call.stage w.memory)) o [])) pending
 
   response_elsewhere : (m : Memory ℕ ℕ ℕ) (p q : ℕ) (mine : Name) → q ≢ p → (o : Option ℕ) → acts_by q (responses_of m p mine o) ≡ []
   response_elsewhere m p q mine apart None = refl
@@ -186,11 +187,11 @@ module _ (object : Sequential ℕ ℕ ℕ) (n row : ℕ) (w : WorldOf ℕ ℕ �
     own_call = local.call ∙ pending
 
     -- a step after which the call goes on
-    pub run_moves : (response_of_call w c) ≡ None → (d : Pending) (v' : Known) → v'.first ≡ v.first → v'.count ≡ 1 → v'.taken ≡ v.taken → v'.own ≡ v.own → v'.inv ≡ v.inv → v'.call ≡ Some d
+    pub run_moves : (response_after c.mine c.stage w.memory) ≡ None → (d : Pending) (v' : Known) → v'.first ≡ v.first → v'.count ≡ 1 → v'.taken ≡ v.taken → v'.own ≡ v.own → v'.inv ≡ v.inv → v'.call ≡ Some d
         → LeadsTo object n (events ++ Step v.first ∷ []) (world_after_step object w v.first (Some c)) (set s.views id (record { known = v' }))
     run_moves silent d v' first_is count_is taken_is own asked call =
         run_more (Step v.first) (subst IsSome (sym own_call) refl) tt (world_after_step object w v.first (Some c)) (ap (world_after_step object w v.first) own_call) v' first_is count_is taken_is
-        (λ q apart. step_acts object w v.first c own_call q ∙ response_elsewhere object w.memory v.first q c.mine apart (response_of_call w c))
+        (λ q apart. step_acts object w v.first c own_call q ∙ response_elsewhere object w.memory v.first q c.mine apart (response_after c.mine c.stage w.memory))
         (ap (λ l. acts_in_view v.first v ++ l) (step_acts object w v.first c own_call v.first ∙ ap (λ o. acts_by v.first (responses_of w.memory v.first c.mine o)) silent)
         ∙ (append-nil (acts_in_view v.first v)
         ∙ (ap (λ o. sequential_acts v.first 0 v.own ++ pending_acts v.first (length v.own) v.inv o) pending
@@ -199,14 +200,14 @@ module _ (object : Sequential ℕ ℕ ℕ) (n row : ℕ) (w : WorldOf ℕ ℕ �
         ∙ ap (λ o. sequential_acts v.first 0 v'.own ++ pending_acts v.first (length v'.own) v'.inv o) (sym call))))))
 
     -- the last step of a call
-    pub run_ends : (reply : ℕ) → (response_of_call w c) ≡ Some reply → c.mine ≡ Of v.first (length v.own) → inv_of w.memory c.mine ≡ Some v.inv
+    pub run_ends : (reply : ℕ) → (response_after c.mine c.stage w.memory) ≡ Some reply → c.mine ≡ Of v.first (length v.own) → inv_of w.memory c.mine ≡ Some v.inv
         → (v' : Known) → v'.first ≡ v.first → v'.count ≡ 1 → v'.taken ≡ v.taken → v'.own ≡ v.own ++ (v.inv, reply) ∷ [] → v'.call ≡ None
         → LeadsTo object n (events ++ Step v.first ∷ []) (world_after_step object w v.first (Some c)) (set s.views id (record { known = v' }))
     run_ends reply answer mine asked v' first_is count_is taken_is own call =
         let k : ℕ = length v.own in
         let k_is : k ≡ length v.own + 0 = omega arith in
         run_more (Step v.first) (subst IsSome (sym own_call) refl) tt (world_after_step object w v.first (Some c)) (ap (world_after_step object w v.first) own_call) v' first_is count_is taken_is
-        (λ q apart. step_acts object w v.first c own_call q ∙ response_elsewhere object w.memory v.first q c.mine apart (response_of_call w c))
+        (λ q apart. step_acts object w v.first c own_call q ∙ response_elsewhere object w.memory v.first q c.mine apart (response_after c.mine c.stage w.memory))
         (ap (λ l. acts_in_view v.first v ++ l) (step_acts object w v.first c own_call v.first
         ∙ (ap (λ o. acts_by v.first (responses_of w.memory v.first c.mine o)) answer
         ∙ (ap (λ x. acts_by v.first (responses_of w.memory v.first x (Some reply))) mine

@@ -3,12 +3,12 @@ use Rattle.std.proofs.Common.{◌≡◌, ◌∙◌, ℕ, ◌<◌, refl, sym, ap,
 use Rattle.atomic_table.specs.Table.{State, Me, Step, Allows}
 use Rattle.seq_object.specs.Sequential.{Sequential}
 use Rattle.uni_model.specs.Indices.{name_of}
-use Rattle.uni_model.specs.Places.{Name}
+use Rattle.uni_model.specs.Places.{Memory, Name}
 use Rattle.uni_model.specs.Places.Place.{HeadOf, SeqOf}
 use Rattle.uni_model.specs.Places.Content.{CellName}
 use Rattle.uni_model.specs.Stages.{Stage, Pending}
 use Rattle.uni_model.specs.Stages.Stage.{ScanSeq, WriteScan, Test, ReadHelpSeq, WriteHead, Finish}
-use Rattle.uni_model.specs.Transition.{Beside, place_of, content_after}
+use Rattle.uni_model.specs.Transition.{place_of, content_after}
 use Rattle.uni_words.specs.Words.{cells_of, content_of, word_of}
 use Rattle.uni_words.specs.View.{Reading}
 use Rattle.uni_words.specs.View.Reading.{Reply}
@@ -37,7 +37,7 @@ number_goes_on x mine (Test c s) loads = tt
 number_goes_on x mine (ReadHelpSeq c s help) loads = tt
 number_goes_on x mine _ loads = absurd loads
 
-pub number_stays : (object : Sequential ℕ ℕ ℕ) (n p : ℕ) (x mine : Name) (stage : Stage) → LoadsNumber x mine stage → (found : ℕ) (seen : Beside ℕ ℕ ℕ)
+pub number_stays : (object : Sequential ℕ ℕ ℕ) (n p : ℕ) (x mine : Name) (stage : Stage) → LoadsNumber x mine stage → (found : ℕ) (seen : Memory ℕ ℕ ℕ)
     → content_of n (place_of n p mine stage) found ≡ content_after object mine stage (content_of n (place_of n p mine stage) found) seen
 number_stays object n p x mine (ScanSeq q best s h) loads found seen = refl
 number_stays object n p x mine (Test c s) loads found seen = refl

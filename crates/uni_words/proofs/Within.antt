@@ -6,7 +6,8 @@ use Rattle.uni_model.specs.Indices.{name_of}
 use Rattle.uni_model.specs.Places.{Name, Place, announce_of, head_of, seq_of, after_of, before_of, new_of, inv_of}
 use Rattle.uni_model.specs.Places.Name.{Anchor}
 use Rattle.uni_model.specs.Places.Place.{Announced, HeadOf, InvOf, SeqOf, AfterOf, NewOf, BeforeOf}
-use Rattle.uni_model.specs.Worlds.{WorldOf, calls_in_era, era_calls}
+use Rattle.uni_model.specs.Worlds.{WorldOf, calls_in_era}
+use Rattle.uni_model.specs.Counting.{era_calls}
 use Rattle.uni_model.specs.Invariant.{Has, IsSound}
 use Rattle.uni_model.proofs.Ranges.{sum_below-bound, announced_cell, head_cell, after_cell, before_cell, seq_bound}
 use Rattle.uni_words.specs.Words.{cells_of, link_of, settled_at, state_in, word_of}

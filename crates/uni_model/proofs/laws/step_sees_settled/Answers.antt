@@ -5,4 +5,4 @@ pub returns-clause-settled : goal.returns-clause-settled
 returns-clause-settled g c object w p inv = SeesSettled-held (g.O.SeqObject.sequential object) w inv p
 
 pub returns-clause-only : goal.returns-clause-only
-returns-clause-only g c m later mine stage = SeesOnly-holds m later mine stage
+returns-clause-only g c object m later mine stage = SeesOnly-holds (g.O.SeqObject.sequential object) m later mine stage
