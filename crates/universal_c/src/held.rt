@@ -32,19 +32,26 @@ pub struct Seated<O: WordObject> {
 /// What a handle holds.
 #[derive(Drop)]
 pub enum Held {
+    /// A log of a tally, with the seats that are left.
     TallyLog(Opened<WordTally>),
+    /// A seat of a tally.
     TallySeat(Seated<WordTally>),
+    /// The calls of a tally whose log was closed, in order.
     TallyEntries(Vec<WordEntry>),
+    /// A log of a sticky register, with the seats that are left.
     StickyLog(Opened<WordSticky>),
+    /// A seat of a sticky register.
     StickySeat(Seated<WordSticky>),
+    /// The calls of a sticky register whose log was closed, in order.
     StickyEntries(Vec<WordEntry>),
+    /// Nothing: what it held was lost at a closing that was refused memory.
     Nothing,
 }
 
 /// Why there are no entries.
 #[derive(Drop)]
 pub enum CloseFault<O: WordObject> {
-    /// Another has the log.
+    /// Another has the log: the seat comes back.
     Busy(Seated<O>),
     /// Memory was refused: the log is lost.
     Memory,
@@ -53,12 +60,15 @@ pub enum CloseFault<O: WordObject> {
 /// Why there is no further seat.
 #[derive(Clone, Copy, Drop)]
 pub enum SeatFault {
+    /// All seats are given out.
     Given,
+    /// Memory was refused, and the seat stays where it was.
     Memory,
 }
 
 impl<O: WordObject> Opened<O> {
-    /// A log of the object, with all its seats.
+    /// A log of the object for n processes that can make k calls each, with all its seats.
+    /// Errors, in this order: `n` isn't from 1 to 64; `k` isn't from 1 to 4096; memory was refused.
     #[tactic(auto, using(crate::proofs::Seats::counted))]
     pub(crate) fn open(alloc: Global, object: O, n: u64, k: u64) -> Result<Opened<O>, WordOpenFault>
         ensures count { IsErrOf result WordOpenFault.BadCount ↔ ((n ≡ 0) ⊎ (64 < n)) }
@@ -74,6 +84,7 @@ impl<O: WordObject> Opened<O> {
     }
 
     /// The seat of the greatest process that has not been given out, and its process.
+    /// Errors: memory was refused; all seats are given out. After either no seat is lost.
     pub(crate) fn next(&mut self) -> Result<(Seated<O>, u64), SeatFault>
         ensures log { self.new.log ≡ self.old.log }
         ensures given { IsErrOf result SeatFault.Given → vec_len self.old.seats ≡ 0 }
@@ -96,7 +107,8 @@ impl<O: WordObject> Seated<O> {
     ghost use Rattle.universal_c.specs.declared.held.Seated.{Seated};
     ghost use Rattle.universal_c.specs.declared.held.CloseFault.TheVariants.{Busy, Memory};
 
-    /// Applies the invocation.
+    /// Applies the invocation, in at most 12n + 16 steps on shared words, whatever other threads do.
+    /// Error: the seat has made its k calls, and nothing is changed.
     pub(crate) fn apply(&mut self, inv: u64) -> Result<Answer, RowFull>
         ensures log { self.new.log ≡ self.old.log }
         ensures process { process_of self.new.seat ≡ process_of self.old.seat }
@@ -112,7 +124,8 @@ impl<O: WordObject> Seated<O> {
         self.seat.apply(&self.log, inv)
     }
 
-    /// Closes the log, where this is the last that has it: the entries.
+    /// Closes the log, where this is the last that has it: the calls that took effect, in order.
+    /// Errors: another has the log, and the seat comes back; memory was refused, and the log is lost.
     pub(crate) fn close(self, alloc: Global) -> Result<Vec<WordEntry>, CloseFault<O>>
         ensures busy { IfErr result (λ fault. (fault ≡ Memory)
             ⊎ ((seated : Seated O) × (fault ≡ Busy seated) × (seated.log ≡ self.log) × (seated.seat ≡ self.seat))) }

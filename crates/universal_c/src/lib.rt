@@ -34,21 +34,27 @@ const WRONG_HANDLE: u32 = 7;
 #[repr(C)]
 #[derive(Clone, Copy, Drop)]
 pub struct Reply {
+    /// What the object answered.
     pub reply: u32,
+    /// How many turns of the construction's loop the call took.
     pub turns: u32,
 }
 
-/// A call that took effect: its number in the log, of which the first is 2; its process, and the
-/// how many-th of the process it is, from 0 on; its invocation and its reply. `is_replied` is 0 only
-/// in a last entry whose call never returned, and 1 else.
+/// A call that took effect.
 #[repr(C)]
 #[derive(Clone, Copy, Drop)]
 pub struct Entry {
+    /// Its number in the log, from 2 on.
     pub seq: u64,
+    /// Whose call it was.
     pub process: u64,
+    /// The how many-th call of the process it was, from 0 on.
     pub nth: u64,
+    /// What was invoked.
     pub inv: u64,
+    /// What was answered; 0 where nothing was.
     pub reply: u32,
+    /// 0 only in a last entry whose call never returned, and 1 else.
     pub is_replied: u32,
 }
 
