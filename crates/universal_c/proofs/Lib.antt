@@ -1,0 +1,2 @@
+mod Seats
+mod Writing
