@@ -120,7 +120,7 @@ fn verdict(alloc: Global, recorded: &Recorded<QueueObject>) -> Option<Verdict> {
 fn shows(alloc: Global, recorded: &Recorded<QueueObject>, fact: &Fact) -> bool {
     match fact {
         Fact::Stored(count) => recorded.events().len() == *count,
-        Fact::Last(event) => recorded.events().last() == Some(event),
+        Fact::Last(event) => recorded.events().last() == Some(event.as_ref()),
         Fact::Entry(place, told) => entry(alloc, recorded, *place) == *told,
         Fact::Processes(n) => recorded.world().processes() == *n,
         Fact::Agrees => verdict(alloc, recorded) == Some(Verdict::Agrees),
@@ -220,10 +220,9 @@ fn enqueued(alloc: Global) -> Result<Recorded<QueueObject>, Fail> {
 
 /// What `a_call_is_stored_event_by_event` looks at.
 fn a_call_is_stored_event_by_event_in(rt: &impl Abort, recorded: &Recorded<QueueObject>) {
-    let events = recorded.events();
-    assert!(rt; events.len() == 15);
-    assert!(rt; events.first() == Some(&Event::Call(0, enq(7))));
-    assert!(rt; events.last() == Some(&Event::Step(0)));
+    assert!(rt; recorded.events().len() == 15);
+    assert!(rt; recorded.events().next() == Some(Event::Call(0, &enq(7))));
+    assert!(rt; recorded.events().last() == Some(Event::Step(0)));
     assert!(rt; recorded.returns() == [returned(QueueResp::Added)].as_slice());
     let counts = Counts {
         steps: 14,

@@ -241,7 +241,7 @@ fn is_as_expected<R: Abort>(
     closed: &Closed<QueueObject>,
     expected: &Recorded<QueueObject>,
 ) -> Result<(), AllocError> {
-    assert!(rt; closed.recorded().events() == expected.events());
+    assert!(rt; closed.recorded().events().eq(expected.events()));
     has_returns_of(rt, closed, expected);
     has_entries_of(rt, alloc, closed.recorded(), expected)
 }

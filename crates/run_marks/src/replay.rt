@@ -6,7 +6,7 @@ ghost use Rattle.uni_model.specs.Worlds.Event.{Call, Step};
 ghost use Rattle.uni_model.specs.History.{calls_of};
 ghost use Rattle.uni_core.specs.World.{world_of};
 ghost use Rattle.uni_log.specs.Entry.{entry_shown};
-ghost use Rattle.uni_record.specs.Event.{event_shown, events_shown};
+ghost use Rattle.uni_record.specs.Event.{event_lent, event_shown, events_shown};
 ghost use Rattle.run_marks.specs.Marks.{marks_of_run, bar_begun, box_of, dots_of, era_of};
 ghost use Rattle.run_marks.specs.Shown.{bar_shown, cell_shown, era_shown, marks_shown};
 ghost use Rattle.run_marks.specs.Replay.{marks_with, from_with, bar_ended};
@@ -77,7 +77,7 @@ fn reopened<O: Spoken>(alloc: Global, object: O, run: &Recorded<O>) -> Result<Wo
 /// An `Err` says that memory was refused, or the event.
 fn replay_event<O: Spoken>(
     alloc: Global,
-    event: &Event<O::Inv>,
+    event: Event<&O::Inv>,
     from: u64,
     place: u64,
     replay: &mut World<O>,
@@ -85,17 +85,17 @@ fn replay_event<O: Spoken>(
 ) -> Result<u64, AllocError>
     requires { place < 2 ^ 63 }
     ensures object { replay.new.object ≡ replay.old.object }
-    ensures from { IfOk result (λ next. next ≡ from_with from place (event_shown event.now)) }
-    ensures world { OnOk result (world_of replay.new ≡ world_after (O.sequential replay.old.object) (world_of replay.old) (event_shown event.now)) }
-    ensures marks { OnOk result (marks_shown marks.new ≡ marks_with (record { object = O.sequential replay.old.object; language = O.language }) (marks_shown marks.old) (world_of replay.old) from place (event_shown event.now)) }
+    ensures from { IfOk result (λ next. next ≡ from_with from place (event_shown (event_lent event))) }
+    ensures world { OnOk result (world_of replay.new ≡ world_after (O.sequential replay.old.object) (world_of replay.old) (event_shown (event_lent event))) }
+    ensures marks { OnOk result (marks_shown marks.new ≡ marks_with (record { object = O.sequential replay.old.object; language = O.language }) (marks_shown marks.old) (world_of replay.old) from place (event_shown (event_lent event))) }
 {
     match event {
         Event::Call(process, inv) => {
-            replay_call(alloc, *process, inv, place, replay, &mut marks.bars)?;
+            replay_call(alloc, process, inv, place, replay, &mut marks.bars)?;
             Ok(from)
         }
         Event::Step(process) => {
-            replay_step(alloc, *process, place, replay, marks)?;
+            replay_step(alloc, process, place, replay, marks)?;
             Ok(from)
         }
         Event::Trim => {
@@ -108,8 +108,8 @@ fn replay_event<O: Spoken>(
         }
         Event::Reshape(processes) => {
             push_era(alloc, replay, from, &mut marks.eras)?;
-            let number = reshape(alloc, replay, *processes).map_err(|_| AllocError)?;
-            let end = EraEnd::Reshape(*processes);
+            let number = reshape(alloc, replay, processes).map_err(|_| AllocError)?;
+            let end = EraEnd::Reshape(processes);
             let event = place;
             marks.lines.push(EraLine { event, end, number })?;
             Ok(place + 1)

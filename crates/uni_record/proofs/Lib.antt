@@ -1,4 +1,5 @@
 pub mod Before
+pub mod Packed
 pub mod Calls
 pub mod Faults
 pub mod Replay

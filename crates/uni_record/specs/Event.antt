@@ -1,6 +1,7 @@
 -- What stored events are in the definitions, and what a run of them returns and logs.
 use Rattle.std.specs.Prelude.{◌≡◌, ℕ, List, [], ◌∷◌, ◌++◌, Option, Some, None, map, option_map, option_and_then, refl}
 use Rattle.std.specs.Prelude.{option_to_list}
+use Rattle.std.specs.Borrow.{Bor}
 use Rattle.seq_object.specs.Sequential.{Sequential}
 use Rattle.uni_model.specs.Chain.{Entry}
 use Rattle.uni_model.specs.Worlds.{WorldOf, Event, world_after, response_of_step, opened_world}
@@ -23,6 +24,13 @@ event_shown (stored.Reshape n) = Reshape n
 
 abbrev pub events_shown : {I : Type 0} → List (Stored I) → List (Event I)
 events_shown events = map event_shown events
+
+-- the stored event that an event is whose invocation is lent
+abbrev pub event_lent : {I : Type 0} → Stored (Bor I) → Stored I
+event_lent (stored.Call p i) = stored.Call p i.now
+event_lent (stored.Step p) = stored.Step p
+event_lent stored.Trim = stored.Trim
+event_lent (stored.Reshape n) = stored.Reshape n
 
 -- a call that has returned, with its reply, and its own steps and turns
 pub record Completed (R : Type 0) : Type 0 where

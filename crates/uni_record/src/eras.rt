@@ -11,16 +11,15 @@ ghost use Rattle.uni_record.specs.declared.event.Event.TheVariants as event;
 ghost use Rattle.uni_record.specs.Recorded.{KeepsOpening, standing_of, untrimmed_world, CanEnd, IsEndRefused, IsReshapeRefused, IsCount, IsPromised};
 
 use crate::event::Event;
+use crate::events::PackedEvents;
 use crate::fault::{RecordReshapeFault, RecordTrimFault};
 use crate::recorded::Recorded;
 use seq_object::SeqObject;
 use std::alloc::{AllocError, Global};
 use uni_core::World;
 use uni_log::{Entry, Log};
+use uni_model::MAX_PROCESSES;
 use uni_trim::next_number;
-
-/// The greatest number of processes.
-const MAX_PROCESSES: u64 = 64;
 
 /// The entries of the present era of a world, with room made for them behind those of the ended eras,
 /// and for one event more.
@@ -29,18 +28,18 @@ const MAX_PROCESSES: u64 = 64;
 fn prepare_end<O: SeqObject>(
     alloc: Global,
     world: &World<O>,
-    events: &mut Vec<Event<O::Inv>>,
+    events: &mut PackedEvents<O::Inv>,
     ended: &mut Vec<Entry<O::Inv, O::Resp>>,
 ) -> Result<Vec<Entry<O::Inv, O::Resp>>, AllocError>
-    ensures events { (events.new.items ≡ events.old.items) × (vec_capacity events.old ≤ vec_capacity events.new) }
+    ensures events { (events.new.events ≡ events.old.events) × (events.old.room ≤ events.new.room) }
     ensures ended { ended.new.items ≡ ended.old.items }
-    ensures event_fits { OnOk result (length events.old.items + 1 ≤ vec_capacity events.new) }
+    ensures event_fits { OnOk result (length events.old.events + 1 ≤ events.new.room) }
     ensures entries_fit { IfOk result (λ entries. length ended.old.items + length entries.items ≤ vec_capacity ended.new) }
     ensures log { IfOk result (λ entries. map entry_shown entries.items ≡ log (world_of world.now)) }
 {
     let entries = Log::of(world).entries(alloc)?;
     ended.try_reserve(entries.len())?;
-    events.try_reserve(1)?;
+    events.reserve(1)?;
     Ok(entries)
 }
 
@@ -110,7 +109,7 @@ impl<O: SeqObject> Recorded<O> {
         let Ok(()) = self.ended.append(&mut entries) else {
             unreachable!()
         };
-        self.events.push_reserved(Event::Trim);
+        self.events.push(Event::Trim);
         self.promise();
         Ok(number)
     }
@@ -144,7 +143,7 @@ impl<O: SeqObject> Recorded<O> {
         let Ok(()) = self.ended.append(&mut entries) else {
             unreachable!()
         };
-        self.events.push_reserved(Event::Reshape(m));
+        self.events.push(Event::Reshape(m));
         self.promise();
         Ok(number)
     }

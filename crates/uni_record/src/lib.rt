@@ -6,6 +6,7 @@ mod checker;
 mod command;
 mod eras;
 mod event;
+mod events;
 mod fault;
 mod readers;
 mod recorded;
@@ -16,6 +17,7 @@ mod verdict;
 pub use checker::audit;
 pub use command::{Command, Outcome, Refusal};
 pub use event::Event;
+pub use events::Events;
 pub use fault::{
     RecordBeginFault, RecordOpenFault, RecordReshapeFault, RecordStepFault, RecordTrimFault,
 };

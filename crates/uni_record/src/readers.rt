@@ -8,7 +8,7 @@ ghost use Rattle.uni_record.specs.Event.{events_shown};
 ghost use Rattle.uni_record.specs.Recorded.{meaning, opening, IsRecording, IsPromised};
 
 use crate::checker::audit;
-use crate::event::Event;
+use crate::events::Events;
 use crate::recorded::Recorded;
 use crate::verdict::{Counts, Return, Verdict};
 use seq_object::SeqObject;
@@ -49,11 +49,11 @@ impl<O: SeqObject> Recorded<O> {
         self.limit
     }
 
-    /// The events since the opening, in order.
-    pub fn events(&self) -> &[Event<O::Inv>]
-        ensures { result.now ≡ self.now.events }
+    /// The events since the opening, in order. What a call asks for is lent.
+    pub fn events(&self) -> Events<'_, O::Inv>
+        ensures { result ≡ self.now.events }
     {
-        self.events.as_slice()
+        self.events.iter()
     }
 
     /// The calls that have returned, in the order of their returns, each with its reply.

@@ -9,6 +9,7 @@ ghost use Rattle.uni_record.specs.declared.event.Event.TheVariants as event;
 ghost use Rattle.uni_record.specs.Recorded.{share, set_aside, standing_of, untrimmed_world, KeepsOpening, HasOpened, CanBegin, IsBeginRefused, IsStepRefused, IsPromised};
 
 use crate::event::Event;
+use crate::events::PackedEvents;
 use crate::fault::{RecordBeginFault, RecordOpenFault, RecordStepFault};
 use crate::room::{is_history, make_room, set_aside};
 use crate::verdict::{Counts, Return};
@@ -27,7 +28,7 @@ pub struct Recorded<O: SeqObject> {
     pub(crate) processes: u64,
     pub(crate) first: u64,
     pub(crate) limit: u64,
-    pub(crate) events: Vec<Event<O::Inv>>,
+    pub(crate) events: PackedEvents<O::Inv>,
     pub(crate) returns: Vec<Return<O::Resp>>,
     pub(crate) counts: Vec<Counts>,
     pub(crate) ended: Vec<Entry<O::Inv, O::Resp>>,
@@ -40,11 +41,11 @@ impl<O: SeqObject> Model for Recorded<O> {
 
     ghost Value = { Recording O O.State O.Inv O.Resp };
 
-    ghost view = { λ r. record { world = r.world; processes = r.processes; first = r.first; limit = r.limit; events = r.events.items; returns = r.returns.items; counts = r.counts.items; ended = r.ended.items } };
+    ghost view = { λ r. record { world = r.world; processes = r.processes; first = r.first; limit = r.limit; events = r.events.events; returns = r.returns.items; counts = r.counts.items; ended = r.ended.items } };
 
     ghost invariant = { λ r. IsRecording O.sequential
-        (record { world = r.world; processes = r.processes; first = r.first; limit = r.limit; events = r.events.items; returns = r.returns.items; counts = r.counts.items; ended = r.ended.items })
-        × HasRoom (world_of r.world) (length r.events.items) (vec_capacity r.events) (length r.returns.items) (vec_capacity r.returns) (length r.counts.items) (vec_capacity r.counts) };
+        (record { world = r.world; processes = r.processes; first = r.first; limit = r.limit; events = r.events.events; returns = r.returns.items; counts = r.counts.items; ended = r.ended.items })
+        × HasRoom (world_of r.world) (length r.events.events) r.events.room (length r.returns.items) (vec_capacity r.returns) (length r.counts.items) (vec_capacity r.counts) };
 }
 
 impl<O: SeqObject> Recorded<O> {
@@ -94,7 +95,7 @@ impl<O: SeqObject> Recorded<O> {
                 processes: n,
                 first: seq,
                 limit: h,
-                events: Vec::new(alloc),
+                events: PackedEvents::new(alloc),
                 returns: Vec::new(alloc),
                 counts: Vec::new(alloc),
                 ended: Vec::new(alloc),
@@ -127,24 +128,22 @@ impl<O: SeqObject> Recorded<O> {
         ensures unchanged { OnErr result (self.new ≡ self.old) }
     {
         self.promise();
+        self.world.shape();
         let more = self.room_of_call(p)?;
         let n = self.world.processes();
         let Ok(copy) = O::copy_inv(alloc, inv) else {
             return Err(RecordBeginFault::Memory);
         };
-        let Ok(()) = make_room(
-            &mut self.events,
-            &mut self.returns,
-            &mut self.counts,
-            more,
-            n,
-        ) else {
+        let Ok(()) = self.events.reserve_call(more) else {
+            return Err(RecordBeginFault::Memory);
+        };
+        let Ok(()) = make_room(&mut self.returns, &mut self.counts, n) else {
             return Err(RecordBeginFault::Memory);
         };
         let Ok(call) = self.world.begin(alloc, p, inv) else {
             return Err(RecordBeginFault::Memory);
         };
-        self.events.push_reserved(Event::Call(p, copy));
+        self.events.push(Event::Call(p, copy));
         self.promise();
         Ok(call)
     }
@@ -170,7 +169,7 @@ impl<O: SeqObject> Recorded<O> {
         }
         let stored = self.events.len() as u64;
         let most = n * (10 * n + 12) + 10 * n + 13;
-        if stored + most <= self.limit && stored + most <= self.events.capacity() as u64 {
+        if stored + most <= self.limit && stored + most <= self.events.room() as u64 {
             return Ok(most);
         }
         let more = set_aside(&self.world) + 10 * n + 13;
@@ -208,12 +207,12 @@ impl<O: SeqObject> Recorded<O> {
         };
         match self.world.step(alloc, p) {
             Ok(Progress::Going) => {
-                self.events.push_reserved(Event::Step(p));
+                self.events.push(Event::Step(p));
                 self.promise();
                 Ok(Progress::Going)
             }
             Ok(Progress::Done(reply)) => {
-                self.events.push_reserved(Event::Step(p));
+                self.events.push(Event::Step(p));
                 self.returns.push_reserved(Return { call, reply });
                 self.counts.push_reserved(Counts {
                     steps: self.world.steps(p),

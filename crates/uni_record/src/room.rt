@@ -4,7 +4,6 @@ ghost use Rattle.std.specs.Prelude.{◌≡◌, ◌+◌, ◌*◌, ◌≤◌, ◌�
 ghost use Rattle.uni_core.specs.World.{world_of};
 ghost use Rattle.uni_record.specs.Recorded.{set_aside};
 
-use crate::event::Event;
 use crate::verdict::{Counts, Return};
 use seq_object::SeqObject;
 use std::alloc::AllocError;
@@ -36,25 +35,20 @@ pub(crate) fn set_aside<O: SeqObject>(world: &World<O>) -> u64
     sum
 }
 
-/// Makes room for so many events more, and for so many returns with their counts. It grows by doubling,
-/// so that a history isn't copied at each call.
+/// Makes room for so many returns more, with their counts. It grows by doubling, so that they aren't
+/// copied at each call.
 ///
 /// An `Err` says that memory was refused; what is stored stays as it is.
-pub(crate) fn make_room<I, R>(
-    events: &mut Vec<Event<I>>,
+pub(crate) fn make_room<R>(
     returns: &mut Vec<Return<R>>,
     counts: &mut Vec<Counts>,
-    more_events: u64,
-    more_returns: u64,
+    more: u64,
 ) -> Result<(), AllocError>
-    ensures events { (events.new.items ≡ events.old.items) × (vec_capacity events.old ≤ vec_capacity events.new) }
     ensures returns { (returns.new.items ≡ returns.old.items) × (vec_capacity returns.old ≤ vec_capacity returns.new) }
     ensures counts { (counts.new.items ≡ counts.old.items) × (vec_capacity counts.old ≤ vec_capacity counts.new) }
-    ensures events_fit { OnOk result (length events.old.items + more_events ≤ vec_capacity events.new) }
-    ensures returns_fit { OnOk result (length returns.old.items + more_returns ≤ vec_capacity returns.new) }
-    ensures counts_fit { OnOk result (length counts.old.items + more_returns ≤ vec_capacity counts.new) }
+    ensures returns_fit { OnOk result (length returns.old.items + more ≤ vec_capacity returns.new) }
+    ensures counts_fit { OnOk result (length counts.old.items + more ≤ vec_capacity counts.new) }
 {
-    events.try_reserve(more_events as usize)?;
-    returns.try_reserve(more_returns as usize)?;
-    counts.try_reserve(more_returns as usize)
+    returns.try_reserve(more as usize)?;
+    counts.try_reserve(more as usize)
 }

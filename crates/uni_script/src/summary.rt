@@ -1,12 +1,12 @@
 //! How much a script has done.
 
-ghost use Rattle.std.specs.Prelude.{◌≡◌};
+ghost use Rattle.std.specs.Prelude.{◌≡◌, ◌<◌, ◌^◌, length};
 ghost use Rattle.uni_record.specs.Event.{events_shown};
 ghost use Rattle.uni_script.specs.Meaning.{session_of};
 ghost use Rattle.uni_script.specs.Summary.{calls_in, summary_of};
 
 use ready_objects::Spoken;
-use uni_record::{Event, Recorded};
+use uni_record::{Event, Events, Recorded};
 
 /// How much a script has done.
 #[derive(Clone, Copy, Debug, PartialEq, Eq)]
@@ -32,8 +32,9 @@ pub fn summary_of<O: Spoken>(session: &Recorded<O>, lines: u64) -> Summary
 }
 
 /// How many of some events are calls.
-fn calls_in<I>(events: &[Event<I>]) -> u64
-    ensures { result ≡ calls_in (events_shown events.now) }
+fn calls_in<I>(events: Events<'_, I>) -> u64
+    requires { length events < 2 ^ 63 }
+    ensures { result ≡ calls_in (events_shown events) }
 {
     let mut calls = 0;
     for event in events {

@@ -4,13 +4,14 @@ ghost use Rattle.std.specs.Prelude.{◌≡◌, ◌≢◌, ◌⊎◌, ◌↔◌, 
 ghost use Rattle.std.specs.List.{All, Contains, filter_map};
 ghost use Rattle.uni_model.specs.Worlds.{IsQuiescent};
 ghost use Rattle.uni_core.specs.World.{world_of};
+ghost use Rattle.uni_record.specs.Event.{event_lent};
 ghost use Rattle.uni_shared.specs.Agreement.{DiffersFirstAt, IsBusy, IsClosed, IsFaultOfClosing, IsFirstMismatch, IsLeast, IsMismatchOf, IsMissing, SeatAgrees, invocation_by, completed_of_process, completed_of, seats_of};
 
 use crate::closed::CloseFault;
 use crate::receipt::Receipt;
 use crate::seat::Seat;
 use seq_object::{CallId, SeqObject};
-use uni_record::{Counts, Event, Recorded, Return};
+use uni_record::{Counts, Event, Events, Recorded, Return};
 
 /// How many of these seats are of a process.
 fn seats_of<O: SeqObject>(seats: &[Seat<O>], p: u64) -> usize
@@ -78,27 +79,27 @@ fn pending_seat<O: SeqObject>(recorded: &Recorded<O>, seats: &[Seat<O>]) -> Opti
 }
 
 /// What a call of this process asks for, where the event is one.
-fn invocation_by<I>(event: &Event<I>, p: u64) -> Option<&I>
-    ensures { option_map (λ i. i.now) result ≡ invocation_by p event.now }
+fn invocation_by<'a, I>(event: Event<&'a I>, p: u64) -> Option<&'a I>
+    ensures { option_map (λ i. i.now) result ≡ invocation_by p (event_lent event) }
 {
     let Event::Call(q, inv) = event else {
         return None;
     };
-    if *q == p { Some(inv) } else { None }
+    if q == p { Some(inv) } else { None }
 }
 
 /// How many receipts agree with the events up to this one, where `place` of them agree with those
 /// before it; `None` where the next one doesn't.
 fn place_after_event<O: SeqObject>(
-    event: &Event<O::Inv>,
+    event: Event<&O::Inv>,
     p: u64,
     receipts: &[Receipt<O::Inv, O::Resp>],
     place: usize,
 ) -> Option<usize>
     requires { place ≤ length receipts.now }
     ensures within { IfSome result (λ next. next ≤ length receipts.now) }
-    ensures other { result ≡ None → (inv : O.Inv) × (invocation_by p event.now ≡ Some inv) × (slice_get (map (λ r. r.inv) receipts.now) place ≢ Some inv) }
-    ensures next { IfSome result (λ next. map (λ r. r.inv) (take next receipts.now) ≡ map (λ r. r.inv) (take place receipts.now) ++ filter_map (invocation_by p) (event.now ∷ [])) }
+    ensures other { result ≡ None → (inv : O.Inv) × (invocation_by p (event_lent event) ≡ Some inv) × (slice_get (map (λ r. r.inv) receipts.now) place ≢ Some inv) }
+    ensures next { IfSome result (λ next. map (λ r. r.inv) (take next receipts.now) ≡ map (λ r. r.inv) (take place receipts.now) ++ filter_map (invocation_by p) (event_lent event ∷ [])) }
 {
     let Some(inv) = invocation_by(event, p) else {
         return Some(place);
@@ -112,12 +113,12 @@ fn place_after_event<O: SeqObject>(
 /// The number of the first receipt that differs from the calls of a process in the history by what it
 /// asked for.
 fn other_invocation<O: SeqObject>(
-    events: &[Event<O::Inv>],
+    events: Events<'_, O::Inv>,
     p: u64,
     receipts: &[Receipt<O::Inv, O::Resp>],
 ) -> Option<usize>
-    ensures none { result ≡ None → map (λ r. r.inv) receipts.now ≡ filter_map (invocation_by p) events.now }
-    ensures first { IfSome result (DiffersFirstAt (map (λ r. r.inv) receipts.now) (filter_map (invocation_by p) events.now)) }
+    ensures none { result ≡ None → map (λ r. r.inv) receipts.now ≡ filter_map (invocation_by p) events }
+    ensures first { IfSome result (DiffersFirstAt (map (λ r. r.inv) receipts.now) (filter_map (invocation_by p) events)) }
 {
     let mut place = 0;
     for event in events {

@@ -9,12 +9,15 @@ use Rattle.uni_record.proofs.Untrimmed.{begun-untrimmed}
 use Rattle.uni_record.proofs.recorded.Recorded.begin.Goals as goal
 
 pub invariant_of-self : goal.invariant_of-self
-invariant_of-self g c = rw (c.make_room.ensures.events.0, c.make_room.ensures.returns.0, c.make_room.ensures.counts.0)
-    (c.self.invariant.0, roomier _ _ _ _ _ _ _ _ _ _ c.self.invariant.1 c.make_room.ensures.events.1 c.make_room.ensures.returns.1 c.make_room.ensures.counts.1)
+invariant_of-self g c = rw c.reserve_call.ensures.events (c.self.invariant.0, roomier _ _ _ _ _ _ _ _ _ _ c.self.invariant.1 c.reserve_call.ensures.grows (omega arith) (omega arith))
+
+pub invariant_of-self-in_default-make_room : goal.invariant_of-self-in_default-make_room
+invariant_of-self-in_default-make_room g c = rw (c.reserve_call.ensures.events, c.make_room.ensures.returns.0, c.make_room.ensures.counts.0)
+    (c.self.invariant.0, roomier _ _ _ _ _ _ _ _ _ _ c.self.invariant.1 c.reserve_call.ensures.grows c.make_room.ensures.returns.1 c.make_room.ensures.counts.1)
 
 pub invariant_of-self-in_default-begin : goal.invariant_of-self-in_default-begin
-invariant_of-self-in_default-begin g c = rw (c.in_default-begin.ensures.unchanged, c.make_room.ensures.events.0, c.make_room.ensures.returns.0, c.make_room.ensures.counts.0)
-    (c.self.invariant.0, roomier _ _ _ _ _ _ _ _ _ _ c.self.invariant.1 c.make_room.ensures.events.1 c.make_room.ensures.returns.1 c.make_room.ensures.counts.1)
+invariant_of-self-in_default-begin g c = rw (c.in_default-begin.ensures.unchanged, c.reserve_call.ensures.events, c.make_room.ensures.returns.0, c.make_room.ensures.counts.0)
+    (c.self.invariant.0, roomier _ _ _ _ _ _ _ _ _ _ c.self.invariant.1 c.reserve_call.ensures.grows c.make_room.ensures.returns.1 c.make_room.ensures.counts.1)
 
 pub invariant_of-self-2 : goal.invariant_of-self-2
 invariant_of-self-2 g c =
@@ -22,10 +25,10 @@ invariant_of-self-2 g c =
     let room = subst (λ r. set_aside (world_of r.world) + share (world_of r.world).n ≤ c.in_ok-more.more) (sym c.self.view_is) c.in_ok-more.ensures.room in
     let fits = could.1 in
     let n = c.processes-n.ensures in
-    let room_events = c.in-Ok-make_room.ensures.events_fit in
+    let room_events = c.in-Ok-reserve_call.ensures.fits in
     let room_returns = c.in-Ok-make_room.ensures.returns_fit in
     let room_counts = c.in-Ok-make_room.ensures.counts_fit in
-    rw c.push_reserved.ensures.capacity
+    rw c.push.ensures.room
     (begun_kept g.O.SeqObject.sequential _ c.args.p c.args.inv.now _ _ _ _ c.self.invariant.0
     (record {
       object = c.in-Ok-begin.ensures.fixed.object;
@@ -33,7 +36,7 @@ invariant_of-self-2 g c =
       first = refl;
       limit = refl;
       world = c.in-Ok-begin.ensures.begun;
-      events = rw (← c.make_room.ensures.events.0, ← c.in-Ok.ensures) c.push_reserved.ensures.items;
+      events = rw (← c.reserve_call.ensures.events, ← c.in-Ok.ensures) c.push.ensures.events;
       returns = c.make_room.ensures.returns.0 ∙ sym (append-nil _);
       counts = c.make_room.ensures.counts.0 ∙ sym (append-nil _);
       ended = sym (append-nil _);

@@ -11,14 +11,14 @@ returns-in_default-next_number-clause-refused g c = subst (λ r. IsEndRefused (s
 
 pub returns-then-len-self-clause-refused : goal.returns-then-len-self-clause-refused
 returns-then-len-self-clause-refused g c =
-    let len = c.len.ensures ∙ c.self.inside.events.ok.0 in
+    let len = c.len.ensures in
     let past = c.if-len-self.true in
     subst (λ r. IsEndRefused (standing_of r) c.args.m HistoryFull) c.self.view_is
     (c.in_default.ensures.none.0 refl, c.in-Some-next_number.ensures.fits.0 refl, omega (arith, len, past))
 
 pub returns-clause-could : goal.returns-clause-could
 returns-clause-could g c =
-    let len = c.len.ensures ∙ c.self.inside.events.ok.0 in
+    let len = c.len.ensures in
     let fits = c.if-len-self.false in
     subst (λ r. CanEnd (standing_of r) c.args.m) c.self.view_is (c.in_default.ensures.none.0 refl, c.in-Some-next_number.ensures.fits.0 refl, omega (arith, len, fits))
 

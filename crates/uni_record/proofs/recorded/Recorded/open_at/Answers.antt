@@ -5,7 +5,7 @@ use Rattle.uni_record.proofs.recorded.Recorded.open_at.Goals as goal
 
 pub invariant_of-result : goal.invariant_of-result
 invariant_of-result g c = opened_kept g.O.SeqObject.sequential c.args.object c.args.n c.args.seq c.args.h _ _ _ _ c.requires (c.if-not-history.ensures.0 refl).1 c.in-Ok.ensures.fixed.0 c.in-Ok.ensures.opened refl refl refl
-    c.new.ensures.items c.new-in-Ok-2.ensures.items c.new-in-Ok-2-2.ensures.items c.new-in-Ok-2-3.ensures.items
+    c.new.ensures c.new-in-Ok-2.ensures.items c.new-in-Ok-2-2.ensures.items c.new-in-Ok-2-3.ensures.items
 
 pub returns-in-Ok-clause-history : goal.returns-in-Ok-clause-history
 returns-in-Ok-clause-history g c =

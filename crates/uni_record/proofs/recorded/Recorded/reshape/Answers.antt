@@ -29,7 +29,7 @@ invariant_of-self-2 g c =
     let w = world_of c.self.inside.world in
     let some = c.in_ok-number.ensures.could.0.0 in
     let quiet = subst (λ v. IsQuiescent v) (sym c.in-Ok-renew_for.ensures.renewed) (quiescent_after (g.O.SeqObject.sequential c.self.inside.world.object) w c.args.m c.shape.ensures.sound can.0) in
-    rw c.push_reserved.ensures.capacity
+    rw c.push.ensures.room
     (ended_kept g.O.SeqObject.sequential _ (stored.Reshape c.args.m) _ _ _ _ _ c.self.invariant.0 c.self.invariant.1
     (record {
       object = c.renew_for.ensures.fixed.object;
@@ -37,7 +37,7 @@ invariant_of-self-2 g c =
       first = refl;
       limit = refl;
       world = c.in-Ok-renew_for.ensures.renewed;
-      events = rw (← c.prepare_end.ensures.events.0) c.push_reserved.ensures.items;
+      events = rw (← c.prepare_end.ensures.events.0) c.push.ensures.events;
       returns = sym (append-nil _);
       counts = sym (append-nil _);
       ended = entries_joined w _ _ _ _ c.in-Ok-append.ensures.items c.prepare_end.ensures.ended c.in-Ok.ensures.log;

@@ -12,7 +12,7 @@ returns-then-self-stored-clause-refused g c =
     c.current.ensures c.if-is_some.ensures c.calls_in_era.ensures c.row.ensures (c.shape.ensures.room c.args.p) c.if-calls_in_era-row.false in
     let sum = c.set_aside.ensures.sum in
     let n = c.processes-n.ensures in
-    let len = c.len-stored.ensures ∙ c.self.inside.events.ok.0 in
+    let len = c.len-stored.ensures in
     let past = c.if-self-stored.true in
     subst (λ r. IsBeginRefused (standing_of r) c.args.p HistoryFull) c.self.view_is (can, omega (arith, sum, n, len, past))
 
@@ -21,7 +21,7 @@ returns-then-stored-most-2-clause-could g c =
     let can = can_call_now (world_of c.self.inside.world) c.self.inside.world.row c.args.p c.current.result c.calls_in_era.result c.row.result (rw c.processes-n.ensures at c.if-p-n.false)
     c.current.ensures c.if-is_some.ensures c.calls_in_era.ensures c.row.ensures (c.shape.ensures.room c.args.p) c.if-calls_in_era-row.false in
     let few = set_aside-le (world_of c.self.inside.world) in
-    let len = c.len-stored.ensures ∙ c.self.inside.events.ok.0 in
+    let len = c.len-stored.ensures in
     let fits = rw c.processes-n.ensures at c.if-stored-most.true in
     subst (λ r. CanBegin (standing_of r) c.args.p) c.self.view_is (can, omega (arith, few, len, fits))
 
@@ -37,7 +37,7 @@ returns-clause-could g c =
     c.current.ensures c.if-is_some.ensures c.calls_in_era.ensures c.row.ensures (c.shape.ensures.room c.args.p) c.if-calls_in_era-row.false in
     let sum = c.set_aside.ensures.sum in
     let n = c.processes-n.ensures in
-    let len = c.len-stored.ensures ∙ c.self.inside.events.ok.0 in
+    let len = c.len-stored.ensures in
     let fits = c.if-self-stored.false in
     subst (λ r. CanBegin (standing_of r) c.args.p) c.self.view_is (can, omega (arith, sum, n, len, fits))
 

@@ -13,19 +13,19 @@ use Rattle.uni_record.proofs.Kept.{stepped_kept, room_for_step, nothing_complete
 use Rattle.uni_record.proofs.Untrimmed.{progress-untrimmed}
 use Rattle.uni_record.proofs.recorded.Recorded.step.Goals as goal
 
-pub push_reserved-requires : goal.push_reserved-requires
-push_reserved-requires g c =
+pub push-requires-clause-fits : goal.push-requires-clause-fits
+push-requires-clause-fits g c =
     let below = rw c.processes.ensures at c.if-p-processes.false in
     let some = current_some (world_of c.self.inside.world) c.args.p c.in-Some.call c.in-Some.ensures in
     let room = room_for_step (g.O.SeqObject.sequential c.self.inside.world.object) (world_of c.self.inside.world) _ _ _ _ _ _ c.args.p c.self.invariant.1 c.shape.ensures.bounded below some in
-    rw c.self.inside.events.ok.0 room.0
+    room.0
 
 pub invariant_of-self : goal.invariant_of-self
 invariant_of-self g c =
     let below = rw c.processes.ensures at c.if-p-processes.false in
     let some = current_some (world_of c.self.inside.world) c.args.p c.in-Some.call c.in-Some.ensures in
     let none = nothing_completed (g.O.SeqObject.sequential c.self.inside.world.object) (world_of c.self.inside.world) c.args.p (going_none _ (sym c.in-Ok-Going.field-0-is ∙ c.in-Ok-Going.ensures.progress)) in
-    rw c.push_reserved.ensures.capacity
+    rw c.push.ensures.room
     (stepped_kept g.O.SeqObject.sequential _ c.args.p _ _ _ _ c.self.invariant.0 c.self.invariant.1 c.shape.ensures.bounded below some
     (record {
       object = c.step.ensures.fixed.object;
@@ -33,21 +33,21 @@ invariant_of-self g c =
       first = refl;
       limit = refl;
       world = c.in-Ok-Going.ensures.step;
-      events = c.push_reserved.ensures.items;
+      events = c.push.ensures.events;
       returns = rw none (sym (append-nil c.self.inside.returns.items));
       counts = rw none (sym (append-nil c.self.inside.counts.items));
       ended = sym (append-nil _);
     }))
 
-pub push_reserved-requires-in-Ok-Done : goal.push_reserved-requires-in-Ok-Done
-push_reserved-requires-in-Ok-Done g c =
+pub push-requires-in-Ok-Done-clause-fits : goal.push-requires-in-Ok-Done-clause-fits
+push-requires-in-Ok-Done-clause-fits g c =
     let below = rw c.processes.ensures at c.if-p-processes.false in
     let some = current_some (world_of c.self.inside.world) c.args.p c.in-Some.call c.in-Some.ensures in
     let room = room_for_step (g.O.SeqObject.sequential c.self.inside.world.object) (world_of c.self.inside.world) _ _ _ _ _ _ c.args.p c.self.invariant.1 c.shape.ensures.bounded below some in
-    rw c.self.inside.events.ok.0 room.0
+    room.0
 
-pub push_reserved-requires-in-Ok-Done-2 : goal.push_reserved-requires-in-Ok-Done-2
-push_reserved-requires-in-Ok-Done-2 g c =
+pub push_reserved-requires : goal.push_reserved-requires
+push_reserved-requires g c =
     let below = rw c.processes.ensures at c.if-p-processes.false in
     let some = current_some (world_of c.self.inside.world) c.args.p c.in-Some.call c.in-Some.ensures in
     let done = done_some _ c.in-Ok-Done.reply (sym c.in-Ok-Done.field-0-is ∙ c.in-Ok-Done.ensures.progress) in
@@ -69,8 +69,8 @@ turns-requires g c =
     let same = ap (λ w. w.n) c.in-Ok-Done.ensures.step ∙ n_after_step (g.O.SeqObject.sequential c.self.inside.world.object) (world_of c.self.inside.world) c.args.p in
     omega (arith, below, same)
 
-pub push_reserved-requires-in-Ok-Done-3 : goal.push_reserved-requires-in-Ok-Done-3
-push_reserved-requires-in-Ok-Done-3 g c =
+pub push_reserved-requires-in-Ok-Done : goal.push_reserved-requires-in-Ok-Done
+push_reserved-requires-in-Ok-Done g c =
     let below = rw c.processes.ensures at c.if-p-processes.false in
     let some = current_some (world_of c.self.inside.world) c.args.p c.in-Some.call c.in-Some.ensures in
     let done = done_some _ c.in-Ok-Done.reply (sym c.in-Ok-Done.field-0-is ∙ c.in-Ok-Done.ensures.progress) in
@@ -86,7 +86,7 @@ invariant_of-self-in-Ok-Done g c =
     let some = current_some (world_of c.self.inside.world) c.args.p c.in-Some.call c.in-Some.ensures in
     let done = done_some _ c.in-Ok-Done.reply (sym c.in-Ok-Done.field-0-is ∙ c.in-Ok-Done.ensures.progress) in
     let one = one_completed (g.O.SeqObject.sequential c.self.inside.world.object) (world_of c.self.inside.world) c.args.p c.in-Some.call c.in-Ok-Done.reply c.in-Some.ensures done in
-    rw (c.push_reserved-in-Ok-Done.ensures.capacity, c.push_reserved-in-Ok-Done-2.ensures.capacity, c.push_reserved-in-Ok-Done-3.ensures.capacity)
+    rw (c.push-in-Ok-Done.ensures.room, c.push_reserved.ensures.capacity, c.push_reserved-in-Ok-Done.ensures.capacity)
     (stepped_kept g.O.SeqObject.sequential _ c.args.p _ _ _ _ c.self.invariant.0 c.self.invariant.1 c.shape.ensures.bounded below some
     (record {
       object = c.step.ensures.fixed.object;
@@ -94,9 +94,9 @@ invariant_of-self-in-Ok-Done g c =
       first = refl;
       limit = refl;
       world = c.in-Ok-Done.ensures.step;
-      events = c.push_reserved-in-Ok-Done.ensures.items;
-      returns = rw one c.push_reserved-in-Ok-Done-2.ensures.items;
-      counts = rw (one, ← c.in-Ok-Done.ensures.step, ← c.steps.ensures.value, ← c.turns.ensures.value) c.push_reserved-in-Ok-Done-3.ensures.items;
+      events = c.push-in-Ok-Done.ensures.events;
+      returns = rw one c.push_reserved.ensures.items;
+      counts = rw (one, ← c.in-Ok-Done.ensures.step, ← c.steps.ensures.value, ← c.turns.ensures.value) c.push_reserved-in-Ok-Done.ensures.items;
       ended = sym (append-nil _);
     }))
 

@@ -29,7 +29,7 @@ invariant_of-self-2 g c =
     let can = subst (λ r. CanEnd (standing_of r) c.processes.result) (sym c.self.view_is) c.in_ok-number.ensures.could in
     let w = world_of c.self.inside.world in
     let quiet = subst (λ v. IsQuiescent v) (sym c.renew.ensures.renewed) (quiescent_after (g.O.SeqObject.sequential c.self.inside.world.object) w w.n c.shape.ensures.sound can.0) in
-    rw c.push_reserved.ensures.capacity
+    rw c.push.ensures.room
     (ended_kept g.O.SeqObject.sequential _ stored.Trim _ _ _ _ _ c.self.invariant.0 c.self.invariant.1
     (record {
       object = c.renew.ensures.fixed.object;
@@ -37,7 +37,7 @@ invariant_of-self-2 g c =
       first = refl;
       limit = refl;
       world = c.renew.ensures.renewed;
-      events = rw (← c.prepare_end.ensures.events.0) c.push_reserved.ensures.items;
+      events = rw (← c.prepare_end.ensures.events.0) c.push.ensures.events;
       returns = sym (append-nil _);
       counts = sym (append-nil _);
       ended = entries_joined w _ _ _ _ c.in-Ok-append.ensures.items c.prepare_end.ensures.ended c.in-Ok.ensures.log;
@@ -60,11 +60,11 @@ returns-clause-untrimmed g c =
       processes = c.self.inside.processes;
       first = c.self.inside.first;
       limit = c.self.inside.limit;
-      events = c.push_reserved.new.self.items;
+      events = c.push.new.self.events;
       returns = c.self.inside.returns.items;
       counts = c.self.inside.counts.items;
       ended = c.append.new.self.items;
     } in
     trim-untrimmed g.O.SeqObject.sequential c.args.self.now new
-    (subst (λ r. new.events ≡ r.events ++ stored.Trim ∷ []) c.self.view_is (rw (← c.prepare_end.ensures.events.0) c.push_reserved.ensures.items))
+    (subst (λ r. new.events ≡ r.events ++ stored.Trim ∷ []) c.self.view_is (rw (← c.prepare_end.ensures.events.0) c.push.ensures.events))
     (subst (λ r. KeepsOpening r new) c.self.view_is (record { object = c.renew.ensures.fixed.object; row = c.renew.ensures.fixed.row; processes = refl; first = refl; limit = refl }))
