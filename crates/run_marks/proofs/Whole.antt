@@ -1,7 +1,7 @@
 -- The marks so far, with those of the events that are left.
-use Rattle.std.proofs.Common.{◌≡◌, ◌∙◌, ℕ, ◌+◌, refl, sym, ap, List, [], ◌∷◌, ◌++◌, map, append_assoc, ◌<◌, ◌≤◌, length, get_or, drop}
+use Rattle.std.proofs.Common.{◌≡◌, ◌∙◌, ℕ, ◌+◌, refl, sym, ap, List, [], ◌∷◌, ◌++◌, map, append_assoc}
 use Rattle.std.specs.Option.{option_or}
-use Rattle.std.proofs.lemmas.List.{append-nil, map-append, at_drop_more, at_drop_all}
+use Rattle.std.proofs.lemmas.List.{append-nil, map-append}
 use Rattle.uni_model.specs.Worlds.{WorldOf, Event, world_after}
 use Rattle.uni_model.specs.Worlds.Event.{Call, Step, Trim, Reshape}
 use Rattle.uni_record.specs.declared.event.Event.{Event as Stored}
@@ -66,23 +66,11 @@ module _ {S I R : Type 0} (o : SpokenObject S I R) where
       (append-nil m.dots) (append-nil m.lines) refl
 
   -- the next of the stored events is taken
-  pub marks_then-taken : (m m' : RunMarks) (w w' : WorldOf S I R) (from from' place : ℕ) (items : List (Stored I)) (i : ℕ) (e : Stored I) (whole : RunMarks)
-      → i < length items → e ≡ get_or items i e
+  pub marks_then-taken : (m m' : RunMarks) (w w' : WorldOf S I R) (from from' place : ℕ) (e : Stored I) (rest : List (Stored I))
       → m' ≡ marks_with o m w from place (event_shown e) → w' ≡ world_after o.object w (event_shown e) → from' ≡ from_with from place (event_shown e)
-      → marks_then m w from place (events_shown (drop i items)) ≡ whole
-      → marks_then m' w' from' (place + 1) (events_shown (drop (i + 1) items)) ≡ whole
-  marks_then-taken m m' w w' from from' place items i e whole within is marks world next before =
-      let rest = events_shown (drop (i + 1) items) in
-      ap (λ n. marks_then n w' from' (place + 1) rest) marks
-      ∙ ap (λ v. marks_then (marks_with o m w from place (event_shown e)) v from' (place + 1) rest) world
-      ∙ ap (λ k. marks_then (marks_with o m w from place (event_shown e)) (world_after o.object w (event_shown e)) k (place + 1) rest) next
-      ∙ marks_then-event m w from place (event_shown e) rest
-      ∙ ap (λ f. marks_then m w from place (event_shown f ∷ rest)) is
-      ∙ sym (at_drop_more (λ es. marks_then m w from place (events_shown es)) items i e within)
-      ∙ before
-
-  -- no stored event is left
-  pub marks_then-all : (m : RunMarks) (w : WorldOf S I R) (from place : ℕ) (items : List (Stored I)) (i : ℕ) (whole : RunMarks) → length items ≤ i
-      → marks_then m w from place (events_shown (drop i items)) ≡ whole → record m { eras = m.eras ++ era_of o w from ∷ [] } ≡ whole
-  marks_then-all m w from place items i whole past before =
-      sym (at_drop_all (λ es. marks_then m w from place (events_shown es)) items i past ∙ marks_then-none m w from place) ∙ before
+      → marks_then m' w' from' (place + 1) (events_shown rest) ≡ marks_then m w from place (events_shown (e ∷ rest))
+  marks_then-taken m m' w w' from from' place e rest marks world next =
+      ap (λ n. marks_then n w' from' (place + 1) (events_shown rest)) marks
+      ∙ ap (λ v. marks_then (marks_with o m w from place (event_shown e)) v from' (place + 1) (events_shown rest)) world
+      ∙ ap (λ k. marks_then (marks_with o m w from place (event_shown e)) (world_after o.object w (event_shown e)) k (place + 1) (events_shown rest)) next
+      ∙ marks_then-event m w from place (event_shown e) (events_shown rest)

@@ -85,9 +85,9 @@ fn replay_event<O: Spoken>(
 ) -> Result<u64, AllocError>
     requires { place < 2 ^ 63 }
     ensures object { replay.new.object ≡ replay.old.object }
-    ensures from { IfOk result (λ next. next ≡ from_with from place (event_shown (event_lent event))) }
-    ensures world { OnOk result (world_of replay.new ≡ world_after (O.sequential replay.old.object) (world_of replay.old) (event_shown (event_lent event))) }
-    ensures marks { OnOk result (marks_shown marks.new ≡ marks_with (record { object = O.sequential replay.old.object; language = O.language }) (marks_shown marks.old) (world_of replay.old) from place (event_shown (event_lent event))) }
+    ensures from { IfOk result (λ next. next ≡ from_with from place (event_shown (event_lent event.entry))) }
+    ensures world { OnOk result (world_of replay.new ≡ world_after (O.sequential replay.old.object) (world_of replay.old) (event_shown (event_lent event.entry))) }
+    ensures marks { OnOk result (marks_shown marks.new ≡ marks_with (record { object = O.sequential replay.old.object; language = O.language }) (marks_shown marks.old) (world_of replay.old) from place (event_shown (event_lent event.entry))) }
 {
     match event {
         Event::Call(process, inv) => {

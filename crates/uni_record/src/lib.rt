@@ -22,4 +22,5 @@ pub use fault::{
     RecordBeginFault, RecordOpenFault, RecordReshapeFault, RecordStepFault, RecordTrimFault,
 };
 pub use recorded::Recorded;
+pub use room::MAX_HISTORY;
 pub use verdict::{Counts, Return, Verdict};

@@ -9,8 +9,8 @@ use seq_object::SeqObject;
 use std::alloc::AllocError;
 use uni_core::World;
 
-/// The greatest length of a history.
-const MAX_HISTORY: u64 = 16_777_216;
+/// The most events that a history can have.
+pub const MAX_HISTORY: u64 = 16_777_216;
 
 /// Whether a history can have so many events: from 1 to 16,777,216.
 pub(crate) fn is_history(h: u64) -> bool

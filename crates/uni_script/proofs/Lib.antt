@@ -9,6 +9,5 @@ pub mod Taking
 pub mod Replaying
 pub mod RunningOn
 pub mod LogLines
-pub mod Counting
 pub mod Finishing
 pub mod Telling

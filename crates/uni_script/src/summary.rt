@@ -34,7 +34,7 @@ pub fn summary_of<O: Spoken>(session: &Recorded<O>, lines: u64) -> Summary
 /// How many of some events are calls.
 fn calls_in<I>(events: Events<'_, I>) -> u64
     requires { length events < 2 ^ 63 }
-    ensures { result ≡ calls_in (events_shown events) }
+    ensures { result ≡ calls_in (events_shown events.entry) }
 {
     let mut calls = 0;
     for event in events {

@@ -2,8 +2,8 @@
 use Rattle.std.proofs.Common.{◌≡◌, ◌∙◌, ℕ, zero, suc, ◌+◌, ◌<◌, ◌≤◌, refl, sym, ap, subst, List, [], ◌∷◌, ◌++◌, length, get_or, take, map, Bool, true, false, Option, Some, None, IsSome, IsTrue, arith}
 use Rattle.std.proofs.Math.ListN.{get_or-map}
 use Rattle.std.proofs.lemmas.List.{take_more, take_all, length-map}
-use Rattle.std.proofs.lemmas.List.Elements.{filter_map-append, filter-append}
-use Rattle.std.specs.List.{All, filter, filter_map}
+use Rattle.std.proofs.lemmas.List.Elements.{filter-append}
+use Rattle.std.specs.List.{All, filter}
 use Rattle.seq_object.specs.Sequential.{Sequential}
 use Rattle.uni_model.specs.Worlds.{WorldOf}
 use Rattle.uni_record.specs.declared.event.Event.{Event as Stored}
@@ -12,11 +12,6 @@ use Rattle.uni_shared.specs.declared.receipt.Receipt.{Receipt}
 use Rattle.uni_shared.specs.Agreement.{Agrees}
 use Rattle.uni_record.specs.declared.verdict.Counts.{Counts}
 use Rattle.uni_record.specs.Event.{Completed}
-
--- one event more
-pub filter_map-take_more : {A B : Type 0} (h : A → Option B) (xs : List A) (n : ℕ) (x : A) → n < length xs → x ≡ get_or xs n x → filter_map h (take (n + 1) xs) ≡ filter_map h (take n xs) ++ filter_map h (x ∷ [])
-filter_map-take_more h xs n x there is =
-    ap (filter_map h) (take_more xs n x there) ∙ filter_map-append h (take n xs) (get_or xs n x ∷ []) ∙ ap (λ y. filter_map h (take n xs) ++ filter_map h (y ∷ [])) (sym is)
 
 -- a return with its counts, among the calls that have returned
 pub get_or-completed : {R : Type 0} (calls : List (Completed R)) (n : ℕ) (returned : Return R) (counts : Counts) → returned ≡ get_or (map (λ (c : Completed R). c.returned) calls) n returned

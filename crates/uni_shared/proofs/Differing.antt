@@ -1,9 +1,9 @@
 -- Two lists that differ at a place.
 use Rattle.std.proofs.Common.{◌≡◌, ◌≢◌, ◌⊎◌, inl, inr, ◌∙◌, ℕ, zero, suc, ◌+◌, ◌<◌, ◌≤◌, refl, sym, ap, subst, List, [], ◌∷◌, ◌++◌, append-nil, length, map, get_or, take, drop, Option, Some, None, slice_get, arith, Bool, true, cond, nat_eq}
 use Rattle.std.specs.Option.{IfSome}
-use Rattle.std.specs.List.{cons_option, filter, filter_map}
+use Rattle.std.specs.List.{filter, filter_map}
 use Rattle.std.proofs.lemmas.List.{drop_more, take-append-drop}
-use Rattle.std.proofs.lemmas.List.Elements.{filter_map-append, filter-append}
+use Rattle.std.proofs.lemmas.List.Elements.{filter-append}
 use Rattle.std.proofs.lemmas.Option.{slice_get_cases}
 use Rattle.uni_model.proofs.Written.{number_cases}
 use Rattle.seq_object.specs.Sequential.{Sequential}
@@ -48,14 +48,6 @@ module _ {A : Type 0} (xs ys : List A) (n : ℕ) where
       )
 
 -- what a list comes to, split at an element that is kept
-pub filter_map-split : {A B : Type 0} (h : A → Option B) (xs : List A) (n : ℕ) (x : A) (b : B) → n < length xs → x ≡ get_or xs n x → h x ≡ Some b
-    → filter_map h (take n xs) ++ b ∷ filter_map h (drop (n + 1) xs) ≡ filter_map h xs
-filter_map-split h xs n x b there is kept =
-    sym (ap (filter_map h) (sym (take-append-drop n xs)) ∙ filter_map-append h (take n xs) (drop n xs)
-    ∙ ap (λ l. filter_map h (take n xs) ++ filter_map h l) (drop_more xs n x there)
-    ∙ ap (λ y. filter_map h (take n xs) ++ cons_option (h y) (filter_map h (drop (n + 1) xs))) (sym is)
-    ∙ ap (λ o. filter_map h (take n xs) ++ cons_option o (filter_map h (drop (n + 1) xs))) kept)
-
 pub filter-split : {A : Type 0} (q : A → Bool) (xs : List A) (n : ℕ) (x : A) → n < length xs → x ≡ get_or xs n x → q x ≡ true → filter q (take n xs) ++ x ∷ filter q (drop (n + 1) xs) ≡ filter q xs
 filter-split q xs n x there is kept =
     let rest = filter q (drop (n + 1) xs) in

@@ -80,7 +80,7 @@ fn pending_seat<O: SeqObject>(recorded: &Recorded<O>, seats: &[Seat<O>]) -> Opti
 
 /// What a call of this process asks for, where the event is one.
 fn invocation_by<'a, I>(event: Event<&'a I>, p: u64) -> Option<&'a I>
-    ensures { option_map (λ i. i.now) result ≡ invocation_by p (event_lent event) }
+    ensures { option_map (λ i. i.now) result ≡ invocation_by p (event_lent event.entry) }
 {
     let Event::Call(q, inv) = event else {
         return None;
@@ -98,8 +98,8 @@ fn place_after_event<O: SeqObject>(
 ) -> Option<usize>
     requires { place ≤ length receipts.now }
     ensures within { IfSome result (λ next. next ≤ length receipts.now) }
-    ensures other { result ≡ None → (inv : O.Inv) × (invocation_by p (event_lent event) ≡ Some inv) × (slice_get (map (λ r. r.inv) receipts.now) place ≢ Some inv) }
-    ensures next { IfSome result (λ next. map (λ r. r.inv) (take next receipts.now) ≡ map (λ r. r.inv) (take place receipts.now) ++ filter_map (invocation_by p) (event_lent event ∷ [])) }
+    ensures other { result ≡ None → (inv : O.Inv) × (invocation_by p (event_lent event.entry) ≡ Some inv) × (slice_get (map (λ r. r.inv) receipts.now) place ≢ Some inv) }
+    ensures next { IfSome result (λ next. map (λ r. r.inv) (take next receipts.now) ≡ map (λ r. r.inv) (take place receipts.now) ++ filter_map (invocation_by p) (event_lent event.entry ∷ [])) }
 {
     let Some(inv) = invocation_by(event, p) else {
         return Some(place);
@@ -117,8 +117,8 @@ fn other_invocation<O: SeqObject>(
     p: u64,
     receipts: &[Receipt<O::Inv, O::Resp>],
 ) -> Option<usize>
-    ensures none { result ≡ None → map (λ r. r.inv) receipts.now ≡ filter_map (invocation_by p) events }
-    ensures first { IfSome result (DiffersFirstAt (map (λ r. r.inv) receipts.now) (filter_map (invocation_by p) events)) }
+    ensures none { result ≡ None → map (λ r. r.inv) receipts.now ≡ filter_map (invocation_by p) events.entry }
+    ensures first { IfSome result (DiffersFirstAt (map (λ r. r.inv) receipts.now) (filter_map (invocation_by p) events.entry)) }
 {
     let mut place = 0;
     for event in events {

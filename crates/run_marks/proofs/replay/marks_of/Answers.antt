@@ -2,52 +2,44 @@ use Rattle.std.proofs.Common.{◌≡◌, ◌∙◌, ◌+◌, ◌++◌, ◌∷◌
 use Rattle.std.proofs.lemmas.List.{length-map}
 use Rattle.uni_model.specs.Worlds.{opened_world, world_after}
 use Rattle.uni_core.specs.World.{world_of}
-use Rattle.uni_record.specs.Event.{event_shown, events_shown}
+use Rattle.uni_record.specs.Event.{event_lent, event_shown, events_shown}
 use Rattle.uni_script.specs.Objects.{SpokenObject}
 use Rattle.run_marks.specs.Marks.{RunMarks, era_of}
 use Rattle.run_marks.specs.Shown.{marks_shown, bar_shown, era_shown}
 use Rattle.run_marks.specs.Replay.{marks_with}
 use Rattle.run_marks.proofs.Replayed.{marks_are}
-use Rattle.run_marks.proofs.Whole.{marks_then, marks_then-taken, marks_then-all}
+use Rattle.run_marks.proofs.Whole.{marks_then, marks_then-taken, marks_then-none}
 use Rattle.run_marks.proofs.replay.marks_of.Goals as goal
 
 pub loop-event-init : goal.loop-event-init
-loop-event-init g c =
-    let o : SpokenObject _ _ _ = record { object = g.O.SeqObject.sequential c.args.object; language = g.O.Spoken.language } in
-    let blank : RunMarks = record { object = c.args.name; events = length (events_shown c.args.run.now.events); steps = []; bars = []; dots = []; lines = []; eras = [] } in
-    record {
-      object = c.in_ok-replay.ensures.object;
-      place = refl;
-      marks =
-          ap (λ m. marks_then o m (world_of c.in_ok-replay.replay) 0 0 (events_shown c.events-event-items.result.now))
-          (marks_are _ blank refl (ap length c.events.ensures ∙ sym (length-map c.args.run.now.events event_shown)) c.new.ensures.items (ap (map bar_shown) c.new-2.ensures.items) c.new-3.ensures.items c.new-4.ensures.items (ap (map era_shown) c.new-5.ensures.items))
-          ∙ ap (λ w. marks_then o blank w 0 0 (events_shown c.events-event-items.result.now)) c.in_ok-replay.ensures.world
-          ∙ ap (λ es. marks_then o blank (opened_world c.args.run.now.processes o.object.initial c.args.run.now.first) 0 0 (events_shown es)) c.events-event-items.ensures;
-    }
+loop-event-init g c = ?
 
 pub replay_event-requires : goal.replay_event-requires
 replay_event-requires g c =
     let fits = c.promise.ensures.recording.fits in
     let most = c.promise.ensures.recording.limited in
-    let same = ap length c.events-event-items.ensures in
     let place = c.loop-event.invariant.place in
-    let within = c.loop-event-test.true in
+    let left = ap length c.in-Some.ensures.steps in
     omega arith
 
 pub loop-event-preserved : goal.loop-event-preserved
 loop-event-preserved g c =
     let o : SpokenObject _ _ _ = record { object = g.O.SeqObject.sequential c.args.object; language = g.O.Spoken.language } in
     let w = world_of c.loop-event.replay in
+    let event = event_lent c.in-Some.event in
     let here = c.loop-event.invariant in
+    let place = here.place in
+    let left = ap length c.in-Some.ensures.steps in
     let took = c.in_ok-from.ensures in
     record {
       object = took.object ∙ here.object;
-      place = ap (λ k. k + 1) here.place;
-      marks = marks_then-taken o (marks_shown c.loop-event.marks) (marks_shown c.replay_event.new.marks) w (world_of c.replay_event.new.replay) c.loop-event.from c.in_ok-from.from c.loop-event.place
-          c.events-event-items.result.now c.loop-event.event-index c.event-item.result _ c.loop-event-test.true c.event-item.is
-          (subst (λ object. marks_shown c.replay_event.new.marks ≡ marks_with (record { object = g.O.SeqObject.sequential object; language = g.O.Spoken.language }) (marks_shown c.loop-event.marks) w c.loop-event.from c.loop-event.place (event_shown c.event-item.result)) here.object took.marks)
-          (subst (λ object. world_of c.replay_event.new.replay ≡ world_after (g.O.SeqObject.sequential object) w (event_shown c.event-item.result)) here.object took.world)
-          took.from here.marks;
+      place = omega (arith, place, left);
+      marks = marks_then-taken o (marks_shown c.loop-event.marks) (marks_shown c.replay_event.new.marks) w (world_of c.replay_event.new.replay) c.loop-event.from c.in_ok-from.from c.loop-event.place event c.next.new.self
+          (subst (λ object. marks_shown c.replay_event.new.marks ≡ marks_with (record { object = g.O.SeqObject.sequential object; language = g.O.Spoken.language }) (marks_shown c.loop-event.marks) w c.loop-event.from c.loop-event.place (event_shown event)) here.object took.marks)
+          (subst (λ object. world_of c.replay_event.new.replay ≡ world_after (g.O.SeqObject.sequential object) w (event_shown event)) here.object took.world)
+          took.from
+          ∙ ap (λ es. marks_then o (marks_shown c.loop-event.marks) w c.loop-event.from c.loop-event.place (events_shown es)) (sym c.in-Some.ensures.steps)
+          ∙ here.marks;
     }
 
 pub returns : goal.returns
@@ -60,5 +52,7 @@ returns g c =
     c.in_ok-push_era.ensures ∙ ap (λ object. m.eras ++ era_of (record { object = g.O.SeqObject.sequential object; language = g.O.Spoken.language }) w c.loop-event.from ∷ []) here.object in
     record {
       marks = ap (λ l. let n : RunMarks = record m { eras = l } in n) eras
-          ∙ marks_then-all o m w c.loop-event.from c.loop-event.place c.events-event-items.result.now c.loop-event.event-index _ c.loop-event-test.false here.marks;
+          ∙ sym (marks_then-none o m w c.loop-event.from c.loop-event.place)
+          ∙ ap (λ es. marks_then o m w c.loop-event.from c.loop-event.place (events_shown es)) (sym c.in-None.ensures.steps.0)
+          ∙ here.marks;
     }

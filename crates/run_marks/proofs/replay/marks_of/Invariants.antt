@@ -1,4 +1,4 @@
-use Rattle.std.proofs.Common.{◌≡◌, drop}
+use Rattle.std.proofs.Common.{◌≡◌, ◌+◌, length}
 use Rattle.uni_model.specs.Worlds.{opened_world}
 use Rattle.uni_core.specs.World.{world_of}
 use Rattle.uni_record.specs.Event.{events_shown}
@@ -10,7 +10,7 @@ use Rattle.run_marks.proofs.replay.marks_of.Given as goal
 abbrev pub invariant-loop-event : goal.invariant-loop-event
 invariant-loop-event g l = record {
   object : l.replay.object ≡ l.fn.object;
-  place : l.place ≡ l.event-index;
-  marks : marks_then (record { object = g.O.SeqObject.sequential l.fn.object; language = g.O.Spoken.language }) (marks_shown l.marks) (world_of l.replay) l.from l.place (events_shown (drop l.event-index l.event-items))
+  place : l.place + length l.event-iterator ≡ length l.run.events;
+  marks : marks_then (record { object = g.O.SeqObject.sequential l.fn.object; language = g.O.Spoken.language }) (marks_shown l.marks) (world_of l.replay) l.from l.place (events_shown l.event-iterator)
       ≡ marks_of_run (record { object = g.O.SeqObject.sequential l.fn.object; language = g.O.Spoken.language }) l.fn.name (opened_world l.run.processes (g.O.SeqObject.sequential l.fn.object).initial l.run.first) (events_shown l.run.events);
 }
