@@ -122,7 +122,16 @@ pub(crate) fn has_added(
 /// Gives up when it is called for the second time.
 #[derive(Drop)]
 pub(crate) struct Second {
-    pub(crate) calls: AtomicU64,
+    calls: AtomicU64,
+}
+
+impl Second {
+    /// One that wasn't called yet.
+    pub(crate) fn new() -> Second {
+        Second {
+            calls: AtomicU64::new(0),
+        }
+    }
 }
 
 impl Gate for Second {

@@ -9,7 +9,6 @@ use seq_object::CallId;
 use std::alloc::Global;
 use std::process::Abort;
 use std::sync::Wait;
-use std::sync::atomic::AtomicU64;
 use std::test::Fail;
 use uni_shared::{ApplyFault, CloseFault, NoGate, Refused, Seat, Shared, trim};
 
@@ -164,6 +163,53 @@ fn a_stranger(rt: HostRuntime) -> Result<(), Fail> {
     Ok(())
 }
 
+#[test]
+fn a_seat_of_a_process_that_is_not_there(rt: HostRuntime) -> Result<(), Fail> {
+    let alloc = rt.alloc();
+    let (shared, _) = queue_of_one(alloc, 8)?;
+    let (_, mut seats) = queue(alloc, 2, 8)?;
+    let mut second = last(&mut seats)?;
+    assert!(rt; is_refused(&rt, alloc, &shared, &mut second, ApplyFault::Stranger));
+    Ok(())
+}
+
+#[test]
+fn a_step_of_a_call_that_another_object_has_pending(rt: HostRuntime) -> Result<(), Fail> {
+    let alloc = rt.alloc();
+    let (here, mut seat) = queue_of_one(alloc, 8)?;
+    let (there, mut other) = queue_of_one(alloc, 8)?;
+    let stops = Second::new();
+    assert!(rt; enqueues(&rt, alloc, &here, &mut seat, 7, &stops) == Some(ApplyFault::GaveUp));
+    // no call is pending there
+    assert!(rt; resumes(&rt, alloc, &there, &mut seat) == Some(ApplyFault::Stranger));
+    // the second call is pending there, and not the first
+    assert!(rt; enqueues(&rt, alloc, &there, &mut other, 1, &NoGate).is_none());
+    let stops = Second::new();
+    assert!(rt; enqueues(&rt, alloc, &there, &mut other, 2, &stops) == Some(ApplyFault::GaveUp));
+    assert!(rt; resumes(&rt, alloc, &there, &mut seat) == Some(ApplyFault::Stranger));
+    // each goes on where it is at home
+    assert!(rt; resumes(&rt, alloc, &here, &mut seat).is_none());
+    assert!(rt; has_added(&seat, 0, 0, 7, 14, 1));
+    assert!(rt; resumes(&rt, alloc, &there, &mut other).is_none());
+    assert!(rt; has_added(&other, 0, 1, 2, 14, 1));
+    Ok(())
+}
+
+#[test]
+fn a_call_among_more_processes_than_its_seat_knows(rt: HostRuntime) -> Result<(), Fail> {
+    let alloc = rt.alloc();
+    let (shared, _) = queue(alloc, 64, 8)?;
+    let (_, mut seat) = queue_of_one(alloc, 8)?;
+    // alone among 64 a call takes 140 steps, and a seat of one process takes 22 at a time
+    assert!(rt; enqueues(&rt, alloc, &shared, &mut seat, 7, &NoGate) == Some(ApplyFault::Stranger));
+    for _ in 0..5 {
+        assert!(rt; resumes(&rt, alloc, &shared, &mut seat) == Some(ApplyFault::Stranger));
+    }
+    assert!(rt; resumes(&rt, alloc, &shared, &mut seat).is_none());
+    assert!(rt; has_added(&seat, 0, 0, 7, 140, 1));
+    Ok(())
+}
+
 /// Whether a call of `enq 8` is refused with this fault, and doesn't begin.
 fn is_refused<R: Wait>(
     rt: &R,
@@ -200,9 +246,7 @@ fn stops<R: Wait>(
     shared: &Shared<QueueObject>,
     seat: &mut Seat<QueueObject>,
 ) -> bool {
-    let gate = Second {
-        calls: AtomicU64::new(0),
-    };
+    let gate = Second::new();
     enqueues(rt, alloc, shared, seat, 7, &gate) == Some(ApplyFault::GaveUp)
         && seat.pending()
         && enqueues(rt, alloc, shared, seat, 8, &NoGate) == Some(ApplyFault::SeatPending)

@@ -349,9 +349,7 @@ fn stops<R: Wait>(
     shared: &Shared<QueueObject>,
     seat: &mut Seat<QueueObject>,
 ) -> bool {
-    let gate = Second {
-        calls: AtomicU64::new(0),
-    };
+    let gate = Second::new();
     enqueues(rt, alloc, shared, seat, 1, &gate) == Some(ApplyFault::GaveUp)
 }
 
