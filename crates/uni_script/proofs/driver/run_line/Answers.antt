@@ -67,7 +67,7 @@ returns-in-Some-2-clause-told g c =
     let o : SpokenObject _ _ _ = spoken g.O.SeqObject.sequential g.O.Spoken.language c.args.session.now.world.object in
     let b = session_of c.args.session.now in
     let words = ap (λ w. command_of_words c.args.version o.language.inv_of_words w) (sym c.in_ok-words.ensures ∙ ap bytes_of (sym c.as_slice.ensures.value)) ∙ sym c.command_of.ensures in
-    let many : length c.events.result.now ≡ length b.events = ap length c.events.ensures ∙ sym (length-map c.args.session.now.events event_shown) in
+    let many : c.len-before.result ≡ length b.events = c.len-before.ensures.value ∙ ap length c.events.ensures ∙ sym (length-map c.args.session.now.events event_shown) in
     let refused = sym c.in_ok-refusal.ensures.refusal ∙ c.in-Some-2.is in
     let told = ap (λ n. told_after n (Some (Refused c.in-Some-2.refusal))) many ∙ sym (ap (λ r. told_after (length b.events) (option_map Refused r)) refused) ∙ told_on-command o c.args.version b c.args.line.now c.in-Some.command (sym c.if-is_note.ensures) (words ∙ c.in-Some.is)
     ∙ sym (g.met.O.Shared.told c.args.session.now.world.object c.args.version b c.args.line.now) in
@@ -77,6 +77,6 @@ pub returns-then-is_note-clause-told : goal.returns-then-is_note-clause-told
 returns-then-is_note-clause-told g c =
     let o : SpokenObject _ _ _ = spoken g.O.SeqObject.sequential g.O.Spoken.language c.args.session.now.world.object in
     let b = session_of c.args.session.now in
-    let many : length c.events.result.now ≡ length b.events = ap length c.events.ensures ∙ sym (length-map c.args.session.now.events event_shown) in
+    let many : c.len-before.result ≡ length b.events = c.len-before.ensures.value ∙ ap length c.events.ensures ∙ sym (length-map c.args.session.now.events event_shown) in
     let told = ap (λ n. note_told (Some n) c.args.line.now) many ∙ told_on-note o c.args.version b c.args.line.now (sym c.if-is_note.ensures) ∙ sym (g.met.O.Shared.told c.args.session.now.world.object c.args.version b c.args.line.now) in
     subst (Tells (g.L.Listener.heard c.args.listener.now) (g.L.Listener.heard c.note.new.self)) told c.in_ok-note.ensures
