@@ -1,2 +1,4 @@
-mod Seats
-mod Writing
+pub mod Places
+pub mod Pointers
+pub mod Seats
+pub mod Writing

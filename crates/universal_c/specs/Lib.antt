@@ -1,2 +1,4 @@
 pub mod Calls
+pub mod Meaning
+pub mod Owned
 pub mod Told

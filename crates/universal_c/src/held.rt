@@ -1,30 +1,29 @@
-//! What a C handle holds: a log with its seats, a seat, or the entries of a closed log.
-ghost use Rattle.std.specs.Prelude.{◌≡◌, ◌+◌, ◌*◌, ◌<◌, ◌≤◌, ◌++◌, ◌∷◌, ◌↔◌, ◌⊎◌, [], map, vec_len, IfOk, IfErr, IsErr, IsErrOf, OnOk, OnErr};
+//! What a handle holds: a log with its seats, a seat, or the entries of a closed log.
+ghost use Rattle.std.specs.Prelude.{◌≡◌, ◌==◌, ◌+◌, ◌*◌, ◌<◌, ◌≤◌, ◌++◌, ◌∷◌, ◌↔◌, ◌⊎◌, [], map, vec_len, IfOk, IfErr, IsErr, IsErrOf, OnOk, OnErr};
 ghost use Rattle.seq_object.specs.History.{IsLegal};
 ghost use Rattle.uni_model.specs.History.{logged_call};
 ghost use Rattle.uni_words.specs.Belongs.{AreFirstSeats, IsSeatOf, own_calls, calls_made, latest_turns, process_of, processes_of, row_of, word_steps_of, calls_of, known_calls, object_of};
 ghost use Rattle.uni_words.specs.Log.{AreAnswered, AreCallsOf, IsLogged, entry_shown};
 ghost use Rattle.uni_words.specs.Run.{IsLogOfRun};
+ghost use Rattle.universal_c.specs.Meaning.{meaning};
 
+use crate::object::Object;
 use std::alloc::Global;
 use std::sync::Arc;
-use uni_words::{
-    Answer, RowFull, WordEntry, WordLog, WordObject, WordOpenFault, WordSeat, WordSticky,
-    WordTally, read_log,
-};
+use uni_words::{Answer, RowFull, WordEntry, WordLog, WordOpenFault, WordSeat, read_log};
 
 /// A log, with its seats that are still to be given out, the last one first.
 #[derive(Drop)]
-pub struct Opened<O: WordObject> {
-    log: Arc<WordLog<O>>,
+pub struct Opened {
+    log: Arc<WordLog<Object>>,
     seats: Vec<WordSeat>,
     pub ghost fit: { AreFirstSeats log.value (vec_len seats) seats.items },
 }
 
 /// A seat, with the log that it is one of.
 #[derive(Drop)]
-pub struct Seated<O: WordObject> {
-    log: Arc<WordLog<O>>,
+pub struct Seated {
+    log: Arc<WordLog<Object>>,
     seat: WordSeat,
     pub ghost fits: { IsSeatOf log.value seat },
 }
@@ -32,27 +31,21 @@ pub struct Seated<O: WordObject> {
 /// What a handle holds.
 #[derive(Drop)]
 pub enum Held {
-    /// A log of a tally, with the seats that are left.
-    TallyLog(Opened<WordTally>),
-    /// A seat of a tally.
-    TallySeat(Seated<WordTally>),
-    /// The calls of a tally whose log was closed, in order.
-    TallyEntries(Vec<WordEntry>),
-    /// A log of a sticky register, with the seats that are left.
-    StickyLog(Opened<WordSticky>),
-    /// A seat of a sticky register.
-    StickySeat(Seated<WordSticky>),
-    /// The calls of a sticky register whose log was closed, in order.
-    StickyEntries(Vec<WordEntry>),
+    /// A log, with the seats that are left.
+    Log(Opened),
+    /// A seat.
+    Seat(Seated),
+    /// The calls of a log that was closed, in order.
+    Entries(Vec<WordEntry>),
     /// Nothing: what it held was lost at a closing that was refused memory.
     Nothing,
 }
 
 /// Why there are no entries.
 #[derive(Drop)]
-pub enum CloseFault<O: WordObject> {
+pub enum CloseFault {
     /// Another has the log: the seat comes back.
-    Busy(Seated<O>),
+    Busy(Seated),
     /// Memory was refused: the log is lost.
     Memory,
 }
@@ -66,13 +59,19 @@ pub enum SeatFault {
     Memory,
 }
 
-impl<O: WordObject> Opened<O> {
+impl Opened {
     /// A log of the object for n processes that can make k calls each, with all its seats.
     /// Errors, in this order: `n` isn't from 1 to 64; `k` isn't from 1 to 4096; memory was refused.
     #[tactic(auto, using(crate::proofs::Seats::counted))]
-    pub(crate) fn open(alloc: Global, object: O, n: u64, k: u64) -> Result<Opened<O>, WordOpenFault>
+    pub(crate) fn open(
+        alloc: Global,
+        object: Object,
+        n: u64,
+        k: u64,
+    ) -> Result<Opened, WordOpenFault>
         ensures count { IsErrOf result WordOpenFault.BadCount ↔ ((n ≡ 0) ⊎ (64 < n)) }
         ensures row { IsErrOf result WordOpenFault.BadRow ↔ ((1 ≤ n) × (n ≤ 64) × ((k ≡ 0) ⊎ (4096 < k))) }
+        ensures object { IfOk result (λ opened. object_of opened.log.value ≡ object) }
         ensures shape { IfOk result (λ opened.
             (processes_of opened.log.value ≡ n) × (row_of opened.log.value ≡ k) × (vec_len opened.seats ≡ n)) }
     {
@@ -83,13 +82,21 @@ impl<O: WordObject> Opened<O> {
         }
     }
 
+    /// Whether all seats are given out.
+    pub(crate) fn is_given(&self) -> bool
+        ensures { result ≡ (vec_len self.now.seats == 0) }
+    {
+        self.seats.is_empty()
+    }
+
     /// The seat of the greatest process that has not been given out, and its process.
     /// Errors: memory was refused; all seats are given out. After either no seat is lost.
-    pub(crate) fn next(&mut self) -> Result<(Seated<O>, u64), SeatFault>
+    pub(crate) fn next(&mut self) -> Result<(Seated, u64), SeatFault>
         ensures log { self.new.log ≡ self.old.log }
         ensures given { IsErrOf result SeatFault.Given → vec_len self.old.seats ≡ 0 }
         ensures left { OnOk result (vec_len self.new.seats + 1 ≡ vec_len self.old.seats) }
-        ensures same { OnErr result (self.new.seats.items ≡ self.old.seats.items) }
+        ensures same { OnErr result
+            ((self.new.seats.items ≡ self.old.seats.items) × (vec_len self.new.seats ≡ vec_len self.old.seats)) }
         ensures first { IfOk result (λ given. (given.0.log.value ≡ self.old.log.value)
             × (process_of given.0.seat ≡ given.1) × (own_calls given.0.seat ≡ []) × (calls_made given.0.seat ≡ 0)) }
     {
@@ -103,7 +110,7 @@ impl<O: WordObject> Opened<O> {
     }
 }
 
-impl<O: WordObject> Seated<O> {
+impl Seated {
     ghost use Rattle.universal_c.specs.declared.held.Seated.{Seated};
     ghost use Rattle.universal_c.specs.declared.held.CloseFault.TheVariants.{Busy, Memory};
 
@@ -126,16 +133,16 @@ impl<O: WordObject> Seated<O> {
 
     /// Closes the log, where this is the last that has it: the calls that took effect, in order.
     /// Errors: another has the log, and the seat comes back; memory was refused, and the log is lost.
-    pub(crate) fn close(self, alloc: Global) -> Result<Vec<WordEntry>, CloseFault<O>>
+    pub(crate) fn close(self, alloc: Global) -> Result<Vec<WordEntry>, CloseFault>
         ensures busy { IfErr result (λ fault. (fault ≡ Memory)
-            ⊎ ((seated : Seated O) × (fault ≡ Busy seated) × (seated.log ≡ self.log) × (seated.seat ≡ self.seat))) }
-        ensures legal { let object = O.sequential (object_of self.log.value) in
+            ⊎ ((seated : Seated) × (fault ≡ Busy seated) × (seated.log ≡ self.log) × (seated.seat ≡ self.seat))) }
+        ensures legal { let object = meaning (object_of self.log.value) in
             IfOk result (λ entries. IsLegal object object.initial (map logged_call (map entry_shown entries.items))) }
         ensures answered { IfOk result (λ entries. AreAnswered (map entry_shown entries.items)) }
         ensures inside { IfOk result (λ entries.
             AreCallsOf (processes_of self.log.value) (map entry_shown entries.items)) }
         ensures own { IfOk result (λ entries. IsLogged (map entry_shown entries.items) (calls_of self.seat)) }
-        ensures run { let object = O.sequential (object_of self.log.value) in
+        ensures run { let object = meaning (object_of self.log.value) in
             IfOk result (λ entries.
             IsLogOfRun object (processes_of self.log.value) (map entry_shown entries.items) (known_calls self.seat)) }
     {

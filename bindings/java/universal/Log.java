@@ -1,0 +1,117 @@
+package universal;
+
+import static java.lang.foreign.ValueLayout.JAVA_INT;
+import static java.lang.foreign.ValueLayout.JAVA_LONG;
+
+import java.lang.foreign.Arena;
+import java.lang.foreign.MemorySegment;
+import java.util.ArrayList;
+import java.util.List;
+import universal.Universal.Handle;
+
+/**
+ * An object that n processes share, with the seats that are still to be given out. Each process makes up to k calls.
+ *
+ * <p>A call takes no lock of the library and no memory, and ends within {@code 12n + 16} steps on shared words, whatever
+ * the other threads do. The functions behind this class are proved; this class is not.
+ */
+public final class Log implements AutoCloseable {
+    private final Handle handle = new Handle();
+
+    private Log() {}
+
+    private interface Open {
+        int status(MemorySegment log) throws Throwable;
+    }
+
+    private static Log opened(Open open) throws Refused {
+        Log log = new Log();
+        try {
+            Universal.done(() -> open.status(log.handle.at));
+            return log;
+        } catch (Refused refused) {
+            log.close();
+            throw refused;
+        }
+    }
+
+    /** A sum, 0 at the start: a call adds its number modulo 2^31, and is answered the sum before. */
+    public static Log tally(long n, long k) throws Refused {
+        return opened(log -> (int) Universal.OPEN_TALLY.invokeExact(n, k, log));
+    }
+
+    /**
+     * A register that keeps the first value: a call from 1 to 10^9 sets it if it is unset, and each other one reads. The
+     * reply is the value afterwards, 0 for unset.
+     */
+    public static Log sticky(long n, long k) throws Refused {
+        return opened(log -> (int) Universal.OPEN_STICKY.invokeExact(n, k, log));
+    }
+
+    /**
+     * A register of 31 bits, 0 at the start: {@code i >>> 31} is the operation of a call i, and the lowest 31 bits a value.
+     * 0 reads, 1 writes, 2 swaps, 3 adds, 4 writes a greater value, and 2^31 + e writes where the register has e. A write is
+     * answered 0, and each other call the value before.
+     */
+    public static Log register(long n, long k) throws Refused {
+        return opened(log -> (int) Universal.OPEN_REGISTER.invokeExact(n, k, log));
+    }
+
+    /** The machine of two tables with a row for each state and an entry for each invocation; state 0 is the start. */
+    public static Log machine(long n, long k, int[][] next, int[][] reply) throws Refused {
+        int invocations = next.length == 0 ? 0 : next[0].length;
+        try (Arena arena = Arena.ofConfined()) {
+            int[] nexts = flat(next, invocations), replies = flat(reply, invocations);
+            MemorySegment first = arena.allocate(JAVA_INT, Math.max(1, nexts.length)), second = arena.allocate(JAVA_INT, Math.max(1, replies.length));
+            MemorySegment.copy(nexts, 0, first, JAVA_INT, 0, nexts.length);
+            MemorySegment.copy(replies, 0, second, JAVA_INT, 0, replies.length);
+            return opened(log -> (int) Universal.OPEN_MACHINE.invokeExact(n, k, next.length, invocations, first, (long) nexts.length,
+                    second, (long) replies.length, log));
+        }
+    }
+
+    private static int[] flat(int[][] table, int invocations) throws Refused {
+        int[] entries = new int[table.length * invocations];
+        for (int s = 0; s < table.length; s++) {
+            if (table[s].length != invocations) {
+                throw new Refused(Fault.BAD_TABLE);
+            }
+            System.arraycopy(table[s], 0, entries, s * invocations, invocations);
+        }
+        return entries;
+    }
+
+    /** The seat of the greatest process that has none yet. Refused: all are given out; memory. */
+    public synchronized Seat seat() throws Refused {
+        Handle seat = new Handle();
+        try (Arena arena = Arena.ofConfined()) {
+            MemorySegment process = arena.allocate(JAVA_LONG);
+            Universal.done(() -> (int) Universal.SEAT.invokeExact(handle.use(), seat.at, process));
+            return new Seat(seat, process.get(JAVA_LONG, 0));
+        } catch (Refused refused) {
+            seat.close();
+            throw refused;
+        }
+    }
+
+    /** All seats that are left, that of the greatest process first. Refused: memory. */
+    public List<Seat> seats() throws Refused {
+        List<Seat> seats = new ArrayList<>();
+        while (true) {
+            try {
+                seats.add(seat());
+            } catch (Refused refused) {
+                if (refused.fault != Fault.NO_SEAT) {
+                    throw refused;
+                }
+                return seats;
+            }
+        }
+    }
+
+    /** Lets the log go; seats that were given out stay. */
+    @Override
+    public synchronized void close() {
+        handle.close();
+    }
+}

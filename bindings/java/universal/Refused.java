@@ -1,0 +1,14 @@
+package universal;
+
+/** A call was refused. */
+public final class Refused extends Exception {
+    private static final long serialVersionUID = 1;
+
+    /** Why it was. */
+    public final Fault fault;
+
+    Refused(Fault fault) {
+        super(fault.name().toLowerCase().replace('_', ' '));
+        this.fault = fault;
+    }
+}

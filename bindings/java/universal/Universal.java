@@ -1,0 +1,84 @@
+package universal;
+
+import static java.lang.foreign.ValueLayout.ADDRESS;
+import static java.lang.foreign.ValueLayout.JAVA_INT;
+import static java.lang.foreign.ValueLayout.JAVA_LONG;
+
+import java.lang.foreign.Arena;
+import java.lang.foreign.FunctionDescriptor;
+import java.lang.foreign.Linker;
+import java.lang.foreign.MemoryLayout;
+import java.lang.foreign.MemorySegment;
+import java.lang.foreign.SymbolLookup;
+import java.lang.invoke.MethodHandle;
+import java.nio.file.Path;
+
+/** The functions of {@code universal.h}, by {@code java.lang.foreign}, from Java 22 on. */
+final class Universal {
+    private static final SymbolLookup LIBRARY = SymbolLookup.libraryLookup(
+            Path.of(System.getProperty("universal.library", "bindings/out/libuniversal.so")).toAbsolutePath(), Arena.global());
+
+    static final MethodHandle OPEN_TALLY = status("universal_open_tally", JAVA_LONG, JAVA_LONG, ADDRESS);
+    static final MethodHandle OPEN_STICKY = status("universal_open_sticky", JAVA_LONG, JAVA_LONG, ADDRESS);
+    static final MethodHandle OPEN_REGISTER = status("universal_open_register", JAVA_LONG, JAVA_LONG, ADDRESS);
+    static final MethodHandle OPEN_MACHINE = status("universal_open_machine", JAVA_LONG, JAVA_LONG, JAVA_INT, JAVA_INT, ADDRESS,
+            JAVA_LONG, ADDRESS, JAVA_LONG, ADDRESS);
+    static final MethodHandle SEAT = status("universal_seat", ADDRESS, ADDRESS, ADDRESS);
+    static final MethodHandle APPLY = status("universal_apply", ADDRESS, JAVA_LONG, ADDRESS);
+    static final MethodHandle CLOSE = status("universal_close", ADDRESS);
+    static final MethodHandle READ = status("universal_read", ADDRESS, ADDRESS, JAVA_LONG, ADDRESS);
+    static final MethodHandle DROP = Linker.nativeLinker().downcallHandle(LIBRARY.findOrThrow("universal_drop"), FunctionDescriptor.ofVoid(ADDRESS));
+
+    private Universal() {}
+
+    private static MethodHandle status(String name, MemoryLayout... takes) {
+        return Linker.nativeLinker().downcallHandle(LIBRARY.findOrThrow(name), FunctionDescriptor.of(JAVA_INT, takes));
+    }
+
+    /** A function of the library, which answers a status. */
+    @FunctionalInterface
+    interface Call {
+        int status() throws Throwable;
+    }
+
+    static void done(Call call) throws Refused {
+        int status;
+        try {
+            status = call.status();
+        } catch (RuntimeException misuse) {
+            throw misuse;
+        } catch (Throwable wrong) {
+            throw new AssertionError(wrong);
+        }
+        if (status != 0) {
+            throw new Refused(Fault.of(status));
+        }
+    }
+
+    /** A handle of the library, in memory of its own. One call at a time: its owner's methods are synchronized. */
+    static final class Handle implements AutoCloseable {
+        private final Arena arena = Arena.ofShared();
+        final MemorySegment at = arena.allocate(ADDRESS);
+        private boolean gone;
+
+        MemorySegment use() {
+            if (gone) {
+                throw new IllegalStateException("it was closed");
+            }
+            return at;
+        }
+
+        @Override
+        public void close() {
+            if (!gone) {
+                gone = true;
+                try {
+                    DROP.invokeExact(at);
+                } catch (Throwable wrong) {
+                    throw new AssertionError(wrong);
+                }
+                arena.close();
+            }
+        }
+    }
+}

@@ -1,0 +1,102 @@
+"""Each call on its happy path and each refusal: python3 -m unittest"""
+
+import threading
+import unittest
+
+from universal import Entry, Fault, Log, Refused
+
+SWITCH = ([[0, 1], [1, 0]], [[0, 0], [1, 1]])
+
+
+def replies(log, invs):
+    with log:
+        seat = log.seat()
+    return [seat.apply(inv).reply for inv in invs]
+
+
+class Calls(unittest.TestCase):
+    def refuses(self, fault, call):
+        with self.assertRaises(Refused) as refused:
+            call()
+        self.assertIs(refused.exception.fault, fault)
+
+    def test_objects(self):
+        self.assertEqual(replies(Log.tally(1, 3), [5, 2, 1]), [0, 5, 7])
+        self.assertEqual(replies(Log.sticky(1, 4), [0, 8, 10, 0]), [0, 8, 8, 8])
+        swap, add, exchange = 2 << 31, 3 << 31, (1 << 62) + (9 << 31)
+        self.assertEqual(replies(Log.register(1, 4), [swap + 6, add + 3, exchange + 4, 0]), [0, 6, 9, 4])
+        self.assertEqual(replies(Log.machine(1, 4, *SWITCH), [0, 1, 9, 0]), [0, 0, 1, 0])
+
+    def test_bad_sizes(self):
+        self.refuses(Fault.BAD_COUNT, lambda: Log.tally(0, 0))
+        self.refuses(Fault.BAD_COUNT, lambda: Log.sticky(65, 1))
+        self.refuses(Fault.BAD_ROW, lambda: Log.register(1, 0))
+        self.refuses(Fault.BAD_ROW, lambda: Log.tally(64, 4097))
+        self.assertRaises(ValueError, lambda: Log.tally(-1, 1))
+        self.assertRaises(ValueError, lambda: Log.tally(1 << 64, 1))
+
+    def test_bad_tables(self):
+        self.refuses(Fault.BAD_TABLE, lambda: Log.machine(1, 1, [], []))
+        self.refuses(Fault.BAD_TABLE, lambda: Log.machine(1, 1, [[0, 1], [1, 2]], SWITCH[1]))
+        self.refuses(Fault.BAD_TABLE, lambda: Log.machine(1, 1, SWITCH[0], [[0, 0], [1, 1 << 31]]))
+        self.refuses(Fault.BAD_TABLE, lambda: Log.machine(1, 1, SWITCH[0], [[0, 0]]))
+        self.refuses(Fault.BAD_TABLE, lambda: Log.machine(1, 1, [[0, 1], [1]], SWITCH[1]))
+
+    def test_seats(self):
+        log = Log.tally(2, 1)
+        self.assertEqual([seat.process for seat in log.seats()], [1, 0])
+        self.refuses(Fault.NO_SEAT, log.seat)
+
+    def test_full(self):
+        with Log.tally(1, 1) as log:
+            seat = log.seat()
+        self.assertEqual(seat.apply(4).reply, 0)
+        self.refuses(Fault.FULL, lambda: seat.apply(4))
+        self.assertRaises(ValueError, lambda: seat.apply(1 << 64))
+        self.assertEqual(seat.close(), [Entry(seq=2, process=0, nth=0, inv=4, reply=0)])
+
+    def test_busy(self):
+        log = Log.tally(2, 2)
+        first, second = log.seats()
+        self.assertEqual(first.apply(3).reply, 0)
+        self.refuses(Fault.BUSY, first.close)
+        log.drop()
+        self.refuses(Fault.BUSY, first.close)
+        self.assertEqual(first.apply(1).reply, 3)
+        second.drop()
+        self.assertEqual(len(first.close()), 2)
+
+    def test_wrong_handle(self):
+        with Log.tally(1, 1) as log:
+            seat = log.seat()
+        self.refuses(Fault.WRONG_HANDLE, log.seat)
+        self.assertEqual(seat.close(), [])
+        self.refuses(Fault.WRONG_HANDLE, seat.close)
+        self.refuses(Fault.WRONG_HANDLE, lambda: seat.apply(1))
+
+    def test_threads(self):
+        with Log.tally(4, 200) as log:
+            seats = log.seats()
+        told = {}
+
+        def work(seat):
+            told[seat.process] = [seat.apply(i).reply for i in range(200)]
+
+        threads = [threading.Thread(target=work, args=[seat]) for seat in seats]
+        for thread in threads:
+            thread.start()
+        for thread in threads:
+            thread.join()
+        for seat in seats[1:]:
+            seat.drop()
+        total = 0
+        calls = seats[0].close()
+        for place, call in enumerate(calls):
+            self.assertEqual((call.seq, call.reply), (place + 2, total))
+            self.assertEqual(call.reply, told[call.process][call.nth])
+            total += call.inv
+        self.assertEqual((len(calls), total), (800, 4 * 199 * 200 // 2))
+
+
+if __name__ == "__main__":
+    unittest.main()

@@ -1,0 +1,194 @@
+//! Shared objects that no thread can hold up: a tally, a sticky register, a register and a machine of two tables.
+//!
+//! A [`Log`] is an object that `n` processes share. It gives out a [`Seat`] for each, and a seat makes up to `k`
+//! calls, from any thread. A call takes no lock and no memory, and ends within `12n + 16` steps on shared words,
+//! whatever the other threads do. The last seat closes the log and gets all calls in their one order.
+//!
+//! The functions behind this crate are proved; this crate is not. Its types keep what they ask for: a seat is `&mut`
+//! in a call, goes to another thread but is never shared, and is closed by value.
+//!
+//! ```
+//! use universal::Log;
+//!
+//! let mut seats = Log::tally(4, 1000)?.into_seats()?;
+//! std::thread::scope(|scope| {
+//!     for seat in &mut seats {
+//!         scope.spawn(|| (0..1000).for_each(|_| drop(seat.apply(1).unwrap())));
+//!     }
+//! });
+//! let last = seats.pop().unwrap();
+//! drop(seats);
+//! assert_eq!(last.close().unwrap().len(), 4000);
+//! # Ok::<(), universal::Fault>(())
+//! ```
+#![warn(missing_docs)]
+
+mod raw;
+pub mod register;
+
+pub use raw::{Entry, Reply};
+use raw::Handle;
+use std::error::Error;
+use std::fmt;
+
+/// Why a call was refused.
+#[derive(Clone, Copy, Debug, PartialEq, Eq)]
+pub enum Fault {
+    /// The number of processes isn't from 1 to 64.
+    BadCount,
+    /// The number of calls of each process isn't from 1 to 4096.
+    BadRow,
+    /// Memory was refused.
+    Memory,
+    /// The seat has made its calls.
+    Full,
+    /// All seats are given out.
+    NoSeat,
+    /// Another handle has the log.
+    Busy,
+    /// The handle hasn't what the call is for. No call of this crate's types gets it.
+    WrongHandle,
+    /// The tables aren't those of a machine.
+    BadTable,
+}
+
+impl Fault {
+    fn of(status: u32) -> Result<(), Fault> {
+        Err(match status {
+            0 => return Ok(()),
+            1 => Fault::BadCount,
+            2 => Fault::BadRow,
+            3 => Fault::Memory,
+            4 => Fault::Full,
+            5 => Fault::NoSeat,
+            6 => Fault::Busy,
+            8 => Fault::BadTable,
+            _ => Fault::WrongHandle,
+        })
+    }
+}
+
+impl fmt::Display for Fault {
+    fn fmt(&self, out: &mut fmt::Formatter<'_>) -> fmt::Result {
+        out.write_str(match self {
+            Fault::BadCount => "there aren't from 1 to 64 processes",
+            Fault::BadRow => "there aren't from 1 to 4096 calls for each process",
+            Fault::Memory => "memory was refused",
+            Fault::Full => "the seat has made its calls",
+            Fault::NoSeat => "all seats are given out",
+            Fault::Busy => "another handle has the log",
+            Fault::WrongHandle => "the handle hasn't what the call is for",
+            Fault::BadTable => "the tables aren't those of a machine",
+        })
+    }
+}
+
+impl Error for Fault {}
+
+/// Any object of finitely many states, by its tables.
+///
+/// Its states are the numbers below `states`, of which 0 is the start; its invocations those below `invocations`, and
+/// each greater one is the last of them. The entry of a state `s` and an invocation `i` is at `s * invocations + i`.
+#[derive(Clone, Copy, Debug)]
+pub struct Machine<'a> {
+    /// How many states there are, from 1 to 2^31.
+    pub states: u32,
+    /// How many invocations there are, at least 1.
+    pub invocations: u32,
+    /// The state after each call, each below `states`.
+    pub next: &'a [u32],
+    /// The reply to each call, each below 2^31.
+    pub reply: &'a [u32],
+}
+
+/// An object that is shared, with the seats that are still to be given out.
+#[derive(Debug)]
+pub struct Log(Handle);
+
+impl Log {
+    /// A sum, 0 at the start: a call adds its number modulo 2^31, and is answered the sum before.
+    ///
+    /// Errors, in this order: `BadCount`, `BadRow`, `Memory`.
+    pub fn tally(n: u64, k: u64) -> Result<Log, Fault> {
+        Handle::opened(|log| raw::open_tally(n, k, log)).map(Log)
+    }
+
+    /// A register that keeps the first value: a call from 1 to 10^9 sets it if it is unset, and each other one reads.
+    /// The reply is the value afterwards, 0 for unset. The errors are those of [`Log::tally`].
+    pub fn sticky(n: u64, k: u64) -> Result<Log, Fault> {
+        Handle::opened(|log| raw::open_sticky(n, k, log)).map(Log)
+    }
+
+    /// A register of 31 bits, 0 at the start, with the calls of [`register`]. The errors are those of [`Log::tally`].
+    pub fn register(n: u64, k: u64) -> Result<Log, Fault> {
+        Handle::opened(|log| raw::open_register(n, k, log)).map(Log)
+    }
+
+    /// The machine of two tables, which are copied.
+    ///
+    /// Errors: `BadTable` before those of [`Log::tally`].
+    pub fn machine(n: u64, k: u64, machine: Machine<'_>) -> Result<Log, Fault> {
+        Handle::opened(|log| raw::open_machine(n, k, machine, log)).map(Log)
+    }
+
+    /// The seat of the greatest process that has none yet.
+    ///
+    /// Errors: `NoSeat`, `Memory`. After either no seat is lost.
+    pub fn seat(&mut self) -> Result<Seat, Fault> {
+        let (handle, process) = self.0.seat()?;
+        Ok(Seat { handle, process })
+    }
+
+    /// All seats that are left, that of the greatest process first.
+    ///
+    /// Error: `Memory`.
+    pub fn into_seats(mut self) -> Result<Vec<Seat>, Fault> {
+        let mut seats = Vec::new();
+        loop {
+            match self.seat() {
+                Ok(seat) => seats.push(seat),
+                Err(Fault::NoSeat) => return Ok(seats),
+                Err(fault) => return Err(fault),
+            }
+        }
+    }
+}
+
+/// Why a log was not closed.
+#[derive(Debug)]
+pub enum NotClosed {
+    /// Another handle has the log: the seat comes back.
+    Busy(Seat),
+    /// Memory was refused: the log is lost.
+    Memory,
+}
+
+/// A process of a log, which makes its calls.
+#[derive(Debug)]
+pub struct Seat {
+    handle: Handle,
+    process: u64,
+}
+
+impl Seat {
+    /// Which process it is, from 0 to `n - 1`.
+    pub fn process(&self) -> u64 {
+        self.process
+    }
+
+    /// A call.
+    ///
+    /// Error: `Full`, and nothing is changed.
+    pub fn apply(&mut self, inv: u64) -> Result<Reply, Fault> {
+        self.handle.apply(inv)
+    }
+
+    /// Closes the log, if this is the last handle that has it: all calls, in their order.
+    pub fn close(mut self) -> Result<Vec<Entry>, NotClosed> {
+        match self.handle.close() {
+            Ok(()) => self.handle.read().map_err(|_| NotClosed::Memory),
+            Err(Fault::Busy) => Err(NotClosed::Busy(self)),
+            Err(_) => Err(NotClosed::Memory),
+        }
+    }
+}

@@ -1,0 +1,147 @@
+//! The functions of `universal.h`, over a handle that is dropped once.
+use crate::{Fault, Machine};
+use std::ffi::c_void;
+use std::ptr::{null_mut, NonNull};
+
+/// What a handle of `universal.h` is. It is in one call at a time, so it is `Send` and not `Sync`.
+#[repr(C)]
+#[derive(Debug)]
+pub(crate) struct Handle {
+    at: *mut c_void,
+}
+
+// `Send` of what a handle has is proved in the library.
+unsafe impl Send for Handle {}
+
+/// A reply.
+#[repr(C)]
+#[derive(Clone, Copy, Debug, Default, PartialEq, Eq)]
+pub struct Reply {
+    /// What the object answered.
+    pub reply: u32,
+    /// How many turns of the construction's loop the call took.
+    pub turns: u32,
+}
+
+/// A call that took effect.
+#[repr(C)]
+#[derive(Clone, Copy, Debug, Default, PartialEq, Eq)]
+pub struct Entry {
+    /// Its number in the log; the first entry has 2.
+    pub seq: u64,
+    /// Whose call it was.
+    pub process: u64,
+    /// The how many-th call of its process it was, from 0.
+    pub nth: u64,
+    /// What was invoked.
+    pub inv: u64,
+    reply: u32,
+    is_replied: u32,
+}
+
+impl Entry {
+    /// What was answered. There is none only in a last entry whose call never returned.
+    pub fn reply(&self) -> Option<u32> {
+        (self.is_replied != 0).then_some(self.reply)
+    }
+}
+
+extern "C" {
+    fn universal_open_tally(n: u64, k: u64, log: &mut Handle) -> u32;
+    fn universal_open_sticky(n: u64, k: u64, log: &mut Handle) -> u32;
+    fn universal_open_register(n: u64, k: u64, log: &mut Handle) -> u32;
+    fn universal_open_machine(
+        n: u64,
+        k: u64,
+        states: u32,
+        invocations: u32,
+        next: *const u32,
+        next_count: usize,
+        reply: *const u32,
+        reply_count: usize,
+        log: &mut Handle,
+    ) -> u32;
+    fn universal_seat(log: &mut Handle, seat: &mut Handle, process: &mut u64) -> u32;
+    fn universal_apply(seat: &mut Handle, inv: u64, answer: &mut Reply) -> u32;
+    fn universal_close(seat: &mut Handle) -> u32;
+    fn universal_read(log: &mut Handle, entries: *mut Entry, capacity: usize, count: &mut usize) -> u32;
+    fn universal_drop(handle: &mut Handle);
+}
+
+pub(crate) fn open_tally(n: u64, k: u64, log: &mut Handle) -> u32 {
+    // SAFETY: the handle is borrowed for the call, as in each call below.
+    unsafe { universal_open_tally(n, k, log) }
+}
+
+pub(crate) fn open_sticky(n: u64, k: u64, log: &mut Handle) -> u32 {
+    unsafe { universal_open_sticky(n, k, log) }
+}
+
+pub(crate) fn open_register(n: u64, k: u64, log: &mut Handle) -> u32 {
+    unsafe { universal_open_register(n, k, log) }
+}
+
+pub(crate) fn open_machine(n: u64, k: u64, machine: Machine<'_>, log: &mut Handle) -> u32 {
+    let Machine { states, invocations, next, reply } = machine;
+    // SAFETY: the slices lie in memory that is borrowed for the call, and the library only reads and copies them.
+    unsafe {
+        universal_open_machine(
+            n,
+            k,
+            states,
+            invocations,
+            next.as_ptr(),
+            next.len(),
+            reply.as_ptr(),
+            reply.len(),
+            log,
+        )
+    }
+}
+
+impl Handle {
+    fn none() -> Handle {
+        Handle { at: null_mut() }
+    }
+
+    /// A handle that a call has opened.
+    pub(crate) fn opened(open: impl FnOnce(&mut Handle) -> u32) -> Result<Handle, Fault> {
+        let mut log = Handle::none();
+        Fault::of(open(&mut log))?;
+        Ok(log)
+    }
+
+    pub(crate) fn seat(&mut self) -> Result<(Handle, u64), Fault> {
+        let mut seat = Handle::none();
+        let mut process = 0;
+        Fault::of(unsafe { universal_seat(self, &mut seat, &mut process) })?;
+        Ok((seat, process))
+    }
+
+    pub(crate) fn apply(&mut self, inv: u64) -> Result<Reply, Fault> {
+        let mut reply = Reply::default();
+        Fault::of(unsafe { universal_apply(self, inv, &mut reply) })?;
+        Ok(reply)
+    }
+
+    pub(crate) fn close(&mut self) -> Result<(), Fault> {
+        Fault::of(unsafe { universal_close(self) })
+    }
+
+    /// All entries of a closed log.
+    pub(crate) fn read(&mut self) -> Result<Vec<Entry>, Fault> {
+        let mut count = 0;
+        // SAFETY: there is room for none, and the pointer is aligned and not null.
+        Fault::of(unsafe { universal_read(self, NonNull::dangling().as_ptr(), 0, &mut count) })?;
+        let mut entries = vec![Entry::default(); count];
+        // SAFETY: the vector has `count` elements.
+        Fault::of(unsafe { universal_read(self, entries.as_mut_ptr(), count, &mut count) })?;
+        Ok(entries)
+    }
+}
+
+impl Drop for Handle {
+    fn drop(&mut self) {
+        unsafe { universal_drop(self) }
+    }
+}

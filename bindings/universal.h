@@ -1,0 +1,134 @@
+/* Shared objects that no thread can hold up: a tally, a sticky register, a register and a machine of two tables.
+ *
+ * A log is an object that n processes share. Each process has a seat, by which it makes up to k calls. A call takes no
+ * lock and no memory, and ends within 12n + 16 steps on shared words, whatever the other threads do. All calls have one
+ * order: the log is a history of the object in which each call has the reply that it was given.
+ *
+ * The functions of this file are proved in crates/universal_c. What a caller owes is written here, and nothing checks it.
+ *
+ * What a caller owes:
+ *   - A handle begins as UNIVERSAL_NONE. Only these functions change it, and it is never copied: of two copies the
+ *     second one that is used is a use after free. It may be moved while no call uses it.
+ *   - A handle is in one call at a time. Different handles may be in calls at the same time, on any threads. A handle may
+ *     go from thread to thread: by a thread's start or join, a lock, or a sequentially consistent atomic.
+ *   - A pointer that is passed is not null, is aligned, and is to memory of its type that was written before; so are the
+ *     elements of an array, also where it has none. No two pointers of one call are to the same memory.
+ *   - No call is made from a signal handler, nor in the forked child of a process with threads, and none is left by
+ *     longjmp or by a thread's cancellation.
+ *
+ * A handle that has nothing, that was closed, or that has something else than a call is for is no error of the caller's:
+ * the call answers UNIVERSAL_WRONG_HANDLE and changes nothing.
+ */
+#ifndef UNIVERSAL_H
+#define UNIVERSAL_H
+
+#include <stddef.h>
+#include <stdint.h>
+
+#ifdef __cplusplus
+extern "C" {
+#endif
+
+/* A log, a seat, the entries of a closed log, or nothing. */
+typedef struct universal_handle {
+    void *at; /* null where it has nothing; else of no use to a caller */
+} universal_handle;
+
+/* What a handle is at the start. */
+#define UNIVERSAL_NONE {0}
+
+/* What a call answers. */
+typedef enum universal_status {
+    UNIVERSAL_DONE = 0,
+    UNIVERSAL_BAD_COUNT = 1,    /* n isn't from 1 to 64 */
+    UNIVERSAL_BAD_ROW = 2,      /* k isn't from 1 to 4096 */
+    UNIVERSAL_MEMORY = 3,       /* memory was refused */
+    UNIVERSAL_FULL = 4,         /* the seat has made its k calls */
+    UNIVERSAL_NO_SEAT = 5,      /* all n seats are given out */
+    UNIVERSAL_BUSY = 6,         /* another handle still has the log */
+    UNIVERSAL_WRONG_HANDLE = 7, /* the handle hasn't what the call is for */
+    UNIVERSAL_BAD_TABLE = 8     /* the tables aren't those of a machine */
+} universal_status;
+
+/* A reply. */
+typedef struct universal_reply {
+    uint32_t reply; /* what the object answered */
+    uint32_t turns; /* how many turns of the construction's loop the call took */
+} universal_reply;
+
+/* A call that took effect. */
+typedef struct universal_entry {
+    uint64_t seq;        /* its number in the log; the first entry has 2 */
+    uint64_t process;    /* whose call it was, from 0 to n - 1 */
+    uint64_t nth;        /* the how many-th call of its process it was, from 0 */
+    uint64_t inv;        /* what was invoked */
+    uint32_t reply;      /* what was answered, or 0 */
+    uint32_t is_replied; /* 0 only in a last entry whose call never returned, and 1 else */
+} universal_entry;
+
+/* Opens a log of a tally, for n processes that make up to k calls each. A tally is a sum, 0 at the start: a call adds
+ * inv modulo 2^31, and is answered the sum before.
+ *
+ * UNIVERSAL_BAD_COUNT, UNIVERSAL_BAD_ROW, UNIVERSAL_MEMORY, in this order; after each *log is as it was. After
+ * UNIVERSAL_DONE it has the log, and what it had before is dropped. The log takes 8 * (2n + 5 * (n * k + 1)) bytes. */
+uint32_t universal_open_tally(uint64_t n, uint64_t k, universal_handle *log);
+
+/* Opens a log of a sticky register, which keeps the first value. It is unset at the start. An inv from 1 to 10^9 sets it
+ * if it is unset, and each other inv reads. The reply is the value afterwards, 0 for unset.
+ * The statuses are those of universal_open_tally. */
+uint32_t universal_open_sticky(uint64_t n, uint64_t k, universal_handle *log);
+
+/* Opens a log of a register of 31 bits, 0 at the start. The call is UNIVERSAL_READ or one that a macro below makes.
+ * The statuses are those of universal_open_tally. */
+uint32_t universal_open_register(uint64_t n, uint64_t k, universal_handle *log);
+
+/* The invocations of a register; values are below 2^31. A write is answered 0, each other call the value before. */
+#define UNIVERSAL_READ ((uint64_t)0)
+#define UNIVERSAL_WRITE(value) (((uint64_t)1 << 31) + (uint64_t)(value))
+#define UNIVERSAL_SWAP(value) (((uint64_t)2 << 31) + (uint64_t)(value))
+#define UNIVERSAL_FETCH_ADD(number) (((uint64_t)3 << 31) + (uint64_t)(number))
+#define UNIVERSAL_FETCH_MAX(value) (((uint64_t)4 << 31) + (uint64_t)(value))
+#define UNIVERSAL_COMPARE_EXCHANGE(expected, value) \
+    (((((uint64_t)1 << 31) + (uint64_t)(expected)) << 31) + (uint64_t)(value))
+
+/* Opens a log of the machine of two tables, which are copied. Its states are the numbers below `states`, of which 0 is
+ * the start; its invocations are those below `invocations`, and each greater inv is the last of them. In state s a call
+ * of inv i is answered reply[s * invocations + i], and next[s * invocations + i] is the state after it.
+ *
+ * UNIVERSAL_BAD_TABLE: states isn't from 1 to 2^31; or invocations is 0; or a table hasn't states * invocations entries;
+ * or an entry of `next` isn't below states; or one of `reply` isn't below 2^31. It comes before UNIVERSAL_BAD_COUNT and
+ * UNIVERSAL_BAD_ROW. UNIVERSAL_MEMORY can come before it, as the tables are copied first. After each *log is as it was. */
+uint32_t universal_open_machine(uint64_t n, uint64_t k, uint32_t states, uint32_t invocations, const uint32_t *next,
+                                size_t next_count, const uint32_t *reply, size_t reply_count, universal_handle *log);
+
+/* Gives out the next seat of a log: that of the greatest process that has none yet. *process is which it is. What *seat
+ * had before is dropped. A seat may be used, and closed, after the log's handle is dropped.
+ *
+ * UNIVERSAL_WRONG_HANDLE: *log has no log. UNIVERSAL_NO_SEAT: all are given out. UNIVERSAL_MEMORY: no seat is lost.
+ * In this order; after each *seat and *process are as they were. */
+uint32_t universal_seat(universal_handle *log, universal_handle *seat, uint64_t *process);
+
+/* A call by a seat.
+ *
+ * UNIVERSAL_WRONG_HANDLE: *seat has no seat. UNIVERSAL_FULL: it has made its k calls. After either nothing is changed. */
+uint32_t universal_apply(universal_handle *seat, uint64_t inv, universal_reply *answer);
+
+/* Closes the log of a seat, by the last handle that has the log: drop the log's own handle and the other seats before.
+ * Afterwards *seat has the entries in place of the seat.
+ *
+ * UNIVERSAL_WRONG_HANDLE: *seat has no seat. UNIVERSAL_BUSY: another handle has the log. After either *seat is as it was.
+ * UNIVERSAL_MEMORY: the log is lost, and *seat has nothing that a call is for. */
+uint32_t universal_close(universal_handle *seat);
+
+/* Writes the first entries of a closed log in their order, up to `capacity`, and to *count how many there are in all.
+ *
+ * UNIVERSAL_WRONG_HANDLE: *log has no entries, and nothing is written. */
+uint32_t universal_read(universal_handle *log, universal_entry *entries, size_t capacity, size_t *count);
+
+/* Lets go what the handle has, which is nothing afterwards. At UNIVERSAL_NONE it does nothing. */
+void universal_drop(universal_handle *handle);
+
+#ifdef __cplusplus
+}
+#endif
+#endif

@@ -1,0 +1,143 @@
+//! Closing a log, reading its entries, and letting a handle go.
+ghost use Rattle.std.specs.Prelude.{◌≡◌, ◌≢◌, ◌↔◌, ◌⊎◌, ◌++◌, List, drop, length, map, take, IfSome};
+ghost use Rattle.std.specs.declared.option.Option.TheVariants.{None, Some};
+ghost use Rattle.uni_words.specs.declared.read.WordEntry.{WordEntry};
+ghost use Rattle.universal_c.specs.Calls.{HasClosed, entries_in, log_in, seat_in};
+ghost use Rattle.universal_c.specs.Told.{told};
+
+use crate::Entry;
+use crate::handle::Handle;
+use crate::held::{CloseFault, Held};
+use crate::status::{BUSY, DONE, MEMORY, WRONG_HANDLE};
+use std::alloc::Global;
+use std::mem::replace;
+use uni_words::WordEntry;
+
+fn close_in(alloc: Global, held: &mut Held) -> u32
+    ensures wrong { (result ≡ 7) ↔ (seat_in (Some held.old) ≡ None) }
+    ensures status { (result ≡ 0) ⊎ (result ≡ 3) ⊎ (result ≡ 6) ⊎ (result ≡ 7) }
+    ensures kept { result ≡ 7 → held.new ≡ held.old }
+    ensures busy { result ≡ 6 →
+        (seat_in (Some held.new) ≡ seat_in (Some held.old)) × (log_in (Some held.new) ≡ log_in (Some held.old)) }
+    ensures closed { result ≡ 0 → HasClosed (Some held.old) (Some held.new) }
+{
+    match replace(held, Held::Nothing) {
+        Held::Seat(seated) => match seated.close(alloc) {
+            Ok(entries) => {
+                *held = Held::Entries(entries);
+                DONE
+            }
+            Err(CloseFault::Busy(seated)) => {
+                *held = Held::Seat(seated);
+                BUSY
+            }
+            Err(CloseFault::Memory) => MEMORY,
+        },
+        other => {
+            *held = other;
+            WRONG_HANDLE
+        }
+    }
+}
+
+/// Closes the log of a seat, by the last handle that has the log. 0: the entries are held in place of
+/// the seat. 3: memory was refused, and the log is lost. 6: another handle has the log. 7: no seat is
+/// held. After 6 and 7 the handle is as before.
+#[unsafe(no_mangle)]
+pub extern "C" fn universal_close(alloc: Global, seat: &mut Handle) -> u32
+    ensures wrong { (result ≡ 7) ↔ (seat_in seat.old.value ≡ None) }
+    ensures status { (result ≡ 0) ⊎ (result ≡ 3) ⊎ (result ≡ 6) ⊎ (result ≡ 7) }
+    ensures kept { result ≡ 7 → seat.new.value ≡ seat.old.value }
+    ensures busy { result ≡ 6 →
+        (seat_in seat.new.value ≡ seat_in seat.old.value) × (log_in seat.new.value ≡ log_in seat.old.value) }
+    ensures closed { result ≡ 0 → HasClosed seat.old.value seat.new.value }
+{
+    match replace(seat, Handle::empty(alloc)).into_box() {
+        Some(mut held) => {
+            let status = close_in(alloc, &mut held);
+            *seat = Handle::of(held);
+            status
+        }
+        None => WRONG_HANDLE,
+    }
+}
+
+fn entry_of(entry: &WordEntry) -> Entry
+    ensures { result ≡ told entry.now }
+{
+    let (reply, is_replied) = match entry.reply {
+        Some(reply) => (reply, 1),
+        None => (0, 0),
+    };
+    Entry {
+        seq: entry.seq,
+        process: entry.call.process as u64,
+        nth: entry.call.nth,
+        inv: entry.inv,
+        reply,
+        is_replied,
+    }
+}
+
+fn read(log: &[WordEntry], entries: &mut [Entry], count: &mut usize)
+    ensures count { count.new ≡ length log.now }
+    ensures entries { entries.new ≡ map told (take (length entries.old) log.now) ++ drop (length log.now) entries.old }
+{
+    *count = log.len();
+    let most = log.len().min(entries.len());
+    for i in 0..most {
+        entries[i] = entry_of(&log[i]);
+    }
+}
+
+fn read_in(held: &Held, entries: &mut [Entry], count: &mut usize) -> u32
+    ensures wrong { (result ≡ 7) ↔ (entries_in (Some held.now) ≡ None) }
+    ensures status { (result ≡ 0) ⊎ (result ≡ 7) }
+    ensures unchanged { result ≢ 0 → (entries.new ≡ entries.old) × (count.new ≡ count.old) }
+    ensures count { IfSome (entries_in (Some held.now)) (λ log. count.new ≡ length log) }
+    ensures read { IfSome (entries_in (Some held.now)) (λ log.
+        entries.new ≡ map told (take (length entries.old) log) ++ drop (length log) entries.old) }
+{
+    match held {
+        Held::Entries(log) => {
+            read(log, entries, count);
+            DONE
+        }
+        _ => WRONG_HANDLE,
+    }
+}
+
+/// Writes the first entries of a closed log, in order, as many as there is room for, and how many
+/// there are in all. 7: the handle has no entries, and nothing is written.
+#[unsafe(no_mangle)]
+pub extern "C" fn universal_read(
+    alloc: Global,
+    log: &mut Handle,
+    entries: &mut [Entry],
+    count: &mut usize,
+) -> u32
+    ensures same { log.new.value ≡ log.old.value }
+    ensures wrong { (result ≡ 7) ↔ (entries_in log.old.value ≡ None) }
+    ensures status { (result ≡ 0) ⊎ (result ≡ 7) }
+    ensures unchanged { result ≢ 0 → (entries.new ≡ entries.old) × (count.new ≡ count.old) }
+    ensures count { IfSome (entries_in log.old.value) (λ log. count.new ≡ length log) }
+    ensures read { IfSome (entries_in log.old.value) (λ log.
+        entries.new ≡ map told (take (length entries.old) log) ++ drop (length log) entries.old) }
+{
+    match replace(log, Handle::empty(alloc)).into_box() {
+        Some(held) => {
+            let status = read_in(&held, entries, count);
+            *log = Handle::of(held);
+            status
+        }
+        None => WRONG_HANDLE,
+    }
+}
+
+/// Lets go what the handle has.
+#[unsafe(no_mangle)]
+pub extern "C" fn universal_drop(alloc: Global, handle: &mut Handle)
+    ensures { handle.new.value ≡ None }
+{
+    *handle = Handle::empty(alloc);
+}

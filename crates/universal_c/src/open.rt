@@ -1,0 +1,151 @@
+//! Opening a log.
+ghost use Rattle.std.specs.Prelude.{◌≡◌, ◌≢◌, ◌↔◌, ◌⊎◌, ◌<◌, ◌≤◌, IfErr, IfOk, IsSome};
+ghost use Rattle.std.specs.declared.option.Option.TheVariants.{None, Some};
+ghost use Rattle.word_objects.specs.Machine.{machine_fault};
+ghost use Rattle.universal_c.specs.Calls.{HasOpened};
+ghost use Rattle.universal_c.specs.Meaning.{tables_of};
+ghost use Rattle.universal_c.specs.declared.object.Object.TheVariants.{Tally, Sticky, Register, Machine};
+
+use crate::handle::Handle;
+use crate::held::{Held, Opened};
+use crate::object::Object;
+use crate::status::{BAD_COUNT, BAD_ROW, BAD_TABLE, DONE, MEMORY};
+use std::alloc::Global;
+use uni_words::WordOpenFault;
+use word_objects::WordMachine;
+
+fn status_of(fault: WordOpenFault) -> u32
+    ensures count { (result ≡ 1) ↔ (fault ≡ WordOpenFault.BadCount) }
+    ensures row { (result ≡ 2) ↔ (fault ≡ WordOpenFault.BadRow) }
+    ensures fault { (1 ≤ result) × (result ≤ 3) }
+{
+    match fault {
+        WordOpenFault::BadCount => BAD_COUNT,
+        WordOpenFault::BadRow => BAD_ROW,
+        WordOpenFault::Memory => MEMORY,
+    }
+}
+
+/// Puts what is held into a handle, and drops what the handle had.
+fn put(alloc: Global, out: &mut Handle, held: Held) -> u32
+    ensures status { (result ≡ 0) ⊎ (result ≡ 3) }
+    ensures done { result ≡ 0 → out.new.value ≡ Some held }
+    ensures same { result ≢ 0 → out.new ≡ out.old }
+{
+    match Box::new(alloc, held) {
+        Ok(held) => {
+            *out = Handle::of(held);
+            DONE
+        }
+        Err(_) => MEMORY,
+    }
+}
+
+/// Opens a log of an object, with the statuses of `universal_open_tally`.
+fn open(alloc: Global, object: Object, n: u64, k: u64, log: &mut Handle) -> u32
+    ensures count { (result ≡ 1) ↔ ((n ≡ 0) ⊎ (64 < n)) }
+    ensures row { (result ≡ 2) ↔ ((1 ≤ n) × (n ≤ 64) × ((k ≡ 0) ⊎ (4096 < k))) }
+    ensures status { result ≤ 3 }
+    ensures unchanged { result ≢ 0 → log.new ≡ log.old }
+    ensures opened { result ≡ 0 → HasOpened log.new.value object n k }
+{
+    match Opened::open(alloc, object, n, k) {
+        Ok(opened) => put(alloc, log, Held::Log(opened)),
+        Err(fault) => status_of(fault),
+    }
+}
+
+/// Opens a log of a tally, for n processes that can make k calls each.
+/// 1: `n` isn't from 1 to 64. 2: `k` isn't from 1 to 4096. 3: memory was refused. After each the
+/// handle is as before; else what it had is dropped.
+#[unsafe(no_mangle)]
+pub extern "C" fn universal_open_tally(alloc: Global, n: u64, k: u64, log: &mut Handle) -> u32
+    ensures count { (result ≡ 1) ↔ ((n ≡ 0) ⊎ (64 < n)) }
+    ensures row { (result ≡ 2) ↔ ((1 ≤ n) × (n ≤ 64) × ((k ≡ 0) ⊎ (4096 < k))) }
+    ensures status { result ≤ 3 }
+    ensures unchanged { result ≢ 0 → log.new ≡ log.old }
+    ensures opened { result ≡ 0 → HasOpened log.new.value Tally n k }
+{
+    open(alloc, Object::Tally, n, k, log)
+}
+
+/// Opens a log of a sticky register, with the statuses of `universal_open_tally`.
+#[unsafe(no_mangle)]
+pub extern "C" fn universal_open_sticky(alloc: Global, n: u64, k: u64, log: &mut Handle) -> u32
+    ensures count { (result ≡ 1) ↔ ((n ≡ 0) ⊎ (64 < n)) }
+    ensures row { (result ≡ 2) ↔ ((1 ≤ n) × (n ≤ 64) × ((k ≡ 0) ⊎ (4096 < k))) }
+    ensures status { result ≤ 3 }
+    ensures unchanged { result ≢ 0 → log.new ≡ log.old }
+    ensures opened { result ≡ 0 → HasOpened log.new.value Sticky n k }
+{
+    open(alloc, Object::Sticky, n, k, log)
+}
+
+/// Opens a log of a register, with the statuses of `universal_open_tally`.
+#[unsafe(no_mangle)]
+pub extern "C" fn universal_open_register(alloc: Global, n: u64, k: u64, log: &mut Handle) -> u32
+    ensures count { (result ≡ 1) ↔ ((n ≡ 0) ⊎ (64 < n)) }
+    ensures row { (result ≡ 2) ↔ ((1 ≤ n) × (n ≤ 64) × ((k ≡ 0) ⊎ (4096 < k))) }
+    ensures status { result ≤ 3 }
+    ensures unchanged { result ≢ 0 → log.new ≡ log.old }
+    ensures opened { result ≡ 0 → HasOpened log.new.value Register n k }
+{
+    open(alloc, Object::Register, n, k, log)
+}
+
+/// The machine of two tables, which are copied.
+/// Errors: 3, memory was refused; 8, the tables are wrong.
+fn machine_of(
+    alloc: Global,
+    states: u32,
+    invocations: u32,
+    next: &[u32],
+    reply: &[u32],
+) -> Result<Object, u32>
+    ensures machine { let tables = tables_of states invocations next.now reply.now in
+        IfOk result (λ object. (object ≡ Machine tables) × (machine_fault tables ≡ None)) }
+    ensures fault { let tables = tables_of states invocations next.now reply.now in
+        IfErr result (λ status. (status ≡ 3) ⊎ ((status ≡ 8) × IsSome (machine_fault tables))) }
+{
+    let Ok(next) = Vec::from_slice(alloc, next) else {
+        return Err(MEMORY);
+    };
+    let Ok(reply) = Vec::from_slice(alloc, reply) else {
+        return Err(MEMORY);
+    };
+    match WordMachine::new(states, invocations, next, reply) {
+        Ok(machine) => Ok(Object::Machine(machine)),
+        Err(_) => Err(BAD_TABLE),
+    }
+}
+
+/// Opens a log of the machine of two tables, which are copied.
+/// 8: the tables are wrong. Else the statuses are those of `universal_open_tally`. 3, that memory was
+/// refused, can come before each.
+#[unsafe(no_mangle)]
+pub extern "C" fn universal_open_machine(
+    alloc: Global,
+    n: u64,
+    k: u64,
+    states: u32,
+    invocations: u32,
+    next: &[u32],
+    reply: &[u32],
+    log: &mut Handle,
+) -> u32
+    ensures fault { IsSome (machine_fault (tables_of states invocations next.now reply.now)) →
+        (result ≡ 3) ⊎ (result ≡ 8) }
+    ensures count { machine_fault (tables_of states invocations next.now reply.now) ≡ None →
+        (result ≡ 3) ⊎ ((result ≡ 1) ↔ ((n ≡ 0) ⊎ (64 < n))) }
+    ensures row { machine_fault (tables_of states invocations next.now reply.now) ≡ None →
+        (result ≡ 3) ⊎ ((result ≡ 2) ↔ ((1 ≤ n) × (n ≤ 64) × ((k ≡ 0) ⊎ (4096 < k)))) }
+    ensures status { (result ≤ 3) ⊎ (result ≡ 8) }
+    ensures unchanged { result ≢ 0 → log.new ≡ log.old }
+    ensures opened { result ≡ 0 →
+        HasOpened log.new.value (Machine (tables_of states invocations next.now reply.now)) n k }
+{
+    match machine_of(alloc, states, invocations, next, reply) {
+        Ok(machine) => open(alloc, machine, n, k, log),
+        Err(status) => status,
+    }
+}

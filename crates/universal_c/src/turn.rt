@@ -1,0 +1,131 @@
+//! Taking a seat, and a call by it.
+ghost use Rattle.std.specs.Prelude.{◌≡◌, ◌≢◌, ◌↔◌, ◌⊎◌, ◌+◌, vec_len, IsSomeAnd};
+ghost use Rattle.std.specs.declared.option.Option.TheVariants.{None, Some};
+ghost use Rattle.universal_c.specs.Calls.{HasCalled, HasSeat, IsFull, left_in, log_in, seat_in};
+
+use crate::Reply;
+use crate::handle::Handle;
+use crate::held::{Held, Opened};
+use crate::status::{DONE, FULL, MEMORY, NO_SEAT, WRONG_HANDLE};
+use std::alloc::Global;
+use std::mem::replace;
+
+/// Puts the next seat of a log into a handle. Memory is asked for before the seat is taken.
+fn give(alloc: Global, opened: &mut Opened, seat: &mut Handle, process: &mut u64) -> u32
+    ensures same { opened.new.log ≡ opened.old.log }
+    ensures status { (result ≡ 0) ⊎ (result ≡ 3) ⊎ (result ≡ 5) }
+    ensures given { (result ≡ 5) ↔ (vec_len opened.old.seats ≡ 0) }
+    ensures left { result ≡ 0 → vec_len opened.new.seats + 1 ≡ vec_len opened.old.seats }
+    ensures unchanged { result ≢ 0 → (vec_len opened.new.seats ≡ vec_len opened.old.seats)
+        × (seat.new ≡ seat.old) × (process.new ≡ process.old) }
+    ensures first { result ≡ 0 → HasSeat seat.new.value process.new
+        × (log_in seat.new.value ≡ Some opened.old.log.value) }
+{
+    if opened.is_given() {
+        return NO_SEAT;
+    }
+    let Ok(mut room) = Box::new(alloc, Held::Nothing) else {
+        return MEMORY;
+    };
+    match opened.next() {
+        Ok((seated, p)) => {
+            *room = Held::Seat(seated);
+            *seat = Handle::of(room);
+            *process = p;
+            DONE
+        }
+        Err(_) => MEMORY,
+    }
+}
+
+fn seat_of(alloc: Global, log: &mut Held, seat: &mut Handle, process: &mut u64) -> u32
+    ensures same { log_in (Some log.new) ≡ log_in (Some log.old) }
+    ensures wrong { (result ≡ 7) ↔ (left_in (Some log.old) ≡ None) }
+    ensures given { (result ≡ 5) ↔ (left_in (Some log.old) ≡ Some 0) }
+    ensures left { result ≡ 0 → IsSomeAnd (left_in (Some log.new)) (λ left. left_in (Some log.old) ≡ Some (left + 1)) }
+    ensures status { (result ≡ 0) ⊎ (result ≡ 3) ⊎ (result ≡ 5) ⊎ (result ≡ 7) }
+    ensures unchanged { result ≢ 0 → (left_in (Some log.new) ≡ left_in (Some log.old))
+        × (seat.new ≡ seat.old) × (process.new ≡ process.old) }
+    ensures first { result ≡ 0 → HasSeat seat.new.value process.new
+        × (log_in seat.new.value ≡ log_in (Some log.old)) }
+{
+    match log {
+        Held::Log(opened) => give(alloc, opened, seat, process),
+        _ => WRONG_HANDLE,
+    }
+}
+
+/// Gives out the next seat of a log, that of the greatest process that has none yet, and its process.
+#[unsafe(no_mangle)]
+pub extern "C" fn universal_seat(
+    alloc: Global,
+    log: &mut Handle,
+    seat: &mut Handle,
+    process: &mut u64,
+) -> u32
+    ensures same { log_in log.new.value ≡ log_in log.old.value }
+    ensures wrong { (result ≡ 7) ↔ (left_in log.old.value ≡ None) }
+    ensures given { (result ≡ 5) ↔ (left_in log.old.value ≡ Some 0) }
+    ensures left { result ≡ 0 → IsSomeAnd (left_in log.new.value) (λ left. left_in log.old.value ≡ Some (left + 1)) }
+    ensures status { (result ≡ 0) ⊎ (result ≡ 3) ⊎ (result ≡ 5) ⊎ (result ≡ 7) }
+    ensures unchanged { result ≢ 0 → (left_in log.new.value ≡ left_in log.old.value)
+        × (seat.new ≡ seat.old) × (process.new ≡ process.old) }
+    ensures first { result ≡ 0 → HasSeat seat.new.value process.new
+        × (log_in seat.new.value ≡ log_in log.old.value) }
+{
+    match replace(log, Handle::empty(alloc)).into_box() {
+        Some(mut held) => {
+            let status = seat_of(alloc, &mut held, seat, process);
+            *log = Handle::of(held);
+            status
+        }
+        None => WRONG_HANDLE,
+    }
+}
+
+fn apply_to(held: &mut Held, inv: u64, answer: &mut Reply) -> u32
+    ensures same { log_in (Some held.new) ≡ log_in (Some held.old) }
+    ensures wrong { (result ≡ 7) ↔ (seat_in (Some held.old) ≡ None) }
+    ensures full { (result ≡ 4) ↔ IsFull (Some held.old) }
+    ensures kept { result ≡ 7 → held.new ≡ held.old }
+    ensures unchanged { result ≢ 0 → (seat_in (Some held.new) ≡ seat_in (Some held.old)) × (answer.new ≡ answer.old) }
+    ensures called { result ≡ 0 → HasCalled (Some held.old) (Some held.new) inv answer.new.reply answer.new.turns }
+{
+    let Held::Seat(seated) = held else {
+        return WRONG_HANDLE;
+    };
+    match seated.apply(inv) {
+        Ok(given) => {
+            answer.reply = given.reply;
+            answer.turns = given.turns;
+            DONE
+        }
+        Err(_) => FULL,
+    }
+}
+
+/// A call by a seat. It takes no lock and no memory.
+/// 4: the seat has made its k calls. 7: the handle has no seat. After either nothing is changed.
+#[unsafe(no_mangle)]
+pub extern "C" fn universal_apply(
+    alloc: Global,
+    seat: &mut Handle,
+    inv: u64,
+    answer: &mut Reply,
+) -> u32
+    ensures same { log_in seat.new.value ≡ log_in seat.old.value }
+    ensures wrong { (result ≡ 7) ↔ (seat_in seat.old.value ≡ None) }
+    ensures full { (result ≡ 4) ↔ IsFull seat.old.value }
+    ensures kept { result ≡ 7 → seat.new.value ≡ seat.old.value }
+    ensures unchanged { result ≢ 0 → (seat_in seat.new.value ≡ seat_in seat.old.value) × (answer.new ≡ answer.old) }
+    ensures called { result ≡ 0 → HasCalled seat.old.value seat.new.value inv answer.new.reply answer.new.turns }
+{
+    match replace(seat, Handle::empty(alloc)).into_box() {
+        Some(mut held) => {
+            let status = apply_to(&mut held, inv, answer);
+            *seat = Handle::of(held);
+            status
+        }
+        None => WRONG_HANDLE,
+    }
+}
