@@ -1,0 +1,33 @@
+//! What comes of a script, beside what is written of it.
+
+ghost use Rattle.std.specs.Prelude.{◌≡◌, ◌↔◌, true, IfOk};
+ghost use Rattle.uni_script.specs.Replay.{text_of_script};
+ghost use Rattle.goal_run.specs.Goals.{judgement_text, missing_of};
+
+use goal_run::{answers_to, judge, judgement_text};
+use std::alloc::Global;
+use uni_script::BenchFault;
+
+/// Whether a script is answered so.
+///
+/// An `Err` is its first fault, or `Memory`.
+pub fn has_answers(alloc: Global, script: &[u8], wanted: &[u8]) -> Result<bool, BenchFault>
+    ensures { IfOk result (λ same. (same ≡ true) ↔ (wanted.now ≡ text_of_script 1048576 script.now)) }
+{
+    Ok(answers_to(alloc, script)?.as_slice() == wanted)
+}
+
+/// Whether this is told of a goal and a script.
+///
+/// An `Err` is the first fault of the script, or `Memory`.
+pub fn has_goal(
+    alloc: Global,
+    goal: &[u8],
+    script: &[u8],
+    wanted: &[u8],
+) -> Result<bool, BenchFault>
+    ensures { IfOk result (λ same. (same ≡ true) ↔ (wanted.now ≡ judgement_text goal.now (missing_of goal.now script.now))) }
+{
+    let judgement = judge(alloc, goal, script)?;
+    Ok(judgement_text(alloc, goal, judgement)?.as_slice() == wanted)
+}
