@@ -1,5 +1,5 @@
 -- Where an element stands in a list that is mapped.
-use Rattle.std.proofs.Common.{◌≡◌, ◌+◌, ℕ, suc, Bool, not, List, [], ◌∷◌, Some, None, map, length, cond, nat_lt, refl, ap, ap₂}
+use Rattle.std.proofs.Common.{◌≡◌, ◌+◌, suc, Bool, not, List, [], ◌∷◌, Some, None, map, length, cond, nat_lt, refl, ap, ap₂}
 use Rattle.std.specs.List.{position, prefix_len}
 
 prefix_len-map : {X Y : Type 0} (f : X → Y) (p : Y → Bool) (xs : List X) → prefix_len p (map f xs) ≡ prefix_len (λ x. p (f x)) xs

@@ -1,5 +1,5 @@
 -- Which cause of a bad line comes first: its length, a byte, an empty word, a note.
-use Rattle.std.specs.Prelude.{◌≡◌, ◌≤◌, ◌+◌, ◌==◌, ℕ, nat_le, nat_lt, ◌&&◌, not, if◌then◌else◌, Bool, true, false, List, [], ◌∷◌, length, map, slice_index, Option, Some, None, option_map, codes, refl}
+use Rattle.std.specs.Prelude.{◌≡◌, ◌≤◌, ◌+◌, ◌==◌, ℕ, nat_le, nat_lt, ◌&&◌, not, if◌then◌else◌, Bool, false, List, [], ◌∷◌, length, slice_index, Option, Some, None, option_map, codes, refl}
 use Rattle.std.specs.List.{position}
 use Rattle.ready_objects.specs.Words.{words_of_text}
 use Rattle.script_advice.specs.declared.advice.Advice.{Advice}

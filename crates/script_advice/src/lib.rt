@@ -1,6 +1,6 @@
 //! Why a line of a script is bad: what is wrong with it, and where.
 //!
-//! Which cause comes first is `cause_of_bytes`, and then `cause_of_spaces`, in `specs/`.
+//! Which cause comes first is told by `advice_on_bytes`, and then by `advice_on_spaces`, in `specs/`.
 #![tactic(auto)]
 
 mod advice;
