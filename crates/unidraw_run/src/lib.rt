@@ -3,5 +3,6 @@
 #![tactic(auto)]
 
 mod program;
+mod words;
 
 pub use program::{Form, run};

@@ -1,13 +1,16 @@
 //! The program over its ends, and its statuses.
 
-ghost use Rattle.std.specs.Prelude.{◌≡◌, ◌≢◌, true, false, None, Some, IfOk, IsErrOf, map};
+ghost use Rattle.std.specs.Prelude.{◌≡◌, ◌≢◌, ◌⊎◌, ◌↔◌, true, false, None, Some, IfOk, IsErrOf, map};
 ghost use Rattle.uni_script.specs.Replay.{IsFaultOfScript};
 ghost use Rattle.uni_script.specs.ScriptRun.{HasFault};
 ghost use Rattle.uni_script.specs.declared.fault.BenchFault.{BenchFault as Fault};
 ghost use Rattle.run_layout.specs.Subject.{HasTooManyEvents};
-ghost use Rattle.unidraw_run.specs.Drawn.{form_of_words, IsPictureIn, IsDrawn};
+ghost use Rattle.unidraw_run.specs.CommandLine.{form_of_words, IsRefused};
+ghost use Rattle.unidraw_run.specs.Drawn.{IsPictureIn, IsDrawn};
 ghost use Rattle.unidraw_run.specs.Statuses.{IsStatusOfPicture, TellsPictureFault};
 
+use crate::words::{read_words, tip_for};
+use command_line::answer_words;
 use run_layout::PictureFault;
 use run_lines::lines_of;
 use run_picture::picture_of;
@@ -25,12 +28,12 @@ pub enum Form {
 }
 
 /// Draws the script on `input` in the form that the argument texts ask for, the program's name first, and
-/// writes the picture to `output`; the answer is the status that the program ends with. With `--text` alone
-/// the picture is one of lines, and with no word an SVG.
+/// writes the picture to `output`; the answer is the status that the program ends with. With `--text` the
+/// picture is one of lines, and with no word an SVG.
 ///
-/// The status is 0 where all went well; 2 for a bad script, one of more than 2,000 events, or words that ask
-/// for nothing that there is; 3 where `input` or `output` failed; and 4 where memory was refused. The text
-/// that says so goes to `faults`, as far as that takes it.
+/// The status is 0 where all went well, also for help or the version, which go to `output`; 2 for a bad script,
+/// one of more than 2,000 events, or words that ask for nothing that there is; 3 where `input` or `output`
+/// failed; and 4 where memory was refused. The text that says so goes to `faults`, as far as that takes it.
 pub fn run<S: AsStr, I: TextIn, O: TextOut, F: TextOut>(
     alloc: Global,
     words: &[S],
@@ -44,26 +47,12 @@ pub fn run<S: AsStr, I: TextIn, O: TextOut, F: TextOut>(
     ensures written { O.has_failed output.new ≡ true → result ≡ 3 }
     ensures silent { result ≡ 0 → faults.new ≡ faults.old }
     ensures told { (form : Form) → form_of_words (map S.text words.now) ≡ Some form → result ≢ 0 → TellsPictureFault (F.contents faults.old) (F.contents faults.new) (F.has_failed faults.new) result }
-    ensures refused { form_of_words (map S.text words.now) ≡ None → (result ≡ 2) × ((input.new ≡ input.old) × (output.new ≡ output.old)) }
+    ensures unread { form_of_words (map S.text words.now) ≡ None → input.new ≡ input.old }
+    ensures refused { IsRefused (map S.text words.now) → ((result ≡ 2) ⊎ (result ≡ 4)) × (output.new ≡ output.old) }
 {
-    match form_of(words) {
-        Some(form) => draw(alloc, form, input, output, faults),
-        None => {
-            tell(faults, b"usage: unidraw [--text] < SCRIPT\n");
-            2
-        }
-    }
-}
-
-/// The form that the words of a command line ask for, the program's name first; `None` where they ask for
-/// nothing that there is.
-fn form_of<S: AsStr>(words: &[S]) -> Option<Form>
-    ensures { result ≡ form_of_words (map S.text words.now) }
-{
-    match words {
-        [] | [_] => Some(Form::Svg),
-        [_, word] if word.as_str() == "--text" => Some(Form::Lines),
-        _ => None,
+    match read_words(alloc, words) {
+        Ok(form) => draw(alloc, form, input, output, faults),
+        Err(error) => answer_words(alloc, &error, tip_for(&error, words), output, faults),
     }
 }
 
