@@ -16,8 +16,8 @@ returns-clause-first g c =
     let by_return = c.returns.ensures ∙ c.promise.ensures.recording.returned in
     let by_count = c.counts.ensures ∙ c.promise.ensures.recording.counted in (
       refl,
-      IsMismatchOf-differing g.O.SeqObject.sequential recorded c.args.seat.now c.args.p c.in_ok-place.place c.events.result.now receipts own c.events.ensures c.receipts-receipts.ensures
-          (DifferFirstAt-found (map (λ r. r.inv) receipts) (filter_map (invocation_by c.args.p) c.events.result.now) (map completed_of receipts) (completed_of_process c.args.p calls)
+      IsMismatchOf-differing g.O.SeqObject.sequential recorded c.args.seat.now c.args.p c.in_ok-place.place c.events.result receipts own c.events.ensures c.receipts-receipts.ensures
+          (DifferFirstAt-found (map (λ r. r.inv) receipts) (filter_map (invocation_by c.args.p) c.events.result) (map completed_of receipts) (completed_of_process c.args.p calls)
           c.other_invocation-by_call.result c.other_return-by_return.result c.in_ok-place.place c.other_invocation-by_call.ensures.none c.other_invocation-by_call.ensures.first
           (λ none. c.other_return-by_return.ensures.none none calls by_return by_count)
           (IfSome_then c.other_return-by_return.result c.other_return-by_return.ensures.first (λ place first. first calls by_return by_count))
