@@ -58,6 +58,8 @@ fn seat_of(alloc: Global, log: &mut Held, seat: &mut Handle, process: &mut u64) 
 }
 
 /// Gives out the next seat of a log, that of the greatest process that has none yet, and its process.
+/// 7: the handle has no log. 5: all seats are given out. 3: memory was refused, and no seat is lost.
+/// After each all is as before; else what the seat's handle had is dropped.
 #[unsafe(no_mangle)]
 pub extern "C" fn universal_seat(
     alloc: Global,
