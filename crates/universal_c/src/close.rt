@@ -134,7 +134,7 @@ pub extern "C" fn universal_read(
     }
 }
 
-/// Lets go what the handle has.
+/// Lets go what the handle has, which is nothing afterwards.
 #[unsafe(no_mangle)]
 pub extern "C" fn universal_drop(alloc: Global, handle: &mut Handle)
     ensures { handle.new.value ≡ None }

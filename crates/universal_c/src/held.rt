@@ -95,6 +95,7 @@ impl Opened {
         ensures log { self.new.log ≡ self.old.log }
         ensures given { IsErrOf result SeatFault.Given → vec_len self.old.seats ≡ 0 }
         ensures left { OnOk result (vec_len self.new.seats + 1 ≡ vec_len self.old.seats) }
+        ensures process { IfOk result (λ given. given.1 ≡ vec_len self.new.seats) }
         ensures same { OnErr result
             ((self.new.seats.items ≡ self.old.seats.items) × (vec_len self.new.seats ≡ vec_len self.old.seats)) }
         ensures first { IfOk result (λ given. (given.0.log.value ≡ self.old.log.value)

@@ -1,19 +1,28 @@
 //! What a call answers.
 
+/// The call is done.
 pub const DONE: u32 = 0;
 
+/// The number of processes isn't from 1 to 64.
 pub const BAD_COUNT: u32 = 1;
 
+/// The number of calls of each process isn't from 1 to 4096.
 pub const BAD_ROW: u32 = 2;
 
+/// Memory was refused.
 pub const MEMORY: u32 = 3;
 
+/// The seat has made its calls.
 pub const FULL: u32 = 4;
 
+/// All seats are given out.
 pub const NO_SEAT: u32 = 5;
 
+/// Another handle has the log.
 pub const BUSY: u32 = 6;
 
+/// The handle hasn't what the call is for.
 pub const WRONG_HANDLE: u32 = 7;
 
+/// The tables aren't those of a machine.
 pub const BAD_TABLE: u32 = 8;

@@ -1,5 +1,5 @@
 //! Taking a seat, and a call by it.
-ghost use Rattle.std.specs.Prelude.{◌≡◌, ◌≢◌, ◌↔◌, ◌⊎◌, ◌+◌, vec_len, IsSomeAnd};
+ghost use Rattle.std.specs.Prelude.{◌≡◌, ◌≢◌, ◌↔◌, ◌⊎◌, ◌+◌, vec_len};
 ghost use Rattle.std.specs.declared.option.Option.TheVariants.{None, Some};
 ghost use Rattle.universal_c.specs.Calls.{HasCalled, HasSeat, IsFull, left_in, log_in, seat_in};
 
@@ -15,7 +15,8 @@ fn give(alloc: Global, opened: &mut Opened, seat: &mut Handle, process: &mut u64
     ensures same { opened.new.log ≡ opened.old.log }
     ensures status { (result ≡ 0) ⊎ (result ≡ 3) ⊎ (result ≡ 5) }
     ensures given { (result ≡ 5) ↔ (vec_len opened.old.seats ≡ 0) }
-    ensures left { result ≡ 0 → vec_len opened.new.seats + 1 ≡ vec_len opened.old.seats }
+    ensures left { result ≡ 0 →
+        (vec_len opened.new.seats ≡ process.new) × (vec_len opened.old.seats ≡ process.new + 1) }
     ensures unchanged { result ≢ 0 → (vec_len opened.new.seats ≡ vec_len opened.old.seats)
         × (seat.new ≡ seat.old) × (process.new ≡ process.old) }
     ensures first { result ≡ 0 → HasSeat seat.new.value process.new
@@ -42,7 +43,8 @@ fn seat_of(alloc: Global, log: &mut Held, seat: &mut Handle, process: &mut u64) 
     ensures same { log_in (Some log.new) ≡ log_in (Some log.old) }
     ensures wrong { (result ≡ 7) ↔ (left_in (Some log.old) ≡ None) }
     ensures given { (result ≡ 5) ↔ (left_in (Some log.old) ≡ Some 0) }
-    ensures left { result ≡ 0 → IsSomeAnd (left_in (Some log.new)) (λ left. left_in (Some log.old) ≡ Some (left + 1)) }
+    ensures left { result ≡ 0 →
+        (left_in (Some log.new) ≡ Some process.new) × (left_in (Some log.old) ≡ Some (process.new + 1)) }
     ensures status { (result ≡ 0) ⊎ (result ≡ 3) ⊎ (result ≡ 5) ⊎ (result ≡ 7) }
     ensures unchanged { result ≢ 0 → (left_in (Some log.new) ≡ left_in (Some log.old))
         × (seat.new ≡ seat.old) × (process.new ≡ process.old) }
@@ -56,6 +58,8 @@ fn seat_of(alloc: Global, log: &mut Held, seat: &mut Handle, process: &mut u64) 
 }
 
 /// Gives out the next seat of a log, that of the greatest process that has none yet, and its process.
+/// 7: the handle has no log. 5: all seats are given out. 3: memory was refused, and no seat is lost.
+/// After each all is as before; else what the seat's handle had is dropped.
 #[unsafe(no_mangle)]
 pub extern "C" fn universal_seat(
     alloc: Global,
@@ -66,7 +70,8 @@ pub extern "C" fn universal_seat(
     ensures same { log_in log.new.value ≡ log_in log.old.value }
     ensures wrong { (result ≡ 7) ↔ (left_in log.old.value ≡ None) }
     ensures given { (result ≡ 5) ↔ (left_in log.old.value ≡ Some 0) }
-    ensures left { result ≡ 0 → IsSomeAnd (left_in log.new.value) (λ left. left_in log.old.value ≡ Some (left + 1)) }
+    ensures left { result ≡ 0 →
+        (left_in log.new.value ≡ Some process.new) × (left_in log.old.value ≡ Some (process.new + 1)) }
     ensures status { (result ≡ 0) ⊎ (result ≡ 3) ⊎ (result ≡ 5) ⊎ (result ≡ 7) }
     ensures unchanged { result ≢ 0 → (left_in log.new.value ≡ left_in log.old.value)
         × (seat.new ≡ seat.old) × (process.new ≡ process.old) }
