@@ -206,11 +206,7 @@ fn advice_on_header(words: &[&[u8]]) -> Finding {
 /// What is wrong with the words of a line that is to be a command.
 ///
 /// An `Err` says that memory was refused.
-fn advice_on_command(
-    alloc: Global,
-    known: Known,
-    words: &[&[u8]],
-) -> Result<Finding, AllocError> {
+fn advice_on_command(alloc: Global, known: Known, words: &[&[u8]]) -> Result<Finding, AllocError> {
     match words {
         [b"call", ..] => Ok(advice_on_call(known.object, words)),
         [b"reshape", ..] if known.version == Version::One => Ok(Finding {
@@ -311,5 +307,9 @@ pub fn push_advice(text: &mut Vec<u8>, line: &[u8], advice: Advice) -> Result<()
 
 /// A byte of a line as it is shown.
 fn shown(byte: u8) -> u8 {
-    if byte >= 32 && byte <= 126 { byte } else { b'?' }
+    if byte >= 32 && byte <= 126 {
+        byte
+    } else {
+        b'?'
+    }
 }

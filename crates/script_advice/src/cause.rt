@@ -55,10 +55,7 @@ impl fmt::Display for Cause {
     fn fmt<W: fmt::Write>(&self, f: &mut fmt::Formatter<W>) -> fmt::Result {
         match self {
             Cause::TooLong => write!(f, "too long: a line has at most 200 bytes"),
-            Cause::CarriageReturn => write!(
-                f,
-                "a carriage return: the file has Windows line ends"
-            ),
+            Cause::CarriageReturn => write!(f, "a carriage return: the file has Windows line ends"),
             Cause::Tab => write!(f, "a tab: words have one space between them"),
             Cause::NotAscii => write!(f, "a byte that is not ASCII"),
             Cause::Control => write!(f, "a control character"),

@@ -39,9 +39,7 @@ pub(crate) const HEADER_2: Form = Form {
 };
 
 /// The names of the commands.
-pub(crate) const COMMANDS: &[&str] = &[
-    "call", "step", "finish", "trim", "log", "heads", "reshape",
-];
+pub(crate) const COMMANDS: &[&str] = &["call", "step", "finish", "trim", "log", "heads", "reshape"];
 
 /// The commands that have fields of one kind, but for `call`, and `step` with one number alone.
 pub(crate) const PLAIN_COMMANDS: &[Form] = &[
