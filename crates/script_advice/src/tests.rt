@@ -258,7 +258,7 @@ fn wanted(alloc: Global, row: Row) -> Result<Vec<u8>, AllocError> {
     for _ in 0..start {
         text.push(b' ')?;
     }
-    for _ in start..end.max(start + 1) {
+    for _ in start..end.max(start.saturating_add(1)) {
         text.push(b'^')?;
     }
     text.push(b'\n')?;
