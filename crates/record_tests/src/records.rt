@@ -221,7 +221,8 @@ fn enqueued(alloc: Global) -> Result<Recorded<QueueObject>, Fail> {
 /// What `a_call_is_stored_event_by_event` looks at.
 fn a_call_is_stored_event_by_event_in(rt: &impl Abort, recorded: &Recorded<QueueObject>) {
     assert!(rt; recorded.events().len() == 15);
-    assert!(rt; recorded.events().next() == Some(Event::Call(0, &enq(7))));
+    let first = Event::Call(0, enq(7));
+    assert!(rt; recorded.events().next() == Some(first.as_ref()));
     assert!(rt; recorded.events().last() == Some(Event::Step(0)));
     assert!(rt; recorded.returns() == [returned(QueueResp::Added)].as_slice());
     let counts = Counts {
