@@ -120,7 +120,7 @@ fn verdict(alloc: Global, recorded: &Recorded<QueueObject>) -> Option<Verdict> {
 fn shows(alloc: Global, recorded: &Recorded<QueueObject>, fact: &Fact) -> bool {
     match fact {
         Fact::Stored(count) => recorded.events().len() == *count,
-        Fact::Last(event) => recorded.events().last() == Some(event.as_ref()),
+        Fact::Last(event) => ends_with(recorded, event),
         Fact::Entry(place, told) => entry(alloc, recorded, *place) == *told,
         Fact::Processes(n) => recorded.world().processes() == *n,
         Fact::Agrees => verdict(alloc, recorded) == Some(Verdict::Agrees),
@@ -218,12 +218,21 @@ fn enqueued(alloc: Global) -> Result<Recorded<QueueObject>, Fail> {
     }
 }
 
+/// Whether this is the first event of a record.
+fn begins_with(recorded: &Recorded<QueueObject>, event: &Event<QueueInv>) -> bool {
+    recorded.events().next() == Some(event.as_ref())
+}
+
+/// Whether this is the last event of a record.
+fn ends_with(recorded: &Recorded<QueueObject>, event: &Event<QueueInv>) -> bool {
+    recorded.events().last() == Some(event.as_ref())
+}
+
 /// What `a_call_is_stored_event_by_event` looks at.
 fn a_call_is_stored_event_by_event_in(rt: &impl Abort, recorded: &Recorded<QueueObject>) {
     assert!(rt; recorded.events().len() == 15);
-    let first = Event::Call(0, enq(7));
-    assert!(rt; recorded.events().next() == Some(first.as_ref()));
-    assert!(rt; recorded.events().last() == Some(Event::Step(0)));
+    assert!(rt; begins_with(recorded, &Event::Call(0, enq(7))));
+    assert!(rt; ends_with(recorded, &Event::Step(0)));
     assert!(rt; recorded.returns() == [returned(QueueResp::Added)].as_slice());
     let counts = Counts {
         steps: 14,
