@@ -89,8 +89,8 @@ module _ {O S I R : Type 0} (object : Sequential S I R) (v now : Whole O S I R) 
   full_now room is_room none = subst (λ (x : Whole O S I R). calls_in_era (world_of x) p ≡ x.row) view (let all = era_is in let most : calls_in_era (world_of v) p ≤ v.row = is.room p in let rows : v.row ≡ v.shared.cells.row = is.row in omega arith)
 
   -- a row that isn't
-  pub not_full_now : (room : ℕ) → room ≡ v.shared.cells.row - made_of v.shared.cells p → room ≢ 0 → calls_in_era (world_of now) p ≢ now.row
-  not_full_now room is_room some = subst (λ (x : Whole O S I R). calls_in_era (world_of x) p ≢ x.row) view (λ e. let all = era_is in let rows : v.row ≡ v.shared.cells.row = is.row in omega arith)
+  pub less_now : (room : ℕ) → room ≡ v.shared.cells.row - made_of v.shared.cells p → room ≢ 0 → calls_in_era (world_of now) p < now.row
+  less_now room is_room some = subst (λ (x : Whole O S I R). calls_in_era (world_of x) p < x.row) view (let all = era_is in let most : calls_in_era (world_of v) p ≤ v.row = is.room p in let rows : v.row ≡ v.shared.cells.row = is.row in omega arith)
 
   module _ (a' : Shared S I R) (i j : I) (same : i ≡ j) (mine : ℕ) (b : Bool) (tested : b ≡ is_some l.call) (none : b ≡ false) (free : made_of v.shared.cells p < v.shared.cells.row)
       (mine_is : mine ≡ index_of (processes_of v.shared.cells) p (made_of v.shared.cells p))

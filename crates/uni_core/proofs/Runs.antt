@@ -18,13 +18,13 @@ use Rattle.uni_core.specs.declared.command.Command.TheVariants.{Call, Step}
 use Rattle.uni_core.specs.declared.command.Refusal.{Refusal}
 use Rattle.uni_core.specs.declared.command.Outcome.{Outcome}
 use Rattle.uni_core.specs.declared.command.Outcome.TheVariants.{Called, Went, Returned, Refused}
-use Rattle.uni_core.specs.declared.fault.BeginFault.{BeginFault}
-use Rattle.uni_core.specs.declared.fault.BeginFault.TheVariants as begin
 use Rattle.uni_core.specs.declared.fault.StepFault.{StepFault}
 use Rattle.uni_core.specs.declared.fault.StepFault.TheVariants as step
 use Rattle.uni_core.specs.declared.fault.Progress.TheVariants.{Going, Done}
 use Rattle.uni_core.specs.World.{Whole, world_of, current_of, progress_of, Follows, MayNeedMemory}
-use Rattle.uni_core.specs.Run.{CanCall, IsOutcome, after_command, event_of, events_of, AreOutcomes, TakesCommand}
+use Rattle.uni_core.specs.Refusals.{CanGo, IsStepRefused}
+use Rattle.uni_core.proofs.Begin.{none_isn't_some}
+use Rattle.uni_core.specs.Run.{IsOutcome, after_command, event_of, events_of, AreOutcomes, TakesCommand}
 
 -- a command that is refused leaves the world as it was
 pub TakesCommand-refused : {O S I R : Type 0} (object : Sequential S I R) (old new : Whole O S I R) (row : ℕ) (command : Command I) (why : Refusal) → new ≡ old
@@ -44,45 +44,6 @@ Err-IsErrOf e e' is = cc
 
 pub Ok-IsErrOf : {T E : Type 0} (x : T) (e : E) → IsErrOf (Ok x) e → ⊥
 Ok-IsErrOf x e is = cc
-
--- a process that isn't refused a call can begin one
-can_call : {S I R : Type 0} (w : WorldOf S I R) (row p : ℕ) → calls_in_era w p ≤ row → (w.n ≤ p → ⊥) → ((p < w.n) × IsSome (w.call p) → ⊥) → ((p < w.n) × (w.call p ≡ None) × (calls_in_era w p ≡ row) → ⊥)
-    → CanCall w row p
-can_call w row p room process busy full = elim (cases_lt p w.n) [
-  | inl below ↦ (
-    below,
-    idle below (w.call p) refl,
-    elim (cases_lt (calls_in_era w p) row) [
-      | inl less ↦ less
-      | inr more ↦ absurd (full (below, idle below (w.call p) refl, omega (arith, more, room)))
-    ],
-  )
-  | inr past ↦ absurd (process past)
-] where
-  idle : p < w.n → (o : Option Pending) → w.call p ≡ o → w.call p ≡ None
-  idle below None e = e
-  idle below (Some c) e = absurd (busy (below, rw e refl))
-
--- a call that has begun, or that is refused memory alone, could begin
-pub begun_can_call : {S I R : Type 0} (w : WorldOf S I R) (row p : ℕ) (r : Result CallId BeginFault) → ((e : BeginFault) → r ≡ Err e → e ≡ begin.Memory) → calls_in_era w p ≤ row → (w.n ≤ p → IsErrOf r begin.BadProcess)
-    → ((p < w.n) × IsSome (w.call p) → IsErrOf r (begin.Busy p)) → ((p < w.n) × (w.call p ≡ None) × (calls_in_era w p ≡ row) → IsErrOf r (begin.RowFull p)) → CanCall w row p
-begun_can_call w row p r memory room process busy full = can_call w row p room
-    (λ h. let f : begin.BadProcess ≡ begin.Memory = memory begin.BadProcess (process h) in cc)
-    (λ h. let f : begin.Busy p ≡ begin.Memory = memory (begin.Busy p) (busy h) in cc)
-    (λ h. let f : begin.RowFull p ≡ begin.Memory = memory (begin.RowFull p) (full h) in cc)
-
--- the process that a refusal names
-pub busy_names : (e : BeginFault) (p q : ℕ) → (e ≡ begin.BadProcess) ⊎ (e ≡ begin.Busy p) ⊎ (e ≡ begin.RowFull p) ⊎ (e ≡ begin.Memory) → e ≡ begin.Busy q → q ≡ p
-busy_names e p q (inl h) is = cc
-busy_names e p q (inr (inl h)) is = cc
-busy_names e p q (inr (inr (inl h))) is = cc
-busy_names e p q (inr (inr (inr h))) is = cc
-
-pub full_names : (e : BeginFault) (p q : ℕ) → (e ≡ begin.BadProcess) ⊎ (e ≡ begin.Busy p) ⊎ (e ≡ begin.RowFull p) ⊎ (e ≡ begin.Memory) → e ≡ begin.RowFull q → q ≡ p
-full_names e p q (inl h) is = cc
-full_names e p q (inr (inl h)) is = cc
-full_names e p q (inr (inr (inl h))) is = cc
-full_names e p q (inr (inr (inr h))) is = cc
 
 -- whether a step that was taken has a response
 pub going_none : {R : Type 0} (o : Option R) → Going ≡ progress_of o → o ≡ None
@@ -107,12 +68,10 @@ current_some w p id e = by_call (w.call p) e where
   by_call (Some c) e = refl
 
 -- a step that is refused to a process that has one to take may need memory
-pub memory_needed : {S I R T : Type 0} (w : WorldOf S I R) (p : ℕ) (e : StepFault) → p < w.n → IsSome (w.call p) → (e ≡ step.BadProcess) ⊎ (e ≡ step.Idle p) ⊎ (e ≡ step.Memory)
-    → (IsErrOf {T = T} (Err e) step.BadProcess → w.n ≤ p) → (IsErrOf {T = T} (Err e) (step.Idle p) → (p < w.n) × (w.call p ≡ None)) → (IsErrOf {T = T} (Err e) step.Memory → MayNeedMemory w p) → MayNeedMemory w p
-memory_needed w p e below there (inl h) process idle memory = absurd (let past = process (IsErrOf-Err e step.BadProcess h) in omega arith)
-memory_needed w p e below there (inr (inl h)) process idle memory =
-    absurd (let none : w.call p ≡ None = (idle (IsErrOf-Err e (step.Idle p) h)).1 in let f : false ≡ true = (rw none at there) in cc)
-memory_needed w p e below there (inr (inr h)) process idle memory = memory (IsErrOf-Err e step.Memory h)
+pub memory_needed : {S I R : Type 0} (w : WorldOf S I R) (p : ℕ) (e : StepFault) → CanGo w p → IsStepRefused w p e → MayNeedMemory w p
+memory_needed w p step.BadProcess can past = absurd (let below = can.0 in omega (arith, below, past))
+memory_needed w p (step.Idle q) can idle = absurd (none_isn't_some (w.call p) idle.1.1 can.1)
+memory_needed w p step.Memory can needed = needed.1
 
 -- Lists of events and one event more.
 module _ {S I R : Type 0} (object : Sequential S I R) where

@@ -23,6 +23,7 @@ use Rattle.uni_model.specs.Places.{Name}
 use Rattle.uni_core.specs.Shared.{Shared, named, memory_of}
 use Rattle.uni_core.specs.Stage.{stage_of, stage_told, response_told, pending_of, Takes, CanStep, MayBeRefused, turns_to}
 use Rattle.uni_core.specs.World.{Whole, world_of, IsWorld, TakesEffect, MayNeedMemory, MayNeedMemoryAt, progress_of}
+use Rattle.uni_core.specs.Refusals.{CanGo}
 use Rattle.uni_core.proofs.Begin.{inside_count, local_here}
 use Rattle.uni_core.proofs.Shown.{stepped_whole, stepped_local, world_of-world_after_step, IsWorld-world_after_step}
 use Rattle.uni_core.proofs.Steppable.{CanStep-pending, turns_to-effect}
@@ -80,8 +81,8 @@ module _ {O S I R : Type 0} (object : Sequential S I R) (v now : Whole O S I R) 
       let bound : (world_of v).turns p ≤ processes_of v.shared.cells + 1 = bounded.0 in
       omega arith
 
-  pub not_idle : (world_of now).call p ≡ None → ⊥
-  not_idle e = let f = subst (λ (x : Whole O S I R). (world_of x).call p ≡ Some at_v) view pend in cc
+  pub can_go : CanGo (world_of now) p
+  can_go = subst (λ (x : Whole O S I R). CanGo (world_of x) p) view (inside, rw pend refl)
 
   pub may_need : MayBeRefused v.shared call.stage → MayNeedMemory (world_of now) p
   may_need h = subst (λ (x : Whole O S I R). MayNeedMemory (world_of x) p) view (rw pend (refused_at v.shared call.stage h))

@@ -2,6 +2,7 @@ pub mod Shared
 pub mod Stage
 pub mod Local
 pub mod World
+pub mod Refusals
 pub mod Readers
 pub mod Run
 pub use Rattle.uni_model.specs.Places

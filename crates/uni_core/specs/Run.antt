@@ -13,31 +13,26 @@ use Rattle.uni_core.specs.declared.command.Refusal.{Refusal}
 use Rattle.uni_core.specs.declared.command.Refusal.TheVariants.{BadProcess, Busy, RowFull, Idle, Memory}
 use Rattle.uni_core.specs.declared.command.Outcome.{Outcome}
 use Rattle.uni_core.specs.declared.command.Outcome.TheVariants.{Called, Went, Returned, Refused}
-use Rattle.uni_core.specs.World.{current_of, Follows, MayNeedMemory}
-
--- a process can begin a call: it has none pending, and room in its row
-abbrev pub CanCall : {S I R : Type 0} → WorldOf S I R → (row p : ℕ) → Type 0
-CanCall w row p = (p < w.n) × (w.call p ≡ None) × (calls_in_era w p < row)
-
--- a process has a step to take
-abbrev pub CanGo : {S I R : Type 0} → WorldOf S I R → (p : ℕ) → Type 0
-CanGo w p = (p < w.n) × IsSome (w.call p)
+use Rattle.uni_core.specs.declared.fault.BeginFault.TheVariants as begin
+use Rattle.uni_core.specs.declared.fault.StepFault.TheVariants as step
+use Rattle.uni_core.specs.World.{current_of, Follows}
+use Rattle.uni_core.specs.Refusals.{CanCall, CanGo, IsBeginRefused, IsStepRefused}
 
 -- why a call is refused
 abbrev pub IsCallRefused : {S I R : Type 0} → WorldOf S I R → (row p : ℕ) → Refusal → Type 0
-IsCallRefused w row p BadProcess = w.n ≤ p
-IsCallRefused w row p (Busy q) = (q ≡ p) × (p < w.n) × IsSome (w.call p)
-IsCallRefused w row p (RowFull q) = (q ≡ p) × (p < w.n) × (w.call p ≡ None) × (calls_in_era w p ≡ row)
+IsCallRefused w row p BadProcess = IsBeginRefused w row p begin.BadProcess
+IsCallRefused w row p (Busy q) = IsBeginRefused w row p (begin.Busy q)
+IsCallRefused w row p (RowFull q) = IsBeginRefused w row p (begin.RowFull q)
 IsCallRefused w row p (Idle q) = ⊥
-IsCallRefused w row p Memory = CanCall w row p
+IsCallRefused w row p Memory = IsBeginRefused w row p begin.Memory
 
 -- why a step is refused
-abbrev pub IsStepRefused : {S I R : Type 0} → WorldOf S I R → (p : ℕ) → Refusal → Type 0
-IsStepRefused w p BadProcess = w.n ≤ p
-IsStepRefused w p (Busy q) = ⊥
-IsStepRefused w p (RowFull q) = ⊥
-IsStepRefused w p (Idle q) = (q ≡ p) × (p < w.n) × (w.call p ≡ None)
-IsStepRefused w p Memory = CanGo w p × MayNeedMemory w p
+abbrev pub IsGoRefused : {S I R : Type 0} → WorldOf S I R → (p : ℕ) → Refusal → Type 0
+IsGoRefused w p BadProcess = IsStepRefused w p step.BadProcess
+IsGoRefused w p (Busy q) = ⊥
+IsGoRefused w p (RowFull q) = ⊥
+IsGoRefused w p (Idle q) = IsStepRefused w p (step.Idle q)
+IsGoRefused w p Memory = IsStepRefused w p step.Memory
 
 -- what a command answers in a world with rows of so many calls
 abbrev pub IsOutcome : {S I R : Type 0} → WorldOf S I R → (row : ℕ) → Command I → Outcome R → Type 0
@@ -46,7 +41,7 @@ IsOutcome w row (Call p i) (Refused why) = IsCallRefused w row p why
 IsOutcome w row (Call p i) _ = ⊥
 IsOutcome w row (Step p) Went = CanGo w p × (response_of_step w p ≡ None)
 IsOutcome w row (Step p) (Returned id r) = (p < w.n) × (current_of w p ≡ Some id) × (response_of_step w p ≡ Some r)
-IsOutcome w row (Step p) (Refused why) = IsStepRefused w p why
+IsOutcome w row (Step p) (Refused why) = IsGoRefused w p why
 IsOutcome w row (Step p) _ = ⊥
 
 -- the event that a command is, where it wasn't refused
@@ -110,7 +105,7 @@ last_process_can_call = (omega arith, refl, omega arith)
 third_process_cannot : IsCallRefused sample 8 2 BadProcess
 third_process_cannot = omega arith
 
-third_process_has_no_step : IsStepRefused sample 2 BadProcess
+third_process_has_no_step : IsGoRefused sample 2 BadProcess
 third_process_has_no_step = omega arith
 
 -- after a call a row of one is full, and a row of two has room

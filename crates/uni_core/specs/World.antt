@@ -1,5 +1,5 @@
 -- A world of the code, and the world that it shows.
-use Rattle.std.specs.Prelude.{◌≡◌, ℕ, ◌+◌, ◌-◌, ◌*◌, ◌<◌, ◌≤◌, ◌^◌, List, Option, Some, None, option_map, option_and_then, slice_get, length, IfSome, ◌⊎◌, IsSome}
+use Rattle.std.specs.Prelude.{◌≡◌, ℕ, ◌+◌, ◌-◌, ◌*◌, ◌<◌, ◌≤◌, ◌^◌, List, Option, Some, None, option_map, option_and_then, slice_get, length, IfSome, IsSome}
 use Rattle.std.specs.Option.{option_map_or}
 use Rattle.seq_object.specs.Sequential.{Sequential}
 use Rattle.cell_arena.specs.Arena.{processes_of, made_of}
@@ -13,8 +13,6 @@ use Rattle.uni_model.specs.Helping.{HelpingInvariant}
 use Rattle.uni_model.specs.Counting.{CountsSteps}
 use Rattle.seq_object.specs.declared.call_id.CallId.{CallId}
 use Rattle.uni_core.specs.declared.local.Local.{Local}
-use Rattle.uni_core.specs.declared.fault.StepFault.{StepFault}
-use Rattle.uni_core.specs.declared.fault.StepFault.TheVariants.{BadProcess, Idle, Memory}
 use Rattle.uni_core.specs.declared.fault.Progress.{Progress}
 use Rattle.uni_core.specs.declared.fault.Progress.TheVariants.{Going, Done}
 use Rattle.uni_core.specs.Shared.{Shared, first_of, memory_of}
@@ -92,10 +90,6 @@ TakesEffect object w e = Follows object w (world_after object w e) (acts_of obje
 -- a process that there is has no call pending
 abbrev pub IsIdle : {S I R : Type 0} → WorldOf S I R → ℕ → Type 0
 IsIdle w p = (p < w.n) × (w.call p ≡ None)
-
--- the faults of a step of process p
-abbrev pub IsStepFault : ℕ → StepFault → Type 0
-IsStepFault p e = (e ≡ BadProcess) ⊎ (e ≡ Idle p) ⊎ (e ≡ Memory)
 
 -- what the next step of a process answers: its response, where it is the last one of its call
 abbrev pub IsProgress : {S I R : Type 0} → WorldOf S I R → ℕ → Progress R → Type 0

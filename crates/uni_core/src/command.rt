@@ -1,6 +1,7 @@
 //! Commands to a world, and what they answer.
 
 use seq_object::CallId;
+use thiserror::Error;
 
 /// What a world is asked to do.
 #[derive(Debug, Drop, PartialEq, Eq)]
@@ -12,17 +13,22 @@ pub enum Command<I> {
 }
 
 /// Why a command was refused. Where several hold, the first of these is told.
-#[derive(Clone, Copy, Debug, PartialEq, Eq)]
+#[derive(Clone, Copy, Debug, PartialEq, Eq, Error)]
 pub enum Refusal {
     /// There is no such process.
+    #[error("there is no such process")]
     BadProcess,
     /// A call: this process has one pending.
+    #[error("process {0} has a call pending")]
     Busy(u64),
     /// A call: this process has made as many in this era as a row has.
+    #[error("process {0} has made as many calls in this era as a row has")]
     RowFull(u64),
     /// A step: this process has no call pending.
+    #[error("process {0} has no call pending")]
     Idle(u64),
     /// Memory was refused.
+    #[error("out of memory")]
     Memory,
 }
 

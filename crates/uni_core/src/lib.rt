@@ -17,4 +17,4 @@ pub use command::{Command, Outcome, Refusal};
 pub use fault::{BeginFault, OpenFault, Progress, StepFault};
 pub use shared::WorldCells;
 pub use stage::{Place, StepKind};
-pub use world::World;
+pub use world::{World, counts_fit};

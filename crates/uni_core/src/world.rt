@@ -1,11 +1,12 @@
 //! A world of processes that share an object.
 
-ghost use Rattle.std.specs.Prelude.{◌≡◌, ◌+◌, ◌*◌, ◌<◌, ◌≤◌, ◌^◌, ◌⊎◌, ◌↔◌, IsSome, IfOk, OnOk, OnErr, IfErr, IsErrOf, None, replicate};
+ghost use Rattle.std.specs.Prelude.{◌≡◌, ◌≢◌, ◌≤◌, IfOk, OnOk, OnErr, IfErr, IsErrOf, replicate};
 ghost use Rattle.uni_model.specs.Bound.{IsBounded};
-ghost use Rattle.uni_model.specs.Worlds.{opened_world, world_after, calls_in_era};
+ghost use Rattle.uni_model.specs.Worlds.{opened_world, world_after};
 ghost use Rattle.uni_model.specs.Worlds.Event.{Call, Step};
 ghost use Rattle.uni_model.specs.Settled.{SeesSettled};
-ghost use Rattle.uni_core.specs.World.{world_of, TakesEffect, IsIdle, IsStepFault, IsProgress, GoesOn, KeepsFixed, MayNeedMemory};
+ghost use Rattle.uni_core.specs.World.{world_of, TakesEffect, IsProgress, GoesOn, KeepsFixed};
+ghost use Rattle.uni_core.specs.Refusals.{CanOpen, CanCall, CanGo, IsOpenRefused, IsBeginRefused, IsStepRefused};
 
 use crate::fault::{BeginFault, OpenFault, Progress, StepFault};
 use crate::local::Local;
@@ -38,15 +39,14 @@ impl<O: SeqObject> Model for World<O> {
         (record { object = w.machine.object; row = w.row; shared = w.machine.shared; locals = w.locals.items }) };
 }
 
-/// Whether there can be `n` processes with rows of `k` calls, from number `seq`. Errors, in this order:
-/// `BadCount` where `n` isn't from 1 to 64; `BadRow` where `k` isn't from 1 to 4096; `SeqFull` where
-/// `seq + n * k` passes 2^48 - 1.
-fn counts_fit(n: u64, k: u64, seq: u64) -> Result<(), OpenFault>
-    ensures count { IsErrOf result OpenFault.BadCount ↔ ((n ≡ 0) ⊎ (64 < n)) }
-    ensures row { IsErrOf result OpenFault.BadRow ↔ ((1 ≤ n) × (n ≤ 64) × ((k ≡ 0) ⊎ (4096 < k))) }
-    ensures numbers { IsErrOf result OpenFault.SeqFull ↔ ((1 ≤ n) × (n ≤ 64) × (1 ≤ k) × (k ≤ 4096) × (2 ^ 48 ≤ seq + n * k)) }
-    ensures others { IfErr result (λ e. (e ≡ OpenFault.BadCount) ⊎ (e ≡ OpenFault.BadRow) ⊎ (e ≡ OpenFault.SeqFull)) }
-    ensures fits { OnOk result ((1 ≤ n) × (n ≤ 64) × (1 ≤ k) × (k ≤ 4096) × (seq + n * k < 2 ^ 48)) }
+/// Whether a world of `n` processes with rows of `k` calls can be opened from number `seq`. It takes no memory.
+///
+/// Errors, in this order: `BadCount` where `n` isn't from 1 to 64; `BadRow` where `k` isn't from 1 to 4096; `SeqFull`
+/// where `seq + n * k` passes 2^48 - 1. `Memory` never comes.
+pub fn counts_fit(n: u64, k: u64, seq: u64) -> Result<(), OpenFault>
+    ensures refused { IfErr result (IsOpenRefused n k seq) }
+    ensures other { IfErr result (λ e. e ≢ OpenFault.Memory) }
+    ensures could { OnOk result (CanOpen n k seq) }
 {
     if n < 1 || n > MAX_PROCESSES {
         return Err(OpenFault::BadCount);
@@ -78,8 +78,8 @@ impl<O: SeqObject> World<O> {
     /// Errors, in this order: `BadCount` where `n` isn't from 1 to 64; `BadRow` where `k` isn't from 1
     /// to 4096; `SeqFull` never, since 1 is low enough; `Memory`. After each the object is dropped.
     pub fn open(alloc: Global, object: O, n: u64, k: u64) -> Result<World<O>, OpenFault>
-        ensures count { IsErrOf result OpenFault.BadCount ↔ ((n ≡ 0) ⊎ (64 < n)) }
-        ensures row { IsErrOf result OpenFault.BadRow ↔ ((1 ≤ n) × (n ≤ 64) × ((k ≡ 0) ⊎ (4096 < k))) }
+        ensures refused { IfErr result (IsOpenRefused n k 1) }
+        ensures could { OnOk result (CanOpen n k 1) }
         ensures fits { IsErrOf result OpenFault.SeqFull → ⊥ }
         ensures opened { IfOk result (λ w. world_of w ≡ opened_world n ((O.sequential object).initial) 1) }
         ensures fixed { IfOk result (λ w. (w.object ≡ object) × (w.row ≡ k)) }
@@ -100,9 +100,8 @@ impl<O: SeqObject> World<O> {
         seq: u64,
     ) -> Result<World<O>, OpenFault>
         requires { 1 ≤ seq }
-        ensures count { IsErrOf result OpenFault.BadCount ↔ ((n ≡ 0) ⊎ (64 < n)) }
-        ensures row { IsErrOf result OpenFault.BadRow ↔ ((1 ≤ n) × (n ≤ 64) × ((k ≡ 0) ⊎ (4096 < k))) }
-        ensures numbers { IsErrOf result OpenFault.SeqFull ↔ ((1 ≤ n) × (n ≤ 64) × (1 ≤ k) × (k ≤ 4096) × (2 ^ 48 ≤ seq + n * k)) }
+        ensures refused { IfErr result (IsOpenRefused n k seq) }
+        ensures could { OnOk result (CanOpen n k seq) }
         ensures opened { IfOk result (λ w. world_of w ≡ opened_world n ((O.sequential object).initial) seq) }
         ensures fixed { IfOk result (λ w. (w.object ≡ object) × (w.row ≡ k)) }
     {
@@ -128,9 +127,8 @@ impl<O: SeqObject> World<O> {
         seq: u64,
     ) -> Result<World<O>, OpenFault>
         requires { 1 ≤ seq }
-        ensures count { IsErrOf result OpenFault.BadCount ↔ ((n ≡ 0) ⊎ (64 < n)) }
-        ensures row { IsErrOf result OpenFault.BadRow ↔ ((1 ≤ n) × (n ≤ 64) × ((k ≡ 0) ⊎ (4096 < k))) }
-        ensures numbers { IsErrOf result OpenFault.SeqFull ↔ ((1 ≤ n) × (n ≤ 64) × (1 ≤ k) × (k ≤ 4096) × (2 ^ 48 ≤ seq + n * k)) }
+        ensures refused { IfErr result (IsOpenRefused n k seq) }
+        ensures could { OnOk result (CanOpen n k seq) }
         ensures opened { IfOk result (λ w. world_of w ≡ opened_world n state seq) }
         ensures fixed { IfOk result (λ w. (w.object ≡ object) × (w.row ≡ k)) }
     {
@@ -156,11 +154,8 @@ impl<O: SeqObject> World<O> {
     /// only where the copy of the invocation was refused memory, since the cells of an era are
     /// reserved when it opens. After each nothing is changed.
     pub fn begin(&mut self, alloc: Global, p: u64, inv: &O::Inv) -> Result<CallId, BeginFault>
-        ensures process { IsErrOf result BeginFault.BadProcess ↔ ((world_of self.old).n ≤ p) }
-        ensures busy { IsErrOf result (BeginFault.Busy p) ↔ ((p < (world_of self.old).n) × IsSome ((world_of self.old).call p)) }
-        ensures full { IsErrOf result (BeginFault.RowFull p) ↔
-            ((p < (world_of self.old).n) × ((world_of self.old).call p ≡ None) × (calls_in_era (world_of self.old) p ≡ self.old.row)) }
-        ensures others { IfErr result (λ e. (e ≡ BeginFault.BadProcess) ⊎ (e ≡ BeginFault.Busy p) ⊎ (e ≡ BeginFault.RowFull p) ⊎ (e ≡ BeginFault.Memory)) }
+        ensures refused { IfErr result (IsBeginRefused (world_of self.old) self.old.row p) }
+        ensures could { OnOk result (CanCall (world_of self.old) self.old.row p) }
         ensures id { IfOk result (λ call. (call.process ≡ p) × (call.nth ≡ (world_of self.old).begun p)) }
         ensures begun { OnOk result (world_of self.new ≡ world_after (O.sequential self.old.object) (world_of self.old) (Call p inv.now)) }
         ensures accepted { OnOk result (TakesEffect (O.sequential self.old.object) (world_of self.old) (Call p inv.now)) }
@@ -205,10 +200,8 @@ impl<O: SeqObject> World<O> {
     /// that has none yet, where the object's apply was refused memory. After each nothing is changed,
     /// and the step may be asked again.
     pub fn step(&mut self, alloc: Global, p: u64) -> Result<Progress<O::Resp>, StepFault>
-        ensures process { IsErrOf result StepFault.BadProcess ↔ ((world_of self.old).n ≤ p) }
-        ensures idle { IsErrOf result (StepFault.Idle p) ↔ IsIdle (world_of self.old) p }
-        ensures memory { IsErrOf result StepFault.Memory → MayNeedMemory (world_of self.old) p }
-        ensures others { IfErr result (IsStepFault p) }
+        ensures refused { IfErr result (IsStepRefused (world_of self.old) p) }
+        ensures could { OnOk result (CanGo (world_of self.old) p) }
         ensures step { OnOk result (world_of self.new ≡ world_after (O.sequential self.old.object) (world_of self.old) (Step p)) }
         ensures progress { IfOk result (IsProgress (world_of self.old) p) }
         ensures pending { IfOk result (GoesOn (world_of self.new) p) }

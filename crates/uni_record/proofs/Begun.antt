@@ -4,7 +4,7 @@ use Rattle.std.specs.Option.{is_some}
 use Rattle.seq_object.specs.declared.call_id.CallId.{CallId}
 use Rattle.uni_model.specs.Worlds.{WorldOf, calls_in_era}
 use Rattle.uni_core.specs.World.{current_of}
-use Rattle.uni_core.specs.Run.{CanCall}
+use Rattle.uni_core.specs.Refusals.{CanCall}
 use Rattle.uni_core.proofs.Runs.{current_none}
 
 -- a process without a pending call, whose calls of the era are fewer than a row's

@@ -1,42 +1,21 @@
 -- What a record is opened with.
-use Rattle.std.proofs.Common.{◌≡◌, ℕ, ◌+◌, ◌-◌, ◌*◌, ◌<◌, ◌≤◌, ◌^◌, ◌⊎◌, inl, inr, arith, refl, sym, subst, [], length, None, true, false}
-use Rattle.std.proofs.lemmas.Bool.{cases_lt}
+use Rattle.std.proofs.Common.{◌≡◌, ℕ, ◌+◌, ◌-◌, ◌*◌, ◌<◌, ◌≤◌, ◌^◌, arith, refl, sym, subst, [], length, None}
 use Rattle.seq_object.specs.Sequential.{Sequential}
 use Rattle.uni_model.specs.Worlds.{opened_world}
 use Rattle.uni_core.specs.World.{world_of}
+use Rattle.uni_core.specs.Refusals.{IsOpenRefused}
+use Rattle.uni_core.specs.declared.fault.OpenFault.{OpenFault}
+use Rattle.uni_core.specs.declared.fault.OpenFault.TheVariants.{BadCount, BadRow, SeqFull, Memory}
+use Rattle.uni_record.specs.Recorded.{CanRecord, record_fault, IsOpenRefused as IsRecordRefused}
 use Rattle.uni_record.specs.Recorded.{Recording, IsRecording, HasRoom, set_aside, pending_count}
 use Rattle.uni_record.proofs.Owed.{owed-quiescent}
 
--- counts and numbers that aren't refused fit
-pub fits_unless : (n k seq : ℕ) → ((n ≡ 0) ⊎ (64 < n) → ⊥) → ((1 ≤ n) × (n ≤ 64) × ((k ≡ 0) ⊎ (4096 < k)) → ⊥) → ((1 ≤ n) × (n ≤ 64) × (1 ≤ k) × (k ≤ 4096) × (2 ^ 48 ≤ seq + n * k) → ⊥)
-    → (1 ≤ n) × (n ≤ 64) × (1 ≤ k) × (k ≤ 4096) × (seq + n * k < 2 ^ 48)
-fits_unless n k seq count row numbers = (some, few, long, short, low) where
-  some : 1 ≤ n
-  some = elim (cases_lt 0 n) [ inl h ↦ omega (arith, h) | inr h ↦ absurd (count (inl (omega (arith, h)))) ]
-
-  few : n ≤ 64
-  few = elim (cases_lt 64 n) [ inl h ↦ absurd (count (inr h)) | inr h ↦ omega (arith, h) ]
-
-  long : 1 ≤ k
-  long = elim (cases_lt 0 k) [ inl h ↦ omega (arith, h) | inr h ↦ absurd (row (some, few, inl (omega (arith, h)))) ]
-
-  short : k ≤ 4096
-  short = elim (cases_lt 4096 k) [ inl h ↦ absurd (row (some, few, inr h)) | inr h ↦ omega (arith, h) ]
-
-  low : seq + n * k < 2 ^ 48
-  low = elim (cases_lt (seq + n * k) (2 ^ 48)) [ inl h ↦ h | inr h ↦ absurd (numbers (some, few, long, short, omega (arith, h))) ]
-
--- a history whose length isn't taken
-pub bad_history : (h : ℕ) → ((1 ≤ h) × (h ≤ 16777216) → false ≡ true) → (h ≡ 0) ⊎ (16777216 < h)
-bad_history h refused = elim (cases_lt 0 h) [
-  | inl some ↦ elim (cases_lt 16777216 h) [ inl past ↦ inr past | inr few ↦ absurd (let f : false ≡ true = refused (omega (arith, some), omega (arith, few)) in cc) ]
-  | inr none ↦ inl (omega (arith, none))
-]
-
--- a history whose length is taken
-pub good_history : (h : ℕ) → (1 ≤ h) × (h ≤ 16777216) → (h ≡ 0) ⊎ (16777216 < h) → ⊥
-good_history h few (inl none) = omega (arith, few.0, none)
-good_history h few (inr past) = omega (arith, few.1, past)
+-- a world that isn't opened refuses the record, for want of memory where all else fits
+pub refused_as : (n k seq h : ℕ) (e : OpenFault) → IsOpenRefused n k seq e → (e ≡ Memory → CanRecord n k seq h) → IsRecordRefused n k seq h (record_fault e)
+refused_as n k seq h BadCount refused fits = refused
+refused_as n k seq h BadRow refused fits = refused
+refused_as n k seq h SeqFull refused fits = refused
+refused_as n k seq h Memory refused fits = fits refl
 
 -- a record without an event
 pub opened_kept : {O S I R : Type 0} (sequential : O → Sequential S I R) (object : O) (n number limit : ℕ) (r : Recording O S I R) (events returns counts : ℕ)

@@ -10,11 +10,15 @@ use Rattle.uni_model.specs.Laws.{LinkedSoonAlong}
 use Rattle.uni_model.specs.Eras.{JoinedGrows}
 use Rattle.uni_model.specs.Universal.{IsUniversal}
 use Rattle.uni_core.specs.World.{Whole, world_of, IsIdle, MayNeedMemory}
-use Rattle.uni_core.specs.Run.{CanCall, CanGo}
+use Rattle.uni_core.specs.Refusals.{IsCount, IsRow, CanOpen, CanCall, CanGo}
+use Rattle.uni_core.specs.declared.fault.OpenFault.{OpenFault}
+use Rattle.uni_core.specs.declared.fault.OpenFault.TheVariants as first
 use Rattle.uni_trim.specs.Ends.{NumbersFit, IsLeastPending}
 use Rattle.uni_log.specs.declared.entry.Entry.{Entry}
 use Rattle.uni_log.specs.Entry.{entry_shown}
 use Rattle.uni_record.specs.declared.event.Event.{Event as Stored}
+use Rattle.uni_record.specs.declared.fault.RecordOpenFault.{RecordOpenFault}
+use Rattle.uni_record.specs.declared.fault.RecordOpenFault.TheVariants as opening_fault
 use Rattle.uni_record.specs.declared.fault.RecordBeginFault.{RecordBeginFault}
 use Rattle.uni_record.specs.declared.fault.RecordBeginFault.TheVariants as begin
 use Rattle.uni_record.specs.declared.fault.RecordStepFault.{RecordStepFault}
@@ -38,6 +42,29 @@ pub record Recording (O S I R : Type 0) : Type 0 where
   pub returns : List (Return R)
   pub counts : List Counts
   pub ended : List (Entry I R)
+
+-- how many events a history can have
+abbrev pub IsHistory : (limit : ℕ) → Type 0
+IsHistory limit = (1 ≤ limit) × (limit ≤ 16777216)
+
+-- a record can be opened: its first world can, and the history can have so many events
+abbrev pub CanRecord : (n k number limit : ℕ) → Type 0
+CanRecord n k number limit = CanOpen n k number × IsHistory limit
+
+-- why it can't: memory only where nothing else refuses it
+abbrev pub IsOpenRefused : (n k number limit : ℕ) → RecordOpenFault → Type 0
+IsOpenRefused n k number limit opening_fault.BadCount = ¬ (IsCount n)
+IsOpenRefused n k number limit opening_fault.BadRow = IsCount n × ¬ (IsRow k)
+IsOpenRefused n k number limit opening_fault.SeqFull = IsCount n × IsRow k × (2 ^ 48 ≤ number + n * k)
+IsOpenRefused n k number limit opening_fault.BadHistory = CanOpen n k number × ¬ (IsHistory limit)
+IsOpenRefused n k number limit opening_fault.Memory = CanRecord n k number limit
+
+-- the fault of a record whose first world isn't opened
+abbrev pub record_fault : OpenFault → RecordOpenFault
+record_fault first.BadCount = opening_fault.BadCount
+record_fault first.BadRow = opening_fault.BadRow
+record_fault first.SeqFull = opening_fault.SeqFull
+record_fault first.Memory = opening_fault.Memory
 
 -- how many events a call of n processes sets aside, its own among them
 abbrev pub share : ℕ → ℕ
@@ -143,10 +170,6 @@ IsEndRefused s m trim.SeqFull = IsQuiescent s.world × (NumbersFit s.world m s.r
 IsEndRefused s m trim.HistoryFull = IsQuiescent s.world × NumbersFit s.world m s.row × (s.limit < s.stored + 1)
 IsEndRefused s m trim.Memory = CanEnd s m
 
--- how many processes there can be
-abbrev pub IsCount : ℕ → Type 0
-IsCount m = (1 ≤ m) × (m ≤ 64)
-
 -- why a reshape to m processes is refused
 abbrev pub IsReshapeRefused : {S I R : Type 0} → Standing S I R → (m : ℕ) → RecordReshapeFault → Type 0
 IsReshapeRefused s m reshape.BadCount = IsCount m → ⊥
@@ -180,18 +203,18 @@ sample_greatest_share = refl
 sample_longest_history : 2 ^ 24 ≡ 16777216
 sample_longest_history = refl
 
--- 1 to 64 processes
-one_process_is_a_count : IsCount 1
-one_process_is_a_count = (omega arith, omega arith)
+-- 1 to 16,777,216 events
+one_event_is_a_history : IsHistory 1
+one_event_is_a_history = (omega arith, omega arith)
 
-sixty_four_processes_are_a_count : IsCount 64
-sixty_four_processes_are_a_count = (omega arith, omega arith)
+events_up_to_16777216_are_a_history : IsHistory 16777216
+events_up_to_16777216_are_a_history = (omega arith, omega arith)
 
-no_process_is_none : ¬ (IsCount 0)
-no_process_is_none = λ count. let least = count.0 in omega arith
+no_event_is_none : ¬ (IsHistory 0)
+no_event_is_none = λ history. let least = history.0 in omega arith
 
-sixty_five_processes_are_none : ¬ (IsCount 65)
-sixty_five_processes_are_none = λ count. let most = count.1 in omega arith
+events_up_to_16777217_are_none : ¬ (IsHistory 16777217)
+events_up_to_16777217_are_none = λ history. let most = history.1 in omega arith
 
 -- one process with so many events stored, of so many that there can be
 abbrev sample : (stored limit : ℕ) → Standing ℕ ℕ ℕ

@@ -4,7 +4,7 @@ use Rattle.std.specs.Option.{option_map_or}
 use Rattle.seq_object.specs.Sequential.{Sequential}
 use Rattle.uni_model.specs.Worlds.{WorldOf, world_after, world_after_all, response_of_step, without_trims}
 use Rattle.uni_core.specs.World.{current_of}
-use Rattle.uni_core.specs.Run.{CanGo}
+use Rattle.uni_core.specs.Refusals.{IsCount, CanGo}
 use Rattle.uni_trim.specs.Ends.{last_number}
 use Rattle.uni_record.specs.declared.command.Command.{Command}
 use Rattle.uni_record.specs.declared.command.Command.TheVariants.{Call, Step, Trim, Reshape}
@@ -19,7 +19,7 @@ use Rattle.uni_record.specs.declared.fault.RecordStepFault.TheVariants as step
 use Rattle.uni_record.specs.declared.fault.RecordTrimFault.TheVariants as trim
 use Rattle.uni_record.specs.declared.fault.RecordReshapeFault.TheVariants as reshape
 use Rattle.uni_record.specs.Event.{event_shown, events_shown}
-use Rattle.uni_record.specs.Recorded.{Recording, Standing, meaning, standing_of, CanBegin, CanEnd, IsCount, IsBeginRefused, IsStepRefused, IsEndRefused, IsReshapeRefused, KeepsOpening}
+use Rattle.uni_record.specs.Recorded.{Recording, Standing, meaning, standing_of, CanBegin, CanEnd, IsBeginRefused, IsStepRefused, IsEndRefused, IsReshapeRefused, KeepsOpening}
 
 -- why a call is refused
 abbrev pub IsCallRefused : {S I R : Type 0} → Standing S I R → (p : ℕ) → Refusal → Type 0

@@ -8,7 +8,8 @@ ghost use Rattle.uni_core.specs.World.{world_of};
 ghost use Rattle.uni_log.specs.Entry.{entry_shown};
 ghost use Rattle.uni_trim.specs.Ends.{last_number};
 ghost use Rattle.uni_record.specs.declared.event.Event.TheVariants as event;
-ghost use Rattle.uni_record.specs.Recorded.{KeepsOpening, standing_of, untrimmed_world, CanEnd, IsEndRefused, IsReshapeRefused, IsCount, IsPromised};
+ghost use Rattle.uni_record.specs.Recorded.{KeepsOpening, standing_of, untrimmed_world, CanEnd, IsEndRefused, IsReshapeRefused, IsPromised};
+ghost use Rattle.uni_core.specs.Refusals.{IsCount};
 
 use crate::event::Event;
 use crate::events::PackedEvents;

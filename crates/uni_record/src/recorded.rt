@@ -4,9 +4,9 @@ ghost use Rattle.std.specs.Prelude.{◌≡◌, ◌+◌, ◌*◌, ◌<◌, ◌≤
 ghost use Rattle.uni_model.specs.Worlds.{world_after};
 ghost use Rattle.uni_model.specs.Worlds.{Event as model};
 ghost use Rattle.uni_core.specs.World.{world_of, IsProgress};
-ghost use Rattle.uni_core.specs.Run.{CanGo};
+ghost use Rattle.uni_core.specs.Refusals.{CanGo};
 ghost use Rattle.uni_record.specs.declared.event.Event.TheVariants as event;
-ghost use Rattle.uni_record.specs.Recorded.{share, set_aside, standing_of, untrimmed_world, KeepsOpening, HasOpened, CanBegin, IsBeginRefused, IsStepRefused, IsPromised};
+ghost use Rattle.uni_record.specs.Recorded.{share, set_aside, standing_of, untrimmed_world, KeepsOpening, HasOpened, CanRecord, IsOpenRefused, CanBegin, IsBeginRefused, IsStepRefused, IsPromised};
 
 use crate::event::Event;
 use crate::events::PackedEvents;
@@ -16,7 +16,7 @@ use crate::verdict::{Counts, Return};
 use seq_object::{CallId, SeqObject};
 use std::alloc::Global;
 use std::marker::Model;
-use uni_core::{OpenFault, Progress, World};
+use uni_core::{Progress, World, counts_fit};
 use uni_log::Entry;
 
 /// A world and the stored list of its events: the world is the replay of the events from its opening.
@@ -57,10 +57,9 @@ impl<O: SeqObject> Recorded<O> {
         k: u64,
         h: u64,
     ) -> Result<Recorded<O>, RecordOpenFault>
-        ensures count { IsErrOf result RecordOpenFault.BadCount ↔ ((n ≡ 0) ⊎ (64 < n)) }
-        ensures row { IsErrOf result RecordOpenFault.BadRow ↔ ((1 ≤ n) × (n ≤ 64) × ((k ≡ 0) ⊎ (4096 < k))) }
+        ensures refused { IfErr result (IsOpenRefused n k 1 h) }
+        ensures could { OnOk result (CanRecord n k 1 h) }
         ensures numbers { IsErrOf result RecordOpenFault.SeqFull → ⊥ }
-        ensures history { IsErrOf result RecordOpenFault.BadHistory ↔ ((1 ≤ n) × (n ≤ 64) × (1 ≤ k) × (k ≤ 4096) × ((h ≡ 0) ⊎ (16777216 < h))) }
         ensures opened { IfOk result (HasOpened O.sequential object n k 1 h) }
     {
         Recorded::open_at(alloc, object, n, k, 1, h)
@@ -71,7 +70,7 @@ impl<O: SeqObject> Recorded<O> {
     ///
     /// Errors, in this order: `BadCount` where `n` isn't from 1 to 64; `BadRow` where `k` isn't from 1
     /// to 4096; `SeqFull` where `seq + n * k` passes 2^48 - 1; `BadHistory` where `h` isn't from 1 to
-    /// 16,777,216; `Memory`. After each the object is dropped. Room for `h` events isn't reserved.
+    /// 16,777,216; `Memory`, which is asked for last. After each the object is dropped. Room for `h` events isn't reserved.
     pub fn open_at(
         alloc: Global,
         object: O,
@@ -81,31 +80,25 @@ impl<O: SeqObject> Recorded<O> {
         h: u64,
     ) -> Result<Recorded<O>, RecordOpenFault>
         requires { 1 ≤ seq }
-        ensures count { IsErrOf result RecordOpenFault.BadCount ↔ ((n ≡ 0) ⊎ (64 < n)) }
-        ensures row { IsErrOf result RecordOpenFault.BadRow ↔ ((1 ≤ n) × (n ≤ 64) × ((k ≡ 0) ⊎ (4096 < k))) }
-        ensures numbers { IsErrOf result RecordOpenFault.SeqFull ↔ ((1 ≤ n) × (n ≤ 64) × (1 ≤ k) × (k ≤ 4096) × (2 ^ 48 ≤ seq + n * k)) }
-        ensures history { IsErrOf result RecordOpenFault.BadHistory ↔ ((1 ≤ n) × (n ≤ 64) × (1 ≤ k) × (k ≤ 4096) × (seq + n * k < 2 ^ 48) × ((h ≡ 0) ⊎ (16777216 < h))) }
+        ensures refused { IfErr result (IsOpenRefused n k seq h) }
+        ensures could { OnOk result (CanRecord n k seq h) }
         ensures opened { IfOk result (HasOpened O.sequential object n k seq h) }
     {
-        let history = is_history(h);
-        match World::open_from(alloc, object, n, k, seq) {
-            Ok(_) if !history => Err(RecordOpenFault::BadHistory),
-            Ok(world) => Ok(Recorded {
-                world,
-                processes: n,
-                first: seq,
-                limit: h,
-                events: PackedEvents::new(alloc),
-                returns: Vec::new(alloc),
-                counts: Vec::new(alloc),
-                ended: Vec::new(alloc),
-            }),
-            Err(OpenFault::BadCount) => Err(RecordOpenFault::BadCount),
-            Err(OpenFault::BadRow) => Err(RecordOpenFault::BadRow),
-            Err(OpenFault::SeqFull) => Err(RecordOpenFault::SeqFull),
-            Err(OpenFault::Memory) if !history => Err(RecordOpenFault::BadHistory),
-            Err(OpenFault::Memory) => Err(RecordOpenFault::Memory),
+        counts_fit(n, k, seq)?;
+        if !is_history(h) {
+            return Err(RecordOpenFault::BadHistory);
         }
+        let world = World::open_from(alloc, object, n, k, seq)?;
+        Ok(Recorded {
+            world,
+            processes: n,
+            first: seq,
+            limit: h,
+            events: PackedEvents::new(alloc),
+            returns: Vec::new(alloc),
+            counts: Vec::new(alloc),
+            ended: Vec::new(alloc),
+        })
     }
 
     /// Process `p` begins a call: `World::begin`, whose event is stored. It sets aside `10 n + 13`

@@ -1,8 +1,8 @@
 //! The room of a history.
 
-ghost use Rattle.std.specs.Prelude.{◌≡◌, ◌+◌, ◌*◌, ◌≤◌, ◌↔◌, length, true, OnOk, vec_capacity};
+ghost use Rattle.std.specs.Prelude.{◌≡◌, ◌+◌, ◌*◌, ◌≤◌, ◌↔◌, length, IsTrue, OnOk, vec_capacity};
 ghost use Rattle.uni_core.specs.World.{world_of};
-ghost use Rattle.uni_record.specs.Recorded.{set_aside};
+ghost use Rattle.uni_record.specs.Recorded.{IsHistory, set_aside};
 
 use crate::verdict::{Counts, Return};
 use seq_object::SeqObject;
@@ -14,7 +14,7 @@ pub const MAX_HISTORY: u64 = 16_777_216;
 
 /// Whether a history can have so many events: from 1 to 16,777,216.
 pub(crate) fn is_history(h: u64) -> bool
-    ensures { (result ≡ true) ↔ ((1 ≤ h) × (h ≤ 16777216)) }
+    ensures { IsTrue result ↔ IsHistory h }
 {
     h >= 1 && h <= MAX_HISTORY
 }

@@ -9,7 +9,8 @@ use Rattle.uni_model.specs.Worlds.Event.{Call, Trim, Reshape}
 use Rattle.uni_core.specs.World.{world_of, current_of}
 use Rattle.uni_record.specs.declared.fault.RecordTrimFault.TheVariants as trim
 use Rattle.uni_record.specs.declared.fault.RecordReshapeFault.TheVariants as reshape
-use Rattle.uni_record.specs.Recorded.{Recording, CanBegin, CanEnd, IsBeginRefused, IsCount, IsEndRefused, IsReshapeRefused, standing_of}
+use Rattle.uni_record.specs.Recorded.{Recording, CanBegin, CanEnd, IsBeginRefused, IsEndRefused, IsReshapeRefused, standing_of}
+use Rattle.uni_core.specs.Refusals.{IsCount}
 use Rattle.uni_record.specs.declared.fault.RecordBeginFault.TheVariants as begin
 use Rattle.uni_record.specs.Event.{event_shown, events_shown}
 use Rattle.uni_script.specs.declared.answer.Refusal.{Refusal}

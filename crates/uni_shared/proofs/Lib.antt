@@ -2,4 +2,3 @@ pub mod Counting
 pub mod Closing
 pub mod Differing
 pub mod Holding
-pub mod Opening

@@ -13,7 +13,7 @@ module _ (O S I R : RattleType) (object : seq.Ghosts O.Denot S.Denot I.Denot R.D
   -- after apply: with one receipt more, which is answered; or as a refusal leaves it
   abbrev pub EndsApplied : I.Denot → MutBor (SeatOf I.Denot R.Denot) → Result (Bor (Receipt I.Denot R.Denot)) ApplyFault → Fml
   EndsApplied asked s r = follows_so (the_row O S I R object inv resp) (the_row O S I R object inv resp) s.ghost_name none (λ _ _. ⊤)
-      (λ last. MatchResult r (λ x. HasEnded s.now x.now last) (λ _. IsLeftByApply s.now asked last))
+      (λ last. MatchResult r (λ x. HasEnded s.now x.now last) (λ fault. IsLeftByApply s.now asked fault last))
 
   -- after resume: with one receipt more, which is answered; or with the call pending that it had
   abbrev pub EndsResumed : MutBor (SeatOf I.Denot R.Denot) → Result (Bor (Receipt I.Denot R.Denot)) ApplyFault → Fml

@@ -52,9 +52,13 @@ pub record HasStopped {I R : Type 0} (old new : SeatOf I R) : Type 0 where
   pub asks : inv_of new ≡ inv_of old
   pub receipts : new.receipts ≡ old.receipts
 
--- what apply leaves where it is refused: the seat as it was, or its call pending where it had begun
-abbrev pub IsLeftByApply : {I R : Type 0} → SeatOf I R → I → SeatOf I R → Type 0
-IsLeftByApply old inv new = (new ≡ old) ⊎ HasBegun old inv new
+-- What apply leaves where it ends with a fault: the call pending, where the gate gave up. Where memory was refused or a stranger
+-- was met, the call pending or the seat as it was, as its `pending` tells. Else the seat as it was.
+abbrev pub IsLeftByApply : {I R : Type 0} → SeatOf I R → I → ApplyFault → SeatOf I R → Type 0
+IsLeftByApply old inv GaveUp new = HasBegun old inv new
+IsLeftByApply old inv Memory new = (new ≡ old) ⊎ HasBegun old inv new
+IsLeftByApply old inv Stranger new = (new ≡ old) ⊎ HasBegun old inv new
+IsLeftByApply old inv _ new = new ≡ old
 
 -- the receipt is of the call that was pending
 pub record IsReceiptOf {I R : Type 0} (old : SeatOf I R) (receipt : Receipt I R) : Type 0 where

@@ -14,19 +14,24 @@ use std::alloc::Global;
 use std::marker::Model;
 use std::sync::Mutex;
 use uni_record::Recorded;
+use thiserror::Error;
 
 /// Why nothing was closed. Where several hold, the first of these is told.
-#[derive(Clone, Copy, Debug, PartialEq, Eq)]
+#[derive(Clone, Copy, Debug, PartialEq, Eq, Error)]
 pub enum CloseFault {
     /// This process, the least of such, doesn't have its seat there exactly once; or, where each has,
     /// the least other process that has a seat there.
+    #[error("process {0} doesn't have its seat there exactly once")]
     MissingSeat(u64),
     /// This process, the least of such, has a call pending, in its seat or in the world.
+    #[error("process {0} has a call pending")]
     PendingSeat(u64),
     /// The receipts differ from the history at this call, the first of such by process and then by
     /// number.
+    #[error("the receipts differ from the history at call {0}")]
     Mismatch(CallId),
     /// Memory was refused. It never comes, since closing takes none.
+    #[error("out of memory")]
     Memory,
 }
 

@@ -13,6 +13,7 @@ use seq_object::{CallId, SeqObject};
 use std::alloc::Global;
 use uni_core::{Place, Progress};
 use uni_record::{RecordBeginFault, RecordTrimFault, Recorded};
+use thiserror::Error;
 
 /// What a hold of the lock leaves of a call.
 #[derive(Clone, Copy, Debug)]
@@ -30,11 +31,13 @@ pub struct Held<R> {
 }
 
 /// Why a hold took no step. Where both hold, the first is told.
-#[derive(Clone, Copy, Debug, PartialEq, Eq)]
+#[derive(Clone, Copy, Debug, PartialEq, Eq, Error)]
 pub enum StepHeldFault {
     /// The call isn't its process's pending one.
+    #[error("the call isn't its process's pending one")]
     NotIts,
     /// Memory was refused to the object.
+    #[error("out of memory")]
     Memory,
 }
 

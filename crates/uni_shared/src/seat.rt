@@ -220,7 +220,7 @@ impl<O: SeqObject> Seat<O> {
         inv: O::Inv,
     ) -> Result<(), ApplyFault>
         ensures begun { OnOk result (HasBegun self.old inv self.new) }
-        ensures left { OnErr result (IsLeftByApply self.old inv self.new) }
+        ensures left { IfErr result (λ fault. IsLeftByApply self.old inv fault self.new) }
         ensures seat_pending { IsErrOf result ApplyFault.SeatPending ↔ IsSome self.old.pending }
         ensures none_pending { IsErrOf result ApplyFault.NothingPending → ⊥ }
     {

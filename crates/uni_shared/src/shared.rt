@@ -1,6 +1,7 @@
 //! The record under its lock.
 
-ghost use Rattle.std.specs.Prelude.{◌≡◌, ◌<◌, ◌≤◌, ◌↔◌, ◌⊎◌, IfOk, IsErrOf};
+ghost use Rattle.std.specs.Prelude.{◌≡◌, ◌≤◌, IfOk, IfErr, OnOk, IsErrOf};
+ghost use Rattle.uni_record.specs.Recorded.{CanRecord, IsOpenRefused};
 ghost use Rattle.uni_shared.specs.Seat.{first_seats};
 
 use crate::held::trim_held;
@@ -30,10 +31,9 @@ impl<O: SeqObject> Shared<O> {
         k: u64,
         h: u64,
     ) -> Result<(Shared<O>, Vec<Seat<O>>), RecordOpenFault>
-        ensures count { IsErrOf result RecordOpenFault.BadCount ↔ ((n ≡ 0) ⊎ (64 < n)) }
-        ensures row { IsErrOf result RecordOpenFault.BadRow ↔ ((1 ≤ n) × (n ≤ 64) × ((k ≡ 0) ⊎ (4096 < k))) }
+        ensures refused { IfErr result (IsOpenRefused n k 1 h) }
+        ensures could { OnOk result (CanRecord n k 1 h) }
         ensures numbers { IsErrOf result RecordOpenFault.SeqFull → ⊥ }
-        ensures history { IsErrOf result RecordOpenFault.BadHistory ↔ ((1 ≤ n) × (n ≤ 64) × (1 ≤ k) × (k ≤ 4096) × ((h ≡ 0) ⊎ (16777216 < h))) }
         ensures seats { IfOk result (λ opened. opened.1.items ≡ first_seats n) }
     {
         let recorded = Recorded::open(alloc, object, n, k, h)?;

@@ -1,10 +1,11 @@
 //! The two ways to end an era.
 
-ghost use Rattle.std.specs.Prelude.{◌≡◌, ◌⊎◌, ◌↔◌, ◌<◌, ◌≤◌, ℕ, IfOk, IfSome, IsSome, OnOk, OnErr, IsErrOf};
-ghost use Rattle.uni_model.specs.Worlds.{world_after, IsQuiescent};
+ghost use Rattle.std.specs.Prelude.{◌≡◌, ◌↔◌, ◌≤◌, IfOk, IfErr, IfSome, IsSome, OnOk, OnErr};
+ghost use Rattle.uni_model.specs.Worlds.{world_after};
 ghost use Rattle.uni_model.specs.Worlds.Event.{Trim, Reshape};
 ghost use Rattle.uni_core.specs.World.{world_of, KeepsFixed};
-ghost use Rattle.uni_trim.specs.Ends.{last_number, NumbersFit, IsLeastPending};
+ghost use Rattle.uni_core.specs.Refusals.{IsCount};
+ghost use Rattle.uni_trim.specs.Ends.{last_number, NumbersFit, CanEnd, IsTrimRefused, IsReshapeRefused};
 
 use crate::fault::{ReshapeFault, TrimFault};
 use seq_object::SeqObject;
@@ -36,8 +37,8 @@ pub fn next_number<O: SeqObject>(world: &World<O>, m: u64) -> Option<u64>
 /// `SeqFull` where `last + n * k` passes 2^48 - 1, with the last number, `n` processes and rows of
 /// `k` calls. After each nothing is changed.
 pub fn trim<O: SeqObject>(world: &mut World<O>) -> Result<u64, TrimFault>
-    ensures pending { (p : ℕ) → IsErrOf result (TrimFault.Pending p) ↔ IsLeastPending (world_of world.old) p }
-    ensures numbers { IsErrOf result TrimFault.SeqFull ↔ (IsQuiescent (world_of world.old) × (NumbersFit (world_of world.old) (world_of world.old).n world.old.row → ⊥)) }
+    ensures refused { IfErr result (IsTrimRefused (world_of world.old) world.old.row) }
+    ensures could { OnOk result (CanEnd (world_of world.old) world.old.row (world_of world.old).n) }
     ensures number { IfOk result (λ number. number ≡ last_number (world_of world.old)) }
     ensures trimmed { OnOk result (world_of world.new ≡ world_after (O.sequential world.old.object) (world_of world.old) Trim) }
     ensures fixed { KeepsFixed world.old world.new }
@@ -66,9 +67,8 @@ pub fn reshape<O: SeqObject>(
     world: &mut World<O>,
     m: u64,
 ) -> Result<u64, ReshapeFault>
-    ensures count { IsErrOf result ReshapeFault.BadCount ↔ ((m ≡ 0) ⊎ (64 < m)) }
-    ensures pending { (p : ℕ) → IsErrOf result (ReshapeFault.Pending p) ↔ ((1 ≤ m) × (m ≤ 64) × IsLeastPending (world_of world.old) p) }
-    ensures numbers { IsErrOf result ReshapeFault.SeqFull ↔ ((1 ≤ m) × (m ≤ 64) × IsQuiescent (world_of world.old) × (NumbersFit (world_of world.old) m world.old.row → ⊥)) }
+    ensures refused { IfErr result (IsReshapeRefused (world_of world.old) world.old.row m) }
+    ensures could { OnOk result (IsCount m × CanEnd (world_of world.old) world.old.row m) }
     ensures number { IfOk result (λ number. number ≡ last_number (world_of world.old)) }
     ensures reshaped { OnOk result (world_of world.new ≡ world_after (O.sequential world.old.object) (world_of world.old) (Reshape m)) }
     ensures fixed { KeepsFixed world.old world.new }

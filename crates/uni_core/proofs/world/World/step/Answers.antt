@@ -1,16 +1,16 @@
 use Rattle.std.proofs.Common.{refl, sym, ◌∙◌}
 use Rattle.uni_core.proofs.Begin.{inside_count, inside_view, no_call_now}
-use Rattle.uni_core.proofs.Stepped.{can_step, not_idle, may_need, steps_fit, turns_fit, IsWorld-left, IsBounded-left, world_of-left_with, Follows-left_with, SeesSettled-left, answers, still_pending, if_not_ok}
+use Rattle.uni_core.proofs.Stepped.{can_step, can_go, may_need, steps_fit, turns_fit, IsWorld-left, IsBounded-left, world_of-left_with, Follows-left_with, SeesSettled-left, answers, still_pending, if_not_ok}
 use Rattle.uni_core.proofs.world.World.step.Goals as goal
 
 pub take_step-requires-clause-step : goal.take_step-requires-clause-step
 take_step-requires-clause-step g c = can_step _ _ _ c.self.view_is c.self.invariant c.args.p c.processes.result c.index.result.now c.processes.ensures c.if-p-processes.false c.index.ensures c.in-Some.call (sym c.in-Some.ensures)
 
-pub returns-in_default-take_step-clause-idle : goal.returns-in_default-take_step-clause-idle
-returns-in_default-take_step-clause-idle g c = (λ e. cc, λ h. absurd (not_idle _ _ _ c.self.view_is c.self.invariant c.args.p c.processes.result c.index.result.now c.processes.ensures c.if-p-processes.false c.index.ensures c.in-Some.call (sym c.in-Some.ensures) h.1))
-
-pub returns-in_default-take_step-clause-memory : goal.returns-in_default-take_step-clause-memory
-returns-in_default-take_step-clause-memory g c e = may_need _ _ _ c.self.view_is c.self.invariant c.args.p c.processes.result c.index.result.now c.processes.ensures c.if-p-processes.false c.index.ensures c.in-Some.call (sym c.in-Some.ensures) (if_not_ok c.take_step.result c.in_default-take_step.not-Ok c.take_step.ensures.refused)
+pub returns-in_default-take_step-clause-refused : goal.returns-in_default-take_step-clause-refused
+returns-in_default-take_step-clause-refused g c = (
+  can_go _ _ _ c.self.view_is c.self.invariant c.args.p c.processes.result c.index.result.now c.processes.ensures c.if-p-processes.false c.index.ensures c.in-Some.call (sym c.in-Some.ensures),
+  may_need _ _ _ c.self.view_is c.self.invariant c.args.p c.processes.result c.index.result.now c.processes.ensures c.if-p-processes.false c.index.ensures c.in-Some.call (sym c.in-Some.ensures) (if_not_ok c.take_step.result c.in_default-take_step.not-Ok c.take_step.ensures.refused),
+)
 
 pub after-requires-clause-steps : goal.after-requires-clause-steps
 after-requires-clause-steps g c = steps_fit _ _ _ c.self.view_is c.self.invariant c.args.p c.processes.result c.index.result.now c.processes.ensures c.if-p-processes.false c.index.ensures c.in-Some.call (sym c.in-Some.ensures)
@@ -22,8 +22,8 @@ pub invariant_of-self-2 : goal.invariant_of-self-2
 invariant_of-self-2 g c = rw c.in-Ok.ensures.object (IsWorld-left _ _ _ c.self.view_is c.self.invariant c.args.p c.processes.result c.index.result.now c.processes.ensures c.if-p-processes.false c.index.ensures c.in-Some.call (sym c.in-Some.ensures)
     c.take_step.new.self.shared c.in-Ok.after c.in-Ok.ensures.taken c.stage.result c.stage.ensures c.after.result c.after.ensures.call c.after.ensures.begun c.after.ensures.among c.after.ensures.steps c.after.ensures.turns)
 
-pub returns-clause-idle : goal.returns-clause-idle
-returns-clause-idle g c = (λ e. cc, λ h. absurd (not_idle _ _ _ c.self.view_is c.self.invariant c.args.p c.processes.result c.index.result.now c.processes.ensures c.if-p-processes.false c.index.ensures c.in-Some.call (sym c.in-Some.ensures) h.1))
+pub returns-clause-could : goal.returns-clause-could
+returns-clause-could g c = can_go _ _ _ c.self.view_is c.self.invariant c.args.p c.processes.result c.index.result.now c.processes.ensures c.if-p-processes.false c.index.ensures c.in-Some.call (sym c.in-Some.ensures)
 
 pub returns-clause-step : goal.returns-clause-step
 returns-clause-step g c = world_of-left_with _ _ _ c.self.view_is c.self.invariant c.args.p c.processes.result c.index.result.now c.processes.ensures c.if-p-processes.false c.index.ensures c.in-Some.call (sym c.in-Some.ensures)
@@ -51,11 +51,11 @@ pub returns-clause-beside : goal.returns-clause-beside
 returns-clause-beside g c = SeesSettled-left _ _ _ c.self.view_is c.self.invariant c.args.p c.processes.result c.index.result.now c.processes.ensures c.if-p-processes.false c.index.ensures c.in-Some.call (sym c.in-Some.ensures)
     c.take_step.new.self.shared c.in-Ok.after c.in-Ok.ensures.taken c.stage.result c.stage.ensures c.after.result c.after.ensures.call c.after.ensures.begun c.after.ensures.among c.after.ensures.steps c.after.ensures.turns
 
-pub returns-in_default-clause-idle : goal.returns-in_default-clause-idle
-returns-in_default-clause-idle g c = (
-  λ e. (
+pub returns-in_default-clause-refused : goal.returns-in_default-clause-refused
+returns-in_default-clause-refused g c = (
+  refl,
+  (
     inside_view _ _ c.args.p (sym c.self.view_is) (inside_count _ _ c.args.p c.processes.ensures c.if-p-processes.false),
     no_call_now _ _ _ c.self.view_is c.self.invariant c.args.p c.index.result.now (inside_count _ _ c.args.p c.processes.ensures c.if-p-processes.false) c.index.ensures (sym c.in_default.ensures),
   ),
-  λ h. refl,
 )

@@ -1,4 +1,5 @@
 use Rattle.std.proofs.Common.{◌∙◌, sym, refl}
+use Rattle.uni_core.specs.Refusals.{CanGo}
 use Rattle.uni_core.specs.World.{world_of}
 use Rattle.uni_core.proofs.Runs.{TakesCommand-refused, current_none, current_some, going_none, done_some, memory_needed}
 use Rattle.uni_core.proofs.world.World.take_step.Goals as goal
@@ -6,7 +7,7 @@ use Rattle.uni_core.proofs.world.World.take_step.Goals as goal
 pub returns-in_default-clause-takes : goal.returns-in_default-clause-takes
 returns-in_default-clause-takes g c =
     let below = rw c.processes.ensures at c.if-p-processes.false in
-    TakesCommand-refused _ c.args.self.now c.args.self.now _ _ _ refl (refl, below, current_none (world_of c.args.self.now) c.args.p c.in_default.ensures)
+    TakesCommand-refused _ c.args.self.now c.args.self.now _ _ _ refl (refl, (below, current_none (world_of c.args.self.now) c.args.p c.in_default.ensures))
 
 pub returns-in-Ok-Going-clause-takes : goal.returns-in-Ok-Going-clause-takes
 returns-in-Ok-Going-clause-takes g c = record {
@@ -31,7 +32,6 @@ returns-in-Ok-Done-clause-takes g c = record {
 
 pub returns-in-Err-clause-takes : goal.returns-in-Err-clause-takes
 returns-in-Err-clause-takes g c =
-    let below = rw c.processes.ensures at c.if-p-processes.false in
-    let there = current_some (world_of c.args.self.now) c.args.p c.in-Some.call c.in-Some.ensures in
+    let can : CanGo (world_of c.args.self.now) c.args.p = (rw c.processes.ensures at c.if-p-processes.false, current_some (world_of c.args.self.now) c.args.p c.in-Some.call c.in-Some.ensures) in
     TakesCommand-refused _ c.args.self.now c.step.new.self _ _ _ c.in-Err.ensures.unchanged
-    ((below, there), memory_needed (world_of c.args.self.now) c.args.p c.in-Err.field-0 below there c.in-Err.ensures.others c.in-Err.ensures.process.0 c.in-Err.ensures.idle.0 c.in-Err.ensures.memory)
+    (can, memory_needed (world_of c.args.self.now) c.args.p c.in-Err.field-0 can c.in-Err.ensures.refused)

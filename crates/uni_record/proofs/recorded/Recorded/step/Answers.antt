@@ -3,7 +3,7 @@ use Rattle.std.proofs.lemmas.List.{append-nil}
 use Rattle.uni_model.specs.Worlds.{world_after}
 use Rattle.uni_model.specs.Worlds.Event.{Step}
 use Rattle.uni_core.specs.World.{world_of, IsProgress}
-use Rattle.uni_core.specs.Run.{CanGo}
+use Rattle.uni_core.specs.Refusals.{CanGo}
 use Rattle.uni_record.specs.Recorded.{standing_of, IsStepRefused}
 use Rattle.uni_record.specs.declared.fault.RecordStepFault.TheVariants.{Memory}
 use Rattle.uni_core.specs.declared.fault.Progress.TheVariants.{Going, Done}
@@ -117,10 +117,9 @@ returns-in-Ok-Done-clause-progress g c = subst (λ r. IsProgress (world_of r.wor
 
 pub returns-in-Err-clause-refused : goal.returns-in-Err-clause-refused
 returns-in-Err-clause-refused g c =
-    let below = rw c.processes.ensures at c.if-p-processes.false in
-    let some = current_some (world_of c.self.inside.world) c.args.p c.in-Some.call c.in-Some.ensures in
+    let can : CanGo (world_of c.self.inside.world) c.args.p = (rw c.processes.ensures at c.if-p-processes.false, current_some (world_of c.self.inside.world) c.args.p c.in-Some.call c.in-Some.ensures) in
     subst (λ r. IsStepRefused (standing_of r) c.args.p Memory) c.self.view_is
-    ((below, some), memory_needed (world_of c.self.inside.world) c.args.p c.in-Err.field-0 below some c.in-Err.ensures.others c.in-Err.ensures.process.0 c.in-Err.ensures.idle.0 c.in-Err.ensures.memory)
+    (can, memory_needed (world_of c.self.inside.world) c.args.p c.in-Err.field-0 can c.in-Err.ensures.refused)
 
 pub returns-in-Ok-Going-clause-could : goal.returns-in-Ok-Going-clause-could
 returns-in-Ok-Going-clause-could g c = subst (λ r. CanGo (world_of r.world) c.args.p) c.self.view_is
