@@ -6,6 +6,7 @@ ghost use Rattle.uni_script.specs.Grammar.{is_note};
 ghost use Rattle.goal_run.specs.Goals.{comes_before, is_less, is_second, lines_in, names_call, place_from, said_in};
 
 use std::alloc::{AllocError, Global};
+use uni_script::{is_note, words_of};
 
 /// The lines of a text, cut at each byte 10.
 ///
@@ -14,25 +15,6 @@ pub(crate) fn lines_in(alloc: Global, text: &[u8]) -> Result<Vec<&[u8]>, AllocEr
     ensures { IfOk result (λ lines. bytes_of lines.items ≡ lines_in text.now) }
 {
     text.split(|byte| *byte == b'\n').collect(alloc)
-}
-
-/// The words of a line, cut at each space.
-///
-/// An `Err` says that memory was refused.
-pub(crate) fn words_of(alloc: Global, line: &[u8]) -> Result<Vec<&[u8]>, AllocError>
-    ensures { IfOk result (λ words. bytes_of words.items ≡ words_of_text line.now) }
-{
-    line.split(|byte| *byte == b' ').collect(alloc)
-}
-
-/// Tells whether a line is a note: it is empty or begins with `#`.
-pub(crate) fn is_note(line: &[u8]) -> bool
-    ensures { result ≡ is_note line.now }
-{
-    match line {
-        [] => true,
-        [first, ..] => *first == b'#',
-    }
 }
 
 /// How many of some lines are no notes.

@@ -5,7 +5,7 @@ ghost use Rattle.std.specs.Str.{bytes_eq};
 ghost use Rattle.ready_objects.specs.Words.{bytes_of};
 ghost use Rattle.goal_run.specs.Goals.{asks_at_most, asks_no_refusals, asks_order, first_missing, is_at_most, is_met, is_met_by, is_note_or_met};
 
-use crate::lines::{comes_before, is_note, said_in, words_of};
+use crate::lines::{comes_before, said_in};
 use crate::pattern::has_like;
 use ready_objects::Amount;
 use std::alloc::{AllocError, Global};

@@ -1,7 +1,7 @@
 //! Refusals of a record.
 
-use uni_core::OpenFault;
 use thiserror::Error;
+use uni_core::OpenFault;
 
 /// Why nothing was opened. Where several hold, the first of these is told.
 #[derive(Clone, Copy, Debug, PartialEq, Eq, Error)]

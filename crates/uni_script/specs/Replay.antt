@@ -1,6 +1,5 @@
 -- What the replay of a script does.
-use Rattle.std.specs.Prelude.{◌≡◌, ◌≤◌, ℕ, List, Option, None, Some, IfSome}
-use Rattle.std.proofs.Common.{arith}
+use Rattle.std.specs.Prelude.{◌≡◌, ℕ, List, Option, None, Some, IfSome}
 use Rattle.std.specs.Io.KnownBytes.{Appends, Consumes}
 use Rattle.uni_script.specs.declared.fault.BenchFault.{BenchFault}
 use Rattle.uni_script.specs.declared.fault.BenchFault.TheVariants.{NoHeader, BadHeader, TooLong, BadByte, BadLine, TooMany, Read, Write, Memory, Audit}
@@ -10,22 +9,6 @@ use Rattle.uni_script.specs.declared.summary.Summary.{Summary}
 use Rattle.uni_script.specs.Promises.{IsPromisedSession}
 use Rattle.uni_script.specs.Meaning.{ScriptSession, outcome_of_lines, outcome_of_script}
 use Rattle.uni_script.specs.Summary.{summary_of_script}
-
--- how many events a history can have
-abbrev pub IsHistory : (limit : ℕ) → Type 0
-IsHistory limit = (1 ≤ limit) × (limit ≤ 16777216)
-
-one_event_is_a_history : IsHistory 1
-one_event_is_a_history = (omega arith, omega arith)
-
-events_up_to_16777216_are_a_history : IsHistory 16777216
-events_up_to_16777216_are_a_history = (omega arith, omega arith)
-
-no_event_is_none : ¬ (IsHistory 0)
-no_event_is_none = λ history. let least = history.0 in omega arith
-
-events_up_to_16777217_are_none : ¬ (IsHistory 16777217)
-events_up_to_16777217_are_none = λ history. let most = history.1 in omega arith
 
 -- where a reader's bytes are known, they are these
 abbrev pub IsInput : Option (List ℕ) → List ℕ → Type 0

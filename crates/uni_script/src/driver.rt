@@ -8,7 +8,7 @@ ghost use Rattle.uni_script.specs.Objects.{spoken};
 ghost use Rattle.uni_script.specs.ScriptRun.{IsRan, IsRanAs};
 ghost use Rattle.uni_script.specs.Meaning.{session_of, opened_session, session_of_header, outcome_of_text, outcome_of_fault, outcome_of_short_line, outcome_of_end};
 ghost use Rattle.uni_script.specs.Promises.{IsPromisedSession};
-ghost use Rattle.uni_script.specs.Replay.{IsHistory};
+ghost use Rattle.uni_record.specs.Recorded.{IsHistory};
 ghost use Rattle.uni_script.specs.Summary.{summary_of};
 ghost use Rattle.uni_script.specs.Told.{Telling, Tells, told_of_line};
 

@@ -2,7 +2,8 @@
 
 ghost use Rattle.std.specs.Prelude.{◌≡◌, ◌↔◌, true, false, None, Some, IfOk, IfErr, OnOk, IsErrOf};
 ghost use Rattle.std.specs.Io.KnownBytes.{IsAtEnd};
-ghost use Rattle.uni_script.specs.Replay.{IsHistory, IsReplay, IsSummary, IsPromisedScript, HasAnswered, IsPartOfReplay, IsFaultOfScript};
+ghost use Rattle.uni_record.specs.Recorded.{IsHistory};
+ghost use Rattle.uni_script.specs.Replay.{IsReplay, IsSummary, IsPromisedScript, HasAnswered, IsPartOfReplay, IsFaultOfScript};
 
 use crate::driver::run_script;
 use crate::ends::{TextIn, TextOut};

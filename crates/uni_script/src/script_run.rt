@@ -2,7 +2,8 @@
 
 ghost use Rattle.std.specs.Prelude.{◌≡◌, false, true, IfOk, IfErr, OnOk, IsErrOf};
 ghost use Rattle.std.specs.Io.KnownBytes.{IsAtEnd};
-ghost use Rattle.uni_script.specs.Replay.{IsHistory, IsFaultOfScript};
+ghost use Rattle.uni_record.specs.Recorded.{IsHistory};
+ghost use Rattle.uni_script.specs.Replay.{IsFaultOfScript};
 ghost use Rattle.uni_script.specs.ScriptRun.{HasFault, IsScriptRun};
 
 use crate::driver::run_script;

@@ -13,8 +13,8 @@ use seq_object::{CallId, SeqObject};
 use std::alloc::Global;
 use std::marker::Model;
 use std::sync::Mutex;
-use uni_record::Recorded;
 use thiserror::Error;
+use uni_record::Recorded;
 
 /// Why nothing was closed. Where several hold, the first of these is told.
 #[derive(Clone, Copy, Debug, PartialEq, Eq, Error)]

@@ -11,9 +11,9 @@ ghost use Rattle.uni_shared.specs.Held.{Tells};
 
 use seq_object::{CallId, SeqObject};
 use std::alloc::Global;
+use thiserror::Error;
 use uni_core::{Place, Progress};
 use uni_record::{RecordBeginFault, RecordTrimFault, Recorded};
-use thiserror::Error;
 
 /// What a hold of the lock leaves of a call.
 #[derive(Clone, Copy, Debug)]

@@ -4,7 +4,7 @@ use Rattle.std.specs.Str.{bytes_eq}
 use Rattle.std.specs.Str.Parse.{without_leading_plus}
 use Rattle.clap.specs.Words.{Row, Text, first_of}
 use Rattle.uni_script.specs.Grammar.{object_of_word}
-use Rattle.uni_script.specs.Replay.{IsHistory}
+use Rattle.uni_record.specs.Recorded.{IsHistory}
 use Rattle.uni_script.specs.Schedules.{IsPlan}
 use Rattle.uni_script.specs.declared.replay.Options.{Options}
 use Rattle.uni_script.specs.declared.grammar.ObjectName.{ObjectName}

@@ -3,7 +3,8 @@
 ghost use Rattle.std.specs.Prelude.{◌≡◌, ◌≢◌, ◌≤◌, ◌⊎◌, ◌↔◌, true, false, None, Some, IsErrOf, OnOk, OnErr, map};
 ghost use Rattle.std.specs.Io.KnownBytes.{Appends};
 ghost use Rattle.uni_script.specs.Ends.{AppendsFront};
-ghost use Rattle.uni_script.specs.Replay.{IsHistory, IsReplay, IsBadReplay, IsPartOfReplay, HasAnswered};
+ghost use Rattle.uni_record.specs.Recorded.{IsHistory};
+ghost use Rattle.uni_script.specs.Replay.{IsReplay, IsBadReplay, IsPartOfReplay, HasAnswered};
 ghost use Rattle.unibench_run.specs.CommandLine.{AsksFor, AsksForReplay, IsRefused};
 ghost use Rattle.uni_script.specs.Schedules.{IsPlan};
 ghost use Rattle.unibench_run.specs.Runs.{IsRandomRun, IsRunOf, IsStatusOfEnds, IsThreadsRun};
