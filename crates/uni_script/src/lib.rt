@@ -23,7 +23,9 @@ mod told;
 pub use answer::Refusal;
 pub use ends::{Checked, Failed, TextIn, TextOut, write_all};
 pub use fault::{BenchFault, push_fault};
-pub use grammar::ObjectName;
+pub use grammar::{
+    Command, Header, ObjectName, Version, command_of, header_of, is_note, is_plain, words_of,
+};
 pub use laws::finish_returns;
 pub use replay::{Options, bench};
 pub use schedules::{Drawn, Plan, schedule};
