@@ -1,15 +1,16 @@
 //! Whether the files of lessons say what comes of them. The arguments name folders; in each of them what the names of
 //! files have before their first dot are the lessons.
 //!
-//! `NAME.script` is a script, and `NAME.answers` what it is answered. It meets the goal `NAME.goal`; of the script
-//! `NAME.beside`, which misses the point, `NAME.missing` is told.
+//! `NAME.script` is a script, and `NAME.answers` what it is answered, also by a plain world of the same steps. Where there
+//! is `NAME.flaw`, that names a flaw, and `NAME.flawed` is written of the script on a world with it. Else the script meets
+//! the goal `NAME.goal`; of the script `NAME.beside`, which misses the point, `NAME.missing` is told.
 #![tactic(auto)]
 
 mod compare;
 mod files;
 
-use crate::compare::{has_answers, has_goal};
-use crate::files::{Goal, Lesson, lesson_of, names_in};
+use crate::compare::{has_answers, has_flawed, has_goal, has_plain};
+use crate::files::{Goal, Lesson, Subject, lesson_of, names_in};
 use std::alloc::Global;
 use std::env::Env;
 use std::{env, io};
@@ -26,14 +27,26 @@ fn goal_agrees(alloc: Global, script: &[u8], goal: &Goal) -> Result<bool, BenchF
     )
 }
 
+/// Whether a script is about this.
+///
+/// An `Err` is the fault of a script, or `Memory`.
+fn subject_agrees(alloc: Global, script: &[u8], subject: &Subject) -> Result<bool, BenchFault> {
+    match subject {
+        Subject::Goal(goal) => goal_agrees(alloc, script, goal),
+        Subject::Flaw(flawed) => has_flawed(alloc, flawed.flaw, script, flawed.text.as_slice()),
+    }
+}
+
 /// Whether all that is written of a lesson comes.
 ///
 /// An `Err` is the fault of a script, or `Memory`.
 fn agrees(alloc: Global, lesson: &Lesson) -> Result<bool, BenchFault> {
     let script = lesson.script.as_slice();
+    let answers = lesson.answers.as_slice();
     Ok(
-        has_answers(alloc, script, lesson.answers.as_slice())?
-            && goal_agrees(alloc, script, &lesson.goal)?,
+        has_answers(alloc, script, answers)?
+            && has_plain(alloc, script, answers)?
+            && subject_agrees(alloc, script, &lesson.subject)?,
     )
 }
 

@@ -1,6 +1,8 @@
-//! Tests of scripts and of schedules.
+//! Tests of scripts, of schedules, and of scripts on worlds with a flaw.
 #![tactic(auto)]
 
+#[cfg(test)]
+mod flaws;
 #[cfg(test)]
 mod schedules;
 #[cfg(test)]
