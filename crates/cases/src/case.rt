@@ -1,10 +1,11 @@
 //! The files of a case.
 
 use crate::compare::Wanted;
+use case_files::file_if_any;
 use std::alloc::{AllocError, Global};
 use std::fs::Files;
+use std::io;
 use std::io::ErrorKind;
-use std::{fs, io};
 
 /// Command lines and scripts, and what is to come of each of the first with each of the second.
 #[derive(Drop)]
@@ -17,23 +18,6 @@ pub struct Case {
     pub wanted: Wanted,
 }
 
-/// The names of the cases of a folder, in the order of their bytes.
-pub fn names_in<R: Files + Alloc<A = Global> + Clone + Drop>(
-    rt: &R,
-    folder: &str,
-) -> io::Result<Vec<String>> {
-    let mut names = Vec::new(rt.alloc());
-    for entry in fs::read_dir(rt, folder)? {
-        let entry = entry?;
-        if let Some((name, _)) = entry.file_name().split_once('.') {
-            names.push(String::from_str(rt.alloc(), name)?)?;
-        }
-    }
-    names.sort()?;
-    names.dedup();
-    Ok(names)
-}
-
 /// The words of a command line: none of an empty line, and else what stands between its spaces.
 pub fn words_of(alloc: Global, line: &str) -> Result<Vec<&str>, AllocError> {
     if line.is_empty() {
@@ -42,22 +26,9 @@ pub fn words_of(alloc: Global, line: &str) -> Result<Vec<&str>, AllocError> {
     line.split(' ').collect(alloc)
 }
 
-/// The bytes of the file of this kind of a case, if it has one.
-fn file<R: Files + Alloc<A = Global>>(
-    rt: &R,
-    case: &str,
-    kind: &str,
-) -> io::Result<Option<Vec<u8>>> {
-    match fs::read(rt, format!(in rt.alloc(); "{case}.{kind}")?.as_str()) {
-        Ok(bytes) => Ok(Some(bytes)),
-        Err(error) if error.kind() == ErrorKind::NotFound => Ok(None),
-        Err(error) => Err(error),
-    }
-}
-
 /// The bytes of the file of this kind of a case, or none.
 fn bytes<R: Files + Alloc<A = Global>>(rt: &R, case: &str, kind: &str) -> io::Result<Vec<u8>> {
-    Ok(file(rt, case, kind)?.unwrap_or(Vec::new(rt.alloc())))
+    Ok(file_if_any(rt, case, kind)?.unwrap_or(Vec::new(rt.alloc())))
 }
 
 /// A script with one line more, with its end and without.
@@ -73,7 +44,7 @@ fn with_line(alloc: Global, script: &[u8], line: &[u8]) -> io::Result<[Vec<u8>; 
 fn scripts_of<R: Files + Alloc<A = Global>>(rt: &R, case: &str) -> io::Result<Vec<Vec<u8>>> {
     let script = bytes(rt, case, "script")?;
     let mut scripts = Vec::new(rt.alloc());
-    match file(rt, case, "lines")? {
+    match file_if_any(rt, case, "lines")? {
         None => scripts.push(script)?,
         Some(lines) => {
             for line in lines.split_inclusive(|byte| *byte == b'\n') {
@@ -99,7 +70,7 @@ fn status_in(bytes: &[u8]) -> io::Result<u8> {
 fn wanted_of<R: Files + Alloc<A = Global>>(rt: &R, case: &str) -> io::Result<Wanted> {
     let answers = bytes(rt, case, "answers")?;
     let fault = bytes(rt, case, "fault")?;
-    let status = match file(rt, case, "status")? {
+    let status = match file_if_any(rt, case, "status")? {
         Some(status) => status_in(&status)?,
         None if fault.is_empty() => 0,
         None => 2,
@@ -113,7 +84,7 @@ fn wanted_of<R: Files + Alloc<A = Global>>(rt: &R, case: &str) -> io::Result<Wan
 
 /// The case of this name.
 pub fn case_of<R: Files + Alloc<A = Global>>(rt: &R, case: &str) -> io::Result<Case> {
-    let commands = match file(rt, case, "words")? {
+    let commands = match file_if_any(rt, case, "words")? {
         Some(words) => String::from_utf8(words).map_err(|_| io::Error::from(
             ErrorKind::InvalidData,
         ))?,
@@ -131,7 +102,7 @@ pub fn picture_case_of<R: Files + Alloc<A = Global>>(
     rt: &R,
     case: &str,
 ) -> io::Result<Option<Case>> {
-    match file(rt, case, "svg")? {
+    match file_if_any(rt, case, "svg")? {
         None => Ok(None),
         Some(answers) => Ok(Some(Case {
             commands: String::from_str(rt.alloc(), "unidraw")?,

@@ -15,9 +15,10 @@ mod case;
 mod compare;
 mod pieces;
 
-use crate::case::{Case, case_of, names_in, picture_case_of, words_of};
+use crate::case::{Case, case_of, picture_case_of, words_of};
 use crate::compare::{Wanted, is_drawn, is_run};
 use crate::pieces::Pieces;
+use case_files::names_in;
 use std::alloc::Global;
 use std::env::Env;
 use std::sync::Wait;

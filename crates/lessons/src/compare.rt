@@ -53,9 +53,7 @@ pub fn has_flawed(
 /// An `Err` is the first fault of the script, or `Memory`.
 pub fn has_plain(alloc: Global, script: &[u8], answers: &[u8]) -> Result<bool, BenchFault> {
     let mut wanted = Vec::new(alloc);
-    wanted.extend_from_slice(
-        b"not the proved construction: a plain world that has no flaw\n",
-    )?;
+    wanted.extend_from_slice(b"not the proved construction: a plain world that has no flaw\n")?;
     wanted.extend_from_slice(answers)?;
     has_flawed(alloc, Flaw::Nothing, script, wanted.as_slice())
 }

@@ -1,10 +1,11 @@
 //! The files of a lesson.
 
+use case_files::{file, file_if_any};
 use flawed_run::Flaw;
 use std::alloc::Global;
 use std::fs::Files;
+use std::io;
 use std::io::ErrorKind;
-use std::{fs, io};
 
 /// A goal, and a script that misses the point.
 #[derive(Drop)]
@@ -44,41 +45,6 @@ pub struct Lesson {
     pub answers: Vec<u8>,
     /// What it is about.
     pub subject: Subject,
-}
-
-/// The names of the lessons of a folder, in the order of their bytes.
-pub fn names_in<R: Files + Alloc<A = Global> + Clone + Drop>(
-    rt: &R,
-    folder: &str,
-) -> io::Result<Vec<String>> {
-    let mut names = Vec::new(rt.alloc());
-    for entry in fs::read_dir(rt, folder)? {
-        let entry = entry?;
-        if let Some((name, _)) = entry.file_name().split_once('.') {
-            names.push(String::from_str(rt.alloc(), name)?)?;
-        }
-    }
-    names.sort()?;
-    names.dedup();
-    Ok(names)
-}
-
-/// The bytes of the file of this kind of a lesson.
-fn file<R: Files + Alloc<A = Global>>(rt: &R, lesson: &str, kind: &str) -> io::Result<Vec<u8>> {
-    fs::read(rt, format!(in rt.alloc(); "{lesson}.{kind}")?.as_str())
-}
-
-/// The bytes of the file of this kind of a lesson, if it has one.
-fn file_if_any<R: Files + Alloc<A = Global>>(
-    rt: &R,
-    lesson: &str,
-    kind: &str,
-) -> io::Result<Option<Vec<u8>>> {
-    match file(rt, lesson, kind) {
-        Ok(bytes) => Ok(Some(bytes)),
-        Err(error) if error.kind() == ErrorKind::NotFound => Ok(None),
-        Err(error) => Err(error),
-    }
 }
 
 /// The flaw that a file names.

@@ -10,7 +10,8 @@ mod compare;
 mod files;
 
 use crate::compare::{has_answers, has_flawed, has_goal, has_plain};
-use crate::files::{Goal, Lesson, Subject, lesson_of, names_in};
+use crate::files::{Goal, Lesson, Subject, lesson_of};
+use case_files::names_in;
 use std::alloc::Global;
 use std::env::Env;
 use std::{env, io};
