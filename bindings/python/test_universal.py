@@ -1,9 +1,8 @@
 """Each call on its happy path and each refusal: python3 -m unittest"""
 
-import threading
 import unittest
 
-from universal import Entry, Fault, Log, Refused
+from universal import Entry, Fault, Log, Refused, in_threads
 
 SWITCH = ([[0, 1], [1, 0]], [[0, 0], [1, 1]])
 
@@ -82,20 +81,40 @@ class Calls(unittest.TestCase):
         def work(seat):
             told[seat.process] = [seat.apply(i).reply for i in range(200)]
 
-        threads = [threading.Thread(target=work, args=[seat]) for seat in seats]
-        for thread in threads:
-            thread.start()
-        for thread in threads:
-            thread.join()
-        for seat in seats[1:]:
-            seat.drop()
+        calls = in_threads(seats, work)
+        for seat in seats:
+            self.refuses(Fault.WRONG_HANDLE, lambda: seat.apply(1))
         total = 0
-        calls = seats[0].close()
         for place, call in enumerate(calls):
             self.assertEqual((call.seq, call.reply), (place + 2, total))
             self.assertEqual(call.reply, told[call.process][call.nth])
             total += call.inv
         self.assertEqual((len(calls), total), (800, 4 * 199 * 200 // 2))
+
+    def test_threads_that_raise(self):
+        with Log.tally(3, 2) as log:
+            seats = log.seats()
+
+        def work(seat):
+            seat.apply(1)
+            if seat.process < 2:
+                raise KeyError(seat.process)
+
+        with self.assertRaises(KeyError) as raised:
+            in_threads(seats, work)
+        # the seats are those of processes 2, 1 and 0
+        self.assertEqual(raised.exception.args, (1,))
+        # all three were joined, and none was dropped
+        self.assertEqual(seats[2].apply(5).reply, 3)
+        self.refuses(Fault.BUSY, seats[0].close)
+        self.assertRaises(ValueError, lambda: in_threads([], work))
+
+    def test_threads_beside_a_log(self):
+        log = Log.tally(2, 1)
+        seats = log.seats()
+        self.refuses(Fault.BUSY, lambda: in_threads(seats, lambda seat: seat.apply(4)))
+        log.drop()
+        self.assertEqual(sorted(call.reply for call in seats[0].close()), [0, 4])
 
 
 if __name__ == "__main__":

@@ -6,10 +6,7 @@ The last seat closes the log and gets all calls in their one order.
 
     with Log.tally(4, 1000) as log:
         seats = log.seats()
-    seats[0].apply(5)                 # Reply(reply=0, turns=..)
-    for seat in seats[1:]:
-        seat.drop()
-    seats[0].close()                  # [Entry(seq=2, process=3, nth=0, inv=5, reply=0)]
+    in_threads(seats, lambda seat: seat.apply(5))   # [Entry(seq=2, process=.., nth=0, inv=5, reply=0), ..]
 
 The functions behind this module are proved; this module is not. A seat is in one call at a time: the module takes a
 lock of the seat for each call, so that two threads that use one seat by mistake wait for each other. It finds the
@@ -21,13 +18,13 @@ from __future__ import annotations
 import ctypes
 import os
 import threading
-from collections.abc import Sequence
+from collections.abc import Callable, Sequence
 from ctypes import POINTER, byref, c_size_t, c_uint32, c_uint64, c_void_p
 from enum import IntEnum
 from pathlib import Path
 from typing import NamedTuple
 
-__all__ = ["Entry", "Fault", "Log", "Refused", "Reply", "Seat"]
+__all__ = ["Entry", "Fault", "Log", "Refused", "Reply", "Seat", "in_threads"]
 
 
 class Fault(IntEnum):
@@ -258,3 +255,36 @@ class Seat(_Held):
         self._call("universal_read", byref(self._handle), entries, count.value, byref(count))
         self.drop()
         return [Entry(e.seq, e.process, e.nth, e.inv, e.reply if e.is_replied else None) for e in entries[: count.value]]
+
+
+def in_threads(seats: Sequence[Seat], work: Callable[[Seat], object]) -> list[Entry]:
+    """Runs `work(seat)` for each seat in a thread of its own, joins them all, and closes the log: all calls, in their order.
+
+    The seats are those that a log has given out, with the log dropped before. All but the first are dropped, and the
+    first closes. Raises what `work` raised, that of the first seat where several did: all threads are joined then, the
+    log is not closed, and the seats stay. Raises `ValueError`: there is no seat. Else raises as `Seat.close`.
+    """
+    if not seats:
+        raise ValueError("there is no seat")
+    raised: dict[int, BaseException] = {}
+
+    def run(place: int) -> None:
+        try:
+            work(seats[place])
+        except BaseException as fault:
+            raised[place] = fault
+
+    threads = []
+    try:
+        for place in range(len(seats)):
+            thread = threading.Thread(target=run, args=[place])
+            thread.start()
+            threads.append(thread)
+    finally:
+        for thread in threads:
+            thread.join()
+    if raised:
+        raise raised[min(raised)]
+    for seat in seats[1:]:
+        seat.drop()
+    return seats[0].close()
