@@ -2,7 +2,7 @@
 
 import unittest
 
-from universal import Entry, Fault, Log, Refused, in_threads
+from universal import Differs, Entry, Fault, Log, Refused, in_threads
 
 SWITCH = ([[0, 1], [1, 0]], [[0, 0], [1, 1]])
 
@@ -64,6 +64,34 @@ class Calls(unittest.TestCase):
         self.assertEqual(first.apply(1).reply, 3)
         second.drop()
         self.assertEqual(len(first.close()), 2)
+
+    def test_told(self):
+        def seats():
+            with Log.tally(2, 2) as log:
+                first, second = log.seats()
+            replies = [first.apply(3), first.apply(1), second.apply(7)]
+            self.assertEqual([reply.reply for reply in replies], [0, 3, 4])
+            second.drop()
+            return first
+
+        told = {1: [(3, 0), (1, 3)], 0: [(7, 4)]}
+        self.assertEqual([entry.inv for entry in seats().close(told)], [3, 1, 7])
+        self.assertEqual(len(seats().close({0: [(7, 4)], 2: []})), 3)
+        for other, process, nth in [
+            ({0: [(7, 5)]}, 0, 0),
+            ({1: [(3, 0)]}, 1, 1),
+            ({1: [(3, 0), (1, 3), (1, 4)]}, 1, 2),
+            ({0: []}, 0, 0),
+            ({2: [(7, 4)]}, 2, 0),
+        ]:
+            seat = seats()
+            with self.assertRaises(Differs) as raised:
+                seat.close(other)
+            self.assertEqual((raised.exception.process, raised.exception.nth), (process, nth))
+            self.refuses(Fault.WRONG_HANDLE, seat.close)
+        seat = seats()
+        self.assertRaises(ValueError, lambda: seat.close({0: [(1 << 64, 0)]}))
+        self.assertEqual(len(seat.close()), 3)
 
     def test_wrong_handle(self):
         with Log.tally(1, 1) as log:

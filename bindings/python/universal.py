@@ -18,13 +18,13 @@ from __future__ import annotations
 import ctypes
 import os
 import threading
-from collections.abc import Callable, Sequence
+from collections.abc import Callable, Mapping, Sequence
 from ctypes import POINTER, byref, c_size_t, c_uint32, c_uint64, c_void_p
 from enum import IntEnum
 from pathlib import Path
 from typing import NamedTuple
 
-__all__ = ["Entry", "Fault", "Log", "Refused", "Reply", "Seat", "in_threads"]
+__all__ = ["Differs", "Entry", "Fault", "Log", "Refused", "Reply", "Seat", "in_threads"]
 
 
 class Fault(IntEnum):
@@ -38,6 +38,7 @@ class Fault(IntEnum):
     BUSY = 6
     WRONG_HANDLE = 7
     BAD_TABLE = 8
+    DIFFERS = 9
 
 
 class Refused(Exception):
@@ -46,6 +47,14 @@ class Refused(Exception):
     def __init__(self, fault: Fault) -> None:
         super().__init__(fault.name.lower().replace("_", " "))
         self.fault = fault
+
+
+class Differs(Refused):
+    """A closed log hasn't what a process was told: `nth` is the number, from 0, of its first call in which they differ."""
+
+    def __init__(self, process: int, nth: int) -> None:
+        super().__init__(Fault.DIFFERS)
+        self.process, self.nth = process, nth
 
 
 class Reply(NamedTuple):
@@ -71,6 +80,10 @@ class _Handle(ctypes.Structure):
 
 class _Reply(ctypes.Structure):
     _fields_ = [("reply", c_uint32), ("turns", c_uint32)]
+
+
+class _Call(ctypes.Structure):
+    _fields_ = [("inv", c_uint64), ("answer", _Reply)]
 
 
 class _Entry(ctypes.Structure):
@@ -103,6 +116,7 @@ _SIGNATURES = {
     "universal_apply": [POINTER(_Handle), c_uint64, POINTER(_Reply)],
     "universal_close": [POINTER(_Handle)],
     "universal_read": [POINTER(_Handle), POINTER(_Entry), c_size_t, POINTER(c_size_t)],
+    "universal_compare": [POINTER(_Handle), c_uint64, POINTER(_Call), c_size_t, POINTER(c_uint64)],
     "universal_drop": [POINTER(_Handle)],
 }
 
@@ -243,17 +257,39 @@ class Seat(_Held):
         self._call("universal_apply", byref(self._handle), _number(inv, 64), byref(answer))
         return Reply(answer.reply, answer.turns)
 
-    def close(self) -> list[Entry]:
+    def close(self, told: Mapping[int, Sequence[tuple[int, int]]] | None = None) -> list[Entry]:
         """Closes the log, by the last that has it: all calls, in their order.
 
-        Raises `Refused`: another has the log, and the seat stays; or memory was refused, and the log is lost.
+        `told` has for processes the calls that they made, each with its reply, with which the log is compared. That it
+        has those of the process whose seat closes it is proved.
+
+        Raises `Refused`: another has the log, and the seat stays; or memory was refused, and the log is lost. Raises
+        `Differs`, for the first of these processes of which the log has other calls: the log is let go.
         """
+        lists = {process: [(_number(inv, 64), _number(reply, 32)) for inv, reply in calls] for process, calls in (told or {}).items()}
         self._call("universal_close", byref(self._handle))
+        try:
+            for process, calls in lists.items():
+                self._compare(process, calls)
+            return self._entries()
+        finally:
+            self.drop()
+
+    def _compare(self, process: int, calls: list[tuple[int, int]]) -> None:
+        made = (_Call * max(1, len(calls)))(*[_Call(inv, _Reply(reply, 0)) for inv, reply in calls])
+        nth = c_uint64()
+        try:
+            self._call("universal_compare", byref(self._handle), _number(process, 64), made, len(calls), byref(nth))
+        except Refused as refused:
+            if refused.fault is Fault.DIFFERS:
+                raise Differs(process, nth.value) from None
+            raise
+
+    def _entries(self) -> list[Entry]:
         count = c_size_t()
         self._call("universal_read", byref(self._handle), (_Entry * 1)(), 0, byref(count))
         entries = (_Entry * max(1, count.value))()
         self._call("universal_read", byref(self._handle), entries, count.value, byref(count))
-        self.drop()
         return [Entry(e.seq, e.process, e.nth, e.inv, e.reply if e.is_replied else None) for e in entries[: count.value]]
 
 
