@@ -44,7 +44,8 @@ fn compare_in(held: &Held, process: u64, calls: &[Call], nth: &mut u64) -> u32
     ensures wrong { (result ≡ 7) ↔ (entries_in (Some held.now) ≡ None) }
     ensures status { (result ≡ 0) ⊎ (result ≡ 7) ⊎ (result ≡ 9) }
     ensures same { result ≡ 0 → IsSomeAnd (entries_in (Some held.now)) (λ log. AreCallsIn log process calls.now) }
-    ensures differs { result ≡ 9 → IsSomeAnd (entries_in (Some held.now)) (λ log. DifferFirstAt log process calls.now nth.new) }
+    ensures differs { result ≡ 9 →
+        IsSomeAnd (entries_in (Some held.now)) (λ log. DifferFirstAt log process calls.now nth.new) }
     ensures unchanged { result ≢ 9 → nth.new ≡ nth.old }
 {
     let Held::Entries(log) = held else {

@@ -17,7 +17,8 @@ fn replay(alloc: Global, script: &[u8], history: u64, out: &mut [u8], written: &
     ensures status { result ≤ 3 }
     ensures good { result ≡ 0 → fault_of_script history script.now ≡ None }
     ensures bad { result ≡ 1 → IsSome (fault_of_script history script.now) }
-    ensures written { (result ≡ 0) ⊎ (result ≡ 1) → IsWritten (answer_to history script.now) out.old out.new written.new }
+    ensures written { (result ≡ 0) ⊎ (result ≡ 1) →
+        IsWritten (answer_to history script.now) out.old out.new written.new }
     ensures small { result ≡ 2 → IsTooLong (answer_to history script.now) out.old out.new written.new }
     ensures unchanged { result ≡ 3 → (out.new ≡ out.old) × (written.new ≡ written.old) }
 {
