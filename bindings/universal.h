@@ -47,7 +47,8 @@ typedef enum universal_status {
     UNIVERSAL_NO_SEAT = 5,      /* all n seats are given out */
     UNIVERSAL_BUSY = 6,         /* another handle still has the log */
     UNIVERSAL_WRONG_HANDLE = 7, /* the handle hasn't what the call is for */
-    UNIVERSAL_BAD_TABLE = 8     /* the tables aren't those of a machine */
+    UNIVERSAL_BAD_TABLE = 8,    /* the tables aren't those of a machine */
+    UNIVERSAL_DIFFERS = 9       /* the closed log has other calls of the process */
 } universal_status;
 
 /* A reply. */
@@ -55,6 +56,12 @@ typedef struct universal_reply {
     uint32_t reply; /* what the object answered */
     uint32_t turns; /* how many turns of the construction's loop the call took */
 } universal_reply;
+
+/* A call as a caller made it, with what it was answered. */
+typedef struct universal_call {
+    uint64_t inv;
+    universal_reply answer; /* its turns aren't looked at */
+} universal_call;
 
 /* A call that took effect. */
 typedef struct universal_entry {
@@ -124,6 +131,15 @@ uint32_t universal_close(universal_handle *seat);
  *
  * UNIVERSAL_WRONG_HANDLE: *log has no entries, and nothing is written. */
 uint32_t universal_read(universal_handle *log, universal_entry *entries, size_t capacity, size_t *count);
+
+/* Compares a closed log with the calls of a process, in their order, each with the reply that it was given. A closed log
+ * is proved to have those of the process whose seat closed it. A caller that keeps what the other seats were told sees
+ * here that it has theirs too. UNIVERSAL_DONE: it has exactly these calls of the process.
+ *
+ * UNIVERSAL_WRONG_HANDLE: *log has no entries. UNIVERSAL_DIFFERS: it has others, and *nth is the number, from 0, of the
+ * first call in which they differ. After each but UNIVERSAL_DIFFERS *nth is as it was. */
+uint32_t universal_compare(universal_handle *log, uint64_t process, const universal_call *calls, size_t count,
+                           uint64_t *nth);
 
 /* Lets go what the handle has, which is nothing afterwards. At UNIVERSAL_NONE it does nothing. */
 void universal_drop(universal_handle *handle);

@@ -167,9 +167,62 @@ static void busy(void) {
     universal_drop(&first);
 }
 
+static uint64_t nth;
+
+/* What a comparison answers, and which call it tells. */
+static void compares(universal_handle *log, uint64_t p, const universal_call *calls, size_t made, uint32_t status, uint64_t at) {
+    nth = NEVER;
+    IS(universal_compare(log, p, calls, made, &nth), status);
+    IS(nth, at);
+}
+
+/* Two seats count, each call kept with its reply; the closed log has exactly these, and no others. */
+static void all_seats(void) {
+    universal_handle log = UNIVERSAL_NONE, first = UNIVERSAL_NONE, second = UNIVERSAL_NONE;
+    universal_call of_first[3] = {{3, {0, 0}}, {1, {0, 0}}, {0, {0, 0}}}, of_second[1] = {{7, {0, 0}}};
+    IS(universal_open_tally(3, 4, &log), UNIVERSAL_DONE);
+    IS(universal_seat(&log, &first, &process), UNIVERSAL_DONE);
+    IS(universal_seat(&log, &second, &process), UNIVERSAL_DONE);
+    universal_drop(&log);
+    IS(universal_apply(&first, of_first[0].inv, &of_first[0].answer), UNIVERSAL_DONE);
+    IS(universal_apply(&second, of_second[0].inv, &of_second[0].answer), UNIVERSAL_DONE);
+    IS(universal_apply(&first, of_first[1].inv, &of_first[1].answer), UNIVERSAL_DONE);
+    IS(of_first[0].answer.reply, 0);
+    IS(of_second[0].answer.reply, 3);
+    IS(of_first[1].answer.reply, 10);
+    compares(&first, 2, of_first, 2, UNIVERSAL_WRONG_HANDLE, NEVER);
+    universal_drop(&second);
+    IS(universal_close(&first), UNIVERSAL_DONE);
+    compares(&first, 2, of_first, 2, UNIVERSAL_DONE, NEVER);
+    compares(&first, 1, of_second, 1, UNIVERSAL_DONE, NEVER);
+    compares(&first, 0, of_first, 0, UNIVERSAL_DONE, NEVER);
+    compares(&first, UINT64_MAX, of_first, 0, UNIVERSAL_DONE, NEVER);
+    /* a call too few, one too many, those of another process, and of one that there isn't */
+    compares(&first, 2, of_first, 1, UNIVERSAL_DIFFERS, 1);
+    compares(&first, 2, of_first, 3, UNIVERSAL_DIFFERS, 2);
+    compares(&first, 2, of_second, 1, UNIVERSAL_DIFFERS, 0);
+    compares(&first, 1, of_first, 2, UNIVERSAL_DIFFERS, 0);
+    compares(&first, 3, of_second, 1, UNIVERSAL_DIFFERS, 0);
+    compares(&first, ((uint64_t)1 << 32) + 2, of_first, 2, UNIVERSAL_DIFFERS, 0);
+    /* another invocation, another reply; other turns are no other call */
+    of_first[0].answer.turns = NEVER;
+    of_first[1].inv = 2;
+    compares(&first, 2, of_first, 2, UNIVERSAL_DIFFERS, 1);
+    of_first[1].inv = 1;
+    compares(&first, 2, of_first, 2, UNIVERSAL_DONE, NEVER);
+    of_first[1].answer.reply++;
+    compares(&first, 2, of_first, 2, UNIVERSAL_DIFFERS, 1);
+    /* the entries are still there */
+    IS(universal_read(&first, entries, 4, &count), UNIVERSAL_DONE);
+    IS(count, 3);
+    universal_drop(&first);
+    compares(&first, 2, of_first, 0, UNIVERSAL_WRONG_HANDLE, NEVER);
+}
+
 /* What is on a handle that has nothing, or has something else, is refused and changes nothing. */
 static void refuses(universal_handle *handle) {
     universal_handle seat = UNIVERSAL_NONE;
+    const universal_call none[1] = {{0, {0, 0}}};
     answer = (universal_reply){NEVER, NEVER};
     process = NEVER;
     count = NEVER;
@@ -177,6 +230,7 @@ static void refuses(universal_handle *handle) {
     IS(universal_apply(handle, 1, &answer), UNIVERSAL_WRONG_HANDLE);
     IS(universal_close(handle), UNIVERSAL_WRONG_HANDLE);
     IS(universal_read(handle, entries, 4, &count), UNIVERSAL_WRONG_HANDLE);
+    compares(handle, 0, none, 0, UNIVERSAL_WRONG_HANDLE, NEVER);
     IS(seat.at != NULL || process != NEVER || answer.reply != NEVER || answer.turns != NEVER || count != NEVER, 0);
 }
 
@@ -240,6 +294,11 @@ static void two_logs(void) {
     IS(universal_read(&second, entries, 4, &count), UNIVERSAL_DONE);
     IS(count, 2);
     IS(entries[0].inv, 7);
+    const universal_call of_first[] = {{5, {0, 1}}, {1, {5, 1}}}, of_second[] = {{7, {0, 1}}, {1, {7, 1}}};
+    compares(&first, 0, of_first, 2, UNIVERSAL_DONE, NEVER);
+    compares(&second, 1, of_second, 2, UNIVERSAL_DONE, NEVER);
+    compares(&first, 0, of_second, 2, UNIVERSAL_DIFFERS, 0);
+    compares(&second, 1, of_first, 2, UNIVERSAL_DIFFERS, 0);
     /* a handle that is opened again drops what it had */
     IS(universal_open_sticky(1, 1, &first), UNIVERSAL_DONE);
     IS(universal_seat(&first, &second, &process), UNIVERSAL_DONE);
@@ -254,6 +313,7 @@ int main(void) {
     seats_end();
     full();
     busy();
+    all_seats();
     misuse();
     two_logs();
     if (wrong == 0)

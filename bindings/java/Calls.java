@@ -1,4 +1,7 @@
 import java.util.List;
+import java.util.Map;
+import universal.Call;
+import universal.Differs;
 import universal.Entry;
 import universal.Fault;
 import universal.Log;
@@ -9,7 +12,7 @@ import universal.Seat;
 public final class Calls {
     private static final int[][] NEXT = {{0, 1}, {1, 0}}, REPLY = {{0, 0}, {1, 1}};
 
-    private interface Call {
+    private interface Action {
         void run() throws Exception;
     }
 
@@ -19,9 +22,9 @@ public final class Calls {
         }
     }
 
-    private static void refuses(Fault fault, Call call) throws Exception {
+    private static void refuses(Fault fault, Action action) throws Exception {
         try {
-            call.run();
+            action.run();
         } catch (Refused refused) {
             is(refused.fault, fault);
             return;
@@ -95,12 +98,45 @@ public final class Calls {
         is(first.finish().size(), 2);
     }
 
+    private static Seat two() throws Exception {
+        Log log = Log.tally(2, 2);
+        Seat first = log.seat(), second = log.seat();
+        log.close();
+        is(first.apply(3), 0);
+        is(first.apply(1), 3);
+        is(second.apply(7), 4);
+        second.close();
+        return first;
+    }
+
+    private static void differs(Map<Long, List<Call>> told, long process, long nth) throws Exception {
+        try {
+            two().finish(told);
+        } catch (Differs differs) {
+            is(differs.fault, Fault.DIFFERS);
+            is(differs.process, process);
+            is(differs.nth, nth);
+            return;
+        }
+        throw new AssertionError("no difference");
+    }
+
+    private static void told() throws Exception {
+        Call first = new Call(3, 0), second = new Call(1, 3), third = new Call(7, 4);
+        is(two().finish(Map.of(1L, List.of(first, second), 0L, List.of(third), 2L, List.of())).size(), 3);
+        differs(Map.of(0L, List.of(new Call(7, 5))), 0, 0);
+        differs(Map.of(1L, List.of(first)), 1, 1);
+        differs(Map.of(1L, List.of(first, second, third)), 1, 2);
+        differs(Map.of(0L, List.of()), 0, 0);
+    }
+
     public static void main(String[] args) throws Exception {
         objects();
         refusals();
         seats();
         full();
         busy();
+        told();
         System.out.println("calls: as the header says");
     }
 }

@@ -1,9 +1,8 @@
 """Each call on its happy path and each refusal: python3 -m unittest"""
 
-import threading
 import unittest
 
-from universal import Entry, Fault, Log, Refused
+from universal import Differs, Entry, Fault, Log, Refused, in_threads
 
 SWITCH = ([[0, 1], [1, 0]], [[0, 0], [1, 1]])
 
@@ -66,6 +65,34 @@ class Calls(unittest.TestCase):
         second.drop()
         self.assertEqual(len(first.close()), 2)
 
+    def test_told(self):
+        def seats():
+            with Log.tally(2, 2) as log:
+                first, second = log.seats()
+            replies = [first.apply(3), first.apply(1), second.apply(7)]
+            self.assertEqual([reply.reply for reply in replies], [0, 3, 4])
+            second.drop()
+            return first
+
+        told = {1: [(3, 0), (1, 3)], 0: [(7, 4)]}
+        self.assertEqual([entry.inv for entry in seats().close(told)], [3, 1, 7])
+        self.assertEqual(len(seats().close({0: [(7, 4)], 2: []})), 3)
+        for other, process, nth in [
+            ({0: [(7, 5)]}, 0, 0),
+            ({1: [(3, 0)]}, 1, 1),
+            ({1: [(3, 0), (1, 3), (1, 4)]}, 1, 2),
+            ({0: []}, 0, 0),
+            ({2: [(7, 4)]}, 2, 0),
+        ]:
+            seat = seats()
+            with self.assertRaises(Differs) as raised:
+                seat.close(other)
+            self.assertEqual((raised.exception.process, raised.exception.nth), (process, nth))
+            self.refuses(Fault.WRONG_HANDLE, seat.close)
+        seat = seats()
+        self.assertRaises(ValueError, lambda: seat.close({0: [(1 << 64, 0)]}))
+        self.assertEqual(len(seat.close()), 3)
+
     def test_wrong_handle(self):
         with Log.tally(1, 1) as log:
             seat = log.seat()
@@ -82,20 +109,40 @@ class Calls(unittest.TestCase):
         def work(seat):
             told[seat.process] = [seat.apply(i).reply for i in range(200)]
 
-        threads = [threading.Thread(target=work, args=[seat]) for seat in seats]
-        for thread in threads:
-            thread.start()
-        for thread in threads:
-            thread.join()
-        for seat in seats[1:]:
-            seat.drop()
+        calls = in_threads(seats, work)
+        for seat in seats:
+            self.refuses(Fault.WRONG_HANDLE, lambda: seat.apply(1))
         total = 0
-        calls = seats[0].close()
         for place, call in enumerate(calls):
             self.assertEqual((call.seq, call.reply), (place + 2, total))
             self.assertEqual(call.reply, told[call.process][call.nth])
             total += call.inv
         self.assertEqual((len(calls), total), (800, 4 * 199 * 200 // 2))
+
+    def test_threads_that_raise(self):
+        with Log.tally(3, 2) as log:
+            seats = log.seats()
+
+        def work(seat):
+            seat.apply(1)
+            if seat.process < 2:
+                raise KeyError(seat.process)
+
+        with self.assertRaises(KeyError) as raised:
+            in_threads(seats, work)
+        # the seats are those of processes 2, 1 and 0
+        self.assertEqual(raised.exception.args, (1,))
+        # all three were joined, and none was dropped
+        self.assertEqual(seats[2].apply(5).reply, 3)
+        self.refuses(Fault.BUSY, seats[0].close)
+        self.assertRaises(ValueError, lambda: in_threads([], work))
+
+    def test_threads_beside_a_log(self):
+        log = Log.tally(2, 1)
+        seats = log.seats()
+        self.refuses(Fault.BUSY, lambda: in_threads(seats, lambda seat: seat.apply(4)))
+        log.drop()
+        self.assertEqual(sorted(call.reply for call in seats[0].close()), [0, 4])
 
 
 if __name__ == "__main__":

@@ -1,8 +1,6 @@
 """Threads that count, that agree on a value, and that run a machine by its tables."""
 
-import threading
-
-from universal import Log
+from universal import Log, in_threads
 
 THREADS, CALLS = 4, 1000
 
@@ -16,14 +14,7 @@ def shared(log, inv_of):
         for i in range(CALLS):
             seat.apply(inv_of(seat.process, i))
 
-    threads = [threading.Thread(target=work, args=[seat]) for seat in seats]
-    for thread in threads:
-        thread.start()
-    for thread in threads:
-        thread.join()
-    for seat in seats[1:]:
-        seat.drop()
-    return seats[0].close()
+    return in_threads(seats, work)
 
 
 calls = shared(Log.tally(THREADS, CALLS), lambda process, i: process + 1)

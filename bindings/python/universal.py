@@ -6,10 +6,7 @@ The last seat closes the log and gets all calls in their one order.
 
     with Log.tally(4, 1000) as log:
         seats = log.seats()
-    seats[0].apply(5)                 # Reply(reply=0, turns=..)
-    for seat in seats[1:]:
-        seat.drop()
-    seats[0].close()                  # [Entry(seq=2, process=3, nth=0, inv=5, reply=0)]
+    in_threads(seats, lambda seat: seat.apply(5))   # [Entry(seq=2, process=.., nth=0, inv=5, reply=0), ..]
 
 The functions behind this module are proved; this module is not. A seat is in one call at a time: the module takes a
 lock of the seat for each call, so that two threads that use one seat by mistake wait for each other. It finds the
@@ -21,13 +18,13 @@ from __future__ import annotations
 import ctypes
 import os
 import threading
-from collections.abc import Sequence
+from collections.abc import Callable, Mapping, Sequence
 from ctypes import POINTER, byref, c_size_t, c_uint32, c_uint64, c_void_p
 from enum import IntEnum
 from pathlib import Path
 from typing import NamedTuple
 
-__all__ = ["Entry", "Fault", "Log", "Refused", "Reply", "Seat"]
+__all__ = ["Differs", "Entry", "Fault", "Log", "Refused", "Reply", "Seat", "in_threads"]
 
 
 class Fault(IntEnum):
@@ -41,6 +38,7 @@ class Fault(IntEnum):
     BUSY = 6
     WRONG_HANDLE = 7
     BAD_TABLE = 8
+    DIFFERS = 9
 
 
 class Refused(Exception):
@@ -49,6 +47,14 @@ class Refused(Exception):
     def __init__(self, fault: Fault) -> None:
         super().__init__(fault.name.lower().replace("_", " "))
         self.fault = fault
+
+
+class Differs(Refused):
+    """A closed log hasn't what a process was told: `nth` is the number, from 0, of its first call in which they differ."""
+
+    def __init__(self, process: int, nth: int) -> None:
+        super().__init__(Fault.DIFFERS)
+        self.process, self.nth = process, nth
 
 
 class Reply(NamedTuple):
@@ -74,6 +80,10 @@ class _Handle(ctypes.Structure):
 
 class _Reply(ctypes.Structure):
     _fields_ = [("reply", c_uint32), ("turns", c_uint32)]
+
+
+class _Call(ctypes.Structure):
+    _fields_ = [("inv", c_uint64), ("answer", _Reply)]
 
 
 class _Entry(ctypes.Structure):
@@ -106,6 +116,7 @@ _SIGNATURES = {
     "universal_apply": [POINTER(_Handle), c_uint64, POINTER(_Reply)],
     "universal_close": [POINTER(_Handle)],
     "universal_read": [POINTER(_Handle), POINTER(_Entry), c_size_t, POINTER(c_size_t)],
+    "universal_compare": [POINTER(_Handle), c_uint64, POINTER(_Call), c_size_t, POINTER(c_uint64)],
     "universal_drop": [POINTER(_Handle)],
 }
 
@@ -246,15 +257,70 @@ class Seat(_Held):
         self._call("universal_apply", byref(self._handle), _number(inv, 64), byref(answer))
         return Reply(answer.reply, answer.turns)
 
-    def close(self) -> list[Entry]:
+    def close(self, told: Mapping[int, Sequence[tuple[int, int]]] | None = None) -> list[Entry]:
         """Closes the log, by the last that has it: all calls, in their order.
 
-        Raises `Refused`: another has the log, and the seat stays; or memory was refused, and the log is lost.
+        `told` has for processes the calls that they made, each with its reply, with which the log is compared. That it
+        has those of the process whose seat closes it is proved.
+
+        Raises `Refused`: another has the log, and the seat stays; or memory was refused, and the log is lost. Raises
+        `Differs`, for the first of these processes of which the log has other calls: the log is let go.
         """
+        lists = {process: [(_number(inv, 64), _number(reply, 32)) for inv, reply in calls] for process, calls in (told or {}).items()}
         self._call("universal_close", byref(self._handle))
+        try:
+            for process, calls in lists.items():
+                self._compare(process, calls)
+            return self._entries()
+        finally:
+            self.drop()
+
+    def _compare(self, process: int, calls: list[tuple[int, int]]) -> None:
+        made = (_Call * max(1, len(calls)))(*[_Call(inv, _Reply(reply, 0)) for inv, reply in calls])
+        nth = c_uint64()
+        try:
+            self._call("universal_compare", byref(self._handle), _number(process, 64), made, len(calls), byref(nth))
+        except Refused as refused:
+            if refused.fault is Fault.DIFFERS:
+                raise Differs(process, nth.value) from None
+            raise
+
+    def _entries(self) -> list[Entry]:
         count = c_size_t()
         self._call("universal_read", byref(self._handle), (_Entry * 1)(), 0, byref(count))
         entries = (_Entry * max(1, count.value))()
         self._call("universal_read", byref(self._handle), entries, count.value, byref(count))
-        self.drop()
         return [Entry(e.seq, e.process, e.nth, e.inv, e.reply if e.is_replied else None) for e in entries[: count.value]]
+
+
+def in_threads(seats: Sequence[Seat], work: Callable[[Seat], object]) -> list[Entry]:
+    """Runs `work(seat)` for each seat in a thread of its own, joins them all, and closes the log: all calls, in their order.
+
+    The seats are those that a log has given out, with the log dropped before. All but the first are dropped, and the
+    first closes. Raises what `work` raised, that of the first seat where several did: all threads are joined then, the
+    log is not closed, and the seats stay. Raises `ValueError`: there is no seat. Else raises as `Seat.close`.
+    """
+    if not seats:
+        raise ValueError("there is no seat")
+    raised: dict[int, BaseException] = {}
+
+    def run(place: int) -> None:
+        try:
+            work(seats[place])
+        except BaseException as fault:
+            raised[place] = fault
+
+    threads = []
+    try:
+        for place in range(len(seats)):
+            thread = threading.Thread(target=run, args=[place])
+            thread.start()
+            threads.append(thread)
+    finally:
+        for thread in threads:
+            thread.join()
+    if raised:
+        raise raised[min(raised)]
+    for seat in seats[1:]:
+        seat.drop()
+    return seats[0].close()

@@ -17,7 +17,9 @@ public enum Fault {
     /** The handle hasn't what the call is for. */
     WRONG_HANDLE,
     /** The tables aren't those of a machine. */
-    BAD_TABLE;
+    BAD_TABLE,
+    /** The closed log has other calls of a process. */
+    DIFFERS;
 
     static Fault of(int status) {
         return values()[status - 1];

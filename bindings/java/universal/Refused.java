@@ -1,7 +1,7 @@
 package universal;
 
 /** A call was refused. */
-public final class Refused extends Exception {
+public class Refused extends Exception {
     private static final long serialVersionUID = 1;
 
     /** Why it was. */

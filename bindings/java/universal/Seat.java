@@ -7,11 +7,12 @@ import java.lang.foreign.Arena;
 import java.lang.foreign.MemorySegment;
 import java.util.ArrayList;
 import java.util.List;
+import java.util.Map;
 import universal.Universal.Handle;
 
 /** A process of a log, which makes its calls: from any thread, one at a time. */
 public final class Seat implements AutoCloseable {
-    private static final long ENTRY = 40;
+    private static final long ENTRY = 40, CALL = 16;
 
     private final Handle handle;
     private final Arena arena = Arena.ofShared();
@@ -35,8 +36,44 @@ public final class Seat implements AutoCloseable {
      * Closes the log, by the last that has it: all calls, in their order. Refused: another has the log, and the seat stays;
      * memory was refused, and the log is lost.
      */
-    public synchronized List<Entry> finish() throws Refused {
+    public List<Entry> finish() throws Refused {
+        return finish(Map.of());
+    }
+
+    /**
+     * The same, and the log is compared with the calls that processes made and the replies that they were given. That it
+     * has those of the process whose seat closes it is proved. {@code Differs}: of one of them the log has other calls,
+     * and it is let go.
+     */
+    public synchronized List<Entry> finish(Map<Long, List<Call>> told) throws Refused {
         Universal.done(() -> (int) Universal.CLOSE.invokeExact(handle.use()));
+        try {
+            for (Map.Entry<Long, List<Call>> its : told.entrySet()) {
+                compare(its.getKey(), its.getValue());
+            }
+            return entries();
+        } finally {
+            close();
+        }
+    }
+
+    private void compare(long process, List<Call> calls) throws Refused {
+        try (Arena room = Arena.ofConfined()) {
+            MemorySegment nth = room.allocate(JAVA_LONG), made = room.allocate(CALL * Math.max(1, calls.size()), 8);
+            for (int i = 0; i < calls.size(); i++) {
+                made.set(JAVA_LONG, CALL * i, calls.get(i).inv());
+                made.set(JAVA_INT, CALL * i + 8, calls.get(i).reply());
+            }
+            try {
+                long count = calls.size();
+                Universal.done(() -> (int) Universal.COMPARE.invokeExact(handle.use(), process, made, count, nth));
+            } catch (Refused refused) {
+                throw refused.fault == Fault.DIFFERS ? new Differs(process, nth.get(JAVA_LONG, 0)) : refused;
+            }
+        }
+    }
+
+    private List<Entry> entries() throws Refused {
         try (Arena room = Arena.ofConfined()) {
             MemorySegment count = room.allocate(JAVA_LONG), none = room.allocate(ENTRY, 8);
             Universal.done(() -> (int) Universal.READ.invokeExact(handle.use(), none, 0L, count));
@@ -47,7 +84,6 @@ public final class Seat implements AutoCloseable {
             for (long i = 0; i < size; i++) {
                 calls.add(entry(entries.asSlice(ENTRY * i, ENTRY)));
             }
-            close();
             return calls;
         }
     }

@@ -27,6 +27,7 @@ final class Universal {
     static final MethodHandle APPLY = status("universal_apply", ADDRESS, JAVA_LONG, ADDRESS);
     static final MethodHandle CLOSE = status("universal_close", ADDRESS);
     static final MethodHandle READ = status("universal_read", ADDRESS, ADDRESS, JAVA_LONG, ADDRESS);
+    static final MethodHandle COMPARE = status("universal_compare", ADDRESS, JAVA_LONG, ADDRESS, JAVA_LONG, ADDRESS);
     static final MethodHandle DROP = Linker.nativeLinker().downcallHandle(LIBRARY.findOrThrow("universal_drop"), FunctionDescriptor.ofVoid(ADDRESS));
 
     private Universal() {}

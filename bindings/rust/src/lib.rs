@@ -26,7 +26,7 @@
 mod raw;
 pub mod register;
 
-pub use raw::{Entry, Reply};
+pub use raw::{Call, Entry, Reply};
 use raw::Handle;
 use std::error::Error;
 use std::fmt;
@@ -184,11 +184,35 @@ impl Seat {
     }
 
     /// Closes the log, if this is the last handle that has it: all calls, in their order.
-    pub fn close(mut self) -> Result<Vec<Entry>, NotClosed> {
+    pub fn close(self) -> Result<Vec<Entry>, NotClosed> {
+        Ok(self.finish()?.entries())
+    }
+
+    /// Closes the log, if this is the last handle that has it.
+    pub fn finish(mut self) -> Result<Closed, NotClosed> {
         match self.handle.close() {
-            Ok(()) => self.handle.read().map_err(|_| NotClosed::Memory),
+            Ok(()) => Ok(Closed(self.handle)),
             Err(Fault::Busy) => Err(NotClosed::Busy(self)),
             Err(_) => Err(NotClosed::Memory),
         }
+    }
+}
+
+/// A closed log.
+#[derive(Debug)]
+pub struct Closed(Handle);
+
+impl Closed {
+    /// All calls, in their order.
+    pub fn entries(&mut self) -> Vec<Entry> {
+        self.0.read().expect("a closed log has entries")
+    }
+
+    /// Whether the log has exactly these calls of a process, in their order, each with its reply. That it has those of
+    /// the process whose seat closed it is proved; of the others this tells a caller who keeps what they were told.
+    ///
+    /// An `Err` is the number, from 0, of the first call in which they differ.
+    pub fn compare(&mut self, process: u64, calls: &[Call]) -> Result<(), u64> {
+        self.0.compare(process, calls).map_or(Ok(()), Err)
     }
 }

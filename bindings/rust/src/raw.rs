@@ -23,6 +23,16 @@ pub struct Reply {
     pub turns: u32,
 }
 
+/// A call as a caller made it, with what it was answered.
+#[repr(C)]
+#[derive(Clone, Copy, Debug, Default, PartialEq, Eq)]
+pub struct Call {
+    /// What was invoked.
+    pub inv: u64,
+    /// What was answered. Its turns are of no account where calls are compared.
+    pub answer: Reply,
+}
+
 /// A call that took effect.
 #[repr(C)]
 #[derive(Clone, Copy, Debug, Default, PartialEq, Eq)]
@@ -65,6 +75,7 @@ extern "C" {
     fn universal_apply(seat: &mut Handle, inv: u64, answer: &mut Reply) -> u32;
     fn universal_close(seat: &mut Handle) -> u32;
     fn universal_read(log: &mut Handle, entries: *mut Entry, capacity: usize, count: &mut usize) -> u32;
+    fn universal_compare(log: &mut Handle, process: u64, calls: *const Call, count: usize, nth: &mut u64) -> u32;
     fn universal_drop(handle: &mut Handle);
 }
 
@@ -137,6 +148,14 @@ impl Handle {
         // SAFETY: the vector has `count` elements.
         Fault::of(unsafe { universal_read(self, entries.as_mut_ptr(), count, &mut count) })?;
         Ok(entries)
+    }
+
+    /// Compares a closed log with calls of a process: the number of the first one in which they differ, if they do.
+    pub(crate) fn compare(&mut self, process: u64, calls: &[Call]) -> Option<u64> {
+        let mut nth = 0;
+        // SAFETY: the slice lies in memory that is borrowed for the call, and the library only reads it.
+        let status = unsafe { universal_compare(self, process, calls.as_ptr(), calls.len(), &mut nth) };
+        (status != 0).then_some(nth)
     }
 }
 

@@ -1,7 +1,7 @@
 //! Each call on its happy path, each refusal, and what its types keep.
 use std::collections::BTreeMap;
 use std::thread::scope;
-use universal::{register, Fault, Log, Machine, NotClosed};
+use universal::{register, Call, Fault, Log, Machine, NotClosed, Reply, Seat};
 
 const SWITCH: Machine<'static> = Machine { states: 2, invocations: 2, next: &[0, 1, 1, 0], reply: &[0, 0, 1, 1] };
 
@@ -100,6 +100,32 @@ fn a_busy_log_gives_the_seat_back() {
     assert_eq!(first.apply(1).unwrap().reply, 3);
     drop(second);
     assert_eq!(first.close().unwrap().len(), 2);
+}
+
+fn call(seat: &mut Seat, inv: u64) -> Call {
+    Call { inv, answer: seat.apply(inv).unwrap() }
+}
+
+#[test]
+fn a_closed_log_has_the_calls_of_all_seats() {
+    let mut seats = Log::tally(3, 2).unwrap().into_seats().unwrap();
+    let of_2 = [call(&mut seats[0], 3), call(&mut seats[0], 1)];
+    let of_1 = [call(&mut seats[1], 7)];
+    let of_last = [call(&mut seats[2], 2)];
+    assert_eq!([of_2[0], of_2[1], of_1[0], of_last[0]].map(|call| call.answer.reply), [0, 3, 4, 11]);
+    let last = seats.pop().unwrap();
+    drop(seats);
+    let mut log = last.finish().unwrap();
+    assert_eq!(log.compare(2, &of_2), Ok(()));
+    assert_eq!(log.compare(1, &of_1), Ok(()));
+    assert_eq!(log.compare(0, &of_last), Ok(()));
+    assert_eq!(log.compare(3, &[]), Ok(()));
+    assert_eq!(log.compare(2, &of_2[..1]), Err(1));
+    assert_eq!(log.compare(2, &of_1), Err(0));
+    assert_eq!(log.compare(1, &[]), Err(0));
+    let other = Call { answer: Reply { reply: 4, turns: 1 }, ..of_2[1] };
+    assert_eq!(log.compare(2, &[of_2[0], other]), Err(1));
+    assert_eq!(log.entries().len(), 4);
 }
 
 #[test]

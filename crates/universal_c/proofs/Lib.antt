@@ -1,3 +1,4 @@
+pub mod Called
 pub mod Places
 pub mod Pointers
 pub mod Seats

@@ -2,6 +2,7 @@
 #![tactic(auto)]
 
 mod close;
+mod compare;
 mod handle;
 mod held;
 mod loose;
@@ -18,6 +19,16 @@ pub struct Reply {
     pub reply: u32,
     /// How many turns of the construction's loop the call took.
     pub turns: u32,
+}
+
+/// A call as it was made, with what it was answered.
+#[repr(C)]
+#[derive(Clone, Copy, Drop)]
+pub struct Call {
+    /// What was invoked.
+    pub inv: u64,
+    /// What the object answered; its turns aren't looked at.
+    pub answer: Reply,
 }
 
 /// A call that took effect.

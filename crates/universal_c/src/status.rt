@@ -26,3 +26,6 @@ pub const WRONG_HANDLE: u32 = 7;
 
 /// The tables aren't those of a machine.
 pub const BAD_TABLE: u32 = 8;
+
+/// The log has other calls of the process.
+pub const DIFFERS: u32 = 9;
