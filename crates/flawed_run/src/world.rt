@@ -2,7 +2,7 @@
 
 use crate::flaw::Flaw;
 use crate::list::{Linked, Walk};
-use crate::memory::{Call, Memory, Settled, Stage};
+use crate::memory::{Call, CellId, Memory, Settled, Stage};
 use crate::text::{push_bound, push_call, push_progress, push_refusal, push_with_number};
 use ready_objects::Spoken;
 use seq_object::CallId;
@@ -64,10 +64,9 @@ impl<O: Spoken> World<O> {
         if self.memory.settled(call.read).is_some() && self.memory.flaw != Flaw::LastWins {
             return Ok(());
         }
-        let Some((state, inv)) = self.state_and_inv(call) else {
+        let Some((next, answer)) = self.applied(alloc, call)? else {
             return Ok(());
         };
-        let (next, answer) = self.object.apply(alloc, state, inv)?;
         let state = self.states.len();
         let reply = Some(self.replies.len());
         self.states.push(next)?;
@@ -78,11 +77,33 @@ impl<O: Spoken> World<O> {
         Ok(())
     }
 
-    /// The state at which a process stands, and what the call of the cell behind that asks for.
-    fn state_and_inv(&self, call: &Call) -> Option<(&O::State, &O::Inv)> {
-        let state = self.states.get(self.memory.settled(call.at)?.state)?;
-        let asked = self.asked.get(self.memory.cells.get(call.read.0)?.asked?)?;
-        Some((state, &asked.inv))
+    /// The state and the reply of the cell that was read last, after the one at which a process stands; `None` where that
+    /// has no state, or the other is no call's.
+    ///
+    /// An `Err` says that memory was refused.
+    fn applied(
+        &self,
+        alloc: Global,
+        call: &Call,
+    ) -> Result<Option<(O::State, O::Resp)>, AllocError> {
+        let Some(settled) = self.memory.settled(call.at) else {
+            return Ok(None);
+        };
+        let Some(state) = self.states.get(settled.state) else {
+            return Ok(None);
+        };
+        let Some(place) = self.asked_in(call.read) else {
+            return Ok(None);
+        };
+        let Some(asked) = self.asked.get(place) else {
+            return Ok(None);
+        };
+        Ok(Some(self.object.apply(alloc, state, &asked.inv)?))
+    }
+
+    /// The place of a cell's call.
+    fn asked_in(&self, cell: CellId) -> Option<usize> {
+        self.memory.cells.get(cell.0)?.asked
     }
 
     /// A reply that is settled.
