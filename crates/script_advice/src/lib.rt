@@ -1,0 +1,13 @@
+//! Why a line of a script is bad: the word that is wrong, and what could stand there.
+//!
+//! It stands beside the grammar of `uni_script`, which alone says which line is bad.
+#![tactic(auto)]
+
+mod advice;
+mod forms;
+mod reasons;
+mod words;
+
+pub use advice::{Advice, Cause, Place, advice_on};
+pub use forms::{Field, Form, Object};
+pub use reasons::explanation;
