@@ -2,6 +2,9 @@
 //! of `uni_script`, draws a schedule, or runs threads that share an object.
 #![tactic(auto)]
 
+mod explain;
+mod hints;
+mod language;
 mod lock;
 mod program;
 mod request;
