@@ -46,24 +46,28 @@ threads_told refusal old new failed status four told = by_fault told.fault told.
 
 -- the line of a fault alone, where more may follow it
 pub told_more : (old new : Option (List ℕ)) (failed : Bool) (status : ℕ) → TellsFault old new failed status → TellsMore old new failed status
-told_more old new failed status told =
-    ([], record {
-      fault = told.fault;
-      status_is = told.status_is;
-      front = subst (AppendsFront old new) (sym (append-nil (fault_line told.fault))) told.front;
-      whole = λ good. subst (Appends old new) (sym (append-nil (fault_line told.fault))) (told.whole good);
-    })
+told_more old new failed status told = (
+  [],
+  record {
+    fault = told.fault;
+    status_is = told.status_is;
+    front = subst (AppendsFront old new) (sym (append-nil (fault_line told.fault))) told.front;
+    whole = λ good. subst (Appends old new) (sym (append-nil (fault_line told.fault))) (told.whole good);
+  },
+)
 
 -- the line of a fault and more, as one text
 pub told_with : (old new : Option (List ℕ)) (failed : Bool) (fault : BenchFault) (more text line : List ℕ) → status_of fault ≡ 2
     → line ≡ text → text ≡ fault_line fault ++ more → AppendsFront old new line → (failed ≡ false → Appends old new line) → TellsMore old new failed 2
-told_with old new failed fault more text line ends is are front whole =
-    (more, record {
-      fault = fault;
-      status_is = sym ends;
-      front = subst (AppendsFront old new) (is ∙ are) front;
-      whole = λ good. subst (Appends old new) (is ∙ are) (whole good);
-    })
+told_with old new failed fault more text line ends is are front whole = (
+  more,
+  record {
+    fault = fault;
+    status_is = sym ends;
+    front = subst (AppendsFront old new) (is ∙ are) front;
+    whole = λ good. subst (Appends old new) (is ∙ are) (whole good);
+  },
+)
 
 pub told_by_memory : (r : Request) (old new : Option (List ℕ)) (failed : Bool) (status : ℕ) → status ≡ 4 → TellsFault old new failed status → Tells r old new failed status
 told_by_memory (Replay options) old new failed status four told = told

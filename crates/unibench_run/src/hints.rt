@@ -19,20 +19,31 @@ fn may_take_value(word: &str) -> bool {
     word.starts_with("--") && word != "--" && word != "--explain" && !word.contains('=')
 }
 
-/// What is said beside an error, where a word of `replay` may have been meant for a file: one that is no option, and
-/// that no option before it takes.
-pub(crate) fn tip_for<S: AsStr>(error: &clap::Error, words: &[S]) -> Option<&'static str> {
-    let is_replay = words.iter().skip(1).take(1).any(|word| word.as_str() == "replay");
-    let names_file = words
-        .iter()
-        .skip(1)
-        .zip(words.iter().skip(2))
-        .any(|(before, word)| may_be_path(word.as_str()) && !may_take_value(before.as_str()));
-    if error.kind() == ErrorKind::UnknownArgument && is_replay && names_file {
-        Some(TIP)
-    } else {
-        None
+/// Whether a word may have been meant for a file: it is no option, and the word before it doesn't take it.
+fn may_be_file(before: &str, word: &str) -> bool {
+    may_be_path(word) && !may_take_value(before)
+}
+
+/// Whether the words are those of `replay`.
+fn is_replay<S: AsStr>(words: &[S]) -> bool {
+    match words {
+        [_, command, ..] => command.as_str() == "replay",
+        _ => false,
     }
+}
+
+/// What is said beside an error, where a word of `replay` may have been meant for a file.
+pub(crate) fn tip_for<S: AsStr>(error: &clap::Error, words: &[S]) -> Option<&'static str> {
+    if error.kind() != ErrorKind::UnknownArgument || !is_replay(words) {
+        return None;
+    }
+    let befores = words.iter().skip(1);
+    for (before, word) in befores.zip(words.iter().skip(2)) {
+        if may_be_file(before.as_str(), word.as_str()) {
+            return Some(TIP);
+        }
+    }
+    None
 }
 
 /// The names of the objects of scripts.

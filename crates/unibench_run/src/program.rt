@@ -23,7 +23,9 @@ use std::alloc::{AllocError, Global};
 use std::convert::AsStr;
 use std::sync::Wait;
 use std::thread::Threads;
-use uni_script::{Failed, Options, TextIn, TextOut, bench, report_fault, schedule, tell, write_all};
+use uni_script::{
+    Failed, Options, TextIn, TextOut, bench, report_fault, schedule, tell, write_all,
+};
 
 /// Runs the program over its argument texts, the program's name first; the answer is the status
 /// that it ends with.

@@ -446,7 +446,12 @@ pub(crate) fn language_command<'a>(alloc: Global) -> Result<Command<'a>, AllocEr
         "Prints the language of scripts, or the calls of an object",
         LANGUAGE_NOTES,
     )
-    .arg(operand(alloc, "object", "OBJECT", "One of queue, directory, book and sticky"))
+    .arg(operand(
+        alloc,
+        "object",
+        "OBJECT",
+        "One of queue, directory, book and sticky",
+    ))
 }
 
 /// The version of the program.
