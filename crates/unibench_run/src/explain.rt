@@ -1,6 +1,6 @@
 //! A replay that says why a line is bad.
 
-ghost use Rattle.std.specs.Prelude.{◌≡◌, ◌++◌, ℕ, List, IfOk, IfSome, IsSome};
+ghost use Rattle.std.specs.Prelude.{◌≡◌, ◌++◌, ℕ, List, IfOk, IsSome};
 ghost use Rattle.uni_script.specs.Fault.{fault_line};
 ghost use Rattle.uni_script.specs.Statuses.{IsStatusOf, status_of};
 ghost use Rattle.unibench_run.specs.Statuses.{TellsMore};
@@ -59,28 +59,22 @@ fn line_of(fault: BenchFault) -> Option<u64>
     }
 }
 
-/// The line of a fault, and after it why the line that it names is bad in a script; `None` where it names none, or
-/// the script isn't known.
+/// The line of a fault, and after it why this line of a script is bad.
 ///
 /// An `Err` says that memory was refused.
 fn explained(
     alloc: Global,
     fault: BenchFault,
-    script: Option<&[u8]>,
-) -> Result<Option<Vec<u8>>, AllocError>
-    ensures { IfOk result (λ told. IfSome told (λ text. (status_of fault ≡ 2) × ((more : List ℕ) × (text.items ≡ fault_line fault ++ more)))) }
+    line: u64,
+    script: &[u8],
+) -> Result<Vec<u8>, AllocError>
+    ensures { IfOk result (λ text. (more : List ℕ) × (text.items ≡ fault_line fault ++ more)) }
 {
-    let Some(script) = script else {
-        return Ok(None);
-    };
-    let Some(line) = line_of(fault) else {
-        return Ok(None);
-    };
     let more = explanation(alloc, script, line)?;
     let mut text = Vec::new(alloc);
     push_fault(&mut text, fault)?;
     text.extend_from_slice(more.as_slice())?;
-    Ok(Some(text))
+    Ok(text)
 }
 
 /// Says what went wrong with a script and, of a line of it, why, as far as the end takes it; the answer is the
@@ -94,11 +88,17 @@ pub(crate) fn report_explained<F: TextOut>(
     ensures status { IsStatusOf fault result }
     ensures told { TellsMore (F.contents faults.old) (F.contents faults.new) (F.has_failed faults.new) result }
 {
-    match explained(alloc, fault, script) {
-        Ok(Some(text)) => {
+    let Some(script) = script else {
+        return report_fault(alloc, fault, faults);
+    };
+    let Some(line) = line_of(fault) else {
+        return report_fault(alloc, fault, faults);
+    };
+    match explained(alloc, fault, line, script) {
+        Ok(text) => {
             tell(faults, text.as_slice());
             2
         }
-        _ => report_fault(alloc, fault, faults),
+        Err(AllocError) => report_fault(alloc, fault, faults),
     }
 }

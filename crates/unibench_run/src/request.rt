@@ -1,6 +1,6 @@
 //! What a command line asks for.
 
-ghost use Rattle.std.specs.Prelude.{◌≡◌, [], IfOk, IfErr, map, codes, false};
+ghost use Rattle.std.specs.Prelude.{◌≡◌, [], IfOk, IfErr, map, codes, false, Some, option_map};
 ghost use Rattle.clap.specs.Words.{HasKind, app_of, found_of, rows_of, new_app, rule_of, subcommand_rows_of};
 ghost use Rattle.clap.specs.declared.builder.command.Command.TheViews.{out-Command};
 ghost use Rattle.command_line.specs.Flags.{versioned};
@@ -510,12 +510,22 @@ fn replay_in(matches: &ArgMatches<'_>) -> Option<Request>
     }
 }
 
+/// What the language is asked of by a name: the object; `None` where the name is none.
+fn subject_named(name: &str) -> Option<Option<ObjectName>>
+    ensures { result ≡ option_map Some (object_of_word name.now) }
+{
+    match shared_named(name) {
+        Some(object) => Some(Some(object)),
+        None => None,
+    }
+}
+
 /// What the language is asked of: all of it or, where it is named, an object; `None` where the name is none.
 fn subject_of(matches: &ArgMatches<'_>) -> Option<Option<ObjectName>>
     ensures { result ≡ subject_of (rows_of (found_of matches.now)) }
 {
     match matches.get_str("object") {
-        Some(name) => Some(Some(shared_named(name)?)),
+        Some(name) => subject_named(name),
         None => Some(None),
     }
 }
