@@ -8,7 +8,8 @@ use Rattle.uni_script.specs.declared.fault.BenchFault.{BenchFault}
 use Rattle.uni_script.specs.declared.fault.BenchFault.TheVariants as bench
 use Rattle.uni_script.proofs.Replaying.{IsPartOfReplay-start}
 use Rattle.unibench_run.specs.Runs.{IsRunOf}
-use Rattle.uni_script.specs.Statuses.{TellsFault, TellsLine, status_of}
+use Rattle.uni_script.specs.Replay.{IsFaultOfScript}
+use Rattle.uni_script.specs.Statuses.{IsStatusOf, TellsFault, TellsLine, status_of}
 use Rattle.unibench_run.specs.Statuses.{Tells, TellsMore, TellsThreadsFault}
 use Rattle.unibench_run.specs.Threads.{refusal_of}
 use Rattle.unibench_run.specs.declared.request.Request.{Request}
@@ -93,3 +94,20 @@ module _ (asked : Option Request) (q r : Request) (is_q : asked ≡ Some q) (is_
 
   pub told_of_asked : (old new : Option (List ℕ)) (failed : Bool) (status : ℕ) → Tells q old new failed status → Tells r old new failed status
   told_of_asked old new failed status told = subst (λ x. Tells x old new failed status) same_request told
+
+-- a fault that ends with 2 is one that a script has
+pub is_of_script : (fault : BenchFault) (status : ℕ) → IsStatusOf fault status → status ≡ 2 → IsFaultOfScript fault
+is_of_script (bench.NoHeader l) status is two = tt
+is_of_script (bench.BadHeader l) status is two = tt
+is_of_script (bench.TooLong l) status is two = tt
+is_of_script (bench.BadByte l) status is two = tt
+is_of_script (bench.BadLine l) status is two = tt
+is_of_script bench.TooMany status is two = tt
+is_of_script bench.Read status (inl is) two = omega (arith, is, two)
+is_of_script bench.Read status (inr is) two = let four = is.1 in omega (arith, four, two)
+is_of_script bench.Write status (inl is) two = omega (arith, is, two)
+is_of_script bench.Write status (inr is) two = let four = is.1 in omega (arith, four, two)
+is_of_script bench.Memory status (inl is) two = omega (arith, is, two)
+is_of_script bench.Memory status (inr is) two = let four = is.1 in omega (arith, four, two)
+is_of_script (bench.Audit verdict) status (inl is) two = omega (arith, is, two)
+is_of_script (bench.Audit verdict) status (inr is) two = let four = is.1 in omega (arith, four, two)

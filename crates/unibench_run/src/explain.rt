@@ -9,38 +9,67 @@ use script_advice::explanation;
 use std::alloc::{AllocError, Global};
 use uni_script::{BenchFault, Failed, TextIn, TextOut, push_fault, report_fault, tell};
 
-/// A reader that keeps what it has read, as long as memory isn't refused.
+/// A reader that can keep what is read from it.
+pub trait KeepsText: TextIn {
+    ghost use Rattle.std.specs.Prelude.{◌≡◌};
+
+    /// Keeps what is read from now on, as long as it isn't refused memory.
+    fn keep(&mut self, alloc: Global)
+        ensures remaining { Self.remaining self.new ≡ Self.remaining self.old }
+        ensures failed { Self.has_failed self.new ≡ Self.has_failed self.old };
+
+    /// What was read since then; `None` where it isn't kept, or memory was refused to it.
+    fn kept(&self) -> Option<&[u8]>;
+}
+
+/// A reader, and what is kept of what is read from it.
 #[derive(Drop)]
-pub(crate) struct Kept<'a, I> {
+pub struct Kept<I: Drop> {
     /// The reader.
-    pub(crate) end: &'a mut I,
-    /// What was read.
-    pub(crate) text: Vec<u8>,
-    /// Whether it is all that was read.
-    pub(crate) is_whole: bool,
+    pub end: I,
+    /// What was read; `None` where it isn't kept.
+    pub text: Option<Vec<u8>>,
 }
 
-/// A text that was kept; `None` where it isn't whole.
-pub(crate) fn whole_text(text: &Vec<u8>, is_whole: bool) -> Option<&[u8]> {
-    let text = text.as_slice();
-    if is_whole { Some(text) } else { None }
+impl<I: Drop> Kept<I> {
+    /// A reader of which nothing is kept yet.
+    pub fn new(end: I) -> Kept<I>
+        ensures { result.end ≡ end }
+    {
+        Kept { end, text: None }
+    }
 }
 
-impl<I: TextIn> TextIn for Kept<'_, I> {
-    ghost remaining = { λ kept. I.remaining kept.end.now };
+impl<I: TextIn + Drop> TextIn for Kept<I> {
+    ghost remaining = { λ kept. I.remaining kept.end };
 
-    ghost has_failed = { λ kept. I.has_failed kept.end.now };
+    ghost has_failed = { λ kept. I.has_failed kept.end };
 
     fn read(&mut self, buffer: &mut [u8]) -> Result<usize, Failed> {
         let count = self.end.read(&mut *buffer)?;
-        if self.is_whole {
-            self.is_whole = self.text.extend_from_slice(&buffer[..count]).is_ok();
+        if let Some(text) = &mut self.text {
+            if text.extend_from_slice(&buffer[..count]).is_err() {
+                self.text = None;
+            }
         }
         Ok(count)
     }
 
     fn failed(&self) -> bool {
         self.end.failed()
+    }
+}
+
+impl<I: TextIn + Drop> KeepsText for Kept<I> {
+    fn keep(&mut self, alloc: Global) {
+        self.text = Some(Vec::new(alloc));
+    }
+
+    fn kept(&self) -> Option<&[u8]> {
+        match &self.text {
+            Some(text) => Some(text.as_slice()),
+            None => None,
+        }
     }
 }
 

@@ -10,6 +10,7 @@ mod program;
 mod request;
 mod threads;
 
+pub use explain::{KeepsText, Kept};
 pub use program::run;
 pub use request::{Form, Plan, RandomPlan, Request, ThreadsObject, read_words};
 pub use threads::{ThreadsFault, push_agrees, push_threads_fault, run_plan};

@@ -11,7 +11,7 @@ ghost use Rattle.uni_script.specs.Statuses.{TellsFault};
 ghost use Rattle.unibench_run.specs.Statuses.{IsStatusFor, IsStatusOfThreads, Tells, TellsMore, TellsThreadsFault, status_of_threads};
 ghost use Rattle.unibench_run.specs.Threads.{IsThreadsPlan, OfAgreed, refusal_of};
 
-use crate::explain::{Kept, report_explained, whole_text};
+use crate::explain::{KeepsText, report_explained};
 use crate::hints::{fault_of_names, tip_for};
 use crate::language::write_language;
 use crate::request::{Form, Plan, RandomPlan, Request, read_words};
@@ -35,7 +35,7 @@ use uni_script::{
 /// calls that are too many for a history, 3 where `input` or `output` failed, 4 where memory was
 /// refused, and 5 where threads under a lock and their record don't agree; the text that says so goes
 /// to `faults`, as far as that takes it.
-pub fn run<R: Threads + Wait + Sync, S: AsStr, I: TextIn, O: TextOut, F: TextOut>(
+pub fn run<R: Threads + Wait + Sync, S: AsStr, I: KeepsText, O: TextOut, F: TextOut>(
     rt: &R,
     alloc: Global,
     words: &[S],
@@ -188,7 +188,7 @@ fn replay<I: TextIn, O: TextOut, F: TextOut>(
 /// The status is 0 where all went well, 2 for a bad script, 3 where `input` or `output` failed, and
 /// 4 where memory was refused; the text that says so goes to `faults`, as far as that takes it. No
 /// audit finds a fault.
-fn replay_explained<I: TextIn, O: TextOut, F: TextOut>(
+fn replay_explained<I: KeepsText, O: TextOut, F: TextOut>(
     alloc: Global,
     options: &Options,
     input: &mut I,
@@ -209,20 +209,10 @@ fn replay_explained<I: TextIn, O: TextOut, F: TextOut>(
     ensures silent { result ≡ 0 → faults.new ≡ faults.old }
     ensures told { result ≢ 0 → TellsMore (F.contents faults.old) (F.contents faults.new) (F.has_failed faults.new) result }
 {
-    let mut kept = Kept {
-        end: &mut *input,
-        text: Vec::new(alloc),
-        is_whole: true,
-    };
-    let replayed = bench(alloc, &mut kept, output, options);
-    let Kept {
-        end: _end,
-        text,
-        is_whole,
-    } = kept;
-    match replayed {
+    input.keep(alloc);
+    match bench(alloc, input, output, options) {
         Ok(_) => 0,
-        Err(fault) => report_explained(alloc, fault, whole_text(&text, is_whole), faults),
+        Err(fault) => report_explained(alloc, fault, input.kept(), faults),
     }
 }
 
