@@ -24,6 +24,7 @@ use std::env::Env;
 use std::sync::Wait;
 use std::thread::Threads;
 use std::{env, io};
+use unibench_run::Kept;
 
 /// How many bytes of a script are read at a time: it is run once with each of these.
 const AT_A_TIME: [usize; 4] = [1, 2, 7, 5_000];
@@ -40,7 +41,7 @@ fn agrees_in_pieces<R: Threads + Wait + Sync>(
 ) -> Result<bool, u8> {
     let is_picture = words.first() == Some(&"unidraw");
     for most in AT_A_TIME {
-        let mut input = Pieces::of(script, most);
+        let mut input = Kept::new(Pieces::of(script, most));
         let is_same = if is_picture {
             is_drawn(alloc, words, &mut input, wanted)?
         } else {

@@ -9,6 +9,7 @@ use crate::lines::{comes_before, said_in};
 use crate::pattern::has_like;
 use ready_objects::Amount;
 use std::alloc::{AllocError, Global};
+use uni_script::{is_note, words_of};
 
 /// Tells whether a word is this text.
 fn is_text(word: &[u8], text: &str) -> bool

@@ -7,7 +7,7 @@ use std::env::Env;
 use std::process::ExitCode;
 use std::{env, io};
 use uni_script::{Checked, refuse_words};
-use unibench_run::run;
+use unibench_run::{Kept, run};
 
 /// The argument texts, the program's name first.
 fn words<R: Env + Alloc<A = Global>>(rt: &R) -> io::Result<Vec<String>> {
@@ -15,7 +15,7 @@ fn words<R: Env + Alloc<A = Global>>(rt: &R) -> io::Result<Vec<String>> {
 }
 
 fn main(rt: HostRuntime) -> ExitCode {
-    let mut input = Checked::new(rt.stdin());
+    let mut input = Kept::new(Checked::new(rt.stdin()));
     let mut output = Checked::new(rt.stdout());
     let mut faults = Checked::new(rt.stderr());
     let status = match words(&rt) {

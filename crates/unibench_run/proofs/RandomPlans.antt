@@ -1,5 +1,5 @@
 -- What words ask for has numbers that are in range.
-use Rattle.std.proofs.Common.{◌≡◌, ◌∙◌, ℕ, ◌≤◌, Bool, true, false, codes, List, Option, Some, None, option_map, option_and_then, if◌then◌else◌, refl, subst, ap}
+use Rattle.std.proofs.Common.{◌≡◌, ◌∙◌, ℕ, ◌≤◌, Bool, true, false, codes, List, Option, Some, None, option_map, option_and_then, if◌then◌else◌, refl, sym, subst, ap}
 use Rattle.std.specs.Str.{bytes_eq}
 use Rattle.std.specs.Str.Parse.{without_leading_plus}
 use Rattle.clap.specs.Words.{Row, Text, first_of}
@@ -8,15 +8,16 @@ use Rattle.uni_record.specs.Recorded.{IsHistory}
 use Rattle.uni_script.specs.Schedules.{IsPlan}
 use Rattle.uni_script.specs.declared.replay.Options.{Options}
 use Rattle.uni_script.specs.declared.grammar.ObjectName.{ObjectName}
-use Rattle.unibench_run.specs.CommandLine.{request_in}
-use Rattle.unibench_run.specs.Request.{form_named, number_in, object_named, options_of, plan_of, plan_with, random_of, random_with, value_of}
+use Rattle.command_line.specs.Flags.{is_set}
+use Rattle.unibench_run.specs.CommandLine.{replay_in, request_in}
+use Rattle.unibench_run.specs.Request.{form_named, number_in, object_named, options_of, plan_of, plan_with, random_of, random_with, subject_of, value_of}
 use Rattle.unibench_run.specs.Threads.{IsThreadsPlan}
 use Rattle.unibench_run.specs.declared.request.Form.{Form}
 use Rattle.unibench_run.specs.declared.request.ThreadsObject.{ThreadsObject}
 use Rattle.unibench_run.specs.declared.request.Plan.{Plan}
 use Rattle.unibench_run.specs.declared.request.RandomPlan.{RandomPlan}
 use Rattle.unibench_run.specs.declared.request.Request.{Request}
-use Rattle.unibench_run.specs.declared.request.Request.TheVariants.{Replay, Random, Threads}
+use Rattle.unibench_run.specs.declared.request.Request.TheVariants.{Replay, Explained, Random, Threads, Language}
 use Rattle.unibench_run.proofs.PlanValues.{value_in-range}
 
 read-range : (least most : ℕ) (text : Option Text) (n : ℕ) → option_and_then (number_in least most) text ≡ Some n → (least ≤ n) × (n ≤ most)
@@ -75,65 +76,74 @@ options_of-IsHistory rows options is = at (value_of (number_in 1 16777216) (code
         subst (λ (p : Options). IsHistory p.history) same (range n refl)
 
 -- what is asked for by the name of the subcommand
-abbrev asked_by : (rows : List Row) (random threads : Bool) → Option Request
-asked_by rows random threads = if random then option_map Random (random_of rows) else if threads then option_map Threads (plan_of rows) else option_map Replay (options_of rows)
+abbrev asked_by : (rows : List Row) (random threads language : Bool) → Option Request
+asked_by rows random threads language =
+    if random then option_map Random (random_of rows) else if threads then option_map Threads (plan_of rows)
+    else if language then option_map Language (subject_of rows) else replay_in rows
+
+-- a request that is made of a value is that of a value that is there
+made_of : {A : Type 0} (make : A → Request) (o : Option A) (r : Request) → option_map make o ≡ Some r → (a : A) × (o ≡ Some a) × (make a ≡ r)
+made_of make None r e = absurd (let bad : None ≡ Some r = e in cc)
+made_of make (Some a) r e = (a, refl, (let same : Some (make a) ≡ Some r = e in cc))
+
+-- which request is asked for by each name
+data AskedBy (rows : List Row) (r : Request) : Type 0 where
+  by_random : (plan : RandomPlan) → random_of rows ≡ Some plan → Random plan ≡ r → AskedBy rows r
+  by_threads : (plan : Plan) → plan_of rows ≡ Some plan → Threads plan ≡ r → AskedBy rows r
+  by_language : (object : Option ObjectName) → Language object ≡ r → AskedBy rows r
+  by_replay : (options : Options) → options_of rows ≡ Some options → Replay options ≡ r → AskedBy rows r
+  by_explained : (options : Options) → options_of rows ≡ Some options → Explained options ≡ r → AskedBy rows r
+
+asked_by-cases : (rows : List Row) (r : Request) (random threads language explained : Bool) → is_set (codes "explain") rows ≡ explained
+    → asked_by rows random threads language ≡ Some r → AskedBy rows r
+asked_by-cases rows r true threads language explained is e = let it = made_of Random (random_of rows) r e in by_random it.0 it.1 it.2
+asked_by-cases rows r false true language explained is e = let it = made_of Threads (plan_of rows) r e in by_threads it.0 it.1 it.2
+asked_by-cases rows r false false true explained is e = let it = made_of Language (subject_of rows) r e in by_language it.0 it.2
+asked_by-cases rows r false false false explained is e = of_replay explained (ap (λ b. option_map (if b then Explained else Replay) (options_of rows)) (sym is) ∙ e)
+  where
+    of_replay : (b : Bool) → option_map (if b then Explained else Replay) (options_of rows) ≡ Some r → AskedBy rows r
+    of_replay true e = let it = made_of Explained (options_of rows) r e in by_explained it.0 it.1 it.2
+    of_replay false e = let it = made_of Replay (options_of rows) r e in by_replay it.0 it.1 it.2
+
+asked-cases : (name : Text) (rows : List Row) (r : Request) → request_in (Some (name, rows)) ≡ Some r → AskedBy rows r
+asked-cases name rows r e = asked_by-cases rows r (bytes_eq name (codes "random")) (bytes_eq name (codes "threads")) (bytes_eq name (codes "language")) (is_set (codes "explain") rows) refl e
 
 pub IsPlan-asked : (o : Option (Text × List Row)) (plan : RandomPlan) → request_in o ≡ Some (Random plan) → IsPlan plan.schedule
 IsPlan-asked None plan e = absurd (let bad : None ≡ Some (Random plan) = e in cc)
-IsPlan-asked (Some (name, rows)) plan e = by_name (bytes_eq name (codes "random")) (bytes_eq name (codes "threads")) e where
-  of_random : (o : Option RandomPlan) → random_of rows ≡ o → option_map Random o ≡ Some (Random plan) → IsPlan plan.schedule
-  of_random None is same = absurd (let bad : None ≡ Some (Random plan) = same in cc)
-  of_random (Some p) is same = random_of-IsPlan rows plan (is ∙ ap Some (let one : Some (Random p) ≡ Some (Random plan) = same in let it : p ≡ plan = cc in it))
-
-  of_threads : (o : Option Plan) → option_map Threads o ≡ Some (Random plan) → ⊥
-  of_threads None same = let bad : None ≡ Some (Random plan) = same in cc
-  of_threads (Some p) same = let bad : Some (Threads p) ≡ Some (Random plan) = same in cc
-
-  of_replay : (o : Option Options) → option_map Replay o ≡ Some (Random plan) → ⊥
-  of_replay None same = let bad : None ≡ Some (Random plan) = same in cc
-  of_replay (Some p) same = let bad : Some (Replay p) ≡ Some (Random plan) = same in cc
-
-  by_name : (r t : Bool) → asked_by rows r t ≡ Some (Random plan) → IsPlan plan.schedule
-  by_name true t same = of_random (random_of rows) refl same
-  by_name false true same = absurd (of_threads (plan_of rows) same)
-  by_name false false same = absurd (of_replay (options_of rows) same)
+IsPlan-asked (Some (name, rows)) plan e = elim (asked-cases name rows (Random plan) e) [
+  | by_random p is same ↦ random_of-IsPlan rows plan (is ∙ ap Some (let it : p ≡ plan = cc in it))
+  | by_threads p is same ↦ absurd (let bad : Threads p ≡ Random plan = same in cc)
+  | by_language o same ↦ absurd (let bad : Language o ≡ Random plan = same in cc)
+  | by_replay o is same ↦ absurd (let bad : Replay o ≡ Random plan = same in cc)
+  | by_explained o is same ↦ absurd (let bad : Explained o ≡ Random plan = same in cc)
+]
 
 pub IsHistory-asked : (o : Option (Text × List Row)) (options : Options) → request_in o ≡ Some (Replay options) → IsHistory options.history
 IsHistory-asked None options e = absurd (let bad : None ≡ Some (Replay options) = e in cc)
-IsHistory-asked (Some (name, rows)) options e = by_name (bytes_eq name (codes "random")) (bytes_eq name (codes "threads")) e where
-  of_random : (o : Option RandomPlan) → option_map Random o ≡ Some (Replay options) → ⊥
-  of_random None same = let bad : None ≡ Some (Replay options) = same in cc
-  of_random (Some p) same = let bad : Some (Random p) ≡ Some (Replay options) = same in cc
+IsHistory-asked (Some (name, rows)) options e = elim (asked-cases name rows (Replay options) e) [
+  | by_random p is same ↦ absurd (let bad : Random p ≡ Replay options = same in cc)
+  | by_threads p is same ↦ absurd (let bad : Threads p ≡ Replay options = same in cc)
+  | by_language o same ↦ absurd (let bad : Language o ≡ Replay options = same in cc)
+  | by_replay o is same ↦ options_of-IsHistory rows options (is ∙ ap Some (let it : o ≡ options = cc in it))
+  | by_explained o is same ↦ absurd (let bad : Explained o ≡ Replay options = same in cc)
+]
 
-  of_threads : (o : Option Plan) → option_map Threads o ≡ Some (Replay options) → ⊥
-  of_threads None same = let bad : None ≡ Some (Replay options) = same in cc
-  of_threads (Some p) same = let bad : Some (Threads p) ≡ Some (Replay options) = same in cc
-
-  of_replay : (o : Option Options) → options_of rows ≡ o → option_map Replay o ≡ Some (Replay options) → IsHistory options.history
-  of_replay None is same = absurd (let bad : None ≡ Some (Replay options) = same in cc)
-  of_replay (Some p) is same = options_of-IsHistory rows options (is ∙ ap Some (let one : Some (Replay p) ≡ Some (Replay options) = same in let it : p ≡ options = cc in it))
-
-  by_name : (r t : Bool) → asked_by rows r t ≡ Some (Replay options) → IsHistory options.history
-  by_name true t same = absurd (of_random (random_of rows) same)
-  by_name false true same = absurd (of_threads (plan_of rows) same)
-  by_name false false same = of_replay (options_of rows) refl same
+pub IsHistory-explained : (o : Option (Text × List Row)) (options : Options) → request_in o ≡ Some (Explained options) → IsHistory options.history
+IsHistory-explained None options e = absurd (let bad : None ≡ Some (Explained options) = e in cc)
+IsHistory-explained (Some (name, rows)) options e = elim (asked-cases name rows (Explained options) e) [
+  | by_random p is same ↦ absurd (let bad : Random p ≡ Explained options = same in cc)
+  | by_threads p is same ↦ absurd (let bad : Threads p ≡ Explained options = same in cc)
+  | by_language o same ↦ absurd (let bad : Language o ≡ Explained options = same in cc)
+  | by_replay o is same ↦ absurd (let bad : Replay o ≡ Explained options = same in cc)
+  | by_explained o is same ↦ options_of-IsHistory rows options (is ∙ ap Some (let it : o ≡ options = cc in it))
+]
 
 pub IsThreadsPlan-asked : (o : Option (Text × List Row)) (plan : Plan) → request_in o ≡ Some (Threads plan) → IsThreadsPlan plan
 IsThreadsPlan-asked None plan e = absurd (let bad : None ≡ Some (Threads plan) = e in cc)
-IsThreadsPlan-asked (Some (name, rows)) plan e = by_name (bytes_eq name (codes "random")) (bytes_eq name (codes "threads")) e where
-  of_random : (o : Option RandomPlan) → option_map Random o ≡ Some (Threads plan) → ⊥
-  of_random None same = let bad : None ≡ Some (Threads plan) = same in cc
-  of_random (Some p) same = let bad : Some (Random p) ≡ Some (Threads plan) = same in cc
-
-  of_threads : (o : Option Plan) → plan_of rows ≡ o → option_map Threads o ≡ Some (Threads plan) → IsThreadsPlan plan
-  of_threads None is same = absurd (let bad : None ≡ Some (Threads plan) = same in cc)
-  of_threads (Some p) is same = plan_of-IsThreadsPlan rows plan (is ∙ ap Some (let one : Some (Threads p) ≡ Some (Threads plan) = same in let it : p ≡ plan = cc in it))
-
-  of_replay : (o : Option Options) → option_map Replay o ≡ Some (Threads plan) → ⊥
-  of_replay None same = let bad : None ≡ Some (Threads plan) = same in cc
-  of_replay (Some p) same = let bad : Some (Replay p) ≡ Some (Threads plan) = same in cc
-
-  by_name : (r t : Bool) → asked_by rows r t ≡ Some (Threads plan) → IsThreadsPlan plan
-  by_name true t same = absurd (of_random (random_of rows) same)
-  by_name false true same = of_threads (plan_of rows) refl same
-  by_name false false same = absurd (of_replay (options_of rows) same)
+IsThreadsPlan-asked (Some (name, rows)) plan e = elim (asked-cases name rows (Threads plan) e) [
+  | by_random p is same ↦ absurd (let bad : Random p ≡ Threads plan = same in cc)
+  | by_threads p is same ↦ plan_of-IsThreadsPlan rows plan (is ∙ ap Some (let it : p ≡ plan = cc in it))
+  | by_language o same ↦ absurd (let bad : Language o ≡ Threads plan = same in cc)
+  | by_replay o is same ↦ absurd (let bad : Replay o ≡ Threads plan = same in cc)
+  | by_explained o is same ↦ absurd (let bad : Explained o ≡ Threads plan = same in cc)
+]

@@ -1,5 +1,6 @@
 -- What a run comes to by what was asked for, and what the want of memory leaves.
-use Rattle.std.proofs.Common.{◌≡◌, ◌∙◌, ℕ, List, Option, Some, Bool, false, inl, inr, refl, sym, subst, arith}
+use Rattle.std.proofs.Common.{◌≡◌, ◌∙◌, ℕ, List, [], Option, Some, Bool, false, inl, inr, ◌++◌, refl, sym, subst, arith}
+use Rattle.std.proofs.lemmas.List.{append-nil}
 use Rattle.std.specs.Io.KnownBytes.{Appends}
 use Rattle.uni_script.specs.Ends.{AppendsFront}
 use Rattle.uni_script.specs.Fault.{fault_line}
@@ -7,24 +8,21 @@ use Rattle.uni_script.specs.declared.fault.BenchFault.{BenchFault}
 use Rattle.uni_script.specs.declared.fault.BenchFault.TheVariants as bench
 use Rattle.uni_script.proofs.Replaying.{IsPartOfReplay-start}
 use Rattle.unibench_run.specs.Runs.{IsRunOf}
+use Rattle.uni_script.specs.Replay.{IsFaultOfScript}
 use Rattle.uni_script.specs.Statuses.{IsStatusOf, TellsFault, TellsLine, status_of}
-use Rattle.unibench_run.specs.Statuses.{Tells, TellsThreadsFault}
+use Rattle.unibench_run.specs.Statuses.{Tells, TellsMore, TellsThreadsFault}
 use Rattle.unibench_run.specs.Threads.{refusal_of}
 use Rattle.unibench_run.specs.declared.request.Request.{Request}
-use Rattle.unibench_run.specs.declared.request.Request.TheVariants.{Replay, Random, Threads}
+use Rattle.unibench_run.specs.declared.request.Request.TheVariants.{Replay, Explained, Random, Threads, Language}
 use Rattle.unibench_run.specs.declared.threads.ThreadsFault.{ThreadsFault}
 use Rattle.unibench_run.specs.declared.threads.ThreadsFault.TheVariants.{Memory}
 
--- the want of memory has one status
-pub status_of_memory : (status : ℕ) → IsStatusOf bench.Memory status → status ≡ 4
-status_of_memory status is = elim is [
-  | inl four ↦ four
-  | inr other ↦ other.1
-]
-
--- it is a run of anything that has read and written nothing
+-- the want of memory is a run of anything that has read and written nothing
 pub run_of_memory : (r : Request) (left old : Option (List ℕ)) (failed : Bool) (status : ℕ) → failed ≡ false → status ≡ 4 → IsRunOf r left left old old failed status
 run_of_memory (Replay options) left old failed status good four = record { replayed = λ e. cc; bad = λ e. cc; read = λ e _. cc; part = IsPartOfReplay-start options.history _ _ }
+run_of_memory (Explained options) left old failed status good four = record { replayed = λ e. cc; bad = λ e. cc; read = λ e _. cc; part = IsPartOfReplay-start options.history _ _ }
+run_of_memory (Language object) left old failed status good four =
+    record { statuses = inr (inr four); printed = λ e. cc; front = λ e. cc; failed = ((λ e. cc), (λ e. cc)); nothing = λ e. refl }
 run_of_memory (Random plan) left old failed status good four =
     record { statuses = inr (inr four); drawn = λ e. cc; front = λ e. cc; failed = ((λ e. cc), (λ e. cc)); nothing = λ e. refl }
 run_of_memory (Threads plan) left old failed status good four =
@@ -47,8 +45,35 @@ threads_told refusal old new failed status four told = by_fault told.fault told.
     by_fault (bench.Audit verdict) is front whole = absurd (omega arith)
     by_fault bench.Memory is front whole = record { fault = Memory; status_is = (four, λ two. absurd (omega arith)); front = front; whole = whole }
 
+-- the line of a fault alone, where more may follow it
+pub told_more : (old new : Option (List ℕ)) (failed : Bool) (status : ℕ) → TellsFault old new failed status → TellsMore old new failed status
+told_more old new failed status told = (
+  [],
+  record {
+    fault = told.fault;
+    status_is = told.status_is;
+    front = subst (AppendsFront old new) (sym (append-nil (fault_line told.fault))) told.front;
+    whole = λ good. subst (Appends old new) (sym (append-nil (fault_line told.fault))) (told.whole good);
+  },
+)
+
+-- the line of a fault and more, as one text
+pub told_with : (old new : Option (List ℕ)) (failed : Bool) (fault : BenchFault) (more text line : List ℕ) → status_of fault ≡ 2
+    → line ≡ text → text ≡ fault_line fault ++ more → AppendsFront old new line → (failed ≡ false → Appends old new line) → TellsMore old new failed 2
+told_with old new failed fault more text line ends is are front whole = (
+  more,
+  record {
+    fault = fault;
+    status_is = sym ends;
+    front = subst (AppendsFront old new) (is ∙ are) front;
+    whole = λ good. subst (Appends old new) (is ∙ are) (whole good);
+  },
+)
+
 pub told_by_memory : (r : Request) (old new : Option (List ℕ)) (failed : Bool) (status : ℕ) → status ≡ 4 → TellsFault old new failed status → Tells r old new failed status
 told_by_memory (Replay options) old new failed status four told = told
+told_by_memory (Explained options) old new failed status four told = told_more old new failed status told
+told_by_memory (Language object) old new failed status four told = told
 told_by_memory (Random plan) old new failed status four told = told
 told_by_memory (Threads plan) old new failed status four told = threads_told (refusal_of plan) old new failed status four told
 
@@ -69,3 +94,20 @@ module _ (asked : Option Request) (q r : Request) (is_q : asked ≡ Some q) (is_
 
   pub told_of_asked : (old new : Option (List ℕ)) (failed : Bool) (status : ℕ) → Tells q old new failed status → Tells r old new failed status
   told_of_asked old new failed status told = subst (λ x. Tells x old new failed status) same_request told
+
+-- a fault that ends with 2 is one that a script has
+pub is_of_script : (fault : BenchFault) (status : ℕ) → IsStatusOf fault status → status ≡ 2 → IsFaultOfScript fault
+is_of_script (bench.NoHeader l) status is two = tt
+is_of_script (bench.BadHeader l) status is two = tt
+is_of_script (bench.TooLong l) status is two = tt
+is_of_script (bench.BadByte l) status is two = tt
+is_of_script (bench.BadLine l) status is two = tt
+is_of_script bench.TooMany status is two = tt
+is_of_script bench.Read status (inl is) two = omega (arith, is, two)
+is_of_script bench.Read status (inr is) two = let four = is.1 in omega (arith, four, two)
+is_of_script bench.Write status (inl is) two = omega (arith, is, two)
+is_of_script bench.Write status (inr is) two = let four = is.1 in omega (arith, four, two)
+is_of_script bench.Memory status (inl is) two = omega (arith, is, two)
+is_of_script bench.Memory status (inr is) two = let four = is.1 in omega (arith, four, two)
+is_of_script (bench.Audit verdict) status (inl is) two = omega (arith, is, two)
+is_of_script (bench.Audit verdict) status (inr is) two = let four = is.1 in omega (arith, four, two)

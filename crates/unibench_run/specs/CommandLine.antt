@@ -5,11 +5,12 @@ use Rattle.clap.specs.Words.{App, Row, Rule, Text, Kinds, IsAmong, new_app, new_
 use Rattle.clap.proofs.OnLiterals.{clap_on_literals}
 use Rattle.clap.specs.declared.builder.value_parser.ValueParser.TheVariants.{Unsigned}
 use Rattle.clap.specs.declared.error.kind.ErrorKind.TheVariants.{DisplayHelp, DisplayVersion, InvalidSubcommand, MissingSubcommand, UnknownArgument, ValueValidation}
+use Rattle.command_line.specs.Flags.{flag, is_set, versioned}
 use Rattle.uni_script.specs.declared.grammar.ObjectName.TheVariants as shared
 use Rattle.uni_script.specs.declared.replay.Options.{Options}
-use Rattle.unibench_run.specs.Request.{options_of, plan_of, random_of}
+use Rattle.unibench_run.specs.Request.{options_of, plan_of, random_of, subject_of}
 use Rattle.unibench_run.specs.declared.request.Request.{Request}
-use Rattle.unibench_run.specs.declared.request.Request.TheVariants.{Replay, Random, Threads}
+use Rattle.unibench_run.specs.declared.request.Request.TheVariants.{Replay, Explained, Random, Threads, Language}
 use Rattle.unibench_run.specs.declared.request.Form.TheVariants.{Lock, Words}
 use Rattle.unibench_run.specs.declared.request.ThreadsObject.TheVariants.{Queue, Tally}
 
@@ -21,12 +22,19 @@ needs_subcommand app = record app { top = record app.top { subcommand_required =
 abbrev pub option : (name value : Text) → Rule
 option name value = record (new_rule name) { long = Some name; value_names = 1; defaults = value ∷ [] }
 
+-- a word that isn't an option, for which help has a name
+abbrev pub operand : (name : Text) → Rule
+operand name = record (new_rule name) { value_names = 1 }
+
 -- the option, where its value is to be a number of a range, perhaps after a plus
 abbrev pub in_range : Rule → (least most : ℕ) → Rule
 in_range number least most = record number { parser = Some (Unsigned least most) }
 
 abbrev pub replay_command : App
-replay_command = with_rule (new_app (codes "replay")) (in_range (option (codes "history") (codes "1048576")) 1 16777216)
+replay_command =
+    with_rule (with_rule (new_app (codes "replay"))
+    (in_range (option (codes "history") (codes "1048576")) 1 16777216))
+    (flag (codes "explain"))
 
 abbrev pub random_command : App
 random_command =
@@ -46,15 +54,22 @@ threads_command =
     (in_range (option (codes "calls") (codes "100")) 1 4096))
     (in_range (option (codes "seed") (codes "1")) 0 (2 ^ 64 - 1))
 
--- the program has three subcommands, `replay`, `random` and `threads`, and needs one
+abbrev pub language_command : App
+language_command = with_rule (new_app (codes "language")) (operand (codes "object"))
+
+-- the program has a version, and four subcommands, of which it needs one
 abbrev pub unibench : App
 unibench =
-    with_subcommand (with_subcommand (with_subcommand (needs_subcommand (new_app (codes "unibench")))
-    replay_command.top) random_command.top) threads_command.top
+    with_subcommand (with_subcommand (with_subcommand (with_subcommand (needs_subcommand (versioned (new_app (codes "unibench"))))
+    replay_command.top) random_command.top) threads_command.top) language_command.top
 
 -- the kinds of the first fault that these words have, of which the program's name is the first
 abbrev pub faults_of_words : List Text → Kinds
 faults_of_words words = fault_of unibench words
+
+-- the replay that is asked for, by the matches of its subcommand
+abbrev pub replay_in : List Row → Option Request
+replay_in rows = option_map (if is_set (codes "explain") rows then Explained else Replay) (options_of rows)
 
 -- what the subcommand asks for, by its name and its matches; nothing where an option has a value that it doesn't take
 abbrev pub request_in : Option (Text × List Row) → Option Request
@@ -62,7 +77,8 @@ request_in None = None
 request_in (Some (name, rows)) =
     if bytes_eq name (codes "random") then option_map Random (random_of rows)
     else if bytes_eq name (codes "threads") then option_map Threads (plan_of rows)
-    else option_map Replay (options_of rows)
+    else if bytes_eq name (codes "language") then option_map Language (subject_of rows)
+    else replay_in rows
 
 -- what words without a fault ask for
 abbrev pub asked_of : List Text → Option Request
@@ -72,19 +88,19 @@ asked_of words = request_in (subcommand_of unibench words)
 abbrev pub AsksFor : List Text → Request → Type 0
 AsksFor words request = (faults_of_words words ≡ []) × (asked_of words ≡ Some request)
 
--- they ask for the replay of a script
+-- they ask for the replay of a script, explained or not
 abbrev pub AsksForReplay : List Text → Type 0
-AsksForReplay words = (options : Options) × AsksFor words (Replay options)
+AsksForReplay words = (options : Options) × (AsksFor words (Replay options) ⊎ AsksFor words (Explained options))
 
 -- they ask for nothing that the program does
 abbrev pub AsksForNothing : List Text → Type 0
 AsksForNothing words = (request : Request) → ¬ (AsksFor words request)
 
--- the words may ask for the help, or the version, of which this program has none
+-- the words may ask for the help or the version
 abbrev pub MayAskForHelp : List Text → Type 0
 MayAskForHelp words = IsAmong DisplayHelp (faults_of_words words) ⊎ IsAmong DisplayVersion (faults_of_words words)
 
--- they ask for nothing that the program does, and not for help
+-- they ask for nothing that the program does
 abbrev pub IsRefused : List Text → Type 0
 IsRefused words = AsksForNothing words × ¬ (MayAskForHelp words)
 
@@ -96,6 +112,26 @@ replay_is_asked name = (refl, refl)
 replay_of_23_events_is_asked : (name : Text) → AsksFor (name ∷ codes "replay" ∷ codes "--history" ∷ codes "23" ∷ []) (Replay (record { history = 23 }))
 unfolding clap_on_literals
 replay_of_23_events_is_asked name = (refl, refl)
+
+explained_is_asked : (name : Text) → AsksFor (name ∷ codes "replay" ∷ codes "--explain" ∷ codes "--history=23" ∷ []) (Explained (record { history = 23 }))
+unfolding clap_on_literals
+explained_is_asked name = (refl, refl)
+
+language_is_asked : (name : Text) → AsksFor (name ∷ codes "language" ∷ []) (Language None)
+unfolding clap_on_literals
+language_is_asked name = (refl, refl)
+
+language_of_a_book_is_asked : (name : Text) → AsksFor (name ∷ codes "language" ∷ codes "book" ∷ []) (Language (Some shared.Book))
+unfolding clap_on_literals
+language_of_a_book_is_asked name = (refl, refl)
+
+language_of_a_tally : (name : Text) → asked_of (name ∷ codes "language" ∷ codes "tally" ∷ []) ≡ None
+unfolding clap_on_literals
+language_of_a_tally name = refl
+
+language_of_two_objects_is_a_fault : (name : Text) → faults_of_words (name ∷ codes "language" ∷ codes "queue" ∷ codes "book" ∷ []) ≡ UnknownArgument ∷ []
+unfolding clap_on_literals
+language_of_two_objects_is_a_fault name = refl
 
 no_history : (name : Text) → asked_of (name ∷ codes "replay" ∷ codes "--history=0" ∷ []) ≡ None
 unfolding clap_on_literals
@@ -142,6 +178,22 @@ nothing_is_asked name = refl
 help_is_asked : (name : Text) → faults_of_words (name ∷ codes "--help" ∷ []) ≡ DisplayHelp ∷ []
 unfolding clap_on_literals
 help_is_asked name = refl
+
+version_is_asked : (name : Text) → faults_of_words (name ∷ codes "--version" ∷ []) ≡ DisplayVersion ∷ []
+unfolding clap_on_literals
+version_is_asked name = refl
+
+version_is_asked_in_short : (name : Text) → faults_of_words (name ∷ codes "-V" ∷ []) ≡ DisplayVersion ∷ []
+unfolding clap_on_literals
+version_is_asked_in_short name = refl
+
+a_file_is_a_fault : (name : Text) → faults_of_words (name ∷ codes "replay" ∷ codes "queue.script" ∷ []) ≡ UnknownArgument ∷ []
+unfolding clap_on_literals
+a_file_is_a_fault name = refl
+
+a_hyphen_is_a_fault : (name : Text) → faults_of_words (name ∷ codes "replay" ∷ codes "-" ∷ []) ≡ UnknownArgument ∷ []
+unfolding clap_on_literals
+a_hyphen_is_a_fault name = refl
 
 help_of_replay_is_asked : (name : Text) → faults_of_words (name ∷ codes "replay" ∷ codes "-h" ∷ []) ≡ DisplayHelp ∷ []
 unfolding clap_on_literals

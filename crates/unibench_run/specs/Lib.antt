@@ -4,3 +4,4 @@ pub mod Request
 pub mod Draws
 pub mod Runs
 pub mod Threads
+pub mod Language

@@ -51,6 +51,14 @@ value_of read id rows = option_and_then read (first_of id rows)
 abbrev pub options_of : List Row → Option Options
 options_of rows = option_map (λ h. record { history = h }) (value_of (number_in 1 16777216) (codes "history") rows)
 
+-- what the language is asked of by a word: all of it where there is none, and else the object that it names
+abbrev pub subject_named : Option Text → Option (Option ObjectName)
+subject_named None = Some None
+subject_named (Some name) = option_map Some (object_of_word name)
+
+abbrev pub subject_of : List Row → Option (Option ObjectName)
+subject_of rows = subject_named (first_of (codes "object") rows)
+
 -- the plan of these values, if each is there
 abbrev pub plan_with : Option Form → Option ThreadsObject → (processes calls seed : Option ℕ) → Option Plan
 plan_with (Some f) (Some o) (Some n) (Some c) (Some s) = Some (record { form = f; object = o; processes = n; calls = c; seed = s })

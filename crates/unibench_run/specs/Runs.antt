@@ -4,12 +4,14 @@ use Rattle.std.specs.Io.KnownBytes.{Appends}
 use Rattle.uni_script.specs.Ends.{AppendsFront}
 use Rattle.uni_script.specs.Replay.{IsReplay, IsBadReplay, IsPartOfReplay, HasAnswered}
 use Rattle.unibench_run.specs.Draws.{drawn_text}
+use Rattle.uni_script.specs.declared.grammar.ObjectName.{ObjectName}
+use Rattle.unibench_run.specs.Language.{language_text}
 use Rattle.unibench_run.specs.Threads.{OfAgreed, refusal_of}
 use Rattle.unibench_run.specs.declared.request.Form.TheVariants.{Lock}
 use Rattle.unibench_run.specs.declared.request.Plan.{Plan}
 use Rattle.unibench_run.specs.declared.request.RandomPlan.{RandomPlan}
 use Rattle.unibench_run.specs.declared.request.Request.{Request}
-use Rattle.unibench_run.specs.declared.request.Request.TheVariants.{Replay, Random, Threads}
+use Rattle.unibench_run.specs.declared.request.Request.TheVariants.{Replay, Explained, Random, Threads, Language}
 
 -- what an end has failed, and the status: 0 only where neither has, 3 where the output has, and only where one of them has
 pub record IsStatusOfEnds (input_failed output_failed : Bool) (status : ℕ) : Type 0 where
@@ -48,8 +50,19 @@ pub record IsThreadsRun (plan : Plan) (old new : Option (List ℕ)) (output_fail
   pub nothing : status ≢ 0 → status ≢ 3 → new ≡ old
   pub closing : status ≡ 5 → plan.form ≡ Lock
 
+-- The language that was printed with this status, from what the output held: 0 only where its text was written, 3 exactly where the
+-- output failed, after a front of it, and 4 for want of memory, where nothing was written.
+pub record IsLanguageRun (object : Option ObjectName) (old new : Option (List ℕ)) (output_failed : Bool) (status : ℕ) : Type 0 where
+  pub statuses : (status ≡ 0) ⊎ ((status ≡ 3) ⊎ (status ≡ 4))
+  pub printed : status ≡ 0 → Appends old new (language_text object)
+  pub front : status ≡ 3 → AppendsFront old new (language_text object)
+  pub failed : (status ≡ 3) ↔ (output_failed ≡ true)
+  pub nothing : status ≡ 4 → new ≡ old
+
 -- a run of what was asked for
 abbrev pub IsRunOf : Request → (left left_after old new : Option (List ℕ)) (output_failed : Bool) (status : ℕ) → Type 0
 IsRunOf (Replay options) left left_after old new failed status = IsReplayRun options.history left left_after old new failed status
+IsRunOf (Explained options) left left_after old new failed status = IsReplayRun options.history left left_after old new failed status
 IsRunOf (Random plan) left left_after old new failed status = IsRandomRun plan old new failed status
 IsRunOf (Threads plan) left left_after old new failed status = IsThreadsRun plan old new failed status
+IsRunOf (Language object) left left_after old new failed status = IsLanguageRun object old new failed status

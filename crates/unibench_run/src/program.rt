@@ -9,33 +9,34 @@ ghost use Rattle.unibench_run.specs.CommandLine.{AsksFor, AsksForReplay, IsRefus
 ghost use Rattle.uni_script.specs.Schedules.{IsPlan};
 ghost use Rattle.unibench_run.specs.Runs.{IsRandomRun, IsRunOf, IsStatusOfEnds, IsThreadsRun};
 ghost use Rattle.uni_script.specs.Statuses.{TellsFault};
-ghost use Rattle.unibench_run.specs.Statuses.{IsStatusFor, IsStatusOfThreads, Tells, TellsThreadsFault, status_of_threads};
+ghost use Rattle.unibench_run.specs.Statuses.{IsStatusFor, IsStatusOfThreads, Tells, TellsMore, TellsThreadsFault, status_of_threads};
 ghost use Rattle.unibench_run.specs.Threads.{IsThreadsPlan, OfAgreed, refusal_of};
 
+use crate::explain::{KeepsText, report_explained};
+use crate::hints::{fault_of_names, tip_for};
+use crate::language::write_language;
 use crate::request::{Form, Plan, RandomPlan, Request, read_words};
 use crate::threads::{ThreadsFault, push_agrees, push_threads_fault, run_plan};
-use clap::error::ErrorKind;
+use command_line::answer_words;
 use rand_core::SeedableRng;
 use rand_xoshiro::Xoshiro256PlusPlus;
 use std::alloc::{AllocError, Global};
 use std::convert::AsStr;
-use std::fmt;
-use std::fmt::{Display, Write};
 use std::sync::Wait;
 use std::thread::Threads;
 use uni_script::{
-    BenchFault, Failed, Options, TextIn, TextOut, bench, report_fault, schedule, tell, write_all,
+    Failed, Options, TextIn, TextOut, bench, report_fault, schedule, tell, write_all,
 };
 
 /// Runs the program over its argument texts, the program's name first; the answer is the status
 /// that it ends with.
 ///
-/// The status is 0 where all went well, also for help that was asked for, which goes to `output`.
+/// The status is 0 where all went well, also for the help or the version, which go to `output`.
 /// It is 2 for a bad script, a bad command line, an object that isn't there in a form of threads or
 /// calls that are too many for a history, 3 where `input` or `output` failed, 4 where memory was
 /// refused, and 5 where threads under a lock and their record don't agree; the text that says so goes
 /// to `faults`, as far as that takes it.
-pub fn run<R: Threads + Wait + Sync, S: AsStr, I: TextIn, O: TextOut, F: TextOut>(
+pub fn run<R: Threads + Wait + Sync, S: AsStr, I: KeepsText, O: TextOut, F: TextOut>(
     rt: &R,
     alloc: Global,
     words: &[S],
@@ -57,25 +58,14 @@ pub fn run<R: Threads + Wait + Sync, S: AsStr, I: TextIn, O: TextOut, F: TextOut
 {
     match read_words(alloc, words) {
         Ok(Some(Request::Replay(options))) => replay(alloc, &options, input, output, faults),
+        Ok(Some(Request::Explained(options))) => {
+            replay_explained(alloc, &options, input, output, faults)
+        }
         Ok(Some(Request::Random(plan))) => random(alloc, &plan, output, faults),
         Ok(Some(Request::Threads(plan))) => threads(rt, alloc, &plan, output, faults),
-        Ok(None) => {
-            tell(faults, b"no such object or form\n");
-            2
-        }
-        Err(error) if error.kind() == ErrorKind::OutOfMemory => report_fault(
-            alloc,
-            BenchFault::Memory,
-            faults,
-        ),
-        Err(error) if error.use_stderr() => {
-            let _ = print(faults, &error);
-            2
-        }
-        Err(error) => match print(output, &error) {
-            Ok(()) => 0,
-            Err(Failed) => report_fault(alloc, BenchFault::Write, faults),
-        },
+        Ok(Some(Request::Language(object))) => write_language(alloc, object, output, faults),
+        Ok(None) => refuse_name(alloc, words, output, faults),
+        Err(error) => answer_words(alloc, &error, tip_for(&error, words), output, faults),
     }
 }
 
@@ -193,6 +183,61 @@ fn replay<I: TextIn, O: TextOut, F: TextOut>(
     }
 }
 
+/// Runs the script on `input`, and writes its answers to `output`; where a line is bad, what goes to `faults` says
+/// why. The answer is the status.
+///
+/// The status is 0 where all went well, 2 for a bad script, 3 where `input` or `output` failed, and
+/// 4 where memory was refused; the text that says so goes to `faults`, as far as that takes it. No
+/// audit finds a fault.
+fn replay_explained<I: KeepsText, O: TextOut, F: TextOut>(
+    alloc: Global,
+    options: &Options,
+    input: &mut I,
+    output: &mut O,
+    faults: &mut F,
+) -> u8
+    requires history { IsHistory options.now.history }
+    requires input { I.has_failed input.old ≡ false }
+    requires output { O.has_failed output.old ≡ false }
+    ensures statuses { (result ≤ 4) × (result ≢ 1) }
+    ensures replayed { result ≡ 0 → IsReplay options.now.history (I.remaining input.old) (O.contents output.old) (O.contents output.new) None }
+    ensures bad { result ≡ 2 → IsBadReplay options.now.history (I.remaining input.old) (O.contents output.old) (O.contents output.new) }
+    ensures read { result ≡ 3 → O.has_failed output.new ≡ false → HasAnswered options.now.history (I.remaining input.old) (I.remaining input.new) (O.contents output.old) (O.contents output.new) }
+    ensures part { IsPartOfReplay options.now.history (I.remaining input.old) (O.contents output.old) (O.contents output.new) }
+    ensures good { result ≡ 0 → (I.has_failed input.new ≡ false) × (O.has_failed output.new ≡ false) }
+    ensures written { O.has_failed output.new ≡ true → result ≡ 3 }
+    ensures ends { result ≡ 3 → (I.has_failed input.new ≡ true) ⊎ (O.has_failed output.new ≡ true) }
+    ensures silent { result ≡ 0 → faults.new ≡ faults.old }
+    ensures told { result ≢ 0 → TellsMore (F.contents faults.old) (F.contents faults.new) (F.has_failed faults.new) result }
+{
+    input.keep(alloc);
+    match bench(alloc, input, output, options) {
+        Ok(_) => 0,
+        Err(fault) => report_explained(alloc, fault, input.kept(), faults),
+    }
+}
+
+/// Says which option has a value that it doesn't take, and which names there are, as far as `faults` takes it; the
+/// answer is the status, 2, or 4 where memory was refused.
+fn refuse_name<S: AsStr, O: TextOut, F: TextOut>(
+    alloc: Global,
+    words: &[S],
+    output: &mut O,
+    faults: &mut F,
+) -> u8
+    requires output { O.has_failed output.old ≡ false }
+    ensures status { (result ≡ 2) ⊎ (result ≡ 4) }
+    ensures kept { output.new ≡ output.old }
+{
+    match fault_of_names(alloc, words) {
+        Some(error) => answer_words(alloc, &error, None, output, faults),
+        None => {
+            tell(faults, b"no such object or form\n");
+            2
+        }
+    }
+}
+
 /// Writes the schedule that is drawn from the seed of a plan to `output`; the answer is the status.
 ///
 /// The status is 0 where all went well, 3 where `output` failed, and 4 where memory was refused; the
@@ -233,30 +278,4 @@ fn report_closing<F: TextOut>(alloc: Global, fault: ThreadsFault, faults: &mut F
             4
         }
     }
-}
-
-/// An end as a writer of text.
-#[derive(Drop)]
-struct Printer<'a, T> {
-    end: &'a mut T,
-}
-
-impl<T: TextOut> fmt::Write for Printer<'_, T> {
-    ghost write_str_gives = { λ before text after. Appends (T.contents before.end.now) (T.contents after.end.now) text };
-
-    fn write_str(&mut self, text: &str) -> fmt::Result {
-        write_all(&mut *self.end, text.as_bytes()).map_err(|_| fmt::Error)
-    }
-}
-
-/// Writes the text of a value.
-///
-/// An `Err` says that the end has failed.
-fn print<T: TextOut, D: Display + Drop>(end: &mut T, value: D) -> Result<(), Failed>
-    ensures ok { OnOk result (T.has_failed end.new ≡ false) }
-    ensures err { OnErr result (T.has_failed end.new ≡ true) }
-{
-    let mut printer = Printer { end: &mut *end };
-    let _ = printer.write(value);
-    if end.failed() { Err(Failed) } else { Ok(()) }
 }

@@ -1,14 +1,16 @@
 //! What a command line asks for.
 
-ghost use Rattle.std.specs.Prelude.{◌≡◌, [], IfOk, IfErr, map, codes, false};
+ghost use Rattle.std.specs.Prelude.{◌≡◌, [], IfOk, IfErr, map, codes, false, Some, option_map};
 ghost use Rattle.clap.specs.Words.{HasKind, app_of, found_of, rows_of, new_app, rule_of, subcommand_rows_of};
 ghost use Rattle.clap.specs.declared.builder.command.Command.TheViews.{out-Command};
-ghost use Rattle.unibench_run.specs.CommandLine.{asked_of, faults_of_words, in_range, option, random_command, replay_command, request_in, threads_command, unibench};
+ghost use Rattle.command_line.specs.Flags.{versioned};
+ghost use Rattle.unibench_run.specs.CommandLine.{asked_of, faults_of_words, in_range, language_command, needs_subcommand, operand, option, random_command, replay_command, replay_in, request_in, threads_command, unibench};
 ghost use Rattle.uni_script.specs.Grammar.{object_of_word};
-ghost use Rattle.unibench_run.specs.Request.{form_named, number_in, object_named, options_of, plan_of, random_of, value_of};
+ghost use Rattle.unibench_run.specs.Request.{form_named, number_in, object_named, options_of, plan_of, random_of, subject_of, value_of};
 
 use clap::builder::ValueParser;
 use clap::{Arg, ArgMatches, Command};
+use command_line::{flag, is_set};
 use std::alloc::{AllocError, Global};
 use std::convert::AsStr;
 use uni_script::{ObjectName, Options};
@@ -196,10 +198,14 @@ fn options_of(matches: &ArgMatches<'_>) -> Option<Options>
 pub enum Request {
     /// The replay of the script on standard input.
     Replay(Options),
+    /// The same, where a bad line is explained.
+    Explained(Options),
     /// A schedule that is drawn from a seed.
     Random(RandomPlan),
     /// A run of threads.
     Threads(Plan),
+    /// The language of scripts, or the calls of one object.
+    Language(Option<ObjectName>),
 }
 
 /// A command with what its help says: one line, and a text that comes last.
@@ -228,6 +234,14 @@ fn option<'a>(
         .default_value(value)
 }
 
+/// A word that isn't an option and may be left out, with what its help calls it.
+fn operand<'a>(alloc: Global, name: &'a str, placeholder: &'a str, help: &'a str) -> Arg<'a>
+    ensures rule { rule_of result ≡ operand name.entry.now }
+    ensures local { result.global ≡ false }
+{
+    Arg::new(alloc, name).value_name(placeholder).help(help)
+}
+
 /// An option whose value is a number of a range: another one is a fault of the command line, which
 /// names the option and the range.
 fn in_range<'a>(number: Arg<'a>, least: u64, most: u64) -> Arg<'a>
@@ -244,7 +258,7 @@ book or sticky), how many processes share it, from 1 to 16, and how many calls
 each can make in an era, from 1 to 4096. Then come commands, one a line: call,
 step, finish, trim, log and heads. After 'universal 2' there are up to 64
 processes, and reshape changes their number. A line that begins with # is a
-note.
+note. 'unibench language' prints all of it.
 
 Example:
   printf '%s\\n' 'universal 1 queue 2 8' 'call 0 enq 7' 'finish 0' log |
@@ -269,7 +283,8 @@ fn replay_command<'a>(alloc: Global) -> Result<Command<'a>, AllocError>
         "Runs the script on standard input, and writes its answers",
         REPLAY_NOTES,
     )
-    .arg(history)
+    .arg(history)?
+    .arg(flag(alloc, "explain", "Says why a line is bad"))
 }
 
 /// What the help of `random` says last.
@@ -282,7 +297,7 @@ Example:
   unibench random --object book --processes 4 --events 1000 --seed 7";
 
 /// The subcommand that draws a schedule.
-fn random_command<'a>(alloc: Global) -> Result<Command<'a>, AllocError>
+pub(crate) fn random_command<'a>(alloc: Global) -> Result<Command<'a>, AllocError>
     ensures app { IfOk result (λ command. app_of command ≡ random_command) }
     ensures local { IfOk result (λ command. (out-Command command).has_globals ≡ false) }
 {
@@ -358,7 +373,7 @@ Examples:
   unibench threads --form words --object tally --processes 8";
 
 /// The subcommand that runs threads.
-fn threads_command<'a>(alloc: Global) -> Result<Command<'a>, AllocError>
+pub(crate) fn threads_command<'a>(alloc: Global) -> Result<Command<'a>, AllocError>
     ensures app { IfOk result (λ command. app_of command ≡ threads_command) }
     ensures local { IfOk result (λ command. (out-Command command).has_globals ≡ false) }
 {
@@ -411,6 +426,52 @@ fn threads_command<'a>(alloc: Global) -> Result<Command<'a>, AllocError>
     ))
 }
 
+/// What the help of `language` says last.
+const LANGUAGE_NOTES: &str = "\
+Without an object the lines of a script, the calls of each object and the
+refusals are printed; with one of queue, directory, book and sticky its calls.
+
+Examples:
+  unibench language
+  unibench language queue";
+
+/// The subcommand that prints the language.
+pub(crate) fn language_command<'a>(alloc: Global) -> Result<Command<'a>, AllocError>
+    ensures app { IfOk result (λ command. app_of command ≡ language_command) }
+    ensures local { IfOk result (λ command. (out-Command command).has_globals ≡ false) }
+{
+    described(
+        alloc,
+        "language",
+        "Prints the language of scripts, or the calls of an object",
+        LANGUAGE_NOTES,
+    )
+    .arg(operand(
+        alloc,
+        "object",
+        "OBJECT",
+        "One of queue, directory, book and sticky",
+    ))
+}
+
+/// The version of the program.
+const VERSION: &str = "0.1.0";
+
+/// The program without its subcommands, with what its help says.
+pub(crate) fn program<'a>(alloc: Global) -> Command<'a>
+    ensures app { app_of result ≡ needs_subcommand (versioned (new_app (codes "unibench"))) }
+    ensures local { (out-Command result).has_globals ≡ false }
+{
+    described(
+        alloc,
+        "unibench",
+        "A bench for Herlihy's wait-free universal construction",
+        NOTES,
+    )
+    .version(VERSION)
+    .subcommand_required(true)
+}
+
 /// What the help of the program says last.
 const NOTES: &str = "\
 Status:
@@ -428,18 +489,45 @@ fn unibench<'a>(alloc: Global) -> Result<Command<'a>, AllocError>
     ensures { IfOk result (λ command. app_of command ≡ unibench) }
 {
     let replay = replay_command(alloc)?;
-    let program = described(
-        alloc,
-        "unibench",
-        "A bench for Herlihy's wait-free universal construction",
-        NOTES,
-    )
-    .subcommand_required(true)
-    .subcommand(replay)?;
+    let program = program(alloc).subcommand(replay)?;
     let random = random_command(alloc)?;
     let program = program.subcommand(random)?;
     let threads = threads_command(alloc)?;
-    program.subcommand(threads)
+    let program = program.subcommand(threads)?;
+    let language = language_command(alloc)?;
+    program.subcommand(language)
+}
+
+/// The replay that the matches of its subcommand ask for; `None` where an option has a value that it doesn't take.
+fn replay_in(matches: &ArgMatches<'_>) -> Option<Request>
+    ensures { result ≡ replay_in (rows_of (found_of matches.now)) }
+{
+    let options = options_of(matches)?;
+    if is_set(matches, "explain") {
+        Some(Request::Explained(options))
+    } else {
+        Some(Request::Replay(options))
+    }
+}
+
+/// What the language is asked of by a name: the object; `None` where the name is none.
+fn subject_named(name: &str) -> Option<Option<ObjectName>>
+    ensures { result ≡ option_map Some (object_of_word name.now) }
+{
+    match shared_named(name) {
+        Some(object) => Some(Some(object)),
+        None => None,
+    }
+}
+
+/// What the language is asked of: all of it or, where it is named, an object; `None` where the name is none.
+fn subject_of(matches: &ArgMatches<'_>) -> Option<Option<ObjectName>>
+    ensures { result ≡ subject_of (rows_of (found_of matches.now)) }
+{
+    match matches.get_str("object") {
+        Some(name) => subject_named(name),
+        None => Some(None),
+    }
 }
 
 /// What matches ask for; `None` where an option has a value that it doesn't take.
@@ -449,7 +537,8 @@ fn request_in(matches: &ArgMatches<'_>) -> Option<Request>
     match matches.subcommand() {
         Some(("random", random)) => Some(Request::Random(RandomPlan::of(random)?)),
         Some(("threads", threads)) => Some(Request::Threads(Plan::of(threads)?)),
-        Some((_, replay)) => Some(Request::Replay(options_of(replay)?)),
+        Some(("language", language)) => Some(Request::Language(subject_of(language)?)),
+        Some((_, replay)) => replay_in(replay),
         None => None,
     }
 }

@@ -12,7 +12,7 @@ use std::test::Fail;
 use std::thread::Threads;
 use uni_record::Verdict;
 use uni_script::Checked;
-use unibench_run::{ThreadsFault, push_threads_fault, run};
+use unibench_run::{Kept, ThreadsFault, push_threads_fault, run};
 
 /// A reader over memory that gives at most so many bytes at a time, and then ends or fails.
 #[derive(Drop)]
@@ -83,7 +83,7 @@ fn outcome_of<R: Threads + Wait + Sync>(
     words: &[&str],
     reader: Trickle<'_>,
 ) -> Outcome {
-    let mut input = Checked::new(reader);
+    let mut input = Kept::new(Checked::new(reader));
     let mut output = Vec::new(alloc);
     let mut faults = Vec::new(alloc);
     let status = run(
@@ -242,7 +242,7 @@ fn narrow_outcome<R: Threads + Wait + Sync>(
         rt,
         alloc,
         words,
-        &mut Checked::new(script),
+        &mut Kept::new(Checked::new(script)),
         &mut Checked::new(&mut narrow),
         &mut Checked::new(&mut faults),
     );
@@ -318,7 +318,7 @@ fn faults_that_nobody_takes(rt: HostRuntime) {
         &rt,
         rt.alloc(),
         ["unibench", "replay"].as_slice(),
-        &mut Checked::new(b"fin\n".as_slice()),
+        &mut Kept::new(Checked::new(b"fin\n".as_slice())),
         &mut Checked::new(&mut output),
         &mut Checked::new(&mut faults),
     );

@@ -2,13 +2,15 @@
 
 ghost use Rattle.std.specs.Prelude.{◌≡◌, ◌⊎◌, ◌↔◌, ◌<◌, ◌≤◌, IsSome};
 ghost use Rattle.std.specs.declared.option.Option.TheVariants.{None};
-ghost use Rattle.uni_script.specs.Replay.{IsHistory, fault_of_script};
+ghost use Rattle.uni_record.specs.Recorded.{IsHistory};
+ghost use Rattle.uni_script.specs.Replay.{fault_of_script};
 ghost use Rattle.universal_text.specs.Told.{IsTooLong, IsWritten, answer_to};
 
 use crate::status::{BAD_HISTORY, DONE};
 use crate::tell::{refuse, tell};
 use run_layout::PictureFault;
 use std::alloc::Global;
+use uni_record::MAX_HISTORY;
 use uni_script::{Checked, Options, bench};
 
 /// Runs a script whose history can have so many events.
@@ -57,7 +59,7 @@ pub extern "C" fn universal_replay(
     ensures small { result ≡ 2 → IsTooLong (answer_to history script.now) out.old out.new written.new }
     ensures unchanged { 3 ≤ result → (out.new ≡ out.old) × (written.new ≡ written.old) }
 {
-    if history < 1 || history > 16_777_216 {
+    if history < 1 || history > MAX_HISTORY {
         return BAD_HISTORY;
     }
     replay(alloc, script, history, out, written)

@@ -1,5 +1,5 @@
-use Rattle.std.proofs.Common.{◌∙◌, sym, ap, map}
-use Rattle.clap.specs.Words.{fault_of, subcommand_of}
+use Rattle.std.proofs.Common.{◌∙◌, sym, ap, map, subst}
+use Rattle.clap.specs.Words.{HasKind, fault_of, subcommand_of}
 use Rattle.unibench_run.specs.CommandLine.{request_in}
 use Rattle.unibench_run.proofs.CommandLine.{is_simple_and_free-unibench, is_simple-unibench}
 use Rattle.unibench_run.proofs.request.read_words.Goals as goal
@@ -12,3 +12,9 @@ returns-in-Ok-clause-asked g c =
       ap (λ app. fault_of app words) (sym is) ∙ c.in-Ok.ensures.kinds (is_simple_and_free-unibench whole is),
       c.request_in.ensures ∙ ap request_in ((c.in-Ok.ensures.matches (is_simple-unibench whole is)).1 ∙ ap (λ app. subcommand_of app words) is),
     )
+
+pub returns-in-Err-clause-fault : goal.returns-in-Err-clause-fault
+returns-in-Err-clause-fault g c =
+    let whole = c.in_ok-unibench.field-0 in
+    let is = c.in_ok-unibench.ensures in
+    subst (λ app. HasKind (fault_of app (map g.S.AsStr.text c.args.words.now)) c.in-Err.error) is (c.in-Err.ensures.kinds (is_simple_and_free-unibench whole is))

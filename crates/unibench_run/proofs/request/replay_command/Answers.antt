@@ -5,7 +5,11 @@ use Rattle.unibench_run.specs.CommandLine.{in_range}
 use Rattle.unibench_run.proofs.request.replay_command.Goals as goal
 
 pub returns-clause-app : goal.returns-clause-app
-returns-clause-app c = IfOk-weaker c.arg.result _ _ (λ command added. added.shape (c.in_range-history.ensures.local ∙ c.option-history.ensures.local) ∙ ap₂ with_rule c.described.ensures.app (c.in_range-history.ensures.rule ∙ ap (λ r. in_range r 1 16777216) c.option-history.ensures.rule)) c.arg.ensures
+returns-clause-app c =
+    let one = c.in_ok-arg.ensures.shape (c.in_range-history.ensures.local ∙ c.option-history.ensures.local) ∙ ap₂ with_rule c.described.ensures.app (c.in_range-history.ensures.rule ∙ ap (λ r. in_range r 1 16777216) c.option-history.ensures.rule) in
+    IfOk-weaker c.arg-2.result _ _ (λ command added. added.shape c.flag.ensures.local ∙ ap₂ with_rule one c.flag.ensures.rule) c.arg-2.ensures
 
 pub returns-clause-local : goal.returns-clause-local
-returns-clause-local c = IfOk-weaker c.arg.result _ _ (λ command added. added.globals ∙ ap₂ ◌||◌ c.described.ensures.local (c.in_range-history.ensures.local ∙ c.option-history.ensures.local)) c.arg.ensures
+returns-clause-local c =
+    let one = c.in_ok-arg.ensures.globals ∙ ap₂ ◌||◌ c.described.ensures.local (c.in_range-history.ensures.local ∙ c.option-history.ensures.local) in
+    IfOk-weaker c.arg-2.result _ _ (λ command added. added.globals ∙ ap₂ ◌||◌ one c.flag.ensures.local) c.arg-2.ensures
