@@ -1,26 +1,10 @@
 /* Each allocation of a whole use is refused in turn: the call answers UNIVERSAL_MEMORY and changes nothing, and nothing
- * leaks. Linked with -Wl,--wrap=malloc,--wrap=realloc. */
+ * leaks. */
 #include "universal.h"
+#include "refusing.h"
 #include <stdbool.h>
 #include <stdio.h>
 #include <stdlib.h>
-
-void *__real_malloc(size_t size);
-void *__real_realloc(void *at, size_t size);
-
-static long asked, refused;
-
-static bool refuses(void) {
-    return ++asked == refused;
-}
-
-void *__wrap_malloc(size_t size) {
-    return refuses() ? NULL : __real_malloc(size);
-}
-
-void *__wrap_realloc(void *at, size_t size) {
-    return refuses() ? NULL : __real_realloc(at, size);
-}
 
 static void expect(bool holds, const char *what) {
     if (!holds) {

@@ -1,27 +1,10 @@
-/* Scripts from bytes to bytes: each call on its happy path, and each refusal; then with each allocation refused in turn.
- * Linked with -Wl,--wrap=malloc,--wrap=realloc. */
+/* Scripts from bytes to bytes: each call on its happy path, and each refusal; then with each allocation refused in turn. */
 #include "universal_text.h"
+#include "refusing.h"
 #include <stdbool.h>
 #include <stdio.h>
 #include <stdlib.h>
 #include <string.h>
-
-void *__real_malloc(size_t size);
-void *__real_realloc(void *at, size_t size);
-
-static long asked, refused;
-
-static bool refuses(void) {
-    return ++asked == refused;
-}
-
-void *__wrap_malloc(size_t size) {
-    return refuses() ? NULL : __real_malloc(size);
-}
-
-void *__wrap_realloc(void *at, size_t size) {
-    return refuses() ? NULL : __real_realloc(at, size);
-}
 
 typedef uint32_t (*text_of)(const uint8_t *, size_t, uint8_t *, size_t, size_t *);
 
