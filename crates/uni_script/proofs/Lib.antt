@@ -5,6 +5,7 @@ pub mod Stepping
 pub mod Results
 pub mod Cutting
 pub mod Running
+pub mod Sharing
 pub mod Taking
 pub mod Replaying
 pub mod RunningOn

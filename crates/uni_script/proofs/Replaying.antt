@@ -1,5 +1,5 @@
 -- What was read of a script, and the whole script.
-use Rattle.std.proofs.Common.{◌≡◌, ◌∙◌, ◌⊎◌, inl, inr, ℕ, ◌+◌, ◌≤◌, ◌==◌, nat_lt, not, if◌then◌else◌, Bool, true, false, List, [], ◌∷◌, ◌++◌, length, Option, None, Some, option_map, Result, Ok, Err, IfOk, IfErr, OnOk, refl, sym, ap, subst, arith, append_assoc, append-nil}
+use Rattle.std.proofs.Common.{◌≡◌, ◌∙◌, ◌⊎◌, inl, inr, ℕ, ◌+◌, ◌≤◌, ◌==◌, nat_lt, not, if◌then◌else◌, Bool, true, false, List, [], ◌∷◌, ◌++◌, length, Option, None, Some, Result, Ok, Err, IfErr, OnOk, refl, sym, ap, subst, arith, append_assoc, append-nil}
 use Rattle.std.proofs.lemmas.Bool.Decides.{nat_tests}
 use Rattle.std.specs.Option.{option_map_or}
 use Rattle.std.specs.Io.KnownBytes.{Appends, Consumes, IsAtEnd}
@@ -7,24 +7,17 @@ use Rattle.uni_record.specs.declared.verdict.Verdict.{Verdict}
 use Rattle.uni_script.specs.declared.fault.BenchFault.{BenchFault}
 use Rattle.uni_script.specs.declared.fault.BenchFault.TheVariants.{NoHeader, Read, Write, Memory}
 use Rattle.uni_script.specs.declared.fault.BenchFault.TheVariants as fault
-use Rattle.uni_script.specs.declared.grammar.Version.{Version}
 use Rattle.uni_script.specs.Ends.{AppendsFront}
 use Rattle.std.specs.List.{list_all}
 use Rattle.ready_objects.specs.Words.{words_of_text}
 use Rattle.uni_script.specs.Answer.{end_text}
-use Rattle.uni_script.specs.Grammar.{cut, lines_of, is_plain_byte, is_note, header_of_words, command_of_words}
-use Rattle.uni_script.specs.Objects.{SpokenObject, spoken_of}
-use Rattle.uni_script.specs.Meaning.{Session, session_after, ScriptSession, session_of_header, result_of_command, outcome_of_text, Outcome, script_session, outcome_of_command, outcome_of_fault, and_then, and_then_from, outcome_of_words, outcome_of_line, outcome_of_lines, outcome_of_end, outcome_of_script}
+use Rattle.uni_script.specs.Grammar.{cut, lines_of, is_plain_byte, is_note}
+use Rattle.uni_script.specs.Outcome.{Kind, Answered, Outcome, outcome_of_text, outcome_of_fault, and_then, and_then_from, echo_of, echoed, echoed_from, outcome_of_words, outcome_of_line, outcome_of_lines, outcome_of_end, outcome_of_script}
 use Rattle.uni_script.specs.Lines.{Stop, lines_of_read, outcome_of_stop, outcome_of_read, StopsAt, IsRead, HasEnded}
 use Rattle.uni_script.specs.Lines.Stop.{End, Failed, TooLong, TooMany}
-use Rattle.uni_script.specs.ScriptRun.{IsRan, session_of_record}
-use Rattle.uni_script.specs.declared.script_run.Ran.{Ran}
-use Rattle.uni_script.specs.declared.script_run.ScriptRecord.{ScriptRecord}
-use Rattle.uni_script.specs.Told.{Telling, Tells, told_of_lines, told_of_script}
-use Rattle.uni_script.specs.declared.summary.Summary.{Summary}
-use Rattle.uni_script.specs.Summary.{summary_of_session}
-use Rattle.uni_script.specs.Promises.{IsPromisedSession}
-use Rattle.uni_script.specs.Replay.{IsInput, IsReplay, IsSummary, IsPromisedScript, IsPartOfReplay, HasAnswered, IsFaultOfScript, text_of_script, fault_of_script}
+use Rattle.uni_script.specs.ScriptRun.{HasRunWhole}
+use Rattle.uni_script.specs.Told.{Telling, Tells, told_of_lines}
+use Rattle.uni_script.specs.Replay.{IsInput, IsReplay, Leaves, IsPartOfReplay, HasAnswered, IsFaultOfScript, text_of_script}
 use Rattle.uni_script.proofs.Cutting.{GoesOn-start, GoesOn-start_other, GoesOn-after, lines_of-append}
 use Rattle.uni_script.proofs.Running.{after_text, and_then-same, and_then-assoc, and_then-none, and_then-some, and_then-quiet, outcome_of_lines-append, outcome_of_lines-too_long, outcome_of_lines-too_many, few_lines}
 use Rattle.uni_script.proofs.Telling.{told_of_lines-length}
@@ -38,79 +31,84 @@ other_byte b h = at (b == 10) refl
     at false e = refl
 
 -- each fault that an outcome has is one of these
-abbrev FaultsOnly : (BenchFault → Type 0) → Outcome → Type 0
+abbrev FaultsOnly : {B : Type 0} → (BenchFault → Type 0) → Outcome B → Type 0
 FaultsOnly P outcome = (e : BenchFault) → outcome.fault ≡ Some e → P e
 
-module _ (P : BenchFault → Type 0) where
-  FaultsOnly-outcome_of_fault : (b : Option ScriptSession) (f : BenchFault) → P f → FaultsOnly P (outcome_of_fault b f)
+module _ {B : Type 0} (P : BenchFault → Type 0) where
+  FaultsOnly-outcome_of_fault : (b : Option B) (f : BenchFault) → P f → FaultsOnly P (outcome_of_fault b f)
   FaultsOnly-outcome_of_fault b f p e q = subst P (same q) p
     where
       same : Some f ≡ Some e → f ≡ e
       same q = cc
 
-  FaultsOnly-none : (b : Option ScriptSession) (text : List ℕ) → FaultsOnly P (record { session = b; text = text; fault = None })
+  FaultsOnly-none : (b : Option B) (text : List ℕ) → FaultsOnly P (record { session = b; text = text; fault = None })
   FaultsOnly-none b text e q = absurd (let f : None ≡ Some e = q in cc)
 
-  FaultsOnly-if : (c : Bool) (x y : Outcome) → FaultsOnly P x → FaultsOnly P y → FaultsOnly P (if c then x else y)
+  FaultsOnly-if : (c : Bool) (x y : Outcome B) → FaultsOnly P x → FaultsOnly P y → FaultsOnly P (if c then x else y)
   FaultsOnly-if true x y p q = p
   FaultsOnly-if false x y p q = q
 
-  FaultsOnly-map_or : {A : Type 0} (f : A → Outcome) (o : Option A) (x : Outcome) → ((a : A) → FaultsOnly P (f a)) → FaultsOnly P x → FaultsOnly P (option_map_or f o x)
+  FaultsOnly-map_or : {A : Type 0} (f : A → Outcome B) (o : Option A) (x : Outcome B) → ((a : A) → FaultsOnly P (f a)) → FaultsOnly P x → FaultsOnly P (option_map_or f o x)
   FaultsOnly-map_or f None x p q = q
   FaultsOnly-map_or f (Some a) x p q = p a
 
-  FaultsOnly-and_then : (first : Outcome) (rest : Option ScriptSession → Outcome) → FaultsOnly P first → ((b : Option ScriptSession) → FaultsOnly P (rest b)) → FaultsOnly P (and_then first rest)
+  FaultsOnly-and_then : (first : Outcome B) (rest : Option B → Outcome B) → FaultsOnly P first → ((b : Option B) → FaultsOnly P (rest b)) → FaultsOnly P (and_then first rest)
   FaultsOnly-and_then first rest p q = at first.fault refl
     where
       at : (f : Option BenchFault) → first.fault ≡ f → FaultsOnly P (and_then_from first (rest first.session) f)
       at None e = q first.session
       at (Some f) e = p
 
-FaultsOnly-outcome_of_command : {S I R : Type 0} (o : SpokenObject S I R) (inside : Version → Session S I R → ScriptSession) (version : Version) (number : ℕ) (b : Session S I R) (words : List (List ℕ)) → FaultsOnly IsFaultOfScript (outcome_of_command o inside version number b words)
-FaultsOnly-outcome_of_command o inside version number b words =
-    FaultsOnly-map_or IsFaultOfScript (λ command. outcome_of_text (inside version (session_after o b (result_of_command o b command).events)) (result_of_command o b command).text) (command_of_words version o.language.inv_of_words words) (outcome_of_fault (Some (inside version b)) (fault.BadLine number))
-    (λ command. FaultsOnly-none IsFaultOfScript (Some (inside version (session_after o b (result_of_command o b command).events))) (result_of_command o b command).text) (FaultsOnly-outcome_of_fault IsFaultOfScript (Some (inside version b)) (fault.BadLine number) tt)
+  FaultsOnly-echoed : (text : List ℕ) (o : Outcome B) → FaultsOnly P o → FaultsOnly P (echoed text o)
+  FaultsOnly-echoed text o p = at o.fault refl
+    where
+      at : (f : Option BenchFault) → o.fault ≡ f → FaultsOnly P (echoed_from text o f)
+      at None e = p
+      at (Some f) e = p
 
--- where the history can have so many events
-module _ (limit : ℕ) where
-  FaultsOnly-outcome_of_words : (number : ℕ) (b : Option ScriptSession) (words : List (List ℕ)) → FaultsOnly IsFaultOfScript (outcome_of_words limit number b words)
+module _ {B : Type 0} (kind : Kind B) where
+  FaultsOnly-outcome_of_words : (number : ℕ) (b : Option B) (words : List (List ℕ)) → FaultsOnly IsFaultOfScript (outcome_of_words kind number b words)
   FaultsOnly-outcome_of_words number None words =
-      FaultsOnly-map_or IsFaultOfScript (λ header. outcome_of_text (session_of_header limit header) []) (header_of_words words) (outcome_of_fault None (fault.BadHeader number))
-      (λ header. FaultsOnly-none IsFaultOfScript (Some (session_of_header limit header)) []) (FaultsOnly-outcome_of_fault IsFaultOfScript None (fault.BadHeader number) tt)
-  FaultsOnly-outcome_of_words number (Some b) words = FaultsOnly-outcome_of_command (spoken_of b.object) (script_session b.object) b.version number b.session words
+      FaultsOnly-map_or IsFaultOfScript (λ b. outcome_of_text b []) (kind.opened words) (outcome_of_fault None (fault.BadHeader number))
+      (λ b. FaultsOnly-none IsFaultOfScript (Some b) []) (FaultsOnly-outcome_of_fault {B = B} IsFaultOfScript None (fault.BadHeader number) tt)
+  FaultsOnly-outcome_of_words number (Some b) words =
+      FaultsOnly-map_or IsFaultOfScript (λ (a : Answered B). outcome_of_text a.session a.text) (kind.made b words) (outcome_of_fault (Some b) (fault.BadLine number))
+      (λ (a : Answered B). FaultsOnly-none IsFaultOfScript (Some a.session) a.text) (FaultsOnly-outcome_of_fault IsFaultOfScript (Some b) (fault.BadLine number) tt)
 
-  FaultsOnly-outcome_of_line : (number : ℕ) (b : Option ScriptSession) (line : List ℕ) → FaultsOnly IsFaultOfScript (outcome_of_line limit number b line)
+  FaultsOnly-outcome_of_line : (number : ℕ) (b : Option B) (line : List ℕ) → FaultsOnly IsFaultOfScript (outcome_of_line kind number b line)
   FaultsOnly-outcome_of_line number b line =
-      let worded : Outcome = outcome_of_words limit number b (words_of_text line) in
-      let noted : Outcome = record { session = b; text = []; fault = None } in
-      let plain : Outcome = if is_note line then noted else worded in
-      let short : Outcome = if not (list_all is_plain_byte line) then outcome_of_fault b (fault.BadByte number) else plain in
-      let counted : Outcome = if nat_lt 200 (length line) then outcome_of_fault b (fault.TooLong number) else short in
+      let worded : Outcome B = outcome_of_words kind number b (words_of_text line) in
+      let noted : Outcome B = record { session = b; text = []; fault = None } in
+      let plain : Outcome B = if is_note line then noted else worded in
+      let short : Outcome B = if not (list_all is_plain_byte line) then outcome_of_fault b (fault.BadByte number) else plain in
+      let shown : Outcome B = echoed (echo_of kind.echo line) short in
+      let counted : Outcome B = if nat_lt 200 (length line) then outcome_of_fault b (fault.TooLong number) else shown in
       FaultsOnly-if IsFaultOfScript (nat_lt 100000 number) (outcome_of_fault b fault.TooMany) counted (FaultsOnly-outcome_of_fault IsFaultOfScript b fault.TooMany tt)
-      (FaultsOnly-if IsFaultOfScript (nat_lt 200 (length line)) (outcome_of_fault b (fault.TooLong number)) short (FaultsOnly-outcome_of_fault IsFaultOfScript b (fault.TooLong number) tt)
+      (FaultsOnly-if IsFaultOfScript (nat_lt 200 (length line)) (outcome_of_fault b (fault.TooLong number)) shown (FaultsOnly-outcome_of_fault IsFaultOfScript b (fault.TooLong number) tt)
+      (FaultsOnly-echoed IsFaultOfScript (echo_of kind.echo line) short
       (FaultsOnly-if IsFaultOfScript (not (list_all is_plain_byte line)) (outcome_of_fault b (fault.BadByte number)) plain (FaultsOnly-outcome_of_fault IsFaultOfScript b (fault.BadByte number) tt)
-      (FaultsOnly-if IsFaultOfScript (is_note line) noted worded (FaultsOnly-none IsFaultOfScript b []) (FaultsOnly-outcome_of_words number b (words_of_text line)))))
+      (FaultsOnly-if IsFaultOfScript (is_note line) noted worded (FaultsOnly-none IsFaultOfScript b []) (FaultsOnly-outcome_of_words number b (words_of_text line))))))
 
-  FaultsOnly-outcome_of_lines : (number : ℕ) (b : Option ScriptSession) (lines : List (List ℕ)) → FaultsOnly IsFaultOfScript (outcome_of_lines limit number b lines)
+  FaultsOnly-outcome_of_lines : (number : ℕ) (b : Option B) (lines : List (List ℕ)) → FaultsOnly IsFaultOfScript (outcome_of_lines kind number b lines)
   FaultsOnly-outcome_of_lines number b [] = FaultsOnly-none IsFaultOfScript b []
   FaultsOnly-outcome_of_lines number b (line ∷ lines) =
-      FaultsOnly-and_then IsFaultOfScript (outcome_of_line limit number b line) (λ after. outcome_of_lines limit (number + 1) after lines) (FaultsOnly-outcome_of_line number b line) (λ after. FaultsOnly-outcome_of_lines (number + 1) after lines)
+      FaultsOnly-and_then IsFaultOfScript (outcome_of_line kind number b line) (λ after. outcome_of_lines kind (number + 1) after lines) (FaultsOnly-outcome_of_line number b line) (λ after. FaultsOnly-outcome_of_lines (number + 1) after lines)
 
-  FaultsOnly-outcome_of_end : (lines : ℕ) (b : Option ScriptSession) → FaultsOnly IsFaultOfScript (outcome_of_end lines b)
-  FaultsOnly-outcome_of_end lines None = FaultsOnly-outcome_of_fault IsFaultOfScript None (NoHeader (lines + 1)) tt
+  FaultsOnly-outcome_of_end : (lines : ℕ) (b : Option B) → FaultsOnly IsFaultOfScript (outcome_of_end lines b)
+  FaultsOnly-outcome_of_end lines None = FaultsOnly-outcome_of_fault {B = B} IsFaultOfScript None (NoHeader (lines + 1)) tt
   FaultsOnly-outcome_of_end lines (Some b) = FaultsOnly-none IsFaultOfScript (Some b) end_text
 
   -- a line that ends the run
-  run_stopped : (before : List (List ℕ)) (line : List ℕ) (lines : List (List ℕ)) (f : BenchFault) (rest : Option ScriptSession → Outcome)
-      → ((b : Option ScriptSession) → outcome_of_lines limit (1 + length before) b (line ∷ lines) ≡ outcome_of_fault b f)
-      → and_then (outcome_of_lines limit 1 None (before ++ line ∷ lines)) rest ≡ and_then (outcome_of_lines limit 1 None before) (λ b. outcome_of_fault b f)
+  run_stopped : (before : List (List ℕ)) (line : List ℕ) (lines : List (List ℕ)) (f : BenchFault) (rest : Option B → Outcome B)
+      → ((b : Option B) → outcome_of_lines kind (1 + length before) b (line ∷ lines) ≡ outcome_of_fault b f)
+      → and_then (outcome_of_lines kind 1 None (before ++ line ∷ lines)) rest ≡ and_then (outcome_of_lines kind 1 None before) (λ b. outcome_of_fault b f)
   run_stopped before line lines f rest stops =
-      ap (λ run. and_then run rest) (outcome_of_lines-append limit 1 None before (line ∷ lines))
-      ∙ and_then-assoc (outcome_of_lines limit 1 None before) (λ b. outcome_of_lines limit (1 + length before) b (line ∷ lines)) rest
-      ∙ and_then-same (outcome_of_lines limit 1 None before) (λ b. and_then (outcome_of_lines limit (1 + length before) b (line ∷ lines)) rest) (λ b. outcome_of_fault b f) (λ b. ap (λ run. and_then run rest) (stops b))
+      ap (λ run. and_then run rest) (outcome_of_lines-append kind 1 None before (line ∷ lines))
+      ∙ and_then-assoc (outcome_of_lines kind 1 None before) (λ b. outcome_of_lines kind (1 + length before) b (line ∷ lines)) rest
+      ∙ and_then-same (outcome_of_lines kind 1 None before) (λ b. and_then (outcome_of_lines kind (1 + length before) b (line ∷ lines)) rest) (λ b. outcome_of_fault b f) (λ b. ap (λ run. and_then run rest) (stops b))
 
   -- a script that was read to its end, or to a byte that it may not have, comes to what was read of it
-  pub outcome_of_script-read : (stop : Stop) (bytes past : List ℕ) (left : Option (List ℕ)) → StopsAt stop bytes past left → (stop ≡ Failed → ⊥) → outcome_of_script limit (bytes ++ past) ≡ outcome_of_read limit stop bytes
+  pub outcome_of_script-read : (stop : Stop) (bytes past : List ℕ) (left : Option (List ℕ)) → StopsAt stop bytes past left → (stop ≡ Failed → ⊥) → outcome_of_script kind (bytes ++ past) ≡ outcome_of_read kind stop bytes
   outcome_of_script-read End bytes past left at other = rw at.0 (rw (append-nil bytes) refl)
   outcome_of_script-read Failed bytes past left at other = absurd (other refl)
   outcome_of_script-read TooLong bytes past left at other =
@@ -119,28 +117,28 @@ module _ (limit : ℕ) where
       let g = GoesOn-after bytes (at.2.0 ∷ at.2.1) 1 (GoesOn-start_other at.2.0 at.2.1 (other_byte at.2.0 at.2.3)) in
       let long = g.long in
       let next : 1 + length (cut bytes).whole ≡ length (cut bytes).whole + 1 = omega arith in
-      ap (λ p. outcome_of_script limit (bytes ++ p)) at.2.2
-      ∙ ap (λ lines. and_then (outcome_of_lines limit 1 None lines) (λ after. outcome_of_end (length lines) after)) g.cut_as
+      ap (λ p. outcome_of_script kind (bytes ++ p)) at.2.2
+      ∙ ap (λ lines. and_then (outcome_of_lines kind 1 None lines) (λ after. outcome_of_end (length lines) after)) g.cut_as
       ∙ run_stopped (cut bytes).whole g.line g.lines (fault.TooLong (length (cut bytes).whole + 1)) (λ after. outcome_of_end (length ((cut bytes).whole ++ g.line ∷ g.lines)) after)
-      (λ b. rw next (outcome_of_lines-too_long limit (length (cut bytes).whole + 1) b g.line g.lines (omega arith) (omega arith)))
+      (λ b. rw next (outcome_of_lines-too_long kind (length (cut bytes).whole + 1) b g.line g.lines (omega arith) (omega arith)))
   outcome_of_script-read TooMany bytes past left at other =
       let g = GoesOn-after bytes (at.1.0 ∷ at.1.1) 0 (GoesOn-start at.1.0 at.1.1) in
       let many = at.0 in
       let next : 1 + length (cut bytes).whole ≡ 100001 = omega arith in
-      ap (λ p. outcome_of_script limit (bytes ++ p)) at.1.2
-      ∙ ap (λ lines. and_then (outcome_of_lines limit 1 None lines) (λ after. outcome_of_end (length lines) after)) g.cut_as
-      ∙ run_stopped (cut bytes).whole g.line g.lines fault.TooMany (λ after. outcome_of_end (length ((cut bytes).whole ++ g.line ∷ g.lines)) after) (λ b. rw next (outcome_of_lines-too_many limit b g.line g.lines))
+      ap (λ p. outcome_of_script kind (bytes ++ p)) at.1.2
+      ∙ ap (λ lines. and_then (outcome_of_lines kind 1 None lines) (λ after. outcome_of_end (length lines) after)) g.cut_as
+      ∙ run_stopped (cut bytes).whole g.line g.lines fault.TooMany (λ after. outcome_of_end (length ((cut bytes).whole ++ g.line ∷ g.lines)) after) (λ b. rw next (outcome_of_lines-too_many kind b g.line g.lines))
 
   -- a script goes on after its whole lines
-  outcome_of_script-whole : (bytes past : List ℕ) → (rest : Option ScriptSession → Outcome) × (outcome_of_script limit (bytes ++ past) ≡ and_then (outcome_of_lines limit 1 None (cut bytes).whole) rest)
+  outcome_of_script-whole : (bytes past : List ℕ) → (rest : Option B → Outcome B) × (outcome_of_script kind (bytes ++ past) ≡ and_then (outcome_of_lines kind 1 None (cut bytes).whole) rest)
   outcome_of_script-whole bytes past =
       let more = lines_of ((cut bytes).tail ++ past) in
       let number = 1 + length (cut bytes).whole in
-      let finish : Option ScriptSession → Outcome = λ after. outcome_of_end (length ((cut bytes).whole ++ more)) after in (
-        (λ b. and_then (outcome_of_lines limit number b more) finish),
-        ap (λ lines. and_then (outcome_of_lines limit 1 None lines) (λ after. outcome_of_end (length lines) after)) (lines_of-append bytes past)
-            ∙ ap (λ run. and_then run finish) (outcome_of_lines-append limit 1 None (cut bytes).whole more)
-            ∙ and_then-assoc (outcome_of_lines limit 1 None (cut bytes).whole) (λ b. outcome_of_lines limit number b more) finish,
+      let finish : Option B → Outcome B = λ after. outcome_of_end (length ((cut bytes).whole ++ more)) after in (
+        (λ b. and_then (outcome_of_lines kind number b more) finish),
+        ap (λ lines. and_then (outcome_of_lines kind 1 None lines) (λ after. outcome_of_end (length lines) after)) (lines_of-append bytes past)
+            ∙ ap (λ run. and_then run finish) (outcome_of_lines-append kind 1 None (cut bytes).whole more)
+            ∙ and_then-assoc (outcome_of_lines kind 1 None (cut bytes).whole) (λ b. outcome_of_lines kind number b more) finish,
       )
 
   -- the bytes that a reader had, where it gave these ones: with what is left, where that is known
@@ -175,9 +173,9 @@ module _ (limit : ℕ) where
   StopsAt-past_left TooMany bytes past (Some left) at other = (at.0, (at.1.0, at.1.1 ++ left, ap (λ p. p ++ left) at.1.2))
 
   -- before anything is written
-  pub IsPartOfReplay-start : (left contents : Option (List ℕ)) → IsPartOfReplay limit left contents contents
-  IsPartOfReplay-start None contents = ([], tt, (text_of_script limit [], IsWritten-start contents (text_of_script limit [])))
-  IsPartOfReplay-start (Some bytes) contents = (bytes, refl, (text_of_script limit bytes, IsWritten-start contents (text_of_script limit bytes)))
+  pub IsPartOfReplay-start : (left contents : Option (List ℕ)) → IsPartOfReplay kind left contents contents
+  IsPartOfReplay-start None contents = ([], tt, (text_of_script kind [], IsWritten-start contents (text_of_script kind [])))
+  IsPartOfReplay-start (Some bytes) contents = (bytes, refl, (text_of_script kind bytes, IsWritten-start contents (text_of_script kind bytes)))
 
   is_failed : (stop : Stop) → (stop ≡ Failed) ⊎ (stop ≡ Failed → ⊥)
   is_failed End = inr (λ e. cc)
@@ -186,17 +184,17 @@ module _ (limit : ℕ) where
   is_failed TooMany = inr (λ e. cc)
 
   -- the outcome of the whole lines of some bytes
-  abbrev outcome_of_whole_lines : List ℕ → Outcome
-  outcome_of_whole_lines bytes = outcome_of_lines limit 1 None (cut bytes).whole
+  abbrev outcome_of_whole_lines : List ℕ → Outcome B
+  outcome_of_whole_lines bytes = outcome_of_lines kind 1 None (cut bytes).whole
 
   -- where the reader failed: the whole lines have the fault, or have none
-  outcome_of_failed_read : (bytes : List ℕ) → ((outcome_of_whole_lines bytes).fault ≡ None) × (outcome_of_read limit Failed bytes ≡ after_text (outcome_of_whole_lines bytes).text (outcome_of_fault (outcome_of_whole_lines bytes).session Read))
-      ⊎ (e : BenchFault) × ((outcome_of_whole_lines bytes).fault ≡ Some e) × (outcome_of_read limit Failed bytes ≡ outcome_of_whole_lines bytes)
+  outcome_of_failed_read : (bytes : List ℕ) → ((outcome_of_whole_lines bytes).fault ≡ None) × (outcome_of_read kind Failed bytes ≡ after_text (outcome_of_whole_lines bytes).text (outcome_of_fault (outcome_of_whole_lines bytes).session Read))
+      ⊎ (e : BenchFault) × ((outcome_of_whole_lines bytes).fault ≡ Some e) × (outcome_of_read kind Failed bytes ≡ outcome_of_whole_lines bytes)
   outcome_of_failed_read bytes = at (outcome_of_whole_lines bytes).fault refl
     where
       at : (f : Option BenchFault) → (outcome_of_whole_lines bytes).fault ≡ f
-          → ((outcome_of_whole_lines bytes).fault ≡ None) × (outcome_of_read limit Failed bytes ≡ after_text (outcome_of_whole_lines bytes).text (outcome_of_fault (outcome_of_whole_lines bytes).session Read))
-          ⊎ (e : BenchFault) × ((outcome_of_whole_lines bytes).fault ≡ Some e) × (outcome_of_read limit Failed bytes ≡ outcome_of_whole_lines bytes)
+          → ((outcome_of_whole_lines bytes).fault ≡ None) × (outcome_of_read kind Failed bytes ≡ after_text (outcome_of_whole_lines bytes).text (outcome_of_fault (outcome_of_whole_lines bytes).session Read))
+          ⊎ (e : BenchFault) × ((outcome_of_whole_lines bytes).fault ≡ Some e) × (outcome_of_read kind Failed bytes ≡ outcome_of_whole_lines bytes)
       at None e = inl (e, and_then-none (outcome_of_whole_lines bytes) (λ b. outcome_of_fault b Read) e)
       at (Some f) e = inr (f, e, and_then-some (outcome_of_whole_lines bytes) (λ b. outcome_of_fault b Read) f e)
 
@@ -204,28 +202,28 @@ module _ (limit : ℕ) where
   abbrev IsFaultOfRead : BenchFault → Type 0
   IsFaultOfRead e = IsFaultOfScript e ⊎ (e ≡ Read)
 
-  FaultsOnly-outcome_of_read : (stop : Stop) (bytes : List ℕ) → FaultsOnly IsFaultOfRead (outcome_of_read limit stop bytes)
+  FaultsOnly-outcome_of_read : (stop : Stop) (bytes : List ℕ) → FaultsOnly IsFaultOfRead (outcome_of_read kind stop bytes)
   FaultsOnly-outcome_of_read stop bytes =
       let lines = lines_of_read stop bytes in
-      FaultsOnly-and_then IsFaultOfRead (outcome_of_lines limit 1 None lines) (λ after. outcome_of_stop stop (length lines) after) (λ e q. inl (FaultsOnly-outcome_of_lines 1 None lines e q)) (at stop (length lines))
+      FaultsOnly-and_then IsFaultOfRead (outcome_of_lines kind 1 None lines) (λ after. outcome_of_stop stop (length lines) after) (λ e q. inl (FaultsOnly-outcome_of_lines 1 None lines e q)) (at stop (length lines))
     where
-      at : (s : Stop) (n : ℕ) (b : Option ScriptSession) → FaultsOnly IsFaultOfRead (outcome_of_stop s n b)
+      at : (s : Stop) (n : ℕ) (b : Option B) → FaultsOnly IsFaultOfRead (outcome_of_stop s n b)
       at End n b = λ e q. inl (FaultsOnly-outcome_of_end n b e q)
       at Failed n b = FaultsOnly-outcome_of_fault IsFaultOfRead b Read (inr refl)
       at TooLong n b = FaultsOnly-outcome_of_fault IsFaultOfRead b (fault.TooLong (n + 1)) (inl tt)
       at TooMany n b = FaultsOnly-outcome_of_fault IsFaultOfRead b fault.TooMany (inl tt)
 
-  FaultsOnly-outcome_of_script : (bytes : List ℕ) → FaultsOnly IsFaultOfScript (outcome_of_script limit bytes)
+  FaultsOnly-outcome_of_script : (bytes : List ℕ) → FaultsOnly IsFaultOfScript (outcome_of_script kind bytes)
   FaultsOnly-outcome_of_script bytes =
-      FaultsOnly-and_then IsFaultOfScript (outcome_of_lines limit 1 None (lines_of bytes)) (λ after. outcome_of_end (length (lines_of bytes)) after) (FaultsOnly-outcome_of_lines 1 None (lines_of bytes))
+      FaultsOnly-and_then IsFaultOfScript (outcome_of_lines kind 1 None (lines_of bytes)) (λ after. outcome_of_end (length (lines_of bytes)) after) (FaultsOnly-outcome_of_lines 1 None (lines_of bytes))
       (λ b. FaultsOnly-outcome_of_end (length (lines_of bytes)) b)
 
   -- only a script that was read to its end has no fault
-  end_of_run : (stop : Stop) (bytes : List ℕ) → (outcome_of_read limit stop bytes).fault ≡ None → stop ≡ End
-  end_of_run stop bytes none = at (outcome_of_lines limit 1 None (lines_of_read stop bytes)).fault refl stop (length (lines_of_read stop bytes)) none
+  end_of_run : (stop : Stop) (bytes : List ℕ) → (outcome_of_read kind stop bytes).fault ≡ None → stop ≡ End
+  end_of_run stop bytes none = at (outcome_of_lines kind 1 None (lines_of_read stop bytes)).fault refl stop (length (lines_of_read stop bytes)) none
     where
-      at : (f : Option BenchFault) → (outcome_of_lines limit 1 None (lines_of_read stop bytes)).fault ≡ f → (s : Stop) (n : ℕ)
-          → (and_then_from (outcome_of_lines limit 1 None (lines_of_read stop bytes)) (outcome_of_stop s n (outcome_of_lines limit 1 None (lines_of_read stop bytes)).session) f).fault ≡ None → s ≡ End
+      at : (f : Option BenchFault) → (outcome_of_lines kind 1 None (lines_of_read stop bytes)).fault ≡ f → (s : Stop) (n : ℕ)
+          → (and_then_from (outcome_of_lines kind 1 None (lines_of_read stop bytes)) (outcome_of_stop s n (outcome_of_lines kind 1 None (lines_of_read stop bytes)).session) f).fault ≡ None → s ≡ End
       at None g End n e = refl
       at None g Failed n e = absurd (let h : Some Read ≡ None = e in cc)
       at None g TooLong n e = absurd (let h : Some (fault.TooLong (n + 1)) ≡ None = e in cc)
@@ -242,20 +240,20 @@ module _ (limit : ℕ) where
     pub is_input : IsInput left script
     is_input = IsInput-with_left left left_after (bytes ++ is.past) is.consumed
 
-    same_run : (stop ≡ Failed → ⊥) → outcome_of_script limit script ≡ outcome_of_read limit stop bytes
+    same_run : (stop ≡ Failed → ⊥) → outcome_of_script kind script ≡ outcome_of_read kind stop bytes
     same_run other =
-        ap (λ s. outcome_of_script limit s) script_is
+        ap (λ s. outcome_of_script kind s) script_is
         ∙ outcome_of_script-read stop bytes (past_left is.past left_after) left_after (StopsAt-past_left stop bytes is.past left_after is.stops other) other
 
     -- the whole script goes on after the whole lines
-    goes_on : (rest : Option ScriptSession → Outcome) × (outcome_of_script limit script ≡ and_then (outcome_of_whole_lines bytes) rest)
-    goes_on = let whole = outcome_of_script-whole bytes (past_left is.past left_after) in (whole.0, ap (λ s. outcome_of_script limit s) script_is ∙ whole.1)
+    goes_on : (rest : Option B → Outcome B) × (outcome_of_script kind script ≡ and_then (outcome_of_whole_lines bytes) rest)
+    goes_on = let whole = outcome_of_script-whole bytes (past_left is.past left_after) in (whole.0, ap (λ s. outcome_of_script kind s) script_is ∙ whole.1)
 
-    read_failed : stop ≡ Failed → outcome_of_read limit stop bytes ≡ outcome_of_read limit Failed bytes
-    read_failed failed = ap (λ s. outcome_of_read limit s bytes) failed
+    read_failed : stop ≡ Failed → outcome_of_read kind stop bytes ≡ outcome_of_read kind Failed bytes
+    read_failed failed = ap (λ s. outcome_of_read kind s bytes) failed
 
     -- what was read has a fault of the script: the script has it, after the same answers
-    same_fault : (e : BenchFault) → (outcome_of_read limit stop bytes).fault ≡ Some e → IsFaultOfScript e → outcome_of_script limit script ≡ outcome_of_read limit stop bytes
+    same_fault : (e : BenchFault) → (outcome_of_read kind stop bytes).fault ≡ Some e → IsFaultOfScript e → outcome_of_script kind script ≡ outcome_of_read kind stop bytes
     same_fault e has own = elim (is_failed stop) [
       | inr other ↦ same_run other
       | inl failed ↦ elim (outcome_of_failed_read bytes) [
@@ -264,117 +262,108 @@ module _ (limit : ℕ) where
       ]
     ]
       where
-        fault_of : Outcome → Option BenchFault
+        fault_of : Outcome B → Option BenchFault
         fault_of o = o.fault
 
         same : Some Read ≡ Some e → e ≡ Read
         same h = cc
 
     -- the answers to what was read are the first of the script's
-    pub part_of : (old new : Option (List ℕ)) → AppendsFront old new (outcome_of_read limit stop bytes).text → IsPartOfReplay limit left old new
+    pub part_of : (old new : Option (List ℕ)) → AppendsFront old new (outcome_of_read kind stop bytes).text → IsPartOfReplay kind left old new
     part_of old new front = (
       script,
       is_input,
       elim (is_failed stop) [
-        | inr other ↦ subst (λ (o : Outcome). AppendsFront old new o.text) (sym (same_run other)) front
+        | inr other ↦ subst (λ (o : Outcome B). AppendsFront old new o.text) (sym (same_run other)) front
         | inl failed ↦ elim (outcome_of_failed_read bytes) [
           | inl clean ↦
-              let whole = subst (AppendsFront old new) (ap (λ (o : Outcome). o.text) (read_failed failed ∙ clean.1) ∙ append-nil (outcome_of_whole_lines bytes).text) front in
-              subst (λ (o : Outcome). AppendsFront old new o.text) (sym (goes_on.1 ∙ and_then-none (outcome_of_whole_lines bytes) goes_on.0 clean.0))
+              let whole = subst (AppendsFront old new) (ap (λ (o : Outcome B). o.text) (read_failed failed ∙ clean.1) ∙ append-nil (outcome_of_whole_lines bytes).text) front in
+              subst (λ (o : Outcome B). AppendsFront old new o.text) (sym (goes_on.1 ∙ and_then-none (outcome_of_whole_lines bytes) goes_on.0 clean.0))
               (AppendsFront-more old new (outcome_of_whole_lines bytes).text (goes_on.0 (outcome_of_whole_lines bytes).session).text whole)
           | inr some ↦
-              subst (λ (o : Outcome). AppendsFront old new o.text) (read_failed failed ∙ some.2 ∙ sym (goes_on.1 ∙ and_then-some (outcome_of_whole_lines bytes) goes_on.0 some.0 some.1)) front
+              subst (λ (o : Outcome B). AppendsFront old new o.text) (read_failed failed ∙ some.2 ∙ sym (goes_on.1 ∙ and_then-some (outcome_of_whole_lines bytes) goes_on.0 some.0 some.1)) front
         ]
       ],
     )
 
     -- the script has this outcome, and the text of its answers was written
-    replayed_as : (old new : Option (List ℕ)) (f : Option BenchFault) → outcome_of_script limit script ≡ outcome_of_read limit stop bytes → (outcome_of_read limit stop bytes).fault ≡ f
-        → Appends old new (outcome_of_read limit stop bytes).text → IsReplay limit left old new f
+    replayed_as : (old new : Option (List ℕ)) (f : Option BenchFault) → outcome_of_script kind script ≡ outcome_of_read kind stop bytes → (outcome_of_read kind stop bytes).fault ≡ f
+        → Appends old new (outcome_of_read kind stop bytes).text → IsReplay kind left old new f
     replayed_as old new f same has appends = (
       script,
       is_input,
-      ap (λ (o : Outcome). o.fault) same ∙ has,
-      subst (Appends old new) (sym (ap (λ (o : Outcome). o.text) same)) appends,
+      ap (λ (o : Outcome B). o.fault) same ∙ has,
+      subst (Appends old new) (sym (ap (λ (o : Outcome B). o.text) same)) appends,
     )
 
-    not_failed : (outcome_of_read limit stop bytes).fault ≡ None → stop ≡ Failed → ⊥
+    not_failed : (outcome_of_read kind stop bytes).fault ≡ None → stop ≡ Failed → ⊥
     not_failed none failed = let e = end_of_run stop bytes none in let f : End ≡ Failed = sym e ∙ failed in cc
 
     pub script_whole : stop ≡ End → script ≡ bytes
     script_whole e = script_is ∙ ap (λ p. bytes ++ p) (past_left-end bytes is.past left_after (subst (λ s. StopsAt s bytes is.past left_after) e is.stops)) ∙ append-nil bytes
 
-    -- the summary of what was read to its end is that of the script
-    same_summary : (s : Summary) → (outcome_of_read limit stop bytes).fault ≡ None → option_map (summary_of_session (length (lines_of_read stop bytes))) (outcome_of_read limit stop bytes).session ≡ Some s → IsSummary limit left s
-    same_summary s none has =
+    -- what holds of what was read to its end holds of the script
+    same_session : (Holds : (lines : ℕ) → B → Type 0) → (outcome_of_read kind stop bytes).fault ≡ None
+        → ((b : B) × ((outcome_of_read kind stop bytes).session ≡ Some b) × Holds (length (lines_of_read stop bytes)) b) → Leaves kind left Holds
+    same_session Holds none kept =
         let whole = end_of_run stop bytes none in
-        let lines : length (lines_of script) ≡ length (lines_of_read stop bytes) = ap (λ t. length (lines_of t)) (script_whole whole) ∙ ap (λ k. length (lines_of_read k bytes)) (sym whole) in (
-          script,
-          is_input,
-          ap (λ (o : Outcome). option_map (summary_of_session (length (lines_of script))) o.session) (same_run (not_failed none)) ∙ ap (λ n. option_map (summary_of_session n) (outcome_of_read limit stop bytes).session) lines ∙ has,
-        )
-
-    -- what is promised of what was read to its end is promised of the script
-    same_promise : (outcome_of_read limit stop bytes).fault ≡ None → ((b : ScriptSession) × ((outcome_of_read limit stop bytes).session ≡ Some b) × IsPromisedSession b) → IsPromisedScript limit left
-    same_promise none kept = (script, is_input, (kept.0, ap (λ (o : Outcome). o.session) (same_run (not_failed none)) ∙ kept.1, kept.2))
+        let lines : length (lines_of_read stop bytes) ≡ length (lines_of script) = ap (λ k. length (lines_of_read k bytes)) whole ∙ ap (λ t. length (lines_of t)) (sym (script_whole whole)) in
+        (script, is_input, (kept.0, ap (λ (o : Outcome B). o.session) (same_run (not_failed none)) ∙ kept.1, subst (λ n. Holds n kept.0) lines kept.2))
 
     -- where the run of what was read ends with `Read`, the reader has failed after whole lines without a fault
-    answered : (old new : Option (List ℕ)) → (outcome_of_read limit stop bytes).fault ≡ Some Read → Appends old new (outcome_of_read limit stop bytes).text → HasAnswered limit left left_after old new
+    answered : (old new : Option (List ℕ)) → (outcome_of_read kind stop bytes).fault ≡ Some Read → Appends old new (outcome_of_read kind stop bytes).text → HasAnswered kind left left_after old new
     answered old new has appends = elim (is_failed stop) [
-      | inr other ↦ absurd (FaultsOnly-outcome_of_script script Read (ap (λ (o : Outcome). o.fault) (same_run other) ∙ has))
+      | inr other ↦ absurd (FaultsOnly-outcome_of_script script Read (ap (λ (o : Outcome B). o.fault) (same_run other) ∙ has))
       | inl failed ↦
           let nothing_past = subst (λ s. StopsAt s bytes is.past left_after) failed is.stops in
           let given = subst (Consumes left left_after) (ap (λ p. bytes ++ p) nothing_past ∙ append-nil bytes) is.consumed in
           elim (outcome_of_failed_read bytes) [
-            | inl clean ↦ (bytes, given, clean.0, subst (Appends old new) (ap (λ (o : Outcome). o.text) (read_failed failed ∙ clean.1) ∙ append-nil (outcome_of_whole_lines bytes).text) appends)
-            | inr some ↦ absurd (FaultsOnly-outcome_of_lines 1 None (cut bytes).whole Read (sym (ap (λ (o : Outcome). o.fault) (read_failed failed ∙ some.2)) ∙ has))
+            | inl clean ↦ (bytes, given, clean.0, subst (Appends old new) (ap (λ (o : Outcome B). o.text) (read_failed failed ∙ clean.1) ∙ append-nil (outcome_of_whole_lines bytes).text) appends)
+            | inr some ↦ absurd (FaultsOnly-outcome_of_lines 1 None (cut bytes).whole Read (sym (ap (λ (o : Outcome B). o.fault) (read_failed failed ∙ some.2)) ∙ has))
           ]
     ]
 
   -- what is told of a run that has ended
-  module _ (left left_after old new : Option (List ℕ)) (told_old told : Option (List Telling)) where
-    abbrev Ended : Result (Ran ScriptRecord) BenchFault → Type 0
-    Ended result = HasEnded limit left left_after old new told_old told IsRan result
+  module _ (left left_after old new : Option (List ℕ)) (told_old told : Option (List Telling)) {Made : Type 0} (IsMade : (lines : ℕ) → B → Made → Type 0) where
+    abbrev Ended : Result Made BenchFault → Type 0
+    Ended result = HasEnded kind left left_after old new told_old told IsMade result
 
-    pub HasEnded-replayed : (result : Result (Ran ScriptRecord) BenchFault) → Ended result → OnOk result (IsReplay limit left old new None)
-    HasEnded-replayed (Ok ran) is = replayed_as left left_after is.stop is.bytes is.read old new None (same_run left left_after is.stop is.bytes is.read (not_failed left left_after is.stop is.bytes is.read is.ends.0)) is.ends.0 is.ends.1
+    pub HasEnded-replayed : (result : Result Made BenchFault) → Ended result → OnOk result (IsReplay kind left old new None)
+    HasEnded-replayed (Ok made) is = replayed_as left left_after is.stop is.bytes is.read old new None (same_run left left_after is.stop is.bytes is.read (not_failed left left_after is.stop is.bytes is.read is.ends.0)) is.ends.0 is.ends.1
     HasEnded-replayed (Err e) is = tt
 
-    -- it was read to its end, without a fault; its session is that of the record, and what it tells was heard
-    pub HasEnded-whole : (ran : Ran ScriptRecord) → Ended (Ok ran)
-        → (bytes : List ℕ) × IsInput left bytes × (fault_of_script limit bytes ≡ None)
-        × ((b : ScriptSession) × ((outcome_of_script limit bytes).session ≡ Some b) × ((version : Version) × (b ≡ session_of_record version ran.«record»)) × Tells told_old told (told_of_script limit bytes) × (length (told_of_script limit bytes) ≤ 100000))
-    HasEnded-whole ran is =
+    -- it was read to its end, without a fault; this was made of its session, and what it tells was heard
+    pub HasEnded-whole : (made : Made) → Ended (Ok made)
+        → HasRunWhole kind left (λ b telling. ((lines : ℕ) × IsMade lines b made) × Tells told_old told telling × (length telling ≤ 100000))
+    HasEnded-whole made is =
         let s = script left left_after is.stop is.bytes is.read in
         let end = end_of_run is.stop is.bytes is.ends.0 in
         let same = same_run left left_after is.stop is.bytes is.read (not_failed left left_after is.stop is.bytes is.read is.ends.0) in
         let lines : lines_of_read is.stop is.bytes ≡ lines_of s = ap (λ k. lines_of_read k is.bytes) end ∙ ap lines_of (sym (script_whole left left_after is.stop is.bytes is.read end)) in
-        let quiet : (outcome_of_script limit s).fault ≡ None = ap (λ (o : Outcome). o.fault) same ∙ is.ends.0 in (
+        let quiet : (outcome_of_script kind s).fault ≡ None = ap (λ (o : Outcome B). o.fault) same ∙ is.ends.0 in (
           s,
           is_input left left_after is.stop is.bytes is.read,
           quiet,
           (
             is.made.0,
-            ap (λ (o : Outcome). o.session) same ∙ is.made.1,
-            is.made.2.2,
-            subst (λ l. Tells told_old told (told_of_lines limit 1 None l)) lines is.told_as,
-            (let few = few_lines limit 1 None (lines_of s) (omega arith) (and_then-quiet (outcome_of_lines limit 1 None (lines_of s)) (λ after. outcome_of_end (length (lines_of s)) after) quiet) in
-                let told = told_of_lines-length limit 1 None (lines_of s) in
-                omega arith),
+            ap (λ (o : Outcome B). o.session) same ∙ is.made.1,
+            (
+              (length (lines_of_read is.stop is.bytes), is.made.2),
+              subst (λ l. Tells told_old told (told_of_lines kind 1 None l)) lines is.told_as,
+              (let few = few_lines kind 1 None (lines_of s) (omega arith) (and_then-quiet (outcome_of_lines kind 1 None (lines_of s)) (λ after. outcome_of_end (length (lines_of s)) after) quiet) in
+                  let told = told_of_lines-length kind 1 None (lines_of s) in
+                  omega arith),
+            ),
           ),
         )
 
-    pub HasEnded-summary : (result : Result (Ran ScriptRecord) BenchFault) → Ended result → IfOk result (λ (ran : Ran ScriptRecord). IsSummary limit left ran.summary)
-    HasEnded-summary (Ok ran) is = same_summary left left_after is.stop is.bytes is.read ran.summary is.ends.0 (ap (λ o. option_map (summary_of_session (length (lines_of_read is.stop is.bytes))) o) is.made.1 ∙ ap Some (sym is.made.2.0))
-    HasEnded-summary (Err e) is = tt
-
-    pub HasEnded-promised : (result : Result (Ran ScriptRecord) BenchFault) → Ended result → OnOk result (IsPromisedScript limit left)
-    HasEnded-promised (Ok ran) is = same_promise left left_after is.stop is.bytes is.read is.ends.0 (is.made.0, is.made.1, is.made.2.1)
-    HasEnded-promised (Err e) is = tt
+    -- what follows from what was made of its session holds of what it leaves
+    pub HasEnded-leaves : (made : Made) (Holds : (lines : ℕ) → B → Type 0) → ((lines : ℕ) (b : B) → IsMade lines b made → Holds lines b) → Ended (Ok made) → Leaves kind left Holds
+    HasEnded-leaves made Holds so is = same_session left left_after is.stop is.bytes is.read Holds is.ends.0 (is.made.0, is.made.1, so (length (lines_of_read is.stop is.bytes)) is.made.0 is.made.2)
 
     -- no audit ends it
-    pub HasEnded-audited : (result : Result (Ran ScriptRecord) BenchFault) → Ended result → (verdict : Verdict) → result ≡ Err (fault.Audit verdict) → ⊥
-    HasEnded-audited (Ok ran) is verdict bad = let f : Ok ran ≡ Err (fault.Audit verdict) = bad in cc
+    pub HasEnded-audited : (result : Result Made BenchFault) → Ended result → (verdict : Verdict) → result ≡ Err (fault.Audit verdict) → ⊥
+    HasEnded-audited (Ok made) is verdict bad = let f : Ok made ≡ Err (fault.Audit verdict) = bad in cc
     HasEnded-audited (Err e) is verdict same =
         let audit : e ≡ fault.Audit verdict = let f : Err e ≡ Err (fault.Audit verdict) = same in cc in
         elim is.ends [
@@ -385,23 +374,23 @@ module _ (limit : ℕ) where
           ]
         ]
 
-    pub HasEnded-all_read : (result : Result (Ran ScriptRecord) BenchFault) → Ended result → OnOk result (IsAtEnd left_after)
-    HasEnded-all_read (Ok ran) is = (subst (λ s. StopsAt s is.bytes is.read.past left_after) (end_of_run is.stop is.bytes is.ends.0) is.read.stops).1
+    pub HasEnded-all_read : (result : Result Made BenchFault) → Ended result → OnOk result (IsAtEnd left_after)
+    HasEnded-all_read (Ok made) is = (subst (λ s. StopsAt s is.bytes is.read.past left_after) (end_of_run is.stop is.bytes is.ends.0) is.read.stops).1
     HasEnded-all_read (Err e) is = tt
 
-    pub HasEnded-bad : (result : Result (Ran ScriptRecord) BenchFault) → Ended result → IfErr result (λ e. IsFaultOfScript e → IsReplay limit left old new (Some e))
-    HasEnded-bad (Ok ran) is = tt
+    pub HasEnded-bad : (result : Result Made BenchFault) → Ended result → IfErr result (λ e. IsFaultOfScript e → IsReplay kind left old new (Some e))
+    HasEnded-bad (Ok made) is = tt
     HasEnded-bad (Err e) is = λ own. elim is.ends [
       | inl early ↦ absurd (elim early.0 [ inl memory ↦ subst IsFaultOfScript memory own | inr write ↦ subst IsFaultOfScript write own ])
       | inr has ↦ replayed_as left left_after is.stop is.bytes is.read old new (Some e) (same_fault left left_after is.stop is.bytes is.read e has.0 own) has.0 has.1
     ]
 
-    pub HasEnded-part : (result : Result (Ran ScriptRecord) BenchFault) → Ended result → IfErr result (λ e. IsPartOfReplay limit left old new)
-    HasEnded-part (Ok ran) is = tt
+    pub HasEnded-part : (result : Result Made BenchFault) → Ended result → IfErr result (λ e. IsPartOfReplay kind left old new)
+    HasEnded-part (Ok made) is = tt
     HasEnded-part (Err e) is = part_of left left_after is.stop is.bytes is.read old new (elim is.ends [ inl early ↦ early.1 | inr has ↦ AppendsFront-all old new _ has.1 ])
 
-    pub HasEnded-read : (result : Result (Ran ScriptRecord) BenchFault) → Ended result → result ≡ Err Read → HasAnswered limit left left_after old new
-    HasEnded-read (Ok ran) is bad = absurd (let f : Ok ran ≡ Err Read = bad in cc)
+    pub HasEnded-read : (result : Result Made BenchFault) → Ended result → result ≡ Err Read → HasAnswered kind left left_after old new
+    HasEnded-read (Ok made) is bad = absurd (let f : Ok made ≡ Err Read = bad in cc)
     HasEnded-read (Err e) is same =
         let read : e ≡ Read = let f : Err e ≡ Err Read = same in cc in
         elim is.ends [

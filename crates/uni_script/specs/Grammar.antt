@@ -70,25 +70,30 @@ most_processes One = 16
 most_processes Two = 64
 
 -- the header of so many processes, with rows of so many cells, 1 to 4096
-abbrev pub header_with : Version → ObjectName → (n k : ℕ) → Option Header
+abbrev pub header_with : {N : Type 0} → Version → N → (n k : ℕ) → Option (Header N)
 header_with version object n k =
     if nat_le 1 n && nat_le n (most_processes version) && nat_le 1 k && nat_le k 4096 then Some (record { version = version; object = object; processes = n; row = k })
     else None
 
 -- the numbers of a header are in range
-abbrev pub IsInRange : Header → Type 0
+abbrev pub IsInRange : {N : Type 0} → Header N → Type 0
 IsInRange header = (1 ≤ header.processes) × (header.processes ≤ 64) × (1 ≤ header.row) × (header.row ≤ 4096)
 
 -- a header, where its four parts are read
-abbrev pub header_of : Option Version → Option ObjectName → Option ℕ → Option ℕ → Option Header
+abbrev pub header_of : {N : Type 0} → Option Version → Option N → Option ℕ → Option ℕ → Option (Header N)
 header_of (Some version) (Some object) (Some n) (Some k) = header_with version object n k
 header_of _ _ _ _ = None
 
+-- the header that words are, where words name objects so
+abbrev pub header_by : {N : Type 0} → (named : List ℕ → Option N) → List (List ℕ) → Option (Header N)
+header_by named (name ∷ version ∷ object ∷ n ∷ k ∷ []) =
+    if bytes_eq name (codes "universal") then header_of (version_of_word version) (named object) (number_of_word n) (number_of_word k)
+    else None
+header_by named _ = None
+
 -- the header that words are
-abbrev pub header_of_words : List (List ℕ) → Option Header
-header_of_words (name ∷ version ∷ object ∷ n ∷ k ∷ []) =
-    if bytes_eq name (codes "universal") then header_of (version_of_word version) (object_of_word object) (number_of_word n) (number_of_word k) else None
-header_of_words _ = None
+abbrev pub header_of_words : List (List ℕ) → Option (Header ObjectName)
+header_of_words words = header_by object_of_word words
 
 -- a call of a process, where both are read
 abbrev pub call_of : {I : Type 0} → Option ℕ → Option I → Option (Command I)
@@ -229,7 +234,7 @@ two_words_are_versions : map version_of_word (codes "0" ∷ codes "1" ∷ codes 
 two_words_are_versions = refl
 
 -- the header of a queue that a text is
-abbrev header_of_text : List ℕ → Option Header
+abbrev header_of_text : List ℕ → Option (Header ObjectName)
 header_of_text text = header_of_words (words_of_text text)
 
 version_1_has_1_to_16_processes : map header_of_text (codes "universal 1 queue 0 8" ∷ codes "universal 1 queue 1 8" ∷ codes "universal 1 queue 16 8" ∷ codes "universal 1 queue 17 8" ∷ [])

@@ -5,6 +5,8 @@ pub mod Objects
 pub mod Schedules
 pub mod Meaning
 pub mod Commands
+pub mod Outcome
+pub mod Scripts
 pub mod Summary
 pub mod Promises
 pub mod Lines

@@ -10,11 +10,8 @@ use Rattle.uni_script.specs.declared.lines.Lines.{Lines}
 use Rattle.uni_script.specs.declared.lines.Source.TheVariants.{Open, Ended}
 use Rattle.uni_script.specs.declared.lines.Taken.{Taken}
 use Rattle.uni_script.specs.declared.lines.Taken.TheVariants as taken
-use Rattle.uni_script.specs.declared.summary.Summary.{Summary}
 use Rattle.uni_script.specs.Grammar.{cut, lines_of}
-use Rattle.uni_script.specs.Meaning.{ScriptSession, Outcome, outcome_of_fault, and_then, outcome_of_lines, outcome_of_end}
-use Rattle.uni_script.specs.Summary.{summary_of_session}
-use Rattle.uni_script.specs.Promises.{IsPromisedSession}
+use Rattle.uni_script.specs.Outcome.{Kind, Outcome, outcome_of_fault, and_then, outcome_of_lines, outcome_of_end}
 use Rattle.uni_script.specs.Told.{Telling, Tells, told_of_lines}
 
 -- the numbers of the lines are in range
@@ -106,38 +103,38 @@ StopsWith old new before e =
     × ((left : Option (List ℕ)) (lines : List (List ℕ)) → HasTaken left old before lines → HasStopped left new stop lines)
 
 -- what comes after those lines
-abbrev pub outcome_of_stop : Stop → (lines : ℕ) → Option ScriptSession → Outcome
+abbrev pub outcome_of_stop : {B : Type 0} → Stop → (lines : ℕ) → Option B → Outcome B
 outcome_of_stop End lines b = outcome_of_end lines b
 outcome_of_stop Failed lines b = outcome_of_fault b Read
 outcome_of_stop TooLong lines b = outcome_of_fault b (fault.TooLong (lines + 1))
 outcome_of_stop TooMany lines b = outcome_of_fault b fault.TooMany
 
--- the run of what was read, where the history can have so many events
-abbrev pub outcome_of_read : (limit : ℕ) → Stop → List ℕ → Outcome
-outcome_of_read limit stop bytes =
-    and_then (outcome_of_lines limit 1 None (lines_of_read stop bytes)) (λ after. outcome_of_stop stop (length (lines_of_read stop bytes)) after)
+-- the run of what was read
+abbrev pub outcome_of_read : {B : Type 0} (kind : Kind B) → Stop → List ℕ → Outcome B
+outcome_of_read kind stop bytes =
+    and_then (outcome_of_lines kind 1 None (lines_of_read stop bytes)) (λ after. outcome_of_stop stop (length (lines_of_read stop bytes)) after)
 
 -- a call ended as the outcome says, and a text grew by its text; or memory was refused
-abbrev pub EndsAs : {A : Type 0} → Outcome → (old new : List ℕ) → Result A BenchFault → Type 0
+abbrev pub EndsAs : {A B : Type 0} → Outcome B → (old new : List ℕ) → Result A BenchFault → Type 0
 EndsAs outcome old new (Ok _) = (outcome.fault ≡ None) × (new ≡ old ++ outcome.text)
 EndsAs outcome old new (Err e) = (e ≡ Memory) ⊎ ((outcome.fault ≡ Some e) × (new ≡ old ++ outcome.text))
 
 -- a call ended as the outcome says, after its text was written; or memory was refused or the writer failed, after a front
 -- of it was
-abbrev pub WritesAs : {A : Type 0} → Outcome → (old new : Option (List ℕ)) → Result A BenchFault → Type 0
+abbrev pub WritesAs : {A B : Type 0} → Outcome B → (old new : Option (List ℕ)) → Result A BenchFault → Type 0
 WritesAs outcome old new (Ok _) = (outcome.fault ≡ None) × Appends old new outcome.text
 WritesAs outcome old new (Err e) = (((e ≡ Memory) ⊎ (e ≡ Write)) × AppendsFront old new outcome.text) ⊎ ((outcome.fault ≡ Some e) × Appends old new outcome.text)
 
 -- The lines that were taken have left this session and no fault. The text of their answers was written, but for what is gathered of
 -- it, and what they tell was heard.
-pub record HasRun (limit : ℕ) (old now : Option (List ℕ)) (lines : Lines) (written_old written : Option (List ℕ)) (gathered : List ℕ) (told_old told : Option (List Telling)) (taken : List (List ℕ)) (session : Option ScriptSession) : Type 0 where
+pub record HasRun {B : Type 0} (kind : Kind B) (old now : Option (List ℕ)) (lines : Lines) (written_old written : Option (List ℕ)) (gathered : List ℕ) (told_old told : Option (List Telling)) (taken : List (List ℕ)) (session : Option B) : Type 0 where
   pub reading : HasTaken old now lines taken
-  pub fault : (outcome_of_lines limit 1 None taken).fault ≡ None
-  pub session_after : (outcome_of_lines limit 1 None taken).session ≡ session
+  pub fault : (outcome_of_lines kind 1 None taken).fault ≡ None
+  pub session_after : (outcome_of_lines kind 1 None taken).session ≡ session
   pub front : List ℕ
   pub written_as : Appends written_old written front
-  pub text_is : (outcome_of_lines limit 1 None taken).text ≡ front ++ gathered
-  pub told_as : Tells told_old told (told_of_lines limit 1 None taken)
+  pub text_is : (outcome_of_lines kind 1 None taken).text ≡ front ++ gathered
+  pub told_as : Tells told_old told (told_of_lines kind 1 None taken)
 
 -- what was read has the lines that were taken, and may have more whole ones
 pub record ReadsOn (old now : Option (List ℕ)) (taken : List (List ℕ)) : Type 0 where
@@ -148,46 +145,42 @@ pub record ReadsOn (old now : Option (List ℕ)) (taken : List (List ℕ)) : Typ
   pub lines : lines_of_read stop bytes ≡ taken ++ more
 
 -- what was read has this first fault, and the text of the lines that were taken
-pub record HasFaultAfter (limit : ℕ) (old now : Option (List ℕ)) (taken : List (List ℕ)) (e : BenchFault) : Type 0 where
+pub record HasFaultAfter {B : Type 0} (kind : Kind B) (old now : Option (List ℕ)) (taken : List (List ℕ)) (e : BenchFault) : Type 0 where
   pub stop : Stop
   pub bytes : List ℕ
   pub read : IsRead old now stop bytes
-  pub fault : (outcome_of_read limit stop bytes).fault ≡ Some e
-  pub text : (outcome_of_read limit stop bytes).text ≡ (outcome_of_lines limit 1 None taken).text
+  pub fault : (outcome_of_read kind stop bytes).fault ≡ Some e
+  pub text : (outcome_of_read kind stop bytes).text ≡ (outcome_of_lines kind 1 None taken).text
 
 -- after the lines that were taken memory was refused, or this is the first fault of what was read
-abbrev pub FaultsAfter : (limit : ℕ) (old now : Option (List ℕ)) (taken : List (List ℕ)) (e : BenchFault) → Type 0
-FaultsAfter limit old now taken e = ((e ≡ Memory) × ReadsOn old now taken) ⊎ HasFaultAfter limit old now taken e
+abbrev pub FaultsAfter : {B : Type 0} (kind : Kind B) (old now : Option (List ℕ)) (taken : List (List ℕ)) (e : BenchFault) → Type 0
+FaultsAfter kind old now taken e = ((e ≡ Memory) × ReadsOn old now taken) ⊎ HasFaultAfter kind old now taken e
 
 -- after the lines that were taken a further one was run, or the script has ended, or it has a fault
-abbrev pub GoesOn : (limit : ℕ) (old new : Option (List ℕ)) (lines after : Lines) (written_old written : Option (List ℕ)) (gathered gathered_new : List ℕ) (told_old told told_new : Option (List Telling)) (earlier : List (List ℕ)) (b b_new : ScriptSession)
+abbrev pub GoesOn : {B : Type 0} (kind : Kind B) (old new : Option (List ℕ)) (lines after : Lines) (written_old written : Option (List ℕ)) (gathered gathered_new : List ℕ) (told_old told told_new : Option (List Telling)) (earlier : List (List ℕ)) (b b_new : B)
     → Result Taken BenchFault → Type 0
-GoesOn limit old new lines after written_old written gathered gathered_new told_old told told_new earlier b b_new (Ok taken.Line) =
-    (further : List (List ℕ)) × HasRun limit old new after written_old written gathered_new told_old told_new further (Some b_new)
-GoesOn limit old new lines after written_old written gathered gathered_new told_old told told_new earlier b b_new (Ok taken.End) =
+GoesOn kind old new lines after written_old written gathered gathered_new told_old told told_new earlier b b_new (Ok taken.Line) =
+    (further : List (List ℕ)) × HasRun kind old new after written_old written gathered_new told_old told_new further (Some b_new)
+GoesOn kind old new lines after written_old written gathered gathered_new told_old told told_new earlier b b_new (Ok taken.End) =
     HasStopped old new End earlier × (gathered_new ≡ gathered) × (told_new ≡ told) × (b_new ≡ b) × (after.count ≡ lines.count)
-GoesOn limit old new lines after written_old written gathered gathered_new told_old told told_new earlier b b_new (Err e) =
-    (gathered_new ≡ gathered) × FaultsAfter limit old new earlier e
+GoesOn kind old new lines after written_old written gathered gathered_new told_old told told_new earlier b b_new (Err e) =
+    (gathered_new ≡ gathered) × FaultsAfter kind old new earlier e
 
 -- the run of what was read has ended as it should, and this was made of a script of so many lines and the session that it leaves
-pub record HasEnded (limit : ℕ) (old new : Option (List ℕ)) (written_old written : Option (List ℕ)) (told_old told : Option (List Telling)) {Made : Type 0} (IsMade : (lines : ℕ) → ScriptSession → Made → Type 0) (result : Result Made BenchFault) : Type 0 where
+pub record HasEnded {B : Type 0} (kind : Kind B) (old new : Option (List ℕ)) (written_old written : Option (List ℕ)) (told_old told : Option (List Telling)) {Made : Type 0} (IsMade : (lines : ℕ) → B → Made → Type 0) (result : Result Made BenchFault) : Type 0 where
   pub stop : Stop
   pub bytes : List ℕ
   pub read : IsRead old new stop bytes
-  pub ends : WritesAs (outcome_of_read limit stop bytes) written_old written result
-  pub made : IfOk result (λ made. (b : ScriptSession) × ((outcome_of_read limit stop bytes).session ≡ Some b) × IsMade (length (lines_of_read stop bytes)) b made)
-  pub told_as : OnOk result (Tells told_old told (told_of_lines limit 1 None (lines_of_read stop bytes)))
+  pub ends : WritesAs (outcome_of_read kind stop bytes) written_old written result
+  pub made : IfOk result (λ made. (b : B) × ((outcome_of_read kind stop bytes).session ≡ Some b) × IsMade (length (lines_of_read stop bytes)) b made)
+  pub told_as : OnOk result (Tells told_old told (told_of_lines kind 1 None (lines_of_read stop bytes)))
 
 -- the lines that are left are run from this session on, whatever lines came before it
-abbrev pub RunsOn : (limit : ℕ) (now : Option (List ℕ)) (lines : Lines) (written : Option (List ℕ)) (told : Option (List Telling)) → Option ScriptSession → (new written_new : Option (List ℕ)) (told_new : Option (List Telling))
-    → {Made : Type 0} (IsMade : (lines : ℕ) → ScriptSession → Made → Type 0) → Result Made BenchFault → Type 0
-RunsOn limit now lines written told session new written_new told_new IsMade result =
+abbrev pub RunsOn : {B : Type 0} (kind : Kind B) (now : Option (List ℕ)) (lines : Lines) (written : Option (List ℕ)) (told : Option (List Telling)) → Option B → (new written_new : Option (List ℕ)) (told_new : Option (List Telling))
+    → {Made : Type 0} (IsMade : (lines : ℕ) → B → Made → Type 0) → Result Made BenchFault → Type 0
+RunsOn kind now lines written told session new written_new told_new IsMade result =
     (old written_old : Option (List ℕ)) (told_old : Option (List Telling)) (taken : List (List ℕ))
-    → HasRun limit old now lines written_old written [] told_old told taken session → HasEnded limit old new written_old written_new told_old told_new IsMade result
-
--- how much a script of so many lines has done, and what is promised of it, where it leaves this session
-abbrev pub IsSummaryOf : ScriptSession → (lines : ℕ) → ScriptSession → Summary → Type 0
-IsSummaryOf session lines b summary = (b ≡ session) × (summary ≡ summary_of_session lines b) × IsPromisedSession b
+    → HasRun kind old now lines written_old written [] told_old told taken session → HasEnded kind old new written_old written_new told_old told_new IsMade result
 
 -- a fault that the run of a line can have
 abbrev pub IsFaultOfLine : BenchFault → Type 0

@@ -1,10 +1,9 @@
--- What a script means: its lines are run in turn, up to the first fault. A command is some events of the construction, and their
--- replay leads to the world after it.
-use Rattle.std.specs.Prelude.{ℕ, zero, suc, ◌+◌, ◌-◌, ◌*◌, ◌==◌, nat_le, nat_lt, ◌^◌, ◌&&◌, not, if◌then◌else◌, Bool, List, [], ◌∷◌, ◌++◌, length, map, replicate, Option, Some, None, is_some, is_none, option_map}
+-- What a command means: it is some events of the construction, and their replay leads to the world after it.
+use Rattle.std.specs.Prelude.{ℕ, zero, suc, ◌+◌, ◌-◌, ◌*◌, ◌==◌, nat_le, nat_lt, ◌^◌, ◌&&◌, if◌then◌else◌, Bool, List, [], ◌∷◌, ◌++◌, length, map, replicate, Option, Some, None, is_some, is_none, option_map}
 use Rattle.std.specs.Option.{option_map_or}
-use Rattle.std.specs.List.{list_all, concat}
+use Rattle.std.specs.List.{concat}
 use Rattle.seq_object.specs.declared.call_id.CallId.{CallId}
-use Rattle.ready_objects.specs.Words.{text_of_words, words_of_text}
+use Rattle.ready_objects.specs.Words.{text_of_words}
 use Rattle.uni_model.specs.Bound.{most_steps}
 use Rattle.uni_model.specs.Places.{head_seq}
 use Rattle.uni_model.specs.Worlds.{WorldOf, Event, world_after_all, opened_world, response_of_step, calls_in_era}
@@ -15,18 +14,13 @@ use Rattle.uni_core.specs.World.{world_of}
 use Rattle.uni_trim.specs.Ends.{last_number}
 use Rattle.uni_record.specs.Event.{events_shown}
 use Rattle.uni_record.specs.Recorded.{Recording, set_aside, share}
-use Rattle.uni_script.specs.declared.fault.BenchFault.{BenchFault}
-use Rattle.uni_script.specs.declared.fault.BenchFault.TheVariants.{NoHeader, BadHeader, TooLong, BadByte, BadLine, TooMany}
-use Rattle.uni_script.specs.declared.grammar.Version.{Version}
 use Rattle.uni_script.specs.declared.grammar.Header.{Header}
 use Rattle.uni_script.specs.declared.grammar.Command.{Command}
 use Rattle.uni_script.specs.declared.grammar.Command.TheVariants as command
 use Rattle.uni_script.specs.declared.answer.Refusal.{Refusal}
 use Rattle.uni_script.specs.declared.answer.Refusal.TheVariants.{Process, Busy, Row, Idle, Pending, Sequence, History, Count}
-use Rattle.uni_script.specs.Answer.{called_text, refused_text, returned_text, going_text, heads_text, trimmed_text, reshaped_text, entry_text, end_text}
-use Rattle.uni_script.specs.Objects.{SpokenObject, StateOf, InvOf, RespOf, spoken_of}
-use Rattle.uni_script.specs.declared.grammar.ObjectName.{ObjectName}
-use Rattle.uni_script.specs.Grammar.{lines_of, is_plain_byte, is_note, header_of_words, command_of_words}
+use Rattle.uni_script.specs.Answer.{called_text, refused_text, returned_text, going_text, heads_text, trimmed_text, reshaped_text, entry_text}
+use Rattle.uni_script.specs.Objects.{SpokenObject}
 
 -- What a header opens, and what has come since: how many processes there were and the number of the anchor; how many calls a
 -- process can make in an era, and how many events there can be; the events, in order, and the world that they have led to.
@@ -169,82 +163,6 @@ refusal_of_command b command.Trim = refusal_of_end b b.world.n
 refusal_of_command b (command.Reshape m) = refusal_of_reshape b m
 
 -- the session that a header opens, with a history of so many events at most
-abbrev pub opened_session : {S I R : Type 0} → SpokenObject S I R → (limit : ℕ) → Header → Session S I R
+abbrev pub opened_session : {S I R N : Type 0} → SpokenObject S I R → (limit : ℕ) → Header N → Session S I R
 opened_session o limit header =
     record { processes = header.processes; first = 1; row = header.row; limit = limit; events = []; world = opened_world header.processes o.object.initial 1 }
-
--- the session of a script in a version of the language: of processes that share the object of this name
-pub record ScriptSession : Type 0 where
-  pub version : Version
-  pub object : ObjectName
-  pub session : Session (StateOf object) (InvOf object) (RespOf object)
-
--- the one of an object's session
-abbrev pub script_session : (object : ObjectName) → Version → Session (StateOf object) (InvOf object) (RespOf object) → ScriptSession
-script_session object version b = record { version = version; object = object; session = b }
-
--- the one that a header opens
-abbrev pub session_of_header : (limit : ℕ) → Header → ScriptSession
-session_of_header limit header = script_session header.object header.version (opened_session (spoken_of header.object) limit header)
-
--- What some lines come to: the session after them, none before the header; the text of their answers; and the fault that
--- ended them, if one did.
-pub record Outcome : Type 0 where
-  pub session : Option ScriptSession
-  pub text : List ℕ
-  pub fault : Option BenchFault
-
-abbrev pub outcome_of_fault : Option ScriptSession → BenchFault → Outcome
-outcome_of_fault b fault = record { session = b; text = []; fault = Some fault }
-
-abbrev pub outcome_of_text : ScriptSession → (text : List ℕ) → Outcome
-outcome_of_text b text = record { session = Some b; text = text; fault = None }
-
--- an outcome, and then another one from the session after it, unless a fault ended it
-abbrev pub and_then_from : Outcome → Outcome → Option BenchFault → Outcome
-and_then_from first rest (Some fault) = first
-and_then_from first rest None = record rest { text = first.text ++ rest.text }
-
-abbrev pub and_then : Outcome → (Option ScriptSession → Outcome) → Outcome
-and_then first rest = and_then_from first (rest first.session) first.fault
-
--- the words of a command, on a session of this object
-abbrev pub outcome_of_command : {S I R : Type 0} → SpokenObject S I R → (inside : Version → Session S I R → ScriptSession) → Version → (number : ℕ) → Session S I R → List (List ℕ) → Outcome
-outcome_of_command o inside version number b words =
-    option_map_or (λ command. let result = result_of_command o b command in outcome_of_text (inside version (session_after o b result.events)) result.text)
-    (command_of_words version o.language.inv_of_words words) (outcome_of_fault (Some (inside version b)) (BadLine number))
-
--- the end of a script that has so many lines
-abbrev pub outcome_of_end : (lines : ℕ) → Option ScriptSession → Outcome
-outcome_of_end lines None = outcome_of_fault None (NoHeader (lines + 1))
-outcome_of_end lines (Some b) = outcome_of_text b end_text
-
--- where the history can have so many events
-module _ (limit : ℕ) where
-  -- a line that isn't a note
-  abbrev pub outcome_of_words : (number : ℕ) → Option ScriptSession → List (List ℕ) → Outcome
-  outcome_of_words number None words = option_map_or (λ header. outcome_of_text (session_of_header limit header) []) (header_of_words words) (outcome_of_fault None (BadHeader number))
-  outcome_of_words number (Some b) words = outcome_of_command (spoken_of b.object) (script_session b.object) b.version number b.session words
-
-  -- a line that isn't too long
-  abbrev pub outcome_of_short_line : (number : ℕ) → Option ScriptSession → List ℕ → Outcome
-  outcome_of_short_line number b line =
-      if not (list_all is_plain_byte line) then outcome_of_fault b (BadByte number)
-      else if is_note line then record { session = b; text = []; fault = None }
-      else outcome_of_words number b (words_of_text line)
-
-  -- a line, with its number: the first fault of those that it has
-  abbrev pub outcome_of_line : (number : ℕ) → Option ScriptSession → List ℕ → Outcome
-  outcome_of_line number b line =
-      if nat_lt 100000 number then outcome_of_fault b TooMany
-      else if nat_lt 200 (length line) then outcome_of_fault b (TooLong number)
-      else outcome_of_short_line number b line
-
-  -- lines, numbered from here on
-  abbrev pub outcome_of_lines : (number : ℕ) → Option ScriptSession → List (List ℕ) → Outcome
-  outcome_of_lines number b [] = record { session = b; text = []; fault = None }
-  outcome_of_lines number b (line ∷ lines) = and_then (outcome_of_line number b line) (λ after. outcome_of_lines (number + 1) after lines)
-
-  -- a script
-  abbrev pub outcome_of_script : List ℕ → Outcome
-  outcome_of_script bytes = and_then (outcome_of_lines 1 None (lines_of bytes)) (λ after. outcome_of_end (length (lines_of bytes)) after)

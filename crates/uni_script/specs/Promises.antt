@@ -3,7 +3,8 @@ use Rattle.std.specs.Prelude.{◌≡◌}
 use Rattle.uni_model.specs.Worlds.{opened_world, world_after_all, AreAccepted}
 use Rattle.uni_model.specs.Universal.{IsUniversal}
 use Rattle.uni_script.specs.Objects.{SpokenObject, spoken_of}
-use Rattle.uni_script.specs.Meaning.{Session, ScriptSession}
+use Rattle.uni_script.specs.Meaning.{Session}
+use Rattle.uni_script.specs.Scripts.{ScriptSession}
 
 -- The events of a session could all come, their replay from its opening leads to its world, and the main law holds of them: calls and
 -- replies are those of an atomic object, each front of the events is within the bound, and trims change nothing that they show.

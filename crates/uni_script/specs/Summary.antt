@@ -1,13 +1,13 @@
 -- How much a script has done.
-use Rattle.std.specs.Prelude.{◌≡◌, ℕ, suc, List, [], ◌∷◌, length, Option, option_map, refl}
+use Rattle.std.specs.Prelude.{◌≡◌, ℕ, suc, List, [], ◌∷◌, length, refl}
 use Rattle.uni_model.specs.Worlds.{Event, opened_world}
 use Rattle.uni_model.specs.Worlds.Event.{Call, Step, Trim, Reshape}
 use Rattle.uni_model.specs.History.{history_of}
 use Rattle.uni_record.specs.Event.{responses_in}
 use Rattle.uni_script.specs.declared.summary.Summary.{Summary}
 use Rattle.uni_script.specs.Objects.{SpokenObject, spoken_of}
-use Rattle.uni_script.specs.Grammar.{lines_of}
-use Rattle.uni_script.specs.Meaning.{Session, ScriptSession, outcome_of_script}
+use Rattle.uni_script.specs.Meaning.{Session}
+use Rattle.uni_script.specs.Scripts.{ScriptSession}
 
 -- how many of some events are calls
 abbrev pub calls_in : {I : Type 0} → List (Event I) → ℕ
@@ -27,10 +27,6 @@ summary_of o lines b = record { lines = lines; calls = calls_in b.events; return
 
 abbrev pub summary_of_session : (lines : ℕ) → ScriptSession → Summary
 summary_of_session lines b = summary_of (spoken_of b.object) lines b.session
-
--- the summary of a script that opens a session, where the history can have so many events
-abbrev pub summary_of_script : (limit : ℕ) → List ℕ → Option Summary
-summary_of_script limit script = option_map (summary_of_session (length (lines_of script))) (outcome_of_script limit script).session
 
 two_calls : calls_in {I = ℕ} (Call 0 5 ∷ Step 0 ∷ Call 1 5 ∷ Trim ∷ []) ≡ 2
 two_calls = refl

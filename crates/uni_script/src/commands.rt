@@ -31,10 +31,10 @@ use uni_record::{
 /// events at most.
 ///
 /// An `Err` says that memory was refused.
-pub fn open<O: Spoken>(
+pub fn open<O: Spoken, N: Copy>(
     alloc: Global,
     object: O,
-    header: Header,
+    header: Header<N>,
     history: u64,
 ) -> Result<Recorded<O>, AllocError>
     requires range { IsInRange header }

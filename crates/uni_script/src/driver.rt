@@ -1,80 +1,145 @@
 //! The run of a script: its lines are taken and run in turn, what they answer is written, and what they tell is heard.
 
-ghost use Rattle.std.specs.Prelude.{ℕ, ◌+◌, ◌≡◌, ◌≢◌, ◌↔◌, ◌⊎◌, [], true, false, List, Option, None, Some, is_none, IfSome, IfNone, IfOk, IfErr, OnOk, OnErr, IsErrOf};
-ghost use Rattle.uni_script.specs.Grammar.{IsInRange, is_note};
-ghost use Rattle.uni_script.specs.Ends.{AppendsFront, Moves};
-ghost use Rattle.uni_script.specs.Lines.{IsHeld, EndsAs, WritesAs, HasRun, HasEnded, GoesOn, RunsOn, IsFaultOfLine, IsSummaryOf};
-ghost use Rattle.uni_script.specs.Objects.{spoken};
-ghost use Rattle.uni_script.specs.ScriptRun.{IsRan, IsRanAs};
-ghost use Rattle.uni_script.specs.Meaning.{session_of, opened_session, session_of_header, outcome_of_text, outcome_of_fault, outcome_of_short_line, outcome_of_end};
-ghost use Rattle.uni_script.specs.Promises.{IsPromisedSession};
+ghost use Rattle.std.specs.Prelude.{ℕ, ◌+◌, ◌≡◌, ◌≢◌, ◌↔◌, ◌⊎◌, [], true, false, List, Option, None, Some, Err, is_none, IfSome, IfNone, IfOk, IfErr, OnOk, OnErr, IsErrOf};
 ghost use Rattle.uni_record.specs.Recorded.{IsHistory};
+ghost use Rattle.uni_script.specs.declared.options.Options.{Options};
+ghost use Rattle.uni_script.specs.Ends.{AppendsFront, Moves};
+ghost use Rattle.uni_script.specs.Grammar.{IsInRange, is_note};
+ghost use Rattle.uni_script.specs.Lines.{IsHeld, HasTaken, EndsAs, WritesAs, HasRun, HasEnded, GoesOn, RunsOn, IsFaultOfLine};
+ghost use Rattle.uni_script.specs.Meaning.{Session, session_of, opened_session};
+ghost use Rattle.uni_script.specs.Objects.{spoken};
+ghost use Rattle.std.specs.Io.KnownBytes.{Appends};
+ghost use Rattle.uni_script.specs.Outcome.{Kind, echo_of, outcome_of_text, outcome_of_fault, outcome_of_short_line, outcome_of_end};
+ghost use Rattle.uni_script.specs.Promises.{IsPromised};
+ghost use Rattle.uni_script.specs.ScriptRun.{IsRanAs, IsSummaryOf};
+ghost use Rattle.uni_script.specs.Scripts.{IsAbout};
 ghost use Rattle.uni_script.specs.Summary.{summary_of};
 ghost use Rattle.uni_script.specs.Told.{Telling, Tells, told_of_line};
 
+use crate::catalogue::{Catalogue, Scripts};
 use crate::commands::{make, open};
 use crate::ends::{TextIn, TextOut, write_all};
 use crate::fault::BenchFault;
-use crate::grammar::{
-    Header, ObjectName, Version, command_of, header_of, is_note, is_plain, words_of,
-};
+use crate::grammar::{Header, command_of, header_by, is_note, is_plain, words_of};
 use crate::lines::{Lines, Taken};
-use crate::objects::Shared;
-use crate::script_run::{Ran, ScriptRecord};
+use crate::options::{Dialect, Echo, Options, push_echo};
+use crate::script_run::Ran;
 use crate::summary::{Summary, summary_of};
 use crate::told::Listener;
-use ready_objects::{BookObject, DirectoryObject, QueueObject, StickyObject};
+use ready_objects::Spoken;
 use std::alloc::Global;
 use uni_record::{Recorded, Verdict};
 
 /// How many bytes of answers are gathered before they are written.
 const MOST_TEXT: usize = 65_536;
 
-/// Runs the script that a reader has, with a history of so many events at most; the answer is the record that it
-/// leaves, and how much it has done.
+/// Runs the script that a reader has, over the objects of a catalogue; the answer is the record that it leaves, and how
+/// much it has done.
 ///
 /// `Memory` where memory was refused, `Write` where the writer failed; any other `Err` is the first fault of what was
 /// read.
-pub fn run_script<I: TextIn, W: TextOut, L: Listener>(
+pub(crate) fn run_script<C: Catalogue, I: TextIn, W: TextOut, L: Listener>(
+    catalogue: C,
     alloc: Global,
-    history: u64,
+    options: &Options,
     reader: &mut I,
     writer: &mut W,
     listener: &mut L,
-) -> Result<Ran<ScriptRecord>, BenchFault>
-    requires history { IsHistory history }
+) -> Result<Ran<C::Record>, BenchFault>
+    requires history { IsHistory options.now.history }
     requires reader { I.has_failed reader.old ≡ false }
     requires writer { W.has_failed writer.old ≡ false }
-    ensures run { HasEnded history (I.remaining reader.old) (I.remaining reader.new) (W.contents writer.old) (W.contents writer.new) (L.heard listener.old) (L.heard listener.new) IsRan result }
+    ensures run { HasEnded (C.kind catalogue options.now) (I.remaining reader.old) (I.remaining reader.new) (W.contents writer.old) (W.contents writer.new) (L.heard listener.old) (L.heard listener.new) (C.IsRan catalogue) result }
     ensures reader { IsErrOf result BenchFault.Read → I.has_failed reader.new ≡ true }
     ensures reader_ok { OnOk result (I.has_failed reader.new ≡ false) }
     ensures writer { IsErrOf result BenchFault.Write ↔ (W.has_failed writer.new ≡ true) }
 {
     let mut lines = Lines::new();
+    let header = take_header(
+        &catalogue, alloc, options, &mut lines, reader, writer, listener,
+    )?;
+    catalogue.run(alloc, header, options, &mut lines, reader, writer, listener)
+}
+
+/// Takes the lines of a script up to its header, which is the answer. The lines before it are notes.
+///
+/// `NoHeader` where the script has no further line; `Memory` where memory was refused, `Write` where the writer failed;
+/// any other `Err` is the first fault of what was read.
+fn take_header<C: Catalogue, I: TextIn, W: TextOut, L: Listener>(
+    catalogue: &C,
+    alloc: Global,
+    options: &Options,
+    lines: &mut Lines,
+    reader: &mut I,
+    writer: &mut W,
+    listener: &mut L,
+) -> Result<Header<C::Name>, BenchFault>
+    requires held { IsHeld lines.old }
+    requires fresh { (left : Option (List ℕ)) → HasTaken left left lines.old [] }
+    requires reader { I.has_failed reader.old ≡ false }
+    requires writer { W.has_failed writer.old ≡ false }
+    ensures held { OnOk result (IsHeld lines.new) }
+    ensures range { IfOk result IsInRange }
+    ensures run { IfOk result (λ header. (taken : List (List ℕ)) × HasRun (C.kind catalogue.now options.now) (I.remaining reader.old) (I.remaining reader.new) lines.new (W.contents writer.old) (W.contents writer.new) [] (L.heard listener.old) (L.heard listener.new) taken (Some (C.opened catalogue.now options.now header))) }
+    ensures ended { IfErr result (λ e. HasEnded (C.kind catalogue.now options.now) (I.remaining reader.old) (I.remaining reader.new) (W.contents writer.old) (W.contents writer.new) (L.heard listener.old) (L.heard listener.new) (C.IsRan catalogue.now) (Err e)) }
+    ensures reader { IsErrOf result BenchFault.Read → I.has_failed reader.new ≡ true }
+    ensures reader_ok { OnOk result (I.has_failed reader.new ≡ false) }
+    ensures writer { IsErrOf result BenchFault.Write ↔ (W.has_failed writer.new ≡ true) }
+{
     loop {
         match lines.take(reader)? {
             Taken::Line => {}
             Taken::End => return Err(BenchFault::NoHeader(lines.count + 1)),
         }
         let line = lines.line();
-        match read_header(alloc, lines.count, line)? {
-            Some(header) => return run_header(
-                alloc, header, history, &mut lines, reader, writer, listener,
-            ),
-            None => listener.note(alloc, None, line)?,
+        let header = read_header(catalogue, alloc, lines.count, line)?;
+        match header {
+            Some(header) => {
+                write_echo(alloc, options.echo, line, writer)?;
+                return Ok(header);
+            }
+            None => {
+                listener.note(alloc, None, line)?;
+                write_echo(alloc, options.echo, line, writer)?;
+            }
         }
     }
+}
+
+/// Writes what comes before the answers of a line.
+///
+/// An `Err` is `Memory` where memory was refused, or `Write` where the writer failed.
+fn write_echo<W: TextOut>(
+    alloc: Global,
+    echo: Echo,
+    line: &[u8],
+    writer: &mut W,
+) -> Result<(), BenchFault>
+    requires { W.has_failed writer.old ≡ false }
+    ensures written { OnOk result (Appends (W.contents writer.old) (W.contents writer.new) (echo_of echo line.now)) }
+    ensures front { OnErr result (AppendsFront (W.contents writer.old) (W.contents writer.new) (echo_of echo line.now)) }
+    ensures fault { IfErr result (λ e. (e ≡ BenchFault.Memory) ⊎ (e ≡ BenchFault.Write)) }
+    ensures writer { IsErrOf result BenchFault.Write ↔ (W.has_failed writer.new ≡ true) }
+{
+    let mut text = Vec::new(alloc);
+    push_echo(&mut text, echo, line)?;
+    write_text(&mut text, writer)
 }
 
 /// Reads a line before the header, with its number; the answer is the header, where the line isn't a note.
 ///
 /// `Memory` where memory was refused; any other `Err` is the fault of the line.
-fn read_header(alloc: Global, number: u64, line: &[u8]) -> Result<Option<Header>, BenchFault>
-    ensures note { (limit : ℕ) → IfOk result (λ header. IfNone header (outcome_of_short_line limit number None line.now ≡ record { session = None; text = []; fault = None })) }
-    ensures header { (limit : ℕ) → IfOk result (λ header. IfSome header (λ h. outcome_of_short_line limit number None line.now ≡ outcome_of_text (session_of_header limit h) [])) }
+fn read_header<C: Catalogue>(
+    catalogue: &C,
+    alloc: Global,
+    number: u64,
+    line: &[u8],
+) -> Result<Option<Header<C::Name>>, BenchFault>
+    ensures note { (options : Options) → IfOk result (λ header. IfNone header (outcome_of_short_line (C.kind catalogue.now options) number None line.now ≡ record { session = None; text = []; fault = None })) }
+    ensures header { (options : Options) → IfOk result (λ header. IfSome header (λ h. outcome_of_short_line (C.kind catalogue.now options) number None line.now ≡ outcome_of_text (C.opened catalogue.now options h) [])) }
     ensures kind { IfOk result (λ header. is_note line.now ≡ is_none header) }
     ensures range { IfOk result (λ header. IfSome header IsInRange) }
-    ensures fault { (limit : ℕ) → IfErr result (λ e. (e ≡ BenchFault.Memory) ⊎ (outcome_of_short_line limit number None line.now ≡ outcome_of_fault None e)) }
+    ensures fault { (options : Options) → IfErr result (λ e. (e ≡ BenchFault.Memory) ⊎ (outcome_of_short_line (C.kind catalogue.now options) number None line.now ≡ outcome_of_fault None e)) }
     ensures own { IfErr result IsFaultOfLine }
 {
     if !is_plain(line) {
@@ -84,129 +149,46 @@ fn read_header(alloc: Global, number: u64, line: &[u8]) -> Result<Option<Header>
         return Ok(None);
     }
     let words = words_of(alloc, line)?;
-    match header_of(words.as_slice()) {
+    match header_by(catalogue, words.as_slice()) {
         Some(header) => Ok(Some(header)),
         None => Err(BenchFault::BadHeader(number)),
     }
 }
 
-/// Runs the lines that are left after a header, on the object that it names: the one place of the code that tells the
-/// objects apart.
+/// Opens the record of a header for processes that share this object, and runs the lines that are left. The sessions of
+/// the scripts are those of a catalogue.
 ///
 /// `Memory` where memory was refused, `Write` where the writer failed; any other `Err` is the first fault of what was
 /// read.
-fn run_header<I: TextIn, W: TextOut, L: Listener>(
-    alloc: Global,
-    header: Header,
-    history: u64,
-    lines: &mut Lines,
-    reader: &mut I,
-    writer: &mut W,
-    listener: &mut L,
-) -> Result<Ran<ScriptRecord>, BenchFault>
-    requires range { IsInRange header }
-    requires history { IsHistory history }
-    requires held { IsHeld lines.old }
-    requires reader { I.has_failed reader.old ≡ false }
-    requires writer { W.has_failed writer.old ≡ false }
-    ensures run { RunsOn history (I.remaining reader.old) lines.old (W.contents writer.old) (L.heard listener.old) (Some (session_of_header history header)) (I.remaining reader.new) (W.contents writer.new) (L.heard listener.new) IsRan result }
-    ensures reader { IsErrOf result BenchFault.Read → I.has_failed reader.new ≡ true }
-    ensures reader_ok { OnOk result (I.has_failed reader.new ≡ false) }
-    ensures writer { IsErrOf result BenchFault.Write ↔ (W.has_failed writer.new ≡ true) }
-{
-    match header.object {
-        ObjectName::Queue => {
-            let ran = run_object(
-                alloc,
-                QueueObject,
-                header,
-                history,
-                lines,
-                reader,
-                writer,
-                listener,
-            )?;
-            let record = ScriptRecord::Queue(ran.record);
-            Ok(Ran {
-                record,
-                summary: ran.summary,
-            })
-        }
-        ObjectName::Directory => {
-            let ran = run_object(
-                alloc,
-                DirectoryObject,
-                header,
-                history,
-                lines,
-                reader,
-                writer,
-                listener,
-            )?;
-            let record = ScriptRecord::Directory(ran.record);
-            Ok(Ran {
-                record,
-                summary: ran.summary,
-            })
-        }
-        ObjectName::Book => {
-            let ran = run_object(
-                alloc, BookObject, header, history, lines, reader, writer, listener,
-            )?;
-            let record = ScriptRecord::Book(ran.record);
-            Ok(Ran {
-                record,
-                summary: ran.summary,
-            })
-        }
-        ObjectName::Sticky => {
-            let ran = run_object(
-                alloc,
-                StickyObject,
-                header,
-                history,
-                lines,
-                reader,
-                writer,
-                listener,
-            )?;
-            let record = ScriptRecord::Sticky(ran.record);
-            Ok(Ran {
-                record,
-                summary: ran.summary,
-            })
-        }
-    }
-}
-
-/// Opens the record of a header for processes that share this object, and runs the lines that are left.
-///
-/// `Memory` where memory was refused, `Write` where the writer failed; any other `Err` is the first fault of what was
-/// read.
-fn run_object<O: Shared, I: TextIn, W: TextOut, L: Listener>(
+pub(crate) fn run_object<S: Scripts, O: Spoken, N: Copy, I: TextIn, W: TextOut, L: Listener>(
     alloc: Global,
     object: O,
-    header: Header,
-    history: u64,
+    header: Header<N>,
+    options: &Options,
     lines: &mut Lines,
     reader: &mut I,
     writer: &mut W,
     listener: &mut L,
 ) -> Result<Ran<Recorded<O>>, BenchFault>
     requires range { IsInRange header }
-    requires history { IsHistory history }
+    requires history { IsHistory options.now.history }
     requires held { IsHeld lines.old }
     requires reader { I.has_failed reader.old ≡ false }
     requires writer { W.has_failed writer.old ≡ false }
-    ensures run { (limit : ℕ) → RunsOn limit (I.remaining reader.old) lines.old (W.contents writer.old) (L.heard listener.old) (Some (O.session header.version (opened_session (spoken O.sequential O.language object) history header))) (I.remaining reader.new) (W.contents writer.new) (L.heard listener.new) (IsRanAs (λ recorded b. b ≡ O.session header.version (session_of recorded))) result }
+    ensures run { (kind : Kind S.Session) (inside : Session O.State O.Inv O.Resp → S.Session) → IsAbout kind (spoken O.sequential O.language object) (record { version = header.version; echo = options.now.echo }) inside
+        → RunsOn kind (I.remaining reader.old) lines.old (W.contents writer.old) (L.heard listener.old) (Some (inside (opened_session (spoken O.sequential O.language object) options.now.history header))) (I.remaining reader.new) (W.contents writer.new) (L.heard listener.new) (IsRanAs (spoken O.sequential O.language object) inside) result }
     ensures reader { IsErrOf result BenchFault.Read → I.has_failed reader.new ≡ true }
     ensures reader_ok { OnOk result (I.has_failed reader.new ≡ false) }
     ensures writer { IsErrOf result BenchFault.Write ↔ (W.has_failed writer.new ≡ true) }
 {
-    let mut session = open(alloc, object, header, history)?;
-    match run_commands(
+    let dialect = Dialect {
+        version: header.version,
+        echo: options.echo,
+    };
+    let mut session = open(alloc, object, header, options.history)?;
+    match run_commands::<S, O, I, W, L>(
         alloc,
-        header.version,
+        dialect,
         &mut session,
         lines,
         reader,
@@ -228,9 +210,9 @@ fn run_object<O: Shared, I: TextIn, W: TextOut, L: Listener>(
 ///
 /// `Memory` where memory was refused, `Write` where the writer failed; any other `Err` is the first fault of what was
 /// read.
-fn run_commands<O: Shared, I: TextIn, W: TextOut, L: Listener>(
+fn run_commands<S: Scripts, O: Spoken, I: TextIn, W: TextOut, L: Listener>(
     alloc: Global,
-    version: Version,
+    dialect: Dialect,
     session: &mut Recorded<O>,
     lines: &mut Lines,
     reader: &mut I,
@@ -240,7 +222,9 @@ fn run_commands<O: Shared, I: TextIn, W: TextOut, L: Listener>(
     requires held { IsHeld lines.old }
     requires reader { I.has_failed reader.old ≡ false }
     requires writer { W.has_failed writer.old ≡ false }
-    ensures run { (limit : ℕ) → RunsOn limit (I.remaining reader.old) lines.old (W.contents writer.old) (L.heard listener.old) (Some (O.session version (session_of session.old))) (I.remaining reader.new) (W.contents writer.new) (L.heard listener.new) (IsSummaryOf (O.session version (session_of session.new))) result }
+    ensures object { session.new.world.object ≡ session.old.world.object }
+    ensures run { (kind : Kind S.Session) (inside : Session O.State O.Inv O.Resp → S.Session) → IsAbout kind (spoken O.sequential O.language session.old.world.object) dialect inside
+        → RunsOn kind (I.remaining reader.old) lines.old (W.contents writer.old) (L.heard listener.old) (Some (inside (session_of session.old))) (I.remaining reader.new) (W.contents writer.new) (L.heard listener.new) (IsSummaryOf (spoken O.sequential O.language session.old.world.object) inside (session_of session.new)) result }
     ensures reader { IsErrOf result BenchFault.Read → I.has_failed reader.new ≡ true }
     ensures reader_ok { OnOk result (I.has_failed reader.new ≡ false) }
     ensures writer { IsErrOf result BenchFault.Write ↔ (W.has_failed writer.new ≡ true) }
@@ -249,9 +233,9 @@ fn run_commands<O: Shared, I: TextIn, W: TextOut, L: Listener>(
     let mut answer = Vec::new(alloc);
     loop {
         make_room(lines, &mut text, writer)?;
-        match run_next(
+        match run_next::<S, O, I, L>(
             alloc,
-            version,
+            dialect,
             session,
             lines,
             reader,
@@ -262,7 +246,7 @@ fn run_commands<O: Shared, I: TextIn, W: TextOut, L: Listener>(
             Ok(Taken::Line) => {}
             Ok(Taken::End) => {
                 write_text(&mut text, writer)?;
-                return run_end(alloc, version, session, lines.count, writer);
+                return run_end::<S, O, W>(alloc, session, lines.count, writer);
             }
             Err(fault) => {
                 write_text(&mut text, writer)?;
@@ -313,12 +297,12 @@ fn write_text<W: TextOut>(text: &mut Vec<u8>, writer: &mut W) -> Result<(), Benc
     }
 }
 
-/// Takes the next line and runs it, and gathers its answer, which is made in a text of its own.
+/// Takes the next line and runs it, and gathers its answer, which is made in a text of its own after its echo.
 ///
 /// `Memory` where memory was refused; any other `Err` is the first fault of what was read. No answer is gathered then.
-fn run_next<O: Shared, I: TextIn, L: Listener>(
+fn run_next<S: Scripts, O: Spoken, I: TextIn, L: Listener>(
     alloc: Global,
-    version: Version,
+    dialect: Dialect,
     session: &mut Recorded<O>,
     lines: &mut Lines,
     reader: &mut I,
@@ -329,10 +313,12 @@ fn run_next<O: Shared, I: TextIn, L: Listener>(
     requires held { IsHeld lines.old }
     requires reader { I.has_failed reader.old ≡ false }
     ensures held { IsHeld lines.new }
-    ensures next { (limit : ℕ) (old written_old written : Option (List ℕ)) (told_old : Option (List Telling)) (taken : List (List ℕ))
-        → HasRun limit old (I.remaining reader.old) lines.old written_old written text.old.items told_old (L.heard listener.old) taken (Some (O.session version (session_of session.old)))
-        → GoesOn limit old (I.remaining reader.new) lines.old lines.new written_old written text.old.items text.new.items told_old (L.heard listener.old) (L.heard listener.new) taken
-        (O.session version (session_of session.old)) (O.session version (session_of session.new)) result }
+    ensures object { session.new.world.object ≡ session.old.world.object }
+    ensures next { (kind : Kind S.Session) (inside : Session O.State O.Inv O.Resp → S.Session) → IsAbout kind (spoken O.sequential O.language session.old.world.object) dialect inside
+        → (old written_old written : Option (List ℕ)) (told_old : Option (List Telling)) (taken : List (List ℕ))
+        → HasRun kind old (I.remaining reader.old) lines.old written_old written text.old.items told_old (L.heard listener.old) taken (Some (inside (session_of session.old)))
+        → GoesOn kind old (I.remaining reader.new) lines.old lines.new written_old written text.old.items text.new.items told_old (L.heard listener.old) (L.heard listener.new) taken
+        (inside (session_of session.old)) (inside (session_of session.new)) result }
     ensures reader { IsErrOf result BenchFault.Read → I.has_failed reader.new ≡ true }
     ensures reader_ok { OnOk result (I.has_failed reader.new ≡ false) }
     ensures other { IfErr result (λ e. e ≢ BenchFault.Write) }
@@ -341,15 +327,9 @@ fn run_next<O: Shared, I: TextIn, L: Listener>(
     match lines.take(reader)? {
         Taken::Line => {
             answer.clear();
-            run_line(
-                alloc,
-                version,
-                session,
-                lines.count,
-                lines.line(),
-                answer,
-                listener,
-            )?;
+            let line = lines.line();
+            push_echo(answer, dialect.echo, line)?;
+            run_line::<S, O, L>(alloc, dialect, session, lines.count, line, answer, listener)?;
             text.extend_from_slice(answer.as_slice())?;
             Ok(Taken::Line)
         }
@@ -360,18 +340,22 @@ fn run_next<O: Shared, I: TextIn, L: Listener>(
 /// Runs a line after the header, with its number, on a record, and writes its answer after a text.
 ///
 /// `Memory` where memory was refused; any other `Err` is the fault of the line.
-fn run_line<O: Shared, L: Listener>(
+fn run_line<S: Scripts, O: Spoken, L: Listener>(
     alloc: Global,
-    version: Version,
+    dialect: Dialect,
     session: &mut Recorded<O>,
     number: u64,
     line: &[u8],
     text: &mut Vec<u8>,
     listener: &mut L,
 ) -> Result<(), BenchFault>
-    ensures outcome { (limit : ℕ) → EndsAs (outcome_of_short_line limit number (Some (O.session version (session_of session.old))) line.now) text.old.items text.new.items result }
-    ensures session { (limit : ℕ) → OnOk result (Some (O.session version (session_of session.new)) ≡ (outcome_of_short_line limit number (Some (O.session version (session_of session.old))) line.now).session) }
-    ensures told { OnOk result (Tells (L.heard listener.old) (L.heard listener.new) (told_of_line (Some (O.session version (session_of session.old))) line.now)) }
+    ensures object { session.new.world.object ≡ session.old.world.object }
+    ensures outcome { (kind : Kind S.Session) (inside : Session O.State O.Inv O.Resp → S.Session) → IsAbout kind (spoken O.sequential O.language session.old.world.object) dialect inside
+        → EndsAs (outcome_of_short_line kind number (Some (inside (session_of session.old))) line.now) text.old.items text.new.items result }
+    ensures session { (kind : Kind S.Session) (inside : Session O.State O.Inv O.Resp → S.Session) → IsAbout kind (spoken O.sequential O.language session.old.world.object) dialect inside
+        → OnOk result (Some (inside (session_of session.new)) ≡ (outcome_of_short_line kind number (Some (inside (session_of session.old))) line.now).session) }
+    ensures told { (kind : Kind S.Session) (inside : Session O.State O.Inv O.Resp → S.Session) → IsAbout kind (spoken O.sequential O.language session.old.world.object) dialect inside
+        → OnOk result (Tells (L.heard listener.old) (L.heard listener.new) (told_of_line kind (Some (inside (session_of session.old))) line.now)) }
     ensures own { IfErr result IsFaultOfLine }
 {
     if !is_plain(line) {
@@ -382,7 +366,7 @@ fn run_line<O: Shared, L: Listener>(
         return Ok(listener.note(alloc, Some(before), line)?);
     }
     let words = words_of(alloc, line)?;
-    let Some(command) = command_of::<O>(version, words.as_slice()) else {
+    let Some(command) = command_of::<O>(dialect.version, words.as_slice()) else {
         return Err(BenchFault::BadLine(number));
     };
     match make(session, alloc, command, text)? {
@@ -395,17 +379,16 @@ fn run_line<O: Shared, L: Listener>(
 /// the answer is how much it has done.
 ///
 /// `Memory` where memory was refused, `Write` where the writer failed.
-fn run_end<O: Shared, W: TextOut>(
+fn run_end<S: Scripts, O: Spoken, W: TextOut>(
     alloc: Global,
-    version: Version,
     session: &Recorded<O>,
     lines: u64,
     writer: &mut W,
 ) -> Result<Summary, BenchFault>
     requires { W.has_failed writer.old ≡ false }
-    ensures outcome { WritesAs (outcome_of_end lines (Some (O.session version (session_of session.now)))) (W.contents writer.old) (W.contents writer.new) result }
-    ensures summary { IfOk result (λ summary. summary ≡ summary_of (record { object = O.sequential session.now.world.object; language = O.language }) lines (session_of session.now)) }
-    ensures promised { OnOk result (IsPromisedSession (O.session version (session_of session.now))) }
+    ensures outcome { (b : S.Session) → WritesAs (outcome_of_end lines (Some b)) (W.contents writer.old) (W.contents writer.new) result }
+    ensures summary { IfOk result (λ summary. summary ≡ summary_of (spoken O.sequential O.language session.now.world.object) lines (session_of session.now)) }
+    ensures promised { OnOk result (IsPromised (spoken O.sequential O.language session.now.world.object) (session_of session.now)) }
     ensures writer { IsErrOf result BenchFault.Write ↔ (W.has_failed writer.new ≡ true) }
     ensures other { IfErr result (λ e. e ≢ BenchFault.Read) }
 {

@@ -5,9 +5,10 @@ ghost use Rattle.std.specs.List.{list_all};
 ghost use Rattle.std.specs.Str.{bytes_eq};
 ghost use Rattle.ready_objects.specs.Number.{number_of_word};
 ghost use Rattle.ready_objects.specs.Words.{bytes_of, words_of_text};
-ghost use Rattle.uni_script.specs.Grammar.{is_plain_byte, is_note, version_of_word, object_of_word, most_processes, header_with, IsInRange, header_of_words, count_of_number, reshape_of, command_of_name, command_of_number, command_of_words};
+ghost use Rattle.uni_script.specs.Grammar.{is_plain_byte, is_note, version_of_word, object_of_word, most_processes, header_with, IsInRange, header_by, header_of_words, count_of_number, reshape_of, command_of_name, command_of_number, command_of_words};
 ghost use Rattle.uni_script.specs.Schedules.{word_of_object};
 
+use crate::catalogue::{Catalogue, Ready};
 use ready_objects::{Amount, Spoken};
 use std::alloc::{AllocError, Global};
 use std::fmt;
@@ -47,13 +48,13 @@ pub enum Version {
     Two,
 }
 
-/// The header of a script.
+/// The header of a script, which names what the processes share.
 #[derive(Clone, Copy)]
-pub struct Header {
+pub struct Header<N> {
     /// The version of the script's language.
     pub version: Version,
     /// What the processes share.
-    pub object: ObjectName,
+    pub object: N,
     /// How many processes there are, from 1 to 16 in version 1, and to 64 in version 2.
     pub processes: u64,
     /// How many calls each process can make, from 1 to 4096.
@@ -122,8 +123,16 @@ pub fn words_of(alloc: Global, line: &[u8]) -> Result<Vec<&[u8]>, AllocError>
 }
 
 /// The header that words are; `None` where they are none.
-pub fn header_of(words: &[&[u8]]) -> Option<Header>
+pub fn header_of(words: &[&[u8]]) -> Option<Header<ObjectName>>
     ensures header { result ≡ header_of_words (bytes_of words.now) }
+    ensures range { IfSome result IsInRange }
+{
+    header_by(&Ready, words)
+}
+
+/// The header that words are, where it names an object of a catalogue; `None` where they are none.
+pub(crate) fn header_by<C: Catalogue>(catalogue: &C, words: &[&[u8]]) -> Option<Header<C::Name>>
+    ensures header { result ≡ header_by (C.named catalogue.now) (bytes_of words.now) }
     ensures range { IfSome result IsInRange }
 {
     let [name, version, object, processes, row] = words else {
@@ -132,7 +141,7 @@ pub fn header_of(words: &[&[u8]]) -> Option<Header>
     if is_text(name, "universal") {
         header_with(
             version_of(version)?,
-            object_of(object)?,
+            catalogue.name(object)?,
             number_of(processes)?,
             number_of(row)?,
         )
@@ -155,7 +164,7 @@ fn version_of(word: &[u8]) -> Option<Version>
 }
 
 /// The object that a word names; `None` where it names none.
-fn object_of(word: &[u8]) -> Option<ObjectName>
+pub(crate) fn object_of(word: &[u8]) -> Option<ObjectName>
     ensures { result ≡ object_of_word word.now }
 {
     if is_text(word, "queue") {
@@ -183,7 +192,7 @@ fn most_processes(version: Version) -> u64
 
 /// The header of this many processes with rows of this many cells; `None` where they aren't from 1
 /// to what the version takes and from 1 to 4096.
-fn header_with(version: Version, object: ObjectName, processes: u64, row: u64) -> Option<Header>
+fn header_with<N: Copy>(version: Version, object: N, processes: u64, row: u64) -> Option<Header<N>>
     ensures header { result ≡ header_with version object processes row }
     ensures range { IfSome result IsInRange }
 {
@@ -283,7 +292,7 @@ fn number_of(word: &[u8]) -> Option<u64>
 }
 
 /// Tells whether a word is this text.
-fn is_text(word: &[u8], text: &str) -> bool
+pub(crate) fn is_text(word: &[u8], text: &str) -> bool
     ensures { result ≡ bytes_eq word.now text.now }
 {
     word == text.as_bytes()

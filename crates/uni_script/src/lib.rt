@@ -1,10 +1,12 @@
 //! Scripts of calls on an object that processes share: what a script means, and `bench` that runs
 //! one on the wait-free universal construction and writes what each call answers.
 //!
-//! What a script means is `outcome_of_script` in `specs/`, a definition over worlds of the definitions.
+//! What a script means is `outcome_of_script` in `specs/`, a definition over worlds of the definitions. Scripts are over
+//! four objects that have names, or over one of a user's own, which is named for them.
 #![tactic(auto)]
 
 mod answer;
+mod catalogue;
 mod commands;
 mod driver;
 mod ends;
@@ -12,7 +14,8 @@ mod fault;
 mod grammar;
 mod laws;
 mod lines;
-mod objects;
+mod options;
+mod own;
 mod replay;
 mod schedules;
 mod script_run;
@@ -27,7 +30,9 @@ pub use grammar::{
     Command, Header, ObjectName, Version, command_of, header_of, is_note, is_plain, words_of,
 };
 pub use laws::finish_returns;
-pub use replay::{Options, bench};
+pub use options::{Echo, Options};
+pub use own::{bench_object, run_of_object};
+pub use replay::bench;
 pub use schedules::{Drawn, Plan, schedule};
 pub use script_run::{ScriptRecord, ScriptRun, run_of_script};
 pub use statuses::{refuse_words, report_fault, tell};

@@ -3,22 +3,18 @@
 ghost use Rattle.std.specs.Prelude.{◌≡◌, ◌↔◌, true, false, None, Some, IfOk, IfErr, OnOk, IsErrOf};
 ghost use Rattle.std.specs.Io.KnownBytes.{IsAtEnd};
 ghost use Rattle.uni_record.specs.Recorded.{IsHistory};
+ghost use Rattle.uni_script.specs.Scripts.{scripts};
 ghost use Rattle.uni_script.specs.Replay.{IsReplay, IsSummary, IsPromisedScript, HasAnswered, IsPartOfReplay, IsFaultOfScript};
 
+use crate::catalogue::Ready;
 use crate::driver::run_script;
 use crate::ends::{TextIn, TextOut};
 use crate::fault::BenchFault;
+use crate::options::Options;
 use crate::summary::Summary;
 use crate::told::Deaf;
 use std::alloc::Global;
 use uni_record::Verdict;
-
-/// What a run of `bench` can be told.
-#[derive(Clone, Copy, Debug, PartialEq, Eq)]
-pub struct Options {
-    /// How many events there can be, from 1 to 16,777,216.
-    pub history: u64,
-}
 
 /// Runs the script that a reader has, and writes its answers; the answer is how much it has done.
 ///
@@ -36,19 +32,19 @@ pub fn bench<I: TextIn, O: TextOut>(
     requires history { IsHistory options.now.history }
     requires reader { I.has_failed reader.old ≡ false }
     requires writer { O.has_failed writer.old ≡ false }
-    ensures replayed { OnOk result (IsReplay options.now.history (I.remaining reader.old) (O.contents writer.old) (O.contents writer.new) None) }
-    ensures summary { IfOk result (IsSummary options.now.history (I.remaining reader.old)) }
-    ensures promised { OnOk result (IsPromisedScript options.now.history (I.remaining reader.old)) }
+    ensures replayed { OnOk result (IsReplay (scripts options.now) (I.remaining reader.old) (O.contents writer.old) (O.contents writer.new) None) }
+    ensures summary { IfOk result (IsSummary options.now (I.remaining reader.old)) }
+    ensures promised { OnOk result (IsPromisedScript options.now (I.remaining reader.old)) }
     ensures audited { (verdict : Verdict) → IsErrOf result (BenchFault.Audit verdict) → ⊥ }
     ensures all_read { OnOk result (IsAtEnd (I.remaining reader.new)) }
-    ensures fault { IfErr result (λ e. IsFaultOfScript e → IsReplay options.now.history (I.remaining reader.old) (O.contents writer.old) (O.contents writer.new) (Some e)) }
-    ensures read { IsErrOf result BenchFault.Read → HasAnswered options.now.history (I.remaining reader.old) (I.remaining reader.new) (O.contents writer.old) (O.contents writer.new) }
-    ensures part { IfErr result (λ e. IsPartOfReplay options.now.history (I.remaining reader.old) (O.contents writer.old) (O.contents writer.new)) }
+    ensures fault { IfErr result (λ e. IsFaultOfScript e → IsReplay (scripts options.now) (I.remaining reader.old) (O.contents writer.old) (O.contents writer.new) (Some e)) }
+    ensures read { IsErrOf result BenchFault.Read → HasAnswered (scripts options.now) (I.remaining reader.old) (I.remaining reader.new) (O.contents writer.old) (O.contents writer.new) }
+    ensures part { IfErr result (λ e. IsPartOfReplay (scripts options.now) (I.remaining reader.old) (O.contents writer.old) (O.contents writer.new)) }
     ensures reader { IsErrOf result BenchFault.Read → I.has_failed reader.new ≡ true }
     ensures reader_ok { OnOk result (I.has_failed reader.new ≡ false) }
     ensures writer { IsErrOf result BenchFault.Write ↔ (O.has_failed writer.new ≡ true) }
 {
-    match run_script(alloc, options.history, reader, writer, &mut Deaf) {
+    match run_script(Ready, alloc, options, reader, writer, &mut Deaf) {
         Ok(ran) => Ok(ran.summary),
         Err(fault) => Err(fault),
     }

@@ -3,13 +3,15 @@
 ghost use Rattle.std.specs.Prelude.{◌≡◌, false, true, IfOk, IfErr, OnOk, IsErrOf};
 ghost use Rattle.std.specs.Io.KnownBytes.{IsAtEnd};
 ghost use Rattle.uni_record.specs.Recorded.{IsHistory};
-ghost use Rattle.uni_script.specs.Replay.{IsFaultOfScript};
-ghost use Rattle.uni_script.specs.ScriptRun.{HasFault, IsScriptRun};
+ghost use Rattle.uni_script.specs.Replay.{HasFault, IsFaultOfScript};
+ghost use Rattle.uni_script.specs.Scripts.{scripts};
+ghost use Rattle.uni_script.specs.ScriptRun.{IsScriptRun};
 
+use crate::catalogue::Ready;
 use crate::driver::run_script;
 use crate::ends::{TextIn, Unwritten};
 use crate::fault::BenchFault;
-use crate::replay::Options;
+use crate::options::Options;
 use crate::summary::Summary;
 use crate::told::{Remarks, Told};
 use ready_objects::{BookObject, DirectoryObject, QueueObject, StickyObject};
@@ -40,9 +42,9 @@ pub(crate) struct Ran<R: Drop> {
 
 /// The run of a script.
 #[derive(Drop)]
-pub struct ScriptRun {
+pub struct ScriptRun<R: Drop> {
     /// The record that it leaves.
-    pub record: ScriptRecord,
+    pub record: R,
     /// What it tells beside its events, in order.
     pub told: Vec<Told>,
 }
@@ -56,18 +58,18 @@ pub fn run_of_script<I: TextIn>(
     alloc: Global,
     reader: &mut I,
     options: &Options,
-) -> Result<ScriptRun, BenchFault>
+) -> Result<ScriptRun<ScriptRecord>, BenchFault>
     requires history { IsHistory options.now.history }
     requires reader { I.has_failed reader.old ≡ false }
-    ensures run { IfOk result (IsScriptRun options.now.history (I.remaining reader.old)) }
+    ensures run { IfOk result (IsScriptRun options.now (I.remaining reader.old)) }
     ensures all_read { OnOk result (IsAtEnd (I.remaining reader.new)) }
-    ensures fault { IfErr result (λ e. IsFaultOfScript e → HasFault options.now.history (I.remaining reader.old) e) }
+    ensures fault { IfErr result (λ e. IsFaultOfScript e → HasFault (scripts options.now) (I.remaining reader.old) e) }
     ensures reader { IsErrOf result BenchFault.Read → I.has_failed reader.new ≡ true }
 {
     let mut remarks = Remarks {
         told: Vec::new(alloc),
     };
-    match run_script(alloc, options.history, reader, &mut Unwritten, &mut remarks) {
+    match run_script(Ready, alloc, options, reader, &mut Unwritten, &mut remarks) {
         Ok(ran) => Ok(ScriptRun {
             record: ran.record,
             told: remarks.told,
