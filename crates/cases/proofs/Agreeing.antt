@@ -1,5 +1,7 @@
 -- What a comparison that agrees says of the run that it compared.
 use Rattle.std.proofs.Common.{◌≡◌, ◌≢◌, ◌≤◌, ◌↔◌, ◌∙◌, ℕ, List, [], Option, Some, None, Result, Bool, true, false, IfOk, Ok, Err, zero, suc, refl, sym, ap, subst, arith}
+use Rattle.uni_script.specs.declared.options.Options.{Options}
+use Rattle.uni_script.specs.Scripts.{scripts}
 use Rattle.uni_script.specs.Replay.{fault_of_script, text_of_script, IsReplay, IsBadReplay}
 use Rattle.unibench_run.specs.Runs.{IsReplayRun, IsRunOf}
 use Rattle.unibench_run.specs.declared.request.Request.{Request}
@@ -18,17 +20,17 @@ if_same (Ok same) few is fact = ((λ agreed. (fact few).0 (is.0 agreed)), (λ f.
 if_same (Err e) few is fact = tt
 
 -- the replay of a known script that ended well wrote its text
-text_of_replay : (limit : ℕ) (script out : List ℕ) → IsReplay limit (Some script) (Some []) (Some out) None → IsAnsweredBy limit script out
-text_of_replay limit script out replay =
+text_of_replay : (options : Options) (script out : List ℕ) → IsReplay (scripts options) (Some script) (Some []) (Some out) None → IsAnsweredBy options script out
+text_of_replay options script out replay =
     let same : script ≡ replay.0 = replay.1 in
-    ((ap (fault_of_script limit) same ∙ replay.2), (ap (text_of_script limit) same ∙ sym replay.3))
+    ((ap (fault_of_script (scripts options)) same ∙ replay.2), (ap (text_of_script (scripts options)) same ∙ sym replay.3))
 
 -- a script with a fault has one
-no_bad_replay : (limit : ℕ) (script out : List ℕ) → IsBadReplay limit (Some script) (Some []) (Some out) → fault_of_script limit script ≢ None
-no_bad_replay limit script out bad good =
+no_bad_replay : (options : Options) (script out : List ℕ) → IsBadReplay (scripts options) (Some script) (Some []) (Some out) → fault_of_script (scripts options) script ≢ None
+no_bad_replay options script out bad good =
     let replay = bad.2 in
     let same : script ≡ replay.0 = replay.1 in
-    absurd (cc' (sym good ∙ ap (fault_of_script limit) same ∙ replay.2))
+    absurd (cc' (sym good ∙ ap (fault_of_script (scripts options)) same ∙ replay.2))
   where
     cc' : None ≢ Some bad.0
     cc' e = cc
@@ -51,15 +53,15 @@ no_other (suc (suc zero)) few not_1 not_2 = absurd (not_2 refl)
 no_other (suc (suc (suc n))) few not_1 not_2 = absurd (omega arith)
 
 -- where no fault is wanted, a replay agrees exactly where the script is good and has these answers
-pub good_agrees : (limit : ℕ) (left after : Option (List ℕ)) (failed : Bool) (status : ℕ) (script out told answers fault : List ℕ) (wanted : ℕ)
-    → IsReplayRun limit left after (Some []) (Some out) failed status → left ≡ Some script → status ≤ 2 → status ≢ 1 → (status ≡ 0 → told ≡ []) → wanted ≡ 0 → fault ≡ []
-    → ((status ≡ wanted) × (out ≡ answers) × (told ≡ fault)) ↔ IsAnsweredBy limit script answers
-good_agrees limit left after failed status script out told answers fault wanted run is few not_1 silent good none =
-    let well : status ≡ 0 → IsAnsweredBy limit script out =
-    λ ended. text_of_replay limit script out (subst (λ l. IsReplay limit l (Some []) (Some out) None) is (run.replayed ended)) in (
+pub good_agrees : (options : Options) (left after : Option (List ℕ)) (failed : Bool) (status : ℕ) (script out told answers fault : List ℕ) (wanted : ℕ)
+    → IsReplayRun options left after (Some []) (Some out) failed status → left ≡ Some script → status ≤ 2 → status ≢ 1 → (status ≡ 0 → told ≡ []) → wanted ≡ 0 → fault ≡ []
+    → ((status ≡ wanted) × (out ≡ answers) × (told ≡ fault)) ↔ IsAnsweredBy options script answers
+good_agrees options left after failed status script out told answers fault wanted run is few not_1 silent good none =
+    let well : status ≡ 0 → IsAnsweredBy options script out =
+    λ ended. text_of_replay options script out (subst (λ l. IsReplay (scripts options) l (Some []) (Some out) None) is (run.replayed ended)) in (
       (λ same. let answered = well (same.0 ∙ good) in (answered.0, answered.1 ∙ same.1)),
       (λ answered.
-          let not_2 : status ≢ 2 = λ two. no_bad_replay limit script out (subst (λ l. IsBadReplay limit l (Some []) (Some out)) is (run.bad two)) answered.0 in
+          let not_2 : status ≢ 2 = λ two. no_bad_replay options script out (subst (λ l. IsBadReplay (scripts options) l (Some []) (Some out)) is (run.bad two)) answered.0 in
           let ended : status ≡ 0 = no_other status few not_1 not_2 in
           (ended ∙ sym good, sym (well ended).1 ∙ answered.1, silent ended ∙ sym none)),
     )
@@ -75,10 +77,10 @@ pub run_as_wanted : (r : Request) (left after old new : Option (List ℕ)) (fail
 run_as_wanted r left after = as_wanted (λ old new failed status. IsRunOf r left after old new failed status)
 
 -- the same of a replay, as it is compared
-pub replay_agrees : (limit : ℕ) (left after old new : Option (List ℕ)) (failed : Bool) (status : ℕ) (script out told answers fault : List ℕ) (wanted : ℕ)
-    → IsReplayRun limit left after old new failed status → old ≡ Some [] → new ≡ Some out → left ≡ Some script → status ≤ 2 → status ≢ 1 → (status ≡ 0 → told ≡ [])
-    → wanted ≡ 0 → fault ≡ [] → ((status ≡ wanted) × (out ≡ answers) × (told ≡ fault)) ↔ IsAnsweredBy limit script answers
-replay_agrees limit left after old new failed status script out told answers fault wanted run was is =
-    let from_nothing = subst (λ x. IsReplayRun limit left after x new failed status) was run in
-    let to_out = subst (λ x. IsReplayRun limit left after (Some []) x failed status) is from_nothing in
-    good_agrees limit left after failed status script out told answers fault wanted to_out
+pub replay_agrees : (options : Options) (left after old new : Option (List ℕ)) (failed : Bool) (status : ℕ) (script out told answers fault : List ℕ) (wanted : ℕ)
+    → IsReplayRun options left after old new failed status → old ≡ Some [] → new ≡ Some out → left ≡ Some script → status ≤ 2 → status ≢ 1 → (status ≡ 0 → told ≡ [])
+    → wanted ≡ 0 → fault ≡ [] → ((status ≡ wanted) × (out ≡ answers) × (told ≡ fault)) ↔ IsAnsweredBy options script answers
+replay_agrees options left after old new failed status script out told answers fault wanted run was is =
+    let from_nothing = subst (λ x. IsReplayRun options left after x new failed status) was run in
+    let to_out = subst (λ x. IsReplayRun options left after (Some []) x failed status) is from_nothing in
+    good_agrees options left after failed status script out told answers fault wanted to_out

@@ -1,6 +1,7 @@
 //! What a run of a program writes, beside what it should.
 
 ghost use Rattle.std.specs.Prelude.{◌≡◌, ◌≢◌, ◌≤◌, ◌↔◌, ℕ, List, [], true, false, Some, IfOk, map};
+ghost use Rattle.uni_script.specs.declared.options.Options.{Options};
 ghost use Rattle.unibench_run.specs.CommandLine.{AsksFor};
 ghost use Rattle.unibench_run.specs.Runs.{IsRunOf};
 ghost use Rattle.unibench_run.specs.Statuses.{Tells};
@@ -58,9 +59,9 @@ pub fn is_run<R: Threads + Wait + Sync, S: AsStr, I: KeepsText>(
         → IsRunOf r (I.remaining input.old) (I.remaining input.new) (Some []) (Some wanted.now.answers.items) false wanted.now.status) }
     ensures told { (r : Request) → AsksFor (map S.text words.now) r → wanted.now.status ≢ 0 → IfOk result (λ same. same ≡ true
         → Tells r (Some []) (Some wanted.now.fault.items) false wanted.now.status) }
-    ensures good { (limit : ℕ) (script : List ℕ) → AsksForReplayOf (map S.text words.now) limit (I.remaining input.old) script
+    ensures good { (options : Options) (script : List ℕ) → AsksForReplayOf (map S.text words.now) options (I.remaining input.old) script
         → wanted.now.status ≡ 0 → wanted.now.fault.items ≡ []
-        → IfOk result (λ same. same ≡ true ↔ IsAnsweredBy limit script wanted.now.answers.items) }
+        → IfOk result (λ same. same ≡ true ↔ IsAnsweredBy options script wanted.now.answers.items) }
 {
     let mut output = Checked::new(Vec::new(alloc));
     let mut told = Checked::new(Vec::new(alloc));

@@ -17,7 +17,7 @@ use uni_script::{
 /// The header of a script, and the number of its line, from 1.
 #[derive(Clone, Copy)]
 struct Start {
-    header: Header,
+    header: Header<ObjectName>,
     number: u64,
 }
 

@@ -9,7 +9,7 @@ use seq_object::CallId;
 use std::alloc::{AllocError, Global};
 use uni_log::Entry;
 use uni_record::{Return, Verdict, audit};
-use uni_script::{BenchFault, Command, Header, push_fault};
+use uni_script::{BenchFault, Command, Header, ObjectName, push_fault};
 
 /// A call, with what it asks for.
 #[derive(Drop)]
@@ -41,7 +41,7 @@ impl<O: Spoken> World<O> {
         alloc: Global,
         object: O,
         flaw: Flaw,
-        header: Header,
+        header: Header<ObjectName>,
     ) -> Result<World<O>, AllocError> {
         let mut states = Vec::new(alloc);
         states.push(object.start(alloc)?)?;

@@ -6,6 +6,7 @@ use Rattle.std.specs.Str.{bytes_eq}
 use Rattle.std.specs.Char.{is_ascii_digit}
 use Rattle.ready_objects.specs.Number.{number_of_word}
 use Rattle.ready_objects.specs.Words.{words_of_text}
+use Rattle.uni_script.specs.Scripts.{scripts_of}
 use Rattle.uni_script.specs.Grammar.{is_note}
 use Rattle.uni_script.specs.Replay.{text_of_script}
 use Rattle.goal_run.specs.declared.judging.Judgement.{Judgement}
@@ -120,7 +121,7 @@ deed_of script text = record { script = lines_in script; answers = lines_in text
 
 -- the number of the first line of a goal that a script doesn't meet
 abbrev pub missing_of : (goal script : List ℕ) → Option ℕ
-missing_of goal script = first_missing (deed_of script (text_of_script 1048576 script)) 1 (lines_in goal)
+missing_of goal script = first_missing (deed_of script (text_of_script (scripts_of 1048576) script)) 1 (lines_in goal)
 
 -- the line that is missing, if one is
 abbrev pub missing_in : Judgement → Option ℕ

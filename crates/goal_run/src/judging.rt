@@ -2,6 +2,7 @@
 
 ghost use Rattle.std.specs.Prelude.{◌≡◌, ◌≤◌, ◌++◌, [], false, None, Some, IfOk, IfErr, IsSome, OnOk, slice_index_or};
 ghost use Rattle.std.specs.Io.KnownBytes.{Appends};
+ghost use Rattle.uni_script.specs.Scripts.{scripts_of};
 ghost use Rattle.uni_script.specs.Replay.{IsFaultOfScript, fault_of_script, text_of_script};
 ghost use Rattle.ready_objects.specs.Words.{bytes_of};
 ghost use Rattle.goal_run.specs.Goals.{judgement_text, missing_in, missing_of};
@@ -10,7 +11,7 @@ use crate::lines::lines_in;
 use crate::wish::first_missing;
 use ready_objects::push_number;
 use std::alloc::{AllocError, Global};
-use uni_script::{BenchFault, Checked, Failed, Options, TextOut, bench, report_fault, write_all};
+use uni_script::{BenchFault, Checked, Echo, Failed, Options, TextOut, bench, report_fault, write_all};
 
 /// Whether a script meets a goal.
 #[derive(Clone, Copy, Debug, PartialEq, Eq)]
@@ -25,12 +26,15 @@ pub enum Judgement {
 ///
 /// An `Err` is its first fault, or `Memory`.
 pub fn answers_to(alloc: Global, script: &[u8]) -> Result<Vec<u8>, BenchFault>
-    ensures good { OnOk result (fault_of_script 1048576 script.now ≡ None) }
-    ensures text { IfOk result (λ text. text.items ≡ text_of_script 1048576 script.now) }
-    ensures fault { IfErr result (λ e. IsFaultOfScript e → fault_of_script 1048576 script.now ≡ Some e) }
+    ensures good { OnOk result (fault_of_script (scripts_of 1048576) script.now ≡ None) }
+    ensures text { IfOk result (λ text. text.items ≡ text_of_script (scripts_of 1048576) script.now) }
+    ensures fault { IfErr result (λ e. IsFaultOfScript e → fault_of_script (scripts_of 1048576) script.now ≡ Some e) }
 {
     let mut answers = Checked::new(Vec::new(alloc));
-    let options = Options { history: 1_048_576 };
+    let options = Options {
+        history: 1_048_576,
+        echo: Echo::Off,
+    };
     match bench(alloc, &mut Checked::new(script), &mut answers, &options) {
         Ok(_) => Ok(Vec::from_slice(alloc, answers.end().as_slice())?),
         // The writer keeps what it is given: it fails where memory is refused.
@@ -43,9 +47,9 @@ pub fn answers_to(alloc: Global, script: &[u8]) -> Result<Vec<u8>, BenchFault>
 ///
 /// An `Err` is the first fault of the script, or `Memory`.
 pub fn judge(alloc: Global, goal: &[u8], script: &[u8]) -> Result<Judgement, BenchFault>
-    ensures good { OnOk result (fault_of_script 1048576 script.now ≡ None) }
+    ensures good { OnOk result (fault_of_script (scripts_of 1048576) script.now ≡ None) }
     ensures judged { IfOk result (λ judgement. missing_in judgement ≡ missing_of goal.now script.now) }
-    ensures fault { IfErr result (λ e. IsFaultOfScript e → fault_of_script 1048576 script.now ≡ Some e) }
+    ensures fault { IfErr result (λ e. IsFaultOfScript e → fault_of_script (scripts_of 1048576) script.now ≡ Some e) }
 {
     let text = answers_to(alloc, script)?;
     let script = lines_in(alloc, script)?;
@@ -108,10 +112,10 @@ fn line_at<'a>(lines: &[&'a [u8]], place: u64) -> &'a [u8]
 ///
 /// An `Err` is the first fault of the script, or `Memory`.
 fn told(alloc: Global, goal: &[u8], script: &[u8]) -> Result<(Judgement, Vec<u8>), BenchFault>
-    ensures good { OnOk result (fault_of_script 1048576 script.now ≡ None) }
+    ensures good { OnOk result (fault_of_script (scripts_of 1048576) script.now ≡ None) }
     ensures judged { IfOk result (λ told. missing_in told.0 ≡ missing_of goal.now script.now) }
     ensures text { IfOk result (λ told. told.1.items ≡ judgement_text goal.now (missing_of goal.now script.now)) }
-    ensures fault { IfErr result (λ e. IsFaultOfScript e → fault_of_script 1048576 script.now ≡ Some e) }
+    ensures fault { IfErr result (λ e. IsFaultOfScript e → fault_of_script (scripts_of 1048576) script.now ≡ Some e) }
 {
     let judgement = judge(alloc, goal, script)?;
     let text = judgement_text(alloc, goal, judgement)?;
@@ -146,8 +150,8 @@ pub fn run<O: TextOut, F: TextOut>(
     ensures met { result ≡ 0 → missing_of goal.now script.now ≡ None }
     ensures missing { result ≡ 1 → IsSome (missing_of goal.now script.now) }
     ensures told { result ≤ 1 → Appends (O.contents output.old) (O.contents output.new) (judgement_text goal.now (missing_of goal.now script.now)) }
-    ensures good { result ≤ 1 → fault_of_script 1048576 script.now ≡ None }
-    ensures fault { result ≡ 2 → IsSome (fault_of_script 1048576 script.now) × (output.new ≡ output.old) }
+    ensures good { result ≤ 1 → fault_of_script (scripts_of 1048576) script.now ≡ None }
+    ensures fault { result ≡ 2 → IsSome (fault_of_script (scripts_of 1048576) script.now) × (output.new ≡ output.old) }
 {
     match told(alloc, goal, script) {
         Ok((judgement, text)) => match write_all(output, text.as_slice()) {

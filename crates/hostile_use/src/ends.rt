@@ -4,10 +4,13 @@ ghost use Rattle.std.specs.Prelude.{◌≡◌, ◌≤◌, false, None};
 
 use std::alloc::{AllocError, Global};
 use std::process::Abort;
-use uni_script::{BenchFault, Checked, Failed, Options, TextIn, TextOut, bench};
+use uni_script::{BenchFault, Checked, Echo, Failed, Options, TextIn, TextOut, bench};
 
 /// What the bench is told where its history is long enough.
-const OPTIONS: Options = Options { history: 1_048_576 };
+const OPTIONS: Options = Options {
+    history: 1_048_576,
+    echo: Echo::Off,
+};
 
 /// A reader that fails after the bytes of a text, of which it gives at most so many at a time.
 #[derive(Drop)]

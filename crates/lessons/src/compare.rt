@@ -1,6 +1,7 @@
 //! What comes of a script, beside what is written of it.
 
 ghost use Rattle.std.specs.Prelude.{◌≡◌, ◌↔◌, true, IfOk};
+ghost use Rattle.uni_script.specs.Scripts.{scripts_of};
 ghost use Rattle.uni_script.specs.Replay.{text_of_script};
 ghost use Rattle.goal_run.specs.Goals.{judgement_text, missing_of};
 ghost use Rattle.flawed_run.specs.Flaws.{BeginsWithBanner};
@@ -14,7 +15,7 @@ use uni_script::BenchFault;
 ///
 /// An `Err` is its first fault, or `Memory`.
 pub fn has_answers(alloc: Global, script: &[u8], wanted: &[u8]) -> Result<bool, BenchFault>
-    ensures { IfOk result (λ same. (same ≡ true) ↔ (wanted.now ≡ text_of_script 1048576 script.now)) }
+    ensures { IfOk result (λ same. (same ≡ true) ↔ (wanted.now ≡ text_of_script (scripts_of 1048576) script.now)) }
 {
     Ok(answers_to(alloc, script)?.as_slice() == wanted)
 }

@@ -10,7 +10,6 @@ use std::alloc::Global;
 use std::test::Fail;
 use uni_core::StepKind;
 use uni_record::Recorded;
-use uni_script::ObjectName;
 
 /// What is done with a record of a queue.
 #[derive(Clone, Copy)]
@@ -58,7 +57,7 @@ fn marks_after(alloc: Global, n: u64, acts: &[Act]) -> Result<Marks, Fail> {
     for act in acts {
         does(alloc, &mut run, act)?;
     }
-    Ok(marks_of(alloc, ObjectName::Queue, QueueObject, &run)?)
+    Ok(marks_of(alloc, "queue", QueueObject, &run)?)
 }
 
 /// Whether a bar is that of the first call of a process, from this event on, with these words.

@@ -4,12 +4,19 @@ use Rattle.uni_script.specs.declared.grammar.Version.{Version}
 use Rattle.uni_script.specs.declared.script_run.ScriptRun.{ScriptRun}
 use Rattle.uni_script.specs.declared.script_run.ScriptRecord.{ScriptRecord}
 use Rattle.uni_script.specs.declared.script_run.ScriptRecord.TheVariants.{Queue, Directory, Book, Sticky}
-use Rattle.uni_script.specs.ScriptRun.{session_of_record, IsScriptRun}
-use Rattle.uni_script.specs.Meaning.{ScriptSession}
+use Rattle.uni_model.specs.Worlds.{Event}
+use Rattle.uni_record.specs.Event.{events_shown}
+use Rattle.uni_record.specs.Recorded.{Recording}
+use Rattle.uni_script.specs.Objects.{SpokenObject}
+use Rattle.uni_script.specs.Meaning.{Session}
+use Rattle.uni_script.specs.ScriptRun.{session_of_record, IsScriptRun, HasRunWhole, IsOwnRunOf}
+use Rattle.uni_script.specs.declared.options.Echo.TheVariants.{Off}
+use Rattle.uni_script.specs.Scripts.{ScriptSession, own_scripts_of}
 use Rattle.uni_script.specs.Told.{told_shown}
 use Rattle.run_marks.specs.Shown.{marks_shown}
 use Rattle.run_layout.specs.declared.subject.Subject.{Subject}
-use Rattle.run_layout.specs.Subject.{marks_of_events, marks_of_record, events_of_record, marks_of_session, IsSubject, HasTooManyEvents}
+use Rattle.run_layout.specs.Subject.{marks_of_events, marks_of_record, events_of_record, marks_of_session, marks_of_own, IsSubject, IsSubjectOf, HasTooManyEvents, HasMoreEvents}
+use Rattle.run_marks.specs.Marks.{RunMarks}
 
 marks_of_session-record : (version : Version) (r : ScriptRecord) → marks_of_session (session_of_record version r) ≡ marks_of_record r
 marks_of_session-record version (Queue r) = refl
@@ -35,7 +42,7 @@ events-marks (Sticky r) = refl
 events-run : (b : ScriptSession) (version : Version) (r : ScriptRecord) → b ≡ session_of_record version r → length b.session.events ≡ events_of_record r
 events-run b version r is = ap (λ (s : ScriptSession). length s.session.events) is ∙ events-record version r
 
-pub IsSubject-run : (left : Option (List ℕ)) (run : ScriptRun) → IsScriptRun 1048576 left run → (subject : Subject) → events_of_record run.record ≤ 2000
+pub IsSubject-run : (left : Option (List ℕ)) (run : ScriptRun ScriptRecord) → IsScriptRun (record { history = 1048576; echo = Off }) left run → (subject : Subject) → events_of_record run.record ≤ 2000
     → marks_shown subject.marks ≡ marks_of_record run.record → subject.told.items ≡ run.told.items → IsSubject left (marks_shown subject.marks) subject.told.items
 IsSubject-run left run is subject few marks told =
     let b = is.3.0 in
@@ -54,7 +61,7 @@ IsSubject-run left run is subject few marks told =
 pub few-run : (r : ScriptRecord) (subject : Subject) → marks_shown subject.marks ≡ marks_of_record r → events_of_record r ≤ 2000 → subject.marks.events ≤ 2000
 few-run r subject marks few = subst (λ n. n ≤ 2000) (sym (ap (λ m. m.events) marks ∙ events-marks r)) few
 
-pub HasTooManyEvents-run : (left : Option (List ℕ)) (run : ScriptRun) → IsScriptRun 1048576 left run → 2000 < events_of_record run.record → HasTooManyEvents left
+pub HasTooManyEvents-run : (left : Option (List ℕ)) (run : ScriptRun ScriptRecord) → IsScriptRun (record { history = 1048576; echo = Off }) left run → 2000 < events_of_record run.record → HasTooManyEvents left
 HasTooManyEvents-run left run is many =
     let b = is.3.0 in
     let of = is.3.2 in record {
@@ -65,6 +72,44 @@ HasTooManyEvents-run left run is many =
       session_is = is.3.1;
       many = subst (λ n. 2000 < n) (sym (events-run b of.version run.record of.session)) many;
     }
+
+-- the same of the run of a script over one object
+module _ {O S I R : Type 0} (o : SpokenObject S I R) (name : List ℕ) (left : Option (List ℕ)) (run : ScriptRun (Recording O S I R))
+    (is : HasRunWhole (own_scripts_of o name 1048576) left (λ b told. IsOwnRunOf o b told run)) where
+  abbrev stored : List (Event I)
+  stored = events_shown run.record.events
+
+  pub own_subject : (marks : RunMarks) → length stored ≤ 2000 → marks ≡ marks_of_events o name run.record.processes run.record.first stored
+      → IsSubjectOf (own_scripts_of o name 1048576) (marks_of_own o name) left marks run.told.items
+  own_subject marks few same =
+      let of = is.3.2 in record {
+        script = is.0;
+        input = is.1;
+        good = is.2;
+        session = is.3.0;
+        session_is = is.3.1;
+        few = subst (λ (s : Session S I R). length s.events ≤ 2000) (sym of.session) few;
+        marks_are = same ∙ ap (λ (s : Session S I R). marks_of_events o name s.processes s.first s.events) (sym of.session);
+        told_is = of.told_is;
+      }
+
+  pub own_few : (marks : RunMarks) → length stored ≤ 2000 → marks ≡ marks_of_events o name run.record.processes run.record.first stored → marks.events ≤ 2000
+  unfolding marks_of_events
+  own_few marks few same = subst (λ n. n ≤ 2000) (sym (ap (λ (m : RunMarks). m.events) same)) few
+
+  pub own_told : length run.told.items ≤ 100000
+  own_told = is.3.2.few
+
+  pub own_more : 2000 < length stored → HasMoreEvents (own_scripts_of o name 1048576) left
+  own_more many =
+      let of = is.3.2 in record {
+        script = is.0;
+        input = is.1;
+        good = is.2;
+        session = is.3.0;
+        session_is = is.3.1;
+        many = subst (λ (s : Session S I R). 2000 < length s.events) (sym of.session) many;
+      }
 
 -- three facts of an answer that is Ok
 pub IfOk-three : {A E : Type 0} (r : Result A E) (P : Type 0) (Q R S : A → Type 0) → OnOk r P → IfOk r Q → IfOk r R → ((a : A) → P → Q a → R a → S a) → IfOk r S

@@ -103,7 +103,7 @@ cell_name cell = decimal cell.number ++ codes ": " ++ call_text cell.call
 -- the title of a picture
 abbrev pub title_text : RunMarks → List ℕ
 title_text marks =
-    word_of_object marks.object ++ codes ": " ++ counted_text (lanes_of marks.eras) (codes "process") (codes "processes") ++ codes ", "
+    marks.object ++ codes ": " ++ counted_text (lanes_of marks.eras) (codes "process") (codes "processes") ++ codes ", "
     ++ counted_text (length marks.bars) (codes "call") (codes "calls") ++ codes ", " ++ counted_text marks.events (codes "event") (codes "events")
 
 -- a call that has returned, and one that hasn't

@@ -2,11 +2,12 @@
 
 ghost use Rattle.std.specs.Prelude.{◌≡◌, ◌<◌, ◌≤◌, IfOk, OnOk, IsErrOf, Some, false, length};
 ghost use Rattle.uni_record.specs.Event.{events_shown};
-ghost use Rattle.uni_script.specs.Replay.{IsFaultOfScript};
-ghost use Rattle.uni_script.specs.ScriptRun.{HasFault};
+ghost use Rattle.uni_script.specs.Objects.{spoken};
+ghost use Rattle.uni_script.specs.Replay.{HasFault, IsFaultOfScript};
+ghost use Rattle.uni_script.specs.Scripts.{scripts_of, own_scripts_of};
 ghost use Rattle.uni_script.specs.declared.fault.BenchFault.{BenchFault as Fault};
 ghost use Rattle.run_marks.specs.Shown.{marks_shown};
-ghost use Rattle.run_layout.specs.Subject.{marks_of_events, marks_of_record, events_of_record, picture_fault_text, IsSubject, HasTooManyEvents};
+ghost use Rattle.run_layout.specs.Subject.{marks_of_events, marks_of_record, marks_of_own, events_of_record, picture_fault_text, IsSubject, IsSubjectOf, HasTooManyEvents, HasMoreEvents};
 
 use crate::axis::MOST_EVENTS;
 use ready_objects::{BookObject, DirectoryObject, QueueObject, Spoken, StickyObject};
@@ -15,7 +16,8 @@ use std::alloc::{AllocError, Global};
 use std::fmt;
 use uni_record::Recorded;
 use uni_script::{
-    BenchFault, ObjectName, Options, ScriptRecord, ScriptRun, TextIn, Told, run_of_script,
+    BenchFault, Echo, ObjectName, Options, ScriptRecord, ScriptRun, TextIn, Told, run_of_object,
+    run_of_script,
 };
 
 /// How many events a script can have, as where `unibench replay` isn't told.
@@ -56,12 +58,12 @@ pub struct Subject {
 /// Errors: `TooManyEvents` where it has more than 2,000; else the want of memory.
 fn marks_of_events<O: Spoken>(
     alloc: Global,
-    name: ObjectName,
+    name: &str,
     object: O,
     recorded: &Recorded<O>,
 ) -> Result<Marks, PictureFault>
     ensures few { OnOk result (length (events_shown recorded.now.events) ≤ 2000) }
-    ensures marks { IfOk result (λ marks. marks_shown marks ≡ marks_of_events (record { object = O.sequential object; language = O.language }) name recorded.now.processes recorded.now.first (events_shown recorded.now.events)) }
+    ensures marks { IfOk result (λ marks. marks_shown marks ≡ marks_of_events (record { object = O.sequential object; language = O.language }) name.now recorded.now.processes recorded.now.first (events_shown recorded.now.events)) }
     ensures many { IsErrOf result PictureFault.TooManyEvents → 2000 < length (events_shown recorded.now.events) }
     ensures memory { (e : Fault) → IsErrOf result (PictureFault.Script e) → e ≡ Fault.Memory }
 {
@@ -85,16 +87,16 @@ fn marks_of_record(alloc: Global, stored: &ScriptRecord) -> Result<Marks, Pictur
 {
     match stored {
         ScriptRecord::Queue(recorded) => {
-            marks_of_events(alloc, ObjectName::Queue, QueueObject, recorded)
+            marks_of_events(alloc, ObjectName::Queue.word(), QueueObject, recorded)
         }
         ScriptRecord::Directory(recorded) => {
-            marks_of_events(alloc, ObjectName::Directory, DirectoryObject, recorded)
+            marks_of_events(alloc, ObjectName::Directory.word(), DirectoryObject, recorded)
         }
         ScriptRecord::Book(recorded) => {
-            marks_of_events(alloc, ObjectName::Book, BookObject, recorded)
+            marks_of_events(alloc, ObjectName::Book.word(), BookObject, recorded)
         }
         ScriptRecord::Sticky(recorded) => {
-            marks_of_events(alloc, ObjectName::Sticky, StickyObject, recorded)
+            marks_of_events(alloc, ObjectName::Sticky.word(), StickyObject, recorded)
         }
     }
 }
@@ -102,7 +104,7 @@ fn marks_of_record(alloc: Global, stored: &ScriptRecord) -> Result<Marks, Pictur
 /// What a picture shows of the run of a script.
 ///
 /// Errors: `TooManyEvents` where it has more than 2,000 events; else the want of memory.
-fn subject_of_run(alloc: Global, run: ScriptRun) -> Result<Subject, PictureFault>
+fn subject_of_run(alloc: Global, run: ScriptRun<ScriptRecord>) -> Result<Subject, PictureFault>
     ensures few { OnOk result (events_of_record run.record ≤ 2000) }
     ensures marks { IfOk result (λ subject. marks_shown subject.marks ≡ marks_of_record run.record) }
     ensures told { IfOk result (λ subject. subject.told.items ≡ run.told.items) }
@@ -126,11 +128,47 @@ pub fn subject_of<I: TextIn>(alloc: Global, reader: &mut I) -> Result<Subject, P
     ensures few { IfOk result (λ subject. subject.marks.events ≤ 2000) }
     ensures told { IfOk result (λ subject. length subject.told.items ≤ 100000) }
     ensures many { IsErrOf result PictureFault.TooManyEvents → HasTooManyEvents (I.remaining reader.old) }
-    ensures fault { (e : Fault) → IsErrOf result (PictureFault.Script e) → IsFaultOfScript e → HasFault 1048576 (I.remaining reader.old) e }
+    ensures fault { (e : Fault) → IsErrOf result (PictureFault.Script e) → IsFaultOfScript e → HasFault (scripts_of 1048576) (I.remaining reader.old) e }
 {
-    let options = Options { history: HISTORY };
+    let options = Options {
+        history: HISTORY,
+        echo: Echo::Off,
+    };
     match run_of_script(alloc, reader, &options) {
         Ok(run) => subject_of_run(alloc, run),
+        Err(fault) => Err(PictureFault::Script(fault)),
+    }
+}
+
+/// What a picture shows of the script over an object that a reader has, whose header names the object by this word, as
+/// for `uni_script::bench_object`.
+///
+/// The errors are those of `subject_of`.
+pub fn subject_of_object<O: Spoken + Copy, I: TextIn>(
+    alloc: Global,
+    object: O,
+    name: &str,
+    reader: &mut I,
+) -> Result<Subject, PictureFault>
+    requires { I.has_failed reader.old ≡ false }
+    ensures subject { IfOk result (λ subject. IsSubjectOf (own_scripts_of (spoken O.sequential O.language object) name.now 1048576) (marks_of_own (spoken O.sequential O.language object) name.now) (I.remaining reader.old) (marks_shown subject.marks) subject.told.items) }
+    ensures few { IfOk result (λ subject. subject.marks.events ≤ 2000) }
+    ensures told { IfOk result (λ subject. length subject.told.items ≤ 100000) }
+    ensures many { IsErrOf result PictureFault.TooManyEvents → HasMoreEvents (own_scripts_of (spoken O.sequential O.language object) name.now 1048576) (I.remaining reader.old) }
+    ensures fault { (e : Fault) → IsErrOf result (PictureFault.Script e) → IsFaultOfScript e → HasFault (own_scripts_of (spoken O.sequential O.language object) name.now 1048576) (I.remaining reader.old) e }
+{
+    let options = Options {
+        history: HISTORY,
+        echo: Echo::Off,
+    };
+    match run_of_object(alloc, object, name, reader, &options) {
+        Ok(run) => {
+            let marks = marks_of_events(alloc, name, object, &run.record)?;
+            Ok(Subject {
+                marks,
+                told: run.told,
+            })
+        }
         Err(fault) => Err(PictureFault::Script(fault)),
     }
 }

@@ -192,7 +192,8 @@ pub fn title_of(alloc: Global, marks: &Marks) -> Result<Vec<u8>, AllocError>
     ensures { IfOk result (λ text. text.items ≡ title_text (marks_shown marks.now)) }
 {
     let mut text = Vec::new(alloc);
-    write!(text, "{}: ", marks.object).map_err(|_| AllocError)?;
+    text.extend_from_slice(marks.object.as_slice())?;
+    write!(text, ": ").map_err(|_| AllocError)?;
     push_counted(&mut text, marks.lanes(), "process", "processes")?;
     write!(text, ", ").map_err(|_| AllocError)?;
     push_counted(&mut text, marks.bars.len() as u64, "call", "calls")?;

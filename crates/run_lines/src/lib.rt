@@ -11,4 +11,4 @@ mod sheet;
 mod strokes;
 mod texts;
 
-pub use lines::lines_of;
+pub use lines::{lines_of, lines_of_object};

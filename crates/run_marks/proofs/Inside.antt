@@ -12,7 +12,6 @@ use Rattle.uni_model.specs.Worlds.Event.{Call, Step, Trim, Reshape}
 use Rattle.uni_model.specs.Invariant.{Invariant}
 use Rattle.uni_model.proofs.Kept.{Invariant-opened_world, Invariant-world_after}
 use Rattle.uni_script.specs.Objects.{SpokenObject}
-use Rattle.uni_script.specs.declared.grammar.ObjectName.{ObjectName}
 use Rattle.run_marks.specs.declared.marks.Dot.{Dot}
 use Rattle.run_marks.specs.Marks.{End, Called, dots_of, dots_by, along, end_of_step, end_by, end_in, bar_begun, bars_in}
 use Rattle.run_marks.specs.Laws.{LiesIn, DotsLieInBars, EndsAreEvents}
@@ -82,7 +81,7 @@ module _ {S I R : Type 0} (o : SpokenObject S I R) where
   bars_within w place (Trim ∷ es) most high = bars_within (world_after o.object w Trim) (place + 1) es most (omega arith)
   bars_within w place (Reshape n ∷ es) most high = bars_within (world_after o.object w (Reshape n)) (place + 1) es most (omega arith)
 
-  pub EndsAreEvents-holds : (name : ObjectName) (n : ℕ) (start : S) (number : ℕ) (events : List (Event I)) → EndsAreEvents o name n start number events
+  pub EndsAreEvents-holds : (name : List ℕ) (n : ℕ) (start : S) (number : ℕ) (events : List (Event I)) → EndsAreEvents o name n start number events
   EndsAreEvents-holds name n start number events = All-from_recursion _ _ (bars_within (opened_world n start number) 0 events (length events) (omega arith))
 
   -- a step that doesn't end the call of a process
@@ -172,7 +171,7 @@ module _ {S I R : Type 0} (o : SpokenObject S I R) where
   dots_lie w place (Reshape n ∷ es) inv ok =
       all_imply _ _ (λ d. lies_behind_reshape w place es d n) _ (dots_lie (world_after o.object w (Reshape n)) (place + 1) es (Invariant-world_after o.object w (Reshape n) ok.0 inv) ok.1)
 
-  pub DotsLieInBars-holds : (name : ObjectName) (n : ℕ) (start : S) (number : ℕ) (events : List (Event I)) → DotsLieInBars o name n start number events
+  pub DotsLieInBars-holds : (name : List ℕ) (n : ℕ) (start : S) (number : ℕ) (events : List (Event I)) → DotsLieInBars o name n start number events
   DotsLieInBars-holds name n start number events positive ok =
       let w = opened_world n start number in
       All-from_recursion _ _ (all_imply (Lies w 0 events) (HasBar w 0 events) (λ d lies. elim lies.1 [

@@ -12,7 +12,6 @@ use Rattle.uni_model.specs.AtomicObject.Act.{Invoke, Linearize, Respond}
 use Rattle.uni_model.specs.History.{log, log_of_run, acts_of, history_of}
 use Rattle.uni_model.proofs.Linearized.{IsLinearizable-holds}
 use Rattle.uni_script.specs.Objects.{SpokenObject}
-use Rattle.uni_script.specs.declared.grammar.ObjectName.{ObjectName}
 use Rattle.run_marks.specs.declared.marks.Dot.{Dot}
 use Rattle.run_marks.specs.Marks.{EraMarks, linearized_in, dots_by, along, box_of, eras_in}
 use Rattle.run_marks.specs.Laws.{DotsAreTheLog, BoxesAreTheLog}
@@ -57,7 +56,7 @@ module _ {S I R : Type 0} (object : Sequential S I R) where
       ∙ ap (map id_of_call) (sym (linearized_in-both (acts_of object w e) (history_of object v es)))
 
 module _ {S I R : Type 0} (o : SpokenObject S I R) where
-  pub DotsAreTheLog-holds : (name : ObjectName) (n : ℕ) (start : S) (number : ℕ) (events : List (Event I)) → DotsAreTheLog o name n start number events
+  pub DotsAreTheLog-holds : (name : List ℕ) (n : ℕ) (start : S) (number : ℕ) (events : List (Event I)) → DotsAreTheLog o name n start number events
   DotsAreTheLog-holds name n start number events positive ok =
       let shown = IsLinearizable-holds o.object n start number events positive ok in
       dots-calls o.object (opened_world n start number) 0 events
@@ -76,5 +75,5 @@ module _ {S I R : Type 0} (o : SpokenObject S I R) where
       ap (λ l. map (box_of o.language) (log w) ++ l) (boxes-eras (world_after o.object w (Reshape n)) (place + 1) (place + 1) es)
       ∙ sym (map-append (box_of o.language) (log w) (log_of_run o.object (world_after o.object w (Reshape n)) es))
 
-  pub BoxesAreTheLog-holds : (name : ObjectName) (n : ℕ) (start : S) (number : ℕ) (events : List (Event I)) → BoxesAreTheLog o name n start number events
+  pub BoxesAreTheLog-holds : (name : List ℕ) (n : ℕ) (start : S) (number : ℕ) (events : List (Event I)) → BoxesAreTheLog o name n start number events
   BoxesAreTheLog-holds name n start number events = boxes-eras (opened_world n start number) 0 0 events

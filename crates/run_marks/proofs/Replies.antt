@@ -26,7 +26,6 @@ use Rattle.uni_core.specs.World.{current_of}
 use Rattle.uni_record.specs.Event.{Completed, completed_by, completed_in}
 use Rattle.uni_record.proofs.Promised.{returns_are_responses}
 use Rattle.uni_script.specs.Objects.{SpokenObject}
-use Rattle.uni_script.specs.declared.grammar.ObjectName.{ObjectName}
 use Rattle.uni_script.proofs.Helped.{pending-world_after_step}
 use Rattle.run_marks.specs.Marks.{End, Called, RunMarks, end_in, bar_begun, bars_in}
 use Rattle.run_marks.specs.Replay.{bar_ended, marks_with}
@@ -174,7 +173,7 @@ module _ {S I R : Type 0} (o : SpokenObject S I R) where
       ∙ sym (map-append (λ (c : Completed R). told o.language c.returned) (option_to_list (completed_by o.object w e)) (completed_in o.object v es))
 
   -- the bars in the end, told by those after one event more
-  bars_further : (name : ObjectName) (w : WorldOf S I R) (place : ℕ) (e : Event I) (es : List (Event I)) (so_far bars : List Called)
+  bars_further : (name : List ℕ) (w : WorldOf S I R) (place : ℕ) (e : Event I) (es : List (Event I)) (so_far bars : List Called)
       → map (bar_later o w place (e ∷ es)) so_far ++ bars_in o w place (e ∷ es) ≡ bars
       → let m : RunMarks = record { object = name; events = 0; steps = []; bars = so_far; dots = []; lines = []; eras = [] } in
       map (bar_later o (world_after o.object w e) (place + 1) es) (marks_with o m w 0 place e).bars ++ bars_in o (world_after o.object w e) (place + 1) es ≡ bars
@@ -331,7 +330,7 @@ module _ {S I R : Type 0} (o : SpokenObject S I R) where
         begun p None = refl
         begun p (Some new) = refl
 
-  module _ (name : ObjectName) where
+  module _ (name : List ℕ) where
     replies : (w : WorldOf S I R) (place : ℕ) (es : List (Event I)) → CountsSteps w → HelpingInvariant o.object w → AreAccepted o.object w es → Replies w place es
     replies w place [] counts helping ok so_far bars is all = refl
     replies w place (Call q i ∷ es) counts helping ok so_far bars is all =

@@ -11,7 +11,6 @@ use Rattle.uni_model.specs.History.{log_of_run, history_of}
 use Rattle.uni_record.specs.declared.verdict.Return.{Return}
 use Rattle.uni_record.specs.Event.{responses_in}
 use Rattle.uni_script.specs.Objects.{SpokenObject}
-use Rattle.uni_script.specs.declared.grammar.ObjectName.{ObjectName}
 use Rattle.run_marks.specs.declared.marks.Dot.{Dot}
 use Rattle.run_marks.specs.Marks.{End, Called, EraMarks, RunMarks, box_of, marks_of_run}
 
@@ -44,7 +43,7 @@ abbrev pub told : {I R : Type 0} → Language I R → Return R → Reply
 told l r = record { call = r.call; text = l.resp_text r.reply }
 
 -- in each run from an opening
-module _ {S I R : Type 0} (o : SpokenObject S I R) (name : ObjectName) (n : ℕ) (start : S) (number : ℕ) (events : List (Event I)) where
+module _ {S I R : Type 0} (o : SpokenObject S I R) (name : List ℕ) (n : ℕ) (start : S) (number : ℕ) (events : List (Event I)) where
   -- its marks
   abbrev pub marks : RunMarks
   marks = marks_of_run o name (opened_world n start number) events

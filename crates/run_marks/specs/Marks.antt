@@ -17,7 +17,6 @@ use Rattle.uni_model.specs.History.{log, acts_of}
 use Rattle.uni_core.specs.Readers.{kind_of}
 use Rattle.uni_trim.specs.Ends.{last_number}
 use Rattle.uni_script.specs.Objects.{SpokenObject}
-use Rattle.uni_script.specs.declared.grammar.ObjectName.{ObjectName}
 use Rattle.run_marks.specs.declared.marks.StepMark.{StepMark}
 use Rattle.run_marks.specs.declared.marks.Dot.{Dot}
 use Rattle.run_marks.specs.declared.marks.EraEnd.TheVariants as era
@@ -53,7 +52,7 @@ pub record EraMarks : Type 0 where
 
 -- the marks of a run
 pub record RunMarks : Type 0 where
-  pub object : ObjectName
+  pub object : List ℕ
   pub events : ℕ
   pub steps : List StepMark
   pub bars : List Called
@@ -147,7 +146,7 @@ module _ {S I R : Type 0} (o : SpokenObject S I R) where
   eras_in w from place (Reshape n ∷ es) = era_of w from ∷ eras_in (world_after o.object w (Reshape n)) (place + 1) (place + 1) es
 
   -- the marks of a run from a world, on an object of this name
-  abbrev pub marks_of_run : ObjectName → WorldOf S I R → List (Event I) → RunMarks
+  abbrev pub marks_of_run : (name : List ℕ) → WorldOf S I R → List (Event I) → RunMarks
   marks_of_run name w events =
       record {
         object = name;

@@ -7,7 +7,6 @@ ghost use Rattle.run_marks.specs.Shown.{marks_shown};
 
 use seq_object::CallId;
 use uni_core::StepKind;
-use uni_script::ObjectName;
 
 /// A step.
 #[derive(Clone, Copy, Debug, PartialEq, Eq)]
@@ -106,8 +105,8 @@ pub struct Era {
 /// The marks of a run.
 #[derive(Drop)]
 pub struct Marks {
-    /// What the processes share.
-    pub object: ObjectName,
+    /// The name of what the processes share.
+    pub object: Vec<u8>,
     /// How many events there are.
     pub events: u64,
     /// The steps, in order.

@@ -18,7 +18,6 @@ use std::alloc::{AllocError, Global};
 use uni_core::{Progress, World};
 use uni_log::{Entry, Log};
 use uni_record::{Event, Recorded};
-use uni_script::ObjectName;
 use uni_trim::{reshape, trim};
 
 /// The marks of the run that a record has stored, on an object of this name; `object` is a further
@@ -28,17 +27,18 @@ use uni_trim::{reshape, trim};
 /// never does with the object of the record; that isn't proved.
 pub fn marks_of<O: Spoken>(
     alloc: Global,
-    name: ObjectName,
+    name: &str,
     object: O,
     run: &Recorded<O>,
 ) -> Result<Marks, AllocError>
-    ensures marks { IfOk result (λ marks. marks_shown marks ≡ marks_of_run (record { object = O.sequential object; language = O.language }) name
+    ensures marks { IfOk result (λ marks. marks_shown marks ≡ marks_of_run (record { object = O.sequential object; language = O.language }) name.now
         (opened_world run.now.processes (O.sequential object).initial run.now.first) (events_shown run.now.events)) }
 {
     run.promise();
     let mut replay = reopened(alloc, object, run)?;
+    let object = name.as_bytes().to_vec(alloc)?;
     let mut marks = Marks {
-        object: name,
+        object,
         events: run.events().len() as u64,
         steps: Vec::new(alloc),
         bars: Vec::new(alloc),

@@ -3,12 +3,18 @@ use Rattle.std.specs.Prelude.{◌≡◌, ℕ, List, Option}
 use Rattle.uni_script.specs.declared.told.Told.{Told}
 use Rattle.svg_text.specs.Svg.{svg_text}
 use Rattle.run_marks.specs.Marks.{RunMarks}
-use Rattle.run_layout.specs.Subject.{IsSubject}
+use Rattle.uni_script.specs.Outcome.{Kind}
+use Rattle.uni_script.specs.Scripts.{scripts_of}
+use Rattle.run_layout.specs.Subject.{marks_of_session, IsSubjectOf}
 use Rattle.run_picture.specs.Drawing.{drawing_of_marks}
 
 -- the reader had a script that can be drawn, and this is the text of the drawing of its marks and of what it tells
-pub record IsPicture (left : Option (List ℕ)) (svg : List ℕ) : Type 0 where
+pub record IsPictureOf {B : Type 0} (kind : Kind B) (marks_in : B → RunMarks) (left : Option (List ℕ)) (svg : List ℕ) : Type 0 where
   pub marks : RunMarks
   pub told : List Told
-  pub subject : IsSubject left marks told
+  pub subject : IsSubjectOf kind marks_in left marks told
   pub drawn : svg ≡ svg_text (drawing_of_marks marks told)
+
+-- the same of a script over the named objects
+abbrev pub IsPicture : (left : Option (List ℕ)) (svg : List ℕ) → Type 0
+IsPicture left svg = IsPictureOf (scripts_of 1048576) marks_of_session left svg

@@ -15,4 +15,4 @@ mod paint;
 mod picture;
 mod sheet;
 
-pub use picture::picture_of;
+pub use picture::{picture_of, picture_of_object};

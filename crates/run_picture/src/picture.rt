@@ -1,17 +1,19 @@
 //! From the bytes of a script to the text of its picture.
 
 ghost use Rattle.std.specs.Prelude.{◌≡◌, ◌≤◌, IfOk, IsErrOf, false, length};
-ghost use Rattle.uni_script.specs.Replay.{IsFaultOfScript};
-ghost use Rattle.uni_script.specs.ScriptRun.{HasFault};
+ghost use Rattle.uni_script.specs.Objects.{spoken};
+ghost use Rattle.uni_script.specs.Replay.{HasFault, IsFaultOfScript};
+ghost use Rattle.uni_script.specs.Scripts.{scripts_of, own_scripts_of};
 ghost use Rattle.uni_script.specs.declared.fault.BenchFault.{BenchFault as Fault};
 ghost use Rattle.run_marks.specs.Shown.{marks_shown};
 ghost use Rattle.svg_text.specs.Svg.{svg_text};
-ghost use Rattle.run_layout.specs.Subject.{HasTooManyEvents};
+ghost use Rattle.run_layout.specs.Subject.{HasTooManyEvents, HasMoreEvents, marks_of_own};
 ghost use Rattle.run_picture.specs.Drawing.{drawing_of_marks};
-ghost use Rattle.run_picture.specs.Picture.{IsPicture};
+ghost use Rattle.run_picture.specs.Picture.{IsPicture, IsPictureOf};
 
 use crate::sheet::drawing_of;
-use run_layout::{PictureFault, Subject, subject_of};
+use ready_objects::Spoken;
+use run_layout::{PictureFault, Subject, subject_of, subject_of_object};
 use std::alloc::{AllocError, Global};
 use svg_text::svg_of;
 use uni_script::{BenchFault, TextIn};
@@ -36,9 +38,31 @@ pub fn picture_of<I: TextIn>(alloc: Global, reader: &mut I) -> Result<Vec<u8>, P
     requires { I.has_failed reader.old ≡ false }
     ensures picture { IfOk result (λ svg. IsPicture (I.remaining reader.old) svg.items) }
     ensures many { IsErrOf result PictureFault.TooManyEvents → HasTooManyEvents (I.remaining reader.old) }
-    ensures fault { (e : Fault) → IsErrOf result (PictureFault.Script e) → IsFaultOfScript e → HasFault 1048576 (I.remaining reader.old) e }
+    ensures fault { (e : Fault) → IsErrOf result (PictureFault.Script e) → IsFaultOfScript e → HasFault (scripts_of 1048576) (I.remaining reader.old) e }
 {
     let subject = subject_of(alloc, reader)?;
+    match svg_of_subject(alloc, &subject) {
+        Ok(svg) => Ok(svg),
+        Err(AllocError) => Err(PictureFault::Script(BenchFault::Memory)),
+    }
+}
+
+/// The picture of the run of the script over an object that a reader has, whose header names the object by this word, as
+/// for `uni_script::bench_object`.
+///
+/// The errors are those of `picture_of`.
+pub fn picture_of_object<O: Spoken + Copy, I: TextIn>(
+    alloc: Global,
+    object: O,
+    name: &str,
+    reader: &mut I,
+) -> Result<Vec<u8>, PictureFault>
+    requires { I.has_failed reader.old ≡ false }
+    ensures picture { IfOk result (λ svg. IsPictureOf (own_scripts_of (spoken O.sequential O.language object) name.now 1048576) (marks_of_own (spoken O.sequential O.language object) name.now) (I.remaining reader.old) svg.items) }
+    ensures many { IsErrOf result PictureFault.TooManyEvents → HasMoreEvents (own_scripts_of (spoken O.sequential O.language object) name.now 1048576) (I.remaining reader.old) }
+    ensures fault { (e : Fault) → IsErrOf result (PictureFault.Script e) → IsFaultOfScript e → HasFault (own_scripts_of (spoken O.sequential O.language object) name.now 1048576) (I.remaining reader.old) e }
+{
+    let subject = subject_of_object(alloc, object, name, reader)?;
     match svg_of_subject(alloc, &subject) {
         Ok(svg) => Ok(svg),
         Err(AllocError) => Err(PictureFault::Script(BenchFault::Memory)),

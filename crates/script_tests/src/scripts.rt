@@ -12,12 +12,15 @@ use uni_core::{Progress, World};
 use uni_log::{Entry, Log};
 use uni_record::Verdict;
 use uni_script::{
-    BenchFault, Checked, Failed, Options, Remark, ScriptRecord, ScriptRun, Summary, TextIn,
+    BenchFault, Checked, Echo, Failed, Options, Remark, ScriptRecord, ScriptRun, Summary, TextIn,
     TextOut, Told, bench, finish_returns, push_fault, run_of_script, write_all,
 };
 
 /// What `bench` is told where its history is long enough.
-const OPTIONS: Options = Options { history: 1_048_576 };
+const OPTIONS: Options = Options {
+    history: 1_048_576,
+    echo: Echo::Off,
+};
 
 /// Scripts, each with its lines, its calls and its returns.
 const SUMMARIES: &[(&str, u64, u64, u64)] = &[
@@ -412,7 +415,7 @@ fn is_queue_of(record: &ScriptRecord, events: usize) -> bool {
 }
 
 /// A run is that of `NOTED`: the call and its 16 steps, and what it tells.
-fn is_noted(rt: &impl Abort, alloc: Global, run: &ScriptRun) -> Result<(), Fail> {
+fn is_noted(rt: &impl Abort, alloc: Global, run: &ScriptRun<ScriptRecord>) -> Result<(), Fail> {
     assert!(rt; is_queue_of(&run.record, 17), "another record");
     let text = told_lines(alloc, &run.told)?;
     assert!(rt; text.as_slice() == NOTED_TOLD.as_bytes(), "other remarks");

@@ -87,3 +87,7 @@ own_scripts o name options = record {
   events = λ b. length b.session.events;
   echo = options.echo;
 }
+
+-- those whose answers alone are written, and whose history can have so many events
+abbrev pub own_scripts_of : {S I R : Type 0} → SpokenObject S I R → (name : List ℕ) → (limit : ℕ) → Kind (OwnSession S I R)
+own_scripts_of o name limit = own_scripts o name (record { history = limit; echo = Off })

@@ -26,16 +26,25 @@ pub enum ObjectName {
     Sticky,
 }
 
+impl ObjectName {
+    /// The word that names it in a header.
+    pub fn word(self) -> &'static str
+        ensures { result.now ≡ word_of_object self }
+    {
+        match self {
+            ObjectName::Queue => "queue",
+            ObjectName::Directory => "directory",
+            ObjectName::Book => "book",
+            ObjectName::Sticky => "sticky",
+        }
+    }
+}
+
 impl fmt::Display for ObjectName {
     ghost output = { λ object. Some (word_of_object object) };
 
     fn fmt<W: fmt::Write>(&self, f: &mut fmt::Formatter<W>) -> fmt::Result {
-        match self {
-            ObjectName::Queue => write!(f, "queue"),
-            ObjectName::Directory => write!(f, "directory"),
-            ObjectName::Book => write!(f, "book"),
-            ObjectName::Sticky => write!(f, "sticky"),
-        }
+        write!(f, "{}", self.word())
     }
 }
 
@@ -164,7 +173,7 @@ fn version_of(word: &[u8]) -> Option<Version>
 }
 
 /// The object that a word names; `None` where it names none.
-pub(crate) fn object_of(word: &[u8]) -> Option<ObjectName>
+pub fn object_of(word: &[u8]) -> Option<ObjectName>
     ensures { result ≡ object_of_word word.now }
 {
     if is_text(word, "queue") {

@@ -6,11 +6,11 @@ use Rattle.clap.specs.Words.{Row, Text, first_of}
 use Rattle.uni_script.specs.Grammar.{object_of_word}
 use Rattle.uni_record.specs.Recorded.{IsHistory}
 use Rattle.uni_script.specs.Schedules.{IsPlan}
-use Rattle.uni_script.specs.declared.replay.Options.{Options}
+use Rattle.uni_script.specs.declared.options.Options.{Options}
 use Rattle.uni_script.specs.declared.grammar.ObjectName.{ObjectName}
 use Rattle.command_line.specs.Flags.{is_set}
 use Rattle.unibench_run.specs.CommandLine.{replay_in, request_in}
-use Rattle.unibench_run.specs.Request.{form_named, number_in, object_named, options_of, plan_of, plan_with, random_of, random_with, subject_of, value_of}
+use Rattle.unibench_run.specs.Request.{form_named, echo_in, number_in, object_named, options_of, plan_of, plan_with, random_of, random_with, subject_of, value_of}
 use Rattle.unibench_run.specs.Threads.{IsThreadsPlan}
 use Rattle.unibench_run.specs.declared.request.Form.{Form}
 use Rattle.unibench_run.specs.declared.request.ThreadsObject.{ThreadsObject}
@@ -68,10 +68,10 @@ plan_of-IsThreadsPlan rows plan is =
 options_of-IsHistory : (rows : List Row) (options : Options) → options_of rows ≡ Some options → IsHistory options.history
 options_of-IsHistory rows options is = at (value_of (number_in 1 16777216) (codes "history") rows) (read-range 1 16777216 (first_of (codes "history") rows)) is
   where
-    at : (o : Option ℕ) → ((n : ℕ) → o ≡ Some n → (1 ≤ n) × (n ≤ 16777216)) → option_map (λ h. record { history = h }) o ≡ Some options → IsHistory options.history
+    at : (o : Option ℕ) → ((n : ℕ) → o ≡ Some n → (1 ≤ n) × (n ≤ 16777216)) → option_map (λ h. record { history = h; echo = echo_in rows }) o ≡ Some options → IsHistory options.history
     at None range e = absurd (let bad : None ≡ Some options = e in cc)
     at (Some n) range e =
-        let of : Options = record { history = n } in
+        let of : Options = record { history = n; echo = echo_in rows } in
         let same : of ≡ options = (let some : Some of ≡ Some options = e in cc) in
         subst (λ (p : Options). IsHistory p.history) same (range n refl)
 

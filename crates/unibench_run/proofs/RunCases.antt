@@ -9,6 +9,7 @@ use Rattle.uni_script.specs.declared.fault.BenchFault.TheVariants as bench
 use Rattle.uni_script.proofs.Replaying.{IsPartOfReplay-start}
 use Rattle.unibench_run.specs.Runs.{IsRunOf}
 use Rattle.uni_script.specs.Replay.{IsFaultOfScript}
+use Rattle.uni_script.specs.Scripts.{scripts}
 use Rattle.uni_script.specs.Statuses.{IsStatusOf, TellsFault, TellsLine, status_of}
 use Rattle.unibench_run.specs.Statuses.{Tells, TellsMore, TellsThreadsFault}
 use Rattle.unibench_run.specs.Threads.{refusal_of}
@@ -19,8 +20,8 @@ use Rattle.unibench_run.specs.declared.threads.ThreadsFault.TheVariants.{Memory}
 
 -- the want of memory is a run of anything that has read and written nothing
 pub run_of_memory : (r : Request) (left old : Option (List ℕ)) (failed : Bool) (status : ℕ) → failed ≡ false → status ≡ 4 → IsRunOf r left left old old failed status
-run_of_memory (Replay options) left old failed status good four = record { replayed = λ e. cc; bad = λ e. cc; read = λ e _. cc; part = IsPartOfReplay-start options.history _ _ }
-run_of_memory (Explained options) left old failed status good four = record { replayed = λ e. cc; bad = λ e. cc; read = λ e _. cc; part = IsPartOfReplay-start options.history _ _ }
+run_of_memory (Replay options) left old failed status good four = record { replayed = λ e. cc; bad = λ e. cc; read = λ e _. cc; part = IsPartOfReplay-start (scripts options) _ _ }
+run_of_memory (Explained options) left old failed status good four = record { replayed = λ e. cc; bad = λ e. cc; read = λ e _. cc; part = IsPartOfReplay-start (scripts options) _ _ }
 run_of_memory (Language object) left old failed status good four =
     record { statuses = inr (inr four); printed = λ e. cc; front = λ e. cc; failed = ((λ e. cc), (λ e. cc)); nothing = λ e. refl }
 run_of_memory (Random plan) left old failed status good four =

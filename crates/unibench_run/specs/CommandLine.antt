@@ -7,7 +7,8 @@ use Rattle.clap.specs.declared.builder.value_parser.ValueParser.TheVariants.{Uns
 use Rattle.clap.specs.declared.error.kind.ErrorKind.TheVariants.{DisplayHelp, DisplayVersion, InvalidSubcommand, MissingSubcommand, UnknownArgument, ValueValidation}
 use Rattle.command_line.specs.Flags.{flag, is_set, versioned}
 use Rattle.uni_script.specs.declared.grammar.ObjectName.TheVariants as shared
-use Rattle.uni_script.specs.declared.replay.Options.{Options}
+use Rattle.uni_script.specs.declared.options.Options.{Options}
+use Rattle.uni_script.specs.declared.options.Echo.TheVariants.{Off, On}
 use Rattle.unibench_run.specs.Request.{options_of, plan_of, random_of, subject_of}
 use Rattle.unibench_run.specs.declared.request.Request.{Request}
 use Rattle.unibench_run.specs.declared.request.Request.TheVariants.{Replay, Explained, Random, Threads, Language}
@@ -32,9 +33,10 @@ in_range number least most = record number { parser = Some (Unsigned least most)
 
 abbrev pub replay_command : App
 replay_command =
-    with_rule (with_rule (new_app (codes "replay"))
+    with_rule (with_rule (with_rule (new_app (codes "replay"))
     (in_range (option (codes "history") (codes "1048576")) 1 16777216))
-    (flag (codes "explain"))
+    (flag (codes "explain")))
+    (flag (codes "echo"))
 
 abbrev pub random_command : App
 random_command =
@@ -105,15 +107,15 @@ abbrev pub IsRefused : List Text → Type 0
 IsRefused words = AsksForNothing words × ¬ (MayAskForHelp words)
 
 -- whatever the program's name is
-replay_is_asked : (name : Text) → AsksFor (name ∷ codes "replay" ∷ []) (Replay (record { history = 1048576 }))
+replay_is_asked : (name : Text) → AsksFor (name ∷ codes "replay" ∷ []) (Replay (record { history = 1048576; echo = Off }))
 unfolding clap_on_literals
 replay_is_asked name = (refl, refl)
 
-replay_of_23_events_is_asked : (name : Text) → AsksFor (name ∷ codes "replay" ∷ codes "--history" ∷ codes "23" ∷ []) (Replay (record { history = 23 }))
+replay_of_23_events_is_asked : (name : Text) → AsksFor (name ∷ codes "replay" ∷ codes "--history" ∷ codes "23" ∷ []) (Replay (record { history = 23; echo = Off }))
 unfolding clap_on_literals
 replay_of_23_events_is_asked name = (refl, refl)
 
-explained_is_asked : (name : Text) → AsksFor (name ∷ codes "replay" ∷ codes "--explain" ∷ codes "--history=23" ∷ []) (Explained (record { history = 23 }))
+explained_is_asked : (name : Text) → AsksFor (name ∷ codes "replay" ∷ codes "--explain" ∷ codes "--history=23" ∷ []) (Explained (record { history = 23; echo = Off }))
 unfolding clap_on_literals
 explained_is_asked name = (refl, refl)
 
@@ -171,6 +173,10 @@ threads_of_65_are_a_fault : (name : Text) → faults_of_words (name ∷ codes "t
 unfolding clap_on_literals
 threads_of_65_are_a_fault name = refl
 
+echoed_is_asked : (name : Text) → AsksFor (name ∷ codes "replay" ∷ codes "--echo" ∷ []) (Replay (record { history = 1048576; echo = On }))
+unfolding clap_on_literals
+echoed_is_asked name = (refl, refl)
+
 nothing_is_asked : (name : Text) → faults_of_words (name ∷ []) ≡ MissingSubcommand ∷ []
 unfolding clap_on_literals
 nothing_is_asked name = refl
@@ -220,11 +226,11 @@ abbrev threads_request : (processes calls seed : ℕ) → Request
 threads_request processes calls seed = Threads (record { form = Lock; object = Queue; processes = processes; calls = calls; seed = seed })
 
 -- the least and the greatest number that each option takes, and the numbers beside them; 65 threads are one of the faults above
-history_least : (name : Text) → AsksFor (with_option name (codes "replay") (codes "--history") (codes "1")) (Replay (record { history = 1 }))
+history_least : (name : Text) → AsksFor (with_option name (codes "replay") (codes "--history") (codes "1")) (Replay (record { history = 1; echo = Off }))
 unfolding clap_on_literals
 history_least name = (refl, refl)
 
-history_greatest : (name : Text) → AsksFor (with_option name (codes "replay") (codes "--history") (codes "16777216")) (Replay (record { history = 16777216 }))
+history_greatest : (name : Text) → AsksFor (with_option name (codes "replay") (codes "--history") (codes "16777216")) (Replay (record { history = 16777216; echo = Off }))
 unfolding clap_on_literals
 history_greatest name = (refl, refl)
 

@@ -7,7 +7,10 @@ use Rattle.std.specs.Str.Parse.{digits_value, without_leading_plus}
 use Rattle.clap.specs.Words.{Row, Text, first_of}
 use Rattle.uni_script.specs.declared.grammar.ObjectName.{ObjectName}
 use Rattle.uni_script.specs.Grammar.{object_of_word}
-use Rattle.uni_script.specs.declared.replay.Options.{Options}
+use Rattle.command_line.specs.Flags.{is_set}
+use Rattle.uni_script.specs.declared.options.Options.{Options}
+use Rattle.uni_script.specs.declared.options.Echo.{Echo}
+use Rattle.uni_script.specs.declared.options.Echo.TheVariants.{Off, On}
 use Rattle.unibench_run.specs.declared.request.Form.{Form}
 use Rattle.unibench_run.specs.declared.request.Form.TheVariants as form
 use Rattle.unibench_run.specs.declared.request.ThreadsObject.{ThreadsObject}
@@ -47,9 +50,13 @@ number_in least most text = value_in least most (without_leading_plus text)
 abbrev pub value_of : {A : Type 0} → (Text → Option A) → (id : Text) → List Row → Option A
 value_of read id rows = option_and_then read (first_of id rows)
 
+-- whether lines are written before their answers
+abbrev pub echo_in : List Row → Echo
+echo_in rows = if is_set (codes "echo") rows then On else Off
+
 -- what a replay is told by the values of the options, if the history is one that its option takes
 abbrev pub options_of : List Row → Option Options
-options_of rows = option_map (λ h. record { history = h }) (value_of (number_in 1 16777216) (codes "history") rows)
+options_of rows = option_map (λ h. record { history = h; echo = echo_in rows }) (value_of (number_in 1 16777216) (codes "history") rows)
 
 -- what the language is asked of by a word: all of it where there is none, and else the object that it names
 abbrev pub subject_named : Option Text → Option (Option ObjectName)

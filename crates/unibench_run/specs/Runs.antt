@@ -2,6 +2,8 @@
 use Rattle.std.specs.Prelude.{◌≡◌, ◌≢◌, ◌⊎◌, ◌↔◌, ℕ, List, Option, None, IsSome, Bool, true, false}
 use Rattle.std.specs.Io.KnownBytes.{Appends}
 use Rattle.uni_script.specs.Ends.{AppendsFront}
+use Rattle.uni_script.specs.declared.options.Options.{Options}
+use Rattle.uni_script.specs.Scripts.{scripts}
 use Rattle.uni_script.specs.Replay.{IsReplay, IsBadReplay, IsPartOfReplay, HasAnswered}
 use Rattle.unibench_run.specs.Draws.{drawn_text}
 use Rattle.uni_script.specs.declared.grammar.ObjectName.{ObjectName}
@@ -19,14 +21,14 @@ pub record IsStatusOfEnds (input_failed output_failed : Bool) (status : ℕ) : T
   pub written : output_failed ≡ true → status ≡ 3
   pub ends : status ≡ 3 → (input_failed ≡ true) ⊎ (output_failed ≡ true)
 
--- A replay with a history of so many events at most that ended with this status, from what the input had left and the output held: 0 only where the script is good and
--- its text was written, 2 only where it has a fault, after the answers before it, 3 after the answers to the whole lines that
+-- A replay that was told this and ended with this status, from what the input had left and the output held: 0 only where the script
+-- is good and its text was written, 2 only where it has a fault, after the answers before it, 3 after the answers to the whole lines that
 -- the reader gave, where the output hasn't failed. Whatever the status, a front of the text of the script's answers was written.
-pub record IsReplayRun (limit : ℕ) (left left_after old new : Option (List ℕ)) (output_failed : Bool) (status : ℕ) : Type 0 where
-  pub replayed : status ≡ 0 → IsReplay limit left old new None
-  pub bad : status ≡ 2 → IsBadReplay limit left old new
-  pub read : status ≡ 3 → output_failed ≡ false → HasAnswered limit left left_after old new
-  pub part : IsPartOfReplay limit left old new
+pub record IsReplayRun (options : Options) (left left_after old new : Option (List ℕ)) (output_failed : Bool) (status : ℕ) : Type 0 where
+  pub replayed : status ≡ 0 → IsReplay (scripts options) left old new None
+  pub bad : status ≡ 2 → IsBadReplay (scripts options) left old new
+  pub read : status ≡ 3 → output_failed ≡ false → HasAnswered (scripts options) left left_after old new
+  pub part : IsPartOfReplay (scripts options) left old new
 
 -- A schedule that was drawn with this status, from what the output held: 0 only where its text was written, 3 exactly where the
 -- output failed, after a front of it, and 4 for want of memory, where nothing was written.
@@ -61,8 +63,8 @@ pub record IsLanguageRun (object : Option ObjectName) (old new : Option (List �
 
 -- a run of what was asked for
 abbrev pub IsRunOf : Request → (left left_after old new : Option (List ℕ)) (output_failed : Bool) (status : ℕ) → Type 0
-IsRunOf (Replay options) left left_after old new failed status = IsReplayRun options.history left left_after old new failed status
-IsRunOf (Explained options) left left_after old new failed status = IsReplayRun options.history left left_after old new failed status
+IsRunOf (Replay options) left left_after old new failed status = IsReplayRun options left left_after old new failed status
+IsRunOf (Explained options) left left_after old new failed status = IsReplayRun options left left_after old new failed status
 IsRunOf (Random plan) left left_after old new failed status = IsRandomRun plan old new failed status
 IsRunOf (Threads plan) left left_after old new failed status = IsThreadsRun plan old new failed status
 IsRunOf (Language object) left left_after old new failed status = IsLanguageRun object old new failed status

@@ -4,10 +4,9 @@ ghost use Rattle.std.specs.Prelude.{◌≡◌, ◌≢◌, ◌≤◌, ◌⊎◌, 
 ghost use Rattle.std.specs.Io.KnownBytes.{Appends};
 ghost use Rattle.uni_script.specs.Ends.{AppendsFront};
 ghost use Rattle.uni_record.specs.Recorded.{IsHistory};
-ghost use Rattle.uni_script.specs.Replay.{IsReplay, IsBadReplay, IsPartOfReplay, HasAnswered};
 ghost use Rattle.unibench_run.specs.CommandLine.{AsksFor, AsksForReplay, IsRefused};
 ghost use Rattle.uni_script.specs.Schedules.{IsPlan};
-ghost use Rattle.unibench_run.specs.Runs.{IsRandomRun, IsRunOf, IsStatusOfEnds, IsThreadsRun};
+ghost use Rattle.unibench_run.specs.Runs.{IsRandomRun, IsReplayRun, IsRunOf, IsStatusOfEnds, IsThreadsRun};
 ghost use Rattle.uni_script.specs.Statuses.{TellsFault};
 ghost use Rattle.unibench_run.specs.Statuses.{IsStatusFor, IsStatusOfThreads, Tells, TellsMore, TellsThreadsFault, status_of_threads};
 ghost use Rattle.unibench_run.specs.Threads.{IsThreadsPlan, OfAgreed, refusal_of};
@@ -167,13 +166,9 @@ fn replay<I: TextIn, O: TextOut, F: TextOut>(
     requires input { I.has_failed input.old ≡ false }
     requires output { O.has_failed output.old ≡ false }
     ensures statuses { (result ≤ 4) × (result ≢ 1) }
-    ensures replayed { result ≡ 0 → IsReplay options.now.history (I.remaining input.old) (O.contents output.old) (O.contents output.new) None }
-    ensures bad { result ≡ 2 → IsBadReplay options.now.history (I.remaining input.old) (O.contents output.old) (O.contents output.new) }
-    ensures read { result ≡ 3 → O.has_failed output.new ≡ false → HasAnswered options.now.history (I.remaining input.old) (I.remaining input.new) (O.contents output.old) (O.contents output.new) }
-    ensures part { IsPartOfReplay options.now.history (I.remaining input.old) (O.contents output.old) (O.contents output.new) }
-    ensures good { result ≡ 0 → (I.has_failed input.new ≡ false) × (O.has_failed output.new ≡ false) }
-    ensures written { O.has_failed output.new ≡ true → result ≡ 3 }
-    ensures ends { result ≡ 3 → (I.has_failed input.new ≡ true) ⊎ (O.has_failed output.new ≡ true) }
+    ensures run { IsReplayRun options.now (I.remaining input.old) (I.remaining input.new)
+        (O.contents output.old) (O.contents output.new) (O.has_failed output.new) result }
+    ensures ends { IsStatusOfEnds (I.has_failed input.new) (O.has_failed output.new) result }
     ensures silent { result ≡ 0 → faults.new ≡ faults.old }
     ensures told { result ≢ 0 → TellsFault (F.contents faults.old) (F.contents faults.new) (F.has_failed faults.new) result }
 {
@@ -200,13 +195,9 @@ fn replay_explained<I: KeepsText, O: TextOut, F: TextOut>(
     requires input { I.has_failed input.old ≡ false }
     requires output { O.has_failed output.old ≡ false }
     ensures statuses { (result ≤ 4) × (result ≢ 1) }
-    ensures replayed { result ≡ 0 → IsReplay options.now.history (I.remaining input.old) (O.contents output.old) (O.contents output.new) None }
-    ensures bad { result ≡ 2 → IsBadReplay options.now.history (I.remaining input.old) (O.contents output.old) (O.contents output.new) }
-    ensures read { result ≡ 3 → O.has_failed output.new ≡ false → HasAnswered options.now.history (I.remaining input.old) (I.remaining input.new) (O.contents output.old) (O.contents output.new) }
-    ensures part { IsPartOfReplay options.now.history (I.remaining input.old) (O.contents output.old) (O.contents output.new) }
-    ensures good { result ≡ 0 → (I.has_failed input.new ≡ false) × (O.has_failed output.new ≡ false) }
-    ensures written { O.has_failed output.new ≡ true → result ≡ 3 }
-    ensures ends { result ≡ 3 → (I.has_failed input.new ≡ true) ⊎ (O.has_failed output.new ≡ true) }
+    ensures run { IsReplayRun options.now (I.remaining input.old) (I.remaining input.new)
+        (O.contents output.old) (O.contents output.new) (O.has_failed output.new) result }
+    ensures ends { IsStatusOfEnds (I.has_failed input.new) (O.has_failed output.new) result }
     ensures silent { result ≡ 0 → faults.new ≡ faults.old }
     ensures told { result ≢ 0 → TellsMore (F.contents faults.old) (F.contents faults.new) (F.has_failed faults.new) result }
 {

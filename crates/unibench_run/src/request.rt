@@ -6,14 +6,14 @@ ghost use Rattle.clap.specs.declared.builder.command.Command.TheViews.{out-Comma
 ghost use Rattle.command_line.specs.Flags.{versioned};
 ghost use Rattle.unibench_run.specs.CommandLine.{asked_of, faults_of_words, in_range, language_command, needs_subcommand, operand, option, random_command, replay_command, replay_in, request_in, threads_command, unibench};
 ghost use Rattle.uni_script.specs.Grammar.{object_of_word};
-ghost use Rattle.unibench_run.specs.Request.{form_named, number_in, object_named, options_of, plan_of, random_of, subject_of, value_of};
+ghost use Rattle.unibench_run.specs.Request.{form_named, echo_in, number_in, object_named, options_of, plan_of, random_of, subject_of, value_of};
 
 use clap::builder::ValueParser;
 use clap::{Arg, ArgMatches, Command};
 use command_line::{flag, is_set};
 use std::alloc::{AllocError, Global};
 use std::convert::AsStr;
-use uni_script::{ObjectName, Options};
+use uni_script::{Echo, ObjectName, Options, object_of};
 
 /// A form of the construction that threads can share.
 #[derive(Clone, Copy)]
@@ -126,24 +126,11 @@ impl RandomPlan {
     }
 }
 
-/// The object of a script that a name stands for.
-fn shared_named(name: &str) -> Option<ObjectName>
-    ensures { result ≡ object_of_word name.now }
-{
-    match name {
-        "queue" => Some(ObjectName::Queue),
-        "directory" => Some(ObjectName::Directory),
-        "book" => Some(ObjectName::Book),
-        "sticky" => Some(ObjectName::Sticky),
-        _ => None,
-    }
-}
-
 /// The object of a script that the option's value names.
 fn shared_in(matches: &ArgMatches<'_>) -> Option<ObjectName>
     ensures { result ≡ value_of object_of_word (codes "object") (rows_of (found_of matches.now)) }
 {
-    shared_named(matches.get_str("object")?)
+    object_of(matches.get_str("object")?.as_bytes())
 }
 
 /// The form that the option's value names.
@@ -183,6 +170,17 @@ fn number_in(text: &str, least: u64, most: u64) -> Option<u64>
     }
 }
 
+/// Whether lines are written before their answers.
+fn echo_in(matches: &ArgMatches<'_>) -> Echo
+    ensures { result ≡ echo_in (rows_of (found_of matches.now)) }
+{
+    if is_set(matches, "echo") {
+        Echo::On
+    } else {
+        Echo::Off
+    }
+}
+
 /// What a replay is told by the values of the options; `None` where an option has a value that it
 /// doesn't take.
 fn options_of(matches: &ArgMatches<'_>) -> Option<Options>
@@ -190,6 +188,7 @@ fn options_of(matches: &ArgMatches<'_>) -> Option<Options>
 {
     Some(Options {
         history: number_of(matches, "history", 1, 16_777_216)?,
+        echo: echo_in(matches),
     })
 }
 
@@ -284,7 +283,8 @@ fn replay_command<'a>(alloc: Global) -> Result<Command<'a>, AllocError>
         REPLAY_NOTES,
     )
     .arg(history)?
-    .arg(flag(alloc, "explain", "Says why a line is bad"))
+    .arg(flag(alloc, "explain", "Says why a line is bad"))?
+    .arg(flag(alloc, "echo", "Writes each line before its answers, after '> '"))
 }
 
 /// What the help of `random` says last.

@@ -1,7 +1,7 @@
 -- A run of the program that has drawn nothing, by its fault.
 use Rattle.std.proofs.Common.{◌≡◌, ◌∙◌, ◌≢◌, ◌≤◌, ℕ, List, Option, Result, Err, IsErrOf, inl, inr, refl, sym, ap, arith}
-use Rattle.uni_script.specs.Replay.{IsFaultOfScript}
-use Rattle.uni_script.specs.ScriptRun.{HasFault}
+use Rattle.uni_script.specs.Replay.{HasFault, IsFaultOfScript}
+use Rattle.uni_script.specs.Scripts.{scripts_of}
 use Rattle.uni_script.specs.Statuses.{status_of}
 use Rattle.uni_script.specs.declared.fault.BenchFault.{BenchFault}
 use Rattle.uni_script.specs.declared.fault.BenchFault.TheVariants.{NoHeader, BadHeader, TooLong, BadByte, BadLine, TooMany, Read, Write, Memory, Audit}
@@ -42,7 +42,7 @@ status_2 (Script f) status is two = elim is [
 
 -- a fault that ends with 2 is one of a script, or that there are too many events
 no_picture : (left : Option (List ℕ)) (f : PictureFault) → status_of_picture f ≡ 2 → (f ≡ TooManyEvents → HasTooManyEvents left)
-    → ((e : BenchFault) → f ≡ Script e → IsFaultOfScript e → HasFault 1048576 left e) → HasNoPicture left
+    → ((e : BenchFault) → f ≡ Script e → IsFaultOfScript e → HasFault (scripts_of 1048576) left e) → HasNoPicture left
 no_picture left TooManyEvents two many fault = inl (many refl)
 no_picture left (Script (NoHeader l)) two many fault = inr (NoHeader l, tt, fault (NoHeader l) refl tt)
 no_picture left (Script (BadHeader l)) two many fault = inr (BadHeader l, tt, fault (BadHeader l) refl tt)
@@ -57,7 +57,7 @@ no_picture left (Script (Audit verdict)) two many fault = absurd (omega arith)
 
 -- where a picture was refused with a fault, nothing was written
 pub IsDrawn-fault : {A : Type 0} (form : Form) (left old : Option (List ℕ)) (status : ℕ) (r : Result A PictureFault) (f : PictureFault) → r ≡ Err f
-    → (IsErrOf r TooManyEvents → HasTooManyEvents left) → ((e : BenchFault) → IsErrOf r (Script e) → IsFaultOfScript e → HasFault 1048576 left e)
+    → (IsErrOf r TooManyEvents → HasTooManyEvents left) → ((e : BenchFault) → IsErrOf r (Script e) → IsFaultOfScript e → HasFault (scripts_of 1048576) left e)
     → IsStatusOfPicture f status → IsDrawn form left old old status
 IsDrawn-fault {A} form left old status r f is many fault ends =
     let told : (g : PictureFault) → f ≡ g → IsErrOf r g = λ g same. is ∙ ap Err same in record {

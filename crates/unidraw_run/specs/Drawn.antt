@@ -2,8 +2,8 @@
 use Rattle.std.specs.Prelude.{◌≡◌, ◌⊎◌, ℕ, List, Option}
 use Rattle.std.specs.Io.KnownBytes.{Appends}
 use Rattle.uni_script.specs.Ends.{AppendsFront}
-use Rattle.uni_script.specs.Replay.{IsFaultOfScript}
-use Rattle.uni_script.specs.ScriptRun.{HasFault}
+use Rattle.uni_script.specs.Replay.{HasFault, IsFaultOfScript}
+use Rattle.uni_script.specs.Scripts.{scripts_of}
 use Rattle.uni_script.specs.declared.fault.BenchFault.{BenchFault}
 use Rattle.run_layout.specs.Subject.{HasTooManyEvents}
 use Rattle.run_picture.specs.Picture.{IsPicture}
@@ -19,7 +19,7 @@ IsPictureIn Lines left text = IsLines left text
 
 -- the reader had a script with a fault, or with too many events
 abbrev pub HasNoPicture : (left : Option (List ℕ)) → Type 0
-HasNoPicture left = HasTooManyEvents left ⊎ ((e : BenchFault) × IsFaultOfScript e × HasFault 1048576 left e)
+HasNoPicture left = HasTooManyEvents left ⊎ ((e : BenchFault) × IsFaultOfScript e × HasFault (scripts_of 1048576) left e)
 
 -- a run of the program that ended with this status, from what the input had left and the output held: 0 only where the picture was
 -- written, 2 only where the script has none; after a failure of the output a front of the picture was written, and else nothing

@@ -1,8 +1,8 @@
 //! The program over its ends, and its statuses.
 
 ghost use Rattle.std.specs.Prelude.{◌≡◌, ◌≢◌, ◌⊎◌, ◌↔◌, true, false, None, Some, IfOk, IsErrOf, map};
-ghost use Rattle.uni_script.specs.Replay.{IsFaultOfScript};
-ghost use Rattle.uni_script.specs.ScriptRun.{HasFault};
+ghost use Rattle.uni_script.specs.Replay.{HasFault, IsFaultOfScript};
+ghost use Rattle.uni_script.specs.Scripts.{scripts_of};
 ghost use Rattle.uni_script.specs.declared.fault.BenchFault.{BenchFault as Fault};
 ghost use Rattle.run_layout.specs.Subject.{HasTooManyEvents};
 ghost use Rattle.unidraw_run.specs.CommandLine.{form_of_words, IsRefused};
@@ -88,7 +88,7 @@ fn picture_in<I: TextIn>(alloc: Global, form: Form, reader: &mut I) -> Result<Ve
     requires { I.has_failed reader.old ≡ false }
     ensures picture { IfOk result (λ text. IsPictureIn form (I.remaining reader.old) text.items) }
     ensures many { IsErrOf result PictureFault.TooManyEvents → HasTooManyEvents (I.remaining reader.old) }
-    ensures fault { (e : Fault) → IsErrOf result (PictureFault.Script e) → IsFaultOfScript e → HasFault 1048576 (I.remaining reader.old) e }
+    ensures fault { (e : Fault) → IsErrOf result (PictureFault.Script e) → IsFaultOfScript e → HasFault (scripts_of 1048576) (I.remaining reader.old) e }
 {
     match form {
         Form::Svg => picture_of(alloc, reader),

@@ -1,7 +1,7 @@
 -- What the pictures say of a script that lies in memory.
 use Rattle.std.proofs.Common.{◌≡◌, ◌∙◌, ℕ, List, Some, Result, Err, IsErrOf, ap}
-use Rattle.uni_script.specs.Replay.{IsFaultOfScript, fault_of_script}
-use Rattle.uni_script.specs.ScriptRun.{HasFault}
+use Rattle.uni_script.specs.Scripts.{scripts_of}
+use Rattle.uni_script.specs.Replay.{HasFault, IsFaultOfScript, fault_of_script}
 use Rattle.uni_script.specs.declared.fault.BenchFault.{BenchFault}
 use Rattle.run_layout.specs.Subject.{HasTooManyEvents}
 use Rattle.run_layout.specs.declared.subject.PictureFault.{PictureFault}
@@ -10,7 +10,7 @@ use Rattle.universal_text.specs.Told.{HasNoPicture, IsFaultOfPicture}
 
 -- a fault for which there is no picture is the script's
 pub no_picture : {A : Type 0} (script : List ℕ) (r : Result A PictureFault) (f : PictureFault) → r ≡ Err f
-    → (IsErrOf r TooManyEvents → HasTooManyEvents (Some script)) → ((e : BenchFault) → IsErrOf r (Script e) → IsFaultOfScript e → HasFault 1048576 (Some script) e)
+    → (IsErrOf r TooManyEvents → HasTooManyEvents (Some script)) → ((e : BenchFault) → IsErrOf r (Script e) → IsFaultOfScript e → HasFault (scripts_of 1048576) (Some script) e)
     → IsFaultOfPicture f → HasNoPicture script f
 no_picture script r TooManyEvents is many fault of = many is
-no_picture script r (Script e) is many fault of = let h = fault e is of in ap (fault_of_script 1048576) h.1 ∙ h.2
+no_picture script r (Script e) is many fault of = let h = fault e is of in ap (fault_of_script (scripts_of 1048576)) h.1 ∙ h.2

@@ -3,6 +3,7 @@ use Rattle.std.specs.Prelude.{◌≡◌, ℕ, ◌<◌, ◌≤◌, List, [], ◌�
 use Rattle.std.proofs.Common.{arith}
 use Rattle.std.specs.declared.option.Option.{Option}
 use Rattle.std.specs.declared.option.Option.TheVariants.{None}
+use Rattle.uni_script.specs.Scripts.{scripts_of}
 use Rattle.uni_script.specs.Fault.{fault_line}
 use Rattle.uni_script.specs.Replay.{IsFaultOfScript, fault_of_script, text_of_script}
 use Rattle.uni_script.specs.declared.fault.BenchFault.{BenchFault}
@@ -38,7 +39,7 @@ line_or (Some fault) answers = fault_line fault
 
 -- what is told of a script whose history can have so many events
 abbrev pub answer_to : (history : ℕ) → (script : List ℕ) → List ℕ
-answer_to history script = line_or (fault_of_script history script) (text_of_script history script)
+answer_to history script = line_or (fault_of_script (scripts_of history) script) (text_of_script (scripts_of history) script)
 
 -- a fault that a script has, and not its run
 abbrev pub IsFaultOfPicture : PictureFault → Type 0
@@ -51,7 +52,7 @@ line_of fault = picture_fault_text fault ++ 10 ∷ []
 
 -- why a script has no picture: its first fault, or more than 2,000 events
 abbrev pub HasNoPicture : (script : List ℕ) → PictureFault → Type 0
-HasNoPicture script (Script fault) = fault_of_script 1048576 script ≡ Some fault
+HasNoPicture script (Script fault) = fault_of_script (scripts_of 1048576) script ≡ Some fault
 HasNoPicture script TooManyEvents = HasTooManyEvents (Some script)
 
 -- the script's picture as an SVG, its picture as lines, or the line that says why it has neither, is like this

@@ -3,6 +3,7 @@
 ghost use Rattle.std.specs.Prelude.{◌≡◌, ◌⊎◌, ◌↔◌, ◌<◌, ◌≤◌, IsSome};
 ghost use Rattle.std.specs.declared.option.Option.TheVariants.{None};
 ghost use Rattle.uni_record.specs.Recorded.{IsHistory};
+ghost use Rattle.uni_script.specs.Scripts.{scripts_of};
 ghost use Rattle.uni_script.specs.Replay.{fault_of_script};
 ghost use Rattle.universal_text.specs.Told.{IsTooLong, IsWritten, answer_to};
 
@@ -11,14 +12,14 @@ use crate::tell::{refuse, tell};
 use run_layout::PictureFault;
 use std::alloc::Global;
 use uni_record::MAX_HISTORY;
-use uni_script::{Checked, Options, bench};
+use uni_script::{Checked, Echo, Options, bench};
 
 /// Runs a script whose history can have so many events.
 fn replay(alloc: Global, script: &[u8], history: u64, out: &mut [u8], written: &mut usize) -> u32
     requires { IsHistory history }
     ensures status { result ≤ 3 }
-    ensures good { result ≡ 0 → fault_of_script history script.now ≡ None }
-    ensures bad { result ≡ 1 → IsSome (fault_of_script history script.now) }
+    ensures good { result ≡ 0 → fault_of_script (scripts_of history) script.now ≡ None }
+    ensures bad { result ≡ 1 → IsSome (fault_of_script (scripts_of history) script.now) }
     ensures written { (result ≡ 0) ⊎ (result ≡ 1) →
         IsWritten (answer_to history script.now) out.old out.new written.new }
     ensures small { result ≡ 2 → IsTooLong (answer_to history script.now) out.old out.new written.new }
@@ -29,7 +30,10 @@ fn replay(alloc: Global, script: &[u8], history: u64, out: &mut [u8], written: &
         alloc,
         &mut Checked::new(script),
         &mut answers,
-        &Options { history },
+        &Options {
+            history,
+            echo: Echo::Off,
+        },
     ) {
         Ok(_) => tell(DONE, answers.end().as_slice(), out, written),
         Err(fault) => refuse(alloc, PictureFault::Script(fault), out, written),
@@ -52,8 +56,8 @@ pub extern "C" fn universal_replay(
 ) -> u32
     ensures history { (result ≡ 4) ↔ ((history ≡ 0) ⊎ (16777216 < history)) }
     ensures status { result ≤ 4 }
-    ensures good { result ≡ 0 → fault_of_script history script.now ≡ None }
-    ensures bad { result ≡ 1 → IsSome (fault_of_script history script.now) }
+    ensures good { result ≡ 0 → fault_of_script (scripts_of history) script.now ≡ None }
+    ensures bad { result ≡ 1 → IsSome (fault_of_script (scripts_of history) script.now) }
     ensures written { (result ≡ 0) ⊎ (result ≡ 1) →
         IsWritten (answer_to history script.now) out.old out.new written.new }
     ensures small { result ≡ 2 → IsTooLong (answer_to history script.now) out.old out.new written.new }

@@ -14,14 +14,14 @@ use Rattle.run_marks.proofs.replay.marks_of.Goals as goal
 pub loop-event-init : goal.loop-event-init
 loop-event-init g c =
     let o : SpokenObject _ _ _ = record { object = g.O.SeqObject.sequential c.args.object; language = g.O.Spoken.language } in
-    let blank : RunMarks = record { object = c.args.name; events = length (events_shown c.args.run.now.events); steps = []; bars = []; dots = []; lines = []; eras = [] } in
+    let blank : RunMarks = record { object = c.args.name.now; events = length (events_shown c.args.run.now.events); steps = []; bars = []; dots = []; lines = []; eras = [] } in
     let all = c.into_iter-event-iterator.ensures.into_iter_gives ∙ c.events-event-items.ensures in
     record {
       object = c.in_ok-replay.ensures.object;
       place = (let len = ap length all in omega (arith, len));
       marks =
           ap (λ m. marks_then o m (world_of c.in_ok-replay.replay) 0 0 (events_shown c.into_iter-event-iterator.result))
-          (marks_are _ blank refl (c.len.ensures.value ∙ ap length c.events.ensures ∙ sym (length-map c.args.run.now.events event_shown)) c.new.ensures.items (ap (map bar_shown) c.new-2.ensures.items) c.new-3.ensures.items c.new-4.ensures.items (ap (map era_shown) c.new-5.ensures.items))
+          (marks_are _ blank c.in_ok-object.ensures (c.len.ensures.value ∙ ap length c.events.ensures ∙ sym (length-map c.args.run.now.events event_shown)) c.new.ensures.items (ap (map bar_shown) c.new-2.ensures.items) c.new-3.ensures.items c.new-4.ensures.items (ap (map era_shown) c.new-5.ensures.items))
           ∙ ap (λ w. marks_then o blank w 0 0 (events_shown c.into_iter-event-iterator.result)) c.in_ok-replay.ensures.world
           ∙ ap (λ es. marks_then o blank (opened_world c.args.run.now.processes o.object.initial c.args.run.now.first) 0 0 (events_shown es)) all;
     }

@@ -18,8 +18,7 @@ replay-requires-clause-history g c =
 pub returns-in-Ok-Some-Replay-clause-asked : goal.returns-in-Ok-Some-Replay-clause-asked
 returns-in-Ok-Some-Replay-clause-asked g c = λ r asks.
     let asked : asked_of (map g.S.AsStr.text c.args.words.now) ≡ Some (Replay c.in-Ok-Some-Replay.options) = search rules in
-    let run = c.replay.ensures in
-    run_of_asked _ (Replay c.in-Ok-Some-Replay.options) r asked asks.1 _ _ _ _ _ _ (record { replayed = run.replayed; bad = run.bad; read = run.read; part = run.part })
+    run_of_asked _ (Replay c.in-Ok-Some-Replay.options) r asked asks.1 _ _ _ _ _ _ c.replay.ensures.run
 
 pub returns-in-Ok-Some-Replay-clause-told : goal.returns-in-Ok-Some-Replay-clause-told
 returns-in-Ok-Some-Replay-clause-told g c = λ r asks some.
@@ -46,8 +45,7 @@ replay_explained-requires-clause-history g c =
 pub returns-in-Ok-Some-Explained-clause-asked : goal.returns-in-Ok-Some-Explained-clause-asked
 returns-in-Ok-Some-Explained-clause-asked g c = λ r asks.
     let asked : asked_of (map g.S.AsStr.text c.args.words.now) ≡ Some (Explained c.in-Ok-Some-Explained.options) = search rules in
-    let run = c.replay_explained.ensures in
-    run_of_asked _ (Explained c.in-Ok-Some-Explained.options) r asked asks.1 _ _ _ _ _ _ (record { replayed = run.replayed; bad = run.bad; read = run.read; part = run.part })
+    run_of_asked _ (Explained c.in-Ok-Some-Explained.options) r asked asks.1 _ _ _ _ _ _ c.replay_explained.ensures.run
 
 pub returns-in-Ok-Some-Explained-clause-told : goal.returns-in-Ok-Some-Explained-clause-told
 returns-in-Ok-Some-Explained-clause-told g c = λ r asks some.

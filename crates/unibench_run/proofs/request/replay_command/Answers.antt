@@ -7,9 +7,11 @@ use Rattle.unibench_run.proofs.request.replay_command.Goals as goal
 pub returns-clause-app : goal.returns-clause-app
 returns-clause-app c =
     let one = c.in_ok-arg.ensures.shape (c.in_range-history.ensures.local ∙ c.option-history.ensures.local) ∙ ap₂ with_rule c.described.ensures.app (c.in_range-history.ensures.rule ∙ ap (λ r. in_range r 1 16777216) c.option-history.ensures.rule) in
-    IfOk-weaker c.arg-2.result _ _ (λ command added. added.shape c.flag.ensures.local ∙ ap₂ with_rule one c.flag.ensures.rule) c.arg-2.ensures
+    let two = c.in_ok-arg-2.ensures.shape c.flag.ensures.local ∙ ap₂ with_rule one c.flag.ensures.rule in
+    IfOk-weaker c.arg-3.result _ _ (λ command added. added.shape c.flag-2.ensures.local ∙ ap₂ with_rule two c.flag-2.ensures.rule) c.arg-3.ensures
 
 pub returns-clause-local : goal.returns-clause-local
 returns-clause-local c =
     let one = c.in_ok-arg.ensures.globals ∙ ap₂ ◌||◌ c.described.ensures.local (c.in_range-history.ensures.local ∙ c.option-history.ensures.local) in
-    IfOk-weaker c.arg-2.result _ _ (λ command added. added.globals ∙ ap₂ ◌||◌ one c.flag.ensures.local) c.arg-2.ensures
+    let two = c.in_ok-arg-2.ensures.globals ∙ ap₂ ◌||◌ one c.flag.ensures.local in
+    IfOk-weaker c.arg-3.result _ _ (λ command added. added.globals ∙ ap₂ ◌||◌ two c.flag-2.ensures.local) c.arg-3.ensures
