@@ -18,5 +18,5 @@ pub use name::Name;
 pub use number::{Amount, push_number};
 pub use place::Place;
 pub use queue::{QueueInv, QueueObject, QueueResp, QueueState};
-pub use spoken::Spoken;
+pub use spoken::{Spoken, is_text};
 pub use sticky::{StickyInv, StickyObject, StickyResp, StickyState, proposals_agree};

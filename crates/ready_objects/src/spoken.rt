@@ -75,7 +75,7 @@ pub trait Spoken: SeqObject {
 }
 
 /// Tells whether a word is this text.
-pub(crate) fn is_text(word: &[u8], text: &str) -> bool
+pub fn is_text(word: &[u8], text: &str) -> bool
     ensures { result ≡ bytes_eq word.now text.now }
 {
     word == text.as_bytes()

@@ -1,9 +1,10 @@
 //! What is wrong with a line, and where.
 
-use crate::forms::{Field, Form, Object};
+use crate::forms::{Field, Form};
 use crate::words::{Word, fits, has_leading_zero, words_of};
 use std::alloc::{AllocError, Global};
 use strsim::jaro;
+use uni_script::{ObjectName, is_note, object_of};
 
 /// Why a line is bad.
 #[derive(Clone, Copy)]
@@ -39,7 +40,7 @@ pub enum Cause {
     /// No command of version 2 has its name, nor is one near.
     NoNewerCommand,
     /// The object has no such call.
-    NoCall(Object),
+    NoCall(ObjectName),
     /// It lacks a word of this form.
     Missing(Form),
     /// It has a word more than this form.
@@ -85,7 +86,7 @@ fn on(cause: Cause, word: &Word<'_>) -> Option<Advice> {
 #[derive(Clone, Copy)]
 struct Language {
     is_newer: bool,
-    object: Object,
+    object: ObjectName,
 }
 
 /// What a header says; `None` where it is none.
@@ -93,7 +94,7 @@ fn language_of(words: &[Word<'_>]) -> Option<Language> {
     match words {
         [_, version, object, ..] => Some(Language {
             is_newer: version.bytes == b"2".as_slice(),
-            object: Object::named(object.bytes)?,
+            object: object_of(object.bytes)?,
         }),
         _ => None,
     }
@@ -178,7 +179,7 @@ fn bad_header(words: &[Word<'_>], length: usize) -> Option<Advice> {
 }
 
 /// What is wrong with the words after `call`, on an object; `None` where nothing is.
-fn bad_call(object: Object, words: &[Word<'_>], length: usize) -> Option<Advice> {
+fn bad_call(object: ObjectName, words: &[Word<'_>], length: usize) -> Option<Advice> {
     let [_, name, rest @ ..] = words else {
         return bad_field(Form::Call, words, length);
     };
@@ -286,12 +287,4 @@ pub fn advice_on(
         return Ok(None);
     }
     bad_words(alloc, header, words_of(alloc, line)?.as_slice(), line.len())
-}
-
-/// Whether a line is a note: it is empty or begins with `#`.
-pub(crate) fn is_note(line: &[u8]) -> bool {
-    match line {
-        [] => true,
-        [first, ..] => *first == b'#',
-    }
 }

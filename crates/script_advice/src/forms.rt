@@ -1,38 +1,14 @@
 //! The lines that a script can have, and what their words may be.
 
-/// An object that a script can share.
-#[derive(Clone, Copy)]
-pub enum Object {
-    /// A queue.
-    Queue,
-    /// A directory.
-    Directory,
-    /// A book of accounts.
-    Book,
-    /// A sticky register.
-    Sticky,
-}
+use uni_script::ObjectName;
 
-impl Object {
-    /// The object that a word names; `None` where it names none.
-    pub(crate) fn named(word: &[u8]) -> Option<Object> {
-        match word {
-            b"queue" => Some(Object::Queue),
-            b"directory" => Some(Object::Directory),
-            b"book" => Some(Object::Book),
-            b"sticky" => Some(Object::Sticky),
-            _ => None,
-        }
-    }
-
-    /// What it is, and the calls that it has.
-    pub(crate) fn calls(self) -> &'static str {
-        match self {
-            Object::Queue => "a queue has enq V, deq",
-            Object::Directory => "a directory has put NAME V, get NAME, del NAME, size, at I",
-            Object::Book => "a book has deposit A V, withdraw A V, move A B V, total",
-            Object::Sticky => "a sticky register has stick V, read",
-        }
+/// What an object is, and the calls that it has.
+pub(crate) fn calls_of(object: ObjectName) -> &'static str {
+    match object {
+        ObjectName::Queue => "a queue has enq V, deq",
+        ObjectName::Directory => "a directory has put NAME V, get NAME, del NAME, size, at I",
+        ObjectName::Book => "a book has deposit A V, withdraw A V, move A B V, total",
+        ObjectName::Sticky => "a sticky register has stick V, read",
     }
 }
 
@@ -164,21 +140,21 @@ impl Form {
     }
 
     /// The form of a call of an object; `None` where it has no such call.
-    pub(crate) fn call(object: Object, name: &[u8]) -> Option<Form> {
+    pub(crate) fn call(object: ObjectName, name: &[u8]) -> Option<Form> {
         match (object, name) {
-            (Object::Queue, b"enq") => Some(Form::Enq),
-            (Object::Queue, b"deq") => Some(Form::Deq),
-            (Object::Directory, b"put") => Some(Form::Put),
-            (Object::Directory, b"get") => Some(Form::Get),
-            (Object::Directory, b"del") => Some(Form::Del),
-            (Object::Directory, b"size") => Some(Form::Size),
-            (Object::Directory, b"at") => Some(Form::At),
-            (Object::Book, b"deposit") => Some(Form::Deposit),
-            (Object::Book, b"withdraw") => Some(Form::Withdraw),
-            (Object::Book, b"move") => Some(Form::Move),
-            (Object::Book, b"total") => Some(Form::Total),
-            (Object::Sticky, b"stick") => Some(Form::Stick),
-            (Object::Sticky, b"read") => Some(Form::Read),
+            (ObjectName::Queue, b"enq") => Some(Form::Enq),
+            (ObjectName::Queue, b"deq") => Some(Form::Deq),
+            (ObjectName::Directory, b"put") => Some(Form::Put),
+            (ObjectName::Directory, b"get") => Some(Form::Get),
+            (ObjectName::Directory, b"del") => Some(Form::Del),
+            (ObjectName::Directory, b"size") => Some(Form::Size),
+            (ObjectName::Directory, b"at") => Some(Form::At),
+            (ObjectName::Book, b"deposit") => Some(Form::Deposit),
+            (ObjectName::Book, b"withdraw") => Some(Form::Withdraw),
+            (ObjectName::Book, b"move") => Some(Form::Move),
+            (ObjectName::Book, b"total") => Some(Form::Total),
+            (ObjectName::Sticky, b"stick") => Some(Form::Stick),
+            (ObjectName::Sticky, b"read") => Some(Form::Read),
             _ => None,
         }
     }

@@ -9,5 +9,5 @@ mod reasons;
 mod words;
 
 pub use advice::{Advice, Cause, Place, advice_on};
-pub use forms::{Field, Form, Object};
+pub use forms::{Field, Form};
 pub use reasons::explanation;

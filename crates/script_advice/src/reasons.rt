@@ -1,10 +1,11 @@
 //! The text of an explanation.
 
-use crate::advice::{Advice, Cause, Place, advice_on, is_note};
-use crate::forms::{Field, Form};
+use crate::advice::{Advice, Cause, Place, advice_on};
+use crate::forms::{Field, Form, calls_of};
 use std::alloc::{AllocError, Global};
 use std::fmt;
 use std::io::Write;
+use uni_script::is_note;
 
 /// What a word of a field is.
 #[derive(Drop)]
@@ -57,7 +58,7 @@ impl fmt::Display for Cause {
                 "unknown command: there are call, step, finish, trim, log, heads and reshape"
             ),
             Cause::NoCall(object) => {
-                let calls = object.calls();
+                let calls = calls_of(*object);
                 write!(f, "unknown call: {calls}")
             }
             Cause::Missing(form) => {

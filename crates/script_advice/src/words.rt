@@ -1,7 +1,9 @@
 //! The words of a line, and what one may be.
 
-use crate::forms::{Field, Object};
+use crate::forms::Field;
+use ready_objects::{Amount, Name};
 use std::alloc::{AllocError, Global};
+use uni_script::object_of;
 
 /// A word of a line.
 #[derive(Clone, Copy)]
@@ -33,31 +35,17 @@ pub(crate) fn has_leading_zero(word: &[u8]) -> bool {
     }
 }
 
-/// The number of 1 to 12 digits that a word writes; `None` where it writes none.
-fn number_of(word: &[u8]) -> Option<u64> {
-    if word.len() > 12 || !word.iter().all(|byte| byte.is_ascii_digit()) {
-        return None;
-    }
-    str::from_utf8(word).ok()?.parse().ok()
-}
-
-/// Whether a word is a name: 1 to 16 bytes from `a` to `z` and `0` to `9`.
-fn is_name(word: &[u8]) -> bool {
-    (1..=16).contains(&word.len())
-        && word
-            .iter()
-            .all(|byte| byte.is_ascii_lowercase() || byte.is_ascii_digit())
-}
-
 /// Whether a word can stand in a field.
 pub(crate) fn fits(field: Field, word: &[u8]) -> bool {
     match field {
         Field::Version => matches!(word, b"1" | b"2"),
-        Field::Object => Object::named(word).is_some(),
-        Field::Name => is_name(word),
+        Field::Object => object_of(word).is_some(),
+        Field::Name => Name::read(word).is_some(),
         Field::Words => true,
-        _ => match (field.range(), number_of(word)) {
-            (Some((least, most)), Some(number)) => least <= number && number <= most,
+        _ => match (field.range(), Amount::read(word)) {
+            (Some((least, most)), Some(number)) => {
+                least <= number.number() && number.number() <= most
+            }
             _ => false,
         },
     }

@@ -1,12 +1,14 @@
-//! A stack of numbers, as an example of an object of your own.
+//! A stack of numbers, as an example of an object of your own. That it is `Spoken` is for scripts and pictures alone.
 #![tactic(auto)]
 
-ghost use Rattle.std.specs.Prelude.{◌≡◌, refl};
+ghost use Rattle.std.specs.Prelude.{◌≡◌, ◌^◌, refl};
 ghost use Rattle.seq_object.proofs.Cases.{exact_by_cases, other, itself_one, only_one};
 ghost use Rattle.stack.specs.declared.StackInv.TheVariants.{Push, Pop};
 ghost use Rattle.stack.specs.declared.StackResp.TheVariants.{Pushed, Popped, Empty};
-ghost use Rattle.stack.specs.Stack.{stack};
+ghost use Rattle.ready_objects.specs.Number.{number_below};
+ghost use Rattle.stack.specs.Stack.{stack, stack_language, stack_text};
 
+use ready_objects::{Amount, Spoken, is_text, push_number};
 use seq_object::SeqObject;
 use std::alloc::{AllocError, Global};
 use std::marker::Model;
@@ -98,4 +100,63 @@ impl SeqObject for Stack {
       | Popped a ↦ (itself_one a, elim [ Popped x ↦ only_one Popped a x | _ ↦ other ])
       | Empty ↦ (refl, elim [ Empty ↦ λ e. refl | _ ↦ other ])
     ]) };
+}
+
+impl Spoken for Stack {
+    ghost language = { stack_language };
+
+    ghost state_text = { stack_text };
+
+    fn read_inv(words: &[&[u8]]) -> Option<StackInv> {
+        match words {
+            [name] if is_text(name, "pop") => Some(StackInv::Pop),
+            [name, value] if is_text(name, "push") => Some(StackInv::Push(value_of(value)?)),
+            _ => None,
+        }
+    }
+
+    fn push_inv(text: &mut Vec<u8>, inv: &StackInv) -> Result<(), AllocError> {
+        match inv {
+            StackInv::Push(value) => {
+                text.extend_from_slice(b"push ")?;
+                push_number(text, u64::from(*value))
+            }
+            StackInv::Pop => text.extend_from_slice(b"pop"),
+        }
+    }
+
+    fn push_resp(text: &mut Vec<u8>, resp: StackResp) -> Result<(), AllocError> {
+        match resp {
+            StackResp::Pushed => text.extend_from_slice(b"pushed"),
+            StackResp::Popped(value) => push_number(text, u64::from(value)),
+            StackResp::Empty => text.extend_from_slice(b"empty"),
+        }
+    }
+
+    fn push_state(text: &mut Vec<u8>, state: &StackState) -> Result<(), AllocError> {
+        match state.values.last() {
+            Some(value) => push_number(text, u64::from(*value)),
+            None => text.extend_from_slice(b"empty"),
+        }
+    }
+
+    fn drawn(word: u64) -> StackInv {
+        match word % 2 {
+            0 => StackInv::Pop,
+            _ => StackInv::Push((word / 2 % 1000) as u32),
+        }
+    }
+
+    fn reads_back(inv: &StackInv) {
+        if let StackInv::Push(value) = inv {
+            let _ = u64::from(*value);
+        }
+    }
+}
+
+/// The number below 2^32 that a word writes; `None` where it writes none.
+fn value_of(word: &[u8]) -> Option<u32>
+    ensures { result ≡ number_below (2 ^ 32) word.now }
+{
+    u32::try_from(Amount::read(word)?.number()).ok()
 }

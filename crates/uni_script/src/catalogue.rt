@@ -14,12 +14,12 @@ ghost use Rattle.uni_script.specs.Outcome.{Kind};
 use crate::driver::run_object;
 use crate::ends::{TextIn, TextOut};
 use crate::fault::BenchFault;
-use crate::grammar::{Header, ObjectName, is_text, object_of};
+use crate::grammar::{Header, ObjectName, object_of};
 use crate::lines::Lines;
 use crate::options::Options;
 use crate::script_run::{Ran, ScriptRecord};
 use crate::told::Listener;
-use ready_objects::{BookObject, DirectoryObject, QueueObject, Spoken, StickyObject};
+use ready_objects::{BookObject, DirectoryObject, QueueObject, Spoken, StickyObject, is_text};
 use std::alloc::Global;
 use uni_record::Recorded;
 

@@ -2,14 +2,13 @@
 
 ghost use Rattle.std.specs.Prelude.{◌≡◌, [], IfOk, IfSome, Some};
 ghost use Rattle.std.specs.List.{list_all};
-ghost use Rattle.std.specs.Str.{bytes_eq};
 ghost use Rattle.ready_objects.specs.Number.{number_of_word};
 ghost use Rattle.ready_objects.specs.Words.{bytes_of, words_of_text};
 ghost use Rattle.uni_script.specs.Grammar.{is_plain_byte, is_note, version_of_word, object_of_word, most_processes, header_with, IsInRange, header_by, header_of_words, count_of_number, reshape_of, command_of_name, command_of_number, command_of_words};
 ghost use Rattle.uni_script.specs.Schedules.{word_of_object};
 
 use crate::catalogue::{Catalogue, Ready};
-use ready_objects::{Amount, Spoken};
+use ready_objects::{Amount, Spoken, is_text};
 use std::alloc::{AllocError, Global};
 use std::fmt;
 
@@ -298,11 +297,4 @@ fn number_of(word: &[u8]) -> Option<u64>
     ensures { result ≡ number_of_word word.now }
 {
     Some(Amount::read(word)?.number())
-}
-
-/// Tells whether a word is this text.
-pub(crate) fn is_text(word: &[u8], text: &str) -> bool
-    ensures { result ≡ bytes_eq word.now text.now }
-{
-    word == text.as_bytes()
 }

@@ -1,0 +1,48 @@
+//! A script over a stack, replayed and drawn: what `unibench replay --echo` and `unidraw --text` do over the objects that
+//! have names. Process 1 announces a push and stops; process 0 makes a call of its own, and does the other one's on the
+//! way.
+#![tactic(auto)]
+
+ghost use Rattle.std.specs.Prelude.{◌≡◌, false};
+
+use run_lines::lines_of_object;
+use stack::Stack;
+use std::alloc::Global;
+use std::process::ExitCode;
+use uni_script::{Checked, Echo, Options, TextOut, bench_object, write_all};
+
+/// The script. Its header names the object by a word that this program chooses.
+const SCRIPT: &[u8] = b"\
+# process 0 helps process 1
+universal 2 stack 2 8
+call 1 push 5
+step 1
+call 0 pop
+finish 0
+log
+";
+
+/// Writes what the script answers, each line of it before its answers, and then its run as lines.
+///
+/// `None` where the script has a fault, the output failed or memory was refused.
+fn show<W: TextOut>(alloc: Global, output: &mut W) -> Option<()>
+    requires { W.has_failed output.old ≡ false }
+{
+    let options = Options {
+        history: 1000,
+        echo: Echo::On,
+    };
+    let mut script = Checked::new(SCRIPT);
+    bench_object(alloc, Stack, "stack", &mut script, output, &options).ok()?;
+    let lines = lines_of_object(alloc, Stack, "stack", &mut Checked::new(SCRIPT)).ok()?;
+    write_all(output, lines.as_slice()).ok()
+}
+
+fn main(rt: HostRuntime) -> ExitCode {
+    let alloc = rt.alloc();
+    let mut output = Checked::new(rt.stdout());
+    match show(alloc, &mut output) {
+        Some(()) => ExitCode::from(0),
+        None => ExitCode::from(1),
+    }
+}
