@@ -1,6 +1,6 @@
-//! A script over a stack, replayed and drawn: what `unibench replay --echo` and `unidraw --text` do over the objects that
-//! have names. Process 1 announces a push and stops; process 0 makes a call of its own, and does the other one's on the
-//! way.
+//! A script over a stack, replayed and drawn: what `unibench replay --echo` and `unidraw --text` do over the objects
+//! that have names. Process 1 announces a push and stops; process 0 makes a call of its own, and does the other one's
+//! on the way.
 #![tactic(auto)]
 
 ghost use Rattle.std.specs.Prelude.{◌≡◌, false};

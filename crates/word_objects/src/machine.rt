@@ -5,6 +5,7 @@ ghost use Rattle.word_objects.specs.Machine.{machine, machine_fault};
 ghost use Rattle.word_objects.specs.Tables.{AreSound};
 
 use std::marker::Model;
+use thiserror::Error;
 use uni_words::WordObject;
 
 /// The greatest number of states of a machine.
@@ -14,19 +15,25 @@ const MOST_STATES: u32 = 2_147_483_648;
 const REPLY_END: u32 = 2_147_483_648;
 
 /// What is wrong with the tables of a machine.
-#[derive(Clone, Copy, Debug, PartialEq, Eq, Drop)]
+#[derive(Clone, Copy, Debug, PartialEq, Eq, Drop, Error)]
 pub enum MachineFault {
     /// The number of states isn't from 1 to 2^31.
+    #[error("the number of states isn't from 1 to 2^31")]
     BadStates,
     /// There is no invocation.
+    #[error("there is no invocation")]
     NoInvocation,
     /// The table of next states doesn't have an entry for each state and invocation, or has more.
+    #[error("the table of next states hasn't an entry for each state and invocation")]
     NextSize,
     /// The table of replies doesn't have an entry for each state and invocation, or has more.
+    #[error("the table of replies hasn't an entry for each state and invocation")]
     ReplySize,
     /// The entry at this index of the table of next states, the first such one, isn't a state.
+    #[error("entry {0} of the table of next states is no state")]
     NextOutside(usize),
     /// The entry at this index of the table of replies, the first such one, isn't below 2^31.
+    #[error("entry {0} of the table of replies isn't below 2^31")]
     ReplyOutside(usize),
 }
 
