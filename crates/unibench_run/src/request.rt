@@ -514,7 +514,7 @@ fn replay_in(matches: &ArgMatches<'_>) -> Option<Request>
 fn subject_named(name: &str) -> Option<Option<ObjectName>>
     ensures { result ≡ option_map Some (object_of_word name.now) }
 {
-    match shared_named(name) {
+    match object_of(name.as_bytes()) {
         Some(object) => Some(Some(object)),
         None => None,
     }

@@ -21,7 +21,7 @@ loop-event-init g c =
       place = (let len = ap length all in omega (arith, len));
       marks =
           ap (λ m. marks_then o m (world_of c.in_ok-replay.replay) 0 0 (events_shown c.into_iter-event-iterator.result))
-          (marks_are _ blank c.in_ok-object.ensures (c.len.ensures.value ∙ ap length c.events.ensures ∙ sym (length-map c.args.run.now.events event_shown)) c.new.ensures.items (ap (map bar_shown) c.new-2.ensures.items) c.new-3.ensures.items c.new-4.ensures.items (ap (map era_shown) c.new-5.ensures.items))
+          (marks_are _ blank (c.in_ok-object.ensures.items_if_clones_equal (λ x y e. e) ∙ c.as_bytes.ensures.value) (c.len.ensures.value ∙ ap length c.events.ensures ∙ sym (length-map c.args.run.now.events event_shown)) c.new.ensures.items (ap (map bar_shown) c.new-2.ensures.items) c.new-3.ensures.items c.new-4.ensures.items (ap (map era_shown) c.new-5.ensures.items))
           ∙ ap (λ w. marks_then o blank w 0 0 (events_shown c.into_iter-event-iterator.result)) c.in_ok-replay.ensures.world
           ∙ ap (λ es. marks_then o blank (opened_world c.args.run.now.processes o.object.initial c.args.run.now.first) 0 0 (events_shown es)) all;
     }

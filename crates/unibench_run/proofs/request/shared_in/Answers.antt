@@ -13,4 +13,4 @@ returns-in_err-get_str c =
 pub returns : goal.returns
 returns c =
     let some : c.get_str.result ≡ Some c.in_ok-get_str.field-0 = search rules in
-    c.shared_named.ensures ∙ sym (value_of-text object_of_word (found_of c.args.matches.now) (codes "object") c.get_str.result c.get_str.ensures ∙ ap (λ o. option_and_then object_of_word (option_map (λ s. s.now) o)) some)
+    c.object_of.ensures ∙ ap object_of_word c.as_bytes.ensures.value ∙ sym (value_of-text object_of_word (found_of c.args.matches.now) (codes "object") c.get_str.result c.get_str.ensures ∙ ap (λ o. option_and_then object_of_word (option_map (λ s. s.now) o)) some)
