@@ -12,6 +12,7 @@ use Rattle.uni_script.specs.Meaning.{Session}
 use Rattle.uni_script.specs.ScriptRun.{session_of_record, IsScriptRun, HasRunWhole, IsOwnRunOf}
 use Rattle.uni_script.specs.declared.options.Echo.TheVariants.{Off}
 use Rattle.uni_script.specs.Scripts.{ScriptSession, own_scripts_of}
+use Rattle.uni_script.specs.declared.told.Told.{Told}
 use Rattle.uni_script.specs.Told.{told_shown}
 use Rattle.run_marks.specs.Shown.{marks_shown}
 use Rattle.run_layout.specs.declared.subject.Subject.{Subject}
@@ -79,9 +80,9 @@ module _ {O S I R : Type 0} (o : SpokenObject S I R) (name : List ℕ) (left : O
   abbrev stored : List (Event I)
   stored = events_shown run.record.events
 
-  pub own_subject : (marks : RunMarks) → length stored ≤ 2000 → marks ≡ marks_of_events o name run.record.processes run.record.first stored
-      → IsSubjectOf (own_scripts_of o name 1048576) (marks_of_own o name) left marks run.told.items
-  own_subject marks few same =
+  pub own_subject : (marks : RunMarks) (told : List Told) → told ≡ run.told.items → length stored ≤ 2000 → marks ≡ marks_of_events o name run.record.processes run.record.first stored
+      → IsSubjectOf (own_scripts_of o name 1048576) (marks_of_own o name) left marks told
+  own_subject marks told same_told few same =
       let of = is.3.2 in record {
         script = is.0;
         input = is.1;
@@ -90,7 +91,7 @@ module _ {O S I R : Type 0} (o : SpokenObject S I R) (name : List ℕ) (left : O
         session_is = is.3.1;
         few = subst (λ (s : Session S I R). length s.events ≤ 2000) (sym of.session) few;
         marks_are = same ∙ ap (λ (s : Session S I R). marks_of_events o name s.processes s.first s.events) (sym of.session);
-        told_is = of.told_is;
+        told_is = of.told_is ∙ ap (map told_shown) (sym same_told);
       }
 
   pub own_few : (marks : RunMarks) → length stored ≤ 2000 → marks ≡ marks_of_events o name run.record.processes run.record.first stored → marks.events ≤ 2000

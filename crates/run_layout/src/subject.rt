@@ -90,7 +90,12 @@ fn marks_of_record(alloc: Global, stored: &ScriptRecord) -> Result<Marks, Pictur
             marks_of_events(alloc, ObjectName::Queue.word(), QueueObject, recorded)
         }
         ScriptRecord::Directory(recorded) => {
-            marks_of_events(alloc, ObjectName::Directory.word(), DirectoryObject, recorded)
+            marks_of_events(
+                alloc,
+                ObjectName::Directory.word(),
+                DirectoryObject,
+                recorded,
+            )
         }
         ScriptRecord::Book(recorded) => {
             marks_of_events(alloc, ObjectName::Book.word(), BookObject, recorded)
@@ -162,13 +167,29 @@ pub fn subject_of_object<O: Spoken + Copy, I: TextIn>(
         echo: Echo::Off,
     };
     match run_of_object(alloc, object, name, reader, &options) {
-        Ok(run) => {
-            let marks = marks_of_events(alloc, name, object, &run.record)?;
-            Ok(Subject {
-                marks,
-                told: run.told,
-            })
-        }
+        Ok(run) => subject_of_own_run(alloc, object, name, run),
         Err(fault) => Err(PictureFault::Script(fault)),
     }
+}
+
+/// What a picture shows of the run of a script over an object; `object` is a further value of it.
+///
+/// Errors: `TooManyEvents` where it has more than 2,000; else the want of memory.
+fn subject_of_own_run<O: Spoken>(
+    alloc: Global,
+    object: O,
+    name: &str,
+    run: ScriptRun<Recorded<O>>,
+) -> Result<Subject, PictureFault>
+    ensures few { OnOk result (length (events_shown run.record.events) ≤ 2000) }
+    ensures marks { IfOk result (λ subject. marks_shown subject.marks ≡ marks_of_events (record { object = O.sequential object; language = O.language }) name.now run.record.processes run.record.first (events_shown run.record.events)) }
+    ensures told { IfOk result (λ subject. subject.told.items ≡ run.told.items) }
+    ensures many { IsErrOf result PictureFault.TooManyEvents → 2000 < length (events_shown run.record.events) }
+    ensures memory { (e : Fault) → IsErrOf result (PictureFault.Script e) → e ≡ Fault.Memory }
+{
+    let marks = marks_of_events(alloc, name, object, &run.record)?;
+    Ok(Subject {
+        marks,
+        told: run.told,
+    })
 }
