@@ -7,7 +7,7 @@ use Rattle.seq_object.specs.Sequential.{Sequential}
 use Rattle.ready_objects.specs.Spoken.{Language}
 use Rattle.ready_objects.specs.Name.{name_of_word, drawn_name}
 use Rattle.ready_objects.specs.Number.{number_of_word, number_below}
-use Rattle.ready_objects.specs.Words.{words_of_text}
+use Rattle.ready_objects.specs.Words.{spaced_from, words_of_text}
 use Rattle.ready_objects.specs.declared.directory.DirectoryInv.{DirectoryInv}
 use Rattle.ready_objects.specs.declared.directory.DirectoryInv.TheVariants.{Put, Get, Del, Size, At}
 use Rattle.ready_objects.specs.declared.directory.DirectoryResp.{DirectoryResp}
@@ -96,6 +96,14 @@ directory_inv_of_word word =
     else if nat_lt r 5 then Get name
     else if r == 5 then Del name
     else if r == 6 then Size else At (word / 8 % 10)
+
+-- the text of a pair: its name, a colon and its value
+abbrev pub pair_text : List ℕ × ℕ → List ℕ
+pair_text pair = pair.0 ++ codes ":" ++ decimal pair.1
+
+-- the text of a state: its pairs, as `{a:1 b:2}`
+abbrev pub pairs_text : Pairs → List ℕ
+pairs_text pairs = codes "{" ++ spaced_from pair_text 0 pairs ++ codes "}"
 
 -- its words
 abbrev pub directory_language : Language DirectoryInv DirectoryResp
@@ -260,3 +268,10 @@ sizes_of_255_and_256_names = refl
 
 a_full_directory_keeps_256_names : length (directory_next (replicate 256 (codes "b", 1)) (Put (codes "b") 2)) ≡ 256
 a_full_directory_keeps_256_names = refl
+
+text_of_two_pairs : pairs_text ((codes "a", 1) ∷ (codes "b", 20) ∷ []) ≡ codes "{a:1 b:20}"
+unfolding digits
+text_of_two_pairs = refl
+
+text_of_no_pair : pairs_text [] ≡ codes "{}"
+text_of_no_pair = refl

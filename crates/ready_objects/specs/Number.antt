@@ -1,8 +1,10 @@
 -- The words that stand for numbers.
-use Rattle.std.specs.Prelude.{◌≡◌, ℕ, ◌==◌, nat_lt, nat_le, not, ◌&&◌, ◌||◌, if◌then◌else◌, Bool, List, [], ◌∷◌, length, map, slice_index, Option, Some, None, option_and_then, codes, refl}
+use Rattle.std.specs.Prelude.{◌≡◌, ℕ, ◌==◌, nat_lt, nat_le, not, ◌&&◌, ◌||◌, if◌then◌else◌, Bool, List, [], ◌∷◌, ◌++◌, length, map, slice_index, Option, Some, None, option_and_then, codes, refl}
 use Rattle.std.specs.Char.{is_ascii_digit}
+use Rattle.std.specs.Fmt.{decimal, digits}
 use Rattle.std.specs.List.{list_all}
 use Rattle.std.specs.Str.Parse.{digits_value}
+use Rattle.ready_objects.specs.Words.{spaced_from}
 
 -- 1 to 12 decimal digits, without a leading zero unless the word is `0`
 abbrev pub is_number : List ℕ → Bool
@@ -16,6 +18,10 @@ number_of_word word = if is_number word then Some (digits_value 10 word) else No
 -- the number below a limit that a word stands for
 unfoldable pub number_below : ℕ → List ℕ → Option ℕ
 number_below limit word = option_and_then (λ n. if nat_lt n limit then Some n else None) (number_of_word word)
+
+-- the text of a list of numbers, as `[3 5]`
+abbrev pub numbers_text : List ℕ → List ℕ
+numbers_text numbers = codes "[" ++ spaced_from decimal 0 numbers ++ codes "]"
 
 zero_is_a_number : number_of_word (codes "0") ≡ Some 0
 unfolding number_of_word
@@ -94,3 +100,10 @@ numbers_far_past_16_are_not_below_it = refl
 a_leading_zero_is_not_below_16 : map (number_below 16) (codes "015" ∷ codes "00" ∷ []) ≡ None ∷ None ∷ []
 unfolding number_below number_of_word
 a_leading_zero_is_not_below_16 = refl
+
+text_of_two_numbers : numbers_text (3 ∷ 50 ∷ []) ≡ codes "[3 50]"
+unfolding digits
+text_of_two_numbers = refl
+
+text_of_no_number : numbers_text [] ≡ codes "[]"
+text_of_no_number = refl

@@ -44,6 +44,11 @@ abbrev pub sticky_resp_text : StickyResp → List ℕ
 sticky_resp_text (Settled v) = decimal v
 sticky_resp_text Unset = codes "unset"
 
+-- the text of a state: its value, or that there is none
+abbrev pub sticky_text : Option ℕ → List ℕ
+sticky_text (Some v) = decimal v
+sticky_text None = codes "none"
+
 -- what a drawn word stands for
 abbrev pub sticky_inv_of_word : ℕ → StickyInv
 sticky_inv_of_word word = if word % 2 == 0 then Read else Stick (word / 2 % 1000)
@@ -98,6 +103,10 @@ words_of_read = refl
 texts_of_responses : map sticky_resp_text (Settled 7 ∷ Unset ∷ []) ≡ codes "7" ∷ codes "unset" ∷ []
 unfolding digits
 texts_of_responses = refl
+
+texts_of_states : map sticky_text (Some 5 ∷ None ∷ []) ≡ codes "5" ∷ codes "none" ∷ []
+unfolding digits
+texts_of_states = refl
 
 value_999999999999_is_taken : sticky_inv_of_words (words_of_text (codes "stick 999999999999")) ≡ Some (Stick 999999999999)
 unfolding number_of_word

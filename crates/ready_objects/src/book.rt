@@ -4,13 +4,14 @@ ghost use Rattle.std.specs.Prelude.{◌≡◌, ℕ, ◌+◌, ◌≤◌, List, []
 ghost use Rattle.ready_objects.specs.declared.book.BookInv.TheVariants.{Deposit, Withdraw, Move, Total};
 ghost use Rattle.ready_objects.specs.declared.book.BookResp.TheVariants.{Balance, Over, Short, Moved, Sum};
 ghost use Rattle.seq_object.proofs.Cases.{exact_by_cases, other, itself_one, only_one, itself_two, only_two, itself_three, only_three};
+ghost use Rattle.ready_objects.specs.Number.{numbers_text};
 ghost use Rattle.ready_objects.specs.Book.{book, book_start, book_next, book_answer, book_inv_of_words, book_language, HasAccounts, added_by, taken_by, total_added, total_taken};
 ghost use Rattle.std.specs.List.{All};
 ghost use Rattle.seq_object.specs.History.{state_after};
 ghost use Rattle.ready_objects.specs.declared.book.BookInv.{BookInv};
 
 use crate::account::Account;
-use crate::number::{Amount, push_number, push_with_number};
+use crate::number::{Amount, push_number, push_numbers, push_with_number};
 use crate::spoken::{Spoken, is_text};
 use seq_object::SeqObject;
 use std::alloc::{AllocError, Global};
@@ -165,6 +166,8 @@ impl SeqObject for BookObject {
 impl Spoken for BookObject {
     ghost language = { book_language };
 
+    ghost state_text = { numbers_text };
+
     fn read_inv(words: &[&[u8]]) -> Option<BookInv> {
         match words {
             [name] if is_text(name, "total") => Some(BookInv::Total),
@@ -198,6 +201,10 @@ impl Spoken for BookObject {
             BookResp::Moved => text.extend_from_slice(b"moved"),
             BookResp::Sum(total) => push_number(text, total),
         }
+    }
+
+    fn push_state(text: &mut Vec<u8>, state: &BookState) -> Result<(), AllocError> {
+        push_numbers(text, &state.balances)
     }
 
     fn drawn(word: u64) -> BookInv {

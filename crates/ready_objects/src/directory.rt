@@ -6,15 +6,15 @@ ghost use Rattle.std.specs.List.{IsDistinct};
 ghost use Rattle.std.specs.Map.{set_value};
 ghost use Rattle.std.specs.Str.{bytes_eq};
 ghost use Rattle.seq_object.proofs.Cases.{exact_by_cases, other, itself_one, only_one, itself_text, only_text, itself_named, only_named};
-ghost use Rattle.ready_objects.specs.SharedNames.{AddsName};
+ghost use Rattle.ready_objects.specs.SharedNames.{AddsName, named};
 ghost use Rattle.ready_objects.specs.declared.directory.DirectoryInv.TheVariants.{Put, Get, Del, Size, At};
 ghost use Rattle.ready_objects.specs.declared.directory.DirectoryResp.TheVariants.{Was, New, Full, Found, Absent, Count};
-ghost use Rattle.ready_objects.specs.Directory.{value_of, directory_next, directory, directory_answer, directory_inv_of_words, directory_language};
+ghost use Rattle.ready_objects.specs.Directory.{value_of, directory_next, directory, directory_answer, directory_inv_of_words, directory_language, pair_text, pairs_text};
 
 use crate::name::Name;
 use crate::number::{Amount, push_number, push_with_number};
 use crate::place::Place;
-use crate::spoken::{Spoken, is_text};
+use crate::spoken::{Spoken, is_text, push_gap};
 use indexmap::IndexSet;
 use seq_object::SeqObject;
 use std::alloc::{AllocError, Global};
@@ -275,6 +275,21 @@ impl Pairs {
     }
 }
 
+impl Pairs {
+    /// Writes the pairs after a text, as `{a:1 b:2}`.
+    fn push_text(&self, text: &mut Vec<u8>) -> Result<(), AllocError>
+        ensures { OnOk result (text.new.items ≡ text.old.items ++ pairs_text self.now) }
+    {
+        text.push(b'{')?;
+        for (place, pair) in self.pairs.iter().enumerate() {
+            push_gap(text, place)?;
+            push_pair(text, &self.names, *pair)?;
+        }
+        text.push(b'}')?;
+        Ok(())
+    }
+}
+
 impl SeqObject for DirectoryObject {
     type State = DirectoryState;
 
@@ -342,6 +357,8 @@ impl SeqObject for DirectoryObject {
 impl Spoken for DirectoryObject {
     ghost language = { directory_language };
 
+    ghost state_text = { pairs_text };
+
     fn read_inv(words: &[&[u8]]) -> Option<DirectoryInv> {
         match words {
             [operation] if is_text(operation, "size") => Some(DirectoryInv::Size),
@@ -375,6 +392,10 @@ impl Spoken for DirectoryObject {
             DirectoryResp::Absent => text.extend_from_slice(b"none"),
             DirectoryResp::Count(count) => push_number(text, count),
         }
+    }
+
+    fn push_state(text: &mut Vec<u8>, state: &DirectoryState) -> Result<(), AllocError> {
+        state.pairs.push_text(text)
     }
 
     fn drawn(word: u64) -> DirectoryInv {
@@ -431,6 +452,15 @@ fn add_name(names: &mut IndexSet<Name>, name: &Name) -> Result<usize, AllocError
 {
     let (index, _) = names.insert_full(name.clone()?)?;
     Ok(index)
+}
+
+/// Writes a pair after a text: its name, a colon and its value.
+fn push_pair(text: &mut Vec<u8>, names: &IndexSet<Name>, pair: Pair) -> Result<(), AllocError>
+    requires { pair.name < length names.now.keys }
+    ensures { OnOk result (text.new.items ≡ text.old.items ++ pair_text (named names.now.keys pair)) }
+{
+    text.extend_from_slice(names[pair.name].as_bytes())?;
+    push_with_number(text, b":", pair.value.number())
 }
 
 /// Reads an invocation of two words.

@@ -6,8 +6,9 @@ ghost use Rattle.std.specs.Option.{SomeIff};
 ghost use Rattle.std.specs.Char.{is_ascii_digit};
 ghost use Rattle.std.specs.List.{list_all};
 ghost use Rattle.std.specs.Str.Parse.{digits_value};
-ghost use Rattle.ready_objects.specs.Number.{is_number, number_of_word};
+ghost use Rattle.ready_objects.specs.Number.{is_number, number_of_word, numbers_text};
 
+use crate::spoken::push_gap;
 use itoa::Buffer;
 use std::alloc::AllocError;
 use std::fmt;
@@ -118,6 +119,21 @@ pub(crate) fn push_with_number(
 {
     text.extend_from_slice(word)?;
     push_number(text, number)
+}
+
+/// Writes a list of numbers after a text, as `[3 5]`.
+///
+/// An `Err` says that memory was refused.
+pub(crate) fn push_numbers(text: &mut Vec<u8>, numbers: &[Amount]) -> Result<(), AllocError>
+    ensures { OnOk result (text.new.items ≡ text.old.items ++ numbers_text numbers.now) }
+{
+    text.push(b'[')?;
+    for (place, number) in numbers.iter().enumerate() {
+        push_gap(text, place)?;
+        push_number(text, number.number())?;
+    }
+    text.push(b']')?;
+    Ok(())
 }
 
 /// Tells whether a word is 1 to 12 decimal digits, without a leading zero unless it is `0`.

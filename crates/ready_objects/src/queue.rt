@@ -5,9 +5,10 @@ ghost use Rattle.std.proofs.Common.{refl};
 ghost use Rattle.ready_objects.specs.declared.queue.QueueInv.TheVariants.{Enq, Deq};
 ghost use Rattle.ready_objects.specs.declared.queue.QueueResp.TheVariants.{Added, Full, Taken, Empty};
 ghost use Rattle.seq_object.proofs.Cases.{exact_by_cases, other, itself_one, only_one};
+ghost use Rattle.ready_objects.specs.Number.{numbers_text};
 ghost use Rattle.ready_objects.specs.Queue.{queue, queue_next, queue_answer, queue_language};
 
-use crate::number::{Amount, push_number, push_with_number};
+use crate::number::{Amount, push_number, push_numbers, push_with_number};
 use crate::spoken::{Spoken, is_text};
 use seq_object::SeqObject;
 use std::alloc::{AllocError, Global};
@@ -80,6 +81,13 @@ impl QueueState {
             values: Arc::try_clone(&self.values)?,
             past: self.past,
         })
+    }
+
+    /// The values, the first of them first.
+    fn values(&self) -> &[Amount]
+        ensures { result.now ≡ self.now }
+    {
+        &self.values[self.past..]
     }
 
     /// The state with one value more, and the response.
@@ -158,6 +166,8 @@ impl SeqObject for QueueObject {
 impl Spoken for QueueObject {
     ghost language = { queue_language };
 
+    ghost state_text = { numbers_text };
+
     fn read_inv(words: &[&[u8]]) -> Option<QueueInv> {
         match words {
             [name] if is_text(name, "deq") => Some(QueueInv::Deq),
@@ -180,6 +190,10 @@ impl Spoken for QueueObject {
             QueueResp::Taken(value) => push_number(text, value.number()),
             QueueResp::Empty => text.extend_from_slice(b"empty"),
         }
+    }
+
+    fn push_state(text: &mut Vec<u8>, state: &QueueState) -> Result<(), AllocError> {
+        push_numbers(text, state.values())
     }
 
     fn drawn(word: u64) -> QueueInv {

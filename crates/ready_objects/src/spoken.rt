@@ -3,16 +3,19 @@
 ghost use Rattle.std.specs.Prelude.{◌≡◌, ℕ, List, Option, Some, IfOk, OnOk, ◌++◌};
 ghost use Rattle.std.specs.Str.{bytes_eq};
 ghost use Rattle.ready_objects.specs.Spoken.{Language};
-ghost use Rattle.ready_objects.specs.Words.{bytes_of, text_of_words, words_of_text};
+ghost use Rattle.ready_objects.specs.Words.{bytes_of, gap, text_of_words, words_of_text};
 
 use seq_object::SeqObject;
 use std::alloc::{AllocError, Global};
 
 /// A sequential object whose invocations are read from words and written as text, whose responses
-/// are written as text, and of which each drawn word stands for an invocation.
+/// and states are written as text, and of which each drawn word stands for an invocation.
 pub trait Spoken: SeqObject {
     /// The words of invocations and responses.
     ghost language: { Language Self.Inv Self.Resp };
+
+    /// The text of a state, to be read by a human and by a program.
+    ghost state_text: { Self.State → List ℕ };
 
     /// Reads an invocation from its words. `None` where the words are no invocation.
     fn read_inv(words: &[&[u8]]) -> Option<Self::Inv>
@@ -29,6 +32,12 @@ pub trait Spoken: SeqObject {
     /// An `Err` says that memory was refused.
     fn push_resp(text: &mut Vec<u8>, resp: Self::Resp) -> Result<(), AllocError>
         ensures { OnOk result (text.new.items ≡ text.old.items ++ language.resp_text resp) };
+
+    /// Writes a state after a text.
+    ///
+    /// An `Err` says that memory was refused.
+    fn push_state(text: &mut Vec<u8>, state: &Self::State) -> Result<(), AllocError>
+        ensures { OnOk result (text.new.items ≡ text.old.items ++ state_text state.now) };
 
     /// The text of an invocation: its words with one space between.
     ///
@@ -70,4 +79,16 @@ pub(crate) fn is_text(word: &[u8], text: &str) -> bool
     ensures { result ≡ bytes_eq word.now text.now }
 {
     word == text.as_bytes()
+}
+
+/// Writes what stands before a text at a place: a space, but for the first one.
+///
+/// An `Err` says that memory was refused.
+pub(crate) fn push_gap(text: &mut Vec<u8>, place: usize) -> Result<(), AllocError>
+    ensures { OnOk result (text.new.items ≡ text.old.items ++ gap place) }
+{
+    if place == 0 {
+        return Ok(());
+    }
+    text.extend_from_slice(b" ")
 }

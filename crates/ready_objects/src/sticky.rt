@@ -8,7 +8,7 @@ ghost use Rattle.ready_objects.specs.declared.sticky.StickyInv.TheVariants.{Stic
 ghost use Rattle.ready_objects.specs.declared.sticky.StickyResp.{StickyResp};
 ghost use Rattle.ready_objects.specs.declared.sticky.StickyResp.TheVariants.{Settled, Unset};
 ghost use Rattle.seq_object.proofs.Cases.{exact_by_cases, other, itself_one, only_one};
-ghost use Rattle.ready_objects.specs.Sticky.{sticky, sticky_language, stick_replies};
+ghost use Rattle.ready_objects.specs.Sticky.{sticky, sticky_language, sticky_text, stick_replies};
 
 use crate::number::{Amount, push_number, push_with_number};
 use crate::spoken::{Spoken, is_text};
@@ -99,6 +99,8 @@ impl SeqObject for StickyObject {
 impl Spoken for StickyObject {
     ghost language = { sticky_language };
 
+    ghost state_text = { sticky_text };
+
     fn read_inv(words: &[&[u8]]) -> Option<StickyInv> {
         match words {
             [name] if is_text(name, "read") => Some(StickyInv::Read),
@@ -118,6 +120,13 @@ impl Spoken for StickyObject {
         match resp {
             StickyResp::Settled(value) => push_number(text, value.number()),
             StickyResp::Unset => text.extend_from_slice(b"unset"),
+        }
+    }
+
+    fn push_state(text: &mut Vec<u8>, state: &StickyState) -> Result<(), AllocError> {
+        match state.value {
+            Some(value) => push_number(text, value.number()),
+            None => text.extend_from_slice(b"none"),
         }
     }
 

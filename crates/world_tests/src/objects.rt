@@ -375,6 +375,52 @@ fn sticky(rt: HostRuntime) -> Result<(), Fail> {
     refuses_and_draws::<StickyObject>(&rt, rt.alloc(), STICKY_REFUSED, STICKY_DRAWN)
 }
 
+/// After these lines from the start on, the state of an object has this text.
+fn comes_to<O: Spoken>(
+    rt: &impl Abort,
+    alloc: Global,
+    object: &O,
+    lines: &[(&str, &str)],
+    wanted: &str,
+) -> Result<(), Fail> {
+    let state = plays_from_start(rt, alloc, object, lines)?;
+    let mut text = Vec::new(alloc);
+    O::push_state(&mut text, &state)?;
+    assert!(rt; text.as_slice() == wanted.as_bytes(), "{wanted}");
+    Ok(())
+}
+
+/// Lines after which a queue has two values.
+const QUEUE_OF_TWO: Lines = &[
+    ("enq 9", "ok"),
+    ("enq 3", "ok"),
+    ("deq", "9"),
+    ("enq 50", "ok"),
+];
+
+/// Lines after which a directory has two pairs.
+const DIRECTORY_OF_TWO: Lines = &[
+    ("put a 1", "new"),
+    ("put b 2", "new"),
+    ("put a 30", "was 1"),
+];
+
+/// Lines after which two accounts of a book have amounts.
+const BOOK_OF_TWO: Lines = &[("deposit 0 4", "4"), ("deposit 15 70", "70")];
+
+#[test]
+fn texts_of_states(rt: HostRuntime) -> Result<(), Fail> {
+    let alloc = rt.alloc();
+    comes_to(&rt, alloc, &QueueObject, &[], "[]")?;
+    comes_to(&rt, alloc, &QueueObject, QUEUE_OF_TWO, "[3 50]")?;
+    comes_to(&rt, alloc, &DirectoryObject, &[], "{}")?;
+    comes_to(&rt, alloc, &DirectoryObject, DIRECTORY_OF_TWO, "{a:30 b:2}")?;
+    let book = "[4 0 0 0 0 0 0 0 0 0 0 0 0 0 0 70]";
+    comes_to(&rt, alloc, &BookObject, BOOK_OF_TWO, book)?;
+    comes_to(&rt, alloc, &StickyObject, &[], "none")?;
+    comes_to(&rt, alloc, &StickyObject, STICKY, "5")
+}
+
 #[test]
 fn limits(rt: HostRuntime) -> Result<(), Fail> {
     let greatest = Amount::new(999_999_999_999).ok_or("no amount")?;
