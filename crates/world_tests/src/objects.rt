@@ -399,7 +399,11 @@ const QUEUE_OF_TWO: Lines = &[
 ];
 
 /// Lines after which a directory has two pairs.
-const DIRECTORY_OF_TWO: Lines = &[("put a 1", "new"), ("put b 2", "new"), ("put a 30", "was 1")];
+const DIRECTORY_OF_TWO: Lines = &[
+    ("put a 1", "new"),
+    ("put b 2", "new"),
+    ("put a 30", "was 1"),
+];
 
 /// Lines after which two accounts of a book have amounts.
 const BOOK_OF_TWO: Lines = &[("deposit 0 4", "4"), ("deposit 15 70", "70")];

@@ -1,0 +1,3 @@
+pub mod Announcing
+pub mod Telling
+pub mod EachEvent

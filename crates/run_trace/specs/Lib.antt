@@ -1,0 +1,5 @@
+pub mod Announced
+pub mod Held
+pub mod Frames
+pub mod Shown
+pub mod Laws

@@ -1,0 +1,303 @@
+//! The frames of a run, by the replay of its events.
+
+ghost use Rattle.std.specs.Prelude.{◌≡◌, ◌<◌, None, Some, IfOk, IfSome, OnOk, map, option_map};
+ghost use Rattle.uni_model.specs.Transition.{place_of};
+ghost use Rattle.uni_model.specs.Worlds.{opened_world, world_after};
+ghost use Rattle.uni_model.specs.Worlds.{Event as model};
+ghost use Rattle.uni_core.specs.Readers.{kind_of, place_named};
+ghost use Rattle.uni_core.specs.World.{current_of, name_in, world_of};
+ghost use Rattle.uni_trim.specs.Ends.{last_number};
+ghost use Rattle.uni_record.specs.Event.{event_lent, event_shown, events_shown};
+ghost use Rattle.run_trace.specs.Announced.{announced_with, IsMirrored};
+ghost use Rattle.run_trace.specs.Frames.{answered, begun, ended, frame_of, frames_from, stepped};
+ghost use Rattle.run_trace.specs.Shown.{begun_shown, end_shown, frame_shown, step_shown};
+
+use crate::frame::{Begun, EraEnd, Frame, Step};
+use crate::places::{asked_field, read_place, settled_fields};
+use cell_arena::CellId;
+use ready_objects::Spoken;
+use seq_object::CallId;
+use std::alloc::{AllocError, Global};
+use uni_core::{Place, Progress, StepKind, World};
+use uni_record::{Event, Recorded};
+use uni_trim::{reshape, trim};
+
+/// The frames of the run that a record has stored, one for each of its events; `object` is a further value of the
+/// record's object. They are found by a replay of the events.
+///
+/// An `Err` says that memory was refused. It would come too where the replay refused an event, as it never does with
+/// the object of the record; that isn't proved.
+pub fn frames_of<O: Spoken>(
+    alloc: Global,
+    object: O,
+    run: &Recorded<O>,
+) -> Result<Vec<Frame>, AllocError>
+    ensures { IfOk result (λ frames. map (λ frame. Some (frame_shown frame)) frames.items ≡
+        frames_from (O.sequential object) O.language O.state_text
+        (opened_world run.now.processes (O.sequential object).initial run.now.first) (events_shown run.now.events)) }
+{
+    let mut replay = reopened(alloc, object, run)?;
+    let mut announced = Vec::new(alloc);
+    let mut frames = Vec::new(alloc);
+    for event in run.events() {
+        frames.push(frame_of(alloc, event, &mut replay, &mut announced)?)?;
+    }
+    Ok(frames)
+}
+
+/// The world in which a record opened, over this object.
+///
+/// An `Err` says that it couldn't be opened.
+fn reopened<O: Spoken>(alloc: Global, object: O, run: &Recorded<O>) -> Result<World<O>, AllocError>
+    ensures object { IfOk result (λ replay. replay.object ≡ object) }
+    ensures world { IfOk result (λ replay. world_of replay ≡
+        opened_world run.now.processes (O.sequential object).initial run.now.first) }
+{
+    run.promise();
+    let row = run.world().row();
+    match World::open_from(alloc, object, run.processes(), row, run.first()) {
+        Ok(replay) => Ok(replay),
+        Err(_) => Err(AllocError),
+    }
+}
+
+/// Takes an event in a replay; the answer is its frame. The calls that were announced in the present era are kept
+/// beside the replay.
+///
+/// An `Err` says that memory was refused, or the event.
+fn frame_of<O: Spoken>(
+    alloc: Global,
+    event: Event<&O::Inv>,
+    replay: &mut World<O>,
+    announced: &mut Vec<CallId>,
+) -> Result<Frame, AllocError>
+    requires { IsMirrored (world_of replay.old) announced.old.items }
+    ensures object { replay.new.object ≡ replay.old.object }
+    ensures world { OnOk result (world_of replay.new ≡
+        world_after (O.sequential replay.old.object) (world_of replay.old) (event_shown (event_lent event.entry))) }
+    ensures mirror { OnOk result (IsMirrored (world_of replay.new) announced.new.items) }
+    ensures frame { IfOk result (λ frame. Some (frame_shown frame) ≡
+        frame_of (O.sequential replay.old.object) O.language O.state_text (world_of replay.old) (event_shown (event_lent event.entry))) }
+{
+    match event {
+        Event::Call(process, inv) => Ok(Frame::Call(begun_of(alloc, process, inv, replay)?)),
+        Event::Step(process) => Ok(Frame::Step(step_of(alloc, process, replay, announced)?)),
+        Event::Trim => Ok(Frame::End(trimmed(alloc, replay, announced)?)),
+        Event::Reshape(processes) => {
+            Ok(Frame::End(reshaped(alloc, processes, replay, announced)?))
+        }
+    }
+}
+
+/// An era ends by a trim in a replay; the answer is what that left.
+///
+/// An `Err` says that memory was refused, or the trim.
+fn trimmed<O: Spoken>(
+    alloc: Global,
+    replay: &mut World<O>,
+    announced: &mut Vec<CallId>,
+) -> Result<EraEnd, AllocError>
+    ensures object { replay.new.object ≡ replay.old.object }
+    ensures world { OnOk result (world_of replay.new ≡
+        world_after (O.sequential replay.old.object) (world_of replay.old) model.Trim) }
+    ensures mirror { OnOk result (IsMirrored (world_of replay.new) announced.new.items) }
+    ensures end { IfOk result (λ end. end_shown end ≡
+        ended O.language O.state_text None (last_number (world_of replay.old))
+        (world_after (O.sequential replay.old.object) (world_of replay.old) model.Trim).memory) }
+{
+    replay.shape();
+    let Ok(number) = trim(replay) else {
+        return Err(AllocError);
+    };
+    announced.clear();
+    end_of(alloc, None, number, replay)
+}
+
+/// An era ends by a reshape in a replay; the answer is what that left.
+///
+/// An `Err` says that memory was refused, or the reshape.
+fn reshaped<O: Spoken>(
+    alloc: Global,
+    processes: u64,
+    replay: &mut World<O>,
+    announced: &mut Vec<CallId>,
+) -> Result<EraEnd, AllocError>
+    ensures object { replay.new.object ≡ replay.old.object }
+    ensures world { OnOk result (world_of replay.new ≡
+        world_after (O.sequential replay.old.object) (world_of replay.old) (model.Reshape processes)) }
+    ensures mirror { OnOk result (IsMirrored (world_of replay.new) announced.new.items) }
+    ensures end { IfOk result (λ end. end_shown end ≡
+        ended O.language O.state_text (Some processes) (last_number (world_of replay.old))
+        (world_after (O.sequential replay.old.object) (world_of replay.old) (model.Reshape processes)).memory) }
+{
+    replay.shape();
+    let Ok(number) = reshape(alloc, replay, processes) else {
+        return Err(AllocError);
+    };
+    announced.clear();
+    end_of(alloc, Some(processes), number, replay)
+}
+
+/// A process begins a call in a replay; the answer is what that did.
+///
+/// An `Err` says that memory was refused, or the call.
+fn begun_of<O: Spoken>(
+    alloc: Global,
+    process: u64,
+    inv: &O::Inv,
+    replay: &mut World<O>,
+) -> Result<Begun, AllocError>
+    ensures object { replay.new.object ≡ replay.old.object }
+    ensures world { OnOk result (world_of replay.new ≡
+        world_after (O.sequential replay.old.object) (world_of replay.old) (model.Call process inv.now)) }
+    ensures begun { IfOk result (λ call. begun_shown call ≡
+        begun (O.sequential replay.old.object) O.language O.state_text (world_of replay.old) process inv.now) }
+{
+    replay.shape();
+    let Ok(call) = replay.begin(alloc, process, inv) else {
+        return Err(AllocError);
+    };
+    let unmade = Vec::from_slice(alloc, b"?")?;
+    let asked = O::inv_text(alloc, inv)?;
+    let before = asked_field(alloc, call, unmade)?;
+    let after = asked_field(alloc, call, asked)?;
+    let words = O::inv_text(alloc, inv)?;
+    Ok(Begun {
+        call,
+        words,
+        before,
+        after,
+    })
+}
+
+/// Notes a call as announced, where its step of this kind announces it.
+///
+/// An `Err` says that memory was refused.
+fn note_announced(
+    kind: StepKind,
+    call: CallId,
+    announced: &mut Vec<CallId>,
+) -> Result<(), AllocError>
+    ensures { OnOk result (announced.new.items ≡ announced_with kind call announced.old.items) }
+{
+    match kind {
+        StepKind::Announce => {
+            announced.push(call)?;
+            Ok(())
+        }
+        StepKind::ScanHead
+        | StepKind::ScanSeq
+        | StepKind::WriteScan
+        | StepKind::Test
+        | StepKind::ReadAnnounce
+        | StepKind::ReadHelpSeq
+        | StepKind::DecideAfter
+        | StepKind::DecideNew
+        | StepKind::WriteBefore
+        | StepKind::WriteSeq
+        | StepKind::WriteHead
+        | StepKind::Finish => Ok(()),
+    }
+}
+
+/// The text of the reply that a step answers; `None` where the call goes on.
+///
+/// An `Err` says that memory was refused.
+fn reply_of<O: Spoken>(
+    alloc: Global,
+    progress: Progress<O::Resp>,
+) -> Result<Option<Vec<u8>>, AllocError>
+    ensures { IfOk result (λ text. option_map (λ t. t.items) text ≡
+        option_map O.language.resp_text (answered progress)) }
+{
+    match progress {
+        Progress::Done(reply) => Ok(Some(O::resp_text(alloc, reply)?)),
+        Progress::Going => Ok(None),
+    }
+}
+
+/// A step that a process is about to take.
+#[derive(Clone, Copy)]
+struct Coming {
+    call: CallId,
+    kind: StepKind,
+    place: Place,
+}
+
+/// The next step of a process; `None` where it has no call pending.
+fn coming_step<O: Spoken>(world: &World<O>, process: u64) -> Option<Coming>
+    requires { process < (world_of world.now).n }
+    ensures call { IfSome result (λ coming. current_of (world_of world.now) process ≡ Some coming.call) }
+    ensures kind { IfSome result (λ coming. option_map (λ c. kind_of c.stage) ((world_of world.now).call process) ≡
+        Some coming.kind) }
+    ensures place { IfSome result (λ coming. option_map (λ c. place_of (world_of world.now).n process c.mine c.stage) ((world_of world.now).call process)
+        ≡ Some (place_named (name_in (world_of world.now)) coming.place)) }
+{
+    let call = world.current(process)?;
+    let kind = world.next_kind(process)?;
+    let place = world.next_place(process)?;
+    Some(Coming { call, kind, place })
+}
+
+/// A process takes a step in a replay; the answer is what it did.
+///
+/// An `Err` says that memory was refused, or the step.
+fn step_of<O: Spoken>(
+    alloc: Global,
+    process: u64,
+    replay: &mut World<O>,
+    announced: &mut Vec<CallId>,
+) -> Result<Step, AllocError>
+    requires { IsMirrored (world_of replay.old) announced.old.items }
+    ensures object { replay.new.object ≡ replay.old.object }
+    ensures world { OnOk result (world_of replay.new ≡
+        world_after (O.sequential replay.old.object) (world_of replay.old) (model.Step process)) }
+    ensures mirror { OnOk result (IsMirrored (world_of replay.new) announced.new.items) }
+    ensures step { IfOk result (λ step. Some (step_shown step) ≡
+        option_map (stepped (O.sequential replay.old.object) O.language O.state_text (world_of replay.old) process) ((world_of replay.old).call process)) }
+{
+    if process >= replay.processes() {
+        return Err(AllocError);
+    }
+    replay.shape();
+    let Some(coming) = coming_step(replay, process) else {
+        return Err(AllocError);
+    };
+    let before = read_place(alloc, replay, announced, coming.place)?;
+    let Ok(progress) = replay.step(alloc, process) else {
+        return Err(AllocError);
+    };
+    note_announced(coming.kind, coming.call, announced)?;
+    let after = read_place(alloc, replay, announced, coming.place)?;
+    let reply = reply_of::<O>(alloc, progress)?;
+    Ok(Step {
+        call: coming.call,
+        kind: coming.kind,
+        before,
+        after,
+        next: replay.next_kind(process),
+        steps: replay.steps(process),
+        turns: replay.turns(process),
+        reply,
+    })
+}
+
+/// How an era ended, with the number of the anchor of the world after it.
+///
+/// An `Err` says that memory was refused.
+fn end_of<O: Spoken>(
+    alloc: Global,
+    reshaped: Option<u64>,
+    number: u64,
+    replay: &World<O>,
+) -> Result<EraEnd, AllocError>
+    ensures { IfOk result (λ end. end_shown end ≡
+        ended O.language O.state_text reshaped number (world_of replay.now).memory) }
+{
+    let anchor = settled_fields(alloc, replay, CellId::anchor())?;
+    Ok(EraEnd {
+        reshaped,
+        number,
+        anchor,
+    })
+}
