@@ -1,42 +1,79 @@
 //! An object that is refused memory at one of its requests: the call that meets the refusal answers it
 //! and changes nothing, and asked again it goes on as without it.
 
-ghost use Rattle.std.specs.Prelude.{◌≡◌, IfOk};
+ghost use Rattle.std.specs.Prelude.{◌≡◌, IfOk, nat_eq};
+ghost use Rattle.std.specs.Cmp.{nat_eq_equiv, partial_equiv_from_equiv};
 ghost use Rattle.seq_object.specs.Exact.{nat_eq_exact};
 ghost use Rattle.seq_object.specs.SwapRegister.{swap_register};
 
-use seq_object::{CallId, SeqObject};
+use seq_object::SeqObject;
 use std::alloc::{AllocError, Global};
 use std::cell::Cell;
+use std::marker::Model;
 use std::process::Abort;
 use std::test::Fail;
-use uni_core::{OpenFault, Place, Progress, StepFault, World};
+use uni_core::{BeginFault, OpenFault, Place, Progress, StepFault, World};
 use uni_log::{Entry, Log};
 use uni_record::{
-    Counts, RecordOpenFault, RecordStepFault, RecordTrimFault, Recorded, Return, Verdict, audit,
+    Counts, RecordBeginFault, RecordOpenFault, RecordReshapeFault, RecordStepFault,
+    RecordTrimFault, Recorded, Verdict, audit,
 };
 
-/// A register that answers the number before, at first 9. One of its requests for a start state or a
-/// next one is refused memory.
+/// Counts a request for memory down, and refuses the one that finds nothing left.
+fn request(granted: &Cell<u64>) -> Result<(), AllocError> {
+    let left = granted.get();
+    granted.set(left.wrapping_sub(1));
+    if left == 0 { Err(AllocError) } else { Ok(()) }
+}
+
+/// What a call asks for, whose copies are requests too. Its meaning and `==` ignore the counter.
+#[derive(Drop)]
+pub(crate) struct Asked<'a> {
+    number: u32,
+    granted: &'a Cell<u64>,
+}
+
+impl<'a> Model for Asked<'a> {
+    ghost use Rattle.std.specs.Prelude.{ℕ};
+
+    ghost Value = { ℕ };
+
+    ghost view = { λ asked. asked.number };
+}
+
+impl Asked<'_> {
+    /// One that asks for this number.
+    pub(crate) fn new(number: u32, granted: &Cell<u64>) -> Asked<'_> {
+        Asked { number, granted }
+    }
+}
+
+impl PartialEq for Asked<'_> {
+    ghost eq = { nat_eq };
+
+    ghost laws = { partial_equiv_from_equiv nat_eq_equiv };
+
+    fn eq(&self, other: &Asked<'_>) -> bool {
+        self.number == other.number
+    }
+}
+
+impl Eq for Asked<'_> {
+    ghost laws = { nat_eq_equiv };
+}
+
+/// A register that answers the number before, at first 9. One request for memory is refused: for a
+/// start state, a next one, or a copy of what a call asks for.
 #[derive(Drop)]
 pub(crate) struct Scarce<'a> {
     /// How many requests are granted before the one that is refused.
     pub(crate) granted: &'a Cell<u64>,
 }
 
-impl Scarce<'_> {
-    /// Counts a request, and refuses the one that is to be refused.
-    fn request(&self) -> Result<(), AllocError> {
-        let left = self.granted.get();
-        self.granted.set(left.wrapping_sub(1));
-        if left == 0 { Err(AllocError) } else { Ok(()) }
-    }
-}
-
-impl SeqObject for Scarce<'_> {
+impl<'a> SeqObject for Scarce<'a> {
     type State = u32;
 
-    type Inv = u32;
+    type Inv = Asked<'a>;
 
     type Resp = u32;
 
@@ -47,30 +84,35 @@ impl SeqObject for Scarce<'_> {
     ghost same_resp = { nat_eq_exact };
 
     fn start(&self, _alloc: Global) -> Result<u32, AllocError> {
-        self.request()?;
+        request(self.granted)?;
         Ok(9)
     }
 
-    fn apply(&self, _alloc: Global, before: &u32, number: &u32) -> Result<(u32, u32), AllocError> {
-        self.request()?;
-        Ok((*number, *before))
+    fn apply(
+        &self,
+        _alloc: Global,
+        before: &u32,
+        asked: &Asked<'a>,
+    ) -> Result<(u32, u32), AllocError> {
+        request(self.granted)?;
+        Ok((asked.number, *before))
     }
 
-    fn copy_inv(_alloc: Global, number: &u32) -> Result<u32, AllocError>
-        ensures { IfOk result (λ copy. copy ≡ number.now) }
+    fn copy_inv(_alloc: Global, asked: &Asked<'a>) -> Result<Asked<'a>, AllocError>
+        ensures { IfOk result (λ copy. copy ≡ asked.now) }
     {
-        Ok(*number)
+        request(asked.granted)?;
+        Ok(Asked {
+            number: asked.number,
+            granted: asked.granted,
+        })
     }
 }
 
-/// What is left of the grants after so many requests without a refusal, where one more is asked if one
-/// of them was refused.
-pub(crate) fn left_after(granted: u64, requests: u64) -> u64 {
-    if granted < requests {
-        granted.wrapping_sub(requests).wrapping_sub(1)
-    } else {
-        granted - requests
-    }
+/// Asserts that the requests were so many where none was refused, and more where one was, since it was
+/// asked again.
+pub(crate) fn were_made(rt: &impl Abort, granted: &Cell<u64>, refused: u64, requests: u64) {
+    assert!(rt; (granted.get() == 0) == (refused == requests), "{refused}");
 }
 
 /// A world of two processes; asked again where its start state was refused.
@@ -86,12 +128,36 @@ fn world(alloc: Global, granted: &Cell<u64>) -> Result<World<Scarce<'_>>, Fail> 
     }
 }
 
-/// The own steps, the turns and the next place of a process, where there is one.
-fn standing(world: &World<Scarce<'_>>, p: u64) -> Option<(u64, u64, Option<Place>)> {
+/// The calls, the own steps, the turns and the next place of a process, where there is one.
+fn standing(world: &World<Scarce<'_>>, p: u64) -> Option<(u64, u64, u64, Option<Place>)> {
     if p < world.processes() {
-        Some((world.steps(p), world.turns(p), world.next_place(p)))
+        Some((
+            world.begun(p),
+            world.steps(p),
+            world.turns(p),
+            world.next_place(p),
+        ))
     } else {
         None
+    }
+}
+
+/// A process begins a call; asked again where it is refused memory, which changes nothing.
+fn begins_once<'a>(
+    alloc: Global,
+    world: &mut World<Scarce<'a>>,
+    p: u64,
+    asked: &Asked<'a>,
+) -> Result<(), Fail> {
+    let before = standing(world, p);
+    match world.begin(alloc, p, asked) {
+        Ok(_) => return Ok(()),
+        Err(BeginFault::Memory) if standing(world, p) == before => {}
+        Err(_) => return Err(Fail::from("a refused call should change nothing")),
+    }
+    match world.begin(alloc, p, asked) {
+        Ok(_) => Ok(()),
+        Err(_) => Err(Fail::from("asked again, the call should begin")),
     }
 }
 
@@ -111,17 +177,15 @@ fn steps_once(alloc: Global, world: &mut World<Scarce<'_>>, p: u64) -> Result<Pr
 
 /// A process begins a call where there is an invocation, and takes so many steps. The answer is the
 /// reply that the last one gives.
-fn takes(
+fn takes<'a>(
     alloc: Global,
-    world: &mut World<Scarce<'_>>,
+    world: &mut World<Scarce<'a>>,
     p: u64,
-    inv: Option<u32>,
+    asked: Option<Asked<'a>>,
     count: u64,
 ) -> Result<Option<u32>, Fail> {
-    if let Some(number) = inv {
-        if world.begin(alloc, p, &number).is_err() {
-            return Err(Fail::from("the call should have begun"));
-        }
+    if let Some(asked) = asked {
+        begins_once(alloc, world, p, &asked)?;
     }
     let mut reply = None;
     for _ in 0..count {
@@ -133,66 +197,67 @@ fn takes(
     Ok(reply)
 }
 
-/// An entry of a log with its reply.
-fn entry(seq: u64, process: u32, nth: u64, inv: u32, reply: u32) -> Entry<u32, u32> {
-    Entry {
-        seq,
-        call: CallId { process, nth },
-        inv,
-        reply: Some(reply),
+/// An entry of a log: its number, its process and the call's number there, what it asks for, its reply.
+type Row = (u64, u32, u64, u32, u32);
+
+/// Asserts that entries are these.
+fn are_entries<'a>(rt: &impl Abort, entries: &[Entry<Asked<'a>, u32>], want: &[Row]) {
+    assert!(rt; entries.len() == want.len());
+    for (entry, (seq, process, nth, number, reply)) in entries.iter().zip(want) {
+        assert!(rt; entry.seq == *seq && entry.inv.number == *number, "{seq}");
+        assert!(rt;
+            entry.call.process == *process && entry.call.nth == *nth,
+            "{seq}"
+        );
+        assert!(rt; entry.reply == Some(*reply), "{seq}");
     }
 }
 
 /// The steps of the run in which the bound is met exactly.
-fn meets_the_bound(
+fn meets_the_bound<'a>(
     rt: &impl Abort,
     alloc: Global,
-    world: &mut World<Scarce<'_>>,
+    world: &mut World<Scarce<'a>>,
+    granted: &'a Cell<u64>,
 ) -> Result<(), Fail> {
-    for (p, inv, count, reply) in [
+    for (p, number, count, reply) in [
         (0, Some(10), 10, None),
         (1, Some(7), 14, None),
         (0, None, 6, Some(9)),
         (0, Some(20), 1, None),
         (1, None, 18, Some(20)),
     ] {
-        assert!(rt; takes(alloc, world, p, inv, count)? == reply, "{p}");
+        let asked = number.map(|number| Asked::new(number, granted));
+        assert!(rt; takes(alloc, world, p, asked, count)? == reply, "{p}");
     }
-    assert!(rt; standing(world, 1) == Some((32, 3, None)));
+    assert!(rt; standing(world, 1) == Some((1, 32, 3, None)));
     Ok(())
 }
 
-/// The log after that run.
-fn has_its_log(
+/// The log after that run; asked again where a copy is refused.
+fn has_its_log<'a>(
     rt: &impl Abort,
     alloc: Global,
-    world: &World<Scarce<'_>>,
+    world: &World<Scarce<'a>>,
 ) -> Result<(), AllocError> {
-    let want = [
-        entry(2, 0, 0, 10, 9),
-        entry(3, 0, 1, 20, 10),
-        entry(4, 1, 0, 7, 20),
-    ];
-    let entries = Log::of(world).entries(alloc)?;
-    assert!(rt; entries.as_slice() == want.as_slice(), "other entries");
-    Ok(())
-}
-
-/// The run in which the bound is met exactly, where one request is refused.
-fn bound_is_met(rt: &impl Abort, alloc: Global, granted: &Cell<u64>) -> Result<(), Fail> {
-    let mut world = world(alloc, granted)?;
-    meets_the_bound(rt, alloc, &mut world)?;
-    has_its_log(rt, alloc, &world)?;
+    let entries = match Log::of(world).entries(alloc) {
+        Ok(entries) => entries,
+        Err(_) => Log::of(world).entries(alloc)?,
+    };
+    let want = [(2, 0, 0, 10, 9), (3, 0, 1, 20, 10), (4, 1, 0, 7, 20)];
+    are_entries(rt, &entries, &want);
     Ok(())
 }
 
 #[test]
 fn worlds_whose_object_is_refused(rt: HostRuntime) -> Result<(), Fail> {
-    // The start state and three next states.
-    for refused in 0..5 {
+    // The start state, a copy for each of three calls, their next states, and the copies of the log.
+    for refused in 0..11 {
         let granted = Cell::new(refused);
-        bound_is_met(&rt, rt.alloc(), &granted)?;
-        assert!(rt; granted.get() == left_after(refused, 4));
+        let mut world = world(rt.alloc(), &granted)?;
+        meets_the_bound(&rt, rt.alloc(), &mut world, &granted)?;
+        has_its_log(&rt, rt.alloc(), &world)?;
+        were_made(&rt, &granted, refused, 10);
     }
     Ok(())
 }
@@ -210,8 +275,27 @@ fn record(alloc: Global, granted: &Cell<u64>) -> Result<Recorded<Scarce<'_>>, Fa
     }
 }
 
+/// A process of a record begins a call; asked again where it is refused memory, which stores nothing.
+fn stores_call<'a>(
+    alloc: Global,
+    recorded: &mut Recorded<Scarce<'a>>,
+    p: u64,
+    asked: &Asked<'a>,
+) -> Result<(), Fail> {
+    let before = recorded.events().len();
+    match recorded.begin(alloc, p, asked) {
+        Ok(_) => return Ok(()),
+        Err(RecordBeginFault::Memory) if recorded.events().len() == before => {}
+        Err(_) => return Err(Fail::from("a refused call should store nothing")),
+    }
+    match recorded.begin(alloc, p, asked) {
+        Ok(_) => Ok(()),
+        Err(_) => Err(Fail::from("asked again, the call should begin")),
+    }
+}
+
 /// A process of a record takes a step; asked again where it is refused memory, which stores nothing.
-fn records_once(
+fn stores_step(
     alloc: Global,
     recorded: &mut Recorded<Scarce<'_>>,
     p: u64,
@@ -229,21 +313,19 @@ fn records_once(
 }
 
 /// The same as `takes`, of a record.
-fn stores(
+fn stores<'a>(
     alloc: Global,
-    recorded: &mut Recorded<Scarce<'_>>,
+    recorded: &mut Recorded<Scarce<'a>>,
     p: u64,
-    inv: Option<u32>,
+    asked: Option<Asked<'a>>,
     count: u64,
 ) -> Result<Option<u32>, Fail> {
-    if let Some(number) = inv {
-        if recorded.begin(alloc, p, &number).is_err() {
-            return Err(Fail::from("the call should have begun"));
-        }
+    if let Some(asked) = asked {
+        stores_call(alloc, recorded, p, &asked)?;
     }
     let mut reply = None;
     for _ in 0..count {
-        reply = match records_once(alloc, recorded, p)? {
+        reply = match stores_step(alloc, recorded, p)? {
             Progress::Going => None,
             Progress::Done(number) => Some(number),
         };
@@ -251,17 +333,48 @@ fn stores(
     Ok(reply)
 }
 
-/// The steps of the run in which a stopped process is helped, and the end of its era at last.
-fn helps_and_trims(
-    rt: &impl Abort,
+/// What the end of an era answers; asked again where it is refused memory, which stores nothing.
+fn trims(alloc: Global, recorded: &mut Recorded<Scarce<'_>>) -> Result<u64, RecordTrimFault> {
+    let before = recorded.events().len();
+    match recorded.trim(alloc) {
+        Err(RecordTrimFault::Memory) if recorded.events().len() == before => recorded.trim(alloc),
+        answer => answer,
+    }
+}
+
+/// The same of an end of an era after which there are so many processes.
+fn reshapes(
     alloc: Global,
     recorded: &mut Recorded<Scarce<'_>>,
+    m: u64,
+) -> Result<u64, RecordReshapeFault> {
+    let before = recorded.events().len();
+    match recorded.reshape(alloc, m) {
+        Err(RecordReshapeFault::Memory) if recorded.events().len() == before => {
+            recorded.reshape(alloc, m)
+        }
+        answer => answer,
+    }
+}
+
+/// The steps of the run in which a stopped process is helped, the end of its era at last, a call more and
+/// an era for three processes.
+fn helps_and_ends<'a>(
+    rt: &impl Abort,
+    alloc: Global,
+    recorded: &mut Recorded<Scarce<'a>>,
+    granted: &'a Cell<u64>,
 ) -> Result<(), Fail> {
-    assert!(rt; stores(alloc, recorded, 1, Some(5), 1)? == None);
-    assert!(rt; stores(alloc, recorded, 0, Some(6), 24)? == Some(5));
-    assert!(rt; recorded.trim(alloc) == Err(RecordTrimFault::Pending(1)));
+    let five = Some(Asked::new(5, granted));
+    assert!(rt; stores(alloc, recorded, 1, five, 1)? == None);
+    let six = Some(Asked::new(6, granted));
+    assert!(rt; stores(alloc, recorded, 0, six, 24)? == Some(5));
+    assert!(rt; trims(alloc, recorded) == Err(RecordTrimFault::Pending(1)));
     assert!(rt; stores(alloc, recorded, 1, None, 7)? == Some(9));
-    assert!(rt; recorded.trim(alloc) == Ok(3));
+    assert!(rt; trims(alloc, recorded) == Ok(3));
+    let eight = Some(Asked::new(8, granted));
+    assert!(rt; stores(alloc, recorded, 0, eight, 16)? == Some(6));
+    assert!(rt; reshapes(alloc, recorded, 3) == Ok(4));
     Ok(())
 }
 
@@ -272,6 +385,10 @@ const HELPED_COUNTS: &[Counts] = &[
         turns: 2,
     },
     Counts { steps: 8, turns: 0 },
+    Counts {
+        steps: 16,
+        turns: 1,
+    },
 ];
 
 /// That run, where one request is refused.
@@ -281,65 +398,68 @@ fn helped_is_recorded<'a>(
     granted: &'a Cell<u64>,
 ) -> Result<Recorded<Scarce<'a>>, Fail> {
     let mut recorded = record(alloc, granted)?;
-    helps_and_trims(rt, alloc, &mut recorded)?;
+    helps_and_ends(rt, alloc, &mut recorded, granted)?;
     assert!(rt; recorded.counts() == HELPED_COUNTS, "other counts");
     Ok(recorded)
 }
 
-/// The entries after that run.
-fn has_helped_entries(
+/// The entries after that run; asked again where a copy is refused.
+fn has_helped_entries<'a>(
     rt: &impl Abort,
     alloc: Global,
-    recorded: &Recorded<Scarce<'_>>,
+    recorded: &Recorded<Scarce<'a>>,
 ) -> Result<(), AllocError> {
-    let want = [entry(2, 1, 0, 5, 9), entry(3, 0, 0, 6, 5)];
-    let entries = recorded.entries(alloc)?;
-    assert!(rt; entries.as_slice() == want.as_slice(), "other entries");
+    let entries = match recorded.entries(alloc) {
+        Ok(entries) => entries,
+        Err(_) => recorded.entries(alloc)?,
+    };
+    let want = [(2, 1, 0, 5, 9), (3, 0, 0, 6, 5), (4, 0, 1, 8, 6)];
+    are_entries(rt, &entries, &want);
     Ok(())
 }
 
 #[test]
 fn records_whose_object_is_refused(rt: HostRuntime) -> Result<(), Fail> {
-    for refused in 0..4 {
+    // The start state, two copies for each of three calls, their next states, and the copies of the
+    // entries, two and one where an era ends, and all three at last.
+    for refused in 0..17 {
         let granted = Cell::new(refused);
         let recorded = helped_is_recorded(&rt, rt.alloc(), &granted)?;
-        assert!(rt; granted.get() == left_after(refused, 3), "{refused}");
         has_helped_entries(&rt, rt.alloc(), &recorded)?;
+        were_made(&rt, &granted, refused, 16);
     }
     Ok(())
 }
 
-/// An audit of three requests, one of which is refused, answers so, and agrees when it is asked again.
-fn agrees_again(
+/// An audit of four requests, one of which is refused, answers so, and agrees when it is asked again.
+fn agrees_again<'a>(
     rt: &impl Abort,
     alloc: Global,
-    entries: &[Entry<u32, u32>],
-    returns: &[Return<u32>],
+    recorded: &Recorded<Scarce<'a>>,
+    entries: &[Entry<Asked<'a>, u32>],
     refused: u64,
 ) {
-    let granted = Cell::new(refused);
-    let object = Scarce { granted: &granted };
-    let want = if refused < 3 {
+    let object = recorded.world().object();
+    let want = if refused < 4 {
         Err(AllocError)
     } else {
         Ok(Verdict::Agrees)
     };
-    assert!(rt;
-        audit(alloc, &object, entries, returns) == want,
-        "{refused}"
-    );
-    granted.set(3);
-    let again = audit(alloc, &object, entries, returns);
+    object.granted.set(refused);
+    let told = audit(alloc, object, entries, recorded.returns());
+    assert!(rt; told == want, "{refused}");
+    object.granted.set(4);
+    let again = audit(alloc, object, entries, recorded.returns());
     assert!(rt; again == Ok(Verdict::Agrees), "{refused}");
 }
 
 #[test]
 fn audits_whose_object_is_refused(rt: HostRuntime) -> Result<(), Fail> {
-    let none = Cell::new(3);
-    let recorded = helped_is_recorded(&rt, rt.alloc(), &none)?;
+    let granted = Cell::new(16);
+    let recorded = helped_is_recorded(&rt, rt.alloc(), &granted)?;
     let entries = recorded.entries(rt.alloc())?;
-    for refused in 0..4 {
-        agrees_again(&rt, rt.alloc(), &entries, recorded.returns(), refused);
+    for refused in 0..5 {
+        agrees_again(&rt, rt.alloc(), &recorded, &entries, refused);
     }
     Ok(())
 }

@@ -1,7 +1,7 @@
 //! The record under its lock.
 
 ghost use Rattle.std.specs.Prelude.{◌≡◌, ◌≤◌, IfOk, IfErr, OnOk, IsErrOf};
-ghost use Rattle.uni_record.specs.Recorded.{CanRecord, IsOpenRefused};
+ghost use Rattle.uni_record.specs.Recorded.{CanRecord, HasOpened, IsOpenRefused};
 ghost use Rattle.uni_shared.specs.Seat.{first_seats};
 
 use crate::held::trim_held;
@@ -36,15 +36,35 @@ impl<O: SeqObject> Shared<O> {
         ensures numbers { IsErrOf result RecordOpenFault.SeqFull → ⊥ }
         ensures seats { IfOk result (λ opened. opened.1.items ≡ first_seats n) }
     {
-        let recorded = Recorded::open(alloc, object, n, k, h)?;
-        let Ok(seats) = seats_of(alloc, n) else {
-            return Err(RecordOpenFault::Memory);
-        };
+        let (recorded, seats) = opened(alloc, object, n, k, h)?;
         let shared = Shared {
             recorded: Mutex::new(recorded),
         };
         Ok((shared, seats))
     }
+}
+
+/// The record that `Shared::open` puts under a lock, with the seats.
+///
+/// Errors: those of `Shared::open`.
+fn opened<O: SeqObject>(
+    alloc: Global,
+    object: O,
+    n: u64,
+    k: u64,
+    h: u64,
+) -> Result<(Recorded<O>, Vec<Seat<O>>), RecordOpenFault>
+    ensures refused { IfErr result (IsOpenRefused n k 1 h) }
+    ensures could { OnOk result (CanRecord n k 1 h) }
+    ensures numbers { IsErrOf result RecordOpenFault.SeqFull → ⊥ }
+    ensures opened { IfOk result (λ opened. HasOpened O.sequential object n k 1 h opened.0) }
+    ensures seats { IfOk result (λ opened. opened.1.items ≡ first_seats n) }
+{
+    let recorded = Recorded::open(alloc, object, n, k, h)?;
+    let Ok(seats) = seats_of(alloc, n) else {
+        return Err(RecordOpenFault::Memory);
+    };
+    Ok((recorded, seats))
 }
 
 /// The seats of so many processes, at most 64, in order.

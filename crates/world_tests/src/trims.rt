@@ -10,6 +10,7 @@ use ready_objects::{
 };
 use seq_object::{CallId, SeqObject, SwapRegister};
 use std::alloc::Global;
+use std::ops::RangeInclusive;
 use std::process::Abort;
 use std::test::Fail;
 use uni_core::{BeginFault, Progress, World};
@@ -332,5 +333,29 @@ fn a_thousand_eras_of_one_call(rt: HostRuntime) -> Result<(), Fail> {
         one_era(&rt, alloc, &mut world, round);
     }
     assert!(rt; head_is(&world, 0, 1001) && calls_are(&world, 0, 1000, 1));
+    Ok(())
+}
+
+/// A world without calls has each of these numbers of processes in turn.
+fn has_in_turn(
+    rt: &impl Abort,
+    alloc: Global,
+    world: &mut World<SwapRegister>,
+    numbers: RangeInclusive<u64>,
+) {
+    for m in numbers {
+        assert!(rt; reshape(alloc, world, m) == Ok(1), "{m}");
+        assert!(rt; world.processes() == m, "{m}");
+    }
+}
+
+#[test]
+fn any_number_of_processes_is_reached(rt: HostRuntime) -> Result<(), Fail> {
+    for (row, numbers) in [(8, 1..=64), (4096, 64..=64)] {
+        let mut world = World::open(rt.alloc(), SwapRegister { start: 0 }, 1, row).map_err(
+            |_| Fail::from("no world was opened"),
+        )?;
+        has_in_turn(&rt, rt.alloc(), &mut world, numbers);
+    }
     Ok(())
 }
