@@ -1,4 +1,5 @@
-//! The files of cases: a case is the files of a folder that have one name before their first dot, and what a file has of
+//! The files of cases: a case is the files of a folder that have one name before their first dot, and what a file has
+//! of
 //! the case is its kind, the text after that dot.
 #![tactic(auto)]
 

@@ -1,6 +1,7 @@
 //! What a run of a program writes, beside what it should.
 
-ghost use Rattle.std.specs.Prelude.{◌≡◌, ◌≢◌, ◌≤◌, ◌↔◌, ℕ, List, [], true, false, Some, IfOk, map};
+ghost use Rattle.std.specs.Prelude.{◌≡◌, ◌≢◌, ◌≤◌, ◌↔◌, ℕ, List, [], true, false, Some, IfOk};
+ghost use Rattle.std.specs.Prelude.{map};
 ghost use Rattle.uni_script.specs.declared.options.Options.{Options};
 ghost use Rattle.unibench_run.specs.CommandLine.{AsksFor};
 ghost use Rattle.unibench_run.specs.Runs.{IsRunOf};
@@ -32,7 +33,9 @@ pub struct Wanted {
 /// An `Err` is a status above 2: memory was refused, an end failed, or threads didn't agree.
 fn is_wanted(status: u8, output: &[u8], told: &[u8], wanted: &Wanted) -> Result<bool, u8>
     ensures few { IfOk result (λ _. status ≤ 2) }
-    ensures same { IfOk result (λ same. same ≡ true ↔ (status ≡ wanted.now.status) × (output.now ≡ wanted.now.answers.items) × (told.now ≡ wanted.now.fault.items)) }
+    ensures same { IfOk result (λ same. same ≡ true
+        ↔ (status ≡ wanted.now.status) × (output.now ≡ wanted.now.answers.items)
+        × (told.now ≡ wanted.now.fault.items)) }
 {
     if status > 2 {
         return Err(status);
@@ -56,10 +59,13 @@ pub fn is_run<R: Threads + Wait + Sync, S: AsStr, I: KeepsText>(
 ) -> Result<bool, u8>
     requires { I.has_failed input.old ≡ false }
     ensures run { (r : Request) → AsksFor (map S.text words.now) r → IfOk result (λ same. same ≡ true
-        → IsRunOf r (I.remaining input.old) (I.remaining input.new) (Some []) (Some wanted.now.answers.items) false wanted.now.status) }
-    ensures told { (r : Request) → AsksFor (map S.text words.now) r → wanted.now.status ≢ 0 → IfOk result (λ same. same ≡ true
+        → IsRunOf r (I.remaining input.old) (I.remaining input.new) (Some [])
+        (Some wanted.now.answers.items) false wanted.now.status) }
+    ensures told { (r : Request) → AsksFor (map S.text words.now) r → wanted.now.status ≢ 0
+        → IfOk result (λ same. same ≡ true
         → Tells r (Some []) (Some wanted.now.fault.items) false wanted.now.status) }
-    ensures good { (options : Options) (script : List ℕ) → AsksForReplayOf (map S.text words.now) options (I.remaining input.old) script
+    ensures good { (options : Options) (script : List ℕ)
+        → AsksForReplayOf (map S.text words.now) options (I.remaining input.old) script
         → wanted.now.status ≡ 0 → wanted.now.fault.items ≡ []
         → IfOk result (λ same. same ≡ true ↔ IsAnsweredBy options script wanted.now.answers.items) }
 {
@@ -87,7 +93,8 @@ pub fn is_drawn<S: AsStr, I: TextIn>(
     wanted: &Wanted,
 ) -> Result<bool, u8>
     requires { I.has_failed input.old ≡ false }
-    ensures drawn { (form : Form) → form_of_words (map S.text words.now) ≡ Some form → IfOk result (λ same. same ≡ true
+    ensures drawn { (form : Form) → form_of_words (map S.text words.now) ≡ Some form
+        → IfOk result (λ same. same ≡ true
         → IsDrawn form (I.remaining input.old) (Some []) (Some wanted.now.answers.items) wanted.now.status) }
 {
     let mut picture = Checked::new(Vec::new(alloc));

@@ -1,6 +1,7 @@
 -- What a cell contains, and how the cells of an arena change.
 pub use Rattle.seq_object.specs.Indices.{index_of}
-use Rattle.std.specs.Prelude.{◌≡◌, ◌==◌, ◌+◌, ◌-◌, ◌*◌, ◌/◌, ◌%◌, ℕ, Option, None, Some, if◌then◌else◌, option_map, unwrap_or, refl}
+use Rattle.std.specs.Prelude.{◌≡◌, ◌==◌, ◌+◌, ◌-◌, ◌*◌, ◌/◌, ◌%◌, ℕ, Option, None, Some}
+use Rattle.std.specs.Prelude.{if◌then◌else◌, option_map, unwrap_or, refl}
 
 -- the fields of a cell; other cells are named by their index
 pub record CellRecord (S I R : Type 0) : Type 0 where

@@ -1,5 +1,6 @@
 -- An arena whose cells stand in one list, each at its index.
-use Rattle.std.specs.Prelude.{◌≡◌, ◌*◌, ◌<◌, ◌≤◌, ℕ, List, [], ◌∷◌, Option, None, Some, IsSome, is_some, if◌then◌else◌, length, map, slice_index_or, refl}
+use Rattle.std.specs.Prelude.{◌≡◌, ◌*◌, ◌<◌, ◌≤◌, ℕ, List, [], ◌∷◌, Option, None, Some, IsSome, is_some}
+use Rattle.std.specs.Prelude.{if◌then◌else◌, length, map, slice_index_or, refl}
 use Rattle.cell_arena.specs.CellRecord.{CellRecord, fresh, anchor_with, owner_of, nth_of}
 use Rattle.cell_arena.specs.Columns.{blank}
 use Rattle.cell_arena.specs.Arena.{Arena}
@@ -33,7 +34,8 @@ at a i = slice_index_or a.cells i blank
 abbrev pub made_by_owner : {S I R : Type 0} → Flat S I R → ℕ → ℕ
 made_by_owner a i = slice_index_or a.made (owner_of (length a.made) i) 0
 
--- there are 1 to 64 processes, whose rows are 4096 cells at most, and room for all of them; a cell is there where it is made, and nothing else is
+-- there are 1 to 64 processes, whose rows are 4096 cells at most, and room for all of them; a cell is there where it is made, and nothing
+-- else is
 pub record IsFlat {S I R : Type 0} (a : Flat S I R) : Type 0 where
   pub processes : (1 ≤ length a.made) × (length a.made ≤ 64)
   pub row : a.row ≤ 4096
@@ -43,6 +45,7 @@ pub record IsFlat {S I R : Type 0} (a : Flat S I R) : Type 0 where
   pub nothing : (i : ℕ) → 0 < i → made_by_owner a i ≤ nth_of (length a.made) i → at a i ≡ blank
 
 -- an anchor 9, the first cell of process 0, and room for that of process 1
-arena_of_two : arena_of {S = ℕ} {I = ℕ} {R = ℕ} (record { row = 1; made = 1 ∷ 0 ∷ []; cells = anchor_with 9 1 ∷ fresh 5 ∷ blank ∷ [] })
+arena_of_two : arena_of {S = ℕ} {I = ℕ} {R = ℕ}
+    (record { row = 1; made = 1 ∷ 0 ∷ []; cells = anchor_with 9 1 ∷ fresh 5 ∷ blank ∷ [] })
     ≡ record { row = 1; made = 1 ∷ 0 ∷ []; cells = Some (anchor_with 9 1) ∷ Some (fresh 5) ∷ None ∷ [] }
 arena_of_two = refl

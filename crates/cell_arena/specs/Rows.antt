@@ -1,5 +1,6 @@
 -- An arena whose cells are kept in rows, one for each process.
-use Rattle.std.specs.Prelude.{◌≡◌, ◌==◌, ◌+◌, ◌*◌, ◌≤◌, ℕ, List, [], ◌∷◌, Option, None, Some, if◌then◌else◌, length, map, slice_get, slice_index_or, EachIndex, refl}
+use Rattle.std.specs.Prelude.{◌≡◌, ◌==◌, ◌+◌, ◌*◌, ◌≤◌, ℕ, List, [], ◌∷◌, Option, None, Some}
+use Rattle.std.specs.Prelude.{if◌then◌else◌, length, map, slice_get, slice_index_or, EachIndex, refl}
 use Rattle.std.specs.List.{range_with_len}
 use Rattle.cell_arena.specs.CellRecord.{CellRecord, fresh, anchor_with, owner_of, nth_of}
 use Rattle.cell_arena.specs.Arena.{Arena}
@@ -44,6 +45,12 @@ abbrev pub AreEmpty : {A : Type 0} → List (List A) → Type 0
 AreEmpty rows = EachIndex rows (λ p. slice_index_or rows p [] ≡ [])
 
 -- an anchor 9 with the row of process 0, which has two cells, and the empty one of process 1
-arena_of_two : arena_of {S = ℕ} {I = ℕ} {R = ℕ} (record { row = 2; anchor = anchor_with 9 1; rows = (fresh 5 ∷ fresh 6 ∷ []) ∷ [] ∷ [] })
-    ≡ record { row = 2; made = 2 ∷ 0 ∷ []; cells = Some (anchor_with 9 1) ∷ Some (fresh 5) ∷ None ∷ Some (fresh 6) ∷ None ∷ [] }
+arena_of_two : arena_of {S = ℕ} {I = ℕ} {R = ℕ}
+    (record { row = 2; anchor = anchor_with 9 1; rows = (fresh 5 ∷ fresh 6 ∷ []) ∷ [] ∷ [] })
+    ≡ record {
+      row = 2;
+      made = 2 ∷ 0 ∷ [];
+      cells = Some (anchor_with 9 1) ∷ Some (fresh 5) ∷ None ∷ Some (fresh 6)
+          ∷ None ∷ [];
+    }
 arena_of_two = refl

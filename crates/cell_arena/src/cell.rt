@@ -1,6 +1,7 @@
 //! A cell, and the cells of one process.
 
-ghost use Rattle.std.specs.Prelude.{◌≡◌, ◌<◌, [], ◌∷◌, ◌++◌, length, slice_get, Some, OnOk, OnErr, IfErr};
+ghost use Rattle.std.specs.Prelude.{◌≡◌, ◌<◌, [], ◌∷◌, ◌++◌, length, slice_get, Some, OnOk, OnErr};
+ghost use Rattle.std.specs.Prelude.{IfErr};
 ghost use Rattle.std.specs.Borrow.{sem};
 ghost use Rattle.cell_arena.specs.CellRecord.{fresh, anchor_with};
 ghost use Rattle.cell_arena.specs.Lending.{LendsNth};

@@ -1,10 +1,12 @@
 //! The arena's contract, whichever way its cells are kept.
 
-ghost use Rattle.std.specs.Prelude.{◌≡◌, ◌+◌, ◌-◌, ◌<◌, ◌≤◌, ◌⊎◌, ◌↔◌, ℕ, Option, Some, IsSome, IsSomeAnd, IsErrAnd, IfOk, OnOk, OnErr, IfErr, option_map};
+ghost use Rattle.std.specs.Prelude.{◌≡◌, ◌+◌, ◌-◌, ◌<◌, ◌≤◌, ◌⊎◌, ◌↔◌, ℕ, Option};
+ghost use Rattle.std.specs.Prelude.{Some, IsSome, IsSomeAnd, IsErrAnd, IfOk, OnOk, OnErr, IfErr, option_map};
 ghost use Rattle.std.specs.Option.{option_copied};
 ghost use Rattle.std.specs.Borrow.{sem};
 ghost use Rattle.cell_arena.specs.Ending.{EndsSo};
-ghost use Rattle.cell_arena.specs.CellRecord.{CellRecord, fresh, anchor_for, index_of, settled, with_seq, with_before, with_after, with_new, ChangesOnly, IsUnchanged, HasOnlyAnchor};
+ghost use Rattle.cell_arena.specs.CellRecord.{CellRecord, fresh, anchor_for, index_of, settled, with_seq, with_before};
+ghost use Rattle.cell_arena.specs.CellRecord.{with_after, with_new, ChangesOnly, IsUnchanged, HasOnlyAnchor};
 
 use crate::cell_id::CellId;
 use crate::fault::ArenaFault;
@@ -49,7 +51,8 @@ pub trait Cells: Drop {
         ensures cells { (p nth : ℕ) → p < processes self.now →
             IsSome (cell self.now (index_of (processes self.now) p nth)) ↔ (nth < made self.now p) }
         ensures no_others { (i : ℕ) → IsSome (cell self.now i) →
-            (i ≡ 0) ⊎ ((p : ℕ) × (nth : ℕ) × (p < processes self.now) × (nth < made self.now p) × (i ≡ index_of (processes self.now) p nth)) };
+            (i ≡ 0) ⊎ ((p : ℕ) × (nth : ℕ) × (p < processes self.now) × (nth < made self.now p)
+            × (i ≡ index_of (processes self.now) p nth)) };
 
     /// How many cells process `p` can still make in this era.
     fn room(&self, p: u64) -> u64
@@ -112,7 +115,8 @@ pub trait Cells: Drop {
     /// Writes which cell is before a cell.
     fn set_before(&mut self, id: CellId, before: CellId)
         requires { IsSome (cell self.old id) }
-        ensures cell { ChangesOnly (cell self.old) (cell self.new) id (option_map (with_before before) (cell self.old id)) }
+        ensures cell { ChangesOnly (cell self.old) (cell self.new) id
+            (option_map (with_before before) (cell self.old id)) }
         ensures made { IsUnchanged (made self.old) (made self.new) }
         ensures shape { (processes self.new ≡ processes self.old) × (row self.new ≡ row self.old) };
 
@@ -121,7 +125,8 @@ pub trait Cells: Drop {
     fn decide_after(&mut self, id: CellId, next: CellId) -> CellId
         requires { IsSome (cell self.old id) }
         ensures answer { option_map (λ c. settled c.after next) (cell self.old id) ≡ Some result }
-        ensures cell { ChangesOnly (cell self.old) (cell self.new) id (option_map (with_after next) (cell self.old id)) }
+        ensures cell { ChangesOnly (cell self.old) (cell self.new) id
+            (option_map (with_after next) (cell self.old id)) }
         ensures made { IsUnchanged (made self.old) (made self.new) }
         ensures shape { (processes self.new ≡ processes self.old) × (row self.new ≡ row self.old) };
 

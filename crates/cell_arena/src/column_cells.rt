@@ -1,8 +1,10 @@
 //! An arena whose cells are kept in columns.
 
-ghost use Rattle.std.specs.Prelude.{◌≡◌, ◌+◌, ◌*◌, ◌-◌, ◌<◌, ◌≤◌, ◌↔◌, ℕ, IfOk, OnOk, OnErr, IfErr, IsErrAnd, IsSome, IsSomeAnd, Some, option_map};
+ghost use Rattle.std.specs.Prelude.{◌≡◌, ◌+◌, ◌*◌, ◌-◌, ◌<◌, ◌≤◌, ◌↔◌, ℕ, IfOk};
+ghost use Rattle.std.specs.Prelude.{OnOk, OnErr, IfErr, IsErrAnd, IsSome, IsSomeAnd, Some, option_map};
 ghost use Rattle.std.specs.Borrow.{sem};
-ghost use Rattle.cell_arena.specs.CellRecord.{anchor_with, anchor_for, fresh, index_of, settled, with_new, ChangesOnly, IsUnchanged, HasOnlyAnchor};
+ghost use Rattle.cell_arena.specs.CellRecord.{anchor_with, anchor_for, fresh, index_of, settled, with_new, ChangesOnly};
+ghost use Rattle.cell_arena.specs.CellRecord.{IsUnchanged, HasOnlyAnchor};
 ghost use Rattle.cell_arena.specs.Arena.{processes_of, made_of, cell_of};
 ghost use Rattle.cell_arena.specs.Ending.{EndsSo};
 ghost use Rattle.cell_arena.specs.contracts.column_cells.ColumnCells.{the_row};
@@ -93,7 +95,8 @@ impl<S: Drop, I: Drop, R: Drop> ColumnCells<S, I, R> {
     #[inline]
     fn settle(&mut self, id: CellId, new: (S, Option<R>))
         requires { IsSome (cell_of self.old id) }
-        ensures cell { ChangesOnly (cell_of self.old) (cell_of self.new) id (option_map (with_new new) (cell_of self.old id)) }
+        ensures cell { ChangesOnly (cell_of self.old) (cell_of self.new) id
+            (option_map (with_new new) (cell_of self.old id)) }
         ensures made { IsUnchanged (made_of self.old) (made_of self.new) }
         ensures shape { (processes_of self.new ≡ processes_of self.old) × (self.new.row ≡ self.old.row) }
     {

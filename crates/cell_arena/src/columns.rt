@@ -1,8 +1,10 @@
 //! Cells in columns, one for each field.
 
-ghost use Rattle.std.specs.Prelude.{◌≡◌, ◌<◌, ◌≤◌, ℕ, IfOk, IsSome, Some, None, length, replicate, slice_index_or, slice_set, option_map};
+ghost use Rattle.std.specs.Prelude.{◌≡◌, ◌<◌, ◌≤◌, ℕ, IfOk, IsSome, Some, None, length, replicate};
+ghost use Rattle.std.specs.Prelude.{slice_index_or, slice_set, option_map};
 ghost use Rattle.std.specs.Option.{option_copied};
-ghost use Rattle.cell_arena.specs.CellRecord.{anchor_with, index_of, settled, with_seq, with_before, with_after, with_new};
+ghost use Rattle.cell_arena.specs.CellRecord.{anchor_with, index_of, settled, with_seq, with_before, with_after};
+ghost use Rattle.cell_arena.specs.CellRecord.{with_new};
 ghost use Rattle.cell_arena.specs.Columns.{blank};
 
 use crate::cell_id::CellId;
@@ -28,9 +30,21 @@ impl<S, I, R> Model for Columns<S, I, R> {
 
     ghost Value = { List (CellRecord S I R) };
 
-    ghost view = { λ c. cells_in (record { inv = c.inv.items; seq = c.seq.items; before = c.before.items; after = c.after.items; new = c.state.items }) };
+    ghost view = { λ c. cells_in (record {
+      inv = c.inv.items;
+      seq = c.seq.items;
+      before = c.before.items;
+      after = c.after.items;
+      new = c.state.items;
+    }) };
 
-    ghost invariant = { λ c. AreEven (record { inv = c.inv.items; seq = c.seq.items; before = c.before.items; after = c.after.items; new = c.state.items }) };
+    ghost invariant = { λ c. AreEven (record {
+      inv = c.inv.items;
+      seq = c.seq.items;
+      before = c.before.items;
+      after = c.after.items;
+      new = c.state.items;
+    }) };
 }
 
 impl<S: Drop, I: Drop, R: Drop> Columns<S, I, R> {
@@ -207,10 +221,13 @@ impl<S: Drop, I: Drop, R: Drop> Columns<S, I, R> {
     pub(crate) fn clear_made(&mut self, made: &[u64])
         requires processes { length made.now ≤ 64 }
         requires row { (p : ℕ) → slice_index_or made.now p 0 ≤ 4096 }
-        requires room { (p nth : ℕ) → p < length made.now → nth < slice_index_or made.now p 0 → index_of (length made.now) p nth < length self.old }
+        requires room { (p nth : ℕ) → p < length made.now → nth < slice_index_or made.now p 0
+            → index_of (length made.now) p nth < length self.old }
         ensures len { length self.new ≡ length self.old }
-        ensures cleared { (p nth : ℕ) → p < length made.now → nth < slice_index_or made.now p 0 → slice_index_or self.new (index_of (length made.now) p nth) blank ≡ blank }
-        ensures stays { (i : ℕ) → slice_index_or self.old i blank ≡ blank → slice_index_or self.new i blank ≡ blank }
+        ensures cleared { (p nth : ℕ) → p < length made.now → nth < slice_index_or made.now p 0
+            → slice_index_or self.new (index_of (length made.now) p nth) blank ≡ blank }
+        ensures stays { (i : ℕ) → slice_index_or self.old i blank ≡ blank
+            → slice_index_or self.new i blank ≡ blank }
     {
         let processes = made.len();
         for owner in 0..processes {
@@ -225,8 +242,10 @@ impl<S: Drop, I: Drop, R: Drop> Columns<S, I, R> {
         requires row { made ≤ 4096 }
         requires room { (nth : ℕ) → nth < made → index_of processes owner nth < length self.old }
         ensures len { length self.new ≡ length self.old }
-        ensures cleared { (nth : ℕ) → nth < made → slice_index_or self.new (index_of processes owner nth) blank ≡ blank }
-        ensures stays { (i : ℕ) → slice_index_or self.old i blank ≡ blank → slice_index_or self.new i blank ≡ blank }
+        ensures cleared { (nth : ℕ) → nth < made
+            → slice_index_or self.new (index_of processes owner nth) blank ≡ blank }
+        ensures stays { (i : ℕ) → slice_index_or self.old i blank ≡ blank
+            → slice_index_or self.new i blank ≡ blank }
     {
         for nth in 0..made {
             self.clear(CellId::of(processes, owner, nth).index() as usize);

@@ -1,8 +1,10 @@
 //! The cells of an arena in rows, one for each process.
 
-ghost use Rattle.std.specs.Prelude.{◌≡◌, ◌+◌, ◌-◌, ◌<◌, ◌≤◌, ℕ, IfOk, OnOk, OnErr, IfErr, IsSome, Some, length, option_map};
+ghost use Rattle.std.specs.Prelude.{◌≡◌, ◌+◌, ◌-◌, ◌<◌, ◌≤◌, ℕ, IfOk, OnOk, OnErr, IfErr};
+ghost use Rattle.std.specs.Prelude.{IsSome, Some, length, option_map};
 ghost use Rattle.std.specs.Borrow.{sem};
-ghost use Rattle.cell_arena.specs.CellRecord.{anchor_with, fresh, index_of, with_new, ChangesOnly, IsUnchanged, HasOnlyAnchor};
+ghost use Rattle.cell_arena.specs.CellRecord.{anchor_with, fresh, index_of, with_new, ChangesOnly, IsUnchanged};
+ghost use Rattle.cell_arena.specs.CellRecord.{HasOnlyAnchor};
 ghost use Rattle.cell_arena.specs.Arena.{processes_of, made_of, cell_of};
 ghost use Rattle.cell_arena.specs.Rows.{Rows, AreRows, AreEmpty, arena_of, cell_at};
 ghost use Rattle.cell_arena.specs.Lending.{LendsCell};
@@ -93,8 +95,10 @@ impl<S: Drop, I: Drop, R: Drop> CellRows<S, I, R> {
         requires room { made_of (arena_of self.old) p < self.old.row }
         ensures cell { OnOk result (ChangesOnly (cell_of (arena_of self.old)) (cell_of (arena_of self.new))
             (index_of (processes_of (arena_of self.old)) p (made_of (arena_of self.old) p)) (Some (fresh inv))) }
-        ensures made { OnOk result (ChangesOnly (made_of (arena_of self.old)) (made_of (arena_of self.new)) p (made_of (arena_of self.old) p + 1)) }
-        ensures shape { (processes_of (arena_of self.new) ≡ processes_of (arena_of self.old)) × (self.new.row ≡ self.old.row) }
+        ensures made { OnOk result (ChangesOnly (made_of (arena_of self.old)) (made_of (arena_of self.new)) p
+            (made_of (arena_of self.old) p + 1)) }
+        ensures shape { (processes_of (arena_of self.new) ≡ processes_of (arena_of self.old))
+            × (self.new.row ≡ self.old.row) }
         ensures handed_back { IfErr result (λ back. back ≡ inv) }
         ensures unchanged { OnErr result (self.new ≡ self.old) }
     {
@@ -133,9 +137,11 @@ impl<S: Drop, I: Drop, R: Drop> CellRows<S, I, R> {
     /// Proposes the state and the response of a cell's call.
     pub(crate) fn settle(&mut self, id: CellId, new: (S, Option<R>))
         requires { IsSome (cell_of (arena_of self.old) id) }
-        ensures cell { ChangesOnly (cell_of (arena_of self.old)) (cell_of (arena_of self.new)) id (option_map (with_new new) (cell_of (arena_of self.old) id)) }
+        ensures cell { ChangesOnly (cell_of (arena_of self.old)) (cell_of (arena_of self.new)) id
+            (option_map (with_new new) (cell_of (arena_of self.old) id)) }
         ensures made { IsUnchanged (made_of (arena_of self.old)) (made_of (arena_of self.new)) }
-        ensures shape { (processes_of (arena_of self.new) ≡ processes_of (arena_of self.old)) × (self.new.row ≡ self.old.row) }
+        ensures shape { (processes_of (arena_of self.new) ≡ processes_of (arena_of self.old))
+            × (self.new.row ≡ self.old.row) }
     {
         let cell = self.cell_mut(id);
         cell.new.decide(new);
@@ -145,7 +151,8 @@ impl<S: Drop, I: Drop, R: Drop> CellRows<S, I, R> {
     pub(crate) fn clear(&mut self, state: S, seq: u64)
         ensures cell { HasOnlyAnchor (cell_of (arena_of self.new)) (Some (anchor_with state seq)) }
         ensures made { (p : ℕ) → made_of (arena_of self.new) p ≡ 0 }
-        ensures shape { (processes_of (arena_of self.new) ≡ processes_of (arena_of self.old)) × (self.new.row ≡ self.old.row) }
+        ensures shape { (processes_of (arena_of self.new) ≡ processes_of (arena_of self.old))
+            × (self.new.row ≡ self.old.row) }
     {
         self.anchor = Cell::anchor(state, seq);
         empty(&mut self.rows);

@@ -26,8 +26,10 @@ pub fn answer_words<O: TextOut, F: TextOut>(
     ensures statuses { ((result ≡ 0) ⊎ (result ≡ 2)) ⊎ ((result ≡ 3) ⊎ (result ≡ 4)) }
     ensures memory { kind_of error.now ≡ ErrorKind.OutOfMemory ↔ result ≡ 4 }
     ensures kept { result ≡ 4 → output.new ≡ output.old }
-    ensures told { result ≡ 4 → TellsFault (F.contents faults.old) (F.contents faults.new) (F.has_failed faults.new) result }
-    ensures refused { kind_of error.now ≢ ErrorKind.DisplayHelp → kind_of error.now ≢ ErrorKind.DisplayVersion → ((result ≡ 2) ⊎ (result ≡ 4)) × (output.new ≡ output.old) }
+    ensures told { result ≡ 4 → TellsFault (F.contents faults.old) (F.contents faults.new)
+        (F.has_failed faults.new) result }
+    ensures refused { kind_of error.now ≢ ErrorKind.DisplayHelp → kind_of error.now ≢ ErrorKind.DisplayVersion
+        → ((result ≡ 2) ⊎ (result ≡ 4)) × (output.new ≡ output.old) }
     ensures written { O.has_failed output.new ≡ true ↔ result ≡ 3 }
     ensures good { result ≡ 0 → O.has_failed output.new ≡ false }
     ensures silent { result ≡ 0 → faults.new ≡ faults.old }

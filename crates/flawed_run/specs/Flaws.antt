@@ -4,7 +4,8 @@ use Rattle.std.specs.Str.{bytes_eq}
 use Rattle.std.specs.Io.KnownBytes.{Appends}
 use Rattle.uni_script.specs.Ends.{AppendsFront}
 use Rattle.flawed_run.specs.declared.flaw.Flaw.{Flaw}
-use Rattle.flawed_run.specs.declared.flaw.Flaw.TheVariants.{Nothing, NeverHelps, HelpsBlindly, NumberFirst, LastWins, NewestReply, TrimsPending}
+use Rattle.flawed_run.specs.declared.flaw.Flaw.TheVariants.{Nothing, NeverHelps, HelpsBlindly, NumberFirst, LastWins, NewestReply}
+use Rattle.flawed_run.specs.declared.flaw.Flaw.TheVariants.{TrimsPending}
 
 -- the flaw that a word names
 abbrev pub flaw_of_word : (word : List ℕ) → Option Flaw
@@ -45,8 +46,10 @@ abbrev pub AppendsBannerFront : Flaw → (old new : Option (List ℕ)) → Type 
 AppendsBannerFront flaw old new = (rest : List ℕ) × AppendsFront old new (banner flaw ++ rest)
 
 -- rows
-each_flaw_has_a_word : map flaw_of_word (codes "nothing" ∷ codes "never-helps" ∷ codes "helps-blindly" ∷ codes "number-first" ∷ codes "last-wins" ∷ codes "newest-reply" ∷ codes "trims-pending" ∷ [])
-    ≡ Some Nothing ∷ Some NeverHelps ∷ Some HelpsBlindly ∷ Some NumberFirst ∷ Some LastWins ∷ Some NewestReply ∷ Some TrimsPending ∷ []
+each_flaw_has_a_word : map flaw_of_word (codes "nothing" ∷ codes "never-helps" ∷ codes "helps-blindly" ∷ codes "number-first"
+    ∷ codes "last-wins" ∷ codes "newest-reply" ∷ codes "trims-pending" ∷ [])
+    ≡ Some Nothing ∷ Some NeverHelps ∷ Some HelpsBlindly ∷ Some NumberFirst ∷ Some LastWins ∷ Some NewestReply
+    ∷ Some TrimsPending ∷ []
 each_flaw_has_a_word = refl
 
 no_other_word_is_one : flaw_of_word (codes "never") ≡ None

@@ -160,7 +160,8 @@ impl Memory {
         Ok(())
     }
 
-    /// A process begins a call, which has this place among the calls; the answer is the call's name, where there is such a
+    /// A process begins a call, which has this place among the calls; the answer is the call's name, where there is
+    /// such a
     /// process.
     ///
     /// An `Err` says that memory was refused.

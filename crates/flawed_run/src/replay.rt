@@ -159,7 +159,8 @@ pub fn run<O: TextOut, F: TextOut>(
     ensures kept { (result ≡ 2) ⊎ (result ≡ 4) → output.new ≡ output.old }
     ensures failed { O.has_failed output.new ≡ true ↔ result ≡ 3 }
     ensures silent { result ≡ 0 → faults.new ≡ faults.old }
-    ensures told { result ≢ 0 → TellsFault (F.contents faults.old) (F.contents faults.new) (F.has_failed faults.new) result }
+    ensures told { result ≢ 0 → TellsFault (F.contents faults.old) (F.contents faults.new)
+        (F.has_failed faults.new) result }
 {
     match flawed_text(alloc, flaw, script) {
         Ok(text) => match write_all(output, text.as_slice()) {

@@ -77,7 +77,8 @@ impl<O: Spoken> World<O> {
         Ok(())
     }
 
-    /// The state and the reply of the cell that was read last, after the one at which a process stands; `None` where that
+    /// The state and the reply of the cell that was read last, after the one at which a process stands; `None` where
+    /// that
     /// has no state, or the other is no call's.
     ///
     /// An `Err` says that memory was refused.
@@ -229,7 +230,8 @@ impl<O: Spoken> World<O> {
         }
     }
 
-    /// The era ends: the list is replaced by its last cell that has a state, and there are so many processes. The answer
+    /// The era ends: the list is replaced by its last cell that has a state, and there are so many processes. The
+    /// answer
     /// is that cell's number.
     ///
     /// An `Err` says that memory was refused.

@@ -1,5 +1,7 @@
 -- What the lines of a goal ask of a script and of the answers to it.
-use Rattle.std.specs.Prelude.{◌≡◌, ℕ, ◌+◌, ◌-◌, ◌==◌, nat_le, nat_lt, nat_eq, not, ◌&&◌, ◌||◌, if◌then◌else◌, Bool, true, false, List, [], ◌∷◌, ◌++◌, drop, length, Option, None, Some, codes, decimal, slice_index_or, refl}
+use Rattle.std.specs.Prelude.{◌≡◌, ℕ, ◌+◌, ◌-◌, ◌==◌, nat_le, nat_lt, nat_eq, not, ◌&&◌, ◌||◌}
+use Rattle.std.specs.Prelude.{if◌then◌else◌, Bool, true, false, List, [], ◌∷◌, ◌++◌, drop, length, Option, None, Some}
+use Rattle.std.specs.Prelude.{codes, decimal, slice_index_or, refl}
 use Rattle.std.specs.Option.{option_map_or}
 use Rattle.std.specs.List.{list_any, starts_with, ends_with, slice_split}
 use Rattle.std.specs.Str.{bytes_eq}
@@ -34,7 +36,8 @@ ends_in text back = nat_le (length back) (length text) && ends_with nat_eq text 
 -- a text is like a pattern: it has the bytes of the pattern, of which the first `..` stands for any bytes
 abbrev pub is_like : (pattern text : List ℕ) → Bool
 is_like [] text = nat_le (length text) 0
-is_like (b ∷ pattern) text = option_map_or (ends_in text) (after_gap (b ∷ pattern)) (option_map_or (is_like pattern) (without_first b text) false)
+is_like (b ∷ pattern) text =
+    option_map_or (ends_in text) (after_gap (b ∷ pattern)) (option_map_or (is_like pattern) (without_first b text) false)
 
 -- one of some lines is like a pattern
 abbrev pub has_like : (pattern : List ℕ) → (lines : List (List ℕ)) → Bool
@@ -92,7 +95,8 @@ asks_order a c = bytes_eq a (codes "log") && bytes_eq c (codes "before")
 
 -- what the words of a line of a goal ask for; the line itself is a pattern of an answer, where its words are none of these forms
 abbrev pub is_met_by : Deed → (line : List ℕ) → (words : List (List ℕ)) → Bool
-is_met_by deed line (a ∷ b ∷ []) = if asks_no_refusals a b then not (has_like (codes "refused ..") deed.answers) else has_like line deed.answers
+is_met_by deed line (a ∷ b ∷ []) =
+    if asks_no_refusals a b then not (has_like (codes "refused ..") deed.answers) else has_like line deed.answers
 is_met_by deed line (a ∷ b ∷ c ∷ d ∷ []) =
     if asks_at_most a b d then is_at_most deed.script c
     else if asks_order a c then comes_before b d deed.answers
@@ -131,7 +135,8 @@ missing_in (Missing number) = Some number
 -- what is told of a goal that is met, and of one whose line of this number isn't
 abbrev pub judgement_text : (goal : List ℕ) → (missing : Option ℕ) → List ℕ
 judgement_text goal None = codes "met\n"
-judgement_text goal (Some number) = codes "line " ++ decimal number ++ codes " is not met: " ++ slice_index_or (lines_in goal) (number - 1) [] ++ codes "\n"
+judgement_text goal (Some number) =
+    codes "line " ++ decimal number ++ codes " is not met: " ++ slice_index_or (lines_in goal) (number - 1) [] ++ codes "\n"
 
 -- rows
 turns_are_like : is_like (codes "returned 1.0 .. turns 3") (codes "returned 1.0 ok steps 32 turns 3") ≡ true

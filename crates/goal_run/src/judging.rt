@@ -1,6 +1,7 @@
 //! Whether a script meets a goal, and what a program tells of it.
 
-ghost use Rattle.std.specs.Prelude.{◌≡◌, ◌≤◌, ◌++◌, [], false, None, Some, IfOk, IfErr, IsSome, OnOk, slice_index_or};
+ghost use Rattle.std.specs.Prelude.{◌≡◌, ◌≤◌, ◌++◌, [], false, None, Some, IfOk, IfErr, IsSome, OnOk};
+ghost use Rattle.std.specs.Prelude.{slice_index_or};
 ghost use Rattle.std.specs.Io.KnownBytes.{Appends};
 ghost use Rattle.uni_script.specs.Scripts.{scripts_of};
 ghost use Rattle.uni_script.specs.Replay.{IsFaultOfScript, fault_of_script, text_of_script};
@@ -11,7 +12,9 @@ use crate::lines::lines_in;
 use crate::wish::first_missing;
 use ready_objects::push_number;
 use std::alloc::{AllocError, Global};
-use uni_script::{BenchFault, Checked, Echo, Failed, Options, TextOut, bench, report_fault, write_all};
+use uni_script::{
+    BenchFault, Checked, Echo, Failed, Options, TextOut, bench, report_fault, write_all,
+};
 
 /// Whether a script meets a goal.
 #[derive(Clone, Copy, Debug, PartialEq, Eq)]
@@ -28,7 +31,8 @@ pub enum Judgement {
 pub fn answers_to(alloc: Global, script: &[u8]) -> Result<Vec<u8>, BenchFault>
     ensures good { OnOk result (fault_of_script (scripts_of 1048576) script.now ≡ None) }
     ensures text { IfOk result (λ text. text.items ≡ text_of_script (scripts_of 1048576) script.now) }
-    ensures fault { IfErr result (λ e. IsFaultOfScript e → fault_of_script (scripts_of 1048576) script.now ≡ Some e) }
+    ensures fault { IfErr result (λ e. IsFaultOfScript e
+        → fault_of_script (scripts_of 1048576) script.now ≡ Some e) }
 {
     let mut answers = Checked::new(Vec::new(alloc));
     let options = Options {
@@ -49,7 +53,8 @@ pub fn answers_to(alloc: Global, script: &[u8]) -> Result<Vec<u8>, BenchFault>
 pub fn judge(alloc: Global, goal: &[u8], script: &[u8]) -> Result<Judgement, BenchFault>
     ensures good { OnOk result (fault_of_script (scripts_of 1048576) script.now ≡ None) }
     ensures judged { IfOk result (λ judgement. missing_in judgement ≡ missing_of goal.now script.now) }
-    ensures fault { IfErr result (λ e. IsFaultOfScript e → fault_of_script (scripts_of 1048576) script.now ≡ Some e) }
+    ensures fault { IfErr result (λ e. IsFaultOfScript e
+        → fault_of_script (scripts_of 1048576) script.now ≡ Some e) }
 {
     let text = answers_to(alloc, script)?;
     let script = lines_in(alloc, script)?;
@@ -115,7 +120,8 @@ fn told(alloc: Global, goal: &[u8], script: &[u8]) -> Result<(Judgement, Vec<u8>
     ensures good { OnOk result (fault_of_script (scripts_of 1048576) script.now ≡ None) }
     ensures judged { IfOk result (λ told. missing_in told.0 ≡ missing_of goal.now script.now) }
     ensures text { IfOk result (λ told. told.1.items ≡ judgement_text goal.now (missing_of goal.now script.now)) }
-    ensures fault { IfErr result (λ e. IsFaultOfScript e → fault_of_script (scripts_of 1048576) script.now ≡ Some e) }
+    ensures fault { IfErr result (λ e. IsFaultOfScript e
+        → fault_of_script (scripts_of 1048576) script.now ≡ Some e) }
 {
     let judgement = judge(alloc, goal, script)?;
     let text = judgement_text(alloc, goal, judgement)?;
@@ -149,9 +155,11 @@ pub fn run<O: TextOut, F: TextOut>(
     requires output { O.has_failed output.old ≡ false }
     ensures met { result ≡ 0 → missing_of goal.now script.now ≡ None }
     ensures missing { result ≡ 1 → IsSome (missing_of goal.now script.now) }
-    ensures told { result ≤ 1 → Appends (O.contents output.old) (O.contents output.new) (judgement_text goal.now (missing_of goal.now script.now)) }
+    ensures told { result ≤ 1 → Appends (O.contents output.old) (O.contents output.new)
+        (judgement_text goal.now (missing_of goal.now script.now)) }
     ensures good { result ≤ 1 → fault_of_script (scripts_of 1048576) script.now ≡ None }
-    ensures fault { result ≡ 2 → IsSome (fault_of_script (scripts_of 1048576) script.now) × (output.new ≡ output.old) }
+    ensures fault { result ≡ 2 → IsSome (fault_of_script (scripts_of 1048576) script.now)
+        × (output.new ≡ output.old) }
 {
     match told(alloc, goal, script) {
         Ok((judgement, text)) => match write_all(output, text.as_slice()) {

@@ -3,7 +3,8 @@
 ghost use Rattle.std.specs.Prelude.{◌≡◌, IfOk};
 ghost use Rattle.std.specs.Str.{bytes_eq};
 ghost use Rattle.ready_objects.specs.Words.{bytes_of};
-ghost use Rattle.goal_run.specs.Goals.{asks_at_most, asks_no_refusals, asks_order, first_missing, is_at_most, is_met, is_met_by, is_note_or_met};
+ghost use Rattle.goal_run.specs.Goals.{asks_at_most, asks_no_refusals, asks_order, first_missing, is_at_most, is_met};
+ghost use Rattle.goal_run.specs.Goals.{is_met_by, is_note_or_met};
 
 use crate::lines::{comes_before, said_in};
 use crate::pattern::has_like;
@@ -59,7 +60,8 @@ fn is_met_by(
     line: &[u8],
     words: &[&[u8]],
 ) -> Result<bool, AllocError>
-    ensures { IfOk result (λ met. met ≡ is_met_by (record { script = bytes_of script.now; answers = bytes_of answers.now }) line.now (bytes_of words.now)) }
+    ensures { IfOk result (λ met. met ≡ is_met_by
+        (record { script = bytes_of script.now; answers = bytes_of answers.now }) line.now (bytes_of words.now)) }
 {
     match words {
         [a, b] => {
@@ -91,7 +93,8 @@ fn is_met(
     answers: &[&[u8]],
     line: &[u8],
 ) -> Result<bool, AllocError>
-    ensures { IfOk result (λ met. met ≡ is_met (record { script = bytes_of script.now; answers = bytes_of answers.now }) line.now) }
+    ensures { IfOk result (λ met. met ≡ is_met
+        (record { script = bytes_of script.now; answers = bytes_of answers.now }) line.now) }
 {
     if line.starts_with(b"script ") {
         return Ok(has_like(&line[7..], script));
@@ -114,7 +117,8 @@ fn is_note_or_met(
     answers: &[&[u8]],
     line: &[u8],
 ) -> Result<bool, AllocError>
-    ensures { IfOk result (λ met. met ≡ is_note_or_met (record { script = bytes_of script.now; answers = bytes_of answers.now }) line.now) }
+    ensures { IfOk result (λ met. met ≡ is_note_or_met
+        (record { script = bytes_of script.now; answers = bytes_of answers.now }) line.now) }
 {
     if is_note(line) {
         return Ok(true);
@@ -132,7 +136,9 @@ pub(crate) fn first_missing(
     answers: &[&[u8]],
     goal: &[&[u8]],
 ) -> Result<Option<u64>, AllocError>
-    ensures { IfOk result (λ missing. missing ≡ first_missing (record { script = bytes_of script.now; answers = bytes_of answers.now }) 1 (bytes_of goal.now)) }
+    ensures { IfOk result (λ missing. missing
+        ≡ first_missing (record { script = bytes_of script.now; answers = bytes_of answers.now }) 1
+        (bytes_of goal.now)) }
 {
     let mut number = 1;
     for line in goal {

@@ -15,7 +15,8 @@ use uni_script::BenchFault;
 ///
 /// An `Err` is its first fault, or `Memory`.
 pub fn has_answers(alloc: Global, script: &[u8], wanted: &[u8]) -> Result<bool, BenchFault>
-    ensures { IfOk result (λ same. (same ≡ true) ↔ (wanted.now ≡ text_of_script (scripts_of 1048576) script.now)) }
+    ensures { IfOk result (λ same. (same ≡ true)
+        ↔ (wanted.now ≡ text_of_script (scripts_of 1048576) script.now)) }
 {
     Ok(answers_to(alloc, script)?.as_slice() == wanted)
 }
@@ -29,7 +30,8 @@ pub fn has_goal(
     script: &[u8],
     wanted: &[u8],
 ) -> Result<bool, BenchFault>
-    ensures { IfOk result (λ same. (same ≡ true) ↔ (wanted.now ≡ judgement_text goal.now (missing_of goal.now script.now))) }
+    ensures { IfOk result (λ same. (same ≡ true)
+        ↔ (wanted.now ≡ judgement_text goal.now (missing_of goal.now script.now))) }
 {
     let judgement = judge(alloc, goal, script)?;
     Ok(judgement_text(alloc, goal, judgement)?.as_slice() == wanted)

@@ -1,8 +1,10 @@
 //! Whether the files of lessons say what comes of them. The arguments name folders; in each of them what the names of
 //! files have before their first dot are the lessons.
 //!
-//! `NAME.script` is a script, and `NAME.answers` what it is answered, also by a plain world of the same steps. Where there
-//! is `NAME.flaw`, that names a flaw, and `NAME.flawed` is written of the script on a world with it. Else the script meets
+//! `NAME.script` is a script, and `NAME.answers` what it is answered, also by a plain world of the same steps. Where
+//! there
+//! is `NAME.flaw`, that names a flaw, and `NAME.flawed` is written of the script on a world with it. Else the script
+//! meets
 //! the goal `NAME.goal`; of the script `NAME.beside`, which misses the point, `NAME.missing` is told.
 #![tactic(auto)]
 

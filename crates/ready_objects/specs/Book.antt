@@ -1,5 +1,7 @@
 -- The book: its state is the list of its sixteen balances.
-use Rattle.std.specs.Prelude.{◌≡◌, ℕ, ◌+◌, ◌-◌, ◌/◌, ◌%◌, ◌==◌, ◌<◌, nat_le, Bool, true, false, not, ◌&&◌, ◌||◌, if◌then◌else◌, List, [], ◌∷◌, ◌++◌, length, map, replicate, slice_index, slice_set, sum, Option, Some, None, option_and_then, codes, refl}
+use Rattle.std.specs.Prelude.{◌≡◌, ℕ, ◌+◌, ◌-◌, ◌/◌, ◌%◌, ◌==◌, ◌<◌, nat_le, Bool, true, false, not}
+use Rattle.std.specs.Prelude.{◌&&◌, ◌||◌, if◌then◌else◌, List, [], ◌∷◌, ◌++◌, length, map, replicate, slice_index}
+use Rattle.std.specs.Prelude.{slice_set, sum, Option, Some, None, option_and_then, codes, refl}
 use Rattle.std.specs.Fmt.{decimal, digits}
 use Rattle.std.specs.Str.{bytes_eq}
 use Rattle.std.proofs.Common.{arith}
@@ -105,7 +107,8 @@ book_inv_of_word word =
 
 -- its words
 abbrev pub book_language : Language BookInv BookResp
-book_language = record { inv_words = book_words; inv_of_words = book_inv_of_words; resp_text = book_resp_text; inv_of_word = book_inv_of_word }
+book_language =
+    record { inv_words = book_words; inv_of_words = book_inv_of_words; resp_text = book_resp_text; inv_of_word = book_inv_of_word }
 
 -- the accounts of an invocation are among the sixteen
 abbrev pub HasAccounts : BookInv → Type 0
@@ -193,7 +196,8 @@ total_is_read : book_inv_of_words (words_of_text (codes "total")) ≡ Some Total
 total_is_read = refl
 
 words_of_invocations : map book_words (Deposit 15 7 ∷ Withdraw 15 7 ∷ Move 15 0 7 ∷ Total ∷ [])
-    ≡ (codes "deposit" ∷ codes "15" ∷ codes "7" ∷ []) ∷ (codes "withdraw" ∷ codes "15" ∷ codes "7" ∷ []) ∷ (codes "move" ∷ codes "15" ∷ codes "0" ∷ codes "7" ∷ []) ∷ (codes "total" ∷ []) ∷ []
+    ≡ (codes "deposit" ∷ codes "15" ∷ codes "7" ∷ []) ∷ (codes "withdraw" ∷ codes "15" ∷ codes "7" ∷ [])
+    ∷ (codes "move" ∷ codes "15" ∷ codes "0" ∷ codes "7" ∷ []) ∷ (codes "total" ∷ []) ∷ []
 unfolding digits
 words_of_invocations = refl
 
@@ -210,12 +214,14 @@ unfolding number_below number_of_word
 account_15_and_value_999999999999_are_taken = refl
 
 account_16_is_not : map (λ text. book_inv_of_words (words_of_text text))
-    (codes "deposit 16 7" ∷ codes "withdraw 16 7" ∷ codes "move 16 0 7" ∷ codes "move 0 16 7" ∷ []) ≡ None ∷ None ∷ None ∷ None ∷ []
+    (codes "deposit 16 7" ∷ codes "withdraw 16 7" ∷ codes "move 16 0 7" ∷ codes "move 0 16 7" ∷ [])
+    ≡ None ∷ None ∷ None ∷ None ∷ []
 unfolding number_below number_of_word
 account_16_is_not = refl
 
 value_1000000000000_is_not : map (λ text. book_inv_of_words (words_of_text text))
-    (codes "deposit 0 1000000000000" ∷ codes "withdraw 0 1000000000000" ∷ codes "move 0 1 1000000000000" ∷ []) ≡ None ∷ None ∷ None ∷ []
+    (codes "deposit 0 1000000000000" ∷ codes "withdraw 0 1000000000000" ∷ codes "move 0 1 1000000000000" ∷ [])
+    ≡ None ∷ None ∷ None ∷ []
 unfolding number_below number_of_word
 value_1000000000000_is_not = refl
 
@@ -223,28 +229,33 @@ value_1000000000000_is_not = refl
 drawn_at_each_residue : map book_inv_of_word (0 ∷ 1 ∷ 2 ∷ 3 ∷ []) ≡ Deposit 0 0 ∷ Withdraw 0 0 ∷ Move 0 0 0 ∷ Total ∷ []
 drawn_at_each_residue = refl
 
-drawn_accounts_are_below_16 : map book_inv_of_word (62 ∷ 66 ∷ 1022 ∷ 1026 ∷ []) ≡ Move 15 0 0 ∷ Move 0 1 0 ∷ Move 15 15 0 ∷ Move 0 0 1 ∷ []
+drawn_accounts_are_below_16 : map book_inv_of_word (62 ∷ 66 ∷ 1022 ∷ 1026 ∷ [])
+    ≡ Move 15 0 0 ∷ Move 0 1 0 ∷ Move 15 15 0 ∷ Move 0 0 1 ∷ []
 drawn_accounts_are_below_16 = refl
 
 drawn_values_are_below_1000 : map book_inv_of_word (1023998 ∷ 1024000 ∷ []) ≡ Move 15 15 999 ∷ Deposit 0 0 ∷ []
 drawn_values_are_below_1000 = refl
 
-drawn_from_the_greatest_words : map book_inv_of_word (18446744073709551614 ∷ 18446744073709551615 ∷ []) ≡ Move 15 15 983 ∷ Total ∷ []
+drawn_from_the_greatest_words : map book_inv_of_word (18446744073709551614 ∷ 18446744073709551615 ∷ [])
+    ≡ Move 15 15 983 ∷ Total ∷ []
 drawn_from_the_greatest_words = refl
 
 account_0_and_value_0_are_taken : map (λ text. book_inv_of_words (words_of_text text))
-    (codes "deposit 0 0" ∷ codes "withdraw 0 0" ∷ codes "move 0 0 0" ∷ []) ≡ Some (Deposit 0 0) ∷ Some (Withdraw 0 0) ∷ Some (Move 0 0 0) ∷ []
+    (codes "deposit 0 0" ∷ codes "withdraw 0 0" ∷ codes "move 0 0 0" ∷ [])
+    ≡ Some (Deposit 0 0) ∷ Some (Withdraw 0 0) ∷ Some (Move 0 0 0) ∷ []
 unfolding number_below number_of_word
 account_0_and_value_0_are_taken = refl
 
 a_leading_zero_is_not : map (λ text. book_inv_of_words (words_of_text text))
-    (codes "deposit 015 7" ∷ codes "deposit 15 07" ∷ codes "withdraw 015 7" ∷ codes "withdraw 15 07" ∷ codes "move 015 0 7" ∷ codes "move 0 015 7" ∷ codes "move 0 1 07" ∷ [])
+    (codes "deposit 015 7" ∷ codes "deposit 15 07" ∷ codes "withdraw 015 7" ∷ codes "withdraw 15 07" ∷ codes "move 015 0 7"
+    ∷ codes "move 0 015 7" ∷ codes "move 0 1 07" ∷ [])
     ≡ None ∷ None ∷ None ∷ None ∷ None ∷ None ∷ None ∷ []
 unfolding number_below number_of_word
 a_leading_zero_is_not = refl
 
 accounts_far_past_15_are_not : map (λ text. book_inv_of_words (words_of_text text))
-    (codes "deposit 999999999999 7" ∷ codes "withdraw 1000000000000 7" ∷ codes "move 999999999999 0 7" ∷ codes "move 0 1000000000000 7" ∷ []) ≡ None ∷ None ∷ None ∷ None ∷ []
+    (codes "deposit 999999999999 7" ∷ codes "withdraw 1000000000000 7" ∷ codes "move 999999999999 0 7"
+    ∷ codes "move 0 1000000000000 7" ∷ []) ≡ None ∷ None ∷ None ∷ None ∷ []
 unfolding number_below number_of_word
 accounts_far_past_15_are_not = refl
 
@@ -268,7 +279,8 @@ account_16_of_a_move_is_not_there : ¬ (HasAccounts (Move 16 0 7)) × ¬ (HasAcc
 account_16_of_a_move_is_not_there = (λ there. let source = there.0 in omega arith, λ there. let target = there.1 in omega arith)
 
 -- where a sum meets the greatest balance, and where it passes it
-room_up_to_999999999999 : map (has_room (999999999998 ∷ []) 0) (0 ∷ 1 ∷ 2 ∷ 999999999999 ∷ []) ≡ true ∷ true ∷ false ∷ false ∷ []
+room_up_to_999999999999 : map (has_room (999999999998 ∷ []) 0) (0 ∷ 1 ∷ 2 ∷ 999999999999 ∷ [])
+    ≡ true ∷ true ∷ false ∷ false ∷ []
 room_up_to_999999999999 = refl
 
 funds_up_to_the_balance : map (has_funds (4 ∷ []) 0) (0 ∷ 4 ∷ 5 ∷ 999999999999 ∷ []) ≡ true ∷ true ∷ false ∷ false ∷ []

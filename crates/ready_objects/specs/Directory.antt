@@ -1,5 +1,6 @@
 -- The directory: its state is the list of its pairs of a name and a value, in order of insertion.
-use Rattle.std.specs.Prelude.{◌≡◌, ℕ, ◌/◌, ◌%◌, ◌==◌, nat_lt, if◌then◌else◌, List, [], ◌∷◌, ◌++◌, length, map, replicate, slice_get, Option, Some, None, is_some, option_map, option_and_then, codes, refl}
+use Rattle.std.specs.Prelude.{◌≡◌, ℕ, ◌/◌, ◌%◌, ◌==◌, nat_lt, if◌then◌else◌, List, [], ◌∷◌, ◌++◌}
+use Rattle.std.specs.Prelude.{length, map, replicate, slice_get, Option, Some, None, is_some, option_map, option_and_then, codes, refl}
 use Rattle.std.specs.Fmt.{decimal, digits}
 use Rattle.std.specs.Map.{lookup, set_value, remove_entry}
 use Rattle.std.specs.Str.{bytes_eq}
@@ -107,18 +108,26 @@ pairs_text pairs = codes "{" ++ spaced_from pair_text 0 pairs ++ codes "}"
 
 -- its words
 abbrev pub directory_language : Language DirectoryInv DirectoryResp
-directory_language = record { inv_words = directory_words; inv_of_words = directory_inv_of_words; resp_text = directory_resp_text; inv_of_word = directory_inv_of_word }
+directory_language =
+    record {
+      inv_words = directory_words;
+      inv_of_words = directory_inv_of_words;
+      resp_text = directory_resp_text;
+      inv_of_word = directory_inv_of_word;
+    }
 
 a_new_pair_goes_last : directory_next ((codes "b", 1) ∷ []) (Put (codes "a") 2) ≡ (codes "b", 1) ∷ (codes "a", 2) ∷ []
 a_new_pair_goes_last = refl
 
-a_put_keeps_its_place : directory_next ((codes "b", 1) ∷ (codes "a", 2) ∷ []) (Put (codes "b") 3) ≡ (codes "b", 3) ∷ (codes "a", 2) ∷ []
+a_put_keeps_its_place : directory_next ((codes "b", 1) ∷ (codes "a", 2) ∷ []) (Put (codes "b") 3)
+    ≡ (codes "b", 3) ∷ (codes "a", 2) ∷ []
 a_put_keeps_its_place = refl
 
 a_put_tells_the_old_value : directory_answer ((codes "b", 1) ∷ (codes "a", 2) ∷ []) (Put (codes "b") 3) ≡ Was 1
 a_put_tells_the_old_value = refl
 
-later_pairs_close_up : directory_next ((codes "b", 3) ∷ (codes "a", 2) ∷ (codes "c", 4) ∷ []) (Del (codes "b")) ≡ (codes "a", 2) ∷ (codes "c", 4) ∷ []
+later_pairs_close_up : directory_next ((codes "b", 3) ∷ (codes "a", 2) ∷ (codes "c", 4) ∷ []) (Del (codes "b"))
+    ≡ (codes "a", 2) ∷ (codes "c", 4) ∷ []
 later_pairs_close_up = refl
 
 a_full_directory_refuses_a_new_name : directory_answer (replicate 256 (codes "b", 1)) (Put (codes "a") 2) ≡ Full
@@ -171,7 +180,8 @@ size_is_read : directory_inv_of_words (words_of_text (codes "size")) ≡ Some Si
 size_is_read = refl
 
 words_of_invocations : map directory_words (Put (codes "a") 7 ∷ Get (codes "a") ∷ Del (codes "a") ∷ Size ∷ At 255 ∷ [])
-    ≡ (codes "put" ∷ codes "a" ∷ codes "7" ∷ []) ∷ (codes "get" ∷ codes "a" ∷ []) ∷ (codes "del" ∷ codes "a" ∷ []) ∷ (codes "size" ∷ []) ∷ (codes "at" ∷ codes "255" ∷ []) ∷ []
+    ≡ (codes "put" ∷ codes "a" ∷ codes "7" ∷ []) ∷ (codes "get" ∷ codes "a" ∷ []) ∷ (codes "del" ∷ codes "a" ∷ [])
+    ∷ (codes "size" ∷ []) ∷ (codes "at" ∷ codes "255" ∷ []) ∷ []
 unfolding digits
 words_of_invocations = refl
 
@@ -196,7 +206,8 @@ value_1000000000000_is_not : directory_inv_of_words (words_of_text (codes "put a
 unfolding number_of_word
 value_1000000000000_is_not = refl
 
-a_name_of_16_bytes_is_taken : directory_inv_of_words (words_of_text (codes "get abcdefghijklmnop")) ≡ Some (Get (codes "abcdefghijklmnop"))
+a_name_of_16_bytes_is_taken : directory_inv_of_words (words_of_text (codes "get abcdefghijklmnop"))
+    ≡ Some (Get (codes "abcdefghijklmnop"))
 a_name_of_16_bytes_is_taken = refl
 
 a_name_of_17_bytes_is_not : directory_inv_of_words (words_of_text (codes "get abcdefghijklmnopq")) ≡ None
@@ -204,7 +215,8 @@ a_name_of_17_bytes_is_not = refl
 
 -- drawn words at each residue, and on both sides of ten names, ten places and 1000 values
 drawn_at_each_residue : map directory_inv_of_word (0 ∷ 1 ∷ 2 ∷ 3 ∷ 4 ∷ 5 ∷ 6 ∷ 7 ∷ [])
-    ≡ Put (codes "n0") 0 ∷ Put (codes "n0") 0 ∷ Put (codes "n0") 0 ∷ Get (codes "n0") ∷ Get (codes "n0") ∷ Del (codes "n0") ∷ Size ∷ At 0 ∷ []
+    ≡ Put (codes "n0") 0 ∷ Put (codes "n0") 0 ∷ Put (codes "n0") 0 ∷ Get (codes "n0") ∷ Get (codes "n0") ∷ Del (codes "n0")
+    ∷ Size ∷ At 0 ∷ []
 unfolding digits
 drawn_at_each_residue = refl
 
@@ -232,11 +244,13 @@ place_0_is_taken : directory_inv_of_words (words_of_text (codes "at 0")) ≡ Som
 unfolding number_below number_of_word
 place_0_is_taken = refl
 
-a_leading_zero_is_not : map (λ text. directory_inv_of_words (words_of_text text)) (codes "put a 00" ∷ codes "at 00" ∷ codes "at 0255" ∷ []) ≡ None ∷ None ∷ None ∷ []
+a_leading_zero_is_not : map (λ text. directory_inv_of_words (words_of_text text))
+    (codes "put a 00" ∷ codes "at 00" ∷ codes "at 0255" ∷ []) ≡ None ∷ None ∷ None ∷ []
 unfolding number_below number_of_word
 a_leading_zero_is_not = refl
 
-places_far_past_255_are_not : map (λ text. directory_inv_of_words (words_of_text text)) (codes "at 999999999999" ∷ codes "at 1000000000000" ∷ []) ≡ None ∷ None ∷ []
+places_far_past_255_are_not : map (λ text. directory_inv_of_words (words_of_text text))
+    (codes "at 999999999999" ∷ codes "at 1000000000000" ∷ []) ≡ None ∷ None ∷ []
 unfolding number_below number_of_word
 places_far_past_255_are_not = refl
 
@@ -248,12 +262,14 @@ unfolding number_of_word
 names_of_16_bytes_are_taken = refl
 
 names_of_17_bytes_are_not : map (λ text. directory_inv_of_words (words_of_text text))
-    (codes "put abcdefghijklmnopq 7" ∷ codes "get qrstuvwxyz0123456" ∷ codes "del 67896789678967896" ∷ []) ≡ None ∷ None ∷ None ∷ []
+    (codes "put abcdefghijklmnopq 7" ∷ codes "get qrstuvwxyz0123456" ∷ codes "del 67896789678967896" ∷ [])
+    ≡ None ∷ None ∷ None ∷ []
 unfolding number_of_word
 names_of_17_bytes_are_not = refl
 
 -- between two spaces
-an_empty_name_is_not : map (λ text. directory_inv_of_words (words_of_text text)) (codes "put  7" ∷ codes "get " ∷ codes "del " ∷ []) ≡ None ∷ None ∷ None ∷ []
+an_empty_name_is_not : map (λ text. directory_inv_of_words (words_of_text text)) (codes "put  7" ∷ codes "get " ∷ codes "del " ∷ [])
+    ≡ None ∷ None ∷ None ∷ []
 unfolding number_of_word
 an_empty_name_is_not = refl
 
@@ -263,7 +279,8 @@ put_answers_at_255_and_256_names = refl
 a_present_name_is_answered_at_256_names : put_answer 256 (Some 7) ≡ Was 7
 a_present_name_is_answered_at_256_names = refl
 
-sizes_of_255_and_256_names : map (λ count. directory_answer (replicate count (codes "b", 1)) Size) (255 ∷ 256 ∷ []) ≡ Count 255 ∷ Count 256 ∷ []
+sizes_of_255_and_256_names : map (λ count. directory_answer (replicate count (codes "b", 1)) Size) (255 ∷ 256 ∷ [])
+    ≡ Count 255 ∷ Count 256 ∷ []
 sizes_of_255_and_256_names = refl
 
 a_full_directory_keeps_256_names : length (directory_next (replicate 256 (codes "b", 1)) (Put (codes "b") 2)) ≡ 256

@@ -1,5 +1,6 @@
 -- The words that stand for numbers.
-use Rattle.std.specs.Prelude.{◌≡◌, ℕ, ◌==◌, nat_lt, nat_le, not, ◌&&◌, ◌||◌, if◌then◌else◌, Bool, List, [], ◌∷◌, ◌++◌, length, map, slice_index, Option, Some, None, option_and_then, codes, refl}
+use Rattle.std.specs.Prelude.{◌≡◌, ℕ, ◌==◌, nat_lt, nat_le, not, ◌&&◌, ◌||◌, if◌then◌else◌, Bool, List, []}
+use Rattle.std.specs.Prelude.{◌∷◌, ◌++◌, length, map, slice_index, Option, Some, None, option_and_then, codes, refl}
 use Rattle.std.specs.Char.{is_ascii_digit}
 use Rattle.std.specs.Fmt.{decimal, digits}
 use Rattle.std.specs.List.{list_all}
@@ -9,7 +10,8 @@ use Rattle.ready_objects.specs.Words.{spaced_from}
 -- 1 to 12 decimal digits, without a leading zero unless the word is `0`
 abbrev pub is_number : List ℕ → Bool
 is_number word =
-    nat_lt 0 (length word) && nat_le (length word) 12 && list_all is_ascii_digit word && (not (slice_index word 0 == 48) || length word == 1)
+    nat_lt 0 (length word) && nat_le (length word) 12 && list_all is_ascii_digit word
+    && (not (slice_index word 0 == 48) || length word == 1)
 
 -- the number that a word stands for
 unfoldable pub number_of_word : List ℕ → Option ℕ
@@ -80,12 +82,14 @@ two_hundred_and_fifty_six_is_not_below_256 : number_below 256 (codes "256") ≡ 
 unfolding number_below number_of_word
 two_hundred_and_fifty_six_is_not_below_256 = refl
 
-value_0_and_leading_zeros : map number_of_word (codes "0" ∷ codes "01" ∷ codes "000000000000" ∷ codes "0999999999999" ∷ []) ≡ Some 0 ∷ None ∷ None ∷ None ∷ []
+value_0_and_leading_zeros : map number_of_word (codes "0" ∷ codes "01" ∷ codes "000000000000" ∷ codes "0999999999999" ∷ [])
+    ≡ Some 0 ∷ None ∷ None ∷ None ∷ []
 unfolding number_of_word
 value_0_and_leading_zeros = refl
 
 -- 2^64 and 2^64 + 1, which are 0 and 1 in 64 bits
-numbers_past_64_bits_are_none : map number_of_word (codes "18446744073709551616" ∷ codes "18446744073709551617" ∷ []) ≡ None ∷ None ∷ []
+numbers_past_64_bits_are_none : map number_of_word (codes "18446744073709551616" ∷ codes "18446744073709551617" ∷ [])
+    ≡ None ∷ None ∷ []
 unfolding number_of_word
 numbers_past_64_bits_are_none = refl
 
@@ -93,7 +97,8 @@ zero_is_below_one : map (number_below 1) (codes "0" ∷ codes "1" ∷ []) ≡ So
 unfolding number_below number_of_word
 zero_is_below_one = refl
 
-numbers_far_past_16_are_not_below_it : map (number_below 16) (codes "999999999999" ∷ codes "1000000000000" ∷ []) ≡ None ∷ None ∷ []
+numbers_far_past_16_are_not_below_it : map (number_below 16) (codes "999999999999" ∷ codes "1000000000000" ∷ [])
+    ≡ None ∷ None ∷ []
 unfolding number_below number_of_word
 numbers_far_past_16_are_not_below_it = refl
 

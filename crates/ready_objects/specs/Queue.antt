@@ -1,5 +1,6 @@
 -- The queue: its state is the list of its values, the first of them first.
-use Rattle.std.specs.Prelude.{◌≡◌, ℕ, ◌/◌, ◌%◌, ◌==◌, nat_lt, if◌then◌else◌, List, [], ◌∷◌, ◌++◌, length, map, replicate, Option, Some, None, option_map, codes, refl}
+use Rattle.std.specs.Prelude.{◌≡◌, ℕ, ◌/◌, ◌%◌, ◌==◌, nat_lt, if◌then◌else◌, List, [], ◌∷◌, ◌++◌}
+use Rattle.std.specs.Prelude.{length, map, replicate, Option, Some, None, option_map, codes, refl}
 use Rattle.std.specs.Fmt.{decimal, digits}
 use Rattle.std.specs.Str.{bytes_eq}
 use Rattle.seq_object.specs.Sequential.{Sequential}
@@ -51,7 +52,8 @@ queue_inv_of_word word = if word % 3 == 0 then Deq else Enq (word / 3 % 1000)
 
 -- its words
 abbrev pub queue_language : Language QueueInv QueueResp
-queue_language = record { inv_words = queue_words; inv_of_words = queue_inv_of_words; resp_text = queue_resp_text; inv_of_word = queue_inv_of_word }
+queue_language =
+    record { inv_words = queue_words; inv_of_words = queue_inv_of_words; resp_text = queue_resp_text; inv_of_word = queue_inv_of_word }
 
 a_value_is_added : queue_next (4 ∷ []) (Enq 7) ≡ 4 ∷ 7 ∷ []
 a_value_is_added = refl
@@ -95,7 +97,8 @@ deq_is_read = refl
 words_of_deq : queue_words Deq ≡ codes "deq" ∷ []
 words_of_deq = refl
 
-texts_of_responses : map queue_resp_text (Added ∷ Full ∷ Taken 7 ∷ Empty ∷ []) ≡ codes "ok" ∷ codes "full" ∷ codes "7" ∷ codes "empty" ∷ []
+texts_of_responses : map queue_resp_text (Added ∷ Full ∷ Taken 7 ∷ Empty ∷ [])
+    ≡ codes "ok" ∷ codes "full" ∷ codes "7" ∷ codes "empty" ∷ []
 unfolding digits
 texts_of_responses = refl
 

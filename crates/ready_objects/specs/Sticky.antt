@@ -1,5 +1,6 @@
 -- The sticky register: its state is its value, where that is settled.
-use Rattle.std.specs.Prelude.{◌≡◌, ℕ, ◌/◌, ◌%◌, ◌==◌, if◌then◌else◌, List, [], ◌∷◌, ◌++◌, map, Option, Some, None, option_map, codes, refl}
+use Rattle.std.specs.Prelude.{◌≡◌, ℕ, ◌/◌, ◌%◌, ◌==◌, if◌then◌else◌, List, [], ◌∷◌, ◌++◌, map, Option}
+use Rattle.std.specs.Prelude.{Some, None, option_map, codes, refl}
 use Rattle.std.specs.Fmt.{decimal, digits}
 use Rattle.std.specs.Str.{bytes_eq}
 use Rattle.seq_object.specs.History.{Call}
@@ -55,7 +56,8 @@ sticky_inv_of_word word = if word % 2 == 0 then Read else Stick (word / 2 % 1000
 
 -- its words
 abbrev pub sticky_language : Language StickyInv StickyResp
-sticky_language = record { inv_words = sticky_words; inv_of_words = sticky_inv_of_words; resp_text = sticky_resp_text; inv_of_word = sticky_inv_of_word }
+sticky_language =
+    record { inv_words = sticky_words; inv_of_words = sticky_inv_of_words; resp_text = sticky_resp_text; inv_of_word = sticky_inv_of_word }
 
 -- the reply to a call that proposes a value, where it is known
 abbrev pub stick_reply : StickyInv → Option StickyResp → List StickyResp
@@ -134,6 +136,7 @@ a_leading_zero_is_not : sticky_inv_of_words (words_of_text (codes "stick 00")) �
 unfolding number_of_word
 a_leading_zero_is_not = refl
 
-numbers_past_64_bits_are_not : map (λ text. sticky_inv_of_words (words_of_text text)) (codes "stick 18446744073709551616" ∷ codes "stick 18446744073709551617" ∷ []) ≡ None ∷ None ∷ []
+numbers_past_64_bits_are_not : map (λ text. sticky_inv_of_words (words_of_text text))
+    (codes "stick 18446744073709551616" ∷ codes "stick 18446744073709551617" ∷ []) ≡ None ∷ None ∷ []
 unfolding number_of_word
 numbers_past_64_bits_are_not = refl

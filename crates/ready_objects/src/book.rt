@@ -1,11 +1,14 @@
 //! A book of sixteen accounts.
 
-ghost use Rattle.std.specs.Prelude.{◌≡◌, ℕ, ◌+◌, ◌≤◌, List, [], ◌∷◌, ◌++◌, OnOk, decimal, sum, length, refl};
+ghost use Rattle.std.specs.Prelude.{◌≡◌, ℕ, ◌+◌, ◌≤◌, List, [], ◌∷◌, ◌++◌, OnOk, decimal};
+ghost use Rattle.std.specs.Prelude.{sum, length, refl};
 ghost use Rattle.ready_objects.specs.declared.book.BookInv.TheVariants.{Deposit, Withdraw, Move, Total};
 ghost use Rattle.ready_objects.specs.declared.book.BookResp.TheVariants.{Balance, Over, Short, Moved, Sum};
-ghost use Rattle.seq_object.proofs.Cases.{exact_by_cases, other, itself_one, only_one, itself_two, only_two, itself_three, only_three};
+ghost use Rattle.seq_object.proofs.Cases.{exact_by_cases, other, itself_one, only_one, itself_two, only_two};
+ghost use Rattle.seq_object.proofs.Cases.{itself_three, only_three};
 ghost use Rattle.ready_objects.specs.Number.{numbers_text};
-ghost use Rattle.ready_objects.specs.Book.{book, book_start, book_next, book_answer, book_inv_of_words, book_language, HasAccounts, added_by, taken_by, total_added, total_taken};
+ghost use Rattle.ready_objects.specs.Book.{book, book_start, book_next, book_answer, book_inv_of_words, book_language};
+ghost use Rattle.ready_objects.specs.Book.{HasAccounts, added_by, taken_by, total_added, total_taken};
 ghost use Rattle.std.specs.List.{All};
 ghost use Rattle.seq_object.specs.History.{state_after};
 ghost use Rattle.ready_objects.specs.declared.book.BookInv.{BookInv};
@@ -279,10 +282,12 @@ fn read_at_account(name: &[u8], account: &[u8], amount: &[u8]) -> Option<BookInv
 /// the greatest amount. The call does nothing: it tells what holds of each list of invocations.
 pub fn book_is_conserved()
     ensures each_call { (balances : List ℕ) (inv : BookInv) → length balances ≡ 16 → HasAccounts inv
-        → sum (book_next balances inv) + taken_by inv (book_answer balances inv) ≡ sum balances + added_by inv (book_answer balances inv) }
+        → sum (book_next balances inv) + taken_by inv (book_answer balances inv)
+        ≡ sum balances + added_by inv (book_answer balances inv) }
     ensures moves { (balances : List ℕ) (a b v : ℕ) → length balances ≡ 16 → HasAccounts (BookInv.Move a b v)
         → sum (book_next balances (BookInv.Move a b v)) ≡ sum balances }
     ensures all_calls { (invs : List BookInv) → All HasAccounts invs
         → sum (state_after book book_start invs) + total_taken book_start invs ≡ total_added book_start invs }
-    ensures bounded { (invs : List BookInv) → All (λ balance. balance ≤ 999999999999) (state_after book book_start invs) }
+    ensures bounded { (invs : List BookInv) → All (λ balance. balance ≤ 999999999999)
+        (state_after book book_start invs) }
 {}

@@ -1,15 +1,19 @@
 //! A directory of at most 256 names, in order of insertion.
 
-ghost use Rattle.std.specs.Prelude.{◌≡◌, ◌<◌, ◌++◌, [], ◌∷◌, length, position, IfOk, IfSome, IfNone, OnOk, OnErr, refl};
+ghost use Rattle.std.specs.Prelude.{◌≡◌, ◌<◌, ◌++◌, [], ◌∷◌, length, position, IfOk, IfSome};
+ghost use Rattle.std.specs.Prelude.{IfNone, OnOk, OnErr, refl};
 ghost use Rattle.std.specs.Arc.{arc_value};
 ghost use Rattle.std.specs.List.{IsDistinct};
 ghost use Rattle.std.specs.Map.{set_value};
 ghost use Rattle.std.specs.Str.{bytes_eq};
-ghost use Rattle.seq_object.proofs.Cases.{exact_by_cases, other, itself_one, only_one, itself_text, only_text, itself_named, only_named};
+ghost use Rattle.seq_object.proofs.Cases.{exact_by_cases, other, itself_one, only_one, itself_text, only_text};
+ghost use Rattle.seq_object.proofs.Cases.{itself_named, only_named};
 ghost use Rattle.ready_objects.specs.SharedNames.{AddsName, named};
 ghost use Rattle.ready_objects.specs.declared.directory.DirectoryInv.TheVariants.{Put, Get, Del, Size, At};
-ghost use Rattle.ready_objects.specs.declared.directory.DirectoryResp.TheVariants.{Was, New, Full, Found, Absent, Count};
-ghost use Rattle.ready_objects.specs.Directory.{value_of, directory_next, directory, directory_answer, directory_inv_of_words, directory_language, pair_text, pairs_text};
+ghost use Rattle.ready_objects.specs.declared.directory.DirectoryResp.TheVariants.{Was, New, Full, Found, Absent};
+ghost use Rattle.ready_objects.specs.declared.directory.DirectoryResp.TheVariants.{Count};
+ghost use Rattle.ready_objects.specs.Directory.{value_of, directory_next, directory, directory_answer};
+ghost use Rattle.ready_objects.specs.Directory.{directory_inv_of_words, directory_language, pair_text, pairs_text};
 
 use crate::name::Name;
 use crate::number::{Amount, push_number, push_with_number};

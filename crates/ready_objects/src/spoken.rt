@@ -71,7 +71,8 @@ pub trait Spoken: SeqObject {
         // Its text is cut at the spaces into its words.
         ensures words { words_of_text (text_of_words (language.inv_words inv.now)) ≡ language.inv_words inv.now }
         ensures inv { language.inv_of_words (language.inv_words inv.now) ≡ Some inv.now }
-        ensures only { (words : List (List ℕ)) → language.inv_of_words words ≡ Some inv.now → words ≡ language.inv_words inv.now };
+        ensures only { (words : List (List ℕ)) → language.inv_of_words words ≡ Some inv.now
+            → words ≡ language.inv_words inv.now };
 }
 
 /// Tells whether a word is this text.

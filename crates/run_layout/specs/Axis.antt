@@ -1,5 +1,6 @@
 -- Where each event and each refusal stands from left to right.
-use Rattle.std.specs.Prelude.{◌≡◌, ℕ, zero, suc, ◌+◌, ◌-◌, ◌*◌, ◌/◌, ◌≤◌, min, max, ◌==◌, if◌then◌else◌, nat_le, List, [], ◌∷◌, length, map, take, slice_index_or, Option, Some, None, refl}
+use Rattle.std.specs.Prelude.{◌≡◌, ℕ, zero, suc, ◌+◌, ◌-◌, ◌*◌, ◌/◌, ◌≤◌, min, max, ◌==◌}
+use Rattle.std.specs.Prelude.{if◌then◌else◌, nat_le, List, [], ◌∷◌, length, map, take, slice_index_or, Option, Some, None, refl}
 use Rattle.std.specs.List.{find, sum, sum_by}
 use Rattle.std.specs.Option.{option_map_or}
 use Rattle.uni_script.specs.declared.told.Remark.{Remark}
@@ -47,7 +48,8 @@ width_of_line lines scale event = option_map_or (line_room scale) (find (λ line
 
 -- how wide the column of an event is
 abbrev pub width_of : RunMarks → Scale → (event : ℕ) → ℕ
-width_of marks scale event = option_map_or (bar_room marks.events scale) (find (λ bar. bar.from == event) marks.bars) (width_of_line marks.lines scale event)
+width_of marks scale event =
+    option_map_or (bar_room marks.events scale) (find (λ bar. bar.from == event) marks.bars) (width_of_line marks.lines scale event)
 
 -- how wide the columns are from an event on, of so many events
 unfoldable pub widths_from : RunMarks → Scale → (event count : ℕ) → List ℕ
@@ -77,7 +79,8 @@ event_columns start rooms event taken (width ∷ widths) =
 abbrev pub told_columns : (start : ℕ) → (widths : List ℕ) → (taken : ℕ) → List Room → List Column
 told_columns start widths taken [] = []
 told_columns start widths taken (room ∷ rooms) =
-    record { left = start + sum (take room.before widths) + taken; width = room.width } ∷ told_columns start widths (taken + room.width) rooms
+    record { left = start + sum (take room.before widths) + taken; width = room.width }
+    ∷ told_columns start widths (taken + room.width) rooms
 
 -- the columns of a run, and where the last one ends
 pub record Places : Type 0 where

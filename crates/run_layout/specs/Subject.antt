@@ -18,15 +18,18 @@ use Rattle.run_layout.specs.declared.subject.PictureFault.{PictureFault}
 use Rattle.run_layout.specs.declared.subject.PictureFault.TheVariants.{Script, TooManyEvents}
 
 -- the marks of some events of n processes, on an object of this name
-unfoldable pub marks_of_events : {S I R : Type 0} → SpokenObject S I R → (name : List ℕ) → (n first : ℕ) → List (Event I) → RunMarks
+unfoldable pub marks_of_events : {S I R : Type 0} → SpokenObject S I R → (name : List ℕ) → (n first : ℕ) → List (Event I)
+    → RunMarks
 marks_of_events o name n first events = marks_of_run o name (opened_world n o.object.initial first) events
 
 -- those of a record, by its object
 abbrev pub marks_of_record : ScriptRecord → RunMarks
 marks_of_record (Queue r) = marks_of_events (spoken_of name.Queue) (word_of_object name.Queue) r.processes r.first (events_shown r.events)
-marks_of_record (Directory r) = marks_of_events (spoken_of name.Directory) (word_of_object name.Directory) r.processes r.first (events_shown r.events)
+marks_of_record (Directory r) =
+    marks_of_events (spoken_of name.Directory) (word_of_object name.Directory) r.processes r.first (events_shown r.events)
 marks_of_record (Book r) = marks_of_events (spoken_of name.Book) (word_of_object name.Book) r.processes r.first (events_shown r.events)
-marks_of_record (Sticky r) = marks_of_events (spoken_of name.Sticky) (word_of_object name.Sticky) r.processes r.first (events_shown r.events)
+marks_of_record (Sticky r) =
+    marks_of_events (spoken_of name.Sticky) (word_of_object name.Sticky) r.processes r.first (events_shown r.events)
 
 -- how many events it has
 abbrev pub events_of_record : ScriptRecord → ℕ
@@ -49,7 +52,8 @@ abbrev pub marks_of_own : {S I R : Type 0} → SpokenObject S I R → (name : Li
 marks_of_own o name b = marks_of_events o name b.session.processes b.session.first b.session.events
 
 -- the reader had a script without a fault and with at most 2,000 events; these are the marks of its session, and what it tells
-pub record IsSubjectOf {B : Type 0} (kind : Kind B) (marks_in : B → RunMarks) (left : Option (List ℕ)) (marks : RunMarks) (told : List Told) : Type 0 where
+pub record IsSubjectOf {B : Type 0} (kind : Kind B) (marks_in : B → RunMarks) (left : Option (List ℕ)) (marks : RunMarks)
+    (told : List Told) : Type 0 where
   pub script : List ℕ
   pub input : IsInput left script
   pub good : fault_of_script kind script ≡ None

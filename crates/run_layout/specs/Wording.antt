@@ -1,9 +1,11 @@
 -- The texts of a picture.
-use Rattle.std.specs.Prelude.{◌≡◌, ℕ, ◌==◌, if◌then◌else◌, List, [], ◌∷◌, ◌++◌, length, Option, Some, None, codes, refl}
+use Rattle.std.specs.Prelude.{◌≡◌, ℕ, ◌==◌, if◌then◌else◌, List, [], ◌∷◌, ◌++◌, length, Option, Some, None}
+use Rattle.std.specs.Prelude.{codes, refl}
 use Rattle.std.specs.Fmt.{decimal, digits}
 use Rattle.std.specs.Option.{option_map_or}
 use Rattle.uni_core.specs.declared.stage.StepKind.{StepKind}
-use Rattle.uni_core.specs.declared.stage.StepKind.TheVariants.{Announce, ScanHead, ScanSeq, WriteScan, Test, ReadAnnounce, ReadHelpSeq, DecideAfter, DecideNew, WriteBefore, WriteSeq, WriteHead, Finish}
+use Rattle.uni_core.specs.declared.stage.StepKind.TheVariants.{Announce, ScanHead, ScanSeq, WriteScan, Test, ReadAnnounce, ReadHelpSeq}
+use Rattle.uni_core.specs.declared.stage.StepKind.TheVariants.{DecideAfter, DecideNew, WriteBefore, WriteSeq, WriteHead, Finish}
 use Rattle.uni_script.specs.declared.answer.Refusal.{Refusal}
 use Rattle.uni_script.specs.declared.answer.Refusal.TheVariants.{Process, Busy, Row, Idle, Pending, Sequence, History, Count}
 use Rattle.uni_script.specs.Answer.{call_text}
@@ -47,7 +49,8 @@ meaning_of Finish = codes "raises its head, returns"
 
 -- the kinds of step, in the order in which a call takes them
 abbrev pub kinds : List StepKind
-kinds = Announce ∷ ScanHead ∷ ScanSeq ∷ WriteScan ∷ Test ∷ ReadAnnounce ∷ ReadHelpSeq ∷ DecideAfter ∷ DecideNew ∷ WriteBefore ∷ WriteSeq ∷ WriteHead ∷ Finish ∷ []
+kinds = Announce ∷ ScanHead ∷ ScanSeq ∷ WriteScan ∷ Test ∷ ReadAnnounce ∷ ReadHelpSeq ∷ DecideAfter ∷ DecideNew
+    ∷ WriteBefore ∷ WriteSeq ∷ WriteHead ∷ Finish ∷ []
 
 -- so many things, with the word for one of them and that for any other number
 abbrev pub counted_text : (n : ℕ) (one many : List ℕ) → List ℕ
@@ -59,7 +62,8 @@ label_text bar = call_text bar.call ++ codes " " ++ bar.words ++ option_map_or (
 
 -- the own steps and the turns of a call that has returned
 abbrev pub counts_text : End → List ℕ
-counts_text end = counted_text end.steps (codes "step") (codes "steps") ++ codes " " ++ counted_text end.turns (codes "turn") (codes "turns")
+counts_text end =
+    counted_text end.steps (codes "step") (codes "steps") ++ codes " " ++ counted_text end.turns (codes "turn") (codes "turns")
 
 -- how an era ended, with the number of the next anchor
 abbrev pub end_text : EraEnd → (number : ℕ) → List ℕ
@@ -104,15 +108,22 @@ cell_name cell = decimal cell.number ++ codes ": " ++ call_text cell.call
 abbrev pub title_text : RunMarks → List ℕ
 title_text marks =
     marks.object ++ codes ": " ++ counted_text (lanes_of marks.eras) (codes "process") (codes "processes") ++ codes ", "
-    ++ counted_text (length marks.bars) (codes "call") (codes "calls") ++ codes ", " ++ counted_text marks.events (codes "event") (codes "events")
+    ++ counted_text (length marks.bars) (codes "call") (codes "calls") ++ codes ", "
+    ++ counted_text marks.events (codes "event") (codes "events")
 
 -- a call that has returned, and one that hasn't
-label_returned : label_text (record { call = record { process = 1; nth = 0 }; from = 0; words = codes "enq 5"; end = Some (record { event = 9; reply = codes "ok"; steps = 8; turns = 1 }) })
+label_returned : label_text (record {
+  call = record { process = 1; nth = 0 };
+  from = 0;
+  words = codes "enq 5";
+  end = Some (record { event = 9; reply = codes "ok"; steps = 8; turns = 1 });
+})
     ≡ codes "1.0 enq 5 -> ok"
 unfolding digits
 label_returned = refl
 
-label_pending : label_text (record { call = record { process = 0; nth = 12 }; from = 3; words = codes "deq"; end = None }) ≡ codes "0.12 deq"
+label_pending : label_text (record { call = record { process = 0; nth = 12 }; from = 3; words = codes "deq"; end = None })
+    ≡ codes "0.12 deq"
 unfolding digits
 label_pending = refl
 

@@ -1,12 +1,14 @@
 -- The lines of a text.
-use Rattle.std.specs.Prelude.{◌≡◌, ℕ, zero, suc, ◌==◌, if◌then◌else◌, nat_le, List, [], ◌∷◌, length, take, drop, slice_index, codes, refl}
+use Rattle.std.specs.Prelude.{◌≡◌, ℕ, zero, suc, ◌==◌, if◌then◌else◌, nat_le, List, [], ◌∷◌, length, take, drop}
+use Rattle.std.specs.Prelude.{slice_index, codes, refl}
 
 -- the last place below n, but for the first one, at which a text has a space; 0 where there is none
 abbrev pub last_space : List ℕ → (n : ℕ) → ℕ
 last_space text zero = 0
 last_space text (suc n) = if slice_index text n == 32 then n else last_space text n
 
--- how many letters stand in a line of at most so many: all, or those before the last space after which they still fit, or as many as the line takes
+-- how many letters stand in a line of at most so many: all, or those before the last space after which they still fit, or as many as the
+-- line takes
 abbrev pub front_or : (space most : ℕ) → ℕ
 front_or zero most = most
 front_or (suc space) most = suc space
@@ -23,7 +25,8 @@ after_space (b ∷ bs) = if b == 32 then bs else b ∷ bs
 unfoldable pub lines_of : (n most : ℕ) → List ℕ → List (List ℕ)
 lines_of zero most text = []
 lines_of (suc n) most [] = []
-lines_of (suc n) most (b ∷ bs) = take (front_of (b ∷ bs) most) (b ∷ bs) ∷ lines_of n most (after_space (drop (front_of (b ∷ bs) most) (b ∷ bs)))
+lines_of (suc n) most (b ∷ bs) =
+    take (front_of (b ∷ bs) most) (b ∷ bs) ∷ lines_of n most (after_space (drop (front_of (b ∷ bs) most) (b ∷ bs)))
 
 -- words stay whole where they can
 lines_of_words : lines_of 9 8 (codes "it stops here") ≡ codes "it stops" ∷ codes "here" ∷ []

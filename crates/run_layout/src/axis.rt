@@ -3,7 +3,10 @@
 ghost use Rattle.std.specs.Prelude.{◌≡◌, ◌+◌, ◌-◌, ◌*◌, ◌≤◌, IfOk, length, map, take};
 ghost use Rattle.std.specs.List.{All, sum, sum_by};
 ghost use Rattle.run_marks.specs.Shown.{bar_shown, marks_shown};
-ghost use Rattle.run_layout.specs.Axis.{IsScale, letters_of, label_room, last_event, bar_room, line_room, width_of_line, width_of, widths_from, remark_room, room_of, room_until, event_columns, told_columns, places_shown, places_of, event_column, told_column, middle_of, right_of};
+ghost use Rattle.run_layout.specs.Axis.{IsScale, letters_of, label_room, last_event, bar_room, line_room};
+ghost use Rattle.run_layout.specs.Axis.{width_of_line, width_of, widths_from, remark_room, room_of, room_until};
+ghost use Rattle.run_layout.specs.Axis.{event_columns, told_columns, places_shown, places_of, event_column};
+ghost use Rattle.run_layout.specs.Axis.{told_column, middle_of, right_of};
 
 use crate::wording::{label_of, line_of, refusal_of};
 use run_marks::{Bar, EraLine, Marks};
@@ -211,7 +214,8 @@ fn widths_of(alloc: Global, marks: &Marks, scale: Scale) -> Result<Vec<u32>, All
     requires scale { IsScale scale }
     ensures small { IfOk result (λ widths. All (λ width. width ≤ 8008) widths.items) }
     ensures count { IfOk result (λ widths. length widths.items ≤ 2000) }
-    ensures widths { IfOk result (λ widths. widths.items ≡ widths_from (marks_shown marks.now) scale 0 marks.now.events) }
+    ensures widths { IfOk result (λ widths. widths.items
+        ≡ widths_from (marks_shown marks.now) scale 0 marks.now.events) }
 {
     let mut widths = Vec::new(alloc);
     for event in 0..marks.events {

@@ -7,7 +7,8 @@ ghost use Rattle.uni_script.specs.Replay.{HasFault, IsFaultOfScript};
 ghost use Rattle.uni_script.specs.Scripts.{scripts_of, own_scripts_of};
 ghost use Rattle.uni_script.specs.declared.fault.BenchFault.{BenchFault as Fault};
 ghost use Rattle.run_marks.specs.Shown.{marks_shown};
-ghost use Rattle.run_layout.specs.Subject.{marks_of_events, marks_of_record, marks_of_own, events_of_record, picture_fault_text, IsSubject, IsSubjectOf, HasTooManyEvents, HasMoreEvents};
+ghost use Rattle.run_layout.specs.Subject.{marks_of_events, marks_of_record, marks_of_own, events_of_record};
+ghost use Rattle.run_layout.specs.Subject.{picture_fault_text, IsSubject, IsSubjectOf, HasTooManyEvents, HasMoreEvents};
 
 use crate::axis::MOST_EVENTS;
 use ready_objects::{BookObject, DirectoryObject, QueueObject, Spoken, StickyObject};
@@ -63,7 +64,9 @@ fn marks_of_events<O: Spoken>(
     recorded: &Recorded<O>,
 ) -> Result<Marks, PictureFault>
     ensures few { OnOk result (length (events_shown recorded.now.events) ≤ 2000) }
-    ensures marks { IfOk result (λ marks. marks_shown marks ≡ marks_of_events (record { object = O.sequential object; language = O.language }) name.now recorded.now.processes recorded.now.first (events_shown recorded.now.events)) }
+    ensures marks { IfOk result (λ marks. marks_shown marks
+        ≡ marks_of_events (record { object = O.sequential object; language = O.language }) name.now
+        recorded.now.processes recorded.now.first (events_shown recorded.now.events)) }
     ensures many { IsErrOf result PictureFault.TooManyEvents → 2000 < length (events_shown recorded.now.events) }
     ensures memory { (e : Fault) → IsErrOf result (PictureFault.Script e) → e ≡ Fault.Memory }
 {
@@ -129,11 +132,13 @@ fn subject_of_run(alloc: Global, run: ScriptRun<ScriptRecord>) -> Result<Subject
 /// refused; or `TooManyEvents` of a good script that has more than 2,000 events.
 pub fn subject_of<I: TextIn>(alloc: Global, reader: &mut I) -> Result<Subject, PictureFault>
     requires { I.has_failed reader.old ≡ false }
-    ensures subject { IfOk result (λ subject. IsSubject (I.remaining reader.old) (marks_shown subject.marks) subject.told.items) }
+    ensures subject { IfOk result (λ subject. IsSubject (I.remaining reader.old)
+        (marks_shown subject.marks) subject.told.items) }
     ensures few { IfOk result (λ subject. subject.marks.events ≤ 2000) }
     ensures told { IfOk result (λ subject. length subject.told.items ≤ 100000) }
     ensures many { IsErrOf result PictureFault.TooManyEvents → HasTooManyEvents (I.remaining reader.old) }
-    ensures fault { (e : Fault) → IsErrOf result (PictureFault.Script e) → IsFaultOfScript e → HasFault (scripts_of 1048576) (I.remaining reader.old) e }
+    ensures fault { (e : Fault) → IsErrOf result (PictureFault.Script e) → IsFaultOfScript e
+        → HasFault (scripts_of 1048576) (I.remaining reader.old) e }
 {
     let options = Options {
         history: HISTORY,
@@ -156,11 +161,18 @@ pub fn subject_of_object<O: Spoken + Copy, I: TextIn>(
     reader: &mut I,
 ) -> Result<Subject, PictureFault>
     requires { I.has_failed reader.old ≡ false }
-    ensures subject { IfOk result (λ subject. IsSubjectOf (own_scripts_of (spoken O.sequential O.language object) name.now 1048576) (marks_of_own (spoken O.sequential O.language object) name.now) (I.remaining reader.old) (marks_shown subject.marks) subject.told.items) }
+    ensures subject { IfOk result (λ subject. IsSubjectOf
+        (own_scripts_of (spoken O.sequential O.language object) name.now 1048576)
+        (marks_of_own (spoken O.sequential O.language object) name.now) (I.remaining reader.old)
+        (marks_shown subject.marks) subject.told.items) }
     ensures few { IfOk result (λ subject. subject.marks.events ≤ 2000) }
     ensures told { IfOk result (λ subject. length subject.told.items ≤ 100000) }
-    ensures many { IsErrOf result PictureFault.TooManyEvents → HasMoreEvents (own_scripts_of (spoken O.sequential O.language object) name.now 1048576) (I.remaining reader.old) }
-    ensures fault { (e : Fault) → IsErrOf result (PictureFault.Script e) → IsFaultOfScript e → HasFault (own_scripts_of (spoken O.sequential O.language object) name.now 1048576) (I.remaining reader.old) e }
+    ensures many { IsErrOf result PictureFault.TooManyEvents
+        → HasMoreEvents (own_scripts_of (spoken O.sequential O.language object) name.now 1048576)
+        (I.remaining reader.old) }
+    ensures fault { (e : Fault) → IsErrOf result (PictureFault.Script e) → IsFaultOfScript e
+        → HasFault (own_scripts_of (spoken O.sequential O.language object) name.now 1048576)
+        (I.remaining reader.old) e }
 {
     let options = Options {
         history: HISTORY,
@@ -182,7 +194,9 @@ fn subject_of_own_run<O: Spoken>(
     run: ScriptRun<Recorded<O>>,
 ) -> Result<Subject, PictureFault>
     ensures few { OnOk result (length (events_shown run.record.events) ≤ 2000) }
-    ensures marks { IfOk result (λ subject. marks_shown subject.marks ≡ marks_of_events (record { object = O.sequential object; language = O.language }) name.now run.record.processes run.record.first (events_shown run.record.events)) }
+    ensures marks { IfOk result (λ subject. marks_shown subject.marks
+        ≡ marks_of_events (record { object = O.sequential object; language = O.language }) name.now
+        run.record.processes run.record.first (events_shown run.record.events)) }
     ensures told { IfOk result (λ subject. subject.told.items ≡ run.told.items) }
     ensures many { IsErrOf result PictureFault.TooManyEvents → 2000 < length (events_shown run.record.events) }
     ensures memory { (e : Fault) → IsErrOf result (PictureFault.Script e) → e ≡ Fault.Memory }

@@ -2,7 +2,8 @@
 
 ghost use Rattle.std.specs.Prelude.{◌≡◌, ◌++◌, IfOk, OnOk};
 ghost use Rattle.run_marks.specs.Shown.{end_shown, bar_shown, cell_shown, marks_shown};
-ghost use Rattle.run_layout.specs.Wording.{letter_of, meaning_of, label_text, counted_text, counts_text, line_text, refusal_words, lane_of, cell_words, cell_name, title_text};
+ghost use Rattle.run_layout.specs.Wording.{letter_of, meaning_of, label_text, counted_text, counts_text, line_text};
+ghost use Rattle.run_layout.specs.Wording.{refusal_words, lane_of, cell_words, cell_name, title_text};
 
 use run_marks::{Bar, BarEnd, CellBox, EraEnd, EraLine, Marks};
 use std::alloc::{AllocError, Global};

@@ -59,7 +59,8 @@ pub fn push_lines(
     lines: &mut Vec<Vec<u8>>,
 ) -> Result<(), AllocError>
     ensures few { OnOk result (length lines.new.items ≤ length lines.old.items + 200) }
-    ensures lines { OnOk result (map (λ line. line.items) lines.new.items ≡ map (λ line. line.items) lines.old.items ++ lines_of MOST_LINES most text.now) }
+    ensures lines { OnOk result (map (λ line. line.items) lines.new.items
+        ≡ map (λ line. line.items) lines.old.items ++ lines_of MOST_LINES most text.now) }
 {
     let mut rest = text;
     for place in 0..MOST_LINES {

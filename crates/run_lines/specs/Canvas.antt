@@ -1,5 +1,6 @@
 -- Rows of letters, upon which strokes are put one after the other.
-use Rattle.std.specs.Prelude.{◌≡◌, ℕ, ◌+◌, ◌-◌, ◌==◌, ◌&&◌, ◌||◌, if◌then◌else◌, nat_le, nat_lt, Bool, List, [], ◌∷◌, ◌++◌, length, map, fold, slice_index, codes, refl}
+use Rattle.std.specs.Prelude.{◌≡◌, ℕ, ◌+◌, ◌-◌, ◌==◌, ◌&&◌, ◌||◌, if◌then◌else◌, nat_le, nat_lt, Bool}
+use Rattle.std.specs.Prelude.{List, [], ◌∷◌, ◌++◌, length, map, fold, slice_index, codes, refl}
 use Rattle.std.specs.List.{range_with_len}
 use Rattle.run_lines.specs.declared.canvas.Layer.{Layer}
 use Rattle.run_lines.specs.declared.canvas.Layer.TheVariants.{Over, Behind}
@@ -25,7 +26,8 @@ letter_seen Behind under letter = if under == 32 || under == 45 then letter else
 -- the letter at a column of a row in which a stroke stands
 abbrev pub letter_over : Stroke → (column under : ℕ) → ℕ
 letter_over stroke column under =
-    if nat_le stroke.column column && nat_lt column (stroke.column + length stroke.text) then letter_seen stroke.layer under (slice_index stroke.text (column - stroke.column)) else under
+    if nat_le stroke.column column && nat_lt column (stroke.column + length stroke.text) then letter_seen stroke.layer under
+    (slice_index stroke.text (column - stroke.column)) else under
 
 -- whether a stroke stands in a row
 abbrev pub is_in_row : (row : ℕ) → Stroke → Bool

@@ -1,5 +1,6 @@
 -- The whole text, for a terminal of 100 columns.
-use Rattle.std.specs.Prelude.{◌≡◌, ℕ, ◌+◌, ◌-◌, ◌*◌, ◌/◌, ◌%◌, ◌&&◌, ◌||◌, min, ◌==◌, nat_lt, nat_le, if◌then◌else◌, List, [], ◌∷◌, ◌++◌, length, take, drop, replicate, codes, refl}
+use Rattle.std.specs.Prelude.{◌≡◌, ℕ, ◌+◌, ◌-◌, ◌*◌, ◌/◌, ◌%◌, ◌&&◌, ◌||◌, min, ◌==◌, nat_lt}
+use Rattle.std.specs.Prelude.{nat_le, if◌then◌else◌, List, [], ◌∷◌, ◌++◌, length, take, drop, replicate, codes, refl}
 use Rattle.std.specs.List.{flat_map, range_with_len, suffix_len}
 use Rattle.std.specs.Int.{div_ceil}
 use Rattle.std.specs.Fmt.{decimal, digits}
@@ -102,7 +103,9 @@ cell_text cell = ended (codes "  " ++ cell_name cell ++ codes " " ++ cell_words 
 
 -- an era, by its place from 0, with its anchor and its cells
 abbrev pub era_text : (place : ℕ) → EraMarks → List ℕ
-era_text place era = ended (codes "era " ++ decimal (place + 1) ++ codes ", after the anchor " ++ decimal era.anchor ++ codes ":") ++ flat_map cell_text era.cells
+era_text place era =
+    ended (codes "era " ++ decimal (place + 1) ++ codes ", after the anchor " ++ decimal era.anchor ++ codes ":")
+    ++ flat_map cell_text era.cells
 
 abbrev pub eras_from : (place : ℕ) → List EraMarks → List ℕ
 eras_from place [] = []

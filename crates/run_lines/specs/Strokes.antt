@@ -1,5 +1,6 @@
 -- The strokes of a run: rows 0 and 1 stand above the lanes, and each lane has four rows.
-use Rattle.std.specs.Prelude.{◌≡◌, ℕ, ◌+◌, ◌-◌, ◌*◌, min, ◌==◌, nat_lt, if◌then◌else◌, List, [], ◌∷◌, ◌++◌, length, replicate, Option, Some, None, codes, refl}
+use Rattle.std.specs.Prelude.{◌≡◌, ℕ, ◌+◌, ◌-◌, ◌*◌, min, ◌==◌, nat_lt, if◌then◌else◌, List, [], ◌∷◌}
+use Rattle.std.specs.Prelude.{◌++◌, length, replicate, Option, Some, None, codes, refl}
 use Rattle.std.specs.List.{flat_map}
 use Rattle.std.specs.Option.{option_map_or}
 use Rattle.std.specs.Fmt.{decimal}
@@ -56,7 +57,8 @@ bar_text width = 91 ∷ replicate (width - 1) 45
 
 -- the counts of a call that has returned, which end with its bar
 abbrev pub counts_strokes : Places → (row : ℕ) → Option End → List Stroke
-counts_strokes places row (Some end) = text_stroke row (right_of (event_column places end.event) - length (counts_text end)) (counts_text end) ∷ []
+counts_strokes places row (Some end) =
+    text_stroke row (right_of (event_column places end.event) - length (counts_text end)) (counts_text end) ∷ []
 counts_strokes places row None = []
 
 -- the bar of a call in the second row of the lane of its process, its label in the first one and its counts in the last one
@@ -64,11 +66,13 @@ abbrev pub bar_strokes : Places → (lanes : ℕ) → Called → List Stroke
 bar_strokes places lanes bar =
     let row = lane_row lanes bar.call.process in
     let left = (event_column places bar.from).left in
-    text_stroke (row + 1) left (bar_text (bar_end places bar.end - left)) ∷ text_stroke row left (label_text bar) ∷ counts_strokes places (row + 3) bar.end
+    text_stroke (row + 1) left (bar_text (bar_end places bar.end - left)) ∷ text_stroke row left (label_text bar)
+    ∷ counts_strokes places (row + 3) bar.end
 
 -- the letter of a step, upon the bar
 abbrev pub step_strokes : Places → (lanes : ℕ) → StepMark → List Stroke
-step_strokes places lanes step = letter_stroke (lane_row lanes step.process + 1) (event_column places step.event).left (letter_of step.kind) ∷ []
+step_strokes places lanes step =
+    letter_stroke (lane_row lanes step.process + 1) (event_column places step.event).left (letter_of step.kind) ∷ []
 
 -- the arrow from the step of the process that linked a cell to the dot of the call that the cell is of, where that is a call of
 -- another process: down to the row above the dot, or up to the row below it
@@ -77,7 +81,8 @@ arrow_strokes lanes column dot =
     let step = lane_row lanes dot.by + 1 in
     let point = lane_row lanes dot.call.process + 2 in
     if dot.call.process == dot.by then []
-    else if nat_lt dot.by dot.call.process then column_stroke (step + 1) (point - 1) column Behind ∷ letter_stroke (point - 1) column 118 ∷ []
+    else if nat_lt dot.by dot.call.process then column_stroke (step + 1) (point - 1) column Behind
+    ∷ letter_stroke (point - 1) column 118 ∷ []
     else column_stroke (point + 2) step column Behind ∷ letter_stroke (point + 1) column 94 ∷ []
 
 -- the dot of a call in the third row of the lane of its process, and the arrow to it
@@ -92,7 +97,8 @@ refusal_row lanes refusal = option_map_or (λ process. lane_row lanes process + 
 
 -- what is drawn of a remark in its column: a refusal with an `x` before its words, or the number of a note above the lanes
 abbrev pub remark_strokes : Column → (lanes number : ℕ) → Remark → List Stroke
-remark_strokes column lanes number (Refused refusal) = text_stroke (refusal_row lanes refusal) column.left (120 ∷ refusal_words refusal) ∷ []
+remark_strokes column lanes number (Refused refusal) =
+    text_stroke (refusal_row lanes refusal) column.left (120 ∷ refusal_words refusal) ∷ []
 remark_strokes column lanes number (Note text) = text_stroke 0 column.left (decimal number) ∷ []
 remark_strokes column lanes number (Heading text) = []
 
@@ -113,11 +119,13 @@ strokes_on places lanes marks told =
     ++ told_from places lanes 0 no_notes told
 
 -- process 0 links the cell of process 1: the dot stands below the bar of process 1, and the arrow goes down to it from process 0
-arrow_of_help : arrow_strokes 2 7 (record { event = 1; call = record { process = 1; nth = 0 }; by = 0 }) ≡ column_stroke 4 7 7 Behind ∷ letter_stroke 7 7 118 ∷ []
+arrow_of_help : arrow_strokes 2 7 (record { event = 1; call = record { process = 1; nth = 0 }; by = 0 })
+    ≡ column_stroke 4 7 7 Behind ∷ letter_stroke 7 7 118 ∷ []
 arrow_of_help = refl
 
 -- and up from process 2
-arrow_upward : arrow_strokes 3 7 (record { event = 1; call = record { process = 1; nth = 0 }; by = 2 }) ≡ column_stroke 10 11 7 Behind ∷ letter_stroke 9 7 94 ∷ []
+arrow_upward : arrow_strokes 3 7 (record { event = 1; call = record { process = 1; nth = 0 }; by = 2 })
+    ≡ column_stroke 10 11 7 Behind ∷ letter_stroke 9 7 94 ∷ []
 arrow_upward = refl
 
 no_arrow_of_own : arrow_strokes 2 7 (record { event = 1; call = record { process = 1; nth = 0 }; by = 1 }) ≡ []

@@ -57,7 +57,9 @@ impl Stroke {
 
     /// Puts its text upon the letters of a row, as far as they go.
     fn put(&self, letters: &mut [u8])
-        ensures { (column : ℕ) → column < length letters.old → slice_index letters.new column ≡ letter_over (stroke_shown self.now) column (slice_index letters.old column) }
+        ensures { (column : ℕ) → column < length letters.old
+            → slice_index letters.new column ≡ letter_over (stroke_shown self.now) column
+            (slice_index letters.old column) }
     {
         let from = (self.column as usize).min(letters.len());
         let count = self.text.len().min(letters.len() - from);
@@ -91,7 +93,8 @@ pub fn rows_of(
     width: usize,
     count: u64,
 ) -> Result<Vec<Vec<u8>>, AllocError>
-    ensures { IfOk result (λ rows. map (λ row. row.items) rows.items ≡ rows_of (map stroke_shown strokes.now) width count) }
+    ensures { IfOk result (λ rows. map (λ row. row.items) rows.items
+        ≡ rows_of (map stroke_shown strokes.now) width count) }
 {
     let mut rows = Vec::new(alloc);
     for row in 0..count {

@@ -22,7 +22,8 @@ pub fn lines_of<I: TextIn>(alloc: Global, reader: &mut I) -> Result<Vec<u8>, Pic
     requires { I.has_failed reader.old ≡ false }
     ensures lines { IfOk result (λ text. IsLines (I.remaining reader.old) text.items) }
     ensures many { IsErrOf result PictureFault.TooManyEvents → HasTooManyEvents (I.remaining reader.old) }
-    ensures fault { (e : Fault) → IsErrOf result (PictureFault.Script e) → IsFaultOfScript e → HasFault (scripts_of 1048576) (I.remaining reader.old) e }
+    ensures fault { (e : Fault) → IsErrOf result (PictureFault.Script e) → IsFaultOfScript e
+        → HasFault (scripts_of 1048576) (I.remaining reader.old) e }
 {
     let subject = subject_of(alloc, reader)?;
     match text_of(alloc, &subject.marks, &subject.told) {
@@ -42,9 +43,15 @@ pub fn lines_of_object<O: Spoken + Copy, I: TextIn>(
     reader: &mut I,
 ) -> Result<Vec<u8>, PictureFault>
     requires { I.has_failed reader.old ≡ false }
-    ensures lines { IfOk result (λ text. IsLinesOf (own_scripts_of (spoken O.sequential O.language object) name.now 1048576) (marks_of_own (spoken O.sequential O.language object) name.now) (I.remaining reader.old) text.items) }
-    ensures many { IsErrOf result PictureFault.TooManyEvents → HasMoreEvents (own_scripts_of (spoken O.sequential O.language object) name.now 1048576) (I.remaining reader.old) }
-    ensures fault { (e : Fault) → IsErrOf result (PictureFault.Script e) → IsFaultOfScript e → HasFault (own_scripts_of (spoken O.sequential O.language object) name.now 1048576) (I.remaining reader.old) e }
+    ensures lines { IfOk result (λ text. IsLinesOf
+        (own_scripts_of (spoken O.sequential O.language object) name.now 1048576)
+        (marks_of_own (spoken O.sequential O.language object) name.now) (I.remaining reader.old) text.items) }
+    ensures many { IsErrOf result PictureFault.TooManyEvents
+        → HasMoreEvents (own_scripts_of (spoken O.sequential O.language object) name.now 1048576)
+        (I.remaining reader.old) }
+    ensures fault { (e : Fault) → IsErrOf result (PictureFault.Script e) → IsFaultOfScript e
+        → HasFault (own_scripts_of (spoken O.sequential O.language object) name.now 1048576)
+        (I.remaining reader.old) e }
 {
     let subject = subject_of_object(alloc, object, name, reader)?;
     match text_of(alloc, &subject.marks, &subject.told) {

@@ -1,9 +1,11 @@
 //! The whole text.
 
-ghost use Rattle.std.specs.Prelude.{◌≡◌, ◌++◌, ◌+◌, ◌*◌, ◌<◌, ◌≤◌, ◌^◌, IfOk, OnOk, length, map};
+ghost use Rattle.std.specs.Prelude.{◌≡◌, ◌++◌, ◌+◌, ◌*◌, ◌<◌, ◌≤◌, ◌^◌, IfOk, OnOk};
+ghost use Rattle.std.specs.Prelude.{length, map};
 ghost use Rattle.run_marks.specs.Shown.{marks_shown};
 ghost use Rattle.run_layout.specs.Axis.{places_shown};
-ghost use Rattle.run_lines.specs.Sheet.{trimmed, row_name, named_row, shown_line, row_text, part_of, block_text, blocks_text, lanes_drawn, rows_text_of, lines_of_marks};
+ghost use Rattle.run_lines.specs.Sheet.{trimmed, row_name, named_row, shown_line, row_text, part_of, block_text};
+ghost use Rattle.run_lines.specs.Sheet.{blocks_text, lanes_drawn, rows_text_of, lines_of_marks};
 
 use crate::canvas::rows_of;
 use crate::strokes::{ABOVE, LANE, bottom_row, strokes_of};
@@ -158,7 +160,8 @@ fn push_rows(
     text: &mut Vec<u8>,
 ) -> Result<(), AllocError>
     requires { length told.now ≤ 100000 }
-    ensures { OnOk result (text.new.items ≡ text.old.items ++ rows_text_of (places_shown axis.now) (marks_shown marks.now) told.now) }
+    ensures { OnOk result (text.new.items ≡ text.old.items
+        ++ rows_text_of (places_shown axis.now) (marks_shown marks.now) told.now) }
 {
     let lanes = lanes_drawn(marks);
     let width = axis.end as usize + 1;

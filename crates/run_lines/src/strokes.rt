@@ -7,7 +7,10 @@ ghost use Rattle.run_marks.specs.Shown.{bar_shown, end_shown, marks_shown};
 ghost use Rattle.run_layout.specs.Wording.{refusal_words};
 ghost use Rattle.run_layout.specs.Axis.{places_shown};
 ghost use Rattle.run_lines.specs.Canvas.{stroke_shown};
-ghost use Rattle.run_lines.specs.Strokes.{lane_row, bottom_row, text_stroke, letter_stroke, column_stroke, line_strokes, bar_end, bar_text, counts_strokes, bar_strokes, step_strokes, arrow_strokes, dot_strokes, refusal_row, remark_strokes, told_from, strokes_on};
+ghost use Rattle.run_lines.specs.Strokes.{lane_row, bottom_row, text_stroke, letter_stroke, column_stroke};
+ghost use Rattle.run_lines.specs.Strokes.{line_strokes, bar_end, bar_text, counts_strokes, bar_strokes, step_strokes};
+ghost use Rattle.run_lines.specs.Strokes.{arrow_strokes, dot_strokes, refusal_row, remark_strokes, told_from};
+ghost use Rattle.run_lines.specs.Strokes.{strokes_on};
 ghost use Rattle.run_lines.specs.Numbers.{no_notes};
 
 use crate::canvas::{Layer, Stroke};
@@ -52,7 +55,8 @@ fn push_text(
     text: Vec<u8>,
 ) -> Result<(), AllocError>
     requires { row ≤ 1000 }
-    ensures { OnOk result (map stroke_shown strokes.new.items ≡ map stroke_shown strokes.old.items ++ text_stroke row column text.items ∷ []) }
+    ensures { OnOk result (map stroke_shown strokes.new.items
+        ≡ map stroke_shown strokes.old.items ++ text_stroke row column text.items ∷ []) }
 {
     strokes.push(Stroke {
         top: row,
@@ -75,7 +79,8 @@ fn push_letter(
     letter: u8,
 ) -> Result<(), AllocError>
     requires { row ≤ 1000 }
-    ensures { OnOk result (map stroke_shown strokes.new.items ≡ map stroke_shown strokes.old.items ++ letter_stroke row column letter ∷ []) }
+    ensures { OnOk result (map stroke_shown strokes.new.items
+        ≡ map stroke_shown strokes.old.items ++ letter_stroke row column letter ∷ []) }
 {
     let mut text = Vec::new(alloc);
     text.push(letter)?;
@@ -93,7 +98,8 @@ fn push_column(
     column: u64,
     layer: Layer,
 ) -> Result<(), AllocError>
-    ensures { OnOk result (map stroke_shown strokes.new.items ≡ map stroke_shown strokes.old.items ++ column_stroke top bottom column layer ∷ []) }
+    ensures { OnOk result (map stroke_shown strokes.new.items
+        ≡ map stroke_shown strokes.old.items ++ column_stroke top bottom column layer ∷ []) }
 {
     let mut text = Vec::new(alloc);
     text.push(b'|')?;
@@ -118,7 +124,8 @@ fn push_era_line(
     strokes: &mut Vec<Stroke>,
 ) -> Result<(), AllocError>
     requires { lanes ≤ 64 }
-    ensures { OnOk result (map stroke_shown strokes.new.items ≡ map stroke_shown strokes.old.items ++ line_strokes (places_shown axis.now) lanes line.now) }
+    ensures { OnOk result (map stroke_shown strokes.new.items
+        ≡ map stroke_shown strokes.old.items ++ line_strokes (places_shown axis.now) lanes line.now) }
 {
     let column = u64::from(axis.event(line.event).left);
     let bottom = bottom_row(lanes);
@@ -137,7 +144,8 @@ fn push_era_lines(
     strokes: &mut Vec<Stroke>,
 ) -> Result<(), AllocError>
     requires { lanes ≤ 64 }
-    ensures { OnOk result (map stroke_shown strokes.new.items ≡ map stroke_shown strokes.old.items ++ flat_map (line_strokes (places_shown axis.now) lanes) lines.now) }
+    ensures { OnOk result (map stroke_shown strokes.new.items
+        ≡ map stroke_shown strokes.old.items ++ flat_map (line_strokes (places_shown axis.now) lanes) lines.now) }
 {
     for line in lines {
         push_era_line(alloc, line, axis, lanes, strokes)?;
@@ -179,7 +187,9 @@ fn push_counts(
     strokes: &mut Vec<Stroke>,
 ) -> Result<(), AllocError>
     requires { row ≤ 1000 }
-    ensures { OnOk result (map stroke_shown strokes.new.items ≡ map stroke_shown strokes.old.items ++ counts_strokes (places_shown axis.now) row (Some (end_shown end.now))) }
+    ensures { OnOk result (map stroke_shown strokes.new.items
+        ≡ map stroke_shown strokes.old.items ++ counts_strokes (places_shown axis.now) row
+        (Some (end_shown end.now))) }
 {
     let counts = counts_of(alloc, end)?;
     let right = axis.event(end.event).right();
@@ -198,7 +208,8 @@ fn push_bar(
     strokes: &mut Vec<Stroke>,
 ) -> Result<(), AllocError>
     requires { lanes ≤ 64 }
-    ensures { OnOk result (map stroke_shown strokes.new.items ≡ map stroke_shown strokes.old.items ++ bar_strokes (places_shown axis.now) lanes (bar_shown bar.now)) }
+    ensures { OnOk result (map stroke_shown strokes.new.items
+        ≡ map stroke_shown strokes.old.items ++ bar_strokes (places_shown axis.now) lanes (bar_shown bar.now)) }
 {
     let row = lane_row(lanes, u64::from(bar.call.process));
     let left = u64::from(axis.event(bar.from).left);
@@ -222,7 +233,9 @@ fn push_bars(
     strokes: &mut Vec<Stroke>,
 ) -> Result<(), AllocError>
     requires { lanes ≤ 64 }
-    ensures { OnOk result (map stroke_shown strokes.new.items ≡ map stroke_shown strokes.old.items ++ flat_map (bar_strokes (places_shown axis.now) lanes) (map bar_shown bars.now)) }
+    ensures { OnOk result (map stroke_shown strokes.new.items
+        ≡ map stroke_shown strokes.old.items ++ flat_map (bar_strokes (places_shown axis.now) lanes)
+        (map bar_shown bars.now)) }
 {
     for bar in bars {
         push_bar(alloc, bar, axis, lanes, strokes)?;
@@ -241,7 +254,8 @@ fn push_step(
     strokes: &mut Vec<Stroke>,
 ) -> Result<(), AllocError>
     requires { lanes ≤ 64 }
-    ensures { OnOk result (map stroke_shown strokes.new.items ≡ map stroke_shown strokes.old.items ++ step_strokes (places_shown axis.now) lanes step) }
+    ensures { OnOk result (map stroke_shown strokes.new.items
+        ≡ map stroke_shown strokes.old.items ++ step_strokes (places_shown axis.now) lanes step) }
 {
     let row = lane_row(lanes, step.process) + 1;
     let column = u64::from(axis.event(step.event).left);
@@ -259,7 +273,8 @@ fn push_steps(
     strokes: &mut Vec<Stroke>,
 ) -> Result<(), AllocError>
     requires { lanes ≤ 64 }
-    ensures { OnOk result (map stroke_shown strokes.new.items ≡ map stroke_shown strokes.old.items ++ flat_map (step_strokes (places_shown axis.now) lanes) steps.now) }
+    ensures { OnOk result (map stroke_shown strokes.new.items
+        ≡ map stroke_shown strokes.old.items ++ flat_map (step_strokes (places_shown axis.now) lanes) steps.now) }
 {
     for step in steps {
         push_step(alloc, *step, axis, lanes, strokes)?;
@@ -279,7 +294,8 @@ fn push_arrow(
     strokes: &mut Vec<Stroke>,
 ) -> Result<(), AllocError>
     requires { lanes ≤ 64 }
-    ensures { OnOk result (map stroke_shown strokes.new.items ≡ map stroke_shown strokes.old.items ++ arrow_strokes lanes column dot) }
+    ensures { OnOk result (map stroke_shown strokes.new.items
+        ≡ map stroke_shown strokes.old.items ++ arrow_strokes lanes column dot) }
 {
     let of = u64::from(dot.call.process);
     let step = lane_row(lanes, dot.by) + 1;
@@ -307,7 +323,8 @@ fn push_dot(
     strokes: &mut Vec<Stroke>,
 ) -> Result<(), AllocError>
     requires { lanes ≤ 64 }
-    ensures { OnOk result (map stroke_shown strokes.new.items ≡ map stroke_shown strokes.old.items ++ dot_strokes (places_shown axis.now) lanes dot) }
+    ensures { OnOk result (map stroke_shown strokes.new.items
+        ≡ map stroke_shown strokes.old.items ++ dot_strokes (places_shown axis.now) lanes dot) }
 {
     let row = lane_row(lanes, u64::from(dot.call.process)) + 2;
     let column = u64::from(axis.event(dot.event).left);
@@ -326,7 +343,8 @@ fn push_dots(
     strokes: &mut Vec<Stroke>,
 ) -> Result<(), AllocError>
     requires { lanes ≤ 64 }
-    ensures { OnOk result (map stroke_shown strokes.new.items ≡ map stroke_shown strokes.old.items ++ flat_map (dot_strokes (places_shown axis.now) lanes) dots.now) }
+    ensures { OnOk result (map stroke_shown strokes.new.items
+        ≡ map stroke_shown strokes.old.items ++ flat_map (dot_strokes (places_shown axis.now) lanes) dots.now) }
 {
     for dot in dots {
         push_dot(alloc, *dot, axis, lanes, strokes)?;
@@ -357,7 +375,8 @@ fn push_refusal(
     strokes: &mut Vec<Stroke>,
 ) -> Result<(), AllocError>
     requires { row ≤ 1000 }
-    ensures { OnOk result (map stroke_shown strokes.new.items ≡ map stroke_shown strokes.old.items ++ text_stroke row column (120 ∷ refusal_words refusal) ∷ []) }
+    ensures { OnOk result (map stroke_shown strokes.new.items
+        ≡ map stroke_shown strokes.old.items ++ text_stroke row column (120 ∷ refusal_words refusal) ∷ []) }
 {
     let mut text = Vec::new(alloc);
     text.push(b'x')?;
@@ -374,7 +393,8 @@ fn push_number(
     column: u64,
     strokes: &mut Vec<Stroke>,
 ) -> Result<(), AllocError>
-    ensures { OnOk result (map stroke_shown strokes.new.items ≡ map stroke_shown strokes.old.items ++ text_stroke 0 column (decimal number) ∷ []) }
+    ensures { OnOk result (map stroke_shown strokes.new.items
+        ≡ map stroke_shown strokes.old.items ++ text_stroke 0 column (decimal number) ∷ []) }
 {
     let mut text = Vec::new(alloc);
     write!(text, "{number}").map_err(|_| AllocError)?;
@@ -393,7 +413,8 @@ fn push_remark(
     strokes: &mut Vec<Stroke>,
 ) -> Result<(), AllocError>
     requires { lanes ≤ 64 }
-    ensures { OnOk result (map stroke_shown strokes.new.items ≡ map stroke_shown strokes.old.items ++ remark_strokes column lanes number remark.now) }
+    ensures { OnOk result (map stroke_shown strokes.new.items
+        ≡ map stroke_shown strokes.old.items ++ remark_strokes column lanes number remark.now) }
 {
     let left = u64::from(column.left);
     match remark {
@@ -418,7 +439,8 @@ fn push_told(
 ) -> Result<(), AllocError>
     requires told { length told.now ≤ 100000 }
     requires lanes { lanes ≤ 64 }
-    ensures { OnOk result (map stroke_shown strokes.new.items ≡ map stroke_shown strokes.old.items ++ told_from (places_shown axis.now) lanes 0 no_notes told.now) }
+    ensures { OnOk result (map stroke_shown strokes.new.items
+        ≡ map stroke_shown strokes.old.items ++ told_from (places_shown axis.now) lanes 0 no_notes told.now) }
 {
     let mut numbering = Numbering::none();
     for (place, one) in told.iter().enumerate() {
@@ -442,7 +464,8 @@ pub fn strokes_of(
 ) -> Result<Vec<Stroke>, AllocError>
     requires told { length told.now ≤ 100000 }
     requires lanes { lanes ≤ 64 }
-    ensures { IfOk result (λ strokes. map stroke_shown strokes.items ≡ strokes_on (places_shown axis.now) lanes (marks_shown marks.now) told.now) }
+    ensures { IfOk result (λ strokes. map stroke_shown strokes.items
+        ≡ strokes_on (places_shown axis.now) lanes (marks_shown marks.now) told.now) }
 {
     let mut strokes = Vec::new(alloc);
     push_era_lines(alloc, &marks.lines, axis, lanes, &mut strokes)?;

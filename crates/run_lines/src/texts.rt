@@ -3,7 +3,8 @@
 ghost use Rattle.std.specs.Prelude.{◌≡◌, ◌++◌, ◌+◌, ◌<◌, ◌≤◌, ◌^◌, IfOk, OnOk, length, map};
 ghost use Rattle.run_marks.specs.Shown.{cell_shown, era_shown};
 ghost use Rattle.run_lines.specs.Numbers.{no_notes};
-ghost use Rattle.run_lines.specs.Sheet.{ended, wrapped, padded, headings_text, numbered_note, notes_from, cell_text, era_text, eras_from, kind_text, entry_text, legend_text};
+ghost use Rattle.run_lines.specs.Sheet.{ended, wrapped, padded, headings_text, numbered_note, notes_from, cell_text};
+ghost use Rattle.run_lines.specs.Sheet.{era_text, eras_from, kind_text, entry_text, legend_text};
 
 use crate::numbering::Numbering;
 use run_layout::{KINDS, cell_name, cell_words, letter_of, meaning_of, push_lines};

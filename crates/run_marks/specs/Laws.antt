@@ -1,5 +1,6 @@
 -- What holds of the marks of each run from an opening.
-use Rattle.std.specs.Prelude.{◌≡◌, ℕ, ◌+◌, ◌<◌, ◌≤◌, ◌==◌, if◌then◌else◌, List, [], ◌∷◌, ◌++◌, map, replicate, Some, IfSome, Contains, refl}
+use Rattle.std.specs.Prelude.{◌≡◌, ℕ, ◌+◌, ◌<◌, ◌≤◌, ◌==◌, if◌then◌else◌, List, [], ◌∷◌, ◌++◌}
+use Rattle.std.specs.Prelude.{map, replicate, Some, IfSome, Contains, refl}
 use Rattle.std.specs.Option.{option_map_or}
 use Rattle.std.specs.List.{All, flat_map}
 use Rattle.seq_object.specs.declared.call_id.CallId.{CallId}
@@ -54,7 +55,8 @@ module _ {S I R : Type 0} (o : SpokenObject S I R) (name : List ℕ) (n : ℕ) (
 
   -- the dots from left to right are the calls of the joined log, in its order
   abbrev pub DotsAreTheLog : Type 0
-  DotsAreTheLog = 1 ≤ number → AreAccepted o.object (opened_world n start number) events → map (λ d. d.call) marks.dots ≡ map id_of joined
+  DotsAreTheLog =
+      1 ≤ number → AreAccepted o.object (opened_world n start number) events → map (λ d. d.call) marks.dots ≡ map id_of joined
 
   -- and so are the boxes of all eras, one era after the other
   abbrev pub BoxesAreTheLog : Type 0
@@ -62,13 +64,16 @@ module _ {S I R : Type 0} (o : SpokenObject S I R) (name : List ℕ) (n : ℕ) (
 
   -- each dot lies in a bar of its call
   abbrev pub DotsLieInBars : Type 0
-  DotsLieInBars = 1 ≤ number → AreAccepted o.object (opened_world n start number) events → All (λ d. (b : Called) × Contains marks.bars b × LiesIn d b) marks.dots
+  DotsLieInBars =
+      1 ≤ number → AreAccepted o.object (opened_world n start number) events
+      → All (λ d. (b : Called) × Contains marks.bars b × LiesIn d b) marks.dots
 
   -- the replies of the bars that have ended, in the order of the events with which they end, are the responses of the history
   abbrev pub BarsHaveTheReplies : Type 0
   BarsHaveTheReplies =
       1 ≤ number → AreAccepted o.object (opened_world n start number) events
-      → replies_in_order marks.bars 0 events ≡ map (told o.language) (responses_in (history_of o.object (opened_world n start number) events))
+      → replies_in_order marks.bars 0 events ≡ map (told o.language)
+      (responses_in (history_of o.object (opened_world n start number) events))
 
   -- each of them ends with an event of the run
   abbrev pub EndsAreEvents : Type 0
@@ -77,10 +82,21 @@ module _ {S I R : Type 0} (o : SpokenObject S I R) (name : List ℕ) (n : ℕ) (
 -- two bars, of which the second one ends first
 abbrev sample : List Called
 sample =
-    record { call = record { process = 0; nth = 0 }; from = 0; words = []; end = Some (record { event = 5; reply = 7 ∷ []; steps = 1; turns = 1 }) }
-    ∷ record { call = record { process = 1; nth = 0 }; from = 1; words = []; end = Some (record { event = 4; reply = 8 ∷ []; steps = 1; turns = 1 }) }
+    record {
+      call = record { process = 0; nth = 0 };
+      from = 0;
+      words = [];
+      end = Some (record { event = 5; reply = 7 ∷ []; steps = 1; turns = 1 });
+    }
+    ∷ record {
+      call = record { process = 1; nth = 0 };
+      from = 1;
+      words = [];
+      end = Some (record { event = 4; reply = 8 ∷ []; steps = 1; turns = 1 });
+    }
     ∷ []
 
 sample_replies : replies_in_order {I = ℕ} sample 0 (replicate 6 Trim)
-    ≡ record { call = record { process = 1; nth = 0 }; text = 8 ∷ [] } ∷ record { call = record { process = 0; nth = 0 }; text = 7 ∷ [] } ∷ []
+    ≡ record { call = record { process = 1; nth = 0 }; text = 8 ∷ [] }
+    ∷ record { call = record { process = 0; nth = 0 }; text = 7 ∷ [] } ∷ []
 sample_replies = refl

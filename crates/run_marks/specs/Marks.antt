@@ -1,5 +1,6 @@
 -- The marks of a run: what is drawn of its events, told by the events and the worlds before them.
-use Rattle.std.specs.Prelude.{◌≡◌, ℕ, ◌+◌, ◌==◌, if◌then◌else◌, List, [], ◌∷◌, ◌++◌, length, map, max, replicate, Option, Some, None, option_map, refl}
+use Rattle.std.specs.Prelude.{◌≡◌, ℕ, ◌+◌, ◌==◌, if◌then◌else◌, List, [], ◌∷◌, ◌++◌, length, map, max}
+use Rattle.std.specs.Prelude.{replicate, Option, Some, None, option_map, refl}
 use Rattle.std.specs.Option.{option_map_or, option_or}
 use Rattle.seq_object.specs.Sequential.{Sequential}
 use Rattle.seq_object.specs.declared.call_id.CallId.{CallId}
@@ -67,7 +68,8 @@ lanes_of (e ∷ es) = max e.processes (lanes_of es)
 
 -- the step that an event is, with its kind: that of the stage at which its process stands
 abbrev pub steps_by : {S I R : Type 0} → WorldOf S I R → (place : ℕ) → Event I → List StepMark
-steps_by w place (Step p) = option_map_or (λ (call : Pending). record { event = place; process = p; kind = kind_of call.stage } ∷ []) (w.call p) []
+steps_by w place (Step p) =
+    option_map_or (λ (call : Pending). record { event = place; process = p; kind = kind_of call.stage } ∷ []) (w.call p) []
 steps_by w place _ = []
 
 -- the calls that take effect among acts, in order
@@ -93,13 +95,19 @@ lines_by w place (Reshape n) = record { event = place; end = era.Reshape n; numb
 lines_by w place _ = []
 
 -- what the events of a run give, each with its place and the world before it, in order
-abbrev pub along : {S I R A : Type 0} → Sequential S I R → (WorldOf S I R → ℕ → Event I → List A) → WorldOf S I R → (place : ℕ) → List (Event I) → List A
+abbrev pub along : {S I R A : Type 0} → Sequential S I R → (WorldOf S I R → ℕ → Event I → List A) → WorldOf S I R
+    → (place : ℕ) → List (Event I) → List A
 along object by w place [] = []
 along object by w place (e ∷ es) = by w place e ++ along object by (world_after object w e) (place + 1) es
 
 -- the box of an entry of the log
 abbrev pub box_of : {I R : Type 0} → Language I R → Entry I R → Cell
-box_of l e = record { number = e.number; call = record { process = e.call.process; nth = e.call.nth }; words = text_of_words (l.inv_words e.call.inv); reply = option_map l.resp_text e.response }
+box_of l e = record {
+  number = e.number;
+  call = record { process = e.call.process; nth = e.call.nth };
+  words = text_of_words (l.inv_words e.call.inv);
+  reply = option_map l.resp_text e.response;
+}
 
 -- on an object with its words
 module _ {S I R : Type 0} (o : SpokenObject S I R) where
@@ -107,7 +115,8 @@ module _ {S I R : Type 0} (o : SpokenObject S I R) where
   abbrev pub end_of_step : WorldOf S I R → (place p : ℕ) → Option End
   end_of_step w place p =
       let v = world_after o.object w (Step p) in
-      option_map (λ r. record { event = place; reply = o.language.resp_text r; steps = v.steps p; turns = v.turns p }) (response_of_step w p)
+      option_map (λ r. record { event = place; reply = o.language.resp_text r; steps = v.steps p; turns = v.turns p })
+      (response_of_step w p)
 
   -- how an event ends the call of process p
   abbrev pub end_by : (p : ℕ) → WorldOf S I R → (place : ℕ) → Event I → Option End
@@ -121,7 +130,8 @@ module _ {S I R : Type 0} (o : SpokenObject S I R) where
 
   -- the bar of a call that process p begins
   abbrev pub bar_begun : WorldOf S I R → (place p : ℕ) → I → Called
-  bar_begun w place p i = record { call = record { process = p; nth = w.begun p }; from = place; words = text_of_words (o.language.inv_words i); end = None }
+  bar_begun w place p i =
+      record { call = record { process = p; nth = w.begun p }; from = place; words = text_of_words (o.language.inv_words i); end = None }
 
   -- the bars of a run: each call ends where a step of its process first does
   abbrev pub bars_in : WorldOf S I R → (place : ℕ) → List (Event I) → List Called
@@ -163,31 +173,45 @@ abbrev sample : Sequential ℕ ℕ ℕ
 sample = record { initial = 9; next = λ s i. i; answer = λ s i. s }
 
 -- a process alone takes 14 steps; the eighth links its cell
-one_call_dot : along sample (dots_by sample) (opened_world 1 9 1) 0 (Call 0 7 ∷ replicate 14 (Step 0)) ≡ record { event = 8; call = record { process = 0; nth = 0 }; by = 0 } ∷ []
+one_call_dot : along sample (dots_by sample) (opened_world 1 9 1) 0 (Call 0 7 ∷ replicate 14 (Step 0))
+    ≡ record { event = 8; call = record { process = 0; nth = 0 }; by = 0 } ∷ []
 one_call_dot = refl
 
 -- a stopped process is helped: process 1 takes one step, and process 0 links first its cell, and then its own
 helped_dots : along sample (dots_by sample) (opened_world 2 9 1) 0 (Call 1 5 ∷ Step 1 ∷ Call 0 6 ∷ replicate 24 (Step 0))
-    ≡ record { event = 12; call = record { process = 1; nth = 0 }; by = 0 } ∷ record { event = 20; call = record { process = 0; nth = 0 }; by = 0 } ∷ []
+    ≡ record { event = 12; call = record { process = 1; nth = 0 }; by = 0 }
+    ∷ record { event = 20; call = record { process = 0; nth = 0 }; by = 0 } ∷ []
 helped_dots = refl
 
 -- an era that ends is marked by its last number
-trim_line : along sample lines_by (opened_world 1 9 1) 0 (Call 0 7 ∷ replicate 14 (Step 0) ++ Trim ∷ []) ≡ record { event = 15; end = era.Trim; number = 2 } ∷ []
+trim_line : along sample lines_by (opened_world 1 9 1) 0 (Call 0 7 ∷ replicate 14 (Step 0) ++ Trim ∷ [])
+    ≡ record { event = 15; end = era.Trim; number = 2 } ∷ []
 trim_line = refl
 
 -- the words of the sample
 abbrev spoken : SpokenObject ℕ ℕ ℕ
-spoken = record { object = sample; language = record { inv_words = λ i. (i ∷ []) ∷ []; inv_of_words = λ words. None; resp_text = λ r. r ∷ []; inv_of_word = λ w. w } }
+spoken = record {
+  object = sample;
+  language = record
+      { inv_words = λ i. (i ∷ []) ∷ []; inv_of_words = λ words. None; resp_text = λ r. r ∷ []; inv_of_word = λ w. w };
+}
 
 -- the call that is helped stays open, and the other one has its reply, steps and turns
 helped_bars : bars_in spoken (opened_world 2 9 1) 0 (Call 1 5 ∷ Step 1 ∷ Call 0 6 ∷ replicate 24 (Step 0))
     ≡ record { call = record { process = 1; nth = 0 }; from = 0; words = 5 ∷ []; end = None }
-    ∷ record { call = record { process = 0; nth = 0 }; from = 2; words = 6 ∷ []; end = Some (record { event = 26; reply = 5 ∷ []; steps = 24; turns = 2 }) }
+    ∷ record {
+      call = record { process = 0; nth = 0 };
+      from = 2;
+      words = 6 ∷ [];
+      end = Some (record { event = 26; reply = 5 ∷ []; steps = 24; turns = 2 });
+    }
     ∷ []
 helped_bars = refl
 
 -- each of two calls of one process ends where it returns first
-two_ends : map (λ b. option_map (λ e. e.event) b.end) (bars_in spoken (opened_world 1 9 1) 0 (Call 0 7 ∷ replicate 14 (Step 0) ++ Call 0 8 ∷ replicate 14 (Step 0))) ≡ Some 14 ∷ Some 29 ∷ []
+two_ends : map (λ b. option_map (λ e. e.event) b.end)
+    (bars_in spoken (opened_world 1 9 1) 0 (Call 0 7 ∷ replicate 14 (Step 0) ++ Call 0 8 ∷ replicate 14 (Step 0)))
+    ≡ Some 14 ∷ Some 29 ∷ []
 two_ends = refl
 
 -- and each has its box, in the order of the dots

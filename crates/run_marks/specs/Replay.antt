@@ -18,7 +18,8 @@ from_with from place Trim = place + 1
 from_with from place (Reshape n) = place + 1
 
 -- the marks so far, and those of an event at this place, which comes to this world; the present era began after so many events
-abbrev pub marks_with : {S I R : Type 0} → SpokenObject S I R → RunMarks → WorldOf S I R → (from place : ℕ) → Event I → RunMarks
+abbrev pub marks_with : {S I R : Type 0} → SpokenObject S I R → RunMarks → WorldOf S I R → (from place : ℕ) → Event I
+    → RunMarks
 marks_with o m w from place (Call p i) = record m { bars = m.bars ++ bar_begun o w place p i ∷ [] }
 marks_with o m w from place (Step p) =
     record m {
@@ -27,7 +28,8 @@ marks_with o m w from place (Step p) =
       dots = m.dots ++ dots_by o.object w place (Step p);
     }
 marks_with o m w from place Trim = record m { lines = m.lines ++ lines_by w place Trim; eras = m.eras ++ era_of o w from ∷ [] }
-marks_with o m w from place (Reshape n) = record m { lines = m.lines ++ lines_by w place (Reshape n); eras = m.eras ++ era_of o w from ∷ [] }
+marks_with o m w from place (Reshape n) =
+    record m { lines = m.lines ++ lines_by w place (Reshape n); eras = m.eras ++ era_of o w from ∷ [] }
 
 -- an open bar of process 0
 abbrev sample : Called

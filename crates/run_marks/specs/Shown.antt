@@ -21,4 +21,12 @@ era_shown e = record { from = e.from; processes = e.processes; anchor = e.anchor
 
 abbrev pub marks_shown : Marks → RunMarks
 marks_shown m =
-    record { object = m.object.items; events = m.events; steps = m.steps.items; bars = map bar_shown m.bars.items; dots = m.dots.items; lines = m.lines.items; eras = map era_shown m.eras.items }
+    record {
+      object = m.object.items;
+      events = m.events;
+      steps = m.steps.items;
+      bars = map bar_shown m.bars.items;
+      dots = m.dots.items;
+      lines = m.lines.items;
+      eras = map era_shown m.eras.items;
+    }

@@ -31,7 +31,8 @@ pub fn marks_of<O: Spoken>(
     object: O,
     run: &Recorded<O>,
 ) -> Result<Marks, AllocError>
-    ensures marks { IfOk result (λ marks. marks_shown marks ≡ marks_of_run (record { object = O.sequential object; language = O.language }) name.now
+    ensures marks { IfOk result (λ marks. marks_shown marks
+        ≡ marks_of_run (record { object = O.sequential object; language = O.language }) name.now
         (opened_world run.now.processes (O.sequential object).initial run.now.first) (events_shown run.now.events)) }
 {
     run.promise();
@@ -61,7 +62,8 @@ pub fn marks_of<O: Spoken>(
 /// An `Err` says that it couldn't be opened.
 fn reopened<O: Spoken>(alloc: Global, object: O, run: &Recorded<O>) -> Result<World<O>, AllocError>
     ensures object { IfOk result (λ replay. replay.object ≡ object) }
-    ensures world { IfOk result (λ replay. world_of replay ≡ opened_world run.now.processes (O.sequential object).initial run.now.first) }
+    ensures world { IfOk result (λ replay. world_of replay
+        ≡ opened_world run.now.processes (O.sequential object).initial run.now.first) }
 {
     run.promise();
     let row = run.world().row();
@@ -86,8 +88,11 @@ fn replay_event<O: Spoken>(
     requires { place < 2 ^ 63 }
     ensures object { replay.new.object ≡ replay.old.object }
     ensures from { IfOk result (λ next. next ≡ from_with from place (event_shown (event_lent event.entry))) }
-    ensures world { OnOk result (world_of replay.new ≡ world_after (O.sequential replay.old.object) (world_of replay.old) (event_shown (event_lent event.entry))) }
-    ensures marks { OnOk result (marks_shown marks.new ≡ marks_with (record { object = O.sequential replay.old.object; language = O.language }) (marks_shown marks.old) (world_of replay.old) from place (event_shown (event_lent event.entry))) }
+    ensures world { OnOk result (world_of replay.new
+        ≡ world_after (O.sequential replay.old.object) (world_of replay.old) (event_shown (event_lent event.entry))) }
+    ensures marks { OnOk result (marks_shown marks.new
+        ≡ marks_with (record { object = O.sequential replay.old.object; language = O.language })
+        (marks_shown marks.old) (world_of replay.old) from place (event_shown (event_lent event.entry))) }
 {
     match event {
         Event::Call(process, inv) => {
@@ -129,8 +134,12 @@ fn replay_call<O: Spoken>(
     bars: &mut Vec<Bar>,
 ) -> Result<(), AllocError>
     ensures object { replay.new.object ≡ replay.old.object }
-    ensures world { OnOk result (world_of replay.new ≡ world_after (O.sequential replay.old.object) (world_of replay.old) (Call process inv.now)) }
-    ensures bars { OnOk result (map bar_shown bars.new.items ≡ map bar_shown bars.old.items ++ bar_begun (record { object = O.sequential replay.old.object; language = O.language }) (world_of replay.old) place process inv.now ∷ []) }
+    ensures world { OnOk result (world_of replay.new
+        ≡ world_after (O.sequential replay.old.object) (world_of replay.old) (Call process inv.now)) }
+    ensures bars { OnOk result (map bar_shown bars.new.items
+        ≡ map bar_shown bars.old.items ++ bar_begun
+        (record { object = O.sequential replay.old.object; language = O.language })
+        (world_of replay.old) place process inv.now ∷ []) }
 {
     let words = O::inv_text(alloc, inv)?;
     let Ok(call) = replay.begin(alloc, process, inv) else {
@@ -159,8 +168,12 @@ fn replay_step<O: Spoken>(
     marks: &mut Marks,
 ) -> Result<(), AllocError>
     ensures object { replay.new.object ≡ replay.old.object }
-    ensures world { OnOk result (world_of replay.new ≡ world_after (O.sequential replay.old.object) (world_of replay.old) (Step process)) }
-    ensures marks { OnOk result ((from : ℕ) → marks_shown marks.new ≡ marks_with (record { object = O.sequential replay.old.object; language = O.language }) (marks_shown marks.old) (world_of replay.old) from place (Step process)) }
+    ensures world { OnOk result (world_of replay.new
+        ≡ world_after (O.sequential replay.old.object) (world_of replay.old) (Step process)) }
+    ensures marks { OnOk result ((from : ℕ)
+        → marks_shown marks.new ≡ marks_with
+        (record { object = O.sequential replay.old.object; language = O.language }) (marks_shown marks.old)
+        (world_of replay.old) from place (Step process)) }
 {
     if process >= replay.processes() {
         return Err(AllocError);
@@ -198,7 +211,8 @@ fn push_dots<O: Spoken>(
     process: u64,
     dots: &mut Vec<Dot>,
 ) -> Result<(), AllocError>
-    ensures { OnOk result (dots.new.items ≡ dots.old.items ++ dots_of place process (drop before (calls_of (world_of world.now)))) }
+    ensures { OnOk result (dots.new.items ≡ dots.old.items
+        ++ dots_of place process (drop before (calls_of (world_of world.now)))) }
 {
     let entries = Log::of(world).entries(alloc)?;
     for at in before..entries.len() {
@@ -223,7 +237,13 @@ fn end_bars<O: Spoken>(
     turns: u64,
     bars: &mut Vec<Bar>,
 ) -> Result<(), AllocError>
-    ensures { OnOk result (map bar_shown bars.new.items ≡ map (bar_ended process (record { event = place; reply = O.language.resp_text response; steps = steps; turns = turns })) (map bar_shown bars.old.items)) }
+    ensures { OnOk result (map bar_shown bars.new.items
+        ≡ map (bar_ended process (record {
+          event = place;
+          reply = O.language.resp_text response;
+          steps = steps;
+          turns = turns;
+        })) (map bar_shown bars.old.items)) }
 {
     for bar in bars.iter_mut() {
         end_bar::<O>(alloc, process, place, response, steps, turns, bar)?;
@@ -243,7 +263,9 @@ fn end_bar<O: Spoken>(
     turns: u64,
     bar: &mut Bar,
 ) -> Result<(), AllocError>
-    ensures { OnOk result (bar_shown bar.new ≡ bar_ended process (record { event = place; reply = O.language.resp_text response; steps = steps; turns = turns }) (bar_shown bar.old)) }
+    ensures { OnOk result (bar_shown bar.new ≡ bar_ended process
+        (record { event = place; reply = O.language.resp_text response; steps = steps; turns = turns })
+        (bar_shown bar.old)) }
 {
     if bar.end.is_none() && process == u64::from(bar.call.process) {
         let reply = O::resp_text(alloc, response)?;
@@ -266,7 +288,9 @@ fn push_era<O: Spoken>(
     from: u64,
     eras: &mut Vec<Era>,
 ) -> Result<(), AllocError>
-    ensures { OnOk result (map era_shown eras.new.items ≡ map era_shown eras.old.items ++ era_of (record { object = O.sequential world.now.object; language = O.language }) (world_of world.now) from ∷ []) }
+    ensures { OnOk result (map era_shown eras.new.items
+        ≡ map era_shown eras.old.items ++ era_of
+        (record { object = O.sequential world.now.object; language = O.language }) (world_of world.now) from ∷ []) }
 {
     world.shape();
     let anchor = world.seq(CellId::anchor());

@@ -1,5 +1,6 @@
 -- The list of cells, era by era, below the lanes.
-use Rattle.std.specs.Prelude.{◌≡◌, ℕ, ◌+◌, ◌-◌, ◌*◌, min, max, nat_le, if◌then◌else◌, List, [], ◌∷◌, ◌++◌, fold, codes, refl}
+use Rattle.std.specs.Prelude.{◌≡◌, ℕ, ◌+◌, ◌-◌, ◌*◌, min, max, nat_le, if◌then◌else◌, List, [], ◌∷◌}
+use Rattle.std.specs.Prelude.{◌++◌, fold, codes, refl}
 use Rattle.std.specs.Fmt.{decimal}
 use Rattle.svg_text.specs.declared.paint.Paint.TheVariants.{Ink, Frame, Thick}
 use Rattle.svg_text.specs.declared.shape.Anchor.TheVariants.{Start}
@@ -23,15 +24,20 @@ box_width upper lower = (max (letters_of upper) (letters_of lower) + 2) * 8
 
 -- a frame with two texts
 unfoldable pub box_figures : Spot → (upper lower : List ℕ) → List Figure
-box_figures at upper lower = Rect at.left at.top (box_width upper lower) 44 Frame ∷ Text (at.left + 8) (at.top + 18) Start Ink upper ∷ Text (at.left + 8) (at.top + 36) Start Ink lower ∷ []
+box_figures at upper lower =
+    Rect at.left at.top (box_width upper lower) 44 Frame ∷ Text (at.left + 8) (at.top + 18) Start Ink upper
+    ∷ Text (at.left + 8) (at.top + 36) Start Ink lower ∷ []
 
 -- the arrow to the box at a place
 unfoldable pub link_figures : Spot → List Figure
-link_figures at = Line (at.left - 24) (at.top + 22) (at.left - 3) (at.top + 22) Thick ∷ tip_figure (at.left - 2) (at.top + 22) Right ∷ []
+link_figures at =
+    Line (at.left - 24) (at.top + 22) (at.left - 3) (at.top + 22) Thick ∷ tip_figure (at.left - 2) (at.top + 22) Right ∷ []
 
 -- where a box stands after one that ends at a place: in its line, or at the start of the next line where this one has no room
 abbrev pub box_spot : (before : Spot) → (wide width : ℕ) → Spot
-box_spot before wide width = if nat_le (before.left + 28 + wide + 12) width then record { left = before.left + 28; top = before.top } else record { left = 84; top = lower before.top 56 }
+box_spot before wide width =
+    if nat_le (before.left + 28 + wide + 12) width then record { left = before.left + 28; top = before.top } else record
+    { left = 84; top = lower before.top 56 }
 
 -- ---- the cells of an era
 
@@ -40,11 +46,13 @@ cell_spot width before cell = box_spot before (box_width (cell_name cell) (cell_
 
 -- a cell: the arrow to it, and its box
 unfoldable pub cell_figures : (width : ℕ) → (before : Spot) → Cell → List Figure
-cell_figures width before cell = let at = cell_spot width before cell in link_figures at ++ box_figures at (cell_name cell) (cell_words cell)
+cell_figures width before cell = let at =
+    cell_spot width before cell in link_figures at ++ box_figures at (cell_name cell) (cell_words cell)
 
 -- where its box ends
 unfoldable pub cell_end : (width : ℕ) → (before : Spot) → Cell → Spot
-cell_end width before cell = let at = cell_spot width before cell in record { left = at.left + box_width (cell_name cell) (cell_words cell); top = at.top }
+cell_end width before cell = let at =
+    cell_spot width before cell in record { left = at.left + box_width (cell_name cell) (cell_words cell); top = at.top }
 
 -- cells one after another
 unfoldable pub row_figures : (width : ℕ) → (start : Spot) → List Cell → List Figure
@@ -68,7 +76,8 @@ first_spot top = record { left = 84; top = top }
 
 -- the name of an era, and the box of its anchor
 unfoldable pub anchor_figures : (top place anchor : ℕ) → List Figure
-anchor_figures top place anchor = Text 12 (top + 27) Start Ink (era_name place) ∷ box_figures (first_spot top) (anchor_name anchor) (codes "anchor")
+anchor_figures top place anchor =
+    Text 12 (top + 27) Start Ink (era_name place) ∷ box_figures (first_spot top) (anchor_name anchor) (codes "anchor")
 
 -- where that box ends
 unfoldable pub anchor_end : (top anchor : ℕ) → Spot
@@ -76,7 +85,8 @@ anchor_end top anchor = record { left = 84 + box_width (anchor_name anchor) (cod
 
 -- the anchor, and then the cells in the order of the list
 unfoldable pub era_figures : (width bottom place : ℕ) → EraMarks → List Figure
-era_figures width bottom place era = let top = lower bottom 12 in anchor_figures top place era.anchor ++ row_figures width (anchor_end top era.anchor) era.cells
+era_figures width bottom place era = let top =
+    lower bottom 12 in anchor_figures top place era.anchor ++ row_figures width (anchor_end top era.anchor) era.cells
 
 -- how far they go down
 unfoldable pub era_bottom : (width bottom : ℕ) → EraMarks → ℕ
@@ -86,7 +96,8 @@ era_bottom width bottom era = (row_end width (anchor_end (lower bottom 12) era.a
 
 unfoldable pub eras_figures : (width bottom place : ℕ) → List EraMarks → List Figure
 eras_figures width bottom place [] = []
-eras_figures width bottom place (era ∷ eras) = era_figures width bottom place era ++ eras_figures width (era_bottom width bottom era) (place + 1) eras
+eras_figures width bottom place (era ∷ eras) =
+    era_figures width bottom place era ++ eras_figures width (era_bottom width bottom era) (place + 1) eras
 
 unfoldable pub eras_bottom : (width bottom : ℕ) → List EraMarks → ℕ
 eras_bottom width bottom eras = fold (era_bottom width) bottom eras

@@ -43,7 +43,8 @@ notes_figures places marks told =
 
 -- where the lanes of a run stand: below the captions, 64 at most
 abbrev pub lanes_below : Places → RunMarks → List Told → Lanes
-lanes_below places marks told = record { top = notes_end (line_letters (width_of_places places)) told + 20; count = min (lanes_of marks.eras) 64 }
+lanes_below places marks told =
+    record { top = notes_end (line_letters (width_of_places places)) told + 20; count = min (lanes_of marks.eras) 64 }
 
 -- what stands above the list of cells: notes, lanes and refusals
 abbrev pub events_figures : Places → RunMarks → List Told → List Figure

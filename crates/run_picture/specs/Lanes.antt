@@ -1,5 +1,6 @@
 -- The shapes of marks in lanes.
-use Rattle.std.specs.Prelude.{◌≡◌, ℕ, zero, suc, ◌+◌, ◌-◌, ◌*◌, min, ◌==◌, if◌then◌else◌, nat_le, nat_lt, List, [], ◌∷◌, ◌++◌, Option, Some, None, codes, refl}
+use Rattle.std.specs.Prelude.{◌≡◌, ℕ, zero, suc, ◌+◌, ◌-◌, ◌*◌, min, ◌==◌, if◌then◌else◌, nat_le, nat_lt}
+use Rattle.std.specs.Prelude.{List, [], ◌∷◌, ◌++◌, Option, Some, None, codes, refl}
 use Rattle.std.specs.List.{flat_map}
 use Rattle.std.specs.Fmt.{decimal}
 use Rattle.svg_text.specs.declared.paint.Paint.TheVariants.{Paper, Frame, Ink, Faint, Edge, Broken, Thick, Mark}
@@ -41,7 +42,8 @@ lane_figures lanes left right named process =
 -- the lanes of so many processes, from a process on
 unfoldable pub lanes_from : Lanes → (left right named process count : ℕ) → List Figure
 lanes_from lanes left right named process zero = []
-lanes_from lanes left right named process (suc n) = lane_figures lanes left right named process ++ lanes_from lanes left right named (process + 1) n
+lanes_from lanes left right named process (suc n) =
+    lane_figures lanes left right named process ++ lanes_from lanes left right named (process + 1) n
 
 -- where an era ends: in the middle of the event before the next one, or with all events
 abbrev pub era_end : Places → List EraMarks → ℕ
@@ -63,7 +65,8 @@ line_figures places lanes line =
 -- a bar that stays open at its right
 abbrev pub open_figures : (left right top : ℕ) → List Figure
 open_figures left right top =
-    Rect left top (right - left) 46 Paper ∷ Line left top right top Edge ∷ Line left top left (top + 46) Edge ∷ Line left (top + 46) right (top + 46) Edge ∷ []
+    Rect left top (right - left) 46 Paper ∷ Line left top right top Edge ∷ Line left top left (top + 46) Edge
+    ∷ Line left (top + 46) right (top + 46) Edge ∷ []
 
 -- the frame of a bar, which stays open where its call hasn't returned
 abbrev pub frame_figures : Places → (left top : ℕ) → Option End → List Figure
@@ -134,5 +137,6 @@ arrow_of_help = refl
 no_arrow_of_own : arrow_figures two_events two_lanes (record { event = 1; call = record { process = 1; nth = 0 }; by = 1 }) ≡ []
 no_arrow_of_own = refl
 
-dot_of_helped : dot_figures two_events two_lanes (record { event = 1; call = record { process = 1; nth = 0 }; by = 0 }) ≡ figures.Dot 68 256 ∷ []
+dot_of_helped : dot_figures two_events two_lanes (record { event = 1; call = record { process = 1; nth = 0 }; by = 0 })
+    ≡ figures.Dot 68 256 ∷ []
 dot_of_helped = refl

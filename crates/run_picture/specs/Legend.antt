@@ -20,7 +20,8 @@ words_at x y words = Text (x + 22) (y + 14) Start Ink words
 -- a kind of step: its mark with its letter, and what it means
 unfoldable pub kind_entry : StepKind → Entry
 kind_entry kind x y =
-    Rect x y 14 18 (Mark (colour_of kind)) ∷ Text (x + 7) (y + 15) Middle (letter_paint kind) (letter_of kind ∷ []) ∷ words_at x y (meaning_of kind) ∷ []
+    Rect x y 14 18 (Mark (colour_of kind)) ∷ Text (x + 7) (y + 15) Middle (letter_paint kind) (letter_of kind ∷ [])
+    ∷ words_at x y (meaning_of kind) ∷ []
 
 -- the dot of a call
 unfoldable pub dot_entry : Entry
@@ -28,16 +29,20 @@ dot_entry x y = Dot (x + 7) (y + 9) ∷ words_at x y (codes "the call takes effe
 
 -- the arrow from another process's step
 unfoldable pub arrow_entry : Entry
-arrow_entry x y = Line (x + 7) y (x + 7) (y + 16) Thick ∷ tip_figure (x + 7) (y + 18) Down ∷ words_at x y (codes "help: another links it") ∷ []
+arrow_entry x y =
+    Line (x + 7) y (x + 7) (y + 16) Thick ∷ tip_figure (x + 7) (y + 18) Down ∷ words_at x y (codes "help: another links it") ∷ []
 
 -- the cross of a refusal
 unfoldable pub refusal_entry : Entry
-refusal_entry x y = Line (x + 2) (y + 4) (x + 12) (y + 14) Cross ∷ Line (x + 2) (y + 14) (x + 12) (y + 4) Cross ∷ words_at x y (codes "refused, for this reason") ∷ []
+refusal_entry x y =
+    Line (x + 2) (y + 4) (x + 12) (y + 14) Cross ∷ Line (x + 2) (y + 14) (x + 12) (y + 4) Cross
+    ∷ words_at x y (codes "refused, for this reason") ∷ []
 
 -- a bar that stays open
 unfoldable pub open_entry : Entry
 open_entry x y =
-    Line x (y + 2) (x + 16) (y + 2) Edge ∷ Line x (y + 2) x (y + 16) Edge ∷ Line x (y + 16) (x + 16) (y + 16) Edge ∷ words_at x y (codes "has not returned") ∷ []
+    Line x (y + 2) (x + 16) (y + 2) Edge ∷ Line x (y + 2) x (y + 16) Edge ∷ Line x (y + 16) (x + 16) (y + 16) Edge
+    ∷ words_at x y (codes "has not returned") ∷ []
 
 -- the left and the top of an entry, by its place from 0: four stand side by side
 abbrev pub left_of : (place : ℕ) → ℕ
@@ -58,7 +63,8 @@ entries_from top place (entry ∷ more) = entry_at top place entry ++ entries_fr
 -- a line, and below it the kinds of step in the order in which a call takes them, the dot, the arrow, the cross and the open bar
 unfoldable pub legend_figures : (width bottom : ℕ) → List Figure
 legend_figures width bottom =
-    Line 12 (bottom + 12) (width - 12) (bottom + 12) Faint ∷ entries_from (bottom + 24) 0 (map kind_entry kinds ++ dot_entry ∷ arrow_entry ∷ refusal_entry ∷ open_entry ∷ [])
+    Line 12 (bottom + 12) (width - 12) (bottom + 12) Faint
+    ∷ entries_from (bottom + 24) 0 (map kind_entry kinds ++ dot_entry ∷ arrow_entry ∷ refusal_entry ∷ open_entry ∷ [])
 
 -- the fourteenth entry stands second in the fourth line
 place_of_fourteenth : left_of 13 ≡ 248

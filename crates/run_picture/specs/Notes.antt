@@ -61,7 +61,8 @@ abbrev pub captions_from : Places → (width most foot place bottom : ℕ) → L
 captions_from places width most foot place bottom [] = []
 captions_from places width most foot place bottom (one ∷ told) =
     let lines = caption_lines most one.remark in
-    caption_figures width ((told_column places place).left + 7) bottom foot lines ++ captions_from places width most foot (place + 1) (bottom + length lines * 20) told
+    caption_figures width ((told_column places place).left + 7) bottom foot lines
+    ++ captions_from places width most foot (place + 1) (bottom + length lines * 20) told
 
 -- how high all captions are
 abbrev pub captions_height : (most : ℕ) → List Told → ℕ
@@ -92,7 +93,8 @@ remark_figures column lanes (Note text) = []
 -- the refusals of what is told, from a place on
 abbrev pub refusals_from : Places → Lanes → (place : ℕ) → List Told → List Figure
 refusals_from places lanes place [] = []
-refusals_from places lanes place (one ∷ told) = remark_figures (told_column places place) lanes one.remark ++ refusals_from places lanes (place + 1) told
+refusals_from places lanes place (one ∷ told) =
+    remark_figures (told_column places place) lanes one.remark ++ refusals_from places lanes (place + 1) told
 
 -- a text with a heading after it, and a space between them where there is a text
 abbrev pub after_text : List ℕ → List ℕ → List ℕ

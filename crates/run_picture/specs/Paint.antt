@@ -4,7 +4,8 @@ use Rattle.svg_text.specs.declared.paint.Colour.TheVariants.{Orange, SkyBlue, Gr
 use Rattle.svg_text.specs.declared.paint.Paint.{Paint}
 use Rattle.svg_text.specs.declared.paint.Paint.TheVariants.{DarkLetter, LightLetter}
 use Rattle.uni_core.specs.declared.stage.StepKind.{StepKind}
-use Rattle.uni_core.specs.declared.stage.StepKind.TheVariants.{Announce, ScanHead, ScanSeq, WriteScan, Test, ReadAnnounce, ReadHelpSeq, DecideAfter, DecideNew, WriteBefore, WriteSeq, WriteHead, Finish}
+use Rattle.uni_core.specs.declared.stage.StepKind.TheVariants.{Announce, ScanHead, ScanSeq, WriteScan, Test, ReadAnnounce, ReadHelpSeq}
+use Rattle.uni_core.specs.declared.stage.StepKind.TheVariants.{DecideAfter, DecideNew, WriteBefore, WriteSeq, WriteHead, Finish}
 
 -- the colour of a step's mark: one for each phase of a call
 abbrev pub colour_of : StepKind → Colour

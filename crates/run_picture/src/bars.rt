@@ -1,6 +1,7 @@
 //! Bars and their texts.
 
-ghost use Rattle.std.specs.Prelude.{◌≡◌, ◌++◌, ◌+◌, ◌<◌, ◌^◌, ◌-◌, ◌∷◌, [], OnOk, Some, map};
+ghost use Rattle.std.specs.Prelude.{◌≡◌, ◌++◌, ◌+◌, ◌<◌, ◌^◌, ◌-◌, ◌∷◌, [], OnOk, Some};
+ghost use Rattle.std.specs.Prelude.{map};
 ghost use Rattle.std.specs.List.{flat_map};
 ghost use Rattle.run_marks.specs.Shown.{bar_shown, end_shown};
 ghost use Rattle.run_layout.specs.Axis.{places_shown};
@@ -31,7 +32,8 @@ const COUNTS: u64 = 86;
 ///
 /// An `Err` says that memory was refused.
 fn push_bar(bar: &Bar, axis: &Axis, lanes: Lanes, shapes: &mut Vec<Shape>) -> Result<(), AllocError>
-    ensures { OnOk result (map figure shapes.new.items ≡ map figure shapes.old.items ++ bar_figures (places_shown axis.now) lanes (bar_shown bar.now)) }
+    ensures { OnOk result (map figure shapes.new.items
+        ≡ map figure shapes.old.items ++ bar_figures (places_shown axis.now) lanes (bar_shown bar.now)) }
 {
     let left = u64::from(axis.event(bar.from).left);
     let top = lanes.of(u64::from(bar.call.process)) + TOP;
@@ -54,7 +56,8 @@ fn push_frame(
     paint: Paint,
     shapes: &mut Vec<Shape>,
 ) -> Result<(), AllocError>
-    ensures { OnOk result (map figure shapes.new.items ≡ map figure shapes.old.items ++ Rect left top (right - left) 46 paint ∷ []) }
+    ensures { OnOk result (map figure shapes.new.items
+        ≡ map figure shapes.old.items ++ Rect left top (right - left) 46 paint ∷ []) }
 {
     shapes.push(Shape::Rect {
         x: left,
@@ -89,7 +92,9 @@ pub fn push_bars(
     lanes: Lanes,
     shapes: &mut Vec<Shape>,
 ) -> Result<(), AllocError>
-    ensures { OnOk result (map figure shapes.new.items ≡ map figure shapes.old.items ++ flat_map (bar_figures (places_shown axis.now) lanes) (map bar_shown bars.now)) }
+    ensures { OnOk result (map figure shapes.new.items
+        ≡ map figure shapes.old.items ++ flat_map (bar_figures (places_shown axis.now) lanes)
+        (map bar_shown bars.now)) }
 {
     for bar in bars {
         push_bar(bar, axis, lanes, shapes)?;
@@ -108,7 +113,8 @@ fn push_counts(
     shapes: &mut Vec<Shape>,
 ) -> Result<(), AllocError>
     requires { top < 2 ^ 40 }
-    ensures { OnOk result (map figure shapes.new.items ≡ map figure shapes.old.items ++ counts_figures (places_shown axis.now) top (Some (end_shown end.now))) }
+    ensures { OnOk result (map figure shapes.new.items
+        ≡ map figure shapes.old.items ++ counts_figures (places_shown axis.now) top (Some (end_shown end.now))) }
 {
     let counts = counts_of(alloc, end)?;
     let right = axis.event(end.event).right();
@@ -126,7 +132,8 @@ fn push_bar_texts(
     lanes: Lanes,
     shapes: &mut Vec<Shape>,
 ) -> Result<(), AllocError>
-    ensures { OnOk result (map figure shapes.new.items ≡ map figure shapes.old.items ++ bar_texts (places_shown axis.now) lanes (bar_shown bar.now)) }
+    ensures { OnOk result (map figure shapes.new.items
+        ≡ map figure shapes.old.items ++ bar_texts (places_shown axis.now) lanes (bar_shown bar.now)) }
 {
     let top = lanes.of(u64::from(bar.call.process));
     let left = u64::from(axis.event(bar.from).left);
@@ -147,7 +154,9 @@ pub fn push_texts(
     lanes: Lanes,
     shapes: &mut Vec<Shape>,
 ) -> Result<(), AllocError>
-    ensures { OnOk result (map figure shapes.new.items ≡ map figure shapes.old.items ++ flat_map (bar_texts (places_shown axis.now) lanes) (map bar_shown bars.now)) }
+    ensures { OnOk result (map figure shapes.new.items
+        ≡ map figure shapes.old.items ++ flat_map (bar_texts (places_shown axis.now) lanes)
+        (map bar_shown bars.now)) }
 {
     for bar in bars {
         push_bar_texts(alloc, bar, axis, lanes, shapes)?;

@@ -1,10 +1,13 @@
 //! The list of cells, era by era, below the lanes.
 
-ghost use Rattle.std.specs.Prelude.{◌≡◌, ◌≤◌, ◌<◌, ◌^◌, ◌+◌, [], ◌∷◌, ◌++◌, map, IfOk, OnOk};
+ghost use Rattle.std.specs.Prelude.{◌≡◌, ◌≤◌, ◌<◌, ◌^◌, ◌+◌, [], ◌∷◌, ◌++◌, map};
+ghost use Rattle.std.specs.Prelude.{IfOk, OnOk};
 ghost use Rattle.svg_text.specs.Figures.{Rect, figure};
 ghost use Rattle.svg_text.specs.declared.paint.Paint.TheVariants.{Frame};
 ghost use Rattle.run_marks.specs.Shown.{cell_shown, era_shown};
-ghost use Rattle.run_picture.specs.Cells.{lower, box_width, box_figures, box_spot, link_figures, row_figures, row_end, cell_figures, cell_end, era_name, anchor_name, anchor_figures, anchor_end, era_figures, era_bottom, eras_figures, eras_bottom};
+ghost use Rattle.run_picture.specs.Cells.{lower, box_width, box_figures, box_spot, link_figures, row_figures, row_end};
+ghost use Rattle.run_picture.specs.Cells.{cell_figures, cell_end, era_name, anchor_name, anchor_figures, anchor_end};
+ghost use Rattle.run_picture.specs.Cells.{era_figures, era_bottom, eras_figures, eras_bottom};
 
 use crate::figures::{LETTER, Toward, push_line, push_text, push_tip};
 use crate::lanes::MARGIN;
@@ -47,7 +50,8 @@ pub fn push_cells(
 ) -> Result<u64, AllocError>
     requires wide { width < 2 ^ 36 }
     requires low { bottom < 2 ^ 35 }
-    ensures figures { OnOk result (map figure shapes.new.items ≡ map figure shapes.old.items ++ eras_figures width bottom 0 (map era_shown eras.now)) }
+    ensures figures { OnOk result (map figure shapes.new.items
+        ≡ map figure shapes.old.items ++ eras_figures width bottom 0 (map era_shown eras.now)) }
     ensures bottom { IfOk result (λ end. end ≡ eras_bottom width bottom (map era_shown eras.now)) }
     ensures low { IfOk result (λ end. end < 2 ^ 35) }
 {
@@ -72,7 +76,8 @@ fn push_era(
 ) -> Result<u64, AllocError>
     requires next { place + 1 < 2 ^ 64 }
     requires wide { width < 2 ^ 36 }
-    ensures figures { OnOk result (map figure shapes.new.items ≡ map figure shapes.old.items ++ era_figures width bottom place (era_shown era.now)) }
+    ensures figures { OnOk result (map figure shapes.new.items
+        ≡ map figure shapes.old.items ++ era_figures width bottom place (era_shown era.now)) }
     ensures bottom { IfOk result (λ end. end ≡ era_bottom width bottom (era_shown era.now)) }
     ensures low { IfOk result (λ end. end < 2 ^ 35) }
 {
@@ -103,7 +108,8 @@ fn push_anchor(
 ) -> Result<Spot, AllocError>
     requires next { place + 1 < 2 ^ 64 }
     requires low { top < 2 ^ 34 }
-    ensures figures { OnOk result (map figure shapes.new.items ≡ map figure shapes.old.items ++ anchor_figures top place anchor) }
+    ensures figures { OnOk result (map figure shapes.new.items
+        ≡ map figure shapes.old.items ++ anchor_figures top place anchor) }
     ensures end { IfOk result (λ end. end ≡ anchor_end top anchor) }
     ensures near { IfOk result (λ end. end.left < 2 ^ 37) }
     ensures low { IfOk result (λ end. end.top < 2 ^ 34) }
@@ -159,7 +165,8 @@ fn push_row(
     requires wide { width < 2 ^ 36 }
     requires near { start.left < 2 ^ 37 }
     requires low { start.top < 2 ^ 34 }
-    ensures figures { OnOk result (map figure shapes.new.items ≡ map figure shapes.old.items ++ row_figures width start (map cell_shown cells.now)) }
+    ensures figures { OnOk result (map figure shapes.new.items
+        ≡ map figure shapes.old.items ++ row_figures width start (map cell_shown cells.now)) }
     ensures end { IfOk result (λ end. end ≡ row_end width start (map cell_shown cells.now)) }
     ensures low { IfOk result (λ end. end.top < 2 ^ 34) }
 {
@@ -183,7 +190,8 @@ fn push_cell(
     requires wide { width < 2 ^ 36 }
     requires near { before.left < 2 ^ 37 }
     requires low { before.top < 2 ^ 34 }
-    ensures figures { OnOk result (map figure shapes.new.items ≡ map figure shapes.old.items ++ cell_figures width before (cell_shown cell.now)) }
+    ensures figures { OnOk result (map figure shapes.new.items
+        ≡ map figure shapes.old.items ++ cell_figures width before (cell_shown cell.now)) }
     ensures end { IfOk result (λ end. end ≡ cell_end width before (cell_shown cell.now)) }
     ensures near { IfOk result (λ end. end.left < 2 ^ 37) }
     ensures low { IfOk result (λ end. end.top < 2 ^ 34) }
@@ -259,7 +267,8 @@ fn push_box(
 ) -> Result<(), AllocError>
     requires near { at.left < 2 ^ 37 }
     requires low { at.top < 2 ^ 38 }
-    ensures { OnOk result (map figure shapes.new.items ≡ map figure shapes.old.items ++ box_figures at upper.items lower.items) }
+    ensures { OnOk result (map figure shapes.new.items
+        ≡ map figure shapes.old.items ++ box_figures at upper.items lower.items) }
 {
     push_frame(at, box_width(&upper, &lower), shapes)?;
     let left = at.left + LETTER;
@@ -271,7 +280,8 @@ fn push_box(
 ///
 /// An `Err` says that memory was refused.
 fn push_frame(at: Spot, width: u64, shapes: &mut Vec<Shape>) -> Result<(), AllocError>
-    ensures { OnOk result (map figure shapes.new.items ≡ map figure shapes.old.items ++ (Rect at.left at.top width 44 Frame ∷ [])) }
+    ensures { OnOk result (map figure shapes.new.items
+        ≡ map figure shapes.old.items ++ (Rect at.left at.top width 44 Frame ∷ [])) }
 {
     shapes.push(Shape::Rect {
         x: at.left,

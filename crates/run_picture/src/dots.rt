@@ -36,7 +36,8 @@ fn push_step(
     lanes: Lanes,
     shapes: &mut Vec<Shape>,
 ) -> Result<(), AllocError>
-    ensures { OnOk result (map figure shapes.new.items ≡ map figure shapes.old.items ++ step_figures (places_shown axis.now) lanes step) }
+    ensures { OnOk result (map figure shapes.new.items
+        ≡ map figure shapes.old.items ++ step_figures (places_shown axis.now) lanes step) }
 {
     let column = axis.event(step.event);
     let top = lanes.of(step.process) + STEP;
@@ -64,7 +65,8 @@ pub fn push_steps(
     lanes: Lanes,
     shapes: &mut Vec<Shape>,
 ) -> Result<(), AllocError>
-    ensures { OnOk result (map figure shapes.new.items ≡ map figure shapes.old.items ++ flat_map (step_figures (places_shown axis.now) lanes) steps.now) }
+    ensures { OnOk result (map figure shapes.new.items
+        ≡ map figure shapes.old.items ++ flat_map (step_figures (places_shown axis.now) lanes) steps.now) }
 {
     for step in steps {
         push_step(alloc, *step, axis, lanes, shapes)?;
@@ -82,7 +84,8 @@ fn push_arrow(
     lanes: Lanes,
     shapes: &mut Vec<Shape>,
 ) -> Result<(), AllocError>
-    ensures { OnOk result (map figure shapes.new.items ≡ map figure shapes.old.items ++ arrow_figures (places_shown axis.now) lanes dot) }
+    ensures { OnOk result (map figure shapes.new.items
+        ≡ map figure shapes.old.items ++ arrow_figures (places_shown axis.now) lanes dot) }
 {
     let of = u64::from(dot.call.process);
     let x = axis.event(dot.event).middle();
@@ -110,7 +113,8 @@ pub fn push_arrows(
     lanes: Lanes,
     shapes: &mut Vec<Shape>,
 ) -> Result<(), AllocError>
-    ensures { OnOk result (map figure shapes.new.items ≡ map figure shapes.old.items ++ flat_map (arrow_figures (places_shown axis.now) lanes) dots.now) }
+    ensures { OnOk result (map figure shapes.new.items
+        ≡ map figure shapes.old.items ++ flat_map (arrow_figures (places_shown axis.now) lanes) dots.now) }
 {
     for dot in dots {
         push_arrow(*dot, axis, lanes, shapes)?;
@@ -122,7 +126,8 @@ pub fn push_arrows(
 ///
 /// An `Err` says that memory was refused.
 fn push_dot(dot: Dot, axis: &Axis, lanes: Lanes, shapes: &mut Vec<Shape>) -> Result<(), AllocError>
-    ensures { OnOk result (map figure shapes.new.items ≡ map figure shapes.old.items ++ dot_figures (places_shown axis.now) lanes dot) }
+    ensures { OnOk result (map figure shapes.new.items
+        ≡ map figure shapes.old.items ++ dot_figures (places_shown axis.now) lanes dot) }
 {
     shapes.push(Shape::Dot {
         x: axis.event(dot.event).middle(),
@@ -140,7 +145,8 @@ pub fn push_dots(
     lanes: Lanes,
     shapes: &mut Vec<Shape>,
 ) -> Result<(), AllocError>
-    ensures { OnOk result (map figure shapes.new.items ≡ map figure shapes.old.items ++ flat_map (dot_figures (places_shown axis.now) lanes) dots.now) }
+    ensures { OnOk result (map figure shapes.new.items
+        ≡ map figure shapes.old.items ++ flat_map (dot_figures (places_shown axis.now) lanes) dots.now) }
 {
     for dot in dots {
         push_dot(*dot, axis, lanes, shapes)?;

@@ -5,7 +5,8 @@ ghost use Rattle.std.specs.List.{flat_map};
 ghost use Rattle.run_marks.specs.Shown.{era_shown};
 ghost use Rattle.run_layout.specs.Axis.{places_shown};
 ghost use Rattle.svg_text.specs.Figures.{figure};
-ghost use Rattle.run_picture.specs.Lanes.{lane_top, lane_middle, lane_figures, lanes_from, era_end, era_lanes, line_figures};
+ghost use Rattle.run_picture.specs.Lanes.{lane_top, lane_middle, lane_figures, lanes_from, era_end, era_lanes};
+ghost use Rattle.run_picture.specs.Lanes.{line_figures};
 
 use crate::figures::{push_line, push_text};
 use run_layout::{Axis, line_of};
@@ -78,7 +79,8 @@ fn push_lane(
     shapes: &mut Vec<Shape>,
 ) -> Result<(), AllocError>
     requires { stretch.left < 2 ^ 40 }
-    ensures { OnOk result (map figure shapes.new.items ≡ map figure shapes.old.items ++ lane_figures lanes stretch.left stretch.right stretch.named process) }
+    ensures { OnOk result (map figure shapes.new.items
+        ≡ map figure shapes.old.items ++ lane_figures lanes stretch.left stretch.right stretch.named process) }
 {
     let y = lanes.middle(process);
     push_line(shapes, (stretch.left, y), (stretch.right, y), Paint::Faint)?;
@@ -105,7 +107,8 @@ fn push_lanes(
     shapes: &mut Vec<Shape>,
 ) -> Result<(), AllocError>
     requires { stretch.left < 2 ^ 40 }
-    ensures { OnOk result (map figure shapes.new.items ≡ map figure shapes.old.items ++ lanes_from lanes stretch.left stretch.right stretch.named 0 processes) }
+    ensures { OnOk result (map figure shapes.new.items
+        ≡ map figure shapes.old.items ++ lanes_from lanes stretch.left stretch.right stretch.named 0 processes) }
 {
     for process in 0..processes {
         push_lane(alloc, lanes, stretch, process, shapes)?;
@@ -135,7 +138,8 @@ pub fn push_eras(
     lanes: Lanes,
     shapes: &mut Vec<Shape>,
 ) -> Result<(), AllocError>
-    ensures { OnOk result (map figure shapes.new.items ≡ map figure shapes.old.items ++ era_lanes (places_shown axis.now) lanes 44 0 (map era_shown eras.now)) }
+    ensures { OnOk result (map figure shapes.new.items
+        ≡ map figure shapes.old.items ++ era_lanes (places_shown axis.now) lanes 44 0 (map era_shown eras.now)) }
 {
     let mut left = u64::from(START);
     let mut named = 0;
@@ -159,7 +163,8 @@ fn push_era_line(
     lanes: Lanes,
     shapes: &mut Vec<Shape>,
 ) -> Result<(), AllocError>
-    ensures { OnOk result (map figure shapes.new.items ≡ map figure shapes.old.items ++ line_figures (places_shown axis.now) lanes line.now) }
+    ensures { OnOk result (map figure shapes.new.items
+        ≡ map figure shapes.old.items ++ line_figures (places_shown axis.now) lanes line.now) }
 {
     let x = axis.event(line.event).middle();
     let top = u64::from(lanes.top);
@@ -179,7 +184,8 @@ pub fn push_era_lines(
     lanes: Lanes,
     shapes: &mut Vec<Shape>,
 ) -> Result<(), AllocError>
-    ensures { OnOk result (map figure shapes.new.items ≡ map figure shapes.old.items ++ flat_map (line_figures (places_shown axis.now) lanes) lines.now) }
+    ensures { OnOk result (map figure shapes.new.items
+        ≡ map figure shapes.old.items ++ flat_map (line_figures (places_shown axis.now) lanes) lines.now) }
 {
     for line in lines {
         push_era_line(alloc, line, axis, lanes, shapes)?;

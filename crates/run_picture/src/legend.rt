@@ -1,11 +1,13 @@
 //! The legend.
 
-ghost use Rattle.std.specs.Prelude.{◌≡◌, ◌≤◌, ◌<◌, ◌^◌, ◌+◌, [], ◌∷◌, ◌++◌, map, OnOk};
+ghost use Rattle.std.specs.Prelude.{◌≡◌, ◌≤◌, ◌<◌, ◌^◌, ◌+◌, [], ◌∷◌, ◌++◌, map};
+ghost use Rattle.std.specs.Prelude.{OnOk};
 ghost use Rattle.svg_text.specs.Figures.{Rect, Dot, figure};
 ghost use Rattle.svg_text.specs.declared.paint.Paint.TheVariants.{Mark};
 ghost use Rattle.run_picture.specs.Paint.{colour_of};
 ghost use Rattle.run_layout.specs.Wording.{kinds};
-ghost use Rattle.run_picture.specs.Legend.{words_at, kind_entry, dot_entry, arrow_entry, refusal_entry, open_entry, left_of, top_of, entry_at, entries_from, legend_figures};
+ghost use Rattle.run_picture.specs.Legend.{words_at, kind_entry, dot_entry, arrow_entry, refusal_entry, open_entry};
+ghost use Rattle.run_picture.specs.Legend.{left_of, top_of, entry_at, entries_from, legend_figures};
 
 use crate::figures::{Toward, push_line, push_text, push_tip};
 use crate::lanes::MARGIN;
@@ -72,7 +74,8 @@ fn push_entry(
 ) -> Result<(), AllocError>
     requires left { x < 2 ^ 38 }
     requires low { y < 2 ^ 38 }
-    ensures { OnOk result (map figure shapes.new.items ≡ map figure shapes.old.items ++ (words_at x y text.now ∷ [])) }
+    ensures { OnOk result (map figure shapes.new.items
+        ≡ map figure shapes.old.items ++ (words_at x y text.now ∷ [])) }
 {
     let mut meaning = Vec::new(alloc);
     meaning.extend_from_slice(text.as_bytes())?;
@@ -84,7 +87,8 @@ fn push_entry(
 /// An `Err` says that memory was refused.
 fn push_kinds(alloc: Global, top: u64, shapes: &mut Vec<Shape>) -> Result<(), AllocError>
     requires low { top < 2 ^ 37 }
-    ensures { OnOk result (map figure shapes.new.items ≡ map figure shapes.old.items ++ (entries_from top 0 (map kind_entry kinds))) }
+    ensures { OnOk result (map figure shapes.new.items
+        ≡ map figure shapes.old.items ++ (entries_from top 0 (map kind_entry kinds))) }
 {
     let mut place = 0;
     for kind in KINDS {
@@ -106,7 +110,8 @@ fn push_kind(
 ) -> Result<(), AllocError>
     requires near { place < 100 }
     requires low { top < 2 ^ 37 }
-    ensures { OnOk result (map figure shapes.new.items ≡ map figure shapes.old.items ++ (entry_at top place (kind_entry kind))) }
+    ensures { OnOk result (map figure shapes.new.items
+        ≡ map figure shapes.old.items ++ (entry_at top place (kind_entry kind))) }
 {
     let (x, y) = place_of(place, top);
     push_mark(shapes, x, y, kind)?;
@@ -127,7 +132,8 @@ fn push_kind(
 ///
 /// An `Err` says that memory was refused.
 fn push_mark(shapes: &mut Vec<Shape>, x: u64, y: u64, kind: StepKind) -> Result<(), AllocError>
-    ensures { OnOk result (map figure shapes.new.items ≡ map figure shapes.old.items ++ (Rect x y 14 18 (Mark (colour_of kind)) ∷ [])) }
+    ensures { OnOk result (map figure shapes.new.items
+        ≡ map figure shapes.old.items ++ (Rect x y 14 18 (Mark (colour_of kind)) ∷ [])) }
 {
     shapes.push(Shape::Rect {
         x,
@@ -157,7 +163,8 @@ fn push_dot_entry(alloc: Global, top: u64, shapes: &mut Vec<Shape>) -> Result<()
 fn push_sign(shapes: &mut Vec<Shape>, x: u64, y: u64) -> Result<(), AllocError>
     requires left { x < 2 ^ 38 }
     requires low { y < 2 ^ 38 }
-    ensures { OnOk result (map figure shapes.new.items ≡ map figure shapes.old.items ++ (Dot (x + 7) (y + 9) ∷ [])) }
+    ensures { OnOk result (map figure shapes.new.items
+        ≡ map figure shapes.old.items ++ (Dot (x + 7) (y + 9) ∷ [])) }
 {
     shapes.push(Shape::Dot { x: x + 7, y: y + 9 })?;
     Ok(())
@@ -181,7 +188,8 @@ fn push_arrow_entry(alloc: Global, top: u64, shapes: &mut Vec<Shape>) -> Result<
 /// An `Err` says that memory was refused.
 fn push_refusal_entry(alloc: Global, top: u64, shapes: &mut Vec<Shape>) -> Result<(), AllocError>
     requires low { top < 2 ^ 37 }
-    ensures { OnOk result (map figure shapes.new.items ≡ map figure shapes.old.items ++ entry_at top 15 refusal_entry) }
+    ensures { OnOk result (map figure shapes.new.items
+        ≡ map figure shapes.old.items ++ entry_at top 15 refusal_entry) }
 {
     let (x, y) = place_of(15, top);
     push_line(shapes, (x + 2, y + 4), (x + 12, y + 14), Paint::Cross)?;

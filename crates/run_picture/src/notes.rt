@@ -1,9 +1,12 @@
 //! What is told beside the events: headings, captions and refusals.
 
-ghost use Rattle.std.specs.Prelude.{◌≡◌, ◌++◌, ◌+◌, ◌*◌, ◌^◌, ◌<◌, ◌≤◌, IfOk, OnOk, length, map};
+ghost use Rattle.std.specs.Prelude.{◌≡◌, ◌++◌, ◌+◌, ◌*◌, ◌^◌, ◌<◌, ◌≤◌, IfOk, OnOk};
+ghost use Rattle.std.specs.Prelude.{length, map};
 ghost use Rattle.run_layout.specs.Axis.{places_shown};
 ghost use Rattle.svg_text.specs.Figures.{figure};
-ghost use Rattle.run_picture.specs.Notes.{line_letters, headings, lines_down, caption_lines, labels_down, caption_figures, captions_from, captions_height, captions_foot, refusal_middle, refusal_figures, refusals_from, after_text, description_text};
+ghost use Rattle.run_picture.specs.Notes.{line_letters, headings, lines_down, caption_lines, labels_down};
+ghost use Rattle.run_picture.specs.Notes.{caption_figures, captions_from, captions_height, captions_foot};
+ghost use Rattle.run_picture.specs.Notes.{refusal_middle, refusal_figures, refusals_from, after_text, description_text};
 
 use crate::figures::{LETTER, Toward, push_label, push_line, push_text, push_tip};
 use crate::lanes::{Lanes, MARGIN};
@@ -49,7 +52,8 @@ fn push_down(
 ) -> Result<(), AllocError>
     requires count { length lines.now ≤ 20000000 }
     requires bottom { bottom < 2 ^ 40 }
-    ensures { OnOk result (map figure shapes.new.items ≡ map figure shapes.old.items ++ lines_down bottom (map (λ line. line.items) lines.now)) }
+    ensures { OnOk result (map figure shapes.new.items
+        ≡ map figure shapes.old.items ++ lines_down bottom (map (λ line. line.items) lines.now)) }
 {
     let mut place = bottom;
     for line in lines {
@@ -73,7 +77,8 @@ pub fn push_headings(
 ) -> Result<u64, AllocError>
     requires told { length told.now ≤ 100000 }
     requires bottom { bottom < 2 ^ 40 }
-    ensures shapes { OnOk result (map figure shapes.new.items ≡ map figure shapes.old.items ++ lines_down bottom (headings most told.now)) }
+    ensures shapes { OnOk result (map figure shapes.new.items
+        ≡ map figure shapes.old.items ++ lines_down bottom (headings most told.now)) }
     ensures small { IfOk result (λ end. end ≤ bottom + 400000000) }
     ensures end { IfOk result (λ end. end ≡ bottom + length (headings most told.now) * 20) }
 {
@@ -126,7 +131,8 @@ fn push_labels(
     requires count { length lines.now ≤ 200 }
     requires x { x < 2 ^ 40 }
     requires bottom { bottom < 2 ^ 40 }
-    ensures { OnOk result (map figure shapes.new.items ≡ map figure shapes.old.items ++ labels_down width x bottom (map (λ line. line.items) lines.now)) }
+    ensures { OnOk result (map figure shapes.new.items
+        ≡ map figure shapes.old.items ++ labels_down width x bottom (map (λ line. line.items) lines.now)) }
 {
     let mut place = bottom;
     for line in lines {
@@ -155,7 +161,8 @@ fn push_caption(
     requires x { x < 2 ^ 40 }
     requires bottom { bottom < 2 ^ 40 }
     requires foot { foot < 2 ^ 40 }
-    ensures { OnOk result (map figure shapes.new.items ≡ map figure shapes.old.items ++ caption_figures width x bottom foot (map (λ line. line.items) lines.now)) }
+    ensures { OnOk result (map figure shapes.new.items
+        ≡ map figure shapes.old.items ++ caption_figures width x bottom foot (map (λ line. line.items) lines.now)) }
 {
     if lines.is_empty() {
         return Ok(());
@@ -180,7 +187,9 @@ pub fn push_captions(
 ) -> Result<u64, AllocError>
     requires told { length told.now ≤ 100000 }
     requires bottom { bottom < 2 ^ 39 }
-    ensures shapes { OnOk result (map figure shapes.new.items ≡ map figure shapes.old.items ++ captions_from (places_shown axis.now) width most (captions_foot most bottom told.now) 0 (bottom + 12) told.now) }
+    ensures shapes { OnOk result (map figure shapes.new.items
+        ≡ map figure shapes.old.items ++ captions_from (places_shown axis.now) width most
+        (captions_foot most bottom told.now) 0 (bottom + 12) told.now) }
     ensures small { IfOk result (λ foot. foot ≤ bottom + 400000022) }
     ensures foot { IfOk result (λ foot. foot ≡ captions_foot most bottom told.now) }
 {
@@ -216,7 +225,8 @@ fn push_refusal(
     lanes: Lanes,
     shapes: &mut Vec<Shape>,
 ) -> Result<(), AllocError>
-    ensures { OnOk result (map figure shapes.new.items ≡ map figure shapes.old.items ++ refusal_figures column lanes refusal) }
+    ensures { OnOk result (map figure shapes.new.items
+        ≡ map figure shapes.old.items ++ refusal_figures column lanes refusal) }
 {
     let y = refusal_middle(lanes, refusal);
     let x = u64::from(column.left);
@@ -244,7 +254,8 @@ pub fn push_refusals(
     lanes: Lanes,
     shapes: &mut Vec<Shape>,
 ) -> Result<(), AllocError>
-    ensures { OnOk result (map figure shapes.new.items ≡ map figure shapes.old.items ++ refusals_from (places_shown axis.now) lanes 0 told.now) }
+    ensures { OnOk result (map figure shapes.new.items
+        ≡ map figure shapes.old.items ++ refusals_from (places_shown axis.now) lanes 0 told.now) }
 {
     for (at, one) in told.iter().enumerate() {
         if let Remark::Refused(refusal) = one.remark {

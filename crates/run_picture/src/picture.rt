@@ -24,7 +24,8 @@ use uni_script::{BenchFault, TextIn};
 fn svg_of_subject(alloc: Global, subject: &Subject) -> Result<Vec<u8>, AllocError>
     requires events { subject.now.marks.events ≤ 2000 }
     requires told { length subject.now.told.items ≤ 100000 }
-    ensures { IfOk result (λ svg. svg.items ≡ svg_text (drawing_of_marks (marks_shown subject.now.marks) subject.now.told.items)) }
+    ensures { IfOk result (λ svg. svg.items ≡ svg_text
+        (drawing_of_marks (marks_shown subject.now.marks) subject.now.told.items)) }
 {
     let drawing = drawing_of(alloc, &subject.marks, &subject.told)?;
     svg_of(alloc, &drawing)
@@ -38,7 +39,8 @@ pub fn picture_of<I: TextIn>(alloc: Global, reader: &mut I) -> Result<Vec<u8>, P
     requires { I.has_failed reader.old ≡ false }
     ensures picture { IfOk result (λ svg. IsPicture (I.remaining reader.old) svg.items) }
     ensures many { IsErrOf result PictureFault.TooManyEvents → HasTooManyEvents (I.remaining reader.old) }
-    ensures fault { (e : Fault) → IsErrOf result (PictureFault.Script e) → IsFaultOfScript e → HasFault (scripts_of 1048576) (I.remaining reader.old) e }
+    ensures fault { (e : Fault) → IsErrOf result (PictureFault.Script e) → IsFaultOfScript e
+        → HasFault (scripts_of 1048576) (I.remaining reader.old) e }
 {
     let subject = subject_of(alloc, reader)?;
     match svg_of_subject(alloc, &subject) {
@@ -47,7 +49,8 @@ pub fn picture_of<I: TextIn>(alloc: Global, reader: &mut I) -> Result<Vec<u8>, P
     }
 }
 
-/// The picture of the run of the script over an object that a reader has, whose header names the object by this word, as
+/// The picture of the run of the script over an object that a reader has, whose header names the object by this word,
+/// as
 /// for `uni_script::bench_object`.
 ///
 /// The errors are those of `picture_of`.
@@ -58,9 +61,15 @@ pub fn picture_of_object<O: Spoken + Copy, I: TextIn>(
     reader: &mut I,
 ) -> Result<Vec<u8>, PictureFault>
     requires { I.has_failed reader.old ≡ false }
-    ensures picture { IfOk result (λ svg. IsPictureOf (own_scripts_of (spoken O.sequential O.language object) name.now 1048576) (marks_of_own (spoken O.sequential O.language object) name.now) (I.remaining reader.old) svg.items) }
-    ensures many { IsErrOf result PictureFault.TooManyEvents → HasMoreEvents (own_scripts_of (spoken O.sequential O.language object) name.now 1048576) (I.remaining reader.old) }
-    ensures fault { (e : Fault) → IsErrOf result (PictureFault.Script e) → IsFaultOfScript e → HasFault (own_scripts_of (spoken O.sequential O.language object) name.now 1048576) (I.remaining reader.old) e }
+    ensures picture { IfOk result (λ svg. IsPictureOf
+        (own_scripts_of (spoken O.sequential O.language object) name.now 1048576)
+        (marks_of_own (spoken O.sequential O.language object) name.now) (I.remaining reader.old) svg.items) }
+    ensures many { IsErrOf result PictureFault.TooManyEvents
+        → HasMoreEvents (own_scripts_of (spoken O.sequential O.language object) name.now 1048576)
+        (I.remaining reader.old) }
+    ensures fault { (e : Fault) → IsErrOf result (PictureFault.Script e) → IsFaultOfScript e
+        → HasFault (own_scripts_of (spoken O.sequential O.language object) name.now 1048576)
+        (I.remaining reader.old) e }
 {
     let subject = subject_of_object(alloc, object, name, reader)?;
     match svg_of_subject(alloc, &subject) {

@@ -1,6 +1,7 @@
 //! The whole picture.
 
-ghost use Rattle.std.specs.Prelude.{◌≡◌, ◌++◌, ◌∷◌, [], ◌≤◌, ◌<◌, ◌^◌, IfOk, OnOk, length, map};
+ghost use Rattle.std.specs.Prelude.{◌≡◌, ◌++◌, ◌∷◌, [], ◌≤◌, ◌<◌, ◌^◌, IfOk, OnOk};
+ghost use Rattle.std.specs.Prelude.{length, map};
 ghost use Rattle.svg_text.specs.Figures.{Text, figure, picture};
 ghost use Rattle.svg_text.specs.declared.paint.Paint.TheVariants.{Title};
 ghost use Rattle.svg_text.specs.declared.shape.Anchor.TheVariants.{Start};
@@ -8,7 +9,8 @@ ghost use Rattle.run_marks.specs.Shown.{marks_shown};
 ghost use Rattle.run_layout.specs.Wording.{title_text};
 ghost use Rattle.run_layout.specs.Axis.{IsScale, places_shown};
 ghost use Rattle.run_picture.specs.Lanes.{run_figures};
-ghost use Rattle.run_picture.specs.Drawing.{scale_of, width_of_places, notes_figures, lanes_below, events_figures, events_end, drawing_of_marks};
+ghost use Rattle.run_picture.specs.Drawing.{scale_of, width_of_places, notes_figures, lanes_below, events_figures};
+ghost use Rattle.run_picture.specs.Drawing.{events_end, drawing_of_marks};
 
 use crate::bars::{push_bars, push_texts};
 use crate::cells::push_cells;
@@ -61,7 +63,8 @@ fn width_of(axis: &Axis) -> u64
 ///
 /// An `Err` says that memory was refused.
 fn push_title(alloc: Global, marks: &Marks, shapes: &mut Vec<Shape>) -> Result<(), AllocError>
-    ensures { OnOk result (map figure shapes.new.items ≡ map figure shapes.old.items ++ Text 12 28 Start Title (title_text (marks_shown marks.now)) ∷ []) }
+    ensures { OnOk result (map figure shapes.new.items
+        ≡ map figure shapes.old.items ++ Text 12 28 Start Title (title_text (marks_shown marks.now)) ∷ []) }
 {
     let title = title_of(alloc, marks)?;
     push_text(shapes, MARGIN, 28, Anchor::Start, Paint::Title, title)
@@ -78,8 +81,10 @@ fn push_notes(
     shapes: &mut Vec<Shape>,
 ) -> Result<Lanes, AllocError>
     requires { length told.now ≤ 100000 }
-    ensures shapes { OnOk result (map figure shapes.new.items ≡ map figure shapes.old.items ++ notes_figures (places_shown axis.now) (marks_shown marks.now) told.now) }
-    ensures lanes { IfOk result (λ lanes. lanes ≡ lanes_below (places_shown axis.now) (marks_shown marks.now) told.now) }
+    ensures shapes { OnOk result (map figure shapes.new.items
+        ≡ map figure shapes.old.items ++ notes_figures (places_shown axis.now) (marks_shown marks.now) told.now) }
+    ensures lanes { IfOk result (λ lanes. lanes
+        ≡ lanes_below (places_shown axis.now) (marks_shown marks.now) told.now) }
 {
     let width = width_of(axis);
     let most = line_letters(width);
@@ -102,7 +107,8 @@ fn push_run(
     lanes: Lanes,
     shapes: &mut Vec<Shape>,
 ) -> Result<(), AllocError>
-    ensures { OnOk result (map figure shapes.new.items ≡ map figure shapes.old.items ++ run_figures (places_shown axis.now) lanes (marks_shown marks.now)) }
+    ensures { OnOk result (map figure shapes.new.items
+        ≡ map figure shapes.old.items ++ run_figures (places_shown axis.now) lanes (marks_shown marks.now)) }
 {
     push_eras(alloc, &marks.eras, axis, lanes, shapes)?;
     push_era_lines(alloc, &marks.lines, axis, lanes, shapes)?;
@@ -124,7 +130,8 @@ fn push_events(
     shapes: &mut Vec<Shape>,
 ) -> Result<u64, AllocError>
     requires { length told.now ≤ 100000 }
-    ensures shapes { OnOk result (map figure shapes.new.items ≡ map figure shapes.old.items ++ events_figures (places_shown axis.now) (marks_shown marks.now) told.now) }
+    ensures shapes { OnOk result (map figure shapes.new.items
+        ≡ map figure shapes.old.items ++ events_figures (places_shown axis.now) (marks_shown marks.now) told.now) }
     ensures small { IfOk result (λ end. end < 2 ^ 35) }
     ensures end { IfOk result (λ end. end ≡ events_end (places_shown axis.now) (marks_shown marks.now) told.now) }
 {

@@ -26,7 +26,8 @@ abbrev pub IsMirrored : {S I R : Type 0} → WorldOf S I R → List CallId → T
 IsMirrored w calls = (process : ℕ) → call_of_name (announce_of w.memory process) ≡ announced_from None calls process
 
 -- of three calls the last of process 1 is the third
-sample_announced : announced_from None (record { process = 1; nth = 0 } ∷ record { process = 0; nth = 0 } ∷ record { process = 1; nth = 1 } ∷ []) 1 ≡ Some (record { process = 1; nth = 1 })
+sample_announced : announced_from None (record { process = 1; nth = 0 } ∷ record { process = 0; nth = 0 }
+    ∷ record { process = 1; nth = 1 } ∷ []) 1 ≡ Some (record { process = 1; nth = 1 })
 sample_announced = refl
 
 none_announced : announced_from None (record { process = 1; nth = 0 } ∷ []) 0 ≡ None

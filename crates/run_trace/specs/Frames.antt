@@ -104,7 +104,8 @@ abbrev sample : Sequential ℕ ℕ ℕ
 sample = record { initial = 9; next = λ s i. i; answer = λ s i. s }
 
 abbrev sample_language : Language ℕ ℕ
-sample_language = record { inv_words = λ i. (i ∷ []) ∷ []; inv_of_words = λ words. None; resp_text = λ r. r ∷ []; inv_of_word = λ w. w }
+sample_language =
+    record { inv_words = λ i. (i ∷ []) ∷ []; inv_of_words = λ words. None; resp_text = λ r. r ∷ []; inv_of_word = λ w. w }
 
 -- the kind of a frame's step, if it is one
 abbrev kind_in : Option Frame → List StepKind
@@ -112,7 +113,8 @@ kind_in (Some (Steps s)) = s.kind ∷ []
 kind_in _ = []
 
 -- a process that calls has its next step announce
-announce_first : map kind_in (frames_from sample sample_language (λ s. s ∷ []) (opened_world 1 9 1) (Call 0 7 ∷ Step 0 ∷ [])) ≡ [] ∷ (kinds.Announce ∷ []) ∷ []
+announce_first : map kind_in (frames_from sample sample_language (λ s. s ∷ []) (opened_world 1 9 1) (Call 0 7 ∷ Step 0 ∷ []))
+    ≡ [] ∷ (kinds.Announce ∷ []) ∷ []
 announce_first = refl
 
 -- a step of a process without a call has no frame

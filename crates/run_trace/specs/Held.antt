@@ -64,7 +64,8 @@ reply_text l (Some new) = option_map_or l.resp_text new.1 (codes "none")
 abbrev pub held : {S I R : Type 0} → Language I R → (S → List ℕ) → Memory S I R → Place → Held
 held l text m (Announced p) = alone (entry_name (codes "announce") p) (cell_text (call_of_name (announce_of m p)))
 held l text m (HeadOf p) = alone (entry_name (codes "head") p) (cell_text (call_of_name (head_of m p)))
-held l text m (InvOf x) = alone (field_name (call_of_name x) (codes "inv")) (option_map_or (λ i. text_of_words (l.inv_words i)) (inv_of m x) (codes "?"))
+held l text m (InvOf x) =
+    alone (field_name (call_of_name x) (codes "inv")) (option_map_or (λ i. text_of_words (l.inv_words i)) (inv_of m x) (codes "?"))
 held l text m (SeqOf x) = alone (field_name (call_of_name x) (codes "seq")) (decimal (seq_of m x))
 held l text m (AfterOf x) = alone (field_name (call_of_name x) (codes "after")) (link_text (after_of m x))
 held l text m (BeforeOf x) = alone (field_name (call_of_name x) (codes "before")) (link_text (before_of m x))
@@ -89,7 +90,8 @@ changes_between b a = change_of b.field a.field ++ replies_changed b.reply a.rep
 
 -- an anchor with the state 9 and the number 4, and a cell that isn't made
 abbrev sample_language : Language ℕ ℕ
-sample_language = record { inv_words = λ i. (i ∷ []) ∷ []; inv_of_words = λ words. None; resp_text = λ r. r ∷ []; inv_of_word = λ w. w }
+sample_language =
+    record { inv_words = λ i. (i ∷ []) ∷ []; inv_of_words = λ words. None; resp_text = λ r. r ∷ []; inv_of_word = λ w. w }
 
 abbrev sample : Memory ℕ ℕ ℕ
 sample = anchor_memory 9 4
@@ -107,7 +109,10 @@ unfolding digits
 cell_after = refl
 
 state_of_anchor : held sample_language (λ s. s ∷ []) sample (NewOf Anchor)
-    ≡ record { field = record { name = codes "anchor.state"; text = 9 ∷ [] }; reply = Some (record { name = codes "anchor.reply"; text = codes "none" }) }
+    ≡ record {
+      field = record { name = codes "anchor.state"; text = 9 ∷ [] };
+      reply = Some (record { name = codes "anchor.reply"; text = codes "none" });
+    }
 state_of_anchor = refl
 
 -- a proposal that lost changes nothing; one that won changes the field

@@ -14,7 +14,8 @@ use Rattle.uni_model.specs.Worlds.Event.{Call, Step}
 use Rattle.run_trace.specs.Frames.{frame_of, frames_from}
 
 -- frame k is that of event k in the world after the first k events
-abbrev pub TellsEachEvent : {S I R : Type 0} → Sequential S I R → Language I R → (S → List ℕ) → WorldOf S I R → List (Event I) → Type 0
+abbrev pub TellsEachEvent : {S I R : Type 0} → Sequential S I R → Language I R → (S → List ℕ) → WorldOf S I R → List (Event I)
+    → Type 0
 TellsEachEvent object l text w events =
     (k : ℕ) → slice_get (frames_from object l text w events) k
     ≡ option_map (λ e. frame_of object l text (world_after_all object w (take k events)) e) (slice_get events k)
@@ -32,4 +33,5 @@ CallChangesOnePlace object w p i =
 
 -- the end of an era leaves an anchor alone, with the last number and a state
 abbrev pub EndLeavesAnchor : {S I R : Type 0} → Sequential S I R → WorldOf S I R → (n : ℕ) → Type 0
-EndLeavesAnchor {S} object w n = Invariant object w → IsQuiescent w → (s : S) × ((world_after_era w n).memory ≡ anchor_memory s (last_number w))
+EndLeavesAnchor {S} object w n =
+    Invariant object w → IsQuiescent w → (s : S) × ((world_after_era w n).memory ≡ anchor_memory s (last_number w))

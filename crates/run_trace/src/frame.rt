@@ -144,7 +144,8 @@ fn push_reply_change(
     changes: &mut Vec<Change>,
 ) -> Result<(), AllocError>
     ensures { OnOk result (map change_shown changes.new.items ≡
-        map change_shown changes.old.items ++ replies_changed (option_map field_shown before.now) (option_map field_shown after.now)) }
+        map change_shown changes.old.items ++ replies_changed (option_map field_shown before.now)
+        (option_map field_shown after.now)) }
 {
     let Some(before) = before else {
         return Ok(());

@@ -8,7 +8,8 @@ ghost use Rattle.uni_model.specs.Places.Place.{Announced, HeadOf, SeqOf, AfterOf
 ghost use Rattle.uni_core.specs.Readers.{call_of_name, place_named};
 ghost use Rattle.uni_core.specs.World.{name_in, world_of};
 ghost use Rattle.run_trace.specs.Announced.{announced_from, later, IsMirrored};
-ghost use Rattle.run_trace.specs.Held.{alone, cell_text, entry_name, field_name, held, link_text, reply_text, state_text};
+ghost use Rattle.run_trace.specs.Held.{alone, cell_text, entry_name, field_name, held, link_text, reply_text};
+ghost use Rattle.run_trace.specs.Held.{state_text};
 ghost use Rattle.run_trace.specs.Shown.{held_shown};
 
 use crate::frame::{Field, Held};

@@ -77,7 +77,8 @@ fn frame_of<O: Spoken>(
         world_after (O.sequential replay.old.object) (world_of replay.old) (event_shown (event_lent event.entry))) }
     ensures mirror { OnOk result (IsMirrored (world_of replay.new) announced.new.items) }
     ensures frame { IfOk result (λ frame. Some (frame_shown frame) ≡
-        frame_of (O.sequential replay.old.object) O.language O.state_text (world_of replay.old) (event_shown (event_lent event.entry))) }
+        frame_of (O.sequential replay.old.object) O.language O.state_text (world_of replay.old)
+        (event_shown (event_lent event.entry))) }
 {
     match event {
         Event::Call(process, inv) => Ok(Frame::Call(begun_of(alloc, process, inv, replay)?)),
@@ -230,7 +231,8 @@ fn coming_step<O: Spoken>(world: &World<O>, process: u64) -> Option<Coming>
     ensures call { IfSome result (λ coming. current_of (world_of world.now) process ≡ Some coming.call) }
     ensures kind { IfSome result (λ coming. option_map (λ c. kind_of c.stage) ((world_of world.now).call process) ≡
         Some coming.kind) }
-    ensures place { IfSome result (λ coming. option_map (λ c. place_of (world_of world.now).n process c.mine c.stage) ((world_of world.now).call process)
+    ensures place { IfSome result (λ coming. option_map (λ c. place_of (world_of world.now).n process c.mine c.stage)
+        ((world_of world.now).call process)
         ≡ Some (place_named (name_in (world_of world.now)) coming.place)) }
 {
     let call = world.current(process)?;
@@ -254,7 +256,8 @@ fn step_of<O: Spoken>(
         world_after (O.sequential replay.old.object) (world_of replay.old) (model.Step process)) }
     ensures mirror { OnOk result (IsMirrored (world_of replay.new) announced.new.items) }
     ensures step { IfOk result (λ step. Some (step_shown step) ≡
-        option_map (stepped (O.sequential replay.old.object) O.language O.state_text (world_of replay.old) process) ((world_of replay.old).call process)) }
+        option_map (stepped (O.sequential replay.old.object) O.language O.state_text (world_of replay.old) process)
+        ((world_of replay.old).call process)) }
 {
     if process >= replay.processes() {
         return Err(AllocError);

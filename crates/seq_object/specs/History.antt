@@ -19,7 +19,8 @@ pub record Call (I R : Type 0) : Type 0 where
 -- a legal sequential history from a state: each response that it gives is the object's
 abbrev pub IsLegal : {S I R : Type 0} → Sequential S I R → S → List (Call I R) → Type 0
 IsLegal object s [] = Unit {0}
-IsLegal object s (call ∷ calls) = IfSome call.response (λ r. r ≡ object.answer s call.inv) × IsLegal object (object.next s call.inv) calls
+IsLegal object s (call ∷ calls) =
+    IfSome call.response (λ r. r ≡ object.answer s call.inv) × IsLegal object (object.next s call.inv) calls
 
 -- the same, place by place
 abbrev pub IsLegalByPlaces : {S I R : Type 0} → Sequential S I R → S → List (Call I R) → Type 0

@@ -1,5 +1,6 @@
 -- The stack: its state is its numbers, the newest of them last.
-use Rattle.std.specs.Prelude.{◌≡◌, ℕ, ◌-◌, ◌/◌, ◌%◌, ◌^◌, ◌==◌, if◌then◌else◌, List, [], ◌∷◌, ◌++◌, length, take, slice_get, Option, Some, None, option_map, codes, refl}
+use Rattle.std.specs.Prelude.{◌≡◌, ℕ, ◌-◌, ◌/◌, ◌%◌, ◌^◌, ◌==◌, if◌then◌else◌, List, [], ◌∷◌}
+use Rattle.std.specs.Prelude.{◌++◌, length, take, slice_get, Option, Some, None, option_map, codes, refl}
 use Rattle.std.specs.Fmt.{decimal, digits}
 use Rattle.std.specs.Str.{bytes_eq}
 use Rattle.ready_objects.specs.Number.{number_below, number_of_word}
@@ -48,7 +49,8 @@ abbrev pub stack_inv_of_word : ℕ → StackInv
 stack_inv_of_word word = if word % 2 == 0 then Pop else Push (word / 2 % 1000)
 
 abbrev pub stack_language : Language StackInv StackResp
-stack_language = record { inv_words = stack_words; inv_of_words = stack_inv_of_words; resp_text = stack_resp_text; inv_of_word = stack_inv_of_word }
+stack_language =
+    record { inv_words = stack_words; inv_of_words = stack_inv_of_words; resp_text = stack_resp_text; inv_of_word = stack_inv_of_word }
 
 -- the text of a state, by the newest number
 abbrev pub newest_text : Option ℕ → List ℕ

@@ -31,4 +31,10 @@ figure (shape.Tip x y x1 y1 x2 y2) = Tip x y x1 y1 x2 y2
 figure (shape.Text x y anchor paint text) = Text x y anchor paint text.items
 
 abbrev pub picture : Drawing → Picture
-picture d = record { width = d.width; height = d.height; title = d.title.items; description = d.description.items; figures = map figure d.shapes.items }
+picture d = record {
+  width = d.width;
+  height = d.height;
+  title = d.title.items;
+  description = d.description.items;
+  figures = map figure d.shapes.items;
+}

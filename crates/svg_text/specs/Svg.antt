@@ -5,7 +5,8 @@ use Rattle.std.specs.List.{flat_map}
 use Rattle.svg_text.specs.declared.paint.Colour.{Colour}
 use Rattle.svg_text.specs.declared.paint.Colour.TheVariants.{Orange, SkyBlue, Green, Yellow, Blue, Vermilion, Purple}
 use Rattle.svg_text.specs.declared.paint.Paint.{Paint}
-use Rattle.svg_text.specs.declared.paint.Paint.TheVariants.{Paper, Frame, Ink, Title, DarkLetter, LightLetter, Faint, Edge, Broken, Thick, Cross, Mark}
+use Rattle.svg_text.specs.declared.paint.Paint.TheVariants.{Paper, Frame, Ink, Title, DarkLetter, LightLetter, Faint, Edge, Broken, Thick}
+use Rattle.svg_text.specs.declared.paint.Paint.TheVariants.{Cross, Mark}
 use Rattle.svg_text.specs.declared.shape.Anchor.{Anchor}
 use Rattle.svg_text.specs.declared.shape.Anchor.TheVariants.{Start, Middle, End}
 use Rattle.svg_text.specs.Figures.{Figure, Rect, Line, Dot, Tip, Text, Picture}
@@ -64,7 +65,8 @@ content_text text = codes ">" ++ escaped text ++ codes "</text>\n"
 abbrev pub rect_text : (x y width height : ℕ) → Paint → List ℕ
 rect_text x y width height paint =
     codes "<rect" ++ attribute_text (codes "x") (decimal x) ++ attribute_text (codes "y") (decimal y)
-    ++ attribute_text (codes "width") (decimal width) ++ attribute_text (codes "height") (decimal height) ++ attributes_of paint ++ codes "/>\n"
+    ++ attribute_text (codes "width") (decimal width) ++ attribute_text (codes "height") (decimal height) ++ attributes_of paint
+    ++ codes "/>\n"
 
 abbrev pub line_text : (x1 y1 x2 y2 : ℕ) → Paint → List ℕ
 line_text x1 y1 x2 y2 paint =
@@ -118,7 +120,8 @@ title_text title description =
 -- the white paper
 abbrev pub paper_text : (width height : ℕ) → List ℕ
 paper_text width height =
-    codes "<rect" ++ attribute_text (codes "width") (decimal width) ++ attribute_text (codes "height") (decimal height) ++ codes " fill=\"#ffffff\"/>\n"
+    codes "<rect" ++ attribute_text (codes "width") (decimal width) ++ attribute_text (codes "height") (decimal height)
+    ++ codes " fill=\"#ffffff\"/>\n"
 
 -- what stands before the shapes
 abbrev pub opening_text : Picture → List ℕ

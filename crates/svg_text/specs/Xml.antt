@@ -1,9 +1,11 @@
 -- Trees of XML and their texts, and the tree of a picture, for texts of the bytes from 32 to 126.
-use Rattle.std.specs.Prelude.{◌≡◌, ◌≢◌, ℕ, ◌==◌, ◌&&◌, ◌||◌, not, nat_le, Bool, true, false, if◌then◌else◌, Option, Some, None, List, [], ◌∷◌, ◌++◌, codes, refl}
+use Rattle.std.specs.Prelude.{◌≡◌, ◌≢◌, ℕ, ◌==◌, ◌&&◌, ◌||◌, not, nat_le, Bool, true, false, if◌then◌else◌}
+use Rattle.std.specs.Prelude.{Option, Some, None, List, [], ◌∷◌, ◌++◌, codes, refl}
 use Rattle.std.specs.Fmt.{decimal}
 use Rattle.std.specs.List.{flat_map}
 use Rattle.svg_text.specs.declared.paint.Paint.{Paint}
-use Rattle.svg_text.specs.declared.paint.Paint.TheVariants.{Paper, Frame, Ink, Title, DarkLetter, LightLetter, Faint, Edge, Broken, Thick, Cross, Mark}
+use Rattle.svg_text.specs.declared.paint.Paint.TheVariants.{Paper, Frame, Ink, Title, DarkLetter, LightLetter, Faint, Edge, Broken, Thick}
+use Rattle.svg_text.specs.declared.paint.Paint.TheVariants.{Cross, Mark}
 use Rattle.svg_text.specs.Figures.{Figure, Rect, Line, Dot, Tip, Text, Picture}
 use Rattle.svg_text.specs.Svg.{escaped, attribute_text, code_of, anchor_name, view_box, point}
 
@@ -149,15 +151,20 @@ paint_attributes (Mark c) = fill (code_of c) ∷ stroke (codes "#333333") ∷ []
 
 abbrev pub figure_node : Figure → Node
 figure_node (Rect x y width height paint) =
-    Element (codes "rect") (number (codes "x") x ∷ number (codes "y") y ∷ number (codes "width") width ∷ number (codes "height") height ∷ paint_attributes paint) End
+    Element (codes "rect") (number (codes "x") x ∷ number (codes "y") y ∷ number (codes "width") width
+    ∷ number (codes "height") height ∷ paint_attributes paint) End
 figure_node (Line x1 y1 x2 y2 paint) =
-    Element (codes "line") (number (codes "x1") x1 ∷ number (codes "y1") y1 ∷ number (codes "x2") x2 ∷ number (codes "y2") y2 ∷ paint_attributes paint) End
+    Element (codes "line") (number (codes "x1") x1 ∷ number (codes "y1") y1 ∷ number (codes "x2") x2 ∷ number (codes "y2") y2
+    ∷ paint_attributes paint) End
 figure_node (Dot x y) =
-    Element (codes "circle") (number (codes "cx") x ∷ number (codes "cy") y ∷ attribute (codes "r") (codes "6") ∷ fill (codes "#000000") ∷ stroke (codes "#ffffff") ∷ []) End
+    Element (codes "circle") (number (codes "cx") x ∷ number (codes "cy") y ∷ attribute (codes "r") (codes "6")
+    ∷ fill (codes "#000000") ∷ stroke (codes "#ffffff") ∷ []) End
 figure_node (Tip x y x1 y1 x2 y2) =
-    Element (codes "polygon") (attribute (codes "points") (point x y ++ codes " " ++ point x1 y1 ++ codes " " ++ point x2 y2) ∷ fill (codes "#000000") ∷ []) End
+    Element (codes "polygon") (attribute (codes "points") (point x y ++ codes " " ++ point x1 y1 ++ codes " " ++ point x2 y2)
+    ∷ fill (codes "#000000") ∷ []) End
 figure_node (Text x y anchor paint text) =
-    Element (codes "text") (number (codes "x") x ∷ number (codes "y") y ∷ attribute (codes "text-anchor") (anchor_name anchor) ∷ paint_attributes paint) (nodes (Words text ∷ []))
+    Element (codes "text") (number (codes "x") x ∷ number (codes "y") y ∷ attribute (codes "text-anchor") (anchor_name anchor)
+    ∷ paint_attributes paint) (nodes (Words text ∷ []))
 
 abbrev pub line_end : Node
 line_end = Words (codes "\n")
@@ -170,7 +177,8 @@ abbrev pub titled : (name id text : List ℕ) → Node
 titled name id text = Element name (attribute (codes "id") id ∷ []) (nodes (Words text ∷ []))
 
 abbrev pub paper_node : (width height : ℕ) → Node
-paper_node width height = Element (codes "rect") (number (codes "width") width ∷ number (codes "height") height ∷ fill (codes "#ffffff") ∷ []) End
+paper_node width height =
+    Element (codes "rect") (number (codes "width") width ∷ number (codes "height") height ∷ fill (codes "#ffffff") ∷ []) End
 
 abbrev pub svg_attributes : (width height : ℕ) → List Attribute
 svg_attributes width height =
@@ -188,7 +196,8 @@ svg_node p =
     ∷ paper_node p.width p.height ∷ line_end ∷ flat_map figure_line p.figures))
 
 -- rows
-tree_of_words : node_text (Element (codes "a") (attribute (codes "b") (codes "\"") ∷ []) (nodes (Words (codes "<") ∷ Element (codes "c") [] End ∷ []))) ≡ codes "<a b=\"&quot;\">&lt;<c/></a>"
+tree_of_words : node_text (Element (codes "a") (attribute (codes "b")
+    (codes "\"") ∷ []) (nodes (Words (codes "<") ∷ Element (codes "c") [] End ∷ []))) ≡ codes "<a b=\"&quot;\">&lt;<c/></a>"
 unfolding attribute_text
 tree_of_words = refl
 

@@ -3,7 +3,10 @@
 ghost use Rattle.std.specs.Prelude.{◌≡◌, ◌++◌, IfOk, OnOk, codes};
 ghost use Rattle.std.specs.Fmt.{decimal};
 ghost use Rattle.svg_text.specs.Figures.{figure, picture};
-ghost use Rattle.svg_text.specs.Svg.{code_of, escaped_byte, escaped, attribute_text, anchor_name, attributes_of, content_text, point, rect_text, line_text, dot_text, tip_text, label_text, figure_text, manner_text, view_box, size_text, title_text, paper_text, opening_text, svg_text};
+ghost use Rattle.svg_text.specs.Svg.{code_of, escaped_byte, escaped, attribute_text, anchor_name, attributes_of};
+ghost use Rattle.svg_text.specs.Svg.{content_text, point, rect_text, line_text, dot_text, tip_text, label_text};
+ghost use Rattle.svg_text.specs.Svg.{figure_text, manner_text, view_box, size_text, title_text, paper_text};
+ghost use Rattle.svg_text.specs.Svg.{opening_text, svg_text};
 ghost use Rattle.svg_text.specs.declared.paint.Paint.TheVariants.{Mark};
 
 use crate::paint::{Colour, Paint};
@@ -85,7 +88,8 @@ fn push_size(svg: &mut Vec<u8>, width: u64, height: u64) -> Result<(), AllocErro
 ///
 /// An `Err` says that memory was refused.
 fn push_view_box(svg: &mut Vec<u8>, width: u64, height: u64) -> Result<(), AllocError>
-    ensures { OnOk result (svg.new.items ≡ svg.old.items ++ attribute_text (codes "viewBox") (view_box width height)) }
+    ensures { OnOk result (svg.new.items ≡ svg.old.items
+        ++ attribute_text (codes "viewBox") (view_box width height)) }
 {
     write!(svg, " viewBox=\"0 0 {width} {height}\"").map_err(|_| AllocError)
 }
@@ -296,7 +300,8 @@ fn push_label(
 ///
 /// An `Err` says that memory was refused.
 fn push_anchor(svg: &mut Vec<u8>, anchor: Anchor) -> Result<(), AllocError>
-    ensures { OnOk result (svg.new.items ≡ svg.old.items ++ attribute_text (codes "text-anchor") (anchor_name anchor)) }
+    ensures { OnOk result (svg.new.items ≡ svg.old.items
+        ++ attribute_text (codes "text-anchor") (anchor_name anchor)) }
 {
     push_words(svg, " text-anchor=\"")?;
     push_words(svg, anchor_name(anchor))?;

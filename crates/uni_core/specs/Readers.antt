@@ -5,7 +5,8 @@ use Rattle.uni_model.specs.Places.{Name, Place}
 use Rattle.uni_model.specs.Places.Name.{Anchor, Of}
 use Rattle.uni_model.specs.Places.Place.{Announced, HeadOf, SeqOf, AfterOf, NewOf, BeforeOf}
 use Rattle.uni_model.specs.Stages.{Stage}
-use Rattle.uni_model.specs.Stages.Stage.{Announce, ScanHead, ScanSeq, WriteScan, Test, ReadAnnounce, ReadHelpSeq, DecideAfter, DecideNew, WriteBefore, WriteSeq, WriteHead, Finish}
+use Rattle.uni_model.specs.Stages.Stage.{Announce, ScanHead, ScanSeq, WriteScan, Test, ReadAnnounce, ReadHelpSeq, DecideAfter, DecideNew}
+use Rattle.uni_model.specs.Stages.Stage.{WriteBefore, WriteSeq, WriteHead, Finish}
 use Rattle.uni_core.specs.declared.stage.StepKind.{StepKind}
 use Rattle.uni_core.specs.declared.stage.StepKind.TheVariants as kinds
 use Rattle.uni_core.specs.declared.stage.Place.{Place as PlaceById}

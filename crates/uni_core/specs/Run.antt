@@ -54,14 +54,16 @@ event_of (Step p) _ = Some (event.Step p)
 abbrev pub events_of : {I R : Type 0} → List (Command I) → List (Outcome R) → List (Event I)
 events_of [] outcomes = []
 events_of (command ∷ commands) [] = []
-events_of (command ∷ commands) (outcome ∷ outcomes) = option_map_or (λ e. e ∷ events_of commands outcomes) (event_of command outcome) (events_of commands outcomes)
+events_of (command ∷ commands) (outcome ∷ outcomes) =
+    option_map_or (λ e. e ∷ events_of commands outcomes) (event_of command outcome) (events_of commands outcomes)
 
 -- the world after a command with this outcome
 abbrev pub after_command : {S I R : Type 0} → Sequential S I R → WorldOf S I R → Command I → Outcome R → WorldOf S I R
 after_command object w command outcome = option_map_or (world_after object w) (event_of command outcome) w
 
 -- one outcome for each command, at the world that the commands before it have left
-abbrev pub AreOutcomes : {S I R : Type 0} → Sequential S I R → WorldOf S I R → (row : ℕ) → List (Command I) → List (Outcome R) → Type 0
+abbrev pub AreOutcomes : {S I R : Type 0} → Sequential S I R → WorldOf S I R → (row : ℕ) → List (Command I) → List (Outcome R)
+    → Type 0
 AreOutcomes object w row [] [] = Unit {0}
 AreOutcomes object w row [] (outcome ∷ outcomes) = ⊥
 AreOutcomes object w row (command ∷ commands) [] = ⊥
@@ -70,7 +72,8 @@ AreOutcomes object w row (command ∷ commands) (outcome ∷ outcomes) =
     × AreOutcomes object (after_command object w command outcome) row commands outcomes
 
 -- a world takes a command with this outcome, and is w' then
-pub record TakesCommand {S I R : Type 0} (object : Sequential S I R) (w : WorldOf S I R) (row : ℕ) (command : Command I) (outcome : Outcome R) (w' : WorldOf S I R) : Type 0 where
+pub record TakesCommand {S I R : Type 0} (object : Sequential S I R) (w : WorldOf S I R) (row : ℕ) (command : Command I)
+    (outcome : Outcome R) (w' : WorldOf S I R) : Type 0 where
   pub is : IsOutcome w row command outcome
   pub left : w' ≡ after_command object w command outcome
   pub accepted : Follows object w (after_command object w command outcome) (option_map_or (acts_of object w) (event_of command outcome) [])

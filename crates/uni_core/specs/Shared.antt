@@ -1,5 +1,6 @@
 -- What the shared places of a world contain, read from its arena and its entries.
-use Rattle.std.specs.Prelude.{◌≡◌, ℕ, List, Option, None, if◌then◌else◌, nat_lt, option_map, slice_get, IfSome, slice_index_or, ◌&&◌, ◌+◌, ◌-◌}
+use Rattle.std.specs.Prelude.{◌≡◌, ℕ, List, Option, None, if◌then◌else◌, nat_lt, option_map, slice_get, IfSome}
+use Rattle.std.specs.Prelude.{slice_index_or, ◌&&◌, ◌+◌, ◌-◌}
 use Rattle.std.specs.Option.{option_map_or}
 use Rattle.cell_arena.specs.CellRecord.{CellRecord, index_of}
 use Rattle.cell_arena.specs.Arena.{Arena, processes_of, made_of, cell_of}
@@ -27,7 +28,8 @@ abbrev pub named : {S I R : Type 0} → Shared S I R → ℕ → Name
 named a = name_from (processes_of a.cells) (first_of a)
 
 -- the cell of a name, of the cells that stand at indices
-abbrev pub cell_named : {S I R : Type 0} → (n : ℕ) → (first : ℕ → ℕ) → (ℕ → Option (CellRecord S I R)) → Name → Option (CellRecord S I R)
+abbrev pub cell_named : {S I R : Type 0} → (n : ℕ) → (first : ℕ → ℕ) → (ℕ → Option (CellRecord S I R)) → Name
+    → Option (CellRecord S I R)
 cell_named n first cell Anchor = cell 0
 cell_named n first cell (Of p k) = if nat_lt p n && nat_lt (first p) (k + 1) then cell (index_of n p (k - first p)) else None
 
@@ -36,14 +38,17 @@ abbrev pub entry_name : (n : ℕ) → (first : ℕ → ℕ) → List ℕ → ℕ
 entry_name n first entries p = option_map_or (name_from n first) (slice_get entries p) Anchor
 
 -- what the shared places of n processes contain
-abbrev pub memory_at : {S I R : Type 0} → (n : ℕ) → (first : ℕ → ℕ) → (ℕ → Option (CellRecord S I R)) → (announce heads : List ℕ) → Memory S I R
+abbrev pub memory_at : {S I R : Type 0} → (n : ℕ) → (first : ℕ → ℕ) → (ℕ → Option (CellRecord S I R))
+    → (announce heads : List ℕ) → Memory S I R
 memory_at n first cell announce heads (Announced p) = CellName (entry_name n first announce p)
 memory_at n first cell announce heads (HeadOf p) = CellName (entry_name n first heads p)
 memory_at n first cell announce heads (InvOf x) = Invocation (option_map_or (λ c. c.inv) (cell_named n first cell x) None)
 memory_at n first cell announce heads (SeqOf x) = Number (option_map_or (λ c. c.seq) (cell_named n first cell x) 0)
-memory_at n first cell announce heads (AfterOf x) = Link (option_map_or (λ c. option_map (name_from n first) c.after) (cell_named n first cell x) None)
+memory_at n first cell announce heads (AfterOf x) =
+    Link (option_map_or (λ c. option_map (name_from n first) c.after) (cell_named n first cell x) None)
 memory_at n first cell announce heads (NewOf x) = Settled (option_map_or (λ c. c.new) (cell_named n first cell x) None)
-memory_at n first cell announce heads (BeforeOf x) = Link (option_map_or (λ c. option_map (name_from n first) c.before) (cell_named n first cell x) None)
+memory_at n first cell announce heads (BeforeOf x) =
+    Link (option_map_or (λ c. option_map (name_from n first) c.before) (cell_named n first cell x) None)
 
 abbrev pub memory_of : {S I R : Type 0} → Shared S I R → Memory S I R
 memory_of a = memory_at (processes_of a.cells) (first_of a) (cell_of a.cells) a.announce a.heads

@@ -9,7 +9,8 @@ use Rattle.uni_model.specs.Chain.{response_in}
 use Rattle.uni_model.specs.Transition.{place_of, response_after}
 use Rattle.uni_model.specs.Effects.{Effect, effect_of}
 use Rattle.uni_core.specs.declared.stage.Stage.{Stage}
-use Rattle.uni_core.specs.declared.stage.Stage.TheVariants.{Announce, ScanHead, ScanSeq, WriteScan, Test, ReadAnnounce, ReadHelpSeq, DecideAfter, DecideNew, WriteBefore, WriteSeq, WriteHead, Finish}
+use Rattle.uni_core.specs.declared.stage.Stage.TheVariants.{Announce, ScanHead, ScanSeq, WriteScan, Test, ReadAnnounce, ReadHelpSeq}
+use Rattle.uni_core.specs.declared.stage.Stage.TheVariants.{DecideAfter, DecideNew, WriteBefore, WriteSeq, WriteHead, Finish}
 use Rattle.uni_core.specs.declared.stage.Pending.{Pending}
 use Rattle.uni_core.specs.declared.transition.After.{After}
 use Rattle.uni_core.specs.declared.transition.After.TheVariants.{At, Ended}
@@ -49,9 +50,11 @@ response_told (At stage) = None
 response_told (Ended response) = Some response
 
 -- the process has taken the step of its stage: one place is written, it stands where it stands after it, and has this response
-pub record Takes {S I R : Type 0} (object : Sequential S I R) (p : ℕ) (mine : Name) (from : at) (old new : Shared S I R) (to : Option at) (response : Option R) : Type 0 where
+pub record Takes {S I R : Type 0} (object : Sequential S I R) (p : ℕ) (mine : Name) (from : at) (old new : Shared S I R) (to : Option at)
+    (response : Option R) : Type 0 where
   pub shape : HasShapeOf old new
-  pub memory : memory_of new ≡ memory_with (memory_of old) (place_of (processes_of old.cells) p mine from) (effect_at object old p mine from).content
+  pub memory : memory_of new ≡ memory_with (memory_of old) (place_of (processes_of old.cells) p mine from)
+      (effect_at object old p mine from).content
   pub stage : to ≡ (effect_at object old p mine from).stage
   pub told : response ≡ response_after mine from (memory_of old)
 
@@ -69,7 +72,8 @@ CanStep a mine (Test c c_seq) = IsThere a mine
 CanStep a mine (ReadAnnounce c c_seq) = Unit {0}
 CanStep a mine (ReadHelpSeq c c_seq help) = IsThere a help
 CanStep a mine (DecideAfter c c_seq prefer) = IsThere a c
-CanStep a mine (DecideNew c c_seq d) = IsThere a c × IsThere a d × IsSome (new_of (memory_of a) (named a c)) × IsSome (inv_of (memory_of a) (named a d))
+CanStep a mine (DecideNew c c_seq d) =
+    IsThere a c × IsThere a d × IsSome (new_of (memory_of a) (named a c)) × IsSome (inv_of (memory_of a) (named a d))
 CanStep a mine (WriteBefore c c_seq d) = IsThere a d
 CanStep a mine (WriteSeq c c_seq d) = IsThere a d × (c_seq < 2 ^ 48)
 CanStep a mine (WriteHead c c_seq d) = c_seq < 2 ^ 48

@@ -1,7 +1,8 @@
 //! What can be read of a world.
 
 ghost use Rattle.std.specs.Option.{option_copied};
-ghost use Rattle.std.specs.Prelude.{length, ℕ, ◌≡◌, ◌+◌, ◌-◌, ◌*◌, ◌<◌, ◌≤◌, ◌^◌, ◌↔◌, IsSome, IfSome, None, option_map};
+ghost use Rattle.std.specs.Prelude.{length, ℕ, ◌≡◌, ◌+◌, ◌-◌, ◌*◌, ◌<◌, ◌≤◌, ◌^◌};
+ghost use Rattle.std.specs.Prelude.{◌↔◌, IsSome, IfSome, None, option_map};
 ghost use Rattle.cell_arena.specs.CellRecord.{index_of};
 ghost use Rattle.cell_arena.specs.Arena.{made_of, cell_of};
 ghost use Rattle.uni_model.specs.Places.{seq_of, head_seq, inv_of, after_of, new_of, before_of};
@@ -68,7 +69,8 @@ impl<O: SeqObject> World<O> {
         requires { p < (world_of self.now).n }
         ensures value { result ≡ (world_of self.now).steps p }
         ensures pending { IsSome ((world_of self.now).call p) → result < 10 * (world_of self.now).n + 12 }
-        ensures returned { (world_of self.now).call p ≡ None → 1 ≤ (world_of self.now).begun p → result ≡ 2 * (world_of self.now).among p + 4 + 8 * (world_of self.now).turns p }
+        ensures returned { (world_of self.now).call p ≡ None → 1 ≤ (world_of self.now).begun p
+            → result ≡ 2 * (world_of self.now).among p + 4 + 8 * (world_of self.now).turns p }
         ensures none { (world_of self.now).begun p ≡ 0 → result ≡ 0 }
     {
         self.shape();
@@ -123,7 +125,8 @@ impl<O: SeqObject> World<O> {
     /// pending.
     pub fn next_place(&self, p: u64) -> Option<Place>
         requires { p < (world_of self.now).n }
-        ensures { option_map (place_named (name_in (world_of self.now))) result ≡ option_map (λ c. place_of (world_of self.now).n p c.mine c.stage) ((world_of self.now).call p) }
+        ensures { option_map (place_named (name_in (world_of self.now))) result
+            ≡ option_map (λ c. place_of (world_of self.now).n p c.mine c.stage) ((world_of self.now).call p) }
     {
         let Some(call) = self.standing(p) else {
             return None;
@@ -152,7 +155,8 @@ impl<O: SeqObject> World<O> {
 
     /// The least process that has a call pending; `None` where no process has one.
     pub fn pending(&self) -> Option<u64>
-        ensures least { IfSome result (λ p. (p < (world_of self.now).n) × IsSome ((world_of self.now).call p) × ((q : ℕ) → q < p → (world_of self.now).call q ≡ None)) }
+        ensures least { IfSome result (λ p. (p < (world_of self.now).n) × IsSome ((world_of self.now).call p)
+            × ((q : ℕ) → q < p → (world_of self.now).call q ≡ None)) }
         ensures none { (result ≡ None) ↔ IsQuiescent (world_of self.now) }
     {
         for p in 0..self.processes() {
@@ -182,8 +186,10 @@ impl<O: SeqObject> World<O> {
     /// The cell of a call of this era; `None` where no such call was begun in it.
     pub fn cell_of(&self, call: CallId) -> Option<CellId>
         ensures begun { IsSome result ↔ ((call.process < (world_of self.now).n)
-            × ((world_of self.now).first call.process ≤ call.nth) × (call.nth < (world_of self.now).begun call.process)) }
-        ensures index { IfSome result (λ cell. cell ≡ index_of (world_of self.now).n call.process (call.nth - (world_of self.now).first call.process)) }
+            × ((world_of self.now).first call.process ≤ call.nth)
+            × (call.nth < (world_of self.now).begun call.process)) }
+        ensures index { IfSome result (λ cell. cell
+            ≡ index_of (world_of self.now).n call.process (call.nth - (world_of self.now).first call.process)) }
         ensures name { IfSome result (λ cell. name_in (world_of self.now) cell ≡ Of call.process call.nth) }
         ensures there { IfSome result (λ cell. IsSome (cell_of self.now.shared.cells cell)) }
     {
@@ -228,7 +234,8 @@ impl<O: SeqObject> World<O> {
     /// The cell before a cell of the arena; `None` where none was written.
     pub fn before(&self, cell: CellId) -> Option<CellId>
         requires { IsSome (cell_of self.now.shared.cells cell) }
-        ensures link { option_map (name_in (world_of self.now)) result ≡ before_of (world_of self.now).memory (name_in (world_of self.now) cell) }
+        ensures link { option_map (name_in (world_of self.now)) result
+            ≡ before_of (world_of self.now).memory (name_in (world_of self.now) cell) }
         ensures there { IfSome result (λ before. IsSome (cell_of self.now.shared.cells before)) }
     {
         self.shape();
@@ -238,7 +245,8 @@ impl<O: SeqObject> World<O> {
     /// The cell that is linked after a cell of the arena; `None` where none is.
     pub fn after(&self, cell: CellId) -> Option<CellId>
         requires { IsSome (cell_of self.now.shared.cells cell) }
-        ensures link { option_map (name_in (world_of self.now)) result ≡ after_of (world_of self.now).memory (name_in (world_of self.now) cell) }
+        ensures link { option_map (name_in (world_of self.now)) result
+            ≡ after_of (world_of self.now).memory (name_in (world_of self.now) cell) }
         ensures there { IfSome result (λ next. IsSome (cell_of self.now.shared.cells next)) }
     {
         self.shape();
@@ -289,7 +297,8 @@ impl<O: SeqObject> World<O> {
 
     /// What every world keeps, for proofs: the call does nothing. What it shows has the invariant of
     /// the definitions, with the facts of helping and the counts of own steps; its cells are one
-    /// list, and its log is a legal history. There are 1 to 64 processes. A row has at most 4096 cells, and no process has
+    /// list, and its log is a legal history. There are 1 to 64 processes. A row has at most 4096 cells, and no process
+    /// has
     /// begun more calls in the era; the arena has as many cells of a process as it has begun calls in
     /// the era. A process had begun no more calls before it than the anchor's number. The anchor's
     /// number, and one more for each cell that there can be, stay below 2^48. The latest call of each
@@ -305,7 +314,8 @@ impl<O: SeqObject> World<O> {
         ensures row { (self.now.shared.cells.row ≡ self.now.row) × (self.now.row ≤ 4096) }
         ensures room { (p : ℕ) → calls_in_era (world_of self.now) p ≤ self.now.row }
         ensures anchor { IsSome (cell_of self.now.shared.cells 0) }
-        ensures made { (p : ℕ) → p < (world_of self.now).n → made_of self.now.shared.cells p ≡ calls_in_era (world_of self.now) p }
+        ensures made { (p : ℕ) → p < (world_of self.now).n
+            → made_of self.now.shared.cells p ≡ calls_in_era (world_of self.now) p }
         ensures early { (p : ℕ) → (world_of self.now).first p ≤ seq_of (world_of self.now).memory Anchor }
         ensures numbers { seq_of (world_of self.now).memory Anchor + (world_of self.now).n * self.now.row < 2 ^ 48 }
         ensures fits { seq_of (world_of self.now).memory Anchor + length (chain (world_of self.now)) < 2 ^ 48 }

@@ -1,6 +1,7 @@
 //! The end of an era.
 
-ghost use Rattle.std.specs.Prelude.{ℕ, ◌≡◌, ◌+◌, ◌*◌, ◌<◌, ◌≤◌, ◌^◌, OnOk, OnErr, IfOk, slice_index_or, length};
+ghost use Rattle.std.specs.Prelude.{ℕ, ◌≡◌, ◌+◌, ◌*◌, ◌<◌, ◌≤◌, ◌^◌, OnOk, OnErr, IfOk};
+ghost use Rattle.std.specs.Prelude.{slice_index_or, length};
 ghost use Rattle.uni_model.specs.Places.{seq_of};
 ghost use Rattle.uni_model.specs.Worlds.{world_after, last_cell, IsQuiescent};
 ghost use Rattle.uni_model.specs.Worlds.Event.{Trim, Reshape};
@@ -15,7 +16,8 @@ use std::alloc::{AllocError, Global};
 /// What processes keep for themselves, with new ones after them where there are fewer than `m`.
 fn grown(alloc: Global, locals: &[Local], m: u64) -> Result<Vec<Local>, AllocError>
     ensures long { IfOk result (λ all. (m ≤ length all.items) × (length locals.now ≤ length all.items)) }
-    ensures same { IfOk result (λ all. (p : ℕ) → slice_index_or all.items p new_local ≡ slice_index_or locals.now p new_local) }
+    ensures same { IfOk result (λ all. (p : ℕ)
+        → slice_index_or all.items p new_local ≡ slice_index_or locals.now p new_local) }
 {
     let count = locals.len().max(m as usize);
     let mut all = vec![in alloc; Local::new(); count]?;
@@ -33,7 +35,8 @@ impl<O: SeqObject> World<O> {
     /// The numbers of the next era have to stay below 2^48.
     pub fn renew(&mut self)
         requires quiescent { IsQuiescent (world_of self.old) }
-        requires numbers { seq_of (world_of self.old).memory (last_cell (world_of self.old)) + (world_of self.old).n * self.old.row < 2 ^ 48 }
+        requires numbers { seq_of (world_of self.old).memory (last_cell (world_of self.old))
+            + (world_of self.old).n * self.old.row < 2 ^ 48 }
         ensures renewed { world_of self.new ≡ world_after (O.sequential self.old.object) (world_of self.old) Trim }
         ensures fixed { KeepsFixed self.old self.new }
     {
@@ -50,8 +53,10 @@ impl<O: SeqObject> World<O> {
     pub fn renew_for(&mut self, alloc: Global, m: u64) -> Result<(), AllocError>
         requires quiescent { IsQuiescent (world_of self.old) }
         requires processes { (1 ≤ m) × (m ≤ 64) }
-        requires numbers { seq_of (world_of self.old).memory (last_cell (world_of self.old)) + m * self.old.row < 2 ^ 48 }
-        ensures renewed { OnOk result (world_of self.new ≡ world_after (O.sequential self.old.object) (world_of self.old) (Reshape m)) }
+        requires numbers { seq_of (world_of self.old).memory (last_cell (world_of self.old)) + m * self.old.row
+            < 2 ^ 48 }
+        ensures renewed { OnOk result (world_of self.new
+            ≡ world_after (O.sequential self.old.object) (world_of self.old) (Reshape m)) }
         ensures fixed { KeepsFixed self.old self.new }
         ensures unchanged { OnErr result (self.new ≡ self.old) }
     {

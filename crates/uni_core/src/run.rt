@@ -17,7 +17,8 @@ use std::alloc::{AllocError, Global};
 impl<O: SeqObject> World<O> {
     /// Process `p` is asked to begin a call.
     fn take_call(&mut self, alloc: Global, p: u64, inv: &O::Inv) -> Outcome<O::Resp>
-        ensures takes { TakesCommand (O.sequential self.old.object) (world_of self.old) self.old.row (Call p inv.now) result (world_of self.new) }
+        ensures takes { TakesCommand (O.sequential self.old.object) (world_of self.old) self.old.row
+            (Call p inv.now) result (world_of self.new) }
         ensures fixed { KeepsFixed self.old self.new }
     {
         self.shape();
@@ -32,7 +33,8 @@ impl<O: SeqObject> World<O> {
 
     /// Process `p` is asked to take a step.
     fn take_step(&mut self, alloc: Global, p: u64) -> Outcome<O::Resp>
-        ensures takes { TakesCommand (O.sequential self.old.object) (world_of self.old) self.old.row (Step p) result (world_of self.new) }
+        ensures takes { TakesCommand (O.sequential self.old.object) (world_of self.old) self.old.row (Step p) result
+            (world_of self.new) }
         ensures fixed { KeepsFixed self.old self.new }
     {
         if p >= self.processes() {
@@ -50,7 +52,8 @@ impl<O: SeqObject> World<O> {
 
     /// The world takes a command.
     fn take(&mut self, alloc: Global, command: &Command<O::Inv>) -> Outcome<O::Resp>
-        ensures takes { TakesCommand (O.sequential self.old.object) (world_of self.old) self.old.row command.now result (world_of self.new) }
+        ensures takes { TakesCommand (O.sequential self.old.object) (world_of self.old) self.old.row command.now result
+            (world_of self.new) }
         ensures fixed { KeepsFixed self.old self.new }
     {
         match command {
@@ -69,13 +72,20 @@ impl<O: SeqObject> World<O> {
         alloc: Global,
         commands: &[Command<O::Inv>],
     ) -> Result<Vec<Outcome<O::Resp>>, AllocError>
-        ensures outcomes { IfOk result (λ outcomes. AreOutcomes (O.sequential self.old.object) (world_of self.old) self.old.row commands.now outcomes.items) }
-        ensures ran { IfOk result (λ outcomes. world_of self.new ≡ world_after_all (O.sequential self.old.object) (world_of self.old) (events_of commands.now outcomes.items)) }
-        ensures accepted { IfOk result (λ outcomes. Follows (O.sequential self.old.object) (world_of self.old) (world_of self.new)
+        ensures outcomes { IfOk result (λ outcomes. AreOutcomes (O.sequential self.old.object)
+            (world_of self.old) self.old.row commands.now outcomes.items) }
+        ensures ran { IfOk result (λ outcomes. world_of self.new
+            ≡ world_after_all (O.sequential self.old.object) (world_of self.old)
+            (events_of commands.now outcomes.items)) }
+        ensures accepted { IfOk result (λ outcomes. Follows (O.sequential self.old.object) (world_of self.old)
+            (world_of self.new)
             (history_of (O.sequential self.old.object) (world_of self.old) (events_of commands.now outcomes.items))) }
-        ensures events { IfOk result (λ outcomes. AreAccepted (O.sequential self.old.object) (world_of self.old) (events_of commands.now outcomes.items)) }
-        ensures log { IfOk result (λ outcomes. LogGrows (O.sequential self.old.object) (world_of self.old) (events_of commands.now outcomes.items)) }
-        ensures bounded { IfOk result (λ outcomes. BoundedAlong (O.sequential self.old.object) (world_of self.old) (events_of commands.now outcomes.items)) }
+        ensures events { IfOk result (λ outcomes. AreAccepted (O.sequential self.old.object) (world_of self.old)
+            (events_of commands.now outcomes.items)) }
+        ensures log { IfOk result (λ outcomes. LogGrows (O.sequential self.old.object) (world_of self.old)
+            (events_of commands.now outcomes.items)) }
+        ensures bounded { IfOk result (λ outcomes. BoundedAlong (O.sequential self.old.object) (world_of self.old)
+            (events_of commands.now outcomes.items)) }
         ensures fixed { KeepsFixed self.old self.new }
         ensures unchanged { OnErr result (self.new ≡ self.old) }
     {

@@ -1,10 +1,12 @@
 //! The shared places: the cells, and the entries of announce and head.
 
-ghost use Rattle.std.specs.Prelude.{◌≡◌, ◌+◌, ◌-◌, ◌<◌, ◌≤◌, ℕ, IfOk, OnOk, OnErr, IsSome, Some, None, IsSomeAnd, length, slice_index_or, option_map, unwrap_or, replicate};
+ghost use Rattle.std.specs.Prelude.{◌≡◌, ◌+◌, ◌-◌, ◌<◌, ◌≤◌, ℕ, IfOk, OnOk, OnErr, IsSome};
+ghost use Rattle.std.specs.Prelude.{Some, None, IsSomeAnd, length, slice_index_or, option_map, unwrap_or, replicate};
 ghost use Rattle.std.specs.Option.{option_copied};
 ghost use Rattle.cell_arena.specs.CellRecord.{ChangesOnly, index_of};
 ghost use Rattle.cell_arena.specs.Arena.{processes_of, made_of, cell_of};
-ghost use Rattle.uni_model.specs.Places.{memory_with, announce_of, head_of, inv_of, seq_of, after_of, new_of, before_of};
+ghost use Rattle.uni_model.specs.Places.{memory_with, announce_of, head_of, inv_of, seq_of, after_of, new_of};
+ghost use Rattle.uni_model.specs.Places.{before_of};
 ghost use Rattle.uni_model.specs.Places.Place.{Announced, HeadOf, InvOf, SeqOf, AfterOf, NewOf, BeforeOf};
 ghost use Rattle.uni_model.specs.Places.Content.{CellName, Invocation, Number, Link, Settled};
 ghost use Rattle.uni_model.specs.Places.Name.{Of};
@@ -39,9 +41,15 @@ impl<S, I, R> Model for Shared<S, I, R> {
 
     ghost Value = { Entries S I R };
 
-    ghost view = { λ a. record { cells = a.cells; announce = a.announce.items; heads = a.heads.items; first = a.first.items } };
+    ghost view = { λ a. record {
+      cells = a.cells;
+      announce = a.announce.items;
+      heads = a.heads.items;
+      first = a.first.items;
+    } };
 
-    ghost invariant = { λ a. (length a.announce.items ≡ processes_of a.cells) × (length a.heads.items ≡ processes_of a.cells) × (processes_of a.cells ≤ length a.first.items) };
+    ghost invariant = { λ a. (length a.announce.items ≡ processes_of a.cells)
+        × (length a.heads.items ≡ processes_of a.cells) × (processes_of a.cells ≤ length a.first.items) };
 }
 
 /// The next call of each process becomes its first of an era.
@@ -115,7 +123,8 @@ impl<S: Drop, I: Drop, R: Copy> Shared<S, I, R> {
         ensures memory { IsRenewed (cell_of self.old.cells last) (memory_of self.new) }
         ensures first { (p : ℕ) → first_of self.new p ≡ (slice_index_or locals.now p new_local).begun }
         ensures long { length self.new.first ≡ length locals.now }
-        ensures shape { (processes_of self.new.cells ≡ processes_of self.old.cells) × (self.new.cells.row ≡ self.old.cells.row) }
+        ensures shape { (processes_of self.new.cells ≡ processes_of self.old.cells)
+            × (self.new.cells.row ≡ self.old.cells.row) }
         ensures made { (p : ℕ) → made_of self.new.cells p ≡ 0 }
     {
         let entry = Own::new(CellId::anchor());
@@ -138,9 +147,11 @@ impl<S: Drop, I: Drop, R: Copy> Shared<S, I, R> {
         requires processes { (1 ≤ m) × (m ≤ 64) }
         requires locals { m ≤ length locals.now }
         ensures memory { OnOk result (IsRenewed (cell_of self.old.cells last) (memory_of self.new)) }
-        ensures first { OnOk result ((p : ℕ) → first_of self.new p ≡ (slice_index_or locals.now p new_local).begun) }
+        ensures first { OnOk result ((p : ℕ) → first_of self.new p
+            ≡ (slice_index_or locals.now p new_local).begun) }
         ensures long { OnOk result (length self.new.first ≡ length locals.now) }
-        ensures shape { OnOk result ((processes_of self.new.cells ≡ m) × (self.new.cells.row ≡ self.old.cells.row)) }
+        ensures shape { OnOk result ((processes_of self.new.cells ≡ m)
+            × (self.new.cells.row ≡ self.old.cells.row)) }
         ensures made { OnOk result ((p : ℕ) → made_of self.new.cells p ≡ 0) }
         ensures unchanged { OnErr result (self.new ≡ self.old) }
     {
@@ -169,9 +180,11 @@ impl<S: Drop, I: Drop, R: Copy> Shared<S, I, R> {
         requires process { p < processes_of self.old.cells }
         requires room { made_of self.old.cells p < self.old.cells.row }
         ensures id { result ≡ index_of (processes_of self.old.cells) p (made_of self.old.cells p) }
-        ensures memory { memory_of self.new ≡ memory_with (memory_of self.old) (InvOf (Of p (first_of self.old p + made_of self.old.cells p))) (Invocation (Some inv)) }
+        ensures memory { memory_of self.new ≡ memory_with (memory_of self.old)
+            (InvOf (Of p (first_of self.old p + made_of self.old.cells p))) (Invocation (Some inv)) }
         ensures made { ChangesOnly (made_of self.old.cells) (made_of self.new.cells) p (made_of self.old.cells p + 1) }
-        ensures shape { (processes_of self.new.cells ≡ processes_of self.old.cells) × (self.new.cells.row ≡ self.old.cells.row) × (self.new.first ≡ self.old.first) }
+        ensures shape { (processes_of self.new.cells ≡ processes_of self.old.cells)
+            × (self.new.cells.row ≡ self.old.cells.row) × (self.new.first ≡ self.old.first) }
     {
         self.cells.shape();
         match self.cells.make(alloc, p, inv) {
@@ -192,7 +205,8 @@ impl<S: Drop, I: Drop, R: Copy> Shared<S, I, R> {
     pub(crate) fn announce(&mut self, p: u64, id: CellId)
         requires { p < processes_of self.old.cells }
         ensures shape { HasShapeOf self.old self.new }
-        ensures memory { memory_of self.new ≡ memory_with (memory_of self.old) (Announced p) (CellName (named self.old id)) }
+        ensures memory { memory_of self.new ≡ memory_with (memory_of self.old) (Announced p)
+            (CellName (named self.old id)) }
     {
         self.announce[p as usize].write(id);
     }
@@ -209,7 +223,8 @@ impl<S: Drop, I: Drop, R: Copy> Shared<S, I, R> {
     pub(crate) fn set_head(&mut self, p: u64, id: CellId)
         requires { p < processes_of self.old.cells }
         ensures shape { HasShapeOf self.old self.new }
-        ensures memory { memory_of self.new ≡ memory_with (memory_of self.old) (HeadOf p) (CellName (named self.old id)) }
+        ensures memory { memory_of self.new ≡ memory_with (memory_of self.old) (HeadOf p)
+            (CellName (named self.old id)) }
     {
         self.heads[p as usize].write(id);
     }
@@ -227,7 +242,8 @@ impl<S: Drop, I: Drop, R: Copy> Shared<S, I, R> {
     pub(crate) fn set_seq(&mut self, id: CellId, seq: u64)
         requires { IsSome (cell_of self.old.cells id) }
         ensures shape { HasShapeOf self.old self.new }
-        ensures memory { memory_of self.new ≡ memory_with (memory_of self.old) (SeqOf (named self.old id)) (Number seq) }
+        ensures memory { memory_of self.new ≡ memory_with (memory_of self.old) (SeqOf (named self.old id))
+            (Number seq) }
     {
         self.cells.shape();
         self.cells.set_seq(id, seq);

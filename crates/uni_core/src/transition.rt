@@ -1,7 +1,8 @@
 //! The transition of each kind of step: what it does to the one place that it touches, and where
 //! its process stands then.
 
-ghost use Rattle.std.specs.Prelude.{◌≡◌, ◌+◌, ◌<◌, ◌==◌, if◌then◌else◌, ℕ, IsSome, Some, None, OnOk, IfOk, OnErr, option_map};
+ghost use Rattle.std.specs.Prelude.{◌≡◌, ◌+◌, ◌<◌, ◌==◌, if◌then◌else◌, ℕ, IsSome, Some};
+ghost use Rattle.std.specs.Prelude.{None, OnOk, IfOk, OnErr, option_map};
 ghost use Rattle.std.specs.Option.{option_or};
 ghost use Rattle.cell_arena.specs.Arena.{processes_of, cell_of};
 ghost use Rattle.uni_model.specs.Places.{Name, new_of, inv_of, memory_with};
@@ -23,7 +24,8 @@ use std::alloc::{AllocError, Global};
 /// process `q`.
 fn after_comparing(n: u64, q: u64, best: (CellId, u64), head: (CellId, u64)) -> Stage
     requires { q < n }
-    ensures { (name : ℕ → Name) → stage_of name result ≡ stage_after_scan n q (name best.0) best.1 (name head.0) head.1 }
+    ensures { (name : ℕ → Name) → stage_of name result
+        ≡ stage_after_scan n q (name best.0) best.1 (name head.0) head.1 }
 {
     let (best, best_seq) = if best.1 < head.1 { head } else { best };
     if q + 1 < n {
@@ -39,7 +41,8 @@ fn after_comparing(n: u64, q: u64, best: (CellId, u64), head: (CellId, u64)) -> 
 
 /// Where a process stands after it has tested the number of its cell: a turn begins where that is 0.
 fn after_test(c: CellId, c_seq: u64, mine_seq: u64) -> Stage
-    ensures { (name : ℕ → Name) → stage_of name result ≡ (if mine_seq == 0 then at.ReadAnnounce (name c) c_seq else at.Finish c_seq mine_seq) }
+    ensures { (name : ℕ → Name) → stage_of name result
+        ≡ (if mine_seq == 0 then at.ReadAnnounce (name c) c_seq else at.Finish c_seq mine_seq) }
 {
     match mine_seq {
         0 => Stage::ReadAnnounce { c, c_seq },
@@ -102,7 +105,8 @@ impl<O: SeqObject> Machine<O> {
         requires state { IsSome (new_of (memory_of self.old.shared) (named self.old.shared c)) }
         requires inv { IsSome (inv_of (memory_of self.old.shared) (named self.old.shared d)) }
         ensures shape { HasShapeOf self.old.shared self.new.shared }
-        ensures memory { OnOk result (memory_of self.new.shared ≡ memory_with (memory_of self.old.shared) (NewOf (named self.old.shared d))
+        ensures memory { OnOk result (memory_of self.new.shared
+            ≡ memory_with (memory_of self.old.shared) (NewOf (named self.old.shared d))
             (Settled (option_or (new_of (memory_of self.old.shared) (named self.old.shared d))
             (value_after (O.sequential self.old.object) (new_of (memory_of self.old.shared) (named self.old.shared c))
             (inv_of (memory_of self.old.shared) (named self.old.shared d)))))) }

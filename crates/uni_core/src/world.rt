@@ -33,7 +33,12 @@ impl<O: SeqObject> Model for World<O> {
 
     ghost Value = { Whole O O.State O.Inv O.Resp };
 
-    ghost view = { λ w. record { object = w.machine.object; row = w.row; shared = w.machine.shared; locals = w.locals.items } };
+    ghost view = { λ w. record {
+      object = w.machine.object;
+      row = w.row;
+      shared = w.machine.shared;
+      locals = w.locals.items;
+    } };
 
     ghost invariant = { λ w. IsWorld (O.sequential w.machine.object)
         (record { object = w.machine.object; row = w.row; shared = w.machine.shared; locals = w.locals.items }) };
@@ -157,8 +162,10 @@ impl<O: SeqObject> World<O> {
         ensures refused { IfErr result (IsBeginRefused (world_of self.old) self.old.row p) }
         ensures could { OnOk result (CanCall (world_of self.old) self.old.row p) }
         ensures id { IfOk result (λ call. (call.process ≡ p) × (call.nth ≡ (world_of self.old).begun p)) }
-        ensures begun { OnOk result (world_of self.new ≡ world_after (O.sequential self.old.object) (world_of self.old) (Call p inv.now)) }
-        ensures accepted { OnOk result (TakesEffect (O.sequential self.old.object) (world_of self.old) (Call p inv.now)) }
+        ensures begun { OnOk result (world_of self.new
+            ≡ world_after (O.sequential self.old.object) (world_of self.old) (Call p inv.now)) }
+        ensures accepted { OnOk result (TakesEffect (O.sequential self.old.object) (world_of self.old)
+            (Call p inv.now)) }
         ensures fixed { KeepsFixed self.old self.new }
         ensures unchanged { OnErr result (self.new ≡ self.old) }
     {
@@ -202,7 +209,8 @@ impl<O: SeqObject> World<O> {
     pub fn step(&mut self, alloc: Global, p: u64) -> Result<Progress<O::Resp>, StepFault>
         ensures refused { IfErr result (IsStepRefused (world_of self.old) p) }
         ensures could { OnOk result (CanGo (world_of self.old) p) }
-        ensures step { OnOk result (world_of self.new ≡ world_after (O.sequential self.old.object) (world_of self.old) (Step p)) }
+        ensures step { OnOk result (world_of self.new
+            ≡ world_after (O.sequential self.old.object) (world_of self.old) (Step p)) }
         ensures progress { IfOk result (IsProgress (world_of self.old) p) }
         ensures pending { IfOk result (GoesOn (world_of self.new) p) }
         ensures accepted { OnOk result (TakesEffect (O.sequential self.old.object) (world_of self.old) (Step p)) }

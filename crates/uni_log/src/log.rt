@@ -1,6 +1,8 @@
 //! The reader of the list.
 
-ghost use Rattle.std.specs.Prelude.{◌≡◌, ◌+◌, ◌<◌, ◌≤◌, ℕ, ◌∷◌, ◌++◌, IfOk, IfSome, IsSome, IsSomeAnd, Some, None, length, map, option_map, position, reverse, slice_get, take};
+ghost use Rattle.std.specs.Prelude.{◌≡◌, ◌+◌, ◌<◌, ◌≤◌, ℕ, ◌∷◌, ◌++◌, IfOk, IfSome};
+ghost use Rattle.std.specs.Prelude.{IsSome, IsSomeAnd, Some, None, length, map, option_map, position, reverse};
+ghost use Rattle.std.specs.Prelude.{slice_get, take};
 ghost use Rattle.std.specs.Option.{option_copied};
 ghost use Rattle.cell_arena.specs.Arena.{cell_of};
 ghost use Rattle.seq_object.specs.History.{IsLegal, state_after};
@@ -59,8 +61,10 @@ fn entry_at<O: SeqObject>(
     requires there { IsSome (cell_of world.now.shared.cells id) }
     requires call { IsSome (invoked_at (world_of world.now).memory (name_in (world_of world.now) id)) }
     ensures seq { IfOk result (λ e. (entry_shown e).number ≡ seq) }
-    ensures call { IfOk result (λ e. invoked_at (world_of world.now).memory (name_in (world_of world.now) id) ≡ Some (entry_shown e).call) }
-    ensures reply { IfOk result (λ e. (entry_shown e).response ≡ response_in (world_of world.now).memory (name_in (world_of world.now) id)) }
+    ensures call { IfOk result (λ e. invoked_at (world_of world.now).memory (name_in (world_of world.now) id)
+        ≡ Some (entry_shown e).call) }
+    ensures reply { IfOk result (λ e. (entry_shown e).response
+        ≡ response_in (world_of world.now).memory (name_in (world_of world.now) id)) }
 {
     let call = world.call_of(id).unwrap();
     let inv = O::copy_inv(alloc, world.inv(id).unwrap())?;
@@ -79,7 +83,8 @@ fn entry_at<O: SeqObject>(
 /// The state that is settled in a cell of the arena, or `None`.
 fn state_in<'a, O: SeqObject>(world: &'a World<O>, id: CellId) -> Option<&'a O::State>
     requires { IsSome (cell_of world.now.shared.cells id) }
-    ensures { option_copied result ≡ option_map (λ new. new.0) (new_of (world_of world.now).memory (name_in (world_of world.now) id)) }
+    ensures { option_copied result ≡ option_map (λ new. new.0)
+        (new_of (world_of world.now).memory (name_in (world_of world.now) id)) }
 {
     match world.new_of(id) {
         Some((state, _)) => Some(state),
@@ -105,7 +110,8 @@ impl<'a, O: SeqObject> Log<'a, O> {
         ensures log { IfOk result (λ entries. map entry_shown entries.items ≡ log (world_of self.now)) }
         ensures settled { IfOk result (λ entries. (i : ℕ) → i + 1 < length entries.items
             → IsSomeAnd (slice_get entries.items i) (λ e. IsSome e.reply)) }
-        ensures legal { IfOk result (λ entries. (state : O.State) → new_of (world_of self.now).memory Anchor ≡ Some (state, None)
+        ensures legal { IfOk result (λ entries. (state : O.State)
+            → new_of (world_of self.now).memory Anchor ≡ Some (state, None)
             → IsLegal (O.sequential self.now.object) state (map call_shown entries.items)) }
     {
         self.world.shape();
@@ -121,7 +127,8 @@ impl<'a, O: SeqObject> Log<'a, O> {
         alloc: Global,
         earlier: Vec<Entry<O::Inv, O::Resp>>,
     ) -> Result<Vec<Entry<O::Inv, O::Resp>>, AllocError>
-        ensures { IfOk result (λ entries. map entry_shown entries.items ≡ map entry_shown earlier.items ++ log (world_of self.now)) }
+        ensures { IfOk result (λ entries. map entry_shown entries.items
+            ≡ map entry_shown earlier.items ++ log (world_of self.now)) }
     {
         let world = self.world;
         world.shape();
@@ -140,7 +147,8 @@ impl<'a, O: SeqObject> Log<'a, O> {
     ///
     /// An `Err` says that memory was refused.
     pub fn cells_forward(&self, alloc: Global) -> Result<Vec<CellId>, AllocError>
-        ensures { IfOk result (λ cells. map (name_in (world_of self.now)) cells.items ≡ Anchor ∷ chain (world_of self.now)) }
+        ensures { IfOk result (λ cells. map (name_in (world_of self.now)) cells.items
+            ≡ Anchor ∷ chain (world_of self.now)) }
     {
         let world = self.world;
         world.shape();
@@ -177,8 +185,10 @@ impl<'a, O: SeqObject> Log<'a, O> {
     /// where it isn't settled yet, or the list has no such entry.
     pub fn state_at(&self, place: u64) -> Option<&O::State>
         ensures settled { option_copied result ≡ state_settled_at (world_of self.now) place }
-        ensures folded { IfSome result (λ state. (start : O.State) → new_of (world_of self.now).memory Anchor ≡ Some (start, None)
-            → state.now ≡ state_after (O.sequential self.now.object) start (take place (invocations_of (world_of self.now)))) }
+        ensures folded { IfSome result (λ state. (start : O.State)
+            → new_of (world_of self.now).memory Anchor ≡ Some (start, None)
+            → state.now ≡ state_after (O.sequential self.now.object) start
+            (take place (invocations_of (world_of self.now)))) }
     {
         let world = self.world;
         world.shape();
@@ -201,7 +211,8 @@ impl<'a, O: SeqObject> Log<'a, O> {
         requires there { IsSome (cell_of self.now.shared.cells from) }
         requires threaded { 1 ≤ seq_of (world_of self.now).memory (name_in (world_of self.now) from) }
         ensures first { IfOk result (λ cells. slice_get cells.items 0 ≡ Some from) }
-        ensures reversed { IfOk result (λ cells. reverse (map (name_in (world_of self.now)) cells.items) ≡ take (length cells.items) (Anchor ∷ chain (world_of self.now))) }
+        ensures reversed { IfOk result (λ cells. reverse (map (name_in (world_of self.now)) cells.items)
+            ≡ take (length cells.items) (Anchor ∷ chain (world_of self.now))) }
     {
         let world = self.world;
         world.shape();

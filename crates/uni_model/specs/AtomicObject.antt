@@ -1,5 +1,6 @@
 -- The atomic object: a machine that knows no list of cells, no helping, no number and no trim.
-use Rattle.std.specs.Prelude.{◌≡◌, ℕ, ◌+◌, ◌==◌, if◌then◌else◌, List, [], ◌∷◌, ◌++◌, Option, None, Some, map, slice_get, Contains}
+use Rattle.std.specs.Prelude.{◌≡◌, ℕ, ◌+◌, ◌==◌, if◌then◌else◌, List, [], ◌∷◌, ◌++◌, Option, None, Some}
+use Rattle.std.specs.Prelude.{map, slice_get, Contains}
 use Rattle.seq_object.specs.Sequential.{Sequential}
 use Rattle.seq_object.specs.History.{response_at}
 
@@ -36,7 +37,10 @@ abbrev pub Accepts : {S I R : Type 0} → Sequential S I R → Atomic S I → Ac
 -- a process begins a call only where it has none open, with its next number
 Accepts object a (Invoke p k i) b =
     (a.open_call p ≡ None) × (a.next_nth p ≡ k)
-    × (b ≡ record a { open_call = set_at a.open_call p (Some (record { process = p; nth = k; inv = i })); next_nth = set_at a.next_nth p (k + 1) })
+    × (b ≡ record a {
+      open_call = set_at a.open_call p (Some (record { process = p; nth = k; inv = i }));
+      next_nth = set_at a.next_nth p (k + 1);
+    })
 -- an open call takes effect once, after all that took effect before
 Accepts object a (Linearize c) b =
     (a.open_call c.process ≡ Some c) × (¬ (Contains a.agreed c))

@@ -34,4 +34,5 @@ pub record Entry (I R : Type 0) : Type 0 where
 abbrev pub entries_from : {S I R : Type 0} → Memory S I R → (number : ℕ) → List Name → List (Entry I R)
 entries_from m number [] = []
 entries_from m number (x ∷ xs) =
-    option_map_or (λ call. record { number = number; call = call; response = response_in m x } ∷ entries_from m (number + 1) xs) (invoked_at m x) []
+    option_map_or (λ call. record { number = number; call = call; response = response_in m x } ∷ entries_from m (number + 1) xs)
+    (invoked_at m x) []

@@ -16,7 +16,8 @@ pub record Effect (S I R : Type 0) : Type 0 where
   pub stage : Option Stage
 
 -- the step of a process whose cell is mine, where its place contains v in the memory m
-abbrev pub effect_of : {S I R : Type 0} → Sequential S I R → (n : ℕ) → (mine : Name) → Stage → (v : Content S I R) → Memory S I R → Effect S I R
+abbrev pub effect_of : {S I R : Type 0} → Sequential S I R → (n : ℕ) → (mine : Name) → Stage → (v : Content S I R)
+    → Memory S I R → Effect S I R
 effect_of object n mine stage v m = record { content = content_after object mine stage v m; stage = stage_after n mine stage v }
 
 -- the next step of a process whose call is pending

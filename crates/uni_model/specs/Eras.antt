@@ -1,5 +1,6 @@
 -- Runs of several eras: what the end of an era leaves, and what the joined log is.
-use Rattle.std.specs.Prelude.{◌≡◌, ◌≢◌, ℕ, ◌+◌, ◌<◌, ◌≤◌, List, map, length, slice_get, take, None, Some, IsSome}
+use Rattle.std.specs.Prelude.{◌≡◌, ◌≢◌, ℕ, ◌+◌, ◌<◌, ◌≤◌, List, map, length, slice_get, take, None, Some}
+use Rattle.std.specs.Prelude.{IsSome}
 use Rattle.seq_object.specs.Sequential.{Sequential}
 use Rattle.seq_object.specs.History.{state_after, IsLegal}
 use Rattle.uni_model.specs.Places.{seq_of, new_of}
@@ -37,7 +38,11 @@ module _ {S I R : Type 0} (object : Sequential S I R) where
   -- and the number of its last cell. Each process's next call is its first one of the new era. All else stays.
   abbrev pub EraLeaves : WorldOf S I R → (n : ℕ) → Type 0
   EraLeaves w n = Invariant object w → IsQuiescent w → (start : S) → new_of w.memory Anchor ≡ Some (start, None)
-      → world_after_era w n ≡ record w { n = n; first = w.begun; memory = anchor_memory (state_after object start (invocations_of w)) (seq_of w.memory Anchor + length (log w)) }
+      → world_after_era w n ≡ record w {
+        n = n;
+        first = w.begun;
+        memory = anchor_memory (state_after object start (invocations_of w)) (seq_of w.memory Anchor + length (log w));
+      }
 
   -- After a run from the opening, that is the state after all calls of the joined log, and the number of its last entry.
   abbrev pub EraOfRunLeaves : (n : ℕ) → (start : S) → (number : ℕ) → List (Event I) → (next_n : ℕ) → Type 0
@@ -45,12 +50,17 @@ module _ {S I R : Type 0} (object : Sequential S I R) where
       let joined = log_of_run object (opened_world n start number) events in
       let w = world_after_all object (opened_world n start number) events in
       1 ≤ number → AreAccepted object (opened_world n start number) events → IsQuiescent w
-      → world_after_era w next_n ≡ record w { n = next_n; first = w.begun; memory = anchor_memory (state_after object start (map (λ e. e.call.inv) joined)) (number + length joined) }
+      → world_after_era w next_n ≡ record w {
+        n = next_n;
+        first = w.begun;
+        memory = anchor_memory (state_after object start (map (λ e. e.call.inv) joined)) (number + length joined);
+      }
 
   -- The joined log of a run from the opening is legal, has no call twice, and numbers its entries by one through all eras.
   abbrev pub JoinsLegalLogs : (n : ℕ) → (start : S) → (number : ℕ) → List (Event I) → Type 0
   JoinsLegalLogs n start number events =
-      1 ≤ number → AreAccepted object (opened_world n start number) events → IsJoinedLog object start number (log_of_run object (opened_world n start number) events)
+      1 ≤ number → AreAccepted object (opened_world n start number) events
+      → IsJoinedLog object start number (log_of_run object (opened_world n start number) events)
 
   -- The joined log only grows: that of each prefix of the events is a prefix of that of all, but for a response that is missing in
   -- its last entry.

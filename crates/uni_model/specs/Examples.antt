@@ -1,5 +1,6 @@
 -- Worked examples: what the definitions compute over a queue of numbers.
-use Rattle.std.specs.Prelude.{◌≡◌, refl, ℕ, zero, suc, ◌+◌, List, [], ◌∷◌, ◌++◌, length, take, Option, None, Some, map}
+use Rattle.std.specs.Prelude.{◌≡◌, refl, ℕ, zero, suc, ◌+◌, List, [], ◌∷◌, ◌++◌, length, take, Option, None, Some}
+use Rattle.std.specs.Prelude.{map}
 use Rattle.seq_object.specs.Sequential.{Sequential}
 use Rattle.uni_model.specs.Places.{Name, seq_of, new_of, head_of, head_seq}
 use Rattle.uni_model.specs.Places.Name.{Anchor, Of}
@@ -220,7 +221,8 @@ row_again-log : log (run 2 row_again) ≡ entry 4 0 1 (Enq 2) Ok ∷ []
 unfolding row_again
 row_again-log = refl
 
-row_again-joined : log_of_run queue (opened_world 2 [] 1) row_again ≡ entry 2 0 0 (Enq 1) Ok ∷ entry 3 1 0 Deq (Value 1) ∷ entry 4 0 1 (Enq 2) Ok ∷ []
+row_again-joined : log_of_run queue (opened_world 2 [] 1) row_again
+    ≡ entry 2 0 0 (Enq 1) Ok ∷ entry 3 1 0 Deq (Value 1) ∷ entry 4 0 1 (Enq 2) Ok ∷ []
 unfolding row_again
 row_again-joined = refl
 
@@ -282,7 +284,8 @@ trimmed-observed : observed_in queue (opened_world 2 [] 1) (trimmed 16)
 unfolding trimmed
 trimmed-observed = refl
 
-untrimmed-observed : observed_in queue (opened_world 2 [] 1) (without_trims (trimmed 16)) ≡ observed_in queue (opened_world 2 [] 1) (trimmed 16)
+untrimmed-observed : observed_in queue (opened_world 2 [] 1) (without_trims (trimmed 16))
+    ≡ observed_in queue (opened_world 2 [] 1) (trimmed 16)
 unfolding trimmed
 untrimmed-observed = refl
 
@@ -310,7 +313,8 @@ unfolding trimmed
 trimmed-returned = (refl, refl)
 
 -- the counts are the same, also after the prefix that ends with the trim
-trimmed-counts : ((run 2 (trimmed 16)).begun ≡ (run 2 (untrimmed 16)).begun) × ((run 2 (trimmed 16)).steps 0 ≡ (run 2 (untrimmed 16)).steps 0)
+trimmed-counts : ((run 2 (trimmed 16)).begun ≡ (run 2 (untrimmed 16)).begun)
+    × ((run 2 (trimmed 16)).steps 0 ≡ (run 2 (untrimmed 16)).steps 0)
     × ((run 2 (trimmed 16)).turns 0 ≡ (run 2 (untrimmed 16)).turns 0)
 unfolding trimmed untrimmed
 trimmed-counts = (refl, refl, refl)

@@ -4,7 +4,8 @@ use Rattle.seq_object.specs.Sequential.{Sequential}
 use Rattle.uni_model.specs.Places.{Name, Memory, announce_of, head_of, head_seq, seq_of}
 use Rattle.uni_model.specs.Places.Name.{Anchor}
 use Rattle.uni_model.specs.Stages.{Stage, Pending}
-use Rattle.uni_model.specs.Stages.Stage.{Announce, ScanHead, ScanSeq, WriteScan, Test, ReadAnnounce, ReadHelpSeq, DecideAfter, DecideNew, WriteBefore, WriteSeq, WriteHead, Finish}
+use Rattle.uni_model.specs.Stages.Stage.{Announce, ScanHead, ScanSeq, WriteScan, Test, ReadAnnounce, ReadHelpSeq, DecideAfter, DecideNew}
+use Rattle.uni_model.specs.Stages.Stage.{WriteBefore, WriteSeq, WriteHead, Finish}
 use Rattle.uni_model.specs.Worlds.{WorldOf}
 use Rattle.uni_model.specs.Invariant.{IsPast, IsSound}
 
@@ -62,7 +63,8 @@ OfConsidered _ Holds = Unit {0}
 
 -- Of p's pending call: no number whose remainder is p, of a cell that another one is linked after, is past what p's scan
 -- finds, as long as mine isn't linked; and mine gets a number at most n + 1 past it.
-pub record IsHelped {S I R : Type 0} (m : Memory S I R) (num : Name → ℕ) (last n p : ℕ) (mine : Name) (stage : Stage) (turns : ℕ) : Type 0 where
+pub record IsHelped {S I R : Type 0} (m : Memory S I R) (num : Name → ℕ) (last n p : ℕ) (mine : Name) (stage : Stage)
+    (turns : ℕ) : Type 0 where
   pub announced : Announces m p mine stage
   pub own_head : CountsOwnHead m p stage
   pub ahead : IsAhead num mine stage turns
@@ -72,7 +74,8 @@ pub record IsHelped {S I R : Type 0} (m : Memory S I R) (num : Name → ℕ) (la
 
 -- What a process may link after the cell with the number s, and p's pending call: x isn't p's cell before p announces it; and
 -- where it is p's turn to be helped and x is another cell, p's scan finds s.
-pub record IsFair {S I R : Type 0} (m : Memory S I R) (num : Name → ℕ) (n p : ℕ) (mine : Name) (stage : Stage) (turns s : ℕ) (x : Name) : Type 0 where
+pub record IsFair {S I R : Type 0} (m : Memory S I R) (num : Name → ℕ) (n p : ℕ) (mine : Name) (stage : Stage) (turns s : ℕ)
+    (x : Name) : Type 0 where
   pub unknown : stage ≡ Announce → x ≢ mine
   pub help : num mine ≡ 0 → x ≢ mine → s % n ≡ p → Finds m n stage turns s
 

@@ -1,5 +1,6 @@
 -- What a run of the construction is as a history of the atomic object.
-use Rattle.std.specs.Prelude.{◌≡◌, ℕ, ◌+◌, List, [], ◌∷◌, ◌++◌, Option, None, Some, map, drop, length, option_and_then}
+use Rattle.std.specs.Prelude.{◌≡◌, ℕ, ◌+◌, List, [], ◌∷◌, ◌++◌, Option, None, Some, map, drop, length}
+use Rattle.std.specs.Prelude.{option_and_then}
 use Rattle.std.specs.Option.{option_map_or}
 use Rattle.seq_object.specs.Sequential.{Sequential}
 use Rattle.seq_object.specs.History.{Call as Answered}
@@ -70,8 +71,10 @@ history_of object w (e ∷ es) = acts_of object w e ++ history_of object (world_
 
 -- A run from w shows this atomic object, from a state on: its calls are those of all eras, and its open calls and next numbers
 -- are those of the last world.
-pub record RunShows {S I R : Type 0} (object : Sequential S I R) (s : S) (w : WorldOf S I R) (events : List (Event I)) (a : Atomic S I) : Type 0 where
+pub record RunShows {S I R : Type 0} (object : Sequential S I R) (s : S) (w : WorldOf S I R) (events : List (Event I))
+    (a : Atomic S I) : Type 0 where
   pub start : a.start ≡ s
   pub agreed : map (λ e. e.call) (log_of_run object w events) ≡ a.agreed
-  pub open_call : (p : ℕ) → open_at (world_after_all object w events).memory ((world_after_all object w events).call p) ≡ a.open_call p
+  pub open_call : (p : ℕ) → open_at (world_after_all object w events).memory ((world_after_all object w events).call p)
+      ≡ a.open_call p
   pub next_nth : (p : ℕ) → (world_after_all object w events).begun p ≡ a.next_nth p

@@ -1,10 +1,12 @@
 -- What every world that is reached keeps, stated over what places contain.
-use Rattle.std.specs.Prelude.{◌≡◌, ℕ, ◌+◌, ◌-◌, ◌<◌, ◌≤◌, ◌%◌, ◌==◌, ◌⊎◌, Option, None, Some, if◌then◌else◌}
+use Rattle.std.specs.Prelude.{◌≡◌, ℕ, ◌+◌, ◌-◌, ◌<◌, ◌≤◌, ◌%◌, ◌==◌, ◌⊎◌, Option, None, Some}
+use Rattle.std.specs.Prelude.{if◌then◌else◌}
 use Rattle.seq_object.specs.Sequential.{Sequential}
 use Rattle.uni_model.specs.Places.{Name, Memory, announce_of, head_of, head_seq, inv_of, seq_of, after_of, new_of, before_of}
 use Rattle.uni_model.specs.Places.Name.{Anchor, Of}
 use Rattle.uni_model.specs.Stages.{Stage, Pending}
-use Rattle.uni_model.specs.Stages.Stage.{Announce, ScanHead, ScanSeq, WriteScan, Test, ReadAnnounce, ReadHelpSeq, DecideAfter, DecideNew, WriteBefore, WriteSeq, WriteHead, Finish}
+use Rattle.uni_model.specs.Stages.Stage.{Announce, ScanHead, ScanSeq, WriteScan, Test, ReadAnnounce, ReadHelpSeq, DecideAfter, DecideNew}
+use Rattle.uni_model.specs.Stages.Stage.{WriteBefore, WriteSeq, WriteHead, Finish}
 use Rattle.uni_model.specs.Worlds.{WorldOf, sum_below, calls_in_era}
 
 -- there is a value
@@ -49,7 +51,8 @@ pub record LeadsBack {S I R : Type 0} (m : Memory S I R) : Type 0 where
 abbrev pub IsCellOf : {S I R : Type 0} → Memory S I R → ℕ → Name → Type 0
 IsCellOf m p x = (k : ℕ) × (x ≡ Of p k) × Has (inv_of m (Of p k))
 
--- The cells are those of the calls that were begun in this era, each of which has one. Each is threaded, or its call is pending. The calls of one process are linked
+-- The cells are those of the calls that were begun in this era, each of which has one. Each is threaded, or its call is pending. The calls
+-- of one process are linked
 -- in their order.
 pub record AreCalls {S I R : Type 0} (w : WorldOf S I R) (num : Name → ℕ) : Type 0 where
   pub anchor : inv_of w.memory Anchor ≡ None
@@ -58,8 +61,10 @@ pub record AreCalls {S I R : Type 0} (w : WorldOf S I R) (num : Name → ℕ) : 
   pub first : (p : ℕ) → w.first p ≤ w.begun p
   pub made : (p k : ℕ) → w.first p ≤ k → k < w.begun p → Has (inv_of w.memory (Of p k))
   pub process : (p : ℕ) (c : Pending) → w.call p ≡ Some c → p < w.n
-  pub mine : (p : ℕ) (c : Pending) → w.call p ≡ Some c → (k : ℕ) × (c.mine ≡ Of p k) × (w.begun p ≡ k + 1) × Has (inv_of w.memory (Of p k))
-  pub threaded : (p k : ℕ) → Has (inv_of w.memory (Of p k)) → (1 ≤ seq_of w.memory (Of p k)) ⊎ ((c : Pending) × (w.call p ≡ Some c) × (c.mine ≡ Of p k))
+  pub mine : (p : ℕ) (c : Pending) → w.call p ≡ Some c
+      → (k : ℕ) × (c.mine ≡ Of p k) × (w.begun p ≡ k + 1) × Has (inv_of w.memory (Of p k))
+  pub threaded : (p k : ℕ) → Has (inv_of w.memory (Of p k))
+      → (1 ≤ seq_of w.memory (Of p k)) ⊎ ((c : Pending) × (w.call p ≡ Some c) × (c.mine ≡ Of p k))
   pub announced : (p : ℕ) → p < w.n → (announce_of w.memory p ≡ Anchor) ⊎ IsCellOf w.memory p (announce_of w.memory p)
   pub head : (p : ℕ) → p < w.n → 1 ≤ head_seq w.memory p
   pub order : (p k j : ℕ) → k < j → 1 ≤ num (Of p k) → 1 ≤ num (Of p j) → num (Of p k) < num (Of p j)
@@ -85,11 +90,14 @@ Stands m num n p mine (ScanSeq q best best_seq h) = (q < n) × HasBest m q best 
 Stands m num n p mine (WriteScan best best_seq) = (1 ≤ best_seq) × (seq_of m best ≡ best_seq)
 Stands m num n p mine (Test c c_seq) = AtHead m p c c_seq
 Stands m num n p mine (ReadAnnounce c c_seq) = AtHead m p c c_seq × IsPast num mine c_seq
-Stands m num n p mine (ReadHelpSeq c c_seq help) = AtHead m p c c_seq × IsPast num mine c_seq × ((help ≡ Anchor) ⊎ IsCellOf m (c_seq % n) help)
-Stands m num n p mine (DecideAfter c c_seq prefer) = AtHead m p c c_seq × IsPast num prefer c_seq × ((prefer ≡ mine) ⊎ IsCellOf m (c_seq % n) prefer)
+Stands m num n p mine (ReadHelpSeq c c_seq help) =
+    AtHead m p c c_seq × IsPast num mine c_seq × ((help ≡ Anchor) ⊎ IsCellOf m (c_seq % n) help)
+Stands m num n p mine (DecideAfter c c_seq prefer) =
+    AtHead m p c c_seq × IsPast num prefer c_seq × ((prefer ≡ mine) ⊎ IsCellOf m (c_seq % n) prefer)
 Stands m num n p mine (DecideNew c c_seq d) = AtHead m p c c_seq × (after_of m c ≡ Some d)
 Stands m num n p mine (WriteBefore c c_seq d) = AtHead m p c c_seq × (after_of m c ≡ Some d) × Has (new_of m d)
-Stands m num n p mine (WriteSeq c c_seq d) = AtHead m p c c_seq × (after_of m c ≡ Some d) × Has (new_of m d) × (before_of m d ≡ Some c)
+Stands m num n p mine (WriteSeq c c_seq d) =
+    AtHead m p c c_seq × (after_of m c ≡ Some d) × Has (new_of m d) × (before_of m d ≡ Some c)
 Stands m num n p mine (WriteHead c c_seq d) = AtHead m p c c_seq × (after_of m c ≡ Some d) × (seq_of m d ≡ c_seq + 1)
 Stands m num n p mine (Finish c_seq mine_seq) = (head_seq m p ≡ c_seq) × (1 ≤ mine_seq) × (seq_of m mine ≡ mine_seq)
 

@@ -1,5 +1,6 @@
 -- The laws over every list of accepted events.
-use Rattle.std.specs.Prelude.{◌≡◌, ◌≢◌, ◌↔◌, ℕ, ◌+◌, ◌≤◌, List, length, slice_get, take, Contains, Some, IsSome}
+use Rattle.std.specs.Prelude.{◌≡◌, ◌≢◌, ◌↔◌, ℕ, ◌+◌, ◌≤◌, List, length, slice_get, take, Contains, Some}
+use Rattle.std.specs.Prelude.{IsSome}
 use Rattle.seq_object.specs.Sequential.{Sequential}
 use Rattle.uni_model.specs.Places.{seq_of}
 use Rattle.uni_model.specs.Places.Name.{Anchor, Of}
@@ -22,7 +23,8 @@ use Rattle.uni_model.specs.Settled.{Grows, ChangesOnly}
 -- linked, the last number is at most n past the floor.
 pub record IsLinkedSoon {S I R : Type 0} (w : WorldOf S I R) (p k floor : ℕ) : Type 0 where
   pub linked : (place : ℕ) → slice_get (chain w) place ≡ Some (Of p k) → seq_of w.memory Anchor + place + 1 ≤ floor + w.n + 1
-  pub waiting : (c : Pending) → w.call p ≡ Some c → c.mine ≡ Of p k → ¬ (Contains (chain w) (Of p k)) → seq_of w.memory Anchor + length (chain w) ≤ floor + w.n
+  pub waiting : (c : Pending) → w.call p ≡ Some c → c.mine ≡ Of p k → ¬ (Contains (chain w) (Of p k))
+      → seq_of w.memory Anchor + length (chain w) ≤ floor + w.n
 
 module _ {S I R : Type 0} (object : Sequential S I R) where
   -- the world has been reached from an opening
@@ -41,7 +43,9 @@ module _ {S I R : Type 0} (object : Sequential S I R) where
 
   -- An accepted event keeps the invariant with the facts of helping, and the counts of own steps.
   abbrev pub KeepsHelping : WorldOf S I R → Event I → Type 0
-  KeepsHelping w e = IsAccepted w e → HelpingInvariant object w → CountsSteps w → HelpingInvariant object (world_after object w e) × CountsSteps (world_after object w e)
+  KeepsHelping w e =
+      IsAccepted w e → HelpingInvariant object w → CountsSteps w
+      → HelpingInvariant object (world_after object w e) × CountsSteps (world_after object w e)
 
   -- An accepted event that ends no era leaves what is settled.
   abbrev pub KeepsSettled : WorldOf S I R → Event I → Type 0
@@ -69,7 +73,8 @@ module _ {S I R : Type 0} (object : Sequential S I R) where
 
   -- every opening has the invariant with the facts of helping, and the counts
   abbrev pub OpensSound : (n : ℕ) → (start : S) → (number : ℕ) → Type 0
-  OpensSound n start number = 1 ≤ number → HelpingInvariant object (opened_world n start number) × CountsSteps (opened_world {I = I} {R = R} n start number)
+  OpensSound n start number =
+      1 ≤ number → HelpingInvariant object (opened_world n start number) × CountsSteps (opened_world {I = I} {R = R} n start number)
 
   -- what a step does: it touches the one place that its process's stage names, and changes no other process
   abbrev pub StepIsLocal : WorldOf S I R → ℕ → Pending → Type 0
@@ -93,16 +98,20 @@ module _ {S I R : Type 0} (object : Sequential S I R) where
 
   -- after each prefix of these events, whichever eras end in it, each call that has a floor then is linked soon
   abbrev pub LinkedSoonAlong : WorldOf S I R → List (Event I) → Type 0
-  LinkedSoonAlong w es = (j p k floor : ℕ) → floor_of object (Of p k) w (take j es) ≡ Some floor → IsLinkedSoon (world_after_all object w (take j es)) p k floor
+  LinkedSoonAlong w es =
+      (j p k floor : ℕ) → floor_of object (Of p k) w (take j es) ≡ Some floor
+      → IsLinkedSoon (world_after_all object w (take j es)) p k floor
 
   -- in a run from the opening, each call that has a floor is linked soon
   abbrev pub LinksSoon : (n : ℕ) → (start : S) → (number : ℕ) → List (Event I) → Type 0
   LinksSoon n start number events =
-      1 ≤ number → AreAccepted object (opened_world n start number) events → (p k floor : ℕ) → floor_of object (Of p k) (opened_world n start number) events ≡ Some floor
+      1 ≤ number → AreAccepted object (opened_world n start number) events → (p k floor : ℕ)
+      → floor_of object (Of p k) (opened_world n start number) events ≡ Some floor
       → IsLinkedSoon (world_after_all object (opened_world n start number) events) p k floor
 
   -- in a run from the opening, a pending call has a floor exactly where it has taken the step that announces it
   abbrev pub HasFloorOnceAnnounced : (n : ℕ) → (start : S) → (number : ℕ) → List (Event I) → Type 0
   HasFloorOnceAnnounced n start number events =
-      1 ≤ number → AreAccepted object (opened_world n start number) events → (p : ℕ) (c : Pending) → (world_after_all object (opened_world n start number) events).call p ≡ Some c
+      1 ≤ number → AreAccepted object (opened_world n start number) events → (p : ℕ) (c : Pending)
+      → (world_after_all object (opened_world n start number) events).call p ≡ Some c
       → IsSome (floor_of object c.mine (opened_world n start number) events) ↔ (c.stage ≢ Announce)

@@ -29,7 +29,8 @@ module _ {S I R : Type 0} (object : Sequential S I R) where
   -- this order.
   abbrev pub IsLinearizedAs : S → List (Act I R) → List (Invoked I) → Type 0
   IsLinearizedAs start history order =
-      (acts : List (Act I R)) × (b : Atomic S I) × (observed acts ≡ history) × AcceptsAll object (at_start start) acts b × (b.agreed ≡ order)
+      (acts : List (Act I R)) × (b : Atomic S I) × (observed acts ≡ history) × AcceptsAll object (at_start start) acts b
+      × (b.agreed ≡ order)
 
   -- an observed history is linearizable: it is so in some order
   abbrev pub IsLinearizableHistory : S → List (Act I R) → Type 0
@@ -38,4 +39,5 @@ module _ {S I R : Type 0} (object : Sequential S I R) where
   -- what is observed of every run from the opening is linearizable
   abbrev pub ObservesLinearizable : (n : ℕ) → (start : S) → (number : ℕ) → List (Event I) → Type 0
   ObservesLinearizable n start number events =
-      1 ≤ number → AreAccepted object (opened_world n start number) events → IsLinearizableHistory start (observed_in object (opened_world n start number) events)
+      1 ≤ number → AreAccepted object (opened_world n start number) events
+      → IsLinearizableHistory start (observed_in object (opened_world n start number) events)

@@ -1,6 +1,7 @@
 -- The one list of a world, told by the places of its chain: the anchor in front, and at each place a cell with its number, its
 -- value and the way back.
-use Rattle.std.specs.Prelude.{◌≡◌, ℕ, ◌+◌, ◌<◌, ◌≤◌, List, [], ◌∷◌, Option, None, Some, option_map, map, length, slice_get, take, IsSome, refl}
+use Rattle.std.specs.Prelude.{◌≡◌, ℕ, ◌+◌, ◌<◌, ◌≤◌, List, [], ◌∷◌, Option, None, Some, option_map, map, length}
+use Rattle.std.specs.Prelude.{slice_get, take, IsSome, refl}
 use Rattle.seq_object.specs.Sequential.{Sequential, counter}
 use Rattle.seq_object.specs.History.{state_after, response_at, IsLegal}
 use Rattle.uni_model.specs.Places.{Name, seq_of, after_of, new_of, before_of}
@@ -12,7 +13,8 @@ use Rattle.uni_model.specs.Invariant.{Has}
 
 -- the state after the invocation at a place, with the response to it; nothing where the list ends before it
 abbrev pub value_at : {S I R : Type 0} → Sequential S I R → S → List I → (place : ℕ) → Option (S × Option R)
-value_at object start invs place = option_map (λ r. (state_after object start (take (place + 1) invs), Some r)) (response_at object start invs place)
+value_at object start invs place =
+    option_map (λ r. (state_after object start (take (place + 1) invs), Some r)) (response_at object start invs place)
 
 -- The cells from the anchor on are one list: no cell stands in it twice, and nothing comes after its last. A cell at place j of
 -- the chain has the number anchor's + j + 1, once that is written, as it is in all but perhaps the last; no other cell than
@@ -20,14 +22,18 @@ value_at object start invs place = option_map (λ r. (state_after object start (
 -- the anchor's state on; a threaded cell has it settled, and leads back to the cell in front of it.
 pub record IsOneList {S I R : Type 0} (object : Sequential S I R) (w : WorldOf S I R) (start : S) : Type 0 where
   pub anchor : new_of w.memory Anchor ≡ Some (start, None)
-  pub once : (i j : ℕ) (x : Name) → slice_get (Anchor ∷ chain w) i ≡ Some x → slice_get (Anchor ∷ chain w) j ≡ Some x → i ≡ j
+  pub once : (i j : ℕ) (x : Name) → slice_get (Anchor ∷ chain w) i ≡ Some x → slice_get (Anchor ∷ chain w) j ≡ Some x
+      → i ≡ j
   pub end : after_of w.memory (last_cell w) ≡ None
-  pub number : (j : ℕ) (x : Name) → slice_get (chain w) j ≡ Some x → 1 ≤ seq_of w.memory x → seq_of w.memory x ≡ seq_of w.memory Anchor + j + 1
+  pub number : (j : ℕ) (x : Name) → slice_get (chain w) j ≡ Some x → 1 ≤ seq_of w.memory x
+      → seq_of w.memory x ≡ seq_of w.memory Anchor + j + 1
   pub written : (j : ℕ) (x : Name) → slice_get (chain w) j ≡ Some x → j + 1 < length (chain w) → 1 ≤ seq_of w.memory x
   pub only : (x : Name) → 1 ≤ seq_of w.memory x → (j : ℕ) × (slice_get (Anchor ∷ chain w) j ≡ Some x)
   pub settled : (j : ℕ) (x : Name) → slice_get (chain w) j ≡ Some x → 1 ≤ seq_of w.memory x → Has (new_of w.memory x)
-  pub value : (j : ℕ) (x : Name) (v : S × Option R) → slice_get (chain w) j ≡ Some x → new_of w.memory x ≡ Some v → value_at object start (invocations_of w) j ≡ Some v
-  pub before : (j : ℕ) (x : Name) → slice_get (chain w) j ≡ Some x → 1 ≤ seq_of w.memory x → before_of w.memory x ≡ slice_get (Anchor ∷ chain w) j
+  pub value : (j : ℕ) (x : Name) (v : S × Option R) → slice_get (chain w) j ≡ Some x → new_of w.memory x ≡ Some v
+      → value_at object start (invocations_of w) j ≡ Some v
+  pub before : (j : ℕ) (x : Name) → slice_get (chain w) j ≡ Some x → 1 ≤ seq_of w.memory x
+      → before_of w.memory x ≡ slice_get (Anchor ∷ chain w) j
 
 -- the same of a world whose start state isn't named
 abbrev pub HasOneList : {S I R : Type 0} → Sequential S I R → WorldOf S I R → Type 0

@@ -16,11 +16,14 @@ calls_among p entries = count_by (λ e. e.call.process == p) entries
 -- of the entry of its call.
 pub record HoldsResponses {I R : Type 0} (joined : List (Entry I R)) (acts : List (Act I R)) : Type 0 where
   pub numbered : (i : ℕ) (e : Entry I R) → slice_get joined i ≡ Some e → e.call.nth ≡ calls_among e.call.process (take i joined)
-  pub once : (i j p k : ℕ) (r s : R) → slice_get acts i ≡ Some (Respond p k r) → slice_get acts j ≡ Some (Respond p k s) → i ≡ j
-  pub logged : (i p k : ℕ) (r : R) → slice_get acts i ≡ Some (Respond p k r) → (place : ℕ) × (stands : StandsAt joined p k place) × (stands.entry.response ≡ Some r)
+  pub once : (i j p k : ℕ) (r s : R) → slice_get acts i ≡ Some (Respond p k r) → slice_get acts j ≡ Some (Respond p k s)
+      → i ≡ j
+  pub logged : (i p k : ℕ) (r : R) → slice_get acts i ≡ Some (Respond p k r)
+      → (place : ℕ) × (stands : StandsAt joined p k place) × (stands.entry.response ≡ Some r)
 
 -- the joined log of a run from the opening holds the responses of its history so
-abbrev pub LogsResponses : {S I R : Type 0} → Sequential S I R → (n : ℕ) → (start : S) → (number : ℕ) → List (Event I) → Type 0
+abbrev pub LogsResponses : {S I R : Type 0} → Sequential S I R → (n : ℕ) → (start : S) → (number : ℕ) → List (Event I)
+    → Type 0
 LogsResponses object n start number events =
     1 ≤ number → AreAccepted object (opened_world n start number) events
     → HoldsResponses (log_of_run object (opened_world n start number) events) (history_of object (opened_world n start number) events)

@@ -46,4 +46,5 @@ SeesSettled w p = IfSome (w.call p) (λ call. AreSettledPlaces w.memory (places_
 abbrev pub SeesOnly : {S I R : Type 0} → Sequential S I R → Memory S I R → Memory S I R → Name → Stage → Type 0
 SeesOnly {S} {I} {R} object m m' mine stage =
     AllByRecursion (λ place. m' place ≡ m place) (places_beside mine stage)
-    → ((v : Content S I R) → content_after object mine stage v m' ≡ content_after object mine stage v m) × (response_after mine stage m' ≡ response_after mine stage m)
+    → ((v : Content S I R) → content_after object mine stage v m' ≡ content_after object mine stage v m)
+    × (response_after mine stage m' ≡ response_after mine stage m)

@@ -1,5 +1,6 @@
 -- The transition of each kind of step: the one place that it touches, and what it does there (Herlihy 1991, section 4).
-use Rattle.std.specs.Prelude.{ℕ, ◌+◌, ◌%◌, List, [], ◌∷◌, Option, None, Some, if◌then◌else◌, ◌==◌, nat_lt, unwrap_or}
+use Rattle.std.specs.Prelude.{ℕ, ◌+◌, ◌%◌, List, [], ◌∷◌, Option, None, Some, if◌then◌else◌, ◌==◌, nat_lt}
+use Rattle.std.specs.Prelude.{unwrap_or}
 use Rattle.std.specs.Option.{option_or}
 use Rattle.seq_object.specs.Sequential.{Sequential}
 use Rattle.uni_model.specs.Places.{Name, Place, Content, Memory, name_in, number_in, link_in, settled_in, inv_of, new_of}
@@ -8,7 +9,8 @@ use Rattle.uni_model.specs.Places.Name.{Anchor}
 use Rattle.uni_model.specs.Places.Place.{Announced, HeadOf, InvOf, SeqOf, AfterOf, NewOf, BeforeOf}
 use Rattle.uni_model.specs.Places.Content.{CellName, Number, Link, Settled}
 use Rattle.uni_model.specs.Stages.{Stage}
-use Rattle.uni_model.specs.Stages.Stage.{Announce, ScanHead, ScanSeq, WriteScan, Test, ReadAnnounce, ReadHelpSeq, DecideAfter, DecideNew, WriteBefore, WriteSeq, WriteHead, Finish}
+use Rattle.uni_model.specs.Stages.Stage.{Announce, ScanHead, ScanSeq, WriteScan, Test, ReadAnnounce, ReadHelpSeq, DecideAfter, DecideNew}
+use Rattle.uni_model.specs.Stages.Stage.{WriteBefore, WriteSeq, WriteHead, Finish}
 
 -- the one place that the next step of process p touches, of n processes
 abbrev pub place_of : (n p : ℕ) → (mine : Name) → Stage → Place
@@ -64,7 +66,8 @@ stage_after n mine (WriteHead c c_seq d) v = Some (Test d (c_seq + 1))
 stage_after n mine (Finish c_seq mine_seq) v = None
 
 -- What the step writes to its place, which contained v; where it only reads, that is v. Of two proposals the first stands.
-abbrev pub content_after : {S I R : Type 0} → Sequential S I R → (mine : Name) → Stage → (v : Content S I R) → Memory S I R → Content S I R
+abbrev pub content_after : {S I R : Type 0} → Sequential S I R → (mine : Name) → Stage → (v : Content S I R) → Memory S I R
+    → Content S I R
 content_after object mine Announce v m = CellName mine
 content_after object mine (WriteScan best best_seq) v m = CellName best
 content_after object mine (DecideAfter c c_seq prefer) v m = Link (option_or (link_in v) (Some prefer))

@@ -15,11 +15,13 @@ module _ {S I R : Type 0} (object : Sequential S I R) where
     -- what is observed, calls and responses, is a linearizable history of the object from this state (Herlihy and Wing 1990)
     pub linearizable : IsLinearizableHistory object start (observed_in object (opened_world n start number) events)
     -- the stronger law: it is so in the order of the joined log
-    pub agreed : IsLinearizedAs object start (observed_in object (opened_world n start number) events) (map (λ e. e.call) (log_of_run object (opened_world n start number) events))
+    pub agreed : IsLinearizedAs object start (observed_in object (opened_world n start number) events)
+        (map (λ e. e.call) (log_of_run object (opened_world n start number) events))
     -- after each prefix of the events, a process whose call is pending can take its next step
     pub never_blocks : (j p : ℕ) → NeverBlocks (world_after_all object (opened_world n start number) (take j events)) p
     -- within each prefix, a call has returned at the latest at the (10n + 12)th step of its process since its begin
-    pub wait_free : (j : ℕ) (before later : List (Event I)) (p : ℕ) (i : I) → take j events ≡ before ++ Call p i ∷ later → AreNoCallsOf p later
+    pub wait_free : (j : ℕ) (before later : List (Event I)) (p : ℕ) (i : I) → take j events ≡ before ++ Call p i ∷ later
+        → AreNoCallsOf p later
         → IsWaitFree object (world_after_all object (opened_world n start number) before) p i later
     -- after each prefix, each process's latest call is within the bound of turns and own steps
     pub bounded : (j : ℕ) → IsBounded (world_after_all object (opened_world n start number) (take j events))
@@ -28,4 +30,5 @@ module _ {S I R : Type 0} (object : Sequential S I R) where
 
   -- every run from the opening is so
   abbrev pub RunIsUniversal : (n : ℕ) → (start : S) → (number : ℕ) → List (Event I) → Type 0
-  RunIsUniversal n start number events = 1 ≤ number → AreAccepted object (opened_world n start number) events → IsUniversal n start number events
+  RunIsUniversal n start number events =
+      1 ≤ number → AreAccepted object (opened_world n start number) events → IsUniversal n start number events

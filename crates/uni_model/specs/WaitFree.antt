@@ -1,6 +1,7 @@
 -- Wait-freedom as the textbooks state it: a pending process can always take its next step, and its call has returned after a
 -- known number of them, whatever the others do meanwhile.
-use Rattle.std.specs.Prelude.{◌≡◌, refl, ℕ, ◌+◌, ◌≤◌, ◌==◌, Bool, false, List, [], ◌∷◌, Some, None, Contains, count_by, replicate}
+use Rattle.std.specs.Prelude.{◌≡◌, refl, ℕ, ◌+◌, ◌≤◌, ◌==◌, Bool, false, List, [], ◌∷◌, Some, None, Contains}
+use Rattle.std.specs.Prelude.{count_by, replicate}
 use Rattle.seq_object.specs.Sequential.{Sequential}
 use Rattle.uni_model.specs.Stages.{Pending}
 use Rattle.uni_model.specs.Worlds.{WorldOf, Event, world_after_all, IsAccepted, AreAccepted}
@@ -42,7 +43,8 @@ module _ {S I R : Type 0} (object : Sequential S I R) where
 
   -- every call is so that is begun in a world that is reached, whatever is accepted later
   abbrev pub CallIsWaitFree : WorldOf S I R → ℕ → I → List (Event I) → Type 0
-  CallIsWaitFree w p i later = IsReached object w → AreAccepted object w (Call p i ∷ later) → AreNoCallsOf p later → IsWaitFree w p i later
+  CallIsWaitFree w p i later =
+      IsReached object w → AreAccepted object w (Call p i ∷ later) → AreNoCallsOf p later → IsWaitFree w p i later
 
   -- Alone p takes so many further steps, all of which can come, and its call has returned then; with the earlier ones they are at
   -- most 10n + 12.

@@ -1,5 +1,6 @@
 -- Worlds, events, and the replay of a list of events.
-use Rattle.std.specs.Prelude.{◌≡◌, ℕ, zero, suc, ◌+◌, ◌-◌, ◌<◌, ◌≤◌, List, [], ◌∷◌, Option, None, Some, option_map, option_and_then, IsSome}
+use Rattle.std.specs.Prelude.{◌≡◌, ℕ, zero, suc, ◌+◌, ◌-◌, ◌<◌, ◌≤◌, List, [], ◌∷◌, Option, None, Some}
+use Rattle.std.specs.Prelude.{option_map, option_and_then, IsSome}
 use Rattle.std.specs.Option.{option_map_or}
 use Rattle.seq_object.specs.Sequential.{Sequential}
 use Rattle.uni_model.specs.Places.{Name, Memory, memory_with, seq_of, new_of}
@@ -52,7 +53,8 @@ world_after_step object w p (Some call) =
     let place = place_of w.n p call.mine call.stage in
     record w {
       memory = memory_with w.memory place (content_after object call.mine call.stage (w.memory place) w.memory);
-      call = set_at w.call p (option_map (λ k. record { mine = call.mine; stage = k }) (stage_after w.n call.mine call.stage (w.memory place)));
+      call = set_at w.call p (option_map (λ k. record { mine = call.mine; stage = k })
+          (stage_after w.n call.mine call.stage (w.memory place)));
       steps = set_at w.steps p (w.steps p + 1);
       turns = set_at w.turns p (w.turns p + turn_of call.stage (w.memory place));
     }
@@ -74,7 +76,17 @@ anchor_memory s number _ = Link None
 
 -- n processes of which none has called, over a state and a first number
 abbrev pub opened_world : {S I R : Type 0} → ℕ → S → ℕ → WorldOf S I R
-opened_world n s number = record { n = n; memory = anchor_memory s number; call = λ p. None; begun = λ p. 0; first = λ p. 0; among = λ p. 0; steps = λ p. 0; turns = λ p. 0 }
+opened_world n s number =
+    record {
+      n = n;
+      memory = anchor_memory s number;
+      call = λ p. None;
+      begun = λ p. 0;
+      first = λ p. 0;
+      among = λ p. 0;
+      steps = λ p. 0;
+      turns = λ p. 0;
+    }
 
 -- how many calls of a process the present era has
 abbrev pub calls_in_era : {S I R : Type 0} → WorldOf S I R → ℕ → ℕ
@@ -98,7 +110,8 @@ last_cell w = last_of Anchor (chain w)
 -- numbers of calls go on, also those of processes that there aren't then
 abbrev pub world_after_era : {S I R : Type 0} → WorldOf S I R → (n : ℕ) → WorldOf S I R
 world_after_era w n =
-    option_map_or (λ new. record w { n = n; first = w.begun; memory = anchor_memory new.0 (seq_of w.memory (last_cell w)) }) (new_of w.memory (last_cell w)) w
+    option_map_or (λ new. record w { n = n; first = w.begun; memory = anchor_memory new.0 (seq_of w.memory (last_cell w)) })
+    (new_of w.memory (last_cell w)) w
 
 -- an event
 abbrev pub world_after : {S I R : Type 0} → Sequential S I R → WorldOf S I R → Event I → WorldOf S I R

@@ -15,7 +15,9 @@ ghost use Rattle.uni_model.specs.Untrimmed.{TrimsChangeNothing};
 ghost use Rattle.uni_model.specs.Linearizable.{ObservesLinearizable};
 ghost use Rattle.uni_model.specs.WaitFree.{NeverBlocks, CallIsWaitFree, CallEndsAlone};
 ghost use Rattle.uni_model.specs.Universal.{RunIsUniversal};
-ghost use Rattle.uni_model.specs.Laws.{IsReached, KeepsInvariant, KeepsHelping, KeepsSettled, IsAtomic, KeepsLog, KeepsLogAlong, OpensSound, StepIsLocal, SettledStays, Simulates, IsLinearizable, LinksSoon, HasFloorOnceAnnounced};
+ghost use Rattle.uni_model.specs.Laws.{IsReached, KeepsInvariant, KeepsHelping, KeepsSettled, IsAtomic, KeepsLog};
+ghost use Rattle.uni_model.specs.Laws.{KeepsLogAlong, OpensSound, StepIsLocal, SettledStays, Simulates, IsLinearizable};
+ghost use Rattle.uni_model.specs.Laws.{LinksSoon, HasFloorOnceAnnounced};
 
 use seq_object::SeqObject;
 
@@ -40,32 +42,37 @@ pub fn changes_one_place<O: SeqObject>()
 /// Beside its one place a step sees only places that are settled, those that the definitions name
 /// for its stage: what a call asks for, and settled values.
 pub fn step_sees_settled<O: SeqObject>()
-    ensures settled { (object : O) (w : WorldOf O.State O.Inv O.Resp) (p : ℕ) → Invariant (O.sequential object) w → SeesSettled w p }
+    ensures settled { (object : O) (w : WorldOf O.State O.Inv O.Resp) (p : ℕ) → Invariant (O.sequential object) w
+        → SeesSettled w p }
     ensures only { (object : O) (m later : Memory O.State O.Inv O.Resp) (mine : Name) (stage : Stage) →
         SeesOnly (O.sequential object) m later mine stage }
 {}
 
 /// Every opening has the invariant, with the facts of helping and the counts of own steps.
 pub fn opening_is_sound<O: SeqObject>()
-    ensures { (object : O) (n : ℕ) (start : O.State) (number : ℕ) → OpensSound (O.sequential object) n start number }
+    ensures { (object : O) (n : ℕ) (start : O.State) (number : ℕ)
+        → OpensSound (O.sequential object) n start number }
 {}
 
 /// Each accepted event keeps the invariant, whichever world it comes to: a call that is begun, a
 /// step, a trim.
 pub fn event_keeps_invariant<O: SeqObject>()
-    ensures { (object : O) (w : WorldOf O.State O.Inv O.Resp) (e : Event O.Inv) → KeepsInvariant (O.sequential object) w e }
+    ensures { (object : O) (w : WorldOf O.State O.Inv O.Resp) (e : Event O.Inv)
+        → KeepsInvariant (O.sequential object) w e }
 {}
 
 /// Each accepted event keeps the facts of helping and the counts of own steps, by which no call
 /// takes many turns.
 pub fn event_keeps_helping<O: SeqObject>()
-    ensures { (object : O) (w : WorldOf O.State O.Inv O.Resp) (e : Event O.Inv) → KeepsHelping (O.sequential object) w e }
+    ensures { (object : O) (w : WorldOf O.State O.Inv O.Resp) (e : Event O.Inv)
+        → KeepsHelping (O.sequential object) w e }
 {}
 
 /// Each accepted event that ends no era leaves what is settled: a decided `after` or `new`, a
 /// written `seq` or `before`, an invocation.
 pub fn event_keeps_settled<O: SeqObject>()
-    ensures { (object : O) (w : WorldOf O.State O.Inv O.Resp) (e : Event O.Inv) → KeepsSettled (O.sequential object) w e }
+    ensures { (object : O) (w : WorldOf O.State O.Inv O.Resp) (e : Event O.Inv)
+        → KeepsSettled (O.sequential object) w e }
 {}
 
 /// Each accepted event that ends no era is what the atomic object does, from what the world shows
@@ -78,20 +85,24 @@ pub fn event_is_atomic<O: SeqObject>()
 /// after it, but that a response that is missing in its last entry may be there then; and so is the
 /// log after each front of a list of them a front of the log after all.
 pub fn log_only_grows<O: SeqObject>()
-    ensures event { (object : O) (w : WorldOf O.State O.Inv O.Resp) (e : Event O.Inv) → KeepsLog (O.sequential object) w e }
-    ensures events { (object : O) (w : WorldOf O.State O.Inv O.Resp) (es : List (Event O.Inv)) → KeepsLogAlong (O.sequential object) w es }
+    ensures event { (object : O) (w : WorldOf O.State O.Inv O.Resp) (e : Event O.Inv)
+        → KeepsLog (O.sequential object) w e }
+    ensures events { (object : O) (w : WorldOf O.State O.Inv O.Resp) (es : List (Event O.Inv))
+        → KeepsLogAlong (O.sequential object) w es }
 {}
 
 /// The cells of every world that has the invariant are one list: none twice, with their numbers,
 /// their values and the way back.
 pub fn is_one_list<O: SeqObject>()
-    ensures { (object : O) (w : WorldOf O.State O.Inv O.Resp) → Invariant (O.sequential object) w → HasOneList (O.sequential object) w }
+    ensures { (object : O) (w : WorldOf O.State O.Inv O.Resp) → Invariant (O.sequential object) w
+        → HasOneList (O.sequential object) w }
 {}
 
 /// The log of every world that has the invariant is a legal history of the object from the anchor's
 /// state, and only its last entry can lack its response.
 pub fn log_is_legal<O: SeqObject>()
-    ensures { (object : O) (w : WorldOf O.State O.Inv O.Resp) → Invariant (O.sequential object) w → HasLegalLog (O.sequential object) w }
+    ensures { (object : O) (w : WorldOf O.State O.Inv O.Resp) → Invariant (O.sequential object) w
+        → HasLegalLog (O.sequential object) w }
 {}
 
 /// A place that is settled never changes again in its era: a decided `after` or `new`, a written
@@ -129,7 +140,8 @@ pub fn is_linearizable<O: SeqObject>()
 /// after all calls of the joined log, and the number of its last entry.
 pub fn era_leaves_anchor<O: SeqObject>()
     ensures era { (object : O) (w : WorldOf O.State O.Inv O.Resp) (n : ℕ) → EraLeaves (O.sequential object) w n }
-    ensures run { (object : O) (n : ℕ) (start : O.State) (number : ℕ) (events : List (Event O.Inv)) (next_n : ℕ) →
+    ensures run { (object : O) (n : ℕ) (start : O.State) (number : ℕ) (events : List (Event O.Inv))
+        (next_n : ℕ) →
         EraOfRunLeaves (O.sequential object) n start number events next_n }
 {}
 
@@ -215,7 +227,9 @@ pub fn observes_linearizable<O: SeqObject>()
 /// So wherever the others have stopped, the process alone ends its call.
 pub fn is_wait_free<O: SeqObject>()
     ensures steps { (w : WorldOf O.State O.Inv O.Resp) (p : ℕ) → NeverBlocks w p }
-    ensures returns { (object : O) (w : WorldOf O.State O.Inv O.Resp) (p : ℕ) (i : O.Inv) (later : List (Event O.Inv)) →
+    ensures returns { (object : O) (w : WorldOf O.State O.Inv O.Resp) (p : ℕ) (i : O.Inv)
+        (later : List (Event O.Inv)) →
         CallIsWaitFree (O.sequential object) w p i later }
-    ensures alone { (object : O) (w : WorldOf O.State O.Inv O.Resp) (p : ℕ) → CallEndsAlone (O.sequential object) w p }
+    ensures alone { (object : O) (w : WorldOf O.State O.Inv O.Resp) (p : ℕ)
+        → CallEndsAlone (O.sequential object) w p }
 {}

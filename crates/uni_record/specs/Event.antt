@@ -41,7 +41,9 @@ pub record Completed (R : Type 0) : Type 0 where
 abbrev pub completed_by : {S I R : Type 0} → Sequential S I R → WorldOf S I R → Event I → Option (Completed R)
 completed_by object w (Step p) =
     let v = world_after object w (Step p) in
-    option_and_then (λ call. option_map (λ reply. record { returned = record { call = call; reply = reply }; counts = record { steps = v.steps p; turns = v.turns p } }) (response_of_step w p)) (current_of w p)
+    option_and_then (λ call. option_map (λ reply. record
+    { returned = record { call = call; reply = reply }; counts = record { steps = v.steps p; turns = v.turns p } }) (response_of_step w p))
+    (current_of w p)
 completed_by object w _ = None
 
 -- the calls that a run completes, in order
@@ -74,11 +76,14 @@ abbrev sample : Sequential ℕ ℕ ℕ
 sample = record { initial = 9; next = λ s i. i; answer = λ s i. s }
 
 abbrev sample_events : List (Event ℕ)
-sample_events = Call 0 7 ∷ Step 0 ∷ Step 0 ∷ Step 0 ∷ Step 0 ∷ Step 0 ∷ Step 0 ∷ Step 0 ∷ Step 0 ∷ Step 0 ∷ Step 0 ∷ Step 0 ∷ Step 0 ∷ Step 0 ∷ Step 0 ∷ []
+sample_events =
+    Call 0 7 ∷ Step 0 ∷ Step 0 ∷ Step 0 ∷ Step 0 ∷ Step 0 ∷ Step 0 ∷ Step 0 ∷ Step 0 ∷ Step 0 ∷ Step 0 ∷ Step 0
+    ∷ Step 0 ∷ Step 0 ∷ Step 0 ∷ []
 
 sample_completed : completed_in sample (opened_world 1 9 1) sample_events
     ≡ record { returned = record { call = record { process = 0; nth = 0 }; reply = 9 }; counts = record { steps = 14; turns = 1 } } ∷ []
 sample_completed = refl
 
-sample_log : ended_log sample (opened_world 1 9 1) (sample_events ++ Trim ∷ []) ≡ record { number = 2; call = record { process = 0; nth = 0; inv = 7 }; response = Some 9 } ∷ []
+sample_log : ended_log sample (opened_world 1 9 1) (sample_events ++ Trim ∷ [])
+    ≡ record { number = 2; call = record { process = 0; nth = 0; inv = 7 }; response = Some 9 } ∷ []
 sample_log = refl

@@ -1,5 +1,6 @@
 -- A history kept in a byte an event: the codes of its events, and beside them what its calls ask for, in order.
-use Rattle.std.specs.Prelude.{◌≡◌, ℕ, ◌+◌, ◌-◌, ◌≤◌, ◌<◌, List, [], ◌∷◌, ◌++◌, nat_lt, nat_eq, cond, length, drop, map, refl}
+use Rattle.std.specs.Prelude.{◌≡◌, ℕ, ◌+◌, ◌-◌, ◌≤◌, ◌<◌, List, [], ◌∷◌, ◌++◌, nat_lt, nat_eq, cond}
+use Rattle.std.specs.Prelude.{length, drop, map, refl}
 use Rattle.std.specs.List.{flat_map}
 use Rattle.uni_record.specs.declared.event.Event.{Event as Stored}
 use Rattle.uni_record.specs.declared.event.Event.TheVariants.{Call, Step, Trim, Reshape}
@@ -37,7 +38,8 @@ call_with p (i ∷ invocations) = Call p i ∷ []
 -- the event of a code, a call with the first of the invocations
 abbrev pub event_with : {I : Type 0} → ℕ → List I → List (Stored I)
 event_with code invocations =
-    cond (nat_lt code 64) (Step code ∷ []) (cond (nat_lt code 128) (call_with (code - 64) invocations) (cond (nat_eq code 128) (Trim ∷ []) (Reshape (code - 128) ∷ [])))
+    cond (nat_lt code 64) (Step code ∷ []) (cond (nat_lt code 128) (call_with (code - 64) invocations)
+    (cond (nat_eq code 128) (Trim ∷ []) (Reshape (code - 128) ∷ [])))
 
 -- the events of these codes
 abbrev pub unpacked : {I : Type 0} → List ℕ → List I → List (Stored I)

@@ -9,7 +9,8 @@ use Rattle.uni_trim.specs.Ends.{last_number}
 use Rattle.uni_record.specs.declared.command.Command.{Command}
 use Rattle.uni_record.specs.declared.command.Command.TheVariants.{Call, Step, Trim, Reshape}
 use Rattle.uni_record.specs.declared.command.Refusal.{Refusal}
-use Rattle.uni_record.specs.declared.command.Refusal.TheVariants.{BadProcess, Busy, RowFull, Idle, BadCount, Pending, SeqFull, HistoryFull, Memory}
+use Rattle.uni_record.specs.declared.command.Refusal.TheVariants.{BadProcess, Busy, RowFull, Idle, BadCount, Pending, SeqFull, HistoryFull}
+use Rattle.uni_record.specs.declared.command.Refusal.TheVariants.{Memory}
 use Rattle.uni_record.specs.declared.command.Outcome.{Outcome}
 use Rattle.uni_record.specs.declared.command.Outcome.TheVariants.{Called, Went, Returned, Trimmed, Reshaped, Refused}
 use Rattle.uni_record.specs.declared.event.Event.{Event as Stored}
@@ -19,7 +20,8 @@ use Rattle.uni_record.specs.declared.fault.RecordStepFault.TheVariants as step
 use Rattle.uni_record.specs.declared.fault.RecordTrimFault.TheVariants as trim
 use Rattle.uni_record.specs.declared.fault.RecordReshapeFault.TheVariants as reshape
 use Rattle.uni_record.specs.Event.{event_shown, events_shown}
-use Rattle.uni_record.specs.Recorded.{Recording, Standing, meaning, standing_of, CanBegin, CanEnd, IsBeginRefused, IsStepRefused, IsEndRefused, IsReshapeRefused, KeepsOpening}
+use Rattle.uni_record.specs.Recorded.{Recording, Standing, meaning, standing_of, CanBegin, CanEnd, IsBeginRefused, IsStepRefused}
+use Rattle.uni_record.specs.Recorded.{IsEndRefused, IsReshapeRefused, KeepsOpening}
 
 -- why a call is refused
 abbrev pub IsCallRefused : {S I R : Type 0} → Standing S I R → (p : ℕ) → Refusal → Type 0
@@ -85,14 +87,17 @@ events_of (command ∷ commands) (outcome ∷ outcomes) = option_to_list (event_
 
 -- what the answers depend on after a command with this outcome
 abbrev pub standing_after : {S I R : Type 0} → Sequential S I R → Standing S I R → Command I → Outcome R → Standing S I R
-standing_after object s command outcome = option_map_or (λ e. record s { world = world_after object s.world (event_shown e); stored = s.stored + 1 }) (event_of command outcome) s
+standing_after object s command outcome =
+    option_map_or (λ e. record s { world = world_after object s.world (event_shown e); stored = s.stored + 1 })
+    (event_of command outcome) s
 
 -- one outcome for each command, where the commands before it have led
 abbrev pub AreOutcomes : {S I R : Type 0} → Sequential S I R → Standing S I R → List (Command I) → List (Outcome R) → Type 0
 AreOutcomes object s [] [] = Unit {0}
 AreOutcomes object s [] (outcome ∷ outcomes) = ⊥
 AreOutcomes object s (command ∷ commands) [] = ⊥
-AreOutcomes object s (command ∷ commands) (outcome ∷ outcomes) = IsOutcome s command outcome × AreOutcomes object (standing_after object s command outcome) commands outcomes
+AreOutcomes object s (command ∷ commands) (outcome ∷ outcomes) =
+    IsOutcome s command outcome × AreOutcomes object (standing_after object s command outcome) commands outcomes
 
 -- what is answered is what this world answers: to a call its name, and to a step how it goes on
 abbrev pub IsAnswerIn : {S I R : Type 0} → WorldOf S I R → Command I → Outcome R → Type 0
@@ -105,20 +110,24 @@ IsAnswerIn w Trim _ = Unit {0}
 IsAnswerIn w (Reshape m) _ = Unit {0}
 
 -- each outcome is what a run without trims answers there, which takes the events of these commands but for the trims
-abbrev pub AreAnswersUntrimmed : {S I R : Type 0} → Sequential S I R → WorldOf S I R → List (Command I) → List (Outcome R) → Type 0
+abbrev pub AreAnswersUntrimmed : {S I R : Type 0} → Sequential S I R → WorldOf S I R → List (Command I) → List (Outcome R)
+    → Type 0
 AreAnswersUntrimmed object w [] outcomes = Unit {0}
 AreAnswersUntrimmed object w (command ∷ commands) [] = Unit {0}
 AreAnswersUntrimmed object w (command ∷ commands) (outcome ∷ outcomes) =
     IsAnswerIn w command outcome
-    × AreAnswersUntrimmed object (world_after_all object w (without_trims (events_shown (option_to_list (event_of command outcome))))) commands outcomes
+    × AreAnswersUntrimmed object (world_after_all object w (without_trims (events_shown (option_to_list (event_of command outcome)))))
+    commands outcomes
 
 -- a record takes a command with this outcome, and is `new` then
-pub record TakesCommand {O S I R : Type 0} (sequential : O → Sequential S I R) (old : Recording O S I R) (command : Command I) (outcome : Outcome R) (new : Recording O S I R) : Type 0 where
+pub record TakesCommand {O S I R : Type 0} (sequential : O → Sequential S I R) (old : Recording O S I R) (command : Command I)
+    (outcome : Outcome R) (new : Recording O S I R) : Type 0 where
   pub is : IsOutcome (standing_of old) command outcome
   pub left : standing_of new ≡ standing_after (meaning sequential old) (standing_of old) command outcome
   pub events : new.events ≡ old.events ++ option_to_list (event_of command outcome)
   pub fixed : KeepsOpening old new
 
 -- a call, a step of a process that is idle, and a trim that waits for the call
-sample_events : events_of {I = ℕ} {R = ℕ} (Call 0 5 ∷ Step 1 ∷ Trim ∷ []) (Called (record { process = 0; nth = 0 }) ∷ Refused (Idle 1) ∷ Refused (Pending 0) ∷ []) ≡ stored.Call 0 5 ∷ []
+sample_events : events_of {I = ℕ} {R = ℕ} (Call 0 5 ∷ Step 1 ∷ Trim ∷ [])
+    (Called (record { process = 0; nth = 0 }) ∷ Refused (Idle 1) ∷ Refused (Pending 0) ∷ []) ≡ stored.Call 0 5 ∷ []
 sample_events = refl

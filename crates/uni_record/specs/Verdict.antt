@@ -1,5 +1,6 @@
 -- The verdict of an audit: the first fault of a list of entries and a list of returns.
-use Rattle.std.specs.Prelude.{◌≡◌, ℕ, ◌==◌, ◌&&◌, Bool, if◌then◌else◌, List, [], ◌∷◌, ◌++◌, Option, Some, None, length, count_by, find, option_and_then, refl}
+use Rattle.std.specs.Prelude.{◌≡◌, ℕ, ◌==◌, ◌&&◌, Bool, if◌then◌else◌, List, [], ◌∷◌, ◌++◌, Option, Some}
+use Rattle.std.specs.Prelude.{None, length, count_by, find, option_and_then, refl}
 use Rattle.std.specs.Option.{option_map_or}
 use Rattle.std.specs.List.{list_any}
 use Rattle.seq_object.specs.Sequential.{Sequential}
@@ -31,34 +32,43 @@ first Agrees later = later
 first fault later = fault
 
 -- an entry after these earlier ones, in a state of the object, where `same` tells whether two responses are the same
-abbrev pub entry_verdict : {S I R : Type 0} → (same : R → R → Bool) → Sequential S I R → S → (earlier : List (Entry I R)) → Entry I R → Verdict
+abbrev pub entry_verdict : {S I R : Type 0} → (same : R → R → Bool) → Sequential S I R → S → (earlier : List (Entry I R))
+    → Entry I R → Verdict
 entry_verdict same object state earlier entry =
     if entry.call.nth == calls_of entry.call.process earlier
-    then option_map_or (λ reply. if same reply (object.answer state entry.inv) then Agrees else BadReply (length earlier)) entry.reply Agrees
+    then option_map_or (λ reply. if same reply (object.answer state entry.inv) then Agrees else BadReply (length earlier))
+    entry.reply Agrees
     else BadCall (length earlier)
 
 -- these later entries, one after the other
-abbrev pub entries_verdict : {S I R : Type 0} → (same : R → R → Bool) → Sequential S I R → S → (earlier later : List (Entry I R)) → Verdict
+abbrev pub entries_verdict : {S I R : Type 0} → (same : R → R → Bool) → Sequential S I R → S
+    → (earlier later : List (Entry I R)) → Verdict
 entries_verdict same object state earlier [] = Agrees
 entries_verdict same object state earlier (entry ∷ later) =
-    first (entry_verdict same object state earlier entry) (entries_verdict same object (object.next state entry.inv) (earlier ++ entry ∷ []) later)
+    first (entry_verdict same object state earlier entry)
+    (entries_verdict same object (object.next state entry.inv) (earlier ++ entry ∷ []) later)
 
 -- a return after these earlier ones
-abbrev pub return_verdict : {I R : Type 0} → (same : R → R → Bool) → List (Entry I R) → (earlier : List (Return R)) → Return R → Verdict
+abbrev pub return_verdict : {I R : Type 0} → (same : R → R → Bool) → List (Entry I R) → (earlier : List (Return R)) → Return R
+    → Verdict
 return_verdict same entries earlier returned =
     if has_returned returned.call earlier
     then Twice returned.call
-    else option_map_or (λ reply. if same reply returned.reply then Agrees else BadReturn returned.call) (reply_to returned.call entries) (Missing returned.call)
+    else option_map_or (λ reply. if same reply returned.reply then Agrees else BadReturn returned.call) (reply_to returned.call entries)
+    (Missing returned.call)
 
 -- these later returns, one after the other
-abbrev pub returns_verdict : {I R : Type 0} → (same : R → R → Bool) → List (Entry I R) → (earlier later : List (Return R)) → Verdict
+abbrev pub returns_verdict : {I R : Type 0} → (same : R → R → Bool) → List (Entry I R) → (earlier later : List (Return R))
+    → Verdict
 returns_verdict same entries earlier [] = Agrees
 returns_verdict same entries earlier (returned ∷ later) =
     first (return_verdict same entries earlier returned) (returns_verdict same entries (earlier ++ returned ∷ []) later)
 
 -- first the entries from the object's start state, then the returns
-abbrev pub verdict_of : {S I R : Type 0} → (same : R → R → Bool) → Sequential S I R → List (Entry I R) → List (Return R) → Verdict
-verdict_of same object entries returns = first (entries_verdict same object object.initial [] entries) (returns_verdict same entries [] returns)
+abbrev pub verdict_of : {S I R : Type 0} → (same : R → R → Bool) → Sequential S I R → List (Entry I R) → List (Return R)
+    → Verdict
+verdict_of same object entries returns =
+    first (entries_verdict same object object.initial [] entries) (returns_verdict same entries [] returns)
 
 -- An object that keeps the last number and answers the one before, from 9. Process 0 asks for 7, and is answered 9; 5 is a wrong reply.
 abbrev sample_call : ℕ → CallId
@@ -71,7 +81,8 @@ abbrev sample_return : ℕ → Return ℕ
 sample_return reply = record { call = sample_call 0; reply = reply }
 
 abbrev sample_verdict : List (Entry ℕ ℕ) → List (Return ℕ) → Verdict
-sample_verdict entries returns = verdict_of (λ r s. r == s) (record { initial = 9; next = λ state i. i; answer = λ state i. state }) entries returns
+sample_verdict entries returns =
+    verdict_of (λ r s. r == s) (record { initial = 9; next = λ state i. i; answer = λ state i. state }) entries returns
 
 sample_agrees : sample_verdict (sample_entry 0 (Some 9) ∷ []) (sample_return 9 ∷ []) ≡ Agrees
 sample_agrees = refl

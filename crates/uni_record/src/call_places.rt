@@ -1,6 +1,7 @@
 //! Where the entries of calls stand, in a row for each process.
 
-ghost use Rattle.std.specs.Prelude.{◌≡◌, ℕ, ◌↔◌, ◌==◌, [], ◌∷◌, ◌++◌, true, IfOk, OnOk, length, if◌then◌else◌};
+ghost use Rattle.std.specs.Prelude.{◌≡◌, ℕ, ◌↔◌, ◌==◌, [], ◌∷◌, ◌++◌, true, IfOk, OnOk};
+ghost use Rattle.std.specs.Prelude.{length, if◌then◌else◌};
 ghost use Rattle.uni_record.specs.CallPlaces.{place_of, row_of};
 
 use seq_object::CallId;
@@ -63,7 +64,9 @@ impl CallPlaces {
         place: u64,
     ) -> Result<bool, AllocError>
         ensures next { IfOk result (λ next. (next ≡ true) ↔ (call.nth ≡ length (row_of self.old call.process))) }
-        ensures rows { IfOk result (λ next. next ≡ true → (q : ℕ) → row_of self.new q ≡ (if call.process == q then row_of self.old q ++ place ∷ [] else row_of self.old q)) }
+        ensures rows { IfOk result (λ next. next ≡ true → (q : ℕ)
+            → row_of self.new q ≡ (if call.process == q then row_of self.old q ++ place
+            ∷ [] else row_of self.old q)) }
     {
         let Ok(place) = u32::try_from(place) else {
             return Err(AllocError);

@@ -35,7 +35,8 @@ fn entries_verdict<O: SeqObject>(
     calls: &mut CallPlaces,
 ) -> Result<Verdict, AllocError>
     requires { (q : ℕ) → row_of calls.old q ≡ [] }
-    ensures verdict { IfOk result (λ v. v ≡ entries_verdict O.Resp.eq (O.sequential object.now) ((O.sequential object.now).initial) [] entries.now) }
+    ensures verdict { IfOk result (λ v. v ≡ entries_verdict O.Resp.eq (O.sequential object.now)
+        ((O.sequential object.now).initial) [] entries.now) }
     ensures table { IfOk result (λ v. v ≡ Agrees → IsTable entries.now calls.new) }
 {
     let mut state = object.start(alloc)?;
@@ -65,8 +66,10 @@ fn return_verdict<I, R: Copy + Eq>(
 ) -> Verdict
     requires table { IsTable entries.now calls.now }
     requires each { length marks.old ≡ length entries.now }
-    ensures verdict { (earlier : List (Return R)) → AreMarked entries.now earlier marks.old → result ≡ return_verdict R.eq entries.now earlier returned.now }
-    ensures marked { (earlier : List (Return R)) → AreMarked entries.now earlier marks.old → result ≡ Agrees → AreMarked entries.now (earlier ++ returned.now ∷ []) marks.new }
+    ensures verdict { (earlier : List (Return R)) → AreMarked entries.now earlier marks.old
+        → result ≡ return_verdict R.eq entries.now earlier returned.now }
+    ensures marked { (earlier : List (Return R)) → AreMarked entries.now earlier marks.old → result ≡ Agrees
+        → AreMarked entries.now (earlier ++ returned.now ∷ []) marks.new }
 {
     let Some(place) = calls.place(returned.call) else {
         return Verdict::Missing(returned.call);
@@ -98,7 +101,8 @@ pub fn audit<O: SeqObject>(
     returns: &[Return<O::Resp>],
 ) -> Result<Verdict, AllocError>
     ensures verdict { IfOk result (λ v. v ≡ verdict_of O.Resp.eq (O.sequential object.now) entries.now returns.now) }
-    ensures agrees { IfOk result (λ v. (v ≡ Agrees) ↔ IsAudited (O.sequential object.now) entries.now returns.now) }
+    ensures agrees { IfOk result (λ v. (v ≡ Agrees)
+        ↔ IsAudited (O.sequential object.now) entries.now returns.now) }
 {
     let mut calls = CallPlaces::with_room_for(alloc, entries)?;
     let verdict = entries_verdict(alloc, object, entries, &mut calls)?;

@@ -1,6 +1,7 @@
 //! The ends of eras, recorded.
 
-ghost use Rattle.std.specs.Prelude.{◌≡◌, ◌+◌, ◌<◌, ◌≤◌, ◌++◌, ◌∷◌, [], IfOk, IfErr, OnErr, OnOk, length, map, vec_capacity};
+ghost use Rattle.std.specs.Prelude.{◌≡◌, ◌+◌, ◌<◌, ◌≤◌, ◌++◌, ◌∷◌, [], IfOk, IfErr};
+ghost use Rattle.std.specs.Prelude.{OnErr, OnOk, length, map, vec_capacity};
 ghost use Rattle.uni_model.specs.Worlds.{world_after};
 ghost use Rattle.uni_model.specs.Worlds.{Event as model};
 ghost use Rattle.uni_model.specs.History.{log};
@@ -8,7 +9,8 @@ ghost use Rattle.uni_core.specs.World.{world_of};
 ghost use Rattle.uni_log.specs.Entry.{entry_shown};
 ghost use Rattle.uni_trim.specs.Ends.{last_number};
 ghost use Rattle.uni_record.specs.declared.event.Event.TheVariants as event;
-ghost use Rattle.uni_record.specs.Recorded.{KeepsOpening, standing_of, untrimmed_world, CanEnd, IsEndRefused, IsReshapeRefused, IsPromised};
+ghost use Rattle.uni_record.specs.Recorded.{KeepsOpening, standing_of, untrimmed_world, CanEnd, IsEndRefused};
+ghost use Rattle.uni_record.specs.Recorded.{IsReshapeRefused, IsPromised};
 ghost use Rattle.uni_core.specs.Refusals.{IsCount};
 
 use crate::event::Event;
@@ -35,7 +37,8 @@ fn prepare_end<O: SeqObject>(
     ensures events { (events.new.events ≡ events.old.events) × (events.old.room ≤ events.new.room) }
     ensures ended { ended.new.items ≡ ended.old.items }
     ensures event_fits { OnOk result (length events.old.events + 1 ≤ events.new.room) }
-    ensures entries_fit { IfOk result (λ entries. length ended.old.items + length entries.items ≤ vec_capacity ended.new) }
+    ensures entries_fit { IfOk result (λ entries. length ended.old.items + length entries.items
+        ≤ vec_capacity ended.new) }
     ensures log { IfOk result (λ entries. map entry_shown entries.items ≡ log (world_of world.now)) }
 {
     let entries = Log::of(world).entries(alloc)?;
@@ -94,8 +97,10 @@ impl<O: SeqObject> Recorded<O> {
         ensures could { OnOk result (CanEnd (standing_of self.old) (world_of self.old.world).n) }
         ensures number { IfOk result (λ number. number ≡ last_number (world_of self.old.world)) }
         ensures event { OnOk result (self.new.events ≡ self.old.events ++ event.Trim ∷ []) }
-        ensures trimmed { OnOk result (world_of self.new.world ≡ world_after (O.sequential self.old.world.object) (world_of self.old.world) model.Trim) }
-        ensures untrimmed { OnOk result (untrimmed_world O.sequential self.new ≡ untrimmed_world O.sequential self.old) }
+        ensures trimmed { OnOk result (world_of self.new.world
+            ≡ world_after (O.sequential self.old.world.object) (world_of self.old.world) model.Trim) }
+        ensures untrimmed { OnOk result (untrimmed_world O.sequential self.new
+            ≡ untrimmed_world O.sequential self.old) }
         ensures promised { OnOk result (IsPromised O.sequential self.new) }
         ensures fixed { KeepsOpening self.old self.new }
         ensures unchanged { OnErr result (self.new ≡ self.old) }
@@ -127,7 +132,8 @@ impl<O: SeqObject> Recorded<O> {
         ensures could { OnOk result (IsCount m × CanEnd (standing_of self.old) m) }
         ensures number { IfOk result (λ number. number ≡ last_number (world_of self.old.world)) }
         ensures event { OnOk result (self.new.events ≡ self.old.events ++ event.Reshape m ∷ []) }
-        ensures reshaped { OnOk result (world_of self.new.world ≡ world_after (O.sequential self.old.world.object) (world_of self.old.world) (model.Reshape m)) }
+        ensures reshaped { OnOk result (world_of self.new.world
+            ≡ world_after (O.sequential self.old.world.object) (world_of self.old.world) (model.Reshape m)) }
         ensures promised { OnOk result (IsPromised O.sequential self.new) }
         ensures fixed { KeepsOpening self.old self.new }
         ensures unchanged { OnErr result (self.new ≡ self.old) }

@@ -1,6 +1,7 @@
 //! A list of events in a byte an event.
 
-ghost use Rattle.std.specs.Prelude.{◌≡◌, ◌+◌, ◌-◌, ◌<◌, ◌≤◌, ◌++◌, ◌∷◌, [], OnOk, length};
+ghost use Rattle.std.specs.Prelude.{◌≡◌, ◌+◌, ◌-◌, ◌<◌, ◌≤◌, ◌++◌, ◌∷◌, [], OnOk};
+ghost use Rattle.std.specs.Prelude.{length};
 ghost use Rattle.uni_record.specs.Packed.{HasCode, asked_by};
 
 use crate::event::Event;
@@ -27,7 +28,11 @@ impl<I> Model for PackedEvents<I> {
 
     ghost Value = { Kept I };
 
-    ghost view = { λ p. record { events = unpacked p.codes.items p.invocations.items; room = vec_capacity p.codes; room_for_calls = vec_capacity p.invocations - length p.invocations.items } };
+    ghost view = { λ p. record {
+      events = unpacked p.codes.items p.invocations.items;
+      room = vec_capacity p.codes;
+      room_for_calls = vec_capacity p.invocations - length p.invocations.items;
+    } };
 
     ghost invariant = { λ p. ArePacked p.codes.items p.invocations.items };
 }

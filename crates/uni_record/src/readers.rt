@@ -75,8 +75,11 @@ impl<O: SeqObject> Recorded<O> {
     ///
     /// An `Err` says that memory was refused.
     pub fn entries(&self, alloc: Global) -> Result<Vec<Entry<O::Inv, O::Resp>>, AllocError>
-        ensures joined { IfOk result (λ entries. map entry_shown entries.items ≡ log_of_run (meaning O.sequential self.now) (opening O.sequential self.now) (events_shown self.now.events)) }
-        ensures audited { IfOk result (λ entries. IsAudited (meaning O.sequential self.now) entries.items self.now.returns) }
+        ensures joined { IfOk result (λ entries. map entry_shown entries.items
+            ≡ log_of_run (meaning O.sequential self.now) (opening O.sequential self.now)
+            (events_shown self.now.events)) }
+        ensures audited { IfOk result (λ entries. IsAudited
+            (meaning O.sequential self.now) entries.items self.now.returns) }
     {
         self.promise();
         joined_log_is_legal::<O>();

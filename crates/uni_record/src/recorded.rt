@@ -1,12 +1,15 @@
 //! A world with the list of its events.
 
-ghost use Rattle.std.specs.Prelude.{◌≡◌, ◌+◌, ◌*◌, ◌<◌, ◌≤◌, ◌↔◌, ◌^◌, ◌⊎◌, ◌++◌, ◌∷◌, [], IfOk, IfErr, OnErr, OnOk, IsErrOf, length};
+ghost use Rattle.std.specs.Prelude.{◌≡◌, ◌+◌, ◌*◌, ◌<◌, ◌≤◌, ◌↔◌, ◌^◌, ◌⊎◌};
+ghost use Rattle.std.specs.Prelude.{◌++◌, ◌∷◌, [], IfOk, IfErr, OnErr, OnOk, IsErrOf, length};
 ghost use Rattle.uni_model.specs.Worlds.{world_after};
 ghost use Rattle.uni_model.specs.Worlds.{Event as model};
 ghost use Rattle.uni_core.specs.World.{world_of, IsProgress};
 ghost use Rattle.uni_core.specs.Refusals.{CanGo};
 ghost use Rattle.uni_record.specs.declared.event.Event.TheVariants as event;
-ghost use Rattle.uni_record.specs.Recorded.{share, set_aside, standing_of, untrimmed_world, KeepsOpening, HasOpened, CanRecord, IsOpenRefused, CanBegin, IsBeginRefused, IsStepRefused, IsPromised};
+ghost use Rattle.uni_record.specs.Recorded.{share, set_aside, standing_of, untrimmed_world, KeepsOpening, HasOpened};
+ghost use Rattle.uni_record.specs.Recorded.{CanRecord, IsOpenRefused, CanBegin, IsBeginRefused, IsStepRefused};
+ghost use Rattle.uni_record.specs.Recorded.{IsPromised};
 
 use crate::event::Event;
 use crate::events::PackedEvents;
@@ -41,11 +44,30 @@ impl<O: SeqObject> Model for Recorded<O> {
 
     ghost Value = { Recording O O.State O.Inv O.Resp };
 
-    ghost view = { λ r. record { world = r.world; processes = r.processes; first = r.first; limit = r.limit; events = r.events.events; returns = r.returns.items; counts = r.counts.items; ended = r.ended.items } };
+    ghost view = { λ r. record {
+      world = r.world;
+      processes = r.processes;
+      first = r.first;
+      limit = r.limit;
+      events = r.events.events;
+      returns = r.returns.items;
+      counts = r.counts.items;
+      ended = r.ended.items;
+    } };
 
     ghost invariant = { λ r. IsRecording O.sequential
-        (record { world = r.world; processes = r.processes; first = r.first; limit = r.limit; events = r.events.events; returns = r.returns.items; counts = r.counts.items; ended = r.ended.items })
-        × HasRoom (world_of r.world) (length r.events.events) r.events.room (length r.returns.items) (vec_capacity r.returns) (length r.counts.items) (vec_capacity r.counts) };
+        (record {
+          world = r.world;
+          processes = r.processes;
+          first = r.first;
+          limit = r.limit;
+          events = r.events.events;
+          returns = r.returns.items;
+          counts = r.counts.items;
+          ended = r.ended.items;
+        })
+        × HasRoom (world_of r.world) (length r.events.events) r.events.room (length r.returns.items)
+        (vec_capacity r.returns) (length r.counts.items) (vec_capacity r.counts) };
 }
 
 impl<O: SeqObject> Recorded<O> {
@@ -70,7 +92,8 @@ impl<O: SeqObject> Recorded<O> {
     ///
     /// Errors, in this order: `BadCount` where `n` isn't from 1 to 64; `BadRow` where `k` isn't from 1
     /// to 4096; `SeqFull` where `seq + n * k` passes 2^48 - 1; `BadHistory` where `h` isn't from 1 to
-    /// 16,777,216; `Memory`, which is asked for last. After each the object is dropped. Room for `h` events isn't reserved.
+    /// 16,777,216; `Memory`, which is asked for last. After each the object is dropped. Room for `h` events isn't
+    /// reserved.
     pub fn open_at(
         alloc: Global,
         object: O,
@@ -114,7 +137,8 @@ impl<O: SeqObject> Recorded<O> {
         ensures could { OnOk result (CanBegin (standing_of self.old) p) }
         ensures id { IfOk result (λ call. (call.process ≡ p) × (call.nth ≡ (world_of self.old.world).begun p)) }
         ensures event { OnOk result (self.new.events ≡ self.old.events ++ event.Call p inv.now ∷ []) }
-        ensures begun { OnOk result (world_of self.new.world ≡ world_after (O.sequential self.old.world.object) (world_of self.old.world) (model.Call p inv.now)) }
+        ensures begun { OnOk result (world_of self.new.world
+            ≡ world_after (O.sequential self.old.world.object) (world_of self.old.world) (model.Call p inv.now)) }
         ensures untrimmed { IfOk result (λ call. call.nth ≡ (untrimmed_world O.sequential self.old).begun p) }
         ensures promised { OnOk result (IsPromised O.sequential self.new) }
         ensures fixed { KeepsOpening self.old self.new }
@@ -147,7 +171,8 @@ impl<O: SeqObject> Recorded<O> {
     fn room_of_call(&self, p: u64) -> Result<u64, RecordBeginFault>
         ensures refused { IfErr result (IsBeginRefused (standing_of self.now) p) }
         ensures could { OnOk result (CanBegin (standing_of self.now) p) }
-        ensures room { IfOk result (λ more. set_aside (world_of self.now.world) + share (world_of self.now.world).n ≤ more) }
+        ensures room { IfOk result (λ more. set_aside (world_of self.now.world) + share (world_of self.now.world).n
+            ≤ more) }
     {
         self.world.shape();
         let n = self.world.processes();
@@ -183,7 +208,8 @@ impl<O: SeqObject> Recorded<O> {
         ensures refused { IfErr result (IsStepRefused (standing_of self.old) p) }
         ensures could { OnOk result (CanGo (world_of self.old.world) p) }
         ensures event { OnOk result (self.new.events ≡ self.old.events ++ event.Step p ∷ []) }
-        ensures step { OnOk result (world_of self.new.world ≡ world_after (O.sequential self.old.world.object) (world_of self.old.world) (model.Step p)) }
+        ensures step { OnOk result (world_of self.new.world
+            ≡ world_after (O.sequential self.old.world.object) (world_of self.old.world) (model.Step p)) }
         ensures progress { IfOk result (IsProgress (world_of self.old.world) p) }
         ensures untrimmed { IfOk result (IsProgress (untrimmed_world O.sequential self.old) p) }
         ensures promised { OnOk result (IsPromised O.sequential self.new) }

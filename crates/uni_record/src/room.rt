@@ -1,6 +1,7 @@
 //! The room of a history.
 
-ghost use Rattle.std.specs.Prelude.{◌≡◌, ◌+◌, ◌*◌, ◌≤◌, ◌↔◌, length, IsTrue, OnOk, vec_capacity};
+ghost use Rattle.std.specs.Prelude.{◌≡◌, ◌+◌, ◌*◌, ◌≤◌, ◌↔◌, length, IsTrue, OnOk};
+ghost use Rattle.std.specs.Prelude.{vec_capacity};
 ghost use Rattle.uni_core.specs.World.{world_of};
 ghost use Rattle.uni_record.specs.Recorded.{IsHistory, set_aside};
 
@@ -44,7 +45,8 @@ pub(crate) fn make_room<R>(
     counts: &mut Vec<Counts>,
     more: u64,
 ) -> Result<(), AllocError>
-    ensures returns { (returns.new.items ≡ returns.old.items) × (vec_capacity returns.old ≤ vec_capacity returns.new) }
+    ensures returns { (returns.new.items ≡ returns.old.items)
+        × (vec_capacity returns.old ≤ vec_capacity returns.new) }
     ensures counts { (counts.new.items ≡ counts.old.items) × (vec_capacity counts.old ≤ vec_capacity counts.new) }
     ensures returns_fit { OnOk result (length returns.old.items + more ≤ vec_capacity returns.new) }
     ensures counts_fit { OnOk result (length counts.old.items + more ≤ vec_capacity counts.new) }

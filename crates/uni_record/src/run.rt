@@ -95,9 +95,12 @@ impl<O: SeqObject> Recorded<O> {
         alloc: Global,
         commands: &[Command<O::Inv>],
     ) -> Result<Vec<Outcome<O::Resp>>, AllocError>
-        ensures outcomes { IfOk result (λ outcomes. AreOutcomes (O.sequential self.old.world.object) (standing_of self.old) commands.now outcomes.items) }
-        ensures events { IfOk result (λ outcomes. self.new.events ≡ self.old.events ++ events_of commands.now outcomes.items) }
-        ensures untrimmed { IfOk result (λ outcomes. AreAnswersUntrimmed (O.sequential self.old.world.object) (untrimmed_world O.sequential self.old) commands.now outcomes.items) }
+        ensures outcomes { IfOk result (λ outcomes. AreOutcomes (O.sequential self.old.world.object)
+            (standing_of self.old) commands.now outcomes.items) }
+        ensures events { IfOk result (λ outcomes. self.new.events
+            ≡ self.old.events ++ events_of commands.now outcomes.items) }
+        ensures untrimmed { IfOk result (λ outcomes. AreAnswersUntrimmed (O.sequential self.old.world.object)
+            (untrimmed_world O.sequential self.old) commands.now outcomes.items) }
         ensures promised { OnOk result (IsPromised O.sequential self.new) }
         ensures fixed { KeepsOpening self.old self.new }
         ensures unchanged { OnErr result (self.new ≡ self.old) }

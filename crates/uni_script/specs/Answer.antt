@@ -92,12 +92,14 @@ two_heads = refl
 
 -- each text once
 texts_of_refusals : map refusal_text (Process 9 ∷ Busy 9 ∷ Row 9 ∷ Idle 9 ∷ Pending 9 ∷ Sequence ∷ History ∷ Count 65 ∷ [])
-    ≡ codes "refused process 9" ∷ codes "refused busy 9" ∷ codes "refused row 9" ∷ codes "refused idle 9" ∷ codes "refused pending 9"
+    ≡ codes "refused process 9" ∷ codes "refused busy 9" ∷ codes "refused row 9" ∷ codes "refused idle 9"
+    ∷ codes "refused pending 9"
     ∷ codes "refused sequence" ∷ codes "refused history" ∷ codes "refused count 65" ∷ []
 unfolding digits
 texts_of_refusals = refl
 
-a_call_has_returned : returned_text (record { process = 63; nth = 4095 }) (codes "ok") 652 65 ≡ codes "returned 63.4095 ok steps 652 turns 65" ++ 10 ∷ []
+a_call_has_returned : returned_text (record { process = 63; nth = 4095 }) (codes "ok") 652 65
+    ≡ codes "returned 63.4095 ok steps 652 turns 65" ++ 10 ∷ []
 unfolding digits
 a_call_has_returned = refl
 
@@ -112,7 +114,9 @@ no_heads : heads_text 0 (λ p. p) ≡ codes "heads" ++ 10 ∷ []
 no_heads = refl
 
 abbrev sample_entry_text : Option (List ℕ) → List ℕ
-sample_entry_text response = entry_text (λ inv. inv) (λ resp. resp) (record { number = 2; call = record { process = 1; nth = 0; inv = codes "deq" }; response = response })
+sample_entry_text response =
+    entry_text (λ inv. inv) (λ resp. resp) (record
+    { number = 2; call = record { process = 1; nth = 0; inv = codes "deq" }; response = response })
 
 an_entry_has_a_response : sample_entry_text (Some (codes "empty")) ≡ codes "2 1.0 deq -> empty" ++ 10 ∷ []
 unfolding digits

@@ -1,5 +1,6 @@
 -- Scripts, with the text of their answers and their first fault.
-use Rattle.std.specs.Prelude.{◌≡◌, ℕ, List, [], ◌∷◌, ◌++◌, length, map, replicate, Option, None, Some, option_map, codes, refl}
+use Rattle.std.specs.Prelude.{◌≡◌, ℕ, List, [], ◌∷◌, ◌++◌, length, map, replicate, Option, None, Some, option_map, codes}
+use Rattle.std.specs.Prelude.{refl}
 use Rattle.std.specs.Fmt.{digits}
 use Rattle.ready_objects.specs.Number.{number_of_word, number_below}
 use Rattle.uni_script.specs.declared.fault.BenchFault.TheVariants.{NoHeader, BadHeader, TooLong, BadByte, BadLine, TooMany}
@@ -54,7 +55,8 @@ one_call_summary = refl
 abbrev two_calls : List ℕ
 two_calls = one_call (line (codes "call 0 deq") (line (codes "finish 0") []))
 
-two_calls_answered : text_of_script plain two_calls ≡ one_answer (line (codes "called 0.1") (line (codes "returned 0.1 7 steps 14 turns 1") (line (codes "end") [])))
+two_calls_answered : text_of_script plain two_calls
+    ≡ one_answer (line (codes "called 0.1") (line (codes "returned 0.1 7 steps 14 turns 1") (line (codes "end") [])))
 unfolding digits number_of_word
 two_calls_answered = refl
 
@@ -64,7 +66,8 @@ unfolding digits number_of_word
 header_answered = refl
 
 -- the last line may lack its end
-last_end_missing : text_of_script plain (header (line (codes "call 0 enq 7") (codes "finish 0"))) ≡ text_of_script plain (header (line (codes "call 0 enq 7") (line (codes "finish 0") [])))
+last_end_missing : text_of_script plain (header (line (codes "call 0 enq 7") (codes "finish 0")))
+    ≡ text_of_script plain (header (line (codes "call 0 enq 7") (line (codes "finish 0") [])))
 unfolding digits number_of_word
 last_end_missing = refl
 
@@ -126,38 +129,47 @@ too_many_comes_first : outcome_of_line plain 100001 None (replicate 201 9) ≡ o
 too_many_comes_first = refl
 
 -- what is refused is answered, and changes nothing
-refusals : text_of_script plain (header (line (codes "finish 0") (line (codes "call 9 deq") (line (codes "call 0 deq") (line (codes "call 0 deq") [])))))
-    ≡ line (codes "refused idle 0") (line (codes "refused process 9") (line (codes "called 0.0") (line (codes "refused busy 0") (line (codes "end") []))))
+refusals : text_of_script plain (header (line (codes "finish 0")
+    (line (codes "call 9 deq") (line (codes "call 0 deq") (line (codes "call 0 deq") [])))))
+    ≡ line (codes "refused idle 0") (line (codes "refused process 9")
+    (line (codes "called 0.0") (line (codes "refused busy 0") (line (codes "end") []))))
 unfolding digits number_of_word
 refusals = refl
 
 -- of two processes, one stops after its first step, and the other places its call
 abbrev stopped : List ℕ
-stopped = line (codes "universal 1 queue 2 8") (line (codes "call 1 enq 5") (line (codes "step 1") (line (codes "call 0 enq 6") (line (codes "finish 0") (line (codes "heads") (line (codes "log") []))))))
+stopped = line (codes "universal 1 queue 2 8") (line (codes "call 1 enq 5")
+    (line (codes "step 1") (line (codes "call 0 enq 6") (line (codes "finish 0") (line (codes "heads") (line (codes "log") []))))))
 
 stopped_answered : text_of_script plain stopped
-    ≡ line (codes "called 1.0") (line (codes "going 1.0 steps 1 turns 0") (line (codes "called 0.0") (line (codes "returned 0.0 ok steps 24 turns 2")
+    ≡ line (codes "called 1.0") (line (codes "going 1.0 steps 1 turns 0")
+    (line (codes "called 0.0") (line (codes "returned 0.0 ok steps 24 turns 2")
     (line (codes "heads 3 1") (line (codes "2 1.0 enq 5 -> ok") (line (codes "3 0.0 enq 6 -> ok") (line (codes "end") [])))))))
 unfolding digits number_of_word
 stopped_answered = refl
 
 -- one of them meets the bound, of 32 steps and 3 turns
 abbrev bound_met : List ℕ
-bound_met = line (codes "universal 1 queue 2 8") (line (codes "call 0 enq 10") (line (codes "step 0 10") (line (codes "call 1 deq") (line (codes "step 1 14")
+bound_met = line (codes "universal 1 queue 2 8") (line (codes "call 0 enq 10")
+    (line (codes "step 0 10") (line (codes "call 1 deq") (line (codes "step 1 14")
     (line (codes "finish 0") (line (codes "call 0 enq 20") (line (codes "step 0") (line (codes "finish 1") []))))))))
 
 bound_met_answered : text_of_script plain bound_met
-    ≡ line (codes "called 0.0") (line (codes "going 0.0 steps 10 turns 1") (line (codes "called 1.0") (line (codes "going 1.0 steps 14 turns 1") (line (codes "returned 0.0 ok steps 16 turns 1")
-    (line (codes "called 0.1") (line (codes "going 0.1 steps 1 turns 0") (line (codes "returned 1.0 10 steps 32 turns 3") (line (codes "end") []))))))))
+    ≡ line (codes "called 0.0") (line (codes "going 0.0 steps 10 turns 1")
+    (line (codes "called 1.0") (line (codes "going 1.0 steps 14 turns 1") (line (codes "returned 0.0 ok steps 16 turns 1")
+    (line (codes "called 0.1") (line (codes "going 0.1 steps 1 turns 0")
+    (line (codes "returned 1.0 10 steps 32 turns 3") (line (codes "end") []))))))))
 unfolding digits number_of_word
 bound_met_answered = refl
 
 -- the first proposal to a sticky register holds
 abbrev proposals : List ℕ
-proposals = line (codes "universal 1 sticky 2 8") (line (codes "call 0 stick 5") (line (codes "finish 0") (line (codes "call 1 stick 9") (line (codes "finish 1") []))))
+proposals = line (codes "universal 1 sticky 2 8")
+    (line (codes "call 0 stick 5") (line (codes "finish 0") (line (codes "call 1 stick 9") (line (codes "finish 1") []))))
 
 proposals_answered : text_of_script plain proposals
-    ≡ line (codes "called 0.0") (line (codes "returned 0.0 5 steps 16 turns 1") (line (codes "called 1.0") (line (codes "returned 1.0 5 steps 16 turns 1") (line (codes "end") []))))
+    ≡ line (codes "called 0.0") (line (codes "returned 0.0 5 steps 16 turns 1")
+    (line (codes "called 1.0") (line (codes "returned 1.0 5 steps 16 turns 1") (line (codes "end") []))))
 unfolding digits number_of_word
 proposals_answered = refl
 
@@ -177,51 +189,64 @@ lines (bytes ∷ rest) = line bytes (lines rest)
 
 -- numbers go on after a trim, and the state stays
 abbrev trimmed : List ℕ
-trimmed = lines (codes "universal 1 queue 2 8" ∷ codes "call 0 enq 1" ∷ codes "finish 0" ∷ codes "trim" ∷ codes "call 1 enq 2" ∷ codes "step 1" ∷ codes "call 0 deq" ∷ codes "finish 0" ∷ codes "log" ∷ [])
+trimmed = lines (codes "universal 1 queue 2 8" ∷ codes "call 0 enq 1" ∷ codes "finish 0" ∷ codes "trim" ∷ codes "call 1 enq 2"
+    ∷ codes "step 1" ∷ codes "call 0 deq" ∷ codes "finish 0" ∷ codes "log" ∷ [])
 
 trimmed_answered : text_of_script plain trimmed
-    ≡ lines (codes "called 0.0" ∷ codes "returned 0.0 ok steps 16 turns 1" ∷ codes "trimmed 2" ∷ codes "called 1.0" ∷ codes "going 1.0 steps 1 turns 0"
+    ≡ lines (codes "called 0.0" ∷ codes "returned 0.0 ok steps 16 turns 1" ∷ codes "trimmed 2" ∷ codes "called 1.0"
+    ∷ codes "going 1.0 steps 1 turns 0"
     ∷ codes "called 0.1" ∷ codes "returned 0.1 1 steps 16 turns 1" ∷ codes "3 0.1 deq -> 1" ∷ codes "end" ∷ [])
 unfolding digits number_of_word
 trimmed_answered = refl
 
 -- a row is full by the calls of the era
 abbrev rows_of_one : List ℕ
-rows_of_one = lines (codes "universal 1 queue 2 1" ∷ codes "call 0 enq 1" ∷ codes "finish 0" ∷ codes "call 0 enq 2" ∷ codes "call 1 deq" ∷ codes "finish 1" ∷ codes "trim" ∷ codes "call 0 enq 2" ∷ codes "finish 0" ∷ codes "log" ∷ [])
+rows_of_one = lines (codes "universal 1 queue 2 1" ∷ codes "call 0 enq 1" ∷ codes "finish 0" ∷ codes "call 0 enq 2"
+    ∷ codes "call 1 deq" ∷ codes "finish 1" ∷ codes "trim" ∷ codes "call 0 enq 2" ∷ codes "finish 0" ∷ codes "log" ∷ [])
 
 rows_of_one_answered : text_of_script plain rows_of_one
-    ≡ lines (codes "called 0.0" ∷ codes "returned 0.0 ok steps 16 turns 1" ∷ codes "refused row 0" ∷ codes "called 1.0" ∷ codes "returned 1.0 1 steps 16 turns 1"
-    ∷ codes "trimmed 3" ∷ codes "called 0.1" ∷ codes "returned 0.1 ok steps 16 turns 1" ∷ codes "4 0.1 enq 2 -> ok" ∷ codes "end" ∷ [])
+    ≡ lines (codes "called 0.0" ∷ codes "returned 0.0 ok steps 16 turns 1" ∷ codes "refused row 0" ∷ codes "called 1.0"
+    ∷ codes "returned 1.0 1 steps 16 turns 1"
+    ∷ codes "trimmed 3" ∷ codes "called 0.1" ∷ codes "returned 0.1 ok steps 16 turns 1" ∷ codes "4 0.1 enq 2 -> ok"
+    ∷ codes "end" ∷ [])
 unfolding digits number_of_word
 rows_of_one_answered = refl
 
 -- a script that is drawn from the words 33, 22, 20 and 16
 abbrev drawn : List ℕ
-drawn = lines (codes "universal 1 queue 2 8" ∷ codes "call 0 enq 7" ∷ codes "step 1" ∷ codes "trim" ∷ codes "finish 0" ∷ codes "finish 1" ∷ codes "log" ∷ [])
+drawn = lines (codes "universal 1 queue 2 8" ∷ codes "call 0 enq 7" ∷ codes "step 1" ∷ codes "trim" ∷ codes "finish 0"
+    ∷ codes "finish 1" ∷ codes "log" ∷ [])
 
 drawn_answered : text_of_script plain drawn
-    ≡ lines (codes "called 0.0" ∷ codes "refused idle 1" ∷ codes "refused pending 0" ∷ codes "returned 0.0 ok steps 16 turns 1" ∷ codes "refused idle 1" ∷ codes "2 0.0 enq 7 -> ok" ∷ codes "end" ∷ [])
+    ≡ lines (codes "called 0.0" ∷ codes "refused idle 1" ∷ codes "refused pending 0" ∷ codes "returned 0.0 ok steps 16 turns 1"
+    ∷ codes "refused idle 1" ∷ codes "2 0.0 enq 7 -> ok" ∷ codes "end" ∷ [])
 unfolding digits number_of_word
 drawn_answered = refl
 
 -- a call of one process needs room for 23 events; once it has returned, what it didn't use is free again
 abbrev second_call : List ℕ
-second_call = lines (codes "universal 1 queue 1 8" ∷ codes "call 0 enq 7" ∷ codes "finish 0" ∷ codes "call 0 deq" ∷ codes "trim" ∷ [])
+second_call = lines (codes "universal 1 queue 1 8" ∷ codes "call 0 enq 7" ∷ codes "finish 0" ∷ codes "call 0 deq"
+    ∷ codes "trim" ∷ [])
 
-second_call_refused : text_of_script (scripts_of 23) second_call ≡ lines (codes "called 0.0" ∷ codes "returned 0.0 ok steps 14 turns 1" ∷ codes "refused history" ∷ codes "trimmed 2" ∷ codes "end" ∷ [])
+second_call_refused : text_of_script (scripts_of 23) second_call
+    ≡ lines (codes "called 0.0" ∷ codes "returned 0.0 ok steps 14 turns 1" ∷ codes "refused history" ∷ codes "trimmed 2"
+    ∷ codes "end" ∷ [])
 unfolding digits number_of_word
 second_call_refused = refl
 
-first_call_refused : text_of_script (scripts_of 22) second_call ≡ lines (codes "refused history" ∷ codes "refused idle 0" ∷ codes "refused history" ∷ codes "trimmed 1" ∷ codes "end" ∷ [])
+first_call_refused : text_of_script (scripts_of 22) second_call
+    ≡ lines (codes "refused history" ∷ codes "refused idle 0" ∷ codes "refused history" ∷ codes "trimmed 1" ∷ codes "end" ∷ [])
 unfolding digits number_of_word
 first_call_refused = refl
 
 -- in version 2 the number of processes can change
 abbrev reshaped : List ℕ
-reshaped = lines (codes "universal 2 queue 1 8" ∷ codes "call 0 enq 7" ∷ codes "finish 0" ∷ codes "reshape 2" ∷ codes "heads" ∷ codes "call 1 deq" ∷ codes "finish 1" ∷ codes "log" ∷ [])
+reshaped = lines (codes "universal 2 queue 1 8" ∷ codes "call 0 enq 7" ∷ codes "finish 0" ∷ codes "reshape 2" ∷ codes "heads"
+    ∷ codes "call 1 deq" ∷ codes "finish 1" ∷ codes "log" ∷ [])
 
 reshaped_answered : text_of_script plain reshaped
-    ≡ lines (codes "called 0.0" ∷ codes "returned 0.0 ok steps 14 turns 1" ∷ codes "reshaped 2 at 2" ∷ codes "heads 2 2" ∷ codes "called 1.0" ∷ codes "returned 1.0 7 steps 16 turns 1" ∷ codes "3 1.0 deq -> 7" ∷ codes "end" ∷ [])
+    ≡ lines (codes "called 0.0" ∷ codes "returned 0.0 ok steps 14 turns 1" ∷ codes "reshaped 2 at 2" ∷ codes "heads 2 2"
+    ∷ codes "called 1.0" ∷ codes "returned 1.0 7 steps 16 turns 1" ∷ codes "3 1.0 deq -> 7" ∷ codes "end" ∷ [])
 unfolding digits number_of_word
 reshaped_answered = refl
 
@@ -262,10 +287,12 @@ byte_127 = refl
 
 -- the last process of two is process 1
 abbrev last_process : List ℕ
-last_process = lines (codes "universal 1 queue 2 8" ∷ codes "step 1" ∷ codes "step 2" ∷ codes "finish 2" ∷ codes "call 2 deq" ∷ codes "call 1 deq" ∷ codes "step 1" ∷ codes "heads" ∷ [])
+last_process = lines (codes "universal 1 queue 2 8" ∷ codes "step 1" ∷ codes "step 2" ∷ codes "finish 2" ∷ codes "call 2 deq"
+    ∷ codes "call 1 deq" ∷ codes "step 1" ∷ codes "heads" ∷ [])
 
 last_process_answered : text_of_script plain last_process
-    ≡ lines (codes "refused idle 1" ∷ codes "refused process 2" ∷ codes "refused process 2" ∷ codes "refused process 2" ∷ codes "called 1.0" ∷ codes "going 1.0 steps 1 turns 0" ∷ codes "heads 1 1" ∷ codes "end" ∷ [])
+    ≡ lines (codes "refused idle 1" ∷ codes "refused process 2" ∷ codes "refused process 2" ∷ codes "refused process 2"
+    ∷ codes "called 1.0" ∷ codes "going 1.0 steps 1 turns 0" ∷ codes "heads 1 1" ∷ codes "end" ∷ [])
 unfolding digits number_of_word
 last_process_answered = refl
 
@@ -274,7 +301,8 @@ abbrev steps_of_one : List ℕ
 steps_of_one = header (lines (codes "call 0 deq" ∷ codes "step 0 13" ∷ codes "step 0 1000" ∷ codes "step 0" ∷ []))
 
 steps_of_one_answered : text_of_script plain steps_of_one
-    ≡ lines (codes "called 0.0" ∷ codes "going 0.0 steps 13 turns 1" ∷ codes "returned 0.0 empty steps 14 turns 1" ∷ codes "refused idle 0" ∷ codes "end" ∷ [])
+    ≡ lines (codes "called 0.0" ∷ codes "going 0.0 steps 13 turns 1" ∷ codes "returned 0.0 empty steps 14 turns 1"
+    ∷ codes "refused idle 0" ∷ codes "end" ∷ [])
 unfolding digits number_of_word
 steps_of_one_answered = refl
 
@@ -282,16 +310,19 @@ steps_of_one_answered = refl
 abbrev both_call : List ℕ
 both_call = lines (codes "universal 1 queue 2 8" ∷ codes "call 0 deq" ∷ codes "call 1 deq" ∷ [])
 
-both_call_in_66_events : text_of_script (scripts_of 66) both_call ≡ lines (codes "called 0.0" ∷ codes "called 1.0" ∷ codes "end" ∷ [])
+both_call_in_66_events : text_of_script (scripts_of 66) both_call
+    ≡ lines (codes "called 0.0" ∷ codes "called 1.0" ∷ codes "end" ∷ [])
 unfolding digits number_of_word
 both_call_in_66_events = refl
 
-second_is_refused_in_65 : text_of_script (scripts_of 65) both_call ≡ lines (codes "called 0.0" ∷ codes "refused history" ∷ codes "end" ∷ [])
+second_is_refused_in_65 : text_of_script (scripts_of 65) both_call
+    ≡ lines (codes "called 0.0" ∷ codes "refused history" ∷ codes "end" ∷ [])
 unfolding digits number_of_word
 second_is_refused_in_65 = refl
 
 -- an era ends by an event
-trims_in_one_event : text_of_script (scripts_of 1) (header (lines (codes "trim" ∷ codes "trim" ∷ []))) ≡ lines (codes "trimmed 1" ∷ codes "refused history" ∷ codes "end" ∷ [])
+trims_in_one_event : text_of_script (scripts_of 1) (header (lines (codes "trim" ∷ codes "trim" ∷ [])))
+    ≡ lines (codes "trimmed 1" ∷ codes "refused history" ∷ codes "end" ∷ [])
 unfolding digits number_of_word
 trims_in_one_event = refl
 
@@ -315,10 +346,12 @@ reshapes_to_0_and_65 = refl
 
 -- names, places and accounts in calls
 abbrev names : List ℕ
-names = lines (codes "universal 1 directory 1 8" ∷ codes "call 0 put az09 7" ∷ codes "finish 0" ∷ codes "call 0 at 255" ∷ codes "finish 0" ∷ codes "call 0 size" ∷ codes "finish 0" ∷ codes "log" ∷ [])
+names = lines (codes "universal 1 directory 1 8" ∷ codes "call 0 put az09 7" ∷ codes "finish 0" ∷ codes "call 0 at 255"
+    ∷ codes "finish 0" ∷ codes "call 0 size" ∷ codes "finish 0" ∷ codes "log" ∷ [])
 
 names_answered : text_of_script plain names
-    ≡ lines (codes "called 0.0" ∷ codes "returned 0.0 new steps 14 turns 1" ∷ codes "called 0.1" ∷ codes "returned 0.1 none steps 14 turns 1" ∷ codes "called 0.2" ∷ codes "returned 0.2 1 steps 14 turns 1"
+    ≡ lines (codes "called 0.0" ∷ codes "returned 0.0 new steps 14 turns 1" ∷ codes "called 0.1"
+    ∷ codes "returned 0.1 none steps 14 turns 1" ∷ codes "called 0.2" ∷ codes "returned 0.2 1 steps 14 turns 1"
     ∷ codes "2 0.0 put az09 7 -> new" ∷ codes "3 0.1 at 255 -> none" ∷ codes "4 0.2 size -> 1" ∷ codes "end" ∷ [])
 unfolding digits number_below number_of_word
 names_answered = refl
@@ -328,65 +361,82 @@ unfolding digits number_below number_of_word
 place_256_is_none = refl
 
 abbrev accounts : List ℕ
-accounts = lines (codes "universal 1 book 1 8" ∷ codes "call 0 deposit 15 999999999999" ∷ codes "finish 0" ∷ codes "call 0 deposit 15 1" ∷ codes "finish 0" ∷ codes "log" ∷ [])
+accounts = lines (codes "universal 1 book 1 8" ∷ codes "call 0 deposit 15 999999999999" ∷ codes "finish 0"
+    ∷ codes "call 0 deposit 15 1" ∷ codes "finish 0" ∷ codes "log" ∷ [])
 
 accounts_answered : text_of_script plain accounts
-    ≡ lines (codes "called 0.0" ∷ codes "returned 0.0 999999999999 steps 14 turns 1" ∷ codes "called 0.1" ∷ codes "returned 0.1 over steps 14 turns 1"
+    ≡ lines (codes "called 0.0" ∷ codes "returned 0.0 999999999999 steps 14 turns 1" ∷ codes "called 0.1"
+    ∷ codes "returned 0.1 over steps 14 turns 1"
     ∷ codes "2 0.0 deposit 15 999999999999 -> 999999999999" ∷ codes "3 0.1 deposit 15 1 -> over" ∷ codes "end" ∷ [])
 unfolding digits number_below number_of_word
 accounts_answered = refl
 
-account_16_is_none : fault_of_script plain (lines (codes "universal 1 book 1 8" ∷ codes "call 0 deposit 16 1" ∷ [])) ≡ Some (BadLine 2)
+account_16_is_none : fault_of_script plain (lines (codes "universal 1 book 1 8" ∷ codes "call 0 deposit 16 1" ∷ []))
+    ≡ Some (BadLine 2)
 unfolding digits number_below number_of_word
 account_16_is_none = refl
 
 -- the last process of the most that each version has
 abbrev last_process_of : (version most last : List ℕ) → List ℕ
 last_process_of version most last =
-    lines ((codes "universal " ++ version ++ codes " queue " ++ most ++ codes " 4096") ∷ (codes "step " ++ last) ∷ (codes "step " ++ most) ∷ (codes "finish " ++ last) ∷ (codes "finish " ++ most)
+    lines ((codes "universal " ++ version ++ codes " queue " ++ most ++ codes " 4096") ∷ (codes "step " ++ last)
+    ∷ (codes "step " ++ most) ∷ (codes "finish " ++ last) ∷ (codes "finish " ++ most)
     ∷ (codes "call " ++ most ++ codes " deq") ∷ (codes "call " ++ last ++ codes " deq") ∷ (codes "step " ++ last) ∷ [])
 
 process_15_of_16_answered : text_of_script plain (last_process_of (codes "1") (codes "16") (codes "15"))
-    ≡ lines (codes "refused idle 15" ∷ codes "refused process 16" ∷ codes "refused idle 15" ∷ codes "refused process 16" ∷ codes "refused process 16" ∷ codes "called 15.0" ∷ codes "going 15.0 steps 1 turns 0" ∷ codes "end" ∷ [])
+    ≡ lines (codes "refused idle 15" ∷ codes "refused process 16" ∷ codes "refused idle 15" ∷ codes "refused process 16"
+    ∷ codes "refused process 16" ∷ codes "called 15.0" ∷ codes "going 15.0 steps 1 turns 0" ∷ codes "end" ∷ [])
 unfolding digits number_of_word
 process_15_of_16_answered = refl
 
 process_63_of_64_answered : text_of_script plain (last_process_of (codes "2") (codes "64") (codes "63"))
-    ≡ lines (codes "refused idle 63" ∷ codes "refused process 64" ∷ codes "refused idle 63" ∷ codes "refused process 64" ∷ codes "refused process 64" ∷ codes "called 63.0" ∷ codes "going 63.0 steps 1 turns 0" ∷ codes "end" ∷ [])
+    ≡ lines (codes "refused idle 63" ∷ codes "refused process 64" ∷ codes "refused idle 63" ∷ codes "refused process 64"
+    ∷ codes "refused process 64" ∷ codes "called 63.0" ∷ codes "going 63.0 steps 1 turns 0" ∷ codes "end" ∷ [])
 unfolding digits number_of_word
 process_63_of_64_answered = refl
 
-process_16_is_there_in_version_2 : text_of_script plain (lines (codes "universal 2 queue 17 8" ∷ codes "step 16" ∷ codes "step 17" ∷ []))
+process_16_is_there_in_version_2 : text_of_script plain
+    (lines (codes "universal 2 queue 17 8" ∷ codes "step 16" ∷ codes "step 17" ∷ []))
     ≡ lines (codes "refused idle 16" ∷ codes "refused process 17" ∷ codes "end" ∷ [])
 unfolding digits number_of_word
 process_16_is_there_in_version_2 = refl
 
 -- the greatest number of a process is read, and refused
-process_999999999999_is_refused : text_of_script plain (header (lines (codes "call 999999999999 deq" ∷ codes "step 999999999999 1000" ∷ codes "finish 999999999999" ∷ [])))
-    ≡ lines (codes "refused process 999999999999" ∷ codes "refused process 999999999999" ∷ codes "refused process 999999999999" ∷ codes "end" ∷ [])
+process_999999999999_is_refused : text_of_script plain
+    (header (lines (codes "call 999999999999 deq" ∷ codes "step 999999999999 1000" ∷ codes "finish 999999999999" ∷ [])))
+    ≡ lines (codes "refused process 999999999999" ∷ codes "refused process 999999999999" ∷ codes "refused process 999999999999"
+    ∷ codes "end" ∷ [])
 unfolding digits number_of_word
 process_999999999999_is_refused = refl
 
-process_1000000000000_is_none : map (λ command. fault_of_script plain (header command)) (codes "call 1000000000000 deq" ∷ codes "step 1000000000000 1000" ∷ codes "finish 1000000000000" ∷ [])
+process_1000000000000_is_none : map (λ command. fault_of_script plain (header command))
+    (codes "call 1000000000000 deq" ∷ codes "step 1000000000000 1000" ∷ codes "finish 1000000000000" ∷ [])
     ≡ Some (BadLine 2) ∷ Some (BadLine 2) ∷ Some (BadLine 2) ∷ []
 unfolding digits number_of_word
 process_1000000000000_is_none = refl
 
 -- up to 1000 steps are a line, whether or not they are refused
-steps_1_and_1000_are_refused : text_of_script plain (header (lines (codes "step 0 1" ∷ codes "step 0 1000" ∷ []))) ≡ lines (codes "refused idle 0" ∷ codes "refused idle 0" ∷ codes "end" ∷ [])
+steps_1_and_1000_are_refused : text_of_script plain (header (lines (codes "step 0 1" ∷ codes "step 0 1000" ∷ [])))
+    ≡ lines (codes "refused idle 0" ∷ codes "refused idle 0" ∷ codes "end" ∷ [])
 unfolding digits number_of_word
 steps_1_and_1000_are_refused = refl
 
-steps_0_and_1001_are_none : map (λ command. fault_of_script plain (header command)) (codes "step 0 0" ∷ codes "step 0 1001" ∷ []) ≡ Some (BadLine 2) ∷ Some (BadLine 2) ∷ []
+steps_0_and_1001_are_none : map (λ command. fault_of_script plain (header command)) (codes "step 0 0" ∷ codes "step 0 1001" ∷ [])
+    ≡ Some (BadLine 2) ∷ Some (BadLine 2) ∷ []
 unfolding digits number_of_word
 steps_0_and_1001_are_none = refl
 
-reshapes_answered : text_of_script plain (lines (codes "universal 2 queue 2 8" ∷ codes "reshape 0" ∷ codes "reshape 65" ∷ codes "reshape 999999999999" ∷ codes "step 2" ∷ codes "reshape 64" ∷ codes "step 63" ∷ codes "step 64" ∷ codes "reshape 1" ∷ codes "step 1" ∷ []))
-    ≡ lines (codes "refused count 0" ∷ codes "refused count 65" ∷ codes "refused count 999999999999" ∷ codes "refused process 2" ∷ codes "reshaped 64 at 1" ∷ codes "refused idle 63" ∷ codes "refused process 64" ∷ codes "reshaped 1 at 1" ∷ codes "refused process 1" ∷ codes "end" ∷ [])
+reshapes_answered : text_of_script plain (lines (codes "universal 2 queue 2 8" ∷ codes "reshape 0" ∷ codes "reshape 65"
+    ∷ codes "reshape 999999999999" ∷ codes "step 2" ∷ codes "reshape 64" ∷ codes "step 63" ∷ codes "step 64" ∷ codes "reshape 1"
+    ∷ codes "step 1" ∷ []))
+    ≡ lines (codes "refused count 0" ∷ codes "refused count 65" ∷ codes "refused count 999999999999" ∷ codes "refused process 2"
+    ∷ codes "reshaped 64 at 1" ∷ codes "refused idle 63" ∷ codes "refused process 64" ∷ codes "reshaped 1 at 1"
+    ∷ codes "refused process 1" ∷ codes "end" ∷ [])
 unfolding digits number_of_word
 reshapes_answered = refl
 
-reshape_1000000000000_is_none : fault_of_script plain (lines (codes "universal 2 queue 2 8" ∷ codes "reshape 1000000000000" ∷ [])) ≡ Some (BadLine 2)
+reshape_1000000000000_is_none : fault_of_script plain (lines (codes "universal 2 queue 2 8" ∷ codes "reshape 1000000000000" ∷ []))
+    ≡ Some (BadLine 2)
 unfolding digits number_of_word
 reshape_1000000000000_is_none = refl
 
@@ -396,9 +446,18 @@ steps_of_1_and_64_processes = refl
 
 -- a session of 64 processes with rows of 4096 calls, in which each has made so many, with a history of so many events at most
 abbrev begun_by_each : (calls limit : ℕ) → Session ℕ ℕ ℕ
-begun_by_each calls limit = record { processes = 64; first = 1; row = 4096; limit = limit; events = []; world = record (opened_world 64 9 1) { begun = λ p. calls } }
+begun_by_each calls limit =
+    record {
+      processes = 64;
+      first = 1;
+      row = 4096;
+      limit = limit;
+      events = [];
+      world = record (opened_world 64 9 1) { begun = λ p. calls };
+    }
 
-calls_4096_and_4097_of_a_row : map (λ calls. refusal_of_call (begun_by_each calls 1048576) 63) (4095 ∷ 4096 ∷ []) ≡ None ∷ Some (Row 63) ∷ []
+calls_4096_and_4097_of_a_row : map (λ calls. refusal_of_call (begun_by_each calls 1048576) 63) (4095 ∷ 4096 ∷ [])
+    ≡ None ∷ Some (Row 63) ∷ []
 calls_4096_and_4097_of_a_row = refl
 
 -- a call of 64 processes needs room for 653 events
@@ -406,10 +465,14 @@ events_for_a_call_of_64 : map (λ limit. refusal_of_call (begun_by_each 0 limit)
 events_for_a_call_of_64 = refl
 
 -- line 100000 can have each of the other faults, and line 100001 has none of them
-faults_of_line_100000 : map (λ bytes. (outcome_of_line plain 100000 None bytes).fault) (replicate 201 48 ∷ (31 ∷ []) ∷ (48 ∷ []) ∷ []) ≡ Some (TooLong 100000) ∷ Some (BadByte 100000) ∷ Some (BadHeader 100000) ∷ []
+faults_of_line_100000 : map (λ bytes. (outcome_of_line plain 100000 None bytes).fault)
+    (replicate 201 48 ∷ (31 ∷ []) ∷ (48 ∷ []) ∷ [])
+    ≡ Some (TooLong 100000) ∷ Some (BadByte 100000) ∷ Some (BadHeader 100000) ∷ []
 faults_of_line_100000 = refl
 
-faults_of_line_100001 : map (λ bytes. (outcome_of_line plain 100001 None bytes).fault) (replicate 201 48 ∷ (31 ∷ []) ∷ (48 ∷ []) ∷ [] ∷ []) ≡ Some TooMany ∷ Some TooMany ∷ Some TooMany ∷ Some TooMany ∷ []
+faults_of_line_100001 : map (λ bytes. (outcome_of_line plain 100001 None bytes).fault)
+    (replicate 201 48 ∷ (31 ∷ []) ∷ (48 ∷ []) ∷ [] ∷ [])
+    ≡ Some TooMany ∷ Some TooMany ∷ Some TooMany ∷ Some TooMany ∷ []
 faults_of_line_100001 = refl
 
 -- the bytes beside 10, which ends a line, and the greatest byte
@@ -418,25 +481,30 @@ bytes_9_11_and_255 : map (λ b. fault_of_script plain (header (line (35 ∷ b �
 unfolding digits number_of_word
 bytes_9_11_and_255 = refl
 
-place_255_is_taken : text_of_script plain (lines (codes "universal 1 directory 1 8" ∷ codes "call 0 at 255" ∷ [])) ≡ lines (codes "called 0.0" ∷ codes "end" ∷ [])
+place_255_is_taken : text_of_script plain (lines (codes "universal 1 directory 1 8" ∷ codes "call 0 at 255" ∷ []))
+    ≡ lines (codes "called 0.0" ∷ codes "end" ∷ [])
 unfolding digits number_below number_of_word
 place_255_is_taken = refl
 
 -- names of 16 and of 17 bytes
-name_of_16_bytes_is_taken : text_of_script plain (lines (codes "universal 1 directory 1 8" ∷ codes "call 0 get abcdefghijklmnop" ∷ [])) ≡ lines (codes "called 0.0" ∷ codes "end" ∷ [])
+name_of_16_bytes_is_taken : text_of_script plain (lines (codes "universal 1 directory 1 8" ∷ codes "call 0 get abcdefghijklmnop" ∷ []))
+    ≡ lines (codes "called 0.0" ∷ codes "end" ∷ [])
 unfolding digits number_of_word
 name_of_16_bytes_is_taken = refl
 
-name_of_17_bytes_is_none : fault_of_script plain (lines (codes "universal 1 directory 1 8" ∷ codes "call 0 get abcdefghijklmnopq" ∷ [])) ≡ Some (BadLine 2)
+name_of_17_bytes_is_none : fault_of_script plain (lines (codes "universal 1 directory 1 8" ∷ codes "call 0 get abcdefghijklmnopq" ∷ []))
+    ≡ Some (BadLine 2)
 unfolding digits number_of_word
 name_of_17_bytes_is_none = refl
 
-value_1000000000000_is_none : fault_of_script plain (lines (codes "universal 1 book 1 8" ∷ codes "call 0 deposit 15 1000000000000" ∷ [])) ≡ Some (BadLine 2)
+value_1000000000000_is_none : fault_of_script plain
+    (lines (codes "universal 1 book 1 8" ∷ codes "call 0 deposit 15 1000000000000" ∷ [])) ≡ Some (BadLine 2)
 unfolding digits number_below number_of_word
 value_1000000000000_is_none = refl
 
 -- each line is written before its answers, but for one with a fault
-echoed : text_of_script (scripts (record { history = 100; echo = On })) (line (codes "# a note") (header (line (codes "call 0 deq") (line (codes "bad") []))))
+echoed : text_of_script (scripts (record { history = 100; echo = On }))
+    (line (codes "# a note") (header (line (codes "call 0 deq") (line (codes "bad") []))))
     ≡ line (codes "> # a note") (line (codes "> universal 1 queue 1 8") (line (codes "> call 0 deq") (line (codes "called 0.0") [])))
 unfolding digits number_of_word
 echoed = refl

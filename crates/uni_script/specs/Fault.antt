@@ -5,7 +5,8 @@ use Rattle.uni_record.specs.declared.verdict.Verdict.{Verdict}
 use Rattle.uni_record.specs.declared.verdict.Verdict.TheVariants.{Agrees, BadCall, BadReply, Missing, BadReturn, Twice}
 use Rattle.uni_script.specs.Answer.{call_text}
 use Rattle.uni_script.specs.declared.fault.BenchFault.{BenchFault}
-use Rattle.uni_script.specs.declared.fault.BenchFault.TheVariants.{NoHeader, BadHeader, TooLong, BadByte, BadLine, TooMany, Read, Write, Memory, Audit}
+use Rattle.uni_script.specs.declared.fault.BenchFault.TheVariants.{NoHeader, BadHeader, TooLong, BadByte, BadLine, TooMany, Read, Write}
+use Rattle.uni_script.specs.declared.fault.BenchFault.TheVariants.{Memory, Audit}
 
 -- what an audit found
 abbrev pub verdict_text : Verdict → List ℕ
@@ -42,13 +43,16 @@ unfolding digits
 a_call_is_missing = refl
 
 -- each text once
-texts_of_faults : map fault_text (NoHeader 1 ∷ BadHeader 1 ∷ TooLong 100000 ∷ BadByte 100000 ∷ BadLine 100000 ∷ TooMany ∷ Read ∷ Write ∷ Memory ∷ [])
-    ≡ codes "line 1: no header" ∷ codes "line 1: bad header" ∷ codes "line 100000: too long" ∷ codes "line 100000: bad byte" ∷ codes "line 100000: bad line"
+texts_of_faults : map fault_text (NoHeader 1 ∷ BadHeader 1 ∷ TooLong 100000 ∷ BadByte 100000 ∷ BadLine 100000 ∷ TooMany ∷ Read
+    ∷ Write ∷ Memory ∷ [])
+    ≡ codes "line 1: no header" ∷ codes "line 1: bad header" ∷ codes "line 100000: too long" ∷ codes "line 100000: bad byte"
+    ∷ codes "line 100000: bad line"
     ∷ codes "line 100001: too many lines" ∷ codes "cannot read" ∷ codes "cannot write" ∷ codes "out of memory" ∷ []
 unfolding digits
 texts_of_faults = refl
 
-texts_of_verdicts : map verdict_text (Agrees ∷ BadCall 0 ∷ BadReply 0 ∷ BadReturn (record { process = 1; nth = 2 }) ∷ Twice (record { process = 1; nth = 2 }) ∷ [])
+texts_of_verdicts : map verdict_text (Agrees ∷ BadCall 0 ∷ BadReply 0 ∷ BadReturn (record { process = 1; nth = 2 })
+    ∷ Twice (record { process = 1; nth = 2 }) ∷ [])
     ≡ codes "agrees" ∷ codes "entry 0 call" ∷ codes "entry 0 reply" ∷ codes "return 1.2 reply" ∷ codes "return 1.2 twice" ∷ []
 unfolding digits
 texts_of_verdicts = refl

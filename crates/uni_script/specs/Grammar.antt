@@ -1,5 +1,6 @@
 -- The lines of a script, and what each of them means.
-use Rattle.std.specs.Prelude.{◌≡◌, ◌≤◌, ℕ, ◌==◌, nat_le, ◌&&◌, if◌then◌else◌, Bool, true, false, List, [], ◌∷◌, ◌++◌, map, Option, Some, None, option_map, option_and_then, codes, refl}
+use Rattle.std.specs.Prelude.{◌≡◌, ◌≤◌, ℕ, ◌==◌, nat_le, ◌&&◌, if◌then◌else◌, Bool, true, false, List, []}
+use Rattle.std.specs.Prelude.{◌∷◌, ◌++◌, map, Option, Some, None, option_map, option_and_then, codes, refl}
 use Rattle.std.specs.Str.{bytes_eq}
 use Rattle.std.proofs.Common.{arith}
 use Rattle.ready_objects.specs.Number.{number_of_word}
@@ -72,7 +73,8 @@ most_processes Two = 64
 -- the header of so many processes, with rows of so many cells, 1 to 4096
 abbrev pub header_with : {N : Type 0} → Version → N → (n k : ℕ) → Option (Header N)
 header_with version object n k =
-    if nat_le 1 n && nat_le n (most_processes version) && nat_le 1 k && nat_le k 4096 then Some (record { version = version; object = object; processes = n; row = k })
+    if nat_le 1 n && nat_le n (most_processes version) && nat_le 1 k
+    && nat_le k 4096 then Some (record { version = version; object = object; processes = n; row = k })
     else None
 
 -- the numbers of a header are in range
@@ -121,7 +123,8 @@ command_of_number version name p [] =
     else if bytes_eq name (codes "reshape") then option_and_then (reshape_of version) p
     else if bytes_eq name (codes "step") then step_of p (Some 1)
     else None
-command_of_number version name p (m ∷ []) = if bytes_eq name (codes "step") then step_of p (option_and_then count_of_number (number_of_word m)) else None
+command_of_number version name p (m ∷ []) =
+    if bytes_eq name (codes "step") then step_of p (option_and_then count_of_number (number_of_word m)) else None
 command_of_number version name p _ = None
 
 -- the command that one word is
@@ -149,7 +152,8 @@ no_line_follows_the_last_end = refl
 a_line_may_be_empty : lines_of (10 ∷ 10 ∷ []) ≡ [] ∷ [] ∷ []
 a_line_may_be_empty = refl
 
-a_header : header_of_words (words_of_text (codes "universal 1 queue 2 8")) ≡ Some (record { version = One; object = Queue; processes = 2; row = 8 })
+a_header : header_of_words (words_of_text (codes "universal 1 queue 2 8"))
+    ≡ Some (record { version = One; object = Queue; processes = 2; row = 8 })
 unfolding number_of_word
 a_header = refl
 
@@ -157,7 +161,8 @@ seventeen_processes_are_none : header_of_words (words_of_text (codes "universal 
 unfolding number_of_word
 seventeen_processes_are_none = refl
 
-but_not_in_version_2 : header_of_words (words_of_text (codes "universal 2 queue 17 8")) ≡ Some (record { version = Two; object = Queue; processes = 17; row = 8 })
+but_not_in_version_2 : header_of_words (words_of_text (codes "universal 2 queue 17 8"))
+    ≡ Some (record { version = Two; object = Queue; processes = 17; row = 8 })
 unfolding number_of_word
 but_not_in_version_2 = refl
 
@@ -223,32 +228,43 @@ bytes_32_and_126_are_plain = refl
 bytes_31_and_127_are_not : map is_plain_byte (31 ∷ 127 ∷ []) ≡ false ∷ false ∷ []
 bytes_31_and_127_are_not = refl
 
-a_note_is_empty_or_begins_with_byte_35 : map is_note ([] ∷ (35 ∷ []) ∷ (34 ∷ []) ∷ (36 ∷ []) ∷ (32 ∷ 35 ∷ []) ∷ []) ≡ true ∷ true ∷ false ∷ false ∷ false ∷ []
+a_note_is_empty_or_begins_with_byte_35 : map is_note ([] ∷ (35 ∷ []) ∷ (34 ∷ []) ∷ (36 ∷ []) ∷ (32 ∷ 35 ∷ []) ∷ [])
+    ≡ true ∷ true ∷ false ∷ false ∷ false ∷ []
 a_note_is_empty_or_begins_with_byte_35 = refl
 
-four_words_are_objects : map object_of_word (codes "queue" ∷ codes "directory" ∷ codes "book" ∷ codes "sticky" ∷ codes "tally" ∷ [])
+four_words_are_objects : map object_of_word (codes "queue" ∷ codes "directory" ∷ codes "book" ∷ codes "sticky"
+    ∷ codes "tally" ∷ [])
     ≡ Some Queue ∷ Some Directory ∷ Some Book ∷ Some Sticky ∷ None ∷ []
 four_words_are_objects = refl
 
-two_words_are_versions : map version_of_word (codes "0" ∷ codes "1" ∷ codes "2" ∷ codes "3" ∷ []) ≡ None ∷ Some One ∷ Some Two ∷ None ∷ []
+two_words_are_versions : map version_of_word (codes "0" ∷ codes "1" ∷ codes "2" ∷ codes "3" ∷ [])
+    ≡ None ∷ Some One ∷ Some Two ∷ None ∷ []
 two_words_are_versions = refl
 
 -- the header of a queue that a text is
 abbrev header_of_text : List ℕ → Option (Header ObjectName)
 header_of_text text = header_of_words (words_of_text text)
 
-version_1_has_1_to_16_processes : map header_of_text (codes "universal 1 queue 0 8" ∷ codes "universal 1 queue 1 8" ∷ codes "universal 1 queue 16 8" ∷ codes "universal 1 queue 17 8" ∷ [])
-    ≡ None ∷ Some (record { version = One; object = Queue; processes = 1; row = 8 }) ∷ Some (record { version = One; object = Queue; processes = 16; row = 8 }) ∷ None ∷ []
+version_1_has_1_to_16_processes : map header_of_text
+    (codes "universal 1 queue 0 8" ∷ codes "universal 1 queue 1 8" ∷ codes "universal 1 queue 16 8"
+    ∷ codes "universal 1 queue 17 8" ∷ [])
+    ≡ None ∷ Some (record { version = One; object = Queue; processes = 1; row = 8 })
+    ∷ Some (record { version = One; object = Queue; processes = 16; row = 8 }) ∷ None ∷ []
 unfolding number_of_word
 version_1_has_1_to_16_processes = refl
 
-version_2_has_1_to_64_processes : map header_of_text (codes "universal 2 queue 0 8" ∷ codes "universal 2 queue 1 8" ∷ codes "universal 2 queue 64 8" ∷ codes "universal 2 queue 65 8" ∷ [])
-    ≡ None ∷ Some (record { version = Two; object = Queue; processes = 1; row = 8 }) ∷ Some (record { version = Two; object = Queue; processes = 64; row = 8 }) ∷ None ∷ []
+version_2_has_1_to_64_processes : map header_of_text
+    (codes "universal 2 queue 0 8" ∷ codes "universal 2 queue 1 8" ∷ codes "universal 2 queue 64 8"
+    ∷ codes "universal 2 queue 65 8" ∷ [])
+    ≡ None ∷ Some (record { version = Two; object = Queue; processes = 1; row = 8 })
+    ∷ Some (record { version = Two; object = Queue; processes = 64; row = 8 }) ∷ None ∷ []
 unfolding number_of_word
 version_2_has_1_to_64_processes = refl
 
-a_row_has_1_to_4096_cells : map header_of_text (codes "universal 1 queue 2 0" ∷ codes "universal 1 queue 2 1" ∷ codes "universal 1 queue 2 4096" ∷ codes "universal 1 queue 2 4097" ∷ [])
-    ≡ None ∷ Some (record { version = One; object = Queue; processes = 2; row = 1 }) ∷ Some (record { version = One; object = Queue; processes = 2; row = 4096 }) ∷ None ∷ []
+a_row_has_1_to_4096_cells : map header_of_text (codes "universal 1 queue 2 0" ∷ codes "universal 1 queue 2 1"
+    ∷ codes "universal 1 queue 2 4096" ∷ codes "universal 1 queue 2 4097" ∷ [])
+    ≡ None ∷ Some (record { version = One; object = Queue; processes = 2; row = 1 })
+    ∷ Some (record { version = One; object = Queue; processes = 2; row = 4096 }) ∷ None ∷ []
 unfolding number_of_word
 a_row_has_1_to_4096_cells = refl
 
@@ -270,12 +286,17 @@ one_to_1000_steps : map command_of_text (codes "step 3 0" ∷ codes "step 3 1" �
 unfolding number_of_word
 one_to_1000_steps = refl
 
-number_999999999999_is_taken : map command_of_text (codes "call 999999999999 deq" ∷ codes "step 999999999999" ∷ codes "step 999999999999 1" ∷ codes "finish 999999999999" ∷ codes "reshape 999999999999" ∷ [])
-    ≡ Some (Call 999999999999 Deq) ∷ Some (Step 999999999999 1) ∷ Some (Step 999999999999 1) ∷ Some (Finish 999999999999) ∷ Some (Reshape 999999999999) ∷ []
+number_999999999999_is_taken : map command_of_text
+    (codes "call 999999999999 deq" ∷ codes "step 999999999999" ∷ codes "step 999999999999 1" ∷ codes "finish 999999999999"
+    ∷ codes "reshape 999999999999" ∷ [])
+    ≡ Some (Call 999999999999 Deq) ∷ Some (Step 999999999999 1) ∷ Some (Step 999999999999 1) ∷ Some (Finish 999999999999)
+    ∷ Some (Reshape 999999999999) ∷ []
 unfolding number_of_word
 number_999999999999_is_taken = refl
 
-number_1000000000000_is_not : map command_of_text (codes "call 1000000000000 deq" ∷ codes "step 1000000000000" ∷ codes "step 1000000000000 1" ∷ codes "finish 1000000000000" ∷ codes "reshape 1000000000000" ∷ [])
+number_1000000000000_is_not : map command_of_text
+    (codes "call 1000000000000 deq" ∷ codes "step 1000000000000" ∷ codes "step 1000000000000 1" ∷ codes "finish 1000000000000"
+    ∷ codes "reshape 1000000000000" ∷ [])
     ≡ None ∷ None ∷ None ∷ None ∷ None ∷ []
 unfolding number_of_word
 number_1000000000000_is_not = refl
@@ -295,20 +316,28 @@ no_process_is_out_of_range = λ range. let least = range.0 in omega arith
 a_row_of_0_is_out_of_range : ¬ (IsInRange (record { version = One; object = Queue; processes = 1; row = 0 }))
 a_row_of_0_is_out_of_range = λ range. let least = range.2 in omega arith
 
-a_row_of_version_2_has_1_to_4096_cells : map header_of_text (codes "universal 2 queue 64 0" ∷ codes "universal 2 queue 64 1" ∷ codes "universal 2 queue 64 4096" ∷ codes "universal 2 queue 64 4097" ∷ [])
-    ≡ None ∷ Some (record { version = Two; object = Queue; processes = 64; row = 1 }) ∷ Some (record { version = Two; object = Queue; processes = 64; row = 4096 }) ∷ None ∷ []
+a_row_of_version_2_has_1_to_4096_cells : map header_of_text
+    (codes "universal 2 queue 64 0" ∷ codes "universal 2 queue 64 1" ∷ codes "universal 2 queue 64 4096"
+    ∷ codes "universal 2 queue 64 4097" ∷ [])
+    ≡ None ∷ Some (record { version = Two; object = Queue; processes = 64; row = 1 })
+    ∷ Some (record { version = Two; object = Queue; processes = 64; row = 4096 }) ∷ None ∷ []
 unfolding number_of_word
 a_row_of_version_2_has_1_to_4096_cells = refl
 
-versions_0_and_3_are_none : map header_of_text (codes "universal 0 queue 2 8" ∷ codes "universal 3 queue 2 8" ∷ codes "universal 11 queue 2 8" ∷ codes "universal 999999999999 queue 2 8" ∷ []) ≡ None ∷ None ∷ None ∷ None ∷ []
+versions_0_and_3_are_none : map header_of_text (codes "universal 0 queue 2 8" ∷ codes "universal 3 queue 2 8"
+    ∷ codes "universal 11 queue 2 8" ∷ codes "universal 999999999999 queue 2 8" ∷ []) ≡ None ∷ None ∷ None ∷ None ∷ []
 unfolding number_of_word
 versions_0_and_3_are_none = refl
 
-leading_zeros_are_in_no_header : map header_of_text (codes "universal 01 queue 2 8" ∷ codes "universal 1 queue 02 8" ∷ codes "universal 1 queue 2 08" ∷ []) ≡ None ∷ None ∷ None ∷ []
+leading_zeros_are_in_no_header : map header_of_text
+    (codes "universal 01 queue 2 8" ∷ codes "universal 1 queue 02 8" ∷ codes "universal 1 queue 2 08" ∷ [])
+    ≡ None ∷ None ∷ None ∷ []
 unfolding number_of_word
 leading_zeros_are_in_no_header = refl
 
-the_greatest_numbers_are_in_no_header : map header_of_text (codes "universal 2 queue 999999999999 8" ∷ codes "universal 2 queue 2 999999999999" ∷ codes "universal 2 queue 1000000000000 8" ∷ codes "universal 2 queue 2 1000000000000" ∷ [])
+the_greatest_numbers_are_in_no_header : map header_of_text
+    (codes "universal 2 queue 999999999999 8" ∷ codes "universal 2 queue 2 999999999999" ∷ codes "universal 2 queue 1000000000000 8"
+    ∷ codes "universal 2 queue 2 1000000000000" ∷ [])
     ≡ None ∷ None ∷ None ∷ None ∷ []
 unfolding number_of_word
 the_greatest_numbers_are_in_no_header = refl
@@ -317,7 +346,8 @@ the_greatest_numbers_are_in_no_header = refl
 counts_are_1_to_1000 : map count_of_number (0 ∷ 1 ∷ 1000 ∷ 1001 ∷ []) ≡ None ∷ Some 1 ∷ Some 1000 ∷ None ∷ []
 counts_are_1_to_1000 = refl
 
-the_greatest_numbers_are_no_counts : map command_of_text (codes "step 3 999999999999" ∷ codes "step 3 1000000000000" ∷ []) ≡ None ∷ None ∷ []
+the_greatest_numbers_are_no_counts : map command_of_text (codes "step 3 999999999999" ∷ codes "step 3 1000000000000" ∷ [])
+    ≡ None ∷ None ∷ []
 unfolding number_of_word
 the_greatest_numbers_are_no_counts = refl
 
@@ -326,12 +356,15 @@ number_0_is_taken : map command_of_text (codes "call 0 deq" ∷ codes "step 0" �
 unfolding number_of_word
 number_0_is_taken = refl
 
-leading_zeros_are_in_no_command : map command_of_text (codes "call 00 deq" ∷ codes "step 03" ∷ codes "step 3 01" ∷ codes "step 3 00" ∷ codes "finish 03" ∷ codes "reshape 03" ∷ [])
+leading_zeros_are_in_no_command : map command_of_text
+    (codes "call 00 deq" ∷ codes "step 03" ∷ codes "step 3 01" ∷ codes "step 3 00" ∷ codes "finish 03"
+    ∷ codes "reshape 03" ∷ [])
     ≡ None ∷ None ∷ None ∷ None ∷ None ∷ None ∷ []
 unfolding number_of_word
 leading_zeros_are_in_no_command = refl
 
 -- they too are refused once they are run, but for 64
-reshapes_to_64_and_65_are_commands : map command_of_text (codes "reshape 64" ∷ codes "reshape 65" ∷ []) ≡ Some (Reshape 64) ∷ Some (Reshape 65) ∷ []
+reshapes_to_64_and_65_are_commands : map command_of_text (codes "reshape 64" ∷ codes "reshape 65" ∷ [])
+    ≡ Some (Reshape 64) ∷ Some (Reshape 65) ∷ []
 unfolding number_of_word
 reshapes_to_64_and_65_are_commands = refl

@@ -1,5 +1,6 @@
 -- How the lines of a script are taken from a reader, and what is run of them.
-use Rattle.std.specs.Prelude.{◌≡◌, ◌≢◌, ◌⊎◌, ℕ, ◌+◌, ◌-◌, ◌<◌, ◌≤◌, List, [], ◌∷◌, ◌++◌, length, take, drop, replicate, slice_index, Option, Some, None, Result, Ok, Err, IfOk, OnOk, refl}
+use Rattle.std.specs.Prelude.{◌≡◌, ◌≢◌, ◌⊎◌, ℕ, ◌+◌, ◌-◌, ◌<◌, ◌≤◌, List, [], ◌∷◌, ◌++◌}
+use Rattle.std.specs.Prelude.{length, take, drop, replicate, slice_index, Option, Some, None, Result, Ok, Err, IfOk, OnOk, refl}
 use Rattle.std.proofs.Common.{arith, ap, sym}
 use Rattle.std.specs.Io.KnownBytes.{Consumes, Appends, IsAtEnd}
 use Rattle.uni_script.specs.Ends.{AppendsFront}
@@ -51,7 +52,9 @@ pub data Stop : Type 0 where
 abbrev pub StopsAt : Stop → (bytes past : List ℕ) → Option (List ℕ) → Type 0
 StopsAt End bytes past left = (past ≡ []) × IsAtEnd left
 StopsAt Failed bytes past left = past ≡ []
-StopsAt TooLong bytes past left = (length (cut bytes).whole < 100000) × (length (cut bytes).tail ≡ 200) × ((b : ℕ) × (more : List ℕ) × (past ≡ b ∷ more) × (b ≢ 10))
+StopsAt TooLong bytes past left =
+    (length (cut bytes).whole < 100000) × (length (cut bytes).tail ≡ 200)
+    × ((b : ℕ) × (more : List ℕ) × (past ≡ b ∷ more) × (b ≢ 10))
 StopsAt TooMany bytes past left = (length (cut bytes).whole ≡ 100000) × ((b : ℕ) × (more : List ℕ) × (past ≡ b ∷ more))
 
 -- a line is too long once a byte after 200 of them doesn't end it
@@ -92,9 +95,11 @@ fault_of_stop TooMany lines = Some fault.TooMany
 abbrev pub TakesOn : (old new : Option (List ℕ)) (before after : Lines) → Taken → Type 0
 TakesOn old new before after taken.Line =
     (after.count ≡ before.count + 1)
-    × ((left : Option (List ℕ)) (lines : List (List ℕ)) → HasTaken left old before lines → HasTaken left new after (lines ++ line_of after ∷ []))
+    × ((left : Option (List ℕ)) (lines : List (List ℕ)) → HasTaken left old before lines
+    → HasTaken left new after (lines ++ line_of after ∷ []))
 TakesOn old new before after taken.End =
-    (after.count ≡ before.count) × ((left : Option (List ℕ)) (lines : List (List ℕ)) → HasTaken left old before lines → HasStopped left new End lines)
+    (after.count ≡ before.count) × ((left : Option (List ℕ)) (lines : List (List ℕ)) → HasTaken left old before lines
+    → HasStopped left new End lines)
 
 -- after lines that were taken reading stopped with this fault
 abbrev pub StopsWith : (old new : Option (List ℕ)) (before : Lines) → BenchFault → Type 0
@@ -112,7 +117,8 @@ outcome_of_stop TooMany lines b = outcome_of_fault b fault.TooMany
 -- the run of what was read
 abbrev pub outcome_of_read : {B : Type 0} (kind : Kind B) → Stop → List ℕ → Outcome B
 outcome_of_read kind stop bytes =
-    and_then (outcome_of_lines kind 1 None (lines_of_read stop bytes)) (λ after. outcome_of_stop stop (length (lines_of_read stop bytes)) after)
+    and_then (outcome_of_lines kind 1 None (lines_of_read stop bytes))
+    (λ after. outcome_of_stop stop (length (lines_of_read stop bytes)) after)
 
 -- a call ended as the outcome says, and a text grew by its text; or memory was refused
 abbrev pub EndsAs : {A B : Type 0} → Outcome B → (old new : List ℕ) → Result A BenchFault → Type 0
@@ -123,11 +129,14 @@ EndsAs outcome old new (Err e) = (e ≡ Memory) ⊎ ((outcome.fault ≡ Some e) 
 -- of it was
 abbrev pub WritesAs : {A B : Type 0} → Outcome B → (old new : Option (List ℕ)) → Result A BenchFault → Type 0
 WritesAs outcome old new (Ok _) = (outcome.fault ≡ None) × Appends old new outcome.text
-WritesAs outcome old new (Err e) = (((e ≡ Memory) ⊎ (e ≡ Write)) × AppendsFront old new outcome.text) ⊎ ((outcome.fault ≡ Some e) × Appends old new outcome.text)
+WritesAs outcome old new (Err e) =
+    (((e ≡ Memory) ⊎ (e ≡ Write)) × AppendsFront old new outcome.text)
+    ⊎ ((outcome.fault ≡ Some e) × Appends old new outcome.text)
 
 -- The lines that were taken have left this session and no fault. The text of their answers was written, but for what is gathered of
 -- it, and what they tell was heard.
-pub record HasRun {B : Type 0} (kind : Kind B) (old now : Option (List ℕ)) (lines : Lines) (written_old written : Option (List ℕ)) (gathered : List ℕ) (told_old told : Option (List Telling)) (taken : List (List ℕ)) (session : Option B) : Type 0 where
+pub record HasRun {B : Type 0} (kind : Kind B) (old now : Option (List ℕ)) (lines : Lines) (written_old written : Option (List ℕ))
+    (gathered : List ℕ) (told_old told : Option (List Telling)) (taken : List (List ℕ)) (session : Option B) : Type 0 where
   pub reading : HasTaken old now lines taken
   pub fault : (outcome_of_lines kind 1 None taken).fault ≡ None
   pub session_after : (outcome_of_lines kind 1 None taken).session ≡ session
@@ -145,7 +154,8 @@ pub record ReadsOn (old now : Option (List ℕ)) (taken : List (List ℕ)) : Typ
   pub lines : lines_of_read stop bytes ≡ taken ++ more
 
 -- what was read has this first fault, and the text of the lines that were taken
-pub record HasFaultAfter {B : Type 0} (kind : Kind B) (old now : Option (List ℕ)) (taken : List (List ℕ)) (e : BenchFault) : Type 0 where
+pub record HasFaultAfter {B : Type 0} (kind : Kind B) (old now : Option (List ℕ)) (taken : List (List ℕ))
+    (e : BenchFault) : Type 0 where
   pub stop : Stop
   pub bytes : List ℕ
   pub read : IsRead old now stop bytes
@@ -157,7 +167,9 @@ abbrev pub FaultsAfter : {B : Type 0} (kind : Kind B) (old now : Option (List �
 FaultsAfter kind old now taken e = ((e ≡ Memory) × ReadsOn old now taken) ⊎ HasFaultAfter kind old now taken e
 
 -- after the lines that were taken a further one was run, or the script has ended, or it has a fault
-abbrev pub GoesOn : {B : Type 0} (kind : Kind B) (old new : Option (List ℕ)) (lines after : Lines) (written_old written : Option (List ℕ)) (gathered gathered_new : List ℕ) (told_old told told_new : Option (List Telling)) (earlier : List (List ℕ)) (b b_new : B)
+abbrev pub GoesOn : {B : Type 0} (kind : Kind B) (old new : Option (List ℕ)) (lines after : Lines)
+    (written_old written : Option (List ℕ)) (gathered gathered_new : List ℕ) (told_old told told_new : Option (List Telling))
+    (earlier : List (List ℕ)) (b b_new : B)
     → Result Taken BenchFault → Type 0
 GoesOn kind old new lines after written_old written gathered gathered_new told_old told told_new earlier b b_new (Ok taken.Line) =
     (further : List (List ℕ)) × HasRun kind old new after written_old written gathered_new told_old told_new further (Some b_new)
@@ -167,20 +179,25 @@ GoesOn kind old new lines after written_old written gathered gathered_new told_o
     (gathered_new ≡ gathered) × FaultsAfter kind old new earlier e
 
 -- the run of what was read has ended as it should, and this was made of a script of so many lines and the session that it leaves
-pub record HasEnded {B : Type 0} (kind : Kind B) (old new : Option (List ℕ)) (written_old written : Option (List ℕ)) (told_old told : Option (List Telling)) {Made : Type 0} (IsMade : (lines : ℕ) → B → Made → Type 0) (result : Result Made BenchFault) : Type 0 where
+pub record HasEnded {B : Type 0} (kind : Kind B) (old new : Option (List ℕ)) (written_old written : Option (List ℕ))
+    (told_old told : Option (List Telling)) {Made : Type 0} (IsMade : (lines : ℕ) → B → Made → Type 0)
+    (result : Result Made BenchFault) : Type 0 where
   pub stop : Stop
   pub bytes : List ℕ
   pub read : IsRead old new stop bytes
   pub ends : WritesAs (outcome_of_read kind stop bytes) written_old written result
-  pub made : IfOk result (λ made. (b : B) × ((outcome_of_read kind stop bytes).session ≡ Some b) × IsMade (length (lines_of_read stop bytes)) b made)
+  pub made : IfOk result (λ made. (b : B) × ((outcome_of_read kind stop bytes).session ≡ Some b)
+      × IsMade (length (lines_of_read stop bytes)) b made)
   pub told_as : OnOk result (Tells told_old told (told_of_lines kind 1 None (lines_of_read stop bytes)))
 
 -- the lines that are left are run from this session on, whatever lines came before it
-abbrev pub RunsOn : {B : Type 0} (kind : Kind B) (now : Option (List ℕ)) (lines : Lines) (written : Option (List ℕ)) (told : Option (List Telling)) → Option B → (new written_new : Option (List ℕ)) (told_new : Option (List Telling))
+abbrev pub RunsOn : {B : Type 0} (kind : Kind B) (now : Option (List ℕ)) (lines : Lines) (written : Option (List ℕ))
+    (told : Option (List Telling)) → Option B → (new written_new : Option (List ℕ)) (told_new : Option (List Telling))
     → {Made : Type 0} (IsMade : (lines : ℕ) → B → Made → Type 0) → Result Made BenchFault → Type 0
 RunsOn kind now lines written told session new written_new told_new IsMade result =
     (old written_old : Option (List ℕ)) (told_old : Option (List Telling)) (taken : List (List ℕ))
-    → HasRun kind old now lines written_old written [] told_old told taken session → HasEnded kind old new written_old written_new told_old told_new IsMade result
+    → HasRun kind old now lines written_old written [] told_old told taken session
+    → HasEnded kind old new written_old written_new told_old told_new IsMade result
 
 -- a fault that the run of a line can have
 abbrev pub IsFaultOfLine : BenchFault → Type 0

@@ -1,5 +1,6 @@
 -- What a command means: it is some events of the construction, and their replay leads to the world after it.
-use Rattle.std.specs.Prelude.{ℕ, zero, suc, ◌+◌, ◌-◌, ◌*◌, ◌==◌, nat_le, nat_lt, ◌^◌, ◌&&◌, if◌then◌else◌, Bool, List, [], ◌∷◌, ◌++◌, length, map, replicate, Option, Some, None, is_some, is_none, option_map}
+use Rattle.std.specs.Prelude.{ℕ, zero, suc, ◌+◌, ◌-◌, ◌*◌, ◌==◌, nat_le, nat_lt, ◌^◌, ◌&&◌, if◌then◌else◌}
+use Rattle.std.specs.Prelude.{Bool, List, [], ◌∷◌, ◌++◌, length, map, replicate, Option, Some, None, is_some, is_none, option_map}
 use Rattle.std.specs.Option.{option_map_or}
 use Rattle.std.specs.List.{concat}
 use Rattle.seq_object.specs.declared.call_id.CallId.{CallId}
@@ -19,7 +20,8 @@ use Rattle.uni_script.specs.declared.grammar.Command.{Command}
 use Rattle.uni_script.specs.declared.grammar.Command.TheVariants as command
 use Rattle.uni_script.specs.declared.answer.Refusal.{Refusal}
 use Rattle.uni_script.specs.declared.answer.Refusal.TheVariants.{Process, Busy, Row, Idle, Pending, Sequence, History, Count}
-use Rattle.uni_script.specs.Answer.{called_text, refused_text, returned_text, going_text, heads_text, trimmed_text, reshaped_text, entry_text}
+use Rattle.uni_script.specs.Answer.{called_text, refused_text, returned_text, going_text, heads_text, trimmed_text, reshaped_text}
+use Rattle.uni_script.specs.Answer.{entry_text}
 use Rattle.uni_script.specs.Objects.{SpokenObject}
 
 -- What a header opens, and what has come since: how many processes there were and the number of the anchor; how many calls a
@@ -34,7 +36,14 @@ pub record Session (S I R : Type 0) : Type 0 where
 
 -- the record that the code has
 abbrev pub session_of : {O S I R : Type 0} → Recording O S I R → Session S I R
-session_of r = record { processes = r.processes; first = r.first; row = r.world.row; limit = r.limit; events = events_shown r.events; world = world_of r.world }
+session_of r = record {
+  processes = r.processes;
+  first = r.first;
+  row = r.world.row;
+  limit = r.limit;
+  events = events_shown r.events;
+  world = world_of r.world;
+}
 
 -- a session on which further events have come: its world goes on by their replay
 abbrev pub session_after : {S I R : Type 0} → SpokenObject S I R → Session S I R → List (Event I) → Session S I R
@@ -68,7 +77,9 @@ refusal_of_call b p =
 
 -- a process begins a call
 abbrev pub result_of_call : {S I R : Type 0} → Session S I R → ℕ → I → CommandResult I
-result_of_call b p i = option_map_or refused (refusal_of_call b p) (record { events = Call p i ∷ []; text = called_text (record { process = p; nth = b.world.begun p }) })
+result_of_call b p i =
+    option_map_or refused (refusal_of_call b p) (record
+    { events = Call p i ∷ []; text = called_text (record { process = p; nth = b.world.begun p }) })
 
 -- why a process can't take a step, if it can't
 abbrev pub refusal_of_step : {S I R : Type 0} → WorldOf S I R → ℕ → Option Refusal
@@ -93,7 +104,8 @@ pub record LastStep (R : Type 0) : Type 0 where
 -- the first of so many steps of a process that has a response
 abbrev pub last_step : {S I R : Type 0} → SpokenObject S I R → WorldOf S I R → (p most : ℕ) → Option (LastStep R)
 last_step o w p zero = None
-last_step o w p (suc m) = option_map_or Some (last_step o w p m) (option_map (λ r. record { earlier = m; response = r }) (response_after o w p m))
+last_step o w p (suc m) =
+    option_map_or Some (last_step o w p m) (option_map (λ r. record { earlier = m; response = r }) (response_after o w p m))
 
 -- how many steps are taken of so many: none after the last one of a call
 abbrev pub steps_taken : {R : Type 0} → (most : ℕ) → Option (LastStep R) → ℕ
@@ -129,7 +141,8 @@ refusal_of_end b m =
 
 -- the era ends
 abbrev pub result_of_trim : {S I R : Type 0} → Session S I R → CommandResult I
-result_of_trim b = option_map_or refused (refusal_of_end b b.world.n) (record { events = Trim ∷ []; text = trimmed_text (last_number b.world) })
+result_of_trim b =
+    option_map_or refused (refusal_of_end b b.world.n) (record { events = Trim ∷ []; text = trimmed_text (last_number b.world) })
 
 -- why it can't end for another number of processes, if it can't
 abbrev pub refusal_of_reshape : {S I R : Type 0} → Session S I R → (m : ℕ) → Option Refusal
@@ -137,11 +150,13 @@ refusal_of_reshape b m = if nat_le 1 m && nat_le m 64 then refusal_of_end b m el
 
 -- the era ends, and there are m processes then
 abbrev pub result_of_reshape : {S I R : Type 0} → Session S I R → (m : ℕ) → CommandResult I
-result_of_reshape b m = option_map_or refused (refusal_of_reshape b m) (record { events = Reshape m ∷ []; text = reshaped_text m (last_number b.world) })
+result_of_reshape b m =
+    option_map_or refused (refusal_of_reshape b m) (record { events = Reshape m ∷ []; text = reshaped_text m (last_number b.world) })
 
 -- the lines of the entries of the present log
 abbrev pub log_text : {S I R : Type 0} → SpokenObject S I R → WorldOf S I R → List ℕ
-log_text o w = concat (map (λ (entry : Entry _ _). entry_text (λ inv. text_of_words (o.language.inv_words inv)) o.language.resp_text entry) (log w))
+log_text o w = concat (map (λ (entry : Entry _ _). entry_text
+    (λ inv. text_of_words (o.language.inv_words inv)) o.language.resp_text entry) (log w))
 
 abbrev pub result_of_command : {S I R : Type 0} → SpokenObject S I R → Session S I R → Command I → CommandResult I
 result_of_command o b (command.Call p i) = result_of_call b p i
@@ -165,4 +180,11 @@ refusal_of_command b (command.Reshape m) = refusal_of_reshape b m
 -- the session that a header opens, with a history of so many events at most
 abbrev pub opened_session : {S I R N : Type 0} → SpokenObject S I R → (limit : ℕ) → Header N → Session S I R
 opened_session o limit header =
-    record { processes = header.processes; first = 1; row = header.row; limit = limit; events = []; world = opened_world header.processes o.object.initial 1 }
+    record {
+      processes = header.processes;
+      first = 1;
+      row = header.row;
+      limit = limit;
+      events = [];
+      world = opened_world header.processes o.object.initial 1;
+    }

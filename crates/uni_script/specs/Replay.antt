@@ -2,7 +2,8 @@
 use Rattle.std.specs.Prelude.{◌≡◌, ℕ, List, length, Option, None, Some, IfSome}
 use Rattle.std.specs.Io.KnownBytes.{Appends, Consumes}
 use Rattle.uni_script.specs.declared.fault.BenchFault.{BenchFault}
-use Rattle.uni_script.specs.declared.fault.BenchFault.TheVariants.{NoHeader, BadHeader, TooLong, BadByte, BadLine, TooMany, Read, Write, Memory, Audit}
+use Rattle.uni_script.specs.declared.fault.BenchFault.TheVariants.{NoHeader, BadHeader, TooLong, BadByte, BadLine, TooMany, Read, Write}
+use Rattle.uni_script.specs.declared.fault.BenchFault.TheVariants.{Memory, Audit}
 use Rattle.uni_script.specs.Ends.{AppendsFront}
 use Rattle.uni_script.specs.Grammar.{cut, lines_of}
 use Rattle.uni_script.specs.declared.summary.Summary.{Summary}
@@ -63,7 +64,8 @@ module _ {B : Type 0} (kind : Kind B) where
   -- the reader gave some bytes whose whole lines have no fault, and the text of their answers was written
   abbrev pub HasAnswered : (left left_after old new : Option (List ℕ)) → Type 0
   HasAnswered left left_after old new =
-      (bytes : List ℕ) × Consumes left left_after bytes × (fault_of_whole_lines bytes ≡ None) × Appends old new (text_of_whole_lines bytes)
+      (bytes : List ℕ) × Consumes left left_after bytes × (fault_of_whole_lines bytes ≡ None)
+      × Appends old new (text_of_whole_lines bytes)
 
   -- the reader had a script with a fault, and the answers to all lines before it were written
   abbrev pub IsBadReplay : (left old new : Option (List ℕ)) → Type 0

@@ -1,5 +1,6 @@
 -- Schedules: scripts that are drawn from words of 64 bits.
-use Rattle.std.specs.Prelude.{◌≡◌, ◌≤◌, ℕ, zero, suc, ◌+◌, ◌/◌, ◌%◌, ◌==◌, nat_le, if◌then◌else◌, List, [], ◌∷◌, ◌++◌, map, get_or, codes, refl}
+use Rattle.std.specs.Prelude.{◌≡◌, ◌≤◌, ℕ, zero, suc, ◌+◌, ◌/◌, ◌%◌, ◌==◌, nat_le, if◌then◌else◌, List}
+use Rattle.std.specs.Prelude.{[], ◌∷◌, ◌++◌, map, get_or, codes, refl}
 use Rattle.std.specs.Fmt.{decimal, digits}
 use Rattle.std.proofs.Common.{arith}
 use Rattle.rand_xoshiro.specs.Xoshiro256.{plus_plus}
@@ -14,7 +15,8 @@ use Rattle.uni_script.specs.Objects.{spoken_of}
 -- the numbers of a plan are in range
 abbrev pub IsPlan : Plan → Type 0
 IsPlan plan =
-    (1 ≤ plan.processes) × (plan.processes ≤ 64) × (1 ≤ plan.row) × (plan.row ≤ 4096) × (1 ≤ plan.events) × (plan.events ≤ 99000)
+    (1 ≤ plan.processes) × (plan.processes ≤ 64) × (1 ≤ plan.row) × (plan.row ≤ 4096) × (1 ≤ plan.events)
+    × (plan.events ≤ 99000)
 
 -- the word that names an object
 abbrev pub word_of_object : ObjectName → List ℕ
@@ -99,13 +101,15 @@ seventeen_processes_ask_for_version_2 = refl
 sixteen_ask_for_version_1 : map version_of (1 ∷ 16 ∷ 17 ∷ 64 ∷ []) ≡ 1 ∷ 1 ∷ 2 ∷ 2 ∷ []
 sixteen_ask_for_version_1 = refl
 
-words_of_objects : map word_of_object (Queue ∷ Directory ∷ Book ∷ Sticky ∷ []) ≡ codes "queue" ∷ codes "directory" ∷ codes "book" ∷ codes "sticky" ∷ []
+words_of_objects : map word_of_object (Queue ∷ Directory ∷ Book ∷ Sticky ∷ [])
+    ≡ codes "queue" ∷ codes "directory" ∷ codes "book" ∷ codes "sticky" ∷ []
 words_of_objects = refl
 
 -- an event of 64 processes at each residue, where a call would be `deq`: the first word after which the residues come again is
 -- 1024, and the greatest word is 2^64 - 1
 events_at_each_residue : map (λ w. event_line queue_language 64 w 0) (0 ∷ 1 ∷ 3 ∷ 4 ∷ 15 ∷ 16 ∷ 17 ∷ 20 ∷ [])
-    ≡ line (codes "trim") [] ∷ line (codes "call 0 deq") [] ∷ line (codes "call 0 deq") [] ∷ line (codes "step 0") [] ∷ line (codes "step 0") []
+    ≡ line (codes "trim") [] ∷ line (codes "call 0 deq") [] ∷ line (codes "call 0 deq") [] ∷ line (codes "step 0") []
+    ∷ line (codes "step 0") []
     ∷ line (codes "trim") [] ∷ line (codes "call 1 deq") [] ∷ line (codes "step 1") [] ∷ []
 unfolding digits
 events_at_each_residue = refl
@@ -143,12 +147,14 @@ no_plan_has_no_event = λ plan. let least = plan.4 in omega arith
 no_plan_has_99001_events : ¬ (IsPlan (record { object = Queue; processes = 1; row = 1; events = 99001 }))
 no_plan_has_99001_events = λ plan. let most = plan.5 in omega arith
 
-events_take_one_or_two_words : map words_of_event (0 ∷ 1 ∷ 2 ∷ 3 ∷ 4 ∷ 5 ∷ 6 ∷ 7 ∷ 8 ∷ 9 ∷ 10 ∷ 11 ∷ 12 ∷ 13 ∷ 14 ∷ 15 ∷ [])
+events_take_one_or_two_words : map words_of_event
+    (0 ∷ 1 ∷ 2 ∷ 3 ∷ 4 ∷ 5 ∷ 6 ∷ 7 ∷ 8 ∷ 9 ∷ 10 ∷ 11 ∷ 12 ∷ 13 ∷ 14 ∷ 15 ∷ [])
     ≡ 1 ∷ 2 ∷ 2 ∷ 2 ∷ 1 ∷ 1 ∷ 1 ∷ 1 ∷ 1 ∷ 1 ∷ 1 ∷ 1 ∷ 1 ∷ 1 ∷ 1 ∷ 1 ∷ []
 events_take_one_or_two_words = refl
 
 -- whatever word is drawn, one process is process 0
-one_process_is_process_0 : map (λ w. event_line queue_language 1 w 0) (4 ∷ 20 ∷ 18446744073709551615 ∷ []) ≡ line (codes "step 0") [] ∷ line (codes "step 0") [] ∷ line (codes "step 0") [] ∷ []
+one_process_is_process_0 : map (λ w. event_line queue_language 1 w 0) (4 ∷ 20 ∷ 18446744073709551615 ∷ [])
+    ≡ line (codes "step 0") [] ∷ line (codes "step 0") [] ∷ line (codes "step 0") [] ∷ []
 unfolding digits
 one_process_is_process_0 = refl
 
@@ -169,10 +175,12 @@ the_greatest_word_of_a_sticky : event_line (spoken_of Sticky).language 64 1009 1
 unfolding digits
 the_greatest_word_of_a_sticky = refl
 
-the_header_of_16_processes : header_line (record { object = Book; processes = 16; row = 1; events = 1 }) ≡ line (codes "universal 1 book 16 1") []
+the_header_of_16_processes : header_line (record { object = Book; processes = 16; row = 1; events = 1 })
+    ≡ line (codes "universal 1 book 16 1") []
 unfolding digits
 the_header_of_16_processes = refl
 
-the_header_of_the_greatest_plan : header_line (record { object = Sticky; processes = 64; row = 4096; events = 99000 }) ≡ line (codes "universal 2 sticky 64 4096") []
+the_header_of_the_greatest_plan : header_line (record { object = Sticky; processes = 64; row = 4096; events = 99000 })
+    ≡ line (codes "universal 2 sticky 64 4096") []
 unfolding digits
 the_header_of_the_greatest_plan = refl

@@ -44,24 +44,29 @@ IsScriptRun options left run = HasRunWhole (scripts options) left (λ b told. Is
 
 -- what was made of a script of so many lines that leaves this session, a session of this object, seen so: the summary is that of the
 -- object's session, and what is promised of it holds
-abbrev pub IsSummaryOf : {B S I R : Type 0} → SpokenObject S I R → (inside : Session S I R → B) → Session S I R → (lines : ℕ) → B → Summary → Type 0
+abbrev pub IsSummaryOf : {B S I R : Type 0} → SpokenObject S I R → (inside : Session S I R → B) → Session S I R → (lines : ℕ)
+    → B → Summary → Type 0
 IsSummaryOf o inside after lines b summary = (b ≡ inside after) × (summary ≡ summary_of o lines after) × IsPromised o after
 
 -- a record of it, and how much it has done
-abbrev pub IsRanAs : {B O S I R : Type 0} → SpokenObject S I R → (inside : Session S I R → B) → (lines : ℕ) → B → Ran (Recording O S I R) → Type 0
+abbrev pub IsRanAs : {B O S I R : Type 0} → SpokenObject S I R → (inside : Session S I R → B) → (lines : ℕ) → B
+    → Ran (Recording O S I R) → Type 0
 IsRanAs o inside lines b ran = IsSummaryOf o inside (session_of ran.record) lines b ran.summary
 
 -- the record of a script over the named objects
 abbrev pub IsRan : (lines : ℕ) → ScriptSession → Ran ScriptRecord → Type 0
 IsRan lines b ran =
-    (ran.summary ≡ summary_of_session lines b) × IsPromisedSession b × ((version : Version) × (b ≡ session_of_record version ran.record))
+    (ran.summary ≡ summary_of_session lines b) × IsPromisedSession b
+    × ((version : Version) × (b ≡ session_of_record version ran.record))
 
 -- the record of a script over one object
-abbrev pub IsOwnRan : {O S I R : Type 0} → SpokenObject S I R → (lines : ℕ) → OwnSession S I R → Ran (Recording O S I R) → Type 0
+abbrev pub IsOwnRan : {O S I R : Type 0} → SpokenObject S I R → (lines : ℕ) → OwnSession S I R → Ran (Recording O S I R)
+    → Type 0
 IsOwnRan o lines b ran = (ran.summary ≡ summary_of o lines b.session) × IsPromised o b.session × (b.session ≡ session_of ran.record)
 
 -- the run of a script over one object that leaves this session and tells this
-pub record IsOwnRunOf {O S I R : Type 0} (o : SpokenObject S I R) (b : OwnSession S I R) (told : List Telling) (run : ScriptRun (Recording O S I R)) : Type 0 where
+pub record IsOwnRunOf {O S I R : Type 0} (o : SpokenObject S I R) (b : OwnSession S I R) (told : List Telling)
+    (run : ScriptRun (Recording O S I R)) : Type 0 where
   pub session : b.session ≡ session_of run.record
   pub promised : IsPromised o b.session
   pub told_is : told ≡ map told_shown run.told.items

@@ -22,14 +22,17 @@ answered o version inside b words =
     (command_of_words version o.language.inv_of_words words)
 
 -- why words that are a command are refused on it, if they are
-abbrev pub refusal_of_words : {S I R : Type 0} → SpokenObject S I R → Version → Session S I R → (words : List (List ℕ)) → Option Refusal
+abbrev pub refusal_of_words : {S I R : Type 0} → SpokenObject S I R → Version → Session S I R → (words : List (List ℕ))
+    → Option Refusal
 refusal_of_words o version b words =
     option_and_then (refusal_of_command b) (command_of_words version o.language.inv_of_words words)
 
 -- scripts of this kind are about this object in this dialect, where their sessions are those of the object, seen so
-pub record IsAbout {B S I R : Type 0} (kind : Kind B) (o : SpokenObject S I R) (dialect : Dialect) (inside : Session S I R → B) : Type 0 where
+pub record IsAbout {B S I R : Type 0} (kind : Kind B) (o : SpokenObject S I R) (dialect : Dialect)
+    (inside : Session S I R → B) : Type 0 where
   pub made : (b : Session S I R) (words : List (List ℕ)) → kind.made (inside b) words ≡ answered o dialect.version inside b words
-  pub refusal : (b : Session S I R) (words : List (List ℕ)) → kind.refusal (inside b) words ≡ refusal_of_words o dialect.version b words
+  pub refusal : (b : Session S I R) (words : List (List ℕ))
+      → kind.refusal (inside b) words ≡ refusal_of_words o dialect.version b words
   pub events : (b : Session S I R) → kind.events (inside b) ≡ length b.events
   pub echo : kind.echo ≡ dialect.echo
 

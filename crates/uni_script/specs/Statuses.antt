@@ -1,10 +1,12 @@
 -- The statuses with which a program over scripts ends, and what it tells.
-use Rattle.std.specs.Prelude.{◌≡◌, ◌⊎◌, ◌∷◌, ◌++◌, ◌==◌, [], if◌then◌else◌, ℕ, List, Option, Bool, false, codes}
+use Rattle.std.specs.Prelude.{◌≡◌, ◌⊎◌, ◌∷◌, ◌++◌, ◌==◌, [], if◌then◌else◌, ℕ, List, Option, Bool, false}
+use Rattle.std.specs.Prelude.{codes}
 use Rattle.std.specs.Io.KnownBytes.{Appends}
 use Rattle.uni_script.specs.Ends.{AppendsFront}
 use Rattle.uni_script.specs.Fault.{fault_line}
 use Rattle.uni_script.specs.declared.fault.BenchFault.{BenchFault}
-use Rattle.uni_script.specs.declared.fault.BenchFault.TheVariants.{NoHeader, BadHeader, TooLong, BadByte, BadLine, TooMany, Read, Write, Memory, Audit}
+use Rattle.uni_script.specs.declared.fault.BenchFault.TheVariants.{NoHeader, BadHeader, TooLong, BadByte, BadLine, TooMany, Read, Write}
+use Rattle.uni_script.specs.declared.fault.BenchFault.TheVariants.{Memory, Audit}
 
 -- the status that a fault ends with
 abbrev pub status_of : BenchFault → ℕ
@@ -24,7 +26,8 @@ abbrev pub IsStatusOf : BenchFault → (status : ℕ) → Type 0
 IsStatusOf fault status = (status ≡ status_of fault) ⊎ (((status_of fault ≡ 2) ⊎ (status_of fault ≡ 5)) × (status ≡ 4))
 
 -- known bytes grew by the line of a fault that ends with this status: by all of it, where the end hasn't failed, else by a front
-pub record TellsLine {A : Type 0} (EndsWith : A → ℕ → Type 0) (line_of : A → List ℕ) (old new : Option (List ℕ)) (failed : Bool) (status : ℕ) : Type 0 where
+pub record TellsLine {A : Type 0} (EndsWith : A → ℕ → Type 0) (line_of : A → List ℕ) (old new : Option (List ℕ)) (failed : Bool)
+    (status : ℕ) : Type 0 where
   pub fault : A
   pub status_is : EndsWith fault status
   pub front : AppendsFront old new (line_of fault)

@@ -1,5 +1,6 @@
 -- What a script tells beside its events: its notes, and the refusals of its commands.
-use Rattle.std.specs.Prelude.{◌≡◌, ℕ, ◌+◌, ◌==◌, if◌then◌else◌, List, [], ◌∷◌, ◌++◌, Option, Some, None, option_map, codes, refl}
+use Rattle.std.specs.Prelude.{◌≡◌, ℕ, ◌+◌, ◌==◌, if◌then◌else◌, List, [], ◌∷◌, ◌++◌, Option, Some, None}
+use Rattle.std.specs.Prelude.{option_map, codes, refl}
 use Rattle.std.specs.Fmt.{digits}
 use Rattle.ready_objects.specs.Number.{number_of_word}
 use Rattle.ready_objects.specs.Words.{words_of_text}
@@ -92,16 +93,19 @@ a_quiet_header = refl
 
 -- a note before the header, one after it, and an empty line
 notes : told_of_script (scripts_of 100) (codes "# one\nuniversal 1 queue 2 8\n#two\n\n")
-    ≡ record { before = 0; saying = Heading (codes "one") } ∷ record { before = 0; saying = Note (codes "two") } ∷ record { before = 0; saying = Note [] } ∷ []
+    ≡ record { before = 0; saying = Heading (codes "one") } ∷ record { before = 0; saying = Note (codes "two") }
+    ∷ record { before = 0; saying = Note [] } ∷ []
 unfolding digits number_of_word
 notes = refl
 
 -- a step of a process without a call is refused
-refusal_without_a_call : told_of_script (scripts_of 100) (codes "universal 1 queue 2 8\nstep 1\n") ≡ record { before = 0; saying = Refused (Idle 1) } ∷ []
+refusal_without_a_call : told_of_script (scripts_of 100) (codes "universal 1 queue 2 8\nstep 1\n")
+    ≡ record { before = 0; saying = Refused (Idle 1) } ∷ []
 unfolding digits number_of_word
 refusal_without_a_call = refl
 
 -- a call is refused while the one before is pending
-refusal_of_a_second_call : told_of_script (scripts_of 100) (codes "universal 1 queue 2 8\ncall 0 deq\ncall 0 deq\n") ≡ record { before = 1; saying = Refused (Busy 0) } ∷ []
+refusal_of_a_second_call : told_of_script (scripts_of 100) (codes "universal 1 queue 2 8\ncall 0 deq\ncall 0 deq\n")
+    ≡ record { before = 1; saying = Refused (Busy 0) } ∷ []
 unfolding digits number_of_word
 refusal_of_a_second_call = refl

@@ -1,6 +1,7 @@
 //! What the headers of scripts can name: the objects that are ready, or one of a user.
 
-ghost use Rattle.std.specs.Prelude.{ℕ, ◌≡◌, ◌↔◌, true, false, [], List, Option, Some, IfSome, OnOk, IsErrOf, option_map};
+ghost use Rattle.std.specs.Prelude.{ℕ, ◌≡◌, ◌↔◌, true, false, [], List, Option, Some, IfSome, OnOk};
+ghost use Rattle.std.specs.Prelude.{IsErrOf, option_map};
 ghost use Rattle.std.specs.Str.{bytes_eq};
 ghost use Rattle.ready_objects.specs.Words.{bytes_of};
 ghost use Rattle.uni_record.specs.Recorded.{IsHistory};
@@ -50,7 +51,9 @@ pub(crate) trait Catalogue: Drop {
     ghost opened: { Self → Options → Header Self.Name → Session };
 
     /// The words of a script that open a session are its headers.
-    ghost headers: { (catalogue : Self) (options : Options) (words : List (List ℕ)) → (kind catalogue options).opened words ≡ option_map (opened catalogue options) (header_by (named catalogue) words) };
+    ghost headers: { (catalogue : Self) (options : Options) (words : List (List ℕ))
+        → (kind catalogue options).opened words
+        ≡ option_map (opened catalogue options) (header_by (named catalogue) words) };
 
     /// Lines are written before their answers where the options say so.
     ghost echoes: { (catalogue : Self) (options : Options) → (kind catalogue options).echo ≡ options.echo };
@@ -81,7 +84,9 @@ pub(crate) trait Catalogue: Drop {
         requires held { IsHeld lines.old }
         requires reader { I.has_failed reader.old ≡ false }
         requires writer { W.has_failed writer.old ≡ false }
-        ensures run { RunsOn (kind self options.now) (I.remaining reader.old) lines.old (W.contents writer.old) (L.heard listener.old) (Some (opened self options.now header)) (I.remaining reader.new) (W.contents writer.new) (L.heard listener.new) (IsRan self) result }
+        ensures run { RunsOn (kind self options.now) (I.remaining reader.old) lines.old (W.contents writer.old)
+            (L.heard listener.old) (Some (opened self options.now header)) (I.remaining reader.new)
+            (W.contents writer.new) (L.heard listener.new) (IsRan self) result }
         ensures reader { IsErrOf result BenchFault.Read → I.has_failed reader.new ≡ true }
         ensures reader_ok { OnOk result (I.has_failed reader.new ≡ false) }
         ensures writer { IsErrOf result BenchFault.Write ↔ (W.has_failed writer.new ≡ true) };
@@ -141,7 +146,9 @@ impl Catalogue for Ready {
         requires held { IsHeld lines.old }
         requires reader { I.has_failed reader.old ≡ false }
         requires writer { W.has_failed writer.old ≡ false }
-        ensures run { RunsOn (scripts options.now) (I.remaining reader.old) lines.old (W.contents writer.old) (L.heard listener.old) (Some (session_of_header options.now.history header)) (I.remaining reader.new) (W.contents writer.new) (L.heard listener.new) (IsRan) result }
+        ensures run { RunsOn (scripts options.now) (I.remaining reader.old) lines.old (W.contents writer.old)
+            (L.heard listener.old) (Some (session_of_header options.now.history header)) (I.remaining reader.new)
+            (W.contents writer.new) (L.heard listener.new) (IsRan) result }
         ensures reader { IsErrOf result BenchFault.Read → I.has_failed reader.new ≡ true }
         ensures reader_ok { OnOk result (I.has_failed reader.new ≡ false) }
         ensures writer { IsErrOf result BenchFault.Write ↔ (W.has_failed writer.new ≡ true) }
@@ -241,7 +248,8 @@ impl<'a, O: Spoken> Catalogue for Own<'a, O> {
 
     ghost named = { λ own word. named_by own.name.now word };
 
-    ghost opened = { λ own options header. own_session_of_header (spoken O.sequential O.language own.object) options.history header };
+    ghost opened = { λ own options header. own_session_of_header
+        (spoken O.sequential O.language own.object) options.history header };
 
     ghost headers = { λ own options words. refl };
 
@@ -272,7 +280,11 @@ impl<'a, O: Spoken> Catalogue for Own<'a, O> {
         requires held { IsHeld lines.old }
         requires reader { I.has_failed reader.old ≡ false }
         requires writer { W.has_failed writer.old ≡ false }
-        ensures run { RunsOn (own_scripts (spoken O.sequential O.language self.entry.object) self.entry.name.now options.now) (I.remaining reader.old) lines.old (W.contents writer.old) (L.heard listener.old) (Some (own_session_of_header (spoken O.sequential O.language self.entry.object) options.now.history header)) (I.remaining reader.new) (W.contents writer.new) (L.heard listener.new) (IsOwnRan (spoken O.sequential O.language self.entry.object)) result }
+        ensures run { RunsOn (own_scripts (spoken O.sequential O.language self.entry.object) self.entry.name.now
+            options.now) (I.remaining reader.old) lines.old (W.contents writer.old) (L.heard listener.old)
+            (Some (own_session_of_header (spoken O.sequential O.language self.entry.object) options.now.history header))
+            (I.remaining reader.new) (W.contents writer.new) (L.heard listener.new)
+            (IsOwnRan (spoken O.sequential O.language self.entry.object)) result }
         ensures reader { IsErrOf result BenchFault.Read → I.has_failed reader.new ≡ true }
         ensures reader_ok { OnOk result (I.has_failed reader.new ≡ false) }
         ensures writer { IsErrOf result BenchFault.Write ↔ (W.has_failed writer.new ≡ true) }

@@ -1,6 +1,7 @@
 //! The commands of a script, made on a record.
 
-ghost use Rattle.std.specs.Prelude.{◌≡◌, ◌<◌, ◌≤◌, ◌++◌, IfOk, IsSome, OnOk, codes, decimal, option_map};
+ghost use Rattle.std.specs.Prelude.{◌≡◌, ◌<◌, ◌≤◌, ◌++◌, IfOk, IsSome, OnOk, codes, decimal};
+ghost use Rattle.std.specs.Prelude.{option_map};
 ghost use Rattle.std.specs.Option.{option_map_or};
 ghost use Rattle.ready_objects.specs.Words.{text_of_words};
 ghost use Rattle.uni_model.specs.Bound.{most_steps};
@@ -12,7 +13,10 @@ ghost use Rattle.uni_script.specs.Grammar.{IsInRange};
 ghost use Rattle.uni_script.specs.Commands.{answer_text, refusal_in, IsOver};
 ghost use Rattle.uni_script.specs.Answer.{call_text, numbers_text, heads_text, entry_text};
 ghost use Rattle.uni_script.specs.Objects.{spoken};
-ghost use Rattle.uni_script.specs.Meaning.{session_of, session_after, opened_session, result_of_command, result_of_call, result_of_steps, result_of_trim, result_of_reshape, last_step, steps_of, steps_taken, log_text, refusal_of_call, refusal_of_step, refusal_of_end, refusal_of_reshape, refusal_of_command};
+ghost use Rattle.uni_script.specs.Meaning.{session_of, session_after, opened_session, result_of_command};
+ghost use Rattle.uni_script.specs.Meaning.{result_of_call, result_of_steps, result_of_trim, result_of_reshape};
+ghost use Rattle.uni_script.specs.Meaning.{last_step, steps_of, steps_taken, log_text, refusal_of_call};
+ghost use Rattle.uni_script.specs.Meaning.{refusal_of_step, refusal_of_end, refusal_of_reshape, refusal_of_command};
 
 use crate::answer::{Answer, Refusal, push_call, push_called, push_progress};
 use crate::grammar::{Command, Header};
@@ -39,7 +43,8 @@ pub fn open<O: Spoken, N: Copy>(
 ) -> Result<Recorded<O>, AllocError>
     requires range { IsInRange header }
     requires history { IsHistory history }
-    ensures session { IfOk result (λ session. session_of session ≡ opened_session (spoken O.sequential O.language object) history header) }
+    ensures session { IfOk result (λ session. session_of session
+        ≡ opened_session (spoken O.sequential O.language object) history header) }
     ensures object { IfOk result (λ session. session.world.object ≡ object) }
 {
     match Recorded::open(alloc, object, header.processes, header.row, history) {
@@ -65,9 +70,13 @@ pub fn make<O: Spoken>(
     text: &mut Vec<u8>,
 ) -> Result<Option<Refusal>, AllocError>
     ensures object { session.new.world.object ≡ session.old.world.object }
-    ensures session { OnOk result (session_of session.new ≡ session_after (spoken O.sequential O.language session.old.world.object) (session_of session.old)
-        (result_of_command (spoken O.sequential O.language session.old.world.object) (session_of session.old) command).events) }
-    ensures text { OnOk result (text.new.items ≡ text.old.items ++ (result_of_command (spoken O.sequential O.language session.old.world.object) (session_of session.old) command).text) }
+    ensures session { OnOk result (session_of session.new
+        ≡ session_after (spoken O.sequential O.language session.old.world.object) (session_of session.old)
+        (result_of_command (spoken O.sequential O.language session.old.world.object)
+        (session_of session.old) command).events) }
+    ensures text { OnOk result (text.new.items
+        ≡ text.old.items ++ (result_of_command (spoken O.sequential O.language session.old.world.object)
+        (session_of session.old) command).text) }
     ensures refusal { IfOk result (λ refusal. refusal ≡ refusal_of_command (session_of session.old) command) }
 {
     let answer = answer_to(session, alloc, command)?;
@@ -84,10 +93,15 @@ fn answer_to<O: Spoken>(
     command: Command<O::Inv>,
 ) -> Result<Answer<O::Resp>, AllocError>
     ensures object { session.new.world.object ≡ session.old.world.object }
-    ensures session { OnOk result (session_of session.new ≡ session_after (spoken O.sequential O.language session.old.world.object) (session_of session.old)
-        (result_of_command (spoken O.sequential O.language session.old.world.object) (session_of session.old) command).events) }
-    ensures text { IfOk result (λ answer. answer_text (spoken O.sequential O.language session.old.world.object) (world_of session.new.world) answer ≡ (result_of_command (spoken O.sequential O.language session.old.world.object) (session_of session.old) command).text) }
-    ensures refusal { IfOk result (λ answer. refusal_in answer ≡ refusal_of_command (session_of session.old) command) }
+    ensures session { OnOk result (session_of session.new
+        ≡ session_after (spoken O.sequential O.language session.old.world.object) (session_of session.old)
+        (result_of_command (spoken O.sequential O.language session.old.world.object)
+        (session_of session.old) command).events) }
+    ensures text { IfOk result (λ answer. answer_text (spoken O.sequential O.language session.old.world.object)
+        (world_of session.new.world) answer ≡ (result_of_command
+        (spoken O.sequential O.language session.old.world.object) (session_of session.old) command).text) }
+    ensures refusal { IfOk result (λ answer. refusal_in answer
+        ≡ refusal_of_command (session_of session.old) command) }
 {
     match command {
         Command::Call { process, inv } => call(session, alloc, process, &inv),
@@ -119,7 +133,8 @@ fn push_answer<O: Spoken>(
     answer: &Answer<O::Resp>,
     text: &mut Vec<u8>,
 ) -> Result<(), AllocError>
-    ensures { OnOk result (text.new.items ≡ text.old.items ++ answer_text (spoken O.sequential O.language world.now.object) (world_of world.now) answer.now) }
+    ensures { OnOk result (text.new.items ≡ text.old.items
+        ++ answer_text (spoken O.sequential O.language world.now.object) (world_of world.now) answer.now) }
 {
     match *answer {
         Answer::Called(call) => push_called(text, call),
@@ -160,8 +175,11 @@ fn call<O: Spoken>(
     inv: &O::Inv,
 ) -> Result<Answer<O::Resp>, AllocError>
     ensures object { session.new.world.object ≡ session.old.world.object }
-    ensures session { OnOk result (session_of session.new ≡ session_after (spoken O.sequential O.language session.old.world.object) (session_of session.old) (result_of_call (session_of session.old) process inv.now).events) }
-    ensures answer { IfOk result (λ answer. answer_text (spoken O.sequential O.language session.old.world.object) (world_of session.new.world) answer ≡ (result_of_call (session_of session.old) process inv.now).text) }
+    ensures session { OnOk result (session_of session.new
+        ≡ session_after (spoken O.sequential O.language session.old.world.object) (session_of session.old)
+        (result_of_call (session_of session.old) process inv.now).events) }
+    ensures answer { IfOk result (λ answer. answer_text (spoken O.sequential O.language session.old.world.object)
+        (world_of session.new.world) answer ≡ (result_of_call (session_of session.old) process inv.now).text) }
     ensures refusal { IfOk result (λ answer. refusal_in answer ≡ refusal_of_call (session_of session.old) process) }
 {
     match session.begin(alloc, process, inv) {
@@ -184,10 +202,16 @@ fn finish<O: Spoken>(
     process: u64,
 ) -> Result<Answer<O::Resp>, AllocError>
     ensures object { session.new.world.object ≡ session.old.world.object }
-    ensures session { OnOk result (session_of session.new ≡ session_after (spoken O.sequential O.language session.old.world.object) (session_of session.old)
-        (result_of_steps (spoken O.sequential O.language session.old.world.object) (world_of session.old.world) process (most_steps (world_of session.old.world).n)).events) }
-    ensures answer { IfOk result (λ answer. answer_text (spoken O.sequential O.language session.old.world.object) (world_of session.new.world) answer ≡ (result_of_steps (spoken O.sequential O.language session.old.world.object) (world_of session.old.world) process (most_steps (world_of session.old.world).n)).text) }
-    ensures refusal { IfOk result (λ answer. refusal_in answer ≡ refusal_of_step (world_of session.old.world) process) }
+    ensures session { OnOk result (session_of session.new
+        ≡ session_after (spoken O.sequential O.language session.old.world.object) (session_of session.old)
+        (result_of_steps (spoken O.sequential O.language session.old.world.object) (world_of session.old.world) process
+        (most_steps (world_of session.old.world).n)).events) }
+    ensures answer { IfOk result (λ answer. answer_text (spoken O.sequential O.language session.old.world.object)
+        (world_of session.new.world) answer ≡ (result_of_steps
+        (spoken O.sequential O.language session.old.world.object) (world_of session.old.world) process
+        (most_steps (world_of session.old.world).n)).text) }
+    ensures refusal { IfOk result (λ answer. refusal_in answer
+        ≡ refusal_of_step (world_of session.old.world) process) }
     ensures over { IfOk result IsOver }
 {
     session.world().shape();
@@ -206,10 +230,15 @@ fn step<O: Spoken>(
     most: u64,
 ) -> Result<Answer<O::Resp>, AllocError>
     ensures object { session.new.world.object ≡ session.old.world.object }
-    ensures session { OnOk result (session_of session.new ≡ session_after (spoken O.sequential O.language session.old.world.object) (session_of session.old)
-        (result_of_steps (spoken O.sequential O.language session.old.world.object) (world_of session.old.world) process most).events) }
-    ensures answer { IfOk result (λ answer. answer_text (spoken O.sequential O.language session.old.world.object) (world_of session.new.world) answer ≡ (result_of_steps (spoken O.sequential O.language session.old.world.object) (world_of session.old.world) process most).text) }
-    ensures refusal { IfOk result (λ answer. refusal_in answer ≡ refusal_of_step (world_of session.old.world) process) }
+    ensures session { OnOk result (session_of session.new
+        ≡ session_after (spoken O.sequential O.language session.old.world.object) (session_of session.old)
+        (result_of_steps (spoken O.sequential O.language session.old.world.object)
+        (world_of session.old.world) process most).events) }
+    ensures answer { IfOk result (λ answer. answer_text (spoken O.sequential O.language session.old.world.object)
+        (world_of session.new.world) answer ≡ (result_of_steps
+        (spoken O.sequential O.language session.old.world.object) (world_of session.old.world) process most).text) }
+    ensures refusal { IfOk result (λ answer. refusal_in answer
+        ≡ refusal_of_step (world_of session.old.world) process) }
     ensures over { IfOk result (λ answer. most_steps (world_of session.old.world).n ≤ most → IsOver answer) }
 {
     if process >= session.world().processes() {
@@ -245,10 +274,14 @@ fn step_on<O: Spoken>(
     requires process { process < (world_of session.old.world).n }
     requires pending { IsSome ((world_of session.old.world).call process) }
     ensures object { session.new.world.object ≡ session.old.world.object }
-    ensures session { OnOk result (session_of session.new ≡ session_after (spoken O.sequential O.language session.old.world.object) (session_of session.old)
-        (steps_of process (steps_taken most (last_step (spoken O.sequential O.language session.old.world.object) (world_of session.old.world) process most)))) }
+    ensures session { OnOk result (session_of session.new
+        ≡ session_after (spoken O.sequential O.language session.old.world.object) (session_of session.old)
+        (steps_of process (steps_taken most (last_step (spoken O.sequential O.language session.old.world.object)
+        (world_of session.old.world) process most)))) }
     ensures processes { (world_of session.new.world).n ≡ (world_of session.old.world).n }
-    ensures response { IfOk result (λ response. response ≡ option_map (λ last. last.response) (last_step (spoken O.sequential O.language session.old.world.object) (world_of session.old.world) process most)) }
+    ensures response { IfOk result (λ response. response
+        ≡ option_map (λ last. last.response) (last_step (spoken O.sequential O.language session.old.world.object)
+        (world_of session.old.world) process most)) }
     ensures over { IfOk result (λ response. most_steps (world_of session.old.world).n ≤ most → IsSome response) }
 {
     session.promise();
@@ -270,9 +303,13 @@ fn step_on<O: Spoken>(
 /// An `Err` says that memory was refused.
 fn trim<O: Spoken>(session: &mut Recorded<O>, alloc: Global) -> Result<Answer<O::Resp>, AllocError>
     ensures object { session.new.world.object ≡ session.old.world.object }
-    ensures session { OnOk result (session_of session.new ≡ session_after (spoken O.sequential O.language session.old.world.object) (session_of session.old) (result_of_trim (session_of session.old)).events) }
-    ensures answer { IfOk result (λ answer. answer_text (spoken O.sequential O.language session.old.world.object) (world_of session.new.world) answer ≡ (result_of_trim (session_of session.old)).text) }
-    ensures refusal { IfOk result (λ answer. refusal_in answer ≡ refusal_of_end (session_of session.old) (world_of session.old.world).n) }
+    ensures session { OnOk result (session_of session.new
+        ≡ session_after (spoken O.sequential O.language session.old.world.object) (session_of session.old)
+        (result_of_trim (session_of session.old)).events) }
+    ensures answer { IfOk result (λ answer. answer_text (spoken O.sequential O.language session.old.world.object)
+        (world_of session.new.world) answer ≡ (result_of_trim (session_of session.old)).text) }
+    ensures refusal { IfOk result (λ answer. refusal_in answer
+        ≡ refusal_of_end (session_of session.old) (world_of session.old.world).n) }
 {
     match session.trim(alloc) {
         Ok(number) => Ok(Answer::Trimmed(number)),
@@ -293,9 +330,13 @@ fn reshape<O: Spoken>(
     processes: u64,
 ) -> Result<Answer<O::Resp>, AllocError>
     ensures object { session.new.world.object ≡ session.old.world.object }
-    ensures session { OnOk result (session_of session.new ≡ session_after (spoken O.sequential O.language session.old.world.object) (session_of session.old) (result_of_reshape (session_of session.old) processes).events) }
-    ensures answer { IfOk result (λ answer. answer_text (spoken O.sequential O.language session.old.world.object) (world_of session.new.world) answer ≡ (result_of_reshape (session_of session.old) processes).text) }
-    ensures refusal { IfOk result (λ answer. refusal_in answer ≡ refusal_of_reshape (session_of session.old) processes) }
+    ensures session { OnOk result (session_of session.new
+        ≡ session_after (spoken O.sequential O.language session.old.world.object) (session_of session.old)
+        (result_of_reshape (session_of session.old) processes).events) }
+    ensures answer { IfOk result (λ answer. answer_text (spoken O.sequential O.language session.old.world.object)
+        (world_of session.new.world) answer ≡ (result_of_reshape (session_of session.old) processes).text) }
+    ensures refusal { IfOk result (λ answer. refusal_in answer
+        ≡ refusal_of_reshape (session_of session.old) processes) }
 {
     match session.reshape(alloc, processes) {
         Ok(number) => Ok(Answer::Reshaped {
@@ -314,7 +355,8 @@ fn reshape<O: Spoken>(
 ///
 /// An `Err` says that memory was refused.
 fn push_heads<O: Spoken>(world: &World<O>, text: &mut Vec<u8>) -> Result<(), AllocError>
-    ensures { OnOk result (text.new.items ≡ text.old.items ++ heads_text (world_of world.now).n (head_seq (world_of world.now).memory)) }
+    ensures { OnOk result (text.new.items ≡ text.old.items
+        ++ heads_text (world_of world.now).n (head_seq (world_of world.now).memory)) }
 {
     text.extend_from_slice(b"heads")?;
     push_numbers(world, text)?;
@@ -325,7 +367,8 @@ fn push_heads<O: Spoken>(world: &World<O>, text: &mut Vec<u8>) -> Result<(), All
 ///
 /// An `Err` says that memory was refused.
 fn push_numbers<O: Spoken>(world: &World<O>, text: &mut Vec<u8>) -> Result<(), AllocError>
-    ensures { OnOk result (text.new.items ≡ text.old.items ++ numbers_text (world_of world.now).n (head_seq (world_of world.now).memory)) }
+    ensures { OnOk result (text.new.items ≡ text.old.items
+        ++ numbers_text (world_of world.now).n (head_seq (world_of world.now).memory)) }
 {
     for process in 0..world.processes() {
         text.extend_from_slice(b" ")?;
@@ -342,7 +385,8 @@ fn push_log<O: Spoken>(
     alloc: Global,
     text: &mut Vec<u8>,
 ) -> Result<(), AllocError>
-    ensures { OnOk result (text.new.items ≡ text.old.items ++ log_text (spoken O.sequential O.language world.now.object) (world_of world.now)) }
+    ensures { OnOk result (text.new.items ≡ text.old.items
+        ++ log_text (spoken O.sequential O.language world.now.object) (world_of world.now)) }
 {
     let entries = Log::of(world).entries(alloc)?;
     for entry in &entries {
@@ -358,7 +402,8 @@ fn push_entry<O: Spoken>(
     text: &mut Vec<u8>,
     entry: &Entry<O::Inv, O::Resp>,
 ) -> Result<(), AllocError>
-    ensures { OnOk result (text.new.items ≡ text.old.items ++ entry_text (λ inv. text_of_words (O.language.inv_words inv)) O.language.resp_text (entry_shown entry.now)) }
+    ensures { OnOk result (text.new.items ≡ text.old.items
+        ++ entry_text (λ inv. text_of_words (O.language.inv_words inv)) O.language.resp_text (entry_shown entry.now)) }
 {
     push_numbered_call(text, entry.seq, entry.call)?;
     O::push_inv(text, &entry.inv)?;
@@ -371,7 +416,8 @@ fn push_entry<O: Spoken>(
 ///
 /// An `Err` says that memory was refused.
 fn push_numbered_call(text: &mut Vec<u8>, number: u64, call: CallId) -> Result<(), AllocError>
-    ensures { OnOk result (text.new.items ≡ text.old.items ++ decimal number ++ codes " " ++ call_text call ++ codes " ") }
+    ensures { OnOk result (text.new.items ≡ text.old.items ++ decimal number ++ codes " " ++ call_text call
+        ++ codes " ") }
 {
     push_number(text, number)?;
     text.extend_from_slice(b" ")?;

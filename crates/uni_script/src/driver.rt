@@ -1,15 +1,19 @@
 //! The run of a script: its lines are taken and run in turn, what they answer is written, and what they tell is heard.
 
-ghost use Rattle.std.specs.Prelude.{ℕ, ◌+◌, ◌≡◌, ◌≢◌, ◌↔◌, ◌⊎◌, [], true, false, List, Option, None, Some, Err, is_none, IfSome, IfNone, IfOk, IfErr, OnOk, OnErr, IsErrOf};
+ghost use Rattle.std.specs.Prelude.{ℕ, ◌+◌, ◌≡◌, ◌≢◌, ◌↔◌, ◌⊎◌, [], true, false, List};
+ghost use Rattle.std.specs.Prelude.{Option, None, Some, Err, is_none, IfSome, IfNone, IfOk, IfErr, OnOk, OnErr};
+ghost use Rattle.std.specs.Prelude.{IsErrOf};
 ghost use Rattle.uni_record.specs.Recorded.{IsHistory};
 ghost use Rattle.uni_script.specs.declared.options.Options.{Options};
 ghost use Rattle.uni_script.specs.Ends.{AppendsFront, Moves};
 ghost use Rattle.uni_script.specs.Grammar.{IsInRange, is_note};
-ghost use Rattle.uni_script.specs.Lines.{IsHeld, HasTaken, EndsAs, WritesAs, HasRun, HasEnded, GoesOn, RunsOn, IsFaultOfLine};
+ghost use Rattle.uni_script.specs.Lines.{IsHeld, HasTaken, EndsAs, WritesAs, HasRun, HasEnded, GoesOn, RunsOn};
+ghost use Rattle.uni_script.specs.Lines.{IsFaultOfLine};
 ghost use Rattle.uni_script.specs.Meaning.{Session, session_of, opened_session};
 ghost use Rattle.uni_script.specs.Objects.{spoken};
 ghost use Rattle.std.specs.Io.KnownBytes.{Appends};
-ghost use Rattle.uni_script.specs.Outcome.{Kind, echo_of, outcome_of_text, outcome_of_fault, outcome_of_short_line, outcome_of_end};
+ghost use Rattle.uni_script.specs.Outcome.{Kind, echo_of, outcome_of_text, outcome_of_fault, outcome_of_short_line};
+ghost use Rattle.uni_script.specs.Outcome.{outcome_of_end};
 ghost use Rattle.uni_script.specs.Promises.{IsPromised};
 ghost use Rattle.uni_script.specs.ScriptRun.{IsRanAs, IsSummaryOf};
 ghost use Rattle.uni_script.specs.Scripts.{IsAbout};
@@ -49,7 +53,9 @@ pub(crate) fn run_script<C: Catalogue, I: TextIn, W: TextOut, L: Listener>(
     requires history { IsHistory options.now.history }
     requires reader { I.has_failed reader.old ≡ false }
     requires writer { W.has_failed writer.old ≡ false }
-    ensures run { HasEnded (C.kind catalogue options.now) (I.remaining reader.old) (I.remaining reader.new) (W.contents writer.old) (W.contents writer.new) (L.heard listener.old) (L.heard listener.new) (C.IsRan catalogue) result }
+    ensures run { HasEnded (C.kind catalogue options.now) (I.remaining reader.old) (I.remaining reader.new)
+        (W.contents writer.old) (W.contents writer.new) (L.heard listener.old) (L.heard listener.new)
+        (C.IsRan catalogue) result }
     ensures reader { IsErrOf result BenchFault.Read → I.has_failed reader.new ≡ true }
     ensures reader_ok { OnOk result (I.has_failed reader.new ≡ false) }
     ensures writer { IsErrOf result BenchFault.Write ↔ (W.has_failed writer.new ≡ true) }
@@ -80,8 +86,13 @@ fn take_header<C: Catalogue, I: TextIn, W: TextOut, L: Listener>(
     requires writer { W.has_failed writer.old ≡ false }
     ensures held { OnOk result (IsHeld lines.new) }
     ensures range { IfOk result IsInRange }
-    ensures run { IfOk result (λ header. (taken : List (List ℕ)) × HasRun (C.kind catalogue.now options.now) (I.remaining reader.old) (I.remaining reader.new) lines.new (W.contents writer.old) (W.contents writer.new) [] (L.heard listener.old) (L.heard listener.new) taken (Some (C.opened catalogue.now options.now header))) }
-    ensures ended { IfErr result (λ e. HasEnded (C.kind catalogue.now options.now) (I.remaining reader.old) (I.remaining reader.new) (W.contents writer.old) (W.contents writer.new) (L.heard listener.old) (L.heard listener.new) (C.IsRan catalogue.now) (Err e)) }
+    ensures run { IfOk result (λ header. (taken : List (List ℕ))
+        × HasRun (C.kind catalogue.now options.now) (I.remaining reader.old) (I.remaining reader.new) lines.new
+        (W.contents writer.old) (W.contents writer.new) [] (L.heard listener.old) (L.heard listener.new) taken
+        (Some (C.opened catalogue.now options.now header))) }
+    ensures ended { IfErr result (λ e. HasEnded (C.kind catalogue.now options.now) (I.remaining reader.old)
+        (I.remaining reader.new) (W.contents writer.old) (W.contents writer.new) (L.heard listener.old)
+        (L.heard listener.new) (C.IsRan catalogue.now) (Err e)) }
     ensures reader { IsErrOf result BenchFault.Read → I.has_failed reader.new ≡ true }
     ensures reader_ok { OnOk result (I.has_failed reader.new ≡ false) }
     ensures writer { IsErrOf result BenchFault.Write ↔ (W.has_failed writer.new ≡ true) }
@@ -117,7 +128,8 @@ fn write_echo<W: TextOut>(
 ) -> Result<(), BenchFault>
     requires { W.has_failed writer.old ≡ false }
     ensures written { OnOk result (Appends (W.contents writer.old) (W.contents writer.new) (echo_of echo line.now)) }
-    ensures front { OnErr result (AppendsFront (W.contents writer.old) (W.contents writer.new) (echo_of echo line.now)) }
+    ensures front { OnErr result (AppendsFront (W.contents writer.old) (W.contents writer.new)
+        (echo_of echo line.now)) }
     ensures fault { IfErr result (λ e. (e ≡ BenchFault.Memory) ⊎ (e ≡ BenchFault.Write)) }
     ensures writer { IsErrOf result BenchFault.Write ↔ (W.has_failed writer.new ≡ true) }
 {
@@ -135,11 +147,17 @@ fn read_header<C: Catalogue>(
     number: u64,
     line: &[u8],
 ) -> Result<Option<Header<C::Name>>, BenchFault>
-    ensures note { (options : Options) → IfOk result (λ header. IfNone header (outcome_of_short_line (C.kind catalogue.now options) number None line.now ≡ record { session = None; text = []; fault = None })) }
-    ensures header { (options : Options) → IfOk result (λ header. IfSome header (λ h. outcome_of_short_line (C.kind catalogue.now options) number None line.now ≡ outcome_of_text (C.opened catalogue.now options h) [])) }
+    ensures note { (options : Options) → IfOk result
+        (λ header. IfNone header (outcome_of_short_line (C.kind catalogue.now options) number None line.now
+        ≡ record { session = None; text = []; fault = None })) }
+    ensures header { (options : Options) → IfOk result
+        (λ header. IfSome header (λ h. outcome_of_short_line (C.kind catalogue.now options) number None line.now
+        ≡ outcome_of_text (C.opened catalogue.now options h) [])) }
     ensures kind { IfOk result (λ header. is_note line.now ≡ is_none header) }
     ensures range { IfOk result (λ header. IfSome header IsInRange) }
-    ensures fault { (options : Options) → IfErr result (λ e. (e ≡ BenchFault.Memory) ⊎ (outcome_of_short_line (C.kind catalogue.now options) number None line.now ≡ outcome_of_fault None e)) }
+    ensures fault { (options : Options) → IfErr result
+        (λ e. (e ≡ BenchFault.Memory) ⊎ (outcome_of_short_line (C.kind catalogue.now options) number None line.now
+        ≡ outcome_of_fault None e)) }
     ensures own { IfErr result IsFaultOfLine }
 {
     if !is_plain(line) {
@@ -175,8 +193,13 @@ pub(crate) fn run_object<S: Scripts, O: Spoken, N: Copy, I: TextIn, W: TextOut, 
     requires held { IsHeld lines.old }
     requires reader { I.has_failed reader.old ≡ false }
     requires writer { W.has_failed writer.old ≡ false }
-    ensures run { (kind : Kind S.Session) (inside : Session O.State O.Inv O.Resp → S.Session) → IsAbout kind (spoken O.sequential O.language object) (record { version = header.version; echo = options.now.echo }) inside
-        → RunsOn kind (I.remaining reader.old) lines.old (W.contents writer.old) (L.heard listener.old) (Some (inside (opened_session (spoken O.sequential O.language object) options.now.history header))) (I.remaining reader.new) (W.contents writer.new) (L.heard listener.new) (IsRanAs (spoken O.sequential O.language object) inside) result }
+    ensures run { (kind : Kind S.Session) (inside : Session O.State O.Inv O.Resp → S.Session)
+        → IsAbout kind (spoken O.sequential O.language object)
+        (record { version = header.version; echo = options.now.echo }) inside
+        → RunsOn kind (I.remaining reader.old) lines.old (W.contents writer.old) (L.heard listener.old)
+        (Some (inside (opened_session (spoken O.sequential O.language object) options.now.history header)))
+        (I.remaining reader.new) (W.contents writer.new) (L.heard listener.new)
+        (IsRanAs (spoken O.sequential O.language object) inside) result }
     ensures reader { IsErrOf result BenchFault.Read → I.has_failed reader.new ≡ true }
     ensures reader_ok { OnOk result (I.has_failed reader.new ≡ false) }
     ensures writer { IsErrOf result BenchFault.Write ↔ (W.has_failed writer.new ≡ true) }
@@ -223,8 +246,11 @@ fn run_commands<S: Scripts, O: Spoken, I: TextIn, W: TextOut, L: Listener>(
     requires reader { I.has_failed reader.old ≡ false }
     requires writer { W.has_failed writer.old ≡ false }
     ensures object { session.new.world.object ≡ session.old.world.object }
-    ensures run { (kind : Kind S.Session) (inside : Session O.State O.Inv O.Resp → S.Session) → IsAbout kind (spoken O.sequential O.language session.old.world.object) dialect inside
-        → RunsOn kind (I.remaining reader.old) lines.old (W.contents writer.old) (L.heard listener.old) (Some (inside (session_of session.old))) (I.remaining reader.new) (W.contents writer.new) (L.heard listener.new) (IsSummaryOf (spoken O.sequential O.language session.old.world.object) inside (session_of session.new)) result }
+    ensures run { (kind : Kind S.Session) (inside : Session O.State O.Inv O.Resp → S.Session)
+        → IsAbout kind (spoken O.sequential O.language session.old.world.object) dialect inside
+        → RunsOn kind (I.remaining reader.old) lines.old (W.contents writer.old) (L.heard listener.old)
+        (Some (inside (session_of session.old))) (I.remaining reader.new) (W.contents writer.new) (L.heard listener.new)
+        (IsSummaryOf (spoken O.sequential O.language session.old.world.object) inside (session_of session.new)) result }
     ensures reader { IsErrOf result BenchFault.Read → I.has_failed reader.new ≡ true }
     ensures reader_ok { OnOk result (I.has_failed reader.new ≡ false) }
     ensures writer { IsErrOf result BenchFault.Write ↔ (W.has_failed writer.new ≡ true) }
@@ -314,10 +340,13 @@ fn run_next<S: Scripts, O: Spoken, I: TextIn, L: Listener>(
     requires reader { I.has_failed reader.old ≡ false }
     ensures held { IsHeld lines.new }
     ensures object { session.new.world.object ≡ session.old.world.object }
-    ensures next { (kind : Kind S.Session) (inside : Session O.State O.Inv O.Resp → S.Session) → IsAbout kind (spoken O.sequential O.language session.old.world.object) dialect inside
+    ensures next { (kind : Kind S.Session) (inside : Session O.State O.Inv O.Resp → S.Session)
+        → IsAbout kind (spoken O.sequential O.language session.old.world.object) dialect inside
         → (old written_old written : Option (List ℕ)) (told_old : Option (List Telling)) (taken : List (List ℕ))
-        → HasRun kind old (I.remaining reader.old) lines.old written_old written text.old.items told_old (L.heard listener.old) taken (Some (inside (session_of session.old)))
-        → GoesOn kind old (I.remaining reader.new) lines.old lines.new written_old written text.old.items text.new.items told_old (L.heard listener.old) (L.heard listener.new) taken
+        → HasRun kind old (I.remaining reader.old) lines.old written_old written text.old.items told_old
+        (L.heard listener.old) taken (Some (inside (session_of session.old)))
+        → GoesOn kind old (I.remaining reader.new) lines.old lines.new written_old written text.old.items
+        text.new.items told_old (L.heard listener.old) (L.heard listener.new) taken
         (inside (session_of session.old)) (inside (session_of session.new)) result }
     ensures reader { IsErrOf result BenchFault.Read → I.has_failed reader.new ≡ true }
     ensures reader_ok { OnOk result (I.has_failed reader.new ≡ false) }
@@ -350,12 +379,18 @@ fn run_line<S: Scripts, O: Spoken, L: Listener>(
     listener: &mut L,
 ) -> Result<(), BenchFault>
     ensures object { session.new.world.object ≡ session.old.world.object }
-    ensures outcome { (kind : Kind S.Session) (inside : Session O.State O.Inv O.Resp → S.Session) → IsAbout kind (spoken O.sequential O.language session.old.world.object) dialect inside
-        → EndsAs (outcome_of_short_line kind number (Some (inside (session_of session.old))) line.now) text.old.items text.new.items result }
-    ensures session { (kind : Kind S.Session) (inside : Session O.State O.Inv O.Resp → S.Session) → IsAbout kind (spoken O.sequential O.language session.old.world.object) dialect inside
-        → OnOk result (Some (inside (session_of session.new)) ≡ (outcome_of_short_line kind number (Some (inside (session_of session.old))) line.now).session) }
-    ensures told { (kind : Kind S.Session) (inside : Session O.State O.Inv O.Resp → S.Session) → IsAbout kind (spoken O.sequential O.language session.old.world.object) dialect inside
-        → OnOk result (Tells (L.heard listener.old) (L.heard listener.new) (told_of_line kind (Some (inside (session_of session.old))) line.now)) }
+    ensures outcome { (kind : Kind S.Session) (inside : Session O.State O.Inv O.Resp → S.Session)
+        → IsAbout kind (spoken O.sequential O.language session.old.world.object) dialect inside
+        → EndsAs (outcome_of_short_line kind number (Some (inside (session_of session.old))) line.now) text.old.items
+        text.new.items result }
+    ensures session { (kind : Kind S.Session) (inside : Session O.State O.Inv O.Resp → S.Session)
+        → IsAbout kind (spoken O.sequential O.language session.old.world.object) dialect inside
+        → OnOk result (Some (inside (session_of session.new))
+        ≡ (outcome_of_short_line kind number (Some (inside (session_of session.old))) line.now).session) }
+    ensures told { (kind : Kind S.Session) (inside : Session O.State O.Inv O.Resp → S.Session)
+        → IsAbout kind (spoken O.sequential O.language session.old.world.object) dialect inside
+        → OnOk result (Tells (L.heard listener.old) (L.heard listener.new)
+        (told_of_line kind (Some (inside (session_of session.old))) line.now)) }
     ensures own { IfErr result IsFaultOfLine }
 {
     if !is_plain(line) {
@@ -386,9 +421,12 @@ fn run_end<S: Scripts, O: Spoken, W: TextOut>(
     writer: &mut W,
 ) -> Result<Summary, BenchFault>
     requires { W.has_failed writer.old ≡ false }
-    ensures outcome { (b : S.Session) → WritesAs (outcome_of_end lines (Some b)) (W.contents writer.old) (W.contents writer.new) result }
-    ensures summary { IfOk result (λ summary. summary ≡ summary_of (spoken O.sequential O.language session.now.world.object) lines (session_of session.now)) }
-    ensures promised { OnOk result (IsPromised (spoken O.sequential O.language session.now.world.object) (session_of session.now)) }
+    ensures outcome { (b : S.Session) → WritesAs (outcome_of_end lines (Some b)) (W.contents writer.old)
+        (W.contents writer.new) result }
+    ensures summary { IfOk result (λ summary. summary
+        ≡ summary_of (spoken O.sequential O.language session.now.world.object) lines (session_of session.now)) }
+    ensures promised { OnOk result (IsPromised (spoken O.sequential O.language session.now.world.object)
+        (session_of session.now)) }
     ensures writer { IsErrOf result BenchFault.Write ↔ (W.has_failed writer.new ≡ true) }
     ensures other { IfErr result (λ e. e ≢ BenchFault.Read) }
 {

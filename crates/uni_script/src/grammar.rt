@@ -4,7 +4,9 @@ ghost use Rattle.std.specs.Prelude.{◌≡◌, [], IfOk, IfSome, Some};
 ghost use Rattle.std.specs.List.{list_all};
 ghost use Rattle.ready_objects.specs.Number.{number_of_word};
 ghost use Rattle.ready_objects.specs.Words.{bytes_of, words_of_text};
-ghost use Rattle.uni_script.specs.Grammar.{is_plain_byte, is_note, version_of_word, object_of_word, most_processes, header_with, IsInRange, header_by, header_of_words, count_of_number, reshape_of, command_of_name, command_of_number, command_of_words};
+ghost use Rattle.uni_script.specs.Grammar.{is_plain_byte, is_note, version_of_word, object_of_word, most_processes};
+ghost use Rattle.uni_script.specs.Grammar.{header_with, IsInRange, header_by, header_of_words, count_of_number};
+ghost use Rattle.uni_script.specs.Grammar.{reshape_of, command_of_name, command_of_number, command_of_words};
 ghost use Rattle.uni_script.specs.Schedules.{word_of_object};
 
 use crate::catalogue::{Catalogue, Ready};

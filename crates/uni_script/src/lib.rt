@@ -1,7 +1,8 @@
 //! Scripts of calls on an object that processes share: what a script means, and `bench` that runs
 //! one on the wait-free universal construction and writes what each call answers.
 //!
-//! What a script means is `outcome_of_script` in `specs/`, a definition over worlds of the definitions. Scripts are over
+//! What a script means is `outcome_of_script` in `specs/`, a definition over worlds of the definitions. Scripts are
+//! over
 //! four objects that have names, or over one of a user's own, which is named for them.
 #![tactic(auto)]
 

@@ -1,6 +1,7 @@
 //! The lines of a script, taken one after the other from a reader.
 
-ghost use Rattle.std.specs.Prelude.{◌≡◌, ◌==◌, ◌+◌, ◌-◌, ◌<◌, ◌≤◌, ◌++◌, [], ◌↔◌, true, false, List, ℕ, Option, IfOk, IfErr, IsErrOf, OnOk, is_some, take};
+ghost use Rattle.std.specs.Prelude.{◌≡◌, ◌==◌, ◌+◌, ◌-◌, ◌<◌, ◌≤◌, ◌++◌, [], ◌↔◌};
+ghost use Rattle.std.specs.Prelude.{true, false, List, ℕ, Option, IfOk, IfErr, IsErrOf, OnOk, is_some, take};
 ghost use Rattle.std.specs.List.{position};
 ghost use Rattle.uni_script.specs.Lines.{IsHeld, line_of, rest_of, HasTaken, TakesOn, StopsWith};
 
@@ -92,7 +93,8 @@ impl Lines {
         requires held { IsHeld self.old }
         requires reader { I.has_failed reader.old ≡ false }
         ensures held { IsHeld self.new }
-        ensures line { IfOk result (λ taken. TakesOn (I.remaining reader.old) (I.remaining reader.new) self.old self.new taken) }
+        ensures line { IfOk result (λ taken. TakesOn (I.remaining reader.old)
+            (I.remaining reader.new) self.old self.new taken) }
         ensures fault { IfErr result (λ e. StopsWith (I.remaining reader.old) (I.remaining reader.new) self.old e) }
         ensures failed { IsErrOf result BenchFault.Read ↔ (I.has_failed reader.new ≡ true) }
     {
@@ -154,9 +156,12 @@ impl Lines {
         requires inside { count ≤ self.old.end - self.old.start }
         ensures held { IsHeld self.new }
         ensures line { OnOk result (line_of self.new ≡ line_of self.old ++ take count (rest_of self.old)) }
-        ensures moved { OnOk result ((self.new.width ≡ self.old.width + count) × (self.new.start ≡ self.old.start + count)) }
-        ensures kept { (self.new.piece ≡ self.old.piece) × (self.new.end ≡ self.old.end) × (self.new.count ≡ self.old.count) × (self.new.source ≡ self.old.source) }
-        ensures long { IfErr result (λ e. (e ≡ BenchFault.TooLong (self.old.count + 1)) × (200 < self.old.width + count) × (self.new ≡ self.old)) }
+        ensures moved { OnOk result ((self.new.width ≡ self.old.width + count)
+            × (self.new.start ≡ self.old.start + count)) }
+        ensures kept { (self.new.piece ≡ self.old.piece) × (self.new.end ≡ self.old.end)
+            × (self.new.count ≡ self.old.count) × (self.new.source ≡ self.old.source) }
+        ensures long { IfErr result (λ e. (e ≡ BenchFault.TooLong (self.old.count + 1))
+            × (200 < self.old.width + count) × (self.new ≡ self.old)) }
     {
         if count > MOST_BYTES - self.width {
             return Err(BenchFault::TooLong(self.count + 1));

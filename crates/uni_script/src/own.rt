@@ -22,10 +22,12 @@ use ready_objects::Spoken;
 use std::alloc::Global;
 use uni_record::{Recorded, Verdict};
 
-/// Runs the script that a reader has, over an object, and writes its answers, as `bench` does over the four objects that
+/// Runs the script that a reader has, over an object, and writes its answers, as `bench` does over the four objects
+/// that
 /// have names: the header of the script names the object by this word, `universal 2 NAME 3 8`.
 ///
-/// A name with a space in it, or an empty one, is never met, so each script ends with `BadHeader` or `NoHeader` then. The
+/// A name with a space in it, or an empty one, is never met, so each script ends with `BadHeader` or `NoHeader` then.
+/// The
 /// errors are those of `bench`.
 pub fn bench_object<O: Spoken, I: TextIn, W: TextOut>(
     alloc: Global,
@@ -38,14 +40,24 @@ pub fn bench_object<O: Spoken, I: TextIn, W: TextOut>(
     requires history { IsHistory options.now.history }
     requires reader { I.has_failed reader.old ≡ false }
     requires writer { W.has_failed writer.old ≡ false }
-    ensures replayed { OnOk result (IsReplay (own_scripts (spoken O.sequential O.language object) name.now options.now) (I.remaining reader.old) (W.contents writer.old) (W.contents writer.new) None) }
-    ensures summary { IfOk result (λ summary. Leaves (own_scripts (spoken O.sequential O.language object) name.now options.now) (I.remaining reader.old) (λ lines b. summary ≡ summary_of (spoken O.sequential O.language object) lines b.session)) }
-    ensures promised { OnOk result (Leaves (own_scripts (spoken O.sequential O.language object) name.now options.now) (I.remaining reader.old) (λ lines b. IsPromised (spoken O.sequential O.language object) b.session)) }
+    ensures replayed { OnOk result (IsReplay (own_scripts (spoken O.sequential O.language object) name.now options.now)
+        (I.remaining reader.old) (W.contents writer.old) (W.contents writer.new) None) }
+    ensures summary { IfOk result (λ summary. Leaves
+        (own_scripts (spoken O.sequential O.language object) name.now options.now) (I.remaining reader.old)
+        (λ lines b. summary ≡ summary_of (spoken O.sequential O.language object) lines b.session)) }
+    ensures promised { OnOk result (Leaves (own_scripts (spoken O.sequential O.language object) name.now options.now)
+        (I.remaining reader.old) (λ lines b. IsPromised (spoken O.sequential O.language object) b.session)) }
     ensures audited { (verdict : Verdict) → IsErrOf result (BenchFault.Audit verdict) → ⊥ }
     ensures all_read { OnOk result (IsAtEnd (I.remaining reader.new)) }
-    ensures fault { IfErr result (λ e. IsFaultOfScript e → IsReplay (own_scripts (spoken O.sequential O.language object) name.now options.now) (I.remaining reader.old) (W.contents writer.old) (W.contents writer.new) (Some e)) }
-    ensures read { IsErrOf result BenchFault.Read → HasAnswered (own_scripts (spoken O.sequential O.language object) name.now options.now) (I.remaining reader.old) (I.remaining reader.new) (W.contents writer.old) (W.contents writer.new) }
-    ensures part { IfErr result (λ e. IsPartOfReplay (own_scripts (spoken O.sequential O.language object) name.now options.now) (I.remaining reader.old) (W.contents writer.old) (W.contents writer.new)) }
+    ensures fault { IfErr result (λ e. IsFaultOfScript e
+        → IsReplay (own_scripts (spoken O.sequential O.language object) name.now options.now) (I.remaining reader.old)
+        (W.contents writer.old) (W.contents writer.new) (Some e)) }
+    ensures read { IsErrOf result BenchFault.Read
+        → HasAnswered (own_scripts (spoken O.sequential O.language object) name.now options.now)
+        (I.remaining reader.old) (I.remaining reader.new) (W.contents writer.old) (W.contents writer.new) }
+    ensures part { IfErr result (λ e. IsPartOfReplay
+        (own_scripts (spoken O.sequential O.language object) name.now options.now) (I.remaining reader.old)
+        (W.contents writer.old) (W.contents writer.new)) }
     ensures reader { IsErrOf result BenchFault.Read → I.has_failed reader.new ≡ true }
     ensures reader_ok { OnOk result (I.has_failed reader.new ≡ false) }
     ensures writer { IsErrOf result BenchFault.Write ↔ (W.has_failed writer.new ≡ true) }
@@ -71,9 +83,13 @@ pub fn run_of_object<O: Spoken, I: TextIn>(
 ) -> Result<ScriptRun<Recorded<O>>, BenchFault>
     requires history { IsHistory options.now.history }
     requires reader { I.has_failed reader.old ≡ false }
-    ensures run { IfOk result (λ run. HasRunWhole (own_scripts (spoken O.sequential O.language object) name.now options.now) (I.remaining reader.old) (λ b told. IsOwnRunOf (spoken O.sequential O.language object) b told run)) }
+    ensures run { IfOk result (λ run. HasRunWhole
+        (own_scripts (spoken O.sequential O.language object) name.now options.now) (I.remaining reader.old)
+        (λ b told. IsOwnRunOf (spoken O.sequential O.language object) b told run)) }
     ensures all_read { OnOk result (IsAtEnd (I.remaining reader.new)) }
-    ensures fault { IfErr result (λ e. IsFaultOfScript e → HasFault (own_scripts (spoken O.sequential O.language object) name.now options.now) (I.remaining reader.old) e) }
+    ensures fault { IfErr result (λ e. IsFaultOfScript e
+        → HasFault (own_scripts (spoken O.sequential O.language object) name.now options.now)
+        (I.remaining reader.old) e) }
     ensures reader { IsErrOf result BenchFault.Read → I.has_failed reader.new ≡ true }
 {
     let mut remarks = Remarks {

@@ -4,7 +4,8 @@ ghost use Rattle.std.specs.Prelude.{◌≡◌, ◌↔◌, true, false, None, Som
 ghost use Rattle.std.specs.Io.KnownBytes.{IsAtEnd};
 ghost use Rattle.uni_record.specs.Recorded.{IsHistory};
 ghost use Rattle.uni_script.specs.Scripts.{scripts};
-ghost use Rattle.uni_script.specs.Replay.{IsReplay, IsSummary, IsPromisedScript, HasAnswered, IsPartOfReplay, IsFaultOfScript};
+ghost use Rattle.uni_script.specs.Replay.{IsReplay, IsSummary, IsPromisedScript, HasAnswered, IsPartOfReplay};
+ghost use Rattle.uni_script.specs.Replay.{IsFaultOfScript};
 
 use crate::catalogue::Ready;
 use crate::driver::run_script;
@@ -32,14 +33,20 @@ pub fn bench<I: TextIn, O: TextOut>(
     requires history { IsHistory options.now.history }
     requires reader { I.has_failed reader.old ≡ false }
     requires writer { O.has_failed writer.old ≡ false }
-    ensures replayed { OnOk result (IsReplay (scripts options.now) (I.remaining reader.old) (O.contents writer.old) (O.contents writer.new) None) }
+    ensures replayed { OnOk result (IsReplay (scripts options.now) (I.remaining reader.old) (O.contents writer.old)
+        (O.contents writer.new) None) }
     ensures summary { IfOk result (IsSummary options.now (I.remaining reader.old)) }
     ensures promised { OnOk result (IsPromisedScript options.now (I.remaining reader.old)) }
     ensures audited { (verdict : Verdict) → IsErrOf result (BenchFault.Audit verdict) → ⊥ }
     ensures all_read { OnOk result (IsAtEnd (I.remaining reader.new)) }
-    ensures fault { IfErr result (λ e. IsFaultOfScript e → IsReplay (scripts options.now) (I.remaining reader.old) (O.contents writer.old) (O.contents writer.new) (Some e)) }
-    ensures read { IsErrOf result BenchFault.Read → HasAnswered (scripts options.now) (I.remaining reader.old) (I.remaining reader.new) (O.contents writer.old) (O.contents writer.new) }
-    ensures part { IfErr result (λ e. IsPartOfReplay (scripts options.now) (I.remaining reader.old) (O.contents writer.old) (O.contents writer.new)) }
+    ensures fault { IfErr result (λ e. IsFaultOfScript e
+        → IsReplay (scripts options.now) (I.remaining reader.old) (O.contents writer.old) (O.contents writer.new)
+        (Some e)) }
+    ensures read { IsErrOf result BenchFault.Read
+        → HasAnswered (scripts options.now) (I.remaining reader.old) (I.remaining reader.new) (O.contents writer.old)
+        (O.contents writer.new) }
+    ensures part { IfErr result (λ e. IsPartOfReplay (scripts options.now) (I.remaining reader.old)
+        (O.contents writer.old) (O.contents writer.new)) }
     ensures reader { IsErrOf result BenchFault.Read → I.has_failed reader.new ≡ true }
     ensures reader_ok { OnOk result (I.has_failed reader.new ≡ false) }
     ensures writer { IsErrOf result BenchFault.Write ↔ (O.has_failed writer.new ≡ true) }

@@ -1,10 +1,12 @@
 //! Schedules: scripts that are drawn from words.
 
-ghost use Rattle.std.specs.Prelude.{◌≡◌, ◌+◌, ◌<◌, ◌++◌, ◌⊎◌, ◌↔◌, ℕ, true, false, IfErr, IsErrOf, OnOk};
+ghost use Rattle.std.specs.Prelude.{◌≡◌, ◌+◌, ◌<◌, ◌++◌, ◌⊎◌, ◌↔◌, ℕ, true, false};
+ghost use Rattle.std.specs.Prelude.{IfErr, IsErrOf, OnOk};
 ghost use Rattle.std.specs.Io.KnownBytes.{Appends};
 ghost use Rattle.uni_script.specs.Ends.{AppendsFront};
 ghost use Rattle.uni_script.specs.Objects.{spoken_of};
-ghost use Rattle.uni_script.specs.Schedules.{IsPlan, header_line, call_line, event_line, words_of_event, event_lines, words_of_events, finish_lines, schedule_text};
+ghost use Rattle.uni_script.specs.Schedules.{IsPlan, header_line, call_line, event_line, words_of_event, event_lines};
+ghost use Rattle.uni_script.specs.Schedules.{words_of_events, finish_lines, schedule_text};
 
 use crate::ends::{TextOut, write_all};
 use crate::fault::BenchFault;
@@ -61,9 +63,12 @@ pub fn schedule<D: Drawn, W: TextOut>(
 ) -> Result<(), BenchFault>
     requires plan { IsPlan plan.now }
     requires writer { W.has_failed writer.old ≡ false }
-    ensures text { OnOk result (Appends (W.contents writer.old) (W.contents writer.new) (schedule_text plan.now (D.word source.old))) }
-    ensures drawn { OnOk result ((i : ℕ) → D.word source.new i ≡ D.word source.old (words_of_events (D.word source.old) 0 plan.now.events + i)) }
-    ensures front { AppendsFront (W.contents writer.old) (W.contents writer.new) (schedule_text plan.now (D.word source.old)) }
+    ensures text { OnOk result (Appends (W.contents writer.old) (W.contents writer.new)
+        (schedule_text plan.now (D.word source.old))) }
+    ensures drawn { OnOk result ((i : ℕ) → D.word source.new i
+        ≡ D.word source.old (words_of_events (D.word source.old) 0 plan.now.events + i)) }
+    ensures front { AppendsFront (W.contents writer.old) (W.contents writer.new)
+        (schedule_text plan.now (D.word source.old)) }
     ensures faults { IfErr result (λ e. (e ≡ BenchFault.Write) ⊎ (e ≡ BenchFault.Memory)) }
     ensures writer { IsErrOf result BenchFault.Write ↔ (W.has_failed writer.new ≡ true) }
     ensures kept { IsErrOf result BenchFault.Memory → writer.new ≡ writer.old }
@@ -88,7 +93,8 @@ fn push_schedule<D: Drawn>(
 ) -> Result<(), AllocError>
     requires { IsPlan plan.now }
     ensures text { OnOk result (text.new.items ≡ text.old.items ++ schedule_text plan.now (D.word source.old)) }
-    ensures drawn { OnOk result ((i : ℕ) → D.word source.new i ≡ D.word source.old (words_of_events (D.word source.old) 0 plan.now.events + i)) }
+    ensures drawn { OnOk result ((i : ℕ) → D.word source.new i
+        ≡ D.word source.old (words_of_events (D.word source.old) 0 plan.now.events + i)) }
 {
     push_header(plan, text)?;
     push_drawn(source, plan, text)?;
@@ -116,8 +122,11 @@ fn push_header(plan: &Plan, text: &mut Vec<u8>) -> Result<(), AllocError>
 /// An `Err` says that memory was refused.
 fn push_drawn<D: Drawn>(source: &mut D, plan: &Plan, text: &mut Vec<u8>) -> Result<(), AllocError>
     requires { IsPlan plan.now }
-    ensures text { OnOk result (text.new.items ≡ text.old.items ++ event_lines (spoken_of plan.now.object).language plan.now.processes (D.word source.old) 0 plan.now.events) }
-    ensures drawn { OnOk result ((i : ℕ) → D.word source.new i ≡ D.word source.old (words_of_events (D.word source.old) 0 plan.now.events + i)) }
+    ensures text { OnOk result (text.new.items
+        ≡ text.old.items ++ event_lines (spoken_of plan.now.object).language plan.now.processes
+        (D.word source.old) 0 plan.now.events) }
+    ensures drawn { OnOk result ((i : ℕ) → D.word source.new i
+        ≡ D.word source.old (words_of_events (D.word source.old) 0 plan.now.events + i)) }
 {
     let processes = plan.processes;
     let events = plan.events;
@@ -141,8 +150,10 @@ fn push_events<O: Spoken, D: Drawn>(
     text: &mut Vec<u8>,
 ) -> Result<(), AllocError>
     requires { 0 < processes }
-    ensures text { OnOk result (text.new.items ≡ text.old.items ++ event_lines O.language processes (D.word source.old) 0 events) }
-    ensures drawn { OnOk result ((i : ℕ) → D.word source.new i ≡ D.word source.old (words_of_events (D.word source.old) 0 events + i)) }
+    ensures text { OnOk result (text.new.items
+        ≡ text.old.items ++ event_lines O.language processes (D.word source.old) 0 events) }
+    ensures drawn { OnOk result ((i : ℕ) → D.word source.new i
+        ≡ D.word source.old (words_of_events (D.word source.old) 0 events + i)) }
 {
     for _ in 0..events {
         push_event::<O, D>(source, processes, text)?;
@@ -159,8 +170,10 @@ fn push_event<O: Spoken, D: Drawn>(
     text: &mut Vec<u8>,
 ) -> Result<(), AllocError>
     requires { 0 < processes }
-    ensures text { OnOk result (text.new.items ≡ text.old.items ++ event_line O.language processes (D.word source.old 0) (D.word source.old 1)) }
-    ensures drawn { OnOk result ((i : ℕ) → D.word source.new i ≡ D.word source.old (words_of_event (D.word source.old 0) + i)) }
+    ensures text { OnOk result (text.new.items
+        ≡ text.old.items ++ event_line O.language processes (D.word source.old 0) (D.word source.old 1)) }
+    ensures drawn { OnOk result ((i : ℕ) → D.word source.new i
+        ≡ D.word source.old (words_of_event (D.word source.old 0) + i)) }
 {
     let word = source.draw();
     let kind = word % 16;

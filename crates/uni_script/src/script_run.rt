@@ -63,7 +63,8 @@ pub fn run_of_script<I: TextIn>(
     requires reader { I.has_failed reader.old ≡ false }
     ensures run { IfOk result (IsScriptRun options.now (I.remaining reader.old)) }
     ensures all_read { OnOk result (IsAtEnd (I.remaining reader.new)) }
-    ensures fault { IfErr result (λ e. IsFaultOfScript e → HasFault (scripts options.now) (I.remaining reader.old) e) }
+    ensures fault { IfErr result (λ e. IsFaultOfScript e
+        → HasFault (scripts options.now) (I.remaining reader.old) e) }
     ensures reader { IsErrOf result BenchFault.Read → I.has_failed reader.new ≡ true }
 {
     let mut remarks = Remarks {

@@ -68,7 +68,8 @@ fn report_line<F: TextOut>(alloc: Global, fault: BenchFault, status: u8, faults:
 /// Writes a line, as far as the end takes it.
 pub fn tell<F: TextOut>(faults: &mut F, line: &[u8])
     ensures front { AppendsFront (F.contents faults.old) (F.contents faults.new) line.now }
-    ensures whole { F.has_failed faults.new ≡ false → Appends (F.contents faults.old) (F.contents faults.new) line.now }
+    ensures whole { F.has_failed faults.new ≡ false
+        → Appends (F.contents faults.old) (F.contents faults.new) line.now }
 {
     let _ = write_all(faults, line);
 }
@@ -79,7 +80,8 @@ pub fn refuse_words<F: TextOut>(error: &io::Error, faults: &mut F) -> u8
     ensures memory { error_kind error.now ≡ ErrorKind.OutOfMemory → result ≡ 4 }
     ensures other { error_kind error.now ≢ ErrorKind.OutOfMemory → result ≡ 2 }
     ensures front { AppendsFront (F.contents faults.old) (F.contents faults.new) (line_of_words result) }
-    ensures whole { F.has_failed faults.new ≡ false → Appends (F.contents faults.old) (F.contents faults.new) (line_of_words result) }
+    ensures whole { F.has_failed faults.new ≡ false
+        → Appends (F.contents faults.old) (F.contents faults.new) (line_of_words result) }
 {
     if error.kind() == ErrorKind::OutOfMemory {
         tell(faults, b"out of memory\n");

@@ -21,7 +21,8 @@ pub struct Summary {
 
 /// The summary of a script of so many lines that has left this record.
 pub fn summary_of<O: Spoken>(session: &Recorded<O>, lines: u64) -> Summary
-    ensures { result ≡ summary_of (record { object = O.sequential session.now.world.object; language = O.language }) lines (session_of session.now) }
+    ensures { result ≡ summary_of (record { object = O.sequential session.now.world.object; language = O.language })
+        lines (session_of session.now) }
 {
     session.promise();
     Summary {

@@ -1,5 +1,6 @@
 -- When the receipts of a process agree with a history, and what a closed record is.
-use Rattle.std.specs.Prelude.{◌≡◌, ◌≢◌, ◌⊎◌, ℕ, ◌<◌, ◌≤◌, ◌==◌, if◌then◌else◌, List, [], ◌∷◌, Option, Some, None, IsSome, map, replicate, refl, slice_get}
+use Rattle.std.specs.Prelude.{◌≡◌, ◌≢◌, ◌⊎◌, ℕ, ◌<◌, ◌≤◌, ◌==◌, if◌then◌else◌, List, [], ◌∷◌}
+use Rattle.std.specs.Prelude.{Option, Some, None, IsSome, map, replicate, refl, slice_get}
 use Rattle.std.specs.List.{All, Contains, count_by, filter, filter_map}
 use Rattle.seq_object.specs.declared.call_id.CallId.{CallId}
 use Rattle.seq_object.specs.Sequential.{Sequential}
@@ -31,13 +32,15 @@ completed_of r = record { returned = record { call = r.call; reply = r.reply }; 
 
 -- The receipts are the calls of a process in a run, in order, none missing and none more: each with what it asked for, with the
 -- reply of its return, and with its own steps and turns.
-pub record Agrees {S I R : Type 0} (object : Sequential S I R) (first : WorldOf S I R) (events : List (Stored I)) (p : ℕ) (receipts : List (Receipt I R)) : Type 0 where
+pub record Agrees {S I R : Type 0} (object : Sequential S I R) (first : WorldOf S I R) (events : List (Stored I)) (p : ℕ)
+    (receipts : List (Receipt I R)) : Type 0 where
   pub invocations : map (λ r. r.inv) receipts ≡ filter_map (invocation_by p) events
   pub completed : map completed_of receipts ≡ completed_of_process p (completed_in object first (events_shown events))
 
 -- the receipts of a seat agree with the events of a record
 abbrev pub SeatAgrees : {O S I R : Type 0} → (O → Sequential S I R) → Recording O S I R → SeatOf I R → Type 0
-SeatAgrees sequential recorded seat = Agrees (meaning sequential recorded) (opening sequential recorded) recorded.events seat.process seat.receipts
+SeatAgrees sequential recorded seat =
+    Agrees (meaning sequential recorded) (opening sequential recorded) recorded.events seat.process seat.receipts
 
 -- how many of these seats are of a process
 abbrev pub seats_of : {I R : Type 0} → ℕ → List (SeatOf I R) → ℕ
@@ -45,7 +48,8 @@ seats_of p seats = count_by (λ s. s.process == p) seats
 
 -- Each process has one seat there and there is no other; no call is pending, in a seat or in the world; and the receipts of each
 -- seat agree with the stored events.
-pub record IsClosed {O S I R : Type 0} (sequential : O → Sequential S I R) (recorded : Recording O S I R) (seats : List (SeatOf I R)) : Type 0 where
+pub record IsClosed {O S I R : Type 0} (sequential : O → Sequential S I R) (recorded : Recording O S I R)
+    (seats : List (SeatOf I R)) : Type 0 where
   pub each : (p : ℕ) → p < recorded.processes → seats_of p seats ≡ 1
   pub only : All (λ s. s.process < recorded.processes) seats
   pub idle : All (λ s. s.pending ≡ None) seats
@@ -75,29 +79,34 @@ abbrev pub DiffersFirstAt : {A : Type 0} → List A → List A → ℕ → Type 
 DiffersFirstAt xs ys j = ¬ (IsSameAt xs ys j) × ((i : ℕ) → i < j → IsSameAt xs ys i)
 
 -- the receipts of a process are its calls in a run, at this place of both
-abbrev pub AgreesAt : {S I R : Type 0} → Sequential S I R → WorldOf S I R → List (Stored I) → ℕ → List (Receipt I R) → ℕ → Type 0
+abbrev pub AgreesAt : {S I R : Type 0} → Sequential S I R → WorldOf S I R → List (Stored I) → ℕ → List (Receipt I R) → ℕ
+    → Type 0
 AgreesAt object first events p receipts j =
     IsSameAt (map (λ r. r.inv) receipts) (filter_map (invocation_by p) events) j
     × IsSameAt (map completed_of receipts) (completed_of_process p (completed_in object first (events_shown events))) j
 
 abbrev pub SeatAgreesAt : {O S I R : Type 0} → (O → Sequential S I R) → Recording O S I R → SeatOf I R → ℕ → Type 0
-SeatAgreesAt sequential recorded seat = AgreesAt (meaning sequential recorded) (opening sequential recorded) recorded.events seat.process seat.receipts
+SeatAgreesAt sequential recorded seat =
+    AgreesAt (meaning sequential recorded) (opening sequential recorded) recorded.events seat.process seat.receipts
 
 -- this is the first call of a seat's process at which its receipts differ from the stored events
-pub record IsMismatchOf {O S I R : Type 0} (sequential : O → Sequential S I R) (recorded : Recording O S I R) (seat : SeatOf I R) (call : CallId) : Type 0 where
+pub record IsMismatchOf {O S I R : Type 0} (sequential : O → Sequential S I R) (recorded : Recording O S I R) (seat : SeatOf I R)
+    (call : CallId) : Type 0 where
   pub process : seat.process ≡ call.process
   pub differs : ¬ (SeatAgreesAt sequential recorded seat call.nth)
   pub same : (j : ℕ) → j < call.nth → SeatAgreesAt sequential recorded seat j
 
 -- the first such call by process and then by number, among these seats
-pub record IsFirstMismatch {O S I R : Type 0} (sequential : O → Sequential S I R) (recorded : Recording O S I R) (seats : List (SeatOf I R)) (call : CallId) : Type 0 where
+pub record IsFirstMismatch {O S I R : Type 0} (sequential : O → Sequential S I R) (recorded : Recording O S I R)
+    (seats : List (SeatOf I R)) (call : CallId) : Type 0 where
   pub seat : SeatOf I R
   pub there : Contains seats seat
   pub mismatch : IsMismatchOf sequential recorded seat call
   pub before : All (λ s. s.process < call.process → SeatAgrees sequential recorded s) seats
 
 -- why a record and seats aren't closed: the first of these that holds
-abbrev pub IsFaultOfClosing : {O S I R : Type 0} → (O → Sequential S I R) → Recording O S I R → List (SeatOf I R) → CloseFault → Type 0
+abbrev pub IsFaultOfClosing : {O S I R : Type 0} → (O → Sequential S I R) → Recording O S I R → List (SeatOf I R) → CloseFault
+    → Type 0
 IsFaultOfClosing sequential recorded seats (MissingSeat p) = IsLeast (IsMissing recorded.processes seats) p
 IsFaultOfClosing sequential recorded seats (PendingSeat p) =
     ((q : ℕ) → ¬ (IsMissing recorded.processes seats q)) × IsLeast (IsBusy (world_of recorded.world) seats) p
@@ -131,7 +140,8 @@ sample_agrees_at : AgreesAt sample (opened_world 1 9 1) sample_stored 0 (sample_
 sample_agrees_at = (refl, refl)
 
 -- what the history has beside a receipt that tells another reply, and nothing beside a second receipt
-sample_returned : slice_get (completed_of_process 0 (completed_in sample (opened_world 1 9 1) (events_shown sample_stored))) 0 ≡ Some (completed_of (sample_receipt 9))
+sample_returned : slice_get (completed_of_process 0 (completed_in sample (opened_world 1 9 1) (events_shown sample_stored))) 0
+    ≡ Some (completed_of (sample_receipt 9))
 sample_returned = refl
 
 sample_ended : slice_get (filter_map (invocation_by 0) sample_stored) 1 ≡ None

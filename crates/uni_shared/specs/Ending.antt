@@ -9,7 +9,8 @@ use Rattle.uni_shared.specs.declared.receipt.Receipt.{Receipt}
 use Rattle.uni_shared.specs.declared.fault.ApplyFault.{ApplyFault}
 use Rattle.uni_shared.specs.contracts.seat.Seat.{the_row}
 
-module _ (O S I R : RattleType) (object : seq.Ghosts O.Denot S.Denot I.Denot R.Denot) (inv : eq.Ghosts I.Denot) (resp : eq.Ghosts R.Denot) where
+module _ (O S I R : RattleType) (object : seq.Ghosts O.Denot S.Denot I.Denot R.Denot) (inv : eq.Ghosts I.Denot)
+    (resp : eq.Ghosts R.Denot) where
   -- after apply: with one receipt more, which is answered; or as a refusal leaves it
   abbrev pub EndsApplied : I.Denot → MutBor (SeatOf I.Denot R.Denot) → Result (Bor (Receipt I.Denot R.Denot)) ApplyFault → Fml
   EndsApplied asked s r = follows_so (the_row O S I R object inv resp) (the_row O S I R object inv resp) s.ghost_name none (λ _ _. ⊤)

@@ -1,5 +1,6 @@
 -- What a contract sees of a seat, and what its calls leave of it.
-use Rattle.std.specs.Prelude.{◌≡◌, ℕ, ◌<◌, ◌≤◌, ◌⊎◌, List, [], ◌∷◌, ◌++◌, Option, Some, None, IsSome, option_map, map, refl}
+use Rattle.std.specs.Prelude.{◌≡◌, ℕ, ◌<◌, ◌≤◌, ◌⊎◌, List, [], ◌∷◌, ◌++◌, Option, Some, None, IsSome}
+use Rattle.std.specs.Prelude.{option_map, map, refl}
 use Rattle.std.specs.List.{range_with_len}
 use Rattle.seq_object.specs.declared.call_id.CallId.{CallId}
 use Rattle.uni_shared.specs.declared.fault.ApplyFault.{ApplyFault}

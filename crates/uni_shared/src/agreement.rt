@@ -1,11 +1,15 @@
 //! Whether seats and their receipts agree with a record. Nothing is copied.
 
-ghost use Rattle.std.specs.Prelude.{◌≡◌, ◌≢◌, ◌⊎◌, ◌↔◌, ℕ, ◌<◌, ◌≤◌, ◌++◌, ◌∷◌, [], None, Some, IfSome, IsTrue, length, map, take, option_map, slice_get};
+ghost use Rattle.std.specs.Prelude.{◌≡◌, ◌≢◌, ◌⊎◌, ◌↔◌, ℕ, ◌<◌, ◌≤◌, ◌++◌};
+ghost use Rattle.std.specs.Prelude.{◌∷◌, [], None, Some, IfSome, IsTrue, length, map, take, option_map};
+ghost use Rattle.std.specs.Prelude.{slice_get};
 ghost use Rattle.std.specs.List.{All, Contains, filter_map};
 ghost use Rattle.uni_model.specs.Worlds.{IsQuiescent};
 ghost use Rattle.uni_core.specs.World.{world_of};
 ghost use Rattle.uni_record.specs.Event.{event_lent};
-ghost use Rattle.uni_shared.specs.Agreement.{DiffersFirstAt, IsBusy, IsClosed, IsFaultOfClosing, IsFirstMismatch, IsLeast, IsMismatchOf, IsMissing, SeatAgrees, invocation_by, completed_of_process, completed_of, seats_of};
+ghost use Rattle.uni_shared.specs.Agreement.{DiffersFirstAt, IsBusy, IsClosed, IsFaultOfClosing, IsFirstMismatch};
+ghost use Rattle.uni_shared.specs.Agreement.{IsLeast, IsMismatchOf, IsMissing, SeatAgrees, invocation_by};
+ghost use Rattle.uni_shared.specs.Agreement.{completed_of_process, completed_of, seats_of};
 
 use crate::closed::CloseFault;
 use crate::receipt::Receipt;
@@ -98,8 +102,11 @@ fn place_after_event<O: SeqObject>(
 ) -> Option<usize>
     requires { place ≤ length receipts.now }
     ensures within { IfSome result (λ next. next ≤ length receipts.now) }
-    ensures other { result ≡ None → (inv : O.Inv) × (invocation_by p (event_lent event.entry) ≡ Some inv) × (slice_get (map (λ r. r.inv) receipts.now) place ≢ Some inv) }
-    ensures next { IfSome result (λ next. map (λ r. r.inv) (take next receipts.now) ≡ map (λ r. r.inv) (take place receipts.now) ++ filter_map (invocation_by p) (event_lent event.entry ∷ [])) }
+    ensures other { result ≡ None → (inv : O.Inv) × (invocation_by p (event_lent event.entry) ≡ Some inv)
+        × (slice_get (map (λ r. r.inv) receipts.now) place ≢ Some inv) }
+    ensures next { IfSome result (λ next. map (λ r. r.inv) (take next receipts.now)
+        ≡ map (λ r. r.inv) (take place receipts.now)
+        ++ filter_map (invocation_by p) (event_lent event.entry ∷ [])) }
 {
     let Some(inv) = invocation_by(event, p) else {
         return Some(place);
@@ -118,7 +125,8 @@ fn other_invocation<O: SeqObject>(
     receipts: &[Receipt<O::Inv, O::Resp>],
 ) -> Option<usize>
     ensures none { result ≡ None → map (λ r. r.inv) receipts.now ≡ filter_map (invocation_by p) events.entry }
-    ensures first { IfSome result (DiffersFirstAt (map (λ r. r.inv) receipts.now) (filter_map (invocation_by p) events.entry)) }
+    ensures first { IfSome result (DiffersFirstAt (map (λ r. r.inv) receipts.now)
+        (filter_map (invocation_by p) events.entry)) }
 {
     let mut place = 0;
     for event in events {
@@ -158,8 +166,12 @@ fn place_after_return<O: SeqObject>(
 ) -> Option<usize>
     requires { place ≤ length receipts.now }
     ensures within { IfSome result (λ next. next ≤ length receipts.now) }
-    ensures other { result ≡ None → (returned.now.call.process ≡ p) × (slice_get (map completed_of receipts.now) place ≢ Some (record { returned = returned.now; counts = counts.now })) }
-    ensures next { IfSome result (λ next. map completed_of (take next receipts.now) ≡ map completed_of (take place receipts.now) ++ completed_of_process p (record { returned = returned.now; counts = counts.now } ∷ [])) }
+    ensures other { result ≡ None → (returned.now.call.process ≡ p)
+        × (slice_get (map completed_of receipts.now) place
+        ≢ Some (record { returned = returned.now; counts = counts.now })) }
+    ensures next { IfSome result (λ next. map completed_of (take next receipts.now)
+        ≡ map completed_of (take place receipts.now)
+        ++ completed_of_process p (record { returned = returned.now; counts = counts.now } ∷ [])) }
 {
     if u64::from(returned.call.process) != p {
         return Some(place);
@@ -178,8 +190,12 @@ fn other_return<O: SeqObject>(
     receipts: &[Receipt<O::Inv, O::Resp>],
 ) -> Option<usize>
     requires { length returns.now ≡ length counts.now }
-    ensures none { result ≡ None → (calls : _) → returns.now ≡ map (λ c. c.returned) calls → counts.now ≡ map (λ c. c.counts) calls → map completed_of receipts.now ≡ completed_of_process p calls }
-    ensures first { IfSome result (λ place. (calls : _) → returns.now ≡ map (λ c. c.returned) calls → counts.now ≡ map (λ c. c.counts) calls → DiffersFirstAt (map completed_of receipts.now) (completed_of_process p calls) place) }
+    ensures none { result ≡ None → (calls : _) → returns.now ≡ map (λ c. c.returned) calls
+        → counts.now ≡ map (λ c. c.counts) calls
+        → map completed_of receipts.now ≡ completed_of_process p calls }
+    ensures first { IfSome result (λ place. (calls : _) → returns.now ≡ map (λ c. c.returned) calls
+        → counts.now ≡ map (λ c. c.counts) calls
+        → DiffersFirstAt (map completed_of receipts.now) (completed_of_process p calls) place) }
 {
     let mut place = 0;
     for i in 0..returns.len() {
@@ -211,7 +227,8 @@ fn first_of(one: Option<usize>, other: Option<usize>) -> Option<usize>
 /// The first call at which a seat's receipts differ from the history, where the seat is of process `p`.
 fn mismatch_of<O: SeqObject>(recorded: &Recorded<O>, seat: &Seat<O>, p: u64) -> Option<CallId>
     ensures none { result ≡ None → seat.now.process ≡ p → SeatAgrees O.sequential recorded.now seat.now }
-    ensures first { IfSome result (λ call. (call.process ≡ p) × IsMismatchOf O.sequential recorded.now seat.now call) }
+    ensures first { IfSome result (λ call. (call.process ≡ p)
+        × IsMismatchOf O.sequential recorded.now seat.now call) }
 {
     recorded.promise();
     if seat.process() != p {
@@ -233,8 +250,10 @@ fn mismatch_of_process<O: SeqObject>(
     seats: &[Seat<O>],
     p: u64,
 ) -> Option<CallId>
-    ensures none { result ≡ None → All (λ s. s.process ≡ p → SeatAgrees O.sequential recorded.now s) seats.now }
-    ensures first { IfSome result (λ call. (call.process ≡ p) × ((seat : _) × Contains seats.now seat × IsMismatchOf O.sequential recorded.now seat call)) }
+    ensures none { result ≡ None → All (λ s. s.process ≡ p → SeatAgrees O.sequential recorded.now s)
+        seats.now }
+    ensures first { IfSome result (λ call. (call.process ≡ p)
+        × ((seat : _) × Contains seats.now seat × IsMismatchOf O.sequential recorded.now seat call)) }
 {
     for seat in seats {
         match mismatch_of(recorded, seat, p) {
@@ -247,7 +266,8 @@ fn mismatch_of_process<O: SeqObject>(
 
 /// The call that `Mismatch` names.
 fn first_mismatch<O: SeqObject>(recorded: &Recorded<O>, seats: &[Seat<O>]) -> Option<CallId>
-    ensures none { result ≡ None → (p : ℕ) → p < recorded.now.processes → All (λ s. s.process ≡ p → SeatAgrees O.sequential recorded.now s) seats.now }
+    ensures none { result ≡ None → (p : ℕ) → p < recorded.now.processes
+        → All (λ s. s.process ≡ p → SeatAgrees O.sequential recorded.now s) seats.now }
     ensures first { IfSome result (IsFirstMismatch O.sequential recorded.now seats.now) }
 {
     for p in 0..recorded.processes() {

@@ -74,7 +74,8 @@ impl<O: SeqObject> Shared<O> {
     pub fn close(self, _alloc: Global, seats: Vec<Seat<O>>) -> Result<Closed<O>, Refused<O>>
         ensures closed { IfOk result (λ closed. IsClosed O.sequential closed.recorded closed.seats) }
         ensures seats { IfOk result (λ closed. closed.seats ≡ seats.items) }
-        ensures fault { IfErr result (λ refused. (recorded : Recording O O.State O.Inv O.Resp) × IsFaultOfClosing O.sequential recorded seats.items refused.fault) }
+        ensures fault { IfErr result (λ refused. (recorded : Recording O O.State O.Inv O.Resp)
+            × IsFaultOfClosing O.sequential recorded seats.items refused.fault) }
         ensures handed_back { IfErr result (λ refused. refused.seats.items ≡ seats.items) }
     {
         let Shared { recorded } = self;
@@ -103,8 +104,10 @@ impl<O: SeqObject> Closed<O> {
     /// The receipts of process `p`, one of those of the opening, in order.
     pub fn receipts(&self, p: u64) -> &[Receipt<O::Inv, O::Resp>]
         requires { p < self.now.recorded.processes }
-        ensures seat { (seat : _) × Contains self.now.seats seat × (seat.process ≡ p) × (result.now ≡ seat.receipts) }
-        ensures agree { Agrees (meaning O.sequential self.now.recorded) (opening O.sequential self.now.recorded) self.now.recorded.events p result.now }
+        ensures seat { (seat : _) × Contains self.now.seats seat × (seat.process ≡ p)
+            × (result.now ≡ seat.receipts) }
+        ensures agree { Agrees (meaning O.sequential self.now.recorded)
+            (opening O.sequential self.now.recorded) self.now.recorded.events p result.now }
     {
         for seat in &self.seats {
             if seat.process() == p {

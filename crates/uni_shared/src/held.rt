@@ -1,6 +1,7 @@
 //! All that one hold of the lock does: at most one event.
 
-ghost use Rattle.std.specs.Prelude.{◌≡◌, ◌≢◌, ◌<◌, ◌↔◌, ◌++◌, ◌∷◌, [], IfOk, IfErr, OnErr, OnOk, IsErrOf, IsSome, Some, None};
+ghost use Rattle.std.specs.Prelude.{◌≡◌, ◌≢◌, ◌<◌, ◌↔◌, ◌++◌, ◌∷◌, [], IfOk, IfErr};
+ghost use Rattle.std.specs.Prelude.{OnErr, OnOk, IsErrOf, IsSome, Some, None};
 ghost use Rattle.uni_model.specs.Worlds.{world_after, response_of_step};
 ghost use Rattle.uni_model.specs.Worlds.{Event as model};
 ghost use Rattle.uni_core.specs.World.{world_of, current_of, MayNeedMemory};
@@ -71,12 +72,14 @@ pub fn begin_held<O: SeqObject>(
 ) -> Result<Held<O::Resp>, RecordBeginFault>
     ensures refused { IfErr result (IsBeginRefused (standing_of recorded.old) p) }
     ensures could { OnOk result (CanBegin (standing_of recorded.old) p) }
-    ensures call { IfOk result (λ held. (held.call.process ≡ p) × (held.call.nth ≡ (world_of recorded.old.world).begun p)) }
+    ensures call { IfOk result (λ held. (held.call.process ≡ p)
+        × (held.call.nth ≡ (world_of recorded.old.world).begun p)) }
     ensures reply { IfOk result (λ held. held.reply ≡ None) }
     ensures tells { IfOk result (λ held. Tells (world_of recorded.new.world) p held) }
     ensures place { IfOk result (λ held. IsSome held.place) }
     ensures event { OnOk result (recorded.new.events ≡ recorded.old.events ++ event.Call p inv.now ∷ []) }
-    ensures begun { OnOk result (world_of recorded.new.world ≡ world_after (O.sequential recorded.old.world.object) (world_of recorded.old.world) (model.Call p inv.now)) }
+    ensures begun { OnOk result (world_of recorded.new.world
+        ≡ world_after (O.sequential recorded.old.world.object) (world_of recorded.old.world) (model.Call p inv.now)) }
     ensures fixed { KeepsOpening recorded.old recorded.new }
     ensures unchanged { OnErr result (recorded.new ≡ recorded.old) }
 {
@@ -95,14 +98,17 @@ pub fn step_held<O: SeqObject>(
     recorded: &mut Recorded<O>,
     call: CallId,
 ) -> Result<Held<O::Resp>, StepHeldFault>
-    ensures not_its { IsErrOf result StepHeldFault.NotIts ↔ (current_of (world_of recorded.old.world) call.process ≢ Some call) }
+    ensures not_its { IsErrOf result StepHeldFault.NotIts
+        ↔ (current_of (world_of recorded.old.world) call.process ≢ Some call) }
     ensures memory { IsErrOf result StepHeldFault.Memory → MayNeedMemory (world_of recorded.old.world) call.process }
     ensures could { OnOk result (current_of (world_of recorded.old.world) call.process ≡ Some call) }
     ensures call { IfOk result (λ held. held.call ≡ call) }
     ensures reply { IfOk result (λ held. held.reply ≡ response_of_step (world_of recorded.old.world) call.process) }
     ensures tells { IfOk result (λ held. Tells (world_of recorded.new.world) call.process held) }
     ensures event { OnOk result (recorded.new.events ≡ recorded.old.events ++ event.Step call.process ∷ []) }
-    ensures step { OnOk result (world_of recorded.new.world ≡ world_after (O.sequential recorded.old.world.object) (world_of recorded.old.world) (model.Step call.process)) }
+    ensures step { OnOk result (world_of recorded.new.world
+        ≡ world_after (O.sequential recorded.old.world.object) (world_of recorded.old.world)
+        (model.Step call.process)) }
     ensures fixed { KeepsOpening recorded.old recorded.new }
     ensures unchanged { OnErr result (recorded.new ≡ recorded.old) }
 {
@@ -135,7 +141,8 @@ pub fn trim_held<O: SeqObject>(
     ensures could { OnOk result (CanEnd (standing_of recorded.old) (world_of recorded.old.world).n) }
     ensures number { IfOk result (λ number. number ≡ last_number (world_of recorded.old.world)) }
     ensures event { OnOk result (recorded.new.events ≡ recorded.old.events ++ event.Trim ∷ []) }
-    ensures trimmed { OnOk result (world_of recorded.new.world ≡ world_after (O.sequential recorded.old.world.object) (world_of recorded.old.world) model.Trim) }
+    ensures trimmed { OnOk result (world_of recorded.new.world
+        ≡ world_after (O.sequential recorded.old.world.object) (world_of recorded.old.world) model.Trim) }
     ensures fixed { KeepsOpening recorded.old recorded.new }
     ensures unchanged { OnErr result (recorded.new ≡ recorded.old) }
 {

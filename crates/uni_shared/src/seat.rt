@@ -1,6 +1,7 @@
 //! Seats: calls from threads, a hold of the lock for each event.
 
-ghost use Rattle.std.specs.Prelude.{◌≡◌, ◌-◌, ◌<◌, ◌≤◌, ◌↔◌, ◌⊎◌, IfOk, IfErr, OnErr, OnOk, IsSome, IsErrOf, IsTrue, None, Some, length, slice_get};
+ghost use Rattle.std.specs.Prelude.{◌≡◌, ◌-◌, ◌<◌, ◌≤◌, ◌↔◌, ◌⊎◌, IfOk, IfErr, OnErr};
+ghost use Rattle.std.specs.Prelude.{OnOk, IsSome, IsErrOf, IsTrue, None, Some, length, slice_get};
 ghost use Rattle.std.specs.Borrow.{sem};
 ghost use Rattle.uni_shared.specs.Seat.{first_seat, HasEnded, HasBegun, HasStopped, IsLeftByApply, IsReceiptOf, IsStop};
 ghost use Rattle.uni_shared.specs.Ending.{EndsApplied, EndsResumed};
@@ -33,7 +34,12 @@ impl<O: SeqObject> Model for Seat<O> {
 
     ghost Value = { SeatOf O.Inv O.Resp };
 
-    ghost view = { λ s. record { process = s.process; processes = s.processes; pending = s.pending; receipts = s.receipts.items } };
+    ghost view = { λ s. record {
+      process = s.process;
+      processes = s.processes;
+      pending = s.pending;
+      receipts = s.receipts.items;
+    } };
 
     ghost invariant = { λ s. IsSeat s.pending s.process s.processes (vec_len s.receipts) (vec_capacity s.receipts) };
 }
@@ -311,7 +317,8 @@ impl<O: SeqObject> Seat<O> {
         inv: O::Inv,
         gate: &G,
     ) -> Result<&Receipt<O::Inv, O::Resp>, ApplyFault>
-        ensures* ends { sem 𝓛 (EndsApplied O.row O.State.row O.Inv.row O.Resp.row O.SeqObject O.Inv.PartialEq O.Resp.PartialEq inv self.entry result) }
+        ensures* ends { sem 𝓛 (EndsApplied O.row O.State.row O.Inv.row O.Resp.row O.SeqObject O.Inv.PartialEq
+            O.Resp.PartialEq inv self.entry result) }
         ensures inv { IfOk result (λ receipt. receipt.now.inv ≡ inv) }
         ensures seat_pending { IsErrOf result ApplyFault.SeatPending ↔ IsSome self.old.pending }
         ensures none_pending { IsErrOf result ApplyFault.NothingPending → ⊥ }
@@ -332,7 +339,8 @@ impl<O: SeqObject> Seat<O> {
         shared: &Shared<O>,
         gate: &G,
     ) -> Result<&Receipt<O::Inv, O::Resp>, ApplyFault>
-        ensures* ends { sem 𝓛 (EndsResumed O.row O.State.row O.Inv.row O.Resp.row O.SeqObject O.Inv.PartialEq O.Resp.PartialEq self.entry result) }
+        ensures* ends { sem 𝓛 (EndsResumed O.row O.State.row O.Inv.row O.Resp.row O.SeqObject O.Inv.PartialEq
+            O.Resp.PartialEq self.entry result) }
         ensures receipt { IfOk result (λ receipt. IsReceiptOf self.old receipt.now) }
         ensures none_pending { IsErrOf result ApplyFault.NothingPending ↔ (self.old.pending ≡ None) }
         ensures others { IfErr result (λ fault. (fault ≡ ApplyFault.NothingPending) ⊎ IsStop fault) }

@@ -40,7 +40,8 @@ pub fn trim<O: SeqObject>(world: &mut World<O>) -> Result<u64, TrimFault>
     ensures refused { IfErr result (IsTrimRefused (world_of world.old) world.old.row) }
     ensures could { OnOk result (CanEnd (world_of world.old) world.old.row (world_of world.old).n) }
     ensures number { IfOk result (λ number. number ≡ last_number (world_of world.old)) }
-    ensures trimmed { OnOk result (world_of world.new ≡ world_after (O.sequential world.old.object) (world_of world.old) Trim) }
+    ensures trimmed { OnOk result (world_of world.new
+        ≡ world_after (O.sequential world.old.object) (world_of world.old) Trim) }
     ensures fixed { KeepsFixed world.old world.new }
     ensures unchanged { OnErr result (world.new ≡ world.old) }
 {
@@ -70,7 +71,8 @@ pub fn reshape<O: SeqObject>(
     ensures refused { IfErr result (IsReshapeRefused (world_of world.old) world.old.row m) }
     ensures could { OnOk result (IsCount m × CanEnd (world_of world.old) world.old.row m) }
     ensures number { IfOk result (λ number. number ≡ last_number (world_of world.old)) }
-    ensures reshaped { OnOk result (world_of world.new ≡ world_after (O.sequential world.old.object) (world_of world.old) (Reshape m)) }
+    ensures reshaped { OnOk result (world_of world.new
+        ≡ world_after (O.sequential world.old.object) (world_of world.old) (Reshape m)) }
     ensures fixed { KeepsFixed world.old world.new }
     ensures unchanged { OnErr result (world.new ≡ world.old) }
 {

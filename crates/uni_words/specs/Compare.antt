@@ -38,7 +38,8 @@ pub record IsFirstOther (log : List (Entry ℕ ℕ)) (lists : List (List (ℕ ×
   pub own : List (ℕ × ℕ)
   pub here : slice_get lists call.process ≡ Some own
   pub other : DiffersFirstAt (calls_by call.process log) (map replied own) call.nth
-  pub before : (q : ℕ) (calls : List (ℕ × ℕ)) → q < call.process → slice_get lists q ≡ Some calls → calls_by q log ≡ map replied calls
+  pub before : (q : ℕ) (calls : List (ℕ × ℕ)) → q < call.process → slice_get lists q ≡ Some calls
+      → calls_by q log ≡ map replied calls
 
 -- the first entry that isn't right; where there is none, the first call that the lists have otherwise
 abbrev pub IsFirstFault : Sequential ℕ ℕ ℕ → List (Entry ℕ ℕ) → List (List (ℕ × ℕ)) → CallId → Type 0

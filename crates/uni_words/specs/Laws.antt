@@ -1,5 +1,6 @@
 -- The laws of the word steps: each is an event, by which the world that is shown and the run to it go on, or leaves both as they were.
-use Rattle.std.specs.Prelude.{◌≡◌, ◌≢◌, ℕ, ◌<◌, ◌≤◌, ◌^◌, List, [], ◌∷◌, ◌++◌, Option, Some, None, slice_get, slice_index, slice_set}
+use Rattle.std.specs.Prelude.{◌≡◌, ◌≢◌, ℕ, ◌<◌, ◌≤◌, ◌^◌, List, [], ◌∷◌, ◌++◌, Option, Some, None}
+use Rattle.std.specs.Prelude.{slice_get, slice_index, slice_set}
 use mathlib.Core.Option.{some}
 use lib.ListN.{get_elem?}
 use Rattle.atomic_table.specs.Table.{State, opening}
@@ -36,7 +37,8 @@ abbrev pub IsLoad : (n row : ℕ) → Known → (mine : Name) → Stage → (wor
 IsLoad n row v mine (DecideNew c c_seq d) word found (Invocation inv) = (word_of n row (InvOf d) ≡ Some word) × (inv ≡ found)
 IsLoad n row v mine (DecideNew c c_seq d) word found (Applied inv state) =
     (word_of n row (NewOf c) ≡ Some word) × (v.read ≡ Invocation inv) × (state ≡ state_in found)
-IsLoad n row v mine (Finish c_seq mine_seq) word found (Reply reply) = (word_of n row (NewOf mine) ≡ Some word) × (reply ≡ reply_in found)
+IsLoad n row v mine (Finish c_seq mine_seq) word found (Reply reply) =
+    (word_of n row (NewOf mine) ≡ Some word) × (reply ≡ reply_in found)
 IsLoad n row v mine stage word found read = ⊥
 
 -- the table after a seat's first process has got a seat of its own, the last one; and after a seat has taken in another one
@@ -72,7 +74,8 @@ module _ (object : Sequential ℕ ℕ ℕ) (row : ℕ) (w : WorldOf ℕ ℕ ℕ)
     -- the store of the invocation of the process's next call is the event that begins the call
     abbrev pub StoreBegins : (word inv : ℕ) → Type 0
     StoreBegins word inv =
-        IsShown object row w s → HasSeat s id v → v.call ≡ None → v.begun < row → word_of w.n row (InvOf (Of v.first v.begun)) ≡ Some word
+        IsShown object row w s → HasSeat s id v → v.call ≡ None → v.begun < row
+        → word_of w.n row (InvOf (Of v.first v.begun)) ≡ Some word
         → Leads (Call v.first inv ∷ []) (world_after object w (Call v.first inv)) (after_word s word inv id (begun_by v inv))
 
     -- A word step at the place of the stage where a call stands is the event Step, as long as the call goes on after it: it leaves
@@ -84,12 +87,14 @@ module _ (object : Sequential ℕ ℕ ℕ) (row : ℕ) (w : WorldOf ℕ ℕ ℕ)
         → stage_found v.n v.first c.mine c.stage (slice_index s.words word) ≡ Some next
         → content_of w.n (place_of w.n v.first c.mine c.stage) x ≡ (effect_in object w v.first c).content
         → ((y : Name) (u : ℕ × Option ℕ) → new_of (world_after object w (Step v.first)).memory y ≡ Some u → u.0 < 2 ^ 31)
-        → Leads (Step v.first ∷ []) (world_after object w (Step v.first)) (after_word s word x id (moved_at v c (slice_index s.words word)))
+        → Leads (Step v.first ∷ []) (world_after object w (Step v.first))
+        (after_word s word x id (moved_at v c (slice_index s.words word)))
 
     -- where the process's head moves at the end of its call, the store of the head is the last Step
     abbrev pub StoreEnds : (mine : Name) → (c_seq mine_seq reply : ℕ) → (word x : ℕ) → Type 0
     StoreEnds mine c_seq mine_seq reply word x =
-        IsShown object row w s → HasSeat s id v → v.call ≡ Some (record { mine = mine; stage = Finish c_seq mine_seq }) → c_seq < mine_seq
+        IsShown object row w s → HasSeat s id v → v.call ≡ Some (record { mine = mine; stage = Finish c_seq mine_seq })
+        → c_seq < mine_seq
         → v.read ≡ Reply reply → word_of w.n row (HeadOf v.first) ≡ Some word → name_of w.n x ≡ mine
         → Leads (Step v.first ∷ []) (world_after object w (Step v.first)) (after_word s word x id (finished_by v 1 reply))
 
@@ -97,9 +102,11 @@ module _ (object : Sequential ℕ ℕ ℕ) (row : ℕ) (w : WorldOf ℕ ℕ ℕ)
     abbrev pub LoadEnds : (mine : Name) → (c_seq mine_seq : ℕ) → (word : ℕ) → Type 0
     LoadEnds mine c_seq mine_seq word =
         let found = slice_index s.words word in
-        IsShown object row w s → HasSeat s id v → v.call ≡ Some (record { mine = mine; stage = Finish c_seq mine_seq }) → mine_seq ≤ c_seq
+        IsShown object row w s → HasSeat s id v → v.call ≡ Some (record { mine = mine; stage = Finish c_seq mine_seq })
+        → mine_seq ≤ c_seq
         → word_of w.n row (NewOf mine) ≡ Some word
-        → Leads (Step v.first ∷ []) (world_after object w (Step v.first)) (after_word s word found id (finished_by v 0 (reply_in found)))
+        → Leads (Step v.first ∷ []) (world_after object w (Step v.first))
+        (after_word s word found id (finished_by v 0 (reply_in found)))
 
     -- each other load of a settled word leaves the world as it was
     abbrev pub LoadKeeps : Pending → (word : ℕ) → Reading → Type 0

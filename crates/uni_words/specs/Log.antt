@@ -1,5 +1,6 @@
 -- The log that the words of a closed table tell.
-use Rattle.std.specs.Prelude.{◌≡◌, ℕ, ◌+◌, ◌*◌, ◌<◌, ◌≤◌, ◌==◌, ◌&&◌, Bool, true, false, nat_lt, slice_get, List, [], ◌∷◌, Option, Some, map, length, if◌then◌else◌, IsSome, refl, take}
+use Rattle.std.specs.Prelude.{◌≡◌, ℕ, ◌+◌, ◌*◌, ◌<◌, ◌≤◌, ◌==◌, ◌&&◌, Bool, true, false, nat_lt}
+use Rattle.std.specs.Prelude.{slice_get, List, [], ◌∷◌, Option, Some, map, length, if◌then◌else◌, IsSome, refl, take}
 use Rattle.uni_model.specs.Places.{Name, Memory, seq_of}
 use Rattle.uni_model.specs.Places.Name.{Anchor, Of}
 use Rattle.uni_model.specs.Chain.{Entry, cells_from, entries_from}
@@ -37,7 +38,8 @@ is_call_cell n row (Of p k) = nat_lt p n && nat_lt k row
 -- each cell of the chain is that of a call
 abbrev pub AreCallCells : (n row : ℕ) → List ℕ → Type 0
 AreCallCells n row words =
-    (place : ℕ) (x : Name) → slice_get (cells_from (n * row) (told_memory n row words) Anchor) place ≡ Some x → is_call_cell n row x ≡ true
+    (place : ℕ) (x : Name) → slice_get (cells_from (n * row) (told_memory n row words) Anchor) place ≡ Some x
+    → is_call_cell n row x ≡ true
 
 -- the invocations and the replies of the calls of a process in a log, in its order
 abbrev pub calls_by : ℕ → List (Entry ℕ ℕ) → List (ℕ × Option ℕ)

@@ -1,5 +1,6 @@
 -- The rule of the table: its words and the views of its seats show a world of the definitions.
-use Rattle.std.specs.Prelude.{◌≡◌, ℕ, ◌+◌, ◌<◌, ◌≤◌, ◌^◌, ◌⊎◌, List, [], ◌∷◌, ◌++◌, Contains, Option, None, Some, length, slice_get}
+use Rattle.std.specs.Prelude.{◌≡◌, ℕ, ◌+◌, ◌<◌, ◌≤◌, ◌^◌, ◌⊎◌, List, [], ◌∷◌, ◌++◌, Contains}
+use Rattle.std.specs.Prelude.{Option, None, Some, length, slice_get}
 use mathlib.Core.Option.{some}
 use lib.ListN.{get_elem?}
 use Rattle.atomic_table.specs.Table.{State}
@@ -31,7 +32,8 @@ pub record HasReturned (m : Memory ℕ ℕ ℕ) (x : Name) (inv reply : ℕ) : T
 abbrev pub HasRead : Memory ℕ ℕ ℕ → (mine : Name) → Stage → Reading → Type 0
 HasRead m mine stage Nothing = Unit {0}
 HasRead m mine (DecideNew c c_seq d) (Invocation inv) = inv_of m d ≡ Some inv
-HasRead m mine (DecideNew c c_seq d) (Applied inv state) = (inv_of m d ≡ Some inv) × ((r : Option ℕ) × (new_of m c ≡ Some (state, r)))
+HasRead m mine (DecideNew c c_seq d) (Applied inv state) =
+    (inv_of m d ≡ Some inv) × ((r : Option ℕ) × (new_of m c ≡ Some (state, r)))
 HasRead m mine (Finish c_seq mine_seq) (Reply reply) = response_in m mine ≡ Some reply
 HasRead m mine _ _ = ⊥
 
@@ -108,7 +110,8 @@ acts_in_view p v = sequential_acts p 0 v.own ++ pending_acts p (length v.own) v.
 
 -- These events are accepted one after another from the opening of n processes on, end no era, and lead to the world w. In their
 -- history each process takes the acts that the view of its seat tells.
-pub record LeadsTo (object : Sequential ℕ ℕ ℕ) (n : ℕ) (events : List (Event ℕ)) (w : WorldOf ℕ ℕ ℕ) (views : List View) : Type 0 where
+pub record LeadsTo (object : Sequential ℕ ℕ ℕ) (n : ℕ) (events : List (Event ℕ)) (w : WorldOf ℕ ℕ ℕ)
+    (views : List View) : Type 0 where
   pub accepted : AreAccepted object (opened object n) events
   pub one_era : EndNoEra events
   pub reached : world_after_all object (opened object n) events ≡ w

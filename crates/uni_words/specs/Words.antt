@@ -1,5 +1,7 @@
 -- The shared places as words of one table: announce, the heads, and five columns over the cells.
-use Rattle.std.specs.Prelude.{◌≡◌, ℕ, zero, suc, ◌+◌, ◌-◌, ◌*◌, ◌/◌, ◌%◌, ◌^◌, List, [], ◌∷◌, ◌&&◌, Option, None, Some, option_map, if◌then◌else◌, nat_lt, slice_index, slice_set, replicate, refl}
+use Rattle.std.specs.Prelude.{◌≡◌, ℕ, zero, suc, ◌+◌, ◌-◌, ◌*◌, ◌/◌, ◌%◌, ◌^◌, List, [], ◌∷◌}
+use Rattle.std.specs.Prelude.{◌&&◌, Option, None, Some, option_map, if◌then◌else◌, nat_lt, slice_index, slice_set, replicate}
+use Rattle.std.specs.Prelude.{refl}
 use Rattle.std.specs.Option.{option_map_or}
 use Rattle.uni_model.specs.Places.{Name, Place, Content, Memory}
 use Rattle.uni_model.specs.Places.Name.{Anchor, Of}

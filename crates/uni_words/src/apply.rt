@@ -1,9 +1,11 @@
 //! A call from its start to its reply.
-ghost use Rattle.std.specs.Prelude.{◌≡◌, ◌↔◌, ◌+◌, ◌*◌, ◌<◌, ◌≤◌, ◌++◌, ◌∷◌, [], IsErr, IfOk, OnOk, OnErr};
+ghost use Rattle.std.specs.Prelude.{◌≡◌, ◌↔◌, ◌+◌, ◌*◌, ◌<◌, ◌≤◌, ◌++◌, ◌∷◌};
+ghost use Rattle.std.specs.Prelude.{[], IsErr, IfOk, OnOk, OnErr};
 ghost use Rattle.uni_words.specs.Standing.{StandsAt, GoesBy, IsIdle, IsCountOf};
 ghost use Rattle.uni_model.specs.Indices.{name_of};
 ghost use Rattle.uni_words.specs.Words.{cells_of};
-ghost use Rattle.uni_words.specs.Belongs.{IsSeatOf, processes_of, row_of, process_of, calls_made, own_calls, taken_calls, latest_turns, view_of, word_steps_of};
+ghost use Rattle.uni_words.specs.Belongs.{IsSeatOf, processes_of, row_of, process_of, calls_made, own_calls};
+ghost use Rattle.uni_words.specs.Belongs.{taken_calls, latest_turns, view_of, word_steps_of};
 ghost use Rattle.uni_model.specs.Places.Name.{Anchor};
 ghost use Rattle.uni_model.specs.Stages.Stage.{ScanHead, WriteScan, Test, ReadAnnounce, Finish};
 
@@ -28,11 +30,14 @@ impl<O: WordObject> WordLog<O> {
     /// The scan of the heads: the greatest cell that it finds, and its number.
     pub(crate) fn scan(&self, seat: &mut Seat<u8, View>, p: u64, mine: u64) -> (u64, u64)
         requires table { seat.old.table_id ≡ self.now.table.shared.table_id }
-        requires stands { StandsAt self.now.setup.n self.now.setup.k p (name_of self.now.setup.n mine) (ScanHead 0 Anchor 0) seat.old.me }
+        requires stands { StandsAt self.now.setup.n self.now.setup.k p (name_of self.now.setup.n mine)
+            (ScanHead 0 Anchor 0) seat.old.me }
         ensures same { (seat.new.table_id ≡ seat.old.table_id) × (seat.new.id ≡ seat.old.id) }
-        ensures stands { StandsAt self.now.setup.n self.now.setup.k p (name_of self.now.setup.n mine) (WriteScan (name_of self.now.setup.n result.0) result.1) seat.new.me }
+        ensures stands { StandsAt self.now.setup.n self.now.setup.k p (name_of self.now.setup.n mine)
+            (WriteScan (name_of self.now.setup.n result.0) result.1) seat.new.me }
         ensures goes { GoesBy seat.old.me seat.new.me (2 * self.now.setup.n) 0 }
-        ensures within { (result.0 < cells_of self.now.setup.n self.now.setup.k) × (result.1 ≤ cells_of self.now.setup.n self.now.setup.k) }
+        ensures within { (result.0 < cells_of self.now.setup.n self.now.setup.k)
+            × (result.1 ≤ cells_of self.now.setup.n self.now.setup.k) }
     {
         let mut best = 0;
         let mut best_seq = 0;
@@ -57,12 +62,17 @@ impl<O: WordObject> WordLog<O> {
         c_seq: u64,
     ) -> u64
         requires table { seat.old.table_id ≡ self.now.table.shared.table_id }
-        requires inside { (p < self.now.setup.n) × (mine < cells_of self.now.setup.n self.now.setup.k) × (c < cells_of self.now.setup.n self.now.setup.k) × (c_seq ≤ cells_of self.now.setup.n self.now.setup.k) }
-        requires stands { StandsAt self.now.setup.n self.now.setup.k p (name_of self.now.setup.n mine) (ReadAnnounce (name_of self.now.setup.n c) c_seq) seat.old.me }
+        requires inside { (p < self.now.setup.n) × (mine < cells_of self.now.setup.n self.now.setup.k)
+            × (c < cells_of self.now.setup.n self.now.setup.k)
+            × (c_seq ≤ cells_of self.now.setup.n self.now.setup.k) }
+        requires stands { StandsAt self.now.setup.n self.now.setup.k p (name_of self.now.setup.n mine)
+            (ReadAnnounce (name_of self.now.setup.n c) c_seq) seat.old.me }
         ensures same { (seat.new.table_id ≡ seat.old.table_id) × (seat.new.id ≡ seat.old.id) }
-        ensures stands { StandsAt self.now.setup.n self.now.setup.k p (name_of self.now.setup.n mine) (Test (name_of self.now.setup.n result) (c_seq + 1)) seat.new.me }
+        ensures stands { StandsAt self.now.setup.n self.now.setup.k p (name_of self.now.setup.n mine)
+            (Test (name_of self.now.setup.n result) (c_seq + 1)) seat.new.me }
         ensures goes { GoesBy seat.old.me seat.new.me 9 0 }
-        ensures within { (result < cells_of self.now.setup.n self.now.setup.k) × (c_seq + 1 ≤ cells_of self.now.setup.n self.now.setup.k) }
+        ensures within { (result < cells_of self.now.setup.n self.now.setup.k)
+            × (c_seq + 1 ≤ cells_of self.now.setup.n self.now.setup.k) }
     {
         let help = self.read_announce(seat, p, mine, c, c_seq);
         let help_seq = self.read_help_seq(seat, p, mine, c, c_seq, help);
@@ -89,11 +99,15 @@ impl<O: WordObject> WordLog<O> {
         best_seq: u64,
     ) -> (u64, u64, u64)
         requires table { seat.old.table_id ≡ self.now.table.shared.table_id }
-        requires inside { (p < self.now.setup.n) × (mine < cells_of self.now.setup.n self.now.setup.k) × (best < cells_of self.now.setup.n self.now.setup.k) × (best_seq ≤ cells_of self.now.setup.n self.now.setup.k) }
-        requires stands { StandsAt self.now.setup.n self.now.setup.k p (name_of self.now.setup.n mine) (Test (name_of self.now.setup.n best) best_seq) seat.old.me }
+        requires inside { (p < self.now.setup.n) × (mine < cells_of self.now.setup.n self.now.setup.k)
+            × (best < cells_of self.now.setup.n self.now.setup.k)
+            × (best_seq ≤ cells_of self.now.setup.n self.now.setup.k) }
+        requires stands { StandsAt self.now.setup.n self.now.setup.k p (name_of self.now.setup.n mine)
+            (Test (name_of self.now.setup.n best) best_seq) seat.old.me }
         requires first { seat.old.me.0.known.turns ≡ 0 }
         ensures same { (seat.new.table_id ≡ seat.old.table_id) × (seat.new.id ≡ seat.old.id) }
-        ensures stands { StandsAt self.now.setup.n self.now.setup.k p (name_of self.now.setup.n mine) (Finish result.1 result.2) seat.new.me }
+        ensures stands { StandsAt self.now.setup.n self.now.setup.k p (name_of self.now.setup.n mine)
+            (Finish result.1 result.2) seat.new.me }
         ensures goes { GoesBy seat.old.me seat.new.me (10 * result.0 + 1) result.0 }
         ensures bound { result.0 ≤ self.now.setup.n + 1 }
     {

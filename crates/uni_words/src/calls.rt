@@ -18,7 +18,8 @@ impl<O: WordObject> WordLog<O> {
     /// The cell of a call.
     pub(crate) fn cell(&self, p: u64, nth: u64) -> u64
         requires { (p < self.now.setup.n) × (nth < self.now.setup.k) }
-        ensures { (result ≡ index_of self.now.setup.n p nth) × (result < cells_of self.now.setup.n self.now.setup.k) }
+        ensures { (result ≡ index_of self.now.setup.n p nth)
+            × (result < cells_of self.now.setup.n self.now.setup.k) }
     {
         1 + nth * self.setup.n + p
     }
@@ -27,10 +28,12 @@ impl<O: WordObject> WordLog<O> {
     pub(crate) fn store_inv(&self, seat: &mut Seat<u8, View>, p: u64, nth: u64, mine: u64, inv: u64)
         requires table { seat.old.table_id ≡ self.now.table.shared.table_id }
         requires inside { (p < self.now.setup.n) × (nth < self.now.setup.k) }
-        requires cell { (mine ≡ index_of self.now.setup.n p nth) × (mine < cells_of self.now.setup.n self.now.setup.k) }
+        requires cell { (mine ≡ index_of self.now.setup.n p nth)
+            × (mine < cells_of self.now.setup.n self.now.setup.k) }
         requires idle { IsIdle self.now.setup.n self.now.setup.k p nth seat.old.me }
         ensures same { (seat.new.table_id ≡ seat.old.table_id) × (seat.new.id ≡ seat.old.id) }
-        ensures stands { StandsAt self.now.setup.n self.now.setup.k p (name_of self.now.setup.n mine) Announce seat.new.me }
+        ensures stands { StandsAt self.now.setup.n self.now.setup.k p
+            (name_of self.now.setup.n mine) Announce seat.new.me }
         ensures begun { seat.new.me ≡ (record { known = begun_by seat.old.me.0.known inv }, seat.old.me.1) }
     {
         self.table
@@ -50,9 +53,11 @@ impl<O: WordObject> WordLog<O> {
     ) -> u64
         requires table { seat.old.table_id ≡ self.now.table.shared.table_id }
         requires inside { d < cells_of self.now.setup.n self.now.setup.k }
-        requires stands { StandsAt self.now.setup.n self.now.setup.k p (name_of self.now.setup.n mine) (DecideNew (name_of self.now.setup.n c) c_seq (name_of self.now.setup.n d)) seat.old.me }
+        requires stands { StandsAt self.now.setup.n self.now.setup.k p (name_of self.now.setup.n mine)
+            (DecideNew (name_of self.now.setup.n c) c_seq (name_of self.now.setup.n d)) seat.old.me }
         ensures same { (seat.new.table_id ≡ seat.old.table_id) × (seat.new.id ≡ seat.old.id) }
-        ensures stands { StandsAt self.now.setup.n self.now.setup.k p (name_of self.now.setup.n mine) (DecideNew (name_of self.now.setup.n c) c_seq (name_of self.now.setup.n d)) seat.new.me }
+        ensures stands { StandsAt self.now.setup.n self.now.setup.k p (name_of self.now.setup.n mine)
+            (DecideNew (name_of self.now.setup.n c) c_seq (name_of self.now.setup.n d)) seat.new.me }
         ensures read { seat.new.me.0.known.read ≡ Invocation result }
         ensures goes { GoesBy seat.old.me seat.new.me 1 0 }
     {
@@ -72,10 +77,12 @@ impl<O: WordObject> WordLog<O> {
     ) -> u64
         requires table { seat.old.table_id ≡ self.now.table.shared.table_id }
         requires inside { c < cells_of self.now.setup.n self.now.setup.k }
-        requires stands { StandsAt self.now.setup.n self.now.setup.k p (name_of self.now.setup.n mine) (DecideNew (name_of self.now.setup.n c) c_seq (name_of self.now.setup.n d)) seat.old.me }
+        requires stands { StandsAt self.now.setup.n self.now.setup.k p (name_of self.now.setup.n mine)
+            (DecideNew (name_of self.now.setup.n c) c_seq (name_of self.now.setup.n d)) seat.old.me }
         requires read { seat.old.me.0.known.read ≡ Invocation inv }
         ensures same { (seat.new.table_id ≡ seat.old.table_id) × (seat.new.id ≡ seat.old.id) }
-        ensures stands { StandsAt self.now.setup.n self.now.setup.k p (name_of self.now.setup.n mine) (DecideNew (name_of self.now.setup.n c) c_seq (name_of self.now.setup.n d)) seat.new.me }
+        ensures stands { StandsAt self.now.setup.n self.now.setup.k p (name_of self.now.setup.n mine)
+            (DecideNew (name_of self.now.setup.n c) c_seq (name_of self.now.setup.n d)) seat.new.me }
         ensures read { seat.new.me.0.known.read ≡ Applied inv (state_in result) }
         ensures goes { GoesBy seat.old.me seat.new.me 1 0 }
         ensures fits { state_in result < 2 ^ 31 }
@@ -97,10 +104,12 @@ impl<O: WordObject> WordLog<O> {
     ) -> u64
         requires table { seat.old.table_id ≡ self.now.table.shared.table_id }
         requires inside { (d < cells_of self.now.setup.n self.now.setup.k) × (state < 2 ^ 31) }
-        requires stands { StandsAt self.now.setup.n self.now.setup.k p (name_of self.now.setup.n mine) (DecideNew (name_of self.now.setup.n c) c_seq (name_of self.now.setup.n d)) seat.old.me }
+        requires stands { StandsAt self.now.setup.n self.now.setup.k p (name_of self.now.setup.n mine)
+            (DecideNew (name_of self.now.setup.n c) c_seq (name_of self.now.setup.n d)) seat.old.me }
         requires read { seat.old.me.0.known.read ≡ Applied inv state }
         ensures same { (seat.new.table_id ≡ seat.old.table_id) × (seat.new.id ≡ seat.old.id) }
-        ensures stands { StandsAt self.now.setup.n self.now.setup.k p (name_of self.now.setup.n mine) (WriteBefore (name_of self.now.setup.n c) c_seq (name_of self.now.setup.n d)) seat.new.me }
+        ensures stands { StandsAt self.now.setup.n self.now.setup.k p (name_of self.now.setup.n mine)
+            (WriteBefore (name_of self.now.setup.n c) c_seq (name_of self.now.setup.n d)) seat.new.me }
         ensures goes { GoesBy seat.old.me seat.new.me 1 0 }
     {
         let next = self.setup.object.next(state, inv);
@@ -122,7 +131,8 @@ impl<O: WordObject> WordLog<O> {
     ) -> u64
         requires table { seat.old.table_id ≡ self.now.table.shared.table_id }
         requires inside { mine < cells_of self.now.setup.n self.now.setup.k }
-        requires stands { StandsAt self.now.setup.n self.now.setup.k p (name_of self.now.setup.n mine) (Finish c_seq mine_seq) seat.old.me }
+        requires stands { StandsAt self.now.setup.n self.now.setup.k p (name_of self.now.setup.n mine)
+            (Finish c_seq mine_seq) seat.old.me }
         ensures same { (seat.new.table_id ≡ seat.old.table_id) × (seat.new.id ≡ seat.old.id) }
         ensures looked { c_seq < mine_seq → HasLooked seat.old.me (Reply (reply_in result)) seat.new.me }
         ensures finished { mine_seq ≤ c_seq → HasFinished seat.old.me 0 (reply_in result) seat.new.me }
@@ -143,8 +153,10 @@ impl<O: WordObject> WordLog<O> {
         reply: u32,
     )
         requires table { seat.old.table_id ≡ self.now.table.shared.table_id }
-        requires inside { (p < self.now.setup.n) × (mine < cells_of self.now.setup.n self.now.setup.k) × (c_seq < mine_seq) }
-        requires stands { StandsAt self.now.setup.n self.now.setup.k p (name_of self.now.setup.n mine) (Finish c_seq mine_seq) seat.old.me }
+        requires inside { (p < self.now.setup.n) × (mine < cells_of self.now.setup.n self.now.setup.k)
+            × (c_seq < mine_seq) }
+        requires stands { StandsAt self.now.setup.n self.now.setup.k p (name_of self.now.setup.n mine)
+            (Finish c_seq mine_seq) seat.old.me }
         requires read { seat.old.me.0.known.read ≡ Reply reply }
         ensures same { (seat.new.table_id ≡ seat.old.table_id) × (seat.new.id ≡ seat.old.id) }
         ensures finished { HasFinished seat.old.me 1 reply seat.new.me }

@@ -2,7 +2,8 @@
 ghost use Rattle.std.specs.Prelude.{◌≡◌, ◌≤◌, ◌++◌, All, map, vec_len};
 ghost use Rattle.seq_object.specs.History.{IsLegal};
 ghost use Rattle.uni_model.specs.History.{logged_call};
-ghost use Rattle.uni_words.specs.Belongs.{AreAllSeats, IsSeatOf, object_of, processes_of, row_of, own_calls, calls_made, calls_of, known_calls, count_in, row_in, words_in, log_in};
+ghost use Rattle.uni_words.specs.Belongs.{AreAllSeats, IsSeatOf, object_of, processes_of, row_of, own_calls};
+ghost use Rattle.uni_words.specs.Belongs.{calls_made, calls_of, known_calls, count_in, row_in, words_in, log_in};
 ghost use Rattle.uni_words.specs.Compare.{Agrees};
 ghost use Rattle.uni_words.specs.Run.{IsLogOfRun};
 ghost use Rattle.uni_words.specs.Log.{AreAnswered, AreCallsOf, IsChained, IsLogged};

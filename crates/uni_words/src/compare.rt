@@ -1,5 +1,6 @@
 //! Comparing a log with what callers were told.
-ghost use Rattle.std.specs.Prelude.{◌≡◌, ◌↔◌, ◌<◌, ◌^◌, ℕ, true, IfSome, None, Some, length, map, slice_get};
+ghost use Rattle.std.specs.Prelude.{◌≡◌, ◌↔◌, ◌<◌, ◌^◌, ℕ, true, IfSome, None, Some, length, map};
+ghost use Rattle.std.specs.Prelude.{slice_get};
 ghost use Rattle.uni_words.specs.Compare.{Agrees, DiffersFirstAt, IsFirstFault, IsFirstWrong, IsRight};
 ghost use Rattle.uni_words.specs.Log.{calls_by, entry_shown, replied};
 
@@ -11,7 +12,8 @@ use seq_object::CallId;
 /// many.
 fn is_right<O: WordObject>(object: &O, state: u32, entry: WordEntry, processes: usize) -> bool
     requires { state < 2 ^ 31 }
-    ensures { (result ≡ true) ↔ ((entry.reply ≡ Some ((O.sequential object.now).answer state entry.inv)) × (entry.call.process < processes)) }
+    ensures { (result ≡ true) ↔ ((entry.reply ≡ Some ((O.sequential object.now).answer state entry.inv))
+        × (entry.call.process < processes)) }
 {
     let reply = object.answer(state, entry.inv);
     entry.reply == Some(reply) && (entry.call.process as usize) < processes
@@ -20,7 +22,8 @@ fn is_right<O: WordObject>(object: &O, state: u32, entry: WordEntry, processes: 
 /// The call of the first entry whose reply is missing or not the object's, or whose process isn't one
 /// of so many.
 fn first_wrong<O: WordObject>(object: &O, entries: &[WordEntry], processes: usize) -> Option<CallId>
-    ensures none { result ≡ None → (place : ℕ) → IsRight (O.sequential object.now) (map entry_shown entries.now) processes place }
+    ensures none { result ≡ None → (place : ℕ)
+        → IsRight (O.sequential object.now) (map entry_shown entries.now) processes place }
     ensures some { IfSome result (IsFirstWrong (O.sequential object.now) (map entry_shown entries.now) processes) }
 {
     let mut state = object.start();
@@ -47,7 +50,8 @@ fn is_told(own: &[(u64, u32)], at: usize, entry: WordEntry) -> bool
 /// The place of the first call in which a process's list isn't what the entries have of the process.
 fn first_other(entries: &[WordEntry], process: u32, own: &[(u64, u32)]) -> Option<usize>
     ensures none { result ≡ None → calls_by process (map entry_shown entries.now) ≡ map replied own.now }
-    ensures some { IfSome result (DiffersFirstAt (calls_by process (map entry_shown entries.now)) (map replied own.now)) }
+    ensures some { IfSome result (DiffersFirstAt (calls_by process (map entry_shown entries.now))
+        (map replied own.now)) }
 {
     let mut at = 0;
     for place in 0..entries.len() {
@@ -77,8 +81,10 @@ pub fn differs<O: WordObject>(
     lists: &[Vec<(u64, u32)>],
 ) -> Option<CallId>
     requires few { length lists.now < 2 ^ 32 }
-    ensures agrees { (result ≡ None) ↔ Agrees (O.sequential object.now) (map entry_shown entries.now) (map (λ own. own.items) lists.now) }
-    ensures first { IfSome result (IsFirstFault (O.sequential object.now) (map entry_shown entries.now) (map (λ own. own.items) lists.now)) }
+    ensures agrees { (result ≡ None) ↔ Agrees (O.sequential object.now) (map entry_shown entries.now)
+        (map (λ own. own.items) lists.now) }
+    ensures first { IfSome result (IsFirstFault (O.sequential object.now) (map entry_shown entries.now)
+        (map (λ own. own.items) lists.now)) }
 {
     if let Some(call) = first_wrong(object, entries, lists.len()) {
         return Some(call);

@@ -6,7 +6,8 @@ ghost use Rattle.atomic_table.specs.Table.{State};
 ghost use Rattle.uni_model.specs.Places.{Name};
 ghost use Rattle.uni_model.specs.Stages.{Stage, Pending};
 ghost use Rattle.uni_model.specs.Worlds.{WorldOf};
-ghost use Rattle.uni_words.specs.Laws.{StoreBegins, WordStepMoves, StoreEnds, LoadEnds, LoadKeeps, OwnCallsRise, OpeningShows, SplitKeeps, JoinKeeps};
+ghost use Rattle.uni_words.specs.Laws.{StoreBegins, WordStepMoves, StoreEnds, LoadEnds, LoadKeeps, OwnCallsRise};
+ghost use Rattle.uni_words.specs.Laws.{OpeningShows, SplitKeeps, JoinKeeps};
 ghost use Rattle.uni_words.specs.View.{Known, Reading};
 ghost use Rattle.uni_words.specs.declared.view.View.{View};
 
@@ -25,7 +26,8 @@ pub fn split_keeps<O: WordObject>()
 
 /// A seat takes in another one: the world and the run to it stay as they are.
 pub fn join_keeps<O: WordObject>()
-    ensures { (object : O) (row : ℕ) (w : WorldOf ℕ ℕ ℕ) (s : State ℕ View) (id : ℕ) (v : View) (other : ℕ) (x : View) →
+    ensures { (object : O) (row : ℕ) (w : WorldOf ℕ ℕ ℕ) (s : State ℕ View) (id : ℕ) (v : View)
+        (other : ℕ) (x : View) →
         JoinKeeps (O.sequential object) row w s id v other x }
 {}
 

@@ -27,7 +27,8 @@ impl Words {
     /// The word of a cell in the column that begins so many times the number of cells after the heads.
     fn word_of_cell(&self, column: u64, cell: u64) -> u64
         requires { (column < 5) × (cell < cells_of (count_in self.now) (row_in self.now)) }
-        ensures { result ≡ slice_index (words_in self.now) (start_of (count_in self.now) (row_in self.now) (column + 2) + cell) }
+        ensures { result ≡ slice_index (words_in self.now)
+            (start_of (count_in self.now) (row_in self.now) (column + 2) + cell) }
     {
         let cells = self.n * self.k + 1;
         self.closed
@@ -38,8 +39,10 @@ impl Words {
     fn entry(&self, cell: u64, seq: u64) -> WordEntry
         requires { (1 ≤ cell) × (cell < cells_of (count_in self.now) (row_in self.now)) }
         ensures seq { (entry_shown result).number ≡ seq }
-        ensures call { invoked_at (told_memory (count_in self.now) (row_in self.now) (words_in self.now)) (name_of (count_in self.now) cell) ≡ Some (entry_shown result).call }
-        ensures reply { response_in (told_memory (count_in self.now) (row_in self.now) (words_in self.now)) (name_of (count_in self.now) cell) ≡ (entry_shown result).response }
+        ensures call { invoked_at (told_memory (count_in self.now) (row_in self.now) (words_in self.now))
+            (name_of (count_in self.now) cell) ≡ Some (entry_shown result).call }
+        ensures reply { response_in (told_memory (count_in self.now) (row_in self.now) (words_in self.now))
+            (name_of (count_in self.now) cell) ≡ (entry_shown result).response }
     {
         let new = self.word_of_cell(4, cell);
         let reply = if new == 0 {

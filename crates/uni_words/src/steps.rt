@@ -1,5 +1,6 @@
 //! The word steps, each one function.
-ghost use Rattle.std.specs.Prelude.{◌≡◌, ◌+◌, ◌<◌, ◌≤◌, ◌%◌, ◌==◌, if◌then◌else◌, unwrap_or, Some};
+ghost use Rattle.std.specs.Prelude.{◌≡◌, ◌+◌, ◌<◌, ◌≤◌, ◌%◌, ◌==◌, if◌then◌else◌};
+ghost use Rattle.std.specs.Prelude.{unwrap_or, Some};
 ghost use Rattle.uni_words.specs.Standing.{StandsAt, GoesBy, IsIdle, IsBeforeNumber, IsBeforeHead, IsPastHead};
 ghost use Rattle.uni_model.specs.Places.Name.{Anchor};
 ghost use Rattle.uni_model.specs.Transition.{stage_after_scan};
@@ -7,7 +8,8 @@ ghost use Rattle.uni_model.specs.Indices.{name_of};
 ghost use Rattle.uni_words.specs.Words.{cells_of, link_of};
 ghost use Rattle.uni_model.specs.Stages.{Pending};
 ghost use Rattle.uni_words.specs.Seats.{HasMoved};
-ghost use Rattle.uni_model.specs.Stages.Stage.{Announce, ScanHead, ScanSeq, WriteScan, Test, ReadAnnounce, ReadHelpSeq, DecideAfter, DecideNew, WriteBefore, WriteSeq, WriteHead, Finish};
+ghost use Rattle.uni_model.specs.Stages.Stage.{Announce, ScanHead, ScanSeq, WriteScan, Test, ReadAnnounce, ReadHelpSeq};
+ghost use Rattle.uni_model.specs.Stages.Stage.{DecideAfter, DecideNew, WriteBefore, WriteSeq, WriteHead, Finish};
 
 use crate::log::WordLog;
 use crate::object::WordObject;
@@ -31,9 +33,11 @@ impl<O: WordObject> WordLog<O> {
     fn load_seq(&self, seat: &mut Seat<u8, View>, p: u64, cell: u64) -> u64
         requires table { seat.old.table_id ≡ self.now.table.shared.table_id }
         requires inside { cell < cells_of self.now.setup.n self.now.setup.k }
-        requires before { IsBeforeNumber self.now.setup.n self.now.setup.k p (name_of self.now.setup.n cell) seat.old.me }
+        requires before { IsBeforeNumber self.now.setup.n self.now.setup.k p
+            (name_of self.now.setup.n cell) seat.old.me }
         ensures same { (seat.new.table_id ≡ seat.old.table_id) × (seat.new.id ≡ seat.old.id) }
-        ensures moved { (c : Pending) → seat.old.me.0.known.call ≡ Some c → HasMoved seat.old.me c result seat.new.me }
+        ensures moved { (c : Pending) → seat.old.me.0.known.call ≡ Some c
+            → HasMoved seat.old.me c result seat.new.me }
     {
         self.table.shared.load::<Moves>(seat, self.seq_word(cell))
     }
@@ -44,7 +48,8 @@ impl<O: WordObject> WordLog<O> {
         requires inside { (p < self.now.setup.n) × (cell < cells_of self.now.setup.n self.now.setup.k) }
         requires before { IsBeforeHead self.now.setup.n self.now.setup.k p (name_of self.now.setup.n cell) seat.old.me }
         ensures same { (seat.new.table_id ≡ seat.old.table_id) × (seat.new.id ≡ seat.old.id) }
-        ensures past { (c : Pending) → seat.old.me.0.known.call ≡ Some c → IsPastHead seat.old.me c.mine c.stage cell seat.new.me }
+        ensures past { (c : Pending) → seat.old.me.0.known.call ≡ Some c
+            → IsPastHead seat.old.me c.mine c.stage cell seat.new.me }
     {
         self.table
             .shared
@@ -55,9 +60,11 @@ impl<O: WordObject> WordLog<O> {
     pub(crate) fn announce(&self, seat: &mut Seat<u8, View>, p: u64, mine: u64)
         requires table { seat.old.table_id ≡ self.now.table.shared.table_id }
         requires inside { (p < self.now.setup.n) × (mine < cells_of self.now.setup.n self.now.setup.k) }
-        requires stands { StandsAt self.now.setup.n self.now.setup.k p (name_of self.now.setup.n mine) (Announce) seat.old.me }
+        requires stands { StandsAt self.now.setup.n self.now.setup.k p (name_of self.now.setup.n mine)
+            (Announce) seat.old.me }
         ensures same { (seat.new.table_id ≡ seat.old.table_id) × (seat.new.id ≡ seat.old.id) }
-        ensures stands { StandsAt self.now.setup.n self.now.setup.k p (name_of self.now.setup.n mine) (ScanHead 0 Anchor 0) seat.new.me }
+        ensures stands { StandsAt self.now.setup.n self.now.setup.k p (name_of self.now.setup.n mine)
+            (ScanHead 0 Anchor 0) seat.new.me }
         ensures goes { GoesBy seat.old.me seat.new.me 1 (0) }
     {
         self.table
@@ -77,9 +84,11 @@ impl<O: WordObject> WordLog<O> {
     ) -> u64
         requires table { seat.old.table_id ≡ self.now.table.shared.table_id }
         requires inside { q < self.now.setup.n }
-        requires stands { StandsAt self.now.setup.n self.now.setup.k p (name_of self.now.setup.n mine) (ScanHead q (name_of self.now.setup.n best) best_seq) seat.old.me }
+        requires stands { StandsAt self.now.setup.n self.now.setup.k p (name_of self.now.setup.n mine)
+            (ScanHead q (name_of self.now.setup.n best) best_seq) seat.old.me }
         ensures same { (seat.new.table_id ≡ seat.old.table_id) × (seat.new.id ≡ seat.old.id) }
-        ensures stands { StandsAt self.now.setup.n self.now.setup.k p (name_of self.now.setup.n mine) (ScanSeq q (name_of self.now.setup.n best) best_seq (name_of self.now.setup.n result)) seat.new.me }
+        ensures stands { StandsAt self.now.setup.n self.now.setup.k p (name_of self.now.setup.n mine)
+            (ScanSeq q (name_of self.now.setup.n best) best_seq (name_of self.now.setup.n result)) seat.new.me }
         ensures goes { GoesBy seat.old.me seat.new.me 1 (0) }
         ensures within { result < cells_of self.now.setup.n self.now.setup.k }
     {
@@ -99,9 +108,12 @@ impl<O: WordObject> WordLog<O> {
     ) -> u64
         requires table { seat.old.table_id ≡ self.now.table.shared.table_id }
         requires inside { h < cells_of self.now.setup.n self.now.setup.k }
-        requires stands { StandsAt self.now.setup.n self.now.setup.k p (name_of self.now.setup.n mine) (ScanSeq q (name_of self.now.setup.n best) best_seq (name_of self.now.setup.n h)) seat.old.me }
+        requires stands { StandsAt self.now.setup.n self.now.setup.k p (name_of self.now.setup.n mine)
+            (ScanSeq q (name_of self.now.setup.n best) best_seq (name_of self.now.setup.n h)) seat.old.me }
         ensures same { (seat.new.table_id ≡ seat.old.table_id) × (seat.new.id ≡ seat.old.id) }
-        ensures stands { StandsAt self.now.setup.n self.now.setup.k p (name_of self.now.setup.n mine) (stage_after_scan self.now.setup.n q (name_of self.now.setup.n best) best_seq (name_of self.now.setup.n h) result) seat.new.me }
+        ensures stands { StandsAt self.now.setup.n self.now.setup.k p (name_of self.now.setup.n mine)
+            (stage_after_scan self.now.setup.n q (name_of self.now.setup.n best) best_seq
+            (name_of self.now.setup.n h) result) seat.new.me }
         ensures goes { GoesBy seat.old.me seat.new.me 1 (0) }
         ensures within { result ≤ cells_of self.now.setup.n self.now.setup.k }
     {
@@ -119,9 +131,11 @@ impl<O: WordObject> WordLog<O> {
     )
         requires table { seat.old.table_id ≡ self.now.table.shared.table_id }
         requires inside { (p < self.now.setup.n) × (best < cells_of self.now.setup.n self.now.setup.k) }
-        requires stands { StandsAt self.now.setup.n self.now.setup.k p (name_of self.now.setup.n mine) (WriteScan (name_of self.now.setup.n best) best_seq) seat.old.me }
+        requires stands { StandsAt self.now.setup.n self.now.setup.k p (name_of self.now.setup.n mine)
+            (WriteScan (name_of self.now.setup.n best) best_seq) seat.old.me }
         ensures same { (seat.new.table_id ≡ seat.old.table_id) × (seat.new.id ≡ seat.old.id) }
-        ensures stands { StandsAt self.now.setup.n self.now.setup.k p (name_of self.now.setup.n mine) (Test (name_of self.now.setup.n best) best_seq) seat.new.me }
+        ensures stands { StandsAt self.now.setup.n self.now.setup.k p (name_of self.now.setup.n mine)
+            (Test (name_of self.now.setup.n best) best_seq) seat.new.me }
         ensures goes { GoesBy seat.old.me seat.new.me 1 (0) }
     {
         self.store_head(seat, p, best);
@@ -138,9 +152,11 @@ impl<O: WordObject> WordLog<O> {
     ) -> u64
         requires table { seat.old.table_id ≡ self.now.table.shared.table_id }
         requires inside { mine < cells_of self.now.setup.n self.now.setup.k }
-        requires stands { StandsAt self.now.setup.n self.now.setup.k p (name_of self.now.setup.n mine) (Test (name_of self.now.setup.n c) c_seq) seat.old.me }
+        requires stands { StandsAt self.now.setup.n self.now.setup.k p (name_of self.now.setup.n mine)
+            (Test (name_of self.now.setup.n c) c_seq) seat.old.me }
         ensures same { (seat.new.table_id ≡ seat.old.table_id) × (seat.new.id ≡ seat.old.id) }
-        ensures stands { StandsAt self.now.setup.n self.now.setup.k p (name_of self.now.setup.n mine) (if result == 0 then ReadAnnounce (name_of self.now.setup.n c) c_seq else Finish c_seq result) seat.new.me }
+        ensures stands { StandsAt self.now.setup.n self.now.setup.k p (name_of self.now.setup.n mine)
+            (if result == 0 then ReadAnnounce (name_of self.now.setup.n c) c_seq else Finish c_seq result) seat.new.me }
         ensures goes { GoesBy seat.old.me seat.new.me 1 (if result == 0 then 1 else 0) }
         ensures within { result ≤ cells_of self.now.setup.n self.now.setup.k }
         ensures bound { seat.new.me.0.known.turns ≤ self.now.setup.n + 1 }
@@ -159,9 +175,11 @@ impl<O: WordObject> WordLog<O> {
     ) -> u64
         requires table { seat.old.table_id ≡ self.now.table.shared.table_id }
         requires inside { 1 ≤ self.now.setup.n }
-        requires stands { StandsAt self.now.setup.n self.now.setup.k p (name_of self.now.setup.n mine) (ReadAnnounce (name_of self.now.setup.n c) c_seq) seat.old.me }
+        requires stands { StandsAt self.now.setup.n self.now.setup.k p (name_of self.now.setup.n mine)
+            (ReadAnnounce (name_of self.now.setup.n c) c_seq) seat.old.me }
         ensures same { (seat.new.table_id ≡ seat.old.table_id) × (seat.new.id ≡ seat.old.id) }
-        ensures stands { StandsAt self.now.setup.n self.now.setup.k p (name_of self.now.setup.n mine) (ReadHelpSeq (name_of self.now.setup.n c) c_seq (name_of self.now.setup.n result)) seat.new.me }
+        ensures stands { StandsAt self.now.setup.n self.now.setup.k p (name_of self.now.setup.n mine)
+            (ReadHelpSeq (name_of self.now.setup.n c) c_seq (name_of self.now.setup.n result)) seat.new.me }
         ensures goes { GoesBy seat.old.me seat.new.me 1 (0) }
         ensures within { result < cells_of self.now.setup.n self.now.setup.k }
     {
@@ -182,9 +200,12 @@ impl<O: WordObject> WordLog<O> {
     ) -> u64
         requires table { seat.old.table_id ≡ self.now.table.shared.table_id }
         requires inside { help < cells_of self.now.setup.n self.now.setup.k }
-        requires stands { StandsAt self.now.setup.n self.now.setup.k p (name_of self.now.setup.n mine) (ReadHelpSeq (name_of self.now.setup.n c) c_seq (name_of self.now.setup.n help)) seat.old.me }
+        requires stands { StandsAt self.now.setup.n self.now.setup.k p (name_of self.now.setup.n mine)
+            (ReadHelpSeq (name_of self.now.setup.n c) c_seq (name_of self.now.setup.n help)) seat.old.me }
         ensures same { (seat.new.table_id ≡ seat.old.table_id) × (seat.new.id ≡ seat.old.id) }
-        ensures stands { StandsAt self.now.setup.n self.now.setup.k p (name_of self.now.setup.n mine) (DecideAfter (name_of self.now.setup.n c) c_seq (if result == 0 then (name_of self.now.setup.n help) else (name_of self.now.setup.n mine))) seat.new.me }
+        ensures stands { StandsAt self.now.setup.n self.now.setup.k p (name_of self.now.setup.n mine)
+            (DecideAfter (name_of self.now.setup.n c) c_seq
+            (if result == 0 then (name_of self.now.setup.n help) else (name_of self.now.setup.n mine))) seat.new.me }
         ensures goes { GoesBy seat.old.me seat.new.me 1 (0) }
         ensures within { result ≤ cells_of self.now.setup.n self.now.setup.k }
     {
@@ -202,10 +223,14 @@ impl<O: WordObject> WordLog<O> {
         prefer: u64,
     ) -> u64
         requires table { seat.old.table_id ≡ self.now.table.shared.table_id }
-        requires inside { (c < cells_of self.now.setup.n self.now.setup.k) × (prefer < cells_of self.now.setup.n self.now.setup.k) }
-        requires stands { StandsAt self.now.setup.n self.now.setup.k p (name_of self.now.setup.n mine) (DecideAfter (name_of self.now.setup.n c) c_seq (name_of self.now.setup.n prefer)) seat.old.me }
+        requires inside { (c < cells_of self.now.setup.n self.now.setup.k)
+            × (prefer < cells_of self.now.setup.n self.now.setup.k) }
+        requires stands { StandsAt self.now.setup.n self.now.setup.k p (name_of self.now.setup.n mine)
+            (DecideAfter (name_of self.now.setup.n c) c_seq (name_of self.now.setup.n prefer)) seat.old.me }
         ensures same { (seat.new.table_id ≡ seat.old.table_id) × (seat.new.id ≡ seat.old.id) }
-        ensures stands { StandsAt self.now.setup.n self.now.setup.k p (name_of self.now.setup.n mine) (DecideNew (name_of self.now.setup.n c) c_seq (unwrap_or (link_of self.now.setup.n result) (name_of self.now.setup.n prefer))) seat.new.me }
+        ensures stands { StandsAt self.now.setup.n self.now.setup.k p (name_of self.now.setup.n mine)
+            (DecideNew (name_of self.now.setup.n c) c_seq
+            (unwrap_or (link_of self.now.setup.n result) (name_of self.now.setup.n prefer))) seat.new.me }
         ensures goes { GoesBy seat.old.me seat.new.me 1 (0) }
         ensures within { result ≤ cells_of self.now.setup.n self.now.setup.k }
     {
@@ -225,10 +250,13 @@ impl<O: WordObject> WordLog<O> {
         d: u64,
     )
         requires table { seat.old.table_id ≡ self.now.table.shared.table_id }
-        requires inside { (d < cells_of self.now.setup.n self.now.setup.k) × (c < cells_of self.now.setup.n self.now.setup.k) }
-        requires stands { StandsAt self.now.setup.n self.now.setup.k p (name_of self.now.setup.n mine) (WriteBefore (name_of self.now.setup.n c) c_seq (name_of self.now.setup.n d)) seat.old.me }
+        requires inside { (d < cells_of self.now.setup.n self.now.setup.k)
+            × (c < cells_of self.now.setup.n self.now.setup.k) }
+        requires stands { StandsAt self.now.setup.n self.now.setup.k p (name_of self.now.setup.n mine)
+            (WriteBefore (name_of self.now.setup.n c) c_seq (name_of self.now.setup.n d)) seat.old.me }
         ensures same { (seat.new.table_id ≡ seat.old.table_id) × (seat.new.id ≡ seat.old.id) }
-        ensures stands { StandsAt self.now.setup.n self.now.setup.k p (name_of self.now.setup.n mine) (WriteSeq (name_of self.now.setup.n c) c_seq (name_of self.now.setup.n d)) seat.new.me }
+        ensures stands { StandsAt self.now.setup.n self.now.setup.k p (name_of self.now.setup.n mine)
+            (WriteSeq (name_of self.now.setup.n c) c_seq (name_of self.now.setup.n d)) seat.new.me }
         ensures goes { GoesBy seat.old.me seat.new.me 1 (0) }
     {
         self.table
@@ -247,10 +275,13 @@ impl<O: WordObject> WordLog<O> {
         d: u64,
     )
         requires table { seat.old.table_id ≡ self.now.table.shared.table_id }
-        requires inside { (d < cells_of self.now.setup.n self.now.setup.k) × (c_seq ≤ cells_of self.now.setup.n self.now.setup.k) }
-        requires stands { StandsAt self.now.setup.n self.now.setup.k p (name_of self.now.setup.n mine) (WriteSeq (name_of self.now.setup.n c) c_seq (name_of self.now.setup.n d)) seat.old.me }
+        requires inside { (d < cells_of self.now.setup.n self.now.setup.k)
+            × (c_seq ≤ cells_of self.now.setup.n self.now.setup.k) }
+        requires stands { StandsAt self.now.setup.n self.now.setup.k p (name_of self.now.setup.n mine)
+            (WriteSeq (name_of self.now.setup.n c) c_seq (name_of self.now.setup.n d)) seat.old.me }
         ensures same { (seat.new.table_id ≡ seat.old.table_id) × (seat.new.id ≡ seat.old.id) }
-        ensures stands { StandsAt self.now.setup.n self.now.setup.k p (name_of self.now.setup.n mine) (WriteHead (name_of self.now.setup.n c) c_seq (name_of self.now.setup.n d)) seat.new.me }
+        ensures stands { StandsAt self.now.setup.n self.now.setup.k p (name_of self.now.setup.n mine)
+            (WriteHead (name_of self.now.setup.n c) c_seq (name_of self.now.setup.n d)) seat.new.me }
         ensures goes { GoesBy seat.old.me seat.new.me 1 (0) }
         ensures within { c_seq + 1 ≤ cells_of self.now.setup.n self.now.setup.k }
     {
@@ -271,9 +302,11 @@ impl<O: WordObject> WordLog<O> {
     )
         requires table { seat.old.table_id ≡ self.now.table.shared.table_id }
         requires inside { (p < self.now.setup.n) × (d < cells_of self.now.setup.n self.now.setup.k) }
-        requires stands { StandsAt self.now.setup.n self.now.setup.k p (name_of self.now.setup.n mine) (WriteHead (name_of self.now.setup.n c) c_seq (name_of self.now.setup.n d)) seat.old.me }
+        requires stands { StandsAt self.now.setup.n self.now.setup.k p (name_of self.now.setup.n mine)
+            (WriteHead (name_of self.now.setup.n c) c_seq (name_of self.now.setup.n d)) seat.old.me }
         ensures same { (seat.new.table_id ≡ seat.old.table_id) × (seat.new.id ≡ seat.old.id) }
-        ensures stands { StandsAt self.now.setup.n self.now.setup.k p (name_of self.now.setup.n mine) (Test (name_of self.now.setup.n d) (c_seq + 1)) seat.new.me }
+        ensures stands { StandsAt self.now.setup.n self.now.setup.k p (name_of self.now.setup.n mine)
+            (Test (name_of self.now.setup.n d) (c_seq + 1)) seat.new.me }
         ensures goes { GoesBy seat.old.me seat.new.me 1 (0) }
     {
         self.store_head(seat, p, d);

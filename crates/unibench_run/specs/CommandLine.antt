@@ -1,10 +1,12 @@
 -- What the words of the command line ask for, by clap's own account of a command without options.
-use Rattle.std.specs.Prelude.{◌≡◌, ◌⊎◌, ◌-◌, ◌^◌, ℕ, List, [], ◌∷◌, Option, None, Some, option_map, if◌then◌else◌, true, codes, refl}
+use Rattle.std.specs.Prelude.{◌≡◌, ◌⊎◌, ◌-◌, ◌^◌, ℕ, List, [], ◌∷◌, Option, None, Some, option_map}
+use Rattle.std.specs.Prelude.{if◌then◌else◌, true, codes, refl}
 use Rattle.std.specs.Str.{bytes_eq}
 use Rattle.clap.specs.Words.{App, Row, Rule, Text, Kinds, IsAmong, new_app, new_rule, with_rule, with_subcommand, subcommand_of, fault_of}
 use Rattle.clap.proofs.OnLiterals.{clap_on_literals}
 use Rattle.clap.specs.declared.builder.value_parser.ValueParser.TheVariants.{Unsigned}
-use Rattle.clap.specs.declared.error.kind.ErrorKind.TheVariants.{DisplayHelp, DisplayVersion, InvalidSubcommand, MissingSubcommand, UnknownArgument, ValueValidation}
+use Rattle.clap.specs.declared.error.kind.ErrorKind.TheVariants.{DisplayHelp, DisplayVersion, InvalidSubcommand, MissingSubcommand}
+use Rattle.clap.specs.declared.error.kind.ErrorKind.TheVariants.{UnknownArgument, ValueValidation}
 use Rattle.command_line.specs.Flags.{flag, is_set, versioned}
 use Rattle.uni_script.specs.declared.grammar.ObjectName.TheVariants as shared
 use Rattle.uni_script.specs.declared.options.Options.{Options}
@@ -111,11 +113,13 @@ replay_is_asked : (name : Text) → AsksFor (name ∷ codes "replay" ∷ []) (Re
 unfolding clap_on_literals
 replay_is_asked name = (refl, refl)
 
-replay_of_23_events_is_asked : (name : Text) → AsksFor (name ∷ codes "replay" ∷ codes "--history" ∷ codes "23" ∷ []) (Replay (record { history = 23; echo = Off }))
+replay_of_23_events_is_asked : (name : Text) → AsksFor (name ∷ codes "replay" ∷ codes "--history" ∷ codes "23" ∷ [])
+    (Replay (record { history = 23; echo = Off }))
 unfolding clap_on_literals
 replay_of_23_events_is_asked name = (refl, refl)
 
-explained_is_asked : (name : Text) → AsksFor (name ∷ codes "replay" ∷ codes "--explain" ∷ codes "--history=23" ∷ []) (Explained (record { history = 23; echo = Off }))
+explained_is_asked : (name : Text) → AsksFor (name ∷ codes "replay" ∷ codes "--explain" ∷ codes "--history=23" ∷ [])
+    (Explained (record { history = 23; echo = Off }))
 unfolding clap_on_literals
 explained_is_asked name = (refl, refl)
 
@@ -131,7 +135,8 @@ language_of_a_tally : (name : Text) → asked_of (name ∷ codes "language" ∷ 
 unfolding clap_on_literals
 language_of_a_tally name = refl
 
-language_of_two_objects_is_a_fault : (name : Text) → faults_of_words (name ∷ codes "language" ∷ codes "queue" ∷ codes "book" ∷ []) ≡ UnknownArgument ∷ []
+language_of_two_objects_is_a_fault : (name : Text)
+    → faults_of_words (name ∷ codes "language" ∷ codes "queue" ∷ codes "book" ∷ []) ≡ UnknownArgument ∷ []
 unfolding clap_on_literals
 language_of_two_objects_is_a_fault name = refl
 
@@ -145,7 +150,8 @@ unfolding clap_on_literals
 random_by_default name = (refl, refl)
 
 random_on_a_book : (name : Text)
-    → AsksFor (name ∷ codes "random" ∷ codes "--object" ∷ codes "book" ∷ codes "--processes=17" ∷ codes "--row" ∷ codes "8" ∷ codes "--events=20" ∷ [])
+    → AsksFor (name ∷ codes "random" ∷ codes "--object" ∷ codes "book" ∷ codes "--processes=17" ∷ codes "--row" ∷ codes "8"
+    ∷ codes "--events=20" ∷ [])
     (Random (record { schedule = record { object = shared.Book; processes = 17; row = 8; events = 20 }; seed = 1 }))
 unfolding clap_on_literals
 random_on_a_book name = (refl, refl)
@@ -160,7 +166,8 @@ unfolding clap_on_literals
 threads_by_default name = (refl, refl)
 
 threads_on_words : (name : Text)
-    → AsksFor (name ∷ codes "threads" ∷ codes "--form" ∷ codes "words" ∷ codes "--object=tally" ∷ codes "--processes" ∷ codes "8" ∷ [])
+    → AsksFor (name ∷ codes "threads" ∷ codes "--form" ∷ codes "words" ∷ codes "--object=tally" ∷ codes "--processes"
+    ∷ codes "8" ∷ [])
     (Threads (record { form = Words; object = Tally; processes = 8; calls = 100; seed = 1 }))
 unfolding clap_on_literals
 threads_on_words name = (refl, refl)
@@ -169,11 +176,13 @@ too_many_threads : (name : Text) → asked_of (name ∷ codes "threads" ∷ code
 unfolding clap_on_literals
 too_many_threads name = refl
 
-threads_of_65_are_a_fault : (name : Text) → faults_of_words (name ∷ codes "threads" ∷ codes "--processes" ∷ codes "65" ∷ []) ≡ ValueValidation ∷ []
+threads_of_65_are_a_fault : (name : Text) → faults_of_words (name ∷ codes "threads" ∷ codes "--processes" ∷ codes "65" ∷ [])
+    ≡ ValueValidation ∷ []
 unfolding clap_on_literals
 threads_of_65_are_a_fault name = refl
 
-echoed_is_asked : (name : Text) → AsksFor (name ∷ codes "replay" ∷ codes "--echo" ∷ []) (Replay (record { history = 1048576; echo = On }))
+echoed_is_asked : (name : Text) → AsksFor (name ∷ codes "replay" ∷ codes "--echo" ∷ [])
+    (Replay (record { history = 1048576; echo = On }))
 unfolding clap_on_literals
 echoed_is_asked name = (refl, refl)
 
@@ -226,35 +235,43 @@ abbrev threads_request : (processes calls seed : ℕ) → Request
 threads_request processes calls seed = Threads (record { form = Lock; object = Queue; processes = processes; calls = calls; seed = seed })
 
 -- the least and the greatest number that each option takes, and the numbers beside them; 65 threads are one of the faults above
-history_least : (name : Text) → AsksFor (with_option name (codes "replay") (codes "--history") (codes "1")) (Replay (record { history = 1; echo = Off }))
+history_least : (name : Text) → AsksFor (with_option name (codes "replay") (codes "--history") (codes "1"))
+    (Replay (record { history = 1; echo = Off }))
 unfolding clap_on_literals
 history_least name = (refl, refl)
 
-history_greatest : (name : Text) → AsksFor (with_option name (codes "replay") (codes "--history") (codes "16777216")) (Replay (record { history = 16777216; echo = Off }))
+history_greatest : (name : Text) → AsksFor (with_option name (codes "replay") (codes "--history") (codes "16777216"))
+    (Replay (record { history = 16777216; echo = Off }))
 unfolding clap_on_literals
 history_greatest name = (refl, refl)
 
-history_below_the_least : (name : Text) → faults_of_words (with_option name (codes "replay") (codes "--history") (codes "0")) ≡ ValueValidation ∷ []
+history_below_the_least : (name : Text) → faults_of_words (with_option name (codes "replay") (codes "--history") (codes "0"))
+    ≡ ValueValidation ∷ []
 unfolding clap_on_literals
 history_below_the_least name = refl
 
-history_past_the_greatest : (name : Text) → faults_of_words (with_option name (codes "replay") (codes "--history") (codes "16777217")) ≡ ValueValidation ∷ []
+history_past_the_greatest : (name : Text) → faults_of_words (with_option name (codes "replay") (codes "--history") (codes "16777217"))
+    ≡ ValueValidation ∷ []
 unfolding clap_on_literals
 history_past_the_greatest name = refl
 
-processes_of_random_least : (name : Text) → AsksFor (with_option name (codes "random") (codes "--processes") (codes "1")) (random_request 1 64 100 1)
+processes_of_random_least : (name : Text) → AsksFor (with_option name (codes "random") (codes "--processes") (codes "1"))
+    (random_request 1 64 100 1)
 unfolding clap_on_literals
 processes_of_random_least name = (refl, refl)
 
-processes_of_random_greatest : (name : Text) → AsksFor (with_option name (codes "random") (codes "--processes") (codes "64")) (random_request 64 64 100 1)
+processes_of_random_greatest : (name : Text) → AsksFor (with_option name (codes "random") (codes "--processes") (codes "64"))
+    (random_request 64 64 100 1)
 unfolding clap_on_literals
 processes_of_random_greatest name = (refl, refl)
 
-processes_of_random_below_the_least : (name : Text) → faults_of_words (with_option name (codes "random") (codes "--processes") (codes "0")) ≡ ValueValidation ∷ []
+processes_of_random_below_the_least : (name : Text)
+    → faults_of_words (with_option name (codes "random") (codes "--processes") (codes "0")) ≡ ValueValidation ∷ []
 unfolding clap_on_literals
 processes_of_random_below_the_least name = refl
 
-processes_of_random_past_the_greatest : (name : Text) → faults_of_words (with_option name (codes "random") (codes "--processes") (codes "65")) ≡ ValueValidation ∷ []
+processes_of_random_past_the_greatest : (name : Text)
+    → faults_of_words (with_option name (codes "random") (codes "--processes") (codes "65")) ≡ ValueValidation ∷ []
 unfolding clap_on_literals
 processes_of_random_past_the_greatest name = refl
 
@@ -262,83 +279,103 @@ row_of_random_least : (name : Text) → AsksFor (with_option name (codes "random
 unfolding clap_on_literals
 row_of_random_least name = (refl, refl)
 
-row_of_random_greatest : (name : Text) → AsksFor (with_option name (codes "random") (codes "--row") (codes "4096")) (random_request 2 4096 100 1)
+row_of_random_greatest : (name : Text) → AsksFor (with_option name (codes "random") (codes "--row") (codes "4096"))
+    (random_request 2 4096 100 1)
 unfolding clap_on_literals
 row_of_random_greatest name = (refl, refl)
 
-row_of_random_below_the_least : (name : Text) → faults_of_words (with_option name (codes "random") (codes "--row") (codes "0")) ≡ ValueValidation ∷ []
+row_of_random_below_the_least : (name : Text) → faults_of_words (with_option name (codes "random") (codes "--row") (codes "0"))
+    ≡ ValueValidation ∷ []
 unfolding clap_on_literals
 row_of_random_below_the_least name = refl
 
-row_of_random_past_the_greatest : (name : Text) → faults_of_words (with_option name (codes "random") (codes "--row") (codes "4097")) ≡ ValueValidation ∷ []
+row_of_random_past_the_greatest : (name : Text) → faults_of_words (with_option name (codes "random") (codes "--row") (codes "4097"))
+    ≡ ValueValidation ∷ []
 unfolding clap_on_literals
 row_of_random_past_the_greatest name = refl
 
-events_of_random_least : (name : Text) → AsksFor (with_option name (codes "random") (codes "--events") (codes "1")) (random_request 2 64 1 1)
+events_of_random_least : (name : Text) → AsksFor (with_option name (codes "random") (codes "--events") (codes "1"))
+    (random_request 2 64 1 1)
 unfolding clap_on_literals
 events_of_random_least name = (refl, refl)
 
-events_of_random_greatest : (name : Text) → AsksFor (with_option name (codes "random") (codes "--events") (codes "99000")) (random_request 2 64 99000 1)
+events_of_random_greatest : (name : Text) → AsksFor (with_option name (codes "random") (codes "--events") (codes "99000"))
+    (random_request 2 64 99000 1)
 unfolding clap_on_literals
 events_of_random_greatest name = (refl, refl)
 
-events_of_random_below_the_least : (name : Text) → faults_of_words (with_option name (codes "random") (codes "--events") (codes "0")) ≡ ValueValidation ∷ []
+events_of_random_below_the_least : (name : Text) → faults_of_words (with_option name (codes "random") (codes "--events") (codes "0"))
+    ≡ ValueValidation ∷ []
 unfolding clap_on_literals
 events_of_random_below_the_least name = refl
 
-events_of_random_past_the_greatest : (name : Text) → faults_of_words (with_option name (codes "random") (codes "--events") (codes "99001")) ≡ ValueValidation ∷ []
+events_of_random_past_the_greatest : (name : Text)
+    → faults_of_words (with_option name (codes "random") (codes "--events") (codes "99001")) ≡ ValueValidation ∷ []
 unfolding clap_on_literals
 events_of_random_past_the_greatest name = refl
 
-seed_of_random_least : (name : Text) → AsksFor (with_option name (codes "random") (codes "--seed") (codes "0")) (random_request 2 64 100 0)
+seed_of_random_least : (name : Text) → AsksFor (with_option name (codes "random") (codes "--seed") (codes "0"))
+    (random_request 2 64 100 0)
 unfolding clap_on_literals
 seed_of_random_least name = (refl, refl)
 
-seed_of_random_greatest : (name : Text) → AsksFor (with_option name (codes "random") (codes "--seed") (codes "18446744073709551615")) (random_request 2 64 100 18446744073709551615)
+seed_of_random_greatest : (name : Text) → AsksFor (with_option name (codes "random") (codes "--seed") (codes "18446744073709551615"))
+    (random_request 2 64 100 18446744073709551615)
 unfolding clap_on_literals
 seed_of_random_greatest name = (refl, refl)
 
-seed_of_random_past_the_greatest : (name : Text) → faults_of_words (with_option name (codes "random") (codes "--seed") (codes "18446744073709551616")) ≡ ValueValidation ∷ []
+seed_of_random_past_the_greatest : (name : Text) → faults_of_words
+    (with_option name (codes "random") (codes "--seed") (codes "18446744073709551616")) ≡ ValueValidation ∷ []
 unfolding clap_on_literals
 seed_of_random_past_the_greatest name = refl
 
-processes_of_threads_least : (name : Text) → AsksFor (with_option name (codes "threads") (codes "--processes") (codes "1")) (threads_request 1 100 1)
+processes_of_threads_least : (name : Text) → AsksFor (with_option name (codes "threads") (codes "--processes") (codes "1"))
+    (threads_request 1 100 1)
 unfolding clap_on_literals
 processes_of_threads_least name = (refl, refl)
 
-processes_of_threads_greatest : (name : Text) → AsksFor (with_option name (codes "threads") (codes "--processes") (codes "64")) (threads_request 64 100 1)
+processes_of_threads_greatest : (name : Text) → AsksFor (with_option name (codes "threads") (codes "--processes") (codes "64"))
+    (threads_request 64 100 1)
 unfolding clap_on_literals
 processes_of_threads_greatest name = (refl, refl)
 
-processes_of_threads_below_the_least : (name : Text) → faults_of_words (with_option name (codes "threads") (codes "--processes") (codes "0")) ≡ ValueValidation ∷ []
+processes_of_threads_below_the_least : (name : Text)
+    → faults_of_words (with_option name (codes "threads") (codes "--processes") (codes "0")) ≡ ValueValidation ∷ []
 unfolding clap_on_literals
 processes_of_threads_below_the_least name = refl
 
-calls_of_threads_least : (name : Text) → AsksFor (with_option name (codes "threads") (codes "--calls") (codes "1")) (threads_request 2 1 1)
+calls_of_threads_least : (name : Text) → AsksFor (with_option name (codes "threads") (codes "--calls") (codes "1"))
+    (threads_request 2 1 1)
 unfolding clap_on_literals
 calls_of_threads_least name = (refl, refl)
 
-calls_of_threads_greatest : (name : Text) → AsksFor (with_option name (codes "threads") (codes "--calls") (codes "4096")) (threads_request 2 4096 1)
+calls_of_threads_greatest : (name : Text) → AsksFor (with_option name (codes "threads") (codes "--calls") (codes "4096"))
+    (threads_request 2 4096 1)
 unfolding clap_on_literals
 calls_of_threads_greatest name = (refl, refl)
 
-calls_of_threads_below_the_least : (name : Text) → faults_of_words (with_option name (codes "threads") (codes "--calls") (codes "0")) ≡ ValueValidation ∷ []
+calls_of_threads_below_the_least : (name : Text) → faults_of_words (with_option name (codes "threads") (codes "--calls") (codes "0"))
+    ≡ ValueValidation ∷ []
 unfolding clap_on_literals
 calls_of_threads_below_the_least name = refl
 
-calls_of_threads_past_the_greatest : (name : Text) → faults_of_words (with_option name (codes "threads") (codes "--calls") (codes "4097")) ≡ ValueValidation ∷ []
+calls_of_threads_past_the_greatest : (name : Text)
+    → faults_of_words (with_option name (codes "threads") (codes "--calls") (codes "4097")) ≡ ValueValidation ∷ []
 unfolding clap_on_literals
 calls_of_threads_past_the_greatest name = refl
 
-seed_of_threads_least : (name : Text) → AsksFor (with_option name (codes "threads") (codes "--seed") (codes "0")) (threads_request 2 100 0)
+seed_of_threads_least : (name : Text) → AsksFor (with_option name (codes "threads") (codes "--seed") (codes "0"))
+    (threads_request 2 100 0)
 unfolding clap_on_literals
 seed_of_threads_least name = (refl, refl)
 
-seed_of_threads_greatest : (name : Text) → AsksFor (with_option name (codes "threads") (codes "--seed") (codes "18446744073709551615")) (threads_request 2 100 18446744073709551615)
+seed_of_threads_greatest : (name : Text) → AsksFor (with_option name (codes "threads") (codes "--seed") (codes "18446744073709551615"))
+    (threads_request 2 100 18446744073709551615)
 unfolding clap_on_literals
 seed_of_threads_greatest name = (refl, refl)
 
-seed_of_threads_past_the_greatest : (name : Text) → faults_of_words (with_option name (codes "threads") (codes "--seed") (codes "18446744073709551616")) ≡ ValueValidation ∷ []
+seed_of_threads_past_the_greatest : (name : Text)
+    → faults_of_words (with_option name (codes "threads") (codes "--seed") (codes "18446744073709551616")) ≡ ValueValidation ∷ []
 unfolding clap_on_literals
 seed_of_threads_past_the_greatest name = refl
 

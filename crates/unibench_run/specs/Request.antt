@@ -1,5 +1,6 @@
 -- What the values of the options of `replay`, `random` and `threads` are.
-use Rattle.std.specs.Prelude.{◌≡◌, ◌-◌, ◌^◌, ℕ, ◌&&◌, Bool, List, [], ◌∷◌, Option, None, Some, option_map, map, codes, if◌then◌else◌, nat_lt, nat_le, length, option_and_then, refl}
+use Rattle.std.specs.Prelude.{◌≡◌, ◌-◌, ◌^◌, ℕ, ◌&&◌, Bool, List, [], ◌∷◌, Option, None, Some, option_map, map}
+use Rattle.std.specs.Prelude.{codes, if◌then◌else◌, nat_lt, nat_le, length, option_and_then, refl}
 use Rattle.std.specs.List.{list_all}
 use Rattle.std.specs.Char.{digit_value}
 use Rattle.std.specs.Str.{bytes_eq}
@@ -93,32 +94,40 @@ random_of rows = random_with (value_of object_of_word (codes "object") rows)
     (value_of (number_in 0 (2 ^ 64 - 1)) (codes "seed") rows)
 
 -- the least and the greatest number that each option takes, and the numbers beside them
-history_is_1_to_16777216 : map (number_in 1 16777216) (codes "0" ∷ codes "1" ∷ codes "16777216" ∷ codes "16777217" ∷ []) ≡ None ∷ Some 1 ∷ Some 16777216 ∷ None ∷ []
+history_is_1_to_16777216 : map (number_in 1 16777216) (codes "0" ∷ codes "1" ∷ codes "16777216" ∷ codes "16777217" ∷ [])
+    ≡ None ∷ Some 1 ∷ Some 16777216 ∷ None ∷ []
 history_is_1_to_16777216 = refl
 
-processes_are_1_to_64 : map (number_in 1 64) (codes "0" ∷ codes "1" ∷ codes "64" ∷ codes "65" ∷ []) ≡ None ∷ Some 1 ∷ Some 64 ∷ None ∷ []
+processes_are_1_to_64 : map (number_in 1 64) (codes "0" ∷ codes "1" ∷ codes "64" ∷ codes "65" ∷ [])
+    ≡ None ∷ Some 1 ∷ Some 64 ∷ None ∷ []
 processes_are_1_to_64 = refl
 
-calls_and_rows_are_1_to_4096 : map (number_in 1 4096) (codes "0" ∷ codes "1" ∷ codes "4096" ∷ codes "4097" ∷ []) ≡ None ∷ Some 1 ∷ Some 4096 ∷ None ∷ []
+calls_and_rows_are_1_to_4096 : map (number_in 1 4096) (codes "0" ∷ codes "1" ∷ codes "4096" ∷ codes "4097" ∷ [])
+    ≡ None ∷ Some 1 ∷ Some 4096 ∷ None ∷ []
 calls_and_rows_are_1_to_4096 = refl
 
-events_are_1_to_99000 : map (number_in 1 99000) (codes "0" ∷ codes "1" ∷ codes "99000" ∷ codes "99001" ∷ []) ≡ None ∷ Some 1 ∷ Some 99000 ∷ None ∷ []
+events_are_1_to_99000 : map (number_in 1 99000) (codes "0" ∷ codes "1" ∷ codes "99000" ∷ codes "99001" ∷ [])
+    ≡ None ∷ Some 1 ∷ Some 99000 ∷ None ∷ []
 events_are_1_to_99000 = refl
 
-seeds_have_64_bits : map (number_in 0 (2 ^ 64 - 1)) (codes "0" ∷ codes "18446744073709551615" ∷ codes "18446744073709551616" ∷ []) ≡ Some 0 ∷ Some 18446744073709551615 ∷ None ∷ []
+seeds_have_64_bits : map (number_in 0 (2 ^ 64 - 1)) (codes "0" ∷ codes "18446744073709551615" ∷ codes "18446744073709551616" ∷ [])
+    ≡ Some 0 ∷ Some 18446744073709551615 ∷ None ∷ []
 seeds_have_64_bits = refl
 
 -- one plus may come first, and zeros
-signs_of_numbers : map (number_in 1 64) (codes "+64" ∷ codes "064" ∷ codes "++64" ∷ codes "-1" ∷ codes "+" ∷ codes "" ∷ []) ≡ Some 64 ∷ Some 64 ∷ None ∷ None ∷ None ∷ None ∷ []
+signs_of_numbers : map (number_in 1 64) (codes "+64" ∷ codes "064" ∷ codes "++64" ∷ codes "-1" ∷ codes "+" ∷ codes "" ∷ [])
+    ≡ Some 64 ∷ Some 64 ∷ None ∷ None ∷ None ∷ None ∷ []
 signs_of_numbers = refl
 
 -- bytes 47 and 58 stand beside the digits
 bytes_beside_digits : map (number_in 1 64) ((47 ∷ []) ∷ (58 ∷ []) ∷ []) ≡ None ∷ None ∷ []
 bytes_beside_digits = refl
 
-two_words_are_forms : map form_named (codes "lock" ∷ codes "words" ∷ codes "locks" ∷ []) ≡ Some form.Lock ∷ Some form.Words ∷ None ∷ []
+two_words_are_forms : map form_named (codes "lock" ∷ codes "words" ∷ codes "locks" ∷ [])
+    ≡ Some form.Lock ∷ Some form.Words ∷ None ∷ []
 two_words_are_forms = refl
 
-five_words_are_objects : map object_named (codes "queue" ∷ codes "directory" ∷ codes "book" ∷ codes "sticky" ∷ codes "tally" ∷ codes "register" ∷ [])
+five_words_are_objects : map object_named (codes "queue" ∷ codes "directory" ∷ codes "book" ∷ codes "sticky" ∷ codes "tally"
+    ∷ codes "register" ∷ [])
     ≡ Some object.Queue ∷ Some object.Directory ∷ Some object.Book ∷ Some object.Sticky ∷ Some object.Tally ∷ None ∷ []
 five_words_are_objects = refl

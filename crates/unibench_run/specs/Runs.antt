@@ -24,7 +24,8 @@ pub record IsStatusOfEnds (input_failed output_failed : Bool) (status : ℕ) : T
 -- A replay that was told this and ended with this status, from what the input had left and the output held: 0 only where the script
 -- is good and its text was written, 2 only where it has a fault, after the answers before it, 3 after the answers to the whole lines that
 -- the reader gave, where the output hasn't failed. Whatever the status, a front of the text of the script's answers was written.
-pub record IsReplayRun (options : Options) (left left_after old new : Option (List ℕ)) (output_failed : Bool) (status : ℕ) : Type 0 where
+pub record IsReplayRun (options : Options) (left left_after old new : Option (List ℕ)) (output_failed : Bool)
+    (status : ℕ) : Type 0 where
   pub replayed : status ≡ 0 → IsReplay (scripts options) left old new None
   pub bad : status ≡ 2 → IsBadReplay (scripts options) left old new
   pub read : status ≡ 3 → output_failed ≡ false → HasAnswered (scripts options) left left_after old new

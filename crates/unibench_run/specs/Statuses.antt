@@ -36,7 +36,8 @@ TellsThreadsFault refusal = TellsLine (EndsThreads refusal) line_of_fault
 
 -- known bytes grew by the line of a fault of a script that ends with this status, and by some text after it
 abbrev pub TellsMore : (old new : Option (List ℕ)) (failed : Bool) (status : ℕ) → Type 0
-TellsMore old new failed status = (more : List ℕ) × TellsLine (λ fault status. status ≡ status_of fault) (λ fault. fault_line fault ++ more) old new failed status
+TellsMore old new failed status =
+    (more : List ℕ) × TellsLine (λ fault status. status ≡ status_of fault) (λ fault. fault_line fault ++ more) old new failed status
 
 -- what is told of a fault depends on what was asked for
 abbrev pub Tells : Request → (old new : Option (List ℕ)) (failed : Bool) (status : ℕ) → Type 0

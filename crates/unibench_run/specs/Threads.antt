@@ -1,5 +1,6 @@
 -- What a run of threads comes to.
-use Rattle.std.specs.Prelude.{◌≡◌, ◌≤◌, ◌*◌, ℕ, Bool, true, false, nat_lt, if◌then◌else◌, Option, None, Some, List, [], ◌∷◌, ◌++◌, codes, length, map, slice_get, vec_len, IsSomeAnd, refl}
+use Rattle.std.specs.Prelude.{◌≡◌, ◌≤◌, ◌*◌, ℕ, Bool, true, false, nat_lt, if◌then◌else◌, Option, None, Some, List}
+use Rattle.std.specs.Prelude.{[], ◌∷◌, ◌++◌, codes, length, map, slice_get, vec_len, IsSomeAnd, refl}
 use Rattle.std.specs.Fmt.{decimal, digits}
 use Rattle.std.specs.List.{sum_by}
 use Rattle.std.proofs.Common.{arith}
@@ -72,7 +73,8 @@ pub record IsRunOfThreads (object : Sequential ℕ ℕ ℕ) (threads calls : ℕ
 
 -- so many replies are those of all calls of such a run
 abbrev pub HasRun : Sequential ℕ ℕ ℕ → (threads calls replies : ℕ) → Type 0
-HasRun object threads calls replies = (replies ≡ threads * calls) × ((told : List ProcessCalls) × IsRunOfThreads object threads calls told)
+HasRun object threads calls replies =
+    (replies ≡ threads * calls) × ((told : List ProcessCalls) × IsRunOfThreads object threads calls told)
 
 -- So many replies can come of a plan. Over words they are those of a run in which each process has made all its calls; under a lock,
 -- where a call may meet a fault, they are no more than the calls.
@@ -149,10 +151,12 @@ seat_3_is_pending = refl
 sixteen_by_twenty_are_few : refusal_of (record { form = form.Lock; object = object.Queue; processes = 16; calls = 20; seed = 1 }) ≡ None
 sixteen_by_twenty_are_few = refl
 
-calls_are_too_many : refusal_of (record { form = form.Lock; object = object.Queue; processes = 64; calls = 4096; seed = 1 }) ≡ Some fault.CallsTooMany
+calls_are_too_many : refusal_of (record { form = form.Lock; object = object.Queue; processes = 64; calls = 4096; seed = 1 })
+    ≡ Some fault.CallsTooMany
 calls_are_too_many = refl
 
-no_tally_under_a_lock : refusal_of (record { form = form.Lock; object = object.Tally; processes = 64; calls = 4096; seed = 1 }) ≡ Some fault.NoSuchObject
+no_tally_under_a_lock : refusal_of (record { form = form.Lock; object = object.Tally; processes = 64; calls = 4096; seed = 1 })
+    ≡ Some fault.NoSuchObject
 no_tally_under_a_lock = refl
 
 -- the last number of events that a lock has room for, and the first that it hasn't
@@ -184,7 +188,8 @@ sixty_four_processes_make_401_calls = refl
 sixty_four_processes_make_no_402 : refusal_of (under_lock 64 402) ≡ Some fault.CallsTooMany
 sixty_four_processes_make_no_402 = refl
 
-the_greatest_plan_over_words : refusal_of (record { form = form.Words; object = object.Tally; processes = 64; calls = 4096; seed = 1 }) ≡ None
+the_greatest_plan_over_words : refusal_of (record
+    { form = form.Words; object = object.Tally; processes = 64; calls = 4096; seed = 1 }) ≡ None
 the_greatest_plan_over_words = refl
 
 -- the least and the greatest plan, and what is just outside

@@ -67,7 +67,8 @@ fn naming<'a>(
 /// Why words without a fault ask for nothing: the fault that `clap` has where it knows the names; `None` where it has
 /// none.
 pub(crate) fn fault_of_names<S: AsStr>(alloc: Global, words: &[S]) -> Option<clap::Error>
-    ensures { IfSome result (λ error. (kind_of error ≢ ErrorKind.DisplayHelp) × (kind_of error ≢ ErrorKind.DisplayVersion)) }
+    ensures { IfSome result (λ error. (kind_of error ≢ ErrorKind.DisplayHelp)
+        × (kind_of error ≢ ErrorKind.DisplayVersion)) }
 {
     match read_names(alloc, words) {
         Err(error) if error.use_stderr() => Some(error),

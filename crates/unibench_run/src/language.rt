@@ -132,9 +132,11 @@ pub(crate) fn write_language<O: TextOut, F: TextOut>(
     faults: &mut F,
 ) -> u8
     requires output { O.has_failed output.old ≡ false }
-    ensures run { IsLanguageRun object (O.contents output.old) (O.contents output.new) (O.has_failed output.new) result }
+    ensures run { IsLanguageRun object (O.contents output.old) (O.contents output.new)
+        (O.has_failed output.new) result }
     ensures silent { result ≡ 0 → faults.new ≡ faults.old }
-    ensures told { result ≢ 0 → TellsFault (F.contents faults.old) (F.contents faults.new) (F.has_failed faults.new) result }
+    ensures told { result ≢ 0 → TellsFault (F.contents faults.old) (F.contents faults.new)
+        (F.has_failed faults.new) result }
 {
     match write_all(output, language_text(object).as_bytes()) {
         Ok(()) => 0,

@@ -1,6 +1,7 @@
 //! Threads that make calls on one object under a lock.
 
-ghost use Rattle.std.specs.Prelude.{◌≡◌, ◌≢◌, ◌<◌, ◌≤◌, ◌*◌, ◌^◌, ◌↔◌, IfOk, IsErrOf, [], length};
+ghost use Rattle.std.specs.Prelude.{◌≡◌, ◌≢◌, ◌<◌, ◌≤◌, ◌*◌, ◌^◌, ◌↔◌, IfOk};
+ghost use Rattle.std.specs.Prelude.{IsErrOf, [], length};
 ghost use Rattle.unibench_run.specs.Threads.{IsThreadsPlan, closing_fault, events_of, receipts_in};
 
 use crate::request::Plan;
@@ -67,7 +68,8 @@ fn receipts_in<O: SeqObject>(seats: &[Seat<O>]) -> u64
 /// The fault of threads that a closing was refused for.
 fn closing_fault(fault: CloseFault) -> ThreadsFault
     ensures value { result ≡ closing_fault fault }
-    ensures others { (result ≢ ThreadsFault.NoSuchObject) × (result ≢ ThreadsFault.CallsTooMany) × (result ≢ ThreadsFault.Write) }
+    ensures others { (result ≢ ThreadsFault.NoSuchObject) × (result ≢ ThreadsFault.CallsTooMany)
+        × (result ≢ ThreadsFault.Write) }
     ensures audited { (verdict : Verdict) → result ≢ ThreadsFault.Audit verdict }
 {
     match fault {
@@ -86,7 +88,8 @@ fn close_and_audit<O: SeqObject>(
 ) -> Result<u64, ThreadsFault>
     requires { receipts_in seats.items < 2 ^ 64 }
     ensures replies { IfOk result (λ replies. replies ≡ receipts_in seats.items) }
-    ensures others { (IsErrOf result ThreadsFault.NoSuchObject → ⊥) × (IsErrOf result ThreadsFault.CallsTooMany → ⊥) × (IsErrOf result ThreadsFault.Write → ⊥) }
+    ensures others { (IsErrOf result ThreadsFault.NoSuchObject → ⊥)
+        × (IsErrOf result ThreadsFault.CallsTooMany → ⊥) × (IsErrOf result ThreadsFault.Write → ⊥) }
     ensures audited { (verdict : Verdict) → IsErrOf result (ThreadsFault.Audit verdict) → ⊥ }
 {
     let replies = receipts_in(&seats);

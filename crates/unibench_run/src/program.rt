@@ -1,6 +1,7 @@
 //! The program over its ends, and its statuses.
 
-ghost use Rattle.std.specs.Prelude.{◌≡◌, ◌≢◌, ◌≤◌, ◌⊎◌, ◌↔◌, true, false, None, Some, IsErrOf, OnOk, OnErr, map};
+ghost use Rattle.std.specs.Prelude.{◌≡◌, ◌≢◌, ◌≤◌, ◌⊎◌, ◌↔◌, true, false, None, Some};
+ghost use Rattle.std.specs.Prelude.{IsErrOf, OnOk, OnErr, map};
 ghost use Rattle.std.specs.Io.KnownBytes.{Appends};
 ghost use Rattle.uni_script.specs.Ends.{AppendsFront};
 ghost use Rattle.uni_record.specs.Recorded.{IsHistory};
@@ -8,7 +9,8 @@ ghost use Rattle.unibench_run.specs.CommandLine.{AsksFor, AsksForReplay, IsRefus
 ghost use Rattle.uni_script.specs.Schedules.{IsPlan};
 ghost use Rattle.unibench_run.specs.Runs.{IsRandomRun, IsReplayRun, IsRunOf, IsStatusOfEnds, IsThreadsRun};
 ghost use Rattle.uni_script.specs.Statuses.{TellsFault};
-ghost use Rattle.unibench_run.specs.Statuses.{IsStatusFor, IsStatusOfThreads, Tells, TellsMore, TellsThreadsFault, status_of_threads};
+ghost use Rattle.unibench_run.specs.Statuses.{IsStatusFor, IsStatusOfThreads, Tells, TellsMore, TellsThreadsFault};
+ghost use Rattle.unibench_run.specs.Statuses.{status_of_threads};
 ghost use Rattle.unibench_run.specs.Threads.{IsThreadsPlan, OfAgreed, refusal_of};
 
 use crate::explain::{KeepsText, report_explained};
@@ -49,11 +51,14 @@ pub fn run<R: Threads + Wait + Sync, S: AsStr, I: KeepsText, O: TextOut, F: Text
     ensures statuses { IsStatusFor (map S.text words.now) result }
     ensures ends { IsStatusOfEnds (I.has_failed input.new) (O.has_failed output.new) result }
     ensures asked { (r : Request) → AsksFor (map S.text words.now) r
-        → IsRunOf r (I.remaining input.old) (I.remaining input.new) (O.contents output.old) (O.contents output.new) (O.has_failed output.new) result }
+        → IsRunOf r (I.remaining input.old) (I.remaining input.new) (O.contents output.old) (O.contents output.new)
+        (O.has_failed output.new) result }
     ensures silent { (r : Request) → AsksFor (map S.text words.now) r → result ≡ 0 → faults.new ≡ faults.old }
-    ensures told { (r : Request) → AsksFor (map S.text words.now) r → result ≢ 0 → Tells r (F.contents faults.old) (F.contents faults.new) (F.has_failed faults.new) result }
+    ensures told { (r : Request) → AsksFor (map S.text words.now) r → result ≢ 0
+        → Tells r (F.contents faults.old) (F.contents faults.new) (F.has_failed faults.new) result }
     ensures unread { ¬ (AsksForReplay (map S.text words.now)) → input.new ≡ input.old }
-    ensures refused { IsRefused (map S.text words.now) → ((result ≡ 2) ⊎ (result ≡ 4)) × (output.new ≡ output.old) }
+    ensures refused { IsRefused (map S.text words.now)
+        → ((result ≡ 2) ⊎ (result ≡ 4)) × (output.new ≡ output.old) }
 {
     match read_words(alloc, words) {
         Ok(Some(Request::Replay(options))) => replay(alloc, &options, input, output, faults),
@@ -83,9 +88,11 @@ fn threads<R: Threads + Wait + Sync, O: TextOut, F: TextOut>(
 ) -> u8
     requires plan { IsThreadsPlan plan.now }
     requires output { O.has_failed output.old ≡ false }
-    ensures run { IsThreadsRun plan.now (O.contents output.old) (O.contents output.new) (O.has_failed output.new) result }
+    ensures run { IsThreadsRun plan.now (O.contents output.old) (O.contents output.new)
+        (O.has_failed output.new) result }
     ensures silent { result ≡ 0 → faults.new ≡ faults.old }
-    ensures told { result ≢ 0 → TellsThreadsFault (refusal_of plan.now) (F.contents faults.old) (F.contents faults.new) (F.has_failed faults.new) result }
+    ensures told { result ≢ 0 → TellsThreadsFault (refusal_of plan.now) (F.contents faults.old)
+        (F.contents faults.new) (F.has_failed faults.new) result }
 {
     match write_agreed(rt, alloc, plan, output) {
         Ok(()) => 0,
@@ -102,11 +109,15 @@ fn write_agreed<R: Threads + Wait + Sync, O: TextOut>(
 ) -> Result<(), ThreadsFault>
     requires plan { IsThreadsPlan plan.now }
     requires output { O.has_failed output.old ≡ false }
-    ensures there { IsErrOf result ThreadsFault.NoSuchObject ↔ (refusal_of plan.now ≡ Some ThreadsFault.NoSuchObject) }
-    ensures few { IsErrOf result ThreadsFault.CallsTooMany ↔ (refusal_of plan.now ≡ Some ThreadsFault.CallsTooMany) }
-    ensures ok { OnOk result ((O.has_failed output.new ≡ false) × OfAgreed plan.now (Appends (O.contents output.old) (O.contents output.new))) }
+    ensures there { IsErrOf result ThreadsFault.NoSuchObject
+        ↔ (refusal_of plan.now ≡ Some ThreadsFault.NoSuchObject) }
+    ensures few { IsErrOf result ThreadsFault.CallsTooMany
+        ↔ (refusal_of plan.now ≡ Some ThreadsFault.CallsTooMany) }
+    ensures ok { OnOk result ((O.has_failed output.new ≡ false)
+        × OfAgreed plan.now (Appends (O.contents output.old) (O.contents output.new))) }
     ensures failed { IsErrOf result ThreadsFault.Write ↔ (O.has_failed output.new ≡ true) }
-    ensures front { IsErrOf result ThreadsFault.Write → OfAgreed plan.now (AppendsFront (O.contents output.old) (O.contents output.new)) }
+    ensures front { IsErrOf result ThreadsFault.Write
+        → OfAgreed plan.now (AppendsFront (O.contents output.old) (O.contents output.new)) }
     ensures kept { OnErr result (O.has_failed output.new ≡ false → output.new ≡ output.old) }
     ensures closing { (fault : ThreadsFault) → IsErrOf result fault →
         status_of_threads fault ≡ 5 → plan.now.form ≡ Form.Lock }
@@ -124,7 +135,8 @@ fn write_agreed<R: Threads + Wait + Sync, O: TextOut>(
 /// text of a closing's fault is refused memory, that is what is told, with its status.
 fn report_threads<F: TextOut>(alloc: Global, fault: ThreadsFault, faults: &mut F) -> u8
     ensures status { IsStatusOfThreads fault result }
-    ensures told { TellsThreadsFault (Some fault) (F.contents faults.old) (F.contents faults.new) (F.has_failed faults.new) result }
+    ensures told { TellsThreadsFault (Some fault) (F.contents faults.old) (F.contents faults.new)
+        (F.has_failed faults.new) result }
 {
     match fault {
         ThreadsFault::NoSuchObject => {
@@ -170,7 +182,8 @@ fn replay<I: TextIn, O: TextOut, F: TextOut>(
         (O.contents output.old) (O.contents output.new) (O.has_failed output.new) result }
     ensures ends { IsStatusOfEnds (I.has_failed input.new) (O.has_failed output.new) result }
     ensures silent { result ≡ 0 → faults.new ≡ faults.old }
-    ensures told { result ≢ 0 → TellsFault (F.contents faults.old) (F.contents faults.new) (F.has_failed faults.new) result }
+    ensures told { result ≢ 0 → TellsFault (F.contents faults.old) (F.contents faults.new)
+        (F.has_failed faults.new) result }
 {
     match bench(alloc, input, output, options) {
         Ok(_) => 0,
@@ -199,7 +212,8 @@ fn replay_explained<I: KeepsText, O: TextOut, F: TextOut>(
         (O.contents output.old) (O.contents output.new) (O.has_failed output.new) result }
     ensures ends { IsStatusOfEnds (I.has_failed input.new) (O.has_failed output.new) result }
     ensures silent { result ≡ 0 → faults.new ≡ faults.old }
-    ensures told { result ≢ 0 → TellsMore (F.contents faults.old) (F.contents faults.new) (F.has_failed faults.new) result }
+    ensures told { result ≢ 0 → TellsMore (F.contents faults.old) (F.contents faults.new)
+        (F.has_failed faults.new) result }
 {
     input.keep(alloc);
     match bench(alloc, input, output, options) {
@@ -241,9 +255,11 @@ fn random<O: TextOut, F: TextOut>(
 ) -> u8
     requires plan { IsPlan plan.now.schedule }
     requires output { O.has_failed output.old ≡ false }
-    ensures run { IsRandomRun plan.now (O.contents output.old) (O.contents output.new) (O.has_failed output.new) result }
+    ensures run { IsRandomRun plan.now (O.contents output.old) (O.contents output.new)
+        (O.has_failed output.new) result }
     ensures silent { result ≡ 0 → faults.new ≡ faults.old }
-    ensures told { result ≢ 0 → TellsFault (F.contents faults.old) (F.contents faults.new) (F.has_failed faults.new) result }
+    ensures told { result ≢ 0 → TellsFault (F.contents faults.old) (F.contents faults.new)
+        (F.has_failed faults.new) result }
 {
     let mut words = Xoshiro256PlusPlus::seed_from_u64(plan.seed);
     match schedule(alloc, &mut words, output, &plan.schedule) {
@@ -256,7 +272,8 @@ fn random<O: TextOut, F: TextOut>(
 fn report_closing<F: TextOut>(alloc: Global, fault: ThreadsFault, faults: &mut F) -> u8
     requires { status_of_threads fault ≡ 5 }
     ensures status { (result ≡ 5) ⊎ (result ≡ 4) }
-    ensures told { TellsThreadsFault (Some fault) (F.contents faults.old) (F.contents faults.new) (F.has_failed faults.new) result }
+    ensures told { TellsThreadsFault (Some fault) (F.contents faults.old) (F.contents faults.new)
+        (F.has_failed faults.new) result }
 {
     let mut line = Vec::new(alloc);
     match push_threads_fault(&mut line, fault) {

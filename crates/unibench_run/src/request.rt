@@ -4,9 +4,12 @@ ghost use Rattle.std.specs.Prelude.{◌≡◌, [], IfOk, IfErr, map, codes, fals
 ghost use Rattle.clap.specs.Words.{HasKind, app_of, found_of, rows_of, new_app, rule_of, subcommand_rows_of};
 ghost use Rattle.clap.specs.declared.builder.command.Command.TheViews.{out-Command};
 ghost use Rattle.command_line.specs.Flags.{versioned};
-ghost use Rattle.unibench_run.specs.CommandLine.{asked_of, faults_of_words, in_range, language_command, needs_subcommand, operand, option, random_command, replay_command, replay_in, request_in, threads_command, unibench};
+ghost use Rattle.unibench_run.specs.CommandLine.{asked_of, faults_of_words, in_range, language_command};
+ghost use Rattle.unibench_run.specs.CommandLine.{needs_subcommand, operand, option, random_command, replay_command};
+ghost use Rattle.unibench_run.specs.CommandLine.{replay_in, request_in, threads_command, unibench};
 ghost use Rattle.uni_script.specs.Grammar.{object_of_word};
-ghost use Rattle.unibench_run.specs.Request.{form_named, echo_in, number_in, object_named, options_of, plan_of, random_of, subject_of, value_of};
+ghost use Rattle.unibench_run.specs.Request.{form_named, echo_in, number_in, object_named, options_of, plan_of};
+ghost use Rattle.unibench_run.specs.Request.{random_of, subject_of, value_of};
 
 use clap::builder::ValueParser;
 use clap::{Arg, ArgMatches, Command};
@@ -284,7 +287,11 @@ fn replay_command<'a>(alloc: Global) -> Result<Command<'a>, AllocError>
     )
     .arg(history)?
     .arg(flag(alloc, "explain", "Says why a line is bad"))?
-    .arg(flag(alloc, "echo", "Writes each line before its answers, after '> '"))
+    .arg(flag(
+        alloc,
+        "echo",
+        "Writes each line before its answers, after '> '",
+    ))
 }
 
 /// What the help of `random` says last.
@@ -548,7 +555,8 @@ fn request_in(matches: &ArgMatches<'_>) -> Option<Request>
 ///
 /// An `Err` has the fault of the words, or says that memory was refused.
 pub fn read_words<S: AsStr>(alloc: Global, words: &[S]) -> Result<Option<Request>, clap::Error>
-    ensures asked { IfOk result (λ request. (faults_of_words (map S.text words.now) ≡ []) × (request ≡ asked_of (map S.text words.now))) }
+    ensures asked { IfOk result (λ request. (faults_of_words (map S.text words.now) ≡ [])
+        × (request ≡ asked_of (map S.text words.now))) }
     ensures fault { IfErr result (HasKind (faults_of_words (map S.text words.now))) }
 {
     match unibench(alloc)?.try_get_matches_from(words) {

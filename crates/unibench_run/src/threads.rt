@@ -1,6 +1,7 @@
 //! Threads that make calls on one object.
 
-ghost use Rattle.std.specs.Prelude.{◌↔◌, IsErrOf, ◌≡◌, ◌++◌, ◌*◌, ◌≤◌, ℕ, All, [], IfOk, Ok, OnOk, Some, length, map, vec_len};
+ghost use Rattle.std.specs.Prelude.{◌↔◌, IsErrOf, ◌≡◌, ◌++◌, ◌*◌, ◌≤◌, ℕ, All, [], IfOk};
+ghost use Rattle.std.specs.Prelude.{Ok, OnOk, Some, length, map, vec_len};
 ghost use Rattle.uni_words.specs.Belongs.{object_of, process_of, processes_of, row_of};
 ghost use Rattle.unibench_run.specs.Statuses.{status_of_threads};
 ghost use Rattle.unibench_run.specs.Threads.{AreDone, HasRun, IsCounted, IsDone, IsJob, IsRunOfThreads, IsThreadsPlan};
@@ -237,8 +238,10 @@ pub fn run_plan<R: Threads + Wait + Sync>(
 ) -> Result<u64, ThreadsFault>
     requires { IsThreadsPlan plan.now }
     ensures replies { IfOk result (IsCounted plan.now) }
-    ensures there { IsErrOf result ThreadsFault.NoSuchObject ↔ (refusal_of plan.now ≡ Some ThreadsFault.NoSuchObject) }
-    ensures few { IsErrOf result ThreadsFault.CallsTooMany ↔ (refusal_of plan.now ≡ Some ThreadsFault.CallsTooMany) }
+    ensures there { IsErrOf result ThreadsFault.NoSuchObject
+        ↔ (refusal_of plan.now ≡ Some ThreadsFault.NoSuchObject) }
+    ensures few { IsErrOf result ThreadsFault.CallsTooMany
+        ↔ (refusal_of plan.now ≡ Some ThreadsFault.CallsTooMany) }
     ensures written { IsErrOf result ThreadsFault.Write → ⊥ }
     ensures audited { (verdict : Verdict) → IsErrOf result (ThreadsFault.Audit verdict) → ⊥ }
     ensures closing { (fault : ThreadsFault) → IsErrOf result fault →

@@ -1,6 +1,7 @@
 //! The program over its ends, and its statuses.
 
-ghost use Rattle.std.specs.Prelude.{◌≡◌, ◌≢◌, ◌⊎◌, ◌↔◌, true, false, None, Some, IfOk, IsErrOf, map};
+ghost use Rattle.std.specs.Prelude.{◌≡◌, ◌≢◌, ◌⊎◌, ◌↔◌, true, false, None, Some, IfOk, IsErrOf};
+ghost use Rattle.std.specs.Prelude.{map};
 ghost use Rattle.uni_script.specs.Replay.{HasFault, IsFaultOfScript};
 ghost use Rattle.uni_script.specs.Scripts.{scripts_of};
 ghost use Rattle.uni_script.specs.declared.fault.BenchFault.{BenchFault as Fault};
@@ -43,12 +44,15 @@ pub fn run<S: AsStr, I: TextIn, O: TextOut, F: TextOut>(
 ) -> u8
     requires input { I.has_failed input.old ≡ false }
     requires output { O.has_failed output.old ≡ false }
-    ensures asked { (form : Form) → form_of_words (map S.text words.now) ≡ Some form → IsDrawn form (I.remaining input.old) (O.contents output.old) (O.contents output.new) result }
+    ensures asked { (form : Form) → form_of_words (map S.text words.now) ≡ Some form
+        → IsDrawn form (I.remaining input.old) (O.contents output.old) (O.contents output.new) result }
     ensures written { O.has_failed output.new ≡ true → result ≡ 3 }
     ensures silent { result ≡ 0 → faults.new ≡ faults.old }
-    ensures told { (form : Form) → form_of_words (map S.text words.now) ≡ Some form → result ≢ 0 → TellsPictureFault (F.contents faults.old) (F.contents faults.new) (F.has_failed faults.new) result }
+    ensures told { (form : Form) → form_of_words (map S.text words.now) ≡ Some form → result ≢ 0
+        → TellsPictureFault (F.contents faults.old) (F.contents faults.new) (F.has_failed faults.new) result }
     ensures unread { form_of_words (map S.text words.now) ≡ None → input.new ≡ input.old }
-    ensures refused { IsRefused (map S.text words.now) → ((result ≡ 2) ⊎ (result ≡ 4)) × (output.new ≡ output.old) }
+    ensures refused { IsRefused (map S.text words.now)
+        → ((result ≡ 2) ⊎ (result ≡ 4)) × (output.new ≡ output.old) }
 {
     match read_words(alloc, words) {
         Ok(form) => draw(alloc, form, input, output, faults),
@@ -69,7 +73,8 @@ fn draw<I: TextIn, O: TextOut, F: TextOut>(
     ensures drawn { IsDrawn form (I.remaining input.old) (O.contents output.old) (O.contents output.new) result }
     ensures written { O.has_failed output.new ≡ true → result ≡ 3 }
     ensures silent { result ≡ 0 → faults.new ≡ faults.old }
-    ensures told { result ≢ 0 → TellsPictureFault (F.contents faults.old) (F.contents faults.new) (F.has_failed faults.new) result }
+    ensures told { result ≢ 0 → TellsPictureFault (F.contents faults.old) (F.contents faults.new)
+        (F.has_failed faults.new) result }
 {
     match picture_in(alloc, form, input) {
         Ok(text) => match write_all(output, text.as_slice()) {
@@ -88,7 +93,8 @@ fn picture_in<I: TextIn>(alloc: Global, form: Form, reader: &mut I) -> Result<Ve
     requires { I.has_failed reader.old ≡ false }
     ensures picture { IfOk result (λ text. IsPictureIn form (I.remaining reader.old) text.items) }
     ensures many { IsErrOf result PictureFault.TooManyEvents → HasTooManyEvents (I.remaining reader.old) }
-    ensures fault { (e : Fault) → IsErrOf result (PictureFault.Script e) → IsFaultOfScript e → HasFault (scripts_of 1048576) (I.remaining reader.old) e }
+    ensures fault { (e : Fault) → IsErrOf result (PictureFault.Script e) → IsFaultOfScript e
+        → HasFault (scripts_of 1048576) (I.remaining reader.old) e }
 {
     match form {
         Form::Svg => picture_of(alloc, reader),

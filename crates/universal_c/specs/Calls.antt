@@ -7,7 +7,8 @@ use Rattle.uni_model.specs.History.{logged_call}
 use Rattle.uni_words.specs.declared.log.WordLog.{WordLog}
 use Rattle.uni_words.specs.declared.steps.WordSeat.{WordSeat}
 use Rattle.uni_words.specs.declared.read.WordEntry.{WordEntry}
-use Rattle.uni_words.specs.Belongs.{object_of, own_calls, calls_made, calls_of, known_calls, latest_turns, process_of, processes_of, row_of, word_steps_of}
+use Rattle.uni_words.specs.Belongs.{object_of, own_calls, calls_made, calls_of, known_calls, latest_turns, process_of, processes_of, row_of}
+use Rattle.uni_words.specs.Belongs.{word_steps_of}
 use Rattle.uni_words.specs.Log.{AreAnswered, AreCallsOf, IsLogged, entry_shown}
 use Rattle.uni_words.specs.Run.{IsLogOfRun}
 use Rattle.universal_c.specs.Meaning.{meaning}

@@ -1,5 +1,6 @@
 //! Closing a log, reading its entries, and letting a handle go.
-ghost use Rattle.std.specs.Prelude.{◌≡◌, ◌≢◌, ◌↔◌, ◌⊎◌, ◌++◌, List, drop, length, map, take, IfSome};
+ghost use Rattle.std.specs.Prelude.{◌≡◌, ◌≢◌, ◌↔◌, ◌⊎◌, ◌++◌, List, drop, length, map};
+ghost use Rattle.std.specs.Prelude.{take, IfSome};
 ghost use Rattle.std.specs.declared.option.Option.TheVariants.{None, Some};
 ghost use Rattle.uni_words.specs.declared.read.WordEntry.{WordEntry};
 ghost use Rattle.universal_c.specs.Calls.{HasClosed, entries_in, log_in, seat_in};
@@ -81,7 +82,8 @@ fn entry_of(entry: &WordEntry) -> Entry
 
 fn read(log: &[WordEntry], entries: &mut [Entry], count: &mut usize)
     ensures count { count.new ≡ length log.now }
-    ensures entries { entries.new ≡ map told (take (length entries.old) log.now) ++ drop (length log.now) entries.old }
+    ensures entries { entries.new ≡ map told (take (length entries.old) log.now)
+        ++ drop (length log.now) entries.old }
 {
     *count = log.len();
     let most = log.len().min(entries.len());

@@ -1,5 +1,6 @@
 //! Comparing a closed log with what a process was told.
-ghost use Rattle.std.specs.Prelude.{◌≡◌, ◌≢◌, ◌↔◌, ◌⊎◌, true, map, slice_get, IfSome, IsSomeAnd};
+ghost use Rattle.std.specs.Prelude.{◌≡◌, ◌≢◌, ◌↔◌, ◌⊎◌, true, map, slice_get, IfSome};
+ghost use Rattle.std.specs.Prelude.{IsSomeAnd};
 ghost use Rattle.std.specs.declared.option.Option.TheVariants.{None, Some};
 ghost use Rattle.universal_c.specs.Calls.{entries_in};
 ghost use Rattle.universal_c.specs.Told.{AreCallsIn, DifferFirstAt, told_call};

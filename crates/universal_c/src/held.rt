@@ -1,8 +1,10 @@
 //! What a handle holds: a log with its seats, a seat, or the entries of a closed log.
-ghost use Rattle.std.specs.Prelude.{◌≡◌, ◌==◌, ◌+◌, ◌*◌, ◌<◌, ◌≤◌, ◌++◌, ◌∷◌, ◌↔◌, ◌⊎◌, [], map, vec_len, IfOk, IfErr, IsErr, IsErrOf, OnOk, OnErr};
+ghost use Rattle.std.specs.Prelude.{◌≡◌, ◌==◌, ◌+◌, ◌*◌, ◌<◌, ◌≤◌, ◌++◌, ◌∷◌};
+ghost use Rattle.std.specs.Prelude.{◌↔◌, ◌⊎◌, [], map, vec_len, IfOk, IfErr, IsErr, IsErrOf, OnOk, OnErr};
 ghost use Rattle.seq_object.specs.History.{IsLegal};
 ghost use Rattle.uni_model.specs.History.{logged_call};
-ghost use Rattle.uni_words.specs.Belongs.{AreFirstSeats, IsSeatOf, own_calls, calls_made, latest_turns, process_of, processes_of, row_of, word_steps_of, calls_of, known_calls, object_of};
+ghost use Rattle.uni_words.specs.Belongs.{AreFirstSeats, IsSeatOf, own_calls, calls_made, latest_turns, process_of};
+ghost use Rattle.uni_words.specs.Belongs.{processes_of, row_of, word_steps_of, calls_of, known_calls, object_of};
 ghost use Rattle.uni_words.specs.Log.{AreAnswered, AreCallsOf, IsLogged, entry_shown};
 ghost use Rattle.uni_words.specs.Run.{IsLogOfRun};
 ghost use Rattle.universal_c.specs.Meaning.{meaning};
@@ -99,7 +101,8 @@ impl Opened {
         ensures same { OnErr result
             ((self.new.seats.items ≡ self.old.seats.items) × (vec_len self.new.seats ≡ vec_len self.old.seats)) }
         ensures first { IfOk result (λ given. (given.0.log.value ≡ self.old.log.value)
-            × (process_of given.0.seat ≡ given.1) × (own_calls given.0.seat ≡ []) × (calls_made given.0.seat ≡ 0)) }
+            × (process_of given.0.seat ≡ given.1) × (own_calls given.0.seat ≡ [])
+            × (calls_made given.0.seat ≡ 0)) }
     {
         let Ok(log) = Arc::try_clone(&self.log) else {
             return Err(SeatFault::Memory);
@@ -127,7 +130,8 @@ impl Seated {
         ensures made { OnOk result (calls_made self.new.seat ≡ calls_made self.old.seat + 1) }
         ensures turns { IfOk result (λ answer. latest_turns self.new.seat ≡ answer.turns) }
         ensures steps { OnOk result
-            (word_steps_of self.new.seat ≤ word_steps_of self.old.seat + (12 * processes_of self.old.log.value + 16)) }
+            (word_steps_of self.new.seat ≤ word_steps_of self.old.seat
+            + (12 * processes_of self.old.log.value + 16)) }
     {
         self.seat.apply(&self.log, inv)
     }
@@ -136,7 +140,8 @@ impl Seated {
     /// Errors: another has the log, and the seat comes back; memory was refused, and the log is lost.
     pub(crate) fn close(self, alloc: Global) -> Result<Vec<WordEntry>, CloseFault>
         ensures busy { IfErr result (λ fault. (fault ≡ Memory)
-            ⊎ ((seated : Seated) × (fault ≡ Busy seated) × (seated.log ≡ self.log) × (seated.seat ≡ self.seat))) }
+            ⊎ ((seated : Seated) × (fault ≡ Busy seated) × (seated.log ≡ self.log)
+            × (seated.seat ≡ self.seat))) }
         ensures legal { let object = meaning (object_of self.log.value) in
             IfOk result (λ entries. IsLegal object object.initial (map logged_call (map entry_shown entries.items))) }
         ensures answered { IfOk result (λ entries. AreAnswered (map entry_shown entries.items)) }

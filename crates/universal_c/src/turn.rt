@@ -93,7 +93,8 @@ fn apply_to(held: &mut Held, inv: u64, answer: &mut Reply) -> u32
     ensures wrong { (result ≡ 7) ↔ (seat_in (Some held.old) ≡ None) }
     ensures full { (result ≡ 4) ↔ IsFull (Some held.old) }
     ensures kept { result ≡ 7 → held.new ≡ held.old }
-    ensures unchanged { result ≢ 0 → (seat_in (Some held.new) ≡ seat_in (Some held.old)) × (answer.new ≡ answer.old) }
+    ensures unchanged { result ≢ 0 → (seat_in (Some held.new) ≡ seat_in (Some held.old))
+        × (answer.new ≡ answer.old) }
     ensures called { result ≡ 0 → HasCalled (Some held.old) (Some held.new) inv answer.new.reply answer.new.turns }
 {
     let Held::Seat(seated) = held else {
@@ -122,7 +123,8 @@ pub extern "C" fn universal_apply(
     ensures wrong { (result ≡ 7) ↔ (seat_in seat.old.value ≡ None) }
     ensures full { (result ≡ 4) ↔ IsFull seat.old.value }
     ensures kept { result ≡ 7 → seat.new.value ≡ seat.old.value }
-    ensures unchanged { result ≢ 0 → (seat_in seat.new.value ≡ seat_in seat.old.value) × (answer.new ≡ answer.old) }
+    ensures unchanged { result ≢ 0 → (seat_in seat.new.value ≡ seat_in seat.old.value)
+        × (answer.new ≡ answer.old) }
     ensures called { result ≡ 0 → HasCalled seat.old.value seat.new.value inv answer.new.reply answer.new.turns }
 {
     match replace(seat, Handle::empty(alloc)).into_box() {

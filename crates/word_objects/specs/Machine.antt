@@ -1,10 +1,12 @@
 -- What a machine means, and what can be wrong with its tables.
-use Rattle.std.specs.Prelude.{◌≡◌, ℕ, ◌+◌, ◌-◌, ◌*◌, ◌^◌, ◌==◌, nat_lt, nat_le, min, if◌then◌else◌, List, [], ◌∷◌, length, slice_index, position, Option, Some, None, option_map, refl}
+use Rattle.std.specs.Prelude.{◌≡◌, ℕ, ◌+◌, ◌-◌, ◌*◌, ◌^◌, ◌==◌, nat_lt, nat_le, min, if◌then◌else◌, List}
+use Rattle.std.specs.Prelude.{[], ◌∷◌, length, slice_index, position, Option, Some, None, option_map, refl}
 use Rattle.std.specs.Option.{option_or}
 use Rattle.seq_object.specs.Sequential.{Sequential}
 use Rattle.word_objects.specs.Tables.{Tables}
 use Rattle.word_objects.specs.declared.machine.MachineFault.{MachineFault}
-use Rattle.word_objects.specs.declared.machine.MachineFault.TheVariants.{BadStates, NoInvocation, NextSize, ReplySize, NextOutside, ReplyOutside}
+use Rattle.word_objects.specs.declared.machine.MachineFault.TheVariants.{BadStates, NoInvocation, NextSize, ReplySize, NextOutside}
+use Rattle.word_objects.specs.declared.machine.MachineFault.TheVariants.{ReplyOutside}
 
 -- the entry of a state and an invocation; an invocation past the table is the last one
 abbrev pub entry : (invocations : ℕ) (table : List ℕ) (state inv : ℕ) → ℕ

@@ -37,7 +37,11 @@ reply_to value (FetchMax v) = value
 reply_to value (CompareExchange expected v) = value
 
 abbrev pub register : Sequential ℕ ℕ ℕ
-register = record { initial = 0; next = λ value inv. value_after value (register_call inv); answer = λ value inv. reply_to value (register_call inv) }
+register = record {
+  initial = 0;
+  next = λ value inv. value_after value (register_call inv);
+  answer = λ value inv. reply_to value (register_call inv);
+}
 
 call-read : register_call 0 ≡ Read
 call-read = refl

@@ -1,6 +1,7 @@
 //! Any object of finitely many states, by its tables.
 
-ghost use Rattle.std.specs.Prelude.{◌≡◌, ◌+◌, ◌-◌, ◌*◌, ◌^◌, ◌<◌, min, nat_le, position, IfErr, IfNone, IfOk, OnOk};
+ghost use Rattle.std.specs.Prelude.{◌≡◌, ◌+◌, ◌-◌, ◌*◌, ◌^◌, ◌<◌, min, nat_le, position};
+ghost use Rattle.std.specs.Prelude.{IfErr, IfNone, IfOk, OnOk};
 ghost use Rattle.word_objects.specs.Machine.{machine, machine_fault};
 ghost use Rattle.word_objects.specs.Tables.{AreSound};
 

@@ -248,7 +248,8 @@ fn threaded<C: Cells<Inv = u32, State = u64, Resp = u8>>(
 ) -> CellId
     requires { (1 ≤ seq) × (1 ≤ C.processes arena.old) }
     ensures last { IsSomeAnd (C.cell arena.new result) (λ c. (0 < c.seq) × IsSome c.new) }
-    ensures shape { (C.processes arena.new ≡ C.processes arena.old) × (C.Cells.row arena.new ≡ C.Cells.row arena.old) }
+    ensures shape { (C.processes arena.new ≡ C.processes arena.old)
+        × (C.Cells.row arena.new ≡ C.Cells.row arena.old) }
 {
     let last = match arena.make(alloc, 0, 80) {
         Ok(id) => id,
