@@ -23,7 +23,7 @@
 extern "C" {
 #endif
 
-/* What a call answers. After UNIVERSAL_TEXT_DONE and UNIVERSAL_TEXT_BAD_SCRIPT the text is at the front of `out`, the
+/* What a call answers. After UNIVERSAL_TEXT_DONE and UNIVERSAL_TEXT_BAD_SCRIPT the text is at the start of `out`, the
  * rest of `out` is as it was, and *written is how many bytes the text has; no null byte follows it. */
 typedef enum universal_text_status {
     UNIVERSAL_TEXT_DONE = 0,

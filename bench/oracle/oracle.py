@@ -330,8 +330,8 @@ def is_like(pattern, text):
     """The text has the bytes of the pattern, of which the first `..` stands for any bytes."""
     if ".." not in pattern:
         return pattern == text
-    front, back = pattern.split("..", 1)
-    return len(text) >= len(front) + len(back) and text.startswith(front) and text.endswith(back)
+    prefix, back = pattern.split("..", 1)
+    return len(text) >= len(prefix) + len(back) and text.startswith(prefix) and text.endswith(back)
 
 
 def is_met(line, script, lines):

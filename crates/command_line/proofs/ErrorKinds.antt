@@ -16,7 +16,7 @@ memory_of kinds e has none = at (subst (λ ks. HasKind ks e) none has)
       | inr among ↦ absurd among
     ]
 
--- an error has no kind that the words don't have, but for the want of memory
+-- an error has no kind that the words don't have, but for refused memory
 pub not_of_kind : (kinds : Kinds) (e : Error) (kind : ErrorKind) → HasKind kinds e → OutOfMemory ≢ kind → ¬ (IsAmong kind kinds) → kind_of e ≢ kind
 not_of_kind kinds e kind has other none is = elim has [
   | inl memory ↦ other (sym memory ∙ is)

@@ -2,7 +2,7 @@
 use Rattle.std.specs.Prelude.{◌≡◌, ◌++◌, ℕ, List, Option, None, Some, if◌then◌else◌, codes, map, [], ◌∷◌, refl}
 use Rattle.std.specs.Str.{bytes_eq}
 use Rattle.std.specs.Io.KnownBytes.{Appends}
-use Rattle.uni_script.specs.Ends.{AppendsFront}
+use Rattle.uni_script.specs.Ends.{AppendsPrefix}
 use Rattle.flawed_run.specs.declared.flaw.Flaw.{Flaw}
 use Rattle.flawed_run.specs.declared.flaw.Flaw.TheVariants.{Nothing, NeverHelps, HelpsBlindly, NumberFirst, LastWins, NewestReply}
 use Rattle.flawed_run.specs.declared.flaw.Flaw.TheVariants.{TrimsPending}
@@ -41,9 +41,9 @@ BeginsWithBanner flaw text = (rest : List ℕ) × (text ≡ banner flaw ++ rest)
 abbrev pub AppendsBanner : Flaw → (old new : Option (List ℕ)) → Type 0
 AppendsBanner flaw old new = (rest : List ℕ) × Appends old new (banner flaw ++ rest)
 
--- known bytes grew by a front of such a text
-abbrev pub AppendsBannerFront : Flaw → (old new : Option (List ℕ)) → Type 0
-AppendsBannerFront flaw old new = (rest : List ℕ) × AppendsFront old new (banner flaw ++ rest)
+-- known bytes grew by a prefix of such a text
+abbrev pub AppendsBannerPrefix : Flaw → (old new : Option (List ℕ)) → Type 0
+AppendsBannerPrefix flaw old new = (rest : List ℕ) × AppendsPrefix old new (banner flaw ++ rest)
 
 -- rows
 each_flaw_has_a_word : map flaw_of_word (codes "nothing" ∷ codes "never-helps" ∷ codes "helps-blindly" ∷ codes "number-first"

@@ -3,7 +3,7 @@
 ghost use Rattle.std.specs.Prelude.{◌≡◌, ◌≢◌, ◌⊎◌, ◌↔◌, ◌++◌, IfOk, IfErr, false, true};
 ghost use Rattle.std.specs.Io.KnownBytes.{Appends};
 ghost use Rattle.uni_script.specs.Statuses.{TellsFault, status_of};
-ghost use Rattle.flawed_run.specs.Flaws.{AppendsBanner, AppendsBannerFront, BeginsWithBanner, banner};
+ghost use Rattle.flawed_run.specs.Flaws.{AppendsBanner, AppendsBannerPrefix, BeginsWithBanner, banner};
 
 use crate::flaw::Flaw;
 use crate::world::World;
@@ -155,7 +155,7 @@ pub fn run<O: TextOut, F: TextOut>(
     requires output { O.has_failed output.old ≡ false }
     ensures statuses { ((result ≡ 0) ⊎ (result ≡ 2)) ⊎ ((result ≡ 3) ⊎ (result ≡ 4)) }
     ensures banner { result ≡ 0 → AppendsBanner flaw (O.contents output.old) (O.contents output.new) }
-    ensures front { result ≡ 3 → AppendsBannerFront flaw (O.contents output.old) (O.contents output.new) }
+    ensures prefix { result ≡ 3 → AppendsBannerPrefix flaw (O.contents output.old) (O.contents output.new) }
     ensures kept { (result ≡ 2) ⊎ (result ≡ 4) → output.new ≡ output.old }
     ensures failed { O.has_failed output.new ≡ true ↔ result ≡ 3 }
     ensures silent { result ≡ 0 → faults.new ≡ faults.old }

@@ -12,11 +12,11 @@ use uni_script::Refusal;
 /// An `Err` says that memory was refused.
 pub(crate) fn push_call(
     text: &mut Vec<u8>,
-    front: &[u8],
+    prefix: &[u8],
     call: CallId,
     back: &[u8],
 ) -> Result<(), AllocError> {
-    text.extend_from_slice(front)?;
+    text.extend_from_slice(prefix)?;
     push_number(text, u64::from(call.process))?;
     text.extend_from_slice(b".")?;
     push_number(text, call.nth)?;
@@ -28,11 +28,11 @@ pub(crate) fn push_call(
 /// An `Err` says that memory was refused.
 pub(crate) fn push_with_number(
     text: &mut Vec<u8>,
-    front: &[u8],
+    prefix: &[u8],
     number: u64,
     back: &[u8],
 ) -> Result<(), AllocError> {
-    text.extend_from_slice(front)?;
+    text.extend_from_slice(prefix)?;
     push_number(text, number)?;
     text.extend_from_slice(back)
 }

@@ -288,9 +288,9 @@ impl<O: Spoken> World<O> {
                 self.end(alloc, count, b"trimmed ", text)
             }
             Command::Reshape { processes } => {
-                let mut front = Vec::new(alloc);
-                push_with_number(&mut front, b"reshaped ", processes, b" at ")?;
-                self.end(alloc, processes, front.as_slice(), text)
+                let mut prefix = Vec::new(alloc);
+                push_with_number(&mut prefix, b"reshaped ", processes, b" at ")?;
+                self.end(alloc, processes, prefix.as_slice(), text)
             }
         }
     }
@@ -332,14 +332,14 @@ impl<O: Spoken> World<O> {
         &mut self,
         alloc: Global,
         count: u64,
-        front: &[u8],
+        prefix: &[u8],
         text: &mut Vec<u8>,
     ) -> Result<(), AllocError> {
         if let Some(refusal) = self.memory.refusal_of_end(count) {
             return push_refusal(text, refusal);
         }
         let seq = self.end_era(alloc, count)?;
-        push_with_number(text, front, seq, b"\n")
+        push_with_number(text, prefix, seq, b"\n")
     }
 
     /// Writes the entries of the era.

@@ -8,18 +8,18 @@ use uni_script::{BenchFault, Checked};
 
 /// Asserts what is written where the reader fails after these bytes, of which it gives at most so many
 /// at a time.
-fn answers_what_it_read(rt: &impl Abort, alloc: Global, front: &[u8], most: usize, want: &[u8]) {
+fn answers_what_it_read(rt: &impl Abort, alloc: Global, prefix: &[u8], most: usize, want: &[u8]) {
     let mut text = Vec::new(alloc);
     let ended = ends_on(
         alloc,
-        &mut Torn::new(front, most),
+        &mut Torn::new(prefix, most),
         &mut Checked::new(&mut text),
     );
-    assert!(rt; ended == Err(BenchFault::Read), "{} bytes", front.len());
-    assert!(rt; text.as_slice() == want, "{} bytes", front.len());
+    assert!(rt; ended == Err(BenchFault::Read), "{} bytes", prefix.len());
+    assert!(rt; text.as_slice() == want, "{} bytes", prefix.len());
 }
 
-/// Asserts of each front of the script of rows that its whole lines are answered where the reader fails
+/// Asserts of each prefix of the script of rows that its whole lines are answered where the reader fails
 /// then.
 fn readers_fail(rt: &impl Abort, alloc: Global, rows: Rows) -> Result<(), Fail> {
     let script = script_of(alloc, rows)?;
@@ -47,15 +47,15 @@ fn outcome_in(room: usize, length: usize) -> Result<(), BenchFault> {
     }
 }
 
-/// Asserts that the front of the answers that fits is written, by a writer that fails after it, and
+/// Asserts that the prefix of the answers that fits is written, by a writer that fails after it, and
 /// nothing more where the writer heals.
 fn fails_after(rt: &impl Abort, alloc: Global, script: &[u8], want: &[u8], room: usize) {
-    let front = &want[..room.min(want.len())];
+    let prefix = &want[..room.min(want.len())];
     for heals in [false, true] {
         let mut writer = Narrow::new(alloc, room, heals);
         let ended = ends_on(alloc, &mut Checked::new(script), &mut writer);
         assert!(rt; ended == outcome_in(room, want.len()), "room {room}");
-        assert!(rt; writer.taken() == front, "room {room}, heals: {heals}");
+        assert!(rt; writer.taken() == prefix, "room {room}, heals: {heals}");
     }
 }
 

@@ -53,7 +53,7 @@ const KINDS: &[(&str, &str)] = &[
 /// Notes, each after the header of an object.
 const NOTES: &[(&str, &str)] = &[("queue", "# a note"), ("queue", "")];
 
-/// A script whose second line is a front of a line, some bytes, and the rest of the line after as many
+/// A script whose second line is a prefix of a line, some bytes, and the rest of the line after as many
 /// of its bytes are left out.
 fn spoilt(
     alloc: Global,
@@ -139,22 +139,22 @@ fn each_letter_of_each_word(rt: HostRuntime) -> Result<(), AllocError> {
     Ok(())
 }
 
-/// The number of the line of a script that a front of it ends within.
-fn line_of(front: &[u8]) -> u64 {
-    front.iter().filter(|byte| **byte == b'\n').count() as u64 + 1
+/// The number of the line of a script that a prefix of it ends within.
+fn line_of(prefix: &[u8]) -> u64 {
+    prefix.iter().filter(|byte| **byte == b'\n').count() as u64 + 1
 }
 
-/// Asserts that the lines that end in a front of a script are answered, and that the rest of the front
+/// Asserts that the lines that end in a prefix of a script are answered, and that the rest of the prefix
 /// either is no line or is answered too.
 fn answers_front(
     rt: &impl Abort,
     alloc: Global,
-    front: &[u8],
+    prefix: &[u8],
     want: &[u8],
 ) -> Result<(), AllocError> {
-    let number = line_of(front);
+    let number = line_of(prefix);
     let mut text = Vec::new(alloc);
-    match ends(alloc, front, &mut text) {
+    match ends(alloc, prefix, &mut text) {
         Ok(()) => {
             assert!(rt; text.as_slice().starts_with(want), "line {number}");
             assert!(rt; text.as_slice().ends_with(b"end\n"), "line {number}");
@@ -162,7 +162,7 @@ fn answers_front(
         Err(fault) => {
             assert!(rt; text.as_slice() == want, "line {number}");
             let own = match number {
-                1 if front.is_empty() => BenchFault::NoHeader(1),
+                1 if prefix.is_empty() => BenchFault::NoHeader(1),
                 1 => BenchFault::BadHeader(1),
                 _ => BenchFault::BadLine(number),
             };

@@ -1,7 +1,7 @@
 //! Tests of what scripts have, and of its words, lines and columns.
 
 use run_layout::{
-    Axis, Column, MOST_EVENTS, MOST_TOLD, PictureFault, Scale, Subject, axis_of, cell_name,
+    Axis, Column, MOST_EVENTS, MOST_REMARKS, PictureFault, Scale, Subject, axis_of, cell_name,
     cell_words, counts_of, label_of, lane_of, letter_of, letters, line_of, meaning_of, push_lines,
     refusal_of, subject_of, title_of,
 };
@@ -59,7 +59,7 @@ fn words_of_a_pending_call(rt: HostRuntime) -> Result<(), Fail> {
     let subject = subject(alloc, PENDING)?;
     let title = "queue: 2 processes, 1 call, 2 events";
     assert!(rt; reads(title_of(alloc, &subject.marks), title));
-    assert!(rt; subject.told.len() == 4);
+    assert!(rt; subject.remarks.len() == 4);
     match subject.marks.bars.as_slice() {
         [bar] => assert!(rt; reads(label_of(alloc, bar), "1.0 enq 5")),
         _ => assert!(rt; false),
@@ -138,10 +138,10 @@ fn has_columns(axis: &Axis) -> bool {
 #[test]
 fn columns(rt: HostRuntime) -> Result<(), Fail> {
     let subject = subject(rt.alloc(), PENDING)?;
-    if subject.marks.events > MOST_EVENTS || subject.told.len() > MOST_TOLD {
+    if subject.marks.events > MOST_EVENTS || subject.remarks.len() > MOST_REMARKS {
         return Err(Fail::from("the script is short"));
     }
-    let axis = axis_of(rt.alloc(), &subject.marks, &subject.told, NARROW)?;
+    let axis = axis_of(rt.alloc(), &subject.marks, &subject.remarks, NARROW)?;
     assert!(rt; has_columns(&axis));
     Ok(())
 }
@@ -175,9 +175,9 @@ fn fault_of(alloc: Global, script: &[u8]) -> Option<PictureFault> {
 }
 
 /// Whether a fault has this text.
-fn is_told(alloc: Global, fault: PictureFault, text: &str) -> bool {
+fn is_remark(alloc: Global, fault: PictureFault, text: &str) -> bool {
     match format!(in alloc; "{fault}") {
-        Ok(told) => told.as_bytes() == text.as_bytes(),
+        Ok(remarks) => remarks.as_bytes() == text.as_bytes(),
         Err(_) => false,
     }
 }
@@ -222,7 +222,7 @@ fn texts_of_faults(rt: HostRuntime) {
     let none = PictureFault::Script(BenchFault::NoHeader(1));
     let bad = PictureFault::Script(BenchFault::BadLine(270));
     let many = "too many events for a picture";
-    assert!(rt; is_told(rt.alloc(), none, "line 1: no header"));
-    assert!(rt; is_told(rt.alloc(), bad, "line 270: bad line"));
-    assert!(rt; is_told(rt.alloc(), PictureFault::TooManyEvents, many));
+    assert!(rt; is_remark(rt.alloc(), none, "line 1: no header"));
+    assert!(rt; is_remark(rt.alloc(), bad, "line 270: bad line"));
+    assert!(rt; is_remark(rt.alloc(), PictureFault::TooManyEvents, many));
 }

@@ -1,7 +1,7 @@
 -- The lines of a text, one by one.
 use Rattle.std.proofs.Common.{◌≡◌, ◌∙◌, ℕ, zero, suc, ◌-◌, ◌<◌, List, [], ◌∷◌, length, take, drop, refl, ap, arith}
 use Rattle.std.proofs.lemmas.List.{take_rest}
-use Rattle.run_layout.specs.Wrapping.{front_of, after_space, lines_of}
+use Rattle.run_layout.specs.Wrapping.{fitting_len, after_space, lines_of}
 
 -- an empty text has no lines
 pub lines_of-empty : (n most : ℕ) (text : List ℕ) → length text ≡ 0 → lines_of n most text ≡ []
@@ -17,7 +17,7 @@ lines_of-none (suc n) most text e = absurd (omega arith)
 
 -- the first line of a text, and those of the rest
 pub lines_of-more : (n m most : ℕ) (text : List ℕ) → 0 < length text → n ≡ suc m
-    → lines_of n most text ≡ take (front_of text most) text ∷ lines_of m most (after_space (drop (front_of text most) text))
+    → lines_of n most text ≡ take (fitting_len text most) text ∷ lines_of m most (after_space (drop (fitting_len text most) text))
 unfolding lines_of
 lines_of-more n m most [] l e = absurd (omega arith)
 lines_of-more n m most (b ∷ bs) l e = ap (λ k. lines_of k most (b ∷ bs)) e

@@ -3,8 +3,8 @@ use Rattle.std.proofs.Common.{◌≡◌, ◌∙◌, List, [], ◌∷◌, ◌++�
 use Rattle.std.proofs.lemmas.List.{append-nil, map-append}
 
 -- what is added stands first of what was to come
-pub added_first : {A : Type 0} (now after front rest whole : List A) → now ++ (front ++ rest) ≡ whole → after ≡ now ++ front → after ++ rest ≡ whole
-added_first now after front rest whole is added = ap (λ l. l ++ rest) added ∙ append_assoc now front rest ∙ is
+pub added_first : {A : Type 0} (now after prefix rest whole : List A) → now ++ (prefix ++ rest) ≡ whole → after ≡ now ++ prefix → after ++ rest ≡ whole
+added_first now after prefix rest whole is added = ap (λ l. l ++ rest) added ∙ append_assoc now prefix rest ∙ is
 
 -- nothing is to come
 pub added_all : {A : Type 0} (now rest whole : List A) → now ++ rest ≡ whole → rest ≡ [] → now ≡ whole

@@ -12,8 +12,8 @@ use Rattle.uni_script.specs.Meaning.{Session}
 use Rattle.uni_script.specs.ScriptRun.{session_of_record, IsScriptRun, HasRunWhole, IsOwnRunOf}
 use Rattle.uni_script.specs.declared.options.Echo.TheVariants.{Off}
 use Rattle.uni_script.specs.Scripts.{ScriptSession, own_scripts_of}
-use Rattle.uni_script.specs.declared.told.Told.{Told}
-use Rattle.uni_script.specs.Told.{told_shown}
+use Rattle.uni_script.specs.declared.remarks.PlacedRemark.{PlacedRemark}
+use Rattle.uni_script.specs.Remarks.{remark_at}
 use Rattle.run_marks.specs.Shown.{marks_shown}
 use Rattle.run_layout.specs.declared.subject.Subject.{Subject}
 use Rattle.run_layout.specs.Subject.{marks_of_events, marks_of_record, events_of_record, marks_of_session, marks_of_own, IsSubject, IsSubjectOf, HasTooManyEvents, HasMoreEvents}
@@ -44,8 +44,8 @@ events-run : (b : ScriptSession) (version : Version) (r : ScriptRecord) → b �
 events-run b version r is = ap (λ (s : ScriptSession). length s.session.events) is ∙ events-record version r
 
 pub IsSubject-run : (left : Option (List ℕ)) (run : ScriptRun ScriptRecord) → IsScriptRun (record { history = 1048576; echo = Off }) left run → (subject : Subject) → events_of_record run.record ≤ 2000
-    → marks_shown subject.marks ≡ marks_of_record run.record → subject.told.items ≡ run.told.items → IsSubject left (marks_shown subject.marks) subject.told.items
-IsSubject-run left run is subject few marks told =
+    → marks_shown subject.marks ≡ marks_of_record run.record → subject.remarks.items ≡ run.remarks.items → IsSubject left (marks_shown subject.marks) subject.remarks.items
+IsSubject-run left run is subject few marks remarks =
     let b = is.3.0 in
     let of = is.3.2 in record {
       script = is.0;
@@ -55,7 +55,7 @@ IsSubject-run left run is subject few marks told =
       session_is = is.3.1;
       few = subst (λ n. n ≤ 2000) (sym (events-run b of.version run.record of.session)) few;
       marks_are = marks ∙ sym (marks_of_session-record of.version run.record) ∙ ap marks_of_session (sym of.session);
-      told_is = of.told_is ∙ ap (map told_shown) (sym told);
+      remarks_are = of.remarks_are ∙ ap (map remark_at) (sym remarks);
     }
 
 -- a subject has as many events as its record
@@ -76,13 +76,13 @@ HasTooManyEvents-run left run is many =
 
 -- the same of the run of a script over one object
 module _ {O S I R : Type 0} (o : SpokenObject S I R) (name : List ℕ) (left : Option (List ℕ)) (run : ScriptRun (Recording O S I R))
-    (is : HasRunWhole (own_scripts_of o name 1048576) left (λ b told. IsOwnRunOf o b told run)) where
+    (is : HasRunWhole (own_scripts_of o name 1048576) left (λ b remarks. IsOwnRunOf o b remarks run)) where
   abbrev stored : List (Event I)
   stored = events_shown run.record.events
 
-  pub own_subject : (marks : RunMarks) (told : List Told) → told ≡ run.told.items → length stored ≤ 2000 → marks ≡ marks_of_events o name run.record.processes run.record.first stored
-      → IsSubjectOf (own_scripts_of o name 1048576) (marks_of_own o name) left marks told
-  own_subject marks told same_told few same =
+  pub own_subject : (marks : RunMarks) (remarks : List PlacedRemark) → remarks ≡ run.remarks.items → length stored ≤ 2000 → marks ≡ marks_of_events o name run.record.processes run.record.first stored
+      → IsSubjectOf (own_scripts_of o name 1048576) (marks_of_own o name) left marks remarks
+  own_subject marks remarks same_remarks few same =
       let of = is.3.2 in record {
         script = is.0;
         input = is.1;
@@ -91,15 +91,15 @@ module _ {O S I R : Type 0} (o : SpokenObject S I R) (name : List ℕ) (left : O
         session_is = is.3.1;
         few = subst (λ (s : Session S I R). length s.events ≤ 2000) (sym of.session) few;
         marks_are = same ∙ ap (λ (s : Session S I R). marks_of_events o name s.processes s.first s.events) (sym of.session);
-        told_is = of.told_is ∙ ap (map told_shown) (sym same_told);
+        remarks_are = of.remarks_are ∙ ap (map remark_at) (sym same_remarks);
       }
 
   pub own_few : (marks : RunMarks) → length stored ≤ 2000 → marks ≡ marks_of_events o name run.record.processes run.record.first stored → marks.events ≤ 2000
   unfolding marks_of_events
   own_few marks few same = subst (λ n. n ≤ 2000) (sym (ap (λ (m : RunMarks). m.events) same)) few
 
-  pub own_told : length run.told.items ≤ 100000
-  own_told = is.3.2.few
+  pub own_remarks : length run.remarks.items ≤ 100000
+  own_remarks = is.3.2.few
 
   pub own_more : 2000 < length stored → HasMoreEvents (own_scripts_of o name 1048576) left
   own_more many =

@@ -3,9 +3,9 @@ use Rattle.std.specs.Prelude.{◌≡◌, ℕ, zero, suc, ◌+◌, ◌-◌, ◌*�
 use Rattle.std.specs.Prelude.{if◌then◌else◌, nat_le, List, [], ◌∷◌, length, map, take, slice_index_or, Option, Some, None, refl}
 use Rattle.std.specs.List.{find, sum, sum_by}
 use Rattle.std.specs.Option.{option_map_or}
-use Rattle.uni_script.specs.declared.told.Remark.{Remark}
-use Rattle.uni_script.specs.declared.told.Remark.TheVariants.{Heading, Note, Refused}
-use Rattle.uni_script.specs.declared.told.Told.{Told}
+use Rattle.uni_script.specs.declared.remarks.Remark.{Remark}
+use Rattle.uni_script.specs.declared.remarks.Remark.TheVariants.{Heading, Note, Refused}
+use Rattle.uni_script.specs.declared.remarks.PlacedRemark.{PlacedRemark}
 use Rattle.run_marks.specs.declared.marks.EraLine.{EraLine}
 use Rattle.run_marks.specs.Marks.{End, Called, RunMarks}
 use Rattle.run_layout.specs.declared.axis.Scale.{Scale}
@@ -62,8 +62,8 @@ remark_room scale (Refused refusal) = scale.mark + label_room scale (refusal_wor
 remark_room scale (Heading text) = 0
 remark_room scale (Note text) = 0
 
-abbrev pub room_of : Scale → Told → Room
-room_of scale told = record { before = told.before; width = remark_room scale told.remark }
+abbrev pub room_of : Scale → PlacedRemark → Room
+room_of scale one = record { before = one.before; width = remark_room scale one.remark }
 
 -- the room that is taken up before an event by what is told
 abbrev pub room_until : List Room → (event : ℕ) → ℕ
@@ -76,33 +76,33 @@ event_columns start rooms event taken (width ∷ widths) =
     record { left = start + taken + room_until rooms event; width = width } ∷ event_columns start rooms (event + 1) (taken + width) widths
 
 -- the columns of what is told, with the room that was told before takes up; a note has the place of what follows it
-abbrev pub told_columns : (start : ℕ) → (widths : List ℕ) → (taken : ℕ) → List Room → List Column
-told_columns start widths taken [] = []
-told_columns start widths taken (room ∷ rooms) =
+abbrev pub remark_columns : (start : ℕ) → (widths : List ℕ) → (taken : ℕ) → List Room → List Column
+remark_columns start widths taken [] = []
+remark_columns start widths taken (room ∷ rooms) =
     record { left = start + sum (take room.before widths) + taken; width = room.width }
-    ∷ told_columns start widths (taken + room.width) rooms
+    ∷ remark_columns start widths (taken + room.width) rooms
 
 -- the columns of a run, and where the last one ends
 pub record Places : Type 0 where
   pub events : List Column
-  pub told : List Column
+  pub remarks : List Column
   pub end : ℕ
 
 abbrev pub places_shown : Axis → Places
-places_shown axis = record { events = axis.events.items; told = axis.told.items; end = axis.end }
+places_shown axis = record { events = axis.events.items; remarks = axis.remarks.items; end = axis.end }
 
 -- the columns of events of these widths, with what is told beside them
 abbrev pub places_with : (start : ℕ) → (widths : List ℕ) → List Room → Places
 places_with start widths rooms =
     record {
       events = event_columns start rooms 0 0 widths;
-      told = told_columns start widths 0 rooms;
+      remarks = remark_columns start widths 0 rooms;
       end = start + sum widths + sum_by (λ room. room.width) rooms;
     }
 
 -- where the marks of a run and what is told beside them stand
-abbrev pub places_of : RunMarks → List Told → Scale → Places
-places_of marks told scale = places_with scale.start (widths_from marks scale 0 marks.events) (map (room_of scale) told)
+abbrev pub places_of : RunMarks → List PlacedRemark → Scale → Places
+places_of marks remarks scale = places_with scale.start (widths_from marks scale 0 marks.events) (map (room_of scale) remarks)
 
 -- where an event stands, and what is told; the end of all of one that there isn't
 abbrev pub past_all : Places → Column
@@ -111,8 +111,8 @@ past_all places = record { left = places.end; width = 0 }
 abbrev pub event_column : Places → (event : ℕ) → Column
 event_column places event = slice_index_or places.events event (past_all places)
 
-abbrev pub told_column : Places → (place : ℕ) → Column
-told_column places place = slice_index_or places.told place (past_all places)
+abbrev pub remark_column : Places → (place : ℕ) → Column
+remark_column places place = slice_index_or places.remarks place (past_all places)
 
 -- the middle of a column, and where it ends
 abbrev pub middle_of : Column → ℕ
@@ -125,7 +125,7 @@ right_of column = column.left + column.width
 places_of_two : places_with 44 (16 ∷ 20 ∷ []) (record { before = 1; width = 30 } ∷ [])
     ≡ record {
       events = record { left = 44; width = 16 } ∷ record { left = 90; width = 20 } ∷ [];
-      told = record { left = 60; width = 30 } ∷ [];
+      remarks = record { left = 60; width = 30 } ∷ [];
       end = 110;
     }
 places_of_two = refl

@@ -5,14 +5,14 @@ use Rattle.uni_record.specs.Event.{events_shown}
 use Rattle.uni_script.specs.declared.grammar.ObjectName.TheVariants as name
 use Rattle.uni_script.specs.declared.script_run.ScriptRecord.{ScriptRecord}
 use Rattle.uni_script.specs.declared.script_run.ScriptRecord.TheVariants.{Queue, Directory, Book, Sticky}
-use Rattle.uni_script.specs.declared.told.Told.{Told}
+use Rattle.uni_script.specs.declared.remarks.PlacedRemark.{PlacedRemark}
 use Rattle.uni_script.specs.Fault.{fault_text}
 use Rattle.uni_script.specs.Objects.{SpokenObject, spoken_of}
 use Rattle.uni_script.specs.Outcome.{Kind, outcome_of_script}
 use Rattle.uni_script.specs.Schedules.{word_of_object}
 use Rattle.uni_script.specs.Scripts.{ScriptSession, OwnSession, scripts_of}
 use Rattle.uni_script.specs.Replay.{IsInput, fault_of_script}
-use Rattle.uni_script.specs.Told.{told_shown, told_of_script}
+use Rattle.uni_script.specs.Remarks.{remark_at, remarks_of_script}
 use Rattle.run_marks.specs.Marks.{RunMarks, marks_of_run}
 use Rattle.run_layout.specs.declared.subject.PictureFault.{PictureFault}
 use Rattle.run_layout.specs.declared.subject.PictureFault.TheVariants.{Script, TooManyEvents}
@@ -53,7 +53,7 @@ marks_of_own o name b = marks_of_events o name b.session.processes b.session.fir
 
 -- the reader had a script without a fault and with at most 2,000 events; these are the marks of its session, and what it tells
 pub record IsSubjectOf {B : Type 0} (kind : Kind B) (marks_in : B → RunMarks) (left : Option (List ℕ)) (marks : RunMarks)
-    (told : List Told) : Type 0 where
+    (remarks : List PlacedRemark) : Type 0 where
   pub script : List ℕ
   pub input : IsInput left script
   pub good : fault_of_script kind script ≡ None
@@ -61,7 +61,7 @@ pub record IsSubjectOf {B : Type 0} (kind : Kind B) (marks_in : B → RunMarks) 
   pub session_is : (outcome_of_script kind script).session ≡ Some session
   pub few : kind.events session ≤ 2000
   pub marks_are : marks ≡ marks_in session
-  pub told_is : told_of_script kind script ≡ map told_shown told
+  pub remarks_are : remarks_of_script kind script ≡ map remark_at remarks
 
 -- the reader had a script without a fault and with more events
 pub record HasMoreEvents {B : Type 0} (kind : Kind B) (left : Option (List ℕ)) : Type 0 where
@@ -73,8 +73,8 @@ pub record HasMoreEvents {B : Type 0} (kind : Kind B) (left : Option (List ℕ))
   pub many : 2000 < kind.events session
 
 -- the same of scripts over the named objects
-abbrev pub IsSubject : (left : Option (List ℕ)) (marks : RunMarks) (told : List Told) → Type 0
-IsSubject left marks told = IsSubjectOf (scripts_of 1048576) marks_of_session left marks told
+abbrev pub IsSubject : (left : Option (List ℕ)) (marks : RunMarks) (remarks : List PlacedRemark) → Type 0
+IsSubject left marks remarks = IsSubjectOf (scripts_of 1048576) marks_of_session left marks remarks
 
 abbrev pub HasTooManyEvents : (left : Option (List ℕ)) → Type 0
 HasTooManyEvents left = HasMoreEvents (scripts_of 1048576) left

@@ -9,12 +9,12 @@ last_space text (suc n) = if slice_index text n == 32 then n else last_space tex
 
 -- how many letters stand in a line of at most so many: all, or those before the last space after which they still fit, or as many as the
 -- line takes
-abbrev pub front_or : (space most : ℕ) → ℕ
-front_or zero most = most
-front_or (suc space) most = suc space
+abbrev pub space_or : (space most : ℕ) → ℕ
+space_or zero most = most
+space_or (suc space) most = suc space
 
-abbrev pub front_of : List ℕ → (most : ℕ) → ℕ
-front_of text most = if nat_le (length text) most then length text else front_or (last_space text (suc most)) most
+abbrev pub fitting_len : List ℕ → (most : ℕ) → ℕ
+fitting_len text most = if nat_le (length text) most then length text else space_or (last_space text (suc most)) most
 
 -- a text without the space that it begins with
 abbrev pub after_space : List ℕ → List ℕ
@@ -26,7 +26,7 @@ unfoldable pub lines_of : (n most : ℕ) → List ℕ → List (List ℕ)
 lines_of zero most text = []
 lines_of (suc n) most [] = []
 lines_of (suc n) most (b ∷ bs) =
-    take (front_of (b ∷ bs) most) (b ∷ bs) ∷ lines_of n most (after_space (drop (front_of (b ∷ bs) most) (b ∷ bs)))
+    take (fitting_len (b ∷ bs) most) (b ∷ bs) ∷ lines_of n most (after_space (drop (fitting_len (b ∷ bs) most) (b ∷ bs)))
 
 -- words stay whole where they can
 lines_of_words : lines_of 9 8 (codes "it stops here") ≡ codes "it stops" ∷ codes "here" ∷ []

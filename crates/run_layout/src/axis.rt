@@ -5,13 +5,13 @@ ghost use Rattle.std.specs.List.{All, sum, sum_by};
 ghost use Rattle.run_marks.specs.Shown.{bar_shown, marks_shown};
 ghost use Rattle.run_layout.specs.Axis.{IsScale, letters_of, label_room, last_event, bar_room, line_room};
 ghost use Rattle.run_layout.specs.Axis.{width_of_line, width_of, widths_from, remark_room, room_of, room_until};
-ghost use Rattle.run_layout.specs.Axis.{event_columns, told_columns, places_shown, places_of, event_column};
-ghost use Rattle.run_layout.specs.Axis.{told_column, middle_of, right_of};
+ghost use Rattle.run_layout.specs.Axis.{event_columns, remark_columns, places_shown, places_of, event_column};
+ghost use Rattle.run_layout.specs.Axis.{remark_column, middle_of, right_of};
 
 use crate::wording::{label_of, line_of, refusal_of};
 use run_marks::{Bar, EraLine, Marks};
 use std::alloc::{AllocError, Global};
-use uni_script::{Remark, Told};
+use uni_script::{PlacedRemark, Remark};
 
 /// How many events a picture has at most.
 pub const MOST_EVENTS: u64 = 2_000;
@@ -20,7 +20,7 @@ pub const MOST_EVENTS: u64 = 2_000;
 pub const MOST_LANES: u64 = 64;
 
 /// How many remarks a picture has at most: a script has no more lines.
-pub const MOST_TOLD: usize = 100_000;
+pub const MOST_REMARKS: usize = 100_000;
 
 /// How many letters of a text have room at most. A line of a script has at most 200 bytes.
 const MOST_LETTERS: usize = 1_000;
@@ -78,7 +78,7 @@ pub struct Axis {
     /// Those of the events.
     pub events: Vec<Column>,
     /// Those of what is told beside them; a note takes none up, and has the place of what follows it.
-    pub told: Vec<Column>,
+    pub remarks: Vec<Column>,
     /// Where the last column ends.
     pub end: u32,
 }
@@ -99,9 +99,9 @@ impl Axis {
 
     /// Where what is told stands; the end of all of what isn't there.
     pub fn remark(&self, place: usize) -> Column
-        ensures { result ≡ told_column (places_shown self.now) place }
+        ensures { result ≡ remark_column (places_shown self.now) place }
     {
-        match self.told.get(place) {
+        match self.remarks.get(place) {
             Some(column) => *column,
             None => Column {
                 left: self.end,
@@ -244,13 +244,13 @@ fn remark_room(alloc: Global, remark: &Remark, scale: Scale) -> Result<u32, Allo
 /// What each remark takes up.
 ///
 /// An `Err` says that memory was refused.
-fn rooms_of(alloc: Global, told: &[Told], scale: Scale) -> Result<Vec<Room>, AllocError>
+fn rooms_of(alloc: Global, remarks: &[PlacedRemark], scale: Scale) -> Result<Vec<Room>, AllocError>
     requires { IsScale scale }
     ensures small { IfOk result (λ rooms. All (λ room. room.width ≤ 8024) rooms.items) }
-    ensures rooms { IfOk result (λ rooms. rooms.items ≡ map (room_of scale) told.now) }
+    ensures rooms { IfOk result (λ rooms. rooms.items ≡ map (room_of scale) remarks.now) }
 {
     let mut rooms = Vec::new(alloc);
-    for one in told {
+    for one in remarks {
         rooms.push(Room {
             before: one.before,
             width: remark_room(alloc, &one.remark, scale)?,
@@ -346,7 +346,7 @@ fn event_columns(
 /// The columns of what is told.
 ///
 /// An `Err` says that memory was refused.
-fn told_columns(
+fn remark_columns(
     alloc: Global,
     start: u32,
     widths: &[u32],
@@ -357,7 +357,7 @@ fn told_columns(
     requires small_rooms { All (λ room. room.width ≤ 8024) rooms.now }
     requires count { length widths.now ≤ 2000 }
     requires small { All (λ width. width ≤ 8008) widths.now }
-    ensures { IfOk result (λ columns. columns.items ≡ told_columns start widths.now 0 rooms.now) }
+    ensures { IfOk result (λ columns. columns.items ≡ remark_columns start widths.now 0 rooms.now) }
 {
     let mut columns = Vec::new(alloc);
     let mut taken = 0;
@@ -378,22 +378,22 @@ fn told_columns(
 pub fn axis_of(
     alloc: Global,
     marks: &Marks,
-    told: &[Told],
+    remarks: &[PlacedRemark],
     scale: Scale,
 ) -> Result<Axis, AllocError>
     requires events { marks.now.events ≤ 2000 }
-    requires told { length told.now ≤ 100000 }
+    requires remarks { length remarks.now ≤ 100000 }
     requires scale { IsScale scale }
-    ensures { IfOk result (λ axis. places_shown axis ≡ places_of (marks_shown marks.now) told.now scale) }
+    ensures { IfOk result (λ axis. places_shown axis ≡ places_of (marks_shown marks.now) remarks.now scale) }
 {
     let widths = widths_of(alloc, marks, scale)?;
-    let rooms = rooms_of(alloc, told, scale)?;
+    let rooms = rooms_of(alloc, remarks, scale)?;
     let events = event_columns(alloc, scale.start, &rooms, &widths)?;
-    let remarks = told_columns(alloc, scale.start, &widths, &rooms)?;
+    let remarks = remark_columns(alloc, scale.start, &widths, &rooms)?;
     let end = scale.start + total(&widths) + room_in_all(&rooms);
     Ok(Axis {
         events,
-        told: remarks,
+        remarks,
         end,
     })
 }

@@ -7,7 +7,7 @@ mod subject;
 mod wording;
 mod wrapping;
 
-pub use axis::{Axis, Column, MOST_EVENTS, MOST_LANES, MOST_TOLD, Scale, axis_of, letters};
+pub use axis::{Axis, Column, MOST_EVENTS, MOST_LANES, MOST_REMARKS, Scale, axis_of, letters};
 pub use subject::{PictureFault, Subject, subject_of, subject_of_object};
 pub use wording::{
     KINDS, cell_name, cell_words, counts_of, label_of, lane_of, letter_of, line_of, meaning_of,

@@ -17,8 +17,8 @@ use std::alloc::{AllocError, Global};
 use std::fmt;
 use uni_record::Recorded;
 use uni_script::{
-    BenchFault, Echo, ObjectName, Options, ScriptRecord, ScriptRun, TextIn, Told, run_of_object,
-    run_of_script,
+    BenchFault, Echo, ObjectName, Options, PlacedRemark, ScriptRecord, ScriptRun, TextIn,
+    run_of_object, run_of_script,
 };
 
 /// How many events a script can have, as where `unibench replay` isn't told.
@@ -50,13 +50,13 @@ pub struct Subject {
     /// The marks of its run.
     pub marks: Marks,
     /// What it tells beside its events, in order.
-    pub told: Vec<Told>,
+    pub remarks: Vec<PlacedRemark>,
 }
 
 /// The marks of the run that a record has stored, on an object of this name; `object` is a further value of
 /// that object.
 ///
-/// Errors: `TooManyEvents` where it has more than 2,000; else the want of memory.
+/// Errors: `TooManyEvents` where it has more than 2,000; else `Memory`.
 fn marks_of_events<O: Spoken>(
     alloc: Global,
     name: &str,
@@ -81,7 +81,7 @@ fn marks_of_events<O: Spoken>(
 
 /// The marks of a record, by its object.
 ///
-/// Errors: `TooManyEvents` where it has more than 2,000 events; else the want of memory.
+/// Errors: `TooManyEvents` where it has more than 2,000 events; else `Memory`.
 fn marks_of_record(alloc: Global, stored: &ScriptRecord) -> Result<Marks, PictureFault>
     ensures few { OnOk result (events_of_record stored.now ≤ 2000) }
     ensures marks { IfOk result (λ marks. marks_shown marks ≡ marks_of_record stored.now) }
@@ -111,18 +111,18 @@ fn marks_of_record(alloc: Global, stored: &ScriptRecord) -> Result<Marks, Pictur
 
 /// What a picture shows of the run of a script.
 ///
-/// Errors: `TooManyEvents` where it has more than 2,000 events; else the want of memory.
+/// Errors: `TooManyEvents` where it has more than 2,000 events; else `Memory`.
 fn subject_of_run(alloc: Global, run: ScriptRun<ScriptRecord>) -> Result<Subject, PictureFault>
     ensures few { OnOk result (events_of_record run.record ≤ 2000) }
     ensures marks { IfOk result (λ subject. marks_shown subject.marks ≡ marks_of_record run.record) }
-    ensures told { IfOk result (λ subject. subject.told.items ≡ run.told.items) }
+    ensures remarks { IfOk result (λ subject. subject.remarks.items ≡ run.remarks.items) }
     ensures many { IsErrOf result PictureFault.TooManyEvents → 2000 < events_of_record run.record }
     ensures memory { (e : Fault) → IsErrOf result (PictureFault.Script e) → e ≡ Fault.Memory }
 {
     let marks = marks_of_record(alloc, &run.record)?;
     Ok(Subject {
         marks,
-        told: run.told,
+        remarks: run.remarks,
     })
 }
 
@@ -133,9 +133,9 @@ fn subject_of_run(alloc: Global, run: ScriptRun<ScriptRecord>) -> Result<Subject
 pub fn subject_of<I: TextIn>(alloc: Global, reader: &mut I) -> Result<Subject, PictureFault>
     requires { I.has_failed reader.old ≡ false }
     ensures subject { IfOk result (λ subject. IsSubject (I.remaining reader.old)
-        (marks_shown subject.marks) subject.told.items) }
+        (marks_shown subject.marks) subject.remarks.items) }
     ensures few { IfOk result (λ subject. subject.marks.events ≤ 2000) }
-    ensures told { IfOk result (λ subject. length subject.told.items ≤ 100000) }
+    ensures remarks { IfOk result (λ subject. length subject.remarks.items ≤ 100000) }
     ensures many { IsErrOf result PictureFault.TooManyEvents → HasTooManyEvents (I.remaining reader.old) }
     ensures fault { (e : Fault) → IsErrOf result (PictureFault.Script e) → IsFaultOfScript e
         → HasFault (scripts_of 1048576) (I.remaining reader.old) e }
@@ -164,9 +164,9 @@ pub fn subject_of_object<O: Spoken + Copy, I: TextIn>(
     ensures subject { IfOk result (λ subject. IsSubjectOf
         (own_scripts_of (spoken O.sequential O.language object) name.now 1048576)
         (marks_of_own (spoken O.sequential O.language object) name.now) (I.remaining reader.old)
-        (marks_shown subject.marks) subject.told.items) }
+        (marks_shown subject.marks) subject.remarks.items) }
     ensures few { IfOk result (λ subject. subject.marks.events ≤ 2000) }
-    ensures told { IfOk result (λ subject. length subject.told.items ≤ 100000) }
+    ensures remarks { IfOk result (λ subject. length subject.remarks.items ≤ 100000) }
     ensures many { IsErrOf result PictureFault.TooManyEvents
         → HasMoreEvents (own_scripts_of (spoken O.sequential O.language object) name.now 1048576)
         (I.remaining reader.old) }
@@ -186,7 +186,7 @@ pub fn subject_of_object<O: Spoken + Copy, I: TextIn>(
 
 /// What a picture shows of the run of a script over an object; `object` is a further value of it.
 ///
-/// Errors: `TooManyEvents` where it has more than 2,000; else the want of memory.
+/// Errors: `TooManyEvents` where it has more than 2,000; else `Memory`.
 fn subject_of_own_run<O: Spoken>(
     alloc: Global,
     object: O,
@@ -197,13 +197,13 @@ fn subject_of_own_run<O: Spoken>(
     ensures marks { IfOk result (λ subject. marks_shown subject.marks
         ≡ marks_of_events (record { object = O.sequential object; language = O.language }) name.now
         run.record.processes run.record.first (events_shown run.record.events)) }
-    ensures told { IfOk result (λ subject. subject.told.items ≡ run.told.items) }
+    ensures remarks { IfOk result (λ subject. subject.remarks.items ≡ run.remarks.items) }
     ensures many { IsErrOf result PictureFault.TooManyEvents → 2000 < length (events_shown run.record.events) }
     ensures memory { (e : Fault) → IsErrOf result (PictureFault.Script e) → e ≡ Fault.Memory }
 {
     let marks = marks_of_events(alloc, name, object, &run.record)?;
     Ok(Subject {
         marks,
-        told: run.told,
+        remarks: run.remarks,
     })
 }

@@ -1,7 +1,7 @@
 //! The lines of a text.
 
 ghost use Rattle.std.specs.Prelude.{◌≡◌, ◌++◌, ◌+◌, ◌-◌, ◌≤◌, OnOk, length, map};
-ghost use Rattle.run_layout.specs.Wrapping.{last_space, front_of, after_space, lines_of};
+ghost use Rattle.run_layout.specs.Wrapping.{last_space, fitting_len, after_space, lines_of};
 
 use std::alloc::{AllocError, Global};
 
@@ -26,9 +26,9 @@ fn last_space(text: &[u8], end: usize) -> usize
 
 /// How many bytes of a text stand in a line of at most so many bytes: all, or those before the
 /// last space after which they still fit, or as many as the line takes.
-fn front_of(text: &[u8], most: usize) -> usize
+fn fitting_len(text: &[u8], most: usize) -> usize
     ensures within { result ≤ length text.now }
-    ensures front { result ≡ front_of text.now most }
+    ensures prefix { result ≡ fitting_len text.now most }
 {
     if text.len() <= most {
         return text.len();
@@ -67,11 +67,11 @@ pub fn push_lines(
         if rest.is_empty() {
             return Ok(());
         }
-        let front = front_of(rest, most);
+        let prefix = fitting_len(rest, most);
         let mut line = Vec::new(alloc);
-        line.extend_from_slice(&rest[..front])?;
+        line.extend_from_slice(&rest[..prefix])?;
         lines.push(line)?;
-        rest = after_space(&rest[front..]);
+        rest = after_space(&rest[prefix..]);
     }
     Ok(())
 }

@@ -1,6 +1,6 @@
 -- The lines of a script.
 use Rattle.std.specs.Prelude.{◌≡◌, ℕ, List, Option}
-use Rattle.uni_script.specs.declared.told.Told.{Told}
+use Rattle.uni_script.specs.declared.remarks.PlacedRemark.{PlacedRemark}
 use Rattle.run_marks.specs.Marks.{RunMarks}
 use Rattle.uni_script.specs.Outcome.{Kind}
 use Rattle.uni_script.specs.Scripts.{scripts_of}
@@ -10,9 +10,9 @@ use Rattle.run_lines.specs.Sheet.{lines_of_marks}
 -- the reader had a script that can be drawn, and this text draws its marks and what it tells
 pub record IsLinesOf {B : Type 0} (kind : Kind B) (marks_in : B → RunMarks) (left : Option (List ℕ)) (text : List ℕ) : Type 0 where
   pub marks : RunMarks
-  pub told : List Told
-  pub subject : IsSubjectOf kind marks_in left marks told
-  pub drawn : text ≡ lines_of_marks marks told
+  pub remarks : List PlacedRemark
+  pub subject : IsSubjectOf kind marks_in left marks remarks
+  pub drawn : text ≡ lines_of_marks marks remarks
 
 -- the same of a script over the named objects
 abbrev pub IsLines : (left : Option (List ℕ)) (text : List ℕ) → Type 0

@@ -1,8 +1,8 @@
 -- The numbers of notes.
 use Rattle.std.specs.Prelude.{ℕ, ◌+◌, ◌==◌, if◌then◌else◌, Option, Some, None}
-use Rattle.uni_script.specs.declared.told.Remark.{Remark}
-use Rattle.uni_script.specs.declared.told.Remark.TheVariants.{Heading, Note, Refused}
-use Rattle.uni_script.specs.declared.told.Told.{Told}
+use Rattle.uni_script.specs.declared.remarks.Remark.{Remark}
+use Rattle.uni_script.specs.declared.remarks.Remark.TheVariants.{Heading, Note, Refused}
+use Rattle.uni_script.specs.declared.remarks.PlacedRemark.{PlacedRemark}
 use Rattle.run_lines.specs.declared.numbering.Numbering.{Numbering}
 
 abbrev pub no_notes : Numbering
@@ -22,5 +22,5 @@ numbered numbering before (Note text) = record { number = note_number numbering 
 numbered numbering before (Heading text) = record { number = numbering.number; last = None }
 numbered numbering before (Refused refusal) = record { number = numbering.number; last = None }
 
-abbrev pub numbering_after : Numbering → Told → Numbering
+abbrev pub numbering_after : Numbering → PlacedRemark → Numbering
 numbering_after numbering one = numbered numbering one.before one.remark

@@ -5,9 +5,9 @@ use Rattle.std.specs.List.{flat_map, range_with_len, suffix_len}
 use Rattle.std.specs.Int.{div_ceil}
 use Rattle.std.specs.Fmt.{decimal, digits}
 use Rattle.uni_core.specs.declared.stage.StepKind.{StepKind}
-use Rattle.uni_script.specs.declared.told.Remark.{Remark}
-use Rattle.uni_script.specs.declared.told.Remark.TheVariants.{Heading, Note, Refused}
-use Rattle.uni_script.specs.declared.told.Told.{Told}
+use Rattle.uni_script.specs.declared.remarks.Remark.{Remark}
+use Rattle.uni_script.specs.declared.remarks.Remark.TheVariants.{Heading, Note, Refused}
+use Rattle.uni_script.specs.declared.remarks.PlacedRemark.{PlacedRemark}
 use Rattle.run_marks.specs.Marks.{Cell, EraMarks, RunMarks, lanes_of}
 use Rattle.run_layout.specs.declared.axis.Scale.{Scale}
 use Rattle.run_layout.specs.Wording.{letter_of, meaning_of, kinds, cell_name, cell_words, title_text}
@@ -44,8 +44,8 @@ heading_text (Heading text) = wrapped text.items
 heading_text (Note text) = []
 heading_text (Refused refusal) = []
 
-abbrev pub headings_text : List Told → List ℕ
-headings_text told = flat_map (λ one. heading_text one.remark) told
+abbrev pub headings_text : List PlacedRemark → List ℕ
+headings_text remarks = flat_map (λ one. heading_text one.remark) remarks
 
 -- ---- rows
 
@@ -93,9 +93,10 @@ note_text number (Note text) = numbered_note number text.items
 note_text number (Heading text) = []
 note_text number (Refused refusal) = []
 
-abbrev pub notes_from : Numbering → List Told → List ℕ
+abbrev pub notes_from : Numbering → List PlacedRemark → List ℕ
 notes_from numbering [] = []
-notes_from numbering (one ∷ told) = let next = numbering_after numbering one in note_text next.number one.remark ++ notes_from next told
+notes_from numbering (one ∷ remarks) =
+    let next = numbering_after numbering one in note_text next.number one.remark ++ notes_from next remarks
 
 -- a cell of an era
 abbrev pub cell_text : Cell → List ℕ
@@ -138,17 +139,17 @@ abbrev pub lanes_drawn : RunMarks → ℕ
 lanes_drawn marks = min (lanes_of marks.eras) 64
 
 -- what is drawn of a run, as a text
-abbrev pub rows_text_of : Places → RunMarks → List Told → List ℕ
-rows_text_of places marks told =
+abbrev pub rows_text_of : Places → RunMarks → List PlacedRemark → List ℕ
+rows_text_of places marks remarks =
     let lanes = lanes_drawn marks in
-    blocks_text (places.end + 1) (rows_of (strokes_on places lanes marks told) (places.end + 1) (bottom_row lanes))
+    blocks_text (places.end + 1) (rows_of (strokes_on places lanes marks remarks) (places.end + 1) (bottom_row lanes))
 
 -- the title and the headings, the rows, and below them the notes, the eras and the legend
-abbrev pub lines_of_marks : RunMarks → List Told → List ℕ
-lines_of_marks marks told =
-    wrapped (title_text marks) ++ headings_text told
-    ++ rows_text_of (places_of marks told narrow) marks told
-    ++ notes_from no_notes told ++ eras_from 0 marks.eras ++ legend_text
+abbrev pub lines_of_marks : RunMarks → List PlacedRemark → List ℕ
+lines_of_marks marks remarks =
+    wrapped (title_text marks) ++ headings_text remarks
+    ++ rows_text_of (places_of marks remarks narrow) marks remarks
+    ++ notes_from no_notes remarks ++ eras_from 0 marks.eras ++ legend_text
 
 -- a row of bars has its name; a row without letters is blank, and above the lanes left out
 fourth_row : row_text 3 (codes "[AH  ") ≡ codes "P0  [AH\n"

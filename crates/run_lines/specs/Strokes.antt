@@ -5,16 +5,16 @@ use Rattle.std.specs.List.{flat_map}
 use Rattle.std.specs.Option.{option_map_or}
 use Rattle.std.specs.Fmt.{decimal}
 use Rattle.uni_script.specs.declared.answer.Refusal.{Refusal}
-use Rattle.uni_script.specs.declared.told.Remark.{Remark}
-use Rattle.uni_script.specs.declared.told.Remark.TheVariants.{Heading, Note, Refused}
-use Rattle.uni_script.specs.declared.told.Told.{Told}
+use Rattle.uni_script.specs.declared.remarks.Remark.{Remark}
+use Rattle.uni_script.specs.declared.remarks.Remark.TheVariants.{Heading, Note, Refused}
+use Rattle.uni_script.specs.declared.remarks.PlacedRemark.{PlacedRemark}
 use Rattle.run_marks.specs.declared.marks.StepMark.{StepMark}
 use Rattle.run_marks.specs.declared.marks.Dot.{Dot}
 use Rattle.run_marks.specs.declared.marks.EraLine.{EraLine}
 use Rattle.run_marks.specs.Marks.{End, Called, RunMarks}
 use Rattle.run_layout.specs.declared.axis.Column.{Column}
 use Rattle.run_layout.specs.Wording.{letter_of, label_text, counts_text, line_text, refusal_words, lane_of}
-use Rattle.run_layout.specs.Axis.{Places, event_column, told_column, right_of}
+use Rattle.run_layout.specs.Axis.{Places, event_column, remark_column, right_of}
 use Rattle.run_lines.specs.declared.canvas.Layer.{Layer}
 use Rattle.run_lines.specs.declared.canvas.Layer.TheVariants.{Over, Behind}
 use Rattle.run_lines.specs.declared.numbering.Numbering.{Numbering}
@@ -103,20 +103,20 @@ remark_strokes column lanes number (Note text) = text_stroke 0 column.left (deci
 remark_strokes column lanes number (Heading text) = []
 
 -- those of what is told, from a place on
-abbrev pub told_from : Places → (lanes place : ℕ) → Numbering → List Told → List Stroke
-told_from places lanes place numbering [] = []
-told_from places lanes place numbering (one ∷ told) =
+abbrev pub remarks_from : Places → (lanes place : ℕ) → Numbering → List PlacedRemark → List Stroke
+remarks_from places lanes place numbering [] = []
+remarks_from places lanes place numbering (one ∷ remarks) =
     let next = numbering_after numbering one in
-    remark_strokes (told_column places place) lanes next.number one.remark ++ told_from places lanes (place + 1) next told
+    remark_strokes (remark_column places place) lanes next.number one.remark ++ remarks_from places lanes (place + 1) next remarks
 
 -- what is drawn of a run where its columns stand at these places, in the order in which it is painted
-abbrev pub strokes_on : Places → (lanes : ℕ) → RunMarks → List Told → List Stroke
-strokes_on places lanes marks told =
+abbrev pub strokes_on : Places → (lanes : ℕ) → RunMarks → List PlacedRemark → List Stroke
+strokes_on places lanes marks remarks =
     flat_map (line_strokes places lanes) marks.lines
     ++ flat_map (bar_strokes places lanes) marks.bars
     ++ flat_map (step_strokes places lanes) marks.steps
     ++ flat_map (dot_strokes places lanes) marks.dots
-    ++ told_from places lanes 0 no_notes told
+    ++ remarks_from places lanes 0 no_notes remarks
 
 -- process 0 links the cell of process 1: the dot stands below the bar of process 1, and the arrow goes down to it from process 0
 arrow_of_help : arrow_strokes 2 7 (record { event = 1; call = record { process = 1; nth = 0 }; by = 0 })

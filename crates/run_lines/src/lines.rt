@@ -26,7 +26,7 @@ pub fn lines_of<I: TextIn>(alloc: Global, reader: &mut I) -> Result<Vec<u8>, Pic
         → HasFault (scripts_of 1048576) (I.remaining reader.old) e }
 {
     let subject = subject_of(alloc, reader)?;
-    match text_of(alloc, &subject.marks, &subject.told) {
+    match text_of(alloc, &subject.marks, &subject.remarks) {
         Ok(text) => Ok(text),
         Err(AllocError) => Err(PictureFault::Script(BenchFault::Memory)),
     }
@@ -54,7 +54,7 @@ pub fn lines_of_object<O: Spoken + Copy, I: TextIn>(
         (I.remaining reader.old) e }
 {
     let subject = subject_of_object(alloc, object, name, reader)?;
-    match text_of(alloc, &subject.marks, &subject.told) {
+    match text_of(alloc, &subject.marks, &subject.remarks) {
         Ok(text) => Ok(text),
         Err(AllocError) => Err(PictureFault::Script(BenchFault::Memory)),
     }

@@ -3,7 +3,7 @@
 ghost use Rattle.std.specs.Prelude.{◌≡◌, ◌+◌, ◌<◌, ◌≤◌, ◌^◌};
 ghost use Rattle.run_lines.specs.Numbers.{no_notes, note_number, numbering_after};
 
-use uni_script::{Remark, Told};
+use uni_script::{PlacedRemark, Remark};
 
 /// How far the notes of a run are numbered.
 #[derive(Clone, Copy)]
@@ -38,7 +38,7 @@ impl Numbering {
     }
 
     /// After one more remark.
-    pub fn after(self, one: &Told) -> Numbering
+    pub fn after(self, one: &PlacedRemark) -> Numbering
         requires { self.number + 1 < 2 ^ 64 }
         ensures small { result.number ≤ self.number + 1 }
         ensures after { result ≡ numbering_after self one.now }

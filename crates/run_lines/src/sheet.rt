@@ -16,7 +16,7 @@ use run_layout::{Axis, MOST_LANES, Scale, axis_of, title_of};
 use run_marks::Marks;
 use std::alloc::{AllocError, Global};
 use std::io::Write;
-use uni_script::Told;
+use uni_script::PlacedRemark;
 
 /// How wide the names of lanes at the left are.
 const NAMES: usize = 4;
@@ -155,17 +155,17 @@ fn lanes_drawn(marks: &Marks) -> u64
 fn push_rows(
     alloc: Global,
     marks: &Marks,
-    told: &[Told],
+    remarks: &[PlacedRemark],
     axis: &Axis,
     text: &mut Vec<u8>,
 ) -> Result<(), AllocError>
-    requires { length told.now ≤ 100000 }
+    requires { length remarks.now ≤ 100000 }
     ensures { OnOk result (text.new.items ≡ text.old.items
-        ++ rows_text_of (places_shown axis.now) (marks_shown marks.now) told.now) }
+        ++ rows_text_of (places_shown axis.now) (marks_shown marks.now) remarks.now) }
 {
     let lanes = lanes_drawn(marks);
     let width = axis.end as usize + 1;
-    let strokes = strokes_of(alloc, marks, told, axis, lanes)?;
+    let strokes = strokes_of(alloc, marks, remarks, axis, lanes)?;
     let rows = rows_of(alloc, &strokes, width, bottom_row(lanes))?;
     push_blocks(alloc, &rows, width, text)
 }
@@ -173,17 +173,21 @@ fn push_rows(
 /// The text that draws the marks of a run, with what was told beside its events.
 ///
 /// An `Err` says that memory was refused.
-pub fn text_of(alloc: Global, marks: &Marks, told: &[Told]) -> Result<Vec<u8>, AllocError>
+pub fn text_of(
+    alloc: Global,
+    marks: &Marks,
+    remarks: &[PlacedRemark],
+) -> Result<Vec<u8>, AllocError>
     requires events { marks.now.events ≤ 2000 }
-    requires told { length told.now ≤ 100000 }
-    ensures { IfOk result (λ text. text.items ≡ lines_of_marks (marks_shown marks.now) told.now) }
+    requires remarks { length remarks.now ≤ 100000 }
+    ensures { IfOk result (λ text. text.items ≡ lines_of_marks (marks_shown marks.now) remarks.now) }
 {
     let mut text = Vec::new(alloc);
     push_wrapped(alloc, &title_of(alloc, marks)?, &mut text)?;
-    push_headings(alloc, told, &mut text)?;
-    let axis = axis_of(alloc, marks, told, NARROW)?;
-    push_rows(alloc, marks, told, &axis, &mut text)?;
-    push_notes(alloc, told, &mut text)?;
+    push_headings(alloc, remarks, &mut text)?;
+    let axis = axis_of(alloc, marks, remarks, NARROW)?;
+    push_rows(alloc, marks, remarks, &axis, &mut text)?;
+    push_notes(alloc, remarks, &mut text)?;
     push_eras(alloc, &marks.eras, &mut text)?;
     push_legend(alloc, &mut text)?;
     Ok(text)

@@ -9,7 +9,7 @@ ghost use Rattle.run_layout.specs.Axis.{places_shown};
 ghost use Rattle.run_lines.specs.Canvas.{stroke_shown};
 ghost use Rattle.run_lines.specs.Strokes.{lane_row, bottom_row, text_stroke, letter_stroke, column_stroke};
 ghost use Rattle.run_lines.specs.Strokes.{line_strokes, bar_end, bar_text, counts_strokes, bar_strokes, step_strokes};
-ghost use Rattle.run_lines.specs.Strokes.{arrow_strokes, dot_strokes, refusal_row, remark_strokes, told_from};
+ghost use Rattle.run_lines.specs.Strokes.{arrow_strokes, dot_strokes, refusal_row, remark_strokes, remarks_from};
 ghost use Rattle.run_lines.specs.Strokes.{strokes_on};
 ghost use Rattle.run_lines.specs.Numbers.{no_notes};
 
@@ -19,7 +19,7 @@ use run_layout::{Axis, Column, counts_of, label_of, lane_of, letter_of, line_of,
 use run_marks::{Bar, BarEnd, Dot, EraLine, Marks, StepMark};
 use std::alloc::{AllocError, Global};
 use std::io::Write;
-use uni_script::{Refusal, Remark, Told};
+use uni_script::{PlacedRemark, Refusal, Remark};
 
 /// How many rows are above the lanes: the numbers of notes, and what has no lane.
 pub const ABOVE: u64 = 2;
@@ -430,20 +430,20 @@ fn push_remark(
 /// Adds what is drawn of what is told.
 ///
 /// An `Err` says that memory was refused.
-fn push_told(
+fn push_remarks(
     alloc: Global,
-    told: &[Told],
+    remarks: &[PlacedRemark],
     axis: &Axis,
     lanes: u64,
     strokes: &mut Vec<Stroke>,
 ) -> Result<(), AllocError>
-    requires told { length told.now ≤ 100000 }
+    requires remarks { length remarks.now ≤ 100000 }
     requires lanes { lanes ≤ 64 }
     ensures { OnOk result (map stroke_shown strokes.new.items
-        ≡ map stroke_shown strokes.old.items ++ told_from (places_shown axis.now) lanes 0 no_notes told.now) }
+        ≡ map stroke_shown strokes.old.items ++ remarks_from (places_shown axis.now) lanes 0 no_notes remarks.now) }
 {
     let mut numbering = Numbering::none();
-    for (place, one) in told.iter().enumerate() {
+    for (place, one) in remarks.iter().enumerate() {
         numbering = numbering.after(one);
         let column = axis.remark(place);
         push_remark(alloc, &one.remark, numbering.number, column, lanes, strokes)?;
@@ -458,20 +458,20 @@ fn push_told(
 pub fn strokes_of(
     alloc: Global,
     marks: &Marks,
-    told: &[Told],
+    remarks: &[PlacedRemark],
     axis: &Axis,
     lanes: u64,
 ) -> Result<Vec<Stroke>, AllocError>
-    requires told { length told.now ≤ 100000 }
+    requires remarks { length remarks.now ≤ 100000 }
     requires lanes { lanes ≤ 64 }
     ensures { IfOk result (λ strokes. map stroke_shown strokes.items
-        ≡ strokes_on (places_shown axis.now) lanes (marks_shown marks.now) told.now) }
+        ≡ strokes_on (places_shown axis.now) lanes (marks_shown marks.now) remarks.now) }
 {
     let mut strokes = Vec::new(alloc);
     push_era_lines(alloc, &marks.lines, axis, lanes, &mut strokes)?;
     push_bars(alloc, &marks.bars, axis, lanes, &mut strokes)?;
     push_steps(alloc, &marks.steps, axis, lanes, &mut strokes)?;
     push_dots(alloc, &marks.dots, axis, lanes, &mut strokes)?;
-    push_told(alloc, told, axis, lanes, &mut strokes)?;
+    push_remarks(alloc, remarks, axis, lanes, &mut strokes)?;
     Ok(strokes)
 }

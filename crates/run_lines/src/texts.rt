@@ -12,7 +12,7 @@ use run_marks::{CellBox, Era};
 use std::alloc::{AllocError, Global};
 use std::io::Write;
 use uni_core::StepKind;
-use uni_script::{Remark, Told};
+use uni_script::{PlacedRemark, Remark};
 
 /// How wide a terminal is.
 pub const WIDTH: usize = 100;
@@ -67,10 +67,14 @@ pub fn push_padded(
 /// Adds the notes that come before the header.
 ///
 /// An `Err` says that memory was refused.
-pub fn push_headings(alloc: Global, told: &[Told], text: &mut Vec<u8>) -> Result<(), AllocError>
-    ensures { OnOk result (text.new.items ≡ text.old.items ++ headings_text told.now) }
+pub fn push_headings(
+    alloc: Global,
+    remarks: &[PlacedRemark],
+    text: &mut Vec<u8>,
+) -> Result<(), AllocError>
+    ensures { OnOk result (text.new.items ≡ text.old.items ++ headings_text remarks.now) }
 {
-    for one in told {
+    for one in remarks {
         if let Remark::Heading(heading) = &one.remark {
             push_wrapped(alloc, heading, text)?;
         }
@@ -96,12 +100,16 @@ fn push_note(alloc: Global, number: u64, note: &[u8], text: &mut Vec<u8>) -> Res
 /// Adds the notes that come after the header, with the numbers that they have above the lanes.
 ///
 /// An `Err` says that memory was refused.
-pub fn push_notes(alloc: Global, told: &[Told], text: &mut Vec<u8>) -> Result<(), AllocError>
-    requires { length told.now ≤ 100000 }
-    ensures { OnOk result (text.new.items ≡ text.old.items ++ notes_from no_notes told.now) }
+pub fn push_notes(
+    alloc: Global,
+    remarks: &[PlacedRemark],
+    text: &mut Vec<u8>,
+) -> Result<(), AllocError>
+    requires { length remarks.now ≤ 100000 }
+    ensures { OnOk result (text.new.items ≡ text.old.items ++ notes_from no_notes remarks.now) }
 {
     let mut numbering = Numbering::none();
-    for one in told {
+    for one in remarks {
         numbering = numbering.after(one);
         if let Remark::Note(note) = &one.remark {
             push_note(alloc, numbering.number, note, text)?;

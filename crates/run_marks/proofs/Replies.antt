@@ -29,7 +29,7 @@ use Rattle.uni_script.specs.Objects.{SpokenObject}
 use Rattle.uni_script.proofs.Helped.{pending-world_after_step}
 use Rattle.run_marks.specs.Marks.{End, Called, RunMarks, end_in, bar_begun, bars_in}
 use Rattle.run_marks.specs.Replay.{bar_ended, marks_with}
-use Rattle.run_marks.specs.Laws.{Reply, reply_at, replies_in_order, told, BarsHaveTheReplies}
+use Rattle.run_marks.specs.Laws.{Reply, reply_at, replies_in_order, reply_text, BarsHaveTheReplies}
 use Rattle.run_marks.proofs.Walked.{map-map}
 use Rattle.run_marks.proofs.Replayed.{end_of_step-none, end_of_step-some}
 use Rattle.run_marks.proofs.Opened.{last_or_silent}
@@ -152,25 +152,25 @@ module _ {S I R : Type 0} (o : SpokenObject S I R) where
       ∙ ends_later_silent v (place + 1) place es (omega arith) after
 
   -- the replies of what a run completes
-  abbrev replies_told : List (Completed R) → List Reply
-  replies_told completed = map (λ (c : Completed R). told o.language c.returned) completed
+  abbrev reply_texts : List (Completed R) → List Reply
+  reply_texts completed = map (λ (c : Completed R). reply_text o.language c.returned) completed
 
   -- from a world on, where these bars are there so far, and all of them are these in the end
   abbrev Replies : WorldOf S I R → (place : ℕ) → List (Event I) → Type 0
   Replies w place es = (so_far bars : List Called) → IsSoFar w place so_far → map (bar_later o w place es) so_far ++ bars_in o w place es ≡ bars
-      → replies_in_order bars place es ≡ replies_told (completed_in o.object w es)
+      → replies_in_order bars place es ≡ reply_texts (completed_in o.object w es)
 
   -- one event before the others
   replies_with : (w : WorldOf S I R) (place : ℕ) (e : Event I) (es : List (Event I)) (after bars : List Called)
       → map (bar_later o (world_after o.object w e) (place + 1) es) after ++ bars_in o (world_after o.object w e) (place + 1) es ≡ bars
-      → flat_map (reply_at place) after ≡ replies_told (option_to_list (completed_by o.object w e))
+      → flat_map (reply_at place) after ≡ reply_texts (option_to_list (completed_by o.object w e))
       → IsSoFar (world_after o.object w e) (place + 1) after → Replies (world_after o.object w e) (place + 1) es
-      → replies_in_order bars place (e ∷ es) ≡ replies_told (completed_in o.object w (e ∷ es))
+      → replies_in_order bars place (e ∷ es) ≡ reply_texts (completed_in o.object w (e ∷ es))
   replies_with w place e es after bars is now so_far rest =
       let v = world_after o.object w e in
       ap (λ l. l ++ replies_in_order bars (place + 1) es) (replies_at_place v place es after bars is ∙ now)
-      ∙ ap (λ l. replies_told (option_to_list (completed_by o.object w e)) ++ l) (rest after bars so_far is)
-      ∙ sym (map-append (λ (c : Completed R). told o.language c.returned) (option_to_list (completed_by o.object w e)) (completed_in o.object v es))
+      ∙ ap (λ l. reply_texts (option_to_list (completed_by o.object w e)) ++ l) (rest after bars so_far is)
+      ∙ sym (map-append (λ (c : Completed R). reply_text o.language c.returned) (option_to_list (completed_by o.object w e)) (completed_in o.object v es))
 
   -- the bars in the end, told by those after one event more
   bars_further : (name : List ℕ) (w : WorldOf S I R) (place : ℕ) (e : Event I) (es : List (Event I)) (so_far bars : List Called)
@@ -221,23 +221,23 @@ module _ {S I R : Type 0} (o : SpokenObject S I R) where
       ])
 
   -- what a step completes, told
-  nothing_told : (w : WorldOf S I R) (q : ℕ) → response_of_step w q ≡ None → [] ≡ replies_told (option_to_list (completed_by o.object w (Step q)))
+  nothing_told : (w : WorldOf S I R) (q : ℕ) → response_of_step w q ≡ None → [] ≡ reply_texts (option_to_list (completed_by o.object w (Step q)))
   nothing_told w q none = by_current (current_of w q) (response_of_step w q) none
     where
       done : CallId → R → Completed R
       done call r = record { returned = record { call = call; reply = r }; counts = record { steps = (world_after o.object w (Step q)).steps q; turns = (world_after o.object w (Step q)).turns q } }
 
-      by_current : (c : Option CallId) (x : Option R) → x ≡ None → [] ≡ replies_told (option_to_list (option_and_then (λ call. option_map (done call) x) c))
+      by_current : (c : Option CallId) (x : Option R) → x ≡ None → [] ≡ reply_texts (option_to_list (option_and_then (λ call. option_map (done call) x) c))
       by_current None x e = refl
       by_current (Some c) None e = refl
       by_current (Some c) (Some r) e = absurd (cc)
 
   last_told : (w : WorldOf S I R) (q : ℕ) (r : R) → response_of_step w q ≡ Some r
-      → map (λ call. record { call = call; text = o.language.resp_text r }) (option_to_list (current_of w q)) ≡ replies_told (option_to_list (completed_by o.object w (Step q)))
+      → map (λ call. record { call = call; text = o.language.resp_text r }) (option_to_list (current_of w q)) ≡ reply_texts (option_to_list (completed_by o.object w (Step q)))
   last_told w q r some = rw some (by_current (current_of w q))
     where
       by_current : (c : Option CallId) → map (λ call. let reply : Reply = record { call = call; text = o.language.resp_text r } in reply) (option_to_list c)
-          ≡ replies_told (option_to_list (option_and_then (λ (call : CallId).
+          ≡ reply_texts (option_to_list (option_and_then (λ (call : CallId).
           let done : Completed R = record { returned = record { call = call; reply = r }; counts = record { steps = (world_after o.object w (Step q)).steps q; turns = (world_after o.object w (Step q)).turns q } } in Some done) c))
       by_current None = refl
       by_current (Some c) = refl
@@ -345,7 +345,7 @@ module _ {S I R : Type 0} (o : SpokenObject S I R) where
         v : WorldOf S I R
         v = world_after o.object w (Step q)
 
-        by_response : (x : Option R) → response_of_step w q ≡ x → Replies v (place + 1) es → replies_in_order bars place (Step q ∷ es) ≡ replies_told (completed_in o.object w (Step q ∷ es))
+        by_response : (x : Option R) → response_of_step w q ≡ x → Replies v (place + 1) es → replies_in_order bars place (Step q ∷ es) ≡ reply_texts (completed_in o.object w (Step q ∷ es))
         by_response None none rest =
             replies_with w place (Step q) es so_far bars
             (subst (λ x. map (bar_later o v (place + 1) es) (option_map_or (λ end. map (bar_ended q end) so_far) x so_far) ++ bars_in o v (place + 1) es ≡ bars) (end_of_step-none o w place q none)
@@ -371,5 +371,5 @@ module _ {S I R : Type 0} (o : SpokenObject S I R) where
         let w = opened_world n start number in
         let helping = HelpingInvariant-opened_world o.object n start number positive in
         replies w 0 events (CountsSteps-opened_world o.object n start number) helping ok [] _ (record { ended = tt; pending = λ p. refl }) refl
-        ∙ sym (map-map (λ (c : Completed R). c.returned) (told o.language) (completed_in o.object w events))
-        ∙ ap (map (told o.language)) (returns_are_responses o.object w events (helping.0, helping.1, helping.2) ok)
+        ∙ sym (map-map (λ (c : Completed R). c.returned) (reply_text o.language) (completed_in o.object w events))
+        ∙ ap (map (reply_text o.language)) (returns_are_responses o.object w events (helping.0, helping.1, helping.2) ok)

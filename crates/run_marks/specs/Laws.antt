@@ -40,8 +40,8 @@ replies_in_order bars place [] = []
 replies_in_order bars place (e ∷ es) = flat_map (reply_at place) bars ++ replies_in_order bars (place + 1) es
 
 -- a response, as a reply
-abbrev pub told : {I R : Type 0} → Language I R → Return R → Reply
-told l r = record { call = r.call; text = l.resp_text r.reply }
+abbrev pub reply_text : {I R : Type 0} → Language I R → Return R → Reply
+reply_text l r = record { call = r.call; text = l.resp_text r.reply }
 
 -- in each run from an opening
 module _ {S I R : Type 0} (o : SpokenObject S I R) (name : List ℕ) (n : ℕ) (start : S) (number : ℕ) (events : List (Event I)) where
@@ -72,7 +72,7 @@ module _ {S I R : Type 0} (o : SpokenObject S I R) (name : List ℕ) (n : ℕ) (
   abbrev pub BarsHaveTheReplies : Type 0
   BarsHaveTheReplies =
       1 ≤ number → AreAccepted o.object (opened_world n start number) events
-      → replies_in_order marks.bars 0 events ≡ map (told o.language)
+      → replies_in_order marks.bars 0 events ≡ map (reply_text o.language)
       (responses_in (history_of o.object (opened_world n start number) events))
 
   -- each of them ends with an event of the run

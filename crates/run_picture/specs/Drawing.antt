@@ -3,7 +3,7 @@ use Rattle.std.specs.Prelude.{◌≡◌, ℕ, ◌+◌, ◌*◌, ◌/◌, min, ma
 use Rattle.svg_text.specs.declared.paint.Paint.TheVariants.{Title}
 use Rattle.svg_text.specs.declared.shape.Anchor.TheVariants.{Start}
 use Rattle.svg_text.specs.Figures.{Figure, Text, Picture}
-use Rattle.uni_script.specs.declared.told.Told.{Told}
+use Rattle.uni_script.specs.declared.remarks.PlacedRemark.{PlacedRemark}
 use Rattle.run_marks.specs.Marks.{RunMarks, lanes_of}
 use Rattle.run_layout.specs.declared.axis.Scale.{Scale}
 use Rattle.run_picture.specs.declared.lanes.Lanes.{Lanes}
@@ -15,60 +15,60 @@ use Rattle.run_picture.specs.Legend.{legend_figures}
 use Rattle.run_picture.specs.Notes.{line_letters, headings, lines_down, captions_from, captions_foot, refusals_from, description_text}
 
 -- how wide the column of a step is: an even number from 16 to 28, the greater the fewer events and remarks there are
-abbrev pub step_width : (events told : ℕ) → ℕ
-step_width events told = max 16 (min 28 (872 / (events + 5 * told + 1))) / 2 * 2
+abbrev pub step_width : (events remarks : ℕ) → ℕ
+step_width events remarks = max 16 (min 28 (872 / (events + 5 * remarks + 1))) / 2 * 2
 
 -- how wide the things of a picture are
-abbrev pub scale_of : RunMarks → List Told → Scale
-scale_of marks told = record { start = 44; step = step_width marks.events (length told); letter = 8; mark = 16 }
+abbrev pub scale_of : RunMarks → List PlacedRemark → Scale
+scale_of marks remarks = record { start = 44; step = step_width marks.events (length remarks); letter = 8; mark = 16 }
 
 -- how wide a picture is: as wide as its columns, and 960 at least
 abbrev pub width_of_places : Places → ℕ
 width_of_places places = max 960 (places.end + 24)
 
 -- where the headings end, and the captions
-abbrev pub headings_end : (most : ℕ) → List Told → ℕ
-headings_end most told = 32 + length (headings most told) * 20
+abbrev pub headings_end : (most : ℕ) → List PlacedRemark → ℕ
+headings_end most remarks = 32 + length (headings most remarks) * 20
 
-abbrev pub notes_end : (most : ℕ) → List Told → ℕ
-notes_end most told = captions_foot most (headings_end most told) told
+abbrev pub notes_end : (most : ℕ) → List PlacedRemark → ℕ
+notes_end most remarks = captions_foot most (headings_end most remarks) remarks
 
 -- the title, the headings and the captions, from above
-abbrev pub notes_figures : Places → RunMarks → List Told → List Figure
-notes_figures places marks told =
+abbrev pub notes_figures : Places → RunMarks → List PlacedRemark → List Figure
+notes_figures places marks remarks =
     let width = width_of_places places in
     let most = line_letters width in
-    Text 12 28 Start Title (title_text marks) ∷ lines_down 32 (headings most told)
-    ++ captions_from places width most (notes_end most told) 0 (headings_end most told + 12) told
+    Text 12 28 Start Title (title_text marks) ∷ lines_down 32 (headings most remarks)
+    ++ captions_from places width most (notes_end most remarks) 0 (headings_end most remarks + 12) remarks
 
 -- where the lanes of a run stand: below the captions, 64 at most
-abbrev pub lanes_below : Places → RunMarks → List Told → Lanes
-lanes_below places marks told =
-    record { top = notes_end (line_letters (width_of_places places)) told + 20; count = min (lanes_of marks.eras) 64 }
+abbrev pub lanes_below : Places → RunMarks → List PlacedRemark → Lanes
+lanes_below places marks remarks =
+    record { top = notes_end (line_letters (width_of_places places)) remarks + 20; count = min (lanes_of marks.eras) 64 }
 
 -- what stands above the list of cells: notes, lanes and refusals
-abbrev pub events_figures : Places → RunMarks → List Told → List Figure
-events_figures places marks told =
-    let lanes = lanes_below places marks told in
-    notes_figures places marks told ++ run_figures places lanes marks ++ refusals_from places lanes 0 told
+abbrev pub events_figures : Places → RunMarks → List PlacedRemark → List Figure
+events_figures places marks remarks =
+    let lanes = lanes_below places marks remarks in
+    notes_figures places marks remarks ++ run_figures places lanes marks ++ refusals_from places lanes 0 remarks
 
 -- where that ends
-abbrev pub events_end : Places → RunMarks → List Told → ℕ
-events_end places marks told = let lanes = lanes_below places marks told in lane_top lanes lanes.count
+abbrev pub events_end : Places → RunMarks → List PlacedRemark → ℕ
+events_end places marks remarks = let lanes = lanes_below places marks remarks in lane_top lanes lanes.count
 
 -- the shapes of the marks of a run, with what is told beside its events
-abbrev pub drawing_of_marks : RunMarks → List Told → Picture
-drawing_of_marks marks told =
-    let places = places_of marks told (scale_of marks told) in
+abbrev pub drawing_of_marks : RunMarks → List PlacedRemark → Picture
+drawing_of_marks marks remarks =
+    let places = places_of marks remarks (scale_of marks remarks) in
     let width = width_of_places places in
-    let above = events_end places marks told in
+    let above = events_end places marks remarks in
     let below = eras_bottom width above marks.eras in
     record {
       width = width;
       height = below + 146;
       title = title_text marks;
-      description = description_text told;
-      figures = events_figures places marks told ++ eras_figures width above 0 marks.eras ++ legend_figures width below;
+      description = description_text remarks;
+      figures = events_figures places marks remarks ++ eras_figures width above 0 marks.eras ++ legend_figures width below;
     }
 
 -- a few events have wide columns, and many have narrow ones

@@ -125,7 +125,7 @@ run_figures places lanes marks =
 
 -- process 0 links the cell of process 1: the arrow goes down from its mark to the dot of process 1
 abbrev two_events : Places
-two_events = record { events = record { left = 44; width = 16 } ∷ record { left = 60; width = 16 } ∷ []; told = []; end = 76 }
+two_events = record { events = record { left = 44; width = 16 } ∷ record { left = 60; width = 16 } ∷ []; remarks = []; end = 76 }
 
 abbrev two_lanes : Lanes
 two_lanes = record { top = 100; count = 2 }

@@ -6,15 +6,15 @@ use Rattle.svg_text.specs.declared.paint.Paint.TheVariants.{Paper, Ink, Edge, Cr
 use Rattle.svg_text.specs.declared.shape.Anchor.TheVariants.{Start}
 use Rattle.uni_script.specs.declared.answer.Refusal.{Refusal}
 use Rattle.uni_script.specs.declared.answer.Refusal.TheVariants.{Busy, History}
-use Rattle.uni_script.specs.declared.told.Remark.{Remark}
-use Rattle.uni_script.specs.declared.told.Remark.TheVariants.{Heading, Note, Refused}
-use Rattle.uni_script.specs.declared.told.Told.{Told}
+use Rattle.uni_script.specs.declared.remarks.Remark.{Remark}
+use Rattle.uni_script.specs.declared.remarks.Remark.TheVariants.{Heading, Note, Refused}
+use Rattle.uni_script.specs.declared.remarks.PlacedRemark.{PlacedRemark}
 use Rattle.run_layout.specs.declared.axis.Column.{Column}
 use Rattle.run_picture.specs.declared.figures.Toward.TheVariants.{Down}
 use Rattle.run_picture.specs.declared.lanes.Lanes.{Lanes}
 use Rattle.run_layout.specs.Wording.{refusal_words, lane_of}
 use Rattle.run_layout.specs.Wrapping.{lines_of}
-use Rattle.run_layout.specs.Axis.{Places, told_column, letters_of}
+use Rattle.run_layout.specs.Axis.{Places, remark_column, letters_of}
 use Rattle.run_picture.specs.Shapes.{label_figures, tip_figure}
 use Rattle.svg_text.specs.Figures.{Figure, Rect, Line, Text}
 use Rattle.run_picture.specs.Lanes.{lane_middle}
@@ -30,8 +30,8 @@ heading_lines most (Note text) = []
 heading_lines most (Refused refusal) = []
 
 -- the lines of all notes before the header
-abbrev pub headings : (most : ℕ) → List Told → List (List ℕ)
-headings most told = flat_map (λ one. heading_lines most one.remark) told
+abbrev pub headings : (most : ℕ) → List PlacedRemark → List (List ℕ)
+headings most remarks = flat_map (λ one. heading_lines most one.remark) remarks
 
 -- lines of text, one below the other
 abbrev pub lines_down : (bottom : ℕ) → List (List ℕ) → List Figure
@@ -57,20 +57,20 @@ caption_figures width x bottom foot (line ∷ lines) =
     Line x (bottom + 4) x foot Edge ∷ tip_figure x foot Down ∷ labels_down width x bottom (line ∷ lines)
 
 -- the captions of what is told, from a place on: each stands below the one before, and points at the column of what follows it
-abbrev pub captions_from : Places → (width most foot place bottom : ℕ) → List Told → List Figure
+abbrev pub captions_from : Places → (width most foot place bottom : ℕ) → List PlacedRemark → List Figure
 captions_from places width most foot place bottom [] = []
-captions_from places width most foot place bottom (one ∷ told) =
+captions_from places width most foot place bottom (one ∷ remarks) =
     let lines = caption_lines most one.remark in
-    caption_figures width ((told_column places place).left + 7) bottom foot lines
-    ++ captions_from places width most foot (place + 1) (bottom + length lines * 20) told
+    caption_figures width ((remark_column places place).left + 7) bottom foot lines
+    ++ captions_from places width most foot (place + 1) (bottom + length lines * 20) remarks
 
 -- how high all captions are
-abbrev pub captions_height : (most : ℕ) → List Told → ℕ
-captions_height most told = sum_by (λ one. length (caption_lines most one.remark) * 20) told
+abbrev pub captions_height : (most : ℕ) → List PlacedRemark → ℕ
+captions_height most remarks = sum_by (λ one. length (caption_lines most one.remark) * 20) remarks
 
 -- the foot of the captions that begin at a place
-abbrev pub captions_foot : (most bottom : ℕ) → List Told → ℕ
-captions_foot most bottom told = bottom + 12 + captions_height most told + 10
+abbrev pub captions_foot : (most bottom : ℕ) → List PlacedRemark → ℕ
+captions_foot most bottom remarks = bottom + 12 + captions_height most remarks + 10
 
 -- where the mark of a refusal stands: in the lane of its process, or above the lanes
 abbrev pub refusal_middle : Lanes → Refusal → ℕ
@@ -91,10 +91,10 @@ remark_figures column lanes (Heading text) = []
 remark_figures column lanes (Note text) = []
 
 -- the refusals of what is told, from a place on
-abbrev pub refusals_from : Places → Lanes → (place : ℕ) → List Told → List Figure
+abbrev pub refusals_from : Places → Lanes → (place : ℕ) → List PlacedRemark → List Figure
 refusals_from places lanes place [] = []
-refusals_from places lanes place (one ∷ told) =
-    remark_figures (told_column places place) lanes one.remark ++ refusals_from places lanes (place + 1) told
+refusals_from places lanes place (one ∷ remarks) =
+    remark_figures (remark_column places place) lanes one.remark ++ refusals_from places lanes (place + 1) remarks
 
 -- a text with a heading after it, and a space between them where there is a text
 abbrev pub after_text : List ℕ → List ℕ → List ℕ
@@ -107,8 +107,8 @@ described text (Note note) = text
 described text (Refused refusal) = text
 
 -- the description of a picture: the notes before the header
-abbrev pub description_text : List Told → List ℕ
-description_text told = fold (λ text one. described text one.remark) [] told
+abbrev pub description_text : List PlacedRemark → List ℕ
+description_text remarks = fold (λ text one. described text one.remark) [] remarks
 
 -- a process that is busy is refused in its lane, and a full history above all lanes
 abbrev two_lanes : Lanes

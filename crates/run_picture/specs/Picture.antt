@@ -1,6 +1,6 @@
 -- The picture of a script.
 use Rattle.std.specs.Prelude.{◌≡◌, ℕ, List, Option}
-use Rattle.uni_script.specs.declared.told.Told.{Told}
+use Rattle.uni_script.specs.declared.remarks.PlacedRemark.{PlacedRemark}
 use Rattle.svg_text.specs.Svg.{svg_text}
 use Rattle.run_marks.specs.Marks.{RunMarks}
 use Rattle.uni_script.specs.Outcome.{Kind}
@@ -11,9 +11,9 @@ use Rattle.run_picture.specs.Drawing.{drawing_of_marks}
 -- the reader had a script that can be drawn, and this is the text of the drawing of its marks and of what it tells
 pub record IsPictureOf {B : Type 0} (kind : Kind B) (marks_in : B → RunMarks) (left : Option (List ℕ)) (svg : List ℕ) : Type 0 where
   pub marks : RunMarks
-  pub told : List Told
-  pub subject : IsSubjectOf kind marks_in left marks told
-  pub drawn : svg ≡ svg_text (drawing_of_marks marks told)
+  pub remarks : List PlacedRemark
+  pub subject : IsSubjectOf kind marks_in left marks remarks
+  pub drawn : svg ≡ svg_text (drawing_of_marks marks remarks)
 
 -- the same of a script over the named objects
 abbrev pub IsPicture : (left : Option (List ℕ)) (svg : List ℕ) → Type 0

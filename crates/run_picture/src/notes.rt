@@ -13,7 +13,7 @@ use crate::lanes::{Lanes, MARGIN};
 use run_layout::{Axis, Column, lane_of, letters, push_lines, refusal_of};
 use std::alloc::{AllocError, Global};
 use svg_text::{Anchor, Paint, Shape};
-use uni_script::{Refusal, Remark, Told};
+use uni_script::{PlacedRemark, Refusal, Remark};
 
 /// How high a line of text is.
 pub const LINE: u64 = 20;
@@ -28,12 +28,16 @@ pub fn line_letters(width: u64) -> usize
 /// The lines of all notes that come before the header, of at most so many bytes each.
 ///
 /// An `Err` says that memory was refused.
-fn headings(alloc: Global, told: &[Told], most: usize) -> Result<Vec<Vec<u8>>, AllocError>
-    ensures few { IfOk result (λ lines. length lines.items ≤ length told.now * 200) }
-    ensures lines { IfOk result (λ lines. map (λ line. line.items) lines.items ≡ headings most told.now) }
+fn headings(
+    alloc: Global,
+    remarks: &[PlacedRemark],
+    most: usize,
+) -> Result<Vec<Vec<u8>>, AllocError>
+    ensures few { IfOk result (λ lines. length lines.items ≤ length remarks.now * 200) }
+    ensures lines { IfOk result (λ lines. map (λ line. line.items) lines.items ≡ headings most remarks.now) }
 {
     let mut lines = Vec::new(alloc);
-    for one in told {
+    for one in remarks {
         if let Remark::Heading(text) = &one.remark {
             push_lines(alloc, text, most, &mut lines)?;
         }
@@ -70,19 +74,19 @@ fn push_down(
 /// An `Err` says that memory was refused.
 pub fn push_headings(
     alloc: Global,
-    told: &[Told],
+    remarks: &[PlacedRemark],
     most: usize,
     bottom: u64,
     shapes: &mut Vec<Shape>,
 ) -> Result<u64, AllocError>
-    requires told { length told.now ≤ 100000 }
+    requires remarks { length remarks.now ≤ 100000 }
     requires bottom { bottom < 2 ^ 40 }
     ensures shapes { OnOk result (map figure shapes.new.items
-        ≡ map figure shapes.old.items ++ lines_down bottom (headings most told.now)) }
+        ≡ map figure shapes.old.items ++ lines_down bottom (headings most remarks.now)) }
     ensures small { IfOk result (λ end. end ≤ bottom + 400000000) }
-    ensures end { IfOk result (λ end. end ≡ bottom + length (headings most told.now) * 20) }
+    ensures end { IfOk result (λ end. end ≡ bottom + length (headings most remarks.now) * 20) }
 {
-    let lines = headings(alloc, told, most)?;
+    let lines = headings(alloc, remarks, most)?;
     push_down(alloc, &lines, bottom, shapes)?;
     Ok(bottom + lines.len() as u64 * LINE)
 }
@@ -105,13 +109,13 @@ fn caption_lines(alloc: Global, remark: &Remark, most: usize) -> Result<Vec<Vec<
 /// How high all captions are.
 ///
 /// An `Err` says that memory was refused.
-fn captions_height(alloc: Global, told: &[Told], most: usize) -> Result<u64, AllocError>
-    requires { length told.now ≤ 100000 }
+fn captions_height(alloc: Global, remarks: &[PlacedRemark], most: usize) -> Result<u64, AllocError>
+    requires { length remarks.now ≤ 100000 }
     ensures small { IfOk result (λ height. height ≤ 400000000) }
-    ensures height { IfOk result (λ height. height ≡ captions_height most told.now) }
+    ensures height { IfOk result (λ height. height ≡ captions_height most remarks.now) }
 {
     let mut height = 0;
-    for one in told {
+    for one in remarks {
         height += caption_lines(alloc, &one.remark, most)?.len() as u64 * LINE;
     }
     Ok(height)
@@ -178,24 +182,24 @@ fn push_caption(
 /// An `Err` says that memory was refused.
 pub fn push_captions(
     alloc: Global,
-    told: &[Told],
+    remarks: &[PlacedRemark],
     axis: &Axis,
     width: u64,
     most: usize,
     bottom: u64,
     shapes: &mut Vec<Shape>,
 ) -> Result<u64, AllocError>
-    requires told { length told.now ≤ 100000 }
+    requires remarks { length remarks.now ≤ 100000 }
     requires bottom { bottom < 2 ^ 39 }
     ensures shapes { OnOk result (map figure shapes.new.items
         ≡ map figure shapes.old.items ++ captions_from (places_shown axis.now) width most
-        (captions_foot most bottom told.now) 0 (bottom + 12) told.now) }
+        (captions_foot most bottom remarks.now) 0 (bottom + 12) remarks.now) }
     ensures small { IfOk result (λ foot. foot ≤ bottom + 400000022) }
-    ensures foot { IfOk result (λ foot. foot ≡ captions_foot most bottom told.now) }
+    ensures foot { IfOk result (λ foot. foot ≡ captions_foot most bottom remarks.now) }
 {
-    let foot = bottom + MARGIN + captions_height(alloc, told, most)? + 10;
+    let foot = bottom + MARGIN + captions_height(alloc, remarks, most)? + 10;
     let mut place = bottom + MARGIN;
-    for (at, one) in told.iter().enumerate() {
+    for (at, one) in remarks.iter().enumerate() {
         let lines = caption_lines(alloc, &one.remark, most)?;
         let x = u64::from(axis.remark(at).left) + 7;
         push_caption(alloc, &lines, width, x, place, foot, shapes)?;
@@ -249,15 +253,15 @@ fn push_refusal(
 /// An `Err` says that memory was refused.
 pub fn push_refusals(
     alloc: Global,
-    told: &[Told],
+    remarks: &[PlacedRemark],
     axis: &Axis,
     lanes: Lanes,
     shapes: &mut Vec<Shape>,
 ) -> Result<(), AllocError>
     ensures { OnOk result (map figure shapes.new.items
-        ≡ map figure shapes.old.items ++ refusals_from (places_shown axis.now) lanes 0 told.now) }
+        ≡ map figure shapes.old.items ++ refusals_from (places_shown axis.now) lanes 0 remarks.now) }
 {
-    for (at, one) in told.iter().enumerate() {
+    for (at, one) in remarks.iter().enumerate() {
         if let Remark::Refused(refusal) = one.remark {
             push_refusal(alloc, refusal, axis.remark(at), lanes, shapes)?;
         }
@@ -268,11 +272,11 @@ pub fn push_refusals(
 /// The description of a picture, for who can't see it: the notes that come before the header.
 ///
 /// An `Err` says that memory was refused.
-pub fn description_of(alloc: Global, told: &[Told]) -> Result<Vec<u8>, AllocError>
-    ensures { IfOk result (λ text. text.items ≡ description_text told.now) }
+pub fn description_of(alloc: Global, remarks: &[PlacedRemark]) -> Result<Vec<u8>, AllocError>
+    ensures { IfOk result (λ text. text.items ≡ description_text remarks.now) }
 {
     let mut text = Vec::new(alloc);
-    for one in told {
+    for one in remarks {
         if let Remark::Heading(heading) = &one.remark {
             push_heading(&mut text, heading)?;
         }

@@ -23,11 +23,11 @@ use uni_script::{BenchFault, TextIn};
 /// An `Err` says that memory was refused.
 fn svg_of_subject(alloc: Global, subject: &Subject) -> Result<Vec<u8>, AllocError>
     requires events { subject.now.marks.events ≤ 2000 }
-    requires told { length subject.now.told.items ≤ 100000 }
+    requires remarks { length subject.now.remarks.items ≤ 100000 }
     ensures { IfOk result (λ svg. svg.items ≡ svg_text
-        (drawing_of_marks (marks_shown subject.now.marks) subject.now.told.items)) }
+        (drawing_of_marks (marks_shown subject.now.marks) subject.now.remarks.items)) }
 {
-    let drawing = drawing_of(alloc, &subject.marks, &subject.told)?;
+    let drawing = drawing_of(alloc, &subject.marks, &subject.remarks)?;
     svg_of(alloc, &drawing)
 }
 

@@ -25,7 +25,7 @@ use run_layout::{Axis, MOST_LANES, Scale, axis_of, title_of};
 use run_marks::Marks;
 use std::alloc::{AllocError, Global};
 use svg_text::{Anchor, Drawing, Paint, Shape};
-use uni_script::Told;
+use uni_script::PlacedRemark;
 
 /// How wide a picture is at least.
 const LEAST_WIDTH: u64 = 960;
@@ -34,13 +34,13 @@ const LEAST_WIDTH: u64 = 960;
 const LEGEND: u64 = 146;
 
 /// How wide the things of a picture are: steps are the wider, the fewer there are.
-fn scale_of(marks: &Marks, told: &[Told]) -> Scale
+fn scale_of(marks: &Marks, remarks: &[PlacedRemark]) -> Scale
     requires events { marks.now.events ≤ 2000 }
-    requires told { length told.now ≤ 100000 }
+    requires remarks { length remarks.now ≤ 100000 }
     ensures fits { IsScale result }
-    ensures scale { result ≡ scale_of (marks_shown marks.now) told.now }
+    ensures scale { result ≡ scale_of (marks_shown marks.now) remarks.now }
 {
-    let places = marks.events + 5 * told.len() as u64 + 1;
+    let places = marks.events + 5 * remarks.len() as u64 + 1;
     let step = (872 / places).min(28).max(16) / 2 * 2;
     Scale {
         start: START,
@@ -76,21 +76,21 @@ fn push_title(alloc: Global, marks: &Marks, shapes: &mut Vec<Shape>) -> Result<(
 fn push_notes(
     alloc: Global,
     marks: &Marks,
-    told: &[Told],
+    remarks: &[PlacedRemark],
     axis: &Axis,
     shapes: &mut Vec<Shape>,
 ) -> Result<Lanes, AllocError>
-    requires { length told.now ≤ 100000 }
+    requires { length remarks.now ≤ 100000 }
     ensures shapes { OnOk result (map figure shapes.new.items
-        ≡ map figure shapes.old.items ++ notes_figures (places_shown axis.now) (marks_shown marks.now) told.now) }
+        ≡ map figure shapes.old.items ++ notes_figures (places_shown axis.now) (marks_shown marks.now) remarks.now) }
     ensures lanes { IfOk result (λ lanes. lanes
-        ≡ lanes_below (places_shown axis.now) (marks_shown marks.now) told.now) }
+        ≡ lanes_below (places_shown axis.now) (marks_shown marks.now) remarks.now) }
 {
     let width = width_of(axis);
     let most = line_letters(width);
     push_title(alloc, marks, shapes)?;
-    let top = push_headings(alloc, told, most, 32, shapes)?;
-    let foot = push_captions(alloc, told, axis, width, most, top, shapes)?;
+    let top = push_headings(alloc, remarks, most, 32, shapes)?;
+    let foot = push_captions(alloc, remarks, axis, width, most, top, shapes)?;
     Ok(Lanes {
         top: (foot + LINE) as u32,
         count: marks.lanes().min(MOST_LANES) as u32,
@@ -125,41 +125,45 @@ fn push_run(
 fn push_events(
     alloc: Global,
     marks: &Marks,
-    told: &[Told],
+    remarks: &[PlacedRemark],
     axis: &Axis,
     shapes: &mut Vec<Shape>,
 ) -> Result<u64, AllocError>
-    requires { length told.now ≤ 100000 }
+    requires { length remarks.now ≤ 100000 }
     ensures shapes { OnOk result (map figure shapes.new.items
-        ≡ map figure shapes.old.items ++ events_figures (places_shown axis.now) (marks_shown marks.now) told.now) }
+        ≡ map figure shapes.old.items ++ events_figures (places_shown axis.now) (marks_shown marks.now) remarks.now) }
     ensures small { IfOk result (λ end. end < 2 ^ 35) }
-    ensures end { IfOk result (λ end. end ≡ events_end (places_shown axis.now) (marks_shown marks.now) told.now) }
+    ensures end { IfOk result (λ end. end ≡ events_end (places_shown axis.now) (marks_shown marks.now) remarks.now) }
 {
-    let lanes = push_notes(alloc, marks, told, axis, shapes)?;
+    let lanes = push_notes(alloc, marks, remarks, axis, shapes)?;
     push_run(alloc, marks, axis, lanes, shapes)?;
-    push_refusals(alloc, told, axis, lanes, shapes)?;
+    push_refusals(alloc, remarks, axis, lanes, shapes)?;
     Ok(lanes.bottom())
 }
 
 /// The shapes of the marks of a run, with what was told beside its events.
 ///
 /// An `Err` says that memory was refused.
-pub fn drawing_of(alloc: Global, marks: &Marks, told: &[Told]) -> Result<Drawing, AllocError>
+pub fn drawing_of(
+    alloc: Global,
+    marks: &Marks,
+    remarks: &[PlacedRemark],
+) -> Result<Drawing, AllocError>
     requires events { marks.now.events ≤ 2000 }
-    requires told { length told.now ≤ 100000 }
-    ensures { IfOk result (λ drawing. picture drawing ≡ drawing_of_marks (marks_shown marks.now) told.now) }
+    requires remarks { length remarks.now ≤ 100000 }
+    ensures { IfOk result (λ drawing. picture drawing ≡ drawing_of_marks (marks_shown marks.now) remarks.now) }
 {
-    let axis = axis_of(alloc, marks, told, scale_of(marks, told))?;
+    let axis = axis_of(alloc, marks, remarks, scale_of(marks, remarks))?;
     let width = width_of(&axis);
     let mut shapes = Vec::new(alloc);
-    let above = push_events(alloc, marks, told, &axis, &mut shapes)?;
+    let above = push_events(alloc, marks, remarks, &axis, &mut shapes)?;
     let below = push_cells(alloc, &marks.eras, width, above, &mut shapes)?;
     push_legend(alloc, width, below, &mut shapes)?;
     Ok(Drawing {
         width,
         height: below + LEGEND,
         title: title_of(alloc, marks)?,
-        description: description_of(alloc, told)?,
+        description: description_of(alloc, remarks)?,
         shapes,
     })
 }

@@ -21,16 +21,16 @@ const FAULTS: &[(&str, &str)] = &[
 fn a_fault_is_told_and_no_answer_is_written(rt: HostRuntime) {
     for &(script, fault) in FAULTS {
         let mut text = Vec::new(rt.alloc());
-        let mut told = Vec::new(rt.alloc());
+        let mut remarks = Vec::new(rt.alloc());
         let status = run(
             rt.alloc(),
             Flaw::HelpsBlindly,
             script.as_bytes(),
             &mut Checked::new(&mut text),
-            &mut Checked::new(&mut told),
+            &mut Checked::new(&mut remarks),
         );
         assert_eq!(rt; status, 2);
         assert!(rt; text.is_empty());
-        assert_eq!(rt; told.as_slice(), fault.as_bytes());
+        assert_eq!(rt; remarks.as_slice(), fault.as_bytes());
     }
 }

@@ -213,8 +213,8 @@ fn draws(rt: &impl Abort, alloc: Global, word: u64, want: &str) -> Result<(), Fa
         events: 1,
     };
     let text = drawn(alloc, &[word], &plan).ok_or("no schedule")?;
-    let front = format!(in alloc; "universal 2 sticky 64 1\n{want}finish 0\n")?;
-    assert!(rt; text.as_slice().starts_with(front.as_bytes()), "{want}");
+    let prefix = format!(in alloc; "universal 2 sticky 64 1\n{want}finish 0\n")?;
+    assert!(rt; text.as_slice().starts_with(prefix.as_bytes()), "{want}");
     Ok(())
 }
 

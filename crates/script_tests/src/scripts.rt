@@ -12,8 +12,8 @@ use uni_core::{Progress, World};
 use uni_log::{Entry, Log};
 use uni_record::Verdict;
 use uni_script::{
-    BenchFault, Checked, Echo, Failed, Options, Remark, ScriptRecord, ScriptRun, Summary, TextIn,
-    TextOut, Told, bench, finish_returns, push_fault, run_of_script, write_all,
+    BenchFault, Checked, Echo, Failed, Options, PlacedRemark, Remark, ScriptRecord, ScriptRun,
+    Summary, TextIn, TextOut, bench, finish_returns, push_fault, run_of_script, write_all,
 };
 
 /// What `bench` is told where its history is long enough.
@@ -379,9 +379,9 @@ fn answers_come_before_the_next_line_is_read(rt: HostRuntime) {
 }
 
 /// What a script tells, one remark a line: how many events come before it, and what it says.
-fn told_lines(alloc: Global, told: &[Told]) -> Result<Vec<u8>, Fail> {
+fn remark_lines(alloc: Global, remarks: &[PlacedRemark]) -> Result<Vec<u8>, Fail> {
     let mut text = Vec::new(alloc);
-    for one in told {
+    for one in remarks {
         match &one.remark {
             Remark::Heading(heading) => {
                 write!(text, "{} heading ", one.before)?;
@@ -417,7 +417,7 @@ fn is_queue_of(record: &ScriptRecord, events: usize) -> bool {
 /// A run is that of `NOTED`: the call and its 16 steps, and what it tells.
 fn is_noted(rt: &impl Abort, alloc: Global, run: &ScriptRun<ScriptRecord>) -> Result<(), Fail> {
     assert!(rt; is_queue_of(&run.record, 17), "another record");
-    let text = told_lines(alloc, &run.told)?;
+    let text = remark_lines(alloc, &run.remarks)?;
     assert!(rt; text.as_slice() == NOTED_TOLD.as_bytes(), "other remarks");
     Ok(())
 }

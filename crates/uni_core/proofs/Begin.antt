@@ -12,7 +12,7 @@ use Rattle.uni_model.specs.Worlds.{world_after_call, calls_in_era}
 use Rattle.uni_model.specs.Worlds.Event.{Call}
 use Rattle.uni_model.proofs.Simulation.{call_accepted}
 use Rattle.uni_core.specs.declared.local.Local.{Local}
-use Rattle.uni_core.specs.Shared.{Shared, first_of, named, memory_of}
+use Rattle.uni_core.specs.SharedEntries.{SharedEntries, first_of, named, memory_of}
 use Rattle.uni_core.specs.declared.stage.Pending.{Pending}
 use Rattle.uni_core.specs.Stage.{pending_of}
 use Rattle.uni_model.specs.Stages.{Pending as PendingAt}
@@ -92,7 +92,7 @@ module _ {O S I R : Type 0} (object : Sequential S I R) (v now : Whole O S I R) 
   pub less_now : (room : ℕ) → room ≡ v.shared.cells.row - made_of v.shared.cells p → room ≢ 0 → calls_in_era (world_of now) p < now.row
   less_now room is_room some = subst (λ (x : Whole O S I R). calls_in_era (world_of x) p < x.row) view (let all = era_is in let most : calls_in_era (world_of v) p ≤ v.row = is.room p in let rows : v.row ≡ v.shared.cells.row = is.row in omega arith)
 
-  module _ (a' : Shared S I R) (i j : I) (same : i ≡ j) (mine : ℕ) (b : Bool) (tested : b ≡ is_some l.call) (none : b ≡ false) (free : made_of v.shared.cells p < v.shared.cells.row)
+  module _ (a' : SharedEntries S I R) (i j : I) (same : i ≡ j) (mine : ℕ) (b : Bool) (tested : b ≡ is_some l.call) (none : b ≡ false) (free : made_of v.shared.cells p < v.shared.cells.row)
       (mine_is : mine ≡ index_of (processes_of v.shared.cells) p (made_of v.shared.cells p))
       (wrote : memory_of a' ≡ memory_with (memory_of v.shared) (InvOf (Of p (first_of v.shared p + made_of v.shared.cells p))) (Invocation (Some i)))
       (shape : (processes_of a'.cells ≡ processes_of v.shared.cells) × (a'.cells.row ≡ v.shared.cells.row) × (a'.first ≡ v.shared.first))

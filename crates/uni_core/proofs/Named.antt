@@ -7,7 +7,7 @@ use Rattle.uni_model.specs.Places.Name.{Anchor, Of}
 use Rattle.uni_model.proofs.Written.{number_cases, lt_cases}
 use Rattle.uni_model.proofs.Indices.{index_of-name, name_from-index_of, same_index_from}
 use Rattle.uni_model.specs.Indices.{name_from}
-use Rattle.uni_core.specs.Shared.{cell_named}
+use Rattle.uni_core.specs.SharedEntries.{cell_named}
 
 module _ {S I R : Type 0} (n : ℕ) (first : ℕ → ℕ) (positive : 1 ≤ n) (cell : ℕ → Option (CellRecord S I R)) where
   pub cell_named-name_from : (i : ℕ) → cell_named n first cell (name_from n first i) ≡ cell i

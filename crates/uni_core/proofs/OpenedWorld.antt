@@ -14,7 +14,7 @@ use Rattle.uni_model.proofs.Bounded.{HelpingInvariant-opened_world}
 use Rattle.uni_core.specs.declared.local.Local.{Local}
 use Rattle.uni_model.specs.Indices.{name_from}
 use Rattle.uni_core.specs.Local.{new_local}
-use Rattle.uni_core.specs.Shared.{Shared, first_of, memory_of}
+use Rattle.uni_core.specs.SharedEntries.{SharedEntries, first_of, memory_of}
 use Rattle.uni_core.specs.World.{Whole, call_at, world_at, world_of, CountsNone, IsWorld}
 use Rattle.uni_core.proofs.NoCalls.{CountsNone-opened_world}
 
@@ -38,7 +38,7 @@ world_at-copies n count m s number is i =
       turns = λ p. of_copies (λ l. option_map_or (λ (x : Local). x.turns) l 0) new_local refl count p i;
     }
 
-module _ {O S I R : Type 0} (sequential : Sequential S I R) (object : O) (a : Shared S I R) (n k : ℕ) (s : S) (number : ℕ) (locals : List Local)
+module _ {O S I R : Type 0} (sequential : Sequential S I R) (object : O) (a : SharedEntries S I R) (n k : ℕ) (s : S) (number : ℕ) (locals : List Local)
     (copied : locals ≡ replicate n new_local) (memory : memory_of a ≡ anchor_memory s number)
     (shape : (processes_of a.cells ≡ n) × (a.cells.row ≡ k)) (firsts : a.first ≡ replicate n 0) where
   abbrev pub first : Whole O S I R

@@ -8,7 +8,7 @@ use Rattle.uni_model.specs.Places.Name.{Anchor, Of}
 use Rattle.uni_model.specs.Worlds.{chain}
 use Rattle.uni_model.specs.Invariant.{Has}
 use Rattle.uni_model.proofs.OneLists.{length-chain}
-use Rattle.uni_core.specs.Shared.{first_of, named, memory_of}
+use Rattle.uni_core.specs.SharedEntries.{first_of, named, memory_of}
 use Rattle.uni_core.specs.Stage.{IsThere}
 use Rattle.uni_core.specs.World.{Whole, world_of, IsWorld}
 use Rattle.uni_model.proofs.Indices.{name_from-index_of}

@@ -22,7 +22,7 @@ use Rattle.uni_core.specs.declared.local.Local.{Local}
 use Rattle.uni_core.specs.declared.stage.Pending.{Pending}
 use Rattle.uni_core.specs.Stage.{pending_of}
 use Rattle.uni_core.specs.Local.{new_local}
-use Rattle.uni_core.specs.Shared.{Shared, first_of, named, memory_of, IsRenewed}
+use Rattle.uni_core.specs.SharedEntries.{SharedEntries, first_of, named, memory_of, IsRenewed}
 use Rattle.uni_core.specs.World.{Whole, call_at, world_of, CountsNone, IsWorld}
 use Rattle.uni_core.proofs.NoCalls.{CountsNone-world_after_era}
 use Rattle.uni_core.proofs.Named.{cell_named-name_from}
@@ -103,7 +103,7 @@ module _ {O S I R : Type 0} (object : Sequential S I R) (v now : Whole O S I R) 
       let number : seq_of (memory_of v.shared) (last_cell (world_of v)) ≡ is.sound.0 (last_cell (world_of v)) = is.sound.2.numbered.seq (last_cell (world_of v)) threaded in
       omega arith
 
-  module _ (a' : Shared S I R) (m : ℕ) (locals' : List Local) (renewed : IsRenewed (cell_of v.shared.cells id) (memory_of a')) (firsts : (p : ℕ) → first_of a' p ≡ (slice_index_or locals' p new_local).begun)
+  module _ (a' : SharedEntries S I R) (m : ℕ) (locals' : List Local) (renewed : IsRenewed (cell_of v.shared.cells id) (memory_of a')) (firsts : (p : ℕ) → first_of a' p ≡ (slice_index_or locals' p new_local).begun)
       (same : (p : ℕ) → slice_index_or locals' p new_local ≡ slice_index_or v.locals p new_local) (count : processes_of a'.cells ≡ m) where
     abbrev pub renewed_whole : Whole O S I R
     renewed_whole = record { object = v.object; row = v.row; shared = a'; locals = locals' }

@@ -10,11 +10,11 @@ use Rattle.uni_model.specs.Places.Content.{CellName, Invocation, Number, Link, S
 use Rattle.uni_model.specs.Worlds.{anchor_memory}
 use Rattle.uni_model.proofs.Written.{number_cases, lt_cases}
 use Rattle.uni_model.specs.Indices.{name_from}
-use Rattle.uni_core.specs.Shared.{Shared, first_of, named, cell_named, memory_at, memory_of, IsRenewed}
+use Rattle.uni_core.specs.SharedEntries.{SharedEntries, first_of, named, cell_named, memory_at, memory_of, IsRenewed}
 use Rattle.uni_core.proofs.Named.{cell_named-name_from}
 use Rattle.uni_core.proofs.Written.{memory_at-with_seq, memory_at-with_before, memory_at-with_after, memory_at-with_new, memory_at-made, memory_at-announce, memory_at-head}
 
-module _ {S I R : Type 0} (a now : Shared S I R) (view : a ≡ now) where
+module _ {S I R : Type 0} (a now : SharedEntries S I R) (view : a ≡ now) where
   module _ (cells' : Arena S I R) (positive : 1 ≤ processes_of a.cells) (same : processes_of cells' ≡ processes_of a.cells) where
     -- the number of processes as it was
     counted : (announce heads : List ℕ) → memory_of (record { cells = cells'; announce = announce; heads = heads; first = a.first }) ≡ memory_at (processes_of a.cells) (first_of a) (cell_of cells') announce heads

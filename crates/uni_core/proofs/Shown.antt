@@ -29,7 +29,7 @@ use Rattle.uni_core.specs.declared.stage.Stage.{Stage}
 use Rattle.uni_core.specs.declared.stage.Stage.TheVariants as stages
 use Rattle.uni_core.specs.declared.stage.Pending.{Pending}
 use Rattle.uni_model.specs.Indices.{name_from}
-use Rattle.uni_core.specs.Shared.{Shared, first_of, named, memory_of}
+use Rattle.uni_core.specs.SharedEntries.{SharedEntries, first_of, named, memory_of}
 use Rattle.uni_core.specs.Stage.{stage_of, pending_of, Takes}
 use Rattle.uni_core.specs.World.{Whole, call_at, world_at, world_of, CountsNone, IsWorld}
 use Rattle.uni_core.proofs.NoCalls.{CountsNone-world_after_call, CountsNone-world_after_step}
@@ -80,7 +80,7 @@ module _ {O S I R : Type 0} (object : Sequential S I R) (v : Whole O S I R) (is 
   long : p < length v.locals
   long = let all : processes_of v.shared.cells ≤ length v.locals = is.locals in let inside : p < processes_of v.shared.cells = below in omega arith
 
-  module _ (a' : Shared S I R) (i : I) (mine : ℕ) (name : named v.shared mine ≡ Of p l.begun) (count : processes_of a'.cells ≡ processes_of v.shared.cells)
+  module _ (a' : SharedEntries S I R) (i : I) (mine : ℕ) (name : named v.shared mine ≡ Of p l.begun) (count : processes_of a'.cells ≡ processes_of v.shared.cells)
       (firsts : a'.first ≡ v.shared.first) (among : ℕ) (among_is : among ≡ processes_of v.shared.cells)
       (wrote : memory_of a' ≡ memory_with (memory_of v.shared) (InvOf (Of p l.begun)) (Invocation (Some i))) (idle : l.call ≡ None) where
     abbrev pub begun_local : Local
@@ -167,7 +167,7 @@ module _ {O S I R : Type 0} (object : Sequential S I R) (v : Whole O S I R) (is 
             | inr h ↦ rw h.1 (let now : made_of a'.cells q ≡ made_of v.shared.cells q = made q ∙ rw h.1 refl in omega arith)
           ]
 
-  module _ (a' : Shared S I R) (call : Pending) (pending : l.call ≡ Some call) (to : Option Stage) (response : Option R)
+  module _ (a' : SharedEntries S I R) (call : Pending) (pending : l.call ≡ Some call) (to : Option Stage) (response : Option R)
       (takes : Takes object p (named v.shared call.mine) (stage_of (named v.shared) call.stage) v.shared a' (option_map (stage_of (named v.shared)) to) response)
       (steps turns : ℕ) (steps_is : steps ≡ l.steps + 1)
       (turns_is : turns ≡ l.turns + turn_of (stage_of (named v.shared) call.stage) (memory_of v.shared (place_of (processes_of v.shared.cells) p (named v.shared call.mine) (stage_of (named v.shared) call.stage)))) where

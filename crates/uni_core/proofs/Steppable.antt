@@ -17,7 +17,7 @@ use Rattle.uni_model.proofs.Simulation.{enough}
 use Rattle.uni_model.proofs.Ranges.{sum_below-bound}
 use Rattle.uni_core.specs.declared.stage.Stage.{Stage}
 use Rattle.uni_core.specs.declared.stage.Stage.TheVariants.{Announce, ScanHead, ScanSeq, WriteScan, Test, ReadAnnounce, ReadHelpSeq, DecideAfter, DecideNew, WriteBefore, WriteSeq, WriteHead, Finish}
-use Rattle.uni_core.specs.Shared.{Shared, first_of, named, memory_of}
+use Rattle.uni_core.specs.SharedEntries.{SharedEntries, first_of, named, memory_of}
 use Rattle.uni_core.specs.Stage.{stage_of, CanStep, IsThere, effect_at, turns_to}
 use Rattle.uni_model.specs.Transition.{place_of, turn_of, stage_after}
 use Rattle.uni_core.specs.World.{Whole, world_of, IsWorld}
@@ -36,7 +36,7 @@ last_small object v is =
     let fits : seq_of (memory_of v.shared) Anchor + processes_of v.shared.cells * v.row < 2 ^ 48 = is.numbers in
     omega arith
 
-module _ {S I R : Type 0} (a : Shared S I R) (positive : 1 ≤ processes_of a.cells) where
+module _ {S I R : Type 0} (a : SharedEntries S I R) (positive : 1 ≤ processes_of a.cells) where
   pub there_seq : (id : ℕ) → 1 ≤ seq_of (memory_of a) (named a id) → IsThere a id
   there_seq id h = by_cell (cell_of a.cells id) (subst (λ o. 1 ≤ option_map_or (λ (c : CellRecord S I R). c.seq) o 0) (cell_named-name_from (processes_of a.cells) (first_of a) positive (cell_of a.cells) id) h) where
     by_cell : (o : Option (CellRecord S I R)) → 1 ≤ option_map_or (λ (c : CellRecord S I R). c.seq) o 0 → IsSome o
@@ -163,7 +163,7 @@ turn_of-stage_after n mine (at.WriteSeq c s d) v = refl
 turn_of-stage_after n mine (at.WriteHead c s d) v = refl
 turn_of-stage_after n mine (at.Finish s t) v = refl
 
-pub turns_to-effect : {S I R : Type 0} (object : Sequential S I R) (a : Shared S I R) (p : ℕ) (mine : Name) (stage : at) (to : Option Stage)
+pub turns_to-effect : {S I R : Type 0} (object : Sequential S I R) (a : SharedEntries S I R) (p : ℕ) (mine : Name) (stage : at) (to : Option Stage)
     → option_map (stage_of (named a)) to ≡ (effect_at object a p mine stage).stage
     → turns_to to ≡ turn_of stage (memory_of a (place_of (processes_of a.cells) p mine stage))
 turns_to-effect object a p mine stage to e =

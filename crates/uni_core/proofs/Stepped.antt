@@ -20,7 +20,7 @@ use Rattle.uni_core.specs.declared.transition.After.{After}
 use Rattle.uni_core.specs.declared.transition.After.TheVariants.{At, Ended}
 use Rattle.uni_core.specs.declared.fault.Progress.TheVariants.{Going, Done}
 use Rattle.uni_model.specs.Places.{Name}
-use Rattle.uni_core.specs.Shared.{Shared, named, memory_of}
+use Rattle.uni_core.specs.SharedEntries.{SharedEntries, named, memory_of}
 use Rattle.uni_core.specs.Stage.{stage_of, stage_told, response_told, pending_of, Takes, CanStep, MayBeRefused, turns_to}
 use Rattle.uni_core.specs.World.{Whole, world_of, IsWorld, TakesEffect, MayNeedMemory, MayNeedMemoryAt, progress_of}
 use Rattle.uni_core.specs.Refusals.{CanGo}
@@ -28,7 +28,7 @@ use Rattle.uni_core.proofs.Begin.{inside_count, local_here}
 use Rattle.uni_core.proofs.Shown.{stepped_whole, stepped_local, world_of-world_after_step, IsWorld-world_after_step}
 use Rattle.uni_core.proofs.Steppable.{CanStep-pending, turns_to-effect}
 
-refused_at : {S I R : Type 0} (a : Shared S I R) (stage : Stage) → MayBeRefused a stage → MayNeedMemoryAt (memory_of a) (stage_of (named a) stage)
+refused_at : {S I R : Type 0} (a : SharedEntries S I R) (stage : Stage) → MayBeRefused a stage → MayNeedMemoryAt (memory_of a) (stage_of (named a) stage)
 refused_at a (DecideNew c s d) h = h
 refused_at a Announce h = h
 refused_at a (ScanHead q best s) h = h
@@ -87,7 +87,7 @@ module _ {O S I R : Type 0} (object : Sequential S I R) (v now : Whole O S I R) 
   pub may_need : MayBeRefused v.shared call.stage → MayNeedMemory (world_of now) p
   may_need h = subst (λ (x : Whole O S I R). MayNeedMemory (world_of x) p) view (rw pend (refused_at v.shared call.stage h))
 
-  module _ (a' : Shared S I R) (told : After R)
+  module _ (a' : SharedEntries S I R) (told : After R)
       (taken : Takes object p (named v.shared call.mine) (stage_of (named v.shared) call.stage) v.shared a' (stage_told (named v.shared) told) (response_told told))
       (to : Option Stage) (to_is : (name : ℕ → Name) → option_map (stage_of name) to ≡ stage_told name told)
       (after : Local) (call_is : after.call ≡ option_map (λ s. record { mine = call.mine; stage = s }) to) (begun_is : after.begun ≡ l.begun) (among_is : after.among ≡ l.among)

@@ -13,11 +13,11 @@ use Rattle.uni_model.specs.Chain.{response_in}
 use Rattle.uni_model.specs.Transition.{value_after, place_of, response_after, stage_after_scan}
 use Rattle.cell_arena.specs.Arena.{processes_of}
 use Rattle.uni_model.proofs.Written.{written_same, lt_cases}
-use Rattle.uni_core.specs.Shared.{Shared, named, memory_of, HasShapeOf}
+use Rattle.uni_core.specs.SharedEntries.{SharedEntries, named, memory_of, HasShapeOf}
 use Rattle.uni_core.specs.Stage.{Takes, effect_at, stage_of}
 use Rattle.uni_core.specs.declared.stage.Stage.{Stage}
 
-module _ {S I R : Type 0} (a : Shared S I R) (d : Name) where
+module _ {S I R : Type 0} (a : SharedEntries S I R) (d : Name) where
   -- what is settled stays, whatever is proposed
   pub settled_kept : (proposal : Option (S × Option R)) → IsSome (new_of (memory_of a) d)
       → memory_of a ≡ memory_with (memory_of a) (NewOf d) (Settled (option_or (new_of (memory_of a) d) proposal))
@@ -38,17 +38,17 @@ copied_some None e = absurd (let f : false ≡ true = e in cc)
 copied_some (Some x) e = refl
 
 -- one proposal for another that is the same
-pub proposed_same : {S I R : Type 0} (a a' : Shared S I R) (d : Name) (p q : Option (S × Option R)) → p ≡ q
+pub proposed_same : {S I R : Type 0} (a a' : SharedEntries S I R) (d : Name) (p q : Option (S × Option R)) → p ≡ q
     → memory_of a' ≡ memory_with (memory_of a) (NewOf d) (Settled (option_or (new_of (memory_of a) d) q))
     → memory_of a' ≡ memory_with (memory_of a) (NewOf d) (Settled (option_or (new_of (memory_of a) d) p))
 proposed_same a a' d p q e h = subst (λ x. memory_of a' ≡ memory_with (memory_of a) (NewOf d) (Settled (option_or (new_of (memory_of a) d) x))) (sym e) h
 
 -- the shape of what is unchanged
-pub HasShapeOf-same : {S I R : Type 0} (a : Shared S I R) → HasShapeOf a a
+pub HasShapeOf-same : {S I R : Type 0} (a : SharedEntries S I R) → HasShapeOf a a
 HasShapeOf-same a = record { processes = refl; row = refl; made = λ p. refl; first = refl }
 
 -- a step that only reads its place
-pub Takes-read : {S I R : Type 0} (object : Sequential S I R) (p : ℕ) (mine : Name) (from : at) (a : Shared S I R) (to : Option at) (response : Option R)
+pub Takes-read : {S I R : Type 0} (object : Sequential S I R) (p : ℕ) (mine : Name) (from : at) (a : SharedEntries S I R) (to : Option at) (response : Option R)
     → (effect_at object a p mine from).content ≡ memory_of a (place_of (processes_of a.cells) p mine from)
     → to ≡ (effect_at object a p mine from).stage → response ≡ response_after mine from (memory_of a) → Takes object p mine from a a to response
 Takes-read object p mine from a to response same stage told = record {
@@ -59,7 +59,7 @@ Takes-read object p mine from a to response same stage told = record {
 }
 
 -- what the last step writes
-pub Takes-finish : {S I R : Type 0} (object : Sequential S I R) (p : ℕ) (mine : Name) (s t : ℕ) (a a' : Shared S I R) (r : R) → response_in (memory_of a) mine ≡ Some r
+pub Takes-finish : {S I R : Type 0} (object : Sequential S I R) (p : ℕ) (mine : Name) (s t : ℕ) (a a' : SharedEntries S I R) (r : R) → response_in (memory_of a) mine ≡ Some r
     → ((s < t) × HasShapeOf a a' × (memory_of a' ≡ memory_with (memory_of a) (HeadOf p) (CellName mine))) ⊎ ((t ≤ s) × (a' ≡ a))
     → Takes object p mine (at.Finish s t) a a' None (Some r)
 Takes-finish object p mine s t a a' r responds (inl wrote) = record {
@@ -74,7 +74,7 @@ Takes-finish object p mine s t a a' r responds (inr kept) = elim (lt_cases s t) 
 ]
 
 -- Each step that only reads its place, of n processes.
-module _ {S I R : Type 0} (object : Sequential S I R) (p : ℕ) (mine : Name) (a : Shared S I R) where
+module _ {S I R : Type 0} (object : Sequential S I R) (p : ℕ) (mine : Name) (a : SharedEntries S I R) where
   pub Takes-scan_head : (q : ℕ) (best : Name) (s head : ℕ) → named a head ≡ head_of (memory_of a) q
       → Takes object p mine (at.ScanHead q best s) a a (Some (at.ScanSeq q best s (named a head))) None
   Takes-scan_head q best s head e = Takes-read object p mine (at.ScanHead q best s) a _ None refl (ap (λ x. Some (at.ScanSeq q best s x)) e) refl
@@ -109,7 +109,7 @@ module _ {S I R : Type 0} (object : Sequential S I R) (p : ℕ) (mine : Name) (a
       (e (named a) ∙ ap (λ t. if t == 0 then named a help else named a own) is_seq
       ∙ ap (λ y. if seq_of (memory_of a) (named a help) == 0 then named a help else y) (sym is_mine))) refl
 
-  pub Takes-decide_after : (c s prefer d : ℕ) (a' : Shared S I R) → HasShapeOf a a'
+  pub Takes-decide_after : (c s prefer d : ℕ) (a' : SharedEntries S I R) → HasShapeOf a a'
       → memory_of a' ≡ memory_with (memory_of a) (AfterOf (named a c)) (Link (option_or (after_of (memory_of a) (named a c)) (Some (named a prefer))))
       → named a d ≡ unwrap_or (after_of (memory_of a) (named a c)) (named a prefer)
       → Takes object p mine (at.DecideAfter (named a c) s (named a prefer)) a a' (Some (at.DecideNew (named a c) s (named a d))) None

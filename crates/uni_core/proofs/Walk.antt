@@ -12,7 +12,7 @@ use Rattle.uni_model.specs.Invariant.{Invariant}
 use Rattle.uni_model.proofs.Simulation.{enough}
 use Rattle.uni_model.proofs.Chains.{cells_from-enough}
 use Rattle.uni_model.proofs.Ranges.{sum_below-bound}
-use Rattle.uni_core.specs.Shared.{named, memory_of}
+use Rattle.uni_core.specs.SharedEntries.{named, memory_of}
 use Rattle.uni_core.specs.World.{Whole, world_of}
 
 -- from a cell the last one is found within so many steps

@@ -8,7 +8,7 @@ use Rattle.uni_model.specs.Places.Place.{Announced, HeadOf, InvOf, SeqOf, AfterO
 use Rattle.uni_model.specs.Places.Content.{CellName, Invocation, Number, Link, Settled}
 use Rattle.uni_model.proofs.Written.{name_cases, number_cases}
 use Rattle.uni_model.specs.Indices.{name_from}
-use Rattle.uni_core.specs.Shared.{cell_named, entry_name, memory_at}
+use Rattle.uni_core.specs.SharedEntries.{cell_named, entry_name, memory_at}
 use Rattle.uni_model.proofs.Indices.{name_from-index_of}
 use Rattle.uni_core.proofs.Named.{cell_named-name_from, changed_named}
 use Rattle.cell_arena.proofs.Lists.{slice_get-set_same, slice_get-set_other}

@@ -1,4 +1,4 @@
-pub mod Shared
+pub mod SharedEntries
 pub mod Stage
 pub mod Local
 pub mod World

@@ -14,7 +14,7 @@ use Rattle.uni_core.specs.declared.stage.Stage.TheVariants.{DecideAfter, DecideN
 use Rattle.uni_core.specs.declared.stage.Pending.{Pending}
 use Rattle.uni_core.specs.declared.transition.After.{After}
 use Rattle.uni_core.specs.declared.transition.After.TheVariants.{At, Ended}
-use Rattle.uni_core.specs.Shared.{Shared, named, memory_of, HasShapeOf}
+use Rattle.uni_core.specs.SharedEntries.{SharedEntries, named, memory_of, HasShapeOf}
 
 -- the stage, with names for indices
 abbrev pub stage_of : (name : ℕ → Name) → Stage → at
@@ -36,7 +36,7 @@ abbrev pub pending_of : (name : ℕ → Name) → Pending → PendingAt
 pending_of name call = record { mine = name call.mine; stage = stage_of name call.stage }
 
 -- what the step of a process comes to at these shared places
-abbrev pub effect_at : {S I R : Type 0} → Sequential S I R → Shared S I R → (p : ℕ) → (mine : Name) → at → Effect S I R
+abbrev pub effect_at : {S I R : Type 0} → Sequential S I R → SharedEntries S I R → (p : ℕ) → (mine : Name) → at → Effect S I R
 effect_at object a p mine stage =
     effect_of object (processes_of a.cells) mine stage (memory_of a (place_of (processes_of a.cells) p mine stage)) (memory_of a)
 
@@ -50,7 +50,8 @@ response_told (At stage) = None
 response_told (Ended response) = Some response
 
 -- the process has taken the step of its stage: one place is written, it stands where it stands after it, and has this response
-pub record Takes {S I R : Type 0} (object : Sequential S I R) (p : ℕ) (mine : Name) (from : at) (old new : Shared S I R) (to : Option at)
+pub record Takes {S I R : Type 0} (object : Sequential S I R) (p : ℕ) (mine : Name) (from : at)
+    (old new : SharedEntries S I R) (to : Option at)
     (response : Option R) : Type 0 where
   pub shape : HasShapeOf old new
   pub memory : memory_of new ≡ memory_with (memory_of old) (place_of (processes_of old.cells) p mine from)
@@ -59,11 +60,11 @@ pub record Takes {S I R : Type 0} (object : Sequential S I R) (p : ℕ) (mine : 
   pub told : response ≡ response_after mine from (memory_of old)
 
 -- there is a cell at the index
-abbrev pub IsThere : {S I R : Type 0} → Shared S I R → ℕ → Type 0
+abbrev pub IsThere : {S I R : Type 0} → SharedEntries S I R → ℕ → Type 0
 IsThere a id = IsSome (cell_of a.cells id)
 
 -- the cells that a step touches are there, and its numbers fit
-abbrev pub CanStep : {S I R : Type 0} → Shared S I R → (mine : ℕ) → Stage → Type 0
+abbrev pub CanStep : {S I R : Type 0} → SharedEntries S I R → (mine : ℕ) → Stage → Type 0
 CanStep a mine Announce = Unit {0}
 CanStep a mine (ScanHead q best best_seq) = q < processes_of a.cells
 CanStep a mine (ScanSeq q best best_seq head) = (q < processes_of a.cells) × IsThere a head
@@ -80,7 +81,7 @@ CanStep a mine (WriteHead c c_seq d) = c_seq < 2 ^ 48
 CanStep a mine (Finish c_seq mine_seq) = IsThere a mine × IsSome (response_in (memory_of a) (named a mine))
 
 -- the step may be refused memory: it has to apply the object
-abbrev pub MayBeRefused : {S I R : Type 0} → Shared S I R → Stage → Type 0
+abbrev pub MayBeRefused : {S I R : Type 0} → SharedEntries S I R → Stage → Type 0
 MayBeRefused a (DecideNew c c_seq d) = new_of (memory_of a) (named a d) ≡ None
 MayBeRefused a _ = ⊥
 

@@ -16,7 +16,7 @@ use Rattle.seq_object.specs.declared.call_id.CallId.{CallId}
 use Rattle.uni_core.specs.declared.local.Local.{Local}
 use Rattle.uni_core.specs.declared.fault.Progress.{Progress}
 use Rattle.uni_core.specs.declared.fault.Progress.TheVariants.{Going, Done}
-use Rattle.uni_core.specs.Shared.{Shared, first_of, memory_of}
+use Rattle.uni_core.specs.SharedEntries.{SharedEntries, first_of, memory_of}
 use Rattle.uni_model.specs.Indices.{name_from}
 use Rattle.uni_core.specs.Stage.{pending_of}
 
@@ -24,7 +24,7 @@ use Rattle.uni_core.specs.Stage.{pending_of}
 pub record Whole (O S I R : Type 0) : Type 0 where
   pub object : O
   pub row : ℕ
-  pub shared : Shared S I R
+  pub shared : SharedEntries S I R
   pub locals : List Local
 
 -- the pending call of a process that keeps this for itself

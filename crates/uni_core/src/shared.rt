@@ -13,7 +13,7 @@ ghost use Rattle.uni_model.specs.Places.Name.{Of};
 ghost use Rattle.uni_model.specs.Chain.{response_in};
 ghost use Rattle.std.specs.Option.{option_or};
 ghost use Rattle.uni_model.specs.Worlds.{anchor_memory};
-ghost use Rattle.uni_core.specs.Shared.{named, first_of, memory_of, HasShapeOf, IsRenewed};
+ghost use Rattle.uni_core.specs.SharedEntries.{named, first_of, memory_of, HasShapeOf, IsRenewed};
 ghost use Rattle.uni_core.specs.Local.{new_local};
 
 use crate::local::Local;
@@ -27,17 +27,17 @@ pub type WorldCells<S, I, R> = ColumnCells<S, I, R>;
 
 /// The shared places. A contract sees what each of them contains.
 #[derive(Drop)]
-pub(crate) struct Shared<S, I, R> {
+pub(crate) struct SharedEntries<S, I, R> {
     cells: WorldCells<S, I, R>,
     announce: Vec<Own<CellId>>,
     heads: Vec<Own<CellId>>,
     first: Vec<u64>,
 }
 
-impl<S, I, R> Model for Shared<S, I, R> {
+impl<S, I, R> Model for SharedEntries<S, I, R> {
     ghost use Rattle.std.specs.Prelude.{◌≡◌, ◌≤◌, length};
     ghost use Rattle.cell_arena.specs.Arena.{processes_of};
-    ghost use Rattle.uni_core.specs.Shared.{Shared as Entries};
+    ghost use Rattle.uni_core.specs.SharedEntries.{SharedEntries as Entries};
 
     ghost Value = { Entries S I R };
 
@@ -63,7 +63,7 @@ fn take_begun(first: &mut Vec<u64>, locals: &[Local])
     }
 }
 
-impl<S: Drop, I: Drop, R: Copy> Shared<S, I, R> {
+impl<S: Drop, I: Drop, R: Copy> SharedEntries<S, I, R> {
     /// The shared places of `n` processes with rows of `k` cells: the anchor alone, with this state
     /// and number, and every entry names it.
     pub(crate) fn opened(
@@ -83,7 +83,7 @@ impl<S: Drop, I: Drop, R: Copy> Shared<S, I, R> {
     {
         let cells = WorldCells::opened(alloc, n, k, state, seq)?;
         let entry = Own::new(CellId::anchor());
-        Ok(Shared {
+        Ok(SharedEntries {
             cells,
             announce: vec![in alloc; entry; n as usize]?,
             heads: vec![in alloc; entry; n as usize]?,

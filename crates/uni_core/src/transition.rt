@@ -10,11 +10,11 @@ ghost use Rattle.uni_model.specs.Places.Place.{NewOf};
 ghost use Rattle.uni_model.specs.Places.Content.{Settled};
 ghost use Rattle.uni_model.specs.Stages.{Stage as at};
 ghost use Rattle.uni_model.specs.Transition.{stage_after_scan, value_after};
-ghost use Rattle.uni_core.specs.Shared.{named, memory_of, HasShapeOf};
+ghost use Rattle.uni_core.specs.SharedEntries.{named, memory_of, HasShapeOf};
 ghost use Rattle.uni_core.specs.Stage.{stage_of, stage_told, response_told, Takes, CanStep, MayBeRefused};
 
 use crate::fault::Progress;
-use crate::shared::Shared;
+use crate::shared::SharedEntries;
 use crate::stage::Stage;
 use cell_arena::CellId;
 use seq_object::SeqObject;
@@ -94,7 +94,7 @@ impl<R: Copy> After<R> {
 #[derive(Drop)]
 pub(crate) struct Machine<O: SeqObject> {
     pub(crate) object: O,
-    pub(crate) shared: Shared<O::State, O::Inv, O::Resp>,
+    pub(crate) shared: SharedEntries<O::State, O::Inv, O::Resp>,
 }
 
 impl<O: SeqObject> Machine<O> {

@@ -10,7 +10,7 @@ ghost use Rattle.uni_core.specs.Refusals.{CanOpen, CanCall, CanGo, IsOpenRefused
 
 use crate::fault::{BeginFault, OpenFault, Progress, StepFault};
 use crate::local::Local;
-use crate::shared::Shared;
+use crate::shared::SharedEntries;
 use crate::stage::{Pending, Stage};
 use crate::transition::Machine;
 use seq_object::{CallId, SeqObject};
@@ -141,7 +141,7 @@ impl<O: SeqObject> World<O> {
         let Ok(locals) = copies(alloc, Local::new(), n) else {
             return Err(OpenFault::Memory);
         };
-        let Ok(shared) = Shared::opened(alloc, n, k, state, seq) else {
+        let Ok(shared) = SharedEntries::opened(alloc, n, k, state, seq) else {
             return Err(OpenFault::Memory);
         };
         Ok(World {

@@ -15,13 +15,13 @@ module _ {A : Type 0} where
       let e : length (x ∷ xs) + j ≡ suc (length xs + j) = omega arith in
       ap (slice_get (x ∷ xs ++ ys)) e ∙ slice_get-append_right xs ys j
 
-  -- a place is in front, or after it
+  -- a place is in the first part, or after it
   pub slice_get-append_cases : (xs ys : List A) (j : ℕ) (x : A) → slice_get (xs ++ ys) j ≡ Some x
       → (slice_get xs j ≡ Some x) ⊎ ((k : ℕ) × (j ≡ length xs + k) × (slice_get ys k ≡ Some x))
   slice_get-append_cases [] ys j x at = inr (j, (let e : j ≡ 0 + j = omega arith in e), at)
   slice_get-append_cases (x ∷ xs) ys zero y at = inl at
   slice_get-append_cases (x ∷ xs) ys (suc j) y at = elim (slice_get-append_cases xs ys j y at) [
-    | inl front ↦ inl front
+    | inl prefix ↦ inl prefix
     | inr behind ↦ inr (behind.0, (let e = behind.1 in let f : suc j ≡ length (x ∷ xs) + behind.0 = omega arith in f), behind.2)
   ]
 
@@ -51,7 +51,7 @@ module _ {A : Type 0} where
       let first : x ≡ y = (let e : Some x ≡ Some y = same 0 y refl in cc) in
       rw first (ap (λ zs. y ∷ zs) (same_elements xs ys (omega arith) (λ j z at. same (suc j) z at)))
 
-  -- a list is a front and what stands behind it
+  -- a list is a prefix and what stands behind it
   pub take-split : (k : ℕ) (xs ys : List A) → length xs ≡ k + length ys → ((j : ℕ) (y : A) → slice_get ys j ≡ Some y → slice_get xs (k + j) ≡ Some y) → xs ≡ take k xs ++ ys
   take-split zero xs ys long same = same_elements xs ys (omega arith) (λ j y at. let e : j ≡ 0 + j = omega arith in ap (slice_get xs) e ∙ same j y at)
   take-split (suc k) [] ys long same = absurd (omega arith)

@@ -1,4 +1,4 @@
--- An atomic object goes on behind the calls of ended eras: what it accepts, it accepts with those calls in front.
+-- An atomic object goes on behind the calls of ended eras: what it accepts, it accepts with those calls before it.
 use Rattle.std.proofs.Common.{◌≡◌, ◌∙◌, ℕ, ◌+◌, ◌<◌, ◌≤◌, inl, inr, sym, ap, subst, List, [], ◌∷◌, ◌++◌, map, length, Some, None, Contains, arith}
 use Rattle.std.proofs.lemmas.List.{append_assoc, map-append, length-map}
 use Rattle.std.proofs.lemmas.List.Elements.{Contains-append_cases}
@@ -9,16 +9,16 @@ use Rattle.uni_model.specs.AtomicObject.Act.{Invoke, Linearize, Respond}
 use Rattle.uni_model.proofs.Written.{set_at-cases}
 use Rattle.uni_model.proofs.Appended.{slice_get-append_right, response_at-append}
 
-module _ {S I R : Type 0} (object : Sequential S I R) (start : S) (front : List (Invoked I)) where
-  -- the object that started before the calls in front
+module _ {S I R : Type 0} (object : Sequential S I R) (start : S) (prefix : List (Invoked I)) where
+  -- the object that started before the calls before it
   abbrev pub behind : Atomic S I → Atomic S I
-  behind a = record a { start = start; agreed = front ++ a.agreed }
+  behind a = record a { start = start; agreed = prefix ++ a.agreed }
 
-  -- The object starts where the calls in front end. These are older than its own, which are numbered from first p on for
+  -- The object starts where the calls before it end. These are older than its own, which are numbered from first p on for
   -- each process p.
   pub record IsBehind (first : ℕ → ℕ) (a : Atomic S I) : Type 0 where
-    pub state : state_after object start (map (λ (c : Invoked I). c.inv) front) ≡ a.start
-    pub old : (c : Invoked I) → Contains front c → c.nth < first c.process
+    pub state : state_after object start (map (λ (c : Invoked I). c.inv) prefix) ≡ a.start
+    pub old : (c : Invoked I) → Contains prefix c → c.nth < first c.process
     pub open_call : (p : ℕ) (o : Invoked I) → a.open_call p ≡ Some o → first p ≤ o.nth
     pub next_nth : (p : ℕ) → first p ≤ a.next_nth p
 
@@ -42,8 +42,8 @@ module _ {S I R : Type 0} (object : Sequential S I R) (start : S) (front : List 
     closed_later : (p q : ℕ) (o : Invoked I) → set_at a.open_call p None q ≡ Some o → first q ≤ o.nth
     closed_later p q o e = elim (set_at-cases a.open_call p None q) [ inl here ↦ absurd (let f = here.1 in cc) | inr other ↦ h.open_call q o (sym other.1 ∙ e) ]
 
-    -- a call that is open isn't one of those in front
-    not_in_front : (c : Invoked I) → a.open_call c.process ≡ Some c → ¬ (Contains front c)
+    -- a call that is open isn't one of those in prefix
+    not_in_front : (c : Invoked I) → a.open_call c.process ≡ Some c → ¬ (Contains prefix c)
     not_in_front c is there =
         let recent : first c.process ≤ c.nth = h.open_call c.process c is in
         let old : c.nth < first c.process = h.old c there in
@@ -51,12 +51,12 @@ module _ {S I R : Type 0} (object : Sequential S I R) (start : S) (front : List 
 
     -- a place of the object's calls is so much further behind
     response_behind : (place : ℕ) (r : R) → response_at object a.start (map (λ (c : Invoked I). c.inv) a.agreed) place ≡ Some r
-        → response_at object start (map (λ (c : Invoked I). c.inv) (front ++ a.agreed)) (length front + place) ≡ Some r
+        → response_at object start (map (λ (c : Invoked I). c.inv) (prefix ++ a.agreed)) (length prefix + place) ≡ Some r
     response_behind place r e =
-        let long : length (map (λ (c : Invoked I). c.inv) front) ≡ length front = length-map front (λ (c : Invoked I). c.inv) in
-        ap (λ is. response_at object start is (length front + place)) (map-append (λ (c : Invoked I). c.inv) front a.agreed)
-        ∙ ap (λ k. response_at object start (map (λ (c : Invoked I). c.inv) front ++ map (λ (c : Invoked I). c.inv) a.agreed) (k + place)) (sym long)
-        ∙ response_at-append object start (map (λ (c : Invoked I). c.inv) front) (map (λ (c : Invoked I). c.inv) a.agreed) place
+        let long : length (map (λ (c : Invoked I). c.inv) prefix) ≡ length prefix = length-map prefix (λ (c : Invoked I). c.inv) in
+        ap (λ is. response_at object start is (length prefix + place)) (map-append (λ (c : Invoked I). c.inv) prefix a.agreed)
+        ∙ ap (λ k. response_at object start (map (λ (c : Invoked I). c.inv) prefix ++ map (λ (c : Invoked I). c.inv) a.agreed) (k + place)) (sym long)
+        ∙ response_at-append object start (map (λ (c : Invoked I). c.inv) prefix) (map (λ (c : Invoked I). c.inv) a.agreed) place
         ∙ ap (λ s. response_at object s (map (λ (c : Invoked I). c.inv) a.agreed) place) h.state ∙ e
 
     Accepts-behind : (act : Act I R) (b : Atomic S I) → Accepts object a act b → IsBehind first b × Accepts object (behind a) act (behind b)
@@ -68,14 +68,14 @@ module _ {S I R : Type 0} (object : Sequential S I R) (start : S) (front : List 
       subst (λ x. IsBehind first x) (sym ok.2) (record { state = h.state; old = h.old; open_call = h.open_call; next_nth = h.next_nth }),
       (
         ok.0,
-        λ there. elim (Contains-append_cases front a.agreed c there) [ inl old ↦ not_in_front c ok.0 old | inr own ↦ ok.1 own ],
-        ap behind ok.2 ∙ ap (λ cs. let x : Atomic S I = record a { start = start; agreed = cs } in x) (sym (append_assoc front a.agreed (c ∷ []))),
+        λ there. elim (Contains-append_cases prefix a.agreed c there) [ inl old ↦ not_in_front c ok.0 old | inr own ↦ ok.1 own ],
+        ap behind ok.2 ∙ ap (λ cs. let x : Atomic S I = record a { start = start; agreed = cs } in x) (sym (append_assoc prefix a.agreed (c ∷ []))),
       ),
     )
     Accepts-behind (Respond p k r) b ok = (
       subst (λ x. IsBehind first x) (sym ok.1) (record { state = h.state; old = h.old; open_call = closed_later p; next_nth = h.next_nth }),
       (
-        (ok.0.0, length front + ok.0.1, ok.0.2, slice_get-append_right front a.agreed ok.0.1 ∙ ok.0.3, response_behind ok.0.1 r ok.0.4),
+        (ok.0.0, length prefix + ok.0.1, ok.0.2, slice_get-append_right prefix a.agreed ok.0.1 ∙ ok.0.3, response_behind ok.0.1 r ok.0.4),
         ap behind ok.1,
       ),
     )

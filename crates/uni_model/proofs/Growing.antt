@@ -16,7 +16,7 @@ use Rattle.uni_model.specs.Worlds.Event.{Call, Step, Trim, Reshape}
 use Rattle.uni_model.specs.History.{log}
 use Rattle.uni_model.specs.Settled.{Grows}
 use Rattle.uni_model.specs.Invariant.{Has, IsSound, Invariant}
-use Rattle.uni_model.specs.Growth.{GetsResponse, IsFrontOf, EndsNoEra, EndNoEra}
+use Rattle.uni_model.specs.Growth.{GetsResponse, IsPrefixOf, EndsNoEra, EndNoEra}
 use Rattle.uni_model.proofs.Kept.{Invariant-world_after, Grows-world_after}
 use Rattle.uni_model.proofs.Sums.{sum_below-le}
 use Rattle.uni_model.proofs.Written.{set_at-cases}
@@ -132,8 +132,8 @@ module _ {S I R : Type 0} (object : Sequential S I R) (w w' : WorldOf S I R) (in
   ]
 
   -- an entry without its response is the last one
-  pub IsFrontOf-grows : IsFrontOf (log w) (log w')
-  IsFrontOf-grows = record {
+  pub IsPrefixOf-grows : IsPrefixOf (log w) (log w')
+  IsPrefixOf-grows = record {
     longer = no_shorter;
     entries = λ j e at.
         let later = entry_later j e at in (
@@ -152,16 +152,16 @@ module _ {S I R : Type 0} (object : Sequential S I R) (w w' : WorldOf S I R) (in
         );
   }
 
-pub IsFrontOf-same : {I R : Type 0} (es : List (Entry I R)) → IsFrontOf es es
-IsFrontOf-same es = record { longer = omega arith; entries = λ j e at. (e, at, inl refl) }
+pub IsPrefixOf-same : {I R : Type 0} (es : List (Entry I R)) → IsPrefixOf es es
+IsPrefixOf-same es = record { longer = omega arith; entries = λ j e at. (e, at, inl refl) }
 
 GetsResponse-then : {I R : Type 0} (a b c : Entry I R) → GetsResponse a b → (c ≡ b) ⊎ GetsResponse b c → GetsResponse a c
 GetsResponse-then a b c first (inl same) = subst (λ d. GetsResponse a d) (sym same) first
 GetsResponse-then a b c first (inr then_gets) = record { number = then_gets.number ∙ first.number; call = then_gets.call ∙ first.call; missing = first.missing }
 
--- a front of a front is a front
-pub IsFrontOf-then : {I R : Type 0} (a b c : List (Entry I R)) → IsFrontOf a b → IsFrontOf b c → IsFrontOf a c
-IsFrontOf-then a b c first second = record {
+-- a prefix of a prefix is a prefix
+pub IsPrefixOf-then : {I R : Type 0} (a b c : List (Entry I R)) → IsPrefixOf a b → IsPrefixOf b c → IsPrefixOf a c
+IsPrefixOf-then a b c first second = record {
   longer = let x = first.longer in let y = second.longer in omega arith;
   entries = λ j e at.
       let one = first.entries j e at in
@@ -201,22 +201,22 @@ module _ {S I R : Type 0} (object : Sequential S I R) where
   era_calls-world_after w (Reshape n) ok stays = absurd stays
 
   -- an accepted event that ends no era
-  pub log-world_after : (w : WorldOf S I R) (e : Event I) → Invariant object w → IsAccepted w e → EndsNoEra e → IsFrontOf (log w) (log (world_after object w e))
+  pub log-world_after : (w : WorldOf S I R) (e : Event I) → Invariant object w → IsAccepted w e → EndsNoEra e → IsPrefixOf (log w) (log (world_after object w e))
   log-world_after w e inv ok stays =
-      IsFrontOf-grows object w (world_after object w e) inv (Invariant-world_after object w e ok inv) (Grows-world_after object w e inv ok stays) (era_calls-world_after w e ok stays)
+      IsPrefixOf-grows object w (world_after object w e) inv (Invariant-world_after object w e ok inv) (Grows-world_after object w e inv ok stays) (era_calls-world_after w e ok stays)
 
   -- accepted events that end no era, one after another
-  pub log-world_after_all : (w : WorldOf S I R) (es : List (Event I)) → Invariant object w → AreAccepted object w es → EndNoEra es → IsFrontOf (log w) (log (world_after_all object w es))
-  log-world_after_all w [] inv ok stays = IsFrontOf-same (log w)
+  pub log-world_after_all : (w : WorldOf S I R) (es : List (Event I)) → Invariant object w → AreAccepted object w es → EndNoEra es → IsPrefixOf (log w) (log (world_after_all object w es))
+  log-world_after_all w [] inv ok stays = IsPrefixOf-same (log w)
   log-world_after_all w (e ∷ es) inv ok stays =
-      IsFrontOf-then (log w) (log (world_after object w e)) (log (world_after_all object (world_after object w e) es))
+      IsPrefixOf-then (log w) (log (world_after object w e)) (log (world_after_all object (world_after object w e) es))
       (log-world_after w e inv ok.0 stays.0)
       (log-world_after_all (world_after object w e) es (Invariant-world_after object w e ok.0 inv) ok.1 stays.1)
 
-  -- the log after each front of the events
-  pub log-fronts : (w : WorldOf S I R) (es : List (Event I)) → Invariant object w → AreAccepted object w es → EndNoEra es → (j : ℕ)
-      → IsFrontOf (log (world_after_all object w (take j es))) (log (world_after_all object w es))
-  log-fronts w [] inv ok stay zero = IsFrontOf-same (log w)
-  log-fronts w [] inv ok stay (suc j) = IsFrontOf-same (log w)
-  log-fronts w (e ∷ es) inv ok stay zero = log-world_after_all w (e ∷ es) inv ok stay
-  log-fronts w (e ∷ es) inv ok stay (suc j) = log-fronts (world_after object w e) es (Invariant-world_after object w e ok.0 inv) ok.1 stay.1 j
+  -- the log after each prefix of the events
+  pub log-prefixes : (w : WorldOf S I R) (es : List (Event I)) → Invariant object w → AreAccepted object w es → EndNoEra es → (j : ℕ)
+      → IsPrefixOf (log (world_after_all object w (take j es))) (log (world_after_all object w es))
+  log-prefixes w [] inv ok stay zero = IsPrefixOf-same (log w)
+  log-prefixes w [] inv ok stay (suc j) = IsPrefixOf-same (log w)
+  log-prefixes w (e ∷ es) inv ok stay zero = log-world_after_all w (e ∷ es) inv ok stay
+  log-prefixes w (e ∷ es) inv ok stay (suc j) = log-prefixes (world_after object w e) es (Invariant-world_after object w e ok.0 inv) ok.1 stay.1 j

@@ -10,14 +10,14 @@ use Rattle.uni_model.specs.AtomicObject.{Invoked}
 use Rattle.uni_model.specs.Worlds.{WorldOf, Event, anchor_memory, opened_world, world_after, world_after_all, AreAccepted}
 use Rattle.uni_model.specs.History.{log, invocations_of, logged_call, log_of_run}
 use Rattle.uni_model.specs.Invariant.{Invariant}
-use Rattle.uni_model.specs.Growth.{IsFrontOf}
+use Rattle.uni_model.specs.Growth.{IsPrefixOf}
 use Rattle.uni_model.specs.Eras.{EraLeaves, EraOfRunLeaves, JoinsLegalLogs, JoinedLogGrows}
 use Rattle.uni_model.proofs.Kept.{Invariant-opened_world, Invariant-world_after, Invariant-world_after_all}
 use Rattle.uni_model.proofs.LawProofs.{AreAccepted-take}
 use Rattle.uni_model.proofs.OneLists.{IsLegalLog-sound}
-use Rattle.uni_model.proofs.Growing.{log-world_after, IsFrontOf-same, IsFrontOf-then}
+use Rattle.uni_model.proofs.Growing.{log-world_after, IsPrefixOf-same, IsPrefixOf-then}
 use Rattle.uni_model.proofs.Appended.{slice_get-append_cases, state_after-append, IsLegal-append}
-use Rattle.uni_model.proofs.Fronts.{IsFrontOf-append, IsFrontOf-behind}
+use Rattle.uni_model.proofs.Prefixes.{IsPrefixOf-append, IsPrefixOf-behind}
 use Rattle.uni_model.proofs.Ended.{world_after_era-quiet}
 use Rattle.uni_model.proofs.Eras.{GoesOn, EndsEra, event_cases, entry_at, begun_of_entry, place_of_entry, answered_when_quiescent}
 
@@ -167,24 +167,24 @@ module _ {S I R : Type 0} (object : Sequential S I R) where
     ]
   ]
 
-  -- the log of an era is a front of the joined log from it on
-  front_run : (w : WorldOf S I R) (es : List (Event I)) (start : S) → IsRun w es start → IsFrontOf (log w) (log_of_run object w es)
-  front_run w [] start run = IsFrontOf-same (log w)
-  front_run w (e ∷ es) start run = elim (run_cases w e es start run) [
-    | inl on ↦ subst (λ xs. IsFrontOf (log w) xs) (sym (on.0.joined es)) (
-        IsFrontOf-then (log w) (log (world_after object w e)) (log_of_run object (world_after object w e) es)
-        (log-world_after object w e run.inv run.accepted.0 on.0.stays) (front_run (world_after object w e) es start on.1))
-    | inr end ↦ subst (λ xs. IsFrontOf (log w) xs) (sym (end.0.joined es)) (IsFrontOf-append (log w) (log_of_run object (world_after object w e) es))
+  -- the log of an era is a prefix of the joined log from it on
+  prefix_run : (w : WorldOf S I R) (es : List (Event I)) (start : S) → IsRun w es start → IsPrefixOf (log w) (log_of_run object w es)
+  prefix_run w [] start run = IsPrefixOf-same (log w)
+  prefix_run w (e ∷ es) start run = elim (run_cases w e es start run) [
+    | inl on ↦ subst (λ xs. IsPrefixOf (log w) xs) (sym (on.0.joined es)) (
+        IsPrefixOf-then (log w) (log (world_after object w e)) (log_of_run object (world_after object w e) es)
+        (log-world_after object w e run.inv run.accepted.0 on.0.stays) (prefix_run (world_after object w e) es start on.1))
+    | inr end ↦ subst (λ xs. IsPrefixOf (log w) xs) (sym (end.0.joined es)) (IsPrefixOf-append (log w) (log_of_run object (world_after object w e) es))
   ]
 
-  pub fronts_run : (w : WorldOf S I R) (es : List (Event I)) (start : S) → IsRun w es start → (j : ℕ) → IsFrontOf (log_of_run object w (take j es)) (log_of_run object w es)
-  fronts_run w es start run zero = front_run w es start run
-  fronts_run w [] start run (suc j) = IsFrontOf-same (log w)
-  fronts_run w (e ∷ es) start run (suc j) = elim (run_cases w e es start run) [
-    | inl on ↦ rw (on.0.joined es, on.0.joined (take j es)) (fronts_run (world_after object w e) es start on.1 j)
+  pub prefixes_run : (w : WorldOf S I R) (es : List (Event I)) (start : S) → IsRun w es start → (j : ℕ) → IsPrefixOf (log_of_run object w (take j es)) (log_of_run object w es)
+  prefixes_run w es start run zero = prefix_run w es start run
+  prefixes_run w [] start run (suc j) = IsPrefixOf-same (log w)
+  prefixes_run w (e ∷ es) start run (suc j) = elim (run_cases w e es start run) [
+    | inl on ↦ rw (on.0.joined es, on.0.joined (take j es)) (prefixes_run (world_after object w e) es start on.1 j)
     | inr end ↦ rw (end.0.joined es, end.0.joined (take j es)) (
-        IsFrontOf-behind (log w) (log_of_run object (world_after object w e) (take j es)) (log_of_run object (world_after object w e) es)
-        (fronts_run (world_after object w e) es (state_after object start (invocations_of w)) end.1 j))
+        IsPrefixOf-behind (log w) (log_of_run object (world_after object w e) (take j es)) (log_of_run object (world_after object w e) es)
+        (prefixes_run (world_after object w e) es (state_after object start (invocations_of w)) end.1 j))
   ]
 
   -- the state and the number after all entries are those after the last era's, from its anchor on
@@ -228,7 +228,7 @@ module _ {S I R : Type 0} (object : Sequential S I R) where
       }
 
   pub JoinedLogGrows-holds : (n : ℕ) (start : S) (number : ℕ) (es : List (Event I)) → JoinedLogGrows object n start number es
-  JoinedLogGrows-holds n start number es positive ok j = fronts_run (opened_world n start number) es start (IsRun-opened_world n start number es positive ok) j
+  JoinedLogGrows-holds n start number es positive ok j = prefixes_run (opened_world n start number) es start (IsRun-opened_world n start number es positive ok) j
 
   pub EraLeaves-holds : (w : WorldOf S I R) (n : ℕ) → EraLeaves object w n
   EraLeaves-holds w n inv quiet start anchor = world_after_era-quiet object w inv.0 inv.1 inv.2 quiet start anchor n

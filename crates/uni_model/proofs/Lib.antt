@@ -41,7 +41,7 @@ pub mod Behind
 pub mod Ended
 pub mod Eras
 pub mod Linearized
-pub mod Fronts
+pub mod Prefixes
 pub mod Joined
 pub mod Ordered
 pub mod Orderly

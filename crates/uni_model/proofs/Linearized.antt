@@ -48,7 +48,7 @@ module _ {S I R : Type 0} (object : Sequential S I R) where
   restarted a = record a { start = state_after object a.start (map (λ (c : Invoked I). c.inv) a.agreed); agreed = [] }
 
   module _ (start : S) where
-    module _ (w : WorldOf S I R) (inv : Invariant object w) (quiet : IsQuiescent w) (n : ℕ) (front : List (Invoked I)) (a : Atomic S I) (shows : Shows w a) where
+    module _ (w : WorldOf S I R) (inv : Invariant object w) (quiet : IsQuiescent w) (n : ℕ) (prefix : List (Invoked I)) (a : Atomic S I) (shows : Shows w a) where
       idle : (p : ℕ) → w.call p ≡ None
       idle = idle_when_quiescent object w inv.0 inv.1 inv.2 quiet
 
@@ -68,13 +68,13 @@ module _ {S I R : Type 0} (object : Sequential S I R) where
       })
 
       -- and that object goes on behind the calls of the era
-      IsBehind-ended : IsBehind object start front w.first a → IsBehind object start (front ++ a.agreed) (world_after_era w n).first (restarted a)
-      IsBehind-ended h = subst (λ v. IsBehind object start (front ++ a.agreed) v.first (restarted a)) (sym ended_is) (record {
+      IsBehind-ended : IsBehind object start prefix w.first a → IsBehind object start (prefix ++ a.agreed) (world_after_era w n).first (restarted a)
+      IsBehind-ended h = subst (λ v. IsBehind object start (prefix ++ a.agreed) v.first (restarted a)) (sym ended_is) (record {
         state =
-            ap (state_after object start) (map-append (λ (c : Invoked I). c.inv) front a.agreed)
-            ∙ state_after-append object start (map (λ (c : Invoked I). c.inv) front) (map (λ (c : Invoked I). c.inv) a.agreed)
+            ap (state_after object start) (map-append (λ (c : Invoked I). c.inv) prefix a.agreed)
+            ∙ state_after-append object start (map (λ (c : Invoked I). c.inv) prefix) (map (λ (c : Invoked I). c.inv) a.agreed)
             ∙ ap (λ s. state_after object s (map (λ (c : Invoked I). c.inv) a.agreed)) h.state;
-        old = λ c there. elim (Contains-append_cases front a.agreed c there) [
+        old = λ c there. elim (Contains-append_cases prefix a.agreed c there) [
           | inl before ↦ (let old : c.nth < w.first c.process = h.old c before in let more : w.first c.process ≤ w.begun c.process = inv.2.calls.first c.process in omega arith)
           | inr own ↦ (begun_of_call w inv.0 inv.1 inv.2 c (subst (λ cs. Contains cs c) (sym shows.agreed) own)).1
         ];
@@ -82,56 +82,56 @@ module _ {S I R : Type 0} (object : Sequential S I R) where
         next_nth = λ p. let e : w.begun p ≡ a.next_nth p = shows.next_nth p in omega arith;
       })
 
-      behind-ended : behind object start (front ++ a.agreed) (restarted a) ≡ behind object start front a
-      behind-ended = ap (λ cs. let x : Atomic S I = record a { start = start; agreed = cs } in x) (append-nil (front ++ a.agreed))
+      behind-ended : behind object start (prefix ++ a.agreed) (restarted a) ≡ behind object start prefix a
+      behind-ended = ap (λ cs. let x : Atomic S I = record a { start = start; agreed = cs } in x) (append-nil (prefix ++ a.agreed))
 
     -- the run shows the object behind the calls of the eras that ended before it
     abbrev pub Outcome : WorldOf S I R → List (Event I) → List (Invoked I) → Atomic S I → Type 0
-    Outcome w es front from = let last = world_after_all object w es in
+    Outcome w es prefix from = let last = world_after_all object w es in
         (b : Atomic S I) × AcceptsAll object from (history_of object w es) b × (b.start ≡ start)
-        × (front ++ map (λ (e : Entry I R). e.call) (log_of_run object w es) ≡ b.agreed)
+        × (prefix ++ map (λ (e : Entry I R). e.call) (log_of_run object w es) ≡ b.agreed)
         × ((p : ℕ) → open_at last.memory (last.call p) ≡ b.open_call p) × ((p : ℕ) → last.begun p ≡ b.next_nth p)
 
-    era_ended : (w : WorldOf S I R) (n : ℕ) (es : List (Event I)) (front : List (Invoked I)) (a : Atomic S I) → Shows w a
-        → Outcome (world_after_era w n) es (front ++ a.agreed) (behind object start (front ++ a.agreed) (restarted a))
-        → (behind object start (front ++ a.agreed) (restarted a) ≡ behind object start front a)
-        → (b : Atomic S I) × AcceptsAll object (behind object start front a) (history_of object (world_after_era w n) es) b × (b.start ≡ start)
-        × (front ++ map (λ (e : Entry I R). e.call) (log w ++ log_of_run object (world_after_era w n) es) ≡ b.agreed)
+    era_ended : (w : WorldOf S I R) (n : ℕ) (es : List (Event I)) (prefix : List (Invoked I)) (a : Atomic S I) → Shows w a
+        → Outcome (world_after_era w n) es (prefix ++ a.agreed) (behind object start (prefix ++ a.agreed) (restarted a))
+        → (behind object start (prefix ++ a.agreed) (restarted a) ≡ behind object start prefix a)
+        → (b : Atomic S I) × AcceptsAll object (behind object start prefix a) (history_of object (world_after_era w n) es) b × (b.start ≡ start)
+        × (prefix ++ map (λ (e : Entry I R). e.call) (log w ++ log_of_run object (world_after_era w n) es) ≡ b.agreed)
         × ((p : ℕ) → open_at (world_after_all object (world_after_era w n) es).memory ((world_after_all object (world_after_era w n) es).call p) ≡ b.open_call p)
         × ((p : ℕ) → (world_after_all object (world_after_era w n) es).begun p ≡ b.next_nth p)
-    era_ended w n es front a shows rest same = (
+    era_ended w n es prefix a shows rest same = (
       rest.0,
       subst (λ x. AcceptsAll object x (history_of object (world_after_era w n) es) rest.0) same rest.1,
       rest.2,
-      ap (λ cs. front ++ cs) (map-append (λ (e : Entry I R). e.call) (log w) (log_of_run object (world_after_era w n) es))
-          ∙ ap (λ cs. front ++ (cs ++ map (λ (e : Entry I R). e.call) (log_of_run object (world_after_era w n) es))) shows.agreed
-          ∙ sym (append_assoc front a.agreed (map (λ (e : Entry I R). e.call) (log_of_run object (world_after_era w n) es))) ∙ rest.3,
+      ap (λ cs. prefix ++ cs) (map-append (λ (e : Entry I R). e.call) (log w) (log_of_run object (world_after_era w n) es))
+          ∙ ap (λ cs. prefix ++ (cs ++ map (λ (e : Entry I R). e.call) (log_of_run object (world_after_era w n) es))) shows.agreed
+          ∙ sym (append_assoc prefix a.agreed (map (λ (e : Entry I R). e.call) (log_of_run object (world_after_era w n) es))) ∙ rest.3,
       rest.4,
       rest.5,
     )
 
-    run_accepted : (w : WorldOf S I R) (es : List (Event I)) → Invariant object w → AreAccepted object w es → (front : List (Invoked I)) (a : Atomic S I) → Shows w a
-        → IsBehind object start front w.first a → Outcome w es front (behind object start front a)
-    run_accepted w [] inv ok front a shows h = (behind object start front a, refl, refl, ap (λ cs. front ++ cs) shows.agreed, shows.open_call, shows.next_nth)
-    run_accepted w (Call p i ∷ es) inv ok front a shows h =
+    run_accepted : (w : WorldOf S I R) (es : List (Event I)) → Invariant object w → AreAccepted object w es → (prefix : List (Invoked I)) (a : Atomic S I) → Shows w a
+        → IsBehind object start prefix w.first a → Outcome w es prefix (behind object start prefix a)
+    run_accepted w [] inv ok prefix a shows h = (behind object start prefix a, refl, refl, ap (λ cs. prefix ++ cs) shows.agreed, shows.open_call, shows.next_nth)
+    run_accepted w (Call p i ∷ es) inv ok prefix a shows h =
         let first = accepts object w (Call p i) inv ok.0 tt a shows in
-        let moved = AcceptsAll-behind object start front w.first a (acts_of object w (Call p i)) first.0 h first.2 in
-        let rest = run_accepted (world_after object w (Call p i)) es (Invariant-world_after object w (Call p i) ok.0 inv) ok.1 front first.0 first.1 moved.0 in
-        (rest.0, AcceptsAll-append object _ (behind object start front first.0) rest.0 (acts_of object w (Call p i)) _ moved.1 rest.1, rest.2, rest.3, rest.4, rest.5)
-    run_accepted w (Step p ∷ es) inv ok front a shows h =
+        let moved = AcceptsAll-behind object start prefix w.first a (acts_of object w (Call p i)) first.0 h first.2 in
+        let rest = run_accepted (world_after object w (Call p i)) es (Invariant-world_after object w (Call p i) ok.0 inv) ok.1 prefix first.0 first.1 moved.0 in
+        (rest.0, AcceptsAll-append object _ (behind object start prefix first.0) rest.0 (acts_of object w (Call p i)) _ moved.1 rest.1, rest.2, rest.3, rest.4, rest.5)
+    run_accepted w (Step p ∷ es) inv ok prefix a shows h =
         let first = accepts object w (Step p) inv ok.0 tt a shows in
-        let moved = AcceptsAll-behind object start front w.first a (acts_of object w (Step p)) first.0 h first.2 in
-        let rest = run_accepted (world_after object w (Step p)) es (Invariant-world_after object w (Step p) ok.0 inv) ok.1 front first.0 first.1
-        (subst (λ f. IsBehind object start front f first.0) (sym (first-world_after_step object w p (w.call p))) moved.0) in
-        (rest.0, AcceptsAll-append object _ (behind object start front first.0) rest.0 (acts_of object w (Step p)) _ moved.1 rest.1, rest.2, rest.3, rest.4, rest.5)
-    run_accepted w (Trim ∷ es) inv ok front a shows h =
-        era_ended w w.n es front a shows
-        (run_accepted (world_after_era w w.n) es (Invariant-world_after object w Trim ok.0 inv) ok.1 (front ++ a.agreed) (restarted a)
-        (Shows-ended w inv ok.0 w.n front a shows) (IsBehind-ended w inv ok.0 w.n front a shows h)) (behind-ended w inv ok.0 w.n front a shows)
-    run_accepted w (Reshape n ∷ es) inv ok front a shows h =
-        era_ended w n es front a shows
-        (run_accepted (world_after_era w n) es (Invariant-world_after object w (Reshape n) ok.0 inv) ok.1 (front ++ a.agreed) (restarted a)
-        (Shows-ended w inv ok.0.0 n front a shows) (IsBehind-ended w inv ok.0.0 n front a shows h)) (behind-ended w inv ok.0.0 n front a shows)
+        let moved = AcceptsAll-behind object start prefix w.first a (acts_of object w (Step p)) first.0 h first.2 in
+        let rest = run_accepted (world_after object w (Step p)) es (Invariant-world_after object w (Step p) ok.0 inv) ok.1 prefix first.0 first.1
+        (subst (λ f. IsBehind object start prefix f first.0) (sym (first-world_after_step object w p (w.call p))) moved.0) in
+        (rest.0, AcceptsAll-append object _ (behind object start prefix first.0) rest.0 (acts_of object w (Step p)) _ moved.1 rest.1, rest.2, rest.3, rest.4, rest.5)
+    run_accepted w (Trim ∷ es) inv ok prefix a shows h =
+        era_ended w w.n es prefix a shows
+        (run_accepted (world_after_era w w.n) es (Invariant-world_after object w Trim ok.0 inv) ok.1 (prefix ++ a.agreed) (restarted a)
+        (Shows-ended w inv ok.0 w.n prefix a shows) (IsBehind-ended w inv ok.0 w.n prefix a shows h)) (behind-ended w inv ok.0 w.n prefix a shows)
+    run_accepted w (Reshape n ∷ es) inv ok prefix a shows h =
+        era_ended w n es prefix a shows
+        (run_accepted (world_after_era w n) es (Invariant-world_after object w (Reshape n) ok.0 inv) ok.1 (prefix ++ a.agreed) (restarted a)
+        (Shows-ended w inv ok.0.0 n prefix a shows) (IsBehind-ended w inv ok.0.0 n prefix a shows h)) (behind-ended w inv ok.0.0 n prefix a shows)
 
   pub IsLinearizable-holds : (n : ℕ) (start : S) (number : ℕ) (events : List (Event I)) → IsLinearizable object n start number events
   IsLinearizable-holds n start number events positive ok =

@@ -64,7 +64,7 @@ module _ {S I R : Type 0} (object : Sequential S I R) (w : WorldOf S I R) (num :
         let top : num y ≤ last = sound.numbered.greatest y in
         omega arith)
 
-  -- the cell in front of a threaded one
+  -- the cell before a threaded one
   before_at : (j : ℕ) (x : Name) → num x ≡ num Anchor + j + 1 → 1 ≤ seq_of w.memory x → before_of w.memory x ≡ slice_get (Anchor ∷ chain w) j
   before_at j Anchor number threaded = absurd (omega arith)
   before_at j (Of p k) number threaded =

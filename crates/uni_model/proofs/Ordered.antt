@@ -13,7 +13,7 @@ use Rattle.uni_model.specs.Worlds.{WorldOf, Event, chain, opened_world, world_af
 use Rattle.uni_model.specs.Worlds.Event.{Call, Step}
 use Rattle.uni_model.specs.History.{log, invocations_of, log_of_run}
 use Rattle.uni_model.specs.Invariant.{Has, Invariant}
-use Rattle.uni_model.specs.Growth.{IsFrontOf}
+use Rattle.uni_model.specs.Growth.{IsPrefixOf}
 use Rattle.uni_model.specs.Eras.{StandsAt, HasReturned, KeepsRealTime}
 use Rattle.uni_model.proofs.Written.{set_at-cases, inv_of-memory_with}
 use Rattle.uni_model.proofs.Grows.{Has-inv}
@@ -22,7 +22,7 @@ use Rattle.uni_model.proofs.OneLists.{HasOneList-held}
 use Rattle.uni_model.proofs.Growing.{entry_of, slice_get-log}
 use Rattle.uni_model.proofs.Appended.{slice_get-append_left, slice_get-append_right}
 use Rattle.uni_model.proofs.Eras.{event_cases}
-use Rattle.uni_model.proofs.Joined.{IsRun, IsRun-opened_world, IsRun-take, run_cases, begun_run, fronts_run}
+use Rattle.uni_model.proofs.Joined.{IsRun, IsRun-opened_world, IsRun-take, run_cases, begun_run, prefixes_run}
 
 -- each call that was begun in the era has its cell
 abbrev pub HasCells : {S I R : Type 0} → WorldOf S I R → Type 0
@@ -36,9 +36,9 @@ module _ {I R : Type 0} where
   StandsAt-append_right xs ys p k j h = record { entry = h.entry; at = slice_get-append_right xs ys j ∙ h.at; process = h.process; nth = h.nth }
 
   -- a call stands at its place in each later log
-  StandsAt-front : (xs ys : List (Entry I R)) → IsFrontOf xs ys → (p k j : ℕ) → StandsAt xs p k j → StandsAt ys p k j
-  StandsAt-front xs ys front p k j h =
-      let later = front.entries j h.entry h.at in
+  StandsAt-prefix : (xs ys : List (Entry I R)) → IsPrefixOf xs ys → (p k j : ℕ) → StandsAt xs p k j → StandsAt ys p k j
+  StandsAt-prefix xs ys prefix p k j h =
+      let later = prefix.entries j h.entry h.at in
       let call : later.0.call ≡ h.entry.call = elim later.2 [ inl same ↦ ap (λ (e : Entry I R). e.call) same | inr gets ↦ gets.1.call ] in
       record { entry = later.0; at = later.1; process = ap (λ c. c.process) call ∙ h.process; nth = ap (λ c. c.nth) call ∙ h.nth }
 
@@ -118,7 +118,7 @@ module _ {S I R : Type 0} (object : Sequential S I R) where
       let opened = opened_world {S = S} {I = I} {R = R} n start number in
       let run = IsRun-opened_world object n start number es positive ok in
       let early = IsRun-take object j opened es start run in
-      let front = fronts_run object opened es start run j in
+      let prefix = prefixes_run object opened es start run j in
       let returned = returned_run opened (take j es) start early (λ a b since before. absurd (omega arith)) p k (omega arith) over in
       let within : returned.0 < length (log_of_run object opened (take j es)) = slice_get_within (log_of_run object opened (take j es)) returned.0 returned.1.entry returned.1.at in
       let past : length (log_of_run object opened (take j es)) ≤ place = elim (cases_lt place (length (log_of_run object opened (take j es)))) [
@@ -126,7 +126,7 @@ module _ {S I R : Type 0} (object : Sequential S I R) where
         | inl inside ↦ elim (slice_get_cases (log_of_run object opened (take j es)) place).1 [
           | inr none ↦ absurd (let long = none.0 in omega arith)
           | inl there ↦ absurd (
-              let kept = front.entries place there.0 there.2 in
+              let kept = prefix.entries place there.0 there.2 in
               let call : kept.0.call ≡ there.0.call = elim kept.2 [ inl same ↦ ap (λ (e : Entry I R). e.call) same | inr gets ↦ gets.1.call ] in
               let same : kept.0 ≡ stands.entry = (let a = kept.1 in let b = stands.at in cc) in
               let process : there.0.call.process ≡ q = ap (λ c. c.process) (sym call) ∙ ap (λ (e : Entry I R). e.call.process) same ∙ stands.process in
@@ -137,4 +137,4 @@ module _ {S I R : Type 0} (object : Sequential S I R) where
               omega arith)
         ]
       ] in
-      (returned.0, omega arith, StandsAt-front (log_of_run object opened (take j es)) (log_of_run object opened es) front p k returned.0 returned.1)
+      (returned.0, omega arith, StandsAt-prefix (log_of_run object opened (take j es)) (log_of_run object opened es) prefix p k returned.0 returned.1)

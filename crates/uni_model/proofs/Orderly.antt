@@ -69,10 +69,10 @@ IsOrderly-at_start s = record {
 }
 
 module _ {S I R : Type 0} (object : Sequential S I R) where
-  response_at-front : (s : S) (is js : List I) (place : ℕ) (r : R) → response_at object s is place ≡ Some r → response_at object s (is ++ js) place ≡ Some r
-  response_at-front s [] js place r e = absurd (cc)
-  response_at-front s (i ∷ is) js zero r e = e
-  response_at-front s (i ∷ is) js (suc place) r e = response_at-front (object.next s i) is js place r e
+  response_at-prefix : (s : S) (is js : List I) (place : ℕ) (r : R) → response_at object s is place ≡ Some r → response_at object s (is ++ js) place ≡ Some r
+  response_at-prefix s [] js place r e = absurd (cc)
+  response_at-prefix s (i ∷ is) js zero r e = e
+  response_at-prefix s (i ∷ is) js (suc place) r e = response_at-prefix (object.next s i) is js place r e
 
   module _ (a : Atomic S I) (p k : ℕ) (i : I) (h : IsOrderly a) (none : a.open_call p ≡ None) (nth : a.next_nth p ≡ k) where
     abbrev invoked : Atomic S I
@@ -120,8 +120,8 @@ module _ {S I R : Type 0} (object : Sequential S I R) where
       by_place zero place is =
           let same : c ≡ d = cc in
           let here : length a.agreed ≡ j = omega arith in
-          let front : a.agreed ≡ take j (a.agreed ++ c ∷ []) = sym (take_all (length a.agreed) a.agreed (omega arith)) ∙ sym (take-append-le (length a.agreed) a.agreed (c ∷ []) (omega arith)) ∙ ap (λ n. take n (a.agreed ++ c ∷ [])) here in
-          subst (λ (x : Invoked I). x.nth ≡ effects x.process (take j (a.agreed ++ c ∷ []))) same (sym not_placed ∙ ap (effects c.process) front)
+          let prefix : a.agreed ≡ take j (a.agreed ++ c ∷ []) = sym (take_all (length a.agreed) a.agreed (omega arith)) ∙ sym (take-append-le (length a.agreed) a.agreed (c ∷ []) (omega arith)) ∙ ap (λ n. take n (a.agreed ++ c ∷ [])) here in
+          subst (λ (x : Invoked I). x.nth ≡ effects x.process (take j (a.agreed ++ c ∷ []))) same (sym not_placed ∙ ap (effects c.process) prefix)
       by_place (suc k) place is = absurd (cc)
 
     orderly_linearized : IsOrderly linearized
@@ -221,7 +221,7 @@ module _ {S I R : Type 0} (object : Sequential S I R) where
     place = is.place;
     inv = is.inv;
     at_place = slice_get-append_left a.agreed (c ∷ []) is.place _ is.at_place;
-    response = rw (map-append (λ (d : Invoked I). d.inv) a.agreed (c ∷ [])) (response_at-front a.start (map (λ (d : Invoked I). d.inv) a.agreed) (c.inv ∷ []) is.place r is.response);
+    response = rw (map-append (λ (d : Invoked I). d.inv) a.agreed (c ∷ [])) (response_at-prefix a.start (map (λ (d : Invoked I). d.inv) a.agreed) (c.inv ∷ []) is.place r is.response);
   })
   IsAnswered-kept a b (Respond q j s) p k r is ok = subst (λ x. IsAnswered object x p k r) (sym ok.1) (record { place = is.place; inv = is.inv; at_place = is.at_place; response = is.response })
 

@@ -10,7 +10,7 @@ use Rattle.uni_model.specs.Worlds.{WorldOf, chain, last_cell}
 use Rattle.uni_model.specs.Counting.{era_calls}
 use Rattle.uni_model.specs.History.{log}
 use Rattle.uni_model.specs.Invariant.{IsSound, Invariant}
-use Rattle.uni_model.specs.Growth.{IsFrontOf}
+use Rattle.uni_model.specs.Growth.{IsPrefixOf}
 use Rattle.uni_model.proofs.Chains.{number_at, slice_get-cells_from, length-cells_from}
 use Rattle.uni_model.proofs.Simulation.{enough}
 use Rattle.uni_model.proofs.Values.{response-settled}
@@ -198,12 +198,12 @@ module _ {S I R : Type 0} (object : Sequential S I R) (u : WorldOf S I R) (num :
         let settled = response-settled object u.memory num sound.values sound.back e.call.process e.call.nth threaded in
         rw ((entry_at object u num last sound j e at).response, settled.1) refl
 
-    pub front_stays : (later : List (Entry I R)) → IsFrontOf (log u) later → take ended_entries later ≡ take ended_entries (log u)
-    front_stays later front =
+    pub prefix_stays : (later : List (Entry I R)) → IsPrefixOf (log u) later → take ended_entries later ≡ take ended_entries (log u)
+    prefix_stays later prefix =
         let long : length (log u) ≡ ended_entries + length (log w) = length-log-renamed in
-        let more : length (log u) ≤ length later = front.longer in
+        let more : length (log u) ≤ length later = prefix.longer in
         sym (take-same ended_entries (log u) later (omega arith) (omega arith) (λ j e less at.
-        let kept = front.entries j e at in
+        let kept = prefix.entries j e at in
         elim kept.2 [
           | inl same ↦ kept.1 ∙ ap (λ x. Some x) same
           | inr gets ↦ absurd (let has : IsSome e.response = answered j e less at in let none = rw gets.1.missing at has in let f : false ≡ true = none in cc)

@@ -31,7 +31,7 @@ use Rattle.uni_model.proofs.Ended.{length-log}
 use Rattle.uni_model.proofs.Reached.{ReachesOwn, ReachesOwn-begun}
 use Rattle.uni_model.proofs.Renamed.{at_least, at_least-cases, stage_renamed, pending_renamed, IsNew, state_in}
 use Rattle.uni_model.proofs.RenamedWorld.{world_renamed, KeepsNames, alike, later_renamed, step_renamed, KeepsNames-step, ReachesOwn-step, begun_renamed, call_renamed, KeepsNames-call}
-use Rattle.uni_model.proofs.RenamedChain.{log-renamed, front_stays}
+use Rattle.uni_model.proofs.RenamedChain.{log-renamed, prefix_stays}
 use Rattle.uni_model.proofs.RenamedEra.{threaded_to_anchor, KeepsNames-anchor_memory, ReachesOwn-anchor_memory, settled_last, KeepsNames-trimmed, world_after_era-renamed, world_after_era-own}
 
 drop-append : {A : Type 0} (xs ys zs : List A) → drop (length (xs ++ ys)) (xs ++ zs) ≡ drop (length ys) zs
@@ -66,11 +66,11 @@ module _ {S I R : Type 0} (object : Sequential S I R) where
     pub reaches : ReachesOwn u
     pub invariant : Invariant object (world_renamed u m first rename base)
 
-  -- the events do the same in both worlds, where these entries of ended eras stand in front of the one's log
-  pub record Alike (w u : WorldOf S I R) (es : List (Event I)) (front : List (Entry I R)) : Type 0 where
+  -- the events do the same in both worlds, where these entries of ended eras stand before the one's log
+  pub record Alike (w u : WorldOf S I R) (es : List (Event I)) (prefix : List (Entry I R)) : Type 0 where
     pub accepted : AreAccepted object u (without_trims es)
     pub shown : ShowsSame (world_after_all object w es) (world_after_all object u (without_trims es))
-    pub joined : front ++ log_of_run object w es ≡ log_of_run object u (without_trims es)
+    pub joined : prefix ++ log_of_run object w es ≡ log_of_run object u (without_trims es)
     pub history : history_of object w es ≡ history_of object u (without_trims es)
 
   module _ (u : WorldOf S I R) (m : Memory S I R) (first : ℕ → ℕ) (rename : Name → Name) (base : ℕ) (f : Follows u m first rename base) where
@@ -78,14 +78,14 @@ module _ {S I R : Type 0} (object : Sequential S I R) where
     w = world_renamed u m first rename base
 
     -- the entries of the ended eras
-    abbrev pub front : List (Entry I R)
-    front = take (base - seq_of u.memory Anchor) (log u)
+    abbrev pub prefix : List (Entry I R)
+    prefix = take (base - seq_of u.memory Anchor) (log u)
 
-    log_is : log u ≡ front ++ log w
+    log_is : log u ≡ prefix ++ log w
     log_is = log-renamed object u f.inv.0 f.inv.1 f.inv.2 m first rename base f.keeps.memory f.invariant
 
-    calls_are : calls_of u ≡ map (λ (e : Entry I R). e.call) front ++ calls_of w
-    calls_are = ap (map (λ (e : Entry I R). e.call)) log_is ∙ map-append (λ (e : Entry I R). e.call) front (log w)
+    calls_are : calls_of u ≡ map (λ (e : Entry I R). e.call) prefix ++ calls_of w
+    calls_are = ap (map (λ (e : Entry I R). e.call)) log_is ∙ map-append (λ (e : Entry I R). e.call) prefix (log w)
 
     head_seq-renamed : (p : ℕ) → p < u.n → head_seq m p ≡ at_least base (head_seq u.memory p)
     head_seq-renamed p below = ap (seq_of m) (f.keeps.memory.head p below) ∙ f.keeps.memory.seq (head_of u.memory p)
@@ -144,31 +144,31 @@ module _ {S I R : Type 0} (object : Sequential S I R) where
     quiet_too : IsQuiescent w → IsQuiescent u
     quiet_too quiet p below = not_pending (u.call p) (quiet p below)
 
-    -- the entries of the ended eras stay in front
-    front_kept : (e : Event I) → IsAccepted u e → EndsNoEra e → take (base - seq_of (world_after object u e).memory Anchor) (log (world_after object u e)) ≡ front
-    front_kept e ok stays =
+    -- the entries of the ended eras stay first
+    prefix_kept : (e : Event I) → IsAccepted u e → EndsNoEra e → take (base - seq_of (world_after object u e).memory Anchor) (log (world_after object u e)) ≡ prefix
+    prefix_kept e ok stays =
         let grown = Grows-world_after object u e (f.inv.0, f.inv.1, f.inv.2) ok stays in
         ap (λ s. take (base - s) (log (world_after object u e))) (grown.seq Anchor f.keeps.memory.first)
-        ∙ front_stays object u f.inv.0 f.inv.1 f.inv.2 m first rename base f.keeps.memory f.invariant (log (world_after object u e)) (log-world_after object u e (f.inv.0, f.inv.1, f.inv.2) ok stays)
+        ∙ prefix_stays object u f.inv.0 f.inv.1 f.inv.2 m first rename base f.keeps.memory f.invariant (log (world_after object u e)) (log-world_after object u e (f.inv.0, f.inv.1, f.inv.2) ok stays)
 
   -- so do all worlds of which one follows the other
   abbrev AllAlike : List (Event I) → Type 0
   AllAlike es = (u : WorldOf S I R) (m : Memory S I R) (first : ℕ → ℕ) (rename : Name → Name) (base : ℕ) (f : Follows u m first rename base)
-      → AreAccepted object (world_renamed u m first rename base) es → Alike (world_renamed u m first rename base) u es (front u m first rename base f)
+      → AreAccepted object (world_renamed u m first rename base) es → Alike (world_renamed u m first rename base) u es (prefix u m first rename base f)
 
   -- what is so of the world that is reached, is so of one that is the same
   Alike-reached : (es : List (Event I)) → AllAlike es → (w' u : WorldOf S I R) (m : Memory S I R) (first : ℕ → ℕ) (rename : Name → Name) (base : ℕ) (f : Follows u m first rename base)
-      → w' ≡ world_renamed u m first rename base → AreAccepted object w' es → (entries : List (Entry I R)) → front u m first rename base f ≡ entries → Alike w' u es entries
-  Alike-reached es rest w' u m first rename base f same ok entries front_is =
-      subst (λ xs. Alike w' u es xs) front_is
-      (subst (λ v. Alike v u es (front u m first rename base f)) (sym same) (rest u m first rename base f (subst (λ v. AreAccepted object v es) same ok)))
+      → w' ≡ world_renamed u m first rename base → AreAccepted object w' es → (entries : List (Entry I R)) → prefix u m first rename base f ≡ entries → Alike w' u es entries
+  Alike-reached es rest w' u m first rename base f same ok entries prefix_is =
+      subst (λ xs. Alike w' u es xs) prefix_is
+      (subst (λ v. Alike v u es (prefix u m first rename base f)) (sym same) (rest u m first rename base f (subst (λ v. AreAccepted object v es) same ok)))
 
   module _ (es : List (Event I)) (rest : AllAlike es) (u : WorldOf S I R) (m : Memory S I R) (first : ℕ → ℕ) (rename : Name → Name) (base : ℕ) (f : Follows u m first rename base) where
     abbrev of_u : Invariant object u
     of_u = (f.inv.0, f.inv.1, f.inv.2)
 
     call_alike : (p : ℕ) (i : I) → AreAccepted object (world_renamed u m first rename base) (Call p i ∷ es)
-        → Alike (world_renamed u m first rename base) u (Call p i ∷ es) (front u m first rename base f)
+        → Alike (world_renamed u m first rename base) u (Call p i ∷ es) (prefix u m first rename base f)
     call_alike p i ok =
         let idle : u.call p ≡ None = not_pending u m first rename base f (u.call p) ok.0.1 in
         let same = call_renamed object u f.inv m first rename base f.keeps p i ok.0.0 idle in
@@ -179,7 +179,7 @@ module _ {S I R : Type 0} (object : Sequential S I R) where
           reaches = ReachesOwn-begun object u f.inv.0 f.inv.1 f.inv.2 f.reaches p i idle;
           invariant = subst (λ v. Invariant object v) same (Invariant-world_after object (world_renamed u m first rename base) (Call p i) ok.0 f.invariant);
         } in
-        let on = Alike-reached es rest _ _ _ first rename base later same ok.1 (front u m first rename base f) (front_kept u m first rename base f (Call p i) (ok.0.0, idle) tt) in
+        let on = Alike-reached es rest _ _ _ first rename base later same ok.1 (prefix u m first rename base f) (prefix_kept u m first rename base f (Call p i) (ok.0.0, idle) tt) in
         record { accepted = ((ok.0.0, idle), on.accepted); shown = on.shown; joined = on.joined; history = ap (λ acts. acts_of object u (Call p i) ++ acts) on.history }
 
     -- the acts of a step, by what p's call is
@@ -198,7 +198,7 @@ module _ {S I R : Type 0} (object : Sequential S I R) where
     step_by : (p : ℕ) (o : Option Pending) → u.call p ≡ o → IsSome (option_map (pending_renamed rename base) o)
         → AreAccepted object (world_after_step object (world_renamed u m first rename base) p (option_map (pending_renamed rename base) o)) es
         → IsSome o
-        × Alike (world_after_step object (world_renamed u m first rename base) p (option_map (pending_renamed rename base) o)) (world_after_step object u p o) es (front u m first rename base f)
+        × Alike (world_after_step object (world_renamed u m first rename base) p (option_map (pending_renamed rename base) o)) (world_after_step object u p o) es (prefix u m first rename base f)
         × (acts_by (world_renamed u m first rename base) p (option_map (pending_renamed rename base) o) ≡ acts_by u p o)
     step_by p None is some ok = absurd (let e : false ≡ true = some in cc)
     step_by p (Some c) is some ok =
@@ -213,27 +213,27 @@ module _ {S I R : Type 0} (object : Sequential S I R) where
           reaches = ReachesOwn-step object u f.inv m first rename base f.keeps f.counts p c is f.reaches;
           invariant = subst (λ v. Invariant object v) same (Invariant-world_after_step object w p (pending_renamed rename base c) (ap (option_map (pending_renamed rename base)) is) f.invariant).0;
         } in
-        let kept : front u' w'.memory first rename base later ≡ front u m first rename base f
-        = subst (λ o. take (base - seq_of (world_after_step object u p o).memory Anchor) (log (world_after_step object u p o)) ≡ front u m first rename base f) is
-        (front_kept u m first rename base f (Step p) (subst (λ o. IsSome o) (sym is) refl) tt) in
-        let calls' : calls_of u' ≡ map (λ (e : Entry I R). e.call) (front u m first rename base f) ++ calls_of w'
+        let kept : prefix u' w'.memory first rename base later ≡ prefix u m first rename base f
+        = subst (λ o. take (base - seq_of (world_after_step object u p o).memory Anchor) (log (world_after_step object u p o)) ≡ prefix u m first rename base f) is
+        (prefix_kept u m first rename base f (Step p) (subst (λ o. IsSome o) (sym is) refl) tt) in
+        let calls' : calls_of u' ≡ map (λ (e : Entry I R). e.call) (prefix u m first rename base f) ++ calls_of w'
         = calls_are u' w'.memory first rename base later
         ∙ ap (λ xs. map (λ (e : Entry I R). e.call) xs ++ calls_of (world_renamed u' w'.memory first rename base)) kept
-        ∙ ap (λ v. map (λ (e : Entry I R). e.call) (front u m first rename base f) ++ calls_of v) (sym same) in
+        ∙ ap (λ v. map (λ (e : Entry I R). e.call) (prefix u m first rename base f) ++ calls_of v) (sym same) in
         let linked : drop (length (calls_of u)) (calls_of u') ≡ drop (length (calls_of w)) (calls_of w')
         = ap (λ xs. drop (length xs) (calls_of u')) (calls_are u m first rename base f)
-        ∙ ap (drop (length (map (λ (e : Entry I R). e.call) (front u m first rename base f) ++ calls_of w))) calls'
-        ∙ drop-append (map (λ (e : Entry I R). e.call) (front u m first rename base f)) (calls_of w) (calls_of w') in
+        ∙ ap (drop (length (map (λ (e : Entry I R). e.call) (prefix u m first rename base f) ++ calls_of w))) calls'
+        ∙ drop-append (map (λ (e : Entry I R). e.call) (prefix u m first rename base f)) (calls_of w) (calls_of w') in
         let responds : responses_of m p c.mine (response_after c.mine (stage_renamed rename base c.stage) m) ≡ responses_of u.memory p c.mine (response_after c.mine c.stage u.memory)
         = ap (responses_of m p c.mine) (alike object u f.inv m first rename base f.keeps f.counts p c is).response ∙ responses_same p c.mine (f.keeps.mine p c is) _ in (
           refl,
-          Alike-reached es rest w' u' w'.memory first rename base later same ok (front u m first rename base f) kept,
+          Alike-reached es rest w' u' w'.memory first rename base later same ok (prefix u m first rename base f) kept,
           ap (λ xs. map Linearize xs ++ responses_of m p c.mine (response_after c.mine (stage_renamed rename base c.stage) m)) (sym linked)
               ∙ ap (λ rs. map Linearize (drop (length (calls_of u)) (calls_of u')) ++ rs) responds,
         )
 
     step_alike : (p : ℕ) → AreAccepted object (world_renamed u m first rename base) (Step p ∷ es)
-        → Alike (world_renamed u m first rename base) u (Step p ∷ es) (front u m first rename base f)
+        → Alike (world_renamed u m first rename base) u (Step p ∷ es) (prefix u m first rename base f)
     step_alike p ok =
         let on = step_by p (u.call p) refl ok.0 ok.1 in
         record {
@@ -263,10 +263,10 @@ module _ {S I R : Type 0} (object : Sequential S I R) where
           ∙ ap (λ g. let x : WorldOf S I R = record u { n = n; first = u.begun; memory = anchor_memory state f.inv.1; call = g } in x) (calls_idle rename' f.inv.1)
 
       -- the logs of both worlds, before what comes later
-      joined_later : (later : List (Entry I R)) → front u m first rename base f ++ (log (world_renamed u m first rename base) ++ later) ≡ log u ++ later
-      joined_later later = sym (append_assoc (front u m first rename base f) (log (world_renamed u m first rename base)) later) ∙ ap (λ xs. xs ++ later) (sym (log_is u m first rename base f))
+      joined_later : (later : List (Entry I R)) → prefix u m first rename base f ++ (log (world_renamed u m first rename base) ++ later) ≡ log u ++ later
+      joined_later later = sym (append_assoc (prefix u m first rename base f) (log (world_renamed u m first rename base)) later) ∙ ap (λ xs. xs ++ later) (sym (log_is u m first rename base f))
 
-      trim_alike : AreAccepted object (world_renamed u m first rename base) (Trim ∷ es) → Alike (world_renamed u m first rename base) u (Trim ∷ es) (front u m first rename base f)
+      trim_alike : AreAccepted object (world_renamed u m first rename base) (Trim ∷ es) → Alike (world_renamed u m first rename base) u (Trim ∷ es) (prefix u m first rename base f)
       trim_alike ok =
           let same = era_ended u.n (threaded_to_anchor u.memory) in
           let later : Follows u (anchor_memory state f.inv.1) u.begun (threaded_to_anchor u.memory) f.inv.1 = record {
@@ -282,7 +282,7 @@ module _ {S I R : Type 0} (object : Sequential S I R) where
           record { accepted = on.accepted; shown = on.shown; joined = joined_later _ ∙ on.joined; history = on.history }
 
       reshape_alike : (n : ℕ) → AreAccepted object (world_renamed u m first rename base) (Reshape n ∷ es)
-          → Alike (world_renamed u m first rename base) u (Reshape n ∷ es) (front u m first rename base f)
+          → Alike (world_renamed u m first rename base) u (Reshape n ∷ es) (prefix u m first rename base f)
       reshape_alike n ok =
           let same = era_ended n (λ x. x) in
           let own : world_after_era u n ≡ record u { n = n; first = u.begun; memory = anchor_memory state f.inv.1 } = world_after_era-own object u f.inv.0 f.inv.1 f.inv.2 quiet n in

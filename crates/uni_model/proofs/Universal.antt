@@ -35,14 +35,14 @@ module _ {S I R : Type 0} (object : Sequential S I R) where
   pub RunIsUniversal-holds : (n : ℕ) (start : S) (number : ℕ) (events : List (Event I)) → RunIsUniversal object n start number events
   RunIsUniversal-holds n start number events positive ok =
       let opened : WorldOf S I R = opened_world n start number in
-      let front : (j : ℕ) → AreAccepted object opened (take j events) = λ j. AreAccepted-take object j opened events ok in
+      let prefix : (j : ℕ) → AreAccepted object opened (take j events) = λ j. AreAccepted-take object j opened events ok in
       record {
         linearizable = ObservesLinearizable-holds object n start number events positive ok;
         agreed = IsLinearizedAs-holds object n start number events positive ok;
         never_blocks = λ j p. NeverBlocks-holds (world_after_all object opened (take j events)) p;
         wait_free = λ j before later p i is none.
-            let parts = AreAccepted-split object opened before (Call p i ∷ later) (subst (AreAccepted object opened) is (front j)) in
+            let parts = AreAccepted-split object opened before (Call p i ∷ later) (subst (AreAccepted object opened) is (prefix j)) in
             CallIsWaitFree-holds object (world_after_all object opened before) p i later (record { n = n; start = start; number = number; events = before; positive = positive; accepted = parts.0; reached = refl }) parts.1 none;
         bounded = IsBounded-along object opened events ok (CountsSteps-opened_world object n start number) (HelpingInvariant-opened_world object n start number positive);
-        untrimmed = λ j. IsSameUntrimmed-shown opened (take j events) (TrimsChangeNothing-holds object n start number (take j events) positive (front j));
+        untrimmed = λ j. IsSameUntrimmed-shown opened (take j events) (TrimsChangeNothing-holds object n start number (take j events) positive (prefix j));
       }

@@ -10,7 +10,7 @@ use Rattle.uni_model.specs.Chain.{Entry}
 use Rattle.uni_model.specs.Worlds.{WorldOf, Event, anchor_memory, opened_world, world_after_all, world_after_era, IsQuiescent, AreAccepted}
 use Rattle.uni_model.specs.History.{log, invocations_of, logged_call, log_of_run}
 use Rattle.uni_model.specs.Invariant.{Invariant}
-use Rattle.uni_model.specs.Growth.{IsFrontOf}
+use Rattle.uni_model.specs.Growth.{IsPrefixOf}
 
 -- The joined log of a run from a state and a number on: a legal history of the object, in which no call stands twice, numbered
 -- by one from that number on; each entry but the last has its response.
@@ -65,7 +65,7 @@ module _ {S I R : Type 0} (object : Sequential S I R) where
   -- The joined log only grows: that of each prefix of the events is a prefix of that of all, but for a response that is missing in
   -- its last entry.
   abbrev pub JoinedGrows : WorldOf S I R → List (Event I) → Type 0
-  JoinedGrows w events = (j : ℕ) → IsFrontOf (log_of_run object w (take j events)) (log_of_run object w events)
+  JoinedGrows w events = (j : ℕ) → IsPrefixOf (log_of_run object w (take j events)) (log_of_run object w events)
 
   -- so does that of every run from the opening
   abbrev pub JoinedLogGrows : (n : ℕ) → (start : S) → (number : ℕ) → List (Event I) → Type 0

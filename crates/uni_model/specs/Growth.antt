@@ -10,9 +10,9 @@ pub record GetsResponse {I R : Type 0} (e e' : Entry I R) : Type 0 where
   pub call : e'.call ≡ e.call
   pub missing : e.response ≡ None
 
--- A log is a front of a later one: what it has at each place stands there, but that a response that is missing in its last entry
+-- A log is a prefix of a later one: what it has at each place stands there, but that a response that is missing in its last entry
 -- may be there then.
-pub record IsFrontOf {I R : Type 0} (early late : List (Entry I R)) : Type 0 where
+pub record IsPrefixOf {I R : Type 0} (early late : List (Entry I R)) : Type 0 where
   pub longer : length early ≤ length late
   pub entries : (j : ℕ) (e : Entry I R) → slice_get early j ≡ Some e
       → (e' : Entry I R) × (slice_get late j ≡ Some e') × ((e' ≡ e) ⊎ ((j + 1 ≡ length early) × GetsResponse e e'))

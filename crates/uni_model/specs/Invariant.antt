@@ -35,7 +35,7 @@ pub record IsAfter {S I R : Type 0} (object : Sequential S I R) (m : Memory S I 
   pub value : v ≡ (object.next before.0 inv, Some (object.answer before.0 inv))
 
 -- What is settled in the cells of the chain: a state in the anchor, and in each other cell the state and the response after
--- the one in front of it. A threaded cell has its value settled; a cell outside the chain has none.
+-- the one before it. A threaded cell has its value settled; a cell outside the chain has none.
 pub record HasValues {S I R : Type 0} (object : Sequential S I R) (m : Memory S I R) (num : Name → ℕ) : Type 0 where
   pub anchor : (s : S) × (new_of m Anchor ≡ Some (s, None))
   pub none : (x : Name) → num x ≡ 0 → new_of m x ≡ None

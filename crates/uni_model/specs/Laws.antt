@@ -16,7 +16,7 @@ use Rattle.uni_model.specs.Invariant.{Invariant}
 use Rattle.uni_model.specs.Helping.{HelpingInvariant}
 use Rattle.uni_model.specs.Counting.{CountsSteps}
 use Rattle.uni_model.specs.Bound.{IsBounded}
-use Rattle.uni_model.specs.Growth.{IsFrontOf, EndsNoEra, EndNoEra}
+use Rattle.uni_model.specs.Growth.{IsPrefixOf, EndsNoEra, EndNoEra}
 use Rattle.uni_model.specs.Settled.{Grows, ChangesOnly}
 
 -- A call of p with this floor is linked soon: its number is at most n + 1 past the floor, and while it is pending and isn't
@@ -56,17 +56,17 @@ module _ {S I R : Type 0} (object : Sequential S I R) where
   IsAtomic w e = IsAccepted w e → Invariant object w → EndsNoEra e → (a : Atomic S I) → Shows w a
       → (b : Atomic S I) × Shows (world_after object w e) b × AcceptsAll object a (acts_of object w e) b
 
-  -- the log after each front of these events is a front of the log after all
+  -- the log after each prefix of these events is a prefix of the log after all
   abbrev pub LogGrows : WorldOf S I R → List (Event I) → Type 0
-  LogGrows w es = (j : ℕ) → IsFrontOf (log (world_after_all object w (take j es))) (log (world_after_all object w es))
+  LogGrows w es = (j : ℕ) → IsPrefixOf (log (world_after_all object w (take j es))) (log (world_after_all object w es))
 
   -- after each prefix of these events, whichever eras end in it, every process's latest call is within the bound
   abbrev pub BoundedAlong : WorldOf S I R → List (Event I) → Type 0
   BoundedAlong w es = (j : ℕ) → IsBounded (world_after_all object w (take j es))
 
-  -- An accepted event that ends no era leaves the log a front of the later one; so do such events, one after another.
+  -- An accepted event that ends no era leaves the log a prefix of the later one; so do such events, one after another.
   abbrev pub KeepsLog : WorldOf S I R → Event I → Type 0
-  KeepsLog w e = IsAccepted w e → Invariant object w → EndsNoEra e → IsFrontOf (log w) (log (world_after object w e))
+  KeepsLog w e = IsAccepted w e → Invariant object w → EndsNoEra e → IsPrefixOf (log w) (log (world_after object w e))
 
   abbrev pub KeepsLogAlong : WorldOf S I R → List (Event I) → Type 0
   KeepsLogAlong w es = AreAccepted object w es → Invariant object w → EndNoEra es → LogGrows w es

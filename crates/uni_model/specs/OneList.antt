@@ -1,4 +1,4 @@
--- The one list of a world, told by the places of its chain: the anchor in front, and at each place a cell with its number, its
+-- The one list of a world, told by the places of its chain: the anchor first, and at each place a cell with its number, its
 -- value and the way back.
 use Rattle.std.specs.Prelude.{◌≡◌, ℕ, ◌+◌, ◌<◌, ◌≤◌, List, [], ◌∷◌, Option, None, Some, option_map, map, length}
 use Rattle.std.specs.Prelude.{slice_get, take, IsSome, refl}
@@ -19,7 +19,7 @@ value_at object start invs place =
 -- The cells from the anchor on are one list: no cell stands in it twice, and nothing comes after its last. A cell at place j of
 -- the chain has the number anchor's + j + 1, once that is written, as it is in all but perhaps the last; no other cell than
 -- these is threaded. What is settled in a cell is the state after the invocations up to its place, and the response there, from
--- the anchor's state on; a threaded cell has it settled, and leads back to the cell in front of it.
+-- the anchor's state on; a threaded cell has it settled, and leads back to the cell before it.
 pub record IsOneList {S I R : Type 0} (object : Sequential S I R) (w : WorldOf S I R) (start : S) : Type 0 where
   pub anchor : new_of w.memory Anchor ≡ Some (start, None)
   pub once : (i j : ℕ) (x : Name) → slice_get (Anchor ∷ chain w) i ≡ Some x → slice_get (Anchor ∷ chain w) j ≡ Some x

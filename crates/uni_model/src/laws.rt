@@ -81,9 +81,9 @@ pub fn event_is_atomic<O: SeqObject>()
     ensures { (object : O) (w : WorldOf O.State O.Inv O.Resp) (e : Event O.Inv) → IsAtomic (O.sequential object) w e }
 {}
 
-/// While no era ends the log only grows: the log before an accepted event is a front of the log
+/// While no era ends the log only grows: the log before an accepted event is a prefix of the log
 /// after it, but that a response that is missing in its last entry may be there then; and so is the
-/// log after each front of a list of them a front of the log after all.
+/// log after each prefix of a list of them a prefix of the log after all.
 pub fn log_only_grows<O: SeqObject>()
     ensures event { (object : O) (w : WorldOf O.State O.Inv O.Resp) (e : Event O.Inv)
         → KeepsLog (O.sequential object) w e }
@@ -153,7 +153,7 @@ pub fn joined_log_is_legal<O: SeqObject>()
         JoinsLegalLogs (O.sequential object) n start number events }
 {}
 
-/// The joined log only grows, whichever eras end: after each front of a run's events it is a front of
+/// The joined log only grows, whichever eras end: after each prefix of a run's events it is a prefix of
 /// the joined log after all of them, but that a response that is missing in its last entry may be
 /// there then.
 pub fn joined_log_only_grows<O: SeqObject>()

@@ -10,7 +10,7 @@ use Rattle.uni_record.specs.Recorded.{CanRecord, record_fault, IsOpenRefused as 
 use Rattle.uni_record.specs.Recorded.{Recording, IsRecording, HasRoom, set_aside, pending_count}
 use Rattle.uni_record.proofs.Owed.{owed-quiescent}
 
--- a world that isn't opened refuses the record, for want of memory where all else fits
+-- a world that isn't opened refuses the record, where memory was refused where all else fits
 pub refused_as : (n k seq h : ℕ) (e : OpenFault) → IsOpenRefused n k seq e → (e ≡ Memory → CanRecord n k seq h) → IsRecordRefused n k seq h (record_fault e)
 refused_as n k seq h BadCount refused fits = refused
 refused_as n k seq h BadRow refused fits = refused

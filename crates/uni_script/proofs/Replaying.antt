@@ -7,7 +7,7 @@ use Rattle.uni_record.specs.declared.verdict.Verdict.{Verdict}
 use Rattle.uni_script.specs.declared.fault.BenchFault.{BenchFault}
 use Rattle.uni_script.specs.declared.fault.BenchFault.TheVariants.{NoHeader, Read, Write, Memory}
 use Rattle.uni_script.specs.declared.fault.BenchFault.TheVariants as fault
-use Rattle.uni_script.specs.Ends.{AppendsFront}
+use Rattle.uni_script.specs.Ends.{AppendsPrefix}
 use Rattle.std.specs.List.{list_all}
 use Rattle.ready_objects.specs.Words.{words_of_text}
 use Rattle.uni_script.specs.Answer.{end_text}
@@ -16,12 +16,12 @@ use Rattle.uni_script.specs.Outcome.{Kind, Answered, Outcome, outcome_of_text, o
 use Rattle.uni_script.specs.Lines.{Stop, lines_of_read, outcome_of_stop, outcome_of_read, StopsAt, IsRead, HasEnded}
 use Rattle.uni_script.specs.Lines.Stop.{End, Failed, TooLong, TooMany}
 use Rattle.uni_script.specs.ScriptRun.{HasRunWhole}
-use Rattle.uni_script.specs.Told.{Telling, Tells, told_of_lines}
+use Rattle.uni_script.specs.Remarks.{RemarkAt, RemarksGrow, remarks_of_lines}
 use Rattle.uni_script.specs.Replay.{IsInput, IsReplay, Leaves, IsPartOfReplay, HasAnswered, IsFaultOfScript, text_of_script}
 use Rattle.uni_script.proofs.Cutting.{GoesOn-start, GoesOn-start_other, GoesOn-after, lines_of-append}
 use Rattle.uni_script.proofs.Running.{after_text, and_then-same, and_then-assoc, and_then-none, and_then-some, and_then-quiet, outcome_of_lines-append, outcome_of_lines-too_long, outcome_of_lines-too_many, few_lines}
-use Rattle.uni_script.proofs.Telling.{told_of_lines-length}
-use Rattle.uni_script.proofs.Written.{IsWritten-start, AppendsFront-all, AppendsFront-more}
+use Rattle.uni_script.proofs.Remarks.{remarks_of_lines-length}
+use Rattle.uni_script.proofs.Written.{IsWritten-start, AppendsPrefix-all, AppendsPrefix-more}
 
 other_byte : (b : ℕ) → (b ≡ 10 → ⊥) → (b == 10) ≡ false
 other_byte b h = at (b == 10) refl
@@ -269,19 +269,19 @@ module _ {B : Type 0} (kind : Kind B) where
         same h = cc
 
     -- the answers to what was read are the first of the script's
-    pub part_of : (old new : Option (List ℕ)) → AppendsFront old new (outcome_of_read kind stop bytes).text → IsPartOfReplay kind left old new
-    part_of old new front = (
+    pub part_of : (old new : Option (List ℕ)) → AppendsPrefix old new (outcome_of_read kind stop bytes).text → IsPartOfReplay kind left old new
+    part_of old new prefix = (
       script,
       is_input,
       elim (is_failed stop) [
-        | inr other ↦ subst (λ (o : Outcome B). AppendsFront old new o.text) (sym (same_run other)) front
+        | inr other ↦ subst (λ (o : Outcome B). AppendsPrefix old new o.text) (sym (same_run other)) prefix
         | inl failed ↦ elim (outcome_of_failed_read bytes) [
           | inl clean ↦
-              let whole = subst (AppendsFront old new) (ap (λ (o : Outcome B). o.text) (read_failed failed ∙ clean.1) ∙ append-nil (outcome_of_whole_lines bytes).text) front in
-              subst (λ (o : Outcome B). AppendsFront old new o.text) (sym (goes_on.1 ∙ and_then-none (outcome_of_whole_lines bytes) goes_on.0 clean.0))
-              (AppendsFront-more old new (outcome_of_whole_lines bytes).text (goes_on.0 (outcome_of_whole_lines bytes).session).text whole)
+              let whole = subst (AppendsPrefix old new) (ap (λ (o : Outcome B). o.text) (read_failed failed ∙ clean.1) ∙ append-nil (outcome_of_whole_lines bytes).text) prefix in
+              subst (λ (o : Outcome B). AppendsPrefix old new o.text) (sym (goes_on.1 ∙ and_then-none (outcome_of_whole_lines bytes) goes_on.0 clean.0))
+              (AppendsPrefix-more old new (outcome_of_whole_lines bytes).text (goes_on.0 (outcome_of_whole_lines bytes).session).text whole)
           | inr some ↦
-              subst (λ (o : Outcome B). AppendsFront old new o.text) (read_failed failed ∙ some.2 ∙ sym (goes_on.1 ∙ and_then-some (outcome_of_whole_lines bytes) goes_on.0 some.0 some.1)) front
+              subst (λ (o : Outcome B). AppendsPrefix old new o.text) (read_failed failed ∙ some.2 ∙ sym (goes_on.1 ∙ and_then-some (outcome_of_whole_lines bytes) goes_on.0 some.0 some.1)) prefix
         ]
       ],
     )
@@ -324,9 +324,9 @@ module _ {B : Type 0} (kind : Kind B) where
     ]
 
   -- what is told of a run that has ended
-  module _ (left left_after old new : Option (List ℕ)) (told_old told : Option (List Telling)) {Made : Type 0} (IsMade : (lines : ℕ) → B → Made → Type 0) where
+  module _ (left left_after old new : Option (List ℕ)) (remarks_old remarks : Option (List RemarkAt)) {Made : Type 0} (IsMade : (lines : ℕ) → B → Made → Type 0) where
     abbrev Ended : Result Made BenchFault → Type 0
-    Ended result = HasEnded kind left left_after old new told_old told IsMade result
+    Ended result = HasEnded kind left left_after old new remarks_old remarks IsMade result
 
     pub HasEnded-replayed : (result : Result Made BenchFault) → Ended result → OnOk result (IsReplay kind left old new None)
     HasEnded-replayed (Ok made) is = replayed_as left left_after is.stop is.bytes is.read old new None (same_run left left_after is.stop is.bytes is.read (not_failed left left_after is.stop is.bytes is.read is.ends.0)) is.ends.0 is.ends.1
@@ -334,7 +334,7 @@ module _ {B : Type 0} (kind : Kind B) where
 
     -- it was read to its end, without a fault; this was made of its session, and what it tells was heard
     pub HasEnded-whole : (made : Made) → Ended (Ok made)
-        → HasRunWhole kind left (λ b telling. ((lines : ℕ) × IsMade lines b made) × Tells told_old told telling × (length telling ≤ 100000))
+        → HasRunWhole kind left (λ b telling. ((lines : ℕ) × IsMade lines b made) × RemarksGrow remarks_old remarks telling × (length telling ≤ 100000))
     HasEnded-whole made is =
         let s = script left left_after is.stop is.bytes is.read in
         let end = end_of_run is.stop is.bytes is.ends.0 in
@@ -349,9 +349,9 @@ module _ {B : Type 0} (kind : Kind B) where
             ap (λ (o : Outcome B). o.session) same ∙ is.made.1,
             (
               (length (lines_of_read is.stop is.bytes), is.made.2),
-              subst (λ l. Tells told_old told (told_of_lines kind 1 None l)) lines is.told_as,
+              subst (λ l. RemarksGrow remarks_old remarks (remarks_of_lines kind 1 None l)) lines is.remarks_as,
               (let few = few_lines kind 1 None (lines_of s) (omega arith) (and_then-quiet (outcome_of_lines kind 1 None (lines_of s)) (λ after. outcome_of_end (length (lines_of s)) after) quiet) in
-                  let told = told_of_lines-length kind 1 None (lines_of s) in
+                  let remarks = remarks_of_lines-length kind 1 None (lines_of s) in
                   omega arith),
             ),
           ),
@@ -387,7 +387,7 @@ module _ {B : Type 0} (kind : Kind B) where
 
     pub HasEnded-part : (result : Result Made BenchFault) → Ended result → IfErr result (λ e. IsPartOfReplay kind left old new)
     HasEnded-part (Ok made) is = tt
-    HasEnded-part (Err e) is = part_of left left_after is.stop is.bytes is.read old new (elim is.ends [ inl early ↦ early.1 | inr has ↦ AppendsFront-all old new _ has.1 ])
+    HasEnded-part (Err e) is = part_of left left_after is.stop is.bytes is.read old new (elim is.ends [ inl early ↦ early.1 | inr has ↦ AppendsPrefix-all old new _ has.1 ])
 
     pub HasEnded-read : (result : Result Made BenchFault) → Ended result → result ≡ Err Read → HasAnswered kind left left_after old new
     HasEnded-read (Ok made) is bad = absurd (let f : Ok made ≡ Err Read = bad in cc)

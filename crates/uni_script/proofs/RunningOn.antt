@@ -12,16 +12,16 @@ use Rattle.uni_script.specs.declared.fault.BenchFault.TheVariants as fault
 use Rattle.uni_script.specs.declared.lines.Lines.{Lines}
 use Rattle.uni_script.specs.declared.lines.Source.{Source}
 use Rattle.uni_script.specs.declared.lines.Source.TheVariants.{Open, Ended}
-use Rattle.uni_script.specs.Ends.{AppendsFront, Moves}
+use Rattle.uni_script.specs.Ends.{AppendsPrefix, Moves}
 use Rattle.uni_script.specs.Grammar.{cut, last_line, is_plain_byte, is_note}
 use Rattle.uni_script.specs.Outcome.{Kind, Answered, Outcome, outcome_of_fault, outcome_of_text, and_then, echo_of, echoed, outcome_of_words, outcome_of_line, outcome_of_short_line, outcome_of_lines, outcome_of_end}
-use Rattle.uni_script.specs.Told.{Telling, Tells, told_of_line, told_of_lines}
+use Rattle.uni_script.specs.Remarks.{RemarkAt, RemarksGrow, remarks_of_line, remarks_of_lines}
 use Rattle.uni_script.specs.Lines.{Stop, IsHeld, line_of, rest_of, HasTaken, HasStopped, HasRun, HasEnded, ReadsOn, HasFaultAfter, FaultsAfter, lines_of_read, fault_of_stop, outcome_of_stop, outcome_of_read, EndsAs, WritesAs}
 use Rattle.uni_script.specs.Lines.Stop.{End, Failed, TooLong, TooMany}
 use Rattle.uni_script.proofs.Cutting.{cut-append}
 use Rattle.uni_script.proofs.Running.{is_short, after_text, echoed-none, echoed-some, and_then-none, and_then-some, and_then-assoc, outcome_of_line-short, outcome_of_lines-append}
 use Rattle.uni_script.proofs.Taking.{line_of-length}
-use Rattle.uni_script.proofs.Written.{AppendsFront-all, AppendsFront-more, AppendsFront-after}
+use Rattle.uni_script.proofs.Written.{AppendsPrefix-all, AppendsPrefix-more, AppendsPrefix-after}
 
 -- a fault has no answer
 abbrev IsSilent : {B : Type 0} → Outcome B → Type 0
@@ -39,15 +39,15 @@ IsSilent-map_or f None x p q = q
 IsSilent-map_or f (Some a) x p q = p a
 
 -- nothing more is told
-pub Tells-nil : (told : Option (List Telling)) → Tells told told []
-Tells-nil None = tt
-Tells-nil (Some told) = sym (append-nil told)
+pub RemarksGrow-nil : (remarks : Option (List RemarkAt)) → RemarksGrow remarks remarks []
+RemarksGrow-nil None = tt
+RemarksGrow-nil (Some remarks) = sym (append-nil remarks)
 
-Tells-trans : (a b c : Option (List Telling)) (xs ys : List Telling) → Tells a b xs → Tells b c ys → Tells a c (xs ++ ys)
-Tells-trans None b c xs ys p q = tt
-Tells-trans (Some a) None c xs ys p q = absurd p
-Tells-trans (Some a) (Some b) None xs ys p q = absurd q
-Tells-trans (Some a) (Some b) (Some c) xs ys p q = q ∙ ap (λ l. l ++ ys) p ∙ append_assoc a xs ys
+RemarksGrow-trans : (a b c : Option (List RemarkAt)) (xs ys : List RemarkAt) → RemarksGrow a b xs → RemarksGrow b c ys → RemarksGrow a c (xs ++ ys)
+RemarksGrow-trans None b c xs ys p q = tt
+RemarksGrow-trans (Some a) None c xs ys p q = absurd p
+RemarksGrow-trans (Some a) (Some b) None xs ys p q = absurd q
+RemarksGrow-trans (Some a) (Some b) (Some c) xs ys p q = q ∙ ap (λ l. l ++ ys) p ∙ append_assoc a xs ys
 
 -- the fault with which reading stopped ends the run
 stop_faults : {B : Type 0} (stop : Stop) (b : Option B) (n : ℕ) (e : BenchFault) → fault_of_stop stop n ≡ Some e → outcome_of_stop stop n b ≡ outcome_of_fault b e
@@ -93,7 +93,7 @@ and_then-done {B = B} o = at o.fault refl
     at None e = and_then-none o (λ b. record { session = b; text = []; fault = None }) e ∙ ap (λ t. with_fault o t None) (append-nil o.text) ∙ ap (λ f. with_fault o o.text f) (sym e)
     at (Some f) e = and_then-some o (λ b. record { session = b; text = []; fault = None }) f e
 
--- what comes after an outcome has its text in front
+-- what comes after an outcome has its text first
 text_goes_on : {B : Type 0} (o : Outcome B) (rest : Option B → Outcome B) → (more : List ℕ) × ((and_then o rest).text ≡ o.text ++ more)
 text_goes_on {B = B} o rest = at o.fault refl
   where
@@ -125,10 +125,10 @@ ReadsOn-taken old now lines taken has = at lines.source refl
 
 module _ {B : Type 0} (kind : Kind B) where
   -- lines without a fault tell what they do, and then the further lines what they do
-  told_of_lines-append : (number : ℕ) (a : Option B) (xs ys : List (List ℕ)) → (outcome_of_lines kind number a xs).fault ≡ None
-      → told_of_lines kind number a (xs ++ ys) ≡ told_of_lines kind number a xs ++ told_of_lines kind (number + length xs) (outcome_of_lines kind number a xs).session ys
-  told_of_lines-append number a [] ys none = let e : number + 0 ≡ number = omega arith in rw e refl
-  told_of_lines-append number a (x ∷ xs) ys none = at first.fault refl (λ quiet. told_of_lines-append (number + 1) first.session xs ys quiet)
+  remarks_of_lines-append : (number : ℕ) (a : Option B) (xs ys : List (List ℕ)) → (outcome_of_lines kind number a xs).fault ≡ None
+      → remarks_of_lines kind number a (xs ++ ys) ≡ remarks_of_lines kind number a xs ++ remarks_of_lines kind (number + length xs) (outcome_of_lines kind number a xs).session ys
+  remarks_of_lines-append number a [] ys none = let e : number + 0 ≡ number = omega arith in rw e refl
+  remarks_of_lines-append number a (x ∷ xs) ys none = at first.fault refl (λ quiet. remarks_of_lines-append (number + 1) first.session xs ys quiet)
     where
       first : Outcome B
       first = outcome_of_line kind number a x
@@ -136,21 +136,21 @@ module _ {B : Type 0} (kind : Kind B) where
       rest : Option B → Outcome B
       rest after = outcome_of_lines kind (number + 1) after xs
 
-      front : List Telling
-      front = told_of_line kind a x ++ told_of_lines kind (number + 1) first.session xs
+      prefix : List RemarkAt
+      prefix = remarks_of_line kind a x ++ remarks_of_lines kind (number + 1) first.session xs
 
       at : (f : Option BenchFault) → first.fault ≡ f
           → ((rest first.session).fault ≡ None
-          → told_of_lines kind (number + 1) first.session (xs ++ ys) ≡ told_of_lines kind (number + 1) first.session xs ++ told_of_lines kind (number + 1 + length xs) (rest first.session).session ys)
-          → told_of_lines kind number a (x ∷ xs ++ ys) ≡ told_of_lines kind number a (x ∷ xs) ++ told_of_lines kind (number + length (x ∷ xs)) (outcome_of_lines kind number a (x ∷ xs)).session ys
+          → remarks_of_lines kind (number + 1) first.session (xs ++ ys) ≡ remarks_of_lines kind (number + 1) first.session xs ++ remarks_of_lines kind (number + 1 + length xs) (rest first.session).session ys)
+          → remarks_of_lines kind number a (x ∷ xs ++ ys) ≡ remarks_of_lines kind number a (x ∷ xs) ++ remarks_of_lines kind (number + length (x ∷ xs)) (outcome_of_lines kind number a (x ∷ xs)).session ys
       at (Some f) e further = absurd (let h : None ≡ Some f = sym none ∙ ap (λ (o : Outcome B). o.fault) (and_then-some first rest f e) ∙ e in cc)
       at None e further =
           let is = and_then-none first rest e in
           let quiet = sym (ap (λ (o : Outcome B). o.fault) is) ∙ none in
-          ap (λ l. told_of_line kind a x ++ l) (further quiet)
-          ∙ sym (append_assoc (told_of_line kind a x) (told_of_lines kind (number + 1) first.session xs) (told_of_lines kind (number + 1 + length xs) (rest first.session).session ys))
-          ∙ ap (λ k. front ++ told_of_lines kind k (rest first.session).session ys) (let k : number + 1 + length xs ≡ number + length (x ∷ xs) = omega arith in k)
-          ∙ ap (λ (o : Outcome B). front ++ told_of_lines kind (number + length (x ∷ xs)) o.session ys) (sym is)
+          ap (λ l. remarks_of_line kind a x ++ l) (further quiet)
+          ∙ sym (append_assoc (remarks_of_line kind a x) (remarks_of_lines kind (number + 1) first.session xs) (remarks_of_lines kind (number + 1 + length xs) (rest first.session).session ys))
+          ∙ ap (λ k. prefix ++ remarks_of_lines kind k (rest first.session).session ys) (let k : number + 1 + length xs ≡ number + length (x ∷ xs) = omega arith in k)
+          ∙ ap (λ (o : Outcome B). prefix ++ remarks_of_lines kind (number + length (x ∷ xs)) o.session ys) (sym is)
 
   IsSilent-outcome_of_words : (number : ℕ) (b : Option B) (words : List (List ℕ)) → IsSilent (outcome_of_words kind number b words)
   IsSilent-outcome_of_words number None words =
@@ -166,32 +166,32 @@ module _ {B : Type 0} (kind : Kind B) where
       IsSilent-if (not (list_all is_plain_byte line)) (outcome_of_fault b (BadByte number)) plain (λ e q. refl)
       (IsSilent-if (is_note line) noted worded (IsSilent-none b []) (IsSilent-outcome_of_words number b (words_of_text line)))
 
-  pub HasRun-start : (left written : Option (List ℕ)) (told : Option (List Telling)) (lines : Lines) → HasTaken left left lines [] → HasRun kind left left lines written written [] told told [] None
-  HasRun-start left written told lines has = record { reading = has; fault = refl; session_after = refl; front = []; written_as = Appends-nil written; text_is = refl; told_as = Tells-nil told }
+  pub HasRun-start : (left written : Option (List ℕ)) (remarks : Option (List RemarkAt)) (lines : Lines) → HasTaken left left lines [] → HasRun kind left left lines written written [] remarks remarks [] None
+  HasRun-start left written remarks lines has = record { reading = has; fault = refl; session_after = refl; prefix = []; written_as = Appends-nil written; text_is = refl; remarks_as = RemarksGrow-nil remarks }
 
-  module _ (old now : Option (List ℕ)) (lines : Lines) (written_old written : Option (List ℕ)) (gathered : List ℕ) (told_old told : Option (List Telling)) (taken : List (List ℕ)) (b : Option B)
-      (run : HasRun kind old now lines written_old written gathered told_old told taken b) where
+  module _ (old now : Option (List ℕ)) (lines : Lines) (written_old written : Option (List ℕ)) (gathered : List ℕ) (remarks_old remarks : Option (List RemarkAt)) (taken : List (List ℕ)) (b : Option B)
+      (run : HasRun kind old now lines written_old written gathered remarks_old remarks taken b) where
     abbrev pub before : Outcome B
     before = outcome_of_lines kind 1 None taken
 
     -- a part of what was gathered was written
-    pub HasRun-moved : (written_new : Option (List ℕ)) (left : List ℕ) → Moves written written_new gathered left → HasRun kind old now lines written_old written_new left told_old told taken b
+    pub HasRun-moved : (written_new : Option (List ℕ)) (left : List ℕ) → Moves written written_new gathered left → HasRun kind old now lines written_old written_new left remarks_old remarks taken b
     HasRun-moved written_new left moved = record {
       reading = run.reading;
       fault = run.fault;
       session_after = run.session_after;
-      front = run.front ++ moved.0;
-      written_as = Appends-trans written_old written written_new run.front moved.0 run.written_as moved.1;
-      text_is = run.text_is ∙ ap (λ t. run.front ++ t) moved.2 ∙ sym (append_assoc run.front moved.0 left);
-      told_as = run.told_as;
+      prefix = run.prefix ++ moved.0;
+      written_as = Appends-trans written_old written written_new run.prefix moved.0 run.written_as moved.1;
+      text_is = run.text_is ∙ ap (λ t. run.prefix ++ t) moved.2 ∙ sym (append_assoc run.prefix moved.0 left);
+      remarks_as = run.remarks_as;
     }
 
-    -- all of the text was written, or a front of it
+    -- all of the text was written, or a prefix of it
     pub text_written : gathered ≡ [] → Appends written_old written before.text
-    text_written none = subst (Appends written_old written) (sym (run.text_is ∙ ap (λ t. run.front ++ t) none ∙ append-nil run.front)) run.written_as
+    text_written none = subst (Appends written_old written) (sym (run.text_is ∙ ap (λ t. run.prefix ++ t) none ∙ append-nil run.prefix)) run.written_as
 
-    pub text_part : (written_new : Option (List ℕ)) → AppendsFront written written_new gathered → AppendsFront written_old written_new before.text
-    text_part written_new part = subst (AppendsFront written_old written_new) (sym run.text_is) (AppendsFront-after written_old written written_new run.front gathered run.written_as part)
+    pub text_part : (written_new : Option (List ℕ)) → AppendsPrefix written written_new gathered → AppendsPrefix written_old written_new before.text
+    text_part written_new part = subst (AppendsPrefix written_old written_new) (sym run.text_is) (AppendsPrefix-after written_old written written_new run.prefix gathered run.written_as part)
 
     module _ (new : Option (List ℕ)) (after : Lines) (line : List ℕ) (has : HasTaken old new after (taken ++ line ∷ [])) (short : is_short line ≡ true) (few : after.count ≤ 100000) where
       abbrev pub short_line : Outcome B
@@ -219,38 +219,38 @@ module _ {B : Type 0} (kind : Kind B) where
           ∙ ap (λ o. after_text before.text (and_then o (λ c. record { session = c; text = []; fault = None }))) (outcome_of_line-short kind after.count b line few short)
           ∙ ap (after_text before.text) (and_then-done first)
 
-      told_with_line : told_of_lines kind 1 None taken ++ told_of_line kind b line ≡ told_of_lines kind 1 None (taken ++ line ∷ [])
+      told_with_line : remarks_of_lines kind 1 None taken ++ remarks_of_line kind b line ≡ remarks_of_lines kind 1 None (taken ++ line ∷ [])
       told_with_line =
-          let one : told_of_line kind b line ≡ told_of_lines kind (1 + length taken) b (line ∷ []) = sym (append-nil (told_of_line kind b line)) in
-          ap (λ l. told_of_lines kind 1 None taken ++ l) one
-          ∙ ap (λ s. told_of_lines kind 1 None taken ++ told_of_lines kind (1 + length taken) s (line ∷ [])) (sym run.session_after)
-          ∙ sym (told_of_lines-append 1 None taken (line ∷ []) run.fault)
+          let one : remarks_of_line kind b line ≡ remarks_of_lines kind (1 + length taken) b (line ∷ []) = sym (append-nil (remarks_of_line kind b line)) in
+          ap (λ l. remarks_of_lines kind 1 None taken ++ l) one
+          ∙ ap (λ s. remarks_of_lines kind 1 None taken ++ remarks_of_lines kind (1 + length taken) s (line ∷ [])) (sym run.session_after)
+          ∙ sym (remarks_of_lines-append 1 None taken (line ∷ []) run.fault)
 
       -- a line without a fault was run, its echo and its answer gathered, and what it tells heard
-      pub HasRun-line : (b' : Option B) (gathered_new : List ℕ) (told_new : Option (List Telling)) → short_line.fault ≡ None → short_line.session ≡ b'
-          → gathered_new ≡ gathered ++ (echo ++ short_line.text) → Tells told told_new (told_of_line kind b line)
-          → HasRun kind old new after written_old written gathered_new told_old told_new (taken ++ line ∷ []) b'
-      HasRun-line b' gathered_new told_new none same gathers tells = record {
+      pub HasRun-line : (b' : Option B) (gathered_new : List ℕ) (remarks_new : Option (List RemarkAt)) → short_line.fault ≡ None → short_line.session ≡ b'
+          → gathered_new ≡ gathered ++ (echo ++ short_line.text) → RemarksGrow remarks remarks_new (remarks_of_line kind b line)
+          → HasRun kind old new after written_old written gathered_new remarks_old remarks_new (taken ++ line ∷ []) b'
+      HasRun-line b' gathered_new remarks_new none same gathers tells = record {
         reading = has;
         fault = ap (λ (o : Outcome B). o.fault) goes ∙ none;
         session_after = ap (λ (o : Outcome B). o.session) goes ∙ same;
-        front = run.front;
+        prefix = run.prefix;
         written_as = run.written_as;
         text_is =
             ap (λ (o : Outcome B). o.text) goes ∙ ap (λ t. t ++ (echo ++ short_line.text)) run.text_is
-            ∙ append_assoc run.front gathered (echo ++ short_line.text) ∙ ap (λ t. run.front ++ t) (sym gathers);
-        told_as = subst (Tells told_old told_new) told_with_line (Tells-trans told_old told told_new (told_of_lines kind 1 None taken) (told_of_line kind b line) run.told_as tells);
+            ∙ append_assoc run.prefix gathered (echo ++ short_line.text) ∙ ap (λ t. run.prefix ++ t) (sym gathers);
+        remarks_as = subst (RemarksGrow remarks_old remarks_new) told_with_line (RemarksGrow-trans remarks_old remarks remarks_new (remarks_of_lines kind 1 None taken) (remarks_of_line kind b line) run.remarks_as tells);
       }
         where
           goes : outcome_of_lines kind 1 None (taken ++ line ∷ []) ≡ after_text before.text (after_text echo short_line)
           goes = outcome_with_line ∙ ap (after_text before.text) (echoed-none echo short_line none)
 
       -- a line without a fault and without an answer was run
-      pub HasRun-quiet : (b' : Option B) (gathered_new : List ℕ) (told_new : Option (List Telling)) → short_line ≡ record { session = b'; text = []; fault = None }
-          → gathered_new ≡ gathered ++ echo → Tells told told_new (told_of_line kind b line)
-          → HasRun kind old new after written_old written gathered_new told_old told_new (taken ++ line ∷ []) b'
-      HasRun-quiet b' gathered_new told_new quiet gathers tells =
-          HasRun-line b' gathered_new told_new (ap (λ (o : Outcome B). o.fault) quiet) (ap (λ (o : Outcome B). o.session) quiet)
+      pub HasRun-quiet : (b' : Option B) (gathered_new : List ℕ) (remarks_new : Option (List RemarkAt)) → short_line ≡ record { session = b'; text = []; fault = None }
+          → gathered_new ≡ gathered ++ echo → RemarksGrow remarks remarks_new (remarks_of_line kind b line)
+          → HasRun kind old new after written_old written gathered_new remarks_old remarks_new (taken ++ line ∷ []) b'
+      HasRun-quiet b' gathered_new remarks_new quiet gathers tells =
+          HasRun-line b' gathered_new remarks_new (ap (λ (o : Outcome B). o.fault) quiet) (ap (λ (o : Outcome B). o.session) quiet)
           (gathers ∙ ap (λ t. gathered ++ t) (sym (append-nil echo) ∙ ap (λ t. echo ++ t) (sym (ap (λ (o : Outcome B). o.text) quiet)))) tells
 
       abbrev pub whole : ReadsOn old new (taken ++ line ∷ [])
@@ -311,9 +311,9 @@ module _ {B : Type 0} (kind : Kind B) where
       pub FaultsAfter-take : (e : BenchFault) → fault_of_stop stop lines.count ≡ Some e → FaultsAfter kind old new taken e
       FaultsAfter-take e is = FaultsAfter-stop e (stop_faults stop b (length taken) e (ap (λ n. fault_of_stop stop n) run.reading.count ∙ is))
 
-  module _ (old new written_old written : Option (List ℕ)) (told_old told : Option (List Telling)) (taken : List (List ℕ)) {Made : Type 0} (IsMade : (lines : ℕ) → B → Made → Type 0) where
+  module _ (old new written_old written : Option (List ℕ)) (remarks_old remarks : Option (List RemarkAt)) (taken : List (List ℕ)) {Made : Type 0} (IsMade : (lines : ℕ) → B → Made → Type 0) where
     -- the run ends early: memory was refused, or the writer failed
-    pub HasEnded-early : (e : BenchFault) → (e ≡ Memory) ⊎ (e ≡ Write) → ReadsOn old new taken → AppendsFront written_old written (outcome_of_lines kind 1 None taken).text → HasEnded kind old new written_old written told_old told IsMade (Err e)
+    pub HasEnded-early : (e : BenchFault) → (e ≡ Memory) ⊎ (e ≡ Write) → ReadsOn old new taken → AppendsPrefix written_old written (outcome_of_lines kind 1 None taken).text → HasEnded kind old new written_old written remarks_old remarks IsMade (Err e)
     HasEnded-early e early whole part =
         let run = outcome_of_lines kind 1 None taken in
         let stopped : Option B → Outcome B = λ d. outcome_of_stop whole.stop (length (lines_of_read whole.stop whole.bytes)) d in
@@ -325,45 +325,45 @@ module _ {B : Type 0} (kind : Kind B) where
           stop = whole.stop;
           bytes = whole.bytes;
           read = whole.read;
-          ends = inl (early, subst (AppendsFront written_old written) (sym (ap (λ (o : Outcome B). o.text) same ∙ goes.1)) (AppendsFront-more written_old written run.text goes.0 part));
+          ends = inl (early, subst (AppendsPrefix written_old written) (sym (ap (λ (o : Outcome B). o.text) same ∙ goes.1)) (AppendsPrefix-more written_old written run.text goes.0 part));
           made = tt;
-          told_as = tt;
+          remarks_as = tt;
         }
 
     -- the run ends with its fault, after all answers were written
-    pub HasEnded-fault : (e : BenchFault) → FaultsAfter kind old new taken e → Appends written_old written (outcome_of_lines kind 1 None taken).text → HasEnded kind old new written_old written told_old told IsMade (Err e)
-    HasEnded-fault e (inl memory) all = HasEnded-early e (inl memory.0) memory.1 (AppendsFront-all written_old written _ all)
-    HasEnded-fault e (inr has) all = record { stop = has.stop; bytes = has.bytes; read = has.read; ends = inr (has.fault, subst (Appends written_old written) (sym has.text) all); made = tt; told_as = tt }
+    pub HasEnded-fault : (e : BenchFault) → FaultsAfter kind old new taken e → Appends written_old written (outcome_of_lines kind 1 None taken).text → HasEnded kind old new written_old written remarks_old remarks IsMade (Err e)
+    HasEnded-fault e (inl memory) all = HasEnded-early e (inl memory.0) memory.1 (AppendsPrefix-all written_old written _ all)
+    HasEnded-fault e (inr has) all = record { stop = has.stop; bytes = has.bytes; read = has.read; ends = inr (has.fault, subst (Appends written_old written) (sym has.text) all); made = tt; remarks_as = tt }
 
     -- or the writer failed before that
-    pub HasEnded-unwritten : (e : BenchFault) → FaultsAfter kind old new taken e → AppendsFront written_old written (outcome_of_lines kind 1 None taken).text → HasEnded kind old new written_old written told_old told IsMade (Err Write)
+    pub HasEnded-unwritten : (e : BenchFault) → FaultsAfter kind old new taken e → AppendsPrefix written_old written (outcome_of_lines kind 1 None taken).text → HasEnded kind old new written_old written remarks_old remarks IsMade (Err Write)
     HasEnded-unwritten e (inl memory) part = HasEnded-early Write (inr refl) memory.1 part
-    HasEnded-unwritten e (inr has) part = record { stop = has.stop; bytes = has.bytes; read = has.read; ends = inl (inr refl, subst (AppendsFront written_old written) (sym has.text) part); made = tt; told_as = tt }
+    HasEnded-unwritten e (inr has) part = record { stop = has.stop; bytes = has.bytes; read = has.read; ends = inl (inr refl, subst (AppendsPrefix written_old written) (sym has.text) part); made = tt; remarks_as = tt }
 
   -- the run ends where the script does
-  pub HasEnded-end : (old now : Option (List ℕ)) (lines : Lines) (written_old written : Option (List ℕ)) (gathered : List ℕ) (told_old told : Option (List Telling)) (taken : List (List ℕ)) (b : B)
+  pub HasEnded-end : (old now : Option (List ℕ)) (lines : Lines) (written_old written : Option (List ℕ)) (gathered : List ℕ) (remarks_old remarks : Option (List RemarkAt)) (taken : List (List ℕ)) (b : B)
       {Made : Type 0} (IsMade : (lines : ℕ) → B → Made → Type 0)
-      → HasRun kind old now lines written_old written gathered told_old told taken (Some b) → gathered ≡ [] → (new : Option (List ℕ)) → HasStopped old new End taken → (written_new : Option (List ℕ)) (result : Result Made BenchFault)
+      → HasRun kind old now lines written_old written gathered remarks_old remarks taken (Some b) → gathered ≡ [] → (new : Option (List ℕ)) → HasStopped old new End taken → (written_new : Option (List ℕ)) (result : Result Made BenchFault)
       → WritesAs (outcome_of_end lines.count (Some b)) written written_new result → IfOk result (λ m. IsMade lines.count b m)
-      → HasEnded kind old new written_old written_new told_old told IsMade result
-  HasEnded-end old now lines written_old written gathered told_old told taken b {Made = Made} IsMade run none new has written_new result ends is_made = record {
+      → HasEnded kind old new written_old written_new remarks_old remarks IsMade result
+  HasEnded-end old now lines written_old written gathered remarks_old remarks taken b {Made = Made} IsMade run none new has written_new result ends is_made = record {
     stop = End;
     bytes = has.bytes;
     read = has.read;
     ends = ended result (subst (λ n. WritesAs (outcome_of_end n (Some b)) written written_new result) (sym run.reading.count) ends);
     made = made result is_made;
-    told_as = OnOk-always result _ (subst (λ l. Tells told_old told (told_of_lines kind 1 None l)) (sym has.taken_as) run.told_as);
+    remarks_as = OnOk-always result _ (subst (λ l. RemarksGrow remarks_old remarks (remarks_of_lines kind 1 None l)) (sym has.taken_as) run.remarks_as);
   }
     where
       same : outcome_of_read kind End has.bytes ≡ after_text (outcome_of_lines kind 1 None taken).text (outcome_of_end (length taken) (Some b))
-      same = outcome_of_stopped old now lines written_old written gathered told_old told taken (Some b) run new End has (Some b) refl
+      same = outcome_of_stopped old now lines written_old written gathered remarks_old remarks taken (Some b) run new End has (Some b) refl
 
       written_as : Appends written_old written (outcome_of_lines kind 1 None taken).text
-      written_as = text_written old now lines written_old written gathered told_old told taken (Some b) run none
+      written_as = text_written old now lines written_old written gathered remarks_old remarks taken (Some b) run none
 
       ended : (r : Result Made BenchFault) → WritesAs (outcome_of_end (length taken) (Some b)) written written_new r → WritesAs (outcome_of_read kind End has.bytes) written_old written_new r
       ended (Ok s) w = (ap (λ (o : Outcome B). o.fault) same, subst (Appends written_old written_new) (sym (ap (λ (o : Outcome B). o.text) same)) (Appends-trans written_old written written_new (outcome_of_lines kind 1 None taken).text _ written_as w.1))
-      ended (Err e) (inl early) = inl (early.0, subst (AppendsFront written_old written_new) (sym (ap (λ (o : Outcome B). o.text) same)) (AppendsFront-after written_old written written_new (outcome_of_lines kind 1 None taken).text _ written_as early.1))
+      ended (Err e) (inl early) = inl (early.0, subst (AppendsPrefix written_old written_new) (sym (ap (λ (o : Outcome B). o.text) same)) (AppendsPrefix-after written_old written written_new (outcome_of_lines kind 1 None taken).text _ written_as early.1))
       ended (Err e) (inr bad) = absurd (let f : None ≡ Some e = bad.0 in cc)
 
       made : (r : Result Made BenchFault) → IfOk r (λ m. IsMade lines.count b m)
@@ -372,26 +372,26 @@ module _ {B : Type 0} (kind : Kind B) where
       made (Err e) h = tt
 
 -- what was made of a script, seen otherwise
-module _ {B : Type 0} (kind : Kind B) (old new written_old written : Option (List ℕ)) (told_old told : Option (List Telling)) {X Y : Type 0}
+module _ {B : Type 0} (kind : Kind B) (old new written_old written : Option (List ℕ)) (remarks_old remarks : Option (List RemarkAt)) {X Y : Type 0}
     (P : (lines : ℕ) → B → X → Type 0) (Q : (lines : ℕ) → B → Y → Type 0) where
   pub HasEnded-map : (x : X) (y : Y) → ((n : ℕ) (s : B) → P n s x → Q n s y)
-      → HasEnded kind old new written_old written told_old told P (Ok x) → HasEnded kind old new written_old written told_old told Q (Ok y)
+      → HasEnded kind old new written_old written remarks_old remarks P (Ok x) → HasEnded kind old new written_old written remarks_old remarks Q (Ok y)
   HasEnded-map x y f is = record {
     stop = is.stop;
     bytes = is.bytes;
     read = is.read;
     ends = is.ends;
     made = (is.made.0, is.made.1, f (length (lines_of_read is.stop is.bytes)) is.made.0 is.made.2);
-    told_as = is.told_as;
+    remarks_as = is.remarks_as;
   }
 
   -- a fault is a fault, whatever would have been made
-  pub HasEnded-err : (e : BenchFault) → HasEnded kind old new written_old written told_old told P (Err e) → HasEnded kind old new written_old written told_old told Q (Err e)
-  HasEnded-err e is = record { stop = is.stop; bytes = is.bytes; read = is.read; ends = is.ends; made = tt; told_as = tt }
+  pub HasEnded-err : (e : BenchFault) → HasEnded kind old new written_old written remarks_old remarks P (Err e) → HasEnded kind old new written_old written remarks_old remarks Q (Err e)
+  HasEnded-err e is = record { stop = is.stop; bytes = is.bytes; read = is.read; ends = is.ends; made = tt; remarks_as = tt }
 
 -- however the run ended
-module _ {B : Type 0} (kind : Kind B) (old new written_old written : Option (List ℕ)) (told_old told : Option (List Telling)) {X : Type 0} (P Q : (lines : ℕ) → B → X → Type 0) where
+module _ {B : Type 0} (kind : Kind B) (old new written_old written : Option (List ℕ)) (remarks_old remarks : Option (List RemarkAt)) {X : Type 0} (P Q : (lines : ℕ) → B → X → Type 0) where
   pub HasEnded-as : (r : Result X BenchFault) → ((n : ℕ) (s : B) (x : X) → P n s x → Q n s x)
-      → HasEnded kind old new written_old written told_old told P r → HasEnded kind old new written_old written told_old told Q r
-  HasEnded-as (Ok x) f is = HasEnded-map kind old new written_old written told_old told P Q x x (λ n s. f n s x) is
-  HasEnded-as (Err e) f is = HasEnded-err kind old new written_old written told_old told P Q e is
+      → HasEnded kind old new written_old written remarks_old remarks P r → HasEnded kind old new written_old written remarks_old remarks Q r
+  HasEnded-as (Ok x) f is = HasEnded-map kind old new written_old written remarks_old remarks P Q x x (λ n s. f n s x) is
+  HasEnded-as (Err e) f is = HasEnded-err kind old new written_old written remarks_old remarks P Q e is

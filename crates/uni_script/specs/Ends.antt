@@ -7,16 +7,16 @@ pub record CheckedEnd (T : Type 0) : Type 0 where
   pub end : T
   pub failed : Bool
 
--- known bytes grew by a front of these bytes, and the rest is left to write
+-- known bytes grew by a prefix of these bytes, and the rest is left to write
 pub record IsWritten (old new : Option (List ℕ)) (bytes rest : List ℕ) : Type 0 where
-  pub front : List ℕ
-  pub cut : bytes ≡ front ++ rest
-  pub taken : Appends old new front
+  pub prefix : List ℕ
+  pub cut : bytes ≡ prefix ++ rest
+  pub taken : Appends old new prefix
 
--- known bytes grew by a front of these bytes
-abbrev pub AppendsFront : Option (List ℕ) → Option (List ℕ) → List ℕ → Type 0
-AppendsFront old new bytes = (rest : List ℕ) × IsWritten old new bytes rest
+-- known bytes grew by a prefix of these bytes
+abbrev pub AppendsPrefix : Option (List ℕ) → Option (List ℕ) → List ℕ → Type 0
+AppendsPrefix old new bytes = (rest : List ℕ) × IsWritten old new bytes rest
 
 -- a text that was gathered was written from its start on, and this is left of it
 abbrev pub Moves : (old new : Option (List ℕ)) → (before after : List ℕ) → Type 0
-Moves old new before after = (front : List ℕ) × Appends old new front × (before ≡ front ++ after)
+Moves old new before after = (prefix : List ℕ) × Appends old new prefix × (before ≡ prefix ++ after)

@@ -11,7 +11,7 @@ pub mod Summary
 pub mod Promises
 pub mod Lines
 pub mod Replay
-pub mod Told
+pub mod Remarks
 pub mod ScriptRun
 pub mod Examples
 pub mod Laws

@@ -7,7 +7,7 @@ use Rattle.uni_script.specs.Meaning.{Session}
 use Rattle.uni_script.specs.Scripts.{ScriptSession}
 
 -- The events of a session could all come, their replay from its opening leads to its world, and the main law holds of them: calls and
--- replies are those of an atomic object, each front of the events is within the bound, and trims change nothing that they show.
+-- replies are those of an atomic object, each prefix of the events is within the bound, and trims change nothing that they show.
 pub record IsPromised {S I R : Type 0} (o : SpokenObject S I R) (b : Session S I R) : Type 0 where
   pub accepted : AreAccepted o.object (opened_world b.processes o.object.initial b.first) b.events
   pub replay : b.world ≡ world_after_all o.object (opened_world b.processes o.object.initial b.first) b.events

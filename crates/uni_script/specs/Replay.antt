@@ -4,7 +4,7 @@ use Rattle.std.specs.Io.KnownBytes.{Appends, Consumes}
 use Rattle.uni_script.specs.declared.fault.BenchFault.{BenchFault}
 use Rattle.uni_script.specs.declared.fault.BenchFault.TheVariants.{NoHeader, BadHeader, TooLong, BadByte, BadLine, TooMany, Read, Write}
 use Rattle.uni_script.specs.declared.fault.BenchFault.TheVariants.{Memory, Audit}
-use Rattle.uni_script.specs.Ends.{AppendsFront}
+use Rattle.uni_script.specs.Ends.{AppendsPrefix}
 use Rattle.uni_script.specs.Grammar.{cut, lines_of}
 use Rattle.uni_script.specs.declared.summary.Summary.{Summary}
 use Rattle.uni_script.specs.Promises.{IsPromisedSession}
@@ -52,7 +52,7 @@ module _ {B : Type 0} (kind : Kind B) where
 
   -- a prefix of the text of the script's answers was written
   abbrev pub IsPartOfReplay : (left old new : Option (List ℕ)) → Type 0
-  IsPartOfReplay left old new = (script : List ℕ) × IsInput left script × AppendsFront old new (text_of_script script)
+  IsPartOfReplay left old new = (script : List ℕ) × IsInput left script × AppendsPrefix old new (text_of_script script)
 
   -- what the whole lines of some bytes come to
   abbrev pub text_of_whole_lines : List ℕ → List ℕ

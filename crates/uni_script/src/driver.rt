@@ -5,7 +5,7 @@ ghost use Rattle.std.specs.Prelude.{Option, None, Some, Err, is_none, IfSome, If
 ghost use Rattle.std.specs.Prelude.{IsErrOf};
 ghost use Rattle.uni_record.specs.Recorded.{IsHistory};
 ghost use Rattle.uni_script.specs.declared.options.Options.{Options};
-ghost use Rattle.uni_script.specs.Ends.{AppendsFront, Moves};
+ghost use Rattle.uni_script.specs.Ends.{AppendsPrefix, Moves};
 ghost use Rattle.uni_script.specs.Grammar.{IsInRange, is_note};
 ghost use Rattle.uni_script.specs.Lines.{IsHeld, HasTaken, EndsAs, WritesAs, HasRun, HasEnded, GoesOn, RunsOn};
 ghost use Rattle.uni_script.specs.Lines.{IsFaultOfLine};
@@ -18,7 +18,7 @@ ghost use Rattle.uni_script.specs.Promises.{IsPromised};
 ghost use Rattle.uni_script.specs.ScriptRun.{IsRanAs, IsSummaryOf};
 ghost use Rattle.uni_script.specs.Scripts.{IsAbout};
 ghost use Rattle.uni_script.specs.Summary.{summary_of};
-ghost use Rattle.uni_script.specs.Told.{Telling, Tells, told_of_line};
+ghost use Rattle.uni_script.specs.Remarks.{RemarkAt, RemarksGrow, remarks_of_line};
 
 use crate::catalogue::{Catalogue, Scripts};
 use crate::commands::{make, open};
@@ -27,9 +27,9 @@ use crate::fault::BenchFault;
 use crate::grammar::{Header, command_of, header_by, is_note, is_plain, words_of};
 use crate::lines::{Lines, Taken};
 use crate::options::{Dialect, Echo, Options, push_echo};
+use crate::remarks::Listener;
 use crate::script_run::Ran;
 use crate::summary::{Summary, summary_of};
-use crate::told::Listener;
 use ready_objects::Spoken;
 use std::alloc::Global;
 use uni_record::{Recorded, Verdict};
@@ -128,7 +128,7 @@ fn write_echo<W: TextOut>(
 ) -> Result<(), BenchFault>
     requires { W.has_failed writer.old ≡ false }
     ensures written { OnOk result (Appends (W.contents writer.old) (W.contents writer.new) (echo_of echo line.now)) }
-    ensures front { OnErr result (AppendsFront (W.contents writer.old) (W.contents writer.new)
+    ensures prefix { OnErr result (AppendsPrefix (W.contents writer.old) (W.contents writer.new)
         (echo_of echo line.now)) }
     ensures fault { IfErr result (λ e. (e ≡ BenchFault.Memory) ⊎ (e ≡ BenchFault.Write)) }
     ensures writer { IsErrOf result BenchFault.Write ↔ (W.has_failed writer.new ≡ true) }
@@ -293,7 +293,7 @@ fn make_room<W: TextOut>(
     requires held { IsHeld lines.now }
     requires writer { W.has_failed writer.old ≡ false }
     ensures moved { OnOk result (Moves (W.contents writer.old) (W.contents writer.new) text.old.items text.new.items) }
-    ensures front { OnErr result (AppendsFront (W.contents writer.old) (W.contents writer.new) text.old.items) }
+    ensures prefix { OnErr result (AppendsPrefix (W.contents writer.old) (W.contents writer.new) text.old.items) }
     ensures fault { IfErr result (λ e. e ≡ BenchFault.Write) }
     ensures writer { IsErrOf result BenchFault.Write ↔ (W.has_failed writer.new ≡ true) }
 {
@@ -310,7 +310,7 @@ fn write_text<W: TextOut>(text: &mut Vec<u8>, writer: &mut W) -> Result<(), Benc
     requires { W.has_failed writer.old ≡ false }
     ensures moved { OnOk result (Moves (W.contents writer.old) (W.contents writer.new) text.old.items text.new.items) }
     ensures all { OnOk result (text.new.items ≡ []) }
-    ensures front { OnErr result (AppendsFront (W.contents writer.old) (W.contents writer.new) text.old.items) }
+    ensures prefix { OnErr result (AppendsPrefix (W.contents writer.old) (W.contents writer.new) text.old.items) }
     ensures fault { IfErr result (λ e. e ≡ BenchFault.Write) }
     ensures writer { IsErrOf result BenchFault.Write ↔ (W.has_failed writer.new ≡ true) }
 {
@@ -342,11 +342,11 @@ fn run_next<S: Scripts, O: Spoken, I: TextIn, L: Listener>(
     ensures object { session.new.world.object ≡ session.old.world.object }
     ensures next { (kind : Kind S.Session) (inside : Session O.State O.Inv O.Resp → S.Session)
         → IsAbout kind (spoken O.sequential O.language session.old.world.object) dialect inside
-        → (old written_old written : Option (List ℕ)) (told_old : Option (List Telling)) (taken : List (List ℕ))
-        → HasRun kind old (I.remaining reader.old) lines.old written_old written text.old.items told_old
+        → (old written_old written : Option (List ℕ)) (remarks_old : Option (List RemarkAt)) (taken : List (List ℕ))
+        → HasRun kind old (I.remaining reader.old) lines.old written_old written text.old.items remarks_old
         (L.heard listener.old) taken (Some (inside (session_of session.old)))
         → GoesOn kind old (I.remaining reader.new) lines.old lines.new written_old written text.old.items
-        text.new.items told_old (L.heard listener.old) (L.heard listener.new) taken
+        text.new.items remarks_old (L.heard listener.old) (L.heard listener.new) taken
         (inside (session_of session.old)) (inside (session_of session.new)) result }
     ensures reader { IsErrOf result BenchFault.Read → I.has_failed reader.new ≡ true }
     ensures reader_ok { OnOk result (I.has_failed reader.new ≡ false) }
@@ -387,10 +387,10 @@ fn run_line<S: Scripts, O: Spoken, L: Listener>(
         → IsAbout kind (spoken O.sequential O.language session.old.world.object) dialect inside
         → OnOk result (Some (inside (session_of session.new))
         ≡ (outcome_of_short_line kind number (Some (inside (session_of session.old))) line.now).session) }
-    ensures told { (kind : Kind S.Session) (inside : Session O.State O.Inv O.Resp → S.Session)
+    ensures remarks { (kind : Kind S.Session) (inside : Session O.State O.Inv O.Resp → S.Session)
         → IsAbout kind (spoken O.sequential O.language session.old.world.object) dialect inside
-        → OnOk result (Tells (L.heard listener.old) (L.heard listener.new)
-        (told_of_line kind (Some (inside (session_of session.old))) line.now)) }
+        → OnOk result (RemarksGrow (L.heard listener.old) (L.heard listener.new)
+        (remarks_of_line kind (Some (inside (session_of session.old))) line.now)) }
     ensures own { IfErr result IsFaultOfLine }
 {
     if !is_plain(line) {

@@ -3,7 +3,7 @@
 ghost use Rattle.std.specs.Prelude.{◌≡◌, ◌≤◌, ◌<◌, ℕ, Bool, true, false, List, Option, length, IfOk};
 ghost use Rattle.std.specs.Prelude.{OnOk, OnErr};
 ghost use Rattle.std.specs.Io.KnownBytes.{Appends, ReadConsumes, WriteAppends};
-ghost use Rattle.uni_script.specs.Ends.{AppendsFront};
+ghost use Rattle.uni_script.specs.Ends.{AppendsPrefix};
 
 use std::io::{Read, Write};
 use std::marker::Model;
@@ -156,11 +156,11 @@ impl TextOut for Unwritten {
 
 /// Writes all bytes.
 ///
-/// An `Err` says that the end failed; a front of the bytes is written then.
+/// An `Err` says that the end failed; a prefix of the bytes is written then.
 pub fn write_all<T: TextOut>(end: &mut T, bytes: &[u8]) -> Result<(), Failed>
     ensures ok { OnOk result (Appends (T.contents end.old) (T.contents end.new) bytes.now) }
     ensures kept { OnOk result (T.has_failed end.new ≡ T.has_failed end.old) }
-    ensures front { AppendsFront (T.contents end.old) (T.contents end.new) bytes.now }
+    ensures prefix { AppendsPrefix (T.contents end.old) (T.contents end.new) bytes.now }
     ensures err { OnErr result (T.has_failed end.new ≡ true) }
 {
     let mut rest = bytes;

@@ -17,12 +17,12 @@ mod laws;
 mod lines;
 mod options;
 mod own;
+mod remarks;
 mod replay;
 mod schedules;
 mod script_run;
 mod statuses;
 mod summary;
-mod told;
 
 pub use answer::Refusal;
 pub use ends::{Checked, Failed, TextIn, TextOut, write_all};
@@ -34,9 +34,9 @@ pub use grammar::{
 pub use laws::finish_returns;
 pub use options::{Echo, Options};
 pub use own::{bench_object, run_of_object};
+pub use remarks::{PlacedRemark, Remark};
 pub use replay::bench;
 pub use schedules::{Drawn, Plan, schedule};
 pub use script_run::{ScriptRecord, ScriptRun, run_of_script};
 pub use statuses::{refuse_words, report_fault, tell};
 pub use summary::Summary;
-pub use told::{Remark, Told};

@@ -15,9 +15,9 @@ use crate::driver::run_script;
 use crate::ends::{TextIn, TextOut, Unwritten};
 use crate::fault::BenchFault;
 use crate::options::Options;
+use crate::remarks::{Deaf, Remarks};
 use crate::script_run::ScriptRun;
 use crate::summary::Summary;
-use crate::told::{Deaf, Remarks};
 use ready_objects::Spoken;
 use std::alloc::Global;
 use uni_record::{Recorded, Verdict};
@@ -85,7 +85,7 @@ pub fn run_of_object<O: Spoken, I: TextIn>(
     requires reader { I.has_failed reader.old ≡ false }
     ensures run { IfOk result (λ run. HasRunWhole
         (own_scripts (spoken O.sequential O.language object) name.now options.now) (I.remaining reader.old)
-        (λ b told. IsOwnRunOf (spoken O.sequential O.language object) b told run)) }
+        (λ b remarks. IsOwnRunOf (spoken O.sequential O.language object) b remarks run)) }
     ensures all_read { OnOk result (IsAtEnd (I.remaining reader.new)) }
     ensures fault { IfErr result (λ e. IsFaultOfScript e
         → HasFault (own_scripts (spoken O.sequential O.language object) name.now options.now)
@@ -93,13 +93,13 @@ pub fn run_of_object<O: Spoken, I: TextIn>(
     ensures reader { IsErrOf result BenchFault.Read → I.has_failed reader.new ≡ true }
 {
     let mut remarks = Remarks {
-        told: Vec::new(alloc),
+        remarks: Vec::new(alloc),
     };
     let own = Own { name, object };
     match run_script(own, alloc, options, reader, &mut Unwritten, &mut remarks) {
         Ok(ran) => Ok(ScriptRun {
             record: ran.record,
-            told: remarks.told,
+            remarks: remarks.remarks,
         }),
         Err(fault) => Err(fault),
     }

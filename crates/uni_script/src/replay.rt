@@ -12,8 +12,8 @@ use crate::driver::run_script;
 use crate::ends::{TextIn, TextOut};
 use crate::fault::BenchFault;
 use crate::options::Options;
+use crate::remarks::Deaf;
 use crate::summary::Summary;
-use crate::told::Deaf;
 use std::alloc::Global;
 use uni_record::Verdict;
 
@@ -23,7 +23,7 @@ use uni_record::Verdict;
 /// for bytes after it. An `Err` is the first fault of the script; `Read` where the reader failed, and
 /// none of the whole lines before has a fault; `Write` where an answer couldn't be written; or
 /// `Memory`. The answers to the lines before it are written, but for `Write` and `Memory`, where a
-/// front of them is.
+/// prefix of them is.
 pub fn bench<I: TextIn, O: TextOut>(
     alloc: Global,
     reader: &mut I,

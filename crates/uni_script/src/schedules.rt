@@ -3,7 +3,7 @@
 ghost use Rattle.std.specs.Prelude.{◌≡◌, ◌+◌, ◌<◌, ◌++◌, ◌⊎◌, ◌↔◌, ℕ, true, false};
 ghost use Rattle.std.specs.Prelude.{IfErr, IsErrOf, OnOk};
 ghost use Rattle.std.specs.Io.KnownBytes.{Appends};
-ghost use Rattle.uni_script.specs.Ends.{AppendsFront};
+ghost use Rattle.uni_script.specs.Ends.{AppendsPrefix};
 ghost use Rattle.uni_script.specs.Objects.{spoken_of};
 ghost use Rattle.uni_script.specs.Schedules.{IsPlan, header_line, call_line, event_line, words_of_event, event_lines};
 ghost use Rattle.uni_script.specs.Schedules.{words_of_events, finish_lines, schedule_text};
@@ -53,7 +53,7 @@ pub struct Plan {
 
 /// Writes the schedule that the words of a source stand for, by a plan.
 ///
-/// An `Err` is `Write` where the text couldn't be written, and then a front of it is; or `Memory`, and
+/// An `Err` is `Write` where the text couldn't be written, and then a prefix of it is; or `Memory`, and
 /// then nothing is written.
 pub fn schedule<D: Drawn, W: TextOut>(
     alloc: Global,
@@ -67,7 +67,7 @@ pub fn schedule<D: Drawn, W: TextOut>(
         (schedule_text plan.now (D.word source.old))) }
     ensures drawn { OnOk result ((i : ℕ) → D.word source.new i
         ≡ D.word source.old (words_of_events (D.word source.old) 0 plan.now.events + i)) }
-    ensures front { AppendsFront (W.contents writer.old) (W.contents writer.new)
+    ensures prefix { AppendsPrefix (W.contents writer.old) (W.contents writer.new)
         (schedule_text plan.now (D.word source.old)) }
     ensures faults { IfErr result (λ e. (e ≡ BenchFault.Write) ⊎ (e ≡ BenchFault.Memory)) }
     ensures writer { IsErrOf result BenchFault.Write ↔ (W.has_failed writer.new ≡ true) }

@@ -12,8 +12,8 @@ use crate::driver::run_script;
 use crate::ends::{TextIn, Unwritten};
 use crate::fault::BenchFault;
 use crate::options::Options;
+use crate::remarks::{PlacedRemark, Remarks};
 use crate::summary::Summary;
-use crate::told::{Remarks, Told};
 use ready_objects::{BookObject, DirectoryObject, QueueObject, StickyObject};
 use std::alloc::Global;
 use uni_record::Recorded;
@@ -46,7 +46,7 @@ pub struct ScriptRun<R: Drop> {
     /// The record that it leaves.
     pub record: R,
     /// What it tells beside its events, in order.
-    pub told: Vec<Told>,
+    pub remarks: Vec<PlacedRemark>,
 }
 
 /// Runs the script that a reader has, as `bench` does, but writes no answer: the answer is the record that it leaves,
@@ -68,12 +68,12 @@ pub fn run_of_script<I: TextIn>(
     ensures reader { IsErrOf result BenchFault.Read → I.has_failed reader.new ≡ true }
 {
     let mut remarks = Remarks {
-        told: Vec::new(alloc),
+        remarks: Vec::new(alloc),
     };
     match run_script(Ready, alloc, options, reader, &mut Unwritten, &mut remarks) {
         Ok(ran) => Ok(ScriptRun {
             record: ran.record,
-            told: remarks.told,
+            remarks: remarks.remarks,
         }),
         Err(fault) => Err(fault),
     }

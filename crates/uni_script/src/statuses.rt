@@ -3,7 +3,7 @@
 ghost use Rattle.std.specs.Prelude.{◌≡◌, ◌≢◌, ◌⊎◌, false};
 ghost use Rattle.std.specs.Io.KnownBytes.{Appends};
 ghost use Rattle.std.specs.IoError.{error_kind};
-ghost use Rattle.uni_script.specs.Ends.{AppendsFront};
+ghost use Rattle.uni_script.specs.Ends.{AppendsPrefix};
 ghost use Rattle.uni_script.specs.Statuses.{IsStatusOf, TellsFault, line_of_words, status_of};
 
 use crate::ends::{TextOut, write_all};
@@ -67,7 +67,7 @@ fn report_line<F: TextOut>(alloc: Global, fault: BenchFault, status: u8, faults:
 
 /// Writes a line, as far as the end takes it.
 pub fn tell<F: TextOut>(faults: &mut F, line: &[u8])
-    ensures front { AppendsFront (F.contents faults.old) (F.contents faults.new) line.now }
+    ensures prefix { AppendsPrefix (F.contents faults.old) (F.contents faults.new) line.now }
     ensures whole { F.has_failed faults.new ≡ false
         → Appends (F.contents faults.old) (F.contents faults.new) line.now }
 {
@@ -79,7 +79,7 @@ pub fn tell<F: TextOut>(faults: &mut F, line: &[u8])
 pub fn refuse_words<F: TextOut>(error: &io::Error, faults: &mut F) -> u8
     ensures memory { error_kind error.now ≡ ErrorKind.OutOfMemory → result ≡ 4 }
     ensures other { error_kind error.now ≢ ErrorKind.OutOfMemory → result ≡ 2 }
-    ensures front { AppendsFront (F.contents faults.old) (F.contents faults.new) (line_of_words result) }
+    ensures prefix { AppendsPrefix (F.contents faults.old) (F.contents faults.new) (line_of_words result) }
     ensures whole { F.has_failed faults.new ≡ false
         → Appends (F.contents faults.old) (F.contents faults.new) (line_of_words result) }
 {

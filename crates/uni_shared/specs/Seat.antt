@@ -67,8 +67,8 @@ pub record IsReceiptOf {I R : Type 0} (old : SeatOf I R) (receipt : Receipt I R)
   pub asks : inv_of old ≡ Some receipt.inv
 
 -- why a call that had begun hasn't ended
-abbrev pub IsStop : ApplyFault → Type 0
-IsStop fault = (fault ≡ GaveUp) ⊎ (fault ≡ Stranger) ⊎ (fault ≡ Memory)
+abbrev pub IsCause : ApplyFault → Type 0
+IsCause fault = (fault ≡ GaveUp) ⊎ (fault ≡ Stranger) ⊎ (fault ≡ Memory)
 
 -- the invariant: the process is one of at most 64, and where a call is pending there is room for its receipt
 pub record IsSeat {I : Type 0} (pending : Option (PendingCall I)) (process processes stored for_receipts : ℕ) : Type 0 where

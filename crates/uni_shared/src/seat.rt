@@ -3,7 +3,8 @@
 ghost use Rattle.std.specs.Prelude.{◌≡◌, ◌-◌, ◌<◌, ◌≤◌, ◌↔◌, ◌⊎◌, IfOk, IfErr, OnErr};
 ghost use Rattle.std.specs.Prelude.{OnOk, IsSome, IsErrOf, IsTrue, None, Some, length, slice_get};
 ghost use Rattle.std.specs.Borrow.{sem};
-ghost use Rattle.uni_shared.specs.Seat.{first_seat, HasEnded, HasBegun, HasStopped, IsLeftByApply, IsReceiptOf, IsStop};
+ghost use Rattle.uni_shared.specs.Seat.{first_seat, HasEnded, HasBegun, HasStopped, IsLeftByApply, IsReceiptOf};
+ghost use Rattle.uni_shared.specs.Seat.{IsCause};
 ghost use Rattle.uni_shared.specs.Ending.{EndsApplied, EndsResumed};
 
 use crate::fault::ApplyFault;
@@ -46,35 +47,35 @@ impl<O: SeqObject> Model for Seat<O> {
 
 /// Why a call was left pending.
 #[derive(Clone, Copy)]
-enum Stop {
+enum Cause {
     GaveUp,
     Stranger,
     Memory,
 }
 
-impl Stop {
+impl Cause {
     /// The same, as the fault of a call.
     fn fault(self) -> ApplyFault
-        ensures { IsStop result }
+        ensures { IsCause result }
     {
         match self {
-            Stop::GaveUp => ApplyFault::GaveUp,
-            Stop::Stranger => ApplyFault::Stranger,
-            Stop::Memory => ApplyFault::Memory,
+            Cause::GaveUp => ApplyFault::GaveUp,
+            Cause::Stranger => ApplyFault::Stranger,
+            Cause::Memory => ApplyFault::Memory,
         }
     }
 }
 
 /// A call that was left pending, and the place that its next step touches, as it was seen last.
 #[derive(Clone, Copy)]
-struct Halt {
-    stop: Stop,
+struct Pause {
+    cause: Cause,
     place: Place,
 }
 
-/// The end of a call.
+/// What a call that has returned came to.
 #[derive(Clone, Copy)]
-struct End<R> {
+struct Returned<R> {
     reply: R,
     steps: u64,
     turns: u64,
@@ -82,17 +83,17 @@ struct End<R> {
 
 /// What a step left.
 #[derive(Clone, Copy)]
-enum Passed<R> {
-    /// The call goes on, at this place.
-    On(Place),
-    /// It has ended.
-    Ended(End<R>),
+enum AfterStep<R> {
+    /// The call goes on: its next step touches this place.
+    Continues(Place),
+    /// It has returned.
+    Returns(Returned<R>),
 }
 
 /// A call that was left pending at a place.
-fn halted(stop: Stop, place: &Place) -> Halt {
-    Halt {
-        stop,
+fn paused(cause: Cause, place: &Place) -> Pause {
+    Pause {
+        cause,
         place: *place,
     }
 }
@@ -103,17 +104,17 @@ fn hold<O: SeqObject, R: Wait>(
     alloc: Global,
     shared: &Shared<O>,
     call: CallId,
-) -> Result<Held<O::Resp>, Stop> {
+) -> Result<Held<O::Resp>, Cause> {
     let mut guard = shared.recorded.lock(rt);
     match step_held(alloc, &mut guard, call) {
         Ok(held) => Ok(held),
-        Err(StepHeldFault::NotIts) => Err(Stop::Stranger),
-        Err(StepHeldFault::Memory) => Err(Stop::Memory),
+        Err(StepHeldFault::NotIts) => Err(Cause::Stranger),
+        Err(StepHeldFault::Memory) => Err(Cause::Memory),
     }
 }
 
 /// What a hold left: the end of the call, or the place of its next step.
-fn what_passed<R: Copy>(held: Held<R>) -> Option<Passed<R>> {
+fn after_held<R: Copy>(held: Held<R>) -> Option<AfterStep<R>> {
     let Held {
         reply,
         steps,
@@ -122,13 +123,13 @@ fn what_passed<R: Copy>(held: Held<R>) -> Option<Passed<R>> {
         ..
     } = held;
     if let Some(reply) = reply {
-        return Some(Passed::Ended(End {
+        return Some(AfterStep::Returns(Returned {
             reply,
             steps,
             turns,
         }));
     }
-    Some(Passed::On(place?))
+    Some(AfterStep::Continues(place?))
 }
 
 /// One step: the gate is asked first, and then the lock is held once.
@@ -139,16 +140,16 @@ fn pass<O: SeqObject, G: Gate, R: Wait>(
     call: CallId,
     place: &Place,
     gate: &G,
-) -> Result<Passed<O::Resp>, Halt> {
+) -> Result<AfterStep<O::Resp>, Pause> {
     if gate.before(u64::from(call.process), *place).is_err() {
-        return Err(halted(Stop::GaveUp, place));
+        return Err(paused(Cause::GaveUp, place));
     }
     match hold(rt, alloc, shared, call) {
-        Ok(held) => match what_passed(held) {
+        Ok(held) => match after_held(held) {
             Some(passed) => Ok(passed),
-            None => Err(halted(Stop::Stranger, place)),
+            None => Err(paused(Cause::Stranger, place)),
         },
-        Err(stop) => Err(halted(stop, place)),
+        Err(cause) => Err(paused(cause, place)),
     }
 }
 
@@ -161,15 +162,15 @@ fn drive<O: SeqObject, G: Gate, R: Wait>(
     most: u64,
     first: &Place,
     gate: &G,
-) -> Result<End<O::Resp>, Halt> {
+) -> Result<Returned<O::Resp>, Pause> {
     let mut place = *first;
     for _ in 0..most {
         match pass(rt, alloc, shared, call, &place, gate)? {
-            Passed::On(next) => place = next,
-            Passed::Ended(end) => return Ok(end),
+            AfterStep::Continues(next) => place = next,
+            AfterStep::Returns(end) => return Ok(end),
         }
     }
-    Err(halted(Stop::Stranger, &place))
+    Err(paused(Cause::Stranger, &place))
 }
 
 impl<O: SeqObject> Seat<O> {
@@ -268,7 +269,7 @@ impl<O: SeqObject> Seat<O> {
         ensures ended { OnOk result ((x : _) × IsReceiptOf self.old x × HasEnded self.old x self.new) }
         ensures stopped { OnErr result (HasStopped self.old self.new) }
         ensures none_pending { IsErrOf result ApplyFault.NothingPending ↔ (self.old.pending ≡ None) }
-        ensures others { IfErr result (λ fault. (fault ≡ ApplyFault.NothingPending) ⊎ IsStop fault) }
+        ensures others { IfErr result (λ fault. (fault ≡ ApplyFault.NothingPending) ⊎ IsCause fault) }
     {
         let Some(asked) = self.pending.take() else {
             return Err(ApplyFault::NothingPending);
@@ -293,7 +294,7 @@ impl<O: SeqObject> Seat<O> {
                     inv,
                     place: halt.place,
                 });
-                Err(halt.stop.fault())
+                Err(halt.cause.fault())
             }
         }
     }
@@ -343,7 +344,7 @@ impl<O: SeqObject> Seat<O> {
             O.Resp.PartialEq self.entry result) }
         ensures receipt { IfOk result (λ receipt. IsReceiptOf self.old receipt.now) }
         ensures none_pending { IsErrOf result ApplyFault.NothingPending ↔ (self.old.pending ≡ None) }
-        ensures others { IfErr result (λ fault. (fault ≡ ApplyFault.NothingPending) ⊎ IsStop fault) }
+        ensures others { IfErr result (λ fault. (fault ≡ ApplyFault.NothingPending) ⊎ IsCause fault) }
     {
         self.go(rt, alloc, shared, gate)?;
         Ok(self.latest())

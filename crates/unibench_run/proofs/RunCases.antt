@@ -1,8 +1,8 @@
--- What a run comes to by what was asked for, and what the want of memory leaves.
+-- What a run comes to by what was asked for, and what refused memory leaves.
 use Rattle.std.proofs.Common.{◌≡◌, ◌∙◌, ℕ, List, [], Option, Some, Bool, false, inl, inr, ◌++◌, refl, sym, subst, arith}
 use Rattle.std.proofs.lemmas.List.{append-nil}
 use Rattle.std.specs.Io.KnownBytes.{Appends}
-use Rattle.uni_script.specs.Ends.{AppendsFront}
+use Rattle.uni_script.specs.Ends.{AppendsPrefix}
 use Rattle.uni_script.specs.Fault.{fault_line}
 use Rattle.uni_script.specs.declared.fault.BenchFault.{BenchFault}
 use Rattle.uni_script.specs.declared.fault.BenchFault.TheVariants as bench
@@ -18,33 +18,33 @@ use Rattle.unibench_run.specs.declared.request.Request.TheVariants.{Replay, Expl
 use Rattle.unibench_run.specs.declared.threads.ThreadsFault.{ThreadsFault}
 use Rattle.unibench_run.specs.declared.threads.ThreadsFault.TheVariants.{Memory}
 
--- the want of memory is a run of anything that has read and written nothing
+-- refused memory is a run of anything that has read and written nothing
 pub run_of_memory : (r : Request) (left old : Option (List ℕ)) (failed : Bool) (status : ℕ) → failed ≡ false → status ≡ 4 → IsRunOf r left left old old failed status
 run_of_memory (Replay options) left old failed status good four = record { replayed = λ e. cc; bad = λ e. cc; read = λ e _. cc; part = IsPartOfReplay-start (scripts options) _ _ }
 run_of_memory (Explained options) left old failed status good four = record { replayed = λ e. cc; bad = λ e. cc; read = λ e _. cc; part = IsPartOfReplay-start (scripts options) _ _ }
 run_of_memory (Language object) left old failed status good four =
-    record { statuses = inr (inr four); printed = λ e. cc; front = λ e. cc; failed = ((λ e. cc), (λ e. cc)); nothing = λ e. refl }
+    record { statuses = inr (inr four); printed = λ e. cc; prefix = λ e. cc; failed = ((λ e. cc), (λ e. cc)); nothing = λ e. refl }
 run_of_memory (Random plan) left old failed status good four =
-    record { statuses = inr (inr four); drawn = λ e. cc; front = λ e. cc; failed = ((λ e. cc), (λ e. cc)); nothing = λ e. refl }
+    record { statuses = inr (inr four); drawn = λ e. cc; prefix = λ e. cc; failed = ((λ e. cc), (λ e. cc)); nothing = λ e. refl }
 run_of_memory (Threads plan) left old failed status good four =
-    record { there = λ e. cc; nowhere = λ e. inr four; agreed = λ e. cc; front = λ e. cc; failed = ((λ e. cc), (λ e. cc)); nothing = λ a b. refl; closing = λ e. cc }
+    record { there = λ e. cc; nowhere = λ e. inr four; agreed = λ e. cc; prefix = λ e. cc; failed = ((λ e. cc), (λ e. cc)); nothing = λ a b. refl; closing = λ e. cc }
 
 -- its line is one for all
 threads_told : (refusal : Option ThreadsFault) (old new : Option (List ℕ)) (failed : Bool) (status : ℕ)
     → status ≡ 4 → TellsFault old new failed status → TellsThreadsFault refusal old new failed status
-threads_told refusal old new failed status four told = by_fault told.fault told.status_is told.front told.whole
+threads_told refusal old new failed status four told = by_fault told.fault told.status_is told.prefix told.whole
   where
-    by_fault : (f : BenchFault) → status ≡ status_of f → AppendsFront old new (fault_line f) → (failed ≡ false → Appends old new (fault_line f)) → TellsThreadsFault refusal old new failed status
-    by_fault (bench.NoHeader l) is front whole = absurd (omega arith)
-    by_fault (bench.BadHeader l) is front whole = absurd (omega arith)
-    by_fault (bench.TooLong l) is front whole = absurd (omega arith)
-    by_fault (bench.BadByte l) is front whole = absurd (omega arith)
-    by_fault (bench.BadLine l) is front whole = absurd (omega arith)
-    by_fault bench.TooMany is front whole = absurd (omega arith)
-    by_fault bench.Read is front whole = absurd (omega arith)
-    by_fault bench.Write is front whole = absurd (omega arith)
-    by_fault (bench.Audit verdict) is front whole = absurd (omega arith)
-    by_fault bench.Memory is front whole = record { fault = Memory; status_is = (four, λ two. absurd (omega arith)); front = front; whole = whole }
+    by_fault : (f : BenchFault) → status ≡ status_of f → AppendsPrefix old new (fault_line f) → (failed ≡ false → Appends old new (fault_line f)) → TellsThreadsFault refusal old new failed status
+    by_fault (bench.NoHeader l) is prefix whole = absurd (omega arith)
+    by_fault (bench.BadHeader l) is prefix whole = absurd (omega arith)
+    by_fault (bench.TooLong l) is prefix whole = absurd (omega arith)
+    by_fault (bench.BadByte l) is prefix whole = absurd (omega arith)
+    by_fault (bench.BadLine l) is prefix whole = absurd (omega arith)
+    by_fault bench.TooMany is prefix whole = absurd (omega arith)
+    by_fault bench.Read is prefix whole = absurd (omega arith)
+    by_fault bench.Write is prefix whole = absurd (omega arith)
+    by_fault (bench.Audit verdict) is prefix whole = absurd (omega arith)
+    by_fault bench.Memory is prefix whole = record { fault = Memory; status_is = (four, λ two. absurd (omega arith)); prefix = prefix; whole = whole }
 
 -- the line of a fault alone, where more may follow it
 pub told_more : (old new : Option (List ℕ)) (failed : Bool) (status : ℕ) → TellsFault old new failed status → TellsMore old new failed status
@@ -53,20 +53,20 @@ told_more old new failed status told = (
   record {
     fault = told.fault;
     status_is = told.status_is;
-    front = subst (AppendsFront old new) (sym (append-nil (fault_line told.fault))) told.front;
+    prefix = subst (AppendsPrefix old new) (sym (append-nil (fault_line told.fault))) told.prefix;
     whole = λ good. subst (Appends old new) (sym (append-nil (fault_line told.fault))) (told.whole good);
   },
 )
 
 -- the line of a fault and more, as one text
 pub told_with : (old new : Option (List ℕ)) (failed : Bool) (fault : BenchFault) (more text line : List ℕ) → status_of fault ≡ 2
-    → line ≡ text → text ≡ fault_line fault ++ more → AppendsFront old new line → (failed ≡ false → Appends old new line) → TellsMore old new failed 2
-told_with old new failed fault more text line ends is are front whole = (
+    → line ≡ text → text ≡ fault_line fault ++ more → AppendsPrefix old new line → (failed ≡ false → Appends old new line) → TellsMore old new failed 2
+told_with old new failed fault more text line ends is are prefix whole = (
   more,
   record {
     fault = fault;
     status_is = sym ends;
-    front = subst (AppendsFront old new) (is ∙ are) front;
+    prefix = subst (AppendsPrefix old new) (is ∙ are) prefix;
     whole = λ good. subst (Appends old new) (is ∙ are) (whole good);
   },
 )
@@ -80,9 +80,9 @@ told_by_memory (Threads plan) old new failed status four told = threads_told (re
 
 -- the line of a fault is told by its bytes
 pub TellsLine-bytes : {A : Type 0} (EndsWith : A → ℕ → Type 0) (line_of : A → List ℕ) (fault : A) (old new : Option (List ℕ)) (failed : Bool) (status : ℕ) (line : List ℕ)
-    → EndsWith fault status → line ≡ line_of fault → AppendsFront old new line → (failed ≡ false → Appends old new line) → TellsLine EndsWith line_of old new failed status
-TellsLine-bytes EndsWith line_of fault old new failed status line ends is front whole =
-    record { fault = fault; status_is = ends; front = subst (AppendsFront old new) is front; whole = λ good. subst (Appends old new) is (whole good) }
+    → EndsWith fault status → line ≡ line_of fault → AppendsPrefix old new line → (failed ≡ false → Appends old new line) → TellsLine EndsWith line_of old new failed status
+TellsLine-bytes EndsWith line_of fault old new failed status line ends is prefix whole =
+    record { fault = fault; status_is = ends; prefix = subst (AppendsPrefix old new) is prefix; whole = λ good. subst (Appends old new) is (whole good) }
 
 -- what was asked for is one request
 module _ (asked : Option Request) (q r : Request) (is_q : asked ≡ Some q) (is_r : asked ≡ Some r) where

@@ -1,7 +1,7 @@
 -- What a run of the program has done when it ends.
 use Rattle.std.specs.Prelude.{◌≡◌, ◌≢◌, ◌⊎◌, ◌↔◌, ℕ, List, Option, None, IsSome, Bool, true, false}
 use Rattle.std.specs.Io.KnownBytes.{Appends}
-use Rattle.uni_script.specs.Ends.{AppendsFront}
+use Rattle.uni_script.specs.Ends.{AppendsPrefix}
 use Rattle.uni_script.specs.declared.options.Options.{Options}
 use Rattle.uni_script.specs.Scripts.{scripts}
 use Rattle.uni_script.specs.Replay.{IsReplay, IsBadReplay, IsPartOfReplay, HasAnswered}
@@ -23,7 +23,7 @@ pub record IsStatusOfEnds (input_failed output_failed : Bool) (status : ℕ) : T
 
 -- A replay that was told this and ended with this status, from what the input had left and the output held: 0 only where the script
 -- is good and its text was written, 2 only where it has a fault, after the answers before it, 3 after the answers to the whole lines that
--- the reader gave, where the output hasn't failed. Whatever the status, a front of the text of the script's answers was written.
+-- the reader gave, where the output hasn't failed. Whatever the status, a prefix of the text of the script's answers was written.
 pub record IsReplayRun (options : Options) (left left_after old new : Option (List ℕ)) (output_failed : Bool)
     (status : ℕ) : Type 0 where
   pub replayed : status ≡ 0 → IsReplay (scripts options) left old new None
@@ -32,33 +32,33 @@ pub record IsReplayRun (options : Options) (left left_after old new : Option (Li
   pub part : IsPartOfReplay (scripts options) left old new
 
 -- A schedule that was drawn with this status, from what the output held: 0 only where its text was written, 3 exactly where the
--- output failed, after a front of it, and 4 for want of memory, where nothing was written.
+-- output failed, after a prefix of it, and 4 where memory was refused, where nothing was written.
 pub record IsRandomRun (plan : RandomPlan) (old new : Option (List ℕ)) (output_failed : Bool) (status : ℕ) : Type 0 where
   pub statuses : (status ≡ 0) ⊎ ((status ≡ 3) ⊎ (status ≡ 4))
   pub drawn : status ≡ 0 → Appends old new (drawn_text plan)
-  pub front : status ≡ 3 → AppendsFront old new (drawn_text plan)
+  pub prefix : status ≡ 3 → AppendsPrefix old new (drawn_text plan)
   pub failed : (status ≡ 3) ↔ (output_failed ≡ true)
   pub nothing : status ≡ 4 → new ≡ old
 
 -- A run of threads that ended with this status, from what the output held: 2 only where the plan is refused, since the object isn't
--- there in the form or, under a lock, the calls are too many, and there only 2 or the want of memory; 0 only where the line was
+-- there in the form or, under a lock, the calls are too many, and there only 2 or refused memory; 0 only where the line was
 -- written that says of as many replies as the plan has calls that they agree, under a lock of at most so many. After a failure of
--- the output a front of such a line was written, and after any other fault nothing.
+-- the output a prefix of such a line was written, and after any other fault nothing.
 pub record IsThreadsRun (plan : Plan) (old new : Option (List ℕ)) (output_failed : Bool) (status : ℕ) : Type 0 where
   pub there : status ≡ 2 → IsSome (refusal_of plan)
   pub nowhere : IsSome (refusal_of plan) → (status ≡ 2) ⊎ (status ≡ 4)
   pub agreed : status ≡ 0 → OfAgreed plan (Appends old new)
-  pub front : status ≡ 3 → OfAgreed plan (AppendsFront old new)
+  pub prefix : status ≡ 3 → OfAgreed plan (AppendsPrefix old new)
   pub failed : (status ≡ 3) ↔ (output_failed ≡ true)
   pub nothing : status ≢ 0 → status ≢ 3 → new ≡ old
   pub closing : status ≡ 5 → plan.form ≡ Lock
 
 -- The language that was printed with this status, from what the output held: 0 only where its text was written, 3 exactly where the
--- output failed, after a front of it, and 4 for want of memory, where nothing was written.
+-- output failed, after a prefix of it, and 4 where memory was refused, where nothing was written.
 pub record IsLanguageRun (object : Option ObjectName) (old new : Option (List ℕ)) (output_failed : Bool) (status : ℕ) : Type 0 where
   pub statuses : (status ≡ 0) ⊎ ((status ≡ 3) ⊎ (status ≡ 4))
   pub printed : status ≡ 0 → Appends old new (language_text object)
-  pub front : status ≡ 3 → AppendsFront old new (language_text object)
+  pub prefix : status ≡ 3 → AppendsPrefix old new (language_text object)
   pub failed : (status ≡ 3) ↔ (output_failed ≡ true)
   pub nothing : status ≡ 4 → new ≡ old
 

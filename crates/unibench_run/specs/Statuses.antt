@@ -23,7 +23,7 @@ status_of_threads (fault.SeatMissing p) = 5
 status_of_threads (fault.SeatPending p) = 5
 status_of_threads (fault.Audit verdict) = 5
 
--- the status of a fault of threads, or that of the want of memory for the text of a closing or its audit
+-- the status of a fault of threads, or that of refused memory for the text of a closing or its audit
 abbrev pub IsStatusOfThreads : ThreadsFault → (status : ℕ) → Type 0
 IsStatusOfThreads fault status = (status ≡ status_of_threads fault) ⊎ ((status_of_threads fault ≡ 5) × (status ≡ 4))
 

@@ -3,7 +3,7 @@
 ghost use Rattle.std.specs.Prelude.{◌≡◌, ◌≢◌, ◌≤◌, ◌⊎◌, ◌↔◌, true, false, None, Some};
 ghost use Rattle.std.specs.Prelude.{IsErrOf, OnOk, OnErr, map};
 ghost use Rattle.std.specs.Io.KnownBytes.{Appends};
-ghost use Rattle.uni_script.specs.Ends.{AppendsFront};
+ghost use Rattle.uni_script.specs.Ends.{AppendsPrefix};
 ghost use Rattle.uni_record.specs.Recorded.{IsHistory};
 ghost use Rattle.unibench_run.specs.CommandLine.{AsksFor, AsksForReplay, IsRefused};
 ghost use Rattle.uni_script.specs.Schedules.{IsPlan};
@@ -116,8 +116,8 @@ fn write_agreed<R: Threads + Wait + Sync, O: TextOut>(
     ensures ok { OnOk result ((O.has_failed output.new ≡ false)
         × OfAgreed plan.now (Appends (O.contents output.old) (O.contents output.new))) }
     ensures failed { IsErrOf result ThreadsFault.Write ↔ (O.has_failed output.new ≡ true) }
-    ensures front { IsErrOf result ThreadsFault.Write
-        → OfAgreed plan.now (AppendsFront (O.contents output.old) (O.contents output.new)) }
+    ensures prefix { IsErrOf result ThreadsFault.Write
+        → OfAgreed plan.now (AppendsPrefix (O.contents output.old) (O.contents output.new)) }
     ensures kept { OnErr result (O.has_failed output.new ≡ false → output.new ≡ output.old) }
     ensures closing { (fault : ThreadsFault) → IsErrOf result fault →
         status_of_threads fault ≡ 5 → plan.now.form ≡ Form.Lock }

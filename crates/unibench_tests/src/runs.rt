@@ -279,18 +279,18 @@ fn writer_that_fails(rt: HostRuntime) {
     }
 }
 
-/// Asserts what is written where the output of a program fails after this front of it.
+/// Asserts what is written where the output of a program fails after this prefix of it.
 fn fails_after<R: Abort + Threads + Wait + Sync>(
     rt: &R,
     alloc: Global,
     words: &[&str],
     script: &[u8],
-    front: &[u8],
+    prefix: &[u8],
 ) {
     for fails in [false, true] {
-        let outcome = narrow_outcome(rt, alloc, words, script, front.len(), fails);
+        let outcome = narrow_outcome(rt, alloc, words, script, prefix.len(), fails);
         assert!(rt;
-            outcome.is(front, b"cannot write\n", 3),
+            outcome.is(prefix, b"cannot write\n", 3),
             "{words:?} {fails}"
         );
     }

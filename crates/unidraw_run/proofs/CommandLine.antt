@@ -1,4 +1,4 @@
--- The command line that the program builds is the one of the definitions, and what the want of memory leaves.
+-- The command line that the program builds is the one of the definitions, and what refused memory leaves.
 use Rattle.std.proofs.Common.{◌≡◌, ◌∙◌, ℕ, List, [], ◌∷◌, Option, None, Some, Bool, true, refl, ap, arith}
 use Rattle.clap.specs.Values.{kind_of}
 use Rattle.clap.specs.Words.{HasKind, Kinds, app_of, is_simple_and_free, is_simple}
@@ -23,7 +23,7 @@ is_simple-unidraw whole is = let simple : is_simple unidraw ≡ true = refl in a
 pub unless_faulty-none : (kinds : Kinds) (form : Form) → kinds ≡ [] → unless_faulty kinds form ≡ Some form
 unless_faulty-none kinds form none = ap (λ ks. unless_faulty ks form) none
 
--- an error of words that ask for a form is the want of memory
+-- an error of words that ask for a form is refused memory
 pub memory_of_form : (kinds : Kinds) (e : Error) (form asked : Form) → HasKind kinds e → unless_faulty kinds form ≡ Some asked → kind_of e ≡ OutOfMemory
 memory_of_form [] e form asked has is = memory_of [] e has refl
 memory_of_form (kind ∷ kinds) e form asked has is = absurd (let bad : None ≡ Some asked = is in cc)
@@ -31,7 +31,7 @@ memory_of_form (kind ∷ kinds) e form asked has is = absurd (let bad : None ≡
 -- which draws nothing
 pub drawn_of_memory : (form : Form) (left old : Option (List ℕ)) (status : ℕ) → status ≡ 4 → IsDrawn form left old old status
 drawn_of_memory form left old status four =
-    record { drawn = λ e. absurd (omega arith); bad = λ e. absurd (omega arith); front = λ e. absurd (omega arith); nothing = λ _. refl }
+    record { drawn = λ e. absurd (omega arith); bad = λ e. absurd (omega arith); prefix = λ e. absurd (omega arith); nothing = λ _. refl }
 
 pub told_of_fault : (old new : Option (List ℕ)) (failed : Bool) (status : ℕ) → TellsFault old new failed status → TellsPictureFault old new failed status
-told_of_fault old new failed status told = record { fault = Script told.fault; status_is = told.status_is; front = told.front; whole = told.whole }
+told_of_fault old new failed status told = record { fault = Script told.fault; status_is = told.status_is; prefix = told.prefix; whole = told.whole }

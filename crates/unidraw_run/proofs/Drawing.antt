@@ -12,7 +12,7 @@ use Rattle.unidraw_run.specs.Drawn.{HasNoPicture, IsDrawn}
 use Rattle.unidraw_run.specs.Statuses.{status_of_picture, IsStatusOfPicture}
 use Rattle.unidraw_run.specs.declared.program.Form.{Form}
 
--- no fault ends with 0, nor does the want of memory for its text
+-- no fault ends with 0, nor does refused memory for its text
 least_status : (f : BenchFault) → 2 ≤ status_of f
 least_status (NoHeader l) = omega arith
 least_status (BadHeader l) = omega arith
@@ -63,6 +63,6 @@ IsDrawn-fault {A} form left old status r f is many fault ends =
     let told : (g : PictureFault) → f ≡ g → IsErrOf r g = λ g same. is ∙ ap Err same in record {
       drawn = λ zero. absurd (status_not_0 f status ends zero);
       bad = λ two. (no_picture left f (status_2 f status ends two) (λ same. many (told TooManyEvents same)) (λ e same. fault e (told (Script e) same)), refl);
-      front = λ _. inl refl;
+      prefix = λ _. inl refl;
       nothing = λ _. refl;
     }

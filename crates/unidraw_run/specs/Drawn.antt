@@ -1,7 +1,7 @@
 -- What a run of the program has done when it ends.
 use Rattle.std.specs.Prelude.{◌≡◌, ◌⊎◌, ℕ, List, Option}
 use Rattle.std.specs.Io.KnownBytes.{Appends}
-use Rattle.uni_script.specs.Ends.{AppendsFront}
+use Rattle.uni_script.specs.Ends.{AppendsPrefix}
 use Rattle.uni_script.specs.Replay.{HasFault, IsFaultOfScript}
 use Rattle.uni_script.specs.Scripts.{scripts_of}
 use Rattle.uni_script.specs.declared.fault.BenchFault.{BenchFault}
@@ -22,9 +22,9 @@ abbrev pub HasNoPicture : (left : Option (List ℕ)) → Type 0
 HasNoPicture left = HasTooManyEvents left ⊎ ((e : BenchFault) × IsFaultOfScript e × HasFault (scripts_of 1048576) left e)
 
 -- a run of the program that ended with this status, from what the input had left and the output held: 0 only where the picture was
--- written, 2 only where the script has none; after a failure of the output a front of the picture was written, and else nothing
+-- written, 2 only where the script has none; after a failure of the output a prefix of the picture was written, and else nothing
 pub record IsDrawn (form : Form) (left old new : Option (List ℕ)) (status : ℕ) : Type 0 where
   pub drawn : status ≡ 0 → (text : List ℕ) × IsPictureIn form left text × Appends old new text
   pub bad : status ≡ 2 → HasNoPicture left × (new ≡ old)
-  pub front : status ≡ 3 → (new ≡ old) ⊎ ((text : List ℕ) × IsPictureIn form left text × AppendsFront old new text)
+  pub prefix : status ≡ 3 → (new ≡ old) ⊎ ((text : List ℕ) × IsPictureIn form left text × AppendsPrefix old new text)
   pub nothing : status ≡ 4 → new ≡ old

@@ -10,7 +10,7 @@ abbrev pub status_of_picture : PictureFault → ℕ
 status_of_picture (Script fault) = status_of fault
 status_of_picture TooManyEvents = 2
 
--- the status of a fault, or that of the want of memory for its text
+-- the status of a fault, or that of refused memory for its text
 abbrev pub IsStatusOfPicture : PictureFault → (status : ℕ) → Type 0
 IsStatusOfPicture (Script fault) status = IsStatusOf fault status
 IsStatusOfPicture TooManyEvents status = status ≡ 2
@@ -19,6 +19,6 @@ IsStatusOfPicture TooManyEvents status = status ≡ 2
 abbrev pub picture_fault_line : PictureFault → List ℕ
 picture_fault_line fault = picture_fault_text fault ++ 10 ∷ []
 
--- known bytes grew by the line of a fault that ends with this status: by all of it, where the end hasn't failed, else by a front
+-- known bytes grew by the line of a fault that ends with this status: by all of it, where the end hasn't failed, else by a prefix
 abbrev pub TellsPictureFault : (old new : Option (List ℕ)) (failed : Bool) (status : ℕ) → Type 0
 TellsPictureFault = TellsLine (λ fault status. status ≡ status_of_picture fault) picture_fault_line

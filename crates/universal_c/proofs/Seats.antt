@@ -23,8 +23,8 @@ before : {O : Type 0} (log : WordLog O) (n m : ℕ) (seats rest more : List Word
 before log n m seats rest more are is count = let a = are.many in let b : length seats ≡ length rest + length more = ap length is ∙ length-append rest more in omega arith
 
 -- the seats before others
-pub front : {O : Type 0} (log : WordLog O) (n m : ℕ) (seats rest more : List WordSeat) → AreFirstSeats log n seats → seats ≡ rest ++ more → m + length more ≡ n → AreFirstSeats log m rest
-front log n m seats rest more are is count = record { many = before log n m seats rest more are is count; each = λ p u e. are.each p u (subst (λ (l : List WordSeat). slice_get l p ≡ Some u) (sym is) (get_left rest more p u e)) }
+pub prefix : {O : Type 0} (log : WordLog O) (n m : ℕ) (seats rest more : List WordSeat) → AreFirstSeats log n seats → seats ≡ rest ++ more → m + length more ≡ n → AreFirstSeats log m rest
+prefix log n m seats rest more are is count = record { many = before log n m seats rest more are is count; each = λ p u e. are.each p u (subst (λ (l : List WordSeat). slice_get l p ≡ Some u) (sym is) (get_left rest more p u e)) }
 
 pub the_last : {O : Type 0} (log : WordLog O) (n m : ℕ) (seats rest : List WordSeat) (seat : WordSeat) → AreFirstSeats log n seats → seats ≡ rest ++ seat ∷ [] → m + 1 ≡ n → IsFreshSeat log m seat
 the_last log n m seats rest seat are is count = let at : length rest ≡ m = before log n m seats rest (seat ∷ []) are is count in

@@ -13,7 +13,7 @@ use Rattle.run_layout.specs.declared.subject.PictureFault.TheVariants.{Script, T
 use Rattle.run_picture.specs.Picture.{IsPicture}
 use Rattle.run_lines.specs.Lines.{IsLines}
 
--- There is room for a text: it is at the buffer's front, the rest is as it was, and its length is told.
+-- There is room for a text: it is at the buffer's start, the rest is as it was, and its length is told.
 pub record IsWritten (text old new : List ℕ) (told : ℕ) : Type 0 where
   pub room : length text ≤ length old
   pub bytes : new ≡ text ++ drop (length text) old

@@ -7,5 +7,5 @@ use Rattle.run_layout.proofs.axis.rooms_of.Given as goal
 abbrev pub invariant-loop-one : goal.invariant-loop-one
 invariant-loop-one l = record {
   small : All (λ room. room.width ≤ 8024) l.rooms.items;
-  rooms : l.rooms.items ≡ map (room_of l.scale) (take l.one-index l.told);
+  rooms : l.rooms.items ≡ map (room_of l.scale) (take l.one-index l.remarks);
 }

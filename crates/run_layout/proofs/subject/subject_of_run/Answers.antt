@@ -1,5 +1,5 @@
 use Rattle.std.proofs.Common.{rules}
 use Rattle.run_layout.proofs.subject.subject_of_run.Goals as goal
 
-pub returns-clause-told : goal.returns-clause-told
-returns-clause-told g c = search rules
+pub returns-clause-remarks : goal.returns-clause-remarks
+returns-clause-remarks g c = search rules

@@ -1,5 +1,5 @@
 use Rattle.std.proofs.Common.{◌≡◌, ◌∙◌, ◌++◌, ◌+◌, ◌-◌, ◌<◌, length, map, [], ◌∷◌, take, drop, ap, sym, refl, arith, rules}
-use Rattle.run_layout.specs.Wrapping.{front_of, after_space, lines_of}
+use Rattle.run_layout.specs.Wrapping.{fitting_len, after_space, lines_of}
 use Rattle.run_layout.proofs.Breaking.{lines_of-empty, lines_of-none, lines_of-more, sliced_front, sliced_rest}
 use Rattle.run_layout.proofs.Pushing.{added_first, added_all, map_pushed}
 use Rattle.run_layout.proofs.wrapping.push_lines.Goals as goal
@@ -13,14 +13,14 @@ pub loop-place-preserved : goal.loop-place-preserved
 loop-place-preserved c =
     let full : 0 < length c.loop-place.rest.now = grind arith in
     let rest = c.loop-place.rest.now in
-    let front : c.extend_from_slice.new.self.items ≡ take (front_of rest c.args.most) rest =
-    sliced_front (c.front_of-front.result) (front_of rest c.args.most) rest c.extend_from_slice.new.self.items c.front_of-front.ensures.front (grind (arith, c.in_ok-extend_from_slice.ensures.items, c.new-line.ensures.items)) in
-    let left : c.after_space-rest.result.now ≡ after_space (drop (front_of rest c.args.most) rest) =
-    c.after_space-rest.ensures ∙ sliced_rest c.front_of-front.result (front_of rest c.args.most) rest c.front_of-front.ensures.front in
+    let prefix : c.extend_from_slice.new.self.items ≡ take (fitting_len rest c.args.most) rest =
+    sliced_front (c.fitting_len-prefix.result) (fitting_len rest c.args.most) rest c.extend_from_slice.new.self.items c.fitting_len-prefix.ensures.prefix (grind (arith, c.in_ok-extend_from_slice.ensures.items, c.new-line.ensures.items)) in
+    let left : c.after_space-rest.result.now ≡ after_space (drop (fitting_len rest c.args.most) rest) =
+    c.after_space-rest.ensures ∙ sliced_rest c.fitting_len-prefix.result (fitting_len rest c.args.most) rest c.fitting_len-prefix.ensures.prefix in
     let next : lines_of (200 - c.loop-place.place) c.args.most rest
     ≡ c.extend_from_slice.new.self.items ∷ lines_of (200 - (c.loop-place.place + 1)) c.args.most c.after_space-rest.result.now =
     lines_of-more (200 - c.loop-place.place) (200 - (c.loop-place.place + 1)) c.args.most rest full (omega arith)
-    ∙ ap (λ l. l ∷ lines_of (200 - (c.loop-place.place + 1)) c.args.most (after_space (drop (front_of rest c.args.most) rest))) (sym front)
+    ∙ ap (λ l. l ∷ lines_of (200 - (c.loop-place.place + 1)) c.args.most (after_space (drop (fitting_len rest c.args.most) rest))) (sym prefix)
     ∙ ap (λ l. c.extend_from_slice.new.self.items ∷ lines_of (200 - (c.loop-place.place + 1)) c.args.most l) (sym left) in
     record {
       few = search rules;

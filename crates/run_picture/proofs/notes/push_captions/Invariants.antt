@@ -8,6 +8,6 @@ use Rattle.run_picture.proofs.notes.push_captions.Given as goal
 abbrev pub invariant-loop-at : goal.invariant-loop-at
 invariant-loop-at l = record {
   small : l.place ≤ l.bottom + 12 + l.at * 4000;
-  rest : map figure l.shapes.items ++ captions_from (places_shown l.axis) l.width l.most l.foot l.at l.place (drop l.at l.told)
-      ≡ map figure l.initial.shapes.items ++ captions_from (places_shown l.axis) l.width l.most l.foot 0 (l.bottom + 12) l.told;
+  rest : map figure l.shapes.items ++ captions_from (places_shown l.axis) l.width l.most l.foot l.at l.place (drop l.at l.remarks)
+      ≡ map figure l.initial.shapes.items ++ captions_from (places_shown l.axis) l.width l.most l.foot 0 (l.bottom + 12) l.remarks;
 }

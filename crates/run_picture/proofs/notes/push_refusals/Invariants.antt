@@ -7,5 +7,5 @@ use Rattle.run_picture.proofs.notes.push_refusals.Given as goal
 -- the refusals so far, and those from here on
 abbrev pub invariant-loop-at : goal.invariant-loop-at
 invariant-loop-at l =
-    map figure l.shapes.items ++ refusals_from (places_shown l.axis) l.lanes l.at (drop l.at l.told)
-    ≡ map figure l.initial.shapes.items ++ refusals_from (places_shown l.axis) l.lanes 0 l.told
+    map figure l.shapes.items ++ refusals_from (places_shown l.axis) l.lanes l.at (drop l.at l.remarks)
+    ≡ map figure l.initial.shapes.items ++ refusals_from (places_shown l.axis) l.lanes 0 l.remarks

@@ -6,12 +6,12 @@ use Rattle.uni_script.specs.Grammar.{command_of_words}
 use Rattle.uni_script.specs.Objects.{SpokenObject, spoken}
 use Rattle.uni_script.specs.Meaning.{session_of, session_after, result_of_command}
 use Rattle.uni_script.specs.Outcome.{Outcome}
-use Rattle.uni_script.specs.Told.{Tells, told_after, note_told}
-use Rattle.uni_script.specs.Told.Saying.{Refused}
+use Rattle.uni_script.specs.Remarks.{RemarksGrow, remarks_after, remarks_of_note}
+use Rattle.uni_script.specs.Remarks.RemarkText.{Refused}
 use Rattle.uni_script.proofs.Running.{outcome_of_short_line-made, outcome_of_short_line-bad}
-use Rattle.uni_script.proofs.RunningOn.{Tells-nil}
+use Rattle.uni_script.proofs.RunningOn.{RemarksGrow-nil}
 use Rattle.uni_script.proofs.Sharing.{answered-some, answered-none, refusal_of_words-some}
-use Rattle.uni_script.proofs.Telling.{told_of_line-note_after, told_of_line-command}
+use Rattle.uni_script.proofs.Remarks.{remarks_of_line-note_after, remarks_of_line-command}
 use Rattle.uni_script.proofs.driver.run_line.Goals as goal
 
 pub returns-clause-outcome : goal.returns-clause-outcome
@@ -72,8 +72,8 @@ returns-in_default-clause-outcome g c = λ kind inside about.
     let same = outcome_of_short_line-bad kind c.args.number (inside b) c.args.line.now (sym c.if-not-is_plain.ensures) (sym c.if-is_note.ensures) (about.made b line_words ∙ answered-none o version inside b line_words (words ∙ c.in_default.is)) in
     inr (ap (λ (x : Outcome _). x.fault) same, sym (append-nil c.args.text.now.items) ∙ ap (λ t. c.args.text.now.items ++ t) (sym (ap (λ (x : Outcome _). x.text) same)))
 
-pub returns-clause-told : goal.returns-clause-told
-returns-clause-told g c = λ kind inside about.
+pub returns-clause-remarks : goal.returns-clause-remarks
+returns-clause-remarks g c = λ kind inside about.
     let o : SpokenObject _ _ _ = spoken g.O.SeqObject.sequential g.O.Spoken.language c.args.session.now.world.object in
     let b = session_of c.args.session.now in
     let version = c.args.dialect.version in
@@ -81,11 +81,11 @@ returns-clause-told g c = λ kind inside about.
     let words = ap (λ w. command_of_words version o.language.inv_of_words w) (sym c.in_ok-words.ensures ∙ ap bytes_of (sym c.as_slice.ensures.value)) ∙ sym c.command_of.ensures in
     let refusal = about.refusal b line_words ∙ refusal_of_words-some o version inside b line_words c.in-Some.command (words ∙ c.in-Some.is) in
     let quiet = refusal ∙ sym c.in_ok-refusal.ensures.refusal ∙ c.in-None.is in
-    let told = sym (ap (λ r. told_after (kind.events (inside b)) (option_map Refused r)) quiet) ∙ told_of_line-command kind (inside b) c.args.line.now (sym c.if-is_note.ensures) in
-    subst (Tells (g.L.Listener.heard c.args.listener.now) (g.L.Listener.heard c.args.listener.now)) told (Tells-nil (g.L.Listener.heard c.args.listener.now))
+    let remarks = sym (ap (λ r. remarks_after (kind.events (inside b)) (option_map Refused r)) quiet) ∙ remarks_of_line-command kind (inside b) c.args.line.now (sym c.if-is_note.ensures) in
+    subst (RemarksGrow (g.L.Listener.heard c.args.listener.now) (g.L.Listener.heard c.args.listener.now)) remarks (RemarksGrow-nil (g.L.Listener.heard c.args.listener.now))
 
-pub returns-in-Some-2-clause-told : goal.returns-in-Some-2-clause-told
-returns-in-Some-2-clause-told g c = λ kind inside about.
+pub returns-in-Some-2-clause-remarks : goal.returns-in-Some-2-clause-remarks
+returns-in-Some-2-clause-remarks g c = λ kind inside about.
     let o : SpokenObject _ _ _ = spoken g.O.SeqObject.sequential g.O.Spoken.language c.args.session.now.world.object in
     let b = session_of c.args.session.now in
     let version = c.args.dialect.version in
@@ -94,12 +94,12 @@ returns-in-Some-2-clause-told g c = λ kind inside about.
     let many : c.len-before.result ≡ kind.events (inside b) = c.len-before.ensures.value ∙ ap length c.events.ensures ∙ sym (length-map c.args.session.now.events event_shown) ∙ sym (about.events b) in
     let refusal = about.refusal b line_words ∙ refusal_of_words-some o version inside b line_words c.in-Some.command (words ∙ c.in-Some.is) in
     let refused = refusal ∙ sym c.in_ok-refusal.ensures.refusal ∙ c.in-Some-2.is in
-    let told = ap (λ n. told_after n (Some (Refused c.in-Some-2.refusal))) many ∙ sym (ap (λ r. told_after (kind.events (inside b)) (option_map Refused r)) refused) ∙ told_of_line-command kind (inside b) c.args.line.now (sym c.if-is_note.ensures) in
-    subst (Tells (g.L.Listener.heard c.args.listener.now) (g.L.Listener.heard c.refusal.new.self)) told c.in_ok-refusal-in-Some-2.ensures
+    let remarks = ap (λ n. remarks_after n (Some (Refused c.in-Some-2.refusal))) many ∙ sym (ap (λ r. remarks_after (kind.events (inside b)) (option_map Refused r)) refused) ∙ remarks_of_line-command kind (inside b) c.args.line.now (sym c.if-is_note.ensures) in
+    subst (RemarksGrow (g.L.Listener.heard c.args.listener.now) (g.L.Listener.heard c.refusal.new.self)) remarks c.in_ok-refusal-in-Some-2.ensures
 
-pub returns-then-is_note-clause-told : goal.returns-then-is_note-clause-told
-returns-then-is_note-clause-told g c = λ kind inside about.
+pub returns-then-is_note-clause-remarks : goal.returns-then-is_note-clause-remarks
+returns-then-is_note-clause-remarks g c = λ kind inside about.
     let b = session_of c.args.session.now in
     let many : c.len-before.result ≡ kind.events (inside b) = c.len-before.ensures.value ∙ ap length c.events.ensures ∙ sym (length-map c.args.session.now.events event_shown) ∙ sym (about.events b) in
-    let told = ap (λ n. note_told (Some n) c.args.line.now) many ∙ told_of_line-note_after kind (inside b) c.args.line.now (sym c.if-is_note.ensures) in
-    subst (Tells (g.L.Listener.heard c.args.listener.now) (g.L.Listener.heard c.note.new.self)) told c.in_ok-note.ensures
+    let remarks = ap (λ n. remarks_of_note (Some n) c.args.line.now) many ∙ remarks_of_line-note_after kind (inside b) c.args.line.now (sym c.if-is_note.ensures) in
+    subst (RemarksGrow (g.L.Listener.heard c.args.listener.now) (g.L.Listener.heard c.note.new.self)) remarks c.in_ok-note.ensures

@@ -2,21 +2,21 @@ use Rattle.std.proofs.Common.{rules, ◌≡◌, ◌∙◌, ◌++◌, ◌≤◌, 
 use Rattle.std.proofs.lemmas.List.{length-map}
 use Rattle.uni_script.specs.ScriptRun.{IsRan}
 use Rattle.uni_script.specs.Scripts.{scripts}
-use Rattle.uni_script.specs.Told.{told_shown, told_of_script}
+use Rattle.uni_script.specs.Remarks.{remark_at, remarks_of_script}
 use Rattle.uni_script.proofs.Replaying.{HasEnded-whole, HasEnded-bad}
 use Rattle.uni_script.proofs.script_run.run_of_script.Goals as goal
 
 pub returns-in-Ok-clause-run : goal.returns-in-Ok-clause-run
 returns-in-Ok-clause-run g c =
-    let told = c.run_script.new.listener.told.items in
+    let remarks = c.run_script.new.listener.remarks.items in
     let whole = HasEnded-whole (scripts c.args.options.now) _ _ _ _ _ _ IsRan c.in-Ok.ran c.in-Ok.ensures.run in
     let none : c.new.result.items ≡ [] = search rules in
-    let told_is : map told_shown told ≡ told_of_script (scripts c.args.options.now) whole.0 = whole.3.2.1 ∙ ap (λ l. map told_shown l ++ told_of_script (scripts c.args.options.now) whole.0) none in
-    let many : length told ≤ 100000 = (let n = length-map told told_shown in let m = ap length told_is in let few = whole.3.2.2 in omega arith) in (
+    let remarks_are : map remark_at remarks ≡ remarks_of_script (scripts c.args.options.now) whole.0 = whole.3.2.1 ∙ ap (λ l. map remark_at l ++ remarks_of_script (scripts c.args.options.now) whole.0) none in
+    let many : length remarks ≤ 100000 = (let n = length-map remarks remark_at in let m = ap length remarks_are in let few = whole.3.2.2 in omega arith) in (
       whole.0,
       whole.1,
       whole.2,
-      (whole.3.0, whole.3.1, record { version = whole.3.2.0.1.2.0; session = whole.3.2.0.1.2.1; told_is = sym told_is; few = many }),
+      (whole.3.0, whole.3.1, record { version = whole.3.2.0.1.2.0; session = whole.3.2.0.1.2.1; remarks_are = sym remarks_are; few = many }),
     )
 
 pub returns-in-Err-clause-fault : goal.returns-in-Err-clause-fault

@@ -4,7 +4,7 @@ use Rattle.unidraw_run.proofs.program.report.Goals as goal
 
 pub returns-in-Script-clause-told : goal.returns-in-Script-clause-told
 returns-in-Script-clause-told g c =
-    let told = c.report_fault.ensures.told in record { fault = Script told.fault; status_is = told.status_is; front = told.front; whole = told.whole }
+    let told = c.report_fault.ensures.told in record { fault = Script told.fault; status_is = told.status_is; prefix = told.prefix; whole = told.whole }
 
 pub returns-in-TooManyEvents-clause-told : goal.returns-in-TooManyEvents-clause-told
-returns-in-TooManyEvents-clause-told g c = record { fault = TooManyEvents; status_is = refl; front = c.tell.ensures.front; whole = c.tell.ensures.whole }
+returns-in-TooManyEvents-clause-told g c = record { fault = TooManyEvents; status_is = refl; prefix = c.tell.ensures.prefix; whole = c.tell.ensures.whole }

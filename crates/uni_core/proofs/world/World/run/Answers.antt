@@ -1,7 +1,7 @@
 use Rattle.std.proofs.Common.{◌≡◌, ◌∙◌, ◌+◌, length, length-append, refl, arith}
 use Rattle.uni_core.specs.World.{world_of}
 use Rattle.uni_core.proofs.Runs.{Leads-nothing, Leads-next, Ran-all, EndNoEra-events_of}
-use Rattle.uni_model.proofs.Growing.{log-fronts}
+use Rattle.uni_model.proofs.Growing.{log-prefixes}
 use Rattle.uni_model.proofs.LawProofs.{IsBounded-along}
 use Rattle.uni_core.proofs.world.World.run.Goals as goal
 
@@ -46,7 +46,7 @@ pub returns-clause-log : goal.returns-clause-log
 returns-clause-log g c =
     let ran = Ran-all _ _ (world_of c.args.self.now) (world_of c.loop-command.self) c.args.commands.now c.loop-command.command-index c.loop-command.outcomes.items
     (omega arith) c.loop-command-test.false c.loop-command.invariant.leads in
-    log-fronts _ (world_of c.args.self.now) _ c.shape.ensures.sound ran.events (EndNoEra-events_of c.args.commands.now c.loop-command.outcomes.items)
+    log-prefixes _ (world_of c.args.self.now) _ c.shape.ensures.sound ran.events (EndNoEra-events_of c.args.commands.now c.loop-command.outcomes.items)
 
 pub returns-clause-bounded : goal.returns-clause-bounded
 returns-clause-bounded g c =

@@ -3,11 +3,11 @@ use Rattle.std.specs.Option.{option_to_list}
 use Rattle.uni_words.specs.Belongs.{IsSeatOf}
 use Rattle.uni_words.specs.declared.log.WordLog.{WordLog}
 use Rattle.universal_c.specs.declared.object.Object.{Object}
-use Rattle.universal_c.proofs.Seats.{front, the_last}
+use Rattle.universal_c.proofs.Seats.{prefix, the_last}
 use Rattle.universal_c.proofs.held.Opened.next.Goals as goal
 
 pub invariant_of-self : goal.invariant_of-self
-invariant_of-self c = let old = c.args.self.now in record { fit = front old.log.value (vec_len old.seats) (vec_len c.pop.new.self) old.seats.items c.pop.new.self.items (option_to_list c.pop.result) old.fit c.pop.ensures.items c.pop.ensures.len }
+invariant_of-self c = let old = c.args.self.now in record { fit = prefix old.log.value (vec_len old.seats) (vec_len c.pop.new.self) old.seats.items c.pop.new.self.items (option_to_list c.pop.result) old.fit c.pop.ensures.items c.pop.ensures.len }
 
 pub invariant_of-result : goal.invariant_of-result
 invariant_of-result c = let old = c.args.self.now in record {
