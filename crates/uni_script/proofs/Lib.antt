@@ -12,3 +12,4 @@ pub mod RunningOn
 pub mod LogLines
 pub mod Finishing
 pub mod Remarked
+pub mod Collected
