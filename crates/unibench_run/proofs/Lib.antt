@@ -5,3 +5,4 @@ pub mod PlanValues
 pub mod RandomPlans
 pub mod RunCases
 pub mod Told
+pub mod DrawnBy
