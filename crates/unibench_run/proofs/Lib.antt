@@ -6,3 +6,4 @@ pub mod RandomPlans
 pub mod RunCases
 pub mod Told
 pub mod DrawnBy
+pub mod Locked

@@ -20,7 +20,7 @@ use Rattle.unibench_run.specs.declared.threads.Done.{Done}
 use Rattle.unibench_run.specs.declared.threads.Job.{Job}
 use Rattle.unibench_run.proofs.DrawnBy.{of_place}
 
-at_below : {A : Type 0} (l : List A) (i : ℕ) (a : A) → slice_get l i ≡ Some a → i < length l
+pub at_below : {A : Type 0} (l : List A) (i : ℕ) (a : A) → slice_get l i ≡ Some a → i < length l
 at_below [] i a e = absurd (let f : None ≡ Some a = e in cc)
 at_below (x ∷ xs) zero a e = omega arith
 at_below (x ∷ xs) (suc i) a e = let h = at_below xs i a e in omega arith

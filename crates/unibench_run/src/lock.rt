@@ -1,7 +1,7 @@
 //! Threads that make calls on one object under a lock.
 
-ghost use Rattle.std.specs.Prelude.{◌≡◌, ◌≢◌, ◌<◌, ◌≤◌, ◌*◌, ◌↔◌, All, Err, Ok, IfOk, OnOk};
-ghost use Rattle.std.specs.Prelude.{IsErrOf, [], length, alloc_error};
+ghost use Rattle.std.specs.Prelude.{◌≡◌, ◌≢◌, ◌<◌, ◌≤◌, ◌*◌, ◌↔◌, All, IsErr, IfOk, OnOk};
+ghost use Rattle.std.specs.Prelude.{IsErrOf, [], length};
 ghost use Rattle.uni_record.specs.Recorded.{Recording, IsPromised};
 ghost use Rattle.uni_shared.specs.Agreement.{IsClosed};
 ghost use Rattle.unibench_run.specs.Threads.{HasLockedRun, IsLacking, IsThreadsPlan, MakesCalls, closing_fault, events_of};
@@ -33,8 +33,8 @@ fn events_of(plan: &Plan) -> u64
 
 /// What a thread ends with where a call met this fault: that memory was refused, or its seat as it is then.
 fn stopped<O: SeqObject>(seat: Seat<O>, fault: ApplyFault) -> Result<Seat<O>, AllocError>
-    ensures memory { fault ≡ ApplyFault.Memory → result ≡ Err alloc_error }
-    ensures others { fault ≢ ApplyFault.Memory → result ≡ Ok seat }
+    ensures memory { IsErr result ↔ (fault ≡ ApplyFault.Memory) }
+    ensures kept { IfOk result (λ kept. kept ≡ seat) }
 {
     match fault {
         ApplyFault::Memory => Err(AllocError),
