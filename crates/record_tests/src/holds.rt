@@ -84,6 +84,35 @@ fn a_refused_hold_does_nothing_in<R: Abort>(
     assert!(rt; recorded.events().len() == 1);
 }
 
+/// What `no_era_ends_where_the_numbers_are_full` looks at.
+fn no_era_ends_where_the_numbers_are_full_in<R: Abort>(
+    rt: &R,
+    alloc: Global,
+    recorded: &mut Recorded<QueueObject>,
+) {
+    assert!(rt; begin_held(alloc, recorded, 1, &QueueInv::Deq).is_ok());
+    for _ in 0..16 {
+        assert!(rt; step_held(alloc, recorded, CallId { process: 1, nth: 0 }).is_ok());
+    }
+    assert!(rt; trim_held(alloc, recorded) == Err(RecordTrimFault::SeqFull));
+    assert!(rt; recorded.events().len() == 17);
+}
+
+#[test]
+fn no_era_ends_where_the_numbers_are_full(rt: HostRuntime) -> Result<(), Fail> {
+    let mut recorded = Recorded::open_at(
+        rt.alloc(),
+        QueueObject,
+        2,
+        4,
+        281_474_976_710_647,
+        100,
+    )
+    .map_err(|_| Fail::from("no record was opened"))?;
+    no_era_ends_where_the_numbers_are_full_in(&rt, rt.alloc(), &mut recorded);
+    Ok(())
+}
+
 #[test]
 fn a_refused_hold_does_nothing(rt: HostRuntime) -> Result<(), Fail> {
     let mut recorded = record_of_queue(rt.alloc(), 1, 2, 100)?;

@@ -4,6 +4,8 @@
 #[cfg(test)]
 mod audits;
 #[cfg(test)]
+mod gates;
+#[cfg(test)]
 mod holds;
 #[cfg(test)]
 mod records;

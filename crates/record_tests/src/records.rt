@@ -312,6 +312,8 @@ fn the_verdicts_of_changed_lists_in(
     recorded: &Recorded<QueueObject>,
 ) {
     assert!(rt; changed_entries_are_judged(alloc, recorded));
+    let missing = audit(alloc, &QueueObject, &[], recorded.returns()).ok();
+    assert!(rt; missing == Some(Verdict::Missing(call(0, 0))));
     let other = [returned(QueueResp::Full)];
     assert!(rt;
         judged_with(alloc, recorded, other.as_slice()) == Some(Verdict::BadReturn(call(0, 0)))

@@ -119,24 +119,26 @@ pub(crate) fn has_added(
         && receipt.turns == turns
 }
 
-/// Gives up when it is called for the second time.
+/// Lets so many steps pass, and then gives up once.
 #[derive(Drop)]
-pub(crate) struct Second {
-    calls: AtomicU64,
+pub(crate) struct Stops {
+    steps: u64,
+    asked: AtomicU64,
 }
 
-impl Second {
-    /// One that wasn't called yet.
-    pub(crate) fn new() -> Second {
-        Second {
-            calls: AtomicU64::new(0),
+impl Stops {
+    /// One that wasn't asked yet.
+    pub(crate) fn after(steps: u64) -> Stops {
+        Stops {
+            steps,
+            asked: AtomicU64::new(0),
         }
     }
 }
 
-impl Gate for Second {
+impl Gate for Stops {
     fn before(&self, _p: u64, _place: Place) -> Result<(), GaveUp> {
-        if self.calls.fetch_add(1, Ordering::SeqCst) == 1 {
+        if self.asked.fetch_add(1, Ordering::SeqCst) == self.steps {
             return Err(GaveUp);
         }
         Ok(())

@@ -1,7 +1,7 @@
 //! Seats and closed records whose receipts and faults were worked out by hand.
 
 use crate::seat_calls::{
-    Opened, Second, alone, closed, enqueues, has_added, last, queue, queue_of_events, queue_of_one,
+    Opened, Stops, alone, closed, enqueues, has_added, last, queue, queue_of_events, queue_of_one,
     receipts_of, resumes,
 };
 use ready_objects::QueueObject;
@@ -10,6 +10,7 @@ use std::alloc::Global;
 use std::process::Abort;
 use std::sync::Wait;
 use std::test::Fail;
+use uni_record::RecordTrimFault;
 use uni_shared::{ApplyFault, CloseFault, NoGate, Refused, Seat, Shared, trim};
 
 /// Whether one seat makes one call.
@@ -178,13 +179,13 @@ fn a_step_of_a_call_that_another_object_has_pending(rt: HostRuntime) -> Result<(
     let alloc = rt.alloc();
     let (here, mut seat) = queue_of_one(alloc, 8)?;
     let (there, mut other) = queue_of_one(alloc, 8)?;
-    let stops = Second::new();
+    let stops = Stops::after(1);
     assert!(rt; enqueues(&rt, alloc, &here, &mut seat, 7, &stops) == Some(ApplyFault::GaveUp));
     // no call is pending there
     assert!(rt; resumes(&rt, alloc, &there, &mut seat) == Some(ApplyFault::Stranger));
     // the second call is pending there, and not the first
     assert!(rt; enqueues(&rt, alloc, &there, &mut other, 1, &NoGate).is_none());
-    let stops = Second::new();
+    let stops = Stops::after(1);
     assert!(rt; enqueues(&rt, alloc, &there, &mut other, 2, &stops) == Some(ApplyFault::GaveUp));
     assert!(rt; resumes(&rt, alloc, &there, &mut seat) == Some(ApplyFault::Stranger));
     // each goes on where it is at home
@@ -239,6 +240,20 @@ fn a_full_history(rt: HostRuntime) -> Result<(), Fail> {
     Ok(())
 }
 
+#[test]
+fn no_era_ends_where_the_history_is_full(rt: HostRuntime) -> Result<(), Fail> {
+    let alloc = rt.alloc();
+    let (shared, mut seats) = queue_of_events(alloc, 1, 8, 23)?;
+    let mut seat = last(&mut seats)?;
+    assert!(rt; enqueues(&rt, alloc, &shared, &mut seat, 7, &NoGate).is_none());
+    // the call's share is 23 events, and it took 15
+    for _ in 0..8 {
+        assert!(rt; trim(&rt, alloc, &shared) == Ok(2));
+    }
+    assert!(rt; trim(&rt, alloc, &shared) == Err(RecordTrimFault::HistoryFull));
+    is_closed(&rt, alloc, shared, alone(alloc, seat)?, 23)
+}
+
 /// Whether a call of `enq 7` is stopped by the gate before its second step.
 fn stops<R: Wait>(
     rt: &R,
@@ -246,7 +261,7 @@ fn stops<R: Wait>(
     shared: &Shared<QueueObject>,
     seat: &mut Seat<QueueObject>,
 ) -> bool {
-    let gate = Second::new();
+    let gate = Stops::after(1);
     enqueues(rt, alloc, shared, seat, 7, &gate) == Some(ApplyFault::GaveUp)
         && seat.pending()
         && enqueues(rt, alloc, shared, seat, 8, &NoGate) == Some(ApplyFault::SeatPending)

@@ -2,7 +2,7 @@
 
 use crate::records::record_of_queue;
 use crate::seat_calls::{
-    Second, alone, amount, calls, closed, enq, enqueues, last, queue, receipts_of, resumes,
+    Stops, alone, amount, calls, closed, enq, enqueues, last, queue, receipts_of, resumes,
 };
 use ready_objects::{QueueInv, QueueObject, QueueResp};
 use std::alloc::{AllocError, Global};
@@ -349,7 +349,7 @@ fn stops<R: Wait>(
     shared: &Shared<QueueObject>,
     seat: &mut Seat<QueueObject>,
 ) -> bool {
-    let gate = Second::new();
+    let gate = Stops::after(1);
     enqueues(rt, alloc, shared, seat, 1, &gate) == Some(ApplyFault::GaveUp)
 }
 

@@ -5,3 +5,5 @@ pub mod PlanValues
 pub mod RandomPlans
 pub mod RunCases
 pub mod Told
+pub mod DrawnBy
+pub mod Locked

@@ -1,5 +1,6 @@
 -- Threads whose calls are all made: their seats, and what they were told.
 use Rattle.std.proofs.Common.{◌≡◌, ◌∙◌, ℕ, zero, suc, ◌<◌, List, [], ◌∷◌, length, map, slice_get, slice_index_or, vec_len, All, Vec, Global, Result, Ok, IfOk, Some, None, refl, sym, ap, subst, arith}
+use Rattle.std.specs.List.{range_with_len}
 use Rattle.std.proofs.lemmas.List.{length-map}
 use Rattle.std.proofs.lemmas.List.Elements.{All-map}
 use Rattle.seq_object.specs.Sequential.{Sequential}
@@ -13,11 +14,13 @@ use Rattle.uni_words.specs.declared.log.WordLog.{WordLog}
 use Rattle.uni_words.specs.declared.steps.WordSeat.{WordSeat}
 use Rattle.uni_words.proofs.Agreeing.{at_of_map}
 use Rattle.uni_words.proofs.Comparing.{slice_get-index, slice_get-map}
-use Rattle.unibench_run.specs.Threads.{AreDone, IsDone, IsRunOfThreads, told_to}
+use Rattle.unibench_run.specs.Draws.{below_1000, drawn_by, seed_of}
+use Rattle.unibench_run.specs.Threads.{AreDone, IsDone, IsDoneOf, IsRunOfThreads, asked_in, told_to}
 use Rattle.unibench_run.specs.declared.threads.Done.{Done}
 use Rattle.unibench_run.specs.declared.threads.Job.{Job}
+use Rattle.unibench_run.proofs.DrawnBy.{of_place}
 
-at_below : {A : Type 0} (l : List A) (i : ℕ) (a : A) → slice_get l i ≡ Some a → i < length l
+pub at_below : {A : Type 0} (l : List A) (i : ℕ) (a : A) → slice_get l i ≡ Some a → i < length l
 at_below [] i a e = absurd (let f : None ≡ Some a = e in cc)
 at_below (x ∷ xs) zero a e = omega arith
 at_below (x ∷ xs) (suc i) a e = let h = at_below xs i a e in omega arith
@@ -40,8 +43,8 @@ list_in one = one.told
 abbrev pub seat_of : Job WordSeat → WordSeat
 seat_of job = job.seat
 
-told_length : (one : Done) {n : ℕ} → vec_len one.told ≡ n → length one.told.items ≡ n
-told_length one made = let all = one.told.ok.0 in omega arith
+abbrev pub seed_in : Job WordSeat → ℕ
+seed_in job = job.seed
 
 -- a job has the seat of its place, which has made no call
 pub fresh_job : {O : Type 0} (log : WordLog O) (count : ℕ) (jobs : List (Job WordSeat)) (seats : List WordSeat) → map seat_of jobs ≡ seats → AreFirstSeats log count seats
@@ -50,23 +53,30 @@ fresh_job log count jobs seats of first i job below here =
     first.each i job.seat (subst (λ l. slice_get l i ≡ Some job.seat) of (slice_get-map seat_of jobs i job (slice_get-index jobs i job below ∙ ap Some (sym here))))
 
 -- what is done with all jobs, each result being that of the job at its place
-pub all_are_done : {O : Type 0} (log : WordLog O) (jobs : List (Job WordSeat)) (seats : List WordSeat) → map seat_of jobs ≡ seats → AreFirstSeats log (processes_of log) seats
+pub all_are_done : {O : Type 0} (log : WordLog O) (seed : ℕ) (jobs : List (Job WordSeat)) (seats : List WordSeat) → map seat_of jobs ≡ seats
+    → map seed_in jobs ≡ map (seed_of seed) (range_with_len 0 (length jobs)) → AreFirstSeats log (processes_of log) seats
     → (results : List (Result Done AllocError)) (done : List Done) → results ≡ map Ok done → length results ≡ length jobs
     → ((p : ℕ) (d : Result Done AllocError) → p < length jobs → (job : Job WordSeat) × (job ≡ slice_index_or jobs p job)
-    × IfOk (slice_index_or results p d) (λ one. IsDone log one × (process_of one.seat ≡ process_of job.seat)))
-    → AreDone log done
-all_are_done log jobs seats of first results done are count given = record {
+    × IfOk (slice_index_or results p d) (IsDoneOf log job))
+    → AreDone log seed done
+all_are_done log seed jobs seats of seeds first results done are count given = record {
   many = sym (length-map {B = Result Done AllocError} done Ok) ∙ ap length (sym are) ∙ count ∙ sym (length-map jobs seat_of) ∙ ap length of ∙ first.many;
   each = λ p one at.
       let result : slice_get results p ≡ Some (Ok one) = ap (λ l. slice_get l p) are ∙ slice_get-map Ok done p one at in
       let below : p < length results = at_below results p (Ok one) result in
       let its = given p (Ok one) (omega (arith, below, count)) in
       let here : slice_index_or results p (Ok one) ≡ Ok one = (let e = sym (slice_get-index results p (Ok one) below) ∙ result in cc) in
-      let made : IsDone log one × (process_of one.seat ≡ process_of its.0.seat) = subst (λ r. IfOk r (λ one. IsDone log one × (process_of one.seat ≡ process_of its.0.seat))) here its.2 in
-      (made.0, made.1 ∙ (fresh_job log (processes_of log) jobs seats of first p its.0 (omega (arith, below, count)) its.1).process);
+      let within : p < length jobs = omega (arith, below, count) in
+      let made : IsDoneOf log its.0 one = subst (λ r. IfOk r (IsDoneOf log its.0)) here its.2 in
+      let seeded : its.0.seed ≡ seed_of seed p = of_place seed_in (seed_of seed) (length jobs) jobs seeds p its.0 within its.1 in
+      (
+        made.made,
+        made.process ∙ (fresh_job log (processes_of log) jobs seats of first p its.0 within its.1).process,
+        made.asked ∙ ap (λ s. drawn_by below_1000 s (row_of log)) seeded,
+      );
 }
 
-module _ {O : Type 0} (log : WordLog O) (done : List Done) (are : AreDone log done) where
+module _ {O : Type 0} (log : WordLog O) (seed : ℕ) (done : List Done) (are : AreDone log seed done) where
   pub done_seats : All (IsSeatOf log) (map seat_in done)
   done_seats = All-map (IsSeatOf log) seat_in done (λ k d below. (are.each k (slice_index_or done k d) (slice_get-index done k d below)).0.0)
 
@@ -94,13 +104,13 @@ module _ {O : Type 0} (log : WordLog O) (done : List Done) (are : AreDone log do
 
   -- a log of a run of the seats' calls, with which they agree, is that of a run of the threads
   pub run_of_threads : (object : Sequential ℕ ℕ ℕ) (entries : List (Entry ℕ ℕ)) (seats : List WordSeat) → seats ≡ map seat_in done → IsLogOfRun object (processes_of log) entries (map calls_of seats)
-      → Agrees object entries (map own_calls seats) → IsRunOfThreads object (processes_of log) (row_of log) (map told_to done)
+      → Agrees object entries (map own_calls seats) → IsRunOfThreads object (processes_of log) (row_of log) seed (map told_to done)
   run_of_threads object entries seats seats_are run agrees = record {
     many = length-map done told_to ∙ are.many;
     each = λ p its at.
         let one = at_of_map told_to done p its at in
         let made = are.each p one.0 one.1 in
-        (ap (λ (k : ProcessCalls). k.process) (sym one.2) ∙ made.1, ap (λ (k : ProcessCalls). length k.calls) (sym one.2) ∙ told_length one.0 made.0.1);
+        (ap (λ (k : ProcessCalls). k.process) (sym one.2) ∙ made.1, ap (λ (k : ProcessCalls). asked_in k.calls) (sym one.2) ∙ made.2);
     log = entries;
     run = subst (IsLogOfRun object (processes_of log) entries) (ap (map calls_of) seats_are ∙ seats_told) run;
     agrees = subst (Agrees object entries) (ap (map own_calls) seats_are ∙ lists_told) agrees;

@@ -1,16 +1,26 @@
 -- What a run of threads comes to.
-use Rattle.std.specs.Prelude.{◌≡◌, ◌≤◌, ◌*◌, ℕ, Bool, true, false, nat_lt, if◌then◌else◌, Option, None, Some, List}
+use Rattle.std.specs.Prelude.{◌≡◌, ◌<◌, ◌≤◌, ◌*◌, ℕ, Bool, true, false, nat_lt, if◌then◌else◌, Option, None, Some, List}
 use Rattle.std.specs.Prelude.{[], ◌∷◌, ◌++◌, codes, length, map, slice_get, vec_len, IsSomeAnd, refl}
 use Rattle.std.specs.Fmt.{decimal, digits}
-use Rattle.std.specs.List.{sum_by}
+use Rattle.std.specs.List.{Contains}
 use Rattle.std.proofs.Common.{arith}
-use Rattle.uni_record.specs.Recorded.{share}
+use Rattle.ready_objects.specs.Book.{book, book_language}
+use Rattle.ready_objects.specs.Directory.{directory, directory_language}
+use Rattle.ready_objects.specs.Queue.{queue, queue_language}
+use Rattle.ready_objects.specs.Sticky.{sticky as sticky_register, sticky_language}
+use Rattle.ready_objects.specs.declared.book.BookObject.{BookObject}
+use Rattle.ready_objects.specs.declared.directory.DirectoryObject.{DirectoryObject}
+use Rattle.ready_objects.specs.declared.queue.QueueObject.{QueueObject}
+use Rattle.ready_objects.specs.declared.sticky.StickyObject.{StickyObject}
+use Rattle.uni_record.specs.Recorded.{IsPromised, Recording, share}
 use Rattle.seq_object.specs.Sequential.{Sequential}
 use Rattle.uni_script.specs.Fault.{fault_text}
 use Rattle.uni_script.specs.declared.fault.BenchFault.TheVariants as bench
+use Rattle.uni_shared.specs.Agreement.{IsClosed}
 use Rattle.uni_shared.specs.Seat.{SeatOf}
 use Rattle.uni_shared.specs.declared.closed.CloseFault.{CloseFault}
 use Rattle.uni_shared.specs.declared.closed.CloseFault.TheVariants as close
+use Rattle.uni_shared.specs.declared.receipt.Receipt.{Receipt}
 use Rattle.uni_model.specs.Chain.{Entry}
 use Rattle.uni_words.specs.Belongs.{IsSeatOf, own_calls, process_of, processes_of, row_of}
 use Rattle.uni_words.specs.Compare.{Agrees}
@@ -19,6 +29,7 @@ use Rattle.uni_words.specs.Run.{IsLogOfRun}
 use Rattle.uni_words.specs.View.{ProcessCalls}
 use Rattle.uni_words.specs.declared.log.WordLog.{WordLog}
 use Rattle.uni_words.specs.declared.steps.WordSeat.{WordSeat}
+use Rattle.unibench_run.specs.Draws.{below_1000, drawn_by, seed_of}
 use Rattle.unibench_run.specs.declared.request.Form.{Form}
 use Rattle.unibench_run.specs.declared.request.Form.TheVariants as form
 use Rattle.unibench_run.specs.declared.request.Plan.{Plan}
@@ -62,33 +73,78 @@ meaning_over_words object.Sticky = Some sticky
 meaning_over_words object.Tally = Some tally
 meaning_over_words _ = None
 
--- A run of so many threads, each of which made so many calls. What they were told is, of process p, the p-th of these lists of calls:
--- the calls of a log that is that of a run of the construction, with which they agree.
-pub record IsRunOfThreads (object : Sequential ℕ ℕ ℕ) (threads calls : ℕ) (told : List ProcessCalls) : Type 0 where
+-- what calls with their replies asked for
+abbrev pub asked_in : List (ℕ × ℕ) → List ℕ
+asked_in calls = map (λ (call : ℕ × ℕ). call.0) calls
+
+-- A run of so many threads, each of which made so many calls, those of process p as they are drawn from its seed. What they were told
+-- is, of process p, the p-th of these lists of calls: the calls of a log that is that of a run of the construction, with which they
+-- agree.
+pub record IsRunOfThreads (object : Sequential ℕ ℕ ℕ) (threads calls seed : ℕ) (told : List ProcessCalls) : Type 0 where
   pub many : length told ≡ threads
-  pub each : (p : ℕ) (its : ProcessCalls) → slice_get told p ≡ Some its → (its.process ≡ p) × (length its.calls ≡ calls)
+  pub each : (p : ℕ) (its : ProcessCalls) → slice_get told p ≡ Some its
+      → (its.process ≡ p) × (asked_in its.calls ≡ drawn_by below_1000 (seed_of seed p) calls)
   pub log : List (Entry ℕ ℕ)
   pub run : IsLogOfRun object threads log told
   pub agrees : Agrees object log (map (λ its. its.calls) told)
 
 -- so many replies are those of all calls of such a run
-abbrev pub HasRun : Sequential ℕ ℕ ℕ → (threads calls replies : ℕ) → Type 0
-HasRun object threads calls replies =
-    (replies ≡ threads * calls) × ((told : List ProcessCalls) × IsRunOfThreads object threads calls told)
+abbrev pub HasRun : Sequential ℕ ℕ ℕ → (threads calls seed replies : ℕ) → Type 0
+HasRun object threads calls seed replies =
+    (replies ≡ threads * calls) × ((told : List ProcessCalls) × IsRunOfThreads object threads calls seed told)
 
--- So many replies can come of a plan. Over words they are those of a run in which each process has made all its calls; under a lock,
--- where a call may meet a fault, they are no more than the calls.
-abbrev pub AgreesIn : Form → ThreadsObject → (processes calls replies : ℕ) → Type 0
-AgreesIn form.Words object processes calls replies =
-    IsSomeAnd (meaning_over_words object) (λ meaning. HasRun meaning processes calls replies)
-AgreesIn form.Lock object processes calls replies = replies ≤ processes * calls
+-- what the calls of a seat asked for that it has receipts of
+abbrev pub asked_by : {I R : Type 0} → SeatOf I R → List I
+asked_by {I = I} {R = R} seat = map (λ (r : Receipt I R). r.inv) seat.receipts
 
+-- A run of so many threads under a lock, each of which made so many calls, those of process p as they are drawn from its seed: the
+-- p-th seat has its receipts. These are the calls of a record of so many processes, for whose events the main law holds.
+pub record IsLockedRun {O S I R : Type 0} (sequential : O → Sequential S I R) (read : ℕ → I) (threads calls seed : ℕ) : Type 0 where
+  pub recorded : Recording O S I R
+  pub seats : List (SeatOf I R)
+  pub many : length seats ≡ threads
+  pub each : (p : ℕ) (seat : SeatOf I R) → slice_get seats p ≡ Some seat
+      → (seat.process ≡ p) × (asked_by seat ≡ drawn_by read (seed_of seed p) calls)
+  pub processes : recorded.processes ≡ threads
+  pub closed : IsClosed sequential recorded seats
+  pub promised : IsPromised sequential recorded
+
+-- so many replies are those of all calls of such a run
+abbrev pub HasLockedRun : {O S I R : Type 0} → (O → Sequential S I R) → (ℕ → I) → (threads calls seed replies : ℕ) → Type 0
+HasLockedRun sequential read threads calls seed replies =
+    (replies ≡ threads * calls) × IsLockedRun sequential read threads calls seed
+
+-- so many replies are those of all calls of a run over words, or under a lock, on an object that is there
+abbrev pub HasRunOverWords : ThreadsObject → (threads calls seed replies : ℕ) → Type 0
+HasRunOverWords object threads calls seed replies =
+    IsSomeAnd (meaning_over_words object) (λ meaning. HasRun meaning threads calls seed replies)
+
+abbrev pub HasRunUnderLock : ThreadsObject → (threads calls seed replies : ℕ) → Type 0
+HasRunUnderLock object.Queue = HasLockedRun {O = QueueObject} (λ _. queue) queue_language.inv_of_word
+HasRunUnderLock object.Directory = HasLockedRun {O = DirectoryObject} (λ _. directory) directory_language.inv_of_word
+HasRunUnderLock object.Book = HasLockedRun {O = BookObject} (λ _. book) book_language.inv_of_word
+HasRunUnderLock object.Sticky = HasLockedRun {O = StickyObject} (λ _. sticky_register) sticky_language.inv_of_word
+HasRunUnderLock object.Tally = λ _ _ _ _. ⊥
+
+abbrev pub HasRunIn : Form → ThreadsObject → (threads calls seed replies : ℕ) → Type 0
+HasRunIn form.Words = HasRunOverWords
+HasRunIn form.Lock = HasRunUnderLock
+
+-- so many replies are those of all calls of a plan, in a run of it
 abbrev pub IsCounted : Plan → (replies : ℕ) → Type 0
-IsCounted plan replies = AgreesIn plan.form plan.object plan.processes plan.calls replies
+IsCounted plan = HasRunIn plan.form plan.object plan.processes plan.calls plan.seed
 
--- how many receipts seats have in all
-abbrev pub receipts_in : {I R : Type 0} → List (SeatOf I R) → ℕ
-receipts_in {I = I} {R = R} seats = sum_by (λ (s : SeatOf I R). length s.receipts) seats
+-- the seat is still that of a job, and has receipts of at most so many calls, the first that are drawn from the job's seed
+pub record MakesCalls {I R : Type 0} (read : ℕ → I) (job : Job (SeatOf I R)) (calls : ℕ) (seat : SeatOf I R) : Type 0 where
+  pub process : seat.process ≡ job.seat.process
+  pub few : length seat.receipts ≤ calls
+  pub asked : asked_by seat ≡ drawn_by read job.seed (length seat.receipts)
+
+-- the fault names the call of a seat that comes after those that it has receipts of, which are fewer than so many
+abbrev pub IsLacking : {I R : Type 0} → List (SeatOf I R) → (calls : ℕ) → ThreadsFault → Type 0
+IsLacking {I = I} {R = R} seats calls f =
+    (seat : SeatOf I R) × Contains seats seat × (length seat.receipts < calls)
+    × (f ≡ fault.Differs (record { process = seat.process; nth = length seat.receipts }))
 
 -- the fault that a refused closing is
 abbrev pub closing_fault : CloseFault → ThreadsFault
@@ -123,14 +179,21 @@ line_of_fault f = text_of_fault f ++ 10 ∷ []
 abbrev pub IsJob : {O : Type 0} → WordLog O → Job WordSeat → Type 0
 IsJob log job = IsSeatOf log job.seat × (own_calls job.seat ≡ [])
 
--- a seat of this log that has made all its calls, and was told what is listed
+-- a seat of this log that has made all its calls, and what it was told is listed
 abbrev pub IsDone : {O : Type 0} → WordLog O → Done → Type 0
 IsDone log done = IsSeatOf log done.seat × (vec_len done.told ≡ row_of log) × (done.told.items ≡ own_calls done.seat)
 
--- so are the seats of all its processes, in order
-pub record AreDone {O : Type 0} (log : WordLog O) (done : List Done) : Type 0 where
+-- a job is done: its seat has made all its calls, as they are drawn from its seed
+pub record IsDoneOf {O : Type 0} (log : WordLog O) (job : Job WordSeat) (done : Done) : Type 0 where
+  pub made : IsDone log done
+  pub process : process_of done.seat ≡ process_of job.seat
+  pub asked : asked_in done.told.items ≡ drawn_by below_1000 job.seed (row_of log)
+
+-- so are the jobs of all its processes, in order, by the seed of the first
+pub record AreDone {O : Type 0} (log : WordLog O) (seed : ℕ) (done : List Done) : Type 0 where
   pub many : length done ≡ processes_of log
   pub each : (p : ℕ) (one : Done) → slice_get done p ≡ Some one → IsDone log one × (process_of one.seat ≡ p)
+      × (asked_in one.told.items ≡ drawn_by below_1000 (seed_of seed p) (row_of log))
 
 -- what a thread was told, by its process
 abbrev pub told_to : Done → ProcessCalls

@@ -1,20 +1,23 @@
 //! Threads that make calls on one object under a lock.
 
-ghost use Rattle.std.specs.Prelude.{◌≡◌, ◌≢◌, ◌<◌, ◌≤◌, ◌*◌, ◌^◌, ◌↔◌, IfOk};
+ghost use Rattle.std.specs.Prelude.{◌≡◌, ◌≢◌, ◌<◌, ◌≤◌, ◌*◌, ◌↔◌, All, IsErr, IfOk, OnOk};
 ghost use Rattle.std.specs.Prelude.{IsErrOf, [], length};
-ghost use Rattle.unibench_run.specs.Threads.{IsThreadsPlan, closing_fault, events_of, receipts_in};
+ghost use Rattle.uni_record.specs.Recorded.{Recording, IsPromised};
+ghost use Rattle.uni_shared.specs.Agreement.{IsClosed};
+ghost use Rattle.unibench_run.specs.Threads.{HasLockedRun, IsLacking, IsThreadsPlan, MakesCalls, closing_fault, events_of};
 
 use crate::request::Plan;
 use crate::threads::{Job, ThreadsFault, all_done, jobs_of};
-use rand_core::{Rng, SeedableRng};
+use rand_core::SeedableRng;
 use rand_xoshiro::Xoshiro256PlusPlus;
 use ready_objects::Spoken;
-use seq_object::SeqObject;
+use seq_object::{CallId, SeqObject};
 use std::alloc::{AllocError, Global};
 use std::sync::Wait;
 use std::thread;
 use std::thread::Threads;
 use uni_record::Verdict;
+use uni_script::Drawn;
 use uni_shared::{ApplyFault, CloseFault, NoGate, Seat, Shared};
 
 /// The most events that a history holds.
@@ -28,8 +31,19 @@ fn events_of(plan: &Plan) -> u64
     plan.processes * plan.calls * (10 * plan.processes + 13)
 }
 
-/// Makes so many calls by a seat, with the invocations that the words of its seed stand for, but no
-/// more after a fault. An `Err` says that the fault was that memory was refused.
+/// What a thread ends with where a call met this fault: that memory was refused, or its seat as it is then.
+fn stopped<O: SeqObject>(seat: Seat<O>, fault: ApplyFault) -> Result<Seat<O>, AllocError>
+    ensures memory { IsErr result ↔ (fault ≡ ApplyFault.Memory) }
+    ensures kept { IfOk result (λ kept. kept ≡ seat) }
+{
+    match fault {
+        ApplyFault::Memory => Err(AllocError),
+        _ => Ok(seat),
+    }
+}
+
+/// Makes so many calls by a seat, with the invocations that the words of its seed stand for, one word a
+/// call, but no more after a fault. An `Err` says that the fault was that memory was refused.
 fn make_locked_calls<O: Spoken, R: Wait>(
     rt: &R,
     alloc: Global,
@@ -38,31 +52,40 @@ fn make_locked_calls<O: Spoken, R: Wait>(
     calls: u64,
 ) -> Result<Seat<O>, AllocError>
     requires { job.seat.receipts ≡ [] }
-    ensures { IfOk result (λ seat. length seat.receipts ≤ calls) }
+    ensures { IfOk result (MakesCalls O.language.inv_of_word job calls) }
 {
     let Job { mut seat, seed } = job;
     let mut words = Xoshiro256PlusPlus::seed_from_u64(seed);
     for _ in 0..calls {
-        let inv = O::drawn(words.next_u64());
+        let inv = O::drawn(words.draw());
         match seat.apply(rt, alloc, shared, inv, &NoGate) {
             Ok(_) => {}
-            Err(ApplyFault::Memory) => return Err(AllocError),
-            Err(_) => return Ok(seat),
+            Err(fault) => return stopped(seat, fault),
         }
     }
     Ok(seat)
 }
 
-/// How many receipts the seats have in all.
-fn receipts_in<O: SeqObject>(seats: &[Seat<O>]) -> u64
-    requires { receipts_in seats.now < 2 ^ 64 }
-    ensures { result ≡ receipts_in seats.now }
+/// How many receipts the seats have in all, where each has so many.
+///
+/// An `Err` is the first call, by seat, that lacks its receipt.
+fn count_receipts<O: SeqObject>(seats: &[Seat<O>], calls: u64) -> Result<u64, ThreadsFault>
+    requires few { (length seats.now ≤ 64) × (calls ≤ 4096) }
+    requires no_more { All (λ seat. length seat.receipts ≤ calls) seats.now }
+    ensures receipts { IfOk result (λ receipts. receipts ≡ length seats.now * calls) }
+    ensures each { OnOk result (All (λ seat. length seat.receipts ≡ calls) seats.now) }
+    ensures lacks { (fault : ThreadsFault) → IsErrOf result fault → IsLacking seats.now calls fault }
 {
     let mut receipts = 0;
     for seat in seats {
-        receipts += seat.receipts().len() as u64;
+        let nth = seat.receipts().len() as u64;
+        if nth < calls {
+            let process = seat.process() as u32;
+            return Err(ThreadsFault::Differs(CallId { process, nth }));
+        }
+        receipts += nth;
     }
-    receipts
+    Ok(receipts)
 }
 
 /// The fault of threads that a closing was refused for.
@@ -80,25 +103,32 @@ fn closing_fault(fault: CloseFault) -> ThreadsFault
     }
 }
 
-/// Ends the lock and audits the record: how many receipts the seats have.
+/// Ends the lock, and audits the record, where each seat has made so many calls: how many receipts the
+/// seats have.
 fn close_and_audit<O: SeqObject>(
     alloc: Global,
     shared: Shared<O>,
     seats: Vec<Seat<O>>,
+    calls: u64,
 ) -> Result<u64, ThreadsFault>
-    requires { receipts_in seats.items < 2 ^ 64 }
-    ensures replies { IfOk result (λ replies. replies ≡ receipts_in seats.items) }
+    requires few { (length seats.items ≤ 64) × (calls ≤ 4096) }
+    requires no_more { All (λ seat. length seat.receipts ≤ calls) seats.items }
+    ensures replies { IfOk result (λ replies. replies ≡ length seats.items * calls) }
+    ensures each { OnOk result (All (λ seat. length seat.receipts ≡ calls) seats.items) }
+    ensures closed { OnOk result ((recorded : Recording O O.State O.Inv O.Resp)
+        × IsClosed O.sequential recorded seats.items × IsPromised O.sequential recorded) }
     ensures others { (IsErrOf result ThreadsFault.NoSuchObject → ⊥)
         × (IsErrOf result ThreadsFault.CallsTooMany → ⊥) × (IsErrOf result ThreadsFault.Write → ⊥) }
     ensures audited { (verdict : Verdict) → IsErrOf result (ThreadsFault.Audit verdict) → ⊥ }
 {
-    let replies = receipts_in(&seats);
+    let replies = count_receipts(&seats, calls);
     let closed = match shared.close(alloc, seats) {
         Ok(closed) => closed,
         Err(refused) => return Err(closing_fault(refused.fault)),
     };
+    closed.recorded().promise();
     match closed.recorded().audit(alloc)? {
-        Verdict::Agrees => Ok(replies),
+        Verdict::Agrees => replies,
         verdict => Err(ThreadsFault::Audit(verdict)),
     }
 }
@@ -117,7 +147,8 @@ where
     O::Inv: Send,
     O::Resp: Send,
     requires plan { IsThreadsPlan plan.now }
-    ensures replies { IfOk result (λ replies. replies ≤ plan.now.processes * plan.now.calls) }
+    ensures run { IfOk result (HasLockedRun O.sequential O.language.inv_of_word plan.now.processes plan.now.calls
+        plan.now.seed) }
     ensures few { IsErrOf result ThreadsFault.CallsTooMany ↔ (16777216 < events_of plan.now) }
     ensures others { (IsErrOf result ThreadsFault.NoSuchObject → ⊥) × (IsErrOf result ThreadsFault.Write → ⊥) }
     ensures audited { (verdict : Verdict) → IsErrOf result (ThreadsFault.Audit verdict) → ⊥ }
@@ -136,9 +167,9 @@ where
         jobs,
         &|job: Job<Seat<O>>| -> Result<Seat<O>, AllocError>
             requires { job.seat.receipts ≡ [] }
-            ensures { IfOk result (λ seat. length seat.receipts ≤ calls) }
+            ensures { IfOk result (MakesCalls O.language.inv_of_word job calls) }
         { make_locked_calls(rt, alloc, &shared, job, calls) },
     )?;
     let seats = all_done(alloc, done)?;
-    close_and_audit(alloc, shared, seats)
+    close_and_audit(alloc, shared, seats, calls)
 }

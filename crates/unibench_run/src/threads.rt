@@ -1,15 +1,19 @@
 //! Threads that make calls on one object.
 
-ghost use Rattle.std.specs.Prelude.{◌↔◌, IsErrOf, ◌≡◌, ◌++◌, ◌*◌, ◌≤◌, ℕ, All, [], IfOk};
-ghost use Rattle.std.specs.Prelude.{Ok, OnOk, Some, length, map, vec_len};
-ghost use Rattle.uni_words.specs.Belongs.{object_of, process_of, processes_of, row_of};
+ghost use Rattle.std.specs.Prelude.{◌↔◌, IsErrOf, ◌≡◌, ◌++◌, ◌*◌, ◌<◌, ◌≤◌, ◌^◌, ℕ, All, [], IfOk};
+ghost use Rattle.std.specs.Prelude.{IsOk, Ok, OnOk, Some, length, map, vec_len};
+ghost use Rattle.std.specs.List.{range_with_len};
+ghost use Rattle.uni_words.specs.Belongs.{object_of, processes_of, row_of};
+ghost use Rattle.uni_words.specs.Compare.{Agrees, IsFirstFault};
+ghost use Rattle.uni_words.specs.Log.{entry_shown};
+ghost use Rattle.unibench_run.specs.Draws.{seed_of};
 ghost use Rattle.unibench_run.specs.Statuses.{status_of_threads};
-ghost use Rattle.unibench_run.specs.Threads.{AreDone, HasRun, IsCounted, IsDone, IsJob, IsRunOfThreads, IsThreadsPlan};
+ghost use Rattle.unibench_run.specs.Threads.{AreDone, HasRun, IsCounted, IsDoneOf, IsJob, IsRunOfThreads, IsThreadsPlan};
 ghost use Rattle.unibench_run.specs.Threads.{agrees_line, line_of_fault, refusal_of, text_of_fault, told_to};
 
 use crate::lock::run_under_lock;
 use crate::request::{Form, Plan, ThreadsObject};
-use rand_core::{Rng, SeedableRng};
+use rand_core::SeedableRng;
 use rand_xoshiro::Xoshiro256PlusPlus;
 use ready_objects::{BookObject, DirectoryObject, QueueObject, StickyObject};
 use seq_object::CallId;
@@ -19,8 +23,8 @@ use std::sync::Wait;
 use std::thread::Threads;
 use std::{fmt, thread};
 use uni_record::Verdict;
-use uni_script::BenchFault;
-use uni_words::{WordLog, WordObject, WordSeat, WordSticky, WordTally, differs, read_log};
+use uni_script::{BenchFault, Drawn};
+use uni_words::{WordEntry, WordLog, WordObject, WordSeat, WordSticky, WordTally, differs, read_log};
 
 /// Why a run of threads ended early.
 #[derive(Clone, Copy, Debug, PartialEq, Eq)]
@@ -33,7 +37,8 @@ pub enum ThreadsFault {
     Memory,
     /// The output failed.
     Write,
-    /// What the threads were told isn't what the log has, at this call first.
+    /// What the threads were told isn't what the log has, at this call first; or it is the first call, by
+    /// process, that a thread under a lock was to make and hasn't made.
     Differs(CallId),
     /// Under a lock, the seat of this process, the least of such, isn't there once.
     SeatMissing(u64),
@@ -86,13 +91,17 @@ pub(crate) fn jobs_of<S: Drop>(
     seats: Vec<S>,
     seed: u64,
 ) -> Result<Vec<Job<S>>, AllocError>
-    ensures { IfOk result (λ jobs. map (λ job. job.seat) jobs.items ≡ seats.items) }
+    ensures seats { IfOk result (λ jobs. map (λ job. job.seat) jobs.items ≡ seats.items) }
+    ensures seeds { IfOk result (λ jobs. map (λ job. job.seed) jobs.items
+        ≡ map (seed_of seed) (range_with_len 0 (length jobs.items))) }
 {
     let mut jobs = Vec::new(alloc);
-    let mut seed = seed;
     for seat in seats {
-        jobs.push(Job { seat, seed })?;
-        seed = seed.wrapping_add(1);
+        let process = jobs.len() as u64;
+        jobs.push(Job {
+            seat,
+            seed: seed.wrapping_add(process),
+        })?;
     }
     Ok(jobs)
 }
@@ -121,7 +130,7 @@ struct Done {
     told: Vec<(u64, u32)>,
 }
 
-/// Makes so many calls by a seat, with invocations below 1000 that are drawn.
+/// Makes so many calls by a seat, with invocations below 1000 that are drawn: one word a call.
 fn make_calls<O: WordObject>(
     alloc: Global,
     log: &WordLog<O>,
@@ -130,16 +139,17 @@ fn make_calls<O: WordObject>(
 ) -> Result<Done, AllocError>
     requires job { IsJob log.now job }
     requires calls { calls ≡ row_of log.now }
-    ensures { IfOk result (λ done. IsDone log.now done × (process_of done.seat ≡ process_of job.seat)) }
+    ensures { IfOk result (IsDoneOf log.now job) }
 {
     let Job { mut seat, seed } = job;
     let mut words = Xoshiro256PlusPlus::seed_from_u64(seed);
     let mut told = Vec::new(alloc);
     for _ in 0..calls {
-        let inv = words.next_u64() % 1000;
-        if let Ok(answer) = seat.apply(log, inv) {
-            told.push((inv, answer.reply))?;
-        }
+        let inv = words.draw() % 1000;
+        let Ok(answer) = seat.apply(log, inv) else {
+            unreachable!()
+        };
+        told.push((inv, answer.reply))?;
     }
     Ok(Done { seat, told })
 }
@@ -177,29 +187,52 @@ fn replies_in(lists: &[Vec<(u64, u32)>]) -> u64
     replies
 }
 
-/// Closes a log with the seats of all its processes, whose calls are made, and compares it with what
-/// the threads were told: how many replies that is. They agree.
+/// How many replies there are in all lists, each of which has so many, where a log agrees with them.
+///
+/// An `Err` is the first call in which they differ.
+fn count_agreed<O: WordObject>(
+    object: &O,
+    entries: &[WordEntry],
+    lists: &[Vec<(u64, u32)>],
+    calls: u64,
+) -> Result<u64, ThreadsFault>
+    requires few { (length lists.now ≤ 64) × (calls ≤ 4096) }
+    requires whole { All (λ told. vec_len told ≡ calls) lists.now }
+    ensures replies { IfOk result (λ replies. replies ≡ length lists.now * calls) }
+    ensures agrees { IsOk result ↔ Agrees (O.sequential object.now) (map entry_shown entries.now)
+        (map (λ told. told.items) lists.now) }
+    ensures differs { (fault : ThreadsFault) → IsErrOf result fault → (call : CallId) × (fault ≡ ThreadsFault.Differs call)
+        × IsFirstFault (O.sequential object.now) (map entry_shown entries.now) (map (λ told. told.items) lists.now) call }
+{
+    match differs(object, entries, lists) {
+        Some(call) => Err(ThreadsFault::Differs(call)),
+        None => Ok(replies_in(lists)),
+    }
+}
+
+/// Closes a log with the seats of all its processes, which have made the calls of a plan, and compares it
+/// with what the threads were told: how many replies that is. They agree.
 fn close_words<O: WordObject>(
     alloc: Global,
     object: &O,
     log: WordLog<O>,
     done: Vec<Done>,
+    plan: &Plan,
 ) -> Result<u64, ThreadsFault>
     requires object { object.now ≡ object_of log }
-    requires done { AreDone log done.items }
+    requires calls { plan.now.calls ≡ row_of log }
+    requires done { AreDone log plan.now.seed done.items }
     requires few { (processes_of log ≤ 64) × (1 ≤ processes_of log) × (row_of log ≤ 4096) }
     ensures replies { IfOk result (λ replies. replies ≡ processes_of log * row_of log) }
     ensures run { OnOk result
-        (IsRunOfThreads (O.sequential object.now) (processes_of log) (row_of log) (map told_to done.items)) }
+        (IsRunOfThreads (O.sequential object.now) (processes_of log) (row_of log) plan.now.seed
+        (map told_to done.items)) }
     ensures faults { (fault : ThreadsFault) → IsErrOf result fault → fault ≡ ThreadsFault.Memory }
 {
     let (seats, lists) = parted(alloc, done)?;
     let words = log.close_all(seats);
     let entries = read_log(alloc, &words)?;
-    match differs(object, &entries, &lists) {
-        Some(call) => Err(ThreadsFault::Differs(call)),
-        None => Ok(replies_in(&lists)),
-    }
+    count_agreed(object, &entries, &lists, plan.calls)
 }
 
 /// Makes the calls of a plan on an object of words, each seat's in a thread of its own where one can
@@ -210,7 +243,7 @@ fn run_on_words<R: Threads + Sync, O: WordObject + Copy + Sync>(
     object: O,
     plan: &Plan,
 ) -> Result<u64, ThreadsFault>
-    ensures run { IfOk result (HasRun (O.sequential object) plan.now.processes plan.now.calls) }
+    ensures run { IfOk result (HasRun (O.sequential object) plan.now.processes plan.now.calls plan.now.seed) }
     ensures faults { (fault : ThreadsFault) → IsErrOf result fault → fault ≡ ThreadsFault.Memory }
 {
     let Ok((log, seats)) = WordLog::open(alloc, object, plan.processes, plan.calls) else {
@@ -223,11 +256,11 @@ fn run_on_words<R: Threads + Sync, O: WordObject + Copy + Sync>(
         jobs,
         &|job: Job<WordSeat>| -> Result<Done, AllocError>
             requires { IsJob log job × (calls ≡ row_of log) }
-            ensures { IfOk result (λ done. IsDone log done × (process_of done.seat ≡ process_of job.seat)) }
+            ensures { IfOk result (IsDoneOf log job) }
         { make_calls(alloc, &log, job, calls) },
     )?;
     let done = all_done(alloc, done)?;
-    close_words(alloc, &object, log, done)
+    close_words(alloc, &object, log, done, plan)
 }
 
 /// Makes the calls of a plan: how many replies the threads were given.

@@ -166,6 +166,63 @@ fn greatest_scripts(rt: HostRuntime) -> Result<(), Fail> {
     Ok(())
 }
 
+/// Scripts, each with the greatest history that is asked for and with what is written.
+const BY_PIECES: &[(&str, &str, (&str, &str, u8))] = &[
+    ("23", "universal 1 sticky 1 1\n", ("end\n", "", 0)),
+    ("23", "", ("", "line 1: no header\n", 2)),
+    (
+        "23",
+        "universal 1 queue 17 8\n",
+        ("", "line 1: bad header\n", 2),
+    ),
+    (
+        "23",
+        "universal 1 queue 1 8\ncall 0 enq 7\nfinish 0\nlog",
+        (ONE_CALL_ANSWERED, "", 0),
+    ),
+    (
+        "23",
+        "universal 1 queue 1 8\ncall 0 enq 7\nfin\n",
+        ("called 0.0\n", "line 3: bad line\n", 2),
+    ),
+    (
+        "23",
+        "universal 1 queue 1 8\ncall 0 enq 007\n",
+        ("", "line 2: bad line\n", 2),
+    ),
+    (
+        "23",
+        "universal 1 queue 1 8\ncall 0 enq 7\nfinish 0\ncall 0 deq\ntrim\n",
+        (
+            "called 0.0\nreturned 0.0 ok steps 14 turns 1\nrefused history\ntrimmed 2\nend\n",
+            "",
+            0,
+        ),
+    ),
+    (
+        "22",
+        "universal 1 queue 1 8\ncall 0 enq 7\n",
+        ("refused history\nend\n", "", 0),
+    ),
+];
+
+#[test]
+fn scripts_by_pieces(rt: HostRuntime) {
+    for &(history, script, (output, faults, status)) in BY_PIECES {
+        let words = ["unibench", "replay", "--history", history];
+        for most in [1, 2, 7, 5_000] {
+            let reader = Trickle {
+                left: script.as_bytes(),
+                most,
+                fails: false,
+            };
+            let outcome = outcome_of(&rt, rt.alloc(), words.as_slice(), reader);
+            let is_right = outcome.is(output.as_bytes(), faults.as_bytes(), status);
+            assert!(rt; is_right, "{script} by {most}");
+        }
+    }
+}
+
 /// What is read before the reader fails, and what is written.
 const CUT_SHORT: &[(&str, (&str, &str, u8))] = &[
     ("", ("", "cannot read\n", 3)),

@@ -377,21 +377,21 @@ fn a_run_meets_the_bound(rt: HostRuntime) -> Result<(), Fail> {
 }
 
 #[test]
-fn a_run_finishes_where_another_stopped_at_a_settled_value(rt: HostRuntime) -> Result<(), Fail> {
+fn a_run_finishes_at_a_cell_that_another_has_linked(rt: HostRuntime) -> Result<(), Fail> {
     let asked = [
         Asks::Call(0, 10),
-        Asks::Steps(0, 11),
+        Asks::Steps(0, 10),
         Asks::Call(1, 30),
         Asks::Steps(1, 24),
-        Asks::Steps(0, 5),
+        Asks::Steps(0, 6),
     ];
     let told = [
         (Outcome::Called(call(0, 0)), 1),
-        (Outcome::Went, 11),
+        (Outcome::Went, 10),
         (Outcome::Called(call(1, 0)), 1),
         (Outcome::Went, 23),
         (Outcome::Returned(call(1, 0), 10), 1),
-        (Outcome::Went, 4),
+        (Outcome::Went, 5),
         (Outcome::Returned(call(0, 0), 0), 1),
     ];
     let after = [

@@ -1,45 +1,50 @@
-use Rattle.std.proofs.Common.{◌≡◌, ◌≤◌, ◌∙◌, ◌*◌, ℕ, Vec, Global, map, length, sym, ap, subst, None, vec_len}
-use Rattle.std.proofs.lemmas.List.{length-map}
+use Rattle.std.proofs.Common.{◌≡◌, ◌∙◌, ℕ, Vec, Global, map, sym, ap, subst, vec_len, Result, Ok, Err, OnOk, IsOk, IsErrOf, true, false}
 use Rattle.std.proofs.lemmas.List.Elements.{All-same}
 use Rattle.uni_words.specs.Belongs.{AreAllSeats, IsSeatOf, log_in, own_calls, processes_of, row_of}
 use Rattle.uni_words.specs.Compare.{Agrees}
 use Rattle.uni_words.specs.Log.{entry_shown}
 use Rattle.unibench_run.specs.Threads.{IsRunOfThreads, told_to}
-use Rattle.unibench_run.proofs.Told.{all_seats, done_seats, list_in, lists_are, lists_whole, run_of_threads}
+use Rattle.unibench_run.proofs.Told.{all_seats, done_seats, lists_are, lists_whole, run_of_threads}
 use Rattle.unibench_run.proofs.threads.close_words.Goals as goal
 
-pub close_all-words-requires-clause-seats : goal.close_all-words-requires-clause-seats
-close_all-words-requires-clause-seats g c = All-same (IsSeatOf c.args.log) _ _ c.in_ok-seats.ensures.seats (done_seats c.args.log c.args.done.items c.requires.done)
+on_ok : {T E P : Type 0} (r : Result T E) → P → OnOk r P
+on_ok (Ok x) p = p
+on_ok (Err e) p = tt
 
-pub returns-in-Some-clause-faults : goal.returns-in-Some-clause-faults
-returns-in-Some-clause-faults g c = λ fault is.
+ok_is_no_fault : {T E : Type 0} (r : Result T E) (e : E) → IsOk r → IsErrOf r e → ⊥
+ok_is_no_fault (Ok x) e ok is = let bad : Ok x ≡ Err e = is in cc
+ok_is_no_fault (Err f) e ok is = let bad : false ≡ true = ok in cc
+
+pub close_all-words-requires-clause-seats : goal.close_all-words-requires-clause-seats
+close_all-words-requires-clause-seats g c = All-same (IsSeatOf c.args.log) _ _ c.in_ok-seats.ensures.seats (done_seats c.args.log c.args.plan.now.seed c.args.done.items c.requires.done)
+
+pub count_agreed-requires-clause-whole : goal.count_agreed-requires-clause-whole
+count_agreed-requires-clause-whole g c = λ k d below.
+    let whole = All-same (λ (told : Vec (ℕ × ℕ) Global). vec_len told ≡ row_of c.args.log) c.deref-2.result.now _ (c.deref-2.ensures.value ∙ c.in_ok-seats.ensures.told)
+    (lists_whole c.args.log c.args.plan.now.seed c.args.done.items c.requires.done) in
+    whole k d below ∙ sym c.requires.calls
+
+pub returns-clause-run : goal.returns-clause-run
+returns-clause-run g c =
     let object = g.O.WordObject.sequential in
-    let all : AreAllSeats c.args.log c.in_ok-seats.seats.items = subst (AreAllSeats c.args.log) (sym c.in_ok-seats.ensures.seats) (all_seats c.args.log c.args.done.items c.requires.done) in
+    let seed = c.args.plan.now.seed in
+    let all : AreAllSeats c.args.log c.in_ok-seats.seats.items = subst (AreAllSeats c.args.log) (sym c.in_ok-seats.ensures.seats) (all_seats c.args.log seed c.args.done.items c.requires.done) in
+    let run = subst (λ o. IsRunOfThreads (object o) (processes_of c.args.log) (row_of c.args.log) seed (map told_to c.args.done.items)) (sym c.requires.object)
+    (run_of_threads c.args.log seed c.args.done.items c.requires.done (object c.args.log.setup.object) _ c.in_ok-seats.seats.items c.in_ok-seats.ensures.seats c.close_all-words.ensures.run (c.close_all-words.ensures.agrees all)) in
+    on_ok c.count_agreed.result run
+
+pub returns-clause-faults : goal.returns-clause-faults
+returns-clause-faults g c = λ fault is.
+    let object = g.O.WordObject.sequential in
+    let seed = c.args.plan.now.seed in
+    let all : AreAllSeats c.args.log c.in_ok-seats.seats.items = subst (AreAllSeats c.args.log) (sym c.in_ok-seats.ensures.seats) (all_seats c.args.log seed c.args.done.items c.requires.done) in
     let lists : map own_calls c.in_ok-seats.seats.items ≡ map (λ (own : Vec (ℕ × ℕ) Global). own.items) c.deref-2.result.now
-    = ap (map own_calls) c.in_ok-seats.ensures.seats ∙ lists_are c.args.log c.args.done.items c.requires.done
+    = ap (map own_calls) c.in_ok-seats.ensures.seats ∙ lists_are c.args.log seed c.args.done.items c.requires.done
     ∙ ap (map (λ (own : Vec (ℕ × ℕ) Global). own.items)) (sym c.in_ok-seats.ensures.told ∙ sym c.deref-2.ensures.value) in
     let entries : log_in c.close_all-words.result ≡ map entry_shown c.deref.result.now = sym c.in_ok-entries.ensures.log ∙ ap (map entry_shown) (sym c.deref.ensures.value) in
     let agreed : Agrees (object c.args.object.now) (map entry_shown c.deref.result.now) (map (λ (own : Vec (ℕ × ℕ) Global). own.items) c.deref-2.result.now)
     = subst (λ o. Agrees (object o) (map entry_shown c.deref.result.now) (map (λ (own : Vec (ℕ × ℕ) Global). own.items) c.deref-2.result.now)) (sym c.requires.object)
     (subst (λ ls. Agrees (object c.args.log.setup.object) (map entry_shown c.deref.result.now) ls) lists
     (subst (λ es. Agrees (object c.args.log.setup.object) es (map own_calls c.in_ok-seats.seats.items)) entries (c.close_all-words.ensures.agrees all))) in
-    let none : c.differs.result ≡ None = c.differs.ensures.agrees.1 agreed in
-    absurd (let some = c.in-Some.is in cc)
-
-pub replies_in-requires-clause-short : goal.replies_in-requires-clause-short
-replies_in-requires-clause-short g c = λ k d below.
-    let whole = All-same (λ (told : Vec (ℕ × ℕ) Global). vec_len told ≡ row_of c.args.log) c.deref-in-None.result.now _ (c.deref-in-None.ensures.value ∙ c.in_ok-seats.ensures.told) (lists_whole c.args.log c.args.done.items c.requires.done) in
-    subst (λ n. n ≤ 4096) (sym (whole k d below)) c.requires.few.2
-
-pub returns-clause-replies : goal.returns-clause-replies
-returns-clause-replies g c =
-    let lists = c.deref-in-None.ensures.value ∙ c.in_ok-seats.ensures.told in
-    let whole = All-same (λ (told : Vec (ℕ × ℕ) Global). vec_len told ≡ row_of c.args.log) c.deref-in-None.result.now _ lists (lists_whole c.args.log c.args.done.items c.requires.done) in
-    c.replies_in.ensures (row_of c.args.log) whole ∙ ap (λ n. n * row_of c.args.log) (ap length lists ∙ length-map c.args.done.items list_in ∙ c.requires.done.many)
-
-pub returns-clause-run : goal.returns-clause-run
-returns-clause-run g c =
-    let object = g.O.WordObject.sequential in
-    let all : AreAllSeats c.args.log c.in_ok-seats.seats.items = subst (AreAllSeats c.args.log) (sym c.in_ok-seats.ensures.seats) (all_seats c.args.log c.args.done.items c.requires.done) in
-    subst (λ o. IsRunOfThreads (object o) (processes_of c.args.log) (row_of c.args.log) (map told_to c.args.done.items)) (sym c.requires.object)
-    (run_of_threads c.args.log c.args.done.items c.requires.done (object c.args.log.setup.object) _ c.in_ok-seats.seats.items c.in_ok-seats.ensures.seats c.close_all-words.ensures.run (c.close_all-words.ensures.agrees all))
+    let ok = c.count_agreed.ensures.agrees.1 agreed in
+    absurd (ok_is_no_fault c.count_agreed.result fault ok is)
