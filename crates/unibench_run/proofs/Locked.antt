@@ -89,7 +89,7 @@ module _ {I R : Type 0} (read : ℕ → I) where
       at_most less =
           let one = closed.each n less in
           let none = none_is (λ (s : SeatOf I R). s.process) n seats
-              (λ i s at. let its = (are.each i s at).0 in let below = at_below seats i s at in let many = are.many in omega arith) in
+          (λ i s at. let its = (are.each i s at).0 in let below = at_below seats i s at in let many = are.many in omega arith) in
           omega (arith, one, none)
 
       pub processes_are : recorded.processes ≡ n

@@ -24,7 +24,9 @@ use std::thread::Threads;
 use std::{fmt, thread};
 use uni_record::Verdict;
 use uni_script::{BenchFault, Drawn};
-use uni_words::{WordEntry, WordLog, WordObject, WordSeat, WordSticky, WordTally, differs, read_log};
+use uni_words::{
+    WordEntry, WordLog, WordObject, WordSeat, WordSticky, WordTally, differs, read_log,
+};
 
 /// Why a run of threads ended early.
 #[derive(Clone, Copy, Debug, PartialEq, Eq)]
