@@ -107,8 +107,7 @@ fn no_era_ends_where_the_numbers_are_full(rt: HostRuntime) -> Result<(), Fail> {
         4,
         281_474_976_710_647,
         100,
-    )
-    .map_err(|_| Fail::from("no record was opened"))?;
+    ).map_err(|_| Fail::from("no record was opened"))?;
     no_era_ends_where_the_numbers_are_full_in(&rt, rt.alloc(), &mut recorded);
     Ok(())
 }

@@ -15,7 +15,7 @@ use Rattle.uni_words.specs.declared.steps.WordSeat.{WordSeat}
 use Rattle.uni_words.proofs.Agreeing.{at_of_map}
 use Rattle.uni_words.proofs.Comparing.{slice_get-index, slice_get-map}
 use Rattle.unibench_run.specs.Draws.{below_1000, drawn_by, seed_of}
-use Rattle.unibench_run.specs.Threads.{AreDone, IsDone, IsDoneOf, IsRunOfThreads, asked_in, told_to}
+use Rattle.unibench_run.specs.Threads.{AreDone, IsDoneOf, IsRunOfThreads, asked_in, told_to}
 use Rattle.unibench_run.specs.declared.threads.Done.{Done}
 use Rattle.unibench_run.specs.declared.threads.Job.{Job}
 use Rattle.unibench_run.proofs.DrawnBy.{of_place}
@@ -68,8 +68,7 @@ all_are_done log seed jobs seats of seeds first results done are count given = r
       let here : slice_index_or results p (Ok one) ≡ Ok one = (let e = sym (slice_get-index results p (Ok one) below) ∙ result in cc) in
       let within : p < length jobs = omega (arith, below, count) in
       let made : IsDoneOf log its.0 one = subst (λ r. IfOk r (IsDoneOf log its.0)) here its.2 in
-      let seeded : its.0.seed ≡ seed_of seed p = of_place seed_in (seed_of seed) (length jobs) jobs seeds p its.0 within its.1 in
-      (
+      let seeded : its.0.seed ≡ seed_of seed p = of_place seed_in (seed_of seed) (length jobs) jobs seeds p its.0 within its.1 in (
         made.made,
         made.process ∙ (fresh_job log (processes_of log) jobs seats of first p its.0 within its.1).process,
         made.asked ∙ ap (λ s. drawn_by below_1000 s (row_of log)) seeded,
