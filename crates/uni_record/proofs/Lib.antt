@@ -18,3 +18,4 @@ pub mod Commanded
 pub mod Elements
 pub mod Table
 pub mod Rooms
+pub mod Asked

@@ -1,5 +1,5 @@
 -- What stored events are in the definitions, and what a run of them returns and logs.
-use Rattle.std.specs.Prelude.{◌≡◌, ℕ, List, [], ◌∷◌, ◌++◌, Option, Some, None, map, option_map, option_and_then, refl}
+use Rattle.std.specs.Prelude.{◌≡◌, ℕ, suc, List, [], ◌∷◌, ◌++◌, Option, Some, None, map, option_map, option_and_then, refl}
 use Rattle.std.specs.Prelude.{option_to_list}
 use Rattle.std.specs.Borrow.{Bor}
 use Rattle.seq_object.specs.Sequential.{Sequential}
@@ -24,6 +24,14 @@ event_shown (stored.Reshape n) = Reshape n
 
 abbrev pub events_shown : {I : Type 0} → List (Stored I) → List (Event I)
 events_shown events = map event_shown events
+
+-- how many of some events are calls
+abbrev pub calls_in : {I : Type 0} → List (Event I) → ℕ
+calls_in [] = 0
+calls_in (Call p i ∷ events) = suc (calls_in events)
+calls_in (Step p ∷ events) = calls_in events
+calls_in (Trim ∷ events) = calls_in events
+calls_in (Reshape n ∷ events) = calls_in events
 
 -- the stored event that an event is whose invocation is lent
 abbrev pub event_lent : {I : Type 0} → Stored (Bor I) → Stored I
@@ -87,3 +95,6 @@ sample_completed = refl
 sample_log : ended_log sample (opened_world 1 9 1) (sample_events ++ Trim ∷ [])
     ≡ record { number = 2; call = record { process = 0; nth = 0; inv = 7 }; response = Some 9 } ∷ []
 sample_log = refl
+
+two_calls : calls_in {I = ℕ} (Call 0 5 ∷ Step 0 ∷ Call 1 5 ∷ Trim ∷ []) ≡ 2
+two_calls = refl

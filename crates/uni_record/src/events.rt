@@ -2,6 +2,7 @@
 
 ghost use Rattle.std.specs.Prelude.{◌≡◌, ◌+◌, ◌-◌, ◌<◌, ◌≤◌, ◌++◌, ◌∷◌, [], OnOk};
 ghost use Rattle.std.specs.Prelude.{length};
+ghost use Rattle.uni_record.specs.Event.{calls_in, events_shown};
 ghost use Rattle.uni_record.specs.Packed.{HasCode, asked_by};
 
 use crate::event::Event;
@@ -135,6 +136,15 @@ impl<'a, I> Model for Events<'a, I> {
     ghost view = { λ e. unpacked e.codes.now e.invocations.now };
 
     ghost invariant = { λ e. ArePacked e.codes.now e.invocations.now };
+}
+
+impl<'a, I> Events<'a, I> {
+    /// How many of the events that are still to come are calls. None of them is gone over.
+    pub fn calls(&self) -> u64
+        ensures { result ≡ calls_in (events_shown self.now) }
+    {
+        self.invocations.len() as u64
+    }
 }
 
 impl<'a, I> Iterator for Events<'a, I> {

@@ -1,21 +1,12 @@
 -- How much a script has done.
-use Rattle.std.specs.Prelude.{◌≡◌, ℕ, suc, List, [], ◌∷◌, length, refl}
-use Rattle.uni_model.specs.Worlds.{Event, opened_world}
-use Rattle.uni_model.specs.Worlds.Event.{Call, Step, Trim, Reshape}
+use Rattle.std.specs.Prelude.{ℕ, length}
+use Rattle.uni_model.specs.Worlds.{opened_world}
 use Rattle.uni_model.specs.History.{history_of}
-use Rattle.uni_record.specs.Event.{responses_in}
+use Rattle.uni_record.specs.Event.{calls_in, responses_in}
 use Rattle.uni_script.specs.declared.summary.Summary.{Summary}
 use Rattle.uni_script.specs.Objects.{SpokenObject, spoken_of}
 use Rattle.uni_script.specs.Meaning.{Session}
 use Rattle.uni_script.specs.Scripts.{ScriptSession}
-
--- how many of some events are calls
-abbrev pub calls_in : {I : Type 0} → List (Event I) → ℕ
-calls_in [] = 0
-calls_in (Call p i ∷ events) = suc (calls_in events)
-calls_in (Step p ∷ events) = calls_in events
-calls_in (Trim ∷ events) = calls_in events
-calls_in (Reshape n ∷ events) = calls_in events
 
 -- how many responses the history of a session has
 abbrev pub responses_of : {S I R : Type 0} → SpokenObject S I R → Session S I R → ℕ
@@ -27,6 +18,3 @@ summary_of o lines b = record { lines = lines; calls = calls_in b.events; return
 
 abbrev pub summary_of_session : (lines : ℕ) → ScriptSession → Summary
 summary_of_session lines b = summary_of (spoken_of b.object) lines b.session
-
-two_calls : calls_in {I = ℕ} (Call 0 5 ∷ Step 0 ∷ Call 1 5 ∷ Trim ∷ []) ≡ 2
-two_calls = refl

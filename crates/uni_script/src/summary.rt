@@ -1,12 +1,11 @@
 //! How much a script has done.
 
-ghost use Rattle.std.specs.Prelude.{◌≡◌, ◌<◌, ◌^◌, length};
-ghost use Rattle.uni_record.specs.Event.{events_shown};
+ghost use Rattle.std.specs.Prelude.{◌≡◌};
 ghost use Rattle.uni_script.specs.Meaning.{session_of};
-ghost use Rattle.uni_script.specs.Summary.{calls_in, summary_of};
+ghost use Rattle.uni_script.specs.Summary.{summary_of};
 
 use ready_objects::Spoken;
-use uni_record::{Event, Events, Recorded};
+use uni_record::Recorded;
 
 /// How much a script has done.
 #[derive(Clone, Copy, Debug, PartialEq, Eq)]
@@ -27,21 +26,7 @@ pub fn summary_of<O: Spoken>(session: &Recorded<O>, lines: u64) -> Summary
     session.promise();
     Summary {
         lines,
-        calls: calls_in(session.events()),
+        calls: session.events().calls(),
         returns: session.returns().len() as u64,
     }
-}
-
-/// How many of some events are calls.
-fn calls_in<I>(events: Events<'_, I>) -> u64
-    requires { length events < 2 ^ 63 }
-    ensures { result ≡ calls_in (events_shown events.entry) }
-{
-    let mut calls = 0;
-    for event in events {
-        if let Event::Call(_, _) = event {
-            calls += 1;
-        }
-    }
-    calls
 }
