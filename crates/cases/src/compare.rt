@@ -14,7 +14,7 @@ use std::convert::AsStr;
 use std::sync::Wait;
 use std::thread::Threads;
 use uni_script::{Checked, TextIn, TextOut};
-use unibench_run::{KeepsText, Request};
+use unibench_run::{KeepsText, Request, Watch};
 use unidraw_run::Form;
 
 /// What a run is to write, and how it is to end.
@@ -50,7 +50,7 @@ fn is_wanted(status: u8, output: &[u8], told: &[u8], wanted: &Wanted) -> Result<
 /// Whether `unibench`, over these words and what a reader has, writes and tells what it should, and ends so.
 ///
 /// An `Err` is a status above 2: memory was refused, an end failed, or threads didn't agree.
-pub fn is_run<R: Threads + Wait + Sync, S: AsStr, I: KeepsText>(
+pub fn is_run<R: Threads + Wait + Watch + Sync, S: AsStr, I: KeepsText>(
     rt: &R,
     alloc: Global,
     words: &[S],

@@ -24,7 +24,7 @@ use std::env::Env;
 use std::sync::Wait;
 use std::thread::Threads;
 use std::{env, io};
-use unibench_run::Kept;
+use unibench_run::{Kept, Watch};
 
 /// How many bytes of a script are read at a time: it is run once with each of these.
 const AT_A_TIME: [usize; 4] = [1, 2, 7, 5_000];
@@ -32,7 +32,7 @@ const AT_A_TIME: [usize; 4] = [1, 2, 7, 5_000];
 /// Whether each run over these words and this script, in whatever pieces it is read, does what it should.
 ///
 /// An `Err` is the status of a run that was refused memory, of which an end failed, or whose threads didn't agree.
-fn agrees_in_pieces<R: Threads + Wait + Sync>(
+fn agrees_in_pieces<R: Threads + Wait + Watch + Sync>(
     rt: &R,
     alloc: Global,
     words: &[&str],
@@ -57,7 +57,7 @@ fn agrees_in_pieces<R: Threads + Wait + Sync>(
 /// Whether each run over this command line does what the case says.
 ///
 /// An `Err` is a status, as that of `agrees_in_pieces`, or 4 where memory was refused to the words.
-fn agrees_on_line<R: Threads + Wait + Sync>(
+fn agrees_on_line<R: Threads + Wait + Watch + Sync>(
     rt: &R,
     alloc: Global,
     line: &str,
@@ -75,7 +75,11 @@ fn agrees_on_line<R: Threads + Wait + Sync>(
 /// Whether a case has a run, and each of its runs does what the case says.
 ///
 /// An `Err` is a status, as that of `agrees_on_line`.
-fn agrees<R: Threads + Wait + Sync>(rt: &R, alloc: Global, case: &Case) -> Result<bool, u8> {
+fn agrees<R: Threads + Wait + Watch + Sync>(
+    rt: &R,
+    alloc: Global,
+    case: &Case,
+) -> Result<bool, u8> {
     if case.scripts.is_empty() || case.commands.is_empty() {
         return Ok(false);
     }
@@ -96,7 +100,7 @@ struct Tally {
 
 impl Tally {
     /// Runs a case, counts it, and prints its name with what came of it.
-    fn tell<R: Threads + Wait + Sync + Print + Alloc<A = Global>>(
+    fn tell<R: Threads + Wait + Watch + Sync + Print + Alloc<A = Global>>(
         &mut self,
         rt: &R,
         name: &str,

@@ -1,7 +1,10 @@
 //! The program: hands its words and its standard streams to `run` of `unibench_run`, and ends with the status
-//! that it answers.
+//! that it answers. On a terminal it shows how far a long run is.
 #![tactic(auto)]
 
+mod progress;
+
+use progress::{Cleared, Counted, Progress};
 use std::alloc::Global;
 use std::env::Env;
 use std::process::ExitCode;
@@ -15,12 +18,13 @@ fn words<R: Env + Alloc<A = Global>>(rt: &R) -> io::Result<Vec<String>> {
 }
 
 fn main(rt: HostRuntime) -> ExitCode {
-    let mut input = Kept::new(Checked::new(rt.stdin()));
-    let mut output = Checked::new(rt.stdout());
-    let mut faults = Checked::new(rt.stderr());
+    let progress = Progress::new(&rt, rt.stderr());
+    let mut input = Kept::new(Checked::new(Counted::new(rt.stdin(), &progress)));
+    let mut output = Checked::new(Cleared::new(rt.stdout(), &progress));
+    let mut faults = Checked::new(Cleared::new(rt.stderr(), &progress));
     let status = match words(&rt) {
         Ok(words) => run(
-            &rt,
+            &progress,
             rt.alloc(),
             words.as_slice(),
             &mut input,
@@ -29,5 +33,6 @@ fn main(rt: HostRuntime) -> ExitCode {
         ),
         Err(error) => refuse_words(&error, &mut faults),
     };
+    progress.clear();
     ExitCode::from(status)
 }

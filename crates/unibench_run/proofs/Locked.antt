@@ -1,14 +1,12 @@
 -- Threads under a lock whose calls are made: their seats, and what the record has.
-use Rattle.std.proofs.Common.{◌≡◌, ◌≢◌, ◌∙◌, ◌<◌, ◌≤◌, ℕ, zero, suc, List, length, map, slice_get, slice_index_or, Result, Ok, Err, IfOk, OnOk, Some, None, inl, inr, tt, sym, ap, subst, arith}
+use Rattle.std.proofs.Common.{◌≡◌, ◌∙◌, ◌<◌, ◌≤◌, ℕ, zero, suc, List, length, map, slice_get, slice_index_or, Result, Ok, Err, IfOk, OnOk, Some, refl, sym, ap, subst, arith}
 use Rattle.std.specs.List.{All, range_with_len}
 use Rattle.std.specs.declared.alloc.AllocError.{AllocError}
 use Rattle.std.proofs.lemmas.List.{length-map}
 use Rattle.seq_object.specs.Sequential.{Sequential}
 use Rattle.uni_record.specs.Recorded.{IsPromised, Recording}
 use Rattle.uni_shared.specs.Agreement.{IsClosed}
-use Rattle.uni_shared.specs.Seat.{SeatOf, HasBegun, IsLeftByApply, first_seat, first_seats}
-use Rattle.uni_shared.specs.declared.fault.ApplyFault.{ApplyFault}
-use Rattle.uni_shared.specs.declared.fault.ApplyFault.TheVariants as apply
+use Rattle.uni_shared.specs.Seat.{SeatOf, first_seat, first_seats}
 use Rattle.uni_words.proofs.Comparing.{slice_get-index, slice_get-map}
 use Rattle.unibench_run.specs.Draws.{drawn_by, seed_of}
 use Rattle.unibench_run.specs.Threads.{IsLockedRun, MakesCalls, asked_by}
@@ -21,17 +19,9 @@ pub on_ok_of : {T E A B : Type 0} {P Q : T → Type 0} (r : Result T E) → IfOk
 on_ok_of (Ok x) p a b step = step x p a b
 on_ok_of (Err e) p a b step = tt
 
--- an apply that ends with a fault leaves the process and the receipts
-pub left_by_apply : {I R : Type 0} (old : SeatOf I R) (inv : I) (fault : ApplyFault) (new : SeatOf I R) → IsLeftByApply old inv fault new → (new.process ≡ old.process) × (new.receipts ≡ old.receipts)
-left_by_apply old inv apply.GaveUp new begun = (begun.process, begun.receipts)
-left_by_apply old inv apply.Memory new (inl same) = (ap (λ s. s.process) same, ap (λ s. s.receipts) same)
-left_by_apply old inv apply.Memory new (inr begun) = (begun.process, begun.receipts)
-left_by_apply old inv apply.Stranger new (inl same) = (ap (λ s. s.process) same, ap (λ s. s.receipts) same)
-left_by_apply old inv apply.Stranger new (inr begun) = (begun.process, begun.receipts)
-left_by_apply old inv apply.SeatPending new same = (ap (λ s. s.process) same, ap (λ s. s.receipts) same)
-left_by_apply old inv apply.RowFull new same = (ap (λ s. s.process) same, ap (λ s. s.receipts) same)
-left_by_apply old inv apply.HistoryFull new same = (ap (λ s. s.process) same, ap (λ s. s.receipts) same)
-left_by_apply old inv apply.NothingPending new same = (ap (λ s. s.process) same, ap (λ s. s.receipts) same)
+pub on_ok : {T E P : Type 0} (r : Result T E) → P → OnOk r P
+on_ok (Ok x) p = p
+on_ok (Err e) p = tt
 
 abbrev pub seat_of : {I R : Type 0} → Job (SeatOf I R) → SeatOf I R
 seat_of job = job.seat

@@ -15,7 +15,7 @@ use Rattle.uni_words.specs.declared.steps.WordSeat.{WordSeat}
 use Rattle.uni_words.proofs.Agreeing.{at_of_map}
 use Rattle.uni_words.proofs.Comparing.{slice_get-index, slice_get-map}
 use Rattle.unibench_run.specs.Draws.{below_1000, drawn_by, seed_of}
-use Rattle.unibench_run.specs.Threads.{AreDone, IsDone, IsDoneOf, IsRunOfThreads, asked_in, told_to}
+use Rattle.unibench_run.specs.Threads.{AreDone, IsDoneOf, IsRunOfThreads, asked_in, told_to}
 use Rattle.unibench_run.specs.declared.threads.Done.{Done}
 use Rattle.unibench_run.specs.declared.threads.Job.{Job}
 use Rattle.unibench_run.proofs.DrawnBy.{of_place}

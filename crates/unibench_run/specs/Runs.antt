@@ -42,7 +42,7 @@ pub record IsRandomRun (plan : RandomPlan) (old new : Option (List ℕ)) (output
 
 -- A run of threads that ended with this status, from what the output held: 2 only where the plan is refused, since the object isn't
 -- there in the form or, under a lock, the calls are too many, and there only 2 or refused memory; 0 only where the line was
--- written that says of as many replies as the plan has calls that they agree, under a lock of at most so many. After a failure of
+-- written that says of as many replies as the plan has calls that they agree, which are those of a run of it. After a failure of
 -- the output a prefix of such a line was written, and after any other fault nothing.
 pub record IsThreadsRun (plan : Plan) (old new : Option (List ℕ)) (output_failed : Bool) (status : ℕ) : Type 0 where
   pub there : status ≡ 2 → IsSome (refusal_of plan)

@@ -8,6 +8,7 @@ ghost use Rattle.unibench_run.specs.Threads.{HasLockedRun, IsLacking, IsThreadsP
 
 use crate::request::Plan;
 use crate::threads::{Job, ThreadsFault, all_done, jobs_of};
+use crate::watch::Watch;
 use rand_core::SeedableRng;
 use rand_xoshiro::Xoshiro256PlusPlus;
 use ready_objects::Spoken;
@@ -44,7 +45,7 @@ fn stopped<O: SeqObject>(seat: Seat<O>, fault: ApplyFault) -> Result<Seat<O>, Al
 
 /// Makes so many calls by a seat, with the invocations that the words of its seed stand for, one word a
 /// call, but no more after a fault. An `Err` says that the fault was that memory was refused.
-fn make_locked_calls<O: Spoken, R: Wait>(
+fn make_locked_calls<O: Spoken, R: Wait + Watch>(
     rt: &R,
     alloc: Global,
     shared: &Shared<O>,
@@ -59,7 +60,7 @@ fn make_locked_calls<O: Spoken, R: Wait>(
     for _ in 0..calls {
         let inv = O::drawn(words.draw());
         match seat.apply(rt, alloc, shared, inv, &NoGate) {
-            Ok(_) => {}
+            Ok(_) => rt.made(),
             Err(fault) => return stopped(seat, fault),
         }
     }
@@ -136,7 +137,7 @@ fn close_and_audit<O: SeqObject>(
 /// Makes the calls of a plan on an object under a lock, each seat's in a thread of its own where one
 /// can be made: how many replies the threads were given. The record is closed with their seats, and
 /// an audit of it agrees.
-pub(crate) fn run_under_lock<R: Threads + Wait + Sync, O: Spoken + Send>(
+pub(crate) fn run_under_lock<R: Threads + Wait + Watch + Sync, O: Spoken + Send>(
     rt: &R,
     alloc: Global,
     object: O,

@@ -18,6 +18,7 @@ use crate::hints::{fault_of_names, tip_for};
 use crate::language::write_language;
 use crate::request::{Form, Plan, RandomPlan, Request, read_words};
 use crate::threads::{ThreadsFault, push_agrees, push_threads_fault, run_plan};
+use crate::watch::Watch;
 use command_line::answer_words;
 use rand_core::SeedableRng;
 use rand_xoshiro::Xoshiro256PlusPlus;
@@ -30,14 +31,14 @@ use uni_script::{
 };
 
 /// Runs the program over its argument texts, the program's name first; the answer is the status
-/// that it ends with.
+/// that it ends with. The runtime is told how far threads are.
 ///
 /// The status is 0 where all went well, also for the help or the version, which go to `output`.
 /// It is 2 for a bad script, a bad command line, an object that isn't there in a form of threads or
 /// calls that are too many for a history, 3 where `input` or `output` failed, 4 where memory was
 /// refused, and 5 where threads under a lock and their record don't agree; the text that says so goes
 /// to `faults`, as far as that takes it.
-pub fn run<R: Threads + Wait + Sync, S: AsStr, I: KeepsText, O: TextOut, F: TextOut>(
+pub fn run<R: Threads + Wait + Watch + Sync, S: AsStr, I: KeepsText, O: TextOut, F: TextOut>(
     rt: &R,
     alloc: Global,
     words: &[S],
@@ -79,7 +80,7 @@ pub fn run<R: Threads + Wait + Sync, S: AsStr, I: KeepsText, O: TextOut, F: Text
 /// too many under a lock, 3 where `output` failed, 4 where memory was refused, and 5 where what the
 /// threads were told isn't what the record under a lock has; the text that says so goes to `faults`,
 /// as far as that takes it. Over words it is never 5.
-fn threads<R: Threads + Wait + Sync, O: TextOut, F: TextOut>(
+fn threads<R: Threads + Wait + Watch + Sync, O: TextOut, F: TextOut>(
     rt: &R,
     alloc: Global,
     plan: &Plan,
@@ -101,7 +102,7 @@ fn threads<R: Threads + Wait + Sync, O: TextOut, F: TextOut>(
 }
 
 /// Runs the threads of a plan, and writes to `output` that they agree.
-fn write_agreed<R: Threads + Wait + Sync, O: TextOut>(
+fn write_agreed<R: Threads + Wait + Watch + Sync, O: TextOut>(
     rt: &R,
     alloc: Global,
     plan: &Plan,

@@ -13,6 +13,7 @@ ghost use Rattle.unibench_run.specs.Threads.{agrees_line, line_of_fault, refusal
 
 use crate::lock::run_under_lock;
 use crate::request::{Form, Plan, ThreadsObject};
+use crate::watch::Watch;
 use rand_core::SeedableRng;
 use rand_xoshiro::Xoshiro256PlusPlus;
 use ready_objects::{BookObject, DirectoryObject, QueueObject, StickyObject};
@@ -133,7 +134,8 @@ struct Done {
 }
 
 /// Makes so many calls by a seat, with invocations below 1000 that are drawn: one word a call.
-fn make_calls<O: WordObject>(
+fn make_calls<W: Watch, O: WordObject>(
+    watch: &W,
     alloc: Global,
     log: &WordLog<O>,
     job: Job<WordSeat>,
@@ -152,6 +154,7 @@ fn make_calls<O: WordObject>(
             unreachable!()
         };
         told.push((inv, answer.reply))?;
+        watch.made();
     }
     Ok(Done { seat, told })
 }
@@ -239,7 +242,7 @@ fn close_words<O: WordObject>(
 
 /// Makes the calls of a plan on an object of words, each seat's in a thread of its own where one can
 /// be made: how many replies the threads were given. The log agrees with what they were told.
-fn run_on_words<R: Threads + Sync, O: WordObject + Copy + Sync>(
+fn run_on_words<R: Threads + Watch + Sync, O: WordObject + Copy + Sync>(
     rt: &R,
     alloc: Global,
     object: O,
@@ -259,14 +262,14 @@ fn run_on_words<R: Threads + Sync, O: WordObject + Copy + Sync>(
         &|job: Job<WordSeat>| -> Result<Done, AllocError>
             requires { IsJob log job × (calls ≡ row_of log) }
             ensures { IfOk result (IsDoneOf log job) }
-        { make_calls(alloc, &log, job, calls) },
+        { make_calls(rt, alloc, &log, job, calls) },
     )?;
     let done = all_done(alloc, done)?;
     close_words(alloc, &object, log, done, plan)
 }
 
 /// Makes the calls of a plan: how many replies the threads were given.
-pub fn run_plan<R: Threads + Wait + Sync>(
+pub fn run_plan<R: Threads + Wait + Watch + Sync>(
     rt: &R,
     alloc: Global,
     plan: &Plan,
@@ -282,6 +285,7 @@ pub fn run_plan<R: Threads + Wait + Sync>(
     ensures closing { (fault : ThreadsFault) → IsErrOf result fault →
         status_of_threads fault ≡ 5 → plan.now.form ≡ Form.Lock }
 {
+    rt.begins(plan.processes * plan.calls);
     match (plan.form, plan.object) {
         (Form::Words, ThreadsObject::Sticky) => run_on_words(rt, alloc, WordSticky, plan),
         (Form::Words, ThreadsObject::Tally) => run_on_words(rt, alloc, WordTally, plan),

@@ -12,7 +12,7 @@ use std::test::Fail;
 use std::thread::Threads;
 use uni_record::Verdict;
 use uni_script::Checked;
-use unibench_run::{Kept, ThreadsFault, push_threads_fault, run};
+use unibench_run::{Kept, ThreadsFault, Watch, push_threads_fault, run};
 
 /// A reader over memory that gives at most so many bytes at a time, and then ends or fails.
 #[derive(Drop)]
@@ -77,7 +77,7 @@ impl Outcome {
 }
 
 /// Runs the program on argument texts and the script of a reader.
-fn outcome_of<R: Threads + Wait + Sync>(
+fn outcome_of<R: Threads + Wait + Watch + Sync>(
     rt: &R,
     alloc: Global,
     words: &[&str],
@@ -111,7 +111,7 @@ fn by_sevens(script: &[u8], fails: bool) -> Trickle<'_> {
 }
 
 /// Asserts what the replay of the script of a reader writes, and its status.
-fn replays<R: Abort + Threads + Wait + Sync>(
+fn replays<R: Abort + Threads + Wait + Watch + Sync>(
     rt: &R,
     alloc: Global,
     reader: Trickle<'_>,
@@ -260,7 +260,11 @@ fn answered_after(count: usize) -> &'static str {
 }
 
 /// Asserts what is written where the reader of `ONE_CALL` fails after these bytes of it.
-fn answers_what_it_read<R: Abort + Threads + Wait + Sync>(rt: &R, alloc: Global, left: &[u8]) {
+fn answers_what_it_read<R: Abort + Threads + Wait + Watch + Sync>(
+    rt: &R,
+    alloc: Global,
+    left: &[u8],
+) {
     let want = (answered_after(left.len()), "cannot read\n", 3);
     for most in [1, 7, 5_000] {
         let reader = Trickle {
@@ -284,7 +288,7 @@ fn reader_that_fails_after_each_byte(rt: HostRuntime) -> Result<(), Fail> {
 }
 
 /// Runs the program with an output that has so much room, and then takes no byte or fails.
-fn narrow_outcome<R: Threads + Wait + Sync>(
+fn narrow_outcome<R: Threads + Wait + Watch + Sync>(
     rt: &R,
     alloc: Global,
     words: &[&str],
@@ -337,7 +341,7 @@ fn writer_that_fails(rt: HostRuntime) {
 }
 
 /// Asserts what is written where the output of a program fails after this prefix of it.
-fn fails_after<R: Abort + Threads + Wait + Sync>(
+fn fails_after<R: Abort + Threads + Wait + Watch + Sync>(
     rt: &R,
     alloc: Global,
     words: &[&str],
@@ -385,7 +389,7 @@ fn faults_that_nobody_takes(rt: HostRuntime) {
 }
 
 /// Asserts what the program writes on these words with no input, and its status.
-fn runs<R: Abort + Threads + Wait + Sync>(
+fn runs<R: Abort + Threads + Wait + Watch + Sync>(
     rt: &R,
     alloc: Global,
     words: &[&str],

@@ -5,6 +5,7 @@ use std::alloc::Global;
 use std::process::Abort;
 use std::sync::Wait;
 use std::thread::Threads;
+use unibench_run::Watch;
 
 /// The schedule of 20 events of a queue of three processes, from seed 741. A script in Python gave it, which was
 /// written from the published algorithms, SplitMix64 for the state and xoshiro256++ for the words, and from the
@@ -105,7 +106,7 @@ fn schedule_that_nobody_takes(rt: HostRuntime) {
 }
 
 /// Whether the replay of a script ends well.
-fn is_replayed<R: Threads + Wait + Sync>(rt: &R, alloc: Global, script: &[u8]) -> bool {
+fn is_replayed<R: Threads + Wait + Watch + Sync>(rt: &R, alloc: Global, script: &[u8]) -> bool {
     let words = ["unibench", "replay"].as_slice();
     let outcome = outcome_of(rt, alloc, words, by_sevens(script, false));
     outcome.status == 0 && outcome.faults.is_empty() && outcome.output.ends_with(b"\nend\n")
@@ -113,7 +114,7 @@ fn is_replayed<R: Threads + Wait + Sync>(rt: &R, alloc: Global, script: &[u8]) -
 
 /// Asserts that a schedule of 1,000 events is drawn for an object and so many processes, and that its
 /// replay ends well.
-fn drawn_is_replayed<R: Abort + Threads + Wait + Sync>(
+fn drawn_is_replayed<R: Abort + Threads + Wait + Watch + Sync>(
     rt: &R,
     alloc: Global,
     object: &str,

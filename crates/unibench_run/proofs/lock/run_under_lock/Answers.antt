@@ -1,4 +1,4 @@
-use Rattle.std.proofs.Common.{◌≡◌, ◌≤◌, ◌*◌, ◌∙◌, ℕ, List, [], All, map, Ok, length, refl, sym, ap, subst, arith}
+use Rattle.std.proofs.Common.{◌≡◌, ◌≤◌, ◌*◌, ◌∙◌, ℕ, List, [], All, map, length, refl, sym, ap, subst, arith}
 use Rattle.std.specs.List.{range_with_len}
 use Rattle.std.proofs.lemmas.List.{length-map}
 use Rattle.std.proofs.lemmas.List.Elements.{All-map, All-same}
@@ -24,7 +24,36 @@ map_vec-requires-after_bounds g c κs within = λ i job below at.
     subst (λ (j : Job (SeatOf g.row.O-Inv.Denot g.row.O-Resp.Denot)). P j.seat) (sym at) (jobs i job below)
 
 pub close_and_audit-requires : goal.close_and_audit-requires
-close_and_audit-requires g c = ?
+close_and_audit-requires g c =
+    let processes = c.args.plan.now.processes in
+    let read = g.O.Spoken.language.inv_of_word in
+    let opened = ap length c.in-Ok.ensures.seats ∙ length-map-range_with_len (first_seat processes) 0 processes in
+    let long : length c.in_ok-jobs.jobs.items ≡ processes = sym (length-map c.in_ok-jobs.jobs.items seat_of) ∙ ap length c.in_ok-jobs.ensures.seats ∙ opened in
+    let are = all_called read processes c.args.plan.now.calls c.args.plan.now.seed c.in_ok-jobs.jobs.items (c.in_ok-jobs.ensures.seats ∙ c.in-Ok.ensures.seats) c.in_ok-jobs.ensures.seeds long
+    c.in_ok-done.done.items c.in_ok-seats.seats.items c.in_ok-seats.ensures
+    (let len = c.in_ok-done.ensures.len in let a = c.in_ok-done.done.ok.0 in let b = c.in_ok-jobs.jobs.ok.0 in omega arith)
+    (λ p d below. let one = (c.in_ok-done.ensures.each p d below).1 in (one.job, one.job_read, one.call.met)) in
+    let plan : IsThreadsPlan c.args.plan.now = c.requires.plan in
+    let few : length c.in_ok-seats.seats.items ≤ 64 = (let many = are.many in let most = plan.1 in omega arith) in
+    record {
+      few = (few, plan.3);
+      no_more = no_more read processes c.args.plan.now.calls c.args.plan.now.seed c.in_ok-seats.seats.items are;
+    }
 
 pub returns-clause-run : goal.returns-clause-run
-returns-clause-run g c = ?
+returns-clause-run g c =
+    let processes = c.args.plan.now.processes in
+    let read = g.O.Spoken.language.inv_of_word in
+    let opened = ap length c.in-Ok.ensures.seats ∙ length-map-range_with_len (first_seat processes) 0 processes in
+    let long : length c.in_ok-jobs.jobs.items ≡ processes = sym (length-map c.in_ok-jobs.jobs.items seat_of) ∙ ap length c.in_ok-jobs.ensures.seats ∙ opened in
+    let are = all_called read processes c.args.plan.now.calls c.args.plan.now.seed c.in_ok-jobs.jobs.items (c.in_ok-jobs.ensures.seats ∙ c.in-Ok.ensures.seats) c.in_ok-jobs.ensures.seeds long
+    c.in_ok-done.done.items c.in_ok-seats.seats.items c.in_ok-seats.ensures
+    (let len = c.in_ok-done.ensures.len in let a = c.in_ok-done.done.ok.0 in let b = c.in_ok-jobs.jobs.ok.0 in omega arith)
+    (λ p d below. let one = (c.in_ok-done.ensures.each p d below).1 in (one.job, one.job_read, one.call.met)) in
+    let seats = c.in_ok-seats.seats.items in
+    let calls = c.args.plan.now.calls in
+    on_ok_of c.close_and_audit.result c.close_and_audit.ensures.replies c.close_and_audit.ensures.each c.close_and_audit.ensures.closed
+    (λ replies is whole run. (
+      is ∙ ap (λ n. n * calls) are.many,
+      locked_run read processes calls c.args.plan.now.seed seats are g.O.SeqObject.sequential run.0 run.1 whole run.2,
+    ))

@@ -1,15 +1,12 @@
-use Rattle.std.proofs.Common.{◌≡◌, ◌∙◌, ℕ, Vec, Global, map, sym, ap, subst, vec_len, Result, Ok, Err, OnOk, IsOk, IsErrOf, true, false}
+use Rattle.std.proofs.Common.{◌≡◌, ◌∙◌, ℕ, Vec, Global, map, sym, ap, subst, vec_len, Result, Ok, Err, IsOk, IsErrOf, true, false}
 use Rattle.std.proofs.lemmas.List.Elements.{All-same}
 use Rattle.uni_words.specs.Belongs.{AreAllSeats, IsSeatOf, log_in, own_calls, processes_of, row_of}
 use Rattle.uni_words.specs.Compare.{Agrees}
 use Rattle.uni_words.specs.Log.{entry_shown}
 use Rattle.unibench_run.specs.Threads.{IsRunOfThreads, told_to}
+use Rattle.unibench_run.proofs.Locked.{on_ok}
 use Rattle.unibench_run.proofs.Told.{all_seats, done_seats, lists_are, lists_whole, run_of_threads}
 use Rattle.unibench_run.proofs.threads.close_words.Goals as goal
-
-on_ok : {T E P : Type 0} (r : Result T E) → P → OnOk r P
-on_ok (Ok x) p = p
-on_ok (Err e) p = tt
 
 ok_is_no_fault : {T E : Type 0} (r : Result T E) (e : E) → IsOk r → IsErrOf r e → ⊥
 ok_is_no_fault (Ok x) e ok is = let bad : Ok x ≡ Err e = is in cc

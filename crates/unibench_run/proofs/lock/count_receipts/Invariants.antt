@@ -1,0 +1,11 @@
+use Rattle.std.proofs.Common.{◌≡◌, ◌<◌, ◌≤◌, ◌*◌, ℕ, length, slice_index_or}
+use Rattle.uni_shared.specs.Seat.{SeatOf}
+use Rattle.unibench_run.proofs.lock.count_receipts.Given as goal
+
+-- the seats so far have so many receipts each
+abbrev pub invariant-loop-seat : goal.invariant-loop-seat
+invariant-loop-seat g l = record {
+  receipts : l.receipts ≡ l.seat-index * l.calls;
+  few : l.receipts ≤ l.seat-index * 4096;
+  each : (k : ℕ) → k < l.seat-index → (d : SeatOf g.row.O-Inv.Denot g.row.O-Resp.Denot) → length (slice_index_or l.seats k d).receipts ≡ l.calls;
+}
