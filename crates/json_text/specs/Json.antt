@@ -1,5 +1,5 @@
 -- JSON, as text.
-use Rattle.std.specs.Prelude.{◌≡◌, ℕ, ◌+◌, ◌-◌, ◌/◌, ◌%◌, ◌==◌, nat_lt, if◌then◌else◌, Bool, true, false, List, [], ◌∷◌, ◌++◌, map, codes, refl}
+use Rattle.std.specs.Prelude.{◌≡◌, ℕ, ◌+◌, ◌-◌, ◌/◌, ◌%◌, ◌==◌, nat_lt, if◌then◌else◌, Bool, true, false, List, [], ◌∷◌, ◌++◌, map, Option, None, Some, codes, refl}
 use Rattle.std.specs.Fmt.{decimal, digits}
 use Rattle.std.specs.List.{flat_map}
 
@@ -29,12 +29,13 @@ quoted text = codes "\"" ++ escaped text ++ codes "\""
 
 -- ---- values
 
--- a number, a string, `true` or `false`, `null`, or a value whose text is there already
+-- a number, a string, `true` or `false`, a number or a string or else `null`, or a value whose text is there already
 pub data Value : Type 0 where
   Number : ℕ → Value
   Text : List ℕ → Value
   Flag : Bool → Value
-  Nothing : Value
+  MaybeNumber : Option ℕ → Value
+  MaybeText : Option (List ℕ) → Value
   Json : List ℕ → Value
 
 pub record Member : Type 0 where
@@ -49,7 +50,10 @@ value_text (Number n) = decimal n
 value_text (Text text) = quoted text
 value_text (Flag true) = codes "true"
 value_text (Flag false) = codes "false"
-value_text Nothing = codes "null"
+value_text (MaybeNumber None) = codes "null"
+value_text (MaybeNumber (Some n)) = decimal n
+value_text (MaybeText None) = codes "null"
+value_text (MaybeText (Some text)) = quoted text
 value_text (Json text) = text
 
 abbrev pub member_text : Member → List ℕ
@@ -67,11 +71,11 @@ separated [] = []
 separated (first ∷ more) = first ++ flat_map after_comma more
 
 -- an object with these members
-abbrev pub object_text : List Member → List ℕ
+unfoldable pub object_text : List Member → List ℕ
 object_text members = codes "{" ++ separated (map member_text members) ++ codes "}"
 
 -- a list of elements with these texts
-abbrev pub list_text : List (List ℕ) → List ℕ
+unfoldable pub list_text : List (List ℕ) → List ℕ
 list_text elements = codes "[" ++ separated elements ++ codes "]"
 
 -- a quote, a backslash and a control byte
@@ -83,13 +87,21 @@ last_control_byte = refl
 
 -- an object of no member, one of each value, and a list
 no_member : object_text [] ≡ codes "{}"
+unfolding object_text
 no_member = refl
 
 each_value : object_text (named (codes "a") (Number 10) ∷ named (codes "b") (Text (codes "c")) ∷ named (codes "d") (Flag true)
-    ∷ named (codes "e") (Flag false) ∷ named (codes "f") Nothing ∷ named (codes "g") (Json (list_text [])) ∷ [])
-    ≡ codes "{\"a\":10,\"b\":\"c\",\"d\":true,\"e\":false,\"f\":null,\"g\":[]}"
-unfolding digits
+    ∷ named (codes "e") (Flag false) ∷ named (codes "f") (Json (list_text [])) ∷ [])
+    ≡ codes "{\"a\":10,\"b\":\"c\",\"d\":true,\"e\":false,\"f\":[]}"
+unfolding object_text list_text digits
 each_value = refl
 
+values_that_may_be_missing : object_text (named (codes "a") (MaybeNumber None) ∷ named (codes "b") (MaybeNumber (Some 7))
+    ∷ named (codes "c") (MaybeText None) ∷ named (codes "d") (MaybeText (Some (codes "e"))) ∷ [])
+    ≡ codes "{\"a\":null,\"b\":7,\"c\":null,\"d\":\"e\"}"
+unfolding object_text digits
+values_that_may_be_missing = refl
+
 two_elements : list_text (codes "1" ∷ object_text [] ∷ []) ≡ codes "[1,{}]"
+unfolding object_text list_text
 two_elements = refl

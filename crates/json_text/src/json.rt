@@ -1,8 +1,10 @@
 //! The text of objects and lists.
 
-ghost use Rattle.std.specs.Prelude.{◌≡◌, ◌++◌, ◌<◌, OnOk, map};
+ghost use Rattle.std.specs.Prelude.{◌≡◌, ◌++◌, ◌<◌, OnOk, map, option_map};
+ghost use Rattle.std.specs.Fmt.{decimal};
 ghost use Rattle.std.specs.List.{flat_map};
 ghost use Rattle.json_text.specs.Json.{after_comma, code_text, escaped, escaped_byte, hex_digit, list_text};
+ghost use Rattle.json_text.specs.Json.{MaybeNumber, MaybeText};
 ghost use Rattle.json_text.specs.Json.{member_text, object_text, quoted, separated, value_text};
 ghost use Rattle.json_text.specs.Shown.{member_shown, value_shown};
 
@@ -13,6 +15,7 @@ use std::io::Write;
 /// Adds an object with these members, in order.
 ///
 /// An `Err` says that memory was refused.
+#[tactic(auto, unfolding(crate::specs::Json::object_text))]
 pub fn push_object(text: &mut Vec<u8>, members: &[Member<'_>]) -> Result<(), AllocError>
     ensures { OnOk result (text.new.items ≡ text.old.items ++ object_text (map member_shown members.now)) }
 {
@@ -62,6 +65,7 @@ fn push_after_comma(text: &mut Vec<u8>, one: &Member<'_>) -> Result<(), AllocErr
 /// Adds a list whose elements have these texts, which are to be JSON.
 ///
 /// An `Err` says that memory was refused.
+#[tactic(auto, unfolding(crate::specs::Json::list_text))]
 pub fn push_list(text: &mut Vec<u8>, elements: &[Vec<u8>]) -> Result<(), AllocError>
     ensures { OnOk result (text.new.items ≡ text.old.items ++ list_text (map (λ e. e.items) elements.now)) }
 {
@@ -116,12 +120,47 @@ fn push_value(text: &mut Vec<u8>, value: Value<'_>) -> Result<(), AllocError>
     ensures { OnOk result (text.new.items ≡ text.old.items ++ value_text (value_shown value.entry)) }
 {
     match value {
-        Value::Number(number) => write!(text, "{number}").map_err(|_| AllocError),
+        Value::Number(number) => push_number(text, number),
         Value::Text(words) => push_quoted(text, words),
         Value::Flag(true) => text.extend_from_slice(b"true"),
         Value::Flag(false) => text.extend_from_slice(b"false"),
-        Value::Nothing => text.extend_from_slice(b"null"),
+        Value::MaybeNumber(number) => push_maybe_number(text, number),
+        Value::MaybeText(words) => push_maybe_text(text, words),
         Value::Json(json) => text.extend_from_slice(json),
+    }
+}
+
+/// Adds a number.
+///
+/// An `Err` says that memory was refused.
+fn push_number(text: &mut Vec<u8>, number: u64) -> Result<(), AllocError>
+    ensures { OnOk result (text.new.items ≡ text.old.items ++ decimal number) }
+{
+    write!(text, "{number}").map_err(|_| AllocError)
+}
+
+/// Adds a number, or `null` where there is none.
+///
+/// An `Err` says that memory was refused.
+fn push_maybe_number(text: &mut Vec<u8>, number: Option<u64>) -> Result<(), AllocError>
+    ensures { OnOk result (text.new.items ≡ text.old.items ++ value_text (MaybeNumber number)) }
+{
+    match number {
+        Some(number) => push_number(text, number),
+        None => text.extend_from_slice(b"null"),
+    }
+}
+
+/// Adds a string, or `null` where there is none.
+///
+/// An `Err` says that memory was refused.
+fn push_maybe_text(text: &mut Vec<u8>, words: Option<&[u8]>) -> Result<(), AllocError>
+    ensures { OnOk result (text.new.items ≡ text.old.items
+        ++ value_text (MaybeText (option_map (λ w. w.now) words.entry))) }
+{
+    match words {
+        Some(words) => push_quoted(text, words),
+        None => text.extend_from_slice(b"null"),
     }
 }
 

@@ -9,8 +9,10 @@ pub enum Value<'a> {
     Text(&'a [u8]),
     /// `true` or `false`.
     Flag(bool),
-    /// `null`.
-    Nothing,
+    /// A number, or `null` where there is none.
+    MaybeNumber(Option<u64>),
+    /// A string, not escaped, or `null` where there is none.
+    MaybeText(Option<&'a [u8]>),
     /// A value whose text is JSON.
     Json(&'a [u8]),
 }

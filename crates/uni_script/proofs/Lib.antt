@@ -11,4 +11,4 @@ pub mod Replaying
 pub mod RunningOn
 pub mod LogLines
 pub mod Finishing
-pub mod Remarks
+pub mod Telling

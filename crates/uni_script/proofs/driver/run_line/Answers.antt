@@ -11,7 +11,7 @@ use Rattle.uni_script.specs.Remarks.RemarkText.{Refused}
 use Rattle.uni_script.proofs.Running.{outcome_of_short_line-made, outcome_of_short_line-bad}
 use Rattle.uni_script.proofs.RunningOn.{RemarksGrow-nil}
 use Rattle.uni_script.proofs.Sharing.{answered-some, answered-none, refusal_of_words-some}
-use Rattle.uni_script.proofs.Remarks.{remarks_of_line-note_after, remarks_of_line-command}
+use Rattle.uni_script.proofs.Telling.{remarks_of_line-note_after, remarks_of_line-command}
 use Rattle.uni_script.proofs.driver.run_line.Goals as goal
 
 pub returns-clause-outcome : goal.returns-clause-outcome
