@@ -1,6 +1,6 @@
 //! The text of objects and lists.
 
-ghost use Rattle.std.specs.Prelude.{◌≡◌, ◌++◌, ◌<◌, OnOk, map, option_map};
+ghost use Rattle.std.specs.Prelude.{◌≡◌, ◌++◌, ◌<◌, OnOk, length, map, option_map};
 ghost use Rattle.std.specs.Fmt.{decimal};
 ghost use Rattle.std.specs.List.{flat_map};
 ghost use Rattle.json_text.specs.Json.{after_comma, code_text, escaped, escaped_byte, hex_digit, list_text};
@@ -21,6 +21,26 @@ pub fn push_object(text: &mut Vec<u8>, members: &[Member<'_>]) -> Result<(), All
 {
     text.push(b'{')?;
     push_members(text, members)?;
+    text.push(b'}')?;
+    Ok(())
+}
+
+/// Adds an object with these members, and with further ones after them.
+///
+/// An `Err` says that memory was refused.
+#[tactic(auto, unfolding(crate::specs::Json::object_text))]
+pub fn push_long_object(
+    text: &mut Vec<u8>,
+    members: &[Member<'_>],
+    further: &[Member<'_>],
+) -> Result<(), AllocError>
+    requires { 0 < length members.now }
+    ensures { OnOk result (text.new.items
+        ≡ text.old.items ++ object_text (map member_shown members.now ++ map member_shown further.now)) }
+{
+    text.push(b'{')?;
+    push_members(text, members)?;
+    push_more_members(text, further)?;
     text.push(b'}')?;
     Ok(())
 }

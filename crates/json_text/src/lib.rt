@@ -6,5 +6,5 @@
 mod json;
 mod value;
 
-pub use json::{push_list, push_object};
+pub use json::{push_list, push_long_object, push_object};
 pub use value::{Member, Value};
