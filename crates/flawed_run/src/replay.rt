@@ -10,8 +10,8 @@ use crate::world::World;
 use ready_objects::{QueueObject, Spoken, StickyObject};
 use std::alloc::{AllocError, Global};
 use uni_script::{
-    BenchFault, Failed, Header, ObjectName, TextOut, command_of, header_of, is_note, is_plain,
-    report_fault, words_of, write_all,
+    BenchFault, Failed, Header, ObjectName, TextOut, Words, command_of, header_of, is_note,
+    is_plain, report_fault, words_of, write_all,
 };
 
 /// The header of a script, and the number of its line, from 1.
@@ -24,7 +24,7 @@ struct Start {
 /// The words of a line of this number, from 1, which may have its end; `None` where it is a note.
 ///
 /// An `Err` is the fault of the line, or `Memory`.
-fn said(alloc: Global, number: u64, line: &[u8]) -> Result<Option<Vec<&[u8]>>, BenchFault>
+fn said(alloc: Global, number: u64, line: &[u8]) -> Result<Option<Words<'_>>, BenchFault>
     ensures { IfErr result (λ e. (status_of e ≡ 2) ⊎ (status_of e ≡ 4)) }
 {
     let line = match line {

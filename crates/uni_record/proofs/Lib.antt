@@ -17,3 +17,4 @@ pub mod Untrimmed
 pub mod Commanded
 pub mod Elements
 pub mod Table
+pub mod Rooms

@@ -1,7 +1,8 @@
 -- What an audit keeps: where the entries of calls stand, and which of the calls have returned. No public clause speaks of it.
 use Rattle.std.specs.Prelude.{◌≡◌, ℕ, Bool, true, false, List, [], ◌∷◌, Option, Some, None, get_or, length, position}
-use Rattle.std.specs.Prelude.{slice_get, refl}
-use Rattle.std.specs.BTreeMap.{get}
+use Rattle.std.specs.Prelude.{slice_get, vec_capacity, refl}
+use Rattle.std.specs.BTreeMap.{get, values}
+use Rattle.std.specs.List.{sum_by}
 use Rattle.std.specs.Option.{option_map_or}
 use Rattle.std.specs.Ordering.{nat_cmp}
 use Rattle.seq_object.specs.declared.call_id.CallId.{CallId}
@@ -13,6 +14,10 @@ use Rattle.uni_record.specs.Verdict.{calls_of, has_returned, same_call}
 -- the row of a process
 abbrev pub row_of : CallPlaces → ℕ → List ℕ
 row_of calls process = option_map_or (λ row. row.items) (get nat_cmp calls.rows process) []
+
+-- how many calls the rows have room for
+abbrev pub room_of : CallPlaces → ℕ
+room_of calls = sum_by vec_capacity (values calls.rows)
 
 -- where the rows have the entry of a call
 abbrev pub place_of : CallPlaces → CallId → Option ℕ

@@ -1,8 +1,8 @@
 //! Where the entries of calls stand, in a row for each process.
 
-ghost use Rattle.std.specs.Prelude.{◌≡◌, ℕ, ◌↔◌, ◌==◌, [], ◌∷◌, ◌++◌, true, IfOk, OnOk};
+ghost use Rattle.std.specs.Prelude.{◌≡◌, ℕ, ◌+◌, ◌≤◌, ◌↔◌, ◌==◌, [], ◌∷◌, ◌++◌, true, IfOk, OnOk};
 ghost use Rattle.std.specs.Prelude.{length, if◌then◌else◌};
-ghost use Rattle.uni_record.specs.CallPlaces.{place_of, row_of};
+ghost use Rattle.uni_record.specs.CallPlaces.{place_of, room_of, row_of};
 
 use seq_object::CallId;
 use std::alloc::{AllocError, Global};
@@ -24,7 +24,8 @@ impl CallPlaces {
         alloc: Global,
         entries: &[Entry<I, R>],
     ) -> Result<CallPlaces, AllocError>
-        ensures { IfOk result (λ calls. (q : ℕ) → row_of calls q ≡ []) }
+        ensures empty { IfOk result (λ calls. (q : ℕ) → row_of calls q ≡ []) }
+        ensures room { IfOk result (λ calls. room_of calls ≤ length entries.now) }
     {
         let mut calls = CallPlaces {
             rows: BTreeMap::new(alloc),
@@ -46,7 +47,8 @@ impl CallPlaces {
 
     /// Makes the row of a process, with room for so many calls.
     fn add_row(&mut self, alloc: Global, process: u32, count: usize) -> Result<(), AllocError>
-        ensures { OnOk result ((q : ℕ) → row_of self.new q ≡ (if process == q then [] else row_of self.old q)) }
+        ensures rows { OnOk result ((q : ℕ) → row_of self.new q ≡ (if process == q then [] else row_of self.old q)) }
+        ensures room { OnOk result (room_of self.new ≤ room_of self.old + count) }
     {
         self.rows
             .insert(process, Vec::with_capacity(alloc, count)?)?;

@@ -11,4 +11,5 @@ pub mod Replaying
 pub mod RunningOn
 pub mod LogLines
 pub mod Finishing
-pub mod Telling
+pub mod Remarked
+pub mod Collected

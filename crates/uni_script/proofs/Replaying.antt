@@ -20,7 +20,7 @@ use Rattle.uni_script.specs.Remarks.{RemarkAt, RemarksGrow, remarks_of_lines}
 use Rattle.uni_script.specs.Replay.{IsInput, IsReplay, Leaves, IsPartOfReplay, HasAnswered, IsFaultOfScript, text_of_script}
 use Rattle.uni_script.proofs.Cutting.{GoesOn-start, GoesOn-start_other, GoesOn-after, lines_of-append}
 use Rattle.uni_script.proofs.Running.{after_text, and_then-same, and_then-assoc, and_then-none, and_then-some, and_then-quiet, outcome_of_lines-append, outcome_of_lines-too_long, outcome_of_lines-too_many, few_lines}
-use Rattle.uni_script.proofs.Telling.{remarks_of_lines-length}
+use Rattle.uni_script.proofs.Remarked.{remarks_of_lines-length}
 use Rattle.uni_script.proofs.Written.{IsWritten-start, AppendsPrefix-all, AppendsPrefix-more}
 
 other_byte : (b : ℕ) → (b ≡ 10 → ⊥) → (b == 10) ≡ false

@@ -11,6 +11,7 @@ ghost use Rattle.uni_script.specs.Schedules.{word_of_object};
 
 use crate::catalogue::{Catalogue, Ready};
 use ready_objects::{Amount, Spoken, is_text};
+use smallvec::SmallVec;
 use std::alloc::{AllocError, Global};
 use std::fmt;
 
@@ -123,10 +124,13 @@ pub fn is_plain(line: &[u8]) -> bool
     line.iter().all(|byte| *byte >= 32 && *byte <= 126)
 }
 
+/// The words of a line. Up to eight of them take no memory of the allocator.
+pub type Words<'a> = SmallVec<&'a [u8], 8>;
+
 /// The words of a line, cut at each space.
 ///
-/// An `Err` says that memory was refused.
-pub fn words_of(alloc: Global, line: &[u8]) -> Result<Vec<&[u8]>, AllocError>
+/// An `Err` says that memory was refused, for a line of more than eight words.
+pub fn words_of(alloc: Global, line: &[u8]) -> Result<Words<'_>, AllocError>
     ensures { IfOk result (λ words. bytes_of words.items ≡ words_of_text line.now) }
 {
     line.split(|byte| *byte == b' ').collect(alloc)

@@ -28,8 +28,8 @@ pub use answer::Refusal;
 pub use ends::{Checked, Failed, TextIn, TextOut, write_all};
 pub use fault::{BenchFault, push_fault};
 pub use grammar::{
-    Command, Header, ObjectName, Version, command_of, header_of, is_note, is_plain, object_of,
-    words_of,
+    Command, Header, ObjectName, Version, Words, command_of, header_of, is_note, is_plain,
+    object_of, words_of,
 };
 pub use laws::finish_returns;
 pub use options::{Echo, Options};

@@ -2,13 +2,13 @@
 
 ghost use Rattle.std.specs.Prelude.{◌≡◌, ◌≢◌, ◌<◌, ◌↔◌, ◌++◌, ◌∷◌, [], IfOk, IfErr};
 ghost use Rattle.std.specs.Prelude.{OnErr, OnOk, IsErrOf, IsSome, Some, None};
-ghost use Rattle.uni_model.specs.Worlds.{world_after, response_of_step};
+ghost use Rattle.uni_model.specs.Worlds.{world_after};
 ghost use Rattle.uni_model.specs.Worlds.{Event as model};
 ghost use Rattle.uni_core.specs.World.{world_of, current_of, MayNeedMemory};
 ghost use Rattle.uni_trim.specs.Ends.{last_number};
 ghost use Rattle.uni_record.specs.declared.event.Event.TheVariants as event;
 ghost use Rattle.uni_record.specs.Recorded.{standing_of, KeepsOpening, CanBegin, CanEnd, IsBeginRefused, IsEndRefused};
-ghost use Rattle.uni_shared.specs.Held.{Tells};
+ghost use Rattle.uni_shared.specs.Held.{Replies, Tells};
 
 use seq_object::{CallId, SeqObject};
 use std::alloc::Global;
@@ -103,7 +103,7 @@ pub fn step_held<O: SeqObject>(
     ensures memory { IsErrOf result StepHeldFault.Memory → MayNeedMemory (world_of recorded.old.world) call.process }
     ensures could { OnOk result (current_of (world_of recorded.old.world) call.process ≡ Some call) }
     ensures call { IfOk result (λ held. held.call ≡ call) }
-    ensures reply { IfOk result (λ held. held.reply ≡ response_of_step (world_of recorded.old.world) call.process) }
+    ensures reply { IfOk result (Replies (world_of recorded.old.world) call) }
     ensures tells { IfOk result (λ held. Tells (world_of recorded.new.world) call.process held) }
     ensures event { OnOk result (recorded.new.events ≡ recorded.old.events ++ event.Step call.process ∷ []) }
     ensures step { OnOk result (world_of recorded.new.world

@@ -287,14 +287,14 @@ impl<O: SeqObject> Seat<O> {
                 });
                 Ok(())
             }
-            Err(halt) => {
+            Err(pause) => {
                 let PendingCall { call, inv, .. } = asked;
                 self.pending = Some(PendingCall {
                     call,
                     inv,
-                    place: halt.place,
+                    place: pause.place,
                 });
-                Err(halt.cause.fault())
+                Err(pause.cause.fault())
             }
         }
     }

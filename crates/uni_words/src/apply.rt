@@ -133,8 +133,9 @@ impl<O: WordObject> WordLog<O> {
         ensures idle { IsIdle self.now.setup.n self.now.setup.k p (nth + 1) seat.new.me }
         ensures own { seat.new.me.0.known.own ≡ seat.old.me.0.known.own ++ (inv, result.reply) ∷ [] }
         ensures taken { seat.new.me.0.known.taken ≡ seat.old.me.0.known.taken }
-        ensures turns { (seat.new.me.0.known.turns ≡ result.turns) × (result.turns ≤ self.now.setup.n + 1) }
-        ensures steps { IsCountOf self.now.setup.n result.turns seat.old.me.0.known seat.new.me.0.known }
+        ensures turns { seat.new.me.0.known.turns ≡ result.turns }
+        ensures few_turns { result.turns ≤ self.now.setup.n + 1 }
+        ensures steps { IsCountOf self.now.setup.n seat.new.me.0.known.turns seat.old.me.0.known seat.new.me.0.known }
     {
         let mine = self.cell(p, nth);
         self.store_inv(seat, p, nth, mine, inv);

@@ -61,11 +61,11 @@ impl<O: WordObject> WordLog<O> {
         requires table { seat.old.table_id ≡ self.now.table.shared.table_id }
         requires inside { (p < self.now.setup.n) × (mine < cells_of self.now.setup.n self.now.setup.k) }
         requires stands { StandsAt self.now.setup.n self.now.setup.k p (name_of self.now.setup.n mine)
-            (Announce) seat.old.me }
+            Announce seat.old.me }
         ensures same { (seat.new.table_id ≡ seat.old.table_id) × (seat.new.id ≡ seat.old.id) }
         ensures stands { StandsAt self.now.setup.n self.now.setup.k p (name_of self.now.setup.n mine)
             (ScanHead 0 Anchor 0) seat.new.me }
-        ensures goes { GoesBy seat.old.me seat.new.me 1 (0) }
+        ensures goes { GoesBy seat.old.me seat.new.me 1 0 }
     {
         self.table
             .shared
@@ -89,7 +89,7 @@ impl<O: WordObject> WordLog<O> {
         ensures same { (seat.new.table_id ≡ seat.old.table_id) × (seat.new.id ≡ seat.old.id) }
         ensures stands { StandsAt self.now.setup.n self.now.setup.k p (name_of self.now.setup.n mine)
             (ScanSeq q (name_of self.now.setup.n best) best_seq (name_of self.now.setup.n result)) seat.new.me }
-        ensures goes { GoesBy seat.old.me seat.new.me 1 (0) }
+        ensures goes { GoesBy seat.old.me seat.new.me 1 0 }
         ensures within { result < cells_of self.now.setup.n self.now.setup.k }
     {
         self.table.shared.load::<Moves>(seat, self.head_word(q))
@@ -114,7 +114,7 @@ impl<O: WordObject> WordLog<O> {
         ensures stands { StandsAt self.now.setup.n self.now.setup.k p (name_of self.now.setup.n mine)
             (stage_after_scan self.now.setup.n q (name_of self.now.setup.n best) best_seq
             (name_of self.now.setup.n h) result) seat.new.me }
-        ensures goes { GoesBy seat.old.me seat.new.me 1 (0) }
+        ensures goes { GoesBy seat.old.me seat.new.me 1 0 }
         ensures within { result ≤ cells_of self.now.setup.n self.now.setup.k }
     {
         self.load_seq(seat, p, h)
@@ -136,7 +136,7 @@ impl<O: WordObject> WordLog<O> {
         ensures same { (seat.new.table_id ≡ seat.old.table_id) × (seat.new.id ≡ seat.old.id) }
         ensures stands { StandsAt self.now.setup.n self.now.setup.k p (name_of self.now.setup.n mine)
             (Test (name_of self.now.setup.n best) best_seq) seat.new.me }
-        ensures goes { GoesBy seat.old.me seat.new.me 1 (0) }
+        ensures goes { GoesBy seat.old.me seat.new.me 1 0 }
     {
         self.store_head(seat, p, best);
     }
@@ -180,7 +180,7 @@ impl<O: WordObject> WordLog<O> {
         ensures same { (seat.new.table_id ≡ seat.old.table_id) × (seat.new.id ≡ seat.old.id) }
         ensures stands { StandsAt self.now.setup.n self.now.setup.k p (name_of self.now.setup.n mine)
             (ReadHelpSeq (name_of self.now.setup.n c) c_seq (name_of self.now.setup.n result)) seat.new.me }
-        ensures goes { GoesBy seat.old.me seat.new.me 1 (0) }
+        ensures goes { GoesBy seat.old.me seat.new.me 1 0 }
         ensures within { result < cells_of self.now.setup.n self.now.setup.k }
     {
         self.table
@@ -206,7 +206,7 @@ impl<O: WordObject> WordLog<O> {
         ensures stands { StandsAt self.now.setup.n self.now.setup.k p (name_of self.now.setup.n mine)
             (DecideAfter (name_of self.now.setup.n c) c_seq
             (if result == 0 then (name_of self.now.setup.n help) else (name_of self.now.setup.n mine))) seat.new.me }
-        ensures goes { GoesBy seat.old.me seat.new.me 1 (0) }
+        ensures goes { GoesBy seat.old.me seat.new.me 1 0 }
         ensures within { result ≤ cells_of self.now.setup.n self.now.setup.k }
     {
         self.load_seq(seat, p, help)
@@ -231,7 +231,7 @@ impl<O: WordObject> WordLog<O> {
         ensures stands { StandsAt self.now.setup.n self.now.setup.k p (name_of self.now.setup.n mine)
             (DecideNew (name_of self.now.setup.n c) c_seq
             (unwrap_or (link_of self.now.setup.n result) (name_of self.now.setup.n prefer))) seat.new.me }
-        ensures goes { GoesBy seat.old.me seat.new.me 1 (0) }
+        ensures goes { GoesBy seat.old.me seat.new.me 1 0 }
         ensures within { result ≤ cells_of self.now.setup.n self.now.setup.k }
     {
         self.table
@@ -257,7 +257,7 @@ impl<O: WordObject> WordLog<O> {
         ensures same { (seat.new.table_id ≡ seat.old.table_id) × (seat.new.id ≡ seat.old.id) }
         ensures stands { StandsAt self.now.setup.n self.now.setup.k p (name_of self.now.setup.n mine)
             (WriteSeq (name_of self.now.setup.n c) c_seq (name_of self.now.setup.n d)) seat.new.me }
-        ensures goes { GoesBy seat.old.me seat.new.me 1 (0) }
+        ensures goes { GoesBy seat.old.me seat.new.me 1 0 }
     {
         self.table
             .shared
@@ -282,7 +282,7 @@ impl<O: WordObject> WordLog<O> {
         ensures same { (seat.new.table_id ≡ seat.old.table_id) × (seat.new.id ≡ seat.old.id) }
         ensures stands { StandsAt self.now.setup.n self.now.setup.k p (name_of self.now.setup.n mine)
             (WriteHead (name_of self.now.setup.n c) c_seq (name_of self.now.setup.n d)) seat.new.me }
-        ensures goes { GoesBy seat.old.me seat.new.me 1 (0) }
+        ensures goes { GoesBy seat.old.me seat.new.me 1 0 }
         ensures within { c_seq + 1 ≤ cells_of self.now.setup.n self.now.setup.k }
     {
         self.table
@@ -307,7 +307,7 @@ impl<O: WordObject> WordLog<O> {
         ensures same { (seat.new.table_id ≡ seat.old.table_id) × (seat.new.id ≡ seat.old.id) }
         ensures stands { StandsAt self.now.setup.n self.now.setup.k p (name_of self.now.setup.n mine)
             (Test (name_of self.now.setup.n d) (c_seq + 1)) seat.new.me }
-        ensures goes { GoesBy seat.old.me seat.new.me 1 (0) }
+        ensures goes { GoesBy seat.old.me seat.new.me 1 0 }
     {
         self.store_head(seat, p, d);
     }

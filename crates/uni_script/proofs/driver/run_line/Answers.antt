@@ -11,7 +11,7 @@ use Rattle.uni_script.specs.Remarks.RemarkText.{Refused}
 use Rattle.uni_script.proofs.Running.{outcome_of_short_line-made, outcome_of_short_line-bad}
 use Rattle.uni_script.proofs.RunningOn.{RemarksGrow-nil}
 use Rattle.uni_script.proofs.Sharing.{answered-some, answered-none, refusal_of_words-some}
-use Rattle.uni_script.proofs.Telling.{remarks_of_line-note_after, remarks_of_line-command}
+use Rattle.uni_script.proofs.Remarked.{remarks_of_line-note_after, remarks_of_line-command}
 use Rattle.uni_script.proofs.driver.run_line.Goals as goal
 
 pub returns-clause-outcome : goal.returns-clause-outcome
@@ -20,7 +20,7 @@ returns-clause-outcome g c = λ kind inside about.
     let b = session_of c.args.session.now in
     let version = c.args.dialect.version in
     let line_words = words_of_text c.args.line.now in
-    let words = ap (λ w. command_of_words version o.language.inv_of_words w) (sym c.in_ok-words.ensures ∙ ap bytes_of (sym c.as_slice.ensures.value)) ∙ sym c.command_of.ensures in
+    let words = ap (λ w. command_of_words version o.language.inv_of_words w) (sym c.in_ok-words.ensures ∙ ap bytes_of (sym c.as_slice.ensures)) ∙ sym c.command_of.ensures in
     let command = c.in-Some.command in
     let result = result_of_command o b command in
     let same = outcome_of_short_line-made kind c.args.number (inside b) c.args.line.now (record { session = inside (session_after o b result.events); text = result.text }) (sym c.if-not-is_plain.ensures) (sym c.if-is_note.ensures) (about.made b line_words ∙ answered-some o version inside b line_words command (words ∙ c.in-Some.is)) in
@@ -32,7 +32,7 @@ returns-clause-session g c = λ kind inside about.
     let b = session_of c.args.session.now in
     let version = c.args.dialect.version in
     let line_words = words_of_text c.args.line.now in
-    let words = ap (λ w. command_of_words version o.language.inv_of_words w) (sym c.in_ok-words.ensures ∙ ap bytes_of (sym c.as_slice.ensures.value)) ∙ sym c.command_of.ensures in
+    let words = ap (λ w. command_of_words version o.language.inv_of_words w) (sym c.in_ok-words.ensures ∙ ap bytes_of (sym c.as_slice.ensures)) ∙ sym c.command_of.ensures in
     let command = c.in-Some.command in
     let result = result_of_command o b command in
     let same = outcome_of_short_line-made kind c.args.number (inside b) c.args.line.now (record { session = inside (session_after o b result.events); text = result.text }) (sym c.if-not-is_plain.ensures) (sym c.if-is_note.ensures) (about.made b line_words ∙ answered-some o version inside b line_words command (words ∙ c.in-Some.is)) in
@@ -44,7 +44,7 @@ returns-in-Some-2-clause-outcome g c = λ kind inside about.
     let b = session_of c.args.session.now in
     let version = c.args.dialect.version in
     let line_words = words_of_text c.args.line.now in
-    let words = ap (λ w. command_of_words version o.language.inv_of_words w) (sym c.in_ok-words.ensures ∙ ap bytes_of (sym c.as_slice.ensures.value)) ∙ sym c.command_of.ensures in
+    let words = ap (λ w. command_of_words version o.language.inv_of_words w) (sym c.in_ok-words.ensures ∙ ap bytes_of (sym c.as_slice.ensures)) ∙ sym c.command_of.ensures in
     let command = c.in-Some.command in
     let result = result_of_command o b command in
     let same = outcome_of_short_line-made kind c.args.number (inside b) c.args.line.now (record { session = inside (session_after o b result.events); text = result.text }) (sym c.if-not-is_plain.ensures) (sym c.if-is_note.ensures) (about.made b line_words ∙ answered-some o version inside b line_words command (words ∙ c.in-Some.is)) in
@@ -56,7 +56,7 @@ returns-in-Some-2-clause-session g c = λ kind inside about.
     let b = session_of c.args.session.now in
     let version = c.args.dialect.version in
     let line_words = words_of_text c.args.line.now in
-    let words = ap (λ w. command_of_words version o.language.inv_of_words w) (sym c.in_ok-words.ensures ∙ ap bytes_of (sym c.as_slice.ensures.value)) ∙ sym c.command_of.ensures in
+    let words = ap (λ w. command_of_words version o.language.inv_of_words w) (sym c.in_ok-words.ensures ∙ ap bytes_of (sym c.as_slice.ensures)) ∙ sym c.command_of.ensures in
     let command = c.in-Some.command in
     let result = result_of_command o b command in
     let same = outcome_of_short_line-made kind c.args.number (inside b) c.args.line.now (record { session = inside (session_after o b result.events); text = result.text }) (sym c.if-not-is_plain.ensures) (sym c.if-is_note.ensures) (about.made b line_words ∙ answered-some o version inside b line_words command (words ∙ c.in-Some.is)) in
@@ -68,7 +68,7 @@ returns-in_default-clause-outcome g c = λ kind inside about.
     let b = session_of c.args.session.now in
     let version = c.args.dialect.version in
     let line_words = words_of_text c.args.line.now in
-    let words = ap (λ w. command_of_words version o.language.inv_of_words w) (sym c.in_ok-words.ensures ∙ ap bytes_of (sym c.as_slice.ensures.value)) ∙ sym c.command_of.ensures in
+    let words = ap (λ w. command_of_words version o.language.inv_of_words w) (sym c.in_ok-words.ensures ∙ ap bytes_of (sym c.as_slice.ensures)) ∙ sym c.command_of.ensures in
     let same = outcome_of_short_line-bad kind c.args.number (inside b) c.args.line.now (sym c.if-not-is_plain.ensures) (sym c.if-is_note.ensures) (about.made b line_words ∙ answered-none o version inside b line_words (words ∙ c.in_default.is)) in
     inr (ap (λ (x : Outcome _). x.fault) same, sym (append-nil c.args.text.now.items) ∙ ap (λ t. c.args.text.now.items ++ t) (sym (ap (λ (x : Outcome _). x.text) same)))
 
@@ -78,7 +78,7 @@ returns-clause-remarks g c = λ kind inside about.
     let b = session_of c.args.session.now in
     let version = c.args.dialect.version in
     let line_words = words_of_text c.args.line.now in
-    let words = ap (λ w. command_of_words version o.language.inv_of_words w) (sym c.in_ok-words.ensures ∙ ap bytes_of (sym c.as_slice.ensures.value)) ∙ sym c.command_of.ensures in
+    let words = ap (λ w. command_of_words version o.language.inv_of_words w) (sym c.in_ok-words.ensures ∙ ap bytes_of (sym c.as_slice.ensures)) ∙ sym c.command_of.ensures in
     let refusal = about.refusal b line_words ∙ refusal_of_words-some o version inside b line_words c.in-Some.command (words ∙ c.in-Some.is) in
     let quiet = refusal ∙ sym c.in_ok-refusal.ensures.refusal ∙ c.in-None.is in
     let remarks = sym (ap (λ r. remarks_after (kind.events (inside b)) (option_map Refused r)) quiet) ∙ remarks_of_line-command kind (inside b) c.args.line.now (sym c.if-is_note.ensures) in
@@ -90,7 +90,7 @@ returns-in-Some-2-clause-remarks g c = λ kind inside about.
     let b = session_of c.args.session.now in
     let version = c.args.dialect.version in
     let line_words = words_of_text c.args.line.now in
-    let words = ap (λ w. command_of_words version o.language.inv_of_words w) (sym c.in_ok-words.ensures ∙ ap bytes_of (sym c.as_slice.ensures.value)) ∙ sym c.command_of.ensures in
+    let words = ap (λ w. command_of_words version o.language.inv_of_words w) (sym c.in_ok-words.ensures ∙ ap bytes_of (sym c.as_slice.ensures)) ∙ sym c.command_of.ensures in
     let many : c.len-before.result ≡ kind.events (inside b) = c.len-before.ensures.value ∙ ap length c.events.ensures ∙ sym (length-map c.args.session.now.events event_shown) ∙ sym (about.events b) in
     let refusal = about.refusal b line_words ∙ refusal_of_words-some o version inside b line_words c.in-Some.command (words ∙ c.in-Some.is) in
     let refused = refusal ∙ sym c.in_ok-refusal.ensures.refusal ∙ c.in-Some-2.is in

@@ -7,7 +7,7 @@ use Rattle.uni_script.specs.Remarks.{RemarksGrow}
 use Rattle.uni_script.proofs.Written.{AppendsPrefix-all}
 use Rattle.uni_script.proofs.Running.{is_short}
 use Rattle.uni_script.proofs.RunningOn.{stays_false, RemarksGrow-nil, is_short-line, of_some, of_none, text_written, text_part, ReadsOn-taken, HasRun-start, HasRun-quiet, HasRun-moved, ReadsOn-before, FaultsAfter-header, FaultsAfter-stop, FaultsAfter-take, HasEnded-early, HasEnded-fault}
-use Rattle.uni_script.proofs.Telling.{remarks_of_line-note, remarks_of_line-header}
+use Rattle.uni_script.proofs.Remarked.{remarks_of_line-note, remarks_of_line-header}
 use Rattle.uni_script.proofs.driver.take_header.Goals as goal
 
 pub loop-lines-init : goal.loop-lines-init

@@ -1,4 +1,4 @@
-use Rattle.std.proofs.Common.{◌≡◌, ◌∙◌, List, length, ap, sym}
+use Rattle.std.proofs.Common.{◌∙◌, List, length, ap, sym}
 use Rattle.uni_record.proofs.Packed.{length-unpacked}
 use Rattle.uni_record.proofs.events.EventsExactSizeIterator.len.Goals as goal
 

@@ -1,4 +1,4 @@
-use Rattle.std.proofs.Common.{◌≡◌, ◌∙◌, length, ap, sym}
+use Rattle.std.proofs.Common.{◌∙◌, length, ap, sym}
 use Rattle.uni_record.proofs.Packed.{length-unpacked}
 use Rattle.uni_record.proofs.events.PackedEvents.len.Goals as goal
 

@@ -1,4 +1,4 @@
-use Rattle.std.proofs.Common.{◌≡◌, ◌∙◌, ◌<◌, length, ◌++◌, ◌∷◌, [], arith, subst, refl, sym, ap}
+use Rattle.std.proofs.Common.{◌∙◌, ◌<◌, length, ◌++◌, ◌∷◌, [], arith, subst, sym, ap}
 use Rattle.std.proofs.lemmas.List.{append-nil}
 use Rattle.uni_record.specs.declared.event.Event.TheVariants.{Call, Step, Trim, Reshape}
 use Rattle.uni_record.specs.Packed.{HasCode}

@@ -1,4 +1,4 @@
-use Rattle.std.proofs.Common.{◌≡◌, ◌∙◌, arith, subst, refl, true, false}
+use Rattle.std.proofs.Common.{◌≡◌, arith, subst, refl, true, false}
 use Rattle.uni_core.specs.World.{world_of}
 use Rattle.uni_trim.specs.Ends.{last_number}
 use Rattle.uni_record.specs.Recorded.{standing_of, CanEnd, IsEndRefused}

@@ -1,4 +1,4 @@
-use Rattle.std.proofs.Common.{◌+◌, ◌*◌, ◌-◌, ◌≤◌, ◌∙◌, arith, subst}
+use Rattle.std.proofs.Common.{◌+◌, ◌*◌, ◌≤◌, arith, subst}
 use Rattle.uni_core.specs.World.{world_of}
 use Rattle.uni_record.specs.Recorded.{standing_of, CanBegin, IsBeginRefused, set_aside, share}
 use Rattle.uni_record.specs.declared.fault.RecordBeginFault.TheVariants.{HistoryFull}

@@ -1,0 +1,11 @@
+use Rattle.std.proofs.Common.{arith}
+use Rattle.std.specs.Prelude.{vec_capacity}
+use Rattle.std.specs.Ordering.{nat_cmp}
+use Rattle.uni_record.proofs.Rooms.{sum_by-insert_entry}
+use Rattle.uni_record.proofs.call_places.CallPlaces.add_row.Goals as goal
+
+pub returns-clause-room : goal.returns-clause-room
+returns-clause-room c =
+    let entries = c.in_ok-insert.ensures.entries in
+    let row = c.in_ok-with_capacity.ensures.exact in
+    rw entries (let more = sum_by-insert_entry vec_capacity nat_cmp c.args.self.now.rows.entries c.args.process c.in_ok-with_capacity.field-0 in omega arith)
