@@ -1,6 +1,5 @@
 -- What the code's members are in the definitions: texts in place of slices.
-use Rattle.std.specs.Prelude.{option_map}
-use Rattle.json_text.specs.Json.{Value, Number, Text, Flag, MaybeNumber, MaybeText, Json, Member, named}
+use Rattle.json_text.specs.Json.{Value, Number, Text, Flag, MaybeNumber, Json, Member, named}
 use Rattle.json_text.specs.declared.value.Value.{Value as ValueOfCode}
 use Rattle.json_text.specs.declared.value.Value.TheVariants as code
 use Rattle.json_text.specs.declared.value.Member.{Member as MemberOfCode}
@@ -10,7 +9,6 @@ value_shown (code.Number n) = Number n
 value_shown (code.Text text) = Text text.now
 value_shown (code.Flag flag) = Flag flag
 value_shown (code.MaybeNumber n) = MaybeNumber n
-value_shown (code.MaybeText text) = MaybeText (option_map (λ t. t.now) text)
 value_shown (code.Json text) = Json text.now
 
 abbrev pub member_shown : MemberOfCode → Member

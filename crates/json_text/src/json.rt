@@ -1,10 +1,10 @@
 //! The text of objects and lists.
 
-ghost use Rattle.std.specs.Prelude.{◌≡◌, ◌++◌, ◌<◌, OnOk, length, map, option_map};
+ghost use Rattle.std.specs.Prelude.{◌≡◌, ◌++◌, ◌<◌, OnOk, map, option_map};
 ghost use Rattle.std.specs.Fmt.{decimal};
 ghost use Rattle.std.specs.List.{flat_map};
 ghost use Rattle.json_text.specs.Json.{after_comma, code_text, escaped, escaped_byte, hex_digit, list_text};
-ghost use Rattle.json_text.specs.Json.{MaybeNumber, MaybeText};
+ghost use Rattle.json_text.specs.Json.{MaybeNumber, text_or_null};
 ghost use Rattle.json_text.specs.Json.{member_text, object_text, quoted, separated, value_text};
 ghost use Rattle.json_text.specs.Shown.{member_shown, value_shown};
 
@@ -25,30 +25,10 @@ pub fn push_object(text: &mut Vec<u8>, members: &[Member<'_>]) -> Result<(), All
     Ok(())
 }
 
-/// Adds an object with these members, and with further ones after them.
-///
-/// An `Err` says that memory was refused.
-#[tactic(auto, unfolding(crate::specs::Json::object_text))]
-pub fn push_long_object(
-    text: &mut Vec<u8>,
-    members: &[Member<'_>],
-    further: &[Member<'_>],
-) -> Result<(), AllocError>
-    requires { 0 < length members.now }
-    ensures { OnOk result (text.new.items
-        ≡ text.old.items ++ object_text (map member_shown members.now ++ map member_shown further.now)) }
-{
-    text.push(b'{')?;
-    push_members(text, members)?;
-    push_more_members(text, further)?;
-    text.push(b'}')?;
-    Ok(())
-}
-
 /// Adds members with commas between them.
 ///
 /// An `Err` says that memory was refused.
-fn push_members(text: &mut Vec<u8>, members: &[Member<'_>]) -> Result<(), AllocError>
+pub fn push_members(text: &mut Vec<u8>, members: &[Member<'_>]) -> Result<(), AllocError>
     ensures { OnOk result (text.new.items
         ≡ text.old.items ++ separated (map member_text (map member_shown members.now))) }
 {
@@ -62,7 +42,7 @@ fn push_members(text: &mut Vec<u8>, members: &[Member<'_>]) -> Result<(), AllocE
 /// Adds members with a comma before each.
 ///
 /// An `Err` says that memory was refused.
-fn push_more_members(text: &mut Vec<u8>, members: &[Member<'_>]) -> Result<(), AllocError>
+pub fn push_more_members(text: &mut Vec<u8>, members: &[Member<'_>]) -> Result<(), AllocError>
     ensures { OnOk result (text.new.items
         ≡ text.old.items ++ flat_map after_comma (map member_text (map member_shown members.now))) }
 {
@@ -145,7 +125,6 @@ fn push_value(text: &mut Vec<u8>, value: Value<'_>) -> Result<(), AllocError>
         Value::Flag(true) => text.extend_from_slice(b"true"),
         Value::Flag(false) => text.extend_from_slice(b"false"),
         Value::MaybeNumber(number) => push_maybe_number(text, number),
-        Value::MaybeText(words) => push_maybe_text(text, words),
         Value::Json(json) => text.extend_from_slice(json),
     }
 }
@@ -174,9 +153,9 @@ fn push_maybe_number(text: &mut Vec<u8>, number: Option<u64>) -> Result<(), Allo
 /// Adds a string, or `null` where there is none.
 ///
 /// An `Err` says that memory was refused.
-fn push_maybe_text(text: &mut Vec<u8>, words: Option<&[u8]>) -> Result<(), AllocError>
-    ensures { OnOk result (text.new.items ≡ text.old.items
-        ++ value_text (MaybeText (option_map (λ w. w.now) words.entry))) }
+pub fn push_text_or_null(text: &mut Vec<u8>, words: &Option<Vec<u8>>) -> Result<(), AllocError>
+    ensures { OnOk result (text.new.items
+        ≡ text.old.items ++ text_or_null (option_map (λ w. w.items) words.now)) }
 {
     match words {
         Some(words) => push_quoted(text, words),

@@ -6,5 +6,5 @@
 mod json;
 mod value;
 
-pub use json::{push_list, push_long_object, push_object};
+pub use json::{push_list, push_members, push_more_members, push_object, push_text_or_null};
 pub use value::{Member, Value};

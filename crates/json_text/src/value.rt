@@ -11,8 +11,6 @@ pub enum Value<'a> {
     Flag(bool),
     /// A number, or `null` where there is none.
     MaybeNumber(Option<u64>),
-    /// A string, not escaped, or `null` where there is none.
-    MaybeText(Option<&'a [u8]>),
     /// A value whose text is JSON.
     Json(&'a [u8]),
 }
