@@ -1,32 +1,44 @@
--- What the words of the command line ask for, by clap's own account of a command without options.
-use Rattle.std.specs.Prelude.{◌≡◌, ◌⊎◌, if◌then◌else◌, List, [], ◌∷◌, Option, None, Some, codes, refl}
+-- What the words of the command line ask for, by clap's own account of a command.
+use Rattle.std.specs.Prelude.{◌≡◌, ◌⊎◌, Bool, true, false, List, [], ◌∷◌, Option, None, Some, codes, refl}
 use Rattle.clap.specs.Words.{App, IsAmong, Kinds, Row, Text, fault_of, matches_of, new_app, with_rule}
 use Rattle.clap.proofs.OnLiterals.{clap_on_literals}
 use Rattle.clap.specs.declared.error.kind.ErrorKind.TheVariants.{ArgumentConflict, DisplayHelp, DisplayVersion, UnknownArgument}
 use Rattle.command_line.specs.Flags.{flag, is_set, versioned}
 use Rattle.unidraw_run.specs.declared.program.Form.{Form}
-use Rattle.unidraw_run.specs.declared.program.Form.TheVariants.{Svg, Lines}
+use Rattle.unidraw_run.specs.declared.program.Form.TheVariants.{Svg, Lines, Json}
 
--- the program has a version, and one option, `--text`
+-- the program has a version, and an option for each form but an SVG
 abbrev pub unidraw : App
-unidraw = with_rule (versioned (new_app (codes "unidraw"))) (flag (codes "text"))
+unidraw = with_rule (with_rule (versioned (new_app (codes "unidraw"))) (flag (codes "text"))) (flag (codes "json"))
+
+-- the form that options ask for, by whether each is used; there is none where several are
+abbrev pub form_among : (text json : Bool) → Option Form
+form_among false false = Some Svg
+form_among true false = Some Lines
+form_among false true = Some Json
+form_among true true = None
+
+abbrev pub form_in : List Row → Option Form
+form_in rows = form_among (is_set (codes "text") rows) (is_set (codes "json") rows)
+
+-- the kinds of fault, where several forms are a conflict
+abbrev pub faults_with : Kinds → Option Form → Kinds
+faults_with [] None = ArgumentConflict ∷ []
+faults_with [] (Some form) = []
+faults_with (kind ∷ kinds) form = kind ∷ kinds
 
 -- the kinds of the first fault that these words have, of which the program's name is the first
 abbrev pub faults_of_words : List Text → Kinds
-faults_of_words words = fault_of unidraw words
-
--- lines where `--text` is used, and else an SVG
-abbrev pub form_in : List Row → Form
-form_in rows = if is_set (codes "text") rows then Lines else Svg
+faults_of_words words = faults_with (fault_of unidraw words) (form_in (matches_of unidraw words))
 
 -- a form, where there is no fault
-abbrev pub unless_faulty : Kinds → Form → Option Form
-unless_faulty [] form = Some form
+abbrev pub unless_faulty : Kinds → Option Form → Option Form
+unless_faulty [] form = form
 unless_faulty (kind ∷ kinds) form = None
 
 -- the form that the words of a command line ask for, the program's name first
 abbrev pub form_of_words : List Text → Option Form
-form_of_words words = unless_faulty (faults_of_words words) (form_in (matches_of unidraw words))
+form_of_words words = unless_faulty (fault_of unidraw words) (form_in (matches_of unidraw words))
 
 -- they may ask for the help or the version
 abbrev pub MayAskForHelp : List Text → Type 0
@@ -36,7 +48,7 @@ MayAskForHelp words = IsAmong DisplayHelp (faults_of_words words) ⊎ IsAmong Di
 abbrev pub IsRefused : List Text → Type 0
 IsRefused words = (form_of_words words ≡ None) × ¬ (MayAskForHelp words)
 
--- no word asks for an SVG, `--text` for lines, and any other for nothing, whatever the program's name is
+-- no word asks for an SVG, `--text` for lines, `--json` for a trace, and any other for nothing, whatever the program's name is
 form_without_words : (name : Text) → form_of_words (name ∷ []) ≡ Some Svg
 unfolding clap_on_literals
 form_without_words name = refl
@@ -44,6 +56,14 @@ form_without_words name = refl
 form_of_text : (name : Text) → form_of_words (name ∷ codes "--text" ∷ []) ≡ Some Lines
 unfolding clap_on_literals
 form_of_text name = refl
+
+form_of_json : (name : Text) → form_of_words (name ∷ codes "--json" ∷ []) ≡ Some Json
+unfolding clap_on_literals
+form_of_json name = refl
+
+two_forms_are_a_fault : (name : Text) → faults_of_words (name ∷ codes "--text" ∷ codes "--json" ∷ []) ≡ ArgumentConflict ∷ []
+unfolding clap_on_literals
+two_forms_are_a_fault name = refl
 
 form_of_other : (name : Text) → form_of_words (name ∷ codes "--texts" ∷ []) ≡ None
 unfolding clap_on_literals

@@ -8,14 +8,16 @@ use Rattle.uni_script.specs.declared.fault.BenchFault.{BenchFault}
 use Rattle.run_layout.specs.Subject.{HasTooManyEvents}
 use Rattle.run_picture.specs.Picture.{IsPicture}
 use Rattle.run_lines.specs.Lines.{IsLines}
+use Rattle.run_json.specs.Trace.{IsTrace}
 pub use Rattle.unidraw_run.specs.CommandLine.{form_of_words}
 use Rattle.unidraw_run.specs.declared.program.Form.{Form}
-use Rattle.unidraw_run.specs.declared.program.Form.TheVariants.{Svg, Lines}
+use Rattle.unidraw_run.specs.declared.program.Form.TheVariants.{Svg, Lines, Json}
 
--- the reader had a script that can be drawn, and this is its picture in a form
+-- the reader had a script that can be drawn, and this is its picture in a form, or its trace
 abbrev pub IsPictureIn : Form → (left : Option (List ℕ)) → (text : List ℕ) → Type 0
 IsPictureIn Svg left text = IsPicture left text
 IsPictureIn Lines left text = IsLines left text
+IsPictureIn Json left text = IsTrace left text
 
 -- the reader had a script with a fault, or with too many events
 abbrev pub HasNoPicture : (left : Option (List ℕ)) → Type 0

@@ -12,6 +12,7 @@ ghost use Rattle.unidraw_run.specs.Statuses.{IsStatusOfPicture, TellsPictureFaul
 
 use crate::words::{read_words, tip_for};
 use command_line::answer_words;
+use run_json::json_of;
 use run_layout::PictureFault;
 use run_lines::lines_of;
 use run_picture::picture_of;
@@ -26,11 +27,13 @@ pub enum Form {
     Svg,
     /// Lines of text, for a terminal of 100 columns.
     Lines,
+    /// Lines of JSON, which tell what each event did to the memory.
+    Json,
 }
 
 /// Draws the script on `input` in the form that the argument texts ask for, the program's name first, and
 /// writes the picture to `output`; the answer is the status that the program ends with. With `--text` the
-/// picture is one of lines, and with no word an SVG.
+/// picture is one of lines, with `--json` it is the trace of the run, and with no word an SVG.
 ///
 /// The status is 0 where all went well, also for help or the version, which go to `output`; 2 for a bad script,
 /// one of more than 2,000 events, or words that ask for nothing that there is; 3 where `input` or `output`
@@ -99,6 +102,7 @@ fn picture_in<I: TextIn>(alloc: Global, form: Form, reader: &mut I) -> Result<Ve
     match form {
         Form::Svg => picture_of(alloc, reader),
         Form::Lines => lines_of(alloc, reader),
+        Form::Json => json_of(alloc, reader),
     }
 }
 

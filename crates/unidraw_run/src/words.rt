@@ -1,10 +1,11 @@
 //! What a command line asks for.
 
 ghost use Rattle.std.specs.Prelude.{◌≡◌, IfOk, IfErr, map, codes, false, Some};
+ghost use Rattle.clap.specs.Values.{kind_of};
 ghost use Rattle.clap.specs.Words.{HasKind, app_of, found_of, new_app, rows_of};
 ghost use Rattle.clap.specs.declared.builder.command.Command.TheViews.{out-Command};
 ghost use Rattle.command_line.specs.Flags.{versioned};
-ghost use Rattle.unidraw_run.specs.CommandLine.{faults_of_words, form_in, form_of_words, unidraw};
+ghost use Rattle.unidraw_run.specs.CommandLine.{faults_of_words, form_among, form_in, form_of_words, unidraw};
 
 use crate::program::Form;
 use clap::error::ErrorKind;
@@ -19,17 +20,22 @@ const VERSION: &str = "0.1.0";
 /// What the help says last.
 const NOTES: &str = "\
 The script is read from standard input, and the picture is written to standard
-output: an SVG, or with --text lines of at most 100 columns. A script of more
-than 2000 events has no picture.
+output: an SVG, or with --text lines of at most 100 columns. With --json each
+step is told, with what it changed: see docs/trace.md. A script of more than
+2000 events has no picture.
 
 Examples:
   unidraw < queue.script > queue.svg
-  unidraw --text < queue.script";
+  unidraw --text < queue.script
+  unidraw --json < queue.script";
+
+/// What is said where words ask for several forms.
+const SEVERAL: &str = "only one of --text and --json can be used";
 
 /// What is said where a word may have been meant for a file.
 const TIP: &str = "tip: a script is read from standard input: unidraw < FILE\n";
 
-/// The program without its option, with what its help says.
+/// The program without its options, with what its help says.
 fn described<'a>(alloc: Global) -> Command<'a>
     ensures app { app_of result ≡ versioned (new_app (codes "unidraw")) }
     ensures local { (out-Command result).has_globals ≡ false }
@@ -44,18 +50,37 @@ fn described<'a>(alloc: Global) -> Command<'a>
 fn unidraw<'a>(alloc: Global) -> Result<Command<'a>, AllocError>
     ensures { IfOk result (λ command. app_of command ≡ unidraw) }
 {
-    described(alloc).arg(flag(alloc, "text", "Draws lines of text in place of an SVG"))
+    described(alloc)
+        .arg(flag(alloc, "text", "Draws lines of text in place of an SVG"))?
+        .arg(flag(alloc, "json", "Tells each step and what it changed, in lines of JSON"))
 }
 
-/// The form that matches ask for.
-fn form_in(matches: &ArgMatches<'_>) -> Form
+/// The form that options ask for, by whether each is used; `None` where several are.
+fn form_among(text: bool, json: bool) -> Option<Form>
+    ensures { result ≡ form_among text json }
+{
+    match (text, json) {
+        (false, false) => Some(Form::Svg),
+        (true, false) => Some(Form::Lines),
+        (false, true) => Some(Form::Json),
+        (true, true) => None,
+    }
+}
+
+/// The form that matches ask for; `None` where they ask for several.
+fn form_in(matches: &ArgMatches<'_>) -> Option<Form>
     ensures { result ≡ form_in (rows_of (found_of matches.now)) }
 {
-    if is_set(matches, "text") {
-        Form::Lines
-    } else {
-        Form::Svg
-    }
+    form_among(is_set(matches, "text"), is_set(matches, "json"))
+}
+
+/// The fault of words that ask for several forms.
+///
+/// An `Err` says that memory was refused.
+fn several_forms(alloc: Global) -> Result<clap::Error, AllocError>
+    ensures { IfOk result (λ error. kind_of error ≡ ErrorKind.ArgumentConflict) }
+{
+    unidraw(alloc)?.error(ErrorKind::ArgumentConflict, SEVERAL)
 }
 
 /// Reads a command line, the program's name first: the form that it asks for.
@@ -66,7 +91,10 @@ pub(crate) fn read_words<S: AsStr>(alloc: Global, words: &[S]) -> Result<Form, c
     ensures fault { IfErr result (HasKind (faults_of_words (map S.text words.now))) }
 {
     match unidraw(alloc)?.try_get_matches_from(words) {
-        Ok(matches) => Ok(form_in(&matches)),
+        Ok(matches) => match form_in(&matches) {
+            Some(form) => Ok(form),
+            None => Err(several_forms(alloc)?),
+        },
         Err(error) => Err(error),
     }
 }

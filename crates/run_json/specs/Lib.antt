@@ -1,0 +1,4 @@
+pub mod Members
+pub mod Lines
+pub mod Opened
+pub mod Trace

@@ -1,0 +1,250 @@
+//! The lines of a trace, each an object of JSON.
+
+ghost use Rattle.std.specs.Prelude.{◌≡◌, ◌++◌, OnOk, Some, map};
+ghost use Rattle.std.specs.List.{flat_map};
+ghost use Rattle.json_text.specs.Json.{after_comma, member_text, separated};
+ghost use Rattle.json_text.specs.Shown.{member_shown};
+ghost use Rattle.run_trace.specs.Shown.{begun_shown, end_shown, frame_shown, step_shown};
+ghost use Rattle.run_json.specs.Lines.{frame_line, line_text, remark_line};
+ghost use Rattle.run_json.specs.Members.{begun_members, end_members, end_word, note_members, opening_members};
+ghost use Rattle.run_json.specs.Members.{refusal_members, step_call, step_members, step_place, step_start};
+ghost use Rattle.run_json.specs.Opened.{opening_shown};
+
+use crate::members::{access_of, change_list, letter_text, next_letter, text_or_null};
+use crate::opened::Opened;
+use json_text::{Member, Value, push_members, push_more_members, push_object};
+use run_layout::{lane_of, meaning_of, refusal_of};
+use run_trace::{Begun, EraEnd, Frame, Step, cell_text};
+use std::alloc::{AllocError, Global};
+use uni_script::{PlacedRemark, Refusal, Remark};
+
+/// Adds a line with these members.
+///
+/// An `Err` says that memory was refused.
+fn push_line(text: &mut Vec<u8>, members: &[Member<'_>]) -> Result<(), AllocError>
+    ensures { OnOk result (text.new.items ≡ text.old.items ++ line_text (map member_shown members.now)) }
+{
+    push_object(text, members)?;
+    text.push(b'\n')?;
+    Ok(())
+}
+
+/// Adds the line of a run.
+///
+/// An `Err` says that memory was refused.
+pub fn push_opening(text: &mut Vec<u8>, opened: &Opened<'_>) -> Result<(), AllocError>
+    ensures { OnOk result (text.new.items ≡ text.old.items ++ line_text (opening_members (opening_shown opened.now))) }
+{
+    let members = [
+        Member("what", Value::Text(b"run")),
+        Member("trace", Value::Number(1)),
+        Member("object", Value::Text(opened.object.as_bytes())),
+        Member("processes", Value::Number(opened.processes)),
+        Member("row", Value::Number(opened.row)),
+        Member("number", Value::Number(opened.number)),
+        Member("state", Value::Text(opened.state)),
+    ];
+    push_line(text, &members)
+}
+
+/// Adds the line of an event.
+///
+/// An `Err` says that memory was refused.
+pub fn push_frame(
+    alloc: Global,
+    event: u64,
+    frame: &Frame,
+    text: &mut Vec<u8>,
+) -> Result<(), AllocError>
+    ensures { OnOk result (text.new.items ≡ text.old.items ++ frame_line event (Some (frame_shown frame.now))) }
+{
+    match frame {
+        Frame::Call(begun) => push_begun(alloc, event, begun, text),
+        Frame::Step(step) => push_step(alloc, event, step, text),
+        Frame::End(end) => push_end(event, end, text),
+    }
+}
+
+/// Adds the line of a call that begins.
+///
+/// An `Err` says that memory was refused.
+fn push_begun(
+    alloc: Global,
+    event: u64,
+    begun: &Begun,
+    text: &mut Vec<u8>,
+) -> Result<(), AllocError>
+    ensures { OnOk result (text.new.items ≡ text.old.items ++ line_text (begun_members event (begun_shown begun.now))) }
+{
+    let call = cell_text(alloc, Some(begun.call))?;
+    let changed = change_list(alloc, &begun.before, &begun.after)?;
+    let members = [
+        Member("what", Value::Text(b"call")),
+        Member("event", Value::Number(event)),
+        Member("process", Value::Number(u64::from(begun.call.process))),
+        Member("call", Value::Text(&call)),
+        Member("words", Value::Text(&begun.words)),
+        Member("place", Value::Text(&begun.after.field.name)),
+        Member("before", Value::Text(&begun.before.field.text)),
+        Member("after", Value::Text(&begun.after.field.text)),
+        Member("changed", Value::Flag(changed.is_any)),
+        Member("changes", Value::Json(&changed.json)),
+    ];
+    push_line(text, &members)
+}
+
+/// Adds the line of a step.
+///
+/// An `Err` says that memory was refused.
+fn push_step(alloc: Global, event: u64, step: &Step, text: &mut Vec<u8>) -> Result<(), AllocError>
+    ensures { OnOk result (text.new.items ≡ text.old.items ++ line_text (step_members event (step_shown step.now))) }
+{
+    text.push(b'{')?;
+    push_step_start(alloc, event, step, text)?;
+    push_step_place(alloc, step, text)?;
+    push_step_call(alloc, step, text)?;
+    text.push(b'}')?;
+    text.push(b'\n')?;
+    Ok(())
+}
+
+/// Adds the first members of a step's line: what was done, in which call.
+///
+/// An `Err` says that memory was refused.
+fn push_step_start(
+    alloc: Global,
+    event: u64,
+    step: &Step,
+    text: &mut Vec<u8>,
+) -> Result<(), AllocError>
+    ensures { OnOk result (text.new.items
+        ≡ text.old.items ++ separated (map member_text (step_start event (step_shown step.now)))) }
+{
+    let call = cell_text(alloc, Some(step.call))?;
+    let kind = letter_text(alloc, step.kind)?;
+    let members = [
+        Member("what", Value::Text(b"step")),
+        Member("event", Value::Number(event)),
+        Member("process", Value::Number(u64::from(step.call.process))),
+        Member("call", Value::Text(&call)),
+        Member("kind", Value::Text(&kind)),
+        Member("meaning", Value::Text(meaning_of(step.kind).as_bytes())),
+        Member("access", Value::Text(access_of(step.kind).as_bytes())),
+    ];
+    push_members(text, &members)
+}
+
+/// Adds the members of a step's line on its place: what became of that.
+///
+/// An `Err` says that memory was refused.
+fn push_step_place(alloc: Global, step: &Step, text: &mut Vec<u8>) -> Result<(), AllocError>
+    ensures { OnOk result (text.new.items
+        ≡ text.old.items ++ flat_map after_comma (map member_text (step_place (step_shown step.now)))) }
+{
+    let changed = change_list(alloc, &step.before, &step.after)?;
+    let members = [
+        Member("place", Value::Text(&step.after.field.name)),
+        Member("before", Value::Text(&step.before.field.text)),
+        Member("after", Value::Text(&step.after.field.text)),
+        Member("changed", Value::Flag(changed.is_any)),
+        Member("changes", Value::Json(&changed.json)),
+    ];
+    push_more_members(text, &members)
+}
+
+/// Adds the last members of a step's line: what became of its call.
+///
+/// An `Err` says that memory was refused.
+fn push_step_call(alloc: Global, step: &Step, text: &mut Vec<u8>) -> Result<(), AllocError>
+    ensures { OnOk result (text.new.items
+        ≡ text.old.items ++ flat_map after_comma (map member_text (step_call (step_shown step.now)))) }
+{
+    let next = text_or_null(alloc, &next_letter(alloc, step.next)?)?;
+    let reply = text_or_null(alloc, &step.reply)?;
+    let members = [
+        Member("next", Value::Json(&next)),
+        Member("steps", Value::Number(step.steps)),
+        Member("turns", Value::Number(step.turns)),
+        Member("reply", Value::Json(&reply)),
+    ];
+    push_more_members(text, &members)
+}
+
+/// How an era ends.
+fn end_word(reshaped: Option<u64>) -> &'static str
+    ensures { result.now ≡ end_word reshaped }
+{
+    match reshaped {
+        None => "trim",
+        Some(_) => "reshape",
+    }
+}
+
+/// Adds the line of the end of an era.
+///
+/// An `Err` says that memory was refused.
+fn push_end(event: u64, end: &EraEnd, text: &mut Vec<u8>) -> Result<(), AllocError>
+    ensures { OnOk result (text.new.items ≡ text.old.items ++ line_text (end_members event (end_shown end.now))) }
+{
+    let members = [
+        Member("what", Value::Text(end_word(end.reshaped).as_bytes())),
+        Member("event", Value::Number(event)),
+        Member("processes", Value::MaybeNumber(end.reshaped)),
+        Member("number", Value::Number(end.number)),
+        Member("state", Value::Text(&end.anchor.field.text)),
+    ];
+    push_line(text, &members)
+}
+
+/// Adds the line of what is told beside the events.
+///
+/// An `Err` says that memory was refused.
+pub fn push_remark(alloc: Global, one: &PlacedRemark, text: &mut Vec<u8>) -> Result<(), AllocError>
+    ensures { OnOk result (text.new.items ≡ text.old.items ++ remark_line one.now) }
+{
+    match &one.remark {
+        Remark::Heading(heading) => push_note("heading", one.before, heading, text),
+        Remark::Note(note) => push_note("note", one.before, note, text),
+        Remark::Refused(refusal) => push_refusal(alloc, one.before, *refusal, text),
+    }
+}
+
+/// Adds the line of a note after so many events.
+///
+/// An `Err` says that memory was refused.
+fn push_note<'a>(
+    what: &'a str,
+    events: u64,
+    note: &'a [u8],
+    text: &mut Vec<u8>,
+) -> Result<(), AllocError>
+    ensures { OnOk result (text.new.items ≡ text.old.items ++ line_text (note_members what.now events note.now)) }
+{
+    let members = [
+        Member("what", Value::Text(what.as_bytes())),
+        Member("events", Value::Number(events)),
+        Member("text", Value::Text(note)),
+    ];
+    push_line(text, &members)
+}
+
+/// Adds the line of a refusal after so many events.
+///
+/// An `Err` says that memory was refused.
+fn push_refusal(
+    alloc: Global,
+    events: u64,
+    refusal: Refusal,
+    text: &mut Vec<u8>,
+) -> Result<(), AllocError>
+    ensures { OnOk result (text.new.items ≡ text.old.items ++ line_text (refusal_members events refusal)) }
+{
+    let reason = refusal_of(alloc, refusal)?;
+    let members = [
+        Member("what", Value::Text(b"refusal")),
+        Member("events", Value::Number(events)),
+        Member("process", Value::MaybeNumber(lane_of(refusal))),
+        Member("reason", Value::Text(&reason)),
+    ];
+    push_line(text, &members)
+}
