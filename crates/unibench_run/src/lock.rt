@@ -4,7 +4,8 @@ ghost use Rattle.std.specs.Prelude.{◌≡◌, ◌≢◌, ◌<◌, ◌≤◌, �
 ghost use Rattle.std.specs.Prelude.{IsErrOf, [], length};
 ghost use Rattle.uni_record.specs.Recorded.{Recording, IsPromised};
 ghost use Rattle.uni_shared.specs.Agreement.{IsClosed};
-ghost use Rattle.unibench_run.specs.Threads.{HasLockedRun, IsLacking, IsThreadsPlan, MakesCalls, closing_fault, events_of};
+ghost use Rattle.unibench_run.specs.Threads.{HasLockedRun, IsLacking, IsThreadsPlan, MakesCalls};
+ghost use Rattle.unibench_run.specs.Threads.{closing_fault, events_of};
 
 use crate::request::Plan;
 use crate::threads::{Job, ThreadsFault, all_done, jobs_of};

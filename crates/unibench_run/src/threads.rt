@@ -8,7 +8,8 @@ ghost use Rattle.uni_words.specs.Compare.{Agrees, IsFirstFault};
 ghost use Rattle.uni_words.specs.Log.{entry_shown};
 ghost use Rattle.unibench_run.specs.Draws.{seed_of};
 ghost use Rattle.unibench_run.specs.Statuses.{status_of_threads};
-ghost use Rattle.unibench_run.specs.Threads.{AreDone, HasRun, IsCounted, IsDoneOf, IsJob, IsRunOfThreads, IsThreadsPlan};
+ghost use Rattle.unibench_run.specs.Threads.{AreDone, HasRun, IsCounted, IsDoneOf, IsJob};
+ghost use Rattle.unibench_run.specs.Threads.{IsRunOfThreads, IsThreadsPlan};
 ghost use Rattle.unibench_run.specs.Threads.{agrees_line, line_of_fault, refusal_of, text_of_fault, told_to};
 
 use crate::lock::run_under_lock;
@@ -206,8 +207,10 @@ fn count_agreed<O: WordObject>(
     ensures replies { IfOk result (λ replies. replies ≡ length lists.now * calls) }
     ensures agrees { IsOk result ↔ Agrees (O.sequential object.now) (map entry_shown entries.now)
         (map (λ told. told.items) lists.now) }
-    ensures differs { (fault : ThreadsFault) → IsErrOf result fault → (call : CallId) × (fault ≡ ThreadsFault.Differs call)
-        × IsFirstFault (O.sequential object.now) (map entry_shown entries.now) (map (λ told. told.items) lists.now) call }
+    ensures differs { (fault : ThreadsFault) → IsErrOf result fault → (call : CallId)
+        × (fault ≡ ThreadsFault.Differs call)
+        × IsFirstFault (O.sequential object.now) (map entry_shown entries.now)
+        (map (λ told. told.items) lists.now) call }
 {
     match differs(object, entries, lists) {
         Some(call) => Err(ThreadsFault::Differs(call)),

@@ -52,7 +52,11 @@ fn unidraw<'a>(alloc: Global) -> Result<Command<'a>, AllocError>
 {
     described(alloc)
         .arg(flag(alloc, "text", "Draws lines of text in place of an SVG"))?
-        .arg(flag(alloc, "json", "Tells each step and what it changed, in lines of JSON"))
+        .arg(flag(
+            alloc,
+            "json",
+            "Tells each step and what it changed, in lines of JSON",
+        ))
 }
 
 /// The form that options ask for, by whether each is used; `None` where several are.
