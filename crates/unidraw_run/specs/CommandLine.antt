@@ -5,21 +5,26 @@ use Rattle.clap.proofs.OnLiterals.{clap_on_literals}
 use Rattle.clap.specs.declared.error.kind.ErrorKind.TheVariants.{ArgumentConflict, DisplayHelp, DisplayVersion, UnknownArgument}
 use Rattle.command_line.specs.Flags.{flag, is_set, versioned}
 use Rattle.unidraw_run.specs.declared.program.Form.{Form}
-use Rattle.unidraw_run.specs.declared.program.Form.TheVariants.{Svg, Lines, Json}
+use Rattle.unidraw_run.specs.declared.program.Form.TheVariants.{Svg, Lines, Json, Html}
 
 -- the program has a version, and an option for each form but an SVG
 abbrev pub unidraw : App
-unidraw = with_rule (with_rule (versioned (new_app (codes "unidraw"))) (flag (codes "text"))) (flag (codes "json"))
+unidraw =
+    with_rule (with_rule (with_rule (versioned (new_app (codes "unidraw"))) (flag (codes "text"))) (flag (codes "json")))
+    (flag (codes "html"))
 
 -- the form that options ask for, by whether each is used; there is none where several are
-abbrev pub form_among : (text json : Bool) → Option Form
-form_among false false = Some Svg
-form_among true false = Some Lines
-form_among false true = Some Json
-form_among true true = None
+abbrev pub form_among : (text json html : Bool) → Option Form
+form_among false false false = Some Svg
+form_among true false false = Some Lines
+form_among false true false = Some Json
+form_among false false true = Some Html
+form_among true true html = None
+form_among true false true = None
+form_among false true true = None
 
 abbrev pub form_in : List Row → Option Form
-form_in rows = form_among (is_set (codes "text") rows) (is_set (codes "json") rows)
+form_in rows = form_among (is_set (codes "text") rows) (is_set (codes "json") rows) (is_set (codes "html") rows)
 
 -- the kinds of fault, where several forms are a conflict
 abbrev pub faults_with : Kinds → Option Form → Kinds
@@ -48,7 +53,8 @@ MayAskForHelp words = IsAmong DisplayHelp (faults_of_words words) ⊎ IsAmong Di
 abbrev pub IsRefused : List Text → Type 0
 IsRefused words = (form_of_words words ≡ None) × ¬ (MayAskForHelp words)
 
--- no word asks for an SVG, `--text` for lines, `--json` for a trace, and any other for nothing, whatever the program's name is
+-- no word asks for an SVG, `--text` for lines, `--json` for a trace, `--html` for a page, and any other for nothing, whatever the
+-- program's name is
 form_without_words : (name : Text) → form_of_words (name ∷ []) ≡ Some Svg
 unfolding clap_on_literals
 form_without_words name = refl
@@ -60,6 +66,10 @@ form_of_text name = refl
 form_of_json : (name : Text) → form_of_words (name ∷ codes "--json" ∷ []) ≡ Some Json
 unfolding clap_on_literals
 form_of_json name = refl
+
+form_of_html : (name : Text) → form_of_words (name ∷ codes "--html" ∷ []) ≡ Some Html
+unfolding clap_on_literals
+form_of_html name = refl
 
 two_forms_are_a_fault : (name : Text) → faults_of_words (name ∷ codes "--text" ∷ codes "--json" ∷ []) ≡ ArgumentConflict ∷ []
 unfolding clap_on_literals

@@ -15,6 +15,7 @@ use command_line::answer_words;
 use run_json::json_of;
 use run_layout::PictureFault;
 use run_lines::lines_of;
+use run_page::page_of;
 use run_picture::picture_of;
 use std::alloc::Global;
 use std::convert::AsStr;
@@ -29,11 +30,14 @@ pub enum Form {
     Lines,
     /// Lines of JSON, which tell what each event did to the memory.
     Json,
+    /// A page for a browser, which shows these.
+    Html,
 }
 
 /// Draws the script on `input` in the form that the argument texts ask for, the program's name first, and
 /// writes the picture to `output`; the answer is the status that the program ends with. With `--text` the
-/// picture is one of lines, with `--json` it is the trace of the run, and with no word an SVG.
+/// picture is one of lines, with `--json` it is the trace of the run, with `--html` a page that shows this, and
+/// with no word an SVG.
 ///
 /// The status is 0 where all went well, also for help or the version, which go to `output`; 2 for a bad script,
 /// one of more than 2,000 events, or words that ask for nothing that there is; 3 where `input` or `output`
@@ -103,6 +107,7 @@ fn picture_in<I: TextIn>(alloc: Global, form: Form, reader: &mut I) -> Result<Ve
         Form::Svg => picture_of(alloc, reader),
         Form::Lines => lines_of(alloc, reader),
         Form::Json => json_of(alloc, reader),
+        Form::Html => page_of(alloc, reader),
     }
 }
 

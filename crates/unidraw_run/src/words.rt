@@ -21,16 +21,17 @@ const VERSION: &str = "0.1.0";
 const NOTES: &str = "\
 The script is read from standard input, and the picture is written to standard
 output: an SVG, or with --text lines of at most 100 columns. With --json each
-step is told, with what it changed: see docs/trace.md. A script of more than
-2000 events has no picture.
+step is told, with what it changed: see docs/trace.md; with --html a browser
+shows them. A script of more than 2000 events has no picture.
 
 Examples:
   unidraw < queue.script > queue.svg
   unidraw --text < queue.script
-  unidraw --json < queue.script";
+  unidraw --json < queue.script
+  unidraw --html < queue.script > queue.html";
 
 /// What is said where words ask for several forms.
-const SEVERAL: &str = "only one of --text and --json can be used";
+const SEVERAL: &str = "only one of --text, --json and --html can be used";
 
 /// What is said where a word may have been meant for a file.
 const TIP: &str = "tip: a script is read from standard input: unidraw < FILE\n";
@@ -56,18 +57,24 @@ fn unidraw<'a>(alloc: Global) -> Result<Command<'a>, AllocError>
             alloc,
             "json",
             "Tells each step and what it changed, in lines of JSON",
+        ))?
+        .arg(flag(
+            alloc,
+            "html",
+            "Writes a page for a browser, which shows each step",
         ))
 }
 
 /// The form that options ask for, by whether each is used; `None` where several are.
-fn form_among(text: bool, json: bool) -> Option<Form>
-    ensures { result ≡ form_among text json }
+fn form_among(text: bool, json: bool, html: bool) -> Option<Form>
+    ensures { result ≡ form_among text json html }
 {
-    match (text, json) {
-        (false, false) => Some(Form::Svg),
-        (true, false) => Some(Form::Lines),
-        (false, true) => Some(Form::Json),
-        (true, true) => None,
+    match (text, json, html) {
+        (false, false, false) => Some(Form::Svg),
+        (true, false, false) => Some(Form::Lines),
+        (false, true, false) => Some(Form::Json),
+        (false, false, true) => Some(Form::Html),
+        (true, true, _) | (true, _, true) | (_, true, true) => None,
     }
 }
 
@@ -75,7 +82,11 @@ fn form_among(text: bool, json: bool) -> Option<Form>
 fn form_in(matches: &ArgMatches<'_>) -> Option<Form>
     ensures { result ≡ form_in (rows_of (found_of matches.now)) }
 {
-    form_among(is_set(matches, "text"), is_set(matches, "json"))
+    form_among(
+        is_set(matches, "text"),
+        is_set(matches, "json"),
+        is_set(matches, "html"),
+    )
 }
 
 /// The fault of words that ask for several forms.

@@ -1,0 +1,74 @@
+//! From the bytes of a script to the page that shows its run.
+
+ghost use Rattle.std.specs.Prelude.{◌≡◌, ◌++◌, IfOk, OnOk, IsErrOf, false};
+ghost use Rattle.uni_script.specs.Replay.{HasFault, IsFaultOfScript};
+ghost use Rattle.uni_script.specs.Scripts.{scripts_of};
+ghost use Rattle.uni_script.specs.declared.fault.BenchFault.{BenchFault as Fault};
+ghost use Rattle.run_layout.specs.Subject.{HasTooManyEvents};
+ghost use Rattle.run_page.specs.Page.{IsPage, escaped, escaped_byte, page_text};
+
+use crate::viewer::{END, START};
+use run_json::json_of;
+use run_layout::PictureFault;
+use std::alloc::{AllocError, Global};
+use uni_script::{BenchFault, TextIn};
+
+/// Adds a byte of a trace, escaped.
+///
+/// An `Err` says that memory was refused.
+fn push_escaped_byte(text: &mut Vec<u8>, byte: u8) -> Result<(), AllocError>
+    ensures { OnOk result (text.new.items ≡ text.old.items ++ escaped_byte byte) }
+{
+    match byte {
+        b'<' => text.extend_from_slice("\\u003c".as_bytes()),
+        b'&' => text.extend_from_slice("\\u0026".as_bytes()),
+        plain => {
+            text.push(plain)?;
+            Ok(())
+        }
+    }
+}
+
+/// Adds a trace with each `<` and `&` escaped, as JSON escapes them in its strings.
+///
+/// An `Err` says that memory was refused.
+fn push_escaped(text: &mut Vec<u8>, trace: &[u8]) -> Result<(), AllocError>
+    ensures { OnOk result (text.new.items ≡ text.old.items ++ escaped trace.now) }
+{
+    for byte in trace {
+        push_escaped_byte(text, *byte)?;
+    }
+    Ok(())
+}
+
+/// A trace, escaped, between two texts.
+///
+/// An `Err` says that memory was refused.
+#[tactic(auto, unfolding(crate::specs::Page::page_text))]
+fn between(alloc: Global, start: &str, trace: &[u8], end: &str) -> Result<Vec<u8>, AllocError>
+    ensures { IfOk result (λ text. text.items ≡ page_text start.now end.now trace.now) }
+{
+    let mut text = Vec::new(alloc);
+    text.extend_from_slice(start.as_bytes())?;
+    push_escaped(&mut text, trace)?;
+    text.extend_from_slice(end.as_bytes())?;
+    Ok(text)
+}
+
+/// The page that shows the run of the script that a reader has.
+///
+/// An `Err` is the first fault of the script; `Read` where the reader failed; `Memory` where memory was
+/// refused; or `TooManyEvents` of a good script that has more than 2,000 events.
+pub fn page_of<I: TextIn>(alloc: Global, reader: &mut I) -> Result<Vec<u8>, PictureFault>
+    requires { I.has_failed reader.old ≡ false }
+    ensures page { IfOk result (λ text. IsPage (I.remaining reader.old) text.items) }
+    ensures many { IsErrOf result PictureFault.TooManyEvents → HasTooManyEvents (I.remaining reader.old) }
+    ensures fault { (e : Fault) → IsErrOf result (PictureFault.Script e) → IsFaultOfScript e
+        → HasFault (scripts_of 1048576) (I.remaining reader.old) e }
+{
+    let trace = json_of(alloc, reader)?;
+    match between(alloc, START, &trace, END) {
+        Ok(text) => Ok(text),
+        Err(AllocError) => Err(PictureFault::Script(BenchFault::Memory)),
+    }
+}
