@@ -54,12 +54,12 @@ impl<'a, R: Clock> Progress<'a, R> {
         }
     }
 
-    /// Counts what was done, and tells whether it is time to show it, which only one thread is told.
+    /// Counts what was done where that may be shown, and tells whether it is time, which only one thread is told.
     fn is_time(&self, more: u64) -> bool {
-        self.done.fetch_add(more, Ordering::SeqCst);
         if !self.is_terminal {
             return false;
         }
+        self.done.fetch_add(more, Ordering::SeqCst);
         let next = self.next.load(Ordering::SeqCst);
         match milliseconds(self.runtime) {
             Some(now) if now >= next => self
@@ -77,6 +77,9 @@ impl<'a, R: Clock> Progress<'a, R> {
 
     /// Counts the lines that end in a piece of a script, and shows how many there were when it is time.
     fn has_read(&self, piece: &[u8]) {
+        if !self.is_terminal {
+            return;
+        }
         let ends = piece.iter().filter(|byte| **byte == b'\n').count();
         if self.is_time(ends as u64) {
             let lines = self.done.load(Ordering::SeqCst);
