@@ -46,6 +46,7 @@ class Browser:
         page = self.ask("Target.createTarget", {"url": "data:,"})["targetId"]
         self.session = self.ask("Target.attachToTarget", {"targetId": page, "flatten": True})["sessionId"]
         self.ask("Page.enable")
+        self.ask("Page.setLifecycleEventsEnabled", {"enabled": True})
 
     def take(self):
         """The next message of the browser."""
@@ -70,14 +71,17 @@ class Browser:
                 if "error" in got:
                     sys.exit(f"{method}: {got['error']}")
                 return got["result"]
-            self.events.append(got.get("method"))
+            self.events.append(got)
 
     def open(self, page, event):
         """Opens a page at an event, anew, and waits until it has loaded."""
         self.events = []
-        self.ask("Page.navigate", {"url": f"file://{os.path.abspath(page)}?{self.number}#e={event}"})
-        while "Page.loadEventFired" not in self.events:
-            self.events.append(self.take().get("method"))
+        loader = self.ask("Page.navigate", {"url": f"file://{os.path.abspath(page)}?{self.number}#e={event}"})["loaderId"]
+        def has_loaded(got):
+            params = got.get("params", {})
+            return got.get("method") == "Page.lifecycleEvent" and (params["loaderId"], params["name"]) == (loader, "load")
+        while not any(map(has_loaded, self.events)):
+            self.events.append(self.take())
 
     def shown(self):
         """What the page shows."""
