@@ -1,5 +1,6 @@
 """Compares what pages show in Chromium with the traces that they are made of: python3 viewer.py PAGE TRACE .."""
 
+import base64
 import json
 import os
 import shutil
@@ -97,7 +98,6 @@ class Browser:
 
     def shoot(self, path, width, height):
         """Writes a picture of the page at this size."""
-        import base64
         self.ask("Emulation.setDeviceMetricsOverride", {"width": width, "height": height, "deviceScaleFactor": 1, "mobile": False})
         data = self.ask("Page.captureScreenshot")["data"]
         with open(path, "wb") as file:

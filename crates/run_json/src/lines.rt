@@ -33,7 +33,8 @@ fn push_line(text: &mut Vec<u8>, members: &[Member<'_>]) -> Result<(), AllocErro
 ///
 /// An `Err` says that memory was refused.
 pub fn push_opening(text: &mut Vec<u8>, opened: &Opened<'_>) -> Result<(), AllocError>
-    ensures { OnOk result (text.new.items ≡ text.old.items ++ line_text (opening_members (opening_shown opened.now))) }
+    ensures { OnOk result (text.new.items
+        ≡ text.old.items ++ line_text (opening_members (opening_shown opened.now))) }
 {
     let members = [
         Member("what", Value::Text(b"run")),
@@ -74,7 +75,8 @@ fn push_begun(
     begun: &Begun,
     text: &mut Vec<u8>,
 ) -> Result<(), AllocError>
-    ensures { OnOk result (text.new.items ≡ text.old.items ++ line_text (begun_members event (begun_shown begun.now))) }
+    ensures { OnOk result (text.new.items
+        ≡ text.old.items ++ line_text (begun_members event (begun_shown begun.now))) }
 {
     let call = cell_text(alloc, Some(begun.call))?;
     let changed = change_list(alloc, &begun.before, &begun.after)?;

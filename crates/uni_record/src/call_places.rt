@@ -1,7 +1,7 @@
 //! Where the entries of calls stand, in a row for each process.
 
-ghost use Rattle.std.specs.Prelude.{◌≡◌, ℕ, ◌+◌, ◌≤◌, ◌↔◌, ◌==◌, [], ◌∷◌, ◌++◌, true, IfOk, OnOk};
-ghost use Rattle.std.specs.Prelude.{length, if◌then◌else◌};
+ghost use Rattle.std.specs.Prelude.{◌≡◌, ℕ, ◌+◌, ◌≤◌, ◌↔◌, ◌==◌, [], ◌∷◌, ◌++◌};
+ghost use Rattle.std.specs.Prelude.{IfOk, OnOk, length, true, if◌then◌else◌};
 ghost use Rattle.uni_record.specs.CallPlaces.{place_of, room_of, row_of};
 
 use seq_object::CallId;
@@ -47,7 +47,8 @@ impl CallPlaces {
 
     /// Makes the row of a process, with room for so many calls.
     fn add_row(&mut self, alloc: Global, process: u32, count: usize) -> Result<(), AllocError>
-        ensures rows { OnOk result ((q : ℕ) → row_of self.new q ≡ (if process == q then [] else row_of self.old q)) }
+        ensures rows { OnOk result ((q : ℕ)
+            → row_of self.new q ≡ (if process == q then [] else row_of self.old q)) }
         ensures room { OnOk result (room_of self.new ≤ room_of self.old + count) }
     {
         self.rows

@@ -342,7 +342,8 @@ fn run_next<S: Scripts, O: Spoken, I: TextIn, L: Listener>(
     ensures object { session.new.world.object ≡ session.old.world.object }
     ensures next { (kind : Kind S.Session) (inside : Session O.State O.Inv O.Resp → S.Session)
         → IsAbout kind (spoken O.sequential O.language session.old.world.object) dialect inside
-        → (old written_old written : Option (List ℕ)) (remarks_old : Option (List RemarkAt)) (taken : List (List ℕ))
+        → (old written_old written : Option (List ℕ)) (remarks_old : Option (List RemarkAt))
+        → (taken : List (List ℕ))
         → HasRun kind old (I.remaining reader.old) lines.old written_old written text.old.items remarks_old
         (L.heard listener.old) taken (Some (inside (session_of session.old)))
         → GoesOn kind old (I.remaining reader.new) lines.old lines.new written_old written text.old.items

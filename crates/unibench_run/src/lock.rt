@@ -1,7 +1,7 @@
 //! Threads that make calls on one object under a lock.
 
-ghost use Rattle.std.specs.Prelude.{◌≡◌, ◌≢◌, ◌<◌, ◌≤◌, ◌*◌, ◌↔◌, All, IsErr, IfOk, OnOk};
-ghost use Rattle.std.specs.Prelude.{IsErrOf, [], length};
+ghost use Rattle.std.specs.Prelude.{◌≡◌, ◌≢◌, ◌<◌, ◌≤◌, ◌*◌, ◌↔◌, All, []};
+ghost use Rattle.std.specs.Prelude.{IsErr, IsErrOf, IfOk, OnOk, length};
 ghost use Rattle.uni_record.specs.Recorded.{Recording, IsPromised};
 ghost use Rattle.uni_shared.specs.Agreement.{IsClosed};
 ghost use Rattle.unibench_run.specs.Threads.{HasLockedRun, IsLacking, IsThreadsPlan, MakesCalls};
