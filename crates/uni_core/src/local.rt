@@ -41,27 +41,21 @@ impl Local {
         self.call
     }
 
-    /// After a step, which left the process at this stage in the call of cell `mine`, or ended the
+    /// Takes note of a step, which left the process at this stage in the call of cell `mine`, or ended the
     /// call.
-    pub(crate) fn after(&self, mine: CellId, next: Option<Stage>) -> Local
-        requires steps { self.now.steps < 2 ^ 32 }
-        requires turns { self.now.turns < 2 ^ 32 }
-        ensures call { result.call ≡ option_map (λ stage. record { mine = mine; stage = stage }) next }
-        ensures begun { result.begun ≡ self.now.begun }
-        ensures among { result.among ≡ self.now.among }
-        ensures steps { result.steps ≡ self.now.steps + 1 }
-        ensures turns { result.turns ≡ self.now.turns + turns_to next }
+    pub(crate) fn advance(&mut self, mine: CellId, next: Option<Stage>)
+        requires steps { self.old.steps < 2 ^ 32 }
+        requires turns { self.old.turns < 2 ^ 32 }
+        ensures call { self.new.call ≡ option_map (λ stage. record { mine = mine; stage = stage }) next }
+        ensures begun { self.new.begun ≡ self.old.begun }
+        ensures among { self.new.among ≡ self.old.among }
+        ensures steps { self.new.steps ≡ self.old.steps + 1 }
+        ensures turns { self.new.turns ≡ self.old.turns + turns_to next }
     {
-        let turn = match next {
-            Some(Stage::ReadAnnounce { .. }) => 1,
-            _ => 0,
-        };
-        Local {
-            call: next.map(|stage| Pending { mine, stage }),
-            begun: self.begun,
-            among: self.among,
-            steps: self.steps + 1,
-            turns: self.turns + turn,
+        if let Some(Stage::ReadAnnounce { .. }) = next {
+            self.turns += 1;
         }
+        self.steps += 1;
+        self.call = next.map(|stage| Pending { mine, stage });
     }
 }

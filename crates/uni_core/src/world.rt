@@ -222,15 +222,14 @@ impl<O: SeqObject> World<O> {
         if p >= self.machine.shared.processes() {
             return Err(StepFault::BadProcess);
         }
-        let local = self.locals[p as usize];
+        let local = &mut self.locals[p as usize];
         let Some(call) = local.pending() else {
             return Err(StepFault::Idle(p));
         };
-        let mine = call.mine;
-        let Ok(after) = self.machine.take_step(alloc, p, mine, call.stage) else {
+        let Ok(after) = self.machine.take_step(alloc, p, call.mine, call.stage) else {
             return Err(StepFault::Memory);
         };
-        self.locals[p as usize] = local.after(mine, after.stage());
+        local.advance(call.mine, after.stage());
         Ok(after.progress())
     }
 }
