@@ -1,5 +1,6 @@
 //! The lines that a script can have, and what their words may be.
 
+use uni_model::{MAX_PROCESSES, MAX_ROW};
 use uni_script::ObjectName;
 
 /// What an object is, and the calls that it has.
@@ -69,8 +70,8 @@ impl Field {
         match self {
             Field::Version | Field::Object | Field::Name | Field::Words => None,
             Field::Few => Some((1, 16)),
-            Field::Many => Some((1, 64)),
-            Field::Row => Some((1, 4096)),
+            Field::Many => Some((1, MAX_PROCESSES)),
+            Field::Row => Some((1, MAX_ROW)),
             Field::Process | Field::Count | Field::Value => Some((0, 999_999_999_999)),
             Field::Steps => Some((1, 1000)),
             Field::Account | Field::Other => Some((0, 15)),

@@ -1,6 +1,6 @@
 //! A world of processes that share an object.
 
-ghost use Rattle.std.specs.Prelude.{◌≡◌, ◌≢◌, ◌≤◌, IfOk, OnOk, OnErr, IfErr, IsErrOf, replicate};
+ghost use Rattle.std.specs.Prelude.{◌≡◌, ◌≢◌, ◌≤◌, IfOk, OnOk, OnErr, IfErr, IsErrOf};
 ghost use Rattle.uni_model.specs.Bound.{IsBounded};
 ghost use Rattle.uni_model.specs.Worlds.{opened_world, world_after};
 ghost use Rattle.uni_model.specs.Worlds.Event.{Call, Step};
@@ -14,7 +14,7 @@ use crate::shared::SharedEntries;
 use crate::stage::{Pending, Stage};
 use crate::transition::Machine;
 use seq_object::{CallId, SeqObject};
-use std::alloc::{AllocError, Global};
+use std::alloc::Global;
 use std::marker::Model;
 use uni_model::{MAX_PROCESSES, MAX_ROW, MAX_SEQ};
 
@@ -63,17 +63,6 @@ pub fn counts_fit(n: u64, k: u64, seq: u64) -> Result<(), OpenFault>
         return Err(OpenFault::SeqFull);
     }
     Ok(())
-}
-
-/// So many copies of a value.
-fn copies<T: Copy>(alloc: Global, value: T, count: u64) -> Result<Vec<T>, AllocError>
-    ensures { IfOk result (λ values. values.items ≡ replicate count value) }
-{
-    let mut values = Vec::new(alloc);
-    for _ in 0..count {
-        values.push(value)?;
-    }
-    Ok(values)
 }
 
 impl<O: SeqObject> World<O> {
@@ -138,7 +127,7 @@ impl<O: SeqObject> World<O> {
         ensures fixed { IfOk result (λ w. (w.object ≡ object) × (w.row ≡ k)) }
     {
         counts_fit(n, k, seq)?;
-        let Ok(locals) = copies(alloc, Local::new(), n) else {
+        let Ok(locals) = vec![in alloc; Local::new(); n as usize] else {
             return Err(OpenFault::Memory);
         };
         let Ok(shared) = SharedEntries::opened(alloc, n, k, state, seq) else {

@@ -14,6 +14,7 @@ use ready_objects::{Amount, Spoken, is_text};
 use smallvec::SmallVec;
 use std::alloc::{AllocError, Global};
 use std::fmt;
+use uni_model::{MAX_PROCESSES, MAX_ROW};
 
 /// An object that the processes of a script can share.
 #[derive(Clone, Copy, Debug, PartialEq, Eq)]
@@ -200,7 +201,7 @@ fn most_processes(version: Version) -> u64
 {
     match version {
         Version::One => 16,
-        Version::Two => 64,
+        Version::Two => MAX_PROCESSES,
     }
 }
 
@@ -210,7 +211,7 @@ fn header_with<N: Copy>(version: Version, object: N, processes: u64, row: u64) -
     ensures header { result ≡ header_with version object processes row }
     ensures range { IfSome result IsInRange }
 {
-    if processes >= 1 && processes <= most_processes(version) && row >= 1 && row <= 4096 {
+    if processes >= 1 && processes <= most_processes(version) && row >= 1 && row <= MAX_ROW {
         Some(Header {
             version,
             object,

@@ -16,6 +16,7 @@ use clap::{Arg, ArgMatches, Command};
 use command_line::{flag, is_set};
 use std::alloc::{AllocError, Global};
 use std::convert::AsStr;
+use uni_model::{MAX_PROCESSES, MAX_ROW};
 use uni_script::{Echo, ObjectName, Options, object_of};
 
 /// A form of the construction that threads can share.
@@ -95,8 +96,8 @@ impl Plan {
         Some(Plan {
             form: form_in(matches)?,
             object: object_in(matches)?,
-            processes: number_of(matches, "processes", 1, 64)?,
-            calls: number_of(matches, "calls", 1, 4096)?,
+            processes: number_of(matches, "processes", 1, MAX_PROCESSES)?,
+            calls: number_of(matches, "calls", 1, MAX_ROW)?,
             seed: number_of(matches, "seed", 0, u64::MAX)?,
         })
     }
@@ -120,8 +121,8 @@ impl RandomPlan {
         Some(RandomPlan {
             schedule: uni_script::Plan {
                 object: shared_in(matches)?,
-                processes: number_of(matches, "processes", 1, 64)?,
-                row: number_of(matches, "row", 1, 4096)?,
+                processes: number_of(matches, "processes", 1, MAX_PROCESSES)?,
+                row: number_of(matches, "row", 1, MAX_ROW)?,
                 events: number_of(matches, "events", 1, 99_000)?,
             },
             seed: number_of(matches, "seed", 0, u64::MAX)?,
@@ -330,7 +331,7 @@ pub(crate) fn random_command<'a>(alloc: Global) -> Result<Command<'a>, AllocErro
             "2",
         ),
         1,
-        64,
+        MAX_PROCESSES,
     ))?
     .arg(in_range(
         option(
@@ -341,7 +342,7 @@ pub(crate) fn random_command<'a>(alloc: Global) -> Result<Command<'a>, AllocErro
             "64",
         ),
         1,
-        4096,
+        MAX_ROW,
     ))?
     .arg(in_range(
         option(
@@ -407,7 +408,7 @@ pub(crate) fn threads_command<'a>(alloc: Global) -> Result<Command<'a>, AllocErr
             "2",
         ),
         1,
-        64,
+        MAX_PROCESSES,
     ))?
     .arg(in_range(
         option(
@@ -418,7 +419,7 @@ pub(crate) fn threads_command<'a>(alloc: Global) -> Result<Command<'a>, AllocErr
             "100",
         ),
         1,
-        4096,
+        MAX_ROW,
     ))?
     .arg(in_range(
         option(
