@@ -19,9 +19,10 @@ impl SeqObject for Counter {
     type Resp = u64;
 
     ghost sequential = { λ _. record {
-        initial = 0;
-        next = λ sum number. (sum + number) % 2 ^ 64;
-        answer = λ sum number. sum } };
+      initial = 0;
+      next = λ sum number. (sum + number) % 2 ^ 64;
+      answer = λ sum number. sum;
+    } };
 
     ghost same_inv = { nat_eq_exact };
 
