@@ -1,6 +1,5 @@
-//! The files of cases: a case is the files of a folder that have one name before their first dot, and what a file has
-//! of
-//! the case is its kind, the text after that dot.
+//! The files of cases: a case is the files of a folder that have one name before their first dot. The text after that
+//! dot is the kind of a file.
 #![tactic(auto)]
 
 use std::alloc::Global;
