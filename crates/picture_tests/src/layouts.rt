@@ -1,9 +1,9 @@
 //! Tests of what scripts have, and of its words, lines and columns.
 
 use run_layout::{
-    Axis, Column, MOST_EVENTS, MOST_REMARKS, PictureFault, Scale, Subject, axis_of, cell_name,
-    cell_words, counts_of, label_of, lane_of, letter_of, letters, line_of, meaning_of, push_lines,
-    refusal_of, subject_of, title_of,
+    Axis, Column, MOST_EVENTS, MOST_REMARKS, PictureFault, Scale, Subject, Told, axis_of,
+    cell_name, cell_words, counts_of, kinds_of, label_of, lane_of, letter_of, letters, line_of,
+    meaning_of, push_lines, refusal_of, step_title, subject_of, title_of, told_of,
 };
 use run_marks::Marks;
 use std::alloc::{AllocError, Global};
@@ -84,7 +84,10 @@ fn is_cell_of(alloc: Global, marks: &Marks, name: &str, words: &str) -> bool {
         return false;
     };
     match era.cells.get(0) {
-        Some(cell) => reads(cell_name(alloc, cell), name) && reads(cell_words(alloc, cell), words),
+        Some(cell) => {
+            reads(cell_name(alloc, &marks.dots, cell), name)
+                && reads(cell_words(alloc, cell), words)
+        }
         None => false,
     }
 }
@@ -121,18 +124,83 @@ fn words_of_refusals_and_kinds(rt: HostRuntime) {
     assert_eq!(rt; meaning_of(StepKind::DecideAfter), "links a cell, or loses");
 }
 
+/// What was told twice of one process, once of another, and once again of that after a step.
+const IDLE: &str = "universal 1 queue 2 8
+step 0
+step 0
+step 1
+call 1 deq
+step 1
+step 0
+";
+
+/// Whether the label of a remark is this.
+fn is_labelled(told: &[Told], place: usize, want: Option<&str>) -> bool {
+    match (told.get(place), want) {
+        (Some(one), Some(want)) => match &one.label {
+            Some(label) => label.as_slice() == want.as_bytes(),
+            None => false,
+        },
+        (Some(one), None) => one.label.is_none(),
+        (None, _) => false,
+    }
+}
+
+#[test]
+fn equal_refusals_have_one_label(rt: HostRuntime) -> Result<(), Fail> {
+    let subject = subject(rt.alloc(), IDLE)?;
+    let told = told_of(rt.alloc(), &subject.remarks)?;
+    assert!(rt; told.len() == 4);
+    assert!(rt; is_labelled(&told, 0, None));
+    assert!(rt; is_labelled(&told, 1, Some("step refused: P0 idle x2")));
+    assert!(rt; is_labelled(&told, 2, Some("step refused: P1 idle")));
+    assert!(rt; is_labelled(&told, 3, Some("step refused: P0 idle")));
+    Ok(())
+}
+
+#[test]
+fn kinds_that_occur(rt: HostRuntime) -> Result<(), Fail> {
+    let pending = subject(rt.alloc(), PENDING)?;
+    let returned = subject(rt.alloc(), RETURNED)?;
+    let few = kinds_of(rt.alloc(), &pending.marks.steps)?;
+    let many = kinds_of(rt.alloc(), &returned.marks.steps)?;
+    assert!(rt; few.as_slice() == [StepKind::Announce].as_slice());
+    assert!(rt; many.len() == 13);
+    Ok(())
+}
+
+#[test]
+fn titles_of_steps(rt: HostRuntime) -> Result<(), Fail> {
+    let subject = subject(rt.alloc(), RETURNED)?;
+    let marks = &subject.marks;
+    let Some(step) = marks.steps.get(7) else {
+        return Err(Fail::from("there are fourteen steps"));
+    };
+    let title = step_title(rt.alloc(), &marks.bars, &marks.steps, *step);
+    assert!(rt; reads(title, "P0, call 0.0, step 8: links a cell, or loses"));
+    Ok(())
+}
+
 /// Whether columns have their events and their remarks where they should.
 fn has_columns(axis: &Axis) -> bool {
     // The label has nine letters and the room beside them, of which the step after it takes one.
     let events = axis.event(0) == (Column { left: 0, width: 9 })
         && axis.event(1) == (Column { left: 9, width: 1 })
-        && axis.event(2) == (Column { left: 25, width: 0 });
-    // The mark, and busy or pending with the room beside it.
-    let remarks = axis.remark(1) == (Column { left: 10, width: 6 })
-        && axis.remark(2) == (Column { left: 16, width: 0 })
-        && axis.remark(3) == (Column { left: 16, width: 9 })
-        && axis.remark(4) == (Column { left: 25, width: 0 });
-    events && remarks && axis.end == 25
+        && axis.event(2) == (Column { left: 65, width: 0 });
+    // The mark, and "call refused: P1 busy" or "end of era refused: P1 pending" with the room beside it.
+    let remarks = axis.remark(1)
+        == (Column {
+            left: 10,
+            width: 23,
+        })
+        && axis.remark(2) == (Column { left: 33, width: 0 })
+        && axis.remark(3)
+            == (Column {
+                left: 33,
+                width: 32,
+            })
+        && axis.remark(4) == (Column { left: 65, width: 0 });
+    events && remarks && axis.end == 65
 }
 
 #[test]

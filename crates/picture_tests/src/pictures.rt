@@ -15,16 +15,17 @@ finish 0
 ";
 
 /// What the picture must have: its title, the dots of both calls, the arrow from the mark of process 0 to the
-/// dot of process 1, the labels, and the counts.
+/// dot of process 1, the title of that mark, the labels, and the counts.
 ///
 /// There are 27 events of 28 each, from 44 on. Process 0 links the cell of process 1 in event 12 and its own in
 /// event 20; the middles of these are 44 + 12 * 28 + 14 and 44 + 20 * 28 + 14. The lanes begin at 74 and are
 /// 96 high; marks stand 28 below the top of a lane and are 22 high, and dots 60 below it.
-const PARTS: [&str; 7] = [
+const PARTS: [&str; 8] = [
     "<title id=\"title\">queue: 2 processes, 2 calls, 27 events</title>",
     "<circle cx=\"394\" cy=\"230\"",
     "<circle cx=\"618\" cy=\"134\"",
     "<line x1=\"394\" y1=\"124\" x2=\"394\" y2=\"224\"",
+    "y=\"102\" width=\"26\" height=\"22\" fill=\"#d55e00\" stroke=\"#333333\"><title>P0, call 0.0, step 10: links a cell, or loses</title></rect>",
     ">1.0 enq 5</text>",
     ">0.0 enq 6 -&gt; ok</text>",
     ">24 steps 2 turns</text>",

@@ -18,11 +18,6 @@ map_more f g s old new xs i x y inside is before pushed same =
     ap (λ l. map g (map s l)) one ∙ ap (map g) (map-append s (take i xs) (x ∷ [])) ∙ map-append g (map s (take i xs)) (s x ∷ []) in
     ap (map f) pushed ∙ map-append f old (y ∷ []) ∙ ap (λ l. l ++ f y ∷ []) before ∙ ap (λ z. map g (map s (take i xs)) ++ z ∷ []) same ∙ sym more
 
--- what is told before an event, and its line, stand first of what was to come
-pub event_more : (now told after a b rest whole : List ℕ) → now ++ (a ++ b ++ rest) ≡ whole → told ≡ now ++ a → after ≡ told ++ b → after ++ rest ≡ whole
-event_more now told after a b rest whole is is_told is_after =
-    ap (λ l. l ++ rest) (is_after ∙ ap (λ l. l ++ b) is_told ∙ append_assoc now a b) ∙ append_assoc now (a ++ b) rest ∙ is
-
 -- the line of a step, part by part
 step_start-some : (k : ℕ) (s : Stepped) → 0 < length (step_start k s)
 unfolding step_start

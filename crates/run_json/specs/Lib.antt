@@ -1,4 +1,3 @@
 pub mod Members
 pub mod Lines
-pub mod Opened
 pub mod Trace

@@ -2,13 +2,13 @@
 use Rattle.std.specs.Prelude.{ℕ, Bool, true, false, List, [], ◌∷◌, ◌++◌, map, Option, Some, None, option_map, codes}
 use Rattle.json_text.specs.Json.{Value, Number, Text, Flag, MaybeNumber, Json, Member, named, object_text, list_text, text_or_null}
 use Rattle.uni_core.specs.declared.stage.StepKind.{StepKind}
-use Rattle.uni_core.specs.declared.stage.StepKind.TheVariants.{Announce, ScanHead, ScanSeq, WriteScan, Test, ReadAnnounce, ReadHelpSeq}
-use Rattle.uni_core.specs.declared.stage.StepKind.TheVariants.{DecideAfter, DecideNew, WriteBefore, WriteSeq, WriteHead, Finish}
 use Rattle.uni_script.specs.declared.answer.Refusal.{Refusal}
 use Rattle.uni_script.specs.declared.remarks.Remark.{Remark}
 use Rattle.uni_script.specs.declared.remarks.Remark.TheVariants.{Heading, Note, Refused}
 use Rattle.run_layout.specs.Wording.{lane_of, letter_of, meaning_of, refusal_words}
 use Rattle.run_trace.specs.Held.{Change, Held, cell_text, changes_between}
+use Rattle.run_telling.specs.Access.{access_of}
+use Rattle.run_telling.specs.Opened.{Opening}
 use Rattle.run_trace.specs.Frames.{Begun, Ended, Frame, Stepped, Begins, Steps, Ends}
 
 -- ---- values
@@ -16,22 +16,6 @@ use Rattle.run_trace.specs.Frames.{Begun, Ended, Frame, Stepped, Begins, Steps, 
 -- the letter of a kind of step, as a text
 abbrev pub letter_text : StepKind → List ℕ
 letter_text kind = letter_of kind ∷ []
-
--- what a kind of step does to its place
-abbrev pub access_of : StepKind → List ℕ
-access_of Announce = codes "writes"
-access_of ScanHead = codes "reads"
-access_of ScanSeq = codes "reads"
-access_of WriteScan = codes "writes"
-access_of Test = codes "reads"
-access_of ReadAnnounce = codes "reads"
-access_of ReadHelpSeq = codes "reads"
-access_of DecideAfter = codes "proposes"
-access_of DecideNew = codes "proposes"
-access_of WriteBefore = codes "writes"
-access_of WriteSeq = codes "writes"
-access_of WriteHead = codes "writes"
-access_of Finish = codes "writes"
 
 -- ---- the memory
 
@@ -53,6 +37,10 @@ changes_json before after = Json (changes_text (changes_between before after))
 
 abbrev pub is_changed : (before after : Held) → Value
 is_changed before after = Flag (is_any (changes_between before after))
+
+-- what a step proposed for its place, if it did: of a state and a reply the state
+abbrev pub proposed_text : Option Held → List ℕ
+proposed_text proposed = text_or_null (option_map (λ h. h.field.text) proposed)
 
 -- ---- events
 
@@ -77,8 +65,8 @@ step_start k s =
 unfoldable pub step_place : Stepped → List Member
 step_place s =
     named (codes "place") (Text s.after.field.name) ∷ named (codes "before") (Text s.before.field.text)
-    ∷ named (codes "after") (Text s.after.field.text) ∷ named (codes "changed") (is_changed s.before s.after)
-    ∷ named (codes "changes") (changes_json s.before s.after) ∷ []
+    ∷ named (codes "after") (Text s.after.field.text) ∷ named (codes "proposed") (Json (proposed_text s.proposed))
+    ∷ named (codes "changed") (is_changed s.before s.after) ∷ named (codes "changes") (changes_json s.before s.after) ∷ []
 
 -- and then what became of its call
 unfoldable pub step_call : Stepped → List Member
@@ -125,19 +113,6 @@ remark_members k (Note text) = note_members (codes "note") k text.items
 remark_members k (Refused refusal) = refusal_members k refusal
 
 -- ---- the run
-
--- a run: the word of its object, how many processes there were first, how many calls a process can make in an era, and the number
--- and the state of the first anchor
-pub record Opening : Type 0 where
-  pub object : List ℕ
-  pub processes : ℕ
-  pub row : ℕ
-  pub number : ℕ
-  pub state : List ℕ
-
-abbrev pub opening : (object : List ℕ) (processes row number : ℕ) (state : List ℕ) → Opening
-opening object processes row number state =
-    record { object = object; processes = processes; row = row; number = number; state = state }
 
 abbrev pub opening_members : Opening → List Member
 opening_members o =

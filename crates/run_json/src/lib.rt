@@ -1,13 +1,12 @@
 //! The traces of scripts' runs: from the bytes of a script to lines of JSON, one for the run and one for each event,
 //! note and refusal, which tell what each event did to the memory.
 //!
-//! What the lines are stands in `specs/Lines.antt`: `trace_text`. docs/trace.md tells what a reader sees.
+//! What the lines are stands in `specs/Lines.antt`: `json_wording`. docs/trace.md tells what a reader sees.
 #![tactic(auto)]
 
 mod lines;
 mod members;
-mod opened;
-mod order;
 mod trace;
 
+pub use lines::push_line;
 pub use trace::json_of;

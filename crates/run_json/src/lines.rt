@@ -1,6 +1,6 @@
 //! The lines of a trace, each an object of JSON.
 
-ghost use Rattle.std.specs.Prelude.{◌≡◌, ◌++◌, OnOk, Some, map};
+ghost use Rattle.std.specs.Prelude.{◌≡◌, ◌++◌, OnOk, map};
 ghost use Rattle.std.specs.List.{flat_map};
 ghost use Rattle.json_text.specs.Json.{after_comma, member_text, separated};
 ghost use Rattle.json_text.specs.Shown.{member_shown};
@@ -8,20 +8,20 @@ ghost use Rattle.run_trace.specs.Shown.{begun_shown, end_shown, frame_shown, ste
 ghost use Rattle.run_json.specs.Lines.{frame_line, line_text, remark_line};
 ghost use Rattle.run_json.specs.Members.{begun_members, end_members, end_word, note_members, opening_members};
 ghost use Rattle.run_json.specs.Members.{refusal_members, step_call, step_members, step_place, step_start};
-ghost use Rattle.run_json.specs.Opened.{opening_shown};
+ghost use Rattle.run_telling.specs.Opened.{opening_shown};
 
-use crate::members::{access_of, change_list, letter_text, next_letter, text_or_null};
-use crate::opened::Opened;
+use crate::members::{change_list, letter_text, next_letter, proposed_json, text_or_null};
 use json_text::{Member, Value, push_members, push_more_members, push_object};
 use run_layout::{lane_of, meaning_of, refusal_of};
+use run_telling::{Opened, access_of};
 use run_trace::{Begun, EraEnd, Frame, Step, cell_text};
 use std::alloc::{AllocError, Global};
 use uni_script::{PlacedRemark, Refusal, Remark};
 
-/// Adds a line with these members.
+/// Adds an object with these members, on a line of its own.
 ///
 /// An `Err` says that memory was refused.
-fn push_line(text: &mut Vec<u8>, members: &[Member<'_>]) -> Result<(), AllocError>
+pub fn push_line(text: &mut Vec<u8>, members: &[Member<'_>]) -> Result<(), AllocError>
     ensures { OnOk result (text.new.items ≡ text.old.items ++ line_text (map member_shown members.now)) }
 {
     push_object(text, members)?;
@@ -32,7 +32,7 @@ fn push_line(text: &mut Vec<u8>, members: &[Member<'_>]) -> Result<(), AllocErro
 /// Adds the line of a run.
 ///
 /// An `Err` says that memory was refused.
-pub fn push_opening(text: &mut Vec<u8>, opened: &Opened<'_>) -> Result<(), AllocError>
+pub(crate) fn push_opening_line(text: &mut Vec<u8>, opened: &Opened<'_>) -> Result<(), AllocError>
     ensures { OnOk result (text.new.items
         ≡ text.old.items ++ line_text (opening_members (opening_shown opened.now))) }
 {
@@ -51,13 +51,13 @@ pub fn push_opening(text: &mut Vec<u8>, opened: &Opened<'_>) -> Result<(), Alloc
 /// Adds the line of an event.
 ///
 /// An `Err` says that memory was refused.
-pub fn push_frame(
+pub(crate) fn push_frame_line(
     alloc: Global,
     event: u64,
     frame: &Frame,
     text: &mut Vec<u8>,
 ) -> Result<(), AllocError>
-    ensures { OnOk result (text.new.items ≡ text.old.items ++ frame_line event (Some (frame_shown frame.now))) }
+    ensures { OnOk result (text.new.items ≡ text.old.items ++ frame_line event (frame_shown frame.now)) }
 {
     match frame {
         Frame::Call(begun) => push_begun(alloc, event, begun, text),
@@ -143,11 +143,13 @@ fn push_step_place(alloc: Global, step: &Step, text: &mut Vec<u8>) -> Result<(),
     ensures { OnOk result (text.new.items
         ≡ text.old.items ++ flat_map after_comma (map member_text (step_place (step_shown step.now)))) }
 {
+    let proposed = proposed_json(alloc, &step.proposed)?;
     let changed = change_list(alloc, &step.before, &step.after)?;
     let members = [
         Member("place", Value::Text(&step.after.field.name)),
         Member("before", Value::Text(&step.before.field.text)),
         Member("after", Value::Text(&step.after.field.text)),
+        Member("proposed", Value::Json(&proposed)),
         Member("changed", Value::Flag(changed.is_any)),
         Member("changes", Value::Json(&changed.json)),
     ];
@@ -201,7 +203,11 @@ fn push_end(event: u64, end: &EraEnd, text: &mut Vec<u8>) -> Result<(), AllocErr
 /// Adds the line of what is told beside the events.
 ///
 /// An `Err` says that memory was refused.
-pub fn push_remark(alloc: Global, one: &PlacedRemark, text: &mut Vec<u8>) -> Result<(), AllocError>
+pub(crate) fn push_remark_line(
+    alloc: Global,
+    one: &PlacedRemark,
+    text: &mut Vec<u8>,
+) -> Result<(), AllocError>
     ensures { OnOk result (text.new.items ≡ text.old.items ++ remark_line one.now) }
 {
     match &one.remark {

@@ -4,33 +4,13 @@ ghost use Rattle.std.specs.Prelude.{◌≡◌, IfOk, map, option_map};
 ghost use Rattle.json_text.specs.Json.{object_text, text_or_null};
 ghost use Rattle.run_trace.specs.Held.{changes_between};
 ghost use Rattle.run_trace.specs.Shown.{change_shown, held_shown};
-ghost use Rattle.run_json.specs.Members.{access_of, change_members, changes_text, is_any, letter_text};
+ghost use Rattle.run_json.specs.Members.{change_members, changes_text, is_any, letter_text, proposed_text};
 
 use json_text::{Member, Value, push_list, push_object, push_text_or_null};
 use run_layout::letter_of;
 use run_trace::{Change, Held, changes_of};
 use std::alloc::{AllocError, Global};
 use uni_core::StepKind;
-
-/// What a kind of step does to its place.
-pub fn access_of(kind: StepKind) -> &'static str
-    ensures { result.now ≡ access_of kind }
-{
-    match kind {
-        StepKind::ScanHead
-        | StepKind::ScanSeq
-        | StepKind::Test
-        | StepKind::ReadAnnounce
-        | StepKind::ReadHelpSeq => "reads",
-        StepKind::DecideAfter | StepKind::DecideNew => "proposes",
-        StepKind::Announce
-        | StepKind::WriteScan
-        | StepKind::WriteBefore
-        | StepKind::WriteSeq
-        | StepKind::WriteHead
-        | StepKind::Finish => "writes",
-    }
-}
 
 /// The letter of a kind of step, as a text.
 ///
@@ -86,6 +66,18 @@ pub fn change_list(alloc: Global, before: &Held, after: &Held) -> Result<ChangeL
     let json = changes_json(alloc, &changes)?;
     let is_any = is_any(&changes);
     Ok(ChangeList { is_any, json })
+}
+
+/// The text of what a step proposed, or `null` where it proposed nothing.
+///
+/// An `Err` says that memory was refused.
+pub fn proposed_json(alloc: Global, proposed: &Option<Held>) -> Result<Vec<u8>, AllocError>
+    ensures { IfOk result (λ text. text.items ≡ proposed_text (option_map held_shown proposed.now)) }
+{
+    match proposed {
+        Some(held) => text_or_null(alloc, &Some(Vec::from_slice(alloc, &held.field.text)?)),
+        None => text_or_null(alloc, &None),
+    }
 }
 
 /// Whether there is any change.

@@ -1,124 +1,46 @@
 //! From the bytes of a script to its trace.
 
-ghost use Rattle.std.specs.Prelude.{◌≡◌, ◌<◌, ◌≤◌, IfOk, OnOk, IsErrOf, false, length};
-ghost use Rattle.uni_record.specs.Event.{events_shown};
-ghost use Rattle.uni_script.specs.Objects.{spoken};
+ghost use Rattle.std.specs.Prelude.{◌≡◌, IfOk, IsErrOf, false};
 ghost use Rattle.uni_script.specs.Replay.{HasFault, IsFaultOfScript};
 ghost use Rattle.uni_script.specs.Scripts.{scripts_of};
 ghost use Rattle.uni_script.specs.declared.fault.BenchFault.{BenchFault as Fault};
-ghost use Rattle.run_layout.specs.Subject.{HasTooManyEvents, events_of_record};
-ghost use Rattle.run_json.specs.Trace.{IsTrace, trace_of_events, trace_of_record};
+ghost use Rattle.run_layout.specs.Subject.{HasTooManyEvents};
+ghost use Rattle.run_json.specs.Trace.{IsTrace};
 
-use crate::opened::Opened;
-use crate::order::text_of;
-use ready_objects::{BookObject, DirectoryObject, QueueObject, Spoken, StickyObject};
-use run_layout::{MOST_EVENTS, PictureFault};
-use run_trace::frames_of;
+use crate::lines::{push_frame_line, push_opening_line, push_remark_line};
+use run_layout::PictureFault;
+use run_telling::{Opened, Telling, told_of};
+use run_trace::Frame;
 use std::alloc::{AllocError, Global};
-use uni_record::Recorded;
-use uni_script::{
-    BenchFault, Echo, ObjectName, Options, PlacedRemark, ScriptRecord, TextIn, run_of_script,
-};
+use uni_script::{PlacedRemark, TextIn};
 
-/// How many events a script can have, as where `unibench replay` isn't told.
-const HISTORY: u64 = 1_048_576;
+/// Tells a run in lines of JSON.
+struct InJson;
 
-/// The trace of the run that a record has stored, on an object of this name; `object` is a further value of that
-/// object.
-///
-/// Errors: `TooManyEvents` where it has more than 2,000; else `Memory`.
-fn trace_of_events<O: Spoken>(
-    alloc: Global,
-    name: &str,
-    object: O,
-    recorded: &Recorded<O>,
-    remarks: &[PlacedRemark],
-) -> Result<Vec<u8>, PictureFault>
-    ensures few { OnOk result (length (events_shown recorded.now.events) ≤ 2000) }
-    ensures text { IfOk result (λ text. text.items
-        ≡ trace_of_events (spoken O.sequential O.language object) O.state_text
-        name.now recorded.now.processes recorded.now.world.row recorded.now.first
-        (events_shown recorded.now.events) remarks.now) }
-    ensures many { IsErrOf result PictureFault.TooManyEvents → 2000 < length (events_shown recorded.now.events) }
-    ensures memory { (e : Fault) → IsErrOf result (PictureFault.Script e) → e ≡ Fault.Memory }
-{
-    if recorded.events().len() as u64 > MOST_EVENTS {
-        return Err(PictureFault::TooManyEvents);
+impl Telling for InJson {
+    ghost use Rattle.run_json.specs.Lines.{json_wording};
+
+    ghost wording = { json_wording };
+
+    fn push_opening(_: Global, opened: &Opened<'_>, text: &mut Vec<u8>) -> Result<(), AllocError> {
+        push_opening_line(text, opened)
     }
-    match text_of_events(alloc, name, object, recorded, remarks) {
-        Ok(text) => Ok(text),
-        Err(AllocError) => Err(PictureFault::Script(BenchFault::Memory)),
+
+    fn push_frame(
+        alloc: Global,
+        event: u64,
+        frame: &Frame,
+        text: &mut Vec<u8>,
+    ) -> Result<(), AllocError> {
+        push_frame_line(alloc, event, frame, text)
     }
-}
 
-/// The text of an object's first state.
-///
-/// An `Err` says that memory was refused.
-fn first_state<O: Spoken>(alloc: Global, object: &O) -> Result<Vec<u8>, AllocError>
-    ensures { IfOk result (λ text. text.items ≡ O.state_text (O.sequential object.now).initial) }
-{
-    let mut text = Vec::new(alloc);
-    O::push_state(&mut text, &object.start(alloc)?)?;
-    Ok(text)
-}
-
-/// The same of a run of any length.
-///
-/// An `Err` says that memory was refused.
-fn text_of_events<O: Spoken>(
-    alloc: Global,
-    name: &str,
-    object: O,
-    recorded: &Recorded<O>,
-    remarks: &[PlacedRemark],
-) -> Result<Vec<u8>, AllocError>
-    ensures { IfOk result (λ text. text.items
-        ≡ trace_of_events (spoken O.sequential O.language object) O.state_text
-        name.now recorded.now.processes recorded.now.world.row recorded.now.first
-        (events_shown recorded.now.events) remarks.now) }
-{
-    let state = first_state(alloc, &object)?;
-    let opened = Opened {
-        object: name,
-        processes: recorded.processes(),
-        row: recorded.world().row(),
-        number: recorded.first(),
-        state: &state,
-    };
-    let frames = frames_of(alloc, object, recorded)?;
-    text_of(alloc, &opened, &frames, remarks)
-}
-
-/// The trace of a record, by its object.
-///
-/// Errors: `TooManyEvents` where it has more than 2,000 events; else `Memory`.
-fn trace_of_record(
-    alloc: Global,
-    stored: &ScriptRecord,
-    remarks: &[PlacedRemark],
-) -> Result<Vec<u8>, PictureFault>
-    ensures few { OnOk result (events_of_record stored.now ≤ 2000) }
-    ensures text { IfOk result (λ text. text.items ≡ trace_of_record stored.now remarks.now) }
-    ensures many { IsErrOf result PictureFault.TooManyEvents → 2000 < events_of_record stored.now }
-    ensures memory { (e : Fault) → IsErrOf result (PictureFault.Script e) → e ≡ Fault.Memory }
-{
-    match stored {
-        ScriptRecord::Queue(recorded) => {
-            let name = ObjectName::Queue.word();
-            trace_of_events(alloc, name, QueueObject, recorded, remarks)
-        }
-        ScriptRecord::Directory(recorded) => {
-            let name = ObjectName::Directory.word();
-            trace_of_events(alloc, name, DirectoryObject, recorded, remarks)
-        }
-        ScriptRecord::Book(recorded) => {
-            let name = ObjectName::Book.word();
-            trace_of_events(alloc, name, BookObject, recorded, remarks)
-        }
-        ScriptRecord::Sticky(recorded) => {
-            let name = ObjectName::Sticky.word();
-            trace_of_events(alloc, name, StickyObject, recorded, remarks)
-        }
+    fn push_remark(
+        alloc: Global,
+        one: &PlacedRemark,
+        text: &mut Vec<u8>,
+    ) -> Result<(), AllocError> {
+        push_remark_line(alloc, one, text)
     }
 }
 
@@ -133,12 +55,5 @@ pub fn json_of<I: TextIn>(alloc: Global, reader: &mut I) -> Result<Vec<u8>, Pict
     ensures fault { (e : Fault) → IsErrOf result (PictureFault.Script e) → IsFaultOfScript e
         → HasFault (scripts_of 1048576) (I.remaining reader.old) e }
 {
-    let options = Options {
-        history: HISTORY,
-        echo: Echo::Off,
-    };
-    match run_of_script(alloc, reader, &options) {
-        Ok(run) => trace_of_record(alloc, &run.record, &run.remarks),
-        Err(fault) => Err(PictureFault::Script(fault)),
-    }
+    told_of::<InJson, I>(alloc, reader)
 }

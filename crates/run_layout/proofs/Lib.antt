@@ -3,3 +3,4 @@ pub mod Pushing
 pub mod Finding
 pub mod Columns
 pub mod Scripts
+pub mod Telling

@@ -10,8 +10,9 @@ use Rattle.uni_record.specs.Recorded.{Recording}
 use Rattle.uni_script.specs.Objects.{SpokenObject}
 use Rattle.uni_script.specs.Meaning.{Session}
 use Rattle.uni_script.specs.ScriptRun.{session_of_record, IsScriptRun, HasRunWhole, IsOwnRunOf}
+use Rattle.uni_script.specs.declared.options.Options.{Options}
 use Rattle.uni_script.specs.declared.options.Echo.TheVariants.{Off}
-use Rattle.uni_script.specs.Scripts.{ScriptSession, own_scripts_of}
+use Rattle.uni_script.specs.Scripts.{ScriptSession, own_scripts, own_scripts_of}
 use Rattle.uni_script.specs.declared.remarks.PlacedRemark.{PlacedRemark}
 use Rattle.uni_script.specs.Remarks.{remark_at}
 use Rattle.run_marks.specs.Shown.{marks_shown}
@@ -42,6 +43,16 @@ events-marks (Sticky r) = refl
 -- the session of a run has the events of its record
 events-run : (b : ScriptSession) (version : Version) (r : ScriptRecord) → b ≡ session_of_record version r → length b.session.events ≡ events_of_record r
 events-run b version r is = ap (λ (s : ScriptSession). length s.session.events) is ∙ events-record version r
+
+-- a run with the options by default
+pub default_run : (options : Options) (left : Option (List ℕ)) (run : ScriptRun ScriptRecord) → options ≡ record { history = 1048576; echo = Off } → IsScriptRun options left run
+    → IsScriptRun (record { history = 1048576; echo = Off }) left run
+default_run options left run same is = subst (λ o. IsScriptRun o left run) same is
+
+pub default_own_run : {O S I R : Type 0} (o : SpokenObject S I R) (name : List ℕ) (options : Options) (left : Option (List ℕ)) (run : ScriptRun (Recording O S I R)) → options ≡ record { history = 1048576; echo = Off }
+    → HasRunWhole (own_scripts o name options) left (λ b remarks. IsOwnRunOf o b remarks run)
+    → HasRunWhole (own_scripts o name (record { history = 1048576; echo = Off })) left (λ b remarks. IsOwnRunOf o b remarks run)
+default_own_run o name options left run same is = subst (λ options. HasRunWhole (own_scripts o name options) left (λ b remarks. IsOwnRunOf o b remarks run)) same is
 
 pub IsSubject-run : (left : Option (List ℕ)) (run : ScriptRun ScriptRecord) → IsScriptRun (record { history = 1048576; echo = Off }) left run → (subject : Subject) → events_of_record run.record ≤ 2000
     → marks_shown subject.marks ≡ marks_of_record run.record → subject.remarks.items ≡ run.remarks.items → IsSubject left (marks_shown subject.marks) subject.remarks.items

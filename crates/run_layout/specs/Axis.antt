@@ -3,8 +3,6 @@ use Rattle.std.specs.Prelude.{◌≡◌, ℕ, zero, suc, ◌+◌, ◌-◌, ◌*�
 use Rattle.std.specs.Prelude.{if◌then◌else◌, nat_le, List, [], ◌∷◌, length, map, take, slice_index_or, Option, Some, None, refl}
 use Rattle.std.specs.List.{find, sum, sum_by}
 use Rattle.std.specs.Option.{option_map_or}
-use Rattle.uni_script.specs.declared.remarks.Remark.{Remark}
-use Rattle.uni_script.specs.declared.remarks.Remark.TheVariants.{Heading, Note, Refused}
 use Rattle.uni_script.specs.declared.remarks.PlacedRemark.{PlacedRemark}
 use Rattle.run_marks.specs.declared.marks.EraLine.{EraLine}
 use Rattle.run_marks.specs.Marks.{End, Called, RunMarks}
@@ -12,7 +10,8 @@ use Rattle.run_layout.specs.declared.axis.Scale.{Scale}
 use Rattle.run_layout.specs.declared.axis.Column.{Column}
 use Rattle.run_layout.specs.declared.axis.Room.{Room}
 use Rattle.run_layout.specs.declared.axis.Axis.{Axis}
-use Rattle.run_layout.specs.Wording.{label_text, line_text, refusal_words}
+use Rattle.run_layout.specs.Wording.{label_text, line_text}
+use Rattle.run_layout.specs.Refusals.{Label, labels_of}
 
 -- the things of a picture are not too wide
 pub record IsScale (scale : Scale) : Type 0 where
@@ -56,14 +55,13 @@ unfoldable pub widths_from : RunMarks → Scale → (event count : ℕ) → List
 widths_from marks scale event zero = []
 widths_from marks scale event (suc n) = width_of marks scale event ∷ widths_from marks scale (event + 1) n
 
--- how wide what is told is: a refusal has its mark and its words, a note nothing
-abbrev pub remark_room : Scale → Remark → ℕ
-remark_room scale (Refused refusal) = scale.mark + label_room scale (refusal_words refusal)
-remark_room scale (Heading text) = 0
-remark_room scale (Note text) = 0
+-- how wide what is told is: a refusal has its mark and its label, a note nothing
+abbrev pub told_room : Scale → Option (List ℕ) → ℕ
+told_room scale (Some text) = scale.mark + label_room scale text
+told_room scale None = 0
 
-abbrev pub room_of : Scale → PlacedRemark → Room
-room_of scale one = record { before = one.before; width = remark_room scale one.remark }
+abbrev pub room_of : Scale → Label → Room
+room_of scale one = record { before = one.before; width = told_room scale one.text }
 
 -- the room that is taken up before an event by what is told
 abbrev pub room_until : List Room → (event : ℕ) → ℕ
@@ -102,7 +100,7 @@ places_with start widths rooms =
 
 -- where the marks of a run and what is told beside them stand
 abbrev pub places_of : RunMarks → List PlacedRemark → Scale → Places
-places_of marks remarks scale = places_with scale.start (widths_from marks scale 0 marks.events) (map (room_of scale) remarks)
+places_of marks remarks scale = places_with scale.start (widths_from marks scale 0 marks.events) (map (room_of scale) (labels_of remarks))
 
 -- where an event stands, and what is told; the end of all of one that there isn't
 abbrev pub past_all : Places → Column

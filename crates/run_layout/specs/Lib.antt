@@ -1,4 +1,6 @@
 pub mod Wording
 pub mod Wrapping
+pub mod Refusals
+pub mod Titles
 pub mod Axis
 pub mod Subject

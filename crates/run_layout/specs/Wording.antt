@@ -1,6 +1,7 @@
 -- The texts of a picture.
 use Rattle.std.specs.Prelude.{◌≡◌, ℕ, ◌==◌, if◌then◌else◌, List, [], ◌∷◌, ◌++◌, length, Option, Some, None}
-use Rattle.std.specs.Prelude.{codes, refl}
+use Rattle.std.specs.Prelude.{codes, refl, Bool, ◌&&◌, not}
+use Rattle.std.specs.List.{filter, find, list_any}
 use Rattle.std.specs.Fmt.{decimal, digits}
 use Rattle.std.specs.Option.{option_map_or}
 use Rattle.uni_core.specs.declared.stage.StepKind.{StepKind}
@@ -9,7 +10,8 @@ use Rattle.uni_core.specs.declared.stage.StepKind.TheVariants.{DecideAfter, Deci
 use Rattle.uni_script.specs.declared.answer.Refusal.{Refusal}
 use Rattle.uni_script.specs.declared.answer.Refusal.TheVariants.{Process, Busy, Row, Idle, Pending, Sequence, History, Count}
 use Rattle.uni_script.specs.Answer.{call_text}
-use Rattle.uni_script.specs.Schedules.{word_of_object}
+use Rattle.run_marks.specs.declared.marks.StepMark.{StepMark}
+use Rattle.run_marks.specs.declared.marks.Dot.{Dot}
 use Rattle.run_marks.specs.declared.marks.EraEnd.{EraEnd}
 use Rattle.run_marks.specs.declared.marks.EraEnd.TheVariants.{Trim, Reshape}
 use Rattle.run_marks.specs.declared.marks.EraLine.{EraLine}
@@ -52,6 +54,14 @@ abbrev pub kinds : List StepKind
 kinds = Announce ∷ ScanHead ∷ ScanSeq ∷ WriteScan ∷ Test ∷ ReadAnnounce ∷ ReadHelpSeq ∷ DecideAfter ∷ DecideNew
     ∷ WriteBefore ∷ WriteSeq ∷ WriteHead ∷ Finish ∷ []
 
+-- whether a step of this kind is among some: letters tell kinds apart
+abbrev pub occurs : List StepMark → StepKind → Bool
+occurs steps kind = list_any (λ step. letter_of step.kind == letter_of kind) steps
+
+-- the kinds of step that occur, in the order in which a call takes them
+abbrev pub kinds_of : List StepMark → List StepKind
+kinds_of steps = filter (occurs steps) kinds
+
 -- so many things, with the word for one of them and that for any other number
 abbrev pub counted_text : (n : ℕ) (one many : List ℕ) → List ℕ
 counted_text n one many = decimal n ++ codes " " ++ (if n == 1 then one else many)
@@ -74,7 +84,7 @@ end_text (Reshape processes) number = codes "reshaped " ++ decimal processes ++ 
 abbrev pub line_text : EraLine → List ℕ
 line_text line = end_text line.end line.number
 
--- the words of a refusal, without `refused` and without the process whose lane it stands in
+-- the words of a refusal, without `refused` and without the process that is its reason
 abbrev pub refusal_words : Refusal → List ℕ
 refusal_words (Process process) = codes "process " ++ decimal process
 refusal_words (Busy process) = codes "busy"
@@ -85,7 +95,7 @@ refusal_words Sequence = codes "sequence"
 refusal_words History = codes "history"
 refusal_words (Count count) = codes "count " ++ decimal count
 
--- the process in whose lane a refusal stands, if it is of one
+-- the process whose state is the reason of a refusal, if one's is
 abbrev pub lane_of : Refusal → Option ℕ
 lane_of (Busy process) = Some process
 lane_of (Row process) = Some process
@@ -100,9 +110,20 @@ lane_of (Count count) = None
 abbrev pub cell_words : Cell → List ℕ
 cell_words cell = cell.words ++ codes " -> " ++ option_map_or (λ reply. reply) cell.reply (codes "?")
 
--- the number and the call of a cell
-abbrev pub cell_name : Cell → List ℕ
-cell_name cell = decimal cell.number ++ codes ": " ++ call_text cell.call
+-- whether a dot is of this cell's call, and another process linked the cell
+abbrev pub is_help : Cell → Dot → Bool
+is_help cell dot =
+    dot.call.process == cell.call.process && dot.call.nth == cell.call.nth && not (dot.by == cell.call.process)
+
+-- the process that linked a cell by this dot
+abbrev pub linker_text : Dot → List ℕ
+linker_text dot = codes " by P" ++ decimal dot.by
+
+-- the number and the call of a cell, and the process that linked it, where that is another than the call's
+abbrev pub cell_name : List Dot → Cell → List ℕ
+cell_name dots cell =
+    decimal cell.number ++ codes ": " ++ call_text cell.call
+    ++ option_map_or linker_text (find (is_help cell) dots) []
 
 -- the title of a picture
 abbrev pub title_text : RunMarks → List ℕ
@@ -110,6 +131,11 @@ title_text marks =
     marks.object ++ codes ": " ++ counted_text (lanes_of marks.eras) (codes "process") (codes "processes") ++ codes ", "
     ++ counted_text (length marks.bars) (codes "call") (codes "calls") ++ codes ", "
     ++ counted_text marks.events (codes "event") (codes "events")
+
+-- a test and an announcement occur, in the order of calls
+kinds_of_two : kinds_of (record { event = 1; process = 0; kind = Test } ∷ record { event = 2; process = 1; kind = Announce } ∷ [])
+    ≡ Announce ∷ Test ∷ []
+kinds_of_two = refl
 
 -- a call that has returned, and one that hasn't
 label_returned : label_text (record {
@@ -131,3 +157,10 @@ label_pending = refl
 counts_of_one_turn : counts_text (record { event = 9; reply = []; steps = 24; turns = 1 }) ≡ codes "24 steps 1 turn"
 unfolding digits
 counts_of_one_turn = refl
+
+-- a cell that another process linked
+name_of_helped : cell_name (record { event = 9; call = record { process = 1; nth = 0 }; by = 0 } ∷ [])
+    (record { number = 2; call = record { process = 1; nth = 0 }; words = codes "deq"; reply = None })
+    ≡ codes "2: 1.0 by P0"
+unfolding digits
+name_of_helped = refl

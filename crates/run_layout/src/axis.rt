@@ -4,14 +4,16 @@ ghost use Rattle.std.specs.Prelude.{◌≡◌, ◌+◌, ◌-◌, ◌*◌, ◌≤
 ghost use Rattle.std.specs.List.{All, sum, sum_by};
 ghost use Rattle.run_marks.specs.Shown.{bar_shown, marks_shown};
 ghost use Rattle.run_layout.specs.Axis.{IsScale, letters_of, label_room, last_event, bar_room, line_room};
-ghost use Rattle.run_layout.specs.Axis.{width_of_line, width_of, widths_from, remark_room, room_of, room_until};
+ghost use Rattle.run_layout.specs.Axis.{width_of_line, width_of, widths_from, told_room, room_of, room_until};
+ghost use Rattle.run_layout.specs.Refusals.{told_shown};
 ghost use Rattle.run_layout.specs.Axis.{event_columns, remark_columns, places_shown, places_of, event_column};
 ghost use Rattle.run_layout.specs.Axis.{remark_column, middle_of, right_of};
 
-use crate::wording::{label_of, line_of, refusal_of};
+use crate::refusals::{Told, told_of};
+use crate::wording::{label_of, line_of};
 use run_marks::{Bar, EraLine, Marks};
 use std::alloc::{AllocError, Global};
-use uni_script::{PlacedRemark, Remark};
+use uni_script::PlacedRemark;
 
 /// How many events a picture has at most.
 pub const MOST_EVENTS: u64 = 2_000;
@@ -224,37 +226,33 @@ fn widths_of(alloc: Global, marks: &Marks, scale: Scale) -> Result<Vec<u32>, All
     Ok(widths)
 }
 
-/// How wide what is told is: a refusal has its mark and its words, a note nothing.
-///
-/// An `Err` says that memory was refused.
-fn remark_room(alloc: Global, remark: &Remark, scale: Scale) -> Result<u32, AllocError>
+/// What a remark takes up: a refusal has its mark and its label, a note nothing.
+fn room_of(told: &Told, scale: Scale) -> Room
     requires { IsScale scale }
-    ensures small { IfOk result (λ width. width ≤ 8024) }
-    ensures room { IfOk result (λ width. width ≡ remark_room scale remark.now) }
+    ensures small { result.width ≤ 8024 }
+    ensures room { result ≡ room_of scale (told_shown told.now) }
 {
-    match remark {
-        Remark::Refused(refusal) => {
-            let words = refusal_of(alloc, *refusal)?;
-            Ok(scale.mark + label_room(&words, scale))
-        }
-        Remark::Heading(_) | Remark::Note(_) => Ok(0),
+    let width = match &told.label {
+        Some(label) => scale.mark + label_room(label, scale),
+        None => 0,
+    };
+    Room {
+        before: told.before,
+        width,
     }
 }
 
 /// What each remark takes up.
 ///
 /// An `Err` says that memory was refused.
-fn rooms_of(alloc: Global, remarks: &[PlacedRemark], scale: Scale) -> Result<Vec<Room>, AllocError>
+fn rooms_of(alloc: Global, told: &[Told], scale: Scale) -> Result<Vec<Room>, AllocError>
     requires { IsScale scale }
     ensures small { IfOk result (λ rooms. All (λ room. room.width ≤ 8024) rooms.items) }
-    ensures rooms { IfOk result (λ rooms. rooms.items ≡ map (room_of scale) remarks.now) }
+    ensures rooms { IfOk result (λ rooms. rooms.items ≡ map (room_of scale) (map told_shown told.now)) }
 {
     let mut rooms = Vec::new(alloc);
-    for one in remarks {
-        rooms.push(Room {
-            before: one.before,
-            width: remark_room(alloc, &one.remark, scale)?,
-        })?;
+    for one in told {
+        rooms.push(room_of(one, scale))?;
     }
     Ok(rooms)
 }
@@ -387,7 +385,8 @@ pub fn axis_of(
     ensures { IfOk result (λ axis. places_shown axis ≡ places_of (marks_shown marks.now) remarks.now scale) }
 {
     let widths = widths_of(alloc, marks, scale)?;
-    let rooms = rooms_of(alloc, remarks, scale)?;
+    let told = told_of(alloc, remarks)?;
+    let rooms = rooms_of(alloc, &told, scale)?;
     let events = event_columns(alloc, scale.start, &rooms, &widths)?;
     let remarks = remark_columns(alloc, scale.start, &widths, &rooms)?;
     let end = scale.start + total(&widths) + room_in_all(&rooms);

@@ -3,14 +3,18 @@
 #![tactic(auto)]
 
 mod axis;
+mod refusals;
 mod subject;
+mod titles;
 mod wording;
 mod wrapping;
 
 pub use axis::{Axis, Column, MOST_EVENTS, MOST_LANES, MOST_REMARKS, Scale, axis_of, letters};
+pub use refusals::{Told, refused_text, told_of};
 pub use subject::{PictureFault, Subject, subject_of, subject_of_object};
+pub use titles::step_title;
 pub use wording::{
-    KINDS, cell_name, cell_words, counts_of, label_of, lane_of, letter_of, line_of, meaning_of,
-    refusal_of, title_of,
+    cell_name, cell_words, counts_of, kinds_of, label_of, lane_of, letter_of, line_of, meaning_of,
+    push_counted, refusal_of, title_of,
 };
 pub use wrapping::{MOST_LINES, push_lines};

@@ -17,12 +17,9 @@ use std::alloc::{AllocError, Global};
 use std::fmt;
 use uni_record::Recorded;
 use uni_script::{
-    BenchFault, Echo, ObjectName, Options, PlacedRemark, ScriptRecord, ScriptRun, TextIn,
-    run_of_object, run_of_script,
+    BenchFault, ObjectName, Options, PlacedRemark, ScriptRecord, ScriptRun, TextIn, run_of_object,
+    run_of_script,
 };
-
-/// How many events a script can have, as where `unibench replay` isn't told.
-const HISTORY: u64 = 1_048_576;
 
 /// Why there is no picture.
 #[derive(Clone, Copy, Debug, PartialEq, Eq)]
@@ -140,11 +137,7 @@ pub fn subject_of<I: TextIn>(alloc: Global, reader: &mut I) -> Result<Subject, P
     ensures fault { (e : Fault) → IsErrOf result (PictureFault.Script e) → IsFaultOfScript e
         → HasFault (scripts_of 1048576) (I.remaining reader.old) e }
 {
-    let options = Options {
-        history: HISTORY,
-        echo: Echo::Off,
-    };
-    match run_of_script(alloc, reader, &options) {
+    match run_of_script(alloc, reader, &Options::default()) {
         Ok(run) => subject_of_run(alloc, run),
         Err(fault) => Err(PictureFault::Script(fault)),
     }
@@ -174,11 +167,7 @@ pub fn subject_of_object<O: Spoken + Copy, I: TextIn>(
         → HasFault (own_scripts_of (spoken O.sequential O.language object) name.now 1048576)
         (I.remaining reader.old) e }
 {
-    let options = Options {
-        history: HISTORY,
-        echo: Echo::Off,
-    };
-    match run_of_object(alloc, object, name, reader, &options) {
+    match run_of_object(alloc, object, name, reader, &Options::default()) {
         Ok(run) => subject_of_own_run(alloc, object, name, run),
         Err(fault) => Err(PictureFault::Script(fault)),
     }

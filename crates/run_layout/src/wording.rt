@@ -1,11 +1,15 @@
 //! The texts of a picture.
 
-ghost use Rattle.std.specs.Prelude.{◌≡◌, ◌++◌, IfOk, OnOk};
+ghost use Rattle.std.specs.Prelude.{◌≡◌, ◌≤◌, ◌+◌, ◌++◌, ◌∷◌, []};
+ghost use Rattle.std.specs.Prelude.{if◌then◌else◌, IfOk, OnOk, length};
+ghost use Rattle.std.specs.List.{find};
+ghost use Rattle.std.specs.Option.{option_map_or};
 ghost use Rattle.run_marks.specs.Shown.{end_shown, bar_shown, cell_shown, marks_shown};
+ghost use Rattle.run_layout.specs.Wording.{occurs, kinds_of, linker_text, is_help};
 ghost use Rattle.run_layout.specs.Wording.{letter_of, meaning_of, label_text, counted_text, counts_text, line_text};
 ghost use Rattle.run_layout.specs.Wording.{refusal_words, lane_of, cell_words, cell_name, title_text};
 
-use run_marks::{Bar, BarEnd, CellBox, EraEnd, EraLine, Marks};
+use run_marks::{Bar, BarEnd, CellBox, Dot, EraEnd, EraLine, Marks, StepMark};
 use std::alloc::{AllocError, Global};
 use std::io::Write;
 use uni_core::StepKind;
@@ -54,7 +58,7 @@ pub fn meaning_of(kind: StepKind) -> &'static str
 }
 
 /// The kinds of step, in the order in which a call takes them.
-pub const KINDS: [StepKind; 13] = [
+const KINDS: [StepKind; 13] = [
     StepKind::Announce,
     StepKind::ScanHead,
     StepKind::ScanSeq,
@@ -69,6 +73,50 @@ pub const KINDS: [StepKind; 13] = [
     StepKind::WriteHead,
     StepKind::Finish,
 ];
+
+/// Whether a step of this kind is among some.
+fn occurs(steps: &[StepMark], kind: StepKind) -> bool
+    ensures { result ≡ occurs steps.now kind }
+{
+    for step in steps {
+        if letter_of(step.kind) == letter_of(kind) {
+            return true;
+        }
+    }
+    false
+}
+
+/// Adds a kind of step where one of that kind is among some.
+///
+/// An `Err` says that memory was refused.
+fn push_kind(
+    steps: &[StepMark],
+    kind: StepKind,
+    found: &mut Vec<StepKind>,
+) -> Result<(), AllocError>
+    ensures few { OnOk result (length found.new.items ≤ length found.old.items + 1) }
+    ensures kinds { OnOk result (found.new.items
+        ≡ found.old.items ++ (if occurs steps.now kind then kind ∷ [] else [])) }
+{
+    if occurs(steps, kind) {
+        found.push(kind)?;
+    }
+    Ok(())
+}
+
+/// The kinds of step that are among some, in the order in which a call takes them.
+///
+/// An `Err` says that memory was refused.
+pub fn kinds_of(alloc: Global, steps: &[StepMark]) -> Result<Vec<StepKind>, AllocError>
+    ensures few { IfOk result (λ found. length found.items ≤ 13) }
+    ensures kinds { IfOk result (λ found. found.items ≡ kinds_of steps.now) }
+{
+    let mut found = Vec::new(alloc);
+    for kind in KINDS {
+        push_kind(steps, kind, &mut found)?;
+    }
+    Ok(found)
+}
 
 /// The label of a call's bar: the call and its words, and its reply where it has returned.
 ///
@@ -89,7 +137,7 @@ pub fn label_of(alloc: Global, bar: &Bar) -> Result<Vec<u8>, AllocError>
 /// Adds how many there are of something, with the word for one and that for any other number.
 ///
 /// An `Err` says that memory was refused.
-fn push_counted(text: &mut Vec<u8>, count: u64, one: &str, many: &str) -> Result<(), AllocError>
+pub fn push_counted(text: &mut Vec<u8>, count: u64, one: &str, many: &str) -> Result<(), AllocError>
     ensures { OnOk result (text.new.items ≡ text.old.items ++ counted_text count one.now many.now) }
 {
     let word = if count == 1 { one } else { many };
@@ -125,7 +173,7 @@ pub fn line_of(alloc: Global, line: &EraLine) -> Result<Vec<u8>, AllocError>
     Ok(text)
 }
 
-/// The words of a refusal, without `refused` and without the process whose lane it stands in.
+/// The words of a refusal, without `refused` and without the process that is its reason.
 ///
 /// An `Err` says that memory was refused.
 pub fn refusal_of(alloc: Global, refusal: Refusal) -> Result<Vec<u8>, AllocError>
@@ -146,7 +194,7 @@ pub fn refusal_of(alloc: Global, refusal: Refusal) -> Result<Vec<u8>, AllocError
     Ok(text)
 }
 
-/// The process in whose lane a refusal stands; `None` of one that is above the lanes.
+/// The process whose state is the reason of a refusal; `None` where no process's is.
 pub fn lane_of(refusal: Refusal) -> Option<u64>
     ensures { result ≡ lane_of refusal }
 {
@@ -175,14 +223,49 @@ pub fn cell_words(alloc: Global, cell: &CellBox) -> Result<Vec<u8>, AllocError>
     Ok(text)
 }
 
-/// The number and the call of a cell.
+/// Whether a dot is of this cell's call, and another process linked the cell.
+fn is_help(cell: &CellBox, dot: &Dot) -> bool
+    ensures { result ≡ is_help (cell_shown cell.now) dot.now }
+{
+    dot.call.process == cell.call.process
+        && dot.call.nth == cell.call.nth
+        && dot.by != u64::from(cell.call.process)
+}
+
+/// Adds the process that linked a cell by this dot.
 ///
 /// An `Err` says that memory was refused.
-pub fn cell_name(alloc: Global, cell: &CellBox) -> Result<Vec<u8>, AllocError>
-    ensures { IfOk result (λ text. text.items ≡ cell_name (cell_shown cell.now)) }
+fn push_linker(dot: &Dot, text: &mut Vec<u8>) -> Result<(), AllocError>
+    ensures { OnOk result (text.new.items ≡ text.old.items ++ linker_text dot.now) }
+{
+    write!(text, " by P{}", dot.by).map_err(|_| AllocError)
+}
+
+/// Adds the process that linked a cell, where that is another than the call's.
+///
+/// An `Err` says that memory was refused.
+fn push_helper(dots: &[Dot], cell: &CellBox, text: &mut Vec<u8>) -> Result<(), AllocError>
+    ensures { OnOk result (text.new.items ≡ text.old.items
+        ++ option_map_or linker_text (find (is_help (cell_shown cell.now)) dots.now) []) }
+{
+    for dot in dots {
+        if is_help(cell, dot) {
+            return push_linker(dot, text);
+        }
+    }
+    Ok(())
+}
+
+/// The number and the call of a cell, and the process that linked it, by the dots of the run, where that is another
+/// than the call's.
+///
+/// An `Err` says that memory was refused.
+pub fn cell_name(alloc: Global, dots: &[Dot], cell: &CellBox) -> Result<Vec<u8>, AllocError>
+    ensures { IfOk result (λ text. text.items ≡ cell_name dots.now (cell_shown cell.now)) }
 {
     let mut text = Vec::new(alloc);
     write!(text, "{}: {}", cell.number, cell.call).map_err(|_| AllocError)?;
+    push_helper(dots, cell, &mut text)?;
     Ok(text)
 }
 

@@ -15,13 +15,14 @@ flat_map_range_more f n =
     ap (flat_map f) more ∙ flat_map-append f (range_with_len 0 n) (n ∷ []) ∙ ap (λ l. flat_map f (range_with_len 0 n) ++ l) (append-nil (f n))
 
 -- an entry of the legend, and those after it
-pub entries_more : (place i : ℕ) (kinds : List StepKind) (kind : StepKind) → i < length kinds → entries_from place (drop i kinds) ≡ entry_text place (get_or kinds i kind) ++ entries_from (place + 1) (drop (i + 1) kinds)
+pub entries_more : (count place : ℕ) (kinds : List StepKind) (i : ℕ) (any : StepKind) → i < length kinds
+    → entries_from count place (drop i kinds) ≡ entry_text count place (get_or kinds i any) ++ entries_from count (place + 1) (drop (i + 1) kinds)
 unfolding entries_from
-entries_more place i kinds kind inside = ap (entries_from place) (drop_more kinds i kind inside)
+entries_more count place kinds i any inside = ap (entries_from count place) (drop_more kinds i any inside)
 
-pub entries_none : (place i : ℕ) (kinds : List StepKind) → length kinds ≤ i → entries_from place (drop i kinds) ≡ []
+pub entries_none : (count place i : ℕ) (kinds : List StepKind) → length kinds ≤ i → entries_from count place (drop i kinds) ≡ []
 unfolding entries_from
-entries_none place i kinds past = ap (entries_from place) (drop_all i kinds past)
+entries_none count place i kinds past = ap (entries_from count place) (drop_all i kinds past)
 
 -- a first letter, what comes after it, and an end
 pub three_parts : (old pushed kinded new entries end : List ℕ) (b : ℕ) → pushed ≡ old ++ b ∷ [] → kinded ≡ pushed ++ entries → new ≡ kinded ++ end → new ≡ old ++ (b ∷ (entries ++ end))

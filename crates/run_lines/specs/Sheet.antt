@@ -8,9 +8,10 @@ use Rattle.uni_core.specs.declared.stage.StepKind.{StepKind}
 use Rattle.uni_script.specs.declared.remarks.Remark.{Remark}
 use Rattle.uni_script.specs.declared.remarks.Remark.TheVariants.{Heading, Note, Refused}
 use Rattle.uni_script.specs.declared.remarks.PlacedRemark.{PlacedRemark}
+use Rattle.run_marks.specs.declared.marks.Dot.{Dot}
 use Rattle.run_marks.specs.Marks.{Cell, EraMarks, RunMarks, lanes_of}
 use Rattle.run_layout.specs.declared.axis.Scale.{Scale}
-use Rattle.run_layout.specs.Wording.{letter_of, meaning_of, kinds, cell_name, cell_words, title_text}
+use Rattle.run_layout.specs.Wording.{letter_of, meaning_of, kinds_of, cell_name, cell_words, title_text}
 use Rattle.run_layout.specs.Wrapping.{lines_of}
 use Rattle.run_layout.specs.Axis.{Places, places_of}
 use Rattle.run_lines.specs.declared.numbering.Numbering.{Numbering}
@@ -99,40 +100,42 @@ notes_from numbering (one ∷ remarks) =
     let next = numbering_after numbering one in note_text next.number one.remark ++ notes_from next remarks
 
 -- a cell of an era
-abbrev pub cell_text : Cell → List ℕ
-cell_text cell = ended (codes "  " ++ cell_name cell ++ codes " " ++ cell_words cell)
+abbrev pub cell_text : List Dot → Cell → List ℕ
+cell_text dots cell = ended (codes "  " ++ cell_name dots cell ++ codes " " ++ cell_words cell)
 
 -- an era, by its place from 0, with its anchor and its cells
-abbrev pub era_text : (place : ℕ) → EraMarks → List ℕ
-era_text place era =
+abbrev pub era_text : List Dot → (place : ℕ) → EraMarks → List ℕ
+era_text dots place era =
     ended (codes "era " ++ decimal (place + 1) ++ codes ", after the anchor " ++ decimal era.anchor ++ codes ":")
-    ++ flat_map cell_text era.cells
+    ++ flat_map (cell_text dots) era.cells
 
-abbrev pub eras_from : (place : ℕ) → List EraMarks → List ℕ
-eras_from place [] = []
-eras_from place (era ∷ eras) = era_text place era ++ eras_from (place + 1) eras
+abbrev pub eras_from : List Dot → (place : ℕ) → List EraMarks → List ℕ
+eras_from dots place [] = []
+eras_from dots place (era ∷ eras) = era_text dots place era ++ eras_from dots (place + 1) eras
 
 -- a kind of step: its letter and what it means
 abbrev pub kind_text : StepKind → List ℕ
 kind_text kind = letter_of kind ∷ 32 ∷ meaning_of kind
 
--- the entry of a kind in the legend, by its place: three stand in a line, 30 columns from each other
-abbrev pub entry_text : (place : ℕ) → StepKind → List ℕ
-entry_text place kind = if place % 3 == 2 || place == 12 then ended (kind_text kind) else padded 30 (kind_text kind)
+-- the entry of a kind in the legend, by its place among so many: three stand in a line, 30 columns from each other
+abbrev pub entry_text : (count place : ℕ) → StepKind → List ℕ
+entry_text count place kind =
+    if place % 3 == 2 || place + 1 == count then ended (kind_text kind) else padded 30 (kind_text kind)
 
-unfoldable pub entries_from : (place : ℕ) → List StepKind → List ℕ
-entries_from place [] = []
-entries_from place (kind ∷ more) = entry_text place kind ++ entries_from (place + 1) more
+unfoldable pub entries_from : (count place : ℕ) → List StepKind → List ℕ
+entries_from count place [] = []
+entries_from count place (kind ∷ more) = entry_text count place kind ++ entries_from count (place + 1) more
 
--- a blank line, and the letters and signs of the rows
-unfoldable pub legend_text : List ℕ
-legend_text = 10 ∷ entries_from 0 kinds ++ ended (codes "[ a call begins; * it takes effect; v, ^ another process links it; x refused")
+-- a blank line, the letters of some kinds of step, and the signs of the rows
+unfoldable pub legend_text : (kinds : List StepKind) → List ℕ
+legend_text kinds =
+    10 ∷ entries_from (length kinds) 0 kinds ++ ended (codes "[ a call begins; * it takes effect; v, ^ another process links it; x refused")
 
 -- ---- the whole text
 
--- each letter is one column wide
+-- each letter is one column wide, and the mark of a refusal takes two
 abbrev pub narrow : Scale
-narrow = record { start = 0; step = 1; letter = 1; mark = 1 }
+narrow = record { start = 0; step = 1; letter = 1; mark = 2 }
 
 -- how many lanes are drawn: a script has no more than 64 processes
 abbrev pub lanes_drawn : RunMarks → ℕ
@@ -149,7 +152,7 @@ abbrev pub lines_of_marks : RunMarks → List PlacedRemark → List ℕ
 lines_of_marks marks remarks =
     wrapped (title_text marks) ++ headings_text remarks
     ++ rows_text_of (places_of marks remarks narrow) marks remarks
-    ++ notes_from no_notes remarks ++ eras_from 0 marks.eras ++ legend_text
+    ++ notes_from no_notes remarks ++ eras_from marks.dots 0 marks.eras ++ legend_text (kinds_of marks.steps)
 
 -- a row of bars has its name; a row without letters is blank, and above the lanes left out
 fourth_row : row_text 3 (codes "[AH  ") ≡ codes "P0  [AH\n"

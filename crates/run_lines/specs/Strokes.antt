@@ -2,9 +2,7 @@
 use Rattle.std.specs.Prelude.{◌≡◌, ℕ, ◌+◌, ◌-◌, ◌*◌, min, ◌==◌, nat_lt, if◌then◌else◌, List, [], ◌∷◌}
 use Rattle.std.specs.Prelude.{◌++◌, length, replicate, Option, Some, None, codes, refl}
 use Rattle.std.specs.List.{flat_map}
-use Rattle.std.specs.Option.{option_map_or}
 use Rattle.std.specs.Fmt.{decimal}
-use Rattle.uni_script.specs.declared.answer.Refusal.{Refusal}
 use Rattle.uni_script.specs.declared.remarks.Remark.{Remark}
 use Rattle.uni_script.specs.declared.remarks.Remark.TheVariants.{Heading, Note, Refused}
 use Rattle.uni_script.specs.declared.remarks.PlacedRemark.{PlacedRemark}
@@ -13,7 +11,8 @@ use Rattle.run_marks.specs.declared.marks.Dot.{Dot}
 use Rattle.run_marks.specs.declared.marks.EraLine.{EraLine}
 use Rattle.run_marks.specs.Marks.{End, Called, RunMarks}
 use Rattle.run_layout.specs.declared.axis.Column.{Column}
-use Rattle.run_layout.specs.Wording.{letter_of, label_text, counts_text, line_text, refusal_words, lane_of}
+use Rattle.run_layout.specs.Wording.{letter_of, label_text, counts_text, line_text}
+use Rattle.run_layout.specs.Refusals.{Label, labels_of}
 use Rattle.run_layout.specs.Axis.{Places, event_column, remark_column, right_of}
 use Rattle.run_lines.specs.declared.canvas.Layer.{Layer}
 use Rattle.run_lines.specs.declared.canvas.Layer.TheVariants.{Over, Behind}
@@ -91,23 +90,28 @@ dot_strokes places lanes dot =
     let column = (event_column places dot.event).left in
     letter_stroke (lane_row lanes dot.call.process + 2) column 42 ∷ arrow_strokes lanes column dot
 
--- the row of a refusal: that of the bars of its process, or the one above the lanes
-abbrev pub refusal_row : (lanes : ℕ) → Refusal → ℕ
-refusal_row lanes refusal = option_map_or (λ process. lane_row lanes process + 1) (lane_of refusal) 1
-
--- what is drawn of a remark in its column: a refusal with an `x` before its words, or the number of a note above the lanes
-abbrev pub remark_strokes : Column → (lanes number : ℕ) → Remark → List Stroke
-remark_strokes column lanes number (Refused refusal) =
-    text_stroke (refusal_row lanes refusal) column.left (120 ∷ refusal_words refusal) ∷ []
-remark_strokes column lanes number (Note text) = text_stroke 0 column.left (decimal number) ∷ []
-remark_strokes column lanes number (Heading text) = []
+-- what is drawn of a remark above its column: the number of a note
+abbrev pub note_strokes : Column → (number : ℕ) → Remark → List Stroke
+note_strokes column number (Note text) = text_stroke 0 column.left (decimal number) ∷ []
+note_strokes column number (Heading text) = []
+note_strokes column number (Refused refusal) = []
 
 -- those of what is told, from a place on
-abbrev pub remarks_from : Places → (lanes place : ℕ) → Numbering → List PlacedRemark → List Stroke
-remarks_from places lanes place numbering [] = []
-remarks_from places lanes place numbering (one ∷ remarks) =
+abbrev pub notes_from : Places → (place : ℕ) → Numbering → List PlacedRemark → List Stroke
+notes_from places place numbering [] = []
+notes_from places place numbering (one ∷ remarks) =
     let next = numbering_after numbering one in
-    remark_strokes (remark_column places place) lanes next.number one.remark ++ remarks_from places lanes (place + 1) next remarks
+    note_strokes (remark_column places place) next.number one.remark ++ notes_from places (place + 1) next remarks
+
+-- the mark of a refusal, above the lanes: an `x` and its label
+abbrev pub refusal_strokes : Column → Option (List ℕ) → List Stroke
+refusal_strokes column (Some label) = text_stroke 1 column.left (120 ∷ 32 ∷ label) ∷ []
+refusal_strokes column None = []
+
+-- the marks of what is told, from a place on
+abbrev pub refusals_from : Places → (place : ℕ) → List Label → List Stroke
+refusals_from places place [] = []
+refusals_from places place (one ∷ labels) = refusal_strokes (remark_column places place) one.text ++ refusals_from places (place + 1) labels
 
 -- what is drawn of a run where its columns stand at these places, in the order in which it is painted
 abbrev pub strokes_on : Places → (lanes : ℕ) → RunMarks → List PlacedRemark → List Stroke
@@ -116,7 +120,8 @@ strokes_on places lanes marks remarks =
     ++ flat_map (bar_strokes places lanes) marks.bars
     ++ flat_map (step_strokes places lanes) marks.steps
     ++ flat_map (dot_strokes places lanes) marks.dots
-    ++ remarks_from places lanes 0 no_notes remarks
+    ++ notes_from places 0 no_notes remarks
+    ++ refusals_from places 0 (labels_of remarks)
 
 -- process 0 links the cell of process 1: the dot stands below the bar of process 1, and the arrow goes down to it from process 0
 arrow_of_help : arrow_strokes 2 7 (record { event = 1; call = record { process = 1; nth = 0 }; by = 0 })

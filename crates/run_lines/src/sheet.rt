@@ -12,7 +12,7 @@ use crate::strokes::{ABOVE, LANE, bottom_row, strokes_of};
 use crate::texts::{
     WIDTH, push_eras, push_headings, push_legend, push_line, push_notes, push_padded, push_wrapped,
 };
-use run_layout::{Axis, MOST_LANES, Scale, axis_of, title_of};
+use run_layout::{Axis, MOST_LANES, Scale, axis_of, kinds_of, title_of};
 use run_marks::Marks;
 use std::alloc::{AllocError, Global};
 use std::io::Write;
@@ -24,12 +24,12 @@ const NAMES: usize = 4;
 /// How many columns a block has.
 const BLOCK: usize = WIDTH - NAMES;
 
-/// Each letter is one column wide.
+/// Each letter is one column wide, and the mark of a refusal takes two.
 const NARROW: Scale = Scale {
     start: 0,
     step: 1,
     letter: 1,
-    mark: 1,
+    mark: 2,
 };
 
 /// What stands before a row: the name of its process, before the row of its bars.
@@ -188,7 +188,7 @@ pub fn text_of(
     let axis = axis_of(alloc, marks, remarks, NARROW)?;
     push_rows(alloc, marks, remarks, &axis, &mut text)?;
     push_notes(alloc, remarks, &mut text)?;
-    push_eras(alloc, &marks.eras, &mut text)?;
-    push_legend(alloc, &mut text)?;
+    push_eras(alloc, &marks.dots, &marks.eras, &mut text)?;
+    push_legend(alloc, &kinds_of(alloc, &marks.steps)?, &mut text)?;
     Ok(text)
 }

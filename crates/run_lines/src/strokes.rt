@@ -4,22 +4,22 @@ ghost use Rattle.std.specs.Prelude.{◌≡◌, ◌++◌, ◌∷◌, [], ◌≤�
 ghost use Rattle.std.specs.List.{flat_map};
 ghost use Rattle.std.specs.Fmt.{decimal};
 ghost use Rattle.run_marks.specs.Shown.{bar_shown, end_shown, marks_shown};
-ghost use Rattle.run_layout.specs.Wording.{refusal_words};
+ghost use Rattle.run_layout.specs.Refusals.{told_shown};
 ghost use Rattle.run_layout.specs.Axis.{places_shown};
 ghost use Rattle.run_lines.specs.Canvas.{stroke_shown};
 ghost use Rattle.run_lines.specs.Strokes.{lane_row, bottom_row, text_stroke, letter_stroke, column_stroke};
 ghost use Rattle.run_lines.specs.Strokes.{line_strokes, bar_end, bar_text, counts_strokes, bar_strokes, step_strokes};
-ghost use Rattle.run_lines.specs.Strokes.{arrow_strokes, dot_strokes, refusal_row, remark_strokes, remarks_from};
+ghost use Rattle.run_lines.specs.Strokes.{arrow_strokes, dot_strokes, notes_from, refusal_strokes, refusals_from};
 ghost use Rattle.run_lines.specs.Strokes.{strokes_on};
 ghost use Rattle.run_lines.specs.Numbers.{no_notes};
 
 use crate::canvas::{Layer, Stroke};
 use crate::numbering::Numbering;
-use run_layout::{Axis, Column, counts_of, label_of, lane_of, letter_of, line_of, refusal_of};
+use run_layout::{Axis, Column, Told, counts_of, label_of, letter_of, line_of, told_of};
 use run_marks::{Bar, BarEnd, Dot, EraLine, Marks, StepMark};
 use std::alloc::{AllocError, Global};
 use std::io::Write;
-use uni_script::{PlacedRemark, Refusal, Remark};
+use uni_script::{PlacedRemark, Remark};
 
 /// How many rows are above the lanes: the numbers of notes, and what has no lane.
 pub const ABOVE: u64 = 2;
@@ -352,38 +352,6 @@ fn push_dots(
     Ok(())
 }
 
-/// The row of a refusal: that of the bars of its process, or the one above the lanes.
-fn refusal_row(lanes: u64, refusal: Refusal) -> u64
-    requires { lanes ≤ 64 }
-    ensures small { result ≤ 259 }
-    ensures row { result ≡ refusal_row lanes refusal }
-{
-    match lane_of(refusal) {
-        Some(process) => lane_row(lanes, process) + 1,
-        None => ABOVE - 1,
-    }
-}
-
-/// Adds a refusal: an `x` and its words.
-///
-/// An `Err` says that memory was refused.
-fn push_refusal(
-    alloc: Global,
-    refusal: Refusal,
-    row: u64,
-    column: u64,
-    strokes: &mut Vec<Stroke>,
-) -> Result<(), AllocError>
-    requires { row ≤ 1000 }
-    ensures { OnOk result (map stroke_shown strokes.new.items
-        ≡ map stroke_shown strokes.old.items ++ text_stroke row column (120 ∷ refusal_words refusal) ∷ []) }
-{
-    let mut text = Vec::new(alloc);
-    text.push(b'x')?;
-    text.extend_from_slice(&refusal_of(alloc, refusal)?)?;
-    push_text(strokes, row, column, text)
-}
-
 /// Adds the number of a note above the lanes.
 ///
 /// An `Err` says that memory was refused.
@@ -401,52 +369,65 @@ fn push_number(
     push_text(strokes, 0, column, text)
 }
 
-/// Adds what is drawn of a remark in its column: a refusal, or the number of a note.
+/// Adds the numbers of the notes among what is told.
 ///
 /// An `Err` says that memory was refused.
-fn push_remark(
-    alloc: Global,
-    remark: &Remark,
-    number: u64,
-    column: Column,
-    lanes: u64,
-    strokes: &mut Vec<Stroke>,
-) -> Result<(), AllocError>
-    requires { lanes ≤ 64 }
-    ensures { OnOk result (map stroke_shown strokes.new.items
-        ≡ map stroke_shown strokes.old.items ++ remark_strokes column lanes number remark.now) }
-{
-    let left = u64::from(column.left);
-    match remark {
-        Remark::Refused(refusal) => {
-            let row = refusal_row(lanes, *refusal);
-            push_refusal(alloc, *refusal, row, left, strokes)
-        }
-        Remark::Note(_) => push_number(alloc, number, left, strokes),
-        Remark::Heading(_) => Ok(()),
-    }
-}
-
-/// Adds what is drawn of what is told.
-///
-/// An `Err` says that memory was refused.
-fn push_remarks(
+fn push_numbers(
     alloc: Global,
     remarks: &[PlacedRemark],
     axis: &Axis,
-    lanes: u64,
     strokes: &mut Vec<Stroke>,
 ) -> Result<(), AllocError>
-    requires remarks { length remarks.now ≤ 100000 }
-    requires lanes { lanes ≤ 64 }
+    requires { length remarks.now ≤ 100000 }
     ensures { OnOk result (map stroke_shown strokes.new.items
-        ≡ map stroke_shown strokes.old.items ++ remarks_from (places_shown axis.now) lanes 0 no_notes remarks.now) }
+        ≡ map stroke_shown strokes.old.items ++ notes_from (places_shown axis.now) 0 no_notes remarks.now) }
 {
     let mut numbering = Numbering::none();
     for (place, one) in remarks.iter().enumerate() {
         numbering = numbering.after(one);
-        let column = axis.remark(place);
-        push_remark(alloc, &one.remark, numbering.number, column, lanes, strokes)?;
+        if let Remark::Note(_) = &one.remark {
+            let column = u64::from(axis.remark(place).left);
+            push_number(alloc, numbering.number, column, strokes)?;
+        }
+    }
+    Ok(())
+}
+
+/// Adds the mark of a refusal, above the lanes: an `x` and its label.
+///
+/// An `Err` says that memory was refused.
+fn push_refusal(
+    alloc: Global,
+    label: &[u8],
+    column: Column,
+    strokes: &mut Vec<Stroke>,
+) -> Result<(), AllocError>
+    ensures { OnOk result (map stroke_shown strokes.new.items
+        ≡ map stroke_shown strokes.old.items ++ refusal_strokes column (Some label.now)) }
+{
+    let mut text = Vec::new(alloc);
+    text.push(b'x')?;
+    text.push(b' ')?;
+    text.extend_from_slice(label)?;
+    push_text(strokes, ABOVE - 1, u64::from(column.left), text)
+}
+
+/// Adds the marks of the refusals among what is told.
+///
+/// An `Err` says that memory was refused.
+fn push_refusals(
+    alloc: Global,
+    told: &[Told],
+    axis: &Axis,
+    strokes: &mut Vec<Stroke>,
+) -> Result<(), AllocError>
+    ensures { OnOk result (map stroke_shown strokes.new.items
+        ≡ map stroke_shown strokes.old.items ++ refusals_from (places_shown axis.now) 0 (map told_shown told.now)) }
+{
+    for (place, one) in told.iter().enumerate() {
+        if let Some(label) = &one.label {
+            push_refusal(alloc, label, axis.remark(place), strokes)?;
+        }
     }
     Ok(())
 }
@@ -472,6 +453,7 @@ pub fn strokes_of(
     push_bars(alloc, &marks.bars, axis, lanes, &mut strokes)?;
     push_steps(alloc, &marks.steps, axis, lanes, &mut strokes)?;
     push_dots(alloc, &marks.dots, axis, lanes, &mut strokes)?;
-    push_remarks(alloc, remarks, axis, lanes, &mut strokes)?;
+    push_numbers(alloc, remarks, axis, &mut strokes)?;
+    push_refusals(alloc, &told_of(alloc, remarks)?, axis, &mut strokes)?;
     Ok(strokes)
 }

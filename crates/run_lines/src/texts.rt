@@ -7,8 +7,8 @@ ghost use Rattle.run_lines.specs.Sheet.{ended, wrapped, padded, headings_text, n
 ghost use Rattle.run_lines.specs.Sheet.{era_text, eras_from, kind_text, entry_text, legend_text};
 
 use crate::numbering::Numbering;
-use run_layout::{KINDS, cell_name, cell_words, letter_of, meaning_of, push_lines};
-use run_marks::{CellBox, Era};
+use run_layout::{cell_name, cell_words, letter_of, meaning_of, push_lines};
+use run_marks::{CellBox, Dot, Era};
 use std::alloc::{AllocError, Global};
 use std::io::Write;
 use uni_core::StepKind;
@@ -121,11 +121,16 @@ pub fn push_notes(
 /// Adds a cell.
 ///
 /// An `Err` says that memory was refused.
-fn push_cell(alloc: Global, cell: &CellBox, text: &mut Vec<u8>) -> Result<(), AllocError>
-    ensures { OnOk result (text.new.items ≡ text.old.items ++ cell_text (cell_shown cell.now)) }
+fn push_cell(
+    alloc: Global,
+    dots: &[Dot],
+    cell: &CellBox,
+    text: &mut Vec<u8>,
+) -> Result<(), AllocError>
+    ensures { OnOk result (text.new.items ≡ text.old.items ++ cell_text dots.now (cell_shown cell.now)) }
 {
     text.extend_from_slice(b"  ")?;
-    text.extend_from_slice(&cell_name(alloc, cell)?)?;
+    text.extend_from_slice(&cell_name(alloc, dots, cell)?)?;
     text.push(b' ')?;
     push_line(&cell_words(alloc, cell)?, text)
 }
@@ -133,27 +138,38 @@ fn push_cell(alloc: Global, cell: &CellBox, text: &mut Vec<u8>) -> Result<(), Al
 /// Adds an era, with its place among the eras from 0: its anchor, and its cells in the order of the list.
 ///
 /// An `Err` says that memory was refused.
-fn push_era(alloc: Global, place: u64, era: &Era, text: &mut Vec<u8>) -> Result<(), AllocError>
+fn push_era(
+    alloc: Global,
+    dots: &[Dot],
+    place: u64,
+    era: &Era,
+    text: &mut Vec<u8>,
+) -> Result<(), AllocError>
     requires { place + 1 < 2 ^ 64 }
-    ensures { OnOk result (text.new.items ≡ text.old.items ++ era_text place (era_shown era.now)) }
+    ensures { OnOk result (text.new.items ≡ text.old.items ++ era_text dots.now place (era_shown era.now)) }
 {
     let number = place + 1;
     let anchor = era.anchor;
     writeln!(text, "era {number}, after the anchor {anchor}:").map_err(|_| AllocError)?;
     for cell in &era.cells {
-        push_cell(alloc, cell, text)?;
+        push_cell(alloc, dots, cell, text)?;
     }
     Ok(())
 }
 
-/// Adds all eras.
+/// Adds all eras of a run with these dots.
 ///
 /// An `Err` says that memory was refused.
-pub fn push_eras(alloc: Global, eras: &[Era], text: &mut Vec<u8>) -> Result<(), AllocError>
-    ensures { OnOk result (text.new.items ≡ text.old.items ++ eras_from 0 (map era_shown eras.now)) }
+pub fn push_eras(
+    alloc: Global,
+    dots: &[Dot],
+    eras: &[Era],
+    text: &mut Vec<u8>,
+) -> Result<(), AllocError>
+    ensures { OnOk result (text.new.items ≡ text.old.items ++ eras_from dots.now 0 (map era_shown eras.now)) }
 {
     for (place, era) in eras.iter().enumerate() {
-        push_era(alloc, place as u64, era, text)?;
+        push_era(alloc, dots, place as u64, era, text)?;
     }
     Ok(())
 }
@@ -171,36 +187,36 @@ fn kind_text(alloc: Global, kind: StepKind) -> Result<Vec<u8>, AllocError>
     Ok(text)
 }
 
-/// Adds a kind of step to the legend, by its place from 0: three stand in a line.
+/// Adds a kind of step to the legend, by its place from 0 among so many: three stand in a line.
 ///
 /// An `Err` says that memory was refused.
 fn push_entry(
     alloc: Global,
+    count: usize,
     place: usize,
     kind: StepKind,
     text: &mut Vec<u8>,
 ) -> Result<(), AllocError>
-    ensures { OnOk result (text.new.items ≡ text.old.items ++ entry_text place kind) }
+    requires { place < count }
+    ensures { OnOk result (text.new.items ≡ text.old.items ++ entry_text count place kind) }
 {
     let entry = kind_text(alloc, kind)?;
-    if place % 3 == 2 || place == 12 {
+    if place % 3 == 2 || place + 1 == count {
         push_line(&entry, text)
     } else {
         push_padded(alloc, &entry, ENTRY, text)
     }
 }
 
-/// Adds the legend.
+/// Adds the legend of some kinds of step.
 ///
 /// An `Err` says that memory was refused.
-pub fn push_legend(alloc: Global, text: &mut Vec<u8>) -> Result<(), AllocError>
-    ensures { OnOk result (text.new.items ≡ text.old.items ++ legend_text) }
+pub fn push_legend(alloc: Global, kinds: &[StepKind], text: &mut Vec<u8>) -> Result<(), AllocError>
+    ensures { OnOk result (text.new.items ≡ text.old.items ++ legend_text kinds.now) }
 {
     text.push(b'\n')?;
-    let mut place = 0;
-    for kind in KINDS {
-        push_entry(alloc, place, kind, text)?;
-        place += 1;
+    for (place, kind) in kinds.iter().enumerate() {
+        push_entry(alloc, kinds.len(), place, *kind, text)?;
     }
     push_line(SIGNS.as_bytes(), text)
 }

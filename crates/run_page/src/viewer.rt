@@ -164,7 +164,7 @@ const SENTENCES = {
     : "linked already, so it will propose its own cell."),
   L: (s) => s.changed
     ? `links ${s.after}: ${s.place} was free.`
-    : `proposes a cell and loses: ${s.place} is ${s.after} already. It will finish that one.`,
+    : `proposes ${s.proposed} and loses: ${s.place} is ${s.after} already. It will finish that one.`,
   V: (s) => s.changed
     ? `settles ${s.place}: ${s.after}.`
     : `proposes a state and loses: ${s.place} is settled already.`,

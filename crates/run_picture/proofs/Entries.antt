@@ -4,7 +4,6 @@ use Rattle.std.proofs.Common.{◌∙◌, ap, sym, arith, append_assoc, append-ni
 use Rattle.std.proofs.lemmas.List.{take_more, length-take-le, length-map, map-append}
 use Rattle.svg_text.specs.Figures.{Figure}
 use Rattle.uni_core.specs.declared.stage.StepKind.{StepKind}
-use Rattle.run_layout.specs.Wording.{kinds}
 use Rattle.run_picture.specs.Legend.{Entry, kind_entry, dot_entry, arrow_entry, refusal_entry, open_entry, entry_at, entries_from}
 
 -- some, and more after them
@@ -33,13 +32,20 @@ six_lists : (start a b d e f g : List Figure) → start ++ a ++ b ++ d ++ e ++ f
 six_lists start a b d e f g = simp (append_assoc, append-nil)
 
 -- the line, the kinds of step, and the four other entries
-pub whole_legend : (top : ℕ) (rule : Figure) (start ruled kinded dotted arrowed refused opened : List Figure)
+pub whole_legend : (top : ℕ) (kinds : List StepKind) (rule : Figure) (start ruled kinded dotted arrowed refused opened : List Figure)
     → ruled ≡ start ++ (rule ∷ []) → kinded ≡ ruled ++ entries_from top 0 (map kind_entry kinds)
-    → dotted ≡ kinded ++ entry_at top 13 dot_entry → arrowed ≡ dotted ++ entry_at top 14 arrow_entry → refused ≡ arrowed ++ entry_at top 15 refusal_entry → opened ≡ refused ++ entry_at top 16 open_entry
+    → dotted ≡ kinded ++ entry_at top (length kinds) dot_entry → arrowed ≡ dotted ++ entry_at top (length kinds + 1) arrow_entry
+    → refused ≡ arrowed ++ entry_at top (length kinds + 2) refusal_entry → opened ≡ refused ++ entry_at top (length kinds + 3) open_entry
     → opened ≡ start ++ (rule ∷ entries_from top 0 (map kind_entry kinds ++ dot_entry ∷ arrow_entry ∷ refusal_entry ∷ open_entry ∷ []))
 unfolding entries_from
-whole_legend top rule start ruled kinded dotted arrowed refused opened is_ruled is_kinded is_dotted is_arrowed is_refused is_opened =
+whole_legend top kinds rule start ruled kinded dotted arrowed refused opened is_ruled is_kinded is_dotted is_arrowed is_refused is_opened =
     let more : List Entry = dot_entry ∷ arrow_entry ∷ refusal_entry ∷ open_entry ∷ [] in
-    let joined = is_opened ∙ ap (λ l. l ++ entry_at top 16 open_entry) (is_refused ∙ ap (λ l. l ++ entry_at top 15 refusal_entry) (is_arrowed ∙ ap (λ l. l ++ entry_at top 14 arrow_entry) (is_dotted ∙ ap (λ l. l ++ entry_at top 13 dot_entry) (is_kinded ∙ ap (λ l. l ++ entries_from top 0 (map kind_entry kinds)) is_ruled)))) in
-    joined ∙ six_lists start (rule ∷ []) (entries_from top 0 (map kind_entry kinds)) (entry_at top 13 dot_entry) (entry_at top 14 arrow_entry) (entry_at top 15 refusal_entry) (entry_at top 16 open_entry)
-    ∙ ap (λ l. start ++ (rule ∷ l)) (sym (entries_append top 0 (map kind_entry kinds) more))
+    let n = length kinds in
+    let place : 0 + length (map kind_entry kinds) ≡ n = omega (arith, length-map kinds kind_entry) in
+    let third : n + 2 ≡ (n + 1) + 1 = omega arith in
+    let fourth : n + 3 ≡ ((n + 1) + 1) + 1 = omega arith in
+    let opening : opened ≡ refused ++ entry_at top (((n + 1) + 1) + 1) open_entry = is_opened ∙ ap (λ k. refused ++ entry_at top k open_entry) fourth in
+    let refusing : refused ≡ arrowed ++ entry_at top ((n + 1) + 1) refusal_entry = is_refused ∙ ap (λ k. arrowed ++ entry_at top k refusal_entry) third in
+    let joined = opening ∙ ap (λ l. l ++ entry_at top (((n + 1) + 1) + 1) open_entry) (refusing ∙ ap (λ l. l ++ entry_at top ((n + 1) + 1) refusal_entry) (is_arrowed ∙ ap (λ l. l ++ entry_at top (n + 1) arrow_entry) (is_dotted ∙ ap (λ l. l ++ entry_at top n dot_entry) (is_kinded ∙ ap (λ l. l ++ entries_from top 0 (map kind_entry kinds)) is_ruled)))) in
+    joined ∙ six_lists start (rule ∷ []) (entries_from top 0 (map kind_entry kinds)) (entry_at top n dot_entry) (entry_at top (n + 1) arrow_entry) (entry_at top ((n + 1) + 1) refusal_entry) (entry_at top (((n + 1) + 1) + 1) open_entry)
+    ∙ ap (λ l. start ++ (rule ∷ l)) (sym (entries_append top 0 (map kind_entry kinds) more ∙ ap (λ k. entries_from top 0 (map kind_entry kinds) ++ entries_from top k more) place))

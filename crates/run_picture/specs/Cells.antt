@@ -5,6 +5,7 @@ use Rattle.std.specs.Fmt.{decimal}
 use Rattle.svg_text.specs.declared.paint.Paint.TheVariants.{Ink, Frame, Thick}
 use Rattle.svg_text.specs.declared.shape.Anchor.TheVariants.{Start}
 use Rattle.svg_text.specs.Figures.{Figure, Rect, Line, Text}
+use Rattle.run_marks.specs.declared.marks.Dot.{Dot}
 use Rattle.run_marks.specs.Marks.{Cell, EraMarks}
 use Rattle.run_picture.specs.declared.figures.Toward.TheVariants.{Right}
 use Rattle.run_picture.specs.declared.cells.Spot.{Spot}
@@ -41,27 +42,28 @@ box_spot before wide width =
 
 -- ---- the cells of an era
 
-abbrev pub cell_spot : (width : ℕ) → (before : Spot) → Cell → Spot
-cell_spot width before cell = box_spot before (box_width (cell_name cell) (cell_words cell)) width
+abbrev pub cell_spot : List Dot → (width : ℕ) → (before : Spot) → Cell → Spot
+cell_spot dots width before cell = box_spot before (box_width (cell_name dots cell) (cell_words cell)) width
 
 -- a cell: the arrow to it, and its box
-unfoldable pub cell_figures : (width : ℕ) → (before : Spot) → Cell → List Figure
-cell_figures width before cell = let at =
-    cell_spot width before cell in link_figures at ++ box_figures at (cell_name cell) (cell_words cell)
+unfoldable pub cell_figures : List Dot → (width : ℕ) → (before : Spot) → Cell → List Figure
+cell_figures dots width before cell = let at =
+    cell_spot dots width before cell in link_figures at ++ box_figures at (cell_name dots cell) (cell_words cell)
 
 -- where its box ends
-unfoldable pub cell_end : (width : ℕ) → (before : Spot) → Cell → Spot
-cell_end width before cell = let at =
-    cell_spot width before cell in record { left = at.left + box_width (cell_name cell) (cell_words cell); top = at.top }
+unfoldable pub cell_end : List Dot → (width : ℕ) → (before : Spot) → Cell → Spot
+cell_end dots width before cell = let at =
+    cell_spot dots width before cell in record { left = at.left + box_width (cell_name dots cell) (cell_words cell); top = at.top }
 
 -- cells one after another
-unfoldable pub row_figures : (width : ℕ) → (start : Spot) → List Cell → List Figure
-row_figures width start [] = []
-row_figures width start (cell ∷ cells) = cell_figures width start cell ++ row_figures width (cell_end width start cell) cells
+unfoldable pub row_figures : List Dot → (width : ℕ) → (start : Spot) → List Cell → List Figure
+row_figures dots width start [] = []
+row_figures dots width start (cell ∷ cells) =
+    cell_figures dots width start cell ++ row_figures dots width (cell_end dots width start cell) cells
 
 -- where the last one ends
-unfoldable pub row_end : (width : ℕ) → (start : Spot) → List Cell → Spot
-row_end width start cells = fold (cell_end width) start cells
+unfoldable pub row_end : List Dot → (width : ℕ) → (start : Spot) → List Cell → Spot
+row_end dots width start cells = fold (cell_end dots width) start cells
 
 -- ---- an era
 
@@ -84,23 +86,23 @@ unfoldable pub anchor_end : (top anchor : ℕ) → Spot
 anchor_end top anchor = record { left = 84 + box_width (anchor_name anchor) (codes "anchor"); top = top }
 
 -- the anchor, and then the cells in the order of the list
-unfoldable pub era_figures : (width bottom place : ℕ) → EraMarks → List Figure
-era_figures width bottom place era = let top =
-    lower bottom 12 in anchor_figures top place era.anchor ++ row_figures width (anchor_end top era.anchor) era.cells
+unfoldable pub era_figures : List Dot → (width bottom place : ℕ) → EraMarks → List Figure
+era_figures dots width bottom place era = let top =
+    lower bottom 12 in anchor_figures top place era.anchor ++ row_figures dots width (anchor_end top era.anchor) era.cells
 
 -- how far they go down
-unfoldable pub era_bottom : (width bottom : ℕ) → EraMarks → ℕ
-era_bottom width bottom era = (row_end width (anchor_end (lower bottom 12) era.anchor) era.cells).top + 44
+unfoldable pub era_bottom : List Dot → (width bottom : ℕ) → EraMarks → ℕ
+era_bottom dots width bottom era = (row_end dots width (anchor_end (lower bottom 12) era.anchor) era.cells).top + 44
 
 -- ---- all eras
 
-unfoldable pub eras_figures : (width bottom place : ℕ) → List EraMarks → List Figure
-eras_figures width bottom place [] = []
-eras_figures width bottom place (era ∷ eras) =
-    era_figures width bottom place era ++ eras_figures width (era_bottom width bottom era) (place + 1) eras
+unfoldable pub eras_figures : List Dot → (width bottom place : ℕ) → List EraMarks → List Figure
+eras_figures dots width bottom place [] = []
+eras_figures dots width bottom place (era ∷ eras) =
+    era_figures dots width bottom place era ++ eras_figures dots width (era_bottom dots width bottom era) (place + 1) eras
 
-unfoldable pub eras_bottom : (width bottom : ℕ) → List EraMarks → ℕ
-eras_bottom width bottom eras = fold (era_bottom width) bottom eras
+unfoldable pub eras_bottom : List Dot → (width bottom : ℕ) → List EraMarks → ℕ
+eras_bottom dots width bottom eras = fold (era_bottom dots width) bottom eras
 
 -- a box of eleven letters, in its line where that has room, and else in the next one
 width_of_eleven : box_width (codes "7: 1.0") (codes "enq 5 -> ok") ≡ 104

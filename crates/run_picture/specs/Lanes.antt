@@ -12,10 +12,11 @@ use Rattle.run_marks.specs.Marks.{End, Called, EraMarks, RunMarks}
 use Rattle.run_picture.specs.declared.figures.Toward.TheVariants.{Up, Down}
 use Rattle.run_picture.specs.declared.lanes.Lanes.{Lanes}
 use Rattle.run_layout.specs.Wording.{letter_of, label_text, counts_text, line_text}
+use Rattle.run_layout.specs.Titles.{step_title}
 use Rattle.run_layout.specs.Axis.{Places, event_column, middle_of, right_of, letters_of}
 use Rattle.run_picture.specs.Paint.{colour_of, letter_paint}
 use Rattle.run_picture.specs.Shapes.{label_figures, tip_figure}
-use Rattle.svg_text.specs.Figures.{Figure, Rect, Line, Text}
+use Rattle.svg_text.specs.Figures.{Figure, Rect, Titled, Line, Text}
 use Rattle.svg_text.specs.Figures as figures
 
 -- the top of the lane of a process: each is 96 high, and the end of all is that of one that there isn't
@@ -89,12 +90,12 @@ bar_texts places lanes bar =
     label_figures (event_column places bar.from).left (lane_top lanes bar.call.process + 18) (label_text bar)
     ++ counts_figures places (lane_top lanes bar.call.process) bar.end
 
--- the mark of a step, with its letter
-abbrev pub step_figures : Places → Lanes → StepMark → List Figure
-step_figures places lanes step =
+-- the mark of a step, with its letter and this title
+abbrev pub step_figures : Places → Lanes → (title : StepMark → List ℕ) → StepMark → List Figure
+step_figures places lanes title step =
     let column = event_column places step.event in
     let top = lane_top lanes step.process + 28 in
-    Rect (column.left + 1) top (column.width - 2) 22 (Mark (colour_of step.kind))
+    Titled (column.left + 1) top (column.width - 2) 22 (Mark (colour_of step.kind)) (title step)
     ∷ Text (middle_of column) (top + 17) Middle (letter_paint step.kind) (letter_of step.kind ∷ []) ∷ []
 
 -- the arrow from the process that linked a cell to the one whose call it is of, where that is another one: down to the upper
@@ -119,7 +120,7 @@ run_figures places lanes marks =
     ++ flat_map (line_figures places lanes) marks.lines
     ++ flat_map (bar_figures places lanes) marks.bars
     ++ flat_map (arrow_figures places lanes) marks.dots
-    ++ flat_map (step_figures places lanes) marks.steps
+    ++ flat_map (step_figures places lanes (step_title marks.bars marks.steps)) marks.steps
     ++ flat_map (dot_figures places lanes) marks.dots
     ++ flat_map (bar_texts places lanes) marks.bars
 

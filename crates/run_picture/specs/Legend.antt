@@ -1,5 +1,5 @@
 -- The legend.
-use Rattle.std.specs.Prelude.{◌≡◌, ℕ, ◌+◌, ◌-◌, ◌*◌, ◌/◌, ◌%◌, List, [], ◌∷◌, ◌++◌, map, codes, refl}
+use Rattle.std.specs.Prelude.{◌≡◌, ℕ, ◌+◌, ◌-◌, ◌*◌, ◌/◌, ◌%◌, List, [], ◌∷◌, ◌++◌, length, map, codes, refl}
 use Rattle.svg_text.specs.declared.paint.Paint.TheVariants.{Ink, Faint, Edge, Thick, Cross, Mark}
 use Rattle.svg_text.specs.declared.shape.Anchor.TheVariants.{Start, Middle}
 use Rattle.svg_text.specs.Figures.{Figure, Rect, Line, Dot, Text}
@@ -7,7 +7,7 @@ use Rattle.uni_core.specs.declared.stage.StepKind.{StepKind}
 use Rattle.run_picture.specs.declared.figures.Toward.TheVariants.{Down}
 use Rattle.run_picture.specs.Shapes.{tip_figure}
 use Rattle.run_picture.specs.Paint.{colour_of, letter_paint}
-use Rattle.run_layout.specs.Wording.{letter_of, meaning_of, kinds}
+use Rattle.run_layout.specs.Wording.{letter_of, meaning_of}
 
 -- what stands at a place from the left and the top
 abbrev pub Entry : Type 0
@@ -60,11 +60,15 @@ unfoldable pub entries_from : (top place : ℕ) → List Entry → List Figure
 entries_from top place [] = []
 entries_from top place (entry ∷ more) = entry_at top place entry ++ entries_from top (place + 1) more
 
--- a line, and below it the kinds of step in the order in which a call takes them, the dot, the arrow, the cross and the open bar
-unfoldable pub legend_figures : (width bottom : ℕ) → List Figure
-legend_figures width bottom =
+-- a line, and below it some kinds of step, the dot, the arrow, the cross and the open bar
+unfoldable pub legend_figures : (kinds : List StepKind) → (width bottom : ℕ) → List Figure
+legend_figures kinds width bottom =
     Line 12 (bottom + 12) (width - 12) (bottom + 12) Faint
     ∷ entries_from (bottom + 24) 0 (map kind_entry kinds ++ dot_entry ∷ arrow_entry ∷ refusal_entry ∷ open_entry ∷ [])
+
+-- how high that is, with the room below it
+abbrev pub legend_height : (kinds : List StepKind) → ℕ
+legend_height kinds = 36 + (length kinds + 7) / 4 * 22
 
 -- the fourteenth entry stands second in the fourth line
 place_of_fourteenth : left_of 13 ≡ 248

@@ -12,7 +12,7 @@ ghost use Rattle.run_picture.specs.Cells.{era_figures, era_bottom, eras_figures,
 use crate::figures::{LETTER, Toward, push_line, push_text, push_tip};
 use crate::lanes::MARGIN;
 use run_layout::{cell_name, cell_words, letters};
-use run_marks::{CellBox, Era};
+use run_marks::{CellBox, Dot, Era};
 use std::alloc::{AllocError, Global};
 use std::io::Write;
 use svg_text::{Anchor, Paint, Shape};
@@ -38,11 +38,12 @@ pub struct Spot {
     pub top: u64,
 }
 
-/// Adds the cells of all eras below a place; the answer is how far they go down.
+/// Adds the cells of all eras of a run with these dots below a place; the answer is how far they go down.
 ///
 /// An `Err` says that memory was refused.
 pub fn push_cells(
     alloc: Global,
+    dots: &[Dot],
     eras: &[Era],
     width: u64,
     bottom: u64,
@@ -51,13 +52,13 @@ pub fn push_cells(
     requires wide { width < 2 ^ 36 }
     requires low { bottom < 2 ^ 35 }
     ensures figures { OnOk result (map figure shapes.new.items
-        ≡ map figure shapes.old.items ++ eras_figures width bottom 0 (map era_shown eras.now)) }
-    ensures bottom { IfOk result (λ end. end ≡ eras_bottom width bottom (map era_shown eras.now)) }
+        ≡ map figure shapes.old.items ++ eras_figures dots.now width bottom 0 (map era_shown eras.now)) }
+    ensures bottom { IfOk result (λ end. end ≡ eras_bottom dots.now width bottom (map era_shown eras.now)) }
     ensures low { IfOk result (λ end. end < 2 ^ 35) }
 {
     let mut end = bottom;
     for (place, era) in eras.iter().enumerate() {
-        end = push_era(alloc, place as u64, era, width, end, shapes)?;
+        end = push_era(alloc, dots, place as u64, era, width, end, shapes)?;
     }
     Ok(end)
 }
@@ -68,6 +69,7 @@ pub fn push_cells(
 /// An `Err` says that memory was refused.
 fn push_era(
     alloc: Global,
+    dots: &[Dot],
     place: u64,
     era: &Era,
     width: u64,
@@ -77,13 +79,13 @@ fn push_era(
     requires next { place + 1 < 2 ^ 64 }
     requires wide { width < 2 ^ 36 }
     ensures figures { OnOk result (map figure shapes.new.items
-        ≡ map figure shapes.old.items ++ era_figures width bottom place (era_shown era.now)) }
-    ensures bottom { IfOk result (λ end. end ≡ era_bottom width bottom (era_shown era.now)) }
+        ≡ map figure shapes.old.items ++ era_figures dots.now width bottom place (era_shown era.now)) }
+    ensures bottom { IfOk result (λ end. end ≡ era_bottom dots.now width bottom (era_shown era.now)) }
     ensures low { IfOk result (λ end. end < 2 ^ 35) }
 {
     let top = lower(bottom, MARGIN);
     let start = push_anchor(alloc, place, era.anchor, top, shapes)?;
-    let end = push_row(alloc, &era.cells, width, start, shapes)?;
+    let end = push_row(alloc, dots, &era.cells, width, start, shapes)?;
     Ok(end.top + BOX)
 }
 
@@ -157,6 +159,7 @@ fn anchor_name(alloc: Global, anchor: u64) -> Result<Vec<u8>, AllocError>
 /// An `Err` says that memory was refused.
 fn push_row(
     alloc: Global,
+    dots: &[Dot],
     cells: &[CellBox],
     width: u64,
     start: Spot,
@@ -166,13 +169,13 @@ fn push_row(
     requires near { start.left < 2 ^ 37 }
     requires low { start.top < 2 ^ 34 }
     ensures figures { OnOk result (map figure shapes.new.items
-        ≡ map figure shapes.old.items ++ row_figures width start (map cell_shown cells.now)) }
-    ensures end { IfOk result (λ end. end ≡ row_end width start (map cell_shown cells.now)) }
+        ≡ map figure shapes.old.items ++ row_figures dots.now width start (map cell_shown cells.now)) }
+    ensures end { IfOk result (λ end. end ≡ row_end dots.now width start (map cell_shown cells.now)) }
     ensures low { IfOk result (λ end. end.top < 2 ^ 34) }
 {
     let mut spot = start;
     for cell in cells {
-        spot = push_cell(alloc, cell, width, spot, shapes)?;
+        spot = push_cell(alloc, dots, cell, width, spot, shapes)?;
     }
     Ok(spot)
 }
@@ -182,6 +185,7 @@ fn push_row(
 /// An `Err` says that memory was refused.
 fn push_cell(
     alloc: Global,
+    dots: &[Dot],
     cell: &CellBox,
     width: u64,
     before: Spot,
@@ -191,12 +195,12 @@ fn push_cell(
     requires near { before.left < 2 ^ 37 }
     requires low { before.top < 2 ^ 34 }
     ensures figures { OnOk result (map figure shapes.new.items
-        ≡ map figure shapes.old.items ++ cell_figures width before (cell_shown cell.now)) }
-    ensures end { IfOk result (λ end. end ≡ cell_end width before (cell_shown cell.now)) }
+        ≡ map figure shapes.old.items ++ cell_figures dots.now width before (cell_shown cell.now)) }
+    ensures end { IfOk result (λ end. end ≡ cell_end dots.now width before (cell_shown cell.now)) }
     ensures near { IfOk result (λ end. end.left < 2 ^ 37) }
     ensures low { IfOk result (λ end. end.top < 2 ^ 34) }
 {
-    let name = cell_name(alloc, cell)?;
+    let name = cell_name(alloc, dots, cell)?;
     let words = cell_words(alloc, cell)?;
     let wide = box_width(&name, &words);
     let at = box_spot(before, wide, width);

@@ -1,18 +1,18 @@
 //! The legend.
 
 ghost use Rattle.std.specs.Prelude.{◌≡◌, ◌≤◌, ◌<◌, ◌^◌, ◌+◌, [], ◌∷◌, ◌++◌, map};
-ghost use Rattle.std.specs.Prelude.{OnOk};
+ghost use Rattle.std.specs.Prelude.{OnOk, length};
 ghost use Rattle.svg_text.specs.Figures.{Rect, Dot, figure};
 ghost use Rattle.svg_text.specs.declared.paint.Paint.TheVariants.{Mark};
 ghost use Rattle.run_picture.specs.Paint.{colour_of};
-ghost use Rattle.run_layout.specs.Wording.{kinds};
 ghost use Rattle.run_picture.specs.Legend.{words_at, kind_entry, dot_entry, arrow_entry, refusal_entry, open_entry};
 ghost use Rattle.run_picture.specs.Legend.{left_of, top_of, entry_at, entries_from, legend_figures};
+ghost use Rattle.run_picture.specs.Legend.{legend_height};
 
 use crate::figures::{Toward, push_line, push_text, push_tip};
 use crate::lanes::MARGIN;
 use crate::paint::{colour_of, letter_paint};
-use run_layout::{KINDS, letter_of, meaning_of};
+use run_layout::{letter_of, meaning_of};
 use std::alloc::{AllocError, Global};
 use svg_text::{Anchor, Paint, Shape};
 use uni_core::StepKind;
@@ -26,27 +26,40 @@ const BESIDE: u64 = 4;
 /// How high a line of entries is.
 const ENTRY_HEIGHT: u64 = 22;
 
-/// Adds the legend below a place.
+/// How high the legend of some kinds of step is, with the room below it.
+pub fn legend_height(kinds: &[StepKind]) -> u64
+    requires { length kinds.now ≤ 13 }
+    ensures small { result ≤ 146 }
+    ensures height { result ≡ legend_height kinds.now }
+{
+    3 * MARGIN + (kinds.len() as u64 + 7) / BESIDE * ENTRY_HEIGHT
+}
+
+/// Adds the legend of some kinds of step below a place.
 ///
 /// An `Err` says that memory was refused.
 pub fn push_legend(
     alloc: Global,
+    kinds: &[StepKind],
     width: u64,
     bottom: u64,
     shapes: &mut Vec<Shape>,
 ) -> Result<(), AllocError>
+    requires few { length kinds.now ≤ 13 }
     requires wide { 12 ≤ width }
     requires low { bottom < 2 ^ 36 }
-    ensures { OnOk result (map figure shapes.new.items ≡ map figure shapes.old.items ++ legend_figures width bottom) }
+    ensures { OnOk result (map figure shapes.new.items
+        ≡ map figure shapes.old.items ++ legend_figures kinds.now width bottom) }
 {
     let line = bottom + MARGIN;
     push_line(shapes, (MARGIN, line), (width - MARGIN, line), Paint::Faint)?;
     let top = line + MARGIN;
-    push_kinds(alloc, top, shapes)?;
-    push_dot_entry(alloc, top, shapes)?;
-    push_arrow_entry(alloc, top, shapes)?;
-    push_refusal_entry(alloc, top, shapes)?;
-    push_open_entry(alloc, top, shapes)
+    push_kinds(alloc, kinds, top, shapes)?;
+    let place = kinds.len() as u64;
+    push_dot_entry(alloc, place, top, shapes)?;
+    push_arrow_entry(alloc, place + 1, top, shapes)?;
+    push_refusal_entry(alloc, place + 2, top, shapes)?;
+    push_open_entry(alloc, place + 3, top, shapes)
 }
 
 /// The left and the top of an entry, by its place from 0 among those below a top.
@@ -82,18 +95,22 @@ fn push_entry(
     push_text(shapes, x + 22, y + 14, Anchor::Start, Paint::Ink, meaning)
 }
 
-/// Adds the entries of the kinds of step, in the order in which a call takes them.
+/// Adds the entries of some kinds of step.
 ///
 /// An `Err` says that memory was refused.
-fn push_kinds(alloc: Global, top: u64, shapes: &mut Vec<Shape>) -> Result<(), AllocError>
+fn push_kinds(
+    alloc: Global,
+    kinds: &[StepKind],
+    top: u64,
+    shapes: &mut Vec<Shape>,
+) -> Result<(), AllocError>
+    requires few { length kinds.now ≤ 13 }
     requires low { top < 2 ^ 37 }
     ensures { OnOk result (map figure shapes.new.items
-        ≡ map figure shapes.old.items ++ (entries_from top 0 (map kind_entry kinds))) }
+        ≡ map figure shapes.old.items ++ (entries_from top 0 (map kind_entry kinds.now))) }
 {
-    let mut place = 0;
-    for kind in KINDS {
-        push_kind(alloc, kind, place, top, shapes)?;
-        place += 1;
+    for (place, kind) in kinds.iter().enumerate() {
+        push_kind(alloc, *kind, place as u64, top, shapes)?;
     }
     Ok(())
 }
@@ -148,11 +165,18 @@ fn push_mark(shapes: &mut Vec<Shape>, x: u64, y: u64, kind: StepKind) -> Result<
 /// Adds the entry of the dot.
 ///
 /// An `Err` says that memory was refused.
-fn push_dot_entry(alloc: Global, top: u64, shapes: &mut Vec<Shape>) -> Result<(), AllocError>
+fn push_dot_entry(
+    alloc: Global,
+    place: u64,
+    top: u64,
+    shapes: &mut Vec<Shape>,
+) -> Result<(), AllocError>
+    requires near { place < 100 }
     requires low { top < 2 ^ 37 }
-    ensures { OnOk result (map figure shapes.new.items ≡ map figure shapes.old.items ++ entry_at top 13 dot_entry) }
+    ensures { OnOk result (map figure shapes.new.items
+        ≡ map figure shapes.old.items ++ entry_at top place dot_entry) }
 {
-    let (x, y) = place_of(13, top);
+    let (x, y) = place_of(place, top);
     push_sign(shapes, x, y)?;
     push_entry(alloc, "the call takes effect", x, y, shapes)
 }
@@ -173,11 +197,18 @@ fn push_sign(shapes: &mut Vec<Shape>, x: u64, y: u64) -> Result<(), AllocError>
 /// Adds the entry of the arrow.
 ///
 /// An `Err` says that memory was refused.
-fn push_arrow_entry(alloc: Global, top: u64, shapes: &mut Vec<Shape>) -> Result<(), AllocError>
+fn push_arrow_entry(
+    alloc: Global,
+    place: u64,
+    top: u64,
+    shapes: &mut Vec<Shape>,
+) -> Result<(), AllocError>
+    requires near { place < 100 }
     requires low { top < 2 ^ 37 }
-    ensures { OnOk result (map figure shapes.new.items ≡ map figure shapes.old.items ++ entry_at top 14 arrow_entry) }
+    ensures { OnOk result (map figure shapes.new.items
+        ≡ map figure shapes.old.items ++ entry_at top place arrow_entry) }
 {
-    let (x, y) = place_of(14, top);
+    let (x, y) = place_of(place, top);
     push_line(shapes, (x + 7, y), (x + 7, y + 16), Paint::Thick)?;
     push_tip(shapes, x + 7, y + 18, Toward::Down)?;
     push_entry(alloc, "help: another links it", x, y, shapes)
@@ -186,12 +217,18 @@ fn push_arrow_entry(alloc: Global, top: u64, shapes: &mut Vec<Shape>) -> Result<
 /// Adds the entry of refusals.
 ///
 /// An `Err` says that memory was refused.
-fn push_refusal_entry(alloc: Global, top: u64, shapes: &mut Vec<Shape>) -> Result<(), AllocError>
+fn push_refusal_entry(
+    alloc: Global,
+    place: u64,
+    top: u64,
+    shapes: &mut Vec<Shape>,
+) -> Result<(), AllocError>
+    requires near { place < 100 }
     requires low { top < 2 ^ 37 }
     ensures { OnOk result (map figure shapes.new.items
-        ≡ map figure shapes.old.items ++ entry_at top 15 refusal_entry) }
+        ≡ map figure shapes.old.items ++ entry_at top place refusal_entry) }
 {
-    let (x, y) = place_of(15, top);
+    let (x, y) = place_of(place, top);
     push_line(shapes, (x + 2, y + 4), (x + 12, y + 14), Paint::Cross)?;
     push_line(shapes, (x + 2, y + 14), (x + 12, y + 4), Paint::Cross)?;
     push_entry(alloc, "refused, for this reason", x, y, shapes)
@@ -200,11 +237,18 @@ fn push_refusal_entry(alloc: Global, top: u64, shapes: &mut Vec<Shape>) -> Resul
 /// Adds the entry of a bar that stays open.
 ///
 /// An `Err` says that memory was refused.
-fn push_open_entry(alloc: Global, top: u64, shapes: &mut Vec<Shape>) -> Result<(), AllocError>
+fn push_open_entry(
+    alloc: Global,
+    place: u64,
+    top: u64,
+    shapes: &mut Vec<Shape>,
+) -> Result<(), AllocError>
+    requires near { place < 100 }
     requires low { top < 2 ^ 37 }
-    ensures { OnOk result (map figure shapes.new.items ≡ map figure shapes.old.items ++ entry_at top 16 open_entry) }
+    ensures { OnOk result (map figure shapes.new.items
+        ≡ map figure shapes.old.items ++ entry_at top place open_entry) }
 {
-    let (x, y) = place_of(16, top);
+    let (x, y) = place_of(place, top);
     push_line(shapes, (x, y + 2), (x + 16, y + 2), Paint::Edge)?;
     push_line(shapes, (x, y + 2), (x, y + 16), Paint::Edge)?;
     push_line(shapes, (x, y + 16), (x + 16, y + 16), Paint::Edge)?;

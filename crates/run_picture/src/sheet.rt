@@ -17,11 +17,11 @@ use crate::cells::push_cells;
 use crate::dots::{push_arrows, push_dots, push_steps};
 use crate::figures::push_text;
 use crate::lanes::{Lanes, MARGIN, START, push_era_lines, push_eras};
-use crate::legend::push_legend;
+use crate::legend::{legend_height, push_legend};
 use crate::notes::{
-    LINE, description_of, line_letters, push_captions, push_headings, push_refusals,
+    LINE, captions_right, description_of, line_letters, push_captions, push_headings, push_refusals,
 };
-use run_layout::{Axis, MOST_LANES, Scale, axis_of, title_of};
+use run_layout::{Axis, MOST_LANES, Scale, axis_of, kinds_of, title_of};
 use run_marks::Marks;
 use std::alloc::{AllocError, Global};
 use svg_text::{Anchor, Drawing, Paint, Shape};
@@ -29,9 +29,6 @@ use uni_script::PlacedRemark;
 
 /// How wide a picture is at least.
 const LEAST_WIDTH: u64 = 960;
-
-/// How high the legend is, with the room below it.
-const LEGEND: u64 = 146;
 
 /// How wide the things of a picture are: steps are the wider, the fewer there are.
 fn scale_of(marks: &Marks, remarks: &[PlacedRemark]) -> Scale
@@ -50,13 +47,15 @@ fn scale_of(marks: &Marks, remarks: &[PlacedRemark]) -> Scale
     }
 }
 
-/// How wide a picture is: as wide as its columns.
-fn width_of(axis: &Axis) -> u64
+/// How wide a picture is: as wide as its columns and its captions.
+fn width_of(axis: &Axis, remarks: &[PlacedRemark]) -> u64
     ensures least { 960 ≤ result }
     ensures small { result < 2 ^ 35 }
-    ensures width { result ≡ width_of_places (places_shown axis.now) }
+    ensures width { result ≡ width_of_places (places_shown axis.now) remarks.now }
 {
-    LEAST_WIDTH.max(u64::from(axis.end) + 2 * MARGIN)
+    LEAST_WIDTH
+        .max(u64::from(axis.end) + 2 * MARGIN)
+        .max(captions_right(axis, remarks))
 }
 
 /// Adds the title.
@@ -86,11 +85,11 @@ fn push_notes(
     ensures lanes { IfOk result (λ lanes. lanes
         ≡ lanes_below (places_shown axis.now) (marks_shown marks.now) remarks.now) }
 {
-    let width = width_of(axis);
+    let width = width_of(axis, remarks);
     let most = line_letters(width);
     push_title(alloc, marks, shapes)?;
     let top = push_headings(alloc, remarks, most, 32, shapes)?;
-    let foot = push_captions(alloc, remarks, axis, width, most, top, shapes)?;
+    let foot = push_captions(alloc, remarks, axis, width, top, shapes)?;
     Ok(Lanes {
         top: (foot + LINE) as u32,
         count: marks.lanes().min(MOST_LANES) as u32,
@@ -114,7 +113,7 @@ fn push_run(
     push_era_lines(alloc, &marks.lines, axis, lanes, shapes)?;
     push_bars(&marks.bars, axis, lanes, shapes)?;
     push_arrows(&marks.dots, axis, lanes, shapes)?;
-    push_steps(alloc, &marks.steps, axis, lanes, shapes)?;
+    push_steps(alloc, marks, axis, lanes, shapes)?;
     push_dots(&marks.dots, axis, lanes, shapes)?;
     push_texts(alloc, &marks.bars, axis, lanes, shapes)
 }
@@ -154,14 +153,15 @@ pub fn drawing_of(
     ensures { IfOk result (λ drawing. picture drawing ≡ drawing_of_marks (marks_shown marks.now) remarks.now) }
 {
     let axis = axis_of(alloc, marks, remarks, scale_of(marks, remarks))?;
-    let width = width_of(&axis);
+    let width = width_of(&axis, remarks);
     let mut shapes = Vec::new(alloc);
     let above = push_events(alloc, marks, remarks, &axis, &mut shapes)?;
-    let below = push_cells(alloc, &marks.eras, width, above, &mut shapes)?;
-    push_legend(alloc, width, below, &mut shapes)?;
+    let below = push_cells(alloc, &marks.dots, &marks.eras, width, above, &mut shapes)?;
+    let kinds = kinds_of(alloc, &marks.steps)?;
+    push_legend(alloc, &kinds, width, below, &mut shapes)?;
     Ok(Drawing {
         width,
-        height: below + LEGEND,
+        height: below + legend_height(&kinds),
         title: title_of(alloc, marks)?,
         description: description_of(alloc, remarks)?,
         shapes,

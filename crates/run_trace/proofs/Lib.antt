@@ -1,3 +1,4 @@
 pub mod Announcing
+pub mod Preferring
 pub mod Telling
 pub mod EachEvent

@@ -21,12 +21,16 @@ use Rattle.uni_record.specs.Event.{event_shown, events_shown}
 use Rattle.std.specs.Str.{bytes_eq}
 use Rattle.run_trace.specs.Held.{Field, alone, change_of, field_name, held}
 use Rattle.run_trace.specs.Frames.{answered, Begun, Stepped, Frame, Steps, begun, stepped, frame_of, frames_from}
+use Rattle.run_trace.specs.declared.preferences.Preference.{Preference}
+use Rattle.run_trace.specs.Preferred.{preferred_from, IsPreferred}
+use Rattle.run_trace.specs.Proposal.{proposal_told}
 use Rattle.run_trace.proofs.Announcing.{unmade, asked}
+use Rattle.run_trace.proofs.Preferring.{proposal_is}
 
-steps_are : (a b : Stepped) → a.call ≡ b.call → a.kind ≡ b.kind → a.before ≡ b.before → a.after ≡ b.after → a.next ≡ b.next → a.steps ≡ b.steps → a.turns ≡ b.turns → a.reply ≡ b.reply → a ≡ b
-steps_are a b c k e f n s t r =
-    let g : record { call = a.call; kind = a.kind; before = a.before; after = a.after; next = a.next; steps = a.steps; turns = a.turns; reply = a.reply }
-    ≡ record { call = b.call; kind = b.kind; before = b.before; after = b.after; next = b.next; steps = b.steps; turns = b.turns; reply = b.reply } = cc in g
+steps_are : (a b : Stepped) → a.call ≡ b.call → a.kind ≡ b.kind → a.before ≡ b.before → a.after ≡ b.after → a.proposed ≡ b.proposed → a.next ≡ b.next → a.steps ≡ b.steps → a.turns ≡ b.turns → a.reply ≡ b.reply → a ≡ b
+steps_are a b c k e f o n s t r =
+    let g : record { call = a.call; kind = a.kind; before = a.before; after = a.after; proposed = a.proposed; next = a.next; steps = a.steps; turns = a.turns; reply = a.reply }
+    ≡ record { call = b.call; kind = b.kind; before = b.before; after = b.after; proposed = b.proposed; next = b.next; steps = b.steps; turns = b.turns; reply = b.reply } = cc in g
 
 begun_are : (a b : Begun) → a.call ≡ b.call → a.words ≡ b.words → a.before ≡ b.before → a.after ≡ b.after → a ≡ b
 begun_are a b c w e f =
@@ -62,31 +66,34 @@ module _ {S I R : Type 0} where
 
   module _ (object : Sequential S I R) (l : Language I R) (text : S → List ℕ) where
     -- a step
-    pub stepped_is : (w v : WorldOf S I R) (p : ℕ) (place : PlaceById) (s : Stepped)
+    pub stepped_is : (w v : WorldOf S I R) → Invariant object w → (p : ℕ) (place : PlaceById) (s : Stepped) (notes : List Preference) → IsPreferred w notes
         → current_of w p ≡ Some s.call
         → option_map (λ (c : Pending). kind_of c.stage) (w.call p) ≡ Some s.kind
         → option_map (λ (c : Pending). place_of w.n p c.mine c.stage) (w.call p) ≡ Some (place_named (name_in w) place)
         → v ≡ world_after object w (Step p)
         → s.before ≡ held l text w.memory (place_named (name_in w) place)
         → s.after ≡ held l text v.memory (place_named (name_in v) place)
+        → s.proposed ≡ proposal_told s.kind (preferred_from None notes p) s.after
         → s.next ≡ option_map (λ (c : Pending). kind_of c.stage) (v.call p) → s.steps ≡ v.steps p → s.turns ≡ v.turns p
         → s.reply ≡ option_map l.resp_text (response_of_step w p)
         → Some s ≡ option_map (stepped object l text w p) (w.call p)
-    stepped_is w v p place s current kinded placed world before after next steps turns reply = by_call (w.call p) current kinded placed
+    stepped_is w v inv p place s notes noted current kinded placed world before after proposed next steps turns reply = by_call (w.call p) refl current kinded placed
       where
-        by_call : (o : Option Pending) → option_map (λ (c : Pending). let named : CallId = record { process = p; nth = w.begun p - 1 } in named) o ≡ Some s.call
+        by_call : (o : Option Pending) → w.call p ≡ o → option_map (λ (c : Pending). let named : CallId = record { process = p; nth = w.begun p - 1 } in named) o ≡ Some s.call
             → option_map (λ (c : Pending). kind_of c.stage) o ≡ Some s.kind
             → option_map (λ (c : Pending). place_of w.n p c.mine c.stage) o ≡ Some (place_named (name_in w) place)
             → Some s ≡ option_map (stepped object l text w p) o
-        by_call None call_is kind_is place_is = absurd (cc)
-        by_call (Some c) call_is kind_is place_is =
+        by_call None some call_is kind_is place_is = absurd (cc)
+        by_call (Some c) some call_is kind_is place_is =
             let there : place_named (name_in w) place ≡ place_of w.n p c.mine c.stage = cc in
             let same_call : s.call ≡ record { process = p; nth = w.begun p - 1 } = cc in
             let same_kind : s.kind ≡ kind_of c.stage = cc in
             let later = after ∙ ap (λ name. held l text v.memory (place_named name place)) (names_kept object w v p world)
             ∙ ap (λ (u : WorldOf S I R). held l text u.memory (place_named (name_in w) place)) world
             ∙ ap (held l text (world_after object w (Step p)).memory) there in
-            ap Some (steps_are s (stepped object l text w p c) same_call same_kind (before ∙ ap (held l text w.memory) there) later
+            let offered = proposed ∙ ap (λ k. proposal_told k (preferred_from None notes p) s.after) same_kind
+            ∙ ap (proposal_told (kind_of c.stage) (preferred_from None notes p)) later ∙ sym (proposal_is object w l text inv p c notes some noted) in
+            ap Some (steps_are s (stepped object l text w p c) same_call same_kind (before ∙ ap (held l text w.memory) there) later offered
             (next ∙ ap (λ (u : WorldOf S I R). option_map (λ (d : Pending). kind_of d.stage) (u.call p)) world)
             (steps ∙ ap (λ (u : WorldOf S I R). u.steps p) world) (turns ∙ ap (λ (u : WorldOf S I R). u.turns p) world) reply)
 

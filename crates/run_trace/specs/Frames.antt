@@ -4,7 +4,7 @@ use Rattle.seq_object.specs.Sequential.{Sequential}
 use Rattle.seq_object.specs.declared.call_id.CallId.{CallId}
 use Rattle.ready_objects.specs.Spoken.{Language}
 use Rattle.ready_objects.specs.Words.{text_of_words}
-use Rattle.uni_model.specs.Places.{Memory}
+use Rattle.uni_model.specs.Places.{Memory, memory_with}
 use Rattle.uni_model.specs.Places.Name.{Anchor, Of}
 use Rattle.uni_model.specs.Places.Place.{InvOf, NewOf}
 use Rattle.uni_model.specs.Stages.{Pending}
@@ -18,6 +18,7 @@ use Rattle.uni_core.specs.declared.fault.Progress.TheVariants.{Going, Done}
 use Rattle.uni_core.specs.Readers.{kind_of}
 use Rattle.uni_trim.specs.Ends.{last_number}
 use Rattle.run_trace.specs.Held.{Held, held}
+use Rattle.run_trace.specs.Proposal.{proposal_of}
 
 -- a call that begins: the call, its words, and what its new cell asks for, before and after
 pub record Begun : Type 0 where
@@ -26,13 +27,14 @@ pub record Begun : Type 0 where
   pub before : Held
   pub after : Held
 
--- a step: its call and its kind, its one place before and after it, the kind of the next step, own steps and turns, and the reply of
--- the last one
+-- a step: its call and its kind, its one place before and after it, what it proposed for that place, the kind of the next step, own
+-- steps and turns, and the reply of the last one
 pub record Stepped : Type 0 where
   pub call : CallId
   pub kind : StepKind
   pub before : Held
   pub after : Held
+  pub proposed : Option Held
   pub next : Option StepKind
   pub steps : ℕ
   pub turns : ℕ
@@ -81,6 +83,7 @@ module _ {S I R : Type 0} (object : Sequential S I R) (l : Language I R) (text :
         kind = kind_of call.stage;
         before = held l text w.memory place;
         after = held l text v.memory place;
+        proposed = option_map (λ v. held l text (memory_with w.memory place v) place) (proposal_of object call.stage w.memory);
         next = option_map (λ (c : Pending). kind_of c.stage) (v.call p);
         steps = v.steps p;
         turns = v.turns p;

@@ -30,6 +30,7 @@ step_shown s =
       kind = s.kind;
       before = held_shown s.before;
       after = held_shown s.after;
+      proposed = option_map held_shown s.proposed;
       next = s.next;
       steps = s.steps;
       turns = s.turns;

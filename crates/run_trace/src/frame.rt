@@ -62,6 +62,8 @@ pub struct Step {
     pub before: Held,
     /// What that place held after it.
     pub after: Held,
+    /// What that place would hold by what the step proposed; `None` of a step that reads or writes.
+    pub proposed: Option<Held>,
     /// The kind of the process's next step; `None` where the call has returned.
     pub next: Option<StepKind>,
     /// The own steps of the call so far, this one among them.
@@ -92,6 +94,34 @@ pub enum Frame {
     Step(Step),
     /// An era ended.
     End(EraEnd),
+}
+
+/// A copy of a field.
+///
+/// An `Err` says that memory was refused.
+fn field_copy(alloc: Global, field: &Field) -> Result<Field, AllocError>
+    ensures { IfOk result (λ copy. field_shown copy ≡ field_shown field.now) }
+{
+    Ok(Field {
+        name: Vec::from_slice(alloc, &field.name)?,
+        text: Vec::from_slice(alloc, &field.text)?,
+    })
+}
+
+/// A copy of what a place holds.
+///
+/// An `Err` says that memory was refused.
+pub(crate) fn held_copy(alloc: Global, held: &Held) -> Result<Held, AllocError>
+    ensures { IfOk result (λ copy. held_shown copy ≡ held_shown held.now) }
+{
+    let reply = match &held.reply {
+        Some(reply) => Some(field_copy(alloc, reply)?),
+        None => None,
+    };
+    Ok(Held {
+        field: field_copy(alloc, &held.field)?,
+        reply,
+    })
 }
 
 /// Whether a field holds the same text.

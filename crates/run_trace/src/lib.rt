@@ -7,6 +7,7 @@
 mod frame;
 mod laws;
 mod places;
+mod preferences;
 mod replay;
 
 pub use frame::{Begun, Change, EraEnd, Field, Frame, Held, Step, changes_of};

@@ -57,7 +57,7 @@ fn entry_name(alloc: Global, array: &str, process: u64) -> Result<Vec<u8>, Alloc
 }
 
 /// A field without another beside it.
-fn alone(name: Vec<u8>, text: Vec<u8>) -> Held
+pub(crate) fn alone(name: Vec<u8>, text: Vec<u8>) -> Held
     ensures { held_shown result ≡ alone name.items text.items }
 {
     Held {
@@ -91,7 +91,10 @@ fn announced_by(calls: &[CallId], process: u64) -> Option<CallId>
 /// The call that a cell was made for; `None` of the anchor.
 ///
 /// An `Err` would say that there is no such cell, as a world's own places never do.
-fn maker_of<O: SeqObject>(world: &World<O>, cell: CellId) -> Result<Option<CallId>, AllocError>
+pub(crate) fn maker_of<O: SeqObject>(
+    world: &World<O>,
+    cell: CellId,
+) -> Result<Option<CallId>, AllocError>
     ensures there { OnOk result (IsSome (cell_of world.now.shared.cells cell)) }
     ensures call { IfOk result (λ call. call ≡ call_of_name (name_in (world_of world.now) cell)) }
 {

@@ -10,10 +10,13 @@ ghost use Rattle.uni_trim.specs.Ends.{last_number};
 ghost use Rattle.uni_record.specs.Event.{event_lent, event_shown, events_shown};
 ghost use Rattle.run_trace.specs.Announced.{announced_with, IsMirrored};
 ghost use Rattle.run_trace.specs.Frames.{answered, begun, ended, frame_of, frames_from, stepped};
-ghost use Rattle.run_trace.specs.Shown.{begun_shown, end_shown, frame_shown, step_shown};
+ghost use Rattle.run_trace.specs.Preferred.{IsPreferred};
+ghost use Rattle.run_trace.specs.Proposal.{proposal_told};
+ghost use Rattle.run_trace.specs.Shown.{begun_shown, end_shown, frame_shown, held_shown, step_shown};
 
-use crate::frame::{Begun, EraEnd, Frame, Step};
-use crate::places::{asked_field, read_place, settled_fields};
+use crate::frame::{Begun, EraEnd, Frame, Held, Step, held_copy};
+use crate::places::{alone, asked_field, cell_text, read_place, settled_fields};
+use crate::preferences::{Preference, note_preferred, preferred_by};
 use cell_arena::CellId;
 use ready_objects::Spoken;
 use seq_object::CallId;
@@ -38,9 +41,11 @@ pub fn frames_of<O: Spoken>(
 {
     let mut replay = reopened(alloc, object, run)?;
     let mut announced = Vec::new(alloc);
+    let mut preferences = Vec::new(alloc);
     let mut frames = Vec::new(alloc);
     for event in run.events() {
-        frames.push(frame_of(alloc, event, &mut replay, &mut announced)?)?;
+        let frame = frame_of(alloc, event, &mut replay, &mut announced, &mut preferences)?;
+        frames.push(frame)?;
     }
     Ok(frames)
 }
@@ -62,7 +67,7 @@ fn reopened<O: Spoken>(alloc: Global, object: O, run: &Recorded<O>) -> Result<Wo
 }
 
 /// Takes an event in a replay; the answer is its frame. The calls that were announced in the present era are kept
-/// beside the replay.
+/// beside the replay, and what the processes prefer.
 ///
 /// An `Err` says that memory was refused, or the event.
 fn frame_of<O: Spoken>(
@@ -70,19 +75,25 @@ fn frame_of<O: Spoken>(
     event: Event<&O::Inv>,
     replay: &mut World<O>,
     announced: &mut Vec<CallId>,
+    preferences: &mut Vec<Preference>,
 ) -> Result<Frame, AllocError>
-    requires { IsMirrored (world_of replay.old) announced.old.items }
+    requires mirror { IsMirrored (world_of replay.old) announced.old.items }
+    requires preferred { IsPreferred (world_of replay.old) preferences.old.items }
     ensures object { replay.new.object ≡ replay.old.object }
     ensures world { OnOk result (world_of replay.new ≡
         world_after (O.sequential replay.old.object) (world_of replay.old) (event_shown (event_lent event.entry))) }
     ensures mirror { OnOk result (IsMirrored (world_of replay.new) announced.new.items) }
+    ensures preferred { OnOk result (IsPreferred (world_of replay.new) preferences.new.items) }
     ensures frame { IfOk result (λ frame. Some (frame_shown frame) ≡
         frame_of (O.sequential replay.old.object) O.language O.state_text (world_of replay.old)
         (event_shown (event_lent event.entry))) }
 {
     match event {
         Event::Call(process, inv) => Ok(Frame::Call(begun_of(alloc, process, inv, replay)?)),
-        Event::Step(process) => Ok(Frame::Step(step_of(alloc, process, replay, announced)?)),
+        Event::Step(process) => {
+            let step = step_of(alloc, process, replay, announced, preferences)?;
+            Ok(Frame::Step(step))
+        }
         Event::Trim => Ok(Frame::End(trimmed(alloc, replay, announced)?)),
         Event::Reshape(processes) => {
             Ok(Frame::End(reshaped(alloc, processes, replay, announced)?))
@@ -217,6 +228,38 @@ fn reply_of<O: Spoken>(
     }
 }
 
+/// What a step of this kind proposed, by what its process preferred and by what its place holds after it.
+///
+/// An `Err` says that memory was refused.
+fn proposed_of(
+    alloc: Global,
+    kind: StepKind,
+    prefer: Option<CallId>,
+    after: &Held,
+) -> Result<Option<Held>, AllocError>
+    ensures { IfOk result (λ proposed. option_map held_shown proposed
+        ≡ proposal_told kind prefer (held_shown after.now)) }
+{
+    match kind {
+        StepKind::DecideAfter => {
+            let name = Vec::from_slice(alloc, &after.field.name)?;
+            Ok(Some(alone(name, cell_text(alloc, prefer)?)))
+        }
+        StepKind::DecideNew => Ok(Some(held_copy(alloc, after)?)),
+        StepKind::Announce
+        | StepKind::ScanHead
+        | StepKind::ScanSeq
+        | StepKind::WriteScan
+        | StepKind::Test
+        | StepKind::ReadAnnounce
+        | StepKind::ReadHelpSeq
+        | StepKind::WriteBefore
+        | StepKind::WriteSeq
+        | StepKind::WriteHead
+        | StepKind::Finish => Ok(None),
+    }
+}
+
 /// A step that a process is about to take.
 #[derive(Clone, Copy)]
 struct Coming {
@@ -249,12 +292,15 @@ fn step_of<O: Spoken>(
     process: u64,
     replay: &mut World<O>,
     announced: &mut Vec<CallId>,
+    preferences: &mut Vec<Preference>,
 ) -> Result<Step, AllocError>
-    requires { IsMirrored (world_of replay.old) announced.old.items }
+    requires mirror { IsMirrored (world_of replay.old) announced.old.items }
+    requires preferred { IsPreferred (world_of replay.old) preferences.old.items }
     ensures object { replay.new.object ≡ replay.old.object }
     ensures world { OnOk result (world_of replay.new ≡
         world_after (O.sequential replay.old.object) (world_of replay.old) (model.Step process)) }
     ensures mirror { OnOk result (IsMirrored (world_of replay.new) announced.new.items) }
+    ensures preferred { OnOk result (IsPreferred (world_of replay.new) preferences.new.items) }
     ensures step { IfOk result (λ step. Some (step_shown step) ≡
         option_map (stepped (O.sequential replay.old.object) O.language O.state_text (world_of replay.old) process)
         ((world_of replay.old).call process)) }
@@ -267,17 +313,21 @@ fn step_of<O: Spoken>(
         return Err(AllocError);
     };
     let before = read_place(alloc, replay, announced, coming.place)?;
+    let prefer = preferred_by(preferences, process);
+    note_preferred(replay, coming.kind, coming.place, coming.call, preferences)?;
     let Ok(progress) = replay.step(alloc, process) else {
         return Err(AllocError);
     };
     note_announced(coming.kind, coming.call, announced)?;
     let after = read_place(alloc, replay, announced, coming.place)?;
+    let proposed = proposed_of(alloc, coming.kind, prefer, &after)?;
     let reply = reply_of::<O>(alloc, progress)?;
     Ok(Step {
         call: coming.call,
         kind: coming.kind,
         before,
         after,
+        proposed,
         next: replay.next_kind(process),
         steps: replay.steps(process),
         turns: replay.turns(process),

@@ -11,8 +11,8 @@ use Rattle.svg_text.specs.declared.paint.Paint.{Paint}
 use Rattle.svg_text.specs.declared.paint.Paint.TheVariants.{Paper, Frame, Ink, Title, DarkLetter, LightLetter, Faint, Edge, Broken, Thick, Cross, Mark}
 use Rattle.svg_text.specs.declared.shape.Anchor.{Anchor}
 use Rattle.svg_text.specs.declared.shape.Anchor.TheVariants as anchors
-use Rattle.svg_text.specs.Figures.{Figure, Rect, Line, Dot, Tip, Text, Picture}
-use Rattle.svg_text.specs.Svg.{escaped_byte, escaped, attribute_text, attributes_of, code_of, anchor_name, view_box, point, figure_text, size_text, title_text, paper_text, svg_text, content_text}
+use Rattle.svg_text.specs.Figures.{Figure, Rect, Titled, Line, Dot, Tip, Text, Picture}
+use Rattle.svg_text.specs.Svg.{escaped_byte, escaped, attribute_text, attributes_of, code_of, anchor_name, view_box, point, figure_text, size_text, title_text, paper_text, svg_text, content_text, titled_content}
 use Rattle.svg_text.specs.Xml.{Element, Words, attributes_text, node_text, nodes_text, is_well_named, are_well_named, nodes, attribute, number, fill, stroke, paint_attributes, figure_node, figure_line, svg_attributes, titled, paper_node, svg_node}
 use Rattle.svg_text.proofs.Escapes.{escaped_decimal}
 
@@ -71,6 +71,10 @@ beside first rest = ap₂ ◌++◌ first rest
 empty_tag : (h a b d e p q n : List ℕ) → h ++ a ++ b ++ d ++ e ++ p ++ (q ++ n) ≡ (h ++ (a ++ (b ++ (d ++ (e ++ p)))) ++ q) ++ n
 empty_tag h a b d e p q n = simp append_assoc
 
+hinted_tag : (h a b d e p g1 g2 t c1 c2 c3 c4 n : List ℕ) → h ++ a ++ b ++ d ++ e ++ p ++ ((g1 ++ g2) ++ t ++ (c1 ++ (c2 ++ (c3 ++ (c1 ++ (c4 ++ (c3 ++ n)))))))
+    ≡ (h ++ (a ++ (b ++ (d ++ (e ++ p)))) ++ g1 ++ (g2 ++ t ++ [] ++ c1 ++ c2 ++ c3) ++ [] ++ c1 ++ c4 ++ c3) ++ n
+hinted_tag h a b d e p g1 g2 t c1 c2 c3 c4 n = simp (append_assoc, append-nil)
+
 short_tag : (h a b p q n : List ℕ) → h ++ a ++ b ++ (p ++ (q ++ n)) ≡ (h ++ (a ++ (b ++ p)) ++ q) ++ n
 short_tag h a b p q n = simp append_assoc
 
@@ -126,8 +130,18 @@ text_line x y a p text =
     ∙ ap (λ l. (codes "<text" ++ l ++ codes ">" ++ escaped text ++ [] ++ codes "</" ++ codes "text" ++ codes ">") ++ codes "\n")
     (sym (beside (number_text (codes "x") x) (beside (number_text (codes "y") y) (beside (ap (attribute_text (codes "text-anchor")) (anchor_text a)) (paint_text p)))))
 
+titled_line : (x y width height : ℕ) (p : Paint) (title : List ℕ)
+    → figure_text (Titled x y width height p title) ≡ node_text (figure_node (Titled x y width height p title)) ++ codes "\n"
+unfolding titled_content
+titled_line x y width height p title =
+    hinted_tag (codes "<rect") (attribute_text (codes "x") (decimal x)) (attribute_text (codes "y") (decimal y)) (attribute_text (codes "width") (decimal width)) (attribute_text (codes "height") (decimal height)) (attributes_of p)
+    (codes ">") (codes "<title>") (escaped title) (codes "</") (codes "title") (codes ">") (codes "rect") (codes "\n")
+    ∙ ap (λ l. (codes "<rect" ++ l ++ codes ">" ++ (codes "<title>" ++ escaped title ++ [] ++ codes "</" ++ codes "title" ++ codes ">") ++ [] ++ codes "</" ++ codes "rect" ++ codes ">") ++ codes "\n")
+    (sym (beside (number_text (codes "x") x) (beside (number_text (codes "y") y) (beside (number_text (codes "width") width) (beside (number_text (codes "height") height) (paint_text p))))))
+
 pub line_of_figure : (f : Figure) → figure_text f ≡ node_text (figure_node f) ++ codes "\n"
 line_of_figure (Rect x y width height p) = rect_line x y width height p
+line_of_figure (Titled x y width height p title) = titled_line x y width height p title
 line_of_figure (Line x1 y1 x2 y2 p) = line_line x1 y1 x2 y2 p
 line_of_figure (Dot x y) = dot_line x y
 line_of_figure (Tip x y x1 y1 x2 y2) = tip_line x y x1 y1 x2 y2
@@ -207,6 +221,7 @@ each_paint P paper frame ink title dark light faint edge broken thick cross mark
 
 figure_well_named : (f : Figure) → is_well_named (figure_node f) ≡ true
 figure_well_named (Rect x y width height p) = each_paint (λ q. is_well_named (figure_node (Rect x y width height q)) ≡ true) refl refl refl refl refl refl refl refl refl refl refl (λ _. refl) p
+figure_well_named (Titled x y width height p title) = each_paint (λ q. is_well_named (figure_node (Titled x y width height q title)) ≡ true) refl refl refl refl refl refl refl refl refl refl refl (λ _. refl) p
 figure_well_named (Line x1 y1 x2 y2 p) = each_paint (λ q. is_well_named (figure_node (Line x1 y1 x2 y2 q)) ≡ true) refl refl refl refl refl refl refl refl refl refl refl (λ _. refl) p
 figure_well_named (Dot x y) = refl
 figure_well_named (Tip x y x1 y1 x2 y2) = refl

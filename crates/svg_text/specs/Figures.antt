@@ -9,6 +9,7 @@ use Rattle.svg_text.specs.declared.shape.Drawing.{Drawing}
 -- a shape
 pub data Figure : Type 0 where
   Rect : (x y width height : ℕ) → Paint → Figure
+  Titled : (x y width height : ℕ) → Paint → (title : List ℕ) → Figure
   Line : (x1 y1 x2 y2 : ℕ) → Paint → Figure
   Dot : (x y : ℕ) → Figure
   Tip : (x y x1 y1 x2 y2 : ℕ) → Figure
@@ -25,6 +26,7 @@ pub record Picture : Type 0 where
 -- what the code's shapes and drawings are
 abbrev pub figure : Shape → Figure
 figure (shape.Rect x y width height paint) = Rect x y width height paint
+figure (shape.Titled x y width height paint title) = Titled x y width height paint title.items
 figure (shape.Line x1 y1 x2 y2 paint) = Line x1 y1 x2 y2 paint
 figure (shape.Dot x y) = Dot x y
 figure (shape.Tip x y x1 y1 x2 y2) = Tip x y x1 y1 x2 y2

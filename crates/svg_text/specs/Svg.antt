@@ -9,7 +9,7 @@ use Rattle.svg_text.specs.declared.paint.Paint.TheVariants.{Paper, Frame, Ink, T
 use Rattle.svg_text.specs.declared.paint.Paint.TheVariants.{Cross, Mark}
 use Rattle.svg_text.specs.declared.shape.Anchor.{Anchor}
 use Rattle.svg_text.specs.declared.shape.Anchor.TheVariants.{Start, Middle, End}
-use Rattle.svg_text.specs.Figures.{Figure, Rect, Line, Dot, Tip, Text, Picture}
+use Rattle.svg_text.specs.Figures.{Figure, Rect, Titled, Line, Dot, Tip, Text, Picture}
 
 -- a byte of a text as XML has it: each `<`, `>`, `&` and quote has a name
 abbrev pub escaped_byte : ℕ → List ℕ
@@ -44,8 +44,8 @@ attributes_of Paper = codes " fill=\"#ffffff\""
 attributes_of Frame = codes " fill=\"#ffffff\" stroke=\"#333333\""
 attributes_of Ink = codes " fill=\"#000000\""
 attributes_of Title = codes " fill=\"#000000\" font-size=\"16\" font-weight=\"bold\""
-attributes_of DarkLetter = codes " fill=\"#000000\" font-size=\"16\" font-weight=\"bold\""
-attributes_of LightLetter = codes " fill=\"#ffffff\" font-size=\"16\" font-weight=\"bold\""
+attributes_of DarkLetter = codes " fill=\"#000000\" font-size=\"16\" font-weight=\"bold\" pointer-events=\"none\""
+attributes_of LightLetter = codes " fill=\"#ffffff\" font-size=\"16\" font-weight=\"bold\" pointer-events=\"none\""
 attributes_of Faint = codes " stroke=\"#bbbbbb\""
 attributes_of Edge = codes " stroke=\"#333333\""
 attributes_of Broken = codes " stroke=\"#333333\" stroke-dasharray=\"6 4\""
@@ -67,6 +67,16 @@ rect_text x y width height paint =
     codes "<rect" ++ attribute_text (codes "x") (decimal x) ++ attribute_text (codes "y") (decimal y)
     ++ attribute_text (codes "width") (decimal width) ++ attribute_text (codes "height") (decimal height) ++ attributes_of paint
     ++ codes "/>\n"
+
+-- what stands in the element of a titled rectangle after its attributes
+unfoldable pub titled_content : (title : List ℕ) → List ℕ
+titled_content title = codes "><title>" ++ escaped title ++ codes "</title></rect>\n"
+
+abbrev pub titled_text : (x y width height : ℕ) → Paint → (title : List ℕ) → List ℕ
+titled_text x y width height paint title =
+    codes "<rect" ++ attribute_text (codes "x") (decimal x) ++ attribute_text (codes "y") (decimal y)
+    ++ attribute_text (codes "width") (decimal width) ++ attribute_text (codes "height") (decimal height) ++ attributes_of paint
+    ++ titled_content title
 
 abbrev pub line_text : (x1 y1 x2 y2 : ℕ) → Paint → List ℕ
 line_text x1 y1 x2 y2 paint =
@@ -93,6 +103,7 @@ label_text x y anchor paint text =
 -- the text of a shape, with the end of its line
 abbrev pub figure_text : Figure → List ℕ
 figure_text (Rect x y width height paint) = rect_text x y width height paint
+figure_text (Titled x y width height paint title) = titled_text x y width height paint title
 figure_text (Line x1 y1 x2 y2 paint) = line_text x1 y1 x2 y2 paint
 figure_text (Dot x y) = dot_text x y
 figure_text (Tip x y x1 y1 x2 y2) = tip_text x y x1 y1 x2 y2

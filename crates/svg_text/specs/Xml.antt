@@ -6,7 +6,7 @@ use Rattle.std.specs.List.{flat_map}
 use Rattle.svg_text.specs.declared.paint.Paint.{Paint}
 use Rattle.svg_text.specs.declared.paint.Paint.TheVariants.{Paper, Frame, Ink, Title, DarkLetter, LightLetter, Faint, Edge, Broken, Thick}
 use Rattle.svg_text.specs.declared.paint.Paint.TheVariants.{Cross, Mark}
-use Rattle.svg_text.specs.Figures.{Figure, Rect, Line, Dot, Tip, Text, Picture}
+use Rattle.svg_text.specs.Figures.{Figure, Rect, Titled, Line, Dot, Tip, Text, Picture}
 use Rattle.svg_text.specs.Svg.{escaped, attribute_text, code_of, anchor_name, view_box, point}
 
 -- an attribute of an element
@@ -134,14 +134,18 @@ stroke colour = attribute (codes "stroke") colour
 abbrev pub large : List Attribute
 large = attribute (codes "font-size") (codes "16") ∷ attribute (codes "font-weight") (codes "bold") ∷ []
 
+-- the pointer passes through
+abbrev pub unseen : Attribute
+unseen = attribute (codes "pointer-events") (codes "none")
+
 -- how a shape is painted
 abbrev pub paint_attributes : Paint → List Attribute
 paint_attributes Paper = fill (codes "#ffffff") ∷ []
 paint_attributes Frame = fill (codes "#ffffff") ∷ stroke (codes "#333333") ∷ []
 paint_attributes Ink = fill (codes "#000000") ∷ []
 paint_attributes Title = fill (codes "#000000") ∷ large
-paint_attributes DarkLetter = fill (codes "#000000") ∷ large
-paint_attributes LightLetter = fill (codes "#ffffff") ∷ large
+paint_attributes DarkLetter = fill (codes "#000000") ∷ large ++ unseen ∷ []
+paint_attributes LightLetter = fill (codes "#ffffff") ∷ large ++ unseen ∷ []
 paint_attributes Faint = stroke (codes "#bbbbbb") ∷ []
 paint_attributes Edge = stroke (codes "#333333") ∷ []
 paint_attributes Broken = stroke (codes "#333333") ∷ attribute (codes "stroke-dasharray") (codes "6 4") ∷ []
@@ -153,6 +157,10 @@ abbrev pub figure_node : Figure → Node
 figure_node (Rect x y width height paint) =
     Element (codes "rect") (number (codes "x") x ∷ number (codes "y") y ∷ number (codes "width") width
     ∷ number (codes "height") height ∷ paint_attributes paint) End
+figure_node (Titled x y width height paint title) =
+    Element (codes "rect") (number (codes "x") x ∷ number (codes "y") y ∷ number (codes "width") width
+    ∷ number (codes "height") height ∷ paint_attributes paint)
+    (nodes (Element (codes "title") [] (nodes (Words title ∷ [])) ∷ []))
 figure_node (Line x1 y1 x2 y2 paint) =
     Element (codes "line") (number (codes "x1") x1 ∷ number (codes "y1") y1 ∷ number (codes "x2") x2 ∷ number (codes "y2") y2
     ∷ paint_attributes paint) End

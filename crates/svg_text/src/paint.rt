@@ -30,9 +30,9 @@ pub enum Paint {
     Ink,
     /// A title.
     Title,
-    /// A letter upon a pale mark.
+    /// A letter upon a pale mark, which lets the pointer through to it.
     DarkLetter,
-    /// A letter upon a dark mark.
+    /// A letter upon a dark mark, which does so too.
     LightLetter,
     /// A pale line.
     Faint,

@@ -29,6 +29,21 @@ pub enum Shape {
         /// How it is painted.
         paint: Paint,
     },
+    /// A rectangle with a title, which a browser shows at the pointer.
+    Titled {
+        /// Its left.
+        x: u64,
+        /// Its top.
+        y: u64,
+        /// Its width.
+        width: u64,
+        /// Its height.
+        height: u64,
+        /// How it is painted.
+        paint: Paint,
+        /// The title, not escaped.
+        title: Vec<u8>,
+    },
     /// A line from one point to another.
     Line {
         /// The first point's place from the left.

@@ -4,7 +4,8 @@ ghost use Rattle.std.specs.Prelude.{◌≡◌, ◌++◌, IfOk, OnOk, codes};
 ghost use Rattle.std.specs.Fmt.{decimal};
 ghost use Rattle.svg_text.specs.Figures.{figure, picture};
 ghost use Rattle.svg_text.specs.Svg.{code_of, escaped_byte, escaped, attribute_text, anchor_name, attributes_of};
-ghost use Rattle.svg_text.specs.Svg.{content_text, point, rect_text, line_text, dot_text, tip_text, label_text};
+ghost use Rattle.svg_text.specs.Svg.{content_text, point, rect_text, titled_content, titled_text};
+ghost use Rattle.svg_text.specs.Svg.{line_text, dot_text, tip_text, label_text};
 ghost use Rattle.svg_text.specs.Svg.{figure_text, manner_text, view_box, size_text, title_text, paper_text};
 ghost use Rattle.svg_text.specs.Svg.{opening_text, svg_text};
 ghost use Rattle.svg_text.specs.declared.paint.Paint.TheVariants.{Mark};
@@ -161,6 +162,14 @@ fn push_shape(svg: &mut Vec<u8>, shape: &Shape) -> Result<(), AllocError>
             height,
             paint,
         } => push_rect(svg, *x, *y, *width, *height, *paint),
+        Shape::Titled {
+            x,
+            y,
+            width,
+            height,
+            paint,
+            title,
+        } => push_titled(svg, *x, *y, *width, *height, *paint, title),
         Shape::Line {
             x1,
             y1,
@@ -207,6 +216,40 @@ fn push_rect(
     push_attribute(svg, "height", height)?;
     push_paint(svg, paint)?;
     push_words(svg, "/>\n")
+}
+
+/// Adds a rectangle with a title.
+///
+/// An `Err` says that memory was refused.
+fn push_titled(
+    svg: &mut Vec<u8>,
+    x: u64,
+    y: u64,
+    width: u64,
+    height: u64,
+    paint: Paint,
+    title: &[u8],
+) -> Result<(), AllocError>
+    ensures { OnOk result (svg.new.items ≡ svg.old.items ++ titled_text x y width height paint title.now) }
+{
+    push_words(svg, "<rect")?;
+    push_attribute(svg, "x", x)?;
+    push_attribute(svg, "y", y)?;
+    push_attribute(svg, "width", width)?;
+    push_attribute(svg, "height", height)?;
+    push_paint(svg, paint)?;
+    push_titled_content(svg, title)
+}
+
+/// Adds what stands in the element of a titled rectangle after its attributes, and the end of its line.
+///
+/// An `Err` says that memory was refused.
+fn push_titled_content(svg: &mut Vec<u8>, title: &[u8]) -> Result<(), AllocError>
+    ensures { OnOk result (svg.new.items ≡ svg.old.items ++ titled_content title.now) }
+{
+    push_words(svg, "><title>")?;
+    push_escaped(svg, title)?;
+    push_words(svg, "</title></rect>\n")
 }
 
 /// Adds a line.
@@ -347,11 +390,11 @@ fn push_paint(svg: &mut Vec<u8>, paint: Paint) -> Result<(), AllocError>
         ),
         Paint::DarkLetter => push_words(
             svg,
-            " fill=\"#000000\" font-size=\"16\" font-weight=\"bold\"",
+            " fill=\"#000000\" font-size=\"16\" font-weight=\"bold\" pointer-events=\"none\"",
         ),
         Paint::LightLetter => push_words(
             svg,
-            " fill=\"#ffffff\" font-size=\"16\" font-weight=\"bold\"",
+            " fill=\"#ffffff\" font-size=\"16\" font-weight=\"bold\" pointer-events=\"none\"",
         ),
         Paint::Faint => push_words(svg, " stroke=\"#bbbbbb\""),
         Paint::Edge => push_words(svg, " stroke=\"#333333\""),

@@ -1,30 +1,46 @@
 -- What the words of the command line ask for, by clap's own account of a command.
-use Rattle.std.specs.Prelude.{◌≡◌, ◌⊎◌, Bool, true, false, List, [], ◌∷◌, Option, None, Some, codes, refl}
+use Rattle.std.specs.Prelude.{◌≡◌, ◌⊎◌, List, [], ◌∷◌, map, filter, fold, Option, None, Some, codes, refl}
 use Rattle.clap.specs.Words.{App, IsAmong, Kinds, Row, Text, fault_of, matches_of, new_app, with_rule}
 use Rattle.clap.proofs.OnLiterals.{clap_on_literals}
 use Rattle.clap.specs.declared.error.kind.ErrorKind.TheVariants.{ArgumentConflict, DisplayHelp, DisplayVersion, UnknownArgument}
 use Rattle.command_line.specs.Flags.{flag, is_set, versioned}
 use Rattle.unidraw_run.specs.declared.program.Form.{Form}
-use Rattle.unidraw_run.specs.declared.program.Form.TheVariants.{Svg, Lines, Json, Html}
+use Rattle.unidraw_run.specs.declared.program.Form.TheVariants.{Svg, Lines, Steps, Json, Html, History}
 
--- the program has a version, and an option for each form but an SVG
+-- an option that asks for a form
+pub record FormOption : Type 0 where
+  pub name : Text
+  pub form : Form
+
+abbrev pub asks : (name : Text) → Form → FormOption
+asks name form = record { name = name; form = form }
+
+-- the options, in the order of the help: one for each form but an SVG
+abbrev pub form_options : List FormOption
+form_options =
+    asks (codes "text") Lines ∷ asks (codes "steps") Steps ∷ asks (codes "json") Json ∷ asks (codes "html") Html
+    ∷ asks (codes "history") History ∷ []
+
+-- a program with these options more
+abbrev pub with_options : App → List FormOption → App
+with_options = fold (λ app o. with_rule app (flag o.name))
+
+-- the program has a version, and the options
 abbrev pub unidraw : App
-unidraw =
-    with_rule (with_rule (with_rule (versioned (new_app (codes "unidraw"))) (flag (codes "text"))) (flag (codes "json")))
-    (flag (codes "html"))
+unidraw = with_options (versioned (new_app (codes "unidraw"))) form_options
 
--- the form that options ask for, by whether each is used; there is none where several are
-abbrev pub form_among : (text json html : Bool) → Option Form
-form_among false false false = Some Svg
-form_among true false false = Some Lines
-form_among false true false = Some Json
-form_among false false true = Some Html
-form_among true true html = None
-form_among true false true = None
-form_among false true true = None
+-- the forms whose options are used, in the order of these
+abbrev pub forms_used : List Row → List FormOption → List Form
+forms_used rows options = map (λ o. o.form) (filter (λ o. is_set o.name rows) options)
+
+-- the form that is asked for, by all whose options are used: an SVG where none is, and no form where several are
+abbrev pub form_among : List Form → Option Form
+form_among [] = Some Svg
+form_among (form ∷ []) = Some form
+form_among (form ∷ other ∷ more) = None
 
 abbrev pub form_in : List Row → Option Form
-form_in rows = form_among (is_set (codes "text") rows) (is_set (codes "json") rows) (is_set (codes "html") rows)
+form_in rows = form_among (forms_used rows form_options)
 
 -- the kinds of fault, where several forms are a conflict
 abbrev pub faults_with : Kinds → Option Form → Kinds
@@ -53,8 +69,8 @@ MayAskForHelp words = IsAmong DisplayHelp (faults_of_words words) ⊎ IsAmong Di
 abbrev pub IsRefused : List Text → Type 0
 IsRefused words = (form_of_words words ≡ None) × ¬ (MayAskForHelp words)
 
--- no word asks for an SVG, `--text` for lines, `--json` for a trace, `--html` for a page, and any other for nothing, whatever the
--- program's name is
+-- no word asks for an SVG, `--text` for lines, `--steps` for words, `--json` for a trace, `--html` for a page, `--history` for a
+-- history, and any other for nothing, whatever the program's name is
 form_without_words : (name : Text) → form_of_words (name ∷ []) ≡ Some Svg
 unfolding clap_on_literals
 form_without_words name = refl
@@ -63,6 +79,10 @@ form_of_text : (name : Text) → form_of_words (name ∷ codes "--text" ∷ []) 
 unfolding clap_on_literals
 form_of_text name = refl
 
+form_of_steps : (name : Text) → form_of_words (name ∷ codes "--steps" ∷ []) ≡ Some Steps
+unfolding clap_on_literals
+form_of_steps name = refl
+
 form_of_json : (name : Text) → form_of_words (name ∷ codes "--json" ∷ []) ≡ Some Json
 unfolding clap_on_literals
 form_of_json name = refl
@@ -70,6 +90,10 @@ form_of_json name = refl
 form_of_html : (name : Text) → form_of_words (name ∷ codes "--html" ∷ []) ≡ Some Html
 unfolding clap_on_literals
 form_of_html name = refl
+
+form_of_history : (name : Text) → form_of_words (name ∷ codes "--history" ∷ []) ≡ Some History
+unfolding clap_on_literals
+form_of_history name = refl
 
 two_forms_are_a_fault : (name : Text) → faults_of_words (name ∷ codes "--text" ∷ codes "--json" ∷ []) ≡ ArgumentConflict ∷ []
 unfolding clap_on_literals

@@ -9,17 +9,22 @@ use Rattle.run_layout.specs.Subject.{HasTooManyEvents}
 use Rattle.run_picture.specs.Picture.{IsPicture}
 use Rattle.run_lines.specs.Lines.{IsLines}
 use Rattle.run_json.specs.Trace.{IsTrace}
+use Rattle.run_steps.specs.Steps.{IsSteps}
 use Rattle.run_page.specs.Page.{IsPage}
+use Rattle.run_history.specs.History.{IsHistory}
 pub use Rattle.unidraw_run.specs.CommandLine.{form_of_words}
 use Rattle.unidraw_run.specs.declared.program.Form.{Form}
-use Rattle.unidraw_run.specs.declared.program.Form.TheVariants.{Svg, Lines, Json, Html}
+use Rattle.unidraw_run.specs.declared.program.Form.TheVariants.{Svg, Lines, Steps, Json, Html, History}
 
--- the reader had a script that can be drawn, and this is its picture in a form, or its trace or the page of that
+-- the reader had a script that can be drawn, and this is its picture in a form, or its steps in words, its trace, the page of
+-- that, or its history
 abbrev pub IsPictureIn : Form → (left : Option (List ℕ)) → (text : List ℕ) → Type 0
 IsPictureIn Svg left text = IsPicture left text
 IsPictureIn Lines left text = IsLines left text
+IsPictureIn Steps left text = IsSteps left text
 IsPictureIn Json left text = IsTrace left text
 IsPictureIn Html left text = IsPage left text
+IsPictureIn History left text = IsHistory left text
 
 -- the reader had a script with a fault, or with too many events
 abbrev pub HasNoPicture : (left : Option (List ℕ)) → Type 0

@@ -1,3 +1,4 @@
 pub mod CommandLine
+pub mod Shown
 pub mod Statuses
 pub mod Drawn

@@ -12,11 +12,13 @@ ghost use Rattle.unidraw_run.specs.Statuses.{IsStatusOfPicture, TellsPictureFaul
 
 use crate::words::{read_words, tip_for};
 use command_line::answer_words;
+use run_history::history_of;
 use run_json::json_of;
 use run_layout::PictureFault;
 use run_lines::lines_of;
 use run_page::page_of;
 use run_picture::picture_of;
+use run_steps::steps_of;
 use std::alloc::Global;
 use std::convert::AsStr;
 use uni_script::{BenchFault, Failed, TextIn, TextOut, report_fault, tell, write_all};
@@ -28,16 +30,20 @@ pub enum Form {
     Svg,
     /// Lines of text, for a terminal of 100 columns.
     Lines,
+    /// Lines of text, with a sentence for each event.
+    Steps,
     /// Lines of JSON, which tell what each event did to the memory.
     Json,
     /// A page for a browser, which shows these.
     Html,
+    /// Lines of JSON, which tell the calls and the replies alone.
+    History,
 }
 
 /// Draws the script on `input` in the form that the argument texts ask for, the program's name first, and
 /// writes the picture to `output`; the answer is the status that the program ends with. With `--text` the
-/// picture is one of lines, with `--json` it is the trace of the run, with `--html` a page that shows this, and
-/// with no word an SVG.
+/// picture is one of lines, with `--steps` it is a sentence for each event, with `--json` the trace of the run, with
+/// `--html` a page that shows this, with `--history` the calls and the replies of the run, and with no word an SVG.
 ///
 /// The status is 0 where all went well, also for help or the version, which go to `output`; 2 for a bad script,
 /// one of more than 2,000 events, or words that ask for nothing that there is; 3 where `input` or `output`
@@ -106,8 +112,10 @@ fn picture_in<I: TextIn>(alloc: Global, form: Form, reader: &mut I) -> Result<Ve
     match form {
         Form::Svg => picture_of(alloc, reader),
         Form::Lines => lines_of(alloc, reader),
+        Form::Steps => steps_of(alloc, reader),
         Form::Json => json_of(alloc, reader),
         Form::Html => page_of(alloc, reader),
+        Form::History => history_of(alloc, reader),
     }
 }
 

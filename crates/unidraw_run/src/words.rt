@@ -5,7 +5,9 @@ ghost use Rattle.clap.specs.Values.{kind_of};
 ghost use Rattle.clap.specs.Words.{HasKind, app_of, found_of, new_app, rows_of};
 ghost use Rattle.clap.specs.declared.builder.command.Command.TheViews.{out-Command};
 ghost use Rattle.command_line.specs.Flags.{versioned};
-ghost use Rattle.unidraw_run.specs.CommandLine.{faults_of_words, form_among, form_in, form_of_words, unidraw};
+ghost use Rattle.unidraw_run.specs.CommandLine.{faults_of_words, form_among, form_of_words, forms_used};
+ghost use Rattle.unidraw_run.specs.CommandLine.{unidraw, with_options};
+ghost use Rattle.unidraw_run.specs.Shown.{option_shown};
 
 use crate::program::Form;
 use clap::error::ErrorKind;
@@ -20,21 +22,65 @@ const VERSION: &str = "0.1.0";
 /// What the help says last.
 const NOTES: &str = "\
 The script is read from standard input, and the picture is written to standard
-output: an SVG, or with --text lines of at most 100 columns. With --json each
-step is told, with what it changed: see docs/trace.md; with --html a browser
-shows them. A script of more than 2000 events has no picture.
+output: an SVG, or with --text lines of at most 100 columns. With --steps each
+step is told in words, with what it changed, and with --json for programs: see
+docs/trace.md; with --html a browser shows them. With --history calls and
+replies are told alone, for a program that judges histories. A script of more
+than 2000 events has no picture.
 
 Examples:
   unidraw < queue.script > queue.svg
   unidraw --text < queue.script
+  unidraw --steps < queue.script
   unidraw --json < queue.script
-  unidraw --html < queue.script > queue.html";
+  unidraw --html < queue.script > queue.html
+  unidraw --history < queue.script";
 
 /// What is said where words ask for several forms.
-const SEVERAL: &str = "only one of --text, --json and --html can be used";
+const SEVERAL: &str = "only one of --text, --steps, --json, --html and --history can be used";
 
 /// What is said where a word may have been meant for a file.
 const TIP: &str = "tip: a script is read from standard input: unidraw < FILE\n";
+
+/// An option that asks for a form.
+#[derive(Clone, Copy)]
+struct FormOption {
+    /// Its name.
+    name: &'static str,
+    /// The form.
+    form: Form,
+    /// What its help says.
+    help: &'static str,
+}
+
+/// The options, in the order of the help: one for each form but an SVG.
+const OPTIONS: [FormOption; 5] = [
+    FormOption {
+        name: "text",
+        form: Form::Lines,
+        help: "Draws lines of text in place of an SVG",
+    },
+    FormOption {
+        name: "steps",
+        form: Form::Steps,
+        help: "Tells each step and what it changed, in words",
+    },
+    FormOption {
+        name: "json",
+        form: Form::Json,
+        help: "Tells each step and what it changed, in lines of JSON",
+    },
+    FormOption {
+        name: "html",
+        form: Form::Html,
+        help: "Writes a page for a browser, which shows each step",
+    },
+    FormOption {
+        name: "history",
+        form: Form::History,
+        help: "Tells the calls and the replies alone, in lines of JSON",
+    },
+];
 
 /// The program without its options, with what its help says.
 fn described<'a>(alloc: Global) -> Command<'a>
@@ -47,46 +93,49 @@ fn described<'a>(alloc: Global) -> Command<'a>
         .after_help(NOTES)
 }
 
+/// A program with these options more.
+///
+/// An `Err` says that memory was refused.
+fn with_options<'a>(
+    alloc: Global,
+    mut command: Command<'a>,
+    options: &[FormOption],
+) -> Result<Command<'a>, AllocError>
+    requires { (out-Command command).has_globals ≡ false }
+    ensures { IfOk result (λ whole. app_of whole
+        ≡ with_options (app_of command.entry) (map option_shown options.now)) }
+{
+    for option in options {
+        let name: &'a str = option.name;
+        let help: &'a str = option.help;
+        command = command.arg(flag(alloc, name, help))?;
+    }
+    Ok(command)
+}
+
 /// The command line of the program.
+///
+/// An `Err` says that memory was refused.
 fn unidraw<'a>(alloc: Global) -> Result<Command<'a>, AllocError>
     ensures { IfOk result (λ command. app_of command ≡ unidraw) }
 {
-    described(alloc)
-        .arg(flag(alloc, "text", "Draws lines of text in place of an SVG"))?
-        .arg(flag(
-            alloc,
-            "json",
-            "Tells each step and what it changed, in lines of JSON",
-        ))?
-        .arg(flag(
-            alloc,
-            "html",
-            "Writes a page for a browser, which shows each step",
-        ))
+    with_options(alloc, described(alloc), &OPTIONS)
 }
 
-/// The form that options ask for, by whether each is used; `None` where several are.
-fn form_among(text: bool, json: bool, html: bool) -> Option<Form>
-    ensures { result ≡ form_among text json html }
+/// The form that is asked for by the options that matches use, of these; `None` where they use several.
+fn form_in(matches: &ArgMatches<'_>, options: &[FormOption]) -> Option<Form>
+    ensures { result ≡ form_among (forms_used (rows_of (found_of matches.now)) (map option_shown options.now)) }
 {
-    match (text, json, html) {
-        (false, false, false) => Some(Form::Svg),
-        (true, false, false) => Some(Form::Lines),
-        (false, true, false) => Some(Form::Json),
-        (false, false, true) => Some(Form::Html),
-        (true, true, _) | (true, _, true) | (_, true, true) => None,
+    let mut used = None;
+    for option in options {
+        if is_set(matches, option.name) {
+            if used.is_some() {
+                return None;
+            }
+            used = Some(option.form);
+        }
     }
-}
-
-/// The form that matches ask for; `None` where they ask for several.
-fn form_in(matches: &ArgMatches<'_>) -> Option<Form>
-    ensures { result ≡ form_in (rows_of (found_of matches.now)) }
-{
-    form_among(
-        is_set(matches, "text"),
-        is_set(matches, "json"),
-        is_set(matches, "html"),
-    )
+    Some(used.unwrap_or(Form::Svg))
 }
 
 /// The fault of words that ask for several forms.
@@ -106,7 +155,7 @@ pub(crate) fn read_words<S: AsStr>(alloc: Global, words: &[S]) -> Result<Form, c
     ensures fault { IfErr result (HasKind (faults_of_words (map S.text words.now))) }
 {
     match unidraw(alloc)?.try_get_matches_from(words) {
-        Ok(matches) => match form_in(&matches) {
+        Ok(matches) => match form_in(&matches, &OPTIONS) {
             Some(form) => Ok(form),
             None => Err(several_forms(alloc)?),
         },

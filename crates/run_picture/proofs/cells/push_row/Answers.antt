@@ -14,8 +14,8 @@ loop-cell-preserved c =
     let rest = map cell_shown (drop (i + 1) cells) in
     let all = rest_shown cell_shown cells i c.cell-item.result c.loop-cell-test.true c.cell-item.is in
     record {
-      figures = row_next c.args.width c.loop-cell.spot c.in_ok-spot.spot (map figure c.loop-cell.shapes.items) (map figure c.push_cell.new.shapes.items) _ cell rest (map cell_shown (drop i cells)) all c.in_ok-spot.ensures.end c.in_ok-spot.ensures.figures c.loop-cell.invariant.figures;
-      end = row_end_next c.args.width c.loop-cell.spot c.in_ok-spot.spot _ cell rest (map cell_shown (drop i cells)) all c.in_ok-spot.ensures.end c.loop-cell.invariant.end;
+      figures = row_next c.args.dots.now c.args.width c.loop-cell.spot c.in_ok-spot.spot (map figure c.loop-cell.shapes.items) (map figure c.push_cell.new.shapes.items) _ cell rest (map cell_shown (drop i cells)) all c.in_ok-spot.ensures.end c.in_ok-spot.ensures.figures c.loop-cell.invariant.figures;
+      end = row_end_next c.args.dots.now c.args.width c.loop-cell.spot c.in_ok-spot.spot _ cell rest (map cell_shown (drop i cells)) all c.in_ok-spot.ensures.end c.loop-cell.invariant.end;
       near = c.in_ok-spot.ensures.near;
       low = c.in_ok-spot.ensures.low;
     }
@@ -24,10 +24,10 @@ pub returns-clause-figures : goal.returns-clause-figures
 unfolding row_figures
 returns-clause-figures c =
     let none = ap (map cell_shown) (drop_all c.loop-cell.cell-index c.args.cells.now c.loop-cell-test.false) in
-    sym (append-nil (map figure c.loop-cell.shapes.items)) ∙ ap (λ l. map figure c.loop-cell.shapes.items ++ row_figures c.args.width c.loop-cell.spot l) (sym none) ∙ c.loop-cell.invariant.figures
+    sym (append-nil (map figure c.loop-cell.shapes.items)) ∙ ap (λ l. map figure c.loop-cell.shapes.items ++ row_figures c.args.dots.now c.args.width c.loop-cell.spot l) (sym none) ∙ c.loop-cell.invariant.figures
 
 pub returns-clause-end : goal.returns-clause-end
 unfolding row_end
 returns-clause-end c =
     let none = ap (map cell_shown) (drop_all c.loop-cell.cell-index c.args.cells.now c.loop-cell-test.false) in
-    ap (row_end c.args.width c.loop-cell.spot) (sym none) ∙ c.loop-cell.invariant.end
+    ap (row_end c.args.dots.now c.args.width c.loop-cell.spot) (sym none) ∙ c.loop-cell.invariant.end

@@ -5,9 +5,9 @@ use Rattle.run_picture.specs.Notes.{captions_from}
 use Rattle.run_picture.proofs.notes.push_captions.Given as goal
 
 -- the captions so far, and those from here on
-abbrev pub invariant-loop-at : goal.invariant-loop-at
-invariant-loop-at l = record {
-  small : l.place ≤ l.bottom + 12 + l.at * 4000;
-  rest : map figure l.shapes.items ++ captions_from (places_shown l.axis) l.width l.most l.foot l.at l.place (drop l.at l.remarks)
-      ≡ map figure l.initial.shapes.items ++ captions_from (places_shown l.axis) l.width l.most l.foot 0 (l.bottom + 12) l.remarks;
+abbrev pub invariant-loop-place : goal.invariant-loop-place
+invariant-loop-place l = record {
+  small : l.top ≤ l.bottom + 12 + l.place * 4000;
+  rest : map figure l.shapes.items ++ captions_from (places_shown l.axis) l.width l.foot l.place l.top (drop l.place l.remarks)
+      ≡ map figure l.initial.shapes.items ++ captions_from (places_shown l.axis) l.width l.foot 0 (l.bottom + 12) l.remarks;
 }

@@ -1,0 +1,52 @@
+use Rattle.std.proofs.Common.{◌∙◌, sym, ap, subst}
+use Rattle.std.proofs.lemmas.Result.{IfOk-weaker}
+use Rattle.ready_objects.specs.Directory.{pairs_text}
+use Rattle.ready_objects.specs.Number.{numbers_text}
+use Rattle.ready_objects.specs.Sticky.{sticky_text}
+use Rattle.uni_record.specs.Event.{events_shown}
+use Rattle.uni_script.specs.ScriptRun.{session_of_record}
+use Rattle.uni_script.specs.declared.grammar.ObjectName.TheVariants as name
+use Rattle.uni_script.specs.Objects.{spoken_of}
+use Rattle.run_history.specs.History.{IsLinearizableSession, history_of_session}
+use Rattle.run_history.specs.Lines.{history_text}
+use Rattle.run_history.proofs.history.history_of_record.Goals as goal
+
+pub returns-in-Queue-clause-text : goal.returns-in-Queue-clause-text
+returns-in-Queue-clause-text c =
+    let r = c.in-Queue.recorded in
+    IfOk-weaker c.history_of_events.result _ _
+    (λ text is version. is ∙ ap (λ w. history_text (spoken_of name.Queue) numbers_text w r.processes r.first (events_shown r.events)) c.word.ensures ∙ ap (λ s. history_of_session (session_of_record version s)) (sym c.in-Queue.is))
+    c.history_of_events.ensures.text
+
+pub returns-in-Queue-clause-linearizable : goal.returns-in-Queue-clause-linearizable
+returns-in-Queue-clause-linearizable c = λ version. subst (λ s. IsLinearizableSession (session_of_record version s)) (sym c.in-Queue.is) c.history_of_events.ensures.linearizable
+
+pub returns-in-Directory-clause-text : goal.returns-in-Directory-clause-text
+returns-in-Directory-clause-text c =
+    let r = c.in-Directory.recorded in
+    IfOk-weaker c.history_of_events-in-Directory.result _ _
+    (λ text is version. is ∙ ap (λ w. history_text (spoken_of name.Directory) pairs_text w r.processes r.first (events_shown r.events)) c.word-in-Directory.ensures ∙ ap (λ s. history_of_session (session_of_record version s)) (sym c.in-Directory.is))
+    c.history_of_events-in-Directory.ensures.text
+
+pub returns-in-Directory-clause-linearizable : goal.returns-in-Directory-clause-linearizable
+returns-in-Directory-clause-linearizable c = λ version. subst (λ s. IsLinearizableSession (session_of_record version s)) (sym c.in-Directory.is) c.history_of_events-in-Directory.ensures.linearizable
+
+pub returns-in-Book-clause-text : goal.returns-in-Book-clause-text
+returns-in-Book-clause-text c =
+    let r = c.in-Book.recorded in
+    IfOk-weaker c.history_of_events-in-Book.result _ _
+    (λ text is version. is ∙ ap (λ w. history_text (spoken_of name.Book) numbers_text w r.processes r.first (events_shown r.events)) c.word-in-Book.ensures ∙ ap (λ s. history_of_session (session_of_record version s)) (sym c.in-Book.is))
+    c.history_of_events-in-Book.ensures.text
+
+pub returns-in-Book-clause-linearizable : goal.returns-in-Book-clause-linearizable
+returns-in-Book-clause-linearizable c = λ version. subst (λ s. IsLinearizableSession (session_of_record version s)) (sym c.in-Book.is) c.history_of_events-in-Book.ensures.linearizable
+
+pub returns-in-Sticky-clause-text : goal.returns-in-Sticky-clause-text
+returns-in-Sticky-clause-text c =
+    let r = c.in-Sticky.recorded in
+    IfOk-weaker c.history_of_events-in-Sticky.result _ _
+    (λ text is version. is ∙ ap (λ w. history_text (spoken_of name.Sticky) sticky_text w r.processes r.first (events_shown r.events)) c.word-in-Sticky.ensures ∙ ap (λ s. history_of_session (session_of_record version s)) (sym c.in-Sticky.is))
+    c.history_of_events-in-Sticky.ensures.text
+
+pub returns-in-Sticky-clause-linearizable : goal.returns-in-Sticky-clause-linearizable
+returns-in-Sticky-clause-linearizable c = λ version. subst (λ s. IsLinearizableSession (session_of_record version s)) (sym c.in-Sticky.is) c.history_of_events-in-Sticky.ensures.linearizable

@@ -1,0 +1,25 @@
+use Rattle.std.proofs.Common.{◌≡◌, ◌∙◌, ◌+◌, ◌++◌, ◌∷◌, [], ◌-◌, length, map, take, drop, ap, sym, rules}
+use Rattle.run_layout.specs.Refusals.{told_shown, label_after, times_after}
+use Rattle.run_layout.proofs.Telling.{labels_more, labels_none}
+use Rattle.std.proofs.lemmas.List.{take_rest}
+use Rattle.run_layout.proofs.Pushing.{added_first, added_all}
+use Rattle.run_layout.proofs.refusals.told_of.Goals as goal
+
+pub loop-place-preserved : goal.loop-place-preserved
+loop-place-preserved c =
+    let remarks = c.args.remarks.now in
+    let place = c.loop-place.place in
+    let times = c.loop-place.times in
+    let one = c.index-remarks-place.result in
+    let now = map told_shown c.loop-place.told.items in
+    let rest = drop (place + 1) remarks in
+    let whole : take (length remarks - (place + 1)) rest ≡ rest = take_rest remarks (place + 1) in
+    let next = labels_more times c.in_ok-times.times place remarks one c.loop-place-test.true c.index-remarks-place.is (c.in_ok-times.ensures.times ∙ ap (times_after times one) whole) in
+    record {
+      small = search rules;
+      count = search rules;
+      rest = added_first now _ (label_after times one (drop (place + 1) remarks) ∷ []) _ _ (ap (λ l. now ++ l) (sym next) ∙ c.loop-place.invariant.rest) (c.in_ok-times.ensures.label ∙ ap (λ l. now ++ label_after times one l ∷ []) whole);
+    }
+
+pub returns-clause-labels : goal.returns-clause-labels
+returns-clause-labels c = added_all _ _ _ c.loop-place.invariant.rest (labels_none c.loop-place.times c.loop-place.place c.args.remarks.now c.loop-place-test.false)

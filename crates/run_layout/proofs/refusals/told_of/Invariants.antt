@@ -1,0 +1,11 @@
+use Rattle.std.proofs.Common.{◌≡◌, ◌≤◌, ◌++◌, length, map, drop}
+use Rattle.run_layout.specs.Refusals.{told_shown, labels_from, labels_of}
+use Rattle.run_layout.proofs.refusals.told_of.Given as goal
+
+-- the labels so far, and those of the rest
+abbrev pub invariant-loop-place : goal.invariant-loop-place
+invariant-loop-place l = record {
+  small : l.times ≤ l.place;
+  count : length l.told.items ≡ l.place;
+  rest : map told_shown l.told.items ++ labels_from l.times (drop l.place l.remarks) ≡ labels_of l.remarks;
+}

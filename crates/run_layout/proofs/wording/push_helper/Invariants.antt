@@ -1,0 +1,12 @@
+use Rattle.std.proofs.Common.{◌≡◌, drop, map}
+use Rattle.std.specs.List.{find}
+use Rattle.run_marks.specs.Shown.{cell_shown}
+use Rattle.run_layout.specs.Wording.{is_help}
+use Rattle.run_layout.proofs.wording.push_helper.Given as goal
+
+-- none of the dots so far is one of help
+abbrev pub invariant-loop-dot : goal.invariant-loop-dot
+invariant-loop-dot l = record {
+  found : find (is_help (cell_shown l.cell)) (map (λ dot. dot) (drop l.dot-index l.dots)) ≡ find (is_help (cell_shown l.cell)) (map (λ dot. dot) l.dots);
+  same : l.text.items ≡ l.initial.text.items;
+}

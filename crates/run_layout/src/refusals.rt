@@ -1,0 +1,162 @@
+//! Refusals as they are drawn: equal ones side by side have one mark.
+
+ghost use Rattle.std.specs.Prelude.{◌≡◌, ◌++◌, ◌+◌, ◌≤◌, ◌<◌, ◌^◌, ◌∷◌, []};
+ghost use Rattle.std.specs.Prelude.{IfOk, OnOk, length, map, option_map};
+ghost use Rattle.run_layout.specs.Refusals.{command_of, process_text, refused_text, times_text};
+ghost use Rattle.run_layout.specs.Refusals.{told_shown, told_text, have_same_text, comes_again};
+ghost use Rattle.run_layout.specs.Refusals.{label_after, times_after, labels_of};
+
+use crate::wording::{lane_of, refusal_of};
+use std::alloc::{AllocError, Global};
+use std::io::Write;
+use uni_script::{PlacedRemark, Refusal, Remark};
+
+/// What is drawn of a remark.
+#[derive(Drop)]
+pub struct Told {
+    /// How many events stand before it.
+    pub before: u64,
+    /// The label of the mark of a refusal; `None` of a note, and of a refusal that comes again at once.
+    pub label: Option<Vec<u8>>,
+}
+
+/// The command that was refused, where the refusal tells it, with a space after it.
+fn command_of(refusal: Refusal) -> &'static str
+    ensures { result.now ≡ command_of refusal }
+{
+    match refusal {
+        Refusal::Process(_) | Refusal::History => "",
+        Refusal::Busy(_) | Refusal::Row(_) => "call ",
+        Refusal::Idle(_) => "step ",
+        Refusal::Pending(_) | Refusal::Sequence => "end of era ",
+        Refusal::Count(_) => "reshape ",
+    }
+}
+
+/// Adds the process that is the reason of a refusal, if one is.
+///
+/// An `Err` says that memory was refused.
+fn push_process(text: &mut Vec<u8>, process: Option<u64>) -> Result<(), AllocError>
+    ensures { OnOk result (text.new.items ≡ text.old.items ++ process_text process) }
+{
+    match process {
+        Some(process) => write!(text, "P{process} ").map_err(|_| AllocError),
+        None => Ok(()),
+    }
+}
+
+/// What was refused, and why.
+///
+/// An `Err` says that memory was refused.
+pub fn refused_text(alloc: Global, refusal: Refusal) -> Result<Vec<u8>, AllocError>
+    ensures { IfOk result (λ text. text.items ≡ refused_text refusal) }
+{
+    let mut text = Vec::new(alloc);
+    text.extend_from_slice(command_of(refusal).as_bytes())?;
+    text.extend_from_slice(b"refused: ")?;
+    push_process(&mut text, lane_of(refusal))?;
+    text.extend_from_slice(&refusal_of(alloc, refusal)?)?;
+    Ok(text)
+}
+
+/// Adds how often a refusal was told in a row, where that is more than once.
+///
+/// An `Err` says that memory was refused.
+fn push_times(text: &mut Vec<u8>, times: u64) -> Result<(), AllocError>
+    ensures { OnOk result (text.new.items ≡ text.old.items ++ times_text times) }
+{
+    if times == 1 {
+        return Ok(());
+    }
+    write!(text, " x{times}").map_err(|_| AllocError)
+}
+
+/// The label of a remark that was told so often in a row; a note has none.
+///
+/// An `Err` says that memory was refused.
+fn told_text(alloc: Global, times: u64, remark: &Remark) -> Result<Option<Vec<u8>>, AllocError>
+    ensures { IfOk result (λ label. option_map (λ text. text.items) label ≡ told_text times remark.now) }
+{
+    match remark {
+        Remark::Refused(refusal) => {
+            let mut text = refused_text(alloc, *refusal)?;
+            push_times(&mut text, times)?;
+            Ok(Some(text))
+        }
+        Remark::Heading(_) | Remark::Note(_) => Ok(None),
+    }
+}
+
+/// Whether both are refusals with the same text.
+///
+/// An `Err` says that memory was refused.
+fn have_same_text(alloc: Global, one: &Remark, other: &Remark) -> Result<bool, AllocError>
+    ensures { IfOk result (λ same. same ≡ have_same_text one.now other.now) }
+{
+    match (one, other) {
+        (Remark::Refused(first), Remark::Refused(second)) => {
+            let text = refused_text(alloc, *first)?;
+            let other = refused_text(alloc, *second)?;
+            Ok(text.as_slice() == other.as_slice())
+        }
+        _ => Ok(false),
+    }
+}
+
+/// Whether a refusal comes again at once, after as many events.
+///
+/// An `Err` says that memory was refused.
+fn comes_again(alloc: Global, one: &PlacedRemark, rest: &[PlacedRemark]) -> Result<bool, AllocError>
+    ensures { IfOk result (λ again. again ≡ comes_again one.now rest.now) }
+{
+    match rest.first() {
+        Some(next) if next.before == one.before => {
+            have_same_text(alloc, &one.remark, &next.remark)
+        }
+        _ => Ok(false),
+    }
+}
+
+/// Adds what is drawn of a remark that was told so many times before, and that these follow; the answer is how often
+/// the next one was told before.
+///
+/// An `Err` says that memory was refused.
+fn push_told(
+    alloc: Global,
+    times: u64,
+    one: &PlacedRemark,
+    rest: &[PlacedRemark],
+    told: &mut Vec<Told>,
+) -> Result<u64, AllocError>
+    requires { times + 1 < 2 ^ 64 }
+    ensures count { OnOk result (length told.new.items ≡ length told.old.items + 1) }
+    ensures small { IfOk result (λ next. next ≤ times + 1) }
+    ensures label { OnOk result (map told_shown told.new.items
+        ≡ map told_shown told.old.items ++ label_after times one.now rest.now ∷ []) }
+    ensures times { IfOk result (λ next. next ≡ times_after times one.now rest.now) }
+{
+    let before = one.before;
+    if comes_again(alloc, one, rest)? {
+        let label = None;
+        told.push(Told { before, label })?;
+        return Ok(times + 1);
+    }
+    let label = told_text(alloc, times + 1, &one.remark)?;
+    told.push(Told { before, label })?;
+    Ok(0)
+}
+
+/// What is drawn of each remark: equal refusals side by side have one label, at the last of them.
+///
+/// An `Err` says that memory was refused.
+pub fn told_of(alloc: Global, remarks: &[PlacedRemark]) -> Result<Vec<Told>, AllocError>
+    ensures count { IfOk result (λ told. length told.items ≡ length remarks.now) }
+    ensures labels { IfOk result (λ told. map told_shown told.items ≡ labels_of remarks.now) }
+{
+    let mut told = Vec::new(alloc);
+    let mut times = 0;
+    for (place, one) in remarks.iter().enumerate() {
+        times = push_told(alloc, times, one, &remarks[place + 1..], &mut told)?;
+    }
+    Ok(told)
+}

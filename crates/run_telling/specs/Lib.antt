@@ -1,0 +1,4 @@
+pub mod Access
+pub mod Opened
+pub mod Order
+pub mod Told

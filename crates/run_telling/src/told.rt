@@ -1,0 +1,145 @@
+//! From the bytes of a script to its run, told.
+
+ghost use Rattle.std.specs.Prelude.{◌≡◌, ◌<◌, ◌≤◌, IfOk, OnOk, IsErrOf, false, length};
+ghost use Rattle.uni_record.specs.Event.{events_shown};
+ghost use Rattle.uni_script.specs.Objects.{spoken};
+ghost use Rattle.uni_script.specs.Replay.{HasFault, IsFaultOfScript};
+ghost use Rattle.uni_script.specs.Scripts.{scripts_of};
+ghost use Rattle.uni_script.specs.declared.fault.BenchFault.{BenchFault as Fault};
+ghost use Rattle.run_layout.specs.Subject.{HasTooManyEvents, events_of_record};
+ghost use Rattle.run_telling.specs.Told.{IsTold, text_of_events, text_of_record};
+
+use crate::opened::Opened;
+use crate::order::{Telling, text_of};
+use ready_objects::{BookObject, DirectoryObject, QueueObject, Spoken, StickyObject};
+use run_layout::{MOST_EVENTS, PictureFault};
+use run_trace::frames_of;
+use std::alloc::{AllocError, Global};
+use uni_record::Recorded;
+use uni_script::{
+    BenchFault, ObjectName, Options, PlacedRemark, ScriptRecord, TextIn, run_of_script,
+};
+
+/// The run that a record has stored, told, on an object of this name; `object` is a further value of that object.
+///
+/// Errors: `TooManyEvents` where it has more than 2,000; else `Memory`.
+fn text_of_few_events<T: Telling, O: Spoken>(
+    alloc: Global,
+    name: &str,
+    object: O,
+    recorded: &Recorded<O>,
+    remarks: &[PlacedRemark],
+) -> Result<Vec<u8>, PictureFault>
+    ensures few { OnOk result (length (events_shown recorded.now.events) ≤ 2000) }
+    ensures text { IfOk result (λ text. text.items
+        ≡ text_of_events T.wording (spoken O.sequential O.language object) O.state_text
+        name.now recorded.now.processes recorded.now.world.row recorded.now.first
+        (events_shown recorded.now.events) remarks.now) }
+    ensures many { IsErrOf result PictureFault.TooManyEvents → 2000 < length (events_shown recorded.now.events) }
+    ensures memory { (e : Fault) → IsErrOf result (PictureFault.Script e) → e ≡ Fault.Memory }
+{
+    if recorded.events().len() as u64 > MOST_EVENTS {
+        return Err(PictureFault::TooManyEvents);
+    }
+    match text_of_events::<T, O>(alloc, name, object, recorded, remarks) {
+        Ok(text) => Ok(text),
+        Err(AllocError) => Err(PictureFault::Script(BenchFault::Memory)),
+    }
+}
+
+/// The text of an object's first state.
+///
+/// An `Err` says that memory was refused.
+pub fn first_state<O: Spoken>(alloc: Global, object: &O) -> Result<Vec<u8>, AllocError>
+    ensures { IfOk result (λ text. text.items ≡ O.state_text (O.sequential object.now).initial) }
+{
+    let mut text = Vec::new(alloc);
+    O::push_state(&mut text, &object.start(alloc)?)?;
+    Ok(text)
+}
+
+/// The same of a run of any length.
+///
+/// An `Err` says that memory was refused.
+fn text_of_events<T: Telling, O: Spoken>(
+    alloc: Global,
+    name: &str,
+    object: O,
+    recorded: &Recorded<O>,
+    remarks: &[PlacedRemark],
+) -> Result<Vec<u8>, AllocError>
+    ensures { IfOk result (λ text. text.items
+        ≡ text_of_events T.wording (spoken O.sequential O.language object) O.state_text
+        name.now recorded.now.processes recorded.now.world.row recorded.now.first
+        (events_shown recorded.now.events) remarks.now) }
+{
+    let state = first_state(alloc, &object)?;
+    let opened = Opened {
+        object: name,
+        processes: recorded.processes(),
+        row: recorded.world().row(),
+        number: recorded.first(),
+        state: &state,
+    };
+    let frames = frames_of(alloc, object, recorded)?;
+    text_of::<T>(alloc, &opened, &frames, remarks)
+}
+
+/// A record, told, by its object.
+///
+/// Errors: `TooManyEvents` where it has more than 2,000 events; else `Memory`.
+fn text_of_record<T: Telling>(
+    alloc: Global,
+    stored: &ScriptRecord,
+    remarks: &[PlacedRemark],
+) -> Result<Vec<u8>, PictureFault>
+    ensures few { OnOk result (events_of_record stored.now ≤ 2000) }
+    ensures text { IfOk result (λ text. text.items ≡ text_of_record T.wording stored.now remarks.now) }
+    ensures many { IsErrOf result PictureFault.TooManyEvents → 2000 < events_of_record stored.now }
+    ensures memory { (e : Fault) → IsErrOf result (PictureFault.Script e) → e ≡ Fault.Memory }
+{
+    match stored {
+        ScriptRecord::Queue(recorded) => {
+            let name = ObjectName::Queue.word();
+            text_of_few_events::<T, QueueObject>(alloc, name, QueueObject, recorded, remarks)
+        }
+        ScriptRecord::Directory(recorded) => {
+            let name = ObjectName::Directory.word();
+            text_of_few_events::<T, DirectoryObject>(
+                alloc,
+                name,
+                DirectoryObject,
+                recorded,
+                remarks,
+            )
+        }
+        ScriptRecord::Book(recorded) => {
+            let name = ObjectName::Book.word();
+            text_of_few_events::<T, BookObject>(alloc, name, BookObject, recorded, remarks)
+        }
+        ScriptRecord::Sticky(recorded) => {
+            let name = ObjectName::Sticky.word();
+            text_of_few_events::<T, StickyObject>(alloc, name, StickyObject, recorded, remarks)
+        }
+    }
+}
+
+/// The run of the script that a reader has, told.
+///
+/// An `Err` is the first fault of the script; `Read` where the reader failed; `Memory` where memory was
+/// refused; or `TooManyEvents` of a good script that has more than 2,000 events.
+pub fn told_of<T: Telling, I: TextIn>(
+    alloc: Global,
+    reader: &mut I,
+) -> Result<Vec<u8>, PictureFault>
+    requires { I.has_failed reader.old ≡ false }
+    ensures told { IfOk result (λ text. IsTold T.wording (I.remaining reader.old) text.items) }
+    ensures many { IsErrOf result PictureFault.TooManyEvents → HasTooManyEvents (I.remaining reader.old) }
+    ensures fault { (e : Fault) → IsErrOf result (PictureFault.Script e) → IsFaultOfScript e
+        → HasFault (scripts_of 1048576) (I.remaining reader.old) e }
+{
+    match run_of_script(alloc, reader, &Options::default()) {
+        Ok(run) => text_of_record::<T>(alloc, &run.record, &run.remarks),
+        Err(fault) => Err(PictureFault::Script(fault)),
+    }
+}
