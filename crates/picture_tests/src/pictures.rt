@@ -25,7 +25,8 @@ const PARTS: [&str; 8] = [
     "<circle cx=\"394\" cy=\"230\"",
     "<circle cx=\"618\" cy=\"134\"",
     "<line x1=\"394\" y1=\"124\" x2=\"394\" y2=\"224\"",
-    "y=\"102\" width=\"26\" height=\"22\" fill=\"#d55e00\" stroke=\"#333333\"><title>P0, call 0.0, step 10: links a cell, or loses</title></rect>",
+    "y=\"102\" width=\"26\" height=\"22\" fill=\"#d55e00\" stroke=\"#333333\">\
+    <title>P0, call 0.0, step 10: links a cell, or loses</title></rect>",
     ">1.0 enq 5</text>",
     ">0.0 enq 6 -&gt; ok</text>",
     ">24 steps 2 turns</text>",

@@ -5,7 +5,8 @@ use svg_text::{Anchor, Drawing, Paint, Shape, svg_of};
 
 /// The text of a picture with one label.
 const LABEL: &str =
-    "<svg xmlns=\"http://www.w3.org/2000/svg\" viewBox=\"0 0 30 20\" width=\"30\" height=\"20\" role=\"img\" aria-labelledby=\"title description\" font-family=\"monospace\" font-size=\"13\">
+    "<svg xmlns=\"http://www.w3.org/2000/svg\" viewBox=\"0 0 30 20\" width=\"30\" height=\"20\" role=\"img\" \
+    aria-labelledby=\"title description\" font-family=\"monospace\" font-size=\"13\">
 <title id=\"title\">a &amp; b</title>
 <desc id=\"description\">it&apos;s</desc>
 <rect width=\"30\" height=\"20\" fill=\"#ffffff\"/>

@@ -39,7 +39,8 @@ const SUMMARIES: &[(&str, u64, u64, u64)] = &[
         0,
     ),
     (
-        "universal 1 queue 2 8\ncall 0 enq 10\nstep 0 10\ncall 1 deq\nstep 1 14\nfinish 0\ncall 0 enq 20\nstep 0\nfinish 1\nheads\nlog\n",
+        "universal 1 queue 2 8\ncall 0 enq 10\nstep 0 10\ncall 1 deq\nstep 1 14\nfinish 0\n\
+        call 0 enq 20\nstep 0\nfinish 1\nheads\nlog\n",
         11,
         3,
         2,
