@@ -1,9 +1,15 @@
--- The states along the list.
+-- The states along the list, and a cursor along it.
 use Rattle.std.specs.Prelude.{◌≡◌, ℕ, ◌∷◌, [], Option, Some, None, option_map, option_and_then, slice_get, refl}
 use Rattle.uni_model.specs.Places.{new_of}
 use Rattle.uni_model.specs.Places.Name.{Anchor}
 use Rattle.uni_model.specs.Worlds.{WorldOf, chain, opened_world}
 use Rattle.uni_model.specs.History.{invocations_of}
+use Rattle.uni_core.specs.World.{Whole}
+
+-- a cursor along the log of a world, and how many entries it has passed
+pub record Along (O S I R : Type 0) : Type 0 where
+  pub world : Whole O S I R
+  pub passed : ℕ
 
 -- the state that is settled in the cell at a place of the list, where the anchor is at place 0
 abbrev pub state_settled_at : {S I R : Type 0} → WorldOf S I R → ℕ → Option S

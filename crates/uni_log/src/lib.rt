@@ -2,8 +2,10 @@
 //! order in which they took effect (Herlihy 1991, section 4).
 #![tactic(auto)]
 
+mod cursor;
 mod entry;
 mod log;
 
+pub use cursor::LogCursor;
 pub use entry::Entry;
 pub use log::Log;

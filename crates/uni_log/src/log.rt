@@ -9,12 +9,12 @@ ghost use Rattle.seq_object.specs.History.{IsLegal, state_after};
 ghost use Rattle.uni_model.specs.Places.{new_of, seq_of, name_eq};
 ghost use Rattle.uni_model.specs.Places.Name.{Anchor, Of};
 ghost use Rattle.uni_model.specs.Worlds.{chain};
-ghost use Rattle.uni_model.specs.Chain.{invoked_at, response_in};
 ghost use Rattle.uni_model.specs.History.{log, invocations_of};
 ghost use Rattle.uni_core.specs.World.{world_of, name_in};
 ghost use Rattle.uni_log.specs.Entry.{entry_shown, call_shown};
 ghost use Rattle.uni_log.specs.Log.{state_settled_at};
 
+use crate::cursor::LogCursor;
 use crate::entry::Entry;
 use cell_arena::CellId;
 use seq_object::{CallId, SeqObject};
@@ -49,37 +49,6 @@ fn is_cell_of<O: SeqObject>(world: &World<O>, id: CellId, call: CallId) -> bool
     }
 }
 
-/// The entry of a cell that was made for a call, with this number.
-///
-/// An `Err` says that memory was refused.
-fn entry_at<O: SeqObject>(
-    alloc: Global,
-    world: &World<O>,
-    id: CellId,
-    seq: u64,
-) -> Result<Entry<O::Inv, O::Resp>, AllocError>
-    requires there { IsSome (cell_of world.now.shared.cells id) }
-    requires call { IsSome (invoked_at (world_of world.now).memory (name_in (world_of world.now) id)) }
-    ensures seq { IfOk result (λ e. (entry_shown e).number ≡ seq) }
-    ensures call { IfOk result (λ e. invoked_at (world_of world.now).memory (name_in (world_of world.now) id)
-        ≡ Some (entry_shown e).call) }
-    ensures reply { IfOk result (λ e. (entry_shown e).response
-        ≡ response_in (world_of world.now).memory (name_in (world_of world.now) id)) }
-{
-    let call = world.call_of(id).unwrap();
-    let inv = O::copy_inv(alloc, world.inv(id).unwrap())?;
-    let reply = match world.new_of(id) {
-        Some((_, reply)) => *reply,
-        None => None,
-    };
-    Ok(Entry {
-        seq,
-        call,
-        inv,
-        reply,
-    })
-}
-
 /// The state that is settled in a cell of the arena, or `None`.
 fn state_in<'a, O: SeqObject>(world: &'a World<O>, id: CellId) -> Option<&'a O::State>
     requires { IsSome (cell_of world.now.shared.cells id) }
@@ -98,6 +67,14 @@ impl<'a, O: SeqObject> Log<'a, O> {
         ensures { result ≡ world.now }
     {
         Log { world }
+    }
+
+    /// A cursor before the first entry.
+    pub fn cursor(&self) -> LogCursor<'a, O>
+        ensures world { result.world ≡ self.now }
+        ensures first { result.passed ≡ 0 }
+    {
+        LogCursor::of(self.world)
     }
 
     /// The entries of the present era: the calls in the list, in the order in which they took
@@ -130,15 +107,10 @@ impl<'a, O: SeqObject> Log<'a, O> {
         ensures { IfOk result (λ entries. map entry_shown entries.items
             ≡ map entry_shown earlier.items ++ log (world_of self.now)) }
     {
-        let world = self.world;
-        world.shape();
         let mut entries = earlier;
-        let mut at = CellId::anchor();
-        let mut seq = world.seq(at);
-        while let Some(next) = world.after(at) {
-            seq += 1;
-            entries.push(entry_at(alloc, world, next, seq)?)?;
-            at = next;
+        let mut cursor = self.cursor();
+        while let Some(entry) = cursor.next_entry(alloc)? {
+            entries.push(entry)?;
         }
         Ok(entries)
     }

@@ -20,6 +20,14 @@ first-fault (Missing call) b fault = refl
 first-fault (BadReturn call) b fault = refl
 first-fault (Twice call) b fault = refl
 
+pub first-last : (a : Verdict) → first a Agrees ≡ a
+first-last Agrees = refl
+first-last (BadCall j) = refl
+first-last (BadReply j) = refl
+first-last (Missing call) = refl
+first-last (BadReturn call) = refl
+first-last (Twice call) = refl
+
 -- a test that says that there is no fault
 pub passed : (t : Bool) (good fault : Verdict) → fault ≢ Agrees → (if t then good else fault) ≡ Agrees → (t ≡ true) × (good ≡ Agrees)
 passed true good fault is e = (refl, e)

@@ -19,3 +19,4 @@ pub mod Elements
 pub mod Table
 pub mod Rooms
 pub mod Asked
+pub mod Audits

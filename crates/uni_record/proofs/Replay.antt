@@ -1,63 +1,36 @@
 -- Entries and returns, one after the other.
-use Rattle.std.proofs.Common.{◌≡◌, ◌≢◌, ◌∙◌, ℕ, ◌+◌, ◌<◌, ◌==◌, Bool, true, false, List, [], ◌∷◌, ◌++◌, Option, Some, None, get_or, take, drop, length, eq-eqb, refl, sym, ap, if◌then◌else◌, arith}
-use Rattle.std.specs.Option.{option_map_or}
-use Rattle.std.proofs.lemmas.List.{at_drop_more, length-take-le, take_more}
-use Rattle.std.proofs.lemmas.Bool.{ne_eqb}
+use Rattle.std.proofs.Common.{◌≡◌, ◌≢◌, ◌∙◌, ℕ, ◌+◌, ◌<◌, Bool, List, [], ◌∷◌, ◌++◌, get_or, take, drop, length, sym, ap}
+use Rattle.std.proofs.lemmas.List.{at_drop_more, take_more}
 use Rattle.seq_object.specs.Sequential.{Sequential}
 use Rattle.uni_log.specs.declared.entry.Entry.{Entry}
 use Rattle.uni_record.specs.declared.verdict.Verdict.{Verdict}
-use Rattle.uni_record.specs.declared.verdict.Verdict.TheVariants.{Agrees, BadCall, BadReply}
+use Rattle.uni_record.specs.declared.verdict.Verdict.TheVariants.{Agrees}
 use Rattle.uni_record.specs.declared.verdict.Return.{Return}
-use Rattle.uni_record.specs.Verdict.{calls_of, first, entry_verdict, entries_verdict, return_verdict, returns_verdict}
+use Rattle.uni_record.specs.Verdict.{first, entry_verdict, entries_verdict, return_verdict, returns_verdict}
 use Rattle.uni_record.proofs.Faults.{first-fault}
 
-module _ {S I R : Type 0} (same : R → R → Bool) (object : Sequential S I R) where
+module _ {S I R : Type 0} (same : R → R → Bool) (object : Sequential S I R) (state : S) (entries : List (Entry I R)) (i : ℕ) (entry : Entry I R)
+    (within : i < length entries) (is : entry ≡ get_or entries i entry) (later : List (Entry I R)) where
+  abbrev after_entry : Verdict
+  after_entry = entries_verdict same object (object.next state entry.inv) (take (i + 1) entries) (drop (i + 1) entries ++ later)
+
   -- the verdict from a place on is that on the entry there, and then on those after it
-  pub entries_verdict-at : (state : S) (entries : List (Entry I R)) (i : ℕ) (entry : Entry I R) → i < length entries → entry ≡ get_or entries i entry
-      → entries_verdict same object state (take i entries) (drop i entries)
-      ≡ first (entry_verdict same object state (take i entries) entry) (entries_verdict same object (object.next state entry.inv) (take (i + 1) entries) (drop (i + 1) entries))
-  entries_verdict-at state entries i entry within is =
-      at_drop_more (entries_verdict same object state (take i entries)) entries i entry within
-      ∙ ap (λ e. entries_verdict same object state (take i entries) (e ∷ drop (i + 1) entries)) (sym is)
-      ∙ ap (λ earlier. first (entry_verdict same object state (take i entries) entry) (entries_verdict same object (object.next state entry.inv) earlier (drop (i + 1) entries)))
+  entries_verdict-at : entries_verdict same object state (take i entries) (drop i entries ++ later)
+      ≡ first (entry_verdict same object state (take i entries) entry) after_entry
+  entries_verdict-at =
+      at_drop_more (λ left. entries_verdict same object state (take i entries) (left ++ later)) entries i entry within
+      ∙ ap (λ e. entries_verdict same object state (take i entries) (e ∷ drop (i + 1) entries ++ later)) (sym is)
+      ∙ ap (λ earlier. first (entry_verdict same object state (take i entries) entry) (entries_verdict same object (object.next state entry.inv) earlier (drop (i + 1) entries ++ later)))
       (sym (take_more entries i entry within ∙ ap (λ e. take i entries ++ e ∷ []) (sym is)))
 
-  pub bad_call_at : (state : S) (entries : List (Entry I R)) (place i : ℕ) (entry : Entry I R) (whole : Verdict) → i < length entries → entry ≡ get_or entries i entry → place ≡ i
-      → entries_verdict same object state (take i entries) (drop i entries) ≡ whole → entry.call.nth ≢ calls_of entry.call.process (take i entries) → BadCall place ≡ whole
-  bad_call_at state entries place i entry whole within is at rest other =
-      let test : (entry.call.nth == calls_of entry.call.process (take i entries)) ≡ false = ne_eqb _ _ other in
-      let long : length (take i entries) ≡ i = length-take-le i entries (omega arith) in
-      rw (at, ← rest, entries_verdict-at state entries i entry within is, test, long) refl
+  module _ (whole : Verdict) (rest : entries_verdict same object state (take i entries) (drop i entries ++ later) ≡ whole) where
+    pub bad_entry_at : (verdict next : Verdict) → verdict ≡ entry_verdict same object state (take i entries) entry → verdict ≢ Agrees → first verdict next ≡ whole
+    bad_entry_at verdict next this fault =
+        first-fault verdict next fault ∙ sym (first-fault verdict after_entry fault) ∙ ap (λ v. first v after_entry) this ∙ sym entries_verdict-at ∙ rest
 
-  pub bad_reply_at : (state : S) (entries : List (Entry I R)) (place i : ℕ) (entry : Entry I R) (whole : Verdict) → i < length entries → entry ≡ get_or entries i entry → place ≡ i
-      → entries_verdict same object state (take i entries) (drop i entries) ≡ whole → entry.call.nth ≡ calls_of entry.call.process (take i entries)
-      → option_map_or (λ reply. same reply (object.answer state entry.inv)) entry.reply true ≡ false → BadReply place ≡ whole
-  bad_reply_at state entries place i entry whole within is at rest call wrong =
-      let test : (entry.call.nth == calls_of entry.call.process (take i entries)) ≡ true = eq-eqb _ _ call in
-      let long : length (take i entries) ≡ i = length-take-le i entries (omega arith) in
-      rw (at, ← rest, entries_verdict-at state entries i entry within is, test, long) (sym (by_reply entry.reply wrong)) where
-        by_reply : (o : Option R) → option_map_or (λ reply. same reply (object.answer state entry.inv)) o true ≡ false
-            → first (option_map_or (λ reply. if same reply (object.answer state entry.inv) then Agrees else BadReply i) o Agrees)
-            (entries_verdict same object (object.next state entry.inv) (take (i + 1) entries) (drop (i + 1) entries))
-            ≡ BadReply i
-        by_reply None e = absurd (cc)
-        by_reply (Some reply) e = rw e refl
-
-  pub good_at : (state : S) (entries : List (Entry I R)) (i : ℕ) (entry : Entry I R) (whole : Verdict) → i < length entries → entry ≡ get_or entries i entry
-      → entries_verdict same object state (take i entries) (drop i entries) ≡ whole → entry.call.nth ≡ calls_of entry.call.process (take i entries)
-      → option_map_or (λ reply. same reply (object.answer state entry.inv)) entry.reply true ≡ true
-      → entries_verdict same object (object.next state entry.inv) (take (i + 1) entries) (drop (i + 1) entries) ≡ whole
-  good_at state entries i entry whole within is rest call right =
-      let test : (entry.call.nth == calls_of entry.call.process (take i entries)) ≡ true = eq-eqb _ _ call in
-      let step : first (entry_verdict same object state (take i entries) entry) (entries_verdict same object (object.next state entry.inv) (take (i + 1) entries) (drop (i + 1) entries)) ≡ whole =
-      sym (entries_verdict-at state entries i entry within is) ∙ rest in
-      sym (by_reply entry.reply right) ∙ (rw test at step) where
-        by_reply : (o : Option R) → option_map_or (λ reply. same reply (object.answer state entry.inv)) o true ≡ true
-            → first (option_map_or (λ reply. if same reply (object.answer state entry.inv) then Agrees else BadReply (length (take i entries))) o Agrees)
-            (entries_verdict same object (object.next state entry.inv) (take (i + 1) entries) (drop (i + 1) entries))
-            ≡ entries_verdict same object (object.next state entry.inv) (take (i + 1) entries) (drop (i + 1) entries)
-        by_reply None e = refl
-        by_reply (Some reply) e = rw e refl
+    pub good_entry_at : (after : S) → Agrees ≡ entry_verdict same object state (take i entries) entry → after ≡ object.next state entry.inv
+        → entries_verdict same object after (take (i + 1) entries) (drop (i + 1) entries ++ later) ≡ whole
+    good_entry_at after this next = rw next (ap (λ v. first v after_entry) this ∙ sym entries_verdict-at ∙ rest)
 
 module _ {I R : Type 0} (same : R → R → Bool) (entries : List (Entry I R)) (returns : List (Return R)) (i : ℕ) (returned : Return R) (within : i < length returns) (is : returned ≡ get_or returns i returned) where
   abbrev later_verdict : Verdict

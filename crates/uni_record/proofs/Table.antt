@@ -1,13 +1,13 @@
 -- The table of calls, as entries are added, and their marks, as calls return.
-use Rattle.std.proofs.Common.{◌≡◌, ◌≢◌, ◌∙◌, ℕ, ◌+◌, ◌<◌, ◌==◌, ◌&&◌, ◌||◌, Bool, true, false, cond, if◌then◌else◌, List, [], ◌∷◌, ◌++◌, Option, Some, None, length, option_and_then, get_or, set, slice_get, refl, sym, ap, arith}
+use Rattle.std.proofs.Common.{◌≡◌, ◌≢◌, ◌∙◌, ℕ, ◌+◌, ◌<◌, ◌==◌, ◌&&◌, ◌||◌, Bool, true, false, cond, if◌then◌else◌, List, [], ◌∷◌, ◌++◌, Option, Some, None, length, map, option_and_then, option_map, get_or, set, slice_get, refl, sym, ap, arith}
 use Rattle.std.proofs.Math.Bool.{or-false, or-true}
 use Rattle.std.proofs.Math.ListN.{length-set}
 use Rattle.std.proofs.lemmas.Bool.{eqb-true, eqb-false}
-use Rattle.std.proofs.lemmas.List.{get_or-set_other, get_or-set_same, length-append}
+use Rattle.std.proofs.lemmas.List.{get_or-set_other, get_or-set_same, length-append, length-map}
 use Rattle.std.proofs.lemmas.List.Quantifiers.{position-Some}
 use Rattle.std.proofs.lemmas.List.Sums.{sum_by-append}
 use Rattle.std.proofs.lemmas.List.Folds.{list_any-append}
-use Rattle.std.proofs.lemmas.Option.{slice_get_past, slice_get_read}
+use Rattle.std.proofs.lemmas.Option.{slice_get-map, slice_get_past, slice_get_read}
 use Rattle.std.specs.Option.{option_map_or, option_or}
 use Rattle.seq_object.specs.declared.call_id.CallId.{CallId}
 use Rattle.uni_log.specs.declared.entry.Entry.{Entry}
@@ -91,13 +91,20 @@ module _ {I R : Type 0} where
   module _ (entries : List (Entry I R)) (earlier : List (Return R)) (marks : List Bool) (returned : Return R) (are : AreMarked entries earlier marks)
       (place : ℕ) (at : entry_place returned.call entries ≡ Some place) where
     -- the verdict on a return of a call whose place isn't marked
-    pub verdict_unmarked : (same : R → R → Bool) (entry : Entry I R) (reply : Option R) → entry ≡ get_or entries place entry → entry.reply ≡ reply → get_or marks place false ≡ false
+    pub verdict_unmarked : (same : R → R → Bool) (replies : List (Option R)) (reply : Option R) → replies ≡ map (λ e. e.reply) entries → reply ≡ get_or replies place reply → get_or marks place false ≡ false
         → option_map_or (λ r. if same r returned.reply then Agrees else BadReturn returned.call) reply (Missing returned.call) ≡ return_verdict same entries earlier returned
-    verdict_unmarked same entry reply is replied mark =
+    verdict_unmarked same replies reply all is mark =
+        let long : length replies ≡ length entries = ap length all ∙ length-map entries _ in
+        let within : place < length replies = (let inside = place_within entries returned.call place at in omega arith) in
+        let replied : slice_get (map (λ (e : Entry I R). e.reply) entries) place ≡ Some reply =
+        ap (λ rs. slice_get rs place) (sym all) ∙ slice_get_read replies (length replies) place reply refl within is in
         let unmarked : has_returned returned.call earlier ≡ false = sym (are.marked returned.call) ∙ ap (mark_at marks) at ∙ mark in
-        let there : slice_get entries place ≡ Some entry = slice_get_read entries (length entries) place entry refl (place_within entries returned.call place at) is in
-        let found = find_place (λ e. same_call e.call returned.call) entries ∙ ap (λ o. option_and_then (slice_get entries) o) at ∙ there in
-        rw (unmarked, found, replied) refl
+        let found = find_place (λ e. same_call e.call returned.call) entries ∙ ap (λ o. option_and_then (slice_get entries) o) at in
+        let told = of_entry (slice_get entries place) (sym (slice_get-map (λ (e : Entry I R). e.reply) entries place) ∙ replied) in
+        rw (unmarked, found, told) refl where
+          of_entry : (o : Option (Entry I R)) → option_map (λ (e : Entry I R). e.reply) o ≡ Some reply → option_and_then (λ (e : Entry I R). e.reply) o ≡ reply
+          of_entry None e = absurd (cc)
+          of_entry (Some entry) e = cc
 
     -- the marks after a return
     pub marked_more : AreMarked entries (earlier ++ returned ∷ []) (set marks place true)

@@ -1,5 +1,6 @@
--- What an audit keeps: where the entries of calls stand, and which of the calls have returned. No public clause speaks of it.
-use Rattle.std.specs.Prelude.{◌≡◌, ℕ, Bool, true, false, List, [], ◌∷◌, Option, Some, None, get_or, length, position}
+-- What an audit keeps: where the entries of calls stand, their replies, and which of the calls have returned. No public clause
+-- speaks of it.
+use Rattle.std.specs.Prelude.{◌≡◌, ℕ, Bool, true, false, List, [], ◌∷◌, Option, Some, None, get_or, length, map, position}
 use Rattle.std.specs.Prelude.{slice_get, vec_capacity, refl}
 use Rattle.std.specs.BTreeMap.{get, values}
 use Rattle.std.specs.List.{sum_by}
@@ -8,6 +9,7 @@ use Rattle.std.specs.Ordering.{nat_cmp}
 use Rattle.seq_object.specs.declared.call_id.CallId.{CallId}
 use Rattle.uni_log.specs.declared.entry.Entry.{Entry}
 use Rattle.uni_record.specs.declared.call_places.CallPlaces.{CallPlaces}
+use Rattle.uni_record.specs.declared.checker.Check.{Check}
 use Rattle.uni_record.specs.declared.verdict.Return.{Return}
 use Rattle.uni_record.specs.Verdict.{calls_of, has_returned, same_call}
 
@@ -31,6 +33,11 @@ entry_place call entries = position (λ e. same_call e.call call) entries
 pub record IsTable {I R : Type 0} (entries : List (Entry I R)) (calls : CallPlaces) : Type 0 where
   pub counted : (process : ℕ) → length (row_of calls process) ≡ calls_of process entries
   pub placed : (call : CallId) → place_of calls call ≡ entry_place call entries
+
+-- a check has gone over these entries: it knows where each call's stands, and the replies
+pub record HasGoneOver {S I R : Type 0} (entries : List (Entry I R)) (check : Check S R) : Type 0 where
+  pub table : IsTable entries check.calls
+  pub replies : check.replies.items ≡ map (λ e. e.reply) entries
 
 -- the mark at a place; where there is no place, `false`
 abbrev pub mark_at : List Bool → Option ℕ → Bool

@@ -1,9 +1,11 @@
 //! The check of a log and of what calls returned.
 
-ghost use Rattle.std.specs.Prelude.{◌≡◌, ℕ, ◌↔◌, List, [], ◌∷◌, ◌++◌, length, IfOk, true};
+ghost use Rattle.std.specs.Prelude.{◌≡◌, ◌↔◌, List, [], ◌∷◌, ◌++◌, length, IfOk, true};
 ghost use Rattle.std.specs.Option.{option_map_or};
-ghost use Rattle.uni_record.specs.Verdict.{entries_verdict, return_verdict, verdict_of};
-ghost use Rattle.uni_record.specs.CallPlaces.{AreMarked, IsTable, row_of};
+ghost use Rattle.uni_log.specs.declared.entry.Entry.{Entry as Logged};
+ghost use Rattle.uni_record.specs.Verdict.{entry_verdict, entries_verdict, first, return_verdict, returns_verdict};
+ghost use Rattle.uni_record.specs.Verdict.{verdict_of};
+ghost use Rattle.uni_record.specs.CallPlaces.{AreMarked, HasGoneOver};
 ghost use Rattle.uni_record.specs.Audited.{IsAudited};
 ghost use Rattle.uni_record.specs.declared.verdict.Return.{Return};
 ghost use Rattle.uni_record.specs.declared.verdict.Verdict.TheVariants.{Agrees};
@@ -13,6 +15,17 @@ use crate::verdict::{Return, Verdict};
 use seq_object::SeqObject;
 use std::alloc::{AllocError, Global};
 use uni_log::Entry;
+
+/// What a check knows of the entries that it has gone over, from the first on. It keeps none of them.
+#[derive(Drop)]
+pub(crate) struct Check<S, R> {
+    /// The object's state after them.
+    state: S,
+    /// Where the entry of each call stands.
+    calls: CallPlaces,
+    /// The reply of each entry.
+    replies: Vec<Option<R>>,
+}
 
 /// Whether a reply is this answer, where there is one.
 fn is_answered<R: Copy + Eq>(reply: Option<R>, answer: R) -> bool
@@ -24,61 +37,104 @@ fn is_answered<R: Copy + Eq>(reply: Option<R>, answer: R) -> bool
     }
 }
 
-/// The verdict on entries, which are replayed from the object's start state. Where there is no
-/// fault, `calls` has the places of all.
+/// A check of an object that has gone over no entry, with room for these.
 ///
-/// An `Err` says that memory was refused, or that there are more than 2^32 entries.
-fn entries_verdict<O: SeqObject>(
+/// An `Err` says that memory was refused.
+pub(crate) fn check_for<O: SeqObject>(
     alloc: Global,
     object: &O,
     entries: &[Entry<O::Inv, O::Resp>],
-    calls: &mut CallPlaces,
-) -> Result<Verdict, AllocError>
-    requires { (q : ℕ) → row_of calls.old q ≡ [] }
-    ensures verdict { IfOk result (λ v. v ≡ entries_verdict O.Resp.eq (O.sequential object.now)
-        ((O.sequential object.now).initial) [] entries.now) }
-    ensures table { IfOk result (λ v. v ≡ Agrees → IsTable entries.now calls.new) }
+) -> Result<Check<O::State, O::Resp>, AllocError>
+    ensures start { IfOk result (λ check. check.state ≡ (O.sequential object.now).initial) }
+    ensures none { IfOk result (λ check. HasGoneOver {I = O.Inv} [] check) }
 {
-    let mut state = object.start(alloc)?;
-    let mut place = 0u64;
+    Ok(Check {
+        state: object.start(alloc)?,
+        calls: CallPlaces::with_room_for(alloc, entries)?,
+        replies: Vec::with_capacity(alloc, entries.len())?,
+    })
+}
+
+/// The verdict on the entry after those that a check has gone over. Where there is no fault, the check has
+/// gone over it too.
+///
+/// An `Err` says that memory was refused, or that there are more than 2^32 entries.
+pub(crate) fn check_entry<O: SeqObject>(
+    alloc: Global,
+    object: &O,
+    check: &mut Check<O::State, O::Resp>,
+    entry: &Entry<O::Inv, O::Resp>,
+) -> Result<Verdict, AllocError>
+    ensures verdict { (earlier : List (Logged O.Inv O.Resp)) → HasGoneOver earlier check.old → IfOk result (λ v.
+        v ≡ entry_verdict O.Resp.eq (O.sequential object.now) check.old.state earlier entry.now) }
+    ensures state { IfOk result (λ v. v ≡ Agrees
+        → check.new.state ≡ (O.sequential object.now).next check.old.state entry.now.inv) }
+    ensures gone_over { (earlier : List (Logged O.Inv O.Resp)) → HasGoneOver earlier check.old → IfOk result (λ v.
+        v ≡ Agrees → HasGoneOver (earlier ++ entry.now ∷ []) check.new) }
+{
+    let place = check.replies.len() as u64;
+    let is_next = check.calls.push(alloc, entry.call, place)?;
+    if !is_next {
+        return Ok(Verdict::BadCall(place));
+    }
+    let (after, answer) = object.apply(alloc, &check.state, &entry.inv)?;
+    if !is_answered(entry.reply, answer) {
+        return Ok(Verdict::BadReply(place));
+    }
+    check.replies.push(entry.reply)?;
+    check.state = after;
+    Ok(Verdict::Agrees)
+}
+
+/// The verdict on entries, where a check has gone over none; `first` of it and of the verdict on later
+/// entries is the verdict on all. Where there is no fault, the check has gone over them.
+///
+/// An `Err` says that memory was refused, or that there are more than 2^32 entries.
+pub(crate) fn check_entries<O: SeqObject>(
+    alloc: Global,
+    object: &O,
+    check: &mut Check<O::State, O::Resp>,
+    entries: &[Entry<O::Inv, O::Resp>],
+) -> Result<Verdict, AllocError>
+    requires { HasGoneOver {I = O.Inv} [] check.old }
+    ensures verdict { (later : List (Logged O.Inv O.Resp)) → IfOk result (λ v.
+        first v (entries_verdict O.Resp.eq (O.sequential object.now) check.new.state entries.now later)
+        ≡ entries_verdict O.Resp.eq (O.sequential object.now) check.old.state [] (entries.now ++ later)) }
+    ensures gone_over { IfOk result (λ v. v ≡ Agrees → HasGoneOver entries.now check.new) }
+{
     for entry in entries {
-        let is_next = calls.push(alloc, entry.call, place)?;
-        if !is_next {
-            return Ok(Verdict::BadCall(place));
-        }
-        let (after, answer) = object.apply(alloc, &state, &entry.inv)?;
-        if !is_answered(entry.reply, answer) {
-            return Ok(Verdict::BadReply(place));
-        }
-        state = after;
-        place += 1;
+        let verdict = check_entry(alloc, object, check, entry)?;
+        let Verdict::Agrees = verdict else {
+            return Ok(verdict);
+        };
     }
     Ok(Verdict::Agrees)
 }
 
 /// The verdict on a return, where the calls that returned before are marked. Where it agrees, its
 /// call is marked too.
-fn return_verdict<I, R: Copy + Eq>(
-    entries: &[Entry<I, R>],
-    calls: &CallPlaces,
+fn return_verdict<O: SeqObject>(
+    check: &Check<O::State, O::Resp>,
     marks: &mut [bool],
-    returned: &Return<R>,
+    returned: &Return<O::Resp>,
 ) -> Verdict
-    requires table { IsTable entries.now calls.now }
-    requires each { length marks.old ≡ length entries.now }
-    ensures verdict { (earlier : List (Return R)) → AreMarked entries.now earlier marks.old
-        → result ≡ return_verdict R.eq entries.now earlier returned.now }
-    ensures marked { (earlier : List (Return R)) → AreMarked entries.now earlier marks.old → result ≡ Agrees
-        → AreMarked entries.now (earlier ++ returned.now ∷ []) marks.new }
+    requires gone_over { (entries : List (Logged O.Inv O.Resp)) × HasGoneOver entries check.now }
+    requires each { length marks.old ≡ length check.now.replies.items }
+    ensures each { length marks.new ≡ length marks.old }
+    ensures verdict { (entries : List (Logged O.Inv O.Resp)) (earlier : List (Return O.Resp)) → HasGoneOver entries check.now
+        → AreMarked entries earlier marks.old
+        → result ≡ return_verdict O.Resp.eq entries earlier returned.now }
+    ensures marked { (entries : List (Logged O.Inv O.Resp)) (earlier : List (Return O.Resp)) → HasGoneOver entries check.now
+        → AreMarked entries earlier marks.old → result ≡ Agrees
+        → AreMarked entries (earlier ++ returned.now ∷ []) marks.new }
 {
-    let Some(place) = calls.place(returned.call) else {
+    let Some(place) = check.calls.place(returned.call) else {
         return Verdict::Missing(returned.call);
     };
     if marks[place] {
         return Verdict::Twice(returned.call);
     }
-    let entry = &entries[place];
-    let Some(reply) = entry.reply else {
+    let Some(reply) = check.replies[place] else {
         return Verdict::Missing(returned.call);
     };
     if reply != returned.reply {
@@ -86,6 +142,28 @@ fn return_verdict<I, R: Copy + Eq>(
     }
     marks[place] = true;
     Verdict::Agrees
+}
+
+/// The verdict on returns, by the entries that a check has gone over.
+///
+/// An `Err` says that memory was refused.
+pub(crate) fn check_returns<O: SeqObject>(
+    alloc: Global,
+    check: &Check<O::State, O::Resp>,
+    returns: &[Return<O::Resp>],
+) -> Result<Verdict, AllocError>
+    requires gone_over { (entries : List (Logged O.Inv O.Resp)) × HasGoneOver entries check.now }
+    ensures verdict { (entries : List (Logged O.Inv O.Resp)) → HasGoneOver entries check.now
+        → IfOk result (λ v. v ≡ returns_verdict O.Resp.eq entries [] returns.now) }
+{
+    let mut marks = vec![in alloc; false; check.replies.len()]?;
+    for returned in returns {
+        let fault = return_verdict::<O>(check, &mut marks, returned);
+        let Verdict::Agrees = fault else {
+            return Ok(fault);
+        };
+    }
+    Ok(Verdict::Agrees)
 }
 
 /// Checks entries and returns, and trusts neither. It goes over the entries in order, from the
@@ -104,17 +182,10 @@ pub fn audit<O: SeqObject>(
     ensures agrees { IfOk result (λ v. (v ≡ Agrees)
         ↔ IsAudited (O.sequential object.now) entries.now returns.now) }
 {
-    let mut calls = CallPlaces::with_room_for(alloc, entries)?;
-    let verdict = entries_verdict(alloc, object, entries, &mut calls)?;
+    let mut check = check_for(alloc, object, entries)?;
+    let verdict = check_entries(alloc, object, &mut check, entries)?;
     let Verdict::Agrees = verdict else {
         return Ok(verdict);
     };
-    let mut marks = vec![in alloc; false; entries.len()]?;
-    for returned in returns {
-        let fault = return_verdict(entries, &calls, &mut marks, returned);
-        let Verdict::Agrees = fault else {
-            return Ok(fault);
-        };
-    }
-    Ok(Verdict::Agrees)
+    check_returns::<O>(alloc, &check, returns)
 }

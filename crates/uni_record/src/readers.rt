@@ -7,7 +7,7 @@ ghost use Rattle.uni_record.specs.Audited.{IsAudited};
 ghost use Rattle.uni_record.specs.Event.{events_shown};
 ghost use Rattle.uni_record.specs.Recorded.{meaning, opening, IsRecording, IsPromised};
 
-use crate::checker::audit;
+use crate::checker::{check_entries, check_entry, check_for, check_returns};
 use crate::events::Events;
 use crate::recorded::Recorded;
 use crate::verdict::{Counts, Return, Verdict};
@@ -88,14 +88,30 @@ impl<O: SeqObject> Recorded<O> {
         Log::of(&self.world).entries_after(alloc, ended)
     }
 
-    /// What an audit of the entries of all eras and of the returns says: they agree.
+    /// What an audit of the entries of all eras and of the returns says: they agree. The entries are gone
+    /// over one at a time, and not copied as a whole.
     ///
     /// An `Err` says that memory was refused, or that there are more than 2^32 entries.
     pub fn audit(&self, alloc: Global) -> Result<Verdict, AllocError>
         ensures agrees { IfOk result (λ verdict. verdict ≡ Verdict.Agrees) }
     {
-        let entries = self.entries(alloc)?;
-        audit(alloc, self.world.object(), &entries, &self.returns)
+        self.promise();
+        joined_log_is_legal::<O>();
+        joined_log_holds_responses::<O>();
+        let object = self.world.object();
+        let mut check = check_for(alloc, object, &self.ended)?;
+        let verdict = check_entries(alloc, object, &mut check, &self.ended)?;
+        let Verdict::Agrees = verdict else {
+            return Ok(verdict);
+        };
+        let mut cursor = Log::of(&self.world).cursor();
+        while let Some(entry) = cursor.next_entry(alloc)? {
+            let verdict = check_entry(alloc, object, &mut check, &entry)?;
+            let Verdict::Agrees = verdict else {
+                return Ok(verdict);
+            };
+        }
+        check_returns::<O>(alloc, &check, &self.returns)
     }
 
     /// What every record keeps, for proofs: the call does nothing.

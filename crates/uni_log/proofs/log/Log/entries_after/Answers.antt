@@ -1,51 +1,38 @@
-use Rattle.std.proofs.Common.{sym, ◌≡◌, ◌+◌, ◌++◌, refl, ap, map, true, arith}
-use Rattle.std.proofs.lemmas.List.{map-append}
-use Rattle.uni_model.specs.Places.{seq_of}
-use Rattle.uni_model.specs.Places.Name.{Anchor}
-use Rattle.uni_model.specs.Chain.{entries_from}
-use Rattle.uni_model.specs.Worlds.{chain}
+use Rattle.std.proofs.Common.{◌≡◌, ◌∙◌, ◌+◌, ◌++◌, ◌∷◌, [], sym, ap, append_assoc, map, take, slice_get, Some, None, arith}
+use Rattle.std.proofs.lemmas.List.{append-nil, map-append}
+use Rattle.uni_model.specs.History.{log}
 use Rattle.uni_core.specs.World.{world_of}
 use Rattle.uni_log.specs.Entry.{entry_shown}
-use Rattle.uni_log.proofs.Walk.{IsAlong-anchor, along-low, along-call, along-next}
-use Rattle.uni_log.proofs.Entries.{entries_from-further, all_reached}
+use Rattle.uni_log.proofs.Along.{within-at, taken-more, all-taken}
 use Rattle.uni_log.proofs.log.Log.entries_after.Goals as goal
 
-pub loop-next-init : goal.loop-next-init
-loop-next-init g c =
-    let seq : c.seq-seq.result ≡ seq_of (world_of c.self.inside.world.now).memory Anchor = rw c.anchor-at.ensures at c.seq-seq.ensures in
-    rw c.anchor-at.ensures (record {
-      there = c.shape.ensures.anchor;
-      rest = chain (world_of c.self.inside.world.now);
-      along = IsAlong-anchor (world_of c.self.inside.world.now) (g.O.SeqObject.sequential c.self.inside.world.now.object)
-          c.shape.ensures.sound c.shape.ensures.fits c.seq-seq.result seq;
-      whole = ap (λ k. map entry_shown c.args.earlier.items ++ entries_from (world_of c.self.inside.world.now).memory (k + 1) (chain (world_of c.self.inside.world.now))) seq;
-    })
+pub loop-entries-init : goal.loop-entries-init
+loop-entries-init g c = record {
+  world = c.cursor-cursor.ensures.world;
+  whole = rw c.cursor-cursor.ensures.first (sym (append-nil (map entry_shown c.args.earlier.items)));
+}
 
-pub entry_at-requires-clause-there : goal.entry_at-requires-clause-there
-entry_at-requires-clause-there g c = c.in-Some.ensures.there
+pub loop-entries-smaller : goal.loop-entries-smaller
+loop-entries-smaller g c =
+    let at : slice_get (log (world_of c.args.self.now)) c.loop-entries.cursor.passed ≡ Some (entry_shown c.in-Some.entry) =
+    sym (rw (c.in-Some.is, c.loop-entries.invariant.world) at c.in_ok-entry.ensures.entry) in
+    let passed : c.next_entry.new.self.passed ≡ c.loop-entries.cursor.passed + 1 = rw c.in-Some.is at c.in_ok-entry.ensures.passed in
+    let within = within-at (log (world_of c.args.self.now)) c.loop-entries.cursor.passed (entry_shown c.in-Some.entry) at in
+    omega arith
 
-pub entry_at-requires-clause-call : goal.entry_at-requires-clause-call
-entry_at-requires-clause-call g c =
-    let call = along-call _ _ _ _ c.loop-next.invariant.along _ (sym c.in-Some.ensures.link) in
-    rw call.1 (refl {a = true})
-
-pub overflow_add-seq : goal.overflow_add-seq
-overflow_add-seq g c = let low = along-low _ _ _ _ c.loop-next.invariant.along in omega arith
-
-pub loop-next-smaller : goal.loop-next-smaller
-loop-next-smaller g c = let low = along-low _ _ _ _ c.loop-next.invariant.along in omega arith
-
-pub loop-next-preserved : goal.loop-next-preserved
-loop-next-preserved g c =
-    let after = sym c.in-Some.ensures.link in
-    let on = along-next _ _ _ _ c.loop-next.invariant.along _ after in
+pub loop-entries-preserved : goal.loop-entries-preserved
+loop-entries-preserved g c =
+    let at : slice_get (log (world_of c.args.self.now)) c.loop-entries.cursor.passed ≡ Some (entry_shown c.in-Some.entry) =
+    sym (rw (c.in-Some.is, c.loop-entries.invariant.world) at c.in_ok-entry.ensures.entry) in
+    let passed : c.next_entry.new.self.passed ≡ c.loop-entries.cursor.passed + 1 = rw c.in-Some.is at c.in_ok-entry.ensures.passed in
     record {
-      there = c.in-Some.ensures.there;
-      rest = on.0;
-      along = on.2;
-      whole = rw (c.in_ok-push.ensures.items, map-append)
-          (entries_from-further (world_of c.self.inside.world.now).memory (c.loop-next.seq + 1) _ (entry_shown c.in_ok-entry_at.field-0) c.in_ok-entry_at.ensures.seq c.in_ok-entry_at.ensures.call c.in_ok-entry_at.ensures.reply _ _ _ on.1 c.loop-next.invariant.whole);
+      world = c.next_entry.ensures.world ∙ c.loop-entries.invariant.world;
+      whole = rw (c.in_ok-push.ensures.items, map-append, c.loop-entries.invariant.whole, passed, taken-more (log (world_of c.args.self.now)) c.loop-entries.cursor.passed (entry_shown c.in-Some.entry) at)
+          (append_assoc (map entry_shown c.args.earlier.items) (take c.loop-entries.cursor.passed (log (world_of c.args.self.now))) (entry_shown c.in-Some.entry ∷ []));
     }
 
 pub returns : goal.returns
-returns g c = rw (← c.self.view_is) (all_reached _ _ _ _ c.loop-next.invariant.along (sym c.in_default.ensures.link) _ _ c.loop-next.invariant.whole)
+returns g c =
+    let none : slice_get (log (world_of c.args.self.now)) c.loop-entries.cursor.passed ≡ None =
+    sym (rw (c.in_default.is, c.loop-entries.invariant.world) at c.in_ok-entry.ensures.entry) in
+    c.loop-entries.invariant.whole ∙ ap (λ xs. map entry_shown c.args.earlier.items ++ xs) (all-taken (log (world_of c.args.self.now)) c.loop-entries.cursor.passed none)

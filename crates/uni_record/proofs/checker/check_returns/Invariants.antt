@@ -1,0 +1,13 @@
+use Rattle.std.proofs.Common.{◌≡◌, List, [], length, take, drop}
+use Rattle.uni_log.specs.declared.entry.Entry.{Entry}
+use Rattle.uni_record.specs.Verdict.{returns_verdict}
+use Rattle.uni_record.specs.CallPlaces.{AreMarked, HasGoneOver}
+use Rattle.uni_record.proofs.checker.check_returns.Given as goal
+
+abbrev pub invariant-loop-returned : goal.invariant-loop-returned
+invariant-loop-returned g l = record {
+  long : length l.marks.items ≡ length l.check.replies.items;
+  marked : (entries : List (Entry g.row.O-Inv.Denot g.row.O-Resp.Denot)) → HasGoneOver entries l.check → AreMarked entries (take l.returned-index l.returns) l.marks.items;
+  rest : (entries : List (Entry g.row.O-Inv.Denot g.row.O-Resp.Denot)) → HasGoneOver entries l.check
+      → returns_verdict g.O.Resp.PartialEq.eq entries (take l.returned-index l.returns) (drop l.returned-index l.returns) ≡ returns_verdict g.O.Resp.PartialEq.eq entries [] l.returns;
+}
