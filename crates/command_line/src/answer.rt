@@ -57,7 +57,7 @@ struct Printer<'a, T> {
 }
 
 impl<T: TextOut> fmt::Write for Printer<'_, T> {
-    ghost write_str_gives = { λ before text after. Appends (T.contents before.end.now) (T.contents after.end.now) text };
+    ghost write_str_gives = { λ old text new. Appends (T.contents old.end.now) (T.contents new.end.now) text };
 
     fn write_str(&mut self, text: &str) -> fmt::Result {
         write_all(&mut *self.end, text.as_bytes()).map_err(|_| fmt::Error)

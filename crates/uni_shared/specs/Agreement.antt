@@ -11,7 +11,7 @@ use Rattle.uni_record.specs.declared.event.Event.TheVariants.{Call, Step, Trim, 
 use Rattle.uni_record.specs.Event.{Completed, completed_in, events_shown}
 use Rattle.uni_record.specs.Recorded.{Recording, meaning, opening}
 use Rattle.uni_shared.specs.declared.closed.CloseFault.{CloseFault}
-use Rattle.uni_shared.specs.declared.closed.CloseFault.TheVariants.{MissingSeat, PendingSeat, Mismatch, Memory}
+use Rattle.uni_shared.specs.declared.closed.CloseFault.TheVariants.{MissingSeat, Stranger, PendingSeat, Mismatch, Memory}
 use Rattle.uni_shared.specs.declared.receipt.Receipt.{Receipt}
 use Rattle.uni_shared.specs.Seat.{SeatOf, first_seat}
 
@@ -104,16 +104,25 @@ pub record IsFirstMismatch {O S I R : Type 0} (sequential : O → Sequential S I
   pub mismatch : IsMismatchOf sequential recorded seat call
   pub before : All (λ s. s.process < call.process → SeatAgrees sequential recorded s) seats
 
--- why a record and seats aren't closed: the first of these that holds
-abbrev pub IsFaultOfClosing : {O S I R : Type 0} → (O → Sequential S I R) → Recording O S I R → List (SeatOf I R) → CloseFault
-    → Type 0
-IsFaultOfClosing sequential recorded seats (MissingSeat p) = IsLeast (IsMissing recorded.processes seats) p
-IsFaultOfClosing sequential recorded seats (PendingSeat p) =
-    ((q : ℕ) → ¬ (IsMissing recorded.processes seats q)) × IsLeast (IsBusy (world_of recorded.world) seats) p
-IsFaultOfClosing sequential recorded seats (Mismatch call) =
-    ((q : ℕ) → ¬ (IsMissing recorded.processes seats q)) × ((q : ℕ) → ¬ (IsBusy (world_of recorded.world) seats q))
+-- each of n processes has its seat there once, and no other has one
+abbrev pub AreAllThere : {I R : Type 0} → ℕ → List (SeatOf I R) → Type 0
+AreAllThere n seats = (q : ℕ) → ¬ (IsMissing n seats q)
+
+-- why a record and seats of n processes aren't closed: the first of these that holds
+abbrev pub IsFaultOfClosing : {O S I R : Type 0} → (O → Sequential S I R) → (n : ℕ) → Recording O S I R → List (SeatOf I R)
+    → CloseFault → Type 0
+IsFaultOfClosing sequential n recorded seats (MissingSeat p) = IsLeast (IsMissing n seats) p
+IsFaultOfClosing sequential n recorded seats Stranger = AreAllThere n seats × (recorded.processes ≢ n)
+IsFaultOfClosing sequential n recorded seats (PendingSeat p) =
+    AreAllThere n seats × (recorded.processes ≡ n) × IsLeast (IsBusy (world_of recorded.world) seats) p
+IsFaultOfClosing sequential n recorded seats (Mismatch call) =
+    AreAllThere n seats × (recorded.processes ≡ n) × ((q : ℕ) → ¬ (IsBusy (world_of recorded.world) seats q))
     × IsFirstMismatch sequential recorded seats call
-IsFaultOfClosing sequential recorded seats Memory = ⊥
+IsFaultOfClosing sequential n recorded seats Memory = ⊥
+
+-- a record under a lock: how many processes it was opened for
+pub record SharedOf : Type 0 where
+  pub processes : ℕ
 
 -- a closed record: the record, and the seats with their receipts
 pub record ClosedOf (O S I R : Type 0) : Type 0 where

@@ -278,17 +278,22 @@ fn first_mismatch<O: SeqObject>(recorded: &Recorded<O>, seats: &[Seat<O>]) -> Op
     None
 }
 
-/// Why a record and seats can't be closed; `None` where they can.
+/// Why a record and seats of `n` processes can't be closed; `None` where they can.
 pub(crate) fn first_fault<O: SeqObject>(
     recorded: &Recorded<O>,
     seats: &[Seat<O>],
+    n: u64,
 ) -> Option<CloseFault>
+    ensures processes { result ≡ None → recorded.now.processes ≡ n }
     ensures closed { result ≡ None → IsClosed O.sequential recorded.now seats.now }
-    ensures fault { IfSome result (IsFaultOfClosing O.sequential recorded.now seats.now) }
+    ensures fault { IfSome result (IsFaultOfClosing O.sequential n recorded.now seats.now) }
 {
-    match missing_seat(seats, recorded.processes()) {
+    match missing_seat(seats, n) {
         Some(p) => return Some(CloseFault::MissingSeat(p)),
         None => {}
+    }
+    if recorded.processes() != n {
+        return Some(CloseFault::Stranger);
     }
     match pending_seat(recorded, seats) {
         Some(p) => return Some(CloseFault::PendingSeat(p)),

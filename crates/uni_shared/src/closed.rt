@@ -2,7 +2,7 @@
 
 ghost use Rattle.std.specs.Prelude.{◌≡◌, ◌<◌, IfErr, IfOk};
 ghost use Rattle.std.specs.List.{Contains};
-ghost use Rattle.uni_record.specs.Recorded.{Recording, meaning, opening};
+ghost use Rattle.uni_record.specs.Recorded.{IsRecording, Recording, meaning, opening};
 ghost use Rattle.uni_shared.specs.Agreement.{Agrees, IsClosed, IsFaultOfClosing};
 
 use crate::agreement::first_fault;
@@ -23,6 +23,10 @@ pub enum CloseFault {
     /// the least other process that has a seat there.
     #[error("process {0} doesn't have its seat there exactly once")]
     MissingSeat(u64),
+    /// The record under the lock isn't of as many processes as it was opened for. It never comes; but a
+    /// lock tells nothing of what it gives back, so closing looks.
+    #[error("the record is another one")]
+    Stranger,
     /// This process, the least of such, has a call pending, in its seat or in the world.
     #[error("process {0} has a call pending")]
     PendingSeat(u64),
@@ -69,22 +73,30 @@ impl<O: SeqObject> Shared<O> {
     /// the receipts of each process are, in order, its calls in the history: each with what it asked
     /// for, with the reply of its return, and with its own steps and turns.
     ///
-    /// Errors, in this order: `MissingSeat`, `PendingSeat`, `Mismatch`. After each what was handed in is
-    /// handed back. `Memory` never comes.
+    /// Errors, in this order: `MissingSeat`, `Stranger`, `PendingSeat`, `Mismatch`. After each what was
+    /// handed in is handed back. `Stranger` and `Memory` never come.
     pub fn close(self, _alloc: Global, seats: Vec<Seat<O>>) -> Result<Closed<O>, Refused<O>>
         ensures closed { IfOk result (λ closed. IsClosed O.sequential closed.recorded closed.seats) }
+        ensures processes { IfOk result (λ closed. closed.recorded.processes ≡ self.processes) }
         ensures seats { IfOk result (λ closed. closed.seats ≡ seats.items) }
         ensures fault { IfErr result (λ refused. (recorded : Recording O O.State O.Inv O.Resp)
-            × IsFaultOfClosing O.sequential recorded seats.items refused.fault) }
+            × IsRecording O.sequential recorded
+            × IsFaultOfClosing O.sequential self.processes recorded seats.items refused.fault) }
         ensures handed_back { IfErr result (λ refused. refused.seats.items ≡ seats.items) }
+        ensures kept { IfErr result (λ refused. refused.shared.processes ≡ self.processes) }
     {
-        let Shared { recorded } = self;
+        let Shared {
+            processes,
+            recorded,
+        } = self;
         let recorded = recorded.into_inner();
-        match first_fault(&recorded, &seats) {
+        recorded.promise();
+        match first_fault(&recorded, &seats, processes) {
             None => Ok(Closed { recorded, seats }),
             Some(fault) => Err(Refused {
                 fault,
                 shared: Shared {
+                    processes,
                     recorded: Mutex::new(recorded),
                 },
                 seats,

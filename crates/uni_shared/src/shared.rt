@@ -8,14 +8,26 @@ use crate::held::trim_held;
 use crate::seat::Seat;
 use seq_object::SeqObject;
 use std::alloc::{AllocError, Global};
+use std::marker::Model;
 use std::sync::{Mutex, Wait};
 use uni_record::{RecordOpenFault, RecordTrimFault, Recorded};
 
 /// A record under a lock. Whenever the lock is free, the world of the record is the replay of its
 /// events, since every record is.
+///
+/// A contract sees how many processes it was opened for, which is kept beside the lock.
 #[derive(Drop)]
 pub struct Shared<O: SeqObject> {
+    pub(crate) processes: u64,
     pub(crate) recorded: Mutex<Recorded<O>>,
+}
+
+impl<O: SeqObject> Model for Shared<O> {
+    ghost use Rattle.uni_shared.specs.Agreement.{SharedOf};
+
+    ghost Value = { SharedOf };
+
+    ghost view = { λ s. record { processes = s.processes } };
 }
 
 impl<O: SeqObject> Shared<O> {
@@ -34,10 +46,12 @@ impl<O: SeqObject> Shared<O> {
         ensures refused { IfErr result (IsOpenRefused n k 1 h) }
         ensures could { OnOk result (CanRecord n k 1 h) }
         ensures numbers { IsErrOf result RecordOpenFault.SeqFull → ⊥ }
+        ensures processes { IfOk result (λ opened. opened.0.processes ≡ n) }
         ensures seats { IfOk result (λ opened. opened.1.items ≡ first_seats n) }
     {
         let (recorded, seats) = opened(alloc, object, n, k, h)?;
         let shared = Shared {
+            processes: n,
             recorded: Mutex::new(recorded),
         };
         Ok((shared, seats))

@@ -149,6 +149,7 @@ IsLacking {I = I} {R = R} seats calls f =
 -- the fault that a refused closing is
 abbrev pub closing_fault : CloseFault → ThreadsFault
 closing_fault (close.MissingSeat p) = fault.SeatMissing p
+closing_fault close.Stranger = fault.OtherRecord
 closing_fault (close.PendingSeat p) = fault.SeatPending p
 closing_fault (close.Mismatch call) = fault.Differs call
 closing_fault close.Memory = fault.Memory
@@ -169,6 +170,7 @@ text_of_fault fault.Write = codes "cannot write"
 text_of_fault (fault.Differs call) = codes "close: call " ++ (decimal call.process ++ codes "." ++ decimal call.nth) ++ codes " differs"
 text_of_fault (fault.SeatMissing p) = codes "close: seat " ++ decimal p ++ codes " missing"
 text_of_fault (fault.SeatPending p) = codes "close: seat " ++ decimal p ++ codes " pending"
+text_of_fault fault.OtherRecord = codes "close: another record"
 text_of_fault (fault.Audit verdict) = fault_text (bench.Audit verdict)
 
 -- its line

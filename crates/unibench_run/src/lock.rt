@@ -99,6 +99,7 @@ fn closing_fault(fault: CloseFault) -> ThreadsFault
 {
     match fault {
         CloseFault::MissingSeat(p) => ThreadsFault::SeatMissing(p),
+        CloseFault::Stranger => ThreadsFault::OtherRecord,
         CloseFault::PendingSeat(p) => ThreadsFault::SeatPending(p),
         CloseFault::Mismatch(call) => ThreadsFault::Differs(call),
         CloseFault::Memory => ThreadsFault::Memory,

@@ -159,6 +159,7 @@ fn report_threads<F: TextOut>(alloc: Global, fault: ThreadsFault, faults: &mut F
         ThreadsFault::Differs(_)
         | ThreadsFault::SeatMissing(_)
         | ThreadsFault::SeatPending(_)
+        | ThreadsFault::OtherRecord
         | ThreadsFault::Audit(_) => report_closing(alloc, fault, faults),
     }
 }

@@ -48,6 +48,8 @@ pub enum ThreadsFault {
     SeatMissing(u64),
     /// Under a lock, this process, the least of such, has a call pending.
     SeatPending(u64),
+    /// Under a lock, the record isn't of as many processes as it was opened for. It never comes.
+    OtherRecord,
     /// Under a lock, an audit of the entries and of the returns found this. It never does.
     Audit(Verdict),
 }
@@ -75,6 +77,7 @@ impl fmt::Display for ThreadsFault {
             ThreadsFault::Differs(call) => write!(f, "close: call {call} differs"),
             ThreadsFault::SeatMissing(p) => write!(f, "close: seat {p} missing"),
             ThreadsFault::SeatPending(p) => write!(f, "close: seat {p} pending"),
+            ThreadsFault::OtherRecord => write!(f, "close: another record"),
             ThreadsFault::Audit(verdict) => write!(f, "{}", BenchFault::Audit(*verdict)),
         }
     }

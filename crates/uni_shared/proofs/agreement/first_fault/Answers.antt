@@ -1,19 +1,24 @@
-use Rattle.std.proofs.Common.{◌≡◌, ◌<◌, ℕ, refl, subst, get_or}
+use Rattle.std.proofs.Common.{◌≡◌, ◌∙◌, ◌<◌, ℕ, refl, sym, subst, get_or}
 use Rattle.std.specs.List.{All}
 use Rattle.uni_core.specs.World.{world_of}
-use Rattle.uni_shared.specs.Agreement.{IsLeast, IsMissing, seats_of}
+use Rattle.uni_shared.specs.Agreement.{seats_of}
 use Rattle.uni_shared.proofs.Closing.{IsBusy-none}
 use Rattle.uni_shared.proofs.agreement.first_fault.Goals as goal
 
-pub returns-in-Some-clause-fault : goal.returns-in-Some-clause-fault
-returns-in-Some-clause-fault g c = subst (λ n. IsLeast (IsMissing n c.args.seats.now) c.in-Some.p) c.processes.ensures c.in-Some.ensures.least
+pub returns-then-processes-n-clause-fault : goal.returns-then-processes-n-clause-fault
+returns-then-processes-n-clause-fault g c = (c.missing_seat.ensures.none c.in-None.is, λ same. c.if-processes-n.true (c.processes.ensures ∙ same))
 
 pub returns-in-Some-pending_seat-clause-fault : goal.returns-in-Some-pending_seat-clause-fault
-returns-in-Some-pending_seat-clause-fault g c = (subst (λ n. (q : ℕ) → ¬ (IsMissing n c.args.seats.now q)) c.processes.ensures (c.missing_seat.ensures.none c.in-None.is), c.in-Some-pending_seat.ensures.least)
+returns-in-Some-pending_seat-clause-fault g c = (
+  c.missing_seat.ensures.none c.in-None.is,
+  sym c.processes.ensures ∙ c.if-processes-n.false,
+  c.in-Some-pending_seat.ensures.least,
+)
 
 pub returns-in-Some-first_mismatch-clause-fault : goal.returns-in-Some-first_mismatch-clause-fault
 returns-in-Some-first_mismatch-clause-fault g c = (
-  subst (λ n. (q : ℕ) → ¬ (IsMissing n c.args.seats.now q)) c.processes.ensures (c.missing_seat.ensures.none c.in-None.is),
+  c.missing_seat.ensures.none c.in-None.is,
+  sym c.processes.ensures ∙ c.if-processes-n.false,
   IsBusy-none (world_of c.args.recorded.now.world) c.args.seats.now (c.pending_seat.ensures.idle c.in-None-pending_seat.is) (c.pending_seat.ensures.quiet c.in-None-pending_seat.is),
   c.in-Some-first_mismatch.ensures.first,
 )
@@ -21,8 +26,9 @@ returns-in-Some-first_mismatch-clause-fault g c = (
 pub returns-in-None-first_mismatch-clause-closed : goal.returns-in-None-first_mismatch-clause-closed
 returns-in-None-first_mismatch-clause-closed g c = λ none.
     let seats = c.args.seats.now in
-    let each = subst (λ n. (p : ℕ) → p < n → seats_of p seats ≡ 1) c.processes.ensures (c.missing_seat.ensures.each c.in-None.is) in
-    let only = subst (λ n. All (λ s. s.process < n) seats) c.processes.ensures (c.missing_seat.ensures.only c.in-None.is) in
+    let n = sym c.if-processes-n.false ∙ c.processes.ensures in
+    let each = subst (λ n. (p : ℕ) → p < n → seats_of p seats ≡ 1) n (c.missing_seat.ensures.each c.in-None.is) in
+    let only = subst (λ n. All (λ s. s.process < n) seats) n (c.missing_seat.ensures.only c.in-None.is) in
     record {
       each = each;
       only = only;
