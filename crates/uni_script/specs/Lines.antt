@@ -19,10 +19,10 @@ use Rattle.uni_script.specs.Remarks.{RemarkAt, RemarksGrow, remarks_of_lines}
 pub record IsHeld (lines : Lines) : Type 0 where
   pub width : lines.width ≤ 200
   pub start : lines.start ≤ lines.end
-  pub end : lines.end ≤ 4096
+  pub end : lines.end ≤ 32768
   pub count : lines.count ≤ 100000
   pub line_length : length lines.line ≡ 200
-  pub piece_length : length lines.piece ≡ 4096
+  pub piece_length : length lines.piece ≡ 32768
 
 -- the line that was taken last
 abbrev pub line_of : Lines → List ℕ

@@ -130,7 +130,7 @@ impl Catalogue for Ready {
         object_of(word)
     }
 
-    /// The one place of the code that tells the objects apart.
+    /// The one place of a run that tells the objects apart.
     fn run<I: TextIn, W: TextOut, L: Listener>(
         self,
         alloc: Global,

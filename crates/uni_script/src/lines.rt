@@ -41,7 +41,7 @@ pub struct Lines {
     /// How many bytes the line has.
     pub width: usize,
     /// The piece that was read last.
-    pub piece: [u8; 4096],
+    pub piece: [u8; 32768],
     /// Where the bytes of the piece begin that no line has taken.
     pub start: usize,
     /// Where they end.
@@ -61,7 +61,7 @@ impl Lines {
         Lines {
             line: [0; 200],
             width: 0,
-            piece: [0; 4096],
+            piece: [0; 32768],
             start: 0,
             end: 0,
             count: 0,
