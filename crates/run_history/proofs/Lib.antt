@@ -1,2 +1,1 @@
 pub mod Observed
-pub mod Histories

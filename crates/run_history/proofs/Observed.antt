@@ -1,5 +1,5 @@
 -- What is observed of a run, by its frames.
-use Rattle.std.proofs.Common.{◌≡◌, ◌∙◌, ℕ, ◌+◌, ◌-◌, List, [], ◌∷◌, ◌++◌, map, arith, refl, subst, sym, ap, append-nil, Option, Some, None, option_map, option_and_then}
+use Rattle.std.proofs.Common.{◌≡◌, ◌∙◌, ℕ, ◌+◌, ◌-◌, List, [], ◌∷◌, ◌++◌, take, drop, arith, refl, subst, sym, ap, append-nil, Option, Some, None, option_map, option_and_then}
 use Rattle.std.proofs.lemmas.List.Concat.{flat_map-append}
 use Rattle.std.specs.List.{flat_map}
 use Rattle.std.specs.Option.{option_map_or}
@@ -16,20 +16,36 @@ use Rattle.uni_model.specs.Worlds.Event.{Call, Step, Trim, Reshape}
 use Rattle.uni_model.specs.History.{responses_of}
 use Rattle.uni_model.specs.Linearizable.{observed_at, observed_in}
 use Rattle.uni_model.proofs.Kept.{Invariant-opened_world, Invariant-world_after}
-use Rattle.uni_record.specs.Event.{events_shown}
-use Rattle.uni_record.specs.Recorded.{Recording, IsRecording, meaning, opening}
+use Rattle.uni_script.specs.declared.remarks.PlacedRemark.{PlacedRemark}
+use Rattle.uni_script.specs.Objects.{SpokenObject, spoken_of}
+use Rattle.uni_script.specs.Schedules.{word_of_object}
 use Rattle.run_trace.specs.Frames.{Frame, Steps, frame_of, frames_from, stepped}
-use Rattle.run_trace.specs.Shown.{frame_shown}
-use Rattle.run_trace.specs.declared.frame.Frame.{Frame as FrameOfCode}
-use Rattle.run_history.specs.Lines.{act_line, observed_line, replied_line}
+use Rattle.run_telling.specs.Order.{event_text, told_before, told_from}
+use Rattle.run_telling.specs.Told.{IsLinearizableRun, IsTold, state_text_of, text_of_events}
+use Rattle.run_json.specs.Lines.{line_text}
+use Rattle.run_history.specs.History.{IsHistory}
+use Rattle.run_history.specs.Lines.{act_line, history_text, history_wording, opening_members, replied_line}
 
 -- the line of a frame that there may be
 abbrev line_of_frame : Option Frame → List ℕ
-line_of_frame frame = option_map_or observed_line frame []
+line_of_frame frame = event_text history_wording 0 frame
 
-lines_of_frames : {A : Type 0} (shown : A → Frame) (frames : List A) → flat_map line_of_frame (map (λ frame. Some (shown frame)) frames) ≡ flat_map observed_line (map shown frames)
-lines_of_frames shown [] = refl
-lines_of_frames shown (frame ∷ frames) = ap (λ l. observed_line (shown frame) ++ l) (lines_of_frames shown frames)
+-- nothing is told beside the events
+no_remarks : (remarks : List PlacedRemark) → flat_map history_wording.remark remarks ≡ []
+no_remarks [] = refl
+no_remarks (one ∷ remarks) = no_remarks remarks
+
+line_of_each : (k : ℕ) (frame : Option Frame) → event_text history_wording k frame ≡ line_of_frame frame
+line_of_each k None = refl
+line_of_each k (Some frame) = refl
+
+lines_alone : (k : ℕ) (frames : List (Option Frame)) (remarks : List PlacedRemark) → told_from history_wording k frames remarks ≡ flat_map line_of_frame frames
+lines_alone k [] remarks = no_remarks remarks
+lines_alone k (frame ∷ frames) remarks =
+    let here = told_before k remarks in
+    let rest = told_from history_wording (k + 1) frames (drop here remarks) in
+    ap (λ l. l ++ event_text history_wording k frame ++ rest) (no_remarks (take here remarks))
+    ∙ ap (λ l. l ++ rest) (line_of_each k frame) ∙ ap (λ l. line_of_frame frame ++ l) (lines_alone (k + 1) frames (drop here remarks))
 
 module _ {S I R : Type 0} (object : Sequential S I R) (l : Language I R) (text : S → List ℕ) where
   -- a step that answers tells the reply of its own call
@@ -69,12 +85,18 @@ module _ {S I R : Type 0} (object : Sequential S I R) (l : Language I R) (text :
       ∙ ap (λ lines. flat_map (act_line l) (observed_at w e) ++ lines) (lines_are_observed (world_after object w e) events (Invariant-world_after object w e ok.0 inv) ok.1)
       ∙ sym (flat_map-append (act_line l) (observed_at w e) (observed_in object (world_after object w e) events))
 
--- the lines of the frames of a record tell what is observed of its run
-pub lines_of_record : {O S I R : Type 0} (sequential : O → Sequential S I R) (l : Language I R) (text : S → List ℕ) (r : Recording O S I R) → IsRecording sequential r → (object : O) → object ≡ r.world.object
-    → (frames : List FrameOfCode) → map (λ frame. Some (frame_shown frame)) frames ≡ frames_from (sequential object) l text (opened_world r.processes (sequential object).initial r.first) (events_shown r.events)
-    → flat_map observed_line (map frame_shown frames) ≡ flat_map (act_line l) (observed_in (meaning sequential r) (opening sequential r) (events_shown r.events))
-lines_of_record sequential l text r is object same frames told =
-    sym (lines_of_frames frame_shown frames) ∙ ap (flat_map line_of_frame) told
-    ∙ ap (λ o. flat_map line_of_frame (frames_from (sequential o) l text (opened_world r.processes (sequential o).initial r.first) (events_shown r.events))) same
-    ∙ lines_are_observed (meaning sequential r) l text (opening sequential r) (events_shown r.events)
-    (Invariant-opened_world (meaning sequential r) r.processes (meaning sequential r).initial r.first is.positive) is.accepted
+-- the run of a script, told, is what is observed of it
+history_is : {S I R : Type 0} (o : SpokenObject S I R) (text : S → List ℕ) (name : List ℕ) (n row first : ℕ) (events : List (Event I)) (remarks : List PlacedRemark) → IsLinearizableRun o.object n first events
+    → text_of_events history_wording o text name n row first events remarks ≡ history_text o text name n first events
+history_is o text name n row first events remarks run =
+    let w = opened_world n o.object.initial first in
+    ap (λ lines. line_text (opening_members name n (text o.object.initial)) ++ lines)
+    (lines_alone 0 (frames_from o.object o.language text w events) remarks
+    ∙ lines_are_observed o.object o.language text w events (Invariant-opened_world o.object n o.object.initial first run.positive) run.accepted)
+
+pub IsHistory-told : (left : Option (List ℕ)) (text : List ℕ) → IsTold history_wording left text → IsHistory left text
+IsHistory-told left text told =
+    let b = told.session in record {
+      told = told;
+      observed = told.text_is ∙ history_is (spoken_of b.object) (state_text_of b.object) (word_of_object b.object) b.session.processes b.session.row b.session.first b.session.events told.remarks told.linearizable;
+    }

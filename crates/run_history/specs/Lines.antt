@@ -14,6 +14,8 @@ use Rattle.uni_model.specs.Worlds.{Event, opened_world}
 use Rattle.uni_script.specs.Objects.{SpokenObject}
 use Rattle.run_trace.specs.Frames.{Frame, Begins, Steps, Ends}
 use Rattle.run_trace.specs.Held.{cell_text}
+use Rattle.run_telling.specs.Opened.{Opening}
+use Rattle.run_telling.specs.Order.{Wording}
 use Rattle.run_json.specs.Lines.{line_text}
 
 -- a run: the version of this format, the word of the object, how many processes there were first, and its first state
@@ -21,6 +23,9 @@ abbrev pub opening_members : (object : List ℕ) (processes : ℕ) (state : List
 opening_members object processes state =
     named (codes "type") (Text (codes "run")) ∷ named (codes "history") (Number 1) ∷ named (codes "object") (Text object)
     ∷ named (codes "processes") (Number processes) ∷ named (codes "state") (Text state) ∷ []
+
+abbrev pub opening_line : Opening → List ℕ
+opening_line o = line_text (opening_members o.object o.processes o.state)
 
 -- what is told of a call
 abbrev pub call_members : (type : List ℕ) → CallId → (told : Member) → List Member
@@ -54,6 +59,10 @@ abbrev pub observed_line : Frame → List ℕ
 observed_line (Begins b) = invoked_line b.call b.words
 observed_line (Steps s) = option_map_or (replied_line s.call) s.reply []
 observed_line (Ends e) = []
+
+-- a run, as a history; of what is told beside the events it tells nothing
+abbrev pub history_wording : Wording
+history_wording = record { opening = opening_line; event = λ k frame. observed_line frame; remark = λ one. [] }
 
 -- a call of process 1, with its reply
 abbrev sample_language : Language ℕ ℕ

@@ -7,4 +7,4 @@
 mod history;
 mod lines;
 
-pub use history::history_of;
+pub use history::{InHistory, history_of};

@@ -1,15 +1,16 @@
 //! The lines of a history, each an object of JSON.
 
-ghost use Rattle.std.specs.Prelude.{◌≡◌, ◌++◌, [], IfOk, OnOk, map, option_map};
-ghost use Rattle.std.specs.List.{flat_map};
+ghost use Rattle.std.specs.Prelude.{◌≡◌, ◌++◌, [], OnOk, map, option_map};
 ghost use Rattle.std.specs.Option.{option_map_or};
 ghost use Rattle.json_text.specs.Shown.{member_shown};
 ghost use Rattle.run_trace.specs.Shown.{frame_shown};
 ghost use Rattle.run_json.specs.Lines.{line_text};
-ghost use Rattle.run_history.specs.Lines.{call_members, observed_line, opening_members, replied_line};
+ghost use Rattle.run_telling.specs.Opened.{opening_shown};
+ghost use Rattle.run_history.specs.Lines.{call_members, observed_line, opening_line, replied_line};
 
 use json_text::{Member, Value};
 use run_json::push_line;
+use run_telling::Opened;
 use run_trace::{Frame, cell_text};
 use seq_object::CallId;
 use std::alloc::{AllocError, Global};
@@ -17,21 +18,15 @@ use std::alloc::{AllocError, Global};
 /// Adds the line of a run: the word of its object, how many processes there were first, and its first state.
 ///
 /// An `Err` says that memory was refused.
-fn push_opening<'a>(
-    object: &'a str,
-    processes: u64,
-    state: &'a [u8],
-    text: &mut Vec<u8>,
-) -> Result<(), AllocError>
-    ensures { OnOk result (text.new.items
-        ≡ text.old.items ++ line_text (opening_members object.now processes state.now)) }
+pub(crate) fn push_opening_line(text: &mut Vec<u8>, opened: &Opened<'_>) -> Result<(), AllocError>
+    ensures { OnOk result (text.new.items ≡ text.old.items ++ opening_line (opening_shown opened.now)) }
 {
     let members = [
         Member("type", Value::Text(b"run")),
         Member("history", Value::Number(1)),
-        Member("object", Value::Text(object.as_bytes())),
-        Member("processes", Value::Number(processes)),
-        Member("state", Value::Text(state)),
+        Member("object", Value::Text(opened.object.as_bytes())),
+        Member("processes", Value::Number(opened.processes)),
+        Member("state", Value::Text(opened.state)),
     ];
     push_line(text, &members)
 }
@@ -62,7 +57,11 @@ fn push_call<'a>(
 /// Adds the line of what is observed of an event: a call that begins, or a reply.
 ///
 /// An `Err` says that memory was refused.
-fn push_observed(alloc: Global, frame: &Frame, text: &mut Vec<u8>) -> Result<(), AllocError>
+pub(crate) fn push_observed(
+    alloc: Global,
+    frame: &Frame,
+    text: &mut Vec<u8>,
+) -> Result<(), AllocError>
     ensures { OnOk result (text.new.items ≡ text.old.items ++ observed_line (frame_shown frame.now)) }
 {
     match frame {
@@ -91,26 +90,4 @@ fn push_reply(
         Some(reply) => push_call(alloc, "ok", call, Member("reply", Value::Text(reply)), text),
         None => Ok(()),
     }
-}
-
-/// The history of a run on an object of this name, with so many processes and a state of this text first, and these
-/// frames.
-///
-/// An `Err` says that memory was refused.
-pub fn text_of(
-    alloc: Global,
-    object: &str,
-    processes: u64,
-    state: &[u8],
-    frames: &[Frame],
-) -> Result<Vec<u8>, AllocError>
-    ensures { IfOk result (λ text. text.items ≡ line_text (opening_members object.now processes state.now)
-        ++ flat_map observed_line (map frame_shown frames.now)) }
-{
-    let mut text = Vec::new(alloc);
-    push_opening(object, processes, state, &mut text)?;
-    for frame in frames {
-        push_observed(alloc, frame, &mut text)?;
-    }
-    Ok(text)
 }

@@ -9,4 +9,4 @@ mod members;
 mod trace;
 
 pub use lines::push_line;
-pub use trace::json_of;
+pub use trace::{InJson, json_of};

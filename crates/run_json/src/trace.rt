@@ -15,7 +15,7 @@ use std::alloc::{AllocError, Global};
 use uni_script::{PlacedRemark, TextIn};
 
 /// Tells a run in lines of JSON.
-struct InJson;
+pub struct InJson;
 
 impl Telling for InJson {
     ghost use Rattle.run_json.specs.Lines.{json_wording};

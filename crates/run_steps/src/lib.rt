@@ -8,4 +8,4 @@ mod lines;
 mod sentences;
 mod steps;
 
-pub use steps::steps_of;
+pub use steps::{InWords, steps_of};

@@ -15,7 +15,7 @@ use std::alloc::{AllocError, Global};
 use uni_script::{PlacedRemark, TextIn};
 
 /// Tells a run in words.
-struct InWords;
+pub struct InWords;
 
 impl Telling for InWords {
     ghost use Rattle.run_steps.specs.Steps.{steps_wording};

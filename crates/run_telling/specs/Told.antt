@@ -3,13 +3,12 @@ use Rattle.std.specs.Prelude.{◌≡◌, ◌≤◌, ℕ, List, map, Option, Some
 use Rattle.ready_objects.specs.Number.{numbers_text}
 use Rattle.ready_objects.specs.Directory.{pairs_text}
 use Rattle.ready_objects.specs.Sticky.{sticky_text}
-use Rattle.uni_model.specs.Worlds.{Event, opened_world}
-use Rattle.uni_record.specs.Event.{events_shown}
+use Rattle.seq_object.specs.Sequential.{Sequential}
+use Rattle.uni_model.specs.Linearizable.{IsLinearizableHistory, observed_in}
+use Rattle.uni_model.specs.Worlds.{AreAccepted, Event, opened_world}
 use Rattle.uni_script.specs.declared.grammar.ObjectName.{ObjectName}
 use Rattle.uni_script.specs.declared.grammar.ObjectName.TheVariants as name
 use Rattle.uni_script.specs.declared.remarks.PlacedRemark.{PlacedRemark}
-use Rattle.uni_script.specs.declared.script_run.ScriptRecord.{ScriptRecord}
-use Rattle.uni_script.specs.declared.script_run.ScriptRecord.TheVariants.{Queue, Directory, Book, Sticky}
 use Rattle.uni_script.specs.Objects.{SpokenObject, StateOf, spoken_of}
 use Rattle.uni_script.specs.Outcome.{outcome_of_script}
 use Rattle.uni_script.specs.Remarks.{remark_at, remarks_of_script}
@@ -34,28 +33,25 @@ text_of_events words o text name n row first events remarks =
     told_text words (opening name n row first (text o.object.initial))
     (frames_from o.object o.language text (opened_world n o.object.initial first) events) remarks
 
--- a record, told, by its object
-abbrev pub text_of_record : Wording → ScriptRecord → List PlacedRemark → List ℕ
-text_of_record words (Queue r) =
-    text_of_events words (spoken_of name.Queue) numbers_text (word_of_object name.Queue) r.processes r.world.row r.first
-    (events_shown r.events)
-text_of_record words (Directory r) =
-    text_of_events words (spoken_of name.Directory) pairs_text (word_of_object name.Directory) r.processes r.world.row r.first
-    (events_shown r.events)
-text_of_record words (Book r) =
-    text_of_events words (spoken_of name.Book) numbers_text (word_of_object name.Book) r.processes r.world.row r.first
-    (events_shown r.events)
-text_of_record words (Sticky r) =
-    text_of_events words (spoken_of name.Sticky) sticky_text (word_of_object name.Sticky) r.processes r.world.row r.first
-    (events_shown r.events)
-
 -- the session which a script leaves, told, with what the script tells beside its events
 abbrev pub text_of_session : Wording → ScriptSession → List PlacedRemark → List ℕ
 text_of_session words b =
     text_of_events words (spoken_of b.object) (state_text_of b.object) (word_of_object b.object)
     b.session.processes b.session.row b.session.first b.session.events
 
--- the reader had a script without a fault and with at most 2,000 events, and this is its run, told
+-- Events of n processes from an opening could come, and what is observed of them is a linearizable history of the object, from its
+-- first state.
+pub record IsLinearizableRun {S I R : Type 0} (object : Sequential S I R) (n first : ℕ) (events : List (Event I)) : Type 0 where
+  pub positive : 1 ≤ first
+  pub accepted : AreAccepted object (opened_world n object.initial first) events
+  pub linearizable : IsLinearizableHistory object object.initial
+      (observed_in object (opened_world n object.initial first) events)
+
+-- so are those of the session which a script leaves
+abbrev pub IsLinearizableSession : ScriptSession → Type 0
+IsLinearizableSession b = IsLinearizableRun (spoken_of b.object).object b.session.processes b.session.first b.session.events
+
+-- the reader had a script without a fault and with at most 2,000 events, and this is its run, told: a linearizable one
 pub record IsTold (words : Wording) (left : Option (List ℕ)) (text : List ℕ) : Type 0 where
   pub script : List ℕ
   pub input : IsInput left script
@@ -66,3 +62,4 @@ pub record IsTold (words : Wording) (left : Option (List ℕ)) (text : List ℕ)
   pub remarks : List PlacedRemark
   pub remarks_are : remarks_of_script (scripts_of 1048576) script ≡ map remark_at remarks
   pub text_is : text ≡ text_of_session words session remarks
+  pub linearizable : IsLinearizableSession session

@@ -4,14 +4,17 @@ ghost use Rattle.std.specs.Prelude.{◌≡◌, ◌<◌, ◌≤◌, IfOk, OnOk, I
 ghost use Rattle.uni_record.specs.Event.{events_shown};
 ghost use Rattle.uni_script.specs.Objects.{spoken};
 ghost use Rattle.uni_script.specs.Replay.{HasFault, IsFaultOfScript};
+ghost use Rattle.uni_script.specs.ScriptRun.{session_of_record};
 ghost use Rattle.uni_script.specs.Scripts.{scripts_of};
 ghost use Rattle.uni_script.specs.declared.fault.BenchFault.{BenchFault as Fault};
+ghost use Rattle.uni_script.specs.declared.grammar.Version.{Version};
 ghost use Rattle.run_layout.specs.Subject.{HasTooManyEvents, events_of_record};
-ghost use Rattle.run_telling.specs.Told.{IsTold, text_of_events, text_of_record};
+ghost use Rattle.run_telling.specs.Told.{IsLinearizableRun, IsLinearizableSession, IsTold, text_of_events};
+ghost use Rattle.run_telling.specs.Told.{text_of_session};
 
 use crate::opened::Opened;
 use crate::order::{Telling, text_of};
-use ready_objects::{BookObject, DirectoryObject, QueueObject, Spoken, StickyObject};
+use ready_objects::Spoken;
 use run_layout::{MOST_EVENTS, PictureFault};
 use run_trace::frames_of;
 use std::alloc::{AllocError, Global};
@@ -20,27 +23,31 @@ use uni_script::{
     BenchFault, ObjectName, Options, PlacedRemark, ScriptRecord, TextIn, run_of_script,
 };
 
-/// The run that a record has stored, told, on an object of this name; `object` is a further value of that object.
+/// The run that a record has stored, told, on an object of this name, with what is told beside its events: a
+/// linearizable run.
 ///
 /// Errors: `TooManyEvents` where it has more than 2,000; else `Memory`.
-fn text_of_few_events<T: Telling, O: Spoken>(
+pub fn told_of_record<T: Telling, O: Spoken + Copy>(
     alloc: Global,
     name: &str,
-    object: O,
     recorded: &Recorded<O>,
     remarks: &[PlacedRemark],
 ) -> Result<Vec<u8>, PictureFault>
     ensures few { OnOk result (length (events_shown recorded.now.events) ≤ 2000) }
     ensures text { IfOk result (λ text. text.items
-        ≡ text_of_events T.wording (spoken O.sequential O.language object) O.state_text
+        ≡ text_of_events T.wording (spoken O.sequential O.language recorded.now.world.object) O.state_text
         name.now recorded.now.processes recorded.now.world.row recorded.now.first
         (events_shown recorded.now.events) remarks.now) }
+    ensures linearizable { IsLinearizableRun (O.sequential recorded.now.world.object) recorded.now.processes
+        recorded.now.first (events_shown recorded.now.events) }
     ensures many { IsErrOf result PictureFault.TooManyEvents → 2000 < length (events_shown recorded.now.events) }
     ensures memory { (e : Fault) → IsErrOf result (PictureFault.Script e) → e ≡ Fault.Memory }
 {
+    recorded.promise();
     if recorded.events().len() as u64 > MOST_EVENTS {
         return Err(PictureFault::TooManyEvents);
     }
+    let object = *recorded.world().object();
     match text_of_events::<T, O>(alloc, name, object, recorded, remarks) {
         Ok(text) => Ok(text),
         Err(AllocError) => Err(PictureFault::Script(BenchFault::Memory)),
@@ -50,7 +57,7 @@ fn text_of_few_events<T: Telling, O: Spoken>(
 /// The text of an object's first state.
 ///
 /// An `Err` says that memory was refused.
-pub fn first_state<O: Spoken>(alloc: Global, object: &O) -> Result<Vec<u8>, AllocError>
+fn first_state<O: Spoken>(alloc: Global, object: &O) -> Result<Vec<u8>, AllocError>
     ensures { IfOk result (λ text. text.items ≡ O.state_text (O.sequential object.now).initial) }
 {
     let mut text = Vec::new(alloc);
@@ -58,7 +65,7 @@ pub fn first_state<O: Spoken>(alloc: Global, object: &O) -> Result<Vec<u8>, Allo
     Ok(text)
 }
 
-/// The same of a run of any length.
+/// The same of a run of any length, on a further value of its object.
 ///
 /// An `Err` says that memory was refused.
 fn text_of_events<T: Telling, O: Spoken>(
@@ -94,37 +101,29 @@ fn text_of_record<T: Telling>(
     remarks: &[PlacedRemark],
 ) -> Result<Vec<u8>, PictureFault>
     ensures few { OnOk result (events_of_record stored.now ≤ 2000) }
-    ensures text { IfOk result (λ text. text.items ≡ text_of_record T.wording stored.now remarks.now) }
+    ensures text { IfOk result (λ text. (version : Version) → text.items
+        ≡ text_of_session T.wording (session_of_record version stored.now) remarks.now) }
+    ensures linearizable { (version : Version) → IsLinearizableSession (session_of_record version stored.now) }
     ensures many { IsErrOf result PictureFault.TooManyEvents → 2000 < events_of_record stored.now }
     ensures memory { (e : Fault) → IsErrOf result (PictureFault.Script e) → e ≡ Fault.Memory }
 {
     match stored {
         ScriptRecord::Queue(recorded) => {
-            let name = ObjectName::Queue.word();
-            text_of_few_events::<T, QueueObject>(alloc, name, QueueObject, recorded, remarks)
+            told_of_record::<T, _>(alloc, ObjectName::Queue.word(), recorded, remarks)
         }
         ScriptRecord::Directory(recorded) => {
-            let name = ObjectName::Directory.word();
-            text_of_few_events::<T, DirectoryObject>(
-                alloc,
-                name,
-                DirectoryObject,
-                recorded,
-                remarks,
-            )
+            told_of_record::<T, _>(alloc, ObjectName::Directory.word(), recorded, remarks)
         }
         ScriptRecord::Book(recorded) => {
-            let name = ObjectName::Book.word();
-            text_of_few_events::<T, BookObject>(alloc, name, BookObject, recorded, remarks)
+            told_of_record::<T, _>(alloc, ObjectName::Book.word(), recorded, remarks)
         }
         ScriptRecord::Sticky(recorded) => {
-            let name = ObjectName::Sticky.word();
-            text_of_few_events::<T, StickyObject>(alloc, name, StickyObject, recorded, remarks)
+            told_of_record::<T, _>(alloc, ObjectName::Sticky.word(), recorded, remarks)
         }
     }
 }
 
-/// The run of the script that a reader has, told.
+/// The run of the script that a reader has, told: a linearizable run.
 ///
 /// An `Err` is the first fault of the script; `Read` where the reader failed; `Memory` where memory was
 /// refused; or `TooManyEvents` of a good script that has more than 2,000 events.
