@@ -110,6 +110,7 @@ fn one_call_of_one_process(rt: HostRuntime) -> Result<(), Fail> {
         event: 8,
         process: 0,
         kind: StepKind::DecideAfter,
+        changed: true,
     };
     assert!(rt; marks.events == 15 && marks.lanes() == 1);
     assert!(rt; marks.steps.len() == 14 && marks.steps.get(7) == Some(&seventh));

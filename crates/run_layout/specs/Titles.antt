@@ -1,5 +1,5 @@
 -- The titles of the marks of steps.
-use Rattle.std.specs.Prelude.{◌≡◌, ℕ, ◌==◌, ◌&&◌, nat_lt, nat_le, if◌then◌else◌, Bool, List, [], ◌∷◌, ◌++◌, None, codes, refl}
+use Rattle.std.specs.Prelude.{◌≡◌, ℕ, ◌==◌, ◌&&◌, nat_lt, nat_le, if◌then◌else◌, Bool, true, List, [], ◌∷◌, ◌++◌, None, codes, refl}
 use Rattle.std.specs.List.{find, sum_by}
 use Rattle.std.specs.Option.{option_map_or}
 use Rattle.std.specs.Fmt.{decimal, digits}
@@ -36,12 +36,13 @@ step_title bars steps step =
 -- the second step of a call, where another process took a step between
 abbrev steps_of_two : List StepMark
 steps_of_two =
-    record { event = 1; process = 1; kind = Announce } ∷ record { event = 2; process = 0; kind = Announce }
-    ∷ record { event = 3; process = 1; kind = DecideAfter } ∷ []
+    record { event = 1; process = 1; kind = Announce; changed = true }
+    ∷ record { event = 2; process = 0; kind = Announce; changed = true }
+    ∷ record { event = 3; process = 1; kind = DecideAfter; changed = true } ∷ []
 
 title_of_second : step_title
     (record { call = record { process = 1; nth = 0 }; from = 0; words = []; end = None } ∷ [])
-    steps_of_two (record { event = 3; process = 1; kind = DecideAfter })
+    steps_of_two (record { event = 3; process = 1; kind = DecideAfter; changed = true })
     ≡ codes "P1, call 1.0, step 2: links a cell, or loses"
 unfolding digits
 title_of_second = refl

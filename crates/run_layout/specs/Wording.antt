@@ -1,6 +1,6 @@
 -- The texts of a picture.
 use Rattle.std.specs.Prelude.{◌≡◌, ℕ, ◌==◌, if◌then◌else◌, List, [], ◌∷◌, ◌++◌, length, Option, Some, None}
-use Rattle.std.specs.Prelude.{codes, refl, Bool, ◌&&◌, not}
+use Rattle.std.specs.Prelude.{codes, refl, Bool, true, false, ◌&&◌, not}
 use Rattle.std.specs.List.{filter, find, list_any}
 use Rattle.std.specs.Fmt.{decimal, digits}
 use Rattle.std.specs.Option.{option_map_or}
@@ -61,6 +61,10 @@ occurs steps kind = list_any (λ step. letter_of step.kind == letter_of kind) st
 -- the kinds of step that occur, in the order in which a call takes them
 abbrev pub kinds_of : List StepMark → List StepKind
 kinds_of steps = filter (occurs steps) kinds
+
+-- whether one of some steps changed nothing
+abbrev pub any_unchanged : List StepMark → Bool
+any_unchanged steps = list_any (λ step. not step.changed) steps
 
 -- so many things, with the word for one of them and that for any other number
 abbrev pub counted_text : (n : ℕ) (one many : List ℕ) → List ℕ
@@ -133,9 +137,16 @@ title_text marks =
     ++ counted_text marks.events (codes "event") (codes "events")
 
 -- a test and an announcement occur, in the order of calls
-kinds_of_two : kinds_of (record { event = 1; process = 0; kind = Test } ∷ record { event = 2; process = 1; kind = Announce } ∷ [])
-    ≡ Announce ∷ Test ∷ []
+abbrev two_steps : List StepMark
+two_steps =
+    record { event = 1; process = 0; kind = Test; changed = false } ∷ record { event = 2; process = 1; kind = Announce; changed = true } ∷ []
+
+kinds_of_two : kinds_of two_steps ≡ Announce ∷ Test ∷ []
 kinds_of_two = refl
+
+-- and the test changed nothing
+unchanged_of_two : any_unchanged two_steps ≡ true
+unchanged_of_two = refl
 
 -- a call that has returned, and one that hasn't
 label_returned : label_text (record {

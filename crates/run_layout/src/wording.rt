@@ -5,7 +5,7 @@ ghost use Rattle.std.specs.Prelude.{if◌then◌else◌, IfOk, OnOk, length};
 ghost use Rattle.std.specs.List.{find};
 ghost use Rattle.std.specs.Option.{option_map_or};
 ghost use Rattle.run_marks.specs.Shown.{end_shown, bar_shown, cell_shown, marks_shown};
-ghost use Rattle.run_layout.specs.Wording.{occurs, kinds_of, linker_text, is_help};
+ghost use Rattle.run_layout.specs.Wording.{occurs, kinds_of, any_unchanged, linker_text, is_help};
 ghost use Rattle.run_layout.specs.Wording.{letter_of, meaning_of, label_text, counted_text, counts_text, line_text};
 ghost use Rattle.run_layout.specs.Wording.{refusal_words, lane_of, cell_words, cell_name, title_text};
 
@@ -116,6 +116,18 @@ pub fn kinds_of(alloc: Global, steps: &[StepMark]) -> Result<Vec<StepKind>, Allo
         push_kind(steps, kind, &mut found)?;
     }
     Ok(found)
+}
+
+/// Whether one of some steps changed nothing.
+pub fn any_unchanged(steps: &[StepMark]) -> bool
+    ensures { result ≡ any_unchanged steps.now }
+{
+    for step in steps {
+        if !step.changed {
+            return true;
+        }
+    }
+    false
 }
 
 /// The label of a call's bar: the call and its words, and its reply where it has returned.

@@ -1,27 +1,29 @@
 -- The marks of an event that is replayed.
 use Rattle.std.proofs.Common.{◌≡◌, ◌≢◌, ◌∙◌, ℕ, refl, sym, ap, List, [], ◌∷◌, ◌++◌, Option, None, Some, map, drop, length}
-use Rattle.std.specs.Prelude.{option_map}
+use Rattle.std.specs.Prelude.{option_map, Bool}
 use Rattle.std.specs.Option.{option_map_or}
 use Rattle.std.proofs.lemmas.List.{append-nil, length-map}
 use Rattle.seq_object.specs.Sequential.{Sequential}
 use Rattle.uni_model.specs.Places.{Name, Memory}
 use Rattle.uni_model.specs.Stages.{Pending}
 use Rattle.uni_model.specs.Chain.{Entry as Logged, invoked_at}
-use Rattle.uni_model.specs.Worlds.{WorldOf, world_after, response_of_step}
-use Rattle.uni_model.specs.Transition.{response_after}
+use Rattle.uni_model.specs.Worlds.{WorldOf, world_after, world_after_step, response_of_step}
+use Rattle.uni_model.specs.Transition.{place_of, response_after}
 use Rattle.uni_model.specs.Worlds.Event.{Step}
 use Rattle.uni_model.specs.AtomicObject.{Act, Invoked}
 use Rattle.uni_model.specs.AtomicObject.Act.{Linearize, Respond}
 use Rattle.uni_model.specs.History.{log, calls_of, acts_of, responses_of}
-use Rattle.uni_core.specs.Readers.{kind_of}
-use Rattle.uni_core.specs.World.{progress_of}
+use Rattle.uni_core.specs.Readers.{kind_of, place_named}
+use Rattle.uni_core.specs.World.{name_in, progress_of}
 use Rattle.uni_core.specs.declared.fault.Progress.{Progress}
 use Rattle.uni_core.specs.declared.fault.Progress.TheVariants.{Done}
 use Rattle.uni_core.specs.declared.stage.StepKind.{StepKind}
+use Rattle.uni_core.specs.declared.stage.Place.{Place as PlaceById}
 use Rattle.uni_log.specs.declared.entry.Entry.{Entry}
 use Rattle.uni_log.specs.Entry.{entry_shown}
 use Rattle.uni_script.specs.Objects.{SpokenObject}
 use Rattle.run_marks.specs.declared.marks.StepMark.{StepMark}
+use Rattle.run_marks.specs.Changes.{has_changed, standing_at, changes_place}
 use Rattle.run_marks.specs.Marks.{End, Called, EraMarks, RunMarks, steps_by, linearized_in, dots_by, dots_of, end_of_step}
 use Rattle.run_marks.specs.Replay.{bar_ended}
 
@@ -34,19 +36,42 @@ marks_are a b o e s r d l f =
     let g : record { object = a.object; events = a.events; steps = a.steps; bars = a.bars; dots = a.dots; lines = a.lines; eras = a.eras }
     ≡ record { object = b.object; events = b.events; steps = b.steps; bars = b.bars; dots = b.dots; lines = b.lines; eras = b.eras } = cc in g
 
--- the mark of a step of this kind
-abbrev mark_of : (place p : ℕ) → StepKind → StepMark
-mark_of place p kind = record { event = place; process = p; kind = kind }
+module _ {S I R : Type 0} where
+  -- the cells keep their names in a step
+  names_kept : (object : Sequential S I R) (w v : WorldOf S I R) (p : ℕ) → v ≡ world_after object w (Step p) → name_in v ≡ name_in w
+  names_kept object w v p world = ap (λ (u : WorldOf S I R). name_in u) world ∙ by_call (w.call p) where
+    by_call : (o : Option Pending) → name_in (world_after_step object w p o) ≡ name_in w
+    by_call None = refl
+    by_call (Some c) = refl
 
--- a step of a call that is pending, with its kind
-pub steps_by-kind : {S I R : Type 0} (w : WorldOf S I R) (place p : ℕ) (kind : StepKind) → option_map (λ (c : Pending). kind_of c.stage) (w.call p) ≡ Some kind
-    → steps_by w place (Step p) ≡ record { event = place; process = p; kind = kind } ∷ []
-steps_by-kind w place p kind is = by_call (w.call p) is
-  where
-    by_call : (o : Option Pending) → option_map (λ (c : Pending). kind_of c.stage) o ≡ Some kind
-        → option_map_or (λ (call : Pending). mark_of place p (kind_of call.stage) ∷ []) o [] ≡ mark_of place p kind ∷ []
-    by_call None e = absurd (cc)
-    by_call (Some call) e = let same : kind_of call.stage ≡ kind = cc in ap (λ k. mark_of place p k ∷ []) same
+  -- a step of a call that is pending, with its kind, and whether it has changed its place
+  pub steps_by-taken : (object : Sequential S I R) (w v : WorldOf S I R) (place p : ℕ) (kind : StepKind) (at : PlaceById) (before : ℕ) (changed : Bool)
+      → option_map (λ (c : Pending). kind_of c.stage) (w.call p) ≡ Some kind
+      → option_map (λ (c : Pending). place_of w.n p c.mine c.stage) (w.call p) ≡ Some (place_named (name_in w) at)
+      → v ≡ world_after object w (Step p)
+      → before ≡ standing_at w.memory (place_named (name_in w) at)
+      → changed ≡ has_changed kind before (standing_at v.memory (place_named (name_in v) at))
+      → steps_by object w place (Step p) ≡ record { event = place; process = p; kind = kind; changed = changed } ∷ []
+  steps_by-taken object w v place p kind at before changed kinded placed world stood has = by_call (w.call p) kinded placed
+    where
+      by_call : (o : Option Pending) → option_map (λ (c : Pending). kind_of c.stage) o ≡ Some kind → option_map (λ (c : Pending). place_of w.n p c.mine c.stage) o ≡ Some (place_named (name_in w) at)
+          → option_map_or (λ (c : Pending). let m : StepMark = record { event = place; process = p; kind = kind_of c.stage; changed = changes_place object w p c } in m ∷ []) o []
+          ≡ record { event = place; process = p; kind = kind; changed = changed } ∷ []
+      by_call None e f = absurd (cc)
+      by_call (Some c) e f =
+          let same : kind_of c.stage ≡ kind = cc in
+          let there : place_of w.n p c.mine c.stage ≡ place_named (name_in w) at = cc in
+          let now : standing_at v.memory (place_named (name_in v) at) ≡ standing_at (world_after object w (Step p)).memory (place_of w.n p c.mine c.stage) =
+          ap (λ name. standing_at v.memory (place_named name at)) (names_kept object w v p world)
+          ∙ ap (λ (u : WorldOf S I R). standing_at u.memory (place_named (name_in w) at)) world
+          ∙ ap (standing_at (world_after object w (Step p)).memory) (sym there) in
+          let was : before ≡ standing_at w.memory (place_of w.n p c.mine c.stage) = stood ∙ ap (standing_at w.memory) (sym there) in
+          let is : changed ≡ changes_place object w p c =
+          has ∙ ap (λ k. has_changed k before (standing_at v.memory (place_named (name_in v) at))) (sym same)
+          ∙ ap (λ n. has_changed (kind_of c.stage) n (standing_at v.memory (place_named (name_in v) at))) was
+          ∙ ap (has_changed (kind_of c.stage) (standing_at w.memory (place_of w.n p c.mine c.stage))) now in
+          ap (λ k. let m : StepMark = record { event = place; process = p; kind = k; changed = changes_place object w p c } in m ∷ []) same
+          ∙ ap (λ b. let m : StepMark = record { event = place; process = p; kind = kind; changed = b } in m ∷ []) (sym is)
 
 -- a step that doesn't answer `Done` has no response
 pub none-from_other : {R : Type 0} (o : Option R) (progress : Progress R) → ((r : R) → progress ≢ Done r) → progress ≡ progress_of o → o ≡ None

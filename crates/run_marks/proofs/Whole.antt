@@ -1,5 +1,5 @@
 -- The marks so far, with those of the events that are left.
-use Rattle.std.proofs.Common.{◌≡◌, ◌∙◌, ℕ, ◌+◌, refl, sym, ap, List, [], ◌∷◌, ◌++◌, map, append_assoc}
+use Rattle.std.proofs.Common.{◌≡◌, ◌∙◌, ℕ, ◌+◌, refl, ap, List, [], ◌∷◌, ◌++◌, map, append_assoc}
 use Rattle.std.specs.Option.{option_or}
 use Rattle.std.proofs.lemmas.List.{append-nil, map-append}
 use Rattle.uni_model.specs.Worlds.{WorldOf, Event, world_after}
@@ -24,7 +24,7 @@ module _ {S I R : Type 0} (o : SpokenObject S I R) where
       record {
         object = m.object;
         events = m.events;
-        steps = m.steps ++ along o.object steps_by w place es;
+        steps = m.steps ++ along o.object (steps_by o.object) w place es;
         bars = map (bar_later w place es) m.bars ++ bars_in o w place es;
         dots = m.dots ++ along o.object (dots_by o.object) w place es;
         lines = m.lines ++ along o.object lines_by w place es;
@@ -43,7 +43,7 @@ module _ {S I R : Type 0} (o : SpokenObject S I R) where
   marks_then-event m w from place (Step p) es =
       let v = world_after o.object w (Step p) in
       marks_are _ _ refl refl
-      (append_assoc m.steps (steps_by w place (Step p)) (along o.object steps_by v (place + 1) es))
+      (append_assoc m.steps (steps_by o.object w place (Step p)) (along o.object (steps_by o.object) v (place + 1) es))
       (ap (λ l. l ++ bars_in o v (place + 1) es) (ends_later p (λ q. end_in o q v (place + 1) es) (end_of_step o w place p) m.bars))
       (append_assoc m.dots (dots_by o.object w place (Step p)) (along o.object (dots_by o.object) v (place + 1) es))
       refl refl

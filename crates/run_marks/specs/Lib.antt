@@ -1,3 +1,4 @@
+pub mod Changes
 pub mod Marks
 pub mod Shown
 pub mod Replay

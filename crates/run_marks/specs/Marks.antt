@@ -1,6 +1,6 @@
 -- The marks of a run: what is drawn of its events, told by the events and the worlds before them.
 use Rattle.std.specs.Prelude.{◌≡◌, ℕ, ◌+◌, ◌==◌, if◌then◌else◌, List, [], ◌∷◌, ◌++◌, length, map, max}
-use Rattle.std.specs.Prelude.{replicate, Option, Some, None, option_map, refl}
+use Rattle.std.specs.Prelude.{replicate, drop, true, false, Option, Some, None, option_map, refl}
 use Rattle.std.specs.Option.{option_map_or, option_or}
 use Rattle.seq_object.specs.Sequential.{Sequential}
 use Rattle.seq_object.specs.declared.call_id.CallId.{CallId}
@@ -18,6 +18,7 @@ use Rattle.uni_model.specs.History.{log, acts_of}
 use Rattle.uni_core.specs.Readers.{kind_of}
 use Rattle.uni_trim.specs.Ends.{last_number}
 use Rattle.uni_script.specs.Objects.{SpokenObject}
+use Rattle.run_marks.specs.Changes.{changes_place}
 use Rattle.run_marks.specs.declared.marks.StepMark.{StepMark}
 use Rattle.run_marks.specs.declared.marks.Dot.{Dot}
 use Rattle.run_marks.specs.declared.marks.EraEnd.TheVariants as era
@@ -66,11 +67,12 @@ abbrev pub lanes_of : List EraMarks → ℕ
 lanes_of [] = 0
 lanes_of (e ∷ es) = max e.processes (lanes_of es)
 
--- the step that an event is, with its kind: that of the stage at which its process stands
-abbrev pub steps_by : {S I R : Type 0} → WorldOf S I R → (place : ℕ) → Event I → List StepMark
-steps_by w place (Step p) =
-    option_map_or (λ (call : Pending). record { event = place; process = p; kind = kind_of call.stage } ∷ []) (w.call p) []
-steps_by w place _ = []
+-- the step that an event is, with its kind, that of the stage at which its process stands, and whether it changes its place
+abbrev pub steps_by : {S I R : Type 0} → Sequential S I R → WorldOf S I R → (place : ℕ) → Event I → List StepMark
+steps_by object w place (Step p) =
+    option_map_or (λ (call : Pending).
+    record { event = place; process = p; kind = kind_of call.stage; changed = changes_place object w p call } ∷ []) (w.call p) []
+steps_by object w place _ = []
 
 -- the calls that take effect among acts, in order
 abbrev pub linearized_in : {I R : Type 0} → List (Act I R) → List (Invoked I)
@@ -161,7 +163,7 @@ module _ {S I R : Type 0} (o : SpokenObject S I R) where
       record {
         object = name;
         events = length events;
-        steps = along o.object steps_by w 0 events;
+        steps = along o.object (steps_by o.object) w 0 events;
         bars = bars_in w 0 events;
         dots = along o.object (dots_by o.object) w 0 events;
         lines = along o.object lines_by w 0 events;
@@ -182,6 +184,18 @@ helped_dots : along sample (dots_by sample) (opened_world 2 9 1) 0 (Call 1 5 ∷
     ≡ record { event = 12; call = record { process = 1; nth = 0 }; by = 0 }
     ∷ record { event = 20; call = record { process = 0; nth = 0 }; by = 0 } ∷ []
 helped_dots = refl
+
+-- of the steps of a process alone, those that read change nothing, and neither does the one that keeps the head where it is; nor
+-- does the last one, since the head is raised already
+one_call_changes : map (λ s. s.changed) (along sample (steps_by sample) (opened_world 1 9 1) 0 (Call 0 7 ∷ replicate 14 (Step 0)))
+    ≡ true ∷ replicate 6 false ++ replicate 5 true ++ false ∷ false ∷ []
+one_call_changes = refl
+
+-- two processes propose a cell after the anchor: the second proposal changes nothing
+two_proposals : map (λ s. s.changed) (drop 18 (along sample (steps_by sample) (opened_world 2 9 1) 0
+    (Call 0 7 ∷ Call 1 5 ∷ replicate 9 (Step 0) ++ replicate 9 (Step 1) ++ Step 0 ∷ Step 1 ∷ [])))
+    ≡ true ∷ false ∷ []
+two_proposals = refl
 
 -- an era that ends is marked by its last number
 trim_line : along sample lines_by (opened_world 1 9 1) 0 (Call 0 7 ∷ replicate 14 (Step 0) ++ Trim ∷ [])

@@ -23,7 +23,7 @@ abbrev pub marks_with : {S I R : Type 0} → SpokenObject S I R → RunMarks →
 marks_with o m w from place (Call p i) = record m { bars = m.bars ++ bar_begun o w place p i ∷ [] }
 marks_with o m w from place (Step p) =
     record m {
-      steps = m.steps ++ steps_by w place (Step p);
+      steps = m.steps ++ steps_by o.object w place (Step p);
       bars = option_map_or (λ end. map (bar_ended p end) m.bars) (end_of_step o w place p) m.bars;
       dots = m.dots ++ dots_by o.object w place (Step p);
     }

@@ -17,6 +17,8 @@ pub struct StepMark {
     pub process: u64,
     /// Its kind.
     pub kind: StepKind,
+    /// Whether it changed what its place contains: one that only reads and a proposal that lost change nothing.
+    pub changed: bool,
 }
 
 /// How a call ended.

@@ -1,21 +1,29 @@
 //! The marks of a run, by the replay of its events.
 
-ghost use Rattle.std.specs.Prelude.{◌≡◌, ℕ, ◌<◌, ◌++◌, ◌∷◌, [], ◌^◌, IfOk, OnOk, drop, map};
+ghost use Rattle.std.specs.Prelude.{◌≡◌, ℕ, ◌<◌, ◌++◌, ◌∷◌, [], ◌^◌, IfOk, OnOk, drop, map, option_map};
+ghost use Rattle.std.specs.Prelude.{IfSome, IsSome, Some};
+ghost use Rattle.std.specs.Option.{option_copied};
+ghost use Rattle.cell_arena.specs.Arena.{cell_of};
+ghost use Rattle.uni_model.specs.Places.{head_seq};
+ghost use Rattle.uni_model.specs.Transition.{place_of};
 ghost use Rattle.uni_model.specs.Worlds.{opened_world, world_after};
 ghost use Rattle.uni_model.specs.Worlds.Event.{Call, Step};
 ghost use Rattle.uni_model.specs.History.{calls_of};
-ghost use Rattle.uni_core.specs.World.{world_of};
+ghost use Rattle.uni_core.specs.Readers.{kind_of, place_named};
+ghost use Rattle.uni_core.specs.World.{name_in, world_of};
 ghost use Rattle.uni_log.specs.Entry.{entry_shown};
 ghost use Rattle.uni_record.specs.Event.{event_lent, event_shown, events_shown};
 ghost use Rattle.run_marks.specs.Marks.{marks_of_run, bar_begun, box_of, dots_of, era_of};
 ghost use Rattle.run_marks.specs.Shown.{bar_shown, cell_shown, era_shown, marks_shown};
 ghost use Rattle.run_marks.specs.Replay.{marks_with, from_with, bar_ended};
+ghost use Rattle.run_marks.specs.Changes.{announces, has_changed, presence, standing_at};
 
 use crate::marks::{Bar, BarEnd, CellBox, Dot, Era, EraEnd, EraLine, Marks, StepMark};
 use cell_arena::CellId;
 use ready_objects::Spoken;
+use seq_object::CallId;
 use std::alloc::{AllocError, Global};
-use uni_core::{Progress, World};
+use uni_core::{Place, Progress, StepKind, World};
 use uni_log::{Entry, Log};
 use uni_record::{Event, Recorded};
 use uni_trim::{reshape, trim};
@@ -156,6 +164,135 @@ fn replay_call<O: Spoken>(
     Ok(())
 }
 
+/// Whether there is a cell in a world.
+///
+/// An `Err` says that there isn't.
+fn check_there<O: Spoken>(world: &World<O>, cell: CellId) -> Result<(), AllocError>
+    ensures { OnOk result (IsSome (cell_of world.now.shared.cells cell)) }
+{
+    world.shape();
+    if cell.index() == 0 {
+        return Ok(());
+    }
+    let place = u64::from(cell.index()) - 1;
+    let process = place % world.processes();
+    let first = world
+        .begun(process)
+        .saturating_sub(world.calls_in_era(process));
+    let nth = first.saturating_add(place / world.processes());
+    let process = process as u32;
+    match world.cell_of(CallId { process, nth }) {
+        Some(found) if found.index() == cell.index() => Ok(()),
+        _ => Err(AllocError),
+    }
+}
+
+/// 1 where a cell is linked.
+fn linked(link: Option<CellId>) -> u64
+    ensures { result ≡ presence link }
+{
+    match link {
+        Some(_) => 1,
+        None => 0,
+    }
+}
+
+/// 1 where a state is settled.
+fn settled<O: Spoken>(new: Option<&(O::State, Option<O::Resp>)>) -> u64
+    ensures { result ≡ presence (option_copied new.entry) }
+{
+    match new {
+        Some(_) => 1,
+        None => 0,
+    }
+}
+
+/// The number of the cell that the head of a process names.
+///
+/// An `Err` says that there is no such process.
+fn head_standing<O: Spoken>(world: &World<O>, process: u64) -> Result<u64, AllocError>
+    ensures { IfOk result (λ standing. standing ≡ head_seq (world_of world.now).memory process) }
+{
+    if process >= world.processes() {
+        return Err(AllocError);
+    }
+    Ok(world.head_seq(process))
+}
+
+/// What tells the contents of a place of a world apart: the number of a cell, or of the cell that a head names, and
+/// whether a cell is linked or a state is settled.
+///
+/// An `Err` would say that there is no such place, as a world's own steps never do.
+fn standing_at<O: Spoken>(world: &World<O>, place: Place) -> Result<u64, AllocError>
+    ensures { IfOk result (λ standing. standing
+        ≡ standing_at (world_of world.now).memory (place_named (name_in (world_of world.now)) place)) }
+{
+    match place {
+        Place::Announced(_) => Ok(0),
+        Place::HeadOf(process) => head_standing(world, process),
+        Place::SeqOf(cell) => {
+            check_there(world, cell)?;
+            Ok(world.seq(cell))
+        }
+        Place::AfterOf(cell) => {
+            check_there(world, cell)?;
+            Ok(linked(world.after(cell)))
+        }
+        Place::NewOf(cell) => {
+            check_there(world, cell)?;
+            Ok(settled::<O>(world.new_of(cell)))
+        }
+        Place::BeforeOf(cell) => {
+            check_there(world, cell)?;
+            Ok(linked(world.before(cell)))
+        }
+    }
+}
+
+/// A step that a process is about to take.
+#[derive(Clone, Copy)]
+struct Coming {
+    /// Its kind.
+    kind: StepKind,
+    /// Its place.
+    place: Place,
+}
+
+/// The next step of a process; `None` where it has no call pending.
+fn coming_step<O: Spoken>(world: &World<O>, process: u64) -> Option<Coming>
+    requires { process < (world_of world.now).n }
+    ensures kind { IfSome result (λ coming. option_map (λ c. kind_of c.stage) ((world_of world.now).call process)
+        ≡ Some coming.kind) }
+    ensures place { IfSome result (λ coming. option_map (λ c. place_of (world_of world.now).n process c.mine c.stage)
+        ((world_of world.now).call process)
+        ≡ Some (place_named (name_in (world_of world.now)) coming.place)) }
+{
+    let kind = world.next_kind(process)?;
+    let place = world.next_place(process)?;
+    Some(Coming { kind, place })
+}
+
+/// Whether a step has changed its place, which stood so before it, by the world after it.
+///
+/// An `Err` would say that there is no such place.
+fn has_changed<O: Spoken>(taken: Coming, before: u64, world: &World<O>) -> Result<bool, AllocError>
+    ensures { IfOk result (λ changed. changed ≡ has_changed taken.kind before
+        (standing_at (world_of world.now).memory (place_named (name_in (world_of world.now)) taken.place))) }
+{
+    let after = standing_at(world, taken.place)?;
+    Ok(announces(taken.kind) || before != after)
+}
+
+/// Whether a step of this kind announces a cell, which is a new one.
+fn announces(kind: StepKind) -> bool
+    ensures { result ≡ announces kind }
+{
+    match kind {
+        StepKind::Announce => true,
+        _ => false,
+    }
+}
+
 /// A process takes a step in a replay: it is marked, with a dot where a cell was linked, and the bar
 /// of its call ends where the call returns.
 ///
@@ -178,18 +315,19 @@ fn replay_step<O: Spoken>(
     if process >= replay.processes() {
         return Err(AllocError);
     }
-    let Some(kind) = replay.next_kind(process) else {
+    let Some(coming) = coming_step(replay, process) else {
         return Err(AllocError);
     };
+    let standing = standing_at(replay, coming.place)?;
     let before = Log::of(replay).entries(alloc)?.len();
     let Ok(progress) = replay.step(alloc, process) else {
         return Err(AllocError);
     };
-    let event = place;
     marks.steps.push(StepMark {
-        event,
+        event: place,
         process,
-        kind,
+        kind: coming.kind,
+        changed: has_changed(coming, standing, replay)?,
     })?;
     push_dots(alloc, replay, before, place, process, &mut marks.dots)?;
     if let Progress::Done(reply) = progress {

@@ -7,7 +7,7 @@ use Rattle.uni_script.specs.declared.remarks.PlacedRemark.{PlacedRemark}
 use Rattle.run_marks.specs.Marks.{RunMarks, lanes_of}
 use Rattle.run_layout.specs.declared.axis.Scale.{Scale}
 use Rattle.run_picture.specs.declared.lanes.Lanes.{Lanes}
-use Rattle.run_layout.specs.Wording.{title_text, kinds_of}
+use Rattle.run_layout.specs.Wording.{title_text, kinds_of, any_unchanged}
 use Rattle.run_layout.specs.Refusals.{labels_of}
 use Rattle.run_layout.specs.Axis.{Places, places_of}
 use Rattle.run_picture.specs.Lanes.{lane_top, run_figures}
@@ -66,13 +66,14 @@ drawing_of_marks marks remarks =
     let above = events_end places marks remarks in
     let below = eras_bottom marks.dots width above marks.eras in
     let kinds = kinds_of marks.steps in
+    let unchanged = any_unchanged marks.steps in
     record {
       width = width;
-      height = below + legend_height kinds;
+      height = below + legend_height kinds unchanged;
       title = title_text marks;
       description = description_text remarks;
       figures = events_figures places marks remarks ++ eras_figures marks.dots width above 0 marks.eras
-          ++ legend_figures kinds width below;
+          ++ legend_figures kinds unchanged width below;
     }
 
 -- a few events have wide columns, and many have narrow ones

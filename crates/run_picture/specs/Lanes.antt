@@ -3,7 +3,7 @@ use Rattle.std.specs.Prelude.{◌≡◌, ℕ, zero, suc, ◌+◌, ◌-◌, ◌*�
 use Rattle.std.specs.Prelude.{List, [], ◌∷◌, ◌++◌, Option, Some, None, codes, refl}
 use Rattle.std.specs.List.{flat_map}
 use Rattle.std.specs.Fmt.{decimal}
-use Rattle.svg_text.specs.declared.paint.Paint.TheVariants.{Paper, Frame, Ink, Faint, Edge, Broken, Thick, Mark}
+use Rattle.svg_text.specs.declared.paint.Paint.TheVariants.{Paper, Frame, Ink, Faint, Edge, Broken, Thick}
 use Rattle.svg_text.specs.declared.shape.Anchor.TheVariants.{Start, Middle}
 use Rattle.run_marks.specs.declared.marks.StepMark.{StepMark}
 use Rattle.run_marks.specs.declared.marks.Dot.{Dot}
@@ -14,7 +14,7 @@ use Rattle.run_picture.specs.declared.lanes.Lanes.{Lanes}
 use Rattle.run_layout.specs.Wording.{letter_of, label_text, counts_text, line_text}
 use Rattle.run_layout.specs.Titles.{step_title}
 use Rattle.run_layout.specs.Axis.{Places, event_column, middle_of, right_of, letters_of}
-use Rattle.run_picture.specs.Paint.{colour_of, letter_paint}
+use Rattle.run_picture.specs.Paint.{mark_paint, letter_paint}
 use Rattle.run_picture.specs.Shapes.{label_figures, tip_figure}
 use Rattle.svg_text.specs.Figures.{Figure, Rect, Titled, Line, Text}
 use Rattle.svg_text.specs.Figures as figures
@@ -95,8 +95,8 @@ abbrev pub step_figures : Places → Lanes → (title : StepMark → List ℕ) �
 step_figures places lanes title step =
     let column = event_column places step.event in
     let top = lane_top lanes step.process + 28 in
-    Titled (column.left + 1) top (column.width - 2) 22 (Mark (colour_of step.kind)) (title step)
-    ∷ Text (middle_of column) (top + 17) Middle (letter_paint step.kind) (letter_of step.kind ∷ []) ∷ []
+    Titled (column.left + 1) top (column.width - 2) 22 (mark_paint step.kind step.changed) (title step)
+    ∷ Text (middle_of column) (top + 17) Middle (letter_paint step.kind step.changed) (letter_of step.kind ∷ []) ∷ []
 
 -- the arrow from the process that linked a cell to the one whose call it is of, where that is another one: down to the upper
 -- edge of its dot, or up to the lower one

@@ -10,7 +10,7 @@ ghost use Rattle.run_picture.specs.Lanes.{step_figures, arrow_figures, dot_figur
 
 use crate::figures::{Toward, push_line, push_text, push_tip};
 use crate::lanes::Lanes;
-use crate::paint::{colour_of, letter_paint};
+use crate::paint::{letter_paint, mark_paint};
 use run_layout::{Axis, letter_of, step_title};
 use run_marks::{Dot, Marks, StepMark};
 use std::alloc::{AllocError, Global};
@@ -50,12 +50,12 @@ fn push_step(
         y: top,
         width: u64::from(column.width.saturating_sub(2)),
         height: STEP_HEIGHT,
-        paint: Paint::Mark(colour_of(step.kind)),
+        paint: mark_paint(step.kind, step.changed),
         title: step_title(alloc, &marks.bars, &marks.steps, step)?,
     })?;
     let mut letter = Vec::new(alloc);
     letter.push(letter_of(step.kind))?;
-    let paint = letter_paint(step.kind);
+    let paint = letter_paint(step.kind, step.changed);
     let x = column.middle();
     push_text(shapes, x, top + 17, Anchor::Middle, paint, letter)
 }

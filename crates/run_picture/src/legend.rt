@@ -3,42 +3,70 @@
 ghost use Rattle.std.specs.Prelude.{◌≡◌, ◌≤◌, ◌<◌, ◌^◌, ◌+◌, [], ◌∷◌, ◌++◌, map};
 ghost use Rattle.std.specs.Prelude.{OnOk, length};
 ghost use Rattle.svg_text.specs.Figures.{Rect, Dot, figure};
-ghost use Rattle.svg_text.specs.declared.paint.Paint.TheVariants.{Mark};
-ghost use Rattle.run_picture.specs.Paint.{colour_of};
 ghost use Rattle.run_picture.specs.Legend.{words_at, kind_entry, dot_entry, arrow_entry, refusal_entry, open_entry};
-ghost use Rattle.run_picture.specs.Legend.{left_of, top_of, entry_at, entries_from, legend_figures};
-ghost use Rattle.run_picture.specs.Legend.{legend_height};
+ghost use Rattle.run_picture.specs.Legend.{left_of, top_of, entry_at, entries_from, signs_figures};
+ghost use Rattle.run_picture.specs.Legend.{pale_entry, legend_figures, legend_height};
 
 use crate::figures::{Toward, push_line, push_text, push_tip};
 use crate::lanes::MARGIN;
-use crate::paint::{colour_of, letter_paint};
+use crate::paint::{letter_paint, mark_paint};
 use run_layout::{letter_of, meaning_of};
 use std::alloc::{AllocError, Global};
-use svg_text::{Anchor, Paint, Shape};
+use svg_text::{Anchor, Colour, Paint, Shape};
 use uni_core::StepKind;
 
 /// How wide an entry is.
 const ENTRY: u64 = 236;
 
 /// How many entries stand side by side.
-const BESIDE: u64 = 4;
+const IN_A_LINE: u64 = 4;
+
+/// How many signs the legend has besides the kinds of step: the dot, the arrow, the cross and the open bar.
+const SIGNS: u64 = 4;
 
 /// How high a line of entries is.
 const ENTRY_HEIGHT: u64 = 22;
 
-/// How high the legend of some kinds of step is, with the room below it.
-pub fn legend_height(kinds: &[StepKind]) -> u64
+/// How high the legend of some kinds of step is, with the room below it; a pale mark is in it where a step changed
+/// nothing.
+pub fn legend_height(kinds: &[StepKind], unchanged: bool) -> u64
     requires { length kinds.now ≤ 13 }
     ensures small { result ≤ 146 }
-    ensures height { result ≡ legend_height kinds.now }
+    ensures height { result ≡ legend_height kinds.now unchanged }
 {
-    3 * MARGIN + (kinds.len() as u64 + 7) / BESIDE * ENTRY_HEIGHT
+    let signs = if unchanged { SIGNS + 1 } else { SIGNS };
+    3 * MARGIN + (kinds.len() as u64 + (signs + 3)) / IN_A_LINE * ENTRY_HEIGHT
 }
 
-/// Adds the legend of some kinds of step below a place.
+/// Adds the legend of some kinds of step below a place, with a pale mark where a step changed nothing.
 ///
 /// An `Err` says that memory was refused.
 pub fn push_legend(
+    alloc: Global,
+    kinds: &[StepKind],
+    unchanged: bool,
+    width: u64,
+    bottom: u64,
+    shapes: &mut Vec<Shape>,
+) -> Result<(), AllocError>
+    requires few { length kinds.now ≤ 13 }
+    requires wide { 12 ≤ width }
+    requires low { bottom < 2 ^ 36 }
+    ensures { OnOk result (map figure shapes.new.items
+        ≡ map figure shapes.old.items ++ legend_figures kinds.now unchanged width bottom) }
+{
+    push_signs(alloc, kinds, width, bottom, shapes)?;
+    if unchanged {
+        let place = kinds.len() as u64 + SIGNS;
+        push_pale_entry(alloc, place, bottom + 2 * MARGIN, shapes)?;
+    }
+    Ok(())
+}
+
+/// Adds a line below a place, and below it some kinds of step and the signs.
+///
+/// An `Err` says that memory was refused.
+fn push_signs(
     alloc: Global,
     kinds: &[StepKind],
     width: u64,
@@ -49,7 +77,7 @@ pub fn push_legend(
     requires wide { 12 ≤ width }
     requires low { bottom < 2 ^ 36 }
     ensures { OnOk result (map figure shapes.new.items
-        ≡ map figure shapes.old.items ++ legend_figures kinds.now width bottom) }
+        ≡ map figure shapes.old.items ++ signs_figures kinds.now width bottom) }
 {
     let line = bottom + MARGIN;
     push_line(shapes, (MARGIN, line), (width - MARGIN, line), Paint::Faint)?;
@@ -70,8 +98,8 @@ fn place_of(place: u64, top: u64) -> (u64, u64)
     ensures top { result.1 ≡ top_of top place }
 {
     (
-        MARGIN + place % BESIDE * ENTRY,
-        top + place / BESIDE * ENTRY_HEIGHT,
+        MARGIN + place % IN_A_LINE * ENTRY,
+        top + place / IN_A_LINE * ENTRY_HEIGHT,
     )
 }
 
@@ -131,7 +159,7 @@ fn push_kind(
         ≡ map figure shapes.old.items ++ (entry_at top place (kind_entry kind))) }
 {
     let (x, y) = place_of(place, top);
-    push_mark(shapes, x, y, kind)?;
+    push_mark(shapes, x, y, mark_paint(kind, true))?;
     let mut letter = Vec::new(alloc);
     letter.push(letter_of(kind))?;
     push_text(
@@ -139,25 +167,25 @@ fn push_kind(
         x + 7,
         y + 15,
         Anchor::Middle,
-        letter_paint(kind),
+        letter_paint(kind, true),
         letter,
     )?;
     push_entry(alloc, meaning_of(kind), x, y, shapes)
 }
 
-/// Adds the mark of a kind of step.
+/// Adds a mark.
 ///
 /// An `Err` says that memory was refused.
-fn push_mark(shapes: &mut Vec<Shape>, x: u64, y: u64, kind: StepKind) -> Result<(), AllocError>
+fn push_mark(shapes: &mut Vec<Shape>, x: u64, y: u64, paint: Paint) -> Result<(), AllocError>
     ensures { OnOk result (map figure shapes.new.items
-        ≡ map figure shapes.old.items ++ (Rect x y 14 18 (Mark (colour_of kind)) ∷ [])) }
+        ≡ map figure shapes.old.items ++ (Rect x y 14 18 paint ∷ [])) }
 {
     shapes.push(Shape::Rect {
         x,
         y,
         width: 14,
         height: 18,
-        paint: Paint::Mark(colour_of(kind)),
+        paint,
     })?;
     Ok(())
 }
@@ -253,4 +281,23 @@ fn push_open_entry(
     push_line(shapes, (x, y + 2), (x, y + 16), Paint::Edge)?;
     push_line(shapes, (x, y + 16), (x + 16, y + 16), Paint::Edge)?;
     push_entry(alloc, "has not returned", x, y, shapes)
+}
+
+/// Adds the entry of a pale mark.
+///
+/// An `Err` says that memory was refused.
+fn push_pale_entry(
+    alloc: Global,
+    place: u64,
+    top: u64,
+    shapes: &mut Vec<Shape>,
+) -> Result<(), AllocError>
+    requires near { place < 100 }
+    requires low { top < 2 ^ 37 }
+    ensures { OnOk result (map figure shapes.new.items
+        ≡ map figure shapes.old.items ++ entry_at top place pale_entry) }
+{
+    let (x, y) = place_of(place, top);
+    push_mark(shapes, x, y, Paint::Pale(Colour::Blue))?;
+    push_entry(alloc, "pale: it changed nothing", x, y, shapes)
 }

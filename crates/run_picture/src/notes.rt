@@ -24,7 +24,7 @@ pub const LINE: u64 = 20;
 const STEM: u64 = 7;
 
 /// How far the text of a caption stands from its stem.
-const BESIDE: u64 = 5;
+const STEM_GAP: u64 = 5;
 
 /// How many letters of a note have room in a line at least.
 const LEAST_LETTERS: usize = 30;
@@ -130,7 +130,7 @@ fn letters_beside(width: u64, stem: u64) -> usize
     requires { stem < 2 ^ 33 }
     ensures { result ≡ letters_beside width stem }
 {
-    (width.saturating_sub(stem + BESIDE + MARGIN) / LETTER) as usize
+    (width.saturating_sub(stem + STEM_GAP + MARGIN) / LETTER) as usize
 }
 
 /// The lines of the caption of a remark, by its place among what is told.
@@ -179,7 +179,7 @@ fn caption_right(stem: u64, remark: &Remark) -> u64
 {
     match remark {
         Remark::Note(text) => {
-            stem + BESIDE + MARGIN + text.len().min(LEAST_LETTERS) as u64 * LETTER
+            stem + STEM_GAP + MARGIN + text.len().min(LEAST_LETTERS) as u64 * LETTER
         }
         Remark::Heading(_) | Remark::Refused(_) => 0,
     }
@@ -217,7 +217,7 @@ fn push_labels(
     for line in lines {
         let mut text = Vec::new(alloc);
         text.extend_from_slice(line)?;
-        push_label(shapes, stem + BESIDE, place + 16, text)?;
+        push_label(shapes, stem + STEM_GAP, place + 16, text)?;
         place += LINE;
     }
     Ok(())

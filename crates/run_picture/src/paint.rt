@@ -1,13 +1,13 @@
 //! The colours of steps.
 
 ghost use Rattle.std.specs.Prelude.{◌≡◌};
-ghost use Rattle.run_picture.specs.Paint.{colour_of, letter_paint};
+ghost use Rattle.run_picture.specs.Paint.{colour_of, mark_paint, letter_paint};
 
 use svg_text::{Colour, Paint};
 use uni_core::StepKind;
 
 /// The colour of the mark of a step: one for each phase of a call.
-pub fn colour_of(kind: StepKind) -> Colour
+fn colour_of(kind: StepKind) -> Colour
     ensures { result ≡ colour_of kind }
 {
     match kind {
@@ -22,12 +22,23 @@ pub fn colour_of(kind: StepKind) -> Colour
     }
 }
 
-/// How the letter of a step is painted upon its mark.
-pub fn letter_paint(kind: StepKind) -> Paint
-    ensures { result ≡ letter_paint kind }
+/// How the mark of a step is painted: it is pale where the step changed nothing.
+pub fn mark_paint(kind: StepKind, changed: bool) -> Paint
+    ensures { result ≡ mark_paint kind changed }
 {
-    match kind {
-        StepKind::Finish | StepKind::DecideAfter => Paint::LightLetter,
+    if changed {
+        Paint::Mark(colour_of(kind))
+    } else {
+        Paint::Pale(colour_of(kind))
+    }
+}
+
+/// How the letter of a step is painted upon its mark.
+pub fn letter_paint(kind: StepKind, changed: bool) -> Paint
+    ensures { result ≡ letter_paint kind changed }
+{
+    match (kind, changed) {
+        (StepKind::Finish | StepKind::DecideAfter, true) => Paint::LightLetter,
         _ => Paint::DarkLetter,
     }
 }

@@ -21,7 +21,7 @@ use crate::legend::{legend_height, push_legend};
 use crate::notes::{
     LINE, captions_right, description_of, line_letters, push_captions, push_headings, push_refusals,
 };
-use run_layout::{Axis, MOST_LANES, Scale, axis_of, kinds_of, title_of};
+use run_layout::{Axis, MOST_LANES, Scale, any_unchanged, axis_of, kinds_of, title_of};
 use run_marks::Marks;
 use std::alloc::{AllocError, Global};
 use svg_text::{Anchor, Drawing, Paint, Shape};
@@ -158,10 +158,11 @@ pub fn drawing_of(
     let above = push_events(alloc, marks, remarks, &axis, &mut shapes)?;
     let below = push_cells(alloc, &marks.dots, &marks.eras, width, above, &mut shapes)?;
     let kinds = kinds_of(alloc, &marks.steps)?;
-    push_legend(alloc, &kinds, width, below, &mut shapes)?;
+    let unchanged = any_unchanged(&marks.steps);
+    push_legend(alloc, &kinds, unchanged, width, below, &mut shapes)?;
     Ok(Drawing {
         width,
-        height: below + legend_height(&kinds),
+        height: below + legend_height(&kinds, unchanged),
         title: title_of(alloc, marks)?,
         description: description_of(alloc, remarks)?,
         shapes,

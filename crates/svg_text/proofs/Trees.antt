@@ -8,7 +8,7 @@ use Rattle.std.specs.Fmt.{decimal}
 use Rattle.svg_text.specs.declared.paint.Colour.{Colour}
 use Rattle.svg_text.specs.declared.paint.Colour.TheVariants.{Orange, SkyBlue, Green, Yellow, Blue, Vermilion, Purple}
 use Rattle.svg_text.specs.declared.paint.Paint.{Paint}
-use Rattle.svg_text.specs.declared.paint.Paint.TheVariants.{Paper, Frame, Ink, Title, DarkLetter, LightLetter, Faint, Edge, Broken, Thick, Cross, Mark}
+use Rattle.svg_text.specs.declared.paint.Paint.TheVariants.{Paper, Frame, Ink, Title, DarkLetter, LightLetter, Faint, Edge, Broken, Thick, Cross, Mark, Pale}
 use Rattle.svg_text.specs.declared.shape.Anchor.{Anchor}
 use Rattle.svg_text.specs.declared.shape.Anchor.TheVariants as anchors
 use Rattle.svg_text.specs.Figures.{Figure, Rect, Titled, Line, Dot, Tip, Text, Picture}
@@ -48,6 +48,7 @@ paint_text Broken = refl
 paint_text Thick = refl
 paint_text Cross = refl
 paint_text (Mark c) = ap (λ l. codes " fill=\"" ++ (l ++ codes "\"") ++ codes " stroke=\"#333333\"") (colour_text c) ∙ append_assoc (codes " fill=\"" ++ code_of c) (codes "\"") (codes " stroke=\"#333333\"")
+paint_text (Pale c) = ap (λ l. codes " fill=\"" ++ (l ++ codes "\"") ++ codes " stroke=\"#333333\" fill-opacity=\"0.25\"") (colour_text c) ∙ append_assoc (codes " fill=\"" ++ code_of c) (codes "\"") (codes " stroke=\"#333333\" fill-opacity=\"0.25\"")
 
 escaped_append : (a b : List ℕ) → escaped (a ++ b) ≡ escaped a ++ escaped b
 escaped_append = flat_map-append escaped_byte
@@ -205,27 +206,28 @@ text_of_tree q =
 -- ---- the names of a picture's tree are good
 
 -- what holds of each way of painting
-each_paint : (P : Paint → Type 0) → P Paper → P Frame → P Ink → P Title → P DarkLetter → P LightLetter → P Faint → P Edge → P Broken → P Thick → P Cross → ((c : Colour) → P (Mark c)) → (p : Paint) → P p
-each_paint P paper frame ink title dark light faint edge broken thick cross mark Paper = paper
-each_paint P paper frame ink title dark light faint edge broken thick cross mark Frame = frame
-each_paint P paper frame ink title dark light faint edge broken thick cross mark Ink = ink
-each_paint P paper frame ink title dark light faint edge broken thick cross mark Title = title
-each_paint P paper frame ink title dark light faint edge broken thick cross mark DarkLetter = dark
-each_paint P paper frame ink title dark light faint edge broken thick cross mark LightLetter = light
-each_paint P paper frame ink title dark light faint edge broken thick cross mark Faint = faint
-each_paint P paper frame ink title dark light faint edge broken thick cross mark Edge = edge
-each_paint P paper frame ink title dark light faint edge broken thick cross mark Broken = broken
-each_paint P paper frame ink title dark light faint edge broken thick cross mark Thick = thick
-each_paint P paper frame ink title dark light faint edge broken thick cross mark Cross = cross
-each_paint P paper frame ink title dark light faint edge broken thick cross mark (Mark c) = mark c
+each_paint : (P : Paint → Type 0) → P Paper → P Frame → P Ink → P Title → P DarkLetter → P LightLetter → P Faint → P Edge → P Broken → P Thick → P Cross → ((c : Colour) → P (Mark c)) → ((c : Colour) → P (Pale c)) → (p : Paint) → P p
+each_paint P paper frame ink title dark light faint edge broken thick cross mark pale Paper = paper
+each_paint P paper frame ink title dark light faint edge broken thick cross mark pale Frame = frame
+each_paint P paper frame ink title dark light faint edge broken thick cross mark pale Ink = ink
+each_paint P paper frame ink title dark light faint edge broken thick cross mark pale Title = title
+each_paint P paper frame ink title dark light faint edge broken thick cross mark pale DarkLetter = dark
+each_paint P paper frame ink title dark light faint edge broken thick cross mark pale LightLetter = light
+each_paint P paper frame ink title dark light faint edge broken thick cross mark pale Faint = faint
+each_paint P paper frame ink title dark light faint edge broken thick cross mark pale Edge = edge
+each_paint P paper frame ink title dark light faint edge broken thick cross mark pale Broken = broken
+each_paint P paper frame ink title dark light faint edge broken thick cross mark pale Thick = thick
+each_paint P paper frame ink title dark light faint edge broken thick cross mark pale Cross = cross
+each_paint P paper frame ink title dark light faint edge broken thick cross mark pale (Mark c) = mark c
+each_paint P paper frame ink title dark light faint edge broken thick cross mark pale (Pale c) = pale c
 
 figure_well_named : (f : Figure) → is_well_named (figure_node f) ≡ true
-figure_well_named (Rect x y width height p) = each_paint (λ q. is_well_named (figure_node (Rect x y width height q)) ≡ true) refl refl refl refl refl refl refl refl refl refl refl (λ _. refl) p
-figure_well_named (Titled x y width height p title) = each_paint (λ q. is_well_named (figure_node (Titled x y width height q title)) ≡ true) refl refl refl refl refl refl refl refl refl refl refl (λ _. refl) p
-figure_well_named (Line x1 y1 x2 y2 p) = each_paint (λ q. is_well_named (figure_node (Line x1 y1 x2 y2 q)) ≡ true) refl refl refl refl refl refl refl refl refl refl refl (λ _. refl) p
+figure_well_named (Rect x y width height p) = each_paint (λ q. is_well_named (figure_node (Rect x y width height q)) ≡ true) refl refl refl refl refl refl refl refl refl refl refl (λ _. refl) (λ _. refl) p
+figure_well_named (Titled x y width height p title) = each_paint (λ q. is_well_named (figure_node (Titled x y width height q title)) ≡ true) refl refl refl refl refl refl refl refl refl refl refl (λ _. refl) (λ _. refl) p
+figure_well_named (Line x1 y1 x2 y2 p) = each_paint (λ q. is_well_named (figure_node (Line x1 y1 x2 y2 q)) ≡ true) refl refl refl refl refl refl refl refl refl refl refl (λ _. refl) (λ _. refl) p
 figure_well_named (Dot x y) = refl
 figure_well_named (Tip x y x1 y1 x2 y2) = refl
-figure_well_named (Text x y a p text) = each_paint (λ q. is_well_named (figure_node (Text x y a q text)) ≡ true) refl refl refl refl refl refl refl refl refl refl refl (λ _. refl) p
+figure_well_named (Text x y a p text) = each_paint (λ q. is_well_named (figure_node (Text x y a q text)) ≡ true) refl refl refl refl refl refl refl refl refl refl refl (λ _. refl) (λ _. refl) p
 
 figures_well_named : (figures : List Figure) → are_well_named (nodes (flat_map figure_line figures)) ≡ true
 figures_well_named [] = refl

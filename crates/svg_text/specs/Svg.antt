@@ -6,7 +6,7 @@ use Rattle.svg_text.specs.declared.paint.Colour.{Colour}
 use Rattle.svg_text.specs.declared.paint.Colour.TheVariants.{Orange, SkyBlue, Green, Yellow, Blue, Vermilion, Purple}
 use Rattle.svg_text.specs.declared.paint.Paint.{Paint}
 use Rattle.svg_text.specs.declared.paint.Paint.TheVariants.{Paper, Frame, Ink, Title, DarkLetter, LightLetter, Faint, Edge, Broken, Thick}
-use Rattle.svg_text.specs.declared.paint.Paint.TheVariants.{Cross, Mark}
+use Rattle.svg_text.specs.declared.paint.Paint.TheVariants.{Cross, Mark, Pale}
 use Rattle.svg_text.specs.declared.shape.Anchor.{Anchor}
 use Rattle.svg_text.specs.declared.shape.Anchor.TheVariants.{Start, Middle, End}
 use Rattle.svg_text.specs.Figures.{Figure, Rect, Titled, Line, Dot, Tip, Text, Picture}
@@ -52,6 +52,7 @@ attributes_of Broken = codes " stroke=\"#333333\" stroke-dasharray=\"6 4\""
 attributes_of Thick = codes " stroke=\"#000000\" stroke-width=\"2\""
 attributes_of Cross = codes " stroke=\"#d55e00\" stroke-width=\"3\""
 attributes_of (Mark c) = codes " fill=\"" ++ code_of c ++ codes "\" stroke=\"#333333\""
+attributes_of (Pale c) = codes " fill=\"" ++ code_of c ++ codes "\" stroke=\"#333333\" fill-opacity=\"0.25\""
 
 abbrev pub anchor_name : Anchor → List ℕ
 anchor_name Start = codes "start"
@@ -62,21 +63,21 @@ anchor_name End = codes "end"
 abbrev pub content_text : List ℕ → List ℕ
 content_text text = codes ">" ++ escaped text ++ codes "</text>\n"
 
-abbrev pub rect_text : (x y width height : ℕ) → Paint → List ℕ
-rect_text x y width height paint =
+-- the tag of a rectangle, without its end
+abbrev pub open_rect_text : (x y width height : ℕ) → Paint → List ℕ
+open_rect_text x y width height paint =
     codes "<rect" ++ attribute_text (codes "x") (decimal x) ++ attribute_text (codes "y") (decimal y)
     ++ attribute_text (codes "width") (decimal width) ++ attribute_text (codes "height") (decimal height) ++ attributes_of paint
-    ++ codes "/>\n"
+
+abbrev pub rect_text : (x y width height : ℕ) → Paint → List ℕ
+rect_text x y width height paint = open_rect_text x y width height paint ++ codes "/>\n"
 
 -- what stands in the element of a titled rectangle after its attributes
 unfoldable pub titled_content : (title : List ℕ) → List ℕ
 titled_content title = codes "><title>" ++ escaped title ++ codes "</title></rect>\n"
 
 abbrev pub titled_text : (x y width height : ℕ) → Paint → (title : List ℕ) → List ℕ
-titled_text x y width height paint title =
-    codes "<rect" ++ attribute_text (codes "x") (decimal x) ++ attribute_text (codes "y") (decimal y)
-    ++ attribute_text (codes "width") (decimal width) ++ attribute_text (codes "height") (decimal height) ++ attributes_of paint
-    ++ titled_content title
+titled_text x y width height paint title = open_rect_text x y width height paint ++ titled_content title
 
 abbrev pub line_text : (x1 y1 x2 y2 : ℕ) → Paint → List ℕ
 line_text x1 y1 x2 y2 paint =

@@ -5,7 +5,7 @@ use Rattle.std.specs.Fmt.{decimal}
 use Rattle.std.specs.List.{flat_map}
 use Rattle.svg_text.specs.declared.paint.Paint.{Paint}
 use Rattle.svg_text.specs.declared.paint.Paint.TheVariants.{Paper, Frame, Ink, Title, DarkLetter, LightLetter, Faint, Edge, Broken, Thick}
-use Rattle.svg_text.specs.declared.paint.Paint.TheVariants.{Cross, Mark}
+use Rattle.svg_text.specs.declared.paint.Paint.TheVariants.{Cross, Mark, Pale}
 use Rattle.svg_text.specs.Figures.{Figure, Rect, Titled, Line, Dot, Tip, Text, Picture}
 use Rattle.svg_text.specs.Svg.{escaped, attribute_text, code_of, anchor_name, view_box, point}
 
@@ -152,6 +152,7 @@ paint_attributes Broken = stroke (codes "#333333") ∷ attribute (codes "stroke-
 paint_attributes Thick = stroke (codes "#000000") ∷ attribute (codes "stroke-width") (codes "2") ∷ []
 paint_attributes Cross = stroke (codes "#d55e00") ∷ attribute (codes "stroke-width") (codes "3") ∷ []
 paint_attributes (Mark c) = fill (code_of c) ∷ stroke (codes "#333333") ∷ []
+paint_attributes (Pale c) = fill (code_of c) ∷ stroke (codes "#333333") ∷ attribute (codes "fill-opacity") (codes "0.25") ∷ []
 
 abbrev pub figure_node : Figure → Node
 figure_node (Rect x y width height paint) =

@@ -46,4 +46,6 @@ pub enum Paint {
     Cross,
     /// A mark in a colour, with a dark edge.
     Mark(Colour),
+    /// The same, of which most of the colour is left out.
+    Pale(Colour),
 }

@@ -4,11 +4,10 @@ ghost use Rattle.std.specs.Prelude.{◌≡◌, ◌++◌, IfOk, OnOk, codes};
 ghost use Rattle.std.specs.Fmt.{decimal};
 ghost use Rattle.svg_text.specs.Figures.{figure, picture};
 ghost use Rattle.svg_text.specs.Svg.{code_of, escaped_byte, escaped, attribute_text, anchor_name, attributes_of};
-ghost use Rattle.svg_text.specs.Svg.{content_text, point, rect_text, titled_content, titled_text};
-ghost use Rattle.svg_text.specs.Svg.{line_text, dot_text, tip_text, label_text};
+ghost use Rattle.svg_text.specs.Svg.{content_text, point, open_rect_text, rect_text};
+ghost use Rattle.svg_text.specs.Svg.{titled_content, titled_text, line_text, dot_text, tip_text, label_text};
 ghost use Rattle.svg_text.specs.Svg.{figure_text, manner_text, view_box, size_text, title_text, paper_text};
 ghost use Rattle.svg_text.specs.Svg.{opening_text, svg_text};
-ghost use Rattle.svg_text.specs.declared.paint.Paint.TheVariants.{Mark};
 
 use crate::paint::{Colour, Paint};
 use crate::shape::{Anchor, Drawing, Shape};
@@ -209,13 +208,29 @@ fn push_rect(
 ) -> Result<(), AllocError>
     ensures { OnOk result (svg.new.items ≡ svg.old.items ++ rect_text x y width height paint) }
 {
+    push_open_rect(svg, x, y, width, height, paint)?;
+    push_words(svg, "/>\n")
+}
+
+/// Adds the tag of a rectangle, without its end.
+///
+/// An `Err` says that memory was refused.
+fn push_open_rect(
+    svg: &mut Vec<u8>,
+    x: u64,
+    y: u64,
+    width: u64,
+    height: u64,
+    paint: Paint,
+) -> Result<(), AllocError>
+    ensures { OnOk result (svg.new.items ≡ svg.old.items ++ open_rect_text x y width height paint) }
+{
     push_words(svg, "<rect")?;
     push_attribute(svg, "x", x)?;
     push_attribute(svg, "y", y)?;
     push_attribute(svg, "width", width)?;
     push_attribute(svg, "height", height)?;
-    push_paint(svg, paint)?;
-    push_words(svg, "/>\n")
+    push_paint(svg, paint)
 }
 
 /// Adds a rectangle with a title.
@@ -232,12 +247,7 @@ fn push_titled(
 ) -> Result<(), AllocError>
     ensures { OnOk result (svg.new.items ≡ svg.old.items ++ titled_text x y width height paint title.now) }
 {
-    push_words(svg, "<rect")?;
-    push_attribute(svg, "x", x)?;
-    push_attribute(svg, "y", y)?;
-    push_attribute(svg, "width", width)?;
-    push_attribute(svg, "height", height)?;
-    push_paint(svg, paint)?;
+    push_open_rect(svg, x, y, width, height, paint)?;
     push_titled_content(svg, title)
 }
 
@@ -380,7 +390,12 @@ fn push_paint(svg: &mut Vec<u8>, paint: Paint) -> Result<(), AllocError>
     ensures { OnOk result (svg.new.items ≡ svg.old.items ++ attributes_of paint) }
 {
     match paint {
-        Paint::Mark(colour) => push_fill(svg, colour),
+        Paint::Mark(colour) => push_fill(svg, colour, "\" stroke=\"#333333\""),
+        Paint::Pale(colour) => push_fill(
+            svg,
+            colour,
+            "\" stroke=\"#333333\" fill-opacity=\"0.25\"",
+        ),
         Paint::Paper => push_words(svg, " fill=\"#ffffff\""),
         Paint::Frame => { push_words(svg, " fill=\"#ffffff\" stroke=\"#333333\"") }
         Paint::Ink => push_words(svg, " fill=\"#000000\""),
@@ -404,15 +419,15 @@ fn push_paint(svg: &mut Vec<u8>, paint: Paint) -> Result<(), AllocError>
     }
 }
 
-/// Adds the attributes of a mark in a colour.
+/// Adds the fill of a mark in a colour, and these words after the colour.
 ///
 /// An `Err` says that memory was refused.
-fn push_fill(svg: &mut Vec<u8>, colour: Colour) -> Result<(), AllocError>
-    ensures { OnOk result (svg.new.items ≡ svg.old.items ++ attributes_of (Mark colour)) }
+fn push_fill(svg: &mut Vec<u8>, colour: Colour, rest: &str) -> Result<(), AllocError>
+    ensures { OnOk result (svg.new.items ≡ svg.old.items ++ (codes " fill=\"" ++ code_of colour ++ rest.now)) }
 {
     push_words(svg, " fill=\"")?;
     push_words(svg, code_of(colour))?;
-    push_words(svg, "\" stroke=\"#333333\"")
+    push_words(svg, rest)
 }
 
 /// The code of a colour.

@@ -1,4 +1,4 @@
-use Rattle.std.proofs.Common.{◌≡◌, ◌∙◌, ◌+◌, ◌++◌, ◌∷◌, [], refl, sym, ap, subst, length, map, arith}
+use Rattle.std.proofs.Common.{◌≡◌, ◌∙◌, ◌++◌, ◌∷◌, [], sym, ap, subst, length, map, arith}
 use Rattle.std.proofs.lemmas.List.{length-map}
 use Rattle.uni_model.specs.Worlds.{opened_world, world_after}
 use Rattle.uni_core.specs.World.{world_of}

@@ -2,12 +2,12 @@ use Rattle.std.proofs.Common.{length, ◌≡◌, ◌∙◌, ◌+◌, ◌-◌, �
 use Rattle.std.proofs.lemmas.Result.{on_ok_weaker}
 use Rattle.svg_text.specs.declared.paint.Paint.TheVariants.{Faint}
 use Rattle.svg_text.specs.Figures.{Line, figure}
-use Rattle.run_picture.specs.Legend.{entries_from, entry_at, kind_entry, dot_entry, arrow_entry, refusal_entry, open_entry, legend_figures}
+use Rattle.run_picture.specs.Legend.{entries_from, entry_at, kind_entry, dot_entry, arrow_entry, refusal_entry, open_entry, signs_figures}
 use Rattle.run_picture.proofs.Entries.{whole_legend}
-use Rattle.run_picture.proofs.legend.push_legend.Goals as goal
+use Rattle.run_picture.proofs.legend.push_signs.Goals as goal
 
 pub returns : goal.returns
-unfolding legend_figures
+unfolding signs_figures
 returns c =
     let top = c.args.bottom + 24 in
     let kinds = c.args.kinds.now in
