@@ -1,15 +1,17 @@
-//! A script over a stack, replayed and drawn: what `unibench replay --echo` and `unidraw --text` do over the objects
-//! that have names. Process 1 announces a push and stops; process 0 makes a call of its own, and does the other one's
-//! on the way.
+//! A script over a stack, replayed, drawn and told: what `unibench replay --echo`, `unidraw --text` and
+//! `unidraw --steps` do over the objects that have names. Process 1 announces a push and stops; process 0 makes a call
+//! of its own, and does the other one's on the way.
 #![tactic(auto)]
 
 ghost use Rattle.std.specs.Prelude.{◌≡◌, false};
 
 use run_lines::lines_of_object;
+use run_steps::InWords;
+use run_telling::told_of_record;
 use stack::Stack;
 use std::alloc::Global;
 use std::process::ExitCode;
-use uni_script::{Checked, Echo, Options, TextOut, bench_object, write_all};
+use uni_script::{Checked, Echo, Options, TextOut, bench_object, run_of_object, write_all};
 
 /// The script. Its header names the object by a word that this program chooses.
 const SCRIPT: &[u8] = b"\
@@ -22,7 +24,8 @@ finish 0
 log
 ";
 
-/// Writes what the script answers, each line of it before its answers, and then its run as lines.
+/// Writes what the script answers, each line of it before its answers, then its run as lines, and then each step of it,
+/// with what that changed in the memory.
 ///
 /// `None` where the script has a fault, the output failed or memory was refused.
 fn show<W: TextOut>(alloc: Global, output: &mut W) -> Option<()>
@@ -35,7 +38,10 @@ fn show<W: TextOut>(alloc: Global, output: &mut W) -> Option<()>
     let mut script = Checked::new(SCRIPT);
     bench_object(alloc, Stack, "stack", &mut script, output, &options).ok()?;
     let lines = lines_of_object(alloc, Stack, "stack", &mut Checked::new(SCRIPT)).ok()?;
-    write_all(output, lines.as_slice()).ok()
+    write_all(output, lines.as_slice()).ok()?;
+    let run = run_of_object(alloc, Stack, "stack", &mut Checked::new(SCRIPT), &options).ok()?;
+    let steps = told_of_record::<InWords, Stack>(alloc, "stack", &run.record, &run.remarks).ok()?;
+    write_all(output, steps.as_slice()).ok()
 }
 
 fn main(rt: HostRuntime) -> ExitCode {
