@@ -1,5 +1,5 @@
 -- What is observed of a run, by its frames.
-use Rattle.std.proofs.Common.{◌≡◌, ◌∙◌, ℕ, ◌+◌, ◌-◌, List, [], ◌∷◌, ◌++◌, take, drop, arith, refl, subst, sym, ap, append-nil, Option, Some, None, option_map, option_and_then}
+use Rattle.std.proofs.Common.{◌≡◌, ◌∙◌, ℕ, ◌+◌, ◌-◌, List, [], ◌∷◌, ◌++◌, take, drop, arith, false, refl, subst, sym, ap, append-nil, Option, Some, None, option_map, option_and_then}
 use Rattle.std.proofs.lemmas.List.Concat.{flat_map-append}
 use Rattle.std.specs.List.{flat_map}
 use Rattle.std.specs.Option.{option_map_or}
@@ -19,33 +19,34 @@ use Rattle.uni_model.proofs.Kept.{Invariant-opened_world, Invariant-world_after}
 use Rattle.uni_script.specs.declared.remarks.PlacedRemark.{PlacedRemark}
 use Rattle.uni_script.specs.Objects.{SpokenObject, spoken_of}
 use Rattle.uni_script.specs.Schedules.{word_of_object}
-use Rattle.run_trace.specs.Frames.{Frame, Steps, frame_of, frames_from, stepped}
+use Rattle.run_trace.specs.Frames.{Steps, stepped}
+use Rattle.run_trace.specs.Scenes.{Scene, scene_of, scenes_from}
 use Rattle.run_telling.specs.Order.{event_text, told_before, told_from}
 use Rattle.run_telling.specs.Told.{IsLinearizableRun, IsTold, state_text_of, text_of_events}
 use Rattle.run_json.specs.Lines.{line_text}
 use Rattle.run_history.specs.History.{IsHistory}
 use Rattle.run_history.specs.Lines.{act_line, history_text, history_wording, opening_members, replied_line}
 
--- the line of a frame that there may be
-abbrev line_of_frame : Option Frame → List ℕ
-line_of_frame frame = event_text history_wording 0 frame
+-- the line of a scene that there may be
+abbrev line_of_scene : Option Scene → List ℕ
+line_of_scene scene = event_text history_wording 0 scene
 
 -- nothing is told beside the events
 no_remarks : (remarks : List PlacedRemark) → flat_map history_wording.remark remarks ≡ []
 no_remarks [] = refl
 no_remarks (one ∷ remarks) = no_remarks remarks
 
-line_of_each : (k : ℕ) (frame : Option Frame) → event_text history_wording k frame ≡ line_of_frame frame
+line_of_each : (k : ℕ) (frame : Option Scene) → event_text history_wording k frame ≡ line_of_scene frame
 line_of_each k None = refl
 line_of_each k (Some frame) = refl
 
-lines_alone : (k : ℕ) (frames : List (Option Frame)) (remarks : List PlacedRemark) → told_from history_wording k frames remarks ≡ flat_map line_of_frame frames
+lines_alone : (k : ℕ) (frames : List (Option Scene)) (remarks : List PlacedRemark) → told_from history_wording k frames remarks ≡ flat_map line_of_scene frames
 lines_alone k [] remarks = no_remarks remarks
 lines_alone k (frame ∷ frames) remarks =
     let here = told_before k remarks in
     let rest = told_from history_wording (k + 1) frames (drop here remarks) in
     ap (λ l. l ++ event_text history_wording k frame ++ rest) (no_remarks (take here remarks))
-    ∙ ap (λ l. l ++ rest) (line_of_each k frame) ∙ ap (λ l. line_of_frame frame ++ l) (lines_alone (k + 1) frames (drop here remarks))
+    ∙ ap (λ l. l ++ rest) (line_of_each k frame) ∙ ap (λ l. line_of_scene frame ++ l) (lines_alone (k + 1) frames (drop here remarks))
 
 module _ {S I R : Type 0} (object : Sequential S I R) (l : Language I R) (text : S → List ℕ) where
   -- a step that answers tells the reply of its own call
@@ -63,12 +64,12 @@ module _ {S I R : Type 0} (object : Sequential S I R) (l : Language I R) (text :
       ∙ sym (ap (λ o. flat_map (act_line l) (option_map_or (λ (call : Invoked I). let act : List (Act I R) = Respond p call.nth r ∷ [] in act) o [])) at)
 
   -- the line of a frame is that of what is observed of its event
-  line_of_event : (w : WorldOf S I R) → Invariant object w → (e : Event I) → line_of_frame (frame_of object l text w e) ≡ flat_map (act_line l) (observed_at w e)
+  line_of_event : (w : WorldOf S I R) → Invariant object w → (e : Event I) → line_of_scene (scene_of object l text false w e) ≡ flat_map (act_line l) (observed_at w e)
   line_of_event w inv (Call p i) = sym (append-nil _)
   line_of_event w inv (Step p) = by_call (w.call p) refl where
     Told : Option Pending → Type 0
     Told o =
-        line_of_frame (option_map (λ call. Steps (stepped object l text w p call)) o)
+        line_of_scene (option_map (λ frame. let scene : Scene = record { frame = frame; memory = None } in scene) (option_map (λ call. Steps (stepped object l text w p call)) o))
         ≡ flat_map (act_line l) (option_map_or (λ (c : Pending). responses_of w.memory p c.mine (response_after c.mine c.stage w.memory)) o [])
 
     by_call : (call : Option Pending) → w.call p ≡ call → Told (w.call p)
@@ -78,10 +79,10 @@ module _ {S I R : Type 0} (object : Sequential S I R) (l : Language I R) (text :
   line_of_event w inv (Reshape n) = refl
 
   lines_are_observed : (w : WorldOf S I R) (events : List (Event I)) → Invariant object w → AreAccepted object w events
-      → flat_map line_of_frame (frames_from object l text w events) ≡ flat_map (act_line l) (observed_in object w events)
+      → flat_map line_of_scene (scenes_from object l text false w events) ≡ flat_map (act_line l) (observed_in object w events)
   lines_are_observed w [] inv ok = refl
   lines_are_observed w (e ∷ events) inv ok =
-      ap (λ line. line ++ flat_map line_of_frame (frames_from object l text (world_after object w e) events)) (line_of_event w inv e)
+      ap (λ line. line ++ flat_map line_of_scene (scenes_from object l text false (world_after object w e) events)) (line_of_event w inv e)
       ∙ ap (λ lines. flat_map (act_line l) (observed_at w e) ++ lines) (lines_are_observed (world_after object w e) events (Invariant-world_after object w e ok.0 inv) ok.1)
       ∙ sym (flat_map-append (act_line l) (observed_at w e) (observed_in object (world_after object w e) events))
 
@@ -91,7 +92,7 @@ history_is : {S I R : Type 0} (o : SpokenObject S I R) (text : S → List ℕ) (
 history_is o text name n row first events remarks run =
     let w = opened_world n o.object.initial first in
     ap (λ lines. line_text (opening_members name n (text o.object.initial)) ++ lines)
-    (lines_alone 0 (frames_from o.object o.language text w events) remarks
+    (lines_alone 0 (scenes_from o.object o.language text false w events) remarks
     ∙ lines_are_observed o.object o.language text w events (Invariant-opened_world o.object n o.object.initial first run.positive) run.accepted)
 
 pub IsHistory-told : (left : Option (List ℕ)) (text : List ℕ) → IsTold history_wording left text → IsHistory left text

@@ -1,5 +1,5 @@
 -- The lines of a history: the calls and the replies of a run, each an object of JSON.
-use Rattle.std.specs.Prelude.{◌≡◌, ℕ, List, [], ◌∷◌, ◌++◌, Some, None, codes, refl}
+use Rattle.std.specs.Prelude.{◌≡◌, ℕ, false, List, [], ◌∷◌, ◌++◌, Some, None, codes, refl}
 use Rattle.std.specs.Fmt.{digits}
 use Rattle.std.specs.List.{flat_map}
 use Rattle.std.specs.Option.{option_map_or}
@@ -62,7 +62,8 @@ observed_line (Ends e) = []
 
 -- a run, as a history; of what is told beside the events it tells nothing
 abbrev pub history_wording : Wording
-history_wording = record { opening = opening_line; event = λ k frame. observed_line frame; remark = λ one. [] }
+history_wording =
+    record { is_whole = false; opening = opening_line; event = λ k scene. observed_line scene.frame; remark = λ one. [] }
 
 -- a call of process 1, with its reply
 abbrev sample_language : Language ℕ ℕ

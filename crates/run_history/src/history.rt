@@ -10,7 +10,7 @@ ghost use Rattle.run_history.specs.History.{IsHistory};
 use crate::lines::{push_observed, push_opening_line};
 use run_layout::PictureFault;
 use run_telling::{Opened, Telling, told_of};
-use run_trace::Frame;
+use run_trace::Scene;
 use std::alloc::{AllocError, Global};
 use uni_script::{PlacedRemark, TextIn};
 
@@ -22,17 +22,21 @@ impl Telling for InHistory {
 
     ghost wording = { history_wording };
 
+    fn is_whole() -> bool {
+        false
+    }
+
     fn push_opening(_: Global, opened: &Opened<'_>, text: &mut Vec<u8>) -> Result<(), AllocError> {
         push_opening_line(text, opened)
     }
 
-    fn push_frame(
+    fn push_scene(
         alloc: Global,
         _: u64,
-        frame: &Frame,
+        scene: &Scene,
         text: &mut Vec<u8>,
     ) -> Result<(), AllocError> {
-        push_observed(alloc, frame, text)
+        push_observed(alloc, &scene.frame, text)
     }
 
     fn push_remark(_: Global, _: &PlacedRemark, _: &mut Vec<u8>) -> Result<(), AllocError> {

@@ -1,15 +1,18 @@
 -- The members of a line.
-use Rattle.std.specs.Prelude.{ℕ, Bool, true, false, List, [], ◌∷◌, ◌++◌, map, Option, Some, None, option_map, codes}
+use Rattle.std.specs.Prelude.{◌≡◌, ℕ, Bool, true, false, List, [], ◌∷◌, ◌++◌, map, Option, Some, None, option_map, codes, refl}
+use Rattle.std.specs.List.{flat_map}
+use Rattle.std.specs.Option.{option_map_or}
 use Rattle.json_text.specs.Json.{Value, Number, Text, Flag, MaybeNumber, Json, Member, named, object_text, list_text, text_or_null}
 use Rattle.uni_core.specs.declared.stage.StepKind.{StepKind}
 use Rattle.uni_script.specs.declared.answer.Refusal.{Refusal}
 use Rattle.uni_script.specs.declared.remarks.Remark.{Remark}
 use Rattle.uni_script.specs.declared.remarks.Remark.TheVariants.{Heading, Note, Refused}
 use Rattle.run_layout.specs.Wording.{lane_of, letter_of, meaning_of, refusal_words}
-use Rattle.run_trace.specs.Held.{Change, Held, cell_text, changes_between}
+use Rattle.run_trace.specs.Held.{Change, Field, Held, alone, cell_text, changes_between}
 use Rattle.run_telling.specs.Access.{access_of}
 use Rattle.run_telling.specs.Opened.{Opening}
 use Rattle.run_trace.specs.Frames.{Begun, Ended, Frame, Stepped, Begins, Steps, Ends}
+use Rattle.run_trace.specs.Scenes.{Scene}
 
 -- ---- values
 
@@ -94,6 +97,30 @@ frame_members k (Begins b) = begun_members k b
 frame_members k (Steps s) = step_members k s
 frame_members k (Ends e) = end_members k e
 
+-- ---- the whole memory
+
+-- a field, and what it holds
+abbrev pub field_members : Field → List Member
+field_members f = named (codes "place") (Text f.name) ∷ named (codes "content") (Text f.text) ∷ []
+
+abbrev pub field_text : Field → List ℕ
+field_text f = object_text (field_members f)
+
+-- the fields of a place: beside a state the reply
+abbrev pub held_fields : Held → List Field
+held_fields h = h.field ∷ option_map_or (λ reply. reply ∷ []) h.reply []
+
+abbrev pub memory_text : List Held → List ℕ
+memory_text memory = list_text (map field_text (flat_map held_fields memory))
+
+abbrev pub memory_members : Option (List Held) → List Member
+memory_members None = []
+memory_members (Some memory) = named (codes "memory") (Json (memory_text memory)) ∷ []
+
+-- an event, and the whole memory after it where that is told
+abbrev pub scene_members : (event : ℕ) → Scene → List Member
+scene_members k s = frame_members k s.frame ++ memory_members s.memory
+
 -- ---- what is told beside the events
 
 -- a note, with how many events came before it
@@ -119,3 +146,13 @@ opening_members o =
     named (codes "what") (Text (codes "run")) ∷ named (codes "trace") (Number 1) ∷ named (codes "object") (Text o.object)
     ∷ named (codes "processes") (Number o.processes) ∷ named (codes "row") (Number o.row)
     ∷ named (codes "number") (Number o.number) ∷ named (codes "state") (Text o.state) ∷ []
+
+-- a head, and what is settled in an anchor
+two_places : memory_text (alone (codes "head[0]") (codes "anchor") ∷ record {
+  field = record { name = codes "anchor.state"; text = codes "[]" };
+  reply = Some (record { name = codes "anchor.reply"; text = codes "none" });
+} ∷ [])
+    ≡ codes "[{\"place\":\"head[0]\",\"content\":\"anchor\"},{\"place\":\"anchor.state\",\"content\":\"[]\"},"
+    ++ codes "{\"place\":\"anchor.reply\",\"content\":\"none\"}]"
+unfolding object_text list_text
+two_places = refl

@@ -6,7 +6,8 @@
 
 mod lines;
 mod members;
+mod memory;
 mod trace;
 
 pub use lines::push_line;
-pub use trace::{InJson, json_of};
+pub use trace::{InJson, InWholeJson, json_of, whole_json_of};

@@ -4,17 +4,19 @@ ghost use Rattle.std.specs.Prelude.{◌≡◌, ◌++◌, OnOk, map};
 ghost use Rattle.std.specs.List.{flat_map};
 ghost use Rattle.json_text.specs.Json.{after_comma, member_text, separated};
 ghost use Rattle.json_text.specs.Shown.{member_shown};
-ghost use Rattle.run_trace.specs.Shown.{begun_shown, end_shown, frame_shown, step_shown};
-ghost use Rattle.run_json.specs.Lines.{frame_line, line_text, remark_line};
-ghost use Rattle.run_json.specs.Members.{begun_members, end_members, end_word, note_members, opening_members};
-ghost use Rattle.run_json.specs.Members.{refusal_members, step_call, step_members, step_place, step_start};
+ghost use Rattle.run_trace.specs.Shown.{begun_shown, end_shown, frame_shown, scene_shown, step_shown};
+ghost use Rattle.run_json.specs.Lines.{line_text, remark_line, scene_line};
+ghost use Rattle.run_json.specs.Members.{begun_members, end_members, end_word, frame_members, note_members};
+ghost use Rattle.run_json.specs.Members.{opening_members, refusal_members, step_call, step_members, step_place};
+ghost use Rattle.run_json.specs.Members.{step_start};
 ghost use Rattle.run_telling.specs.Opened.{opening_shown};
 
 use crate::members::{change_list, letter_text, next_letter, proposed_json, text_or_null};
+use crate::memory::push_memory;
 use json_text::{Member, Value, push_members, push_more_members, push_object};
 use run_layout::{lane_of, meaning_of, refusal_of};
 use run_telling::{Opened, access_of};
-use run_trace::{Begun, EraEnd, Frame, Step, cell_text};
+use run_trace::{Begun, EraEnd, Frame, Scene, Step, cell_text};
 use std::alloc::{AllocError, Global};
 use uni_script::{PlacedRemark, Refusal, Remark};
 
@@ -51,13 +53,33 @@ pub(crate) fn push_opening_line(text: &mut Vec<u8>, opened: &Opened<'_>) -> Resu
 /// Adds the line of an event.
 ///
 /// An `Err` says that memory was refused.
-pub(crate) fn push_frame_line(
+pub(crate) fn push_scene_line(
+    alloc: Global,
+    event: u64,
+    scene: &Scene,
+    text: &mut Vec<u8>,
+) -> Result<(), AllocError>
+    ensures { OnOk result (text.new.items ≡ text.old.items ++ scene_line event (scene_shown scene.now)) }
+{
+    text.push(b'{')?;
+    push_frame(alloc, event, &scene.frame, text)?;
+    push_memory(alloc, &scene.memory, text)?;
+    text.push(b'}')?;
+    text.push(b'\n')?;
+    Ok(())
+}
+
+/// Adds the members of an event.
+///
+/// An `Err` says that memory was refused.
+fn push_frame(
     alloc: Global,
     event: u64,
     frame: &Frame,
     text: &mut Vec<u8>,
 ) -> Result<(), AllocError>
-    ensures { OnOk result (text.new.items ≡ text.old.items ++ frame_line event (frame_shown frame.now)) }
+    ensures { OnOk result (text.new.items
+        ≡ text.old.items ++ separated (map member_text (frame_members event (frame_shown frame.now)))) }
 {
     match frame {
         Frame::Call(begun) => push_begun(alloc, event, begun, text),
@@ -66,7 +88,7 @@ pub(crate) fn push_frame_line(
     }
 }
 
-/// Adds the line of a call that begins.
+/// Adds the members of a call that begins.
 ///
 /// An `Err` says that memory was refused.
 fn push_begun(
@@ -76,7 +98,7 @@ fn push_begun(
     text: &mut Vec<u8>,
 ) -> Result<(), AllocError>
     ensures { OnOk result (text.new.items
-        ≡ text.old.items ++ line_text (begun_members event (begun_shown begun.now))) }
+        ≡ text.old.items ++ separated (map member_text (begun_members event (begun_shown begun.now)))) }
 {
     let call = cell_text(alloc, Some(begun.call))?;
     let changed = change_list(alloc, &begun.before, &begun.after)?;
@@ -92,25 +114,22 @@ fn push_begun(
         Member("changed", Value::Flag(changed.is_any)),
         Member("changes", Value::Json(&changed.json)),
     ];
-    push_line(text, &members)
+    push_members(text, &members)
 }
 
-/// Adds the line of a step.
+/// Adds the members of a step.
 ///
 /// An `Err` says that memory was refused.
 fn push_step(alloc: Global, event: u64, step: &Step, text: &mut Vec<u8>) -> Result<(), AllocError>
-    ensures { OnOk result (text.new.items ≡ text.old.items ++ line_text (step_members event (step_shown step.now))) }
+    ensures { OnOk result (text.new.items
+        ≡ text.old.items ++ separated (map member_text (step_members event (step_shown step.now)))) }
 {
-    text.push(b'{')?;
     push_step_start(alloc, event, step, text)?;
     push_step_place(alloc, step, text)?;
-    push_step_call(alloc, step, text)?;
-    text.push(b'}')?;
-    text.push(b'\n')?;
-    Ok(())
+    push_step_call(alloc, step, text)
 }
 
-/// Adds the first members of a step's line: what was done, in which call.
+/// Adds the first members of a step: what was done, in which call.
 ///
 /// An `Err` says that memory was refused.
 fn push_step_start(
@@ -136,7 +155,7 @@ fn push_step_start(
     push_members(text, &members)
 }
 
-/// Adds the members of a step's line on its place: what became of that.
+/// Adds the members of a step on its place: what became of that.
 ///
 /// An `Err` says that memory was refused.
 fn push_step_place(alloc: Global, step: &Step, text: &mut Vec<u8>) -> Result<(), AllocError>
@@ -156,7 +175,7 @@ fn push_step_place(alloc: Global, step: &Step, text: &mut Vec<u8>) -> Result<(),
     push_more_members(text, &members)
 }
 
-/// Adds the last members of a step's line: what became of its call.
+/// Adds the last members of a step: what became of its call.
 ///
 /// An `Err` says that memory was refused.
 fn push_step_call(alloc: Global, step: &Step, text: &mut Vec<u8>) -> Result<(), AllocError>
@@ -184,11 +203,12 @@ fn end_word(reshaped: Option<u64>) -> &'static str
     }
 }
 
-/// Adds the line of the end of an era.
+/// Adds the members of the end of an era.
 ///
 /// An `Err` says that memory was refused.
 fn push_end(event: u64, end: &EraEnd, text: &mut Vec<u8>) -> Result<(), AllocError>
-    ensures { OnOk result (text.new.items ≡ text.old.items ++ line_text (end_members event (end_shown end.now))) }
+    ensures { OnOk result (text.new.items
+        ≡ text.old.items ++ separated (map member_text (end_members event (end_shown end.now)))) }
 {
     let members = [
         Member("what", Value::Text(end_word(end.reshaped).as_bytes())),
@@ -197,7 +217,7 @@ fn push_end(event: u64, end: &EraEnd, text: &mut Vec<u8>) -> Result<(), AllocErr
         Member("number", Value::Number(end.number)),
         Member("state", Value::Text(&end.anchor.field.text)),
     ];
-    push_line(text, &members)
+    push_members(text, &members)
 }
 
 /// Adds the line of what is told beside the events.

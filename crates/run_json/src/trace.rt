@@ -5,12 +5,12 @@ ghost use Rattle.uni_script.specs.Replay.{HasFault, IsFaultOfScript};
 ghost use Rattle.uni_script.specs.Scripts.{scripts_of};
 ghost use Rattle.uni_script.specs.declared.fault.BenchFault.{BenchFault as Fault};
 ghost use Rattle.run_layout.specs.Subject.{HasTooManyEvents};
-ghost use Rattle.run_json.specs.Trace.{IsTrace};
+ghost use Rattle.run_json.specs.Trace.{IsTrace, IsWholeTrace};
 
-use crate::lines::{push_frame_line, push_opening_line, push_remark_line};
+use crate::lines::{push_opening_line, push_remark_line, push_scene_line};
 use run_layout::PictureFault;
 use run_telling::{Opened, Telling, told_of};
-use run_trace::Frame;
+use run_trace::Scene;
 use std::alloc::{AllocError, Global};
 use uni_script::{PlacedRemark, TextIn};
 
@@ -22,17 +22,21 @@ impl Telling for InJson {
 
     ghost wording = { json_wording };
 
+    fn is_whole() -> bool {
+        false
+    }
+
     fn push_opening(_: Global, opened: &Opened<'_>, text: &mut Vec<u8>) -> Result<(), AllocError> {
         push_opening_line(text, opened)
     }
 
-    fn push_frame(
+    fn push_scene(
         alloc: Global,
         event: u64,
-        frame: &Frame,
+        scene: &Scene,
         text: &mut Vec<u8>,
     ) -> Result<(), AllocError> {
-        push_frame_line(alloc, event, frame, text)
+        push_scene_line(alloc, event, scene, text)
     }
 
     fn push_remark(
@@ -41,6 +45,44 @@ impl Telling for InJson {
         text: &mut Vec<u8>,
     ) -> Result<(), AllocError> {
         push_remark_line(alloc, one, text)
+    }
+}
+
+/// Tells a run in lines of JSON, with the whole memory after each event.
+pub struct InWholeJson;
+
+impl Telling for InWholeJson {
+    ghost use Rattle.run_json.specs.Lines.{whole_wording};
+
+    ghost wording = { whole_wording };
+
+    fn is_whole() -> bool {
+        true
+    }
+
+    fn push_opening(
+        alloc: Global,
+        opened: &Opened<'_>,
+        text: &mut Vec<u8>,
+    ) -> Result<(), AllocError> {
+        InJson::push_opening(alloc, opened, text)
+    }
+
+    fn push_scene(
+        alloc: Global,
+        event: u64,
+        scene: &Scene,
+        text: &mut Vec<u8>,
+    ) -> Result<(), AllocError> {
+        InJson::push_scene(alloc, event, scene, text)
+    }
+
+    fn push_remark(
+        alloc: Global,
+        one: &PlacedRemark,
+        text: &mut Vec<u8>,
+    ) -> Result<(), AllocError> {
+        InJson::push_remark(alloc, one, text)
     }
 }
 
@@ -56,4 +98,17 @@ pub fn json_of<I: TextIn>(alloc: Global, reader: &mut I) -> Result<Vec<u8>, Pict
         → HasFault (scripts_of 1048576) (I.remaining reader.old) e }
 {
     told_of::<InJson, I>(alloc, reader)
+}
+
+/// The same, with the whole memory after each event.
+///
+/// The errors are those of `json_of`.
+pub fn whole_json_of<I: TextIn>(alloc: Global, reader: &mut I) -> Result<Vec<u8>, PictureFault>
+    requires { I.has_failed reader.old ≡ false }
+    ensures trace { IfOk result (λ text. IsWholeTrace (I.remaining reader.old) text.items) }
+    ensures many { IsErrOf result PictureFault.TooManyEvents → HasTooManyEvents (I.remaining reader.old) }
+    ensures fault { (e : Fault) → IsErrOf result (PictureFault.Script e) → IsFaultOfScript e
+        → HasFault (scripts_of 1048576) (I.remaining reader.old) e }
+{
+    told_of::<InWholeJson, I>(alloc, reader)
 }

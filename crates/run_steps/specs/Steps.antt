@@ -1,5 +1,5 @@
 -- The steps of a script, in words.
-use Rattle.std.specs.Prelude.{ℕ, List, Option}
+use Rattle.std.specs.Prelude.{ℕ, List, Option, false}
 use Rattle.run_telling.specs.Order.{Wording}
 use Rattle.run_telling.specs.Told.{IsTold}
 use Rattle.run_steps.specs.Sentences.{frame_text, line_text, opening_words, remark_words}
@@ -8,8 +8,9 @@ use Rattle.run_steps.specs.Sentences.{frame_text, line_text, opening_words, rema
 abbrev pub steps_wording : Wording
 steps_wording =
     record {
+      is_whole = false;
       opening = λ o. line_text (opening_words o);
-      event = frame_text;
+      event = λ k scene. frame_text k scene.frame;
       remark = λ one. line_text (remark_words one.remark);
     }
 

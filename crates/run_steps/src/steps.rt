@@ -10,7 +10,7 @@ ghost use Rattle.run_steps.specs.Steps.{IsSteps};
 use crate::lines::{push_event, push_start, push_told};
 use run_layout::PictureFault;
 use run_telling::{Opened, Telling, told_of};
-use run_trace::Frame;
+use run_trace::Scene;
 use std::alloc::{AllocError, Global};
 use uni_script::{PlacedRemark, TextIn};
 
@@ -22,6 +22,10 @@ impl Telling for InWords {
 
     ghost wording = { steps_wording };
 
+    fn is_whole() -> bool {
+        false
+    }
+
     fn push_opening(
         alloc: Global,
         opened: &Opened<'_>,
@@ -30,13 +34,13 @@ impl Telling for InWords {
         push_start(alloc, opened, text)
     }
 
-    fn push_frame(
+    fn push_scene(
         alloc: Global,
         event: u64,
-        frame: &Frame,
+        scene: &Scene,
         text: &mut Vec<u8>,
     ) -> Result<(), AllocError> {
-        push_event(alloc, event, frame, text)
+        push_event(alloc, event, &scene.frame, text)
     }
 
     fn push_remark(

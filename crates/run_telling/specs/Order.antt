@@ -1,22 +1,24 @@
 -- The order in which a run is told.
-use Rattle.std.specs.Prelude.{◌≡◌, ℕ, ◌+◌, nat_le, List, [], ◌∷◌, ◌++◌, take, drop, Option, Some, None, refl}
+use Rattle.std.specs.Prelude.{◌≡◌, ℕ, ◌+◌, nat_le, Bool, List, [], ◌∷◌, ◌++◌, take, drop, Option, Some, None, refl}
 use Rattle.std.specs.List.{flat_map, prefix_len}
 use Rattle.uni_script.specs.declared.remarks.PlacedRemark.{PlacedRemark}
 use Rattle.uni_script.specs.declared.remarks.Remark.TheVariants.{Refused}
 use Rattle.uni_script.specs.declared.answer.Refusal.TheVariants.{Sequence}
-use Rattle.run_trace.specs.Frames.{Frame}
+use Rattle.run_trace.specs.Scenes.{Scene}
 use Rattle.run_telling.specs.Opened.{Opening}
 
--- the texts of the pieces: how the run opened, an event with its number, and what is told beside the events
+-- whether the whole memory is to be told after each event; and the texts of the pieces: how the run opened, an event with its
+-- number, and what is told beside the events
 pub record Wording : Type 0 where
+  pub is_whole : Bool
   pub opening : Opening → List ℕ
-  pub event : ℕ → Frame → List ℕ
+  pub event : ℕ → Scene → List ℕ
   pub remark : PlacedRemark → List ℕ
 
--- the text of an event; there is none where there is no frame, as of no event of a run
-abbrev pub event_text : Wording → (event : ℕ) → Option Frame → List ℕ
+-- the text of an event; there is none where there is no scene, as of no event of a run
+abbrev pub event_text : Wording → (event : ℕ) → Option Scene → List ℕ
 event_text words k None = []
-event_text words k (Some frame) = words.event k frame
+event_text words k (Some scene) = words.event k scene
 
 -- how many of these remarks stand first that are told before an event
 abbrev pub told_before : (event : ℕ) → List PlacedRemark → ℕ
@@ -27,12 +29,12 @@ told_before_the_second : told_before 1 (record { before = 1; remark = Refused Se
 told_before_the_second = refl
 
 -- the texts of events from one on, each behind what is told before it, and of what is told after the last
-abbrev pub told_from : Wording → (event : ℕ) → List (Option Frame) → List PlacedRemark → List ℕ
+abbrev pub told_from : Wording → (event : ℕ) → List (Option Scene) → List PlacedRemark → List ℕ
 told_from words k [] remarks = flat_map words.remark remarks
-told_from words k (frame ∷ frames) remarks =
-    flat_map words.remark (take (told_before k remarks) remarks) ++ event_text words k frame
-    ++ told_from words (k + 1) frames (drop (told_before k remarks) remarks)
+told_from words k (scene ∷ scenes) remarks =
+    flat_map words.remark (take (told_before k remarks) remarks) ++ event_text words k scene
+    ++ told_from words (k + 1) scenes (drop (told_before k remarks) remarks)
 
 -- a run, told
-abbrev pub told_text : Wording → Opening → List (Option Frame) → List PlacedRemark → List ℕ
-told_text words opening frames remarks = words.opening opening ++ told_from words 0 frames remarks
+abbrev pub told_text : Wording → Opening → List (Option Scene) → List PlacedRemark → List ℕ
+told_text words opening scenes remarks = words.opening opening ++ told_from words 0 scenes remarks

@@ -15,7 +15,7 @@ use Rattle.uni_script.specs.Remarks.{remark_at, remarks_of_script}
 use Rattle.uni_script.specs.Replay.{IsInput, fault_of_script}
 use Rattle.uni_script.specs.Schedules.{word_of_object}
 use Rattle.uni_script.specs.Scripts.{ScriptSession, scripts_of}
-use Rattle.run_trace.specs.Frames.{frames_from}
+use Rattle.run_trace.specs.Scenes.{scenes_from}
 use Rattle.run_telling.specs.Opened.{opening}
 use Rattle.run_telling.specs.Order.{Wording, told_text}
 
@@ -31,7 +31,7 @@ abbrev pub text_of_events : {S I R : Type 0} → Wording → SpokenObject S I R 
     → (n row first : ℕ) → List (Event I) → List PlacedRemark → List ℕ
 text_of_events words o text name n row first events remarks =
     told_text words (opening name n row first (text o.object.initial))
-    (frames_from o.object o.language text (opened_world n o.object.initial first) events) remarks
+    (scenes_from o.object o.language text words.is_whole (opened_world n o.object.initial first) events) remarks
 
 -- the session which a script leaves, told, with what the script tells beside its events
 abbrev pub text_of_session : Wording → ScriptSession → List PlacedRemark → List ℕ

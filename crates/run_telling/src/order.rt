@@ -2,12 +2,12 @@
 
 ghost use Rattle.std.specs.Prelude.{◌≡◌, ◌++◌, ◌≤◌, IfOk, OnOk, Some, length, map};
 ghost use Rattle.std.specs.List.{flat_map};
-ghost use Rattle.run_trace.specs.Shown.{frame_shown};
+ghost use Rattle.run_trace.specs.Shown.{scene_shown};
 ghost use Rattle.run_telling.specs.Opened.{opening_shown};
 ghost use Rattle.run_telling.specs.Order.{Wording, told_before, told_from, told_text};
 
 use crate::opened::Opened;
-use run_trace::Frame;
+use run_trace::Scene;
 use std::alloc::{AllocError, Global};
 use uni_script::PlacedRemark;
 
@@ -15,6 +15,10 @@ use uni_script::PlacedRemark;
 pub trait Telling {
     /// The texts of the pieces.
     ghost wording: { Wording };
+
+    /// Whether the whole memory is to be told after each event.
+    fn is_whole() -> bool
+        ensures { result ≡ wording.is_whole };
 
     /// Adds how a run opened.
     ///
@@ -26,16 +30,16 @@ pub trait Telling {
     ) -> Result<(), AllocError>
         ensures { OnOk result (text.new.items ≡ text.old.items ++ wording.opening (opening_shown opened.now)) };
 
-    /// Adds an event, by its number and its frame.
+    /// Adds an event, by its number and its scene.
     ///
     /// An `Err` says that memory was refused.
-    fn push_frame(
+    fn push_scene(
         alloc: Global,
         event: u64,
-        frame: &Frame,
+        scene: &Scene,
         text: &mut Vec<u8>,
     ) -> Result<(), AllocError>
-        ensures { OnOk result (text.new.items ≡ text.old.items ++ wording.event event (frame_shown frame.now)) };
+        ensures { OnOk result (text.new.items ≡ text.old.items ++ wording.event event (scene_shown scene.now)) };
 
     /// Adds what is told beside the events.
     ///
@@ -78,37 +82,37 @@ fn told_before(event: u64, remarks: &[PlacedRemark]) -> usize
 /// An `Err` says that memory was refused.
 fn push_events<T: Telling>(
     alloc: Global,
-    frames: &[Frame],
+    scenes: &[Scene],
     remarks: &[PlacedRemark],
     text: &mut Vec<u8>,
 ) -> Result<(), AllocError>
     ensures { OnOk result (text.new.items ≡ text.old.items
-        ++ told_from T.wording 0 (map (λ frame. Some (frame_shown frame)) frames.now) remarks.now) }
+        ++ told_from T.wording 0 (map (λ scene. Some (scene_shown scene)) scenes.now) remarks.now) }
 {
     let mut rest = remarks;
-    for (event, frame) in frames.iter().enumerate() {
+    for (event, scene) in scenes.iter().enumerate() {
         let (told, later) = rest.split_at(told_before(event as u64, rest));
         push_remarks::<T>(alloc, told, text)?;
         rest = later;
-        T::push_frame(alloc, event as u64, frame, text)?;
+        T::push_scene(alloc, event as u64, scene, text)?;
     }
     push_remarks::<T>(alloc, rest, text)
 }
 
-/// A run that opened so and had these frames, told, with what is told beside its events.
+/// A run that opened so and had these scenes, told, with what is told beside its events.
 ///
 /// An `Err` says that memory was refused.
 pub fn text_of<T: Telling>(
     alloc: Global,
     opened: &Opened<'_>,
-    frames: &[Frame],
+    scenes: &[Scene],
     remarks: &[PlacedRemark],
 ) -> Result<Vec<u8>, AllocError>
     ensures { IfOk result (λ text. text.items ≡ told_text T.wording (opening_shown opened.now)
-        (map (λ frame. Some (frame_shown frame)) frames.now) remarks.now) }
+        (map (λ scene. Some (scene_shown scene)) scenes.now) remarks.now) }
 {
     let mut text = Vec::new(alloc);
     T::push_opening(alloc, opened, &mut text)?;
-    push_events::<T>(alloc, frames, remarks, &mut text)?;
+    push_events::<T>(alloc, scenes, remarks, &mut text)?;
     Ok(text)
 }

@@ -16,7 +16,7 @@ use crate::opened::Opened;
 use crate::order::{Telling, text_of};
 use ready_objects::Spoken;
 use run_layout::{MOST_EVENTS, PictureFault};
-use run_trace::frames_of;
+use run_trace::scenes_of;
 use std::alloc::{AllocError, Global};
 use uni_record::Recorded;
 use uni_script::{
@@ -88,8 +88,8 @@ fn text_of_events<T: Telling, O: Spoken>(
         number: recorded.first(),
         state: &state,
     };
-    let frames = frames_of(alloc, object, recorded)?;
-    text_of::<T>(alloc, &opened, &frames, remarks)
+    let scenes = scenes_of(alloc, object, recorded, T::is_whole())?;
+    text_of::<T>(alloc, &opened, &scenes, remarks)
 }
 
 /// A record, told, by its object.

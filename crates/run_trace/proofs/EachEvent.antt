@@ -1,5 +1,5 @@
--- What holds of the frames of each run.
-use Rattle.std.proofs.Common.{ℕ, zero, suc, refl, List, [], ◌∷◌}
+-- What holds of the scenes of each run.
+use Rattle.std.proofs.Common.{ℕ, zero, suc, refl, Bool, List, [], ◌∷◌}
 use Rattle.seq_object.specs.Sequential.{Sequential}
 use Rattle.ready_objects.specs.Spoken.{Language}
 use Rattle.uni_model.specs.Worlds.{WorldOf, Event, last_cell, world_after}
@@ -7,10 +7,10 @@ use Rattle.uni_model.proofs.Kept.{last_cell_threaded}
 use Rattle.run_trace.specs.Laws.{TellsEachEvent, ChangesOnePlace, CallChangesOnePlace, EndLeavesAnchor}
 
 module _ {S I R : Type 0} (object : Sequential S I R) where
-  pub TellsEachEvent-holds : (l : Language I R) (text : S → List ℕ) (w : WorldOf S I R) (events : List (Event I)) → TellsEachEvent object l text w events
-  TellsEachEvent-holds l text w [] k = refl
-  TellsEachEvent-holds l text w (e ∷ es) zero = refl
-  TellsEachEvent-holds l text w (e ∷ es) (suc k) = TellsEachEvent-holds l text (world_after object w e) es k
+  pub TellsEachEvent-holds : (l : Language I R) (text : S → List ℕ) (is_whole : Bool) (w : WorldOf S I R) (events : List (Event I)) → TellsEachEvent object l text is_whole w events
+  TellsEachEvent-holds l text is_whole w [] k = refl
+  TellsEachEvent-holds l text is_whole w (e ∷ es) zero = refl
+  TellsEachEvent-holds l text is_whole w (e ∷ es) (suc k) = TellsEachEvent-holds l text is_whole (world_after object w e) es k
 
   pub ChangesOnePlace-holds : (w : WorldOf S I R) (p : ℕ) → ChangesOnePlace object w p
   ChangesOnePlace-holds w p call some x other = rw (some, other) refl

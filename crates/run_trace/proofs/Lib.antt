@@ -2,3 +2,4 @@ pub mod Announcing
 pub mod Preferring
 pub mod Telling
 pub mod EachEvent
+pub mod PlacesMore

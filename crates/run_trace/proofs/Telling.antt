@@ -19,8 +19,9 @@ use Rattle.uni_core.specs.declared.stage.Place.{Place as PlaceById}
 use Rattle.uni_record.specs.declared.event.Event.{Event as Stored}
 use Rattle.uni_record.specs.Event.{event_shown, events_shown}
 use Rattle.std.specs.Str.{bytes_eq}
-use Rattle.run_trace.specs.Held.{Field, alone, change_of, field_name, held}
-use Rattle.run_trace.specs.Frames.{answered, Begun, Stepped, Frame, Steps, begun, stepped, frame_of, frames_from}
+use Rattle.run_trace.specs.Held.{Field, Held, alone, change_of, field_name, held}
+use Rattle.run_trace.specs.Frames.{answered, Begun, Stepped, Frame, Steps, begun, stepped, frame_of}
+use Rattle.run_trace.specs.Scenes.{Scene, memory_asked, scene_of, scenes_from}
 use Rattle.run_trace.specs.declared.preferences.Preference.{Preference}
 use Rattle.run_trace.specs.Preferred.{preferred_from, IsPreferred}
 use Rattle.run_trace.specs.Proposal.{proposal_told}
@@ -51,6 +52,11 @@ on_ok_held (Err e) P p = tt
 -- a call, by its process and its number
 pub call_is : (call : CallId) (p k : ℕ) → call.process ≡ p → call.nth ≡ k → call ≡ record { process = p; nth = k }
 call_is call p k process nth = let same : record { process = call.process; nth = call.nth } ≡ record { process = p; nth = k } = cc in same
+
+-- a scene, by its frame and its memory
+scene_is : (frame : Frame) (memory asked : Option (List Held)) (o : Option Frame) → Some frame ≡ o → memory ≡ asked
+    → Some (let scene : Scene = record { frame = frame; memory = memory } in scene) ≡ option_map (λ f. record { frame = f; memory = asked }) o
+scene_is frame memory asked o framed same = ap (λ m. Some (record { frame = frame; memory = m })) same ∙ ap (option_map (λ f. record { frame = f; memory = asked })) framed
 
 -- a field whose text has changed
 pub changed_one : (b a : Field) (same : Bool) → same ≡ bytes_eq b.text a.text → same ≡ false → record { name = a.name; before = b.text; after = a.text } ∷ [] ≡ change_of b a
@@ -118,11 +124,14 @@ module _ {S I R : Type 0} where
         ∙ ap (λ o. alone (field_name (Some (record { process = p; nth = w.begun p })) (codes "inv")) (option_map_or (λ j. text_of_words (l.inv_words j)) o (codes "?"))) (sym (asked w.memory (Of p (w.begun p)) i)))
 
     -- the next of the stored events is taken
-    pub frames_taken : (made more : List (Option Frame)) (w v : WorldOf S I R) (e : Stored I) (rest : List (Stored I)) (frame : Frame)
-        → more ≡ made ++ Some frame ∷ [] → Some frame ≡ frame_of object l text w (event_shown e) → v ≡ world_after object w (event_shown e)
-        → more ++ frames_from object l text v (events_shown rest) ≡ made ++ frames_from object l text w (events_shown (e ∷ rest))
-    frames_taken made more w v e rest frame added told world =
-        ap (λ k. k ++ frames_from object l text v (events_shown rest)) added
-        ∙ append_assoc made (Some frame ∷ []) (frames_from object l text v (events_shown rest))
-        ∙ ap (λ (u : WorldOf S I R). made ++ Some frame ∷ frames_from object l text u (events_shown rest)) world
-        ∙ ap (λ o. made ++ o ∷ frames_from object l text (world_after object w (event_shown e)) (events_shown rest)) told
+    pub scenes_taken : (is_whole : Bool) (made more : List (Option Scene)) (w v : WorldOf S I R) (e : Stored I) (rest : List (Stored I)) (scene : Scene)
+        → more ≡ made ++ Some scene ∷ [] → Some scene.frame ≡ frame_of object l text w (event_shown e) → v ≡ world_after object w (event_shown e) → scene.memory ≡ memory_asked l text is_whole v
+        → more ++ scenes_from object l text is_whole v (events_shown rest) ≡ made ++ scenes_from object l text is_whole w (events_shown (e ∷ rest))
+    scenes_taken is_whole made more w v e rest scene added framed world memory =
+        let after = world_after object w (event_shown e) in
+        let told : Some scene ≡ scene_of object l text is_whole w (event_shown e) =
+        scene_is scene.frame scene.memory (memory_asked l text is_whole after) (frame_of object l text w (event_shown e)) framed (memory ∙ ap (memory_asked l text is_whole) world) in
+        ap (λ k. k ++ scenes_from object l text is_whole v (events_shown rest)) added
+        ∙ append_assoc made (Some scene ∷ []) (scenes_from object l text is_whole v (events_shown rest))
+        ∙ ap (λ (u : WorldOf S I R). made ++ Some scene ∷ scenes_from object l text is_whole u (events_shown rest)) world
+        ∙ ap (λ o. made ++ o ∷ scenes_from object l text is_whole after (events_shown rest)) told

@@ -1,5 +1,5 @@
 -- The frames of a run: what each event does, told by the worlds before and after it.
-use Rattle.std.specs.Prelude.{◌≡◌, ℕ, ◌-◌, List, [], ◌∷◌, map, Option, Some, None, option_map, refl}
+use Rattle.std.specs.Prelude.{ℕ, ◌-◌, List, Option, Some, None, option_map}
 use Rattle.seq_object.specs.Sequential.{Sequential}
 use Rattle.seq_object.specs.declared.call_id.CallId.{CallId}
 use Rattle.ready_objects.specs.Spoken.{Language}
@@ -9,10 +9,9 @@ use Rattle.uni_model.specs.Places.Name.{Anchor, Of}
 use Rattle.uni_model.specs.Places.Place.{InvOf, NewOf}
 use Rattle.uni_model.specs.Stages.{Pending}
 use Rattle.uni_model.specs.Transition.{place_of}
-use Rattle.uni_model.specs.Worlds.{WorldOf, Event, world_after, response_of_step, opened_world}
+use Rattle.uni_model.specs.Worlds.{WorldOf, Event, world_after, response_of_step}
 use Rattle.uni_model.specs.Worlds.Event.{Call, Step, Trim, Reshape}
 use Rattle.uni_core.specs.declared.stage.StepKind.{StepKind}
-use Rattle.uni_core.specs.declared.stage.StepKind.TheVariants as kinds
 use Rattle.uni_core.specs.declared.fault.Progress.{Progress}
 use Rattle.uni_core.specs.declared.fault.Progress.TheVariants.{Going, Done}
 use Rattle.uni_core.specs.Readers.{kind_of}
@@ -96,30 +95,3 @@ module _ {S I R : Type 0} (object : Sequential S I R) (l : Language I R) (text :
   frame_of w (Step p) = option_map (λ call. Steps (stepped w p call)) (w.call p)
   frame_of w Trim = Some (Ends (ended l text None (last_number w) (world_after object w Trim).memory))
   frame_of w (Reshape n) = Some (Ends (ended l text (Some n) (last_number w) (world_after object w (Reshape n)).memory))
-
-  -- the frames of events, one for each
-  abbrev pub frames_from : WorldOf S I R → List (Event I) → List (Option Frame)
-  frames_from w [] = []
-  frames_from w (e ∷ es) = frame_of w e ∷ frames_from (world_after object w e) es
-
--- one process and an object that keeps the last number and answers the one before, from 9
-abbrev sample : Sequential ℕ ℕ ℕ
-sample = record { initial = 9; next = λ s i. i; answer = λ s i. s }
-
-abbrev sample_language : Language ℕ ℕ
-sample_language =
-    record { inv_words = λ i. (i ∷ []) ∷ []; inv_of_words = λ words. None; resp_text = λ r. r ∷ []; inv_of_word = λ w. w }
-
--- the kind of a frame's step, if it is one
-abbrev kind_in : Option Frame → List StepKind
-kind_in (Some (Steps s)) = s.kind ∷ []
-kind_in _ = []
-
--- a process that calls has its next step announce
-announce_first : map kind_in (frames_from sample sample_language (λ s. s ∷ []) (opened_world 1 9 1) (Call 0 7 ∷ Step 0 ∷ []))
-    ≡ [] ∷ (kinds.Announce ∷ []) ∷ []
-announce_first = refl
-
--- a step of a process without a call has no frame
-no_frame : frames_from sample sample_language (λ s. s ∷ []) (opened_world 1 9 1) (Step 0 ∷ []) ≡ None ∷ []
-no_frame = refl

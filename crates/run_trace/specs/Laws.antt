@@ -1,5 +1,5 @@
 -- What holds of the frames of each run.
-use Rattle.std.specs.Prelude.{◌≡◌, ℕ, false, List, take, slice_get, Some, option_map}
+use Rattle.std.specs.Prelude.{◌≡◌, ℕ, Bool, false, List, take, slice_get, Some, option_map}
 use Rattle.seq_object.specs.Sequential.{Sequential}
 use Rattle.ready_objects.specs.Spoken.{Language}
 use Rattle.uni_model.specs.Places.{Place, place_eq}
@@ -11,14 +11,14 @@ use Rattle.uni_model.specs.Worlds.{WorldOf, Event, IsQuiescent, anchor_memory, w
 use Rattle.uni_model.specs.Invariant.{Invariant}
 use Rattle.uni_trim.specs.Ends.{last_number}
 use Rattle.uni_model.specs.Worlds.Event.{Call, Step}
-use Rattle.run_trace.specs.Frames.{frame_of, frames_from}
+use Rattle.run_trace.specs.Scenes.{scene_of, scenes_from}
 
--- frame k is that of event k in the world after the first k events
-abbrev pub TellsEachEvent : {S I R : Type 0} → Sequential S I R → Language I R → (S → List ℕ) → WorldOf S I R → List (Event I)
-    → Type 0
-TellsEachEvent object l text w events =
-    (k : ℕ) → slice_get (frames_from object l text w events) k
-    ≡ option_map (λ e. frame_of object l text (world_after_all object w (take k events)) e) (slice_get events k)
+-- scene k is that of event k in the world after the first k events
+abbrev pub TellsEachEvent : {S I R : Type 0} → Sequential S I R → Language I R → (S → List ℕ) → (is_whole : Bool) → WorldOf S I R
+    → List (Event I) → Type 0
+TellsEachEvent object l text is_whole w events =
+    (k : ℕ) → slice_get (scenes_from object l text is_whole w events) k
+    ≡ option_map (λ e. scene_of object l text is_whole (world_after_all object w (take k events)) e) (slice_get events k)
 
 -- a step changes no place but the one that it touches
 abbrev pub ChangesOnePlace : {S I R : Type 0} → Sequential S I R → WorldOf S I R → (p : ℕ) → Type 0

@@ -3,5 +3,7 @@ pub mod Held
 pub mod Proposal
 pub mod Preferred
 pub mod Frames
+pub mod Whole
+pub mod Scenes
 pub mod Shown
 pub mod Laws

@@ -1,7 +1,8 @@
 -- What the code's frames are in the definitions: texts in place of vectors.
-use Rattle.std.specs.Prelude.{option_map}
+use Rattle.std.specs.Prelude.{map, option_map}
 use Rattle.run_trace.specs.Held.{Field, Held, Change}
 use Rattle.run_trace.specs.Frames.{Begun, Stepped, Ended, Frame, Begins, Steps, Ends}
+use Rattle.run_trace.specs.Scenes.{Scene}
 use Rattle.run_trace.specs.declared.frame.Field.{Field as FieldOfCode}
 use Rattle.run_trace.specs.declared.frame.Held.{Held as HeldOfCode}
 use Rattle.run_trace.specs.declared.frame.Change.{Change as ChangeOfCode}
@@ -10,6 +11,7 @@ use Rattle.run_trace.specs.declared.frame.Step.{Step}
 use Rattle.run_trace.specs.declared.frame.EraEnd.{EraEnd}
 use Rattle.run_trace.specs.declared.frame.Frame.{Frame as FrameOfCode}
 use Rattle.run_trace.specs.declared.frame.Frame.TheVariants as frame
+use Rattle.run_trace.specs.declared.frame.Scene.{Scene as SceneOfCode}
 
 abbrev pub field_shown : FieldOfCode → Field
 field_shown f = record { name = f.name.items; text = f.text.items }
@@ -44,3 +46,6 @@ abbrev pub frame_shown : FrameOfCode → Frame
 frame_shown (frame.Call b) = Begins (begun_shown b)
 frame_shown (frame.Step s) = Steps (step_shown s)
 frame_shown (frame.End e) = Ends (end_shown e)
+
+abbrev pub scene_shown : SceneOfCode → Scene
+scene_shown s = record { frame = frame_shown s.frame; memory = option_map (λ memory. map held_shown memory.items) s.memory }

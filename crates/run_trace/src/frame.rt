@@ -96,6 +96,16 @@ pub enum Frame {
     End(EraEnd),
 }
 
+/// What an event did, and the whole memory after it.
+#[derive(Drop)]
+pub struct Scene {
+    /// What the event did.
+    pub frame: Frame,
+    /// What each place of the memory holds after it, where that is asked for: the entries of announce and head, and the
+    /// fields of the anchor and of each cell that was made in the era.
+    pub memory: Option<Vec<Held>>,
+}
+
 /// A copy of a field.
 ///
 /// An `Err` says that memory was refused.

@@ -1,16 +1,16 @@
-//! What holds of the frames of each run, as contracts of functions that do nothing.
+//! What holds of the scenes of each run, as contracts of functions that do nothing.
 
-ghost use Rattle.std.specs.Prelude.{ℕ, List};
+ghost use Rattle.std.specs.Prelude.{ℕ, Bool, List};
 ghost use Rattle.uni_model.specs.Worlds.{Event, WorldOf};
 ghost use Rattle.run_trace.specs.Laws.{TellsEachEvent, ChangesOnePlace, CallChangesOnePlace, EndLeavesAnchor};
 
 use ready_objects::Spoken;
 
-/// Frame k of a run tells of the world of the definitions after the first k events, and of the one after event k: it
-/// is `frame_of` that world and that event. There is a frame for each event, and no other.
-pub fn frames_tell_each_event<O: Spoken>()
-    ensures { (object : O) (w : WorldOf O.State O.Inv O.Resp) (events : List (Event O.Inv)) →
-        TellsEachEvent (O.sequential object) O.language O.state_text w events }
+/// Scene k of a run tells of the world of the definitions after the first k events, and of the one after event k: it
+/// is `scene_of` that world and that event. There is a scene for each event, and no other.
+pub fn scenes_tell_each_event<O: Spoken>()
+    ensures { (object : O) (is_whole : Bool) (w : WorldOf O.State O.Inv O.Resp) (events : List (Event O.Inv)) →
+        TellsEachEvent (O.sequential object) O.language O.state_text is_whole w events }
 {}
 
 /// The end of an era leaves an anchor alone, with the number that its frame tells: all entries of announce and head

@@ -192,7 +192,7 @@ fn reply_text<O: Spoken>(
 /// What the announce entry of a process holds.
 ///
 /// An `Err` says that memory was refused.
-fn announced_entry<O: Spoken>(
+pub(crate) fn announced_entry<O: Spoken>(
     alloc: Global,
     world: &World<O>,
     announced: &[CallId],
@@ -210,7 +210,11 @@ fn announced_entry<O: Spoken>(
 /// What the head entry of a process holds.
 ///
 /// An `Err` says that memory was refused.
-fn head_entry<O: Spoken>(alloc: Global, world: &World<O>, process: u64) -> Result<Held, AllocError>
+pub(crate) fn head_entry<O: Spoken>(
+    alloc: Global,
+    world: &World<O>,
+    process: u64,
+) -> Result<Held, AllocError>
     ensures { IfOk result (λ found. held_shown found ≡
         held O.language O.state_text (world_of world.now).memory (HeadOf process)) }
 {
@@ -224,7 +228,7 @@ fn head_entry<O: Spoken>(alloc: Global, world: &World<O>, process: u64) -> Resul
 /// The number of a cell.
 ///
 /// An `Err` says that memory was refused.
-fn number_field<O: Spoken>(
+pub(crate) fn number_field<O: Spoken>(
     alloc: Global,
     world: &World<O>,
     cell: CellId,
@@ -242,7 +246,11 @@ fn number_field<O: Spoken>(
 /// The cell after a cell.
 ///
 /// An `Err` says that memory was refused.
-fn after_field<O: Spoken>(alloc: Global, world: &World<O>, cell: CellId) -> Result<Held, AllocError>
+pub(crate) fn after_field<O: Spoken>(
+    alloc: Global,
+    world: &World<O>,
+    cell: CellId,
+) -> Result<Held, AllocError>
     ensures { IfOk result (λ found. held_shown found ≡
         held O.language O.state_text (world_of world.now).memory (AfterOf (name_in (world_of world.now) cell))) }
 {
@@ -254,7 +262,7 @@ fn after_field<O: Spoken>(alloc: Global, world: &World<O>, cell: CellId) -> Resu
 /// The cell before a cell.
 ///
 /// An `Err` says that memory was refused.
-fn before_field<O: Spoken>(
+pub(crate) fn before_field<O: Spoken>(
     alloc: Global,
     world: &World<O>,
     cell: CellId,

@@ -1,4 +1,4 @@
-//! The frames of a run, by the replay of its events.
+//! The scenes of a run, by the replay of its events.
 
 ghost use Rattle.std.specs.Prelude.{◌≡◌, ◌<◌, None, Some, IfOk, IfSome, OnOk, map, option_map};
 ghost use Rattle.uni_model.specs.Transition.{place_of};
@@ -9,14 +9,17 @@ ghost use Rattle.uni_core.specs.World.{current_of, name_in, world_of};
 ghost use Rattle.uni_trim.specs.Ends.{last_number};
 ghost use Rattle.uni_record.specs.Event.{event_lent, event_shown, events_shown};
 ghost use Rattle.run_trace.specs.Announced.{announced_with, IsMirrored};
-ghost use Rattle.run_trace.specs.Frames.{answered, begun, ended, frame_of, frames_from, stepped};
+ghost use Rattle.run_trace.specs.Frames.{answered, begun, ended, frame_of, stepped};
 ghost use Rattle.run_trace.specs.Preferred.{IsPreferred};
 ghost use Rattle.run_trace.specs.Proposal.{proposal_told};
-ghost use Rattle.run_trace.specs.Shown.{begun_shown, end_shown, frame_shown, held_shown, step_shown};
+ghost use Rattle.run_trace.specs.Scenes.{scenes_from};
+ghost use Rattle.run_trace.specs.Shown.{begun_shown, end_shown, frame_shown, held_shown, scene_shown};
+ghost use Rattle.run_trace.specs.Shown.{step_shown};
 
-use crate::frame::{Begun, EraEnd, Frame, Held, Step, held_copy};
+use crate::frame::{Begun, EraEnd, Frame, Held, Scene, Step, held_copy};
 use crate::places::{alone, asked_field, cell_text, read_place, settled_fields};
 use crate::preferences::{Preference, note_preferred, preferred_by};
+use crate::whole::memory_asked;
 use cell_arena::CellId;
 use ready_objects::Spoken;
 use seq_object::CallId;
@@ -25,29 +28,31 @@ use uni_core::{Place, Progress, StepKind, World};
 use uni_record::{Event, Recorded};
 use uni_trim::{reshape, trim};
 
-/// The frames of the run that a record has stored, one for each of its events; `object` is a further value of the
-/// record's object. They are found by a replay of the events.
+/// The scenes of the run that a record has stored, one for each of its events; `object` is a further value of the
+/// record's object. They are found by a replay of the events. They tell the whole memory only where that is asked for.
 ///
 /// An `Err` says that memory was refused. It would come too where the replay refused an event, as it never does with
 /// the object of the record; that isn't proved.
-pub fn frames_of<O: Spoken>(
+pub fn scenes_of<O: Spoken>(
     alloc: Global,
     object: O,
     run: &Recorded<O>,
-) -> Result<Vec<Frame>, AllocError>
-    ensures { IfOk result (λ frames. map (λ frame. Some (frame_shown frame)) frames.items ≡
-        frames_from (O.sequential object) O.language O.state_text
+    is_whole: bool,
+) -> Result<Vec<Scene>, AllocError>
+    ensures { IfOk result (λ scenes. map (λ scene. Some (scene_shown scene)) scenes.items ≡
+        scenes_from (O.sequential object) O.language O.state_text is_whole
         (opened_world run.now.processes (O.sequential object).initial run.now.first) (events_shown run.now.events)) }
 {
     let mut replay = reopened(alloc, object, run)?;
     let mut announced = Vec::new(alloc);
     let mut preferences = Vec::new(alloc);
-    let mut frames = Vec::new(alloc);
+    let mut scenes = Vec::new(alloc);
     for event in run.events() {
         let frame = frame_of(alloc, event, &mut replay, &mut announced, &mut preferences)?;
-        frames.push(frame)?;
+        let memory = memory_asked(alloc, is_whole, &replay, &announced)?;
+        scenes.push(Scene { frame, memory })?;
     }
-    Ok(frames)
+    Ok(scenes)
 }
 
 /// The world in which a record opened, over this object.

@@ -5,7 +5,7 @@ use Rattle.clap.proofs.OnLiterals.{clap_on_literals}
 use Rattle.clap.specs.declared.error.kind.ErrorKind.TheVariants.{ArgumentConflict, DisplayHelp, DisplayVersion, UnknownArgument}
 use Rattle.command_line.specs.Flags.{flag, is_set, versioned}
 use Rattle.unidraw_run.specs.declared.program.Form.{Form}
-use Rattle.unidraw_run.specs.declared.program.Form.TheVariants.{Svg, Lines, Steps, Json, Html, History}
+use Rattle.unidraw_run.specs.declared.program.Form.TheVariants.{Svg, Lines, Steps, Json, Full, Html, History}
 
 -- an option that asks for a form
 pub record FormOption : Type 0 where
@@ -18,8 +18,8 @@ asks name form = record { name = name; form = form }
 -- the options, in the order of the help: one for each form but an SVG
 abbrev pub form_options : List FormOption
 form_options =
-    asks (codes "text") Lines ∷ asks (codes "steps") Steps ∷ asks (codes "json") Json ∷ asks (codes "html") Html
-    ∷ asks (codes "history") History ∷ []
+    asks (codes "text") Lines ∷ asks (codes "steps") Steps ∷ asks (codes "json") Json ∷ asks (codes "full") Full
+    ∷ asks (codes "html") Html ∷ asks (codes "history") History ∷ []
 
 -- a program with these options more
 abbrev pub with_options : App → List FormOption → App
@@ -33,16 +33,21 @@ unidraw = with_options (versioned (new_app (codes "unidraw"))) form_options
 abbrev pub forms_used : List Row → List FormOption → List Form
 forms_used rows options = map (λ o. o.form) (filter (λ o. is_set o.name rows) options)
 
--- the form that is asked for, by all whose options are used: an SVG where none is, and no form where several are
+-- the form that is asked for where a further option is used: its own in place of an SVG, and the whole memory only beside a trace
+abbrev pub form_with : Option Form → Form → Option Form
+form_with (Some Json) Full = Some Full
+form_with (Some Svg) Full = None
+form_with (Some Svg) form = Some form
+form_with _ _ = None
+
+-- the form that is asked for, by all whose options are used: an SVG where none is, and no form where they don't go together
 abbrev pub form_among : List Form → Option Form
-form_among [] = Some Svg
-form_among (form ∷ []) = Some form
-form_among (form ∷ other ∷ more) = None
+form_among = fold form_with (Some Svg)
 
 abbrev pub form_in : List Row → Option Form
 form_in rows = form_among (forms_used rows form_options)
 
--- the kinds of fault, where several forms are a conflict
+-- the kinds of fault, where forms that don't go together are a conflict
 abbrev pub faults_with : Kinds → Option Form → Kinds
 faults_with [] None = ArgumentConflict ∷ []
 faults_with [] (Some form) = []
@@ -69,8 +74,8 @@ MayAskForHelp words = IsAmong DisplayHelp (faults_of_words words) ⊎ IsAmong Di
 abbrev pub IsRefused : List Text → Type 0
 IsRefused words = (form_of_words words ≡ None) × ¬ (MayAskForHelp words)
 
--- no word asks for an SVG, `--text` for lines, `--steps` for words, `--json` for a trace, `--html` for a page, `--history` for a
--- history, and any other for nothing, whatever the program's name is
+-- no word asks for an SVG, `--text` for lines, `--steps` for words, `--json` for a trace, and with `--full` for one with the whole
+-- memory, `--html` for a page, `--history` for a history, and any other for nothing, whatever the program's name is
 form_without_words : (name : Text) → form_of_words (name ∷ []) ≡ Some Svg
 unfolding clap_on_literals
 form_without_words name = refl
@@ -86,6 +91,14 @@ form_of_steps name = refl
 form_of_json : (name : Text) → form_of_words (name ∷ codes "--json" ∷ []) ≡ Some Json
 unfolding clap_on_literals
 form_of_json name = refl
+
+form_of_json_full : (name : Text) → form_of_words (name ∷ codes "--json" ∷ codes "--full" ∷ []) ≡ Some Full
+unfolding clap_on_literals
+form_of_json_full name = refl
+
+full_alone_is_a_fault : (name : Text) → faults_of_words (name ∷ codes "--full" ∷ []) ≡ ArgumentConflict ∷ []
+unfolding clap_on_literals
+full_alone_is_a_fault name = refl
 
 form_of_html : (name : Text) → form_of_words (name ∷ codes "--html" ∷ []) ≡ Some Html
 unfolding clap_on_literals

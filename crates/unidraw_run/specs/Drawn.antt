@@ -8,21 +8,22 @@ use Rattle.uni_script.specs.declared.fault.BenchFault.{BenchFault}
 use Rattle.run_layout.specs.Subject.{HasTooManyEvents}
 use Rattle.run_picture.specs.Picture.{IsPicture}
 use Rattle.run_lines.specs.Lines.{IsLines}
-use Rattle.run_json.specs.Trace.{IsTrace}
+use Rattle.run_json.specs.Trace.{IsTrace, IsWholeTrace}
 use Rattle.run_steps.specs.Steps.{IsSteps}
 use Rattle.run_page.specs.Page.{IsPage}
 use Rattle.run_history.specs.History.{IsHistory}
 pub use Rattle.unidraw_run.specs.CommandLine.{form_of_words}
 use Rattle.unidraw_run.specs.declared.program.Form.{Form}
-use Rattle.unidraw_run.specs.declared.program.Form.TheVariants.{Svg, Lines, Steps, Json, Html, History}
+use Rattle.unidraw_run.specs.declared.program.Form.TheVariants.{Svg, Lines, Steps, Json, Full, Html, History}
 
--- the reader had a script that can be drawn, and this is its picture in a form, or its steps in words, its trace, the page of
--- that, or its history
+-- the reader had a script that can be drawn, and this is its picture in a form, or its steps in words, its trace, that with the
+-- whole memory, the page of it, or its history
 abbrev pub IsPictureIn : Form → (left : Option (List ℕ)) → (text : List ℕ) → Type 0
 IsPictureIn Svg left text = IsPicture left text
 IsPictureIn Lines left text = IsLines left text
 IsPictureIn Steps left text = IsSteps left text
 IsPictureIn Json left text = IsTrace left text
+IsPictureIn Full left text = IsWholeTrace left text
 IsPictureIn Html left text = IsPage left text
 IsPictureIn History left text = IsHistory left text
 

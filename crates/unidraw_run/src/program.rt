@@ -13,7 +13,7 @@ ghost use Rattle.unidraw_run.specs.Statuses.{IsStatusOfPicture, TellsPictureFaul
 use crate::words::{read_words, tip_for};
 use command_line::answer_words;
 use run_history::history_of;
-use run_json::json_of;
+use run_json::{json_of, whole_json_of};
 use run_layout::PictureFault;
 use run_lines::lines_of;
 use run_page::page_of;
@@ -34,7 +34,9 @@ pub enum Form {
     Steps,
     /// Lines of JSON, which tell what each event did to the memory.
     Json,
-    /// A page for a browser, which shows these.
+    /// The same, which tell the whole memory too.
+    Full,
+    /// A page for a browser, which shows what each event did.
     Html,
     /// Lines of JSON, which tell the calls and the replies alone.
     History,
@@ -42,8 +44,9 @@ pub enum Form {
 
 /// Draws the script on `input` in the form that the argument texts ask for, the program's name first, and
 /// writes the picture to `output`; the answer is the status that the program ends with. With `--text` the
-/// picture is one of lines, with `--steps` it is a sentence for each event, with `--json` the trace of the run, with
-/// `--html` a page that shows this, with `--history` the calls and the replies of the run, and with no word an SVG.
+/// picture is one of lines, with `--steps` it is a sentence for each event, with `--json` the trace of the run, and
+/// beside that with `--full` the whole memory after each event, with `--html` a page that shows the trace, with
+/// `--history` the calls and the replies of the run, and with no word an SVG.
 ///
 /// The status is 0 where all went well, also for help or the version, which go to `output`; 2 for a bad script,
 /// one of more than 2,000 events, or words that ask for nothing that there is; 3 where `input` or `output`
@@ -114,6 +117,7 @@ fn picture_in<I: TextIn>(alloc: Global, form: Form, reader: &mut I) -> Result<Ve
         Form::Lines => lines_of(alloc, reader),
         Form::Steps => steps_of(alloc, reader),
         Form::Json => json_of(alloc, reader),
+        Form::Full => whole_json_of(alloc, reader),
         Form::Html => page_of(alloc, reader),
         Form::History => history_of(alloc, reader),
     }

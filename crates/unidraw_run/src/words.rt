@@ -5,7 +5,7 @@ ghost use Rattle.clap.specs.Values.{kind_of};
 ghost use Rattle.clap.specs.Words.{HasKind, app_of, found_of, new_app, rows_of};
 ghost use Rattle.clap.specs.declared.builder.command.Command.TheViews.{out-Command};
 ghost use Rattle.command_line.specs.Flags.{versioned};
-ghost use Rattle.unidraw_run.specs.CommandLine.{faults_of_words, form_among, form_of_words, forms_used};
+ghost use Rattle.unidraw_run.specs.CommandLine.{faults_of_words, form_among, form_of_words, form_with, forms_used};
 ghost use Rattle.unidraw_run.specs.CommandLine.{unidraw, with_options};
 ghost use Rattle.unidraw_run.specs.Shown.{option_shown};
 
@@ -24,9 +24,10 @@ const NOTES: &str = "\
 The script is read from standard input, and the picture is written to standard
 output: an SVG, or with --text lines of at most 100 columns. With --steps each
 step is told in words, with what it changed, and with --json for programs: see
-docs/trace.md; with --html a browser shows them. With --history calls and
-replies are told alone, for a program that judges histories. A script of more
-than 2000 events has no picture.
+docs/trace.md; with --json --full the whole memory is told after each event.
+With --html a browser shows the steps. With --history calls and replies are
+told alone, for a program that judges histories. A script of more than 2000
+events has no picture.
 
 Examples:
   unidraw < queue.script > queue.svg
@@ -36,8 +37,9 @@ Examples:
   unidraw --html < queue.script > queue.html
   unidraw --history < queue.script";
 
-/// What is said where words ask for several forms.
-const SEVERAL: &str = "only one of --text, --steps, --json, --html and --history can be used";
+/// What is said where words ask for forms that don't go together.
+const SEVERAL: &str = "\
+only one of --text, --steps, --json, --html and --history can be used, and --full beside --json alone";
 
 /// What is said where a word may have been meant for a file.
 const TIP: &str = "tip: a script is read from standard input: unidraw < FILE\n";
@@ -54,7 +56,7 @@ struct FormOption {
 }
 
 /// The options, in the order of the help: one for each form but an SVG.
-const OPTIONS: [FormOption; 5] = [
+const OPTIONS: [FormOption; 6] = [
     FormOption {
         name: "text",
         form: Form::Lines,
@@ -69,6 +71,11 @@ const OPTIONS: [FormOption; 5] = [
         name: "json",
         form: Form::Json,
         help: "Tells each step and what it changed, in lines of JSON",
+    },
+    FormOption {
+        name: "full",
+        form: Form::Full,
+        help: "Beside --json: tells the whole memory after each event",
     },
     FormOption {
         name: "html",
@@ -122,20 +129,30 @@ fn unidraw<'a>(alloc: Global) -> Result<Command<'a>, AllocError>
     with_options(alloc, described(alloc), &OPTIONS)
 }
 
-/// The form that is asked for by the options that matches use, of these; `None` where they use several.
+/// The form that is asked for where a further option is used, which asks for this one; `None` where they don't go
+/// together.
+fn form_with(asked: Option<Form>, further: Form) -> Option<Form>
+    ensures { result ≡ form_with asked further }
+{
+    match (asked, further) {
+        (Some(Form::Json), Form::Full) => Some(Form::Full),
+        (Some(Form::Svg), Form::Full) => None,
+        (Some(Form::Svg), form) => Some(form),
+        _ => None,
+    }
+}
+
+/// The form that is asked for by the options that matches use, of these; `None` where they don't go together.
 fn form_in(matches: &ArgMatches<'_>, options: &[FormOption]) -> Option<Form>
     ensures { result ≡ form_among (forms_used (rows_of (found_of matches.now)) (map option_shown options.now)) }
 {
-    let mut used = None;
+    let mut asked = Some(Form::Svg);
     for option in options {
         if is_set(matches, option.name) {
-            if used.is_some() {
-                return None;
-            }
-            used = Some(option.form);
+            asked = form_with(asked, option.form);
         }
     }
-    Some(used.unwrap_or(Form::Svg))
+    asked
 }
 
 /// The fault of words that ask for several forms.

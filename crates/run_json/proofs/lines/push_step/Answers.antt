@@ -1,8 +1,8 @@
 use Rattle.run_trace.specs.Shown.{step_shown}
-use Rattle.run_json.proofs.Pieces.{step_line}
+use Rattle.std.proofs.lemmas.Result.{on_ok_weaker}
+use Rattle.run_json.proofs.Pieces.{step_parts}
 use Rattle.run_json.proofs.lines.push_step.Goals as goal
 
 pub returns : goal.returns
 returns c =
-    step_line _ _ _ _ _ _ _ c.args.event (step_shown c.args.step.now) c.in_ok-push.ensures.items c.in_ok-push_step_start.ensures c.in_ok-push_step_place.ensures c.in_ok-push_step_call.ensures
-    c.in_ok-push-2.ensures.items c.in_ok-push-3.ensures.items
+    on_ok_weaker c.push_step_call.result (λ is. step_parts _ _ _ _ c.args.event (step_shown c.args.step.now) c.in_ok-push_step_start.ensures c.in_ok-push_step_place.ensures is) c.push_step_call.ensures

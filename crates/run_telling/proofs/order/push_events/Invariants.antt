@@ -1,10 +1,10 @@
 use Rattle.std.proofs.Common.{◌≡◌, ◌++◌, Some, map, drop}
-use Rattle.run_trace.specs.Shown.{frame_shown}
+use Rattle.run_trace.specs.Shown.{scene_shown}
 use Rattle.run_telling.specs.Order.{told_from}
 use Rattle.run_telling.proofs.order.push_events.Given as goal
 
 -- the text so far, and those of the rest
 abbrev pub invariant-loop-event : goal.invariant-loop-event
 invariant-loop-event g l =
-    l.text.items ++ told_from g.T.Telling.wording l.event (map (λ frame. Some (frame_shown frame)) (drop l.event l.frames)) l.rest
-    ≡ l.initial.text.items ++ told_from g.T.Telling.wording 0 (map (λ frame. Some (frame_shown frame)) l.frames) l.fn.remarks
+    l.text.items ++ told_from g.T.Telling.wording l.event (map (λ scene. Some (scene_shown scene)) (drop l.event l.scenes)) l.rest
+    ≡ l.initial.text.items ++ told_from g.T.Telling.wording 0 (map (λ scene. Some (scene_shown scene)) l.scenes) l.fn.remarks

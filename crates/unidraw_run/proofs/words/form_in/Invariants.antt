@@ -1,12 +1,11 @@
-use Rattle.std.proofs.Common.{◌≡◌, ◌++◌, map, drop}
+use Rattle.std.proofs.Common.{◌≡◌, map, drop, fold}
 use Rattle.clap.specs.Words.{found_of, rows_of}
-use Rattle.unidraw_run.specs.CommandLine.{form_among, forms_used}
+use Rattle.unidraw_run.specs.CommandLine.{form_among, form_with, forms_used}
 use Rattle.unidraw_run.specs.Shown.{option_shown}
-use Rattle.unidraw_run.proofs.Forms.{used_forms}
 use Rattle.unidraw_run.proofs.words.form_in.Given as goal
 
--- the form that is used so far, before those of the rest
+-- the form that is asked for so far, with those of the rest
 abbrev pub invariant-loop-option : goal.invariant-loop-option
 invariant-loop-option l =
-    form_among (used_forms l.used ++ forms_used (rows_of (found_of l.matches)) (map option_shown (drop l.option-index l.options)))
+    fold form_with l.asked (forms_used (rows_of (found_of l.matches)) (map option_shown (drop l.option-index l.options)))
     ≡ form_among (forms_used (rows_of (found_of l.matches)) (map option_shown l.options))
