@@ -1,18 +1,22 @@
 -- Texts, piece by piece.
-use Rattle.std.proofs.Common.{◌≡◌, ◌∙◌, ℕ, ◌+◌, ◌<◌, ◌≤◌, List, [], ◌∷◌, ◌++◌, length, drop, get_or, ap, sym, arith, append-nil, append_assoc}
+use Rattle.std.proofs.Common.{◌≡◌, ◌∙◌, ℕ, suc, ◌+◌, ◌<◌, ◌≤◌, List, [], ◌∷◌, ◌++◌, length, drop, get_or, ap, sym, arith, append-nil, append_assoc}
 use Rattle.std.specs.List.{flat_map, range_with_len}
 use Rattle.std.proofs.lemmas.List.{drop_more, drop_all, map-id}
 use Rattle.std.proofs.lemmas.List.FromFn.{map-range_with_len_more}
 use Rattle.std.proofs.lemmas.Grind.{flat_map-append}
 use Rattle.uni_core.specs.declared.stage.StepKind.{StepKind}
+use Rattle.run_lines.specs.Strokes.{lane_row, name_text, names_from, text_stroke}
 use Rattle.run_lines.specs.Sheet.{entry_text, entries_from}
 
--- the pieces of one more number
-pub flat_map_range_more : {A : Type 0} (f : ℕ → List A) (n : ℕ) → flat_map f (range_with_len 0 (n + 1)) ≡ flat_map f (range_with_len 0 n) ++ f n
-flat_map_range_more f n =
-    let more : range_with_len 0 (n + 1) ≡ range_with_len 0 n ++ n ∷ [] =
-    sym (map-id (range_with_len 0 (n + 1))) ∙ map-range_with_len_more (λ (k : ℕ). k) 0 n n (omega arith) ∙ ap (λ l. l ++ n ∷ []) (map-id (range_with_len 0 n)) in
-    ap (flat_map f) more ∙ flat_map-append f (range_with_len 0 n) (n ∷ []) ∙ ap (λ l. flat_map f (range_with_len 0 n) ++ l) (append-nil (f n))
+-- the name of a process, and those of the next ones
+pub names_from-more : (lanes column process n m : ℕ) → n ≡ suc m
+    → names_from lanes column process n ≡ text_stroke (lane_row lanes process + 1) column (name_text process) ∷ names_from lanes column (process + 1) m
+unfolding names_from
+names_from-more lanes column process n m e = ap (names_from lanes column process) e
+
+pub names_from-none : (lanes column process n : ℕ) → n ≡ 0 → names_from lanes column process n ≡ []
+unfolding names_from
+names_from-none lanes column process n e = ap (names_from lanes column process) e
 
 -- an entry of the legend, and those after it
 pub entries_more : (count place : ℕ) (kinds : List StepKind) (i : ℕ) (any : StepKind) → i < length kinds

@@ -1,8 +1,7 @@
 -- The whole text, for a terminal of 100 columns.
-use Rattle.std.specs.Prelude.{◌≡◌, ℕ, ◌+◌, ◌-◌, ◌*◌, ◌/◌, ◌%◌, ◌&&◌, ◌||◌, min, ◌==◌, nat_lt}
-use Rattle.std.specs.Prelude.{nat_le, if◌then◌else◌, List, [], ◌∷◌, ◌++◌, length, take, drop, replicate, codes, refl}
-use Rattle.std.specs.List.{flat_map, range_with_len, suffix_len}
-use Rattle.std.specs.Int.{div_ceil}
+use Rattle.std.specs.Prelude.{◌≡◌, ℕ, zero, suc, ◌+◌, ◌-◌, ◌*◌, ◌/◌, ◌%◌, ◌&&◌, ◌||◌, min, max, ◌==◌, nat_lt}
+use Rattle.std.specs.Prelude.{nat_le, if◌then◌else◌, Bool, true, false, List, [], ◌∷◌, ◌++◌, length, take, drop, replicate, codes, refl}
+use Rattle.std.specs.List.{flat_map, list_any, suffix_len}
 use Rattle.std.specs.Fmt.{decimal, digits}
 use Rattle.uni_core.specs.declared.stage.StepKind.{StepKind}
 use Rattle.uni_script.specs.declared.remarks.Remark.{Remark}
@@ -11,13 +10,14 @@ use Rattle.uni_script.specs.declared.remarks.PlacedRemark.{PlacedRemark}
 use Rattle.run_marks.specs.declared.marks.Dot.{Dot}
 use Rattle.run_marks.specs.Marks.{Cell, EraMarks, RunMarks, lanes_of}
 use Rattle.run_layout.specs.declared.axis.Scale.{Scale}
-use Rattle.run_layout.specs.Wording.{letter_of, meaning_of, kinds_of, cell_name, cell_words, title_text}
+use Rattle.run_layout.specs.Wording.{letter_of, meaning_of, kinds_of, any_unchanged, cell_name, cell_words, title_text}
 use Rattle.run_layout.specs.Wrapping.{lines_of}
 use Rattle.run_layout.specs.Axis.{Places, places_of}
 use Rattle.run_lines.specs.declared.numbering.Numbering.{Numbering}
 use Rattle.run_lines.specs.Numbers.{numbering_after, no_notes}
-use Rattle.run_lines.specs.Canvas.{rows_of}
-use Rattle.run_lines.specs.Strokes.{bottom_row, strokes_on}
+use Rattle.run_lines.specs.declared.sheet.Block.{Block}
+use Rattle.run_lines.specs.Canvas.{Stroke, goes_across, rows_of}
+use Rattle.run_lines.specs.Strokes.{bottom_row, text_stroke, name_text, era_start, strokes_on}
 
 -- ---- lines of text
 
@@ -50,38 +50,70 @@ headings_text remarks = flat_map (λ one. heading_text one.remark) remarks
 
 -- ---- rows
 
--- what stands before a row: the name of its process, before the row of its bars
-abbrev pub row_name : (row : ℕ) → List ℕ
-row_name row = if nat_le 2 row && (row - 2) % 4 == 1 then codes "P" ++ decimal ((row - 2) / 4) else []
+-- what stands before a row: the name of its process, before the row of its bars, where so many lanes have names there
+abbrev pub row_name : (named row : ℕ) → List ℕ
+row_name named row = if nat_le 2 row && (row - 2) % 4 == 1 && nat_lt ((row - 2) / 4) named then name_text ((row - 2) / 4) else []
 
 -- a row behind its name
-abbrev pub named_row : (row : ℕ) → List ℕ → List ℕ
-named_row row letters = padded 4 (row_name row) ++ letters
+abbrev pub named_row : (named row : ℕ) → List ℕ → List ℕ
+named_row named row letters = padded 4 (row_name named row) ++ letters
 
 -- a line, which above the lanes is left out where it is empty
 abbrev pub shown_line : (row : ℕ) → List ℕ → List ℕ
 shown_line row line = if nat_lt row 2 && length line == 0 then [] else ended line
 
 -- a row behind its name, without the blanks at its end; above the lanes a blank one is left out
-unfoldable pub row_text : (row : ℕ) → List ℕ → List ℕ
-row_text row letters = shown_line row (trimmed (named_row row letters))
+unfoldable pub row_text : (named row : ℕ) → List ℕ → List ℕ
+row_text named row letters = shown_line row (trimmed (named_row named row letters))
 
--- the letters of a row in a block of 96 columns
-abbrev pub part_of : (block : ℕ) → List ℕ → List ℕ
-part_of block letters = take 96 (drop (block * 96) letters)
+-- ---- blocks
+
+-- where an era ends: where the next one begins, or after all columns
+abbrev pub era_end : Places → List EraMarks → ℕ
+era_end places [] = places.end + 1
+era_end places (next ∷ eras) = era_start places next
+
+-- the most processes of an era that has a column from one on and before another
+abbrev pub lanes_between : Places → List EraMarks → (from to : ℕ) → ℕ
+lanes_between places [] from to = 0
+lanes_between places (era ∷ eras) from to =
+    max (if nat_lt (era_start places era) to && nat_lt from (era_end places eras) then era.processes else 0)
+    (lanes_between places eras from to)
+
+-- the greatest width, of so many columns at most, at which no label is cut; 96 where there is none
+unfoldable pub width_within : List Stroke → (from most : ℕ) → ℕ
+width_within strokes from zero = 96
+width_within strokes from (suc n) = if list_any (goes_across (from + suc n)) strokes then width_within strokes from n else suc n
+
+-- The block that begins at a column: it has 96 columns at most, as many of them as there can be so that its end cuts no label.
+-- Names stand before the lanes that there are at its first column, and a lane is left out that no process has in it.
+abbrev pub block_at : Places → List EraMarks → List Stroke → (from : ℕ) → Block
+block_at places eras strokes from =
+    let to = from + width_within strokes from 96 in
+    record { from = from; to = to; named = lanes_between places eras from (from + 1); lanes = min (lanes_between places eras from to) 64 }
+
+-- the letters of a row in a block
+abbrev pub part_of : Block → List ℕ → List ℕ
+part_of block letters = take (block.to - block.from) (drop block.from letters)
 
 -- the rows of a block, from a row on
-abbrev pub rows_text : (block row : ℕ) → List (List ℕ) → List ℕ
+abbrev pub rows_text : Block → (row : ℕ) → List (List ℕ) → List ℕ
 rows_text block row [] = []
-rows_text block row (letters ∷ rows) = row_text row (part_of block letters) ++ rows_text block (row + 1) rows
+rows_text block row (letters ∷ rows) = row_text block.named row (part_of block letters) ++ rows_text block (row + 1) rows
 
 -- a block, with a blank line before it
-unfoldable pub block_text : List (List ℕ) → (block : ℕ) → List ℕ
-block_text rows block = 10 ∷ rows_text block 0 rows
+unfoldable pub block_text : List (List ℕ) → Block → List ℕ
+block_text rows block = 10 ∷ rows_text block 0 (take (bottom_row block.lanes) rows)
 
--- all blocks of rows that are so wide, and a blank line
-unfoldable pub blocks_text : (width : ℕ) → List (List ℕ) → List ℕ
-blocks_text width rows = flat_map (block_text rows) (range_with_len 0 (div_ceil width 96)) ++ 10 ∷ []
+-- the blocks of rows that are so wide, from a column on, at most so many
+unfoldable pub blocks_from : (block_of : ℕ → Block) → (width : ℕ) → List (List ℕ) → (count from : ℕ) → List ℕ
+blocks_from block_of width rows zero from = []
+blocks_from block_of width rows (suc n) from =
+    if nat_lt from width then block_text rows (block_of from) ++ blocks_from block_of width rows n (block_of from).to else []
+
+-- all of them, and a blank line
+unfoldable pub blocks_text : (block_of : ℕ → Block) → (width : ℕ) → List (List ℕ) → List ℕ
+blocks_text block_of width rows = blocks_from block_of width rows width 0 ++ 10 ∷ []
 
 -- ---- below the lanes
 
@@ -126,10 +158,16 @@ unfoldable pub entries_from : (count place : ℕ) → List StepKind → List ℕ
 entries_from count place [] = []
 entries_from count place (kind ∷ more) = entry_text count place kind ++ entries_from count (place + 1) more
 
--- a blank line, the letters of some kinds of step, and the signs of the rows
-unfoldable pub legend_text : (kinds : List StepKind) → List ℕ
-legend_text kinds =
-    10 ∷ entries_from (length kinds) 0 kinds ++ ended (codes "[ a call begins; * it takes effect; v, ^ another process links it; x refused")
+-- what a small letter means, where there is one
+abbrev pub small_letters : (unchanged : Bool) → List ℕ
+small_letters true = ended (codes "a small letter: that step changed nothing")
+small_letters false = []
+
+-- a blank line, the letters of some kinds of step, what a small letter means where there is one, and the signs of the rows
+unfoldable pub legend_text : (kinds : List StepKind) → (unchanged : Bool) → List ℕ
+legend_text kinds unchanged =
+    10 ∷ entries_from (length kinds) 0 kinds ++ small_letters unchanged
+    ++ ended (codes "[ a call begins; * it takes effect; | another process links it; x refused")
 
 -- ---- the whole text
 
@@ -145,28 +183,46 @@ lanes_drawn marks = min (lanes_of marks.eras) 64
 abbrev pub rows_text_of : Places → RunMarks → List PlacedRemark → List ℕ
 rows_text_of places marks remarks =
     let lanes = lanes_drawn marks in
-    blocks_text (places.end + 1) (rows_of (strokes_on places lanes marks remarks) (places.end + 1) (bottom_row lanes))
+    let strokes = strokes_on places lanes marks remarks in
+    let width = places.end + 1 in
+    blocks_text (block_at places marks.eras strokes) width (rows_of strokes width (bottom_row lanes))
 
 -- the title and the headings, the rows, and below them the notes, the eras and the legend
 abbrev pub lines_of_marks : RunMarks → List PlacedRemark → List ℕ
 lines_of_marks marks remarks =
     wrapped (title_text marks) ++ headings_text remarks
     ++ rows_text_of (places_of marks remarks narrow) marks remarks
-    ++ notes_from no_notes remarks ++ eras_from marks.dots 0 marks.eras ++ legend_text (kinds_of marks.steps)
+    ++ notes_from no_notes remarks ++ eras_from marks.dots 0 marks.eras ++ legend_text (kinds_of marks.steps) (any_unchanged marks.steps)
 
 -- a row of bars has its name; a row without letters is blank, and above the lanes left out
-fourth_row : row_text 3 (codes "[AH  ") ≡ codes "P0  [AH\n"
+fourth_row : row_text 1 3 (codes "[AH  ") ≡ codes "P0  [AH\n"
 unfolding row_text digits
 fourth_row = refl
 
-row_of_ten : row_text 43 (codes "x") ≡ codes "P10 x\n"
+row_of_ten : row_text 11 43 (codes "x") ≡ codes "P10 x\n"
 unfolding row_text digits
 row_of_ten = refl
 
-blank_row : row_text 4 (codes "   ") ≡ codes "\n"
+blank_row : row_text 1 4 (codes "   ") ≡ codes "\n"
 unfolding row_text digits
 blank_row = refl
 
-row_left_out : row_text 1 (codes "   ") ≡ []
+row_left_out : row_text 1 1 (codes "   ") ≡ []
 unfolding row_text digits
 row_left_out = refl
+
+-- the end of a block goes back to the left edge of a label that it would cut
+width_before_label : width_within (text_stroke 1 95 (codes "ok") ∷ []) 0 96 ≡ 95
+unfolding width_within
+width_before_label = refl
+
+-- a reshape from one process to two, by the event at column 9: before it there is one lane, and from there on there are two
+abbrev reshaped : Places
+reshaped = record { events = record { left = 9; width = 16 } ∷ []; remarks = []; end = 25 }
+
+abbrev two_eras : List EraMarks
+two_eras = record { from = 0; processes = 1; anchor = 1; cells = [] } ∷ record { from = 1; processes = 2; anchor = 1; cells = [] } ∷ []
+
+lanes_of_parts : lanes_between reshaped two_eras 0 9 ∷ lanes_between reshaped two_eras 9 10 ∷ lanes_between reshaped two_eras 0 96 ∷ []
+    ≡ 1 ∷ 2 ∷ 2 ∷ []
+lanes_of_parts = refl

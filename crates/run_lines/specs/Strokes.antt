@@ -1,15 +1,16 @@
 -- The strokes of a run: rows 0 and 1 stand above the lanes, and each lane has four rows.
-use Rattle.std.specs.Prelude.{◌≡◌, ℕ, ◌+◌, ◌-◌, ◌*◌, min, ◌==◌, nat_lt, if◌then◌else◌, List, [], ◌∷◌}
+use Rattle.std.specs.Prelude.{◌≡◌, ℕ, zero, suc, ◌+◌, ◌-◌, ◌*◌, min, ◌==◌, nat_lt, if◌then◌else◌, true, false, List, [], ◌∷◌}
 use Rattle.std.specs.Prelude.{◌++◌, length, replicate, Option, Some, None, codes, refl}
 use Rattle.std.specs.List.{flat_map}
-use Rattle.std.specs.Fmt.{decimal}
+use Rattle.std.specs.Fmt.{decimal, digits}
+use Rattle.uni_core.specs.declared.stage.StepKind.TheVariants.{DecideAfter}
 use Rattle.uni_script.specs.declared.remarks.Remark.{Remark}
 use Rattle.uni_script.specs.declared.remarks.Remark.TheVariants.{Heading, Note, Refused}
 use Rattle.uni_script.specs.declared.remarks.PlacedRemark.{PlacedRemark}
 use Rattle.run_marks.specs.declared.marks.StepMark.{StepMark}
 use Rattle.run_marks.specs.declared.marks.Dot.{Dot}
 use Rattle.run_marks.specs.declared.marks.EraLine.{EraLine}
-use Rattle.run_marks.specs.Marks.{End, Called, RunMarks}
+use Rattle.run_marks.specs.Marks.{End, Called, EraMarks, RunMarks}
 use Rattle.run_layout.specs.declared.axis.Column.{Column}
 use Rattle.run_layout.specs.Wording.{letter_of, label_text, counts_text, line_text}
 use Rattle.run_layout.specs.Refusals.{Label, labels_of}
@@ -30,14 +31,36 @@ bottom_row lanes = 2 + lanes * 4
 
 -- a text in one row, over what stands there
 abbrev pub text_stroke : (row column : ℕ) → List ℕ → Stroke
-text_stroke row column text = record { top = row; bottom = row + 1; column = column; text = text; layer = Over }
+text_stroke row column text = record { top = row; bottom = row + 1; column = column; text = text; layer = Over; is_label = true }
 
 abbrev pub letter_stroke : (row column letter : ℕ) → Stroke
 letter_stroke row column letter = text_stroke row column (letter ∷ [])
 
 -- a `|` in each row from the top to before the bottom
 abbrev pub column_stroke : (top bottom column : ℕ) → Layer → Stroke
-column_stroke top bottom column layer = record { top = top; bottom = bottom; column = column; text = codes "|"; layer = layer }
+column_stroke top bottom column layer =
+    record { top = top; bottom = bottom; column = column; text = codes "|"; layer = layer; is_label = false }
+
+-- the name of a process
+abbrev pub name_text : (process : ℕ) → List ℕ
+name_text process = codes "P" ++ decimal process
+
+-- the names of so many processes in the rows of their bars, from a process on
+unfoldable pub names_from : (lanes column process count : ℕ) → List Stroke
+names_from lanes column process zero = []
+names_from lanes column process (suc n) =
+    text_stroke (lane_row lanes process + 1) column (name_text process) ∷ names_from lanes column (process + 1) n
+
+-- where an era begins: at the line of the one before it
+abbrev pub era_start : Places → EraMarks → ℕ
+era_start places era = if era.from == 0 then 0 else (event_column places (era.from - 1)).left
+
+-- the names of the lanes that an era has and the one before it hasn't, right of the line between them; here the one before has so
+-- many lanes
+abbrev pub new_names : Places → (lanes named : ℕ) → List EraMarks → List Stroke
+new_names places lanes named [] = []
+new_names places lanes named (era ∷ eras) =
+    names_from lanes (era_start places era + 1) named (era.processes - named) ++ new_names places lanes era.processes eras
 
 -- the end of an era: a line through all lanes, with its label above them
 abbrev pub line_strokes : Places → (lanes : ℕ) → EraLine → List Stroke
@@ -54,6 +77,11 @@ bar_end places None = places.end + 1
 abbrev pub bar_text : (width : ℕ) → List ℕ
 bar_text width = 91 ∷ replicate (width - 1) 45
 
+-- they go on from block to block
+abbrev pub bar_stroke : (row column width : ℕ) → Stroke
+bar_stroke row column width =
+    record { top = row; bottom = row + 1; column = column; text = bar_text width; layer = Over; is_label = false }
+
 -- the counts of a call that has returned, which end with its bar
 abbrev pub counts_strokes : Places → (row : ℕ) → Option End → List Stroke
 counts_strokes places row (Some end) =
@@ -65,26 +93,29 @@ abbrev pub bar_strokes : Places → (lanes : ℕ) → Called → List Stroke
 bar_strokes places lanes bar =
     let row = lane_row lanes bar.call.process in
     let left = (event_column places bar.from).left in
-    text_stroke (row + 1) left (bar_text (bar_end places bar.end - left)) ∷ text_stroke row left (label_text bar)
+    bar_stroke (row + 1) left (bar_end places bar.end - left) ∷ text_stroke row left (label_text bar)
     ∷ counts_strokes places (row + 3) bar.end
 
--- the letter of a step, upon the bar
+-- the letter of a step: a small one where the step changed nothing
+abbrev pub step_letter : StepMark → ℕ
+step_letter step = if step.changed then letter_of step.kind else letter_of step.kind + 32
+
+-- that letter, upon the bar
 abbrev pub step_strokes : Places → (lanes : ℕ) → StepMark → List Stroke
 step_strokes places lanes step =
-    letter_stroke (lane_row lanes step.process + 1) (event_column places step.event).left (letter_of step.kind) ∷ []
+    letter_stroke (lane_row lanes step.process + 1) (event_column places step.event).left (step_letter step) ∷ []
 
--- the arrow from the step of the process that linked a cell to the dot of the call that the cell is of, where that is a call of
--- another process: down to the row above the dot, or up to the row below it
+-- the line from the step of the process that linked a cell to the dot of the call that the cell is of, where that is a call of
+-- another process: in the rows between them, down or up
 abbrev pub arrow_strokes : (lanes column : ℕ) → Dot → List Stroke
 arrow_strokes lanes column dot =
     let step = lane_row lanes dot.by + 1 in
     let point = lane_row lanes dot.call.process + 2 in
     if dot.call.process == dot.by then []
-    else if nat_lt dot.by dot.call.process then column_stroke (step + 1) (point - 1) column Behind
-    ∷ letter_stroke (point - 1) column 118 ∷ []
-    else column_stroke (point + 2) step column Behind ∷ letter_stroke (point + 1) column 94 ∷ []
+    else if nat_lt dot.by dot.call.process then column_stroke (step + 1) point column Behind ∷ []
+    else column_stroke (point + 1) step column Behind ∷ []
 
--- the dot of a call in the third row of the lane of its process, and the arrow to it
+-- the dot of a call in the third row of the lane of its process, and the line to it
 abbrev pub dot_strokes : Places → (lanes : ℕ) → Dot → List Stroke
 dot_strokes places lanes dot =
     let column = (event_column places dot.event).left in
@@ -117,21 +148,38 @@ refusals_from places place (one ∷ labels) = refusal_strokes (remark_column pla
 abbrev pub strokes_on : Places → (lanes : ℕ) → RunMarks → List PlacedRemark → List Stroke
 strokes_on places lanes marks remarks =
     flat_map (line_strokes places lanes) marks.lines
+    ++ new_names places lanes 64 marks.eras
     ++ flat_map (bar_strokes places lanes) marks.bars
     ++ flat_map (step_strokes places lanes) marks.steps
     ++ flat_map (dot_strokes places lanes) marks.dots
     ++ notes_from places 0 no_notes remarks
     ++ refusals_from places 0 (labels_of remarks)
 
--- process 0 links the cell of process 1: the dot stands below the bar of process 1, and the arrow goes down to it from process 0
+-- process 0 links the cell of process 1: the dot stands below the bar of process 1, and the line goes down to it from process 0
 arrow_of_help : arrow_strokes 2 7 (record { event = 1; call = record { process = 1; nth = 0 }; by = 0 })
-    ≡ column_stroke 4 7 7 Behind ∷ letter_stroke 7 7 118 ∷ []
+    ≡ column_stroke 4 8 7 Behind ∷ []
 arrow_of_help = refl
 
 -- and up from process 2
 arrow_upward : arrow_strokes 3 7 (record { event = 1; call = record { process = 1; nth = 0 }; by = 2 })
-    ≡ column_stroke 10 11 7 Behind ∷ letter_stroke 9 7 94 ∷ []
+    ≡ column_stroke 9 11 7 Behind ∷ []
 arrow_upward = refl
 
 no_arrow_of_own : arrow_strokes 2 7 (record { event = 1; call = record { process = 1; nth = 0 }; by = 1 }) ≡ []
 no_arrow_of_own = refl
+
+-- a proposal that won, and one that lost
+letters_of_two : step_letter (record { event = 8; process = 0; kind = DecideAfter; changed = true })
+    ∷ step_letter (record { event = 9; process = 1; kind = DecideAfter; changed = false }) ∷ []
+    ≡ codes "Ll"
+letters_of_two = refl
+
+-- a reshape from one process to two, by the event at column 9, names the lane of the second one
+abbrev reshaped : Places
+reshaped = record { events = record { left = 9; width = 16 } ∷ []; remarks = []; end = 25 }
+
+name_of_new : new_names reshaped 2 64
+    (record { from = 0; processes = 1; anchor = 1; cells = [] } ∷ record { from = 1; processes = 2; anchor = 1; cells = [] } ∷ [])
+    ≡ text_stroke 7 10 (codes "P1") ∷ []
+unfolding names_from digits
+name_of_new = refl

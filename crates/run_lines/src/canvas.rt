@@ -1,7 +1,8 @@
 //! Rows of letters, upon which strokes are put one after the other.
 
 ghost use Rattle.std.specs.Prelude.{◌≡◌, ◌<◌, ℕ, IfOk, length, map, slice_index};
-ghost use Rattle.run_lines.specs.Canvas.{stroke_shown, letter_seen, letter_over, is_in_row, row_of, rows_of};
+ghost use Rattle.run_lines.specs.Canvas.{stroke_shown, letter_seen, letter_over, is_in_row, goes_across};
+ghost use Rattle.run_lines.specs.Canvas.{row_of, rows_of};
 
 use std::alloc::{AllocError, Global};
 
@@ -45,6 +46,8 @@ pub struct Stroke {
     pub text: Vec<u8>,
     /// How they stand to those before it.
     pub layer: Layer,
+    /// Whether it is a label: no end of a block is to cut it.
+    pub is_label: bool,
 }
 
 impl Stroke {
@@ -53,6 +56,13 @@ impl Stroke {
         ensures { result ≡ is_in_row row (stroke_shown self.now) }
     {
         self.top <= row && row < self.bottom
+    }
+
+    /// Whether it is a label with letters on both sides of the left edge of a column.
+    pub fn goes_across(&self, column: u64) -> bool
+        ensures { result ≡ goes_across column (stroke_shown self.now) }
+    {
+        self.is_label && self.column < column && column - self.column < self.text.len() as u64
     }
 
     /// Puts its text upon the letters of a row, as far as they go.

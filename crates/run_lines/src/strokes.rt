@@ -1,22 +1,25 @@
 //! What is drawn of a run in its rows, stroke by stroke.
 
-ghost use Rattle.std.specs.Prelude.{◌≡◌, ◌++◌, ◌∷◌, [], ◌≤◌, IfOk, OnOk, Some, map, length};
+ghost use Rattle.std.specs.Prelude.{◌≡◌, ◌++◌, ◌∷◌, [], ◌≤◌, ◌<◌, ◌+◌, ◌-◌, ◌^◌, IfOk, OnOk, Some, map, length};
 ghost use Rattle.std.specs.List.{flat_map};
 ghost use Rattle.std.specs.Fmt.{decimal};
-ghost use Rattle.run_marks.specs.Shown.{bar_shown, end_shown, marks_shown};
+ghost use Rattle.run_marks.specs.Shown.{bar_shown, end_shown, era_shown, marks_shown};
 ghost use Rattle.run_layout.specs.Refusals.{told_shown};
 ghost use Rattle.run_layout.specs.Axis.{places_shown};
 ghost use Rattle.run_lines.specs.Canvas.{stroke_shown};
 ghost use Rattle.run_lines.specs.Strokes.{lane_row, bottom_row, text_stroke, letter_stroke, column_stroke};
-ghost use Rattle.run_lines.specs.Strokes.{line_strokes, bar_end, bar_text, counts_strokes, bar_strokes, step_strokes};
-ghost use Rattle.run_lines.specs.Strokes.{arrow_strokes, dot_strokes, notes_from, refusal_strokes, refusals_from};
-ghost use Rattle.run_lines.specs.Strokes.{strokes_on};
+ghost use Rattle.run_lines.specs.Strokes.{line_strokes, bar_end, bar_text, counts_strokes, bar_strokes, step_letter};
+ghost use Rattle.run_lines.specs.Strokes.{step_strokes, arrow_strokes, dot_strokes, notes_from};
+ghost use Rattle.run_lines.specs.Strokes.{refusal_strokes, refusals_from};
+ghost use Rattle.run_lines.specs.Strokes.{name_text, names_from, era_start, new_names, strokes_on};
 ghost use Rattle.run_lines.specs.Numbers.{no_notes};
 
 use crate::canvas::{Layer, Stroke};
 use crate::numbering::Numbering;
-use run_layout::{Axis, Column, Told, counts_of, label_of, letter_of, line_of, told_of};
-use run_marks::{Bar, BarEnd, Dot, EraLine, Marks, StepMark};
+use run_layout::{
+    Axis, Column, MOST_LANES, Told, counts_of, label_of, letter_of, line_of, told_of,
+};
+use run_marks::{Bar, BarEnd, Dot, Era, EraLine, Marks, StepMark};
 use std::alloc::{AllocError, Global};
 use std::io::Write;
 use uni_script::{PlacedRemark, Remark};
@@ -64,6 +67,7 @@ fn push_text(
         column,
         text,
         layer: Layer::Over,
+        is_label: true,
     })?;
     Ok(())
 }
@@ -109,6 +113,7 @@ fn push_column(
         column,
         text,
         layer,
+        is_label: false,
     })?;
     Ok(())
 }
@@ -149,6 +154,90 @@ fn push_era_lines(
 {
     for line in lines {
         push_era_line(alloc, line, axis, lanes, strokes)?;
+    }
+    Ok(())
+}
+
+/// The name of a process.
+///
+/// An `Err` says that memory was refused.
+pub fn name_text(alloc: Global, process: u64) -> Result<Vec<u8>, AllocError>
+    ensures { IfOk result (λ name. name.items ≡ name_text process) }
+{
+    let mut name = Vec::new(alloc);
+    write!(name, "P{process}").map_err(|_| AllocError)?;
+    Ok(name)
+}
+
+/// Adds the name of a process in the row of its bars.
+///
+/// An `Err` says that memory was refused.
+fn push_name(
+    alloc: Global,
+    column: u64,
+    process: u64,
+    lanes: u64,
+    strokes: &mut Vec<Stroke>,
+) -> Result<(), AllocError>
+    requires { lanes ≤ 64 }
+    ensures { OnOk result (map stroke_shown strokes.new.items
+        ≡ map stroke_shown strokes.old.items ++ text_stroke (lane_row lanes process + 1) column (name_text process) ∷ []) }
+{
+    let row = lane_row(lanes, process) + 1;
+    push_text(strokes, row, column, name_text(alloc, process)?)
+}
+
+/// Adds the names of the processes from one on and before another.
+///
+/// An `Err` says that memory was refused.
+fn push_names(
+    alloc: Global,
+    column: u64,
+    from: u64,
+    to: u64,
+    lanes: u64,
+    strokes: &mut Vec<Stroke>,
+) -> Result<(), AllocError>
+    requires { lanes ≤ 64 }
+    ensures { OnOk result (map stroke_shown strokes.new.items
+        ≡ map stroke_shown strokes.old.items ++ names_from lanes column from (to - from)) }
+{
+    for process in from..to {
+        push_name(alloc, column, process, lanes, strokes)?;
+    }
+    Ok(())
+}
+
+/// Where an era begins: at the line of the one before it.
+pub fn era_start(axis: &Axis, era: &Era) -> u64
+    ensures small { result < 2 ^ 32 }
+    ensures start { result ≡ era_start (places_shown axis.now) (era_shown era.now) }
+{
+    if era.from == 0 {
+        return 0;
+    }
+    u64::from(axis.event(era.from - 1).left)
+}
+
+/// Adds the names of the lanes that an era has and the one before it hasn't.
+///
+/// An `Err` says that memory was refused.
+fn push_new_names(
+    alloc: Global,
+    eras: &[Era],
+    axis: &Axis,
+    lanes: u64,
+    strokes: &mut Vec<Stroke>,
+) -> Result<(), AllocError>
+    requires { lanes ≤ 64 }
+    ensures { OnOk result (map stroke_shown strokes.new.items
+        ≡ map stroke_shown strokes.old.items ++ new_names (places_shown axis.now) lanes 64 (map era_shown eras.now)) }
+{
+    let mut named = MOST_LANES;
+    for era in eras {
+        let column = era_start(axis, era) + 1;
+        push_names(alloc, column, named, era.processes, lanes, strokes)?;
+        named = era.processes;
     }
     Ok(())
 }
@@ -213,8 +302,15 @@ fn push_bar(
 {
     let row = lane_row(lanes, u64::from(bar.call.process));
     let left = u64::from(axis.event(bar.from).left);
-    let text = bar_text(alloc, bar_end(bar, axis).saturating_sub(left))?;
-    push_text(strokes, row + 1, left, text)?;
+    let width = bar_end(bar, axis).saturating_sub(left);
+    strokes.push(Stroke {
+        top: row + 1,
+        bottom: row + 2,
+        column: left,
+        text: bar_text(alloc, width)?,
+        layer: Layer::Over,
+        is_label: false,
+    })?;
     push_text(strokes, row, left, label_of(alloc, bar)?)?;
     match &bar.end {
         Some(end) => push_counts(alloc, end, axis, row + 3, strokes),
@@ -243,6 +339,18 @@ fn push_bars(
     Ok(())
 }
 
+/// The letter of a step: a small one where the step changed nothing.
+fn step_letter(step: StepMark) -> u8
+    ensures { result ≡ step_letter step }
+{
+    let letter = letter_of(step.kind);
+    if step.changed {
+        letter
+    } else {
+        letter.to_ascii_lowercase()
+    }
+}
+
 /// Adds the letter of a step, upon the bar of its call.
 ///
 /// An `Err` says that memory was refused.
@@ -259,7 +367,7 @@ fn push_step(
 {
     let row = lane_row(lanes, step.process) + 1;
     let column = u64::from(axis.event(step.event).left);
-    push_letter(alloc, strokes, row, column, letter_of(step.kind))
+    push_letter(alloc, strokes, row, column, step_letter(step))
 }
 
 /// Adds the letters of steps.
@@ -282,8 +390,8 @@ fn push_steps(
     Ok(())
 }
 
-/// Adds the arrow from the step of the process that links a cell to the dot of the call that the cell is of,
-/// where that is a call of another process: a `v` above the dot or a `^` below it, and a line behind all else.
+/// Adds the line from the step of the process that links a cell to the dot of the call that the cell is of,
+/// where that is a call of another process. It is behind all else.
 ///
 /// An `Err` says that memory was refused.
 fn push_arrow(
@@ -304,15 +412,13 @@ fn push_arrow(
     if of == dot.by {
         Ok(())
     } else if dot.by < of {
-        push_column(alloc, strokes, step + 1, point - 1, column, behind)?;
-        push_letter(alloc, strokes, point - 1, column, b'v')
+        push_column(alloc, strokes, step + 1, point, column, behind)
     } else {
-        push_column(alloc, strokes, point + 2, step, column, behind)?;
-        push_letter(alloc, strokes, point + 1, column, b'^')
+        push_column(alloc, strokes, point + 1, step, column, behind)
     }
 }
 
-/// Adds the dot of a call below the bar of its process, and the arrow to it.
+/// Adds the dot of a call below the bar of its process, and the line to it.
 ///
 /// An `Err` says that memory was refused.
 fn push_dot(
@@ -332,7 +438,7 @@ fn push_dot(
     push_arrow(alloc, dot, column, lanes, strokes)
 }
 
-/// Adds the dots of calls, with the arrows to them.
+/// Adds the dots of calls, with the lines to them.
 ///
 /// An `Err` says that memory was refused.
 fn push_dots(
@@ -450,6 +556,7 @@ pub fn strokes_of(
 {
     let mut strokes = Vec::new(alloc);
     push_era_lines(alloc, &marks.lines, axis, lanes, &mut strokes)?;
+    push_new_names(alloc, &marks.eras, axis, lanes, &mut strokes)?;
     push_bars(alloc, &marks.bars, axis, lanes, &mut strokes)?;
     push_steps(alloc, &marks.steps, axis, lanes, &mut strokes)?;
     push_dots(alloc, &marks.dots, axis, lanes, &mut strokes)?;

@@ -5,6 +5,7 @@ ghost use Rattle.run_marks.specs.Shown.{cell_shown, era_shown};
 ghost use Rattle.run_lines.specs.Numbers.{no_notes};
 ghost use Rattle.run_lines.specs.Sheet.{ended, wrapped, padded, headings_text, numbered_note, notes_from, cell_text};
 ghost use Rattle.run_lines.specs.Sheet.{era_text, eras_from, kind_text, entry_text, legend_text};
+ghost use Rattle.run_lines.specs.Sheet.{small_letters};
 
 use crate::numbering::Numbering;
 use run_layout::{cell_name, cell_words, letter_of, meaning_of, push_lines};
@@ -21,7 +22,7 @@ pub const WIDTH: usize = 100;
 const ENTRY: usize = 30;
 
 /// The last line of the legend.
-const SIGNS: &str = "[ a call begins; * it takes effect; v, ^ another process links it; x refused";
+const SIGNS: &str = "[ a call begins; * it takes effect; | another process links it; x refused";
 
 /// Adds a line and its end.
 ///
@@ -208,15 +209,33 @@ fn push_entry(
     }
 }
 
-/// Adds the legend of some kinds of step.
+/// Adds what a small letter means, where there is one.
 ///
 /// An `Err` says that memory was refused.
-pub fn push_legend(alloc: Global, kinds: &[StepKind], text: &mut Vec<u8>) -> Result<(), AllocError>
-    ensures { OnOk result (text.new.items ≡ text.old.items ++ legend_text kinds.now) }
+fn push_small_letters(unchanged: bool, text: &mut Vec<u8>) -> Result<(), AllocError>
+    ensures { OnOk result (text.new.items ≡ text.old.items ++ small_letters unchanged) }
+{
+    if unchanged {
+        push_line(b"a small letter: that step changed nothing", text)?;
+    }
+    Ok(())
+}
+
+/// Adds the legend of some kinds of step, with what a small letter means where a step changed nothing.
+///
+/// An `Err` says that memory was refused.
+pub fn push_legend(
+    alloc: Global,
+    kinds: &[StepKind],
+    unchanged: bool,
+    text: &mut Vec<u8>,
+) -> Result<(), AllocError>
+    ensures { OnOk result (text.new.items ≡ text.old.items ++ legend_text kinds.now unchanged) }
 {
     text.push(b'\n')?;
     for (place, kind) in kinds.iter().enumerate() {
         push_entry(alloc, kinds.len(), place, *kind, text)?;
     }
+    push_small_letters(unchanged, text)?;
     push_line(SIGNS.as_bytes(), text)
 }

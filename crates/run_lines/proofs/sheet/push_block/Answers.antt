@@ -1,12 +1,18 @@
-use Rattle.std.proofs.Common.{◌∙◌, ◌++◌, ◌∷◌, [], ap, map, sym, append-nil, append_assoc}
-use Rattle.std.proofs.lemmas.List.{drop_all}
+use Rattle.std.proofs.Common.{◌≡◌, ◌∙◌, ◌++◌, ◌∷◌, [], List, ℕ, ap, map, take, sym, append-nil, append_assoc}
+use Rattle.std.proofs.lemmas.List.{drop_all, take-map}
+use Rattle.run_lines.specs.Strokes.{bottom_row}
 use Rattle.run_lines.specs.Sheet.{rows_text, block_text}
 use Rattle.run_lines.proofs.sheet.push_block.Goals as goal
 
 pub returns : goal.returns
 unfolding block_text
 returns c =
+    let block = c.args.block in
     let rows = c.args.rows.now in
-    let none = ap (λ l. rows_text c.args.block c.loop-row.row (map (λ row. row.items) l)) (drop_all c.loop-row.row rows c.loop-row-test.false) in
+    let drawn = c.rows_drawn-drawn.result.now in
+    let none = ap (λ l. rows_text block c.loop-row.row (map (λ row. row.items) l)) (drop_all c.loop-row.row drawn c.loop-row-test.false) in
+    let first : map (λ row. row.items) drawn ≡ take (bottom_row block.lanes) (map (λ row. row.items) rows) =
+    ap (map (λ row. row.items)) c.rows_drawn-drawn.ensures ∙ sym (take-map (λ row. row.items) (bottom_row block.lanes) rows) in
     sym (append-nil c.loop-row.text.items) ∙ ap (λ l. c.loop-row.text.items ++ l) (sym none) ∙ c.loop-row.invariant
-    ∙ ap (λ l. l ++ rows_text c.args.block 0 (map (λ row. row.items) rows)) c.in_ok-push.ensures.items ∙ append_assoc c.args.text.now.items (10 ∷ []) (rows_text c.args.block 0 (map (λ row. row.items) rows))
+    ∙ ap (λ l. l ++ rows_text block 0 (map (λ row. row.items) drawn)) c.in_ok-push.ensures.items ∙ append_assoc c.args.text.now.items (10 ∷ []) (rows_text block 0 (map (λ row. row.items) drawn))
+    ∙ ap (λ l. c.args.text.now.items ++ 10 ∷ rows_text block 0 l) first

@@ -1,21 +1,39 @@
-use Rattle.std.proofs.Common.{◌≡◌, ◌∙◌, ◌++◌, ◌∷◌, [], ap, map, sym, arith, append_assoc}
-use Rattle.std.specs.List.{flat_map, range_with_len}
-use Rattle.run_lines.specs.Sheet.{block_text, blocks_text}
-use Rattle.run_lines.proofs.Pieces.{flat_map_range_more}
+use Rattle.std.proofs.Common.{◌≡◌, ◌∙◌, ◌+◌, ◌-◌, ◌<◌, ◌≤◌, ◌++◌, ◌∷◌, [], ℕ, List, ap, map, sym, arith, append_assoc}
+use Rattle.run_marks.specs.Shown.{era_shown}
+use Rattle.run_layout.specs.Axis.{places_shown}
+use Rattle.run_layout.proofs.Pushing.{added_first, added_all}
+use Rattle.run_lines.specs.declared.sheet.Block.{Block}
+use Rattle.run_lines.specs.Canvas.{stroke_shown}
+use Rattle.run_lines.specs.Sheet.{block_at, block_text, blocks_from, blocks_text}
+use Rattle.run_lines.proofs.Blocks.{block-forward, blocks-none, blocks-next}
 use Rattle.run_lines.proofs.sheet.push_blocks.Goals as goal
 
-pub loop-block-preserved : goal.loop-block-preserved
-loop-block-preserved c =
-    let block = c.loop-block.block in
-    let piece = block_text (map (λ row. row.items) c.args.rows.now) in
-    let old = c.args.text.now.items in
-    c.in_ok-push_block.ensures ∙ ap (λ l. l ++ piece block) c.loop-block.invariant ∙ append_assoc old (flat_map piece (range_with_len 0 block)) (piece block)
-    ∙ ap (λ l. old ++ l) (sym (flat_map_range_more piece block))
+pub loop-from-preserved : goal.loop-from-preserved
+loop-from-preserved c =
+    let places = places_shown c.args.axis.now in
+    let eras = map era_shown c.args.eras.now in
+    let strokes = map stroke_shown c.args.strokes.now in
+    let rows = map (λ row. row.items) c.args.rows.now in
+    let width = c.args.axis.now.end + 1 in
+    let from = c.loop-from.from in
+    let inside : from < width = omega arith in
+    record {
+      near = omega (arith, c.block_at-block.ensures.most);
+      rest = added_first c.loop-from.text.items _ (block_text rows c.block_at-block.result) _ _
+          (ap (λ l. c.loop-from.text.items ++ l) (sym (blocks-next (block_at places eras strokes) width rows (block-forward places eras strokes) from c.block_at-block.result inside c.block_at-block.ensures.block)) ∙ c.loop-from.invariant.rest)
+          c.in_ok-push_block.ensures;
+    }
 
 pub returns : goal.returns
 unfolding blocks_text
 returns c =
-    let piece = block_text (map (λ row. row.items) c.args.rows.now) in
-    let old = c.args.text.now.items in
-    let last : c.loop-block.block ≡ c.div_ceil-block-end.result = omega arith in
-    c.in_ok-push.ensures.items ∙ ap (λ l. l ++ 10 ∷ []) (c.loop-block.invariant ∙ ap (λ n. old ++ flat_map piece (range_with_len 0 n)) (last ∙ c.div_ceil-block-end.ensures)) ∙ append_assoc old _ (10 ∷ [])
+    let places = places_shown c.args.axis.now in
+    let eras = map era_shown c.args.eras.now in
+    let strokes = map stroke_shown c.args.strokes.now in
+    let rows = map (λ row. row.items) c.args.rows.now in
+    let width = c.args.axis.now.end + 1 in
+    let from = c.loop-from.from in
+    let past : width ≤ from = omega arith in
+    c.in_ok-push.ensures.items
+    ∙ ap (λ l. l ++ 10 ∷ []) (added_all _ _ _ c.loop-from.invariant.rest (blocks-none (block_at places eras strokes) width rows (width - from) from past))
+    ∙ append_assoc c.args.text.now.items (blocks_from (block_at places eras strokes) width rows width 0) (10 ∷ [])

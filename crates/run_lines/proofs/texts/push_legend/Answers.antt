@@ -1,7 +1,7 @@
-use Rattle.std.proofs.Common.{◌≡◌, ◌∙◌, ◌+◌, ◌++◌, ap, sym, drop, get_or, length}
+use Rattle.std.proofs.Common.{◌≡◌, ◌∙◌, ◌+◌, ◌++◌, ap, sym, drop, get_or, length, append_assoc}
 use Rattle.std.proofs.lemmas.Result.{on_ok_weaker}
 use Rattle.uni_core.specs.declared.stage.StepKind.TheVariants.{Announce}
-use Rattle.run_lines.specs.Sheet.{ended, entries_from, entry_text, legend_text}
+use Rattle.run_lines.specs.Sheet.{ended, entries_from, entry_text, legend_text, small_letters}
 use Rattle.run_lines.proofs.Pieces.{entries_more, entries_none, three_parts}
 use Rattle.run_layout.proofs.Pushing.{added_first, added_all}
 use Rattle.run_lines.proofs.texts.push_legend.Goals as goal
@@ -21,4 +21,7 @@ returns c =
     let kinds = c.args.kinds.now in
     let kinded : c.loop-place.text.items ≡ c.push.new.self.items ++ entries_from (length kinds) 0 kinds =
     added_all _ _ _ c.loop-place.invariant (entries_none (length kinds) c.loop-place.place c.loop-place.place kinds c.loop-place-test.false) in
-    on_ok_weaker c.push_line.result (λ h. three_parts _ _ _ _ (entries_from (length kinds) 0 kinds) _ 10 c.in_ok-push.ensures.items kinded (h ∙ ap (λ l. c.loop-place.text.items ++ ended l) c.as_bytes.ensures.value)) c.push_line.ensures
+    let small = small_letters c.args.unchanged in
+    let more : c.push_small_letters.new.text.items ≡ c.push.new.self.items ++ (entries_from (length kinds) 0 kinds ++ small) =
+    c.in_ok-push_small_letters.ensures ∙ ap (λ l. l ++ small) kinded ∙ append_assoc c.push.new.self.items (entries_from (length kinds) 0 kinds) small in
+    on_ok_weaker c.push_line.result (λ h. three_parts _ _ _ _ (entries_from (length kinds) 0 kinds ++ small) _ 10 c.in_ok-push.ensures.items more (h ∙ ap (λ l. c.push_small_letters.new.text.items ++ ended l) c.as_bytes.ensures.value)) c.push_line.ensures
