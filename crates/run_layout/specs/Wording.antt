@@ -139,7 +139,8 @@ title_text marks =
 -- a test and an announcement occur, in the order of calls
 abbrev two_steps : List StepMark
 two_steps =
-    record { event = 1; process = 0; kind = Test; changed = false } ∷ record { event = 2; process = 1; kind = Announce; changed = true } ∷ []
+    record { event = 1; process = 0; kind = Test; changed = false }
+    ∷ record { event = 2; process = 1; kind = Announce; changed = true } ∷ []
 
 kinds_of_two : kinds_of two_steps ≡ Announce ∷ Test ∷ []
 kinds_of_two = refl

@@ -10,17 +10,17 @@ use Rattle.run_layout.specs.Axis.{Places}
 use Rattle.run_lines.specs.Sheet.{width_within, block_at, block_text, blocks_from}
 
 -- one column less, where a label is cut
-pub width_step : (strokes : List Stroke) (from n m : ℕ) → m ≡ n + 1 → list_any (goes_across (from + m)) strokes ≡ true
+pub narrower : (strokes : List Stroke) (from n m : ℕ) → m ≡ n + 1 → list_any (goes_across (from + m)) strokes ≡ true
     → width_within strokes from n ≡ width_within strokes from m
 unfolding width_within
-width_step strokes from n zero one cut = absurd (omega arith)
-width_step strokes from n (suc k) one cut = let same : n ≡ k = omega arith in rw (cut, same) refl
+narrower strokes from n zero one cut = absurd (omega arith)
+narrower strokes from n (suc k) one cut = let same : n ≡ k = omega arith in rw (cut, same) refl
 
 -- as far as none is
-pub width_whole : (strokes : List Stroke) (from m : ℕ) → 0 < m → list_any (goes_across (from + m)) strokes ≡ false → width_within strokes from m ≡ m
+pub uncut : (strokes : List Stroke) (from m : ℕ) → 0 < m → list_any (goes_across (from + m)) strokes ≡ false → width_within strokes from m ≡ m
 unfolding width_within
-width_whole strokes from zero some whole = absurd (omega arith)
-width_whole strokes from (suc k) some whole = rw whole refl
+uncut strokes from zero some none = absurd (omega arith)
+uncut strokes from (suc k) some none = rw none refl
 
 pub width_none : (strokes : List Stroke) (from : ℕ) → width_within strokes from 0 ≡ 96
 unfolding width_within

@@ -158,7 +158,7 @@ fn is_cut(strokes: &[Stroke], column: u64) -> bool
 }
 
 /// How wide a block is that begins at a column: as wide as it can be, so that its end cuts no label.
-#[tactic(auto, using(crate::proofs::Blocks::width_step, crate::proofs::Blocks::width_whole, crate::proofs::Blocks::width_none))]
+#[tactic(auto, using(crate::proofs::Blocks::narrower, crate::proofs::Blocks::uncut, crate::proofs::Blocks::width_none))]
 fn block_width(strokes: &[Stroke], from: usize) -> usize
     requires { from ≤ 2 ^ 33 }
     ensures some { 0 < result }

@@ -181,7 +181,8 @@ fn push_name(
 ) -> Result<(), AllocError>
     requires { lanes ≤ 64 }
     ensures { OnOk result (map stroke_shown strokes.new.items
-        ≡ map stroke_shown strokes.old.items ++ text_stroke (lane_row lanes process + 1) column (name_text process) ∷ []) }
+        ≡ map stroke_shown strokes.old.items
+        ++ text_stroke (lane_row lanes process + 1) column (name_text process) ∷ []) }
 {
     let row = lane_row(lanes, process) + 1;
     push_text(strokes, row, column, name_text(alloc, process)?)
