@@ -7,3 +7,4 @@ pub mod RunCases
 pub mod Told
 pub mod DrawnBy
 pub mod Locked
+pub mod ThreadsFailed
