@@ -121,11 +121,11 @@ fn return_verdict<O: SeqObject>(
     requires gone_over { (entries : List (Logged O.Inv O.Resp)) × HasGoneOver entries check.now }
     requires each { length marks.old ≡ length check.now.replies.items }
     ensures each { length marks.new ≡ length marks.old }
-    ensures verdict { (entries : List (Logged O.Inv O.Resp)) (earlier : List (Return O.Resp)) → HasGoneOver entries check.now
-        → AreMarked entries earlier marks.old
+    ensures verdict { (entries : List (Logged O.Inv O.Resp)) (earlier : List (Return O.Resp))
+        → HasGoneOver entries check.now → AreMarked entries earlier marks.old
         → result ≡ return_verdict O.Resp.eq entries earlier returned.now }
-    ensures marked { (entries : List (Logged O.Inv O.Resp)) (earlier : List (Return O.Resp)) → HasGoneOver entries check.now
-        → AreMarked entries earlier marks.old → result ≡ Agrees
+    ensures marked { (entries : List (Logged O.Inv O.Resp)) (earlier : List (Return O.Resp))
+        → HasGoneOver entries check.now → AreMarked entries earlier marks.old → result ≡ Agrees
         → AreMarked entries (earlier ++ returned.now ∷ []) marks.new }
 {
     let Some(place) = check.calls.place(returned.call) else {
