@@ -379,20 +379,20 @@ fn answers_come_before_the_next_line_is_read(rt: HostRuntime) {
     assert!(rt; written.get() == 66);
 }
 
-/// What a script tells, one remark a line: how many events come before it, and what it says.
+/// What a script tells, one remark a line: the number of its line, how many events come before it, and what it says.
 fn remark_lines(alloc: Global, remarks: &[PlacedRemark]) -> Result<Vec<u8>, Fail> {
     let mut text = Vec::new(alloc);
     for one in remarks {
         match &one.remark {
             Remark::Heading(heading) => {
-                write!(text, "{} heading ", one.before)?;
+                write!(text, "{} {} heading ", one.line, one.before)?;
                 text.extend_from_slice(heading)?;
             }
             Remark::Note(note) => {
-                write!(text, "{} note ", one.before)?;
+                write!(text, "{} {} note ", one.line, one.before)?;
                 text.extend_from_slice(note)?;
             }
-            Remark::Refused(refusal) => write!(text, "{} {refusal}", one.before)?,
+            Remark::Refused(refusal) => write!(text, "{} {} {refusal}", one.line, one.before)?,
         }
         text.push(b'\n')?;
     }
@@ -404,8 +404,12 @@ const NOTED: &str =
     "# A queue.\n#\nuniversal 1 queue 2 8\n# Two calls.\ncall 0 enq 7\ncall 0 deq\nfinish 0\nstep 1\nlog\ncall 2 deq\n";
 
 /// What it tells.
-const NOTED_TOLD: &str =
-    "0 heading A queue.\n0 heading \n0 note Two calls.\n1 refused busy 0\n17 refused idle 1\n17 refused process 2\n";
+const NOTED_TOLD: &str = "1 0 heading A queue.\n\
+    2 0 heading \n\
+    4 0 note Two calls.\n\
+    6 1 refused busy 0\n\
+    8 17 refused idle 1\n\
+    10 17 refused process 2\n";
 
 /// Whether a record is of a queue, and has so many events.
 fn is_queue_of(record: &ScriptRecord, events: usize) -> bool {
@@ -415,11 +419,15 @@ fn is_queue_of(record: &ScriptRecord, events: usize) -> bool {
     }
 }
 
-/// A run is that of `NOTED`: the call and its 16 steps, and what it tells.
+/// A run is that of `NOTED`: the call of line 5 and its 16 steps, of line 7, and what it tells.
 fn is_noted(rt: &impl Abort, alloc: Global, run: &ScriptRun<ScriptRecord>) -> Result<(), Fail> {
     assert!(rt; is_queue_of(&run.record, 17), "another record");
     let text = remark_lines(alloc, &run.remarks)?;
     assert!(rt; text.as_slice() == NOTED_TOLD.as_bytes(), "other remarks");
+    assert!(rt;
+        run.lines.as_slice() == [5, 7, 7, 7, 7, 7, 7, 7, 7, 7, 7, 7, 7, 7, 7, 7, 7].as_slice(),
+        "other lines"
+    );
     Ok(())
 }
 

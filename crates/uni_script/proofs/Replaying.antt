@@ -16,7 +16,7 @@ use Rattle.uni_script.specs.Outcome.{Kind, Answered, Outcome, outcome_of_text, o
 use Rattle.uni_script.specs.Lines.{Stop, lines_of_read, outcome_of_stop, outcome_of_read, StopsAt, IsRead, HasEnded}
 use Rattle.uni_script.specs.Lines.Stop.{End, Failed, TooLong, TooMany}
 use Rattle.uni_script.specs.ScriptRun.{HasRunWhole}
-use Rattle.uni_script.specs.Remarks.{RemarkAt, RemarksGrow, remarks_of_lines}
+use Rattle.uni_script.specs.Remarks.{Heard, HeardGrows, heard_of_lines}
 use Rattle.uni_script.specs.Replay.{IsInput, IsReplay, Leaves, IsPartOfReplay, HasAnswered, IsFaultOfScript, text_of_script}
 use Rattle.uni_script.proofs.Cutting.{GoesOn-start, GoesOn-start_other, GoesOn-after, lines_of-append}
 use Rattle.uni_script.proofs.Running.{after_text, and_then-same, and_then-assoc, and_then-none, and_then-some, and_then-quiet, outcome_of_lines-append, outcome_of_lines-too_long, outcome_of_lines-too_many, few_lines}
@@ -324,9 +324,9 @@ module _ {B : Type 0} (kind : Kind B) where
     ]
 
   -- what is told of a run that has ended
-  module _ (left left_after old new : Option (List ℕ)) (remarks_old remarks : Option (List RemarkAt)) {Made : Type 0} (IsMade : (lines : ℕ) → B → Made → Type 0) where
+  module _ (left left_after old new : Option (List ℕ)) (heard_old heard : Option Heard) {Made : Type 0} (IsMade : (lines : ℕ) → B → Made → Type 0) where
     abbrev Ended : Result Made BenchFault → Type 0
-    Ended result = HasEnded kind left left_after old new remarks_old remarks IsMade result
+    Ended result = HasEnded kind left left_after old new heard_old heard IsMade result
 
     pub HasEnded-replayed : (result : Result Made BenchFault) → Ended result → OnOk result (IsReplay kind left old new None)
     HasEnded-replayed (Ok made) is = replayed_as left left_after is.stop is.bytes is.read old new None (same_run left left_after is.stop is.bytes is.read (not_failed left left_after is.stop is.bytes is.read is.ends.0)) is.ends.0 is.ends.1
@@ -334,7 +334,7 @@ module _ {B : Type 0} (kind : Kind B) where
 
     -- it was read to its end, without a fault; this was made of its session, and what it tells was heard
     pub HasEnded-whole : (made : Made) → Ended (Ok made)
-        → HasRunWhole kind left (λ b telling. ((lines : ℕ) × IsMade lines b made) × RemarksGrow remarks_old remarks telling × (length telling ≤ 100000))
+        → HasRunWhole kind left (λ b more. ((lines : ℕ) × IsMade lines b made) × HeardGrows heard_old heard more × (length more.remarks ≤ 100000))
     HasEnded-whole made is =
         let s = script left left_after is.stop is.bytes is.read in
         let end = end_of_run is.stop is.bytes is.ends.0 in
@@ -349,7 +349,7 @@ module _ {B : Type 0} (kind : Kind B) where
             ap (λ (o : Outcome B). o.session) same ∙ is.made.1,
             (
               (length (lines_of_read is.stop is.bytes), is.made.2),
-              subst (λ l. RemarksGrow remarks_old remarks (remarks_of_lines kind 1 None l)) lines is.remarks_as,
+              subst (λ l. HeardGrows heard_old heard (heard_of_lines kind 1 None l)) lines is.heard_as,
               (let few = few_lines kind 1 None (lines_of s) (omega arith) (and_then-quiet (outcome_of_lines kind 1 None (lines_of s)) (λ after. outcome_of_end (length (lines_of s)) after) quiet) in
                   let remarks = remarks_of_lines-length kind 1 None (lines_of s) in
                   omega arith),

@@ -15,7 +15,7 @@ use Rattle.uni_script.specs.declared.lines.Source.TheVariants.{Open, Ended}
 use Rattle.uni_script.specs.Ends.{AppendsPrefix, Moves}
 use Rattle.uni_script.specs.Grammar.{cut, last_line, is_plain_byte, is_note}
 use Rattle.uni_script.specs.Outcome.{Kind, Answered, Outcome, outcome_of_fault, outcome_of_text, and_then, echo_of, echoed, outcome_of_words, outcome_of_line, outcome_of_short_line, outcome_of_lines, outcome_of_end}
-use Rattle.uni_script.specs.Remarks.{RemarkAt, RemarksGrow, remarks_of_line, remarks_of_lines}
+use Rattle.uni_script.specs.Remarks.{Heard, HeardGrows, nothing, heard_then, heard_of_line, heard_of_lines}
 use Rattle.uni_script.specs.Lines.{Stop, IsHeld, line_of, rest_of, HasTaken, HasStopped, HasRun, HasEnded, ReadsOn, HasFaultAfter, FaultsAfter, lines_of_read, fault_of_stop, outcome_of_stop, outcome_of_read, EndsAs, WritesAs}
 use Rattle.uni_script.specs.Lines.Stop.{End, Failed, TooLong, TooMany}
 use Rattle.uni_script.proofs.Cutting.{cut-append}
@@ -38,16 +38,22 @@ IsSilent-map_or : {A B : Type 0} (f : A → Outcome B) (o : Option A) (x : Outco
 IsSilent-map_or f None x p q = q
 IsSilent-map_or f (Some a) x p q = p a
 
--- nothing more is told
-pub RemarksGrow-nil : (remarks : Option (List RemarkAt)) → RemarksGrow remarks remarks []
-RemarksGrow-nil None = tt
-RemarksGrow-nil (Some remarks) = sym (append-nil remarks)
+-- nothing more is heard
+pub heard_then-nothing : (first : Heard) → heard_then first nothing ≡ first
+heard_then-nothing first = rw (append-nil first.remarks, append-nil first.lines) refl
 
-RemarksGrow-trans : (a b c : Option (List RemarkAt)) (xs ys : List RemarkAt) → RemarksGrow a b xs → RemarksGrow b c ys → RemarksGrow a c (xs ++ ys)
-RemarksGrow-trans None b c xs ys p q = tt
-RemarksGrow-trans (Some a) None c xs ys p q = absurd p
-RemarksGrow-trans (Some a) (Some b) None xs ys p q = absurd q
-RemarksGrow-trans (Some a) (Some b) (Some c) xs ys p q = q ∙ ap (λ l. l ++ ys) p ∙ append_assoc a xs ys
+heard_then-assoc : (a b c : Heard) → heard_then (heard_then a b) c ≡ heard_then a (heard_then b c)
+heard_then-assoc a b c = rw (append_assoc a.remarks b.remarks c.remarks, append_assoc a.lines b.lines c.lines) refl
+
+pub HeardGrows-nil : (heard : Option Heard) → HeardGrows heard heard nothing
+HeardGrows-nil None = tt
+HeardGrows-nil (Some heard) = sym (heard_then-nothing heard)
+
+pub HeardGrows-trans : (a b c : Option Heard) (x y : Heard) → HeardGrows a b x → HeardGrows b c y → HeardGrows a c (heard_then x y)
+HeardGrows-trans None b c x y p q = tt
+HeardGrows-trans (Some a) None c x y p q = absurd p
+HeardGrows-trans (Some a) (Some b) None x y p q = absurd q
+HeardGrows-trans (Some a) (Some b) (Some c) x y p q = q ∙ ap (λ l. heard_then l y) p ∙ heard_then-assoc a x y
 
 -- the fault with which reading stopped ends the run
 stop_faults : {B : Type 0} (stop : Stop) (b : Option B) (n : ℕ) (e : BenchFault) → fault_of_stop stop n ≡ Some e → outcome_of_stop stop n b ≡ outcome_of_fault b e
@@ -124,11 +130,11 @@ ReadsOn-taken old now lines taken has = at lines.source refl
         }
 
 module _ {B : Type 0} (kind : Kind B) where
-  -- lines without a fault tell what they do, and then the further lines what they do
-  remarks_of_lines-append : (number : ℕ) (a : Option B) (xs ys : List (List ℕ)) → (outcome_of_lines kind number a xs).fault ≡ None
-      → remarks_of_lines kind number a (xs ++ ys) ≡ remarks_of_lines kind number a xs ++ remarks_of_lines kind (number + length xs) (outcome_of_lines kind number a xs).session ys
-  remarks_of_lines-append number a [] ys none = let e : number + 0 ≡ number = omega arith in rw e refl
-  remarks_of_lines-append number a (x ∷ xs) ys none = at first.fault refl (λ quiet. remarks_of_lines-append (number + 1) first.session xs ys quiet)
+  -- of lines without a fault is heard what they tell, and then of the further lines what they tell
+  heard_of_lines-append : (number : ℕ) (a : Option B) (xs ys : List (List ℕ)) → (outcome_of_lines kind number a xs).fault ≡ None
+      → heard_of_lines kind number a (xs ++ ys) ≡ heard_then (heard_of_lines kind number a xs) (heard_of_lines kind (number + length xs) (outcome_of_lines kind number a xs).session ys)
+  heard_of_lines-append number a [] ys none = let e : number + 0 ≡ number = omega arith in rw e refl
+  heard_of_lines-append number a (x ∷ xs) ys none = at first.fault refl (λ quiet. heard_of_lines-append (number + 1) first.session xs ys quiet)
     where
       first : Outcome B
       first = outcome_of_line kind number a x
@@ -136,21 +142,24 @@ module _ {B : Type 0} (kind : Kind B) where
       rest : Option B → Outcome B
       rest after = outcome_of_lines kind (number + 1) after xs
 
-      prefix : List RemarkAt
-      prefix = remarks_of_line kind a x ++ remarks_of_lines kind (number + 1) first.session xs
+      one : Heard
+      one = heard_of_line kind number a first.session x
+
+      prefix : Heard
+      prefix = heard_then one (heard_of_lines kind (number + 1) first.session xs)
 
       at : (f : Option BenchFault) → first.fault ≡ f
           → ((rest first.session).fault ≡ None
-          → remarks_of_lines kind (number + 1) first.session (xs ++ ys) ≡ remarks_of_lines kind (number + 1) first.session xs ++ remarks_of_lines kind (number + 1 + length xs) (rest first.session).session ys)
-          → remarks_of_lines kind number a (x ∷ xs ++ ys) ≡ remarks_of_lines kind number a (x ∷ xs) ++ remarks_of_lines kind (number + length (x ∷ xs)) (outcome_of_lines kind number a (x ∷ xs)).session ys
+          → heard_of_lines kind (number + 1) first.session (xs ++ ys) ≡ heard_then (heard_of_lines kind (number + 1) first.session xs) (heard_of_lines kind (number + 1 + length xs) (rest first.session).session ys))
+          → heard_of_lines kind number a (x ∷ xs ++ ys) ≡ heard_then (heard_of_lines kind number a (x ∷ xs)) (heard_of_lines kind (number + length (x ∷ xs)) (outcome_of_lines kind number a (x ∷ xs)).session ys)
       at (Some f) e further = absurd (let h : None ≡ Some f = sym none ∙ ap (λ (o : Outcome B). o.fault) (and_then-some first rest f e) ∙ e in cc)
       at None e further =
           let is = and_then-none first rest e in
           let quiet = sym (ap (λ (o : Outcome B). o.fault) is) ∙ none in
-          ap (λ l. remarks_of_line kind a x ++ l) (further quiet)
-          ∙ sym (append_assoc (remarks_of_line kind a x) (remarks_of_lines kind (number + 1) first.session xs) (remarks_of_lines kind (number + 1 + length xs) (rest first.session).session ys))
-          ∙ ap (λ k. prefix ++ remarks_of_lines kind k (rest first.session).session ys) (let k : number + 1 + length xs ≡ number + length (x ∷ xs) = omega arith in k)
-          ∙ ap (λ (o : Outcome B). prefix ++ remarks_of_lines kind (number + length (x ∷ xs)) o.session ys) (sym is)
+          ap (λ l. heard_then one l) (further quiet)
+          ∙ sym (heard_then-assoc one (heard_of_lines kind (number + 1) first.session xs) (heard_of_lines kind (number + 1 + length xs) (rest first.session).session ys))
+          ∙ ap (λ k. heard_then prefix (heard_of_lines kind k (rest first.session).session ys)) (let k : number + 1 + length xs ≡ number + length (x ∷ xs) = omega arith in k)
+          ∙ ap (λ (o : Outcome B). heard_then prefix (heard_of_lines kind (number + length (x ∷ xs)) o.session ys)) (sym is)
 
   IsSilent-outcome_of_words : (number : ℕ) (b : Option B) (words : List (List ℕ)) → IsSilent (outcome_of_words kind number b words)
   IsSilent-outcome_of_words number None words =
@@ -166,16 +175,16 @@ module _ {B : Type 0} (kind : Kind B) where
       IsSilent-if (not (list_all is_plain_byte line)) (outcome_of_fault b (BadByte number)) plain (λ e q. refl)
       (IsSilent-if (is_note line) noted worded (IsSilent-none b []) (IsSilent-outcome_of_words number b (words_of_text line)))
 
-  pub HasRun-start : (left written : Option (List ℕ)) (remarks : Option (List RemarkAt)) (lines : Lines) → HasTaken left left lines [] → HasRun kind left left lines written written [] remarks remarks [] None
-  HasRun-start left written remarks lines has = record { reading = has; fault = refl; session_after = refl; prefix = []; written_as = Appends-nil written; text_is = refl; remarks_as = RemarksGrow-nil remarks }
+  pub HasRun-start : (left written : Option (List ℕ)) (heard : Option Heard) (lines : Lines) → HasTaken left left lines [] → HasRun kind left left lines written written [] heard heard [] None
+  HasRun-start left written heard lines has = record { reading = has; fault = refl; session_after = refl; prefix = []; written_as = Appends-nil written; text_is = refl; heard_as = HeardGrows-nil heard }
 
-  module _ (old now : Option (List ℕ)) (lines : Lines) (written_old written : Option (List ℕ)) (gathered : List ℕ) (remarks_old remarks : Option (List RemarkAt)) (taken : List (List ℕ)) (b : Option B)
-      (run : HasRun kind old now lines written_old written gathered remarks_old remarks taken b) where
+  module _ (old now : Option (List ℕ)) (lines : Lines) (written_old written : Option (List ℕ)) (gathered : List ℕ) (heard_old heard : Option Heard) (taken : List (List ℕ)) (b : Option B)
+      (run : HasRun kind old now lines written_old written gathered heard_old heard taken b) where
     abbrev pub before : Outcome B
     before = outcome_of_lines kind 1 None taken
 
     -- a part of what was gathered was written
-    pub HasRun-moved : (written_new : Option (List ℕ)) (left : List ℕ) → Moves written written_new gathered left → HasRun kind old now lines written_old written_new left remarks_old remarks taken b
+    pub HasRun-moved : (written_new : Option (List ℕ)) (left : List ℕ) → Moves written written_new gathered left → HasRun kind old now lines written_old written_new left heard_old heard taken b
     HasRun-moved written_new left moved = record {
       reading = run.reading;
       fault = run.fault;
@@ -183,7 +192,7 @@ module _ {B : Type 0} (kind : Kind B) where
       prefix = run.prefix ++ moved.0;
       written_as = Appends-trans written_old written written_new run.prefix moved.0 run.written_as moved.1;
       text_is = run.text_is ∙ ap (λ t. run.prefix ++ t) moved.2 ∙ sym (append_assoc run.prefix moved.0 left);
-      remarks_as = run.remarks_as;
+      heard_as = run.heard_as;
     }
 
     -- all of the text was written, or a prefix of it
@@ -219,18 +228,22 @@ module _ {B : Type 0} (kind : Kind B) where
           ∙ ap (λ o. after_text before.text (and_then o (λ c. record { session = c; text = []; fault = None }))) (outcome_of_line-short kind after.count b line few short)
           ∙ ap (after_text before.text) (and_then-done first)
 
-      told_with_line : remarks_of_lines kind 1 None taken ++ remarks_of_line kind b line ≡ remarks_of_lines kind 1 None (taken ++ line ∷ [])
-      told_with_line =
-          let one : remarks_of_line kind b line ≡ remarks_of_lines kind (1 + length taken) b (line ∷ []) = sym (append-nil (remarks_of_line kind b line)) in
-          ap (λ l. remarks_of_lines kind 1 None taken ++ l) one
-          ∙ ap (λ s. remarks_of_lines kind 1 None taken ++ remarks_of_lines kind (1 + length taken) s (line ∷ [])) (sym run.session_after)
-          ∙ sym (remarks_of_lines-append 1 None taken (line ∷ []) run.fault)
+      heard_with_line : (b' : Option B) → short_line.fault ≡ None → short_line.session ≡ b'
+          → heard_then (heard_of_lines kind 1 None taken) (heard_of_line kind after.count b b' line) ≡ heard_of_lines kind 1 None (taken ++ line ∷ [])
+      heard_with_line b' none same =
+          let ran : (outcome_of_line kind after.count b line).session ≡ b' =
+          ap (λ (o : Outcome B). o.session) (outcome_of_line-short kind after.count b line few short ∙ echoed-none echo short_line none) ∙ same in
+          ap (λ c. heard_then (heard_of_lines kind 1 None taken) (heard_of_line kind after.count b c line)) (sym ran)
+          ∙ ap (heard_then (heard_of_lines kind 1 None taken)) (sym (heard_then-nothing (heard_of_line kind after.count b (outcome_of_line kind after.count b line).session line)))
+          ∙ ap (λ n. heard_then (heard_of_lines kind 1 None taken) (heard_of_lines kind n b (line ∷ []))) (sym number_is)
+          ∙ ap (λ s. heard_then (heard_of_lines kind 1 None taken) (heard_of_lines kind (1 + length taken) s (line ∷ []))) (sym run.session_after)
+          ∙ sym (heard_of_lines-append 1 None taken (line ∷ []) run.fault)
 
       -- a line without a fault was run, its echo and its answer gathered, and what it tells heard
-      pub HasRun-line : (b' : Option B) (gathered_new : List ℕ) (remarks_new : Option (List RemarkAt)) → short_line.fault ≡ None → short_line.session ≡ b'
-          → gathered_new ≡ gathered ++ (echo ++ short_line.text) → RemarksGrow remarks remarks_new (remarks_of_line kind b line)
-          → HasRun kind old new after written_old written gathered_new remarks_old remarks_new (taken ++ line ∷ []) b'
-      HasRun-line b' gathered_new remarks_new none same gathers tells = record {
+      pub HasRun-line : (b' : Option B) (gathered_new : List ℕ) (heard_new : Option Heard) → short_line.fault ≡ None → short_line.session ≡ b'
+          → gathered_new ≡ gathered ++ (echo ++ short_line.text) → HeardGrows heard heard_new (heard_of_line kind after.count b b' line)
+          → HasRun kind old new after written_old written gathered_new heard_old heard_new (taken ++ line ∷ []) b'
+      HasRun-line b' gathered_new heard_new none same gathers tells = record {
         reading = has;
         fault = ap (λ (o : Outcome B). o.fault) goes ∙ none;
         session_after = ap (λ (o : Outcome B). o.session) goes ∙ same;
@@ -239,18 +252,18 @@ module _ {B : Type 0} (kind : Kind B) where
         text_is =
             ap (λ (o : Outcome B). o.text) goes ∙ ap (λ t. t ++ (echo ++ short_line.text)) run.text_is
             ∙ append_assoc run.prefix gathered (echo ++ short_line.text) ∙ ap (λ t. run.prefix ++ t) (sym gathers);
-        remarks_as = subst (RemarksGrow remarks_old remarks_new) told_with_line (RemarksGrow-trans remarks_old remarks remarks_new (remarks_of_lines kind 1 None taken) (remarks_of_line kind b line) run.remarks_as tells);
+        heard_as = subst (HeardGrows heard_old heard_new) (heard_with_line b' none same) (HeardGrows-trans heard_old heard heard_new (heard_of_lines kind 1 None taken) (heard_of_line kind after.count b b' line) run.heard_as tells);
       }
         where
           goes : outcome_of_lines kind 1 None (taken ++ line ∷ []) ≡ after_text before.text (after_text echo short_line)
           goes = outcome_with_line ∙ ap (after_text before.text) (echoed-none echo short_line none)
 
       -- a line without a fault and without an answer was run
-      pub HasRun-quiet : (b' : Option B) (gathered_new : List ℕ) (remarks_new : Option (List RemarkAt)) → short_line ≡ record { session = b'; text = []; fault = None }
-          → gathered_new ≡ gathered ++ echo → RemarksGrow remarks remarks_new (remarks_of_line kind b line)
-          → HasRun kind old new after written_old written gathered_new remarks_old remarks_new (taken ++ line ∷ []) b'
-      HasRun-quiet b' gathered_new remarks_new quiet gathers tells =
-          HasRun-line b' gathered_new remarks_new (ap (λ (o : Outcome B). o.fault) quiet) (ap (λ (o : Outcome B). o.session) quiet)
+      pub HasRun-quiet : (b' : Option B) (gathered_new : List ℕ) (heard_new : Option Heard) → short_line ≡ record { session = b'; text = []; fault = None }
+          → gathered_new ≡ gathered ++ echo → HeardGrows heard heard_new (heard_of_line kind after.count b b' line)
+          → HasRun kind old new after written_old written gathered_new heard_old heard_new (taken ++ line ∷ []) b'
+      HasRun-quiet b' gathered_new heard_new quiet gathers tells =
+          HasRun-line b' gathered_new heard_new (ap (λ (o : Outcome B). o.fault) quiet) (ap (λ (o : Outcome B). o.session) quiet)
           (gathers ∙ ap (λ t. gathered ++ t) (sym (append-nil echo) ∙ ap (λ t. echo ++ t) (sym (ap (λ (o : Outcome B). o.text) quiet)))) tells
 
       abbrev pub whole : ReadsOn old new (taken ++ line ∷ [])
@@ -311,9 +324,9 @@ module _ {B : Type 0} (kind : Kind B) where
       pub FaultsAfter-take : (e : BenchFault) → fault_of_stop stop lines.count ≡ Some e → FaultsAfter kind old new taken e
       FaultsAfter-take e is = FaultsAfter-stop e (stop_faults stop b (length taken) e (ap (λ n. fault_of_stop stop n) run.reading.count ∙ is))
 
-  module _ (old new written_old written : Option (List ℕ)) (remarks_old remarks : Option (List RemarkAt)) (taken : List (List ℕ)) {Made : Type 0} (IsMade : (lines : ℕ) → B → Made → Type 0) where
+  module _ (old new written_old written : Option (List ℕ)) (heard_old heard : Option Heard) (taken : List (List ℕ)) {Made : Type 0} (IsMade : (lines : ℕ) → B → Made → Type 0) where
     -- the run ends early: memory was refused, or the writer failed
-    pub HasEnded-early : (e : BenchFault) → (e ≡ Memory) ⊎ (e ≡ Write) → ReadsOn old new taken → AppendsPrefix written_old written (outcome_of_lines kind 1 None taken).text → HasEnded kind old new written_old written remarks_old remarks IsMade (Err e)
+    pub HasEnded-early : (e : BenchFault) → (e ≡ Memory) ⊎ (e ≡ Write) → ReadsOn old new taken → AppendsPrefix written_old written (outcome_of_lines kind 1 None taken).text → HasEnded kind old new written_old written heard_old heard IsMade (Err e)
     HasEnded-early e early whole part =
         let run = outcome_of_lines kind 1 None taken in
         let stopped : Option B → Outcome B = λ d. outcome_of_stop whole.stop (length (lines_of_read whole.stop whole.bytes)) d in
@@ -327,39 +340,39 @@ module _ {B : Type 0} (kind : Kind B) where
           read = whole.read;
           ends = inl (early, subst (AppendsPrefix written_old written) (sym (ap (λ (o : Outcome B). o.text) same ∙ goes.1)) (AppendsPrefix-more written_old written run.text goes.0 part));
           made = tt;
-          remarks_as = tt;
+          heard_as = tt;
         }
 
     -- the run ends with its fault, after all answers were written
-    pub HasEnded-fault : (e : BenchFault) → FaultsAfter kind old new taken e → Appends written_old written (outcome_of_lines kind 1 None taken).text → HasEnded kind old new written_old written remarks_old remarks IsMade (Err e)
+    pub HasEnded-fault : (e : BenchFault) → FaultsAfter kind old new taken e → Appends written_old written (outcome_of_lines kind 1 None taken).text → HasEnded kind old new written_old written heard_old heard IsMade (Err e)
     HasEnded-fault e (inl memory) all = HasEnded-early e (inl memory.0) memory.1 (AppendsPrefix-all written_old written _ all)
-    HasEnded-fault e (inr has) all = record { stop = has.stop; bytes = has.bytes; read = has.read; ends = inr (has.fault, subst (Appends written_old written) (sym has.text) all); made = tt; remarks_as = tt }
+    HasEnded-fault e (inr has) all = record { stop = has.stop; bytes = has.bytes; read = has.read; ends = inr (has.fault, subst (Appends written_old written) (sym has.text) all); made = tt; heard_as = tt }
 
     -- or the writer failed before that
-    pub HasEnded-unwritten : (e : BenchFault) → FaultsAfter kind old new taken e → AppendsPrefix written_old written (outcome_of_lines kind 1 None taken).text → HasEnded kind old new written_old written remarks_old remarks IsMade (Err Write)
+    pub HasEnded-unwritten : (e : BenchFault) → FaultsAfter kind old new taken e → AppendsPrefix written_old written (outcome_of_lines kind 1 None taken).text → HasEnded kind old new written_old written heard_old heard IsMade (Err Write)
     HasEnded-unwritten e (inl memory) part = HasEnded-early Write (inr refl) memory.1 part
-    HasEnded-unwritten e (inr has) part = record { stop = has.stop; bytes = has.bytes; read = has.read; ends = inl (inr refl, subst (AppendsPrefix written_old written) (sym has.text) part); made = tt; remarks_as = tt }
+    HasEnded-unwritten e (inr has) part = record { stop = has.stop; bytes = has.bytes; read = has.read; ends = inl (inr refl, subst (AppendsPrefix written_old written) (sym has.text) part); made = tt; heard_as = tt }
 
   -- the run ends where the script does
-  pub HasEnded-end : (old now : Option (List ℕ)) (lines : Lines) (written_old written : Option (List ℕ)) (gathered : List ℕ) (remarks_old remarks : Option (List RemarkAt)) (taken : List (List ℕ)) (b : B)
+  pub HasEnded-end : (old now : Option (List ℕ)) (lines : Lines) (written_old written : Option (List ℕ)) (gathered : List ℕ) (heard_old heard : Option Heard) (taken : List (List ℕ)) (b : B)
       {Made : Type 0} (IsMade : (lines : ℕ) → B → Made → Type 0)
-      → HasRun kind old now lines written_old written gathered remarks_old remarks taken (Some b) → gathered ≡ [] → (new : Option (List ℕ)) → HasStopped old new End taken → (written_new : Option (List ℕ)) (result : Result Made BenchFault)
+      → HasRun kind old now lines written_old written gathered heard_old heard taken (Some b) → gathered ≡ [] → (new : Option (List ℕ)) → HasStopped old new End taken → (written_new : Option (List ℕ)) (result : Result Made BenchFault)
       → WritesAs (outcome_of_end lines.count (Some b)) written written_new result → IfOk result (λ m. IsMade lines.count b m)
-      → HasEnded kind old new written_old written_new remarks_old remarks IsMade result
-  HasEnded-end old now lines written_old written gathered remarks_old remarks taken b {Made = Made} IsMade run none new has written_new result ends is_made = record {
+      → HasEnded kind old new written_old written_new heard_old heard IsMade result
+  HasEnded-end old now lines written_old written gathered heard_old heard taken b {Made = Made} IsMade run none new has written_new result ends is_made = record {
     stop = End;
     bytes = has.bytes;
     read = has.read;
     ends = ended result (subst (λ n. WritesAs (outcome_of_end n (Some b)) written written_new result) (sym run.reading.count) ends);
     made = made result is_made;
-    remarks_as = OnOk-always result _ (subst (λ l. RemarksGrow remarks_old remarks (remarks_of_lines kind 1 None l)) (sym has.taken_as) run.remarks_as);
+    heard_as = OnOk-always result _ (subst (λ l. HeardGrows heard_old heard (heard_of_lines kind 1 None l)) (sym has.taken_as) run.heard_as);
   }
     where
       same : outcome_of_read kind End has.bytes ≡ after_text (outcome_of_lines kind 1 None taken).text (outcome_of_end (length taken) (Some b))
-      same = outcome_of_stopped old now lines written_old written gathered remarks_old remarks taken (Some b) run new End has (Some b) refl
+      same = outcome_of_stopped old now lines written_old written gathered heard_old heard taken (Some b) run new End has (Some b) refl
 
       written_as : Appends written_old written (outcome_of_lines kind 1 None taken).text
-      written_as = text_written old now lines written_old written gathered remarks_old remarks taken (Some b) run none
+      written_as = text_written old now lines written_old written gathered heard_old heard taken (Some b) run none
 
       ended : (r : Result Made BenchFault) → WritesAs (outcome_of_end (length taken) (Some b)) written written_new r → WritesAs (outcome_of_read kind End has.bytes) written_old written_new r
       ended (Ok s) w = (ap (λ (o : Outcome B). o.fault) same, subst (Appends written_old written_new) (sym (ap (λ (o : Outcome B). o.text) same)) (Appends-trans written_old written written_new (outcome_of_lines kind 1 None taken).text _ written_as w.1))
@@ -372,26 +385,26 @@ module _ {B : Type 0} (kind : Kind B) where
       made (Err e) h = tt
 
 -- what was made of a script, seen otherwise
-module _ {B : Type 0} (kind : Kind B) (old new written_old written : Option (List ℕ)) (remarks_old remarks : Option (List RemarkAt)) {X Y : Type 0}
+module _ {B : Type 0} (kind : Kind B) (old new written_old written : Option (List ℕ)) (heard_old heard : Option Heard) {X Y : Type 0}
     (P : (lines : ℕ) → B → X → Type 0) (Q : (lines : ℕ) → B → Y → Type 0) where
   pub HasEnded-map : (x : X) (y : Y) → ((n : ℕ) (s : B) → P n s x → Q n s y)
-      → HasEnded kind old new written_old written remarks_old remarks P (Ok x) → HasEnded kind old new written_old written remarks_old remarks Q (Ok y)
+      → HasEnded kind old new written_old written heard_old heard P (Ok x) → HasEnded kind old new written_old written heard_old heard Q (Ok y)
   HasEnded-map x y f is = record {
     stop = is.stop;
     bytes = is.bytes;
     read = is.read;
     ends = is.ends;
     made = (is.made.0, is.made.1, f (length (lines_of_read is.stop is.bytes)) is.made.0 is.made.2);
-    remarks_as = is.remarks_as;
+    heard_as = is.heard_as;
   }
 
   -- a fault is a fault, whatever would have been made
-  pub HasEnded-err : (e : BenchFault) → HasEnded kind old new written_old written remarks_old remarks P (Err e) → HasEnded kind old new written_old written remarks_old remarks Q (Err e)
-  HasEnded-err e is = record { stop = is.stop; bytes = is.bytes; read = is.read; ends = is.ends; made = tt; remarks_as = tt }
+  pub HasEnded-err : (e : BenchFault) → HasEnded kind old new written_old written heard_old heard P (Err e) → HasEnded kind old new written_old written heard_old heard Q (Err e)
+  HasEnded-err e is = record { stop = is.stop; bytes = is.bytes; read = is.read; ends = is.ends; made = tt; heard_as = tt }
 
 -- however the run ended
-module _ {B : Type 0} (kind : Kind B) (old new written_old written : Option (List ℕ)) (remarks_old remarks : Option (List RemarkAt)) {X : Type 0} (P Q : (lines : ℕ) → B → X → Type 0) where
+module _ {B : Type 0} (kind : Kind B) (old new written_old written : Option (List ℕ)) (heard_old heard : Option Heard) {X : Type 0} (P Q : (lines : ℕ) → B → X → Type 0) where
   pub HasEnded-as : (r : Result X BenchFault) → ((n : ℕ) (s : B) (x : X) → P n s x → Q n s x)
-      → HasEnded kind old new written_old written remarks_old remarks P r → HasEnded kind old new written_old written remarks_old remarks Q r
-  HasEnded-as (Ok x) f is = HasEnded-map kind old new written_old written remarks_old remarks P Q x x (λ n s. f n s x) is
-  HasEnded-as (Err e) f is = HasEnded-err kind old new written_old written remarks_old remarks P Q e is
+      → HasEnded kind old new written_old written heard_old heard P r → HasEnded kind old new written_old written heard_old heard Q r
+  HasEnded-as (Ok x) f is = HasEnded-map kind old new written_old written heard_old heard P Q x x (λ n s. f n s x) is
+  HasEnded-as (Err e) f is = HasEnded-err kind old new written_old written heard_old heard P Q e is

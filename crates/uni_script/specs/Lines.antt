@@ -13,7 +13,7 @@ use Rattle.uni_script.specs.declared.lines.Taken.{Taken}
 use Rattle.uni_script.specs.declared.lines.Taken.TheVariants as taken
 use Rattle.uni_script.specs.Grammar.{cut, lines_of}
 use Rattle.uni_script.specs.Outcome.{Kind, Outcome, outcome_of_fault, and_then, outcome_of_lines, outcome_of_end}
-use Rattle.uni_script.specs.Remarks.{RemarkAt, RemarksGrow, remarks_of_lines}
+use Rattle.uni_script.specs.Remarks.{Heard, HeardGrows, heard_of_lines}
 
 -- the numbers of the lines are in range
 pub record IsHeld (lines : Lines) : Type 0 where
@@ -136,14 +136,14 @@ WritesAs outcome old new (Err e) =
 -- The lines that were taken have left this session and no fault. The text of their answers was written, but for what is gathered of
 -- it, and what they tell was heard.
 pub record HasRun {B : Type 0} (kind : Kind B) (old now : Option (List ℕ)) (lines : Lines) (written_old written : Option (List ℕ))
-    (gathered : List ℕ) (remarks_old remarks : Option (List RemarkAt)) (taken : List (List ℕ)) (session : Option B) : Type 0 where
+    (gathered : List ℕ) (heard_old heard : Option Heard) (taken : List (List ℕ)) (session : Option B) : Type 0 where
   pub reading : HasTaken old now lines taken
   pub fault : (outcome_of_lines kind 1 None taken).fault ≡ None
   pub session_after : (outcome_of_lines kind 1 None taken).session ≡ session
   pub prefix : List ℕ
   pub written_as : Appends written_old written prefix
   pub text_is : (outcome_of_lines kind 1 None taken).text ≡ prefix ++ gathered
-  pub remarks_as : RemarksGrow remarks_old remarks (remarks_of_lines kind 1 None taken)
+  pub heard_as : HeardGrows heard_old heard (heard_of_lines kind 1 None taken)
 
 -- what was read has the lines that were taken, and may have more whole ones
 pub record ReadsOn (old now : Option (List ℕ)) (taken : List (List ℕ)) : Type 0 where
@@ -168,20 +168,20 @@ FaultsAfter kind old now taken e = ((e ≡ Memory) × ReadsOn old now taken) ⊎
 
 -- after the lines that were taken a further one was run, or the script has ended, or it has a fault
 abbrev pub GoesOn : {B : Type 0} (kind : Kind B) (old new : Option (List ℕ)) (lines after : Lines)
-    (written_old written : Option (List ℕ)) (gathered gathered_new : List ℕ) (remarks_old remarks remarks_new : Option (List RemarkAt))
+    (written_old written : Option (List ℕ)) (gathered gathered_new : List ℕ) (heard_old heard heard_new : Option Heard)
     (earlier : List (List ℕ)) (b b_new : B)
     → Result Taken BenchFault → Type 0
-GoesOn kind old new lines after written_old written gathered gathered_new remarks_old remarks remarks_new earlier b b_new (Ok taken.Line) =
-    (further : List (List ℕ)) × HasRun kind old new after written_old written gathered_new remarks_old remarks_new further (Some b_new)
-GoesOn kind old new lines after written_old written gathered gathered_new remarks_old remarks remarks_new earlier b b_new (Ok taken.End) =
+GoesOn kind old new lines after written_old written gathered gathered_new heard_old heard heard_new earlier b b_new (Ok taken.Line) =
+    (further : List (List ℕ)) × HasRun kind old new after written_old written gathered_new heard_old heard_new further (Some b_new)
+GoesOn kind old new lines after written_old written gathered gathered_new heard_old heard heard_new earlier b b_new (Ok taken.End) =
     HasStopped old new End earlier × (gathered_new ≡ gathered)
-    × (remarks_new ≡ remarks) × (b_new ≡ b) × (after.count ≡ lines.count)
-GoesOn kind old new lines after written_old written gathered gathered_new remarks_old remarks remarks_new earlier b b_new (Err e) =
+    × (heard_new ≡ heard) × (b_new ≡ b) × (after.count ≡ lines.count)
+GoesOn kind old new lines after written_old written gathered gathered_new heard_old heard heard_new earlier b b_new (Err e) =
     (gathered_new ≡ gathered) × FaultsAfter kind old new earlier e
 
 -- the run of what was read has ended as it should, and this was made of a script of so many lines and the session that it leaves
 pub record HasEnded {B : Type 0} (kind : Kind B) (old new : Option (List ℕ)) (written_old written : Option (List ℕ))
-    (remarks_old remarks : Option (List RemarkAt)) {Made : Type 0} (IsMade : (lines : ℕ) → B → Made → Type 0)
+    (heard_old heard : Option Heard) {Made : Type 0} (IsMade : (lines : ℕ) → B → Made → Type 0)
     (result : Result Made BenchFault) : Type 0 where
   pub stop : Stop
   pub bytes : List ℕ
@@ -189,16 +189,16 @@ pub record HasEnded {B : Type 0} (kind : Kind B) (old new : Option (List ℕ)) (
   pub ends : WritesAs (outcome_of_read kind stop bytes) written_old written result
   pub made : IfOk result (λ made. (b : B) × ((outcome_of_read kind stop bytes).session ≡ Some b)
       × IsMade (length (lines_of_read stop bytes)) b made)
-  pub remarks_as : OnOk result (RemarksGrow remarks_old remarks (remarks_of_lines kind 1 None (lines_of_read stop bytes)))
+  pub heard_as : OnOk result (HeardGrows heard_old heard (heard_of_lines kind 1 None (lines_of_read stop bytes)))
 
 -- the lines that are left are run from this session on, whatever lines came before it
 abbrev pub RunsOn : {B : Type 0} (kind : Kind B) (now : Option (List ℕ)) (lines : Lines) (written : Option (List ℕ))
-    (remarks : Option (List RemarkAt)) → Option B → (new written_new : Option (List ℕ)) (remarks_new : Option (List RemarkAt))
+    (heard : Option Heard) → Option B → (new written_new : Option (List ℕ)) (heard_new : Option Heard)
     → {Made : Type 0} (IsMade : (lines : ℕ) → B → Made → Type 0) → Result Made BenchFault → Type 0
-RunsOn kind now lines written remarks session new written_new remarks_new IsMade result =
-    (old written_old : Option (List ℕ)) (remarks_old : Option (List RemarkAt)) (taken : List (List ℕ))
-    → HasRun kind old now lines written_old written [] remarks_old remarks taken session
-    → HasEnded kind old new written_old written_new remarks_old remarks_new IsMade result
+RunsOn kind now lines written heard session new written_new heard_new IsMade result =
+    (old written_old : Option (List ℕ)) (heard_old : Option Heard) (taken : List (List ℕ))
+    → HasRun kind old now lines written_old written [] heard_old heard taken session
+    → HasEnded kind old new written_old written_new heard_old heard_new IsMade result
 
 -- a fault that the run of a line can have
 abbrev pub IsFaultOfLine : BenchFault → Type 0

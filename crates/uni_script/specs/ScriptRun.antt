@@ -6,7 +6,7 @@ use Rattle.uni_script.specs.declared.script_run.Ran.{Ran}
 use Rattle.uni_script.specs.declared.script_run.ScriptRun.{ScriptRun}
 use Rattle.uni_script.specs.declared.script_run.ScriptRecord.{ScriptRecord}
 use Rattle.uni_script.specs.declared.script_run.ScriptRecord.TheVariants.{Queue, Directory, Book, Sticky}
-use Rattle.uni_script.specs.Remarks.{RemarkAt, remark_at, remarks_of_script}
+use Rattle.uni_script.specs.Remarks.{Heard, remark_at, heard_of_script}
 use Rattle.uni_record.specs.Recorded.{Recording}
 use Rattle.uni_script.specs.declared.summary.Summary.{Summary}
 use Rattle.uni_script.specs.declared.options.Options.{Options}
@@ -25,22 +25,23 @@ session_of_record version (Directory recorded) = script_session name.Directory v
 session_of_record version (Book recorded) = script_session name.Book version (session_of recorded)
 session_of_record version (Sticky recorded) = script_session name.Sticky version (session_of recorded)
 
--- the run of a script that leaves this session and tells this; each of its lines, 100,000 at most, tells one thing at most
-pub record IsRunOf (b : ScriptSession) (remarks : List RemarkAt) (run : ScriptRun ScriptRecord) : Type 0 where
+-- the run of a script that leaves this session and tells this; each of its lines, 100,000 at most, has one remark at most
+pub record IsRunOf (b : ScriptSession) (heard : Heard) (run : ScriptRun ScriptRecord) : Type 0 where
   pub version : Version
   pub session : b ≡ session_of_record version run.record
-  pub remarks_are : remarks ≡ map remark_at run.remarks.items
+  pub remarks_are : heard.remarks ≡ map remark_at run.remarks.items
+  pub lines_are : heard.lines ≡ run.lines.items
   pub few : length run.remarks.items ≤ 100000
 
 -- the reader had a script without a fault that leaves a session and tells something, of which this holds
-abbrev pub HasRunWhole : {B : Type 0} (kind : Kind B) (left : Option (List ℕ)) (Holds : B → List RemarkAt → Type 0) → Type 0
+abbrev pub HasRunWhole : {B : Type 0} (kind : Kind B) (left : Option (List ℕ)) (Holds : B → Heard → Type 0) → Type 0
 HasRunWhole {B = B} kind left Holds =
     (script : List ℕ) × IsInput left script × (fault_of_script kind script ≡ None)
-    × ((b : B) × ((outcome_of_script kind script).session ≡ Some b) × Holds b (remarks_of_script kind script))
+    × ((b : B) × ((outcome_of_script kind script).session ≡ Some b) × Holds b (heard_of_script kind script))
 
 -- the reader had a script without a fault, whose run this is
 abbrev pub IsScriptRun : (options : Options) (left : Option (List ℕ)) → ScriptRun ScriptRecord → Type 0
-IsScriptRun options left run = HasRunWhole (scripts options) left (λ b remarks. IsRunOf b remarks run)
+IsScriptRun options left run = HasRunWhole (scripts options) left (λ b heard. IsRunOf b heard run)
 
 -- what was made of a script of so many lines that leaves this session, a session of this object, seen so: the summary is that of the
 -- object's session, and what is promised of it holds
@@ -65,9 +66,10 @@ abbrev pub IsOwnRan : {O S I R : Type 0} → SpokenObject S I R → (lines : ℕ
 IsOwnRan o lines b ran = (ran.summary ≡ summary_of o lines b.session) × IsPromised o b.session × (b.session ≡ session_of ran.record)
 
 -- the run of a script over one object that leaves this session and tells this
-pub record IsOwnRunOf {O S I R : Type 0} (o : SpokenObject S I R) (b : OwnSession S I R) (remarks : List RemarkAt)
+pub record IsOwnRunOf {O S I R : Type 0} (o : SpokenObject S I R) (b : OwnSession S I R) (heard : Heard)
     (run : ScriptRun (Recording O S I R)) : Type 0 where
   pub session : b.session ≡ session_of run.record
   pub promised : IsPromised o b.session
-  pub remarks_are : remarks ≡ map remark_at run.remarks.items
+  pub remarks_are : heard.remarks ≡ map remark_at run.remarks.items
+  pub lines_are : heard.lines ≡ run.lines.items
   pub few : length run.remarks.items ≤ 100000

@@ -388,9 +388,9 @@ fn push_log<O: Spoken>(
     ensures { OnOk result (text.new.items ≡ text.old.items
         ++ log_text (spoken O.sequential O.language world.now.object) (world_of world.now)) }
 {
-    let entries = Log::of(world).entries(alloc)?;
-    for entry in &entries {
-        push_entry::<O>(text, entry)?;
+    let mut cursor = Log::of(world).cursor();
+    while let Some(entry) = cursor.next_entry(alloc)? {
+        push_entry::<O>(text, &entry)?;
     }
     Ok(())
 }

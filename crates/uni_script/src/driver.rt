@@ -18,7 +18,7 @@ ghost use Rattle.uni_script.specs.Promises.{IsPromised};
 ghost use Rattle.uni_script.specs.ScriptRun.{IsRanAs, IsSummaryOf};
 ghost use Rattle.uni_script.specs.Scripts.{IsAbout};
 ghost use Rattle.uni_script.specs.Summary.{summary_of};
-ghost use Rattle.uni_script.specs.Remarks.{RemarkAt, RemarksGrow, remarks_of_line};
+ghost use Rattle.uni_script.specs.Remarks.{Heard, HeardGrows, heard_of_line};
 
 use crate::catalogue::{Catalogue, Scripts};
 use crate::commands::{make, open};
@@ -110,7 +110,7 @@ fn take_header<C: Catalogue, I: TextIn, W: TextOut, L: Listener>(
                 return Ok(header);
             }
             None => {
-                listener.note(alloc, None, line)?;
+                listener.note(alloc, lines.count, None, line)?;
                 write_echo(alloc, options.echo, line, writer)?;
             }
         }
@@ -342,12 +342,12 @@ fn run_next<S: Scripts, O: Spoken, I: TextIn, L: Listener>(
     ensures object { session.new.world.object ≡ session.old.world.object }
     ensures next { (kind : Kind S.Session) (inside : Session O.State O.Inv O.Resp → S.Session)
         → IsAbout kind (spoken O.sequential O.language session.old.world.object) dialect inside
-        → (old written_old written : Option (List ℕ)) (remarks_old : Option (List RemarkAt))
+        → (old written_old written : Option (List ℕ)) (heard_old : Option Heard)
         → (taken : List (List ℕ))
-        → HasRun kind old (I.remaining reader.old) lines.old written_old written text.old.items remarks_old
+        → HasRun kind old (I.remaining reader.old) lines.old written_old written text.old.items heard_old
         (L.heard listener.old) taken (Some (inside (session_of session.old)))
         → GoesOn kind old (I.remaining reader.new) lines.old lines.new written_old written text.old.items
-        text.new.items remarks_old (L.heard listener.old) (L.heard listener.new) taken
+        text.new.items heard_old (L.heard listener.old) (L.heard listener.new) taken
         (inside (session_of session.old)) (inside (session_of session.new)) result }
     ensures reader { IsErrOf result BenchFault.Read → I.has_failed reader.new ≡ true }
     ensures reader_ok { OnOk result (I.has_failed reader.new ≡ false) }
@@ -388,25 +388,28 @@ fn run_line<S: Scripts, O: Spoken, L: Listener>(
         → IsAbout kind (spoken O.sequential O.language session.old.world.object) dialect inside
         → OnOk result (Some (inside (session_of session.new))
         ≡ (outcome_of_short_line kind number (Some (inside (session_of session.old))) line.now).session) }
-    ensures remarks { (kind : Kind S.Session) (inside : Session O.State O.Inv O.Resp → S.Session)
+    ensures heard { (kind : Kind S.Session) (inside : Session O.State O.Inv O.Resp → S.Session)
         → IsAbout kind (spoken O.sequential O.language session.old.world.object) dialect inside
-        → OnOk result (RemarksGrow (L.heard listener.old) (L.heard listener.new)
-        (remarks_of_line kind (Some (inside (session_of session.old))) line.now)) }
+        → OnOk result (HeardGrows (L.heard listener.old) (L.heard listener.new)
+        (heard_of_line kind number (Some (inside (session_of session.old))) (Some (inside (session_of session.new)))
+        line.now)) }
     ensures own { IfErr result IsFaultOfLine }
 {
     if !is_plain(line) {
         return Err(BenchFault::BadByte(number));
     }
-    let before = session.events().len() as u64;
+    let before = session.events().len();
     if is_note(line) {
-        return Ok(listener.note(alloc, Some(before), line)?);
+        return Ok(listener.note(alloc, number, Some(before as u64), line)?);
     }
     let words = words_of(alloc, line)?;
     let Some(command) = command_of::<O>(dialect.version, words.as_slice()) else {
         return Err(BenchFault::BadLine(number));
     };
-    match make(session, alloc, command, text)? {
-        Some(refusal) => Ok(listener.refusal(before, refusal)?),
+    let refusal = make(session, alloc, command, text)?;
+    listener.events(number, session.events().len().saturating_sub(before))?;
+    match refusal {
+        Some(refusal) => Ok(listener.refusal(number, before as u64, refusal)?),
         None => Ok(()),
     }
 }

@@ -85,21 +85,20 @@ pub fn run_of_object<O: Spoken, I: TextIn>(
     requires reader { I.has_failed reader.old ≡ false }
     ensures run { IfOk result (λ run. HasRunWhole
         (own_scripts (spoken O.sequential O.language object) name.now options.now) (I.remaining reader.old)
-        (λ b remarks. IsOwnRunOf (spoken O.sequential O.language object) b remarks run)) }
+        (λ b heard. IsOwnRunOf (spoken O.sequential O.language object) b heard run)) }
     ensures all_read { OnOk result (IsAtEnd (I.remaining reader.new)) }
     ensures fault { IfErr result (λ e. IsFaultOfScript e
         → HasFault (own_scripts (spoken O.sequential O.language object) name.now options.now)
         (I.remaining reader.old) e) }
     ensures reader { IsErrOf result BenchFault.Read → I.has_failed reader.new ≡ true }
 {
-    let mut remarks = Remarks {
-        remarks: Vec::new(alloc),
-    };
+    let mut heard = Remarks::new(alloc);
     let own = Own { name, object };
-    match run_script(own, alloc, options, reader, &mut Unwritten, &mut remarks) {
+    match run_script(own, alloc, options, reader, &mut Unwritten, &mut heard) {
         Ok(ran) => Ok(ScriptRun {
             record: ran.record,
-            remarks: remarks.remarks,
+            remarks: heard.remarks,
+            lines: heard.lines,
         }),
         Err(fault) => Err(fault),
     }

@@ -1,8 +1,8 @@
-//! What a script tells beside its events: its notes, and why its commands are refused.
+//! What a script tells: its notes, why its commands are refused, and which line stored each event.
 
-ghost use Rattle.std.specs.Prelude.{◌≡◌, List, Option, OnOk, None, Some, map};
-ghost use Rattle.uni_script.specs.Remarks.{RemarkAt, RemarksGrow, remark_at, remarks_after, remarks_of_note};
-ghost use Rattle.uni_script.specs.Remarks.{text_of_note, without};
+ghost use Rattle.std.specs.Prelude.{◌≡◌, [], Option, OnOk, None, Some, map};
+ghost use Rattle.uni_script.specs.Remarks.{Heard, HeardGrows, heard_events, heard_remarks, remark_at};
+ghost use Rattle.uni_script.specs.Remarks.{remarks_after, remarks_of_note, text_of_note, without};
 ghost use Rattle.uni_script.specs.Remarks.RemarkText.{Refused};
 
 use crate::answer::Refusal;
@@ -19,32 +19,47 @@ pub enum Remark {
     Refused(Refusal),
 }
 
-/// A remark, and where it stands among the events.
+/// A remark, and where it stands in the script and among the events.
 #[derive(Drop)]
 pub struct PlacedRemark {
+    /// The number of the script's line that tells it, from 1.
+    pub line: u64,
     /// How many events were stored before it.
     pub before: u64,
     /// The remark.
     pub remark: Remark,
 }
 
-/// What hears the notes of a script, and why its commands are refused.
+/// What hears the notes of a script, why its commands are refused, and how many events its lines store.
 pub(crate) trait Listener {
     /// What it has heard, where that is kept.
-    ghost heard: { Self → Option (List RemarkAt) };
+    ghost heard: { Self → Option Heard };
 
-    /// Hears a line that is a note, after so many events, or before the header.
+    /// Hears a line of this number that is a note, after so many events, or before the header.
     ///
     /// An `Err` says that memory was refused.
-    fn note(&mut self, alloc: Global, before: Option<u64>, line: &[u8]) -> Result<(), AllocError>
-        ensures { OnOk result (RemarksGrow (heard self.old) (heard self.new) (remarks_of_note before line.now)) };
+    fn note(
+        &mut self,
+        alloc: Global,
+        number: u64,
+        before: Option<u64>,
+        line: &[u8],
+    ) -> Result<(), AllocError>
+        ensures { OnOk result (HeardGrows (heard self.old) (heard self.new)
+            (heard_remarks (remarks_of_note number before line.now))) };
 
-    /// Hears why a command was refused, after so many events.
+    /// Hears why the command of a line of this number was refused, after so many events.
     ///
     /// An `Err` says that memory was refused.
-    fn refusal(&mut self, before: u64, refusal: Refusal) -> Result<(), AllocError>
-        ensures { OnOk result (RemarksGrow (heard self.old) (heard self.new)
-            (remarks_after before (Some (Refused refusal)))) };
+    fn refusal(&mut self, number: u64, before: u64, refusal: Refusal) -> Result<(), AllocError>
+        ensures { OnOk result (HeardGrows (heard self.old) (heard self.new)
+            (heard_remarks (remarks_after number before (Some (Refused refusal))))) };
+
+    /// Hears that a line of this number has stored so many events.
+    ///
+    /// An `Err` says that memory was refused.
+    fn events(&mut self, number: u64, count: usize) -> Result<(), AllocError>
+        ensures { OnOk result (HeardGrows (heard self.old) (heard self.new) (heard_events number count)) };
 }
 
 /// Keeps nothing.
@@ -56,49 +71,83 @@ impl Listener for Deaf {
 
     ghost heard = { λ _. None };
 
-    fn note(&mut self, _: Global, _: Option<u64>, _: &[u8]) -> Result<(), AllocError> {
+    fn note(&mut self, _: Global, _: u64, _: Option<u64>, _: &[u8]) -> Result<(), AllocError> {
         Ok(())
     }
 
-    fn refusal(&mut self, _: u64, _: Refusal) -> Result<(), AllocError> {
+    fn refusal(&mut self, _: u64, _: u64, _: Refusal) -> Result<(), AllocError> {
+        Ok(())
+    }
+
+    fn events(&mut self, _: u64, _: usize) -> Result<(), AllocError> {
         Ok(())
     }
 }
 
-/// Keeps all remarks, in order.
+/// Keeps all remarks, in order, and the line of each event.
 #[derive(Drop)]
 pub(crate) struct Remarks {
-    /// What was heard.
+    /// The remarks.
     pub(crate) remarks: Vec<PlacedRemark>,
+    /// The number of the line that stored each event.
+    pub(crate) lines: Vec<u64>,
+}
+
+impl Remarks {
+    /// Nothing was heard yet.
+    pub(crate) fn new(alloc: Global) -> Remarks
+        ensures remarks { result.remarks.items ≡ [] }
+        ensures lines { result.lines.items ≡ [] }
+    {
+        Remarks {
+            remarks: Vec::new(alloc),
+            lines: Vec::new(alloc),
+        }
+    }
 }
 
 impl Listener for Remarks {
     ghost use Rattle.std.specs.Prelude.{Some, map};
     ghost use Rattle.uni_script.specs.Remarks.{remark_at};
 
-    ghost heard = { λ remarks. Some (map remark_at remarks.remarks.items) };
+    ghost heard = { λ remarks. Some (record {
+      remarks = map remark_at remarks.remarks.items;
+      lines = remarks.lines.items;
+    }) };
 
-    fn note(&mut self, alloc: Global, before: Option<u64>, line: &[u8]) -> Result<(), AllocError> {
+    fn note(
+        &mut self,
+        alloc: Global,
+        number: u64,
+        before: Option<u64>,
+        line: &[u8],
+    ) -> Result<(), AllocError> {
         let mut text = Vec::new(alloc);
         text.extend_from_slice(without(b' ', without(b'#', line)))?;
-        let placed = match before {
-            None => PlacedRemark {
-                before: 0,
-                remark: Remark::Heading(text),
-            },
-            Some(before) => PlacedRemark {
-                before,
-                remark: Remark::Note(text),
-            },
+        let (before, remark) = match before {
+            None => (0, Remark::Heading(text)),
+            Some(before) => (before, Remark::Note(text)),
         };
-        self.remarks.push(placed)?;
+        self.remarks.push(PlacedRemark {
+            line: number,
+            before,
+            remark,
+        })?;
         Ok(())
     }
 
-    fn refusal(&mut self, before: u64, refusal: Refusal) -> Result<(), AllocError> {
-        let remark = Remark::Refused(refusal);
-        self.remarks.push(PlacedRemark { before, remark })?;
+    fn refusal(&mut self, number: u64, before: u64, refusal: Refusal) -> Result<(), AllocError> {
+        self.remarks.push(PlacedRemark {
+            line: number,
+            before,
+            remark: Remark::Refused(refusal),
+        })?;
         Ok(())
+    }
+
+    fn events(&mut self, number: u64, count: usize) -> Result<(), AllocError> {
+        let stored = self.lines.len().saturating_add(count);
+        self.lines.resize(stored, number)
     }
 }
 

@@ -47,6 +47,8 @@ pub struct ScriptRun<R: Drop> {
     pub record: R,
     /// What it tells beside its events, in order.
     pub remarks: Vec<PlacedRemark>,
+    /// The number of the script's line that stored each event, from 1.
+    pub lines: Vec<u64>,
 }
 
 /// Runs the script that a reader has, as `bench` does, but writes no answer: the answer is the record that it leaves,
@@ -67,13 +69,12 @@ pub fn run_of_script<I: TextIn>(
         → HasFault (scripts options.now) (I.remaining reader.old) e) }
     ensures reader { IsErrOf result BenchFault.Read → I.has_failed reader.new ≡ true }
 {
-    let mut remarks = Remarks {
-        remarks: Vec::new(alloc),
-    };
-    match run_script(Ready, alloc, options, reader, &mut Unwritten, &mut remarks) {
+    let mut heard = Remarks::new(alloc);
+    match run_script(Ready, alloc, options, reader, &mut Unwritten, &mut heard) {
         Ok(ran) => Ok(ScriptRun {
             record: ran.record,
-            remarks: remarks.remarks,
+            remarks: heard.remarks,
+            lines: heard.lines,
         }),
         Err(fault) => Err(fault),
     }

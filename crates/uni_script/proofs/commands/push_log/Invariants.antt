@@ -1,9 +1,16 @@
-use Rattle.std.proofs.Common.{◌≡◌, ◌++◌, map, take}
+use Rattle.std.proofs.Common.{◌≡◌, ◌-◌, ◌++◌, length, map, take}
 use Rattle.std.specs.List.{concat}
-use Rattle.uni_log.specs.Entry.{entry_shown}
+use Rattle.uni_core.specs.World.{world_of}
+use Rattle.uni_model.specs.History.{log}
 use Rattle.ready_objects.specs.Words.{text_of_words}
 use Rattle.uni_script.specs.Answer.{entry_text}
 use Rattle.uni_script.proofs.commands.push_log.Given as goal
 
 abbrev pub invariant-loop-entry : goal.invariant-loop-entry
-invariant-loop-entry g l = l.text.items ≡ l.initial.text.items ++ concat (map (λ e. entry_text (λ inv. text_of_words (g.O.Spoken.language.inv_words inv)) g.O.Spoken.language.resp_text (entry_shown e)) (take l.entry-index l.entry-items))
+invariant-loop-entry g l = record {
+  world : l.cursor.world ≡ l.world;
+  whole : l.text.items ≡ l.initial.text.items ++ concat (map (entry_text (λ inv. text_of_words (g.O.Spoken.language.inv_words inv)) g.O.Spoken.language.resp_text) (take l.cursor.passed (log (world_of l.world))));
+}
+
+abbrev pub decreases-loop-entry : goal.decreases-loop-entry
+decreases-loop-entry g l = length (log (world_of l.world)) - l.cursor.passed

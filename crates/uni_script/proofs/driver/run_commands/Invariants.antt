@@ -1,5 +1,5 @@
 use Rattle.std.proofs.Common.{◌≡◌, ◌-◌, false, [], Some, List, ℕ, Option}
-use Rattle.uni_script.specs.Remarks.{RemarkAt}
+use Rattle.uni_script.specs.Remarks.{Heard}
 use Rattle.uni_script.specs.Meaning.{Session, session_of}
 use Rattle.uni_script.specs.Objects.{spoken}
 use Rattle.uni_script.specs.Outcome.{Kind}
@@ -14,7 +14,7 @@ invariant-loop-answer g l =
     × (l.session.world.object ≡ l.initial.session.world.object)
     × ((kind : Kind g.S.Scripts.Session) (inside : Session g.row.O-State.Denot g.row.O-Inv.Denot g.row.O-Resp.Denot → g.S.Scripts.Session)
     → IsAbout kind (spoken g.O.SeqObject.sequential g.O.Spoken.language l.initial.session.world.object) l.initial.dialect inside
-    → (old written : Option (List ℕ)) (remarks : Option (List RemarkAt)) (taken : List (List ℕ))
+    → (old written : Option (List ℕ)) (remarks : Option Heard) (taken : List (List ℕ))
     → HasRun kind old (g.I.TextIn.remaining l.initial.reader) l.initial.lines written (g.W.TextOut.contents l.initial.writer) [] remarks (g.L.Listener.heard l.initial.listener) taken (Some (inside (session_of l.initial.session)))
     → (now : List (List ℕ)) × HasRun kind old (g.I.TextIn.remaining l.reader) l.lines written (g.W.TextOut.contents l.writer) l.text.items remarks (g.L.Listener.heard l.listener) now (Some (inside (session_of l.session))))
 

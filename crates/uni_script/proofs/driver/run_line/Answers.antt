@@ -1,4 +1,4 @@
-use Rattle.std.proofs.Common.{◌≡◌, ◌∙◌, ◌++◌, inr, Some, length, option_map, sym, ap, subst, append-nil}
+use Rattle.std.proofs.Common.{◌≡◌, ◌∙◌, ◌-◌, ◌++◌, inr, Some, length, option_map, replicate, refl, sym, ap, subst, append-nil}
 use Rattle.std.proofs.lemmas.List.{length-map}
 use Rattle.ready_objects.specs.Words.{bytes_of, words_of_text}
 use Rattle.uni_record.specs.Event.{event_shown}
@@ -6,12 +6,12 @@ use Rattle.uni_script.specs.Grammar.{command_of_words}
 use Rattle.uni_script.specs.Objects.{SpokenObject, spoken}
 use Rattle.uni_script.specs.Meaning.{session_of, session_after, result_of_command}
 use Rattle.uni_script.specs.Outcome.{Outcome}
-use Rattle.uni_script.specs.Remarks.{RemarksGrow, remarks_after, remarks_of_note}
+use Rattle.uni_script.specs.Remarks.{HeardGrows, heard_remarks, heard_events, remarks_after, remarks_of_note}
 use Rattle.uni_script.specs.Remarks.RemarkText.{Refused}
 use Rattle.uni_script.proofs.Running.{outcome_of_short_line-made, outcome_of_short_line-bad}
-use Rattle.uni_script.proofs.RunningOn.{RemarksGrow-nil}
+use Rattle.uni_script.proofs.RunningOn.{HeardGrows-trans}
 use Rattle.uni_script.proofs.Sharing.{answered-some, answered-none, refusal_of_words-some}
-use Rattle.uni_script.proofs.Remarked.{remarks_of_line-note_after, remarks_of_line-command}
+use Rattle.uni_script.proofs.Remarked.{heard_events-remarks, heard_of_line-note_after, heard_of_line-command}
 use Rattle.uni_script.proofs.driver.run_line.Goals as goal
 
 pub returns-clause-outcome : goal.returns-clause-outcome
@@ -38,8 +38,8 @@ returns-clause-session g c = λ kind inside about.
     let same = outcome_of_short_line-made kind c.args.number (inside b) c.args.line.now (record { session = inside (session_after o b result.events); text = result.text }) (sym c.if-not-is_plain.ensures) (sym c.if-is_note.ensures) (about.made b line_words ∙ answered-some o version inside b line_words command (words ∙ c.in-Some.is)) in
     ap (λ s. Some (inside s)) c.in_ok-refusal.ensures.session ∙ sym (ap (λ (x : Outcome _). x.session) same)
 
-pub returns-in-Some-2-clause-outcome : goal.returns-in-Some-2-clause-outcome
-returns-in-Some-2-clause-outcome g c = λ kind inside about.
+pub returns-in-Some-refusal-clause-outcome : goal.returns-in-Some-refusal-clause-outcome
+returns-in-Some-refusal-clause-outcome g c = λ kind inside about.
     let o : SpokenObject _ _ _ = spoken g.O.SeqObject.sequential g.O.Spoken.language c.args.session.now.world.object in
     let b = session_of c.args.session.now in
     let version = c.args.dialect.version in
@@ -50,8 +50,8 @@ returns-in-Some-2-clause-outcome g c = λ kind inside about.
     let same = outcome_of_short_line-made kind c.args.number (inside b) c.args.line.now (record { session = inside (session_after o b result.events); text = result.text }) (sym c.if-not-is_plain.ensures) (sym c.if-is_note.ensures) (about.made b line_words ∙ answered-some o version inside b line_words command (words ∙ c.in-Some.is)) in
     (ap (λ (x : Outcome _). x.fault) same, c.in_ok-refusal.ensures.text ∙ ap (λ t. c.args.text.now.items ++ t) (sym (ap (λ (x : Outcome _). x.text) same)))
 
-pub returns-in-Some-2-clause-session : goal.returns-in-Some-2-clause-session
-returns-in-Some-2-clause-session g c = λ kind inside about.
+pub returns-in-Some-refusal-clause-session : goal.returns-in-Some-refusal-clause-session
+returns-in-Some-refusal-clause-session g c = λ kind inside about.
     let o : SpokenObject _ _ _ = spoken g.O.SeqObject.sequential g.O.Spoken.language c.args.session.now.world.object in
     let b = session_of c.args.session.now in
     let version = c.args.dialect.version in
@@ -72,34 +72,49 @@ returns-in_default-clause-outcome g c = λ kind inside about.
     let same = outcome_of_short_line-bad kind c.args.number (inside b) c.args.line.now (sym c.if-not-is_plain.ensures) (sym c.if-is_note.ensures) (about.made b line_words ∙ answered-none o version inside b line_words (words ∙ c.in_default.is)) in
     inr (ap (λ (x : Outcome _). x.fault) same, sym (append-nil c.args.text.now.items) ∙ ap (λ t. c.args.text.now.items ++ t) (sym (ap (λ (x : Outcome _). x.text) same)))
 
-pub returns-clause-remarks : goal.returns-clause-remarks
-returns-clause-remarks g c = λ kind inside about.
+pub returns-clause-heard : goal.returns-clause-heard
+returns-clause-heard g c = λ kind inside about.
     let o : SpokenObject _ _ _ = spoken g.O.SeqObject.sequential g.O.Spoken.language c.args.session.now.world.object in
     let b = session_of c.args.session.now in
+    let after = session_of c.make.new.session in
     let version = c.args.dialect.version in
     let line_words = words_of_text c.args.line.now in
     let words = ap (λ w. command_of_words version o.language.inv_of_words w) (sym c.in_ok-words.ensures ∙ ap bytes_of (sym c.as_slice.ensures)) ∙ sym c.command_of.ensures in
+    let many : c.len-before.result ≡ kind.events (inside b) = c.len-before.ensures.value ∙ ap length c.events.ensures ∙ sym (length-map c.args.session.now.events event_shown) ∙ sym (about.events b) in
+    let more : c.len.result ≡ kind.events (inside after) = c.len.ensures.value ∙ ap length c.events-2.ensures ∙ sym (length-map c.make.new.session.events event_shown) ∙ sym (about.events after) in
+    let count = c.saturating_sub.ensures ∙ rw (many, more) refl in
     let refusal = about.refusal b line_words ∙ refusal_of_words-some o version inside b line_words c.in-Some.command (words ∙ c.in-Some.is) in
     let quiet = refusal ∙ sym c.in_ok-refusal.ensures.refusal ∙ c.in-None.is in
-    let remarks = sym (ap (λ r. remarks_after (kind.events (inside b)) (option_map Refused r)) quiet) ∙ remarks_of_line-command kind (inside b) c.args.line.now (sym c.if-is_note.ensures) in
-    subst (RemarksGrow (g.L.Listener.heard c.args.listener.now) (g.L.Listener.heard c.args.listener.now)) remarks (RemarksGrow-nil (g.L.Listener.heard c.args.listener.now))
+    let heard = ap (λ k. heard_events c.args.number k) count
+    ∙ ap (λ r. record { remarks = remarks_after c.args.number (kind.events (inside b)) (option_map Refused r); lines = replicate (kind.events (inside after) - kind.events (inside b)) c.args.number }) (sym quiet)
+    ∙ heard_of_line-command kind c.args.number (inside b) (inside after) c.args.line.now (sym c.if-is_note.ensures) in
+    subst (HeardGrows (g.L.Listener.heard c.args.listener.now) (g.L.Listener.heard c.events-3.new.self)) heard c.in_ok-events.ensures
 
-pub returns-in-Some-2-clause-remarks : goal.returns-in-Some-2-clause-remarks
-returns-in-Some-2-clause-remarks g c = λ kind inside about.
+pub returns-in-Some-refusal-clause-heard : goal.returns-in-Some-refusal-clause-heard
+returns-in-Some-refusal-clause-heard g c = λ kind inside about.
     let o : SpokenObject _ _ _ = spoken g.O.SeqObject.sequential g.O.Spoken.language c.args.session.now.world.object in
     let b = session_of c.args.session.now in
+    let after = session_of c.make.new.session in
     let version = c.args.dialect.version in
     let line_words = words_of_text c.args.line.now in
     let words = ap (λ w. command_of_words version o.language.inv_of_words w) (sym c.in_ok-words.ensures ∙ ap bytes_of (sym c.as_slice.ensures)) ∙ sym c.command_of.ensures in
     let many : c.len-before.result ≡ kind.events (inside b) = c.len-before.ensures.value ∙ ap length c.events.ensures ∙ sym (length-map c.args.session.now.events event_shown) ∙ sym (about.events b) in
+    let more : c.len.result ≡ kind.events (inside after) = c.len.ensures.value ∙ ap length c.events-2.ensures ∙ sym (length-map c.make.new.session.events event_shown) ∙ sym (about.events after) in
+    let count = c.saturating_sub.ensures ∙ rw (many, more) refl in
     let refusal = about.refusal b line_words ∙ refusal_of_words-some o version inside b line_words c.in-Some.command (words ∙ c.in-Some.is) in
-    let refused = refusal ∙ sym c.in_ok-refusal.ensures.refusal ∙ c.in-Some-2.is in
-    let remarks = ap (λ n. remarks_after n (Some (Refused c.in-Some-2.refusal))) many ∙ sym (ap (λ r. remarks_after (kind.events (inside b)) (option_map Refused r)) refused) ∙ remarks_of_line-command kind (inside b) c.args.line.now (sym c.if-is_note.ensures) in
-    subst (RemarksGrow (g.L.Listener.heard c.args.listener.now) (g.L.Listener.heard c.refusal.new.self)) remarks c.in_ok-refusal-in-Some-2.ensures
+    let refused = refusal ∙ sym c.in_ok-refusal.ensures.refusal ∙ c.in-Some-refusal.is in
+    let told = remarks_after c.args.number c.len-before.result (Some (Refused c.in-Some-refusal.refusal)) in
+    let heard = heard_events-remarks c.args.number c.saturating_sub.result told
+    ∙ ap (λ k. record { remarks = told; lines = replicate k c.args.number }) count
+    ∙ ap (λ n. record { remarks = remarks_after c.args.number n (Some (Refused c.in-Some-refusal.refusal)); lines = replicate (kind.events (inside after) - kind.events (inside b)) c.args.number }) many
+    ∙ ap (λ r. record { remarks = remarks_after c.args.number (kind.events (inside b)) (option_map Refused r); lines = replicate (kind.events (inside after) - kind.events (inside b)) c.args.number }) (sym refused)
+    ∙ heard_of_line-command kind c.args.number (inside b) (inside after) c.args.line.now (sym c.if-is_note.ensures) in
+    subst (HeardGrows (g.L.Listener.heard c.args.listener.now) (g.L.Listener.heard c.refusal.new.self)) heard
+    (HeardGrows-trans (g.L.Listener.heard c.args.listener.now) (g.L.Listener.heard c.events-3.new.self) (g.L.Listener.heard c.refusal.new.self) (heard_events c.args.number c.saturating_sub.result) (heard_remarks told) c.in_ok-events.ensures c.in_ok-refusal-in-Some-refusal.ensures)
 
-pub returns-then-is_note-clause-remarks : goal.returns-then-is_note-clause-remarks
-returns-then-is_note-clause-remarks g c = λ kind inside about.
+pub returns-then-is_note-clause-heard : goal.returns-then-is_note-clause-heard
+returns-then-is_note-clause-heard g c = λ kind inside about.
     let b = session_of c.args.session.now in
     let many : c.len-before.result ≡ kind.events (inside b) = c.len-before.ensures.value ∙ ap length c.events.ensures ∙ sym (length-map c.args.session.now.events event_shown) ∙ sym (about.events b) in
-    let remarks = ap (λ n. remarks_of_note (Some n) c.args.line.now) many ∙ remarks_of_line-note_after kind (inside b) c.args.line.now (sym c.if-is_note.ensures) in
-    subst (RemarksGrow (g.L.Listener.heard c.args.listener.now) (g.L.Listener.heard c.note.new.self)) remarks c.in_ok-note.ensures
+    let heard = ap (λ n. heard_remarks (remarks_of_note c.args.number (Some n) c.args.line.now)) many ∙ heard_of_line-note_after kind c.args.number (inside b) c.args.line.now (sym c.if-is_note.ensures) in
+    subst (HeardGrows (g.L.Listener.heard c.args.listener.now) (g.L.Listener.heard c.note.new.self)) heard c.in_ok-note.ensures

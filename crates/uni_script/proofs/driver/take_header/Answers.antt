@@ -3,11 +3,11 @@ use Rattle.uni_script.specs.declared.fault.BenchFault.TheVariants.{NoHeader, Mem
 use Rattle.uni_script.specs.Outcome.{echo_of, outcome_of_fault}
 use Rattle.uni_script.specs.Lines.{HasTaken, TakesOn, HasEnded}
 use Rattle.uni_script.specs.Lines.Stop.{End}
-use Rattle.uni_script.specs.Remarks.{RemarksGrow}
+use Rattle.uni_script.specs.Remarks.{HeardGrows}
 use Rattle.uni_script.proofs.Written.{AppendsPrefix-all}
 use Rattle.uni_script.proofs.Running.{is_short}
-use Rattle.uni_script.proofs.RunningOn.{stays_false, RemarksGrow-nil, is_short-line, of_some, of_none, text_written, text_part, ReadsOn-taken, HasRun-start, HasRun-quiet, HasRun-moved, ReadsOn-before, FaultsAfter-header, FaultsAfter-stop, FaultsAfter-take, HasEnded-early, HasEnded-fault}
-use Rattle.uni_script.proofs.Remarked.{remarks_of_line-note, remarks_of_line-header}
+use Rattle.uni_script.proofs.RunningOn.{stays_false, HeardGrows-nil, is_short-line, of_some, of_none, text_written, text_part, ReadsOn-taken, HasRun-start, HasRun-quiet, HasRun-moved, ReadsOn-before, FaultsAfter-header, FaultsAfter-stop, FaultsAfter-take, HasEnded-early, HasEnded-fault}
+use Rattle.uni_script.proofs.Remarked.{heard_of_line-note, heard_of_line-header}
 use Rattle.uni_script.proofs.driver.take_header.Goals as goal
 
 pub loop-lines-init : goal.loop-lines-init
@@ -26,7 +26,7 @@ loop-lines-preserved g c =
     let note = c.in_ok-header.ensures.kind ∙ ap is_none c.in-None.is in
     let same = ap (λ e. echo_of e line) (g.C.Catalogue.echoes c.args.catalogue.now c.args.options.now) in
     let run = HasRun-quiet (g.C.Catalogue.kind c.args.catalogue.now c.args.options.now) old _ c.loop-lines.lines _ _ [] _ _ now.0 None now.1 _ c.take.new.self line has short held.count None echo _ (of_none c.in_ok-header.header _ c.in-None.is (c.in_ok-header.ensures.note c.args.options.now)) (sym same)
-    (subst (RemarksGrow (g.L.Listener.heard c.loop-lines.listener) (g.L.Listener.heard c.note.new.self)) (remarks_of_line-note (g.C.Catalogue.kind c.args.catalogue.now c.args.options.now) line note) c.in_ok-note-in-None.ensures) in (
+    (subst (HeardGrows (g.L.Listener.heard c.loop-lines.listener) (g.L.Listener.heard c.note.new.self)) (heard_of_line-note (g.C.Catalogue.kind c.args.catalogue.now c.args.options.now) c.take.new.self.count line note) c.in_ok-note-in-None.ensures) in (
       held,
       stays_false _ _ c.in_ok-take.ensures.failed (λ e. cc),
       stays_false _ _ c.in_ok-write_echo-in-None.ensures.writer (λ e. cc),
@@ -80,7 +80,7 @@ returns-in-Some-clause-run g c =
     let same = ap (λ e. echo_of e line) (g.C.Catalogue.echoes c.args.catalogue.now c.args.options.now) in
     let opened = Some (g.C.Catalogue.opened c.args.catalogue.now c.args.options.now c.in-Some.header) in
     let run = HasRun-quiet (g.C.Catalogue.kind c.args.catalogue.now c.args.options.now) old _ c.loop-lines.lines _ _ [] _ _ now.0 None now.1 _ c.take.new.self line has short held.count opened echo _ (of_some c.in_ok-header.header c.in-Some.header _ c.in-Some.is (c.in_ok-header.ensures.header c.args.options.now)) (sym same)
-    (subst (RemarksGrow (g.L.Listener.heard c.loop-lines.listener) (g.L.Listener.heard c.loop-lines.listener)) (sym (remarks_of_line-header (g.C.Catalogue.kind c.args.catalogue.now c.args.options.now) line other)) (RemarksGrow-nil (g.L.Listener.heard c.loop-lines.listener))) in
+    (subst (HeardGrows (g.L.Listener.heard c.loop-lines.listener) (g.L.Listener.heard c.loop-lines.listener)) (heard_of_line-header (g.C.Catalogue.kind c.args.catalogue.now c.args.options.now) c.take.new.self.count opened line other) (HeardGrows-nil (g.L.Listener.heard c.loop-lines.listener))) in
     (now.0 ++ line ∷ [], HasRun-moved (g.C.Catalogue.kind c.args.catalogue.now c.args.options.now) old _ c.take.new.self _ _ echo _ _ (now.0 ++ line ∷ []) opened run _ [] (echo, c.in_ok-write_echo-in-Some.ensures.written, sym (append-nil echo)))
 
 pub returns-in_err-write_echo-in-Some-clause-ended : goal.returns-in_err-write_echo-in-Some-clause-ended
@@ -99,7 +99,7 @@ returns-in_err-write_echo-in-Some-clause-ended g c =
     let same = ap (λ e. echo_of e line) (g.C.Catalogue.echoes c.args.catalogue.now c.args.options.now) in
     let opened = Some (g.C.Catalogue.opened c.args.catalogue.now c.args.options.now c.in-Some.header) in
     let run = HasRun-quiet (g.C.Catalogue.kind c.args.catalogue.now c.args.options.now) old _ c.loop-lines.lines _ _ [] _ _ now.0 None now.1 _ c.take.new.self line has short held.count opened echo _ (of_some c.in_ok-header.header c.in-Some.header _ c.in-Some.is (c.in_ok-header.ensures.header c.args.options.now)) (sym same)
-    (subst (RemarksGrow (g.L.Listener.heard c.loop-lines.listener) (g.L.Listener.heard c.loop-lines.listener)) (sym (remarks_of_line-header (g.C.Catalogue.kind c.args.catalogue.now c.args.options.now) line other)) (RemarksGrow-nil (g.L.Listener.heard c.loop-lines.listener))) in
+    (subst (HeardGrows (g.L.Listener.heard c.loop-lines.listener) (g.L.Listener.heard c.loop-lines.listener)) (heard_of_line-header (g.C.Catalogue.kind c.args.catalogue.now c.args.options.now) c.take.new.self.count opened line other) (HeardGrows-nil (g.L.Listener.heard c.loop-lines.listener))) in
     subst (λ r. IfErr r (λ e. HasEnded (g.C.Catalogue.kind c.args.catalogue.now c.args.options.now) old (g.I.TextIn.remaining c.take.new.reader) (g.W.TextOut.contents c.args.writer.now) (g.W.TextOut.contents c.write_echo.new.writer) (g.L.Listener.heard c.args.listener.now) (g.L.Listener.heard c.loop-lines.listener) (g.C.Catalogue.IsRan c.args.catalogue.now) (Err e))) (sym e)
     (HasEnded-early (g.C.Catalogue.kind c.args.catalogue.now c.args.options.now) old _ _ _ _ _ (now.0 ++ line ∷ []) (g.C.Catalogue.IsRan c.args.catalogue.now) fault c.in_err-write_echo-in-Some.ensures.fault (ReadsOn-taken old _ c.take.new.self (now.0 ++ line ∷ []) run.reading) (text_part (g.C.Catalogue.kind c.args.catalogue.now c.args.options.now) old _ c.take.new.self _ _ echo _ _ (now.0 ++ line ∷ []) opened run _ c.in_err-write_echo-in-Some.ensures.prefix))
 
@@ -118,7 +118,7 @@ returns-in_err-write_echo-in-None-clause-ended g c =
     let note = c.in_ok-header.ensures.kind ∙ ap is_none c.in-None.is in
     let same = ap (λ e. echo_of e line) (g.C.Catalogue.echoes c.args.catalogue.now c.args.options.now) in
     let run = HasRun-quiet (g.C.Catalogue.kind c.args.catalogue.now c.args.options.now) old _ c.loop-lines.lines _ _ [] _ _ now.0 None now.1 _ c.take.new.self line has short held.count None echo _ (of_none c.in_ok-header.header _ c.in-None.is (c.in_ok-header.ensures.note c.args.options.now)) (sym same)
-    (subst (RemarksGrow (g.L.Listener.heard c.loop-lines.listener) (g.L.Listener.heard c.note.new.self)) (remarks_of_line-note (g.C.Catalogue.kind c.args.catalogue.now c.args.options.now) line note) c.in_ok-note-in-None.ensures) in
+    (subst (HeardGrows (g.L.Listener.heard c.loop-lines.listener) (g.L.Listener.heard c.note.new.self)) (heard_of_line-note (g.C.Catalogue.kind c.args.catalogue.now c.args.options.now) c.take.new.self.count line note) c.in_ok-note-in-None.ensures) in
     subst (λ r. IfErr r (λ e. HasEnded (g.C.Catalogue.kind c.args.catalogue.now c.args.options.now) old (g.I.TextIn.remaining c.take.new.reader) (g.W.TextOut.contents c.args.writer.now) (g.W.TextOut.contents c.write_echo-in-None.new.writer) (g.L.Listener.heard c.args.listener.now) (g.L.Listener.heard c.note.new.self) (g.C.Catalogue.IsRan c.args.catalogue.now) (Err e))) (sym e)
     (HasEnded-early (g.C.Catalogue.kind c.args.catalogue.now c.args.options.now) old _ _ _ _ _ (now.0 ++ line ∷ []) (g.C.Catalogue.IsRan c.args.catalogue.now) fault c.in_err-write_echo-in-None.ensures.fault (ReadsOn-taken old _ c.take.new.self (now.0 ++ line ∷ []) run.reading) (text_part (g.C.Catalogue.kind c.args.catalogue.now c.args.options.now) old _ c.take.new.self _ _ echo _ _ (now.0 ++ line ∷ []) None run _ c.in_err-write_echo-in-None.ensures.prefix))
 

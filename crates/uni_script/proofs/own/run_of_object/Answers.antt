@@ -1,9 +1,9 @@
-use Rattle.std.proofs.Common.{rules, ◌≡◌, ◌∙◌, ◌++◌, ◌≤◌, [], Ok, Err, length, map, sym, ap, arith}
+use Rattle.std.proofs.Common.{◌≡◌, ◌∙◌, ◌++◌, ◌≤◌, Ok, Err, length, map, sym, ap, arith}
 use Rattle.std.proofs.lemmas.List.{length-map}
 use Rattle.uni_script.specs.Objects.{spoken}
 use Rattle.uni_script.specs.ScriptRun.{IsOwnRan}
 use Rattle.uni_script.specs.Scripts.{own_scripts}
-use Rattle.uni_script.specs.Remarks.{remark_at, remarks_of_script}
+use Rattle.uni_script.specs.Remarks.{Heard, remark_at, heard_of_script}
 use Rattle.uni_script.proofs.Replaying.{HasEnded-whole, HasEnded-all_read, HasEnded-bad}
 use Rattle.uni_script.proofs.own.run_of_object.Goals as goal
 
@@ -11,13 +11,16 @@ pub returns-in-Ok-clause-run : goal.returns-in-Ok-clause-run
 returns-in-Ok-clause-run g c =
     let remarks = c.run_script.new.listener.remarks.items in
     let whole = HasEnded-whole (own_scripts (spoken g.O.SeqObject.sequential g.O.Spoken.language c.args.object) c.args.name.now c.args.options.now) _ _ _ _ _ _ (IsOwnRan (spoken g.O.SeqObject.sequential g.O.Spoken.language c.args.object)) c.in-Ok.ran c.in-Ok.ensures.run in
-    let none : c.new.result.items ≡ [] = search rules in
-    let remarks_are : map remark_at remarks ≡ remarks_of_script (own_scripts (spoken g.O.SeqObject.sequential g.O.Spoken.language c.args.object) c.args.name.now c.args.options.now) whole.0 = whole.3.2.1 ∙ ap (λ l. map remark_at l ++ remarks_of_script (own_scripts (spoken g.O.SeqObject.sequential g.O.Spoken.language c.args.object) c.args.name.now c.args.options.now) whole.0) none in
+    let all = heard_of_script (own_scripts (spoken g.O.SeqObject.sequential g.O.Spoken.language c.args.object) c.args.name.now c.args.options.now) whole.0 in
+    let heard : record { remarks = map remark_at remarks; lines = c.run_script.new.listener.lines.items } ≡ all =
+    whole.3.2.1 ∙ ap (λ l. record { remarks = map remark_at l ++ all.remarks; lines = c.new-heard.result.lines.items ++ all.lines }) c.new-heard.ensures.remarks
+    ∙ ap (λ l. record { remarks = all.remarks; lines = l ++ all.lines }) c.new-heard.ensures.lines in
+    let remarks_are = ap (λ (h : Heard). h.remarks) heard in
     let many : length remarks ≤ 100000 = (let n = length-map remarks remark_at in let m = ap length remarks_are in let few = whole.3.2.2 in omega arith) in (
       whole.0,
       whole.1,
       whole.2,
-      (whole.3.0, whole.3.1, record { session = whole.3.2.0.1.2; promised = whole.3.2.0.1.1; remarks_are = sym remarks_are; few = many }),
+      (whole.3.0, whole.3.1, record { session = whole.3.2.0.1.2; promised = whole.3.2.0.1.1; remarks_are = sym remarks_are; lines_are = sym (ap (λ (h : Heard). h.lines) heard); few = many }),
     )
 
 pub returns-in-Err-clause-fault : goal.returns-in-Err-clause-fault
