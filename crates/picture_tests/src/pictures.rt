@@ -15,21 +15,62 @@ finish 0
 ";
 
 /// What the picture must have: its title, the dots of both calls, the arrow from the mark of process 0 to the
-/// dot of process 1, the title of that mark, the labels, and the counts.
+/// dot of process 1, the title of that mark, the labels, the counts, and one view of all columns.
 ///
-/// There are 27 events of 28 each, from 44 on. Process 0 links the cell of process 1 in event 12 and its own in
-/// event 20; the middles of these are 44 + 12 * 28 + 14 and 44 + 20 * 28 + 14. The lanes begin at 74 and are
-/// 96 high; marks stand 28 below the top of a lane and are 22 high, and dots 60 below it.
-const PARTS: [&str; 8] = [
+/// There are 27 events of 20 each, from 44 on; the strip ends 12 further. Process 0 links the cell of process 1 in
+/// event 12 and its own in event 20; the middles of these are 44 + 12 * 20 + 10 and 44 + 20 * 20 + 10. The lanes begin
+/// at 20 in the strip and are 96 high; marks stand 28 below the top of a lane and are 22 high, and dots 60 below it.
+/// Above the view are the title, 32 high, and 22 where captions would stand.
+const PARTS: [&str; 9] = [
     "<title id=\"title\">queue: 2 processes, 2 calls, 27 events</title>",
-    "<circle cx=\"394\" cy=\"230\"",
-    "<circle cx=\"618\" cy=\"134\"",
-    "<line x1=\"394\" y1=\"124\" x2=\"394\" y2=\"224\"",
-    "y=\"102\" width=\"26\" height=\"22\" fill=\"#d55e00\" stroke=\"#333333\">\
+    "<circle cx=\"294\" cy=\"176\"",
+    "<circle cx=\"454\" cy=\"80\"",
+    "<line x1=\"294\" y1=\"70\" x2=\"294\" y2=\"170\"",
+    "y=\"48\" width=\"18\" height=\"22\" fill=\"#d55e00\" stroke=\"#333333\">\
     <title>P0, call 0.0, step 10: links a cell, or loses</title></rect>",
     ">1.0 enq 5</text>",
     ">0.0 enq 6 -&gt; ok</text>",
     ">24 steps 2 turns</text>",
+    "<svg x=\"40\" y=\"54\" width=\"556\" height=\"212\" viewBox=\"40 0 556 212\"><use href=\"#strip\"/></svg>",
+];
+
+/// Five calls of one process, with a note before the last one, and then a call of a process that comes with a new era.
+const TWO_ROWS: &str = "universal 2 queue 1 16
+call 0 deq
+finish 0
+call 0 deq
+finish 0
+call 0 deq
+finish 0
+call 0 deq
+finish 0
+# Again.
+call 0 enq 123456
+finish 0
+reshape 2
+call 1 deq
+finish 1
+";
+
+/// What its picture must have: two rows, the first one with one lane and the other one with two.
+///
+/// A call of process 0 has 15 events of 20 each. A row ends by 40 + 1,348. There the fifth call has begun, at
+/// 44 + 4 * 15 * 20, and its label of 20 letters would be cut. So the first row ends where that call begins. The era
+/// ends with event 75, at 44 + 75 * 20, in the middle of a column for the 15 letters of "reshaped 2 at 6" and one more;
+/// the 17 events of process 1 follow, and the strip ends 12 after them.
+///
+/// The note stands above the second row, with its stem 7 right of the begin of its call. The name of process 1 stands
+/// behind the line where its lane begins, and not beside the row.
+const ROWS: [&str; 9] = [
+    "viewBox=\"0 0 1400 ",
+    "<svg x=\"40\" y=\"54\" width=\"1204\" height=\"116\" viewBox=\"40 0 1204 116\"><use href=\"#strip\"/></svg>",
+    "<svg x=\"40\" y=\"212\" width=\"780\" height=\"212\" viewBox=\"1244 0 780 212\"><use href=\"#strip\"/></svg>",
+    "<text x=\"12\" y=\"127\" text-anchor=\"start\" fill=\"#000000\">P0</text>",
+    "<text x=\"12\" y=\"285\" text-anchor=\"start\" fill=\"#000000\">P0</text>",
+    "<line x1=\"47\" y1=\"186\" x2=\"47\" y2=\"212\"",
+    "<text x=\"52\" y=\"198\" text-anchor=\"start\" fill=\"#000000\">Again.</text>",
+    "<line x1=\"1608\" y1=\"164\"",
+    "<text x=\"1612\" y=\"159\" text-anchor=\"start\" fill=\"#000000\">P1</text>",
 ];
 
 /// Whether a text has a part.
@@ -42,19 +83,26 @@ fn has(text: &[u8], part: &[u8]) -> bool {
     false
 }
 
-/// Each part is in a text.
-fn has_parts(rt: &impl Abort, text: &[u8]) {
-    for part in PARTS {
-        assert!(rt; has(text, part.as_bytes()), "{part}");
+/// Asserts that each part is in the picture of a script.
+fn has_parts(rt: &impl Abort, alloc: Global, script: &str, parts: &[&str]) {
+    match picture_of(alloc, &mut Checked::new(script.as_bytes())) {
+        Ok(svg) => {
+            for part in parts {
+                assert!(rt; has(svg.as_slice(), part.as_bytes()), "{part}");
+            }
+        }
+        Err(_) => assert!(rt; false),
     }
 }
 
 #[test]
 fn stopped_process_is_helped(rt: HostRuntime) {
-    match picture_of(rt.alloc(), &mut Checked::new(HELPED.as_bytes())) {
-        Ok(svg) => has_parts(&rt, svg.as_slice()),
-        Err(_) => assert!(rt; false),
-    }
+    has_parts(&rt, rt.alloc(), HELPED, &PARTS);
+}
+
+#[test]
+fn row_ends_before_a_label(rt: HostRuntime) {
+    has_parts(&rt, rt.alloc(), TWO_ROWS, &ROWS);
 }
 
 /// Asserts that a picture of a call that hasn't returned is written in the form that these words ask for.

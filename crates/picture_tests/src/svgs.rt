@@ -3,13 +3,19 @@
 use std::alloc::{AllocError, Global};
 use svg_text::{Anchor, Drawing, Paint, Shape, svg_of};
 
-/// The text of a picture with one label.
+/// The text of a picture with one label, and a strip of which a part is shown.
 const LABEL: &str =
     "<svg xmlns=\"http://www.w3.org/2000/svg\" viewBox=\"0 0 30 20\" width=\"30\" height=\"20\" role=\"img\" \
     aria-labelledby=\"title description\" font-family=\"monospace\" font-size=\"13\">
 <title id=\"title\">a &amp; b</title>
 <desc id=\"description\">it&apos;s</desc>
 <rect width=\"30\" height=\"20\" fill=\"#ffffff\"/>
+<defs>
+<g id=\"strip\">
+<circle cx=\"50\" cy=\"6\" r=\"6\" fill=\"#000000\" stroke=\"#ffffff\"/>
+</g>
+</defs>
+<svg x=\"2\" y=\"5\" width=\"20\" height=\"12\" viewBox=\"40 0 20 12\"><use href=\"#strip\"/></svg>
 <text x=\"3\" y=\"9\" text-anchor=\"middle\" fill=\"#000000\">&lt;c &quot;d&quot;&gt;</text>
 </svg>
 ";
@@ -21,10 +27,24 @@ fn copied(alloc: Global, bytes: &[u8]) -> Result<Vec<u8>, AllocError> {
     Ok(copy)
 }
 
-/// One label.
-fn label(alloc: Global) -> Result<Vec<Shape>, AllocError> {
+/// A strip with one dot.
+fn strip(alloc: Global) -> Result<Vec<Shape>, AllocError> {
+    let mut shapes = Vec::new(alloc);
+    shapes.push(Shape::Dot { x: 50, y: 6 })?;
+    Ok(shapes)
+}
+
+/// A view and a label.
+fn view_and_label(alloc: Global) -> Result<Vec<Shape>, AllocError> {
     let text = copied(alloc, b"<c \"d\">")?;
     let mut shapes = Vec::new(alloc);
+    shapes.push(Shape::View {
+        x: 2,
+        y: 5,
+        width: 20,
+        height: 12,
+        left: 40,
+    })?;
     shapes.push(Shape::Text {
         x: 3,
         y: 9,
@@ -42,7 +62,8 @@ fn labelled(alloc: Global) -> Result<Vec<u8>, AllocError> {
         height: 20,
         title: copied(alloc, b"a & b")?,
         description: copied(alloc, b"it's")?,
-        shapes: label(alloc)?,
+        strip: strip(alloc)?,
+        shapes: view_and_label(alloc)?,
     };
     svg_of(alloc, &drawing)
 }

@@ -1,3 +1,4 @@
 pub mod LaneSteps
 pub mod Entries
 pub mod Boxes
+pub mod RowSteps

@@ -8,7 +8,7 @@ use Rattle.svg_text.specs.declared.shape.Anchor.TheVariants.{Start, Middle}
 use Rattle.run_marks.specs.declared.marks.StepMark.{StepMark}
 use Rattle.run_marks.specs.declared.marks.Dot.{Dot}
 use Rattle.run_marks.specs.declared.marks.EraLine.{EraLine}
-use Rattle.run_marks.specs.Marks.{End, Called, EraMarks, RunMarks}
+use Rattle.run_marks.specs.Marks.{End, Called, EraMarks, RunMarks, lanes_of}
 use Rattle.run_picture.specs.declared.figures.Toward.TheVariants.{Up, Down}
 use Rattle.run_picture.specs.declared.lanes.Lanes.{Lanes}
 use Rattle.run_layout.specs.Wording.{letter_of, label_text, counts_text, line_text}
@@ -19,26 +19,31 @@ use Rattle.run_picture.specs.Shapes.{label_figures, tip_figure}
 use Rattle.svg_text.specs.Figures.{Figure, Rect, Titled, Line, Text}
 use Rattle.svg_text.specs.Figures as figures
 
--- the top of the lane of a process: each is 96 high, and the end of all is that of one that there isn't
+-- the top of the lane of a process in the strip: each is 96 high, and the end of all is that of one that there isn't
 abbrev pub lane_top : Lanes → (process : ℕ) → ℕ
-lane_top lanes process = lanes.top + min process lanes.count * 96
+lane_top lanes process = 20 + min process lanes.count * 96
 
 -- the middle of its bars
 abbrev pub lane_middle : Lanes → (process : ℕ) → ℕ
 lane_middle lanes process = lane_top lanes process + 48
 
+-- the lanes of a run, 64 at most
+abbrev pub lanes_of_run : RunMarks → Lanes
+lanes_of_run marks = record { count = min (lanes_of marks.eras) 64 }
+
 -- the name of a process
 abbrev pub name_text : (process : ℕ) → List ℕ
 name_text process = codes "P" ++ decimal process
 
--- the lane of a process in an era, from the left to the right: where no lane has a name yet, its own stands in the margin, and
--- later that of a lane which is new
+-- the lane of a process in an era, from the left to the right, with its name where so many lanes have one already
 abbrev pub lane_figures : Lanes → (left right named process : ℕ) → List Figure
 lane_figures lanes left right named process =
     let y = lane_middle lanes process in
-    Line left y right y Faint ∷
-    (if named == 0 then Text 12 (y + 5) Start Ink (name_text process) ∷ []
-    else if nat_le named process then Text (left + 4) (y - 5) Start Ink (name_text process) ∷ [] else [])
+    Line left y right y Faint ∷ (if nat_le named process then Text (left + 4) (y - 5) Start Ink (name_text process) ∷ [] else [])
+
+-- where the strip ends, and bars that stay open
+abbrev pub strip_end : Places → ℕ
+strip_end places = places.end + 12
 
 -- the lanes of so many processes, from a process on
 unfoldable pub lanes_from : Lanes → (left right named process count : ℕ) → List Figure
@@ -46,9 +51,9 @@ lanes_from lanes left right named process zero = []
 lanes_from lanes left right named process (suc n) =
     lane_figures lanes left right named process ++ lanes_from lanes left right named (process + 1) n
 
--- where an era ends: in the middle of the event before the next one, or with all events
+-- where an era ends: in the middle of the event before the next one, or with the strip
 abbrev pub era_end : Places → List EraMarks → ℕ
-era_end places [] = places.end
+era_end places [] = strip_end places
 era_end places (next ∷ eras) = middle_of (event_column places (next.from - 1))
 
 -- the lanes of all eras, from a place on, where so many lanes have names
@@ -61,7 +66,7 @@ era_lanes places lanes left named (era ∷ eras) =
 abbrev pub line_figures : Places → Lanes → EraLine → List Figure
 line_figures places lanes line =
     let x = middle_of (event_column places line.event) in
-    Line x lanes.top x (lane_top lanes lanes.count) Broken ∷ Text x (lanes.top - 6) Middle Ink (line_text line) ∷ []
+    Line x 20 x (lane_top lanes lanes.count) Broken ∷ Text x 14 Middle Ink (line_text line) ∷ []
 
 -- a bar that stays open at its right
 abbrev pub open_figures : (left right top : ℕ) → List Figure
@@ -71,12 +76,13 @@ open_figures left right top =
 
 -- the frame of a bar, which stays open where its call hasn't returned
 abbrev pub frame_figures : Places → (left top : ℕ) → Option End → List Figure
-frame_figures places left top (Some end) = Rect left top (right_of (event_column places end.event) - left) 46 Frame ∷ []
-frame_figures places left top None = open_figures left (places.end + 12) top
+frame_figures places left top (Some end) = Rect left top (right_of (event_column places end.event) - 1 - left) 46 Frame ∷ []
+frame_figures places left top None = open_figures left (strip_end places) top
 
--- the bar of a call
+-- the bar of a call, with its edges inside its columns, so that each shows in one row
 abbrev pub bar_figures : Places → Lanes → Called → List Figure
-bar_figures places lanes bar = frame_figures places (event_column places bar.from).left (lane_top lanes bar.call.process + 25) bar.end
+bar_figures places lanes bar =
+    frame_figures places ((event_column places bar.from).left + 1) (lane_top lanes bar.call.process + 25) bar.end
 
 -- the counts of a call that has returned, which end with its bar
 abbrev pub counts_figures : Places → (top : ℕ) → Option End → List Figure
@@ -113,10 +119,10 @@ arrow_figures places lanes dot =
 abbrev pub dot_figures : Places → Lanes → Dot → List Figure
 dot_figures places lanes dot = figures.Dot (middle_of (event_column places dot.event)) (lane_top lanes dot.call.process + 60) ∷ []
 
--- what is drawn of the events, from the lowest on
+-- what is drawn of the events, from the lowest on; the first lanes have their names beside the rows
 abbrev pub run_figures : Places → Lanes → RunMarks → List Figure
 run_figures places lanes marks =
-    era_lanes places lanes 44 0 marks.eras
+    era_lanes places lanes 40 64 marks.eras
     ++ flat_map (line_figures places lanes) marks.lines
     ++ flat_map (bar_figures places lanes) marks.bars
     ++ flat_map (arrow_figures places lanes) marks.dots
@@ -129,15 +135,15 @@ abbrev two_events : Places
 two_events = record { events = record { left = 44; width = 16 } ∷ record { left = 60; width = 16 } ∷ []; remarks = []; end = 76 }
 
 abbrev two_lanes : Lanes
-two_lanes = record { top = 100; count = 2 }
+two_lanes = record { count = 2 }
 
 arrow_of_help : arrow_figures two_events two_lanes (record { event = 1; call = record { process = 1; nth = 0 }; by = 0 })
-    ≡ Line 68 150 68 250 Thick ∷ tip_figure 68 250 Down ∷ []
+    ≡ Line 68 70 68 170 Thick ∷ tip_figure 68 170 Down ∷ []
 arrow_of_help = refl
 
 no_arrow_of_own : arrow_figures two_events two_lanes (record { event = 1; call = record { process = 1; nth = 0 }; by = 1 }) ≡ []
 no_arrow_of_own = refl
 
 dot_of_helped : dot_figures two_events two_lanes (record { event = 1; call = record { process = 1; nth = 0 }; by = 0 })
-    ≡ figures.Dot 68 256 ∷ []
+    ≡ figures.Dot 68 176 ∷ []
 dot_of_helped = refl

@@ -1,5 +1,5 @@
 -- The legend.
-use Rattle.std.specs.Prelude.{◌≡◌, ℕ, ◌+◌, ◌-◌, ◌*◌, ◌/◌, ◌%◌, if◌then◌else◌, Bool, true, false}
+use Rattle.std.specs.Prelude.{◌≡◌, ℕ, ◌+◌, ◌-◌, ◌*◌, ◌/◌, ◌%◌, if◌then◌else◌, Bool, true}
 use Rattle.std.specs.Prelude.{List, [], ◌∷◌, ◌++◌, length, map, codes, refl}
 use Rattle.svg_text.specs.declared.paint.Paint.TheVariants.{Ink, Faint, Edge, Thick, Cross, Pale}
 use Rattle.svg_text.specs.declared.paint.Colour.TheVariants.{Blue}

@@ -1,8 +1,9 @@
 pub mod Paint
 pub mod Shapes
 pub mod Lanes
-pub mod Notes
 pub mod Cells
+pub mod Notes
+pub mod Rows
 pub mod Legend
 pub mod Drawing
 pub mod Picture

@@ -10,7 +10,7 @@ ghost use Rattle.svg_text.specs.Figures.{Rect};
 ghost use Rattle.run_picture.specs.Lanes.{open_figures, bar_figures, counts_figures, bar_texts};
 
 use crate::figures::{LETTER, push_label, push_line};
-use crate::lanes::{Lanes, MARGIN};
+use crate::lanes::{Lanes, strip_end};
 use run_layout::{Axis, counts_of, label_of, letters};
 use run_marks::{Bar, BarEnd};
 use std::alloc::{AllocError, Global};
@@ -28,21 +28,21 @@ const HEIGHT: u64 = 46;
 /// The base line of counts.
 const COUNTS: u64 = 86;
 
-/// Adds the bar of a call; one that hasn't returned stays open at its right.
+/// Adds the bar of a call, with its edges inside its columns; one that hasn't returned stays open at its right.
 ///
 /// An `Err` says that memory was refused.
 fn push_bar(bar: &Bar, axis: &Axis, lanes: Lanes, shapes: &mut Vec<Shape>) -> Result<(), AllocError>
     ensures { OnOk result (map figure shapes.new.items
         ≡ map figure shapes.old.items ++ bar_figures (places_shown axis.now) lanes (bar_shown bar.now)) }
 {
-    let left = u64::from(axis.event(bar.from).left);
+    let left = u64::from(axis.event(bar.from).left) + 1;
     let top = lanes.of(u64::from(bar.call.process)) + TOP;
     match &bar.end {
         Some(end) => {
-            let right = axis.event(end.event).right();
+            let right = axis.event(end.event).right().saturating_sub(1);
             push_frame(left, right, top, Paint::Frame, shapes)
         }
-        None => push_open_bar(left, u64::from(axis.end) + MARGIN, top, shapes),
+        None => push_open_bar(left, strip_end(axis), top, shapes),
     }
 }
 

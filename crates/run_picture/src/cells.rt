@@ -90,7 +90,7 @@ fn push_era(
 }
 
 /// So much below a place, but not below the lowest one.
-fn lower(top: u64, by: u64) -> u64
+pub fn lower(top: u64, by: u64) -> u64
     requires little { by ≤ 100 }
     ensures lower { result ≡ lower top by }
     ensures low { result < 2 ^ 34 }

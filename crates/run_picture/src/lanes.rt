@@ -1,16 +1,20 @@
 //! Lanes and the ends of eras.
 
-ghost use Rattle.std.specs.Prelude.{◌≡◌, ◌++◌, ◌+◌, ◌^◌, ◌<◌, OnOk, map};
+ghost use Rattle.std.specs.Prelude.{◌≡◌, ◌++◌, ◌+◌, ◌∷◌, [], ◌^◌, ◌<◌};
+ghost use Rattle.std.specs.Prelude.{◌≤◌, OnOk, map, min};
 ghost use Rattle.std.specs.List.{flat_map};
-ghost use Rattle.run_marks.specs.Shown.{era_shown};
+ghost use Rattle.run_marks.specs.Shown.{era_shown, marks_shown};
 ghost use Rattle.run_layout.specs.Axis.{places_shown};
 ghost use Rattle.svg_text.specs.Figures.{figure};
 ghost use Rattle.run_picture.specs.Lanes.{lane_top, lane_middle, lane_figures, lanes_from, era_end, era_lanes};
-ghost use Rattle.run_picture.specs.Lanes.{line_figures};
+ghost use Rattle.run_picture.specs.Lanes.{line_figures, lanes_of_run, name_text, strip_end};
+ghost use Rattle.svg_text.specs.Figures.{Text};
+ghost use Rattle.svg_text.specs.declared.paint.Paint.TheVariants.{Ink};
+ghost use Rattle.svg_text.specs.declared.shape.Anchor.TheVariants.{Start};
 
 use crate::figures::{push_line, push_text};
-use run_layout::{Axis, line_of};
-use run_marks::{Era, EraLine};
+use run_layout::{Axis, MOST_LANES, line_of};
+use run_marks::{Era, EraLine, Marks};
 use std::alloc::{AllocError, Global};
 use std::io::Write;
 use svg_text::{Anchor, Paint, Shape};
@@ -18,27 +22,45 @@ use svg_text::{Anchor, Paint, Shape};
 /// How far things stand from the left and the right.
 pub const MARGIN: u64 = 12;
 
-/// Where the first event stands.
-pub const START: u32 = 44;
+/// Where lanes begin, and rows.
+pub const START: u64 = 40;
+
+/// The top of the first lane, below refusals and the labels of ends of eras.
+const TOP: u64 = 20;
 
 /// How high a lane is.
 const LANE: u64 = 96;
 
-/// Where the lanes stand.
+/// Lanes, one below the other.
 #[derive(Clone, Copy)]
 pub struct Lanes {
-    /// The top of the first one.
-    pub top: u32,
     /// How many there are.
     pub count: u32,
 }
 
 impl Lanes {
+    /// The lanes of so many processes, 64 at most.
+    pub fn for_processes(processes: u64) -> Lanes
+        ensures few { result.count ≤ 64 }
+        ensures count { result.count ≡ min processes 64 }
+    {
+        Lanes {
+            count: processes.min(MOST_LANES) as u32,
+        }
+    }
+
+    /// The lanes of a run, 64 at most.
+    pub fn of_run(marks: &Marks) -> Lanes
+        ensures { result ≡ lanes_of_run (marks_shown marks.now) }
+    {
+        Lanes::for_processes(marks.lanes())
+    }
+
     /// The top of the lane of a process; the end of all of one that there isn't.
     pub fn of(self, process: u64) -> u64
         ensures { result ≡ lane_top self process }
     {
-        u64::from(self.top) + process.min(u64::from(self.count)) * LANE
+        TOP + process.min(u64::from(self.count)) * LANE
     }
 
     /// The end of the last one.
@@ -67,8 +89,15 @@ struct Stretch {
     named: u64,
 }
 
-/// Adds the lane of a process in an era: where no lane has a name yet, its own stands in the margin, and
-/// later that of a lane which is new.
+/// Where the strip ends, and bars that stay open.
+pub fn strip_end(axis: &Axis) -> u64
+    ensures small { result < 2 ^ 33 }
+    ensures end { result ≡ strip_end (places_shown axis.now) }
+{
+    u64::from(axis.end) + MARGIN
+}
+
+/// Adds the lane of a process in an era, with its name where it is new.
 ///
 /// An `Err` says that memory was refused.
 fn push_lane(
@@ -84,16 +113,28 @@ fn push_lane(
 {
     let y = lanes.middle(process);
     push_line(shapes, (stretch.left, y), (stretch.right, y), Paint::Faint)?;
-    let mut name = Vec::new(alloc);
-    write!(name, "P{process}").map_err(|_| AllocError)?;
-    if stretch.named == 0 {
-        push_text(shapes, MARGIN, y + 5, Anchor::Start, Paint::Ink, name)
-    } else if stretch.named <= process {
-        let x = stretch.left + 4;
-        push_text(shapes, x, y - 5, Anchor::Start, Paint::Ink, name)
+    if stretch.named <= process {
+        push_name(alloc, process, (stretch.left + 4, y - 5), shapes)
     } else {
         Ok(())
     }
+}
+
+/// Adds the name of a process at a place.
+///
+/// An `Err` says that memory was refused.
+pub fn push_name(
+    alloc: Global,
+    process: u64,
+    at: (u64, u64),
+    shapes: &mut Vec<Shape>,
+) -> Result<(), AllocError>
+    ensures { OnOk result (map figure shapes.new.items
+        ≡ map figure shapes.old.items ++ Text at.0 at.1 Start Ink (name_text process) ∷ []) }
+{
+    let mut name = Vec::new(alloc);
+    write!(name, "P{process}").map_err(|_| AllocError)?;
+    push_text(shapes, at.0, at.1, Anchor::Start, Paint::Ink, name)
 }
 
 /// Adds the lanes of an era of so many processes.
@@ -116,15 +157,15 @@ fn push_lanes(
     Ok(())
 }
 
-/// Where an era ends that these ones follow: in the middle of the event before the next one, or with all
-/// events.
-fn era_end(axis: &Axis, eras: &[Era]) -> u64
+/// Where an era ends that these ones follow: in the middle of the event before the next one, or with the
+/// strip.
+pub fn era_end(axis: &Axis, eras: &[Era]) -> u64
     ensures small { result < 2 ^ 40 }
     ensures place { result ≡ era_end (places_shown axis.now) (map era_shown eras.now) }
 {
     match eras.first() {
         Some(next) => axis.event(next.from.saturating_sub(1)).middle(),
-        None => u64::from(axis.end),
+        None => strip_end(axis),
     }
 }
 
@@ -139,10 +180,10 @@ pub fn push_eras(
     shapes: &mut Vec<Shape>,
 ) -> Result<(), AllocError>
     ensures { OnOk result (map figure shapes.new.items
-        ≡ map figure shapes.old.items ++ era_lanes (places_shown axis.now) lanes 44 0 (map era_shown eras.now)) }
+        ≡ map figure shapes.old.items ++ era_lanes (places_shown axis.now) lanes 40 64 (map era_shown eras.now)) }
 {
-    let mut left = u64::from(START);
-    let mut named = 0;
+    let mut left = START;
+    let mut named = MOST_LANES;
     for (place, era) in eras.iter().enumerate() {
         let right = era_end(axis, &eras[place + 1..]);
         let stretch = Stretch { left, right, named };
@@ -167,11 +208,9 @@ fn push_era_line(
         ≡ map figure shapes.old.items ++ line_figures (places_shown axis.now) lanes line.now) }
 {
     let x = axis.event(line.event).middle();
-    let top = u64::from(lanes.top);
-    push_line(shapes, (x, top), (x, lanes.bottom()), Paint::Broken)?;
+    push_line(shapes, (x, TOP), (x, lanes.bottom()), Paint::Broken)?;
     let label = line_of(alloc, line)?;
-    let y = top.saturating_sub(6);
-    push_text(shapes, x, y, Anchor::Middle, Paint::Ink, label)
+    push_text(shapes, x, TOP - 6, Anchor::Middle, Paint::Ink, label)
 }
 
 /// Adds the ends of eras.

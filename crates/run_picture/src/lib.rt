@@ -13,6 +13,7 @@ mod legend;
 mod notes;
 mod paint;
 mod picture;
+mod rows;
 mod sheet;
 
 pub use picture::{picture_of, picture_of_object};

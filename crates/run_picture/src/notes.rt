@@ -4,26 +4,30 @@ ghost use Rattle.std.specs.Prelude.{◌≡◌, ◌++◌, ◌+◌, ◌*◌, ◌^�
 ghost use Rattle.std.specs.Prelude.{Some, length, map};
 ghost use Rattle.run_layout.specs.Axis.{places_shown};
 ghost use Rattle.svg_text.specs.Figures.{figure};
-ghost use Rattle.run_picture.specs.Notes.{line_letters, headings, lines_down, caption_lines, stem_of, letters_beside};
-ghost use Rattle.run_picture.specs.Notes.{lines_beside, labels_down, caption_figures, captions_from, captions_height};
-ghost use Rattle.run_picture.specs.Notes.{captions_foot, caption_right, captions_right};
+ghost use Rattle.run_picture.specs.Cells.{lower};
+ghost use Rattle.run_picture.specs.Notes.{line_letters, headings, lines_down, stem_of, note_text, text_in, place_in};
+ghost use Rattle.run_picture.specs.Notes.{room_of, lines_left, letters_beside, caption_lines, note_rooms, rooms_from};
+ghost use Rattle.run_picture.specs.Notes.{labels_down, caption_figures, captions_from};
+ghost use Rattle.run_picture.specs.Notes.{captions_height, captions_foot};
 ghost use Rattle.run_picture.specs.Notes.{refusal_figures, refusals_from, after_text, description_text};
 ghost use Rattle.run_layout.specs.Refusals.{told_shown, labels_of};
 
+use crate::cells::lower;
 use crate::figures::{LETTER, Toward, push_label, push_line, push_text, push_tip};
-use crate::lanes::{Lanes, MARGIN};
+use crate::lanes::{MARGIN, START};
+use crate::rows::Row;
 use run_layout::{Axis, Column, Told, push_lines, told_of};
 use std::alloc::{AllocError, Global};
 use svg_text::{Anchor, Paint, Shape};
 use uni_script::{PlacedRemark, Remark};
 
 /// How high a line of text is.
-pub const LINE: u64 = 20;
+const LINE: u64 = 20;
 
 /// How far the stem of a caption stands from the left of the column of what follows it.
 const STEM: u64 = 7;
 
-/// How far the text of a caption stands from its stem.
+/// How far the lines of a caption stand from its stem.
 const STEM_GAP: u64 = 5;
 
 /// How many letters of a note have room in a line at least.
@@ -102,22 +106,7 @@ pub fn push_headings(
     Ok(bottom + lines.len() as u64 * LINE)
 }
 
-/// The lines of a note that comes after the header, of at most so many bytes each; none of anything
-/// else.
-///
-/// An `Err` says that memory was refused.
-fn caption_lines(alloc: Global, remark: &Remark, most: usize) -> Result<Vec<Vec<u8>>, AllocError>
-    ensures few { IfOk result (λ lines. length lines.items ≤ 200) }
-    ensures lines { IfOk result (λ lines. map (λ line. line.items) lines.items ≡ caption_lines most remark.now) }
-{
-    let mut lines = Vec::new(alloc);
-    if let Remark::Note(text) = remark {
-        push_lines(alloc, text, most, &mut lines)?;
-    }
-    Ok(lines)
-}
-
-/// Where the stem of a caption stands, by its place among what is told: at the column of what follows it.
+/// Where the stem of a caption stands in the strip, by its place among what is told: at the column of what follows it.
 fn stem_of(axis: &Axis, place: usize) -> u64
     ensures small { result < 2 ^ 33 }
     ensures stem { result ≡ stem_of (places_shown axis.now) place }
@@ -125,185 +114,251 @@ fn stem_of(axis: &Axis, place: usize) -> u64
     u64::from(axis.remark(place).left) + STEM
 }
 
-/// How many letters a line takes right of a stem, in a picture of this width.
-fn letters_beside(width: u64, stem: u64) -> usize
-    requires { stem < 2 ^ 33 }
-    ensures { result ≡ letters_beside width stem }
+/// The text of a note that comes after the header; nothing of anything else.
+fn note_text(remark: &Remark) -> &[u8]
+    ensures { result.now ≡ note_text remark.now }
 {
-    (width.saturating_sub(stem + STEM_GAP + MARGIN) / LETTER) as usize
+    match remark {
+        Remark::Note(text) => text,
+        Remark::Heading(_) | Remark::Refused(_) => &[],
+    }
 }
 
-/// The lines of the caption of a remark, by its place among what is told.
+/// The text of a note whose stem stands in a row; nothing of anything else.
+fn text_in<'a>(axis: &Axis, row: Row, place: usize, remark: &'a Remark) -> &'a [u8]
+    ensures { result.now ≡ text_in (places_shown axis.now) row place remark.now }
+{
+    let stem = stem_of(axis, place);
+    if row.from <= stem && stem < row.to {
+        note_text(remark)
+    } else {
+        &[]
+    }
+}
+
+/// How wide 30 letters of a text are, or all of a shorter one.
+fn room_of(text: &[u8]) -> u64
+    ensures small { result ≤ 240 }
+    ensures room { result ≡ room_of text.now }
+{
+    text.len().min(LEAST_LETTERS) as u64 * LETTER
+}
+
+/// Where the lines of a text begin beside a stem, in a picture of this width, and how many letters each takes: right of
+/// the stem where 30 letters have room there, and else left of it.
+fn beside(width: u64, stem: u64, text: &[u8]) -> (u64, u64)
+    requires { stem < 2 ^ 34 }
+    ensures left { result.0 ≡ lines_left width stem text.now }
+    ensures letters { result.1 ≡ letters_beside width stem text.now }
+{
+    let room = room_of(text);
+    let right = stem + STEM_GAP + MARGIN;
+    if right + room <= width {
+        (stem + STEM_GAP, (width - right) / LETTER)
+    } else {
+        (stem.saturating_sub(STEM_GAP + room), LEAST_LETTERS as u64)
+    }
+}
+
+/// A caption in a row.
+#[derive(Drop)]
+struct Caption {
+    /// Where its stem stands in the picture, from the left.
+    stem: u64,
+    /// Where its lines begin.
+    left: u64,
+    /// Its lines; none of a remark without one.
+    lines: Vec<Vec<u8>>,
+}
+
+/// The caption of a remark in a row, by its place among what is told.
 ///
 /// An `Err` says that memory was refused.
-fn lines_beside(
+fn caption_of(
     alloc: Global,
     axis: &Axis,
+    row: Row,
     width: u64,
     place: usize,
     remark: &Remark,
-) -> Result<Vec<Vec<u8>>, AllocError>
-    ensures few { IfOk result (λ lines. length lines.items ≤ 200) }
-    ensures lines { IfOk result (λ lines. map (λ line. line.items) lines.items
-        ≡ lines_beside (places_shown axis.now) width place remark.now) }
+) -> Result<Caption, AllocError>
+    ensures near { IfOk result (λ caption. caption.stem < 2 ^ 34) }
+    ensures few { IfOk result (λ caption. length caption.lines.items ≤ 200) }
+    ensures stem { IfOk result (λ caption. caption.stem ≡ place_in row (stem_of (places_shown axis.now) place)) }
+    ensures left { IfOk result (λ caption. caption.left ≡ lines_left width
+        (place_in row (stem_of (places_shown axis.now) place)) (text_in (places_shown axis.now) row place remark.now)) }
+    ensures lines { IfOk result (λ caption. map (λ line. line.items) caption.lines.items ≡ caption_lines width
+        (place_in row (stem_of (places_shown axis.now) place)) (text_in (places_shown axis.now) row place remark.now)) }
 {
-    let most = letters_beside(width, stem_of(axis, place));
-    caption_lines(alloc, remark, most)
+    let stem = START + stem_of(axis, place).saturating_sub(row.from);
+    let text = text_in(axis, row, place, remark);
+    let (left, most) = beside(width, stem, text);
+    let mut lines = Vec::new(alloc);
+    push_lines(alloc, text, most as usize, &mut lines)?;
+    Ok(Caption { stem, left, lines })
 }
 
-/// How high all captions are.
+/// How high all captions of a row are.
 ///
 /// An `Err` says that memory was refused.
 fn captions_height(
     alloc: Global,
     remarks: &[PlacedRemark],
     axis: &Axis,
+    row: Row,
     width: u64,
 ) -> Result<u64, AllocError>
     requires { length remarks.now ≤ 100000 }
     ensures small { IfOk result (λ height. height ≤ 400000000) }
-    ensures height { IfOk result (λ height. height ≡ captions_height (places_shown axis.now) width 0 remarks.now) }
+    ensures height { IfOk result (λ height. height
+        ≡ captions_height (places_shown axis.now) row width 0 remarks.now) }
 {
     let mut height = 0;
     for (place, one) in remarks.iter().enumerate() {
-        height += lines_beside(alloc, axis, width, place, &one.remark)?.len() as u64 * LINE;
+        let caption = caption_of(alloc, axis, row, width, place, &one.remark)?;
+        height += caption.lines.len() as u64 * LINE;
     }
     Ok(height)
 }
 
-/// How far to the right a picture goes at least for a remark, with a stem at this place.
-fn caption_right(stem: u64, remark: &Remark) -> u64
-    requires { stem < 2 ^ 33 }
-    ensures small { result < 2 ^ 34 }
-    ensures right { result ≡ caption_right stem remark.now }
-{
-    match remark {
-        Remark::Note(text) => {
-            stem + STEM_GAP + MARGIN + text.len().min(LEAST_LETTERS) as u64 * LETTER
-        }
-        Remark::Heading(_) | Remark::Refused(_) => 0,
-    }
-}
-
-/// How far to the right a picture goes at least, so that each caption has room right of its stem.
-pub fn captions_right(axis: &Axis, remarks: &[PlacedRemark]) -> u64
-    ensures small { result < 2 ^ 34 }
-    ensures right { result ≡ captions_right (places_shown axis.now) 0 remarks.now }
-{
-    let mut right = 0;
-    for (place, one) in remarks.iter().enumerate() {
-        right = caption_right(stem_of(axis, place), &one.remark).max(right);
-    }
-    right
-}
-
-/// Adds the lines of a caption, one below the other, right of its stem.
+/// Adds the lines of a caption, one below the other.
 ///
 /// An `Err` says that memory was refused.
 fn push_labels(
     alloc: Global,
     lines: &[Vec<u8>],
-    stem: u64,
+    left: u64,
     bottom: u64,
     shapes: &mut Vec<Shape>,
 ) -> Result<(), AllocError>
     requires count { length lines.now ≤ 200 }
-    requires stem { stem < 2 ^ 40 }
     requires bottom { bottom < 2 ^ 40 }
     ensures { OnOk result (map figure shapes.new.items
-        ≡ map figure shapes.old.items ++ labels_down stem bottom (map (λ line. line.items) lines.now)) }
+        ≡ map figure shapes.old.items ++ labels_down left bottom (map (λ line. line.items) lines.now)) }
 {
     let mut place = bottom;
     for line in lines {
         let mut text = Vec::new(alloc);
         text.extend_from_slice(line)?;
-        push_label(shapes, stem + STEM_GAP, place + 16, text)?;
+        push_label(shapes, left, place + 16, text)?;
         place += LINE;
     }
     Ok(())
 }
 
-/// Adds a caption of these lines, with its stem from beside the first one down to the foot of all captions.
+/// Adds a caption, with its stem from beside its first line down to the foot of all captions of its row.
 ///
 /// An `Err` says that memory was refused.
 fn push_caption(
     alloc: Global,
-    lines: &[Vec<u8>],
-    stem: u64,
+    caption: &Caption,
     bottom: u64,
     foot: u64,
     shapes: &mut Vec<Shape>,
 ) -> Result<(), AllocError>
-    requires count { length lines.now ≤ 200 }
-    requires stem { stem < 2 ^ 40 }
+    requires count { length caption.now.lines.items ≤ 200 }
+    requires stem { caption.now.stem < 2 ^ 40 }
     requires bottom { bottom < 2 ^ 40 }
     requires foot { foot < 2 ^ 40 }
-    ensures { OnOk result (map figure shapes.new.items
-        ≡ map figure shapes.old.items ++ caption_figures stem bottom foot (map (λ line. line.items) lines.now)) }
+    ensures { OnOk result (map figure shapes.new.items ≡ map figure shapes.old.items
+        ++ caption_figures caption.now.stem caption.now.left bottom foot
+        (map (λ line. line.items) caption.now.lines.items)) }
 {
-    if lines.is_empty() {
+    if caption.lines.is_empty() {
         return Ok(());
     }
+    let stem = caption.stem;
     push_line(shapes, (stem, bottom + 4), (stem, foot), Paint::Edge)?;
     push_tip(shapes, stem, foot, Toward::Down)?;
-    push_labels(alloc, lines, stem, bottom, shapes)
+    push_labels(alloc, &caption.lines, caption.left, bottom, shapes)
 }
 
-/// Adds the captions: each note after the header stands right of its stem, which points at the event or the
-/// refusal that follows, below the captions before. The answer is their foot.
+/// Adds the captions of a row below a place: each note after the header stands beside its stem, which points at the
+/// event or the refusal that follows, below the captions before. The answer is their foot.
 ///
 /// An `Err` says that memory was refused.
 pub fn push_captions(
     alloc: Global,
     remarks: &[PlacedRemark],
     axis: &Axis,
+    row: Row,
     width: u64,
     bottom: u64,
     shapes: &mut Vec<Shape>,
 ) -> Result<u64, AllocError>
-    requires remarks { length remarks.now ≤ 100000 }
-    requires bottom { bottom < 2 ^ 39 }
+    requires { length remarks.now ≤ 100000 }
     ensures shapes { OnOk result (map figure shapes.new.items
-        ≡ map figure shapes.old.items ++ captions_from (places_shown axis.now) width
-        (captions_foot (places_shown axis.now) width bottom remarks.now) 0 (bottom + 12) remarks.now) }
-    ensures small { IfOk result (λ foot. foot ≤ bottom + 400000022) }
-    ensures foot { IfOk result (λ foot. foot ≡ captions_foot (places_shown axis.now) width bottom remarks.now) }
+        ≡ map figure shapes.old.items ++ captions_from (places_shown axis.now) row width
+        (captions_foot (places_shown axis.now) row width bottom remarks.now) 0 (lower bottom 12) remarks.now) }
+    ensures small { IfOk result (λ foot. foot < 2 ^ 34 + 400000010) }
+    ensures foot { IfOk result (λ foot. foot
+        ≡ captions_foot (places_shown axis.now) row width bottom remarks.now) }
 {
-    let foot = bottom + MARGIN + captions_height(alloc, remarks, axis, width)? + 10;
-    let mut top = bottom + MARGIN;
+    let mut top = lower(bottom, MARGIN);
+    let foot = top + captions_height(alloc, remarks, axis, row, width)? + 10;
     for (place, one) in remarks.iter().enumerate() {
-        let lines = lines_beside(alloc, axis, width, place, &one.remark)?;
-        push_caption(alloc, &lines, stem_of(axis, place), top, foot, shapes)?;
-        top += lines.len() as u64 * LINE;
+        let caption = caption_of(alloc, axis, row, width, place, &one.remark)?;
+        push_caption(alloc, &caption, top, foot, shapes)?;
+        top += caption.lines.len() as u64 * LINE;
     }
     Ok(foot)
+}
+
+/// Adds the room of each note right of its stem in the strip, as paper.
+///
+/// An `Err` says that memory was refused.
+pub fn push_rooms(
+    remarks: &[PlacedRemark],
+    axis: &Axis,
+    rooms: &mut Vec<Shape>,
+) -> Result<(), AllocError>
+    ensures { OnOk result (map figure rooms.new.items
+        ≡ map figure rooms.old.items ++ rooms_from (places_shown axis.now) 0 remarks.now) }
+{
+    for (place, one) in remarks.iter().enumerate() {
+        push_room(stem_of(axis, place), &one.remark, rooms)?;
+    }
+    Ok(())
+}
+
+/// Adds the room of a note right of its stem, as paper.
+///
+/// An `Err` says that memory was refused.
+fn push_room(stem: u64, remark: &Remark, rooms: &mut Vec<Shape>) -> Result<(), AllocError>
+    requires { stem < 2 ^ 33 }
+    ensures { OnOk result (map figure rooms.new.items
+        ≡ map figure rooms.old.items ++ note_rooms stem remark.now) }
+{
+    if let Remark::Note(text) = remark {
+        rooms.push(Shape::Rect {
+            x: stem + STEM_GAP,
+            y: 0,
+            width: room_of(text),
+            height: LINE,
+            paint: Paint::Paper,
+        })?;
+    }
+    Ok(())
 }
 
 /// Adds the mark of a refusal, above the lanes: a cross and its label.
 ///
 /// An `Err` says that memory was refused.
-fn push_refusal(
-    label: Vec<u8>,
-    column: Column,
-    lanes: Lanes,
-    shapes: &mut Vec<Shape>,
-) -> Result<(), AllocError>
+fn push_refusal(label: Vec<u8>, column: Column, shapes: &mut Vec<Shape>) -> Result<(), AllocError>
     ensures { OnOk result (map figure shapes.new.items
-        ≡ map figure shapes.old.items ++ refusal_figures column lanes (Some label.items)) }
+        ≡ map figure shapes.old.items ++ refusal_figures column (Some label.items)) }
 {
-    let y = u64::from(lanes.top).saturating_sub(10);
     let x = u64::from(column.left);
     shapes.push(Shape::Rect {
         x: x + 2,
-        y: y.saturating_sub(9),
+        y: 1,
         width: u64::from(column.width.saturating_sub(4)),
         height: 18,
         paint: Paint::Paper,
     })?;
-    let upper = y.saturating_sub(5);
-    push_line(shapes, (x + 4, upper), (x + 14, y + 5), Paint::Cross)?;
-    push_line(shapes, (x + 4, y + 5), (x + 14, upper), Paint::Cross)?;
-    push_text(shapes, x + 18, y + 4, Anchor::Start, Paint::Ink, label)
+    push_line(shapes, (x + 4, 5), (x + 14, 15), Paint::Cross)?;
+    push_line(shapes, (x + 4, 15), (x + 14, 5), Paint::Cross)?;
+    push_text(shapes, x + 18, 14, Anchor::Start, Paint::Ink, label)
 }
 
 /// Adds the mark of what is told, if it has one.
@@ -313,14 +368,13 @@ fn push_mark(
     alloc: Global,
     told: &Told,
     column: Column,
-    lanes: Lanes,
     shapes: &mut Vec<Shape>,
 ) -> Result<(), AllocError>
     ensures { OnOk result (map figure shapes.new.items
-        ≡ map figure shapes.old.items ++ refusal_figures column lanes (told_shown told.now).text) }
+        ≡ map figure shapes.old.items ++ refusal_figures column (told_shown told.now).text) }
 {
     match &told.label {
-        Some(label) => push_refusal(label.as_slice().to_vec(alloc)?, column, lanes, shapes),
+        Some(label) => push_refusal(label.as_slice().to_vec(alloc)?, column, shapes),
         None => Ok(()),
     }
 }
@@ -332,14 +386,13 @@ fn push_marks(
     alloc: Global,
     told: &[Told],
     axis: &Axis,
-    lanes: Lanes,
     shapes: &mut Vec<Shape>,
 ) -> Result<(), AllocError>
     ensures { OnOk result (map figure shapes.new.items
-        ≡ map figure shapes.old.items ++ refusals_from (places_shown axis.now) lanes 0 (map told_shown told.now)) }
+        ≡ map figure shapes.old.items ++ refusals_from (places_shown axis.now) 0 (map told_shown told.now)) }
 {
     for (place, one) in told.iter().enumerate() {
-        push_mark(alloc, one, axis.remark(place), lanes, shapes)?;
+        push_mark(alloc, one, axis.remark(place), shapes)?;
     }
     Ok(())
 }
@@ -351,14 +404,13 @@ pub fn push_refusals(
     alloc: Global,
     remarks: &[PlacedRemark],
     axis: &Axis,
-    lanes: Lanes,
     shapes: &mut Vec<Shape>,
 ) -> Result<(), AllocError>
     ensures { OnOk result (map figure shapes.new.items
-        ≡ map figure shapes.old.items ++ refusals_from (places_shown axis.now) lanes 0 (labels_of remarks.now)) }
+        ≡ map figure shapes.old.items ++ refusals_from (places_shown axis.now) 0 (labels_of remarks.now)) }
 {
     let told = told_of(alloc, remarks)?;
-    push_marks(alloc, &told, axis, lanes, shapes)
+    push_marks(alloc, &told, axis, shapes)
 }
 
 /// The description of a picture, for who can't see it: the notes that come before the header.

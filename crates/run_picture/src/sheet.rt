@@ -7,21 +7,19 @@ ghost use Rattle.svg_text.specs.declared.paint.Paint.TheVariants.{Title};
 ghost use Rattle.svg_text.specs.declared.shape.Anchor.TheVariants.{Start};
 ghost use Rattle.run_marks.specs.Shown.{marks_shown};
 ghost use Rattle.run_layout.specs.Wording.{title_text};
-ghost use Rattle.run_layout.specs.Axis.{IsScale, places_shown};
+ghost use Rattle.run_layout.specs.Axis.{places_shown};
 ghost use Rattle.run_picture.specs.Lanes.{run_figures};
-ghost use Rattle.run_picture.specs.Drawing.{scale_of, width_of_places, notes_figures, lanes_below, events_figures};
-ghost use Rattle.run_picture.specs.Drawing.{events_end, drawing_of_marks};
+ghost use Rattle.run_picture.specs.Drawing.{width_of, strip_figures, heads_figures, heads_end, drawing_of_marks};
 
 use crate::bars::{push_bars, push_texts};
 use crate::cells::push_cells;
 use crate::dots::{push_arrows, push_dots, push_steps};
 use crate::figures::push_text;
-use crate::lanes::{Lanes, MARGIN, START, push_era_lines, push_eras};
+use crate::lanes::{Lanes, MARGIN, push_era_lines, push_eras};
 use crate::legend::{legend_height, push_legend};
-use crate::notes::{
-    LINE, captions_right, description_of, line_letters, push_captions, push_headings, push_refusals,
-};
-use run_layout::{Axis, MOST_LANES, Scale, any_unchanged, axis_of, kinds_of, title_of};
+use crate::notes::{description_of, line_letters, push_headings, push_refusals};
+use crate::rows::push_rows;
+use run_layout::{Axis, Scale, any_unchanged, axis_of, kinds_of, title_of};
 use run_marks::Marks;
 use std::alloc::{AllocError, Global};
 use svg_text::{Anchor, Drawing, Paint, Shape};
@@ -30,32 +28,26 @@ use uni_script::PlacedRemark;
 /// How wide a picture is at least.
 const LEAST_WIDTH: u64 = 960;
 
-/// How wide the things of a picture are: steps are the wider, the fewer there are.
-fn scale_of(marks: &Marks, remarks: &[PlacedRemark]) -> Scale
-    requires events { marks.now.events ≤ 2000 }
-    requires remarks { length remarks.now ≤ 100000 }
-    ensures fits { IsScale result }
-    ensures scale { result ≡ scale_of (marks_shown marks.now) remarks.now }
-{
-    let places = marks.events + 5 * remarks.len() as u64 + 1;
-    let step = (872 / places).min(28).max(16) / 2 * 2;
-    Scale {
-        start: START,
-        step: step as u32,
-        letter: 8,
-        mark: 16,
-    }
-}
+/// How wide a picture is at most: as wide as a row with its margins.
+const MOST_WIDTH: u64 = 1_400;
 
-/// How wide a picture is: as wide as its columns and its captions.
-fn width_of(axis: &Axis, remarks: &[PlacedRemark]) -> u64
+/// How wide the things of a picture are.
+const SCALE: Scale = Scale {
+    start: 44,
+    step: 20,
+    letter: 8,
+    mark: 16,
+};
+
+/// How wide a picture is: as wide as its strip.
+fn width_of(axis: &Axis) -> u64
     ensures least { 960 ≤ result }
-    ensures small { result < 2 ^ 35 }
-    ensures width { result ≡ width_of_places (places_shown axis.now) remarks.now }
+    ensures most { result ≤ 1400 }
+    ensures width { result ≡ width_of (places_shown axis.now) }
 {
-    LEAST_WIDTH
-        .max(u64::from(axis.end) + 2 * MARGIN)
-        .max(captions_right(axis, remarks))
+    (u64::from(axis.end) + 2 * MARGIN)
+        .min(MOST_WIDTH)
+        .max(LEAST_WIDTH)
 }
 
 /// Adds the title.
@@ -69,31 +61,24 @@ fn push_title(alloc: Global, marks: &Marks, shapes: &mut Vec<Shape>) -> Result<(
     push_text(shapes, MARGIN, 28, Anchor::Start, Paint::Title, title)
 }
 
-/// Adds the title, the headings and the captions; the answer is where the lanes stand below them.
+/// Adds the title and the headings; the answer is where they end.
 ///
 /// An `Err` says that memory was refused.
-fn push_notes(
+fn push_heads(
     alloc: Global,
     marks: &Marks,
     remarks: &[PlacedRemark],
-    axis: &Axis,
+    width: u64,
     shapes: &mut Vec<Shape>,
-) -> Result<Lanes, AllocError>
+) -> Result<u64, AllocError>
     requires { length remarks.now ≤ 100000 }
     ensures shapes { OnOk result (map figure shapes.new.items
-        ≡ map figure shapes.old.items ++ notes_figures (places_shown axis.now) (marks_shown marks.now) remarks.now) }
-    ensures lanes { IfOk result (λ lanes. lanes
-        ≡ lanes_below (places_shown axis.now) (marks_shown marks.now) remarks.now) }
+        ≡ map figure shapes.old.items ++ heads_figures width (marks_shown marks.now) remarks.now) }
+    ensures low { IfOk result (λ end. end < 2 ^ 35) }
+    ensures end { IfOk result (λ end. end ≡ heads_end width remarks.now) }
 {
-    let width = width_of(axis, remarks);
-    let most = line_letters(width);
     push_title(alloc, marks, shapes)?;
-    let top = push_headings(alloc, remarks, most, 32, shapes)?;
-    let foot = push_captions(alloc, remarks, axis, width, top, shapes)?;
-    Ok(Lanes {
-        top: (foot + LINE) as u32,
-        count: marks.lanes().min(MOST_LANES) as u32,
-    })
+    push_headings(alloc, remarks, line_letters(width), 32, shapes)
 }
 
 /// Adds what is drawn of the events, in lanes.
@@ -118,26 +103,22 @@ fn push_run(
     push_texts(alloc, &marks.bars, axis, lanes, shapes)
 }
 
-/// Adds what stands above the list of cells: notes, lanes and refusals. The answer is where that ends.
+/// The strip: what is drawn of the events, and the refusals above the lanes.
 ///
 /// An `Err` says that memory was refused.
-fn push_events(
+fn strip_of(
     alloc: Global,
     marks: &Marks,
     remarks: &[PlacedRemark],
     axis: &Axis,
-    shapes: &mut Vec<Shape>,
-) -> Result<u64, AllocError>
-    requires { length remarks.now ≤ 100000 }
-    ensures shapes { OnOk result (map figure shapes.new.items
-        ≡ map figure shapes.old.items ++ events_figures (places_shown axis.now) (marks_shown marks.now) remarks.now) }
-    ensures small { IfOk result (λ end. end < 2 ^ 35) }
-    ensures end { IfOk result (λ end. end ≡ events_end (places_shown axis.now) (marks_shown marks.now) remarks.now) }
+) -> Result<Vec<Shape>, AllocError>
+    ensures { IfOk result (λ strip. map figure strip.items
+        ≡ strip_figures (places_shown axis.now) (marks_shown marks.now) remarks.now) }
 {
-    let lanes = push_notes(alloc, marks, remarks, axis, shapes)?;
-    push_run(alloc, marks, axis, lanes, shapes)?;
-    push_refusals(alloc, remarks, axis, lanes, shapes)?;
-    Ok(lanes.bottom())
+    let mut strip = Vec::new(alloc);
+    push_run(alloc, marks, axis, Lanes::of_run(marks), &mut strip)?;
+    push_refusals(alloc, remarks, axis, &mut strip)?;
+    Ok(strip)
 }
 
 /// The shapes of the marks of a run, with what was told beside its events.
@@ -152,10 +133,11 @@ pub fn drawing_of(
     requires remarks { length remarks.now ≤ 100000 }
     ensures { IfOk result (λ drawing. picture drawing ≡ drawing_of_marks (marks_shown marks.now) remarks.now) }
 {
-    let axis = axis_of(alloc, marks, remarks, scale_of(marks, remarks))?;
-    let width = width_of(&axis, remarks);
+    let axis = axis_of(alloc, marks, remarks, SCALE)?;
+    let width = width_of(&axis);
     let mut shapes = Vec::new(alloc);
-    let above = push_events(alloc, marks, remarks, &axis, &mut shapes)?;
+    let top = push_heads(alloc, marks, remarks, width, &mut shapes)?;
+    let above = push_rows(alloc, marks, remarks, &axis, width, top, &mut shapes)?;
     let below = push_cells(alloc, &marks.dots, &marks.eras, width, above, &mut shapes)?;
     let kinds = kinds_of(alloc, &marks.steps)?;
     let unchanged = any_unchanged(&marks.steps);
@@ -165,6 +147,7 @@ pub fn drawing_of(
         height: below + legend_height(&kinds, unchanged),
         title: title_of(alloc, marks)?,
         description: description_of(alloc, remarks)?,
+        strip: strip_of(alloc, marks, remarks, &axis)?,
         shapes,
     })
 }

@@ -11,9 +11,9 @@ use Rattle.svg_text.specs.declared.paint.Paint.{Paint}
 use Rattle.svg_text.specs.declared.paint.Paint.TheVariants.{Paper, Frame, Ink, Title, DarkLetter, LightLetter, Faint, Edge, Broken, Thick, Cross, Mark, Pale}
 use Rattle.svg_text.specs.declared.shape.Anchor.{Anchor}
 use Rattle.svg_text.specs.declared.shape.Anchor.TheVariants as anchors
-use Rattle.svg_text.specs.Figures.{Figure, Rect, Titled, Line, Dot, Tip, Text, Picture}
-use Rattle.svg_text.specs.Svg.{escaped_byte, escaped, attribute_text, attributes_of, code_of, anchor_name, view_box, point, figure_text, size_text, title_text, paper_text, svg_text, content_text, titled_content}
-use Rattle.svg_text.specs.Xml.{Element, Words, attributes_text, node_text, nodes_text, is_well_named, are_well_named, nodes, attribute, number, fill, stroke, paint_attributes, figure_node, figure_line, svg_attributes, titled, paper_node, svg_node}
+use Rattle.svg_text.specs.Figures.{Figure, Rect, Titled, Line, Dot, Tip, Text, View, Picture}
+use Rattle.svg_text.specs.Svg.{escaped_byte, escaped, attribute_text, attributes_of, code_of, anchor_name, view_box, point, figure_text, figures_text, size_text, title_text, paper_text, strip_text, svg_text, content_text, titled_content}
+use Rattle.svg_text.specs.Xml.{Element, Words, End, attributes_text, node_text, nodes_text, is_well_named, are_well_named, nodes, attribute, number, fill, stroke, paint_attributes, figure_node, figure_line, svg_attributes, titled, paper_node, strip_node, svg_node}
 use Rattle.svg_text.proofs.Escapes.{escaped_decimal}
 
 -- a number is written as it stands
@@ -88,9 +88,15 @@ word_tag h a b d p g t c1 c2 c3 n = simp (append_assoc, append-nil)
 title_lines : (h t a b d n k e x y z : List ℕ) → h ++ t ++ (a ++ (b ++ (d ++ (n ++ k)))) ++ e ++ (x ++ (y ++ (z ++ n))) ≡ (h ++ t ++ [] ++ a ++ b ++ d) ++ (n ++ ((k ++ e ++ [] ++ x ++ y ++ z) ++ n))
 title_lines h t a b d n k e x y z = simp (append_assoc, append-nil)
 
-lines_within : (h a g n t d p s c1 c2 c3 : List ℕ)
-    → (h ++ a ++ (g ++ n) ++ (t ++ (n ++ (d ++ n))) ++ (p ++ n)) ++ s ++ (c1 ++ (c2 ++ (c3 ++ n))) ≡ (h ++ a ++ g ++ n ++ (t ++ (n ++ (d ++ (n ++ (p ++ (n ++ s)))))) ++ c1 ++ c2 ++ c3) ++ n
-lines_within h a g n t d p s c1 c2 c3 = simp append_assoc
+view_tag : (h a b d e v g u c1 c2 c3 n : List ℕ) → h ++ a ++ b ++ d ++ e ++ v ++ (g ++ (u ++ (c1 ++ (c2 ++ (c3 ++ n))))) ≡ (h ++ (a ++ (b ++ (d ++ (e ++ v)))) ++ g ++ u ++ [] ++ c1 ++ c2 ++ c3) ++ n
+view_tag h a b d e v g u c1 c2 c3 n = simp (append_assoc, append-nil)
+
+strip_within : (o1 o2 s c1 c2 c3 c4 n : List ℕ) → (o1 ++ o2) ++ s ++ (c1 ++ (c2 ++ (c3 ++ (n ++ (c1 ++ (c4 ++ (c3 ++ n))))))) ≡ (o1 ++ (o2 ++ s ++ c1 ++ c2 ++ c3 ++ n) ++ c1 ++ c4 ++ c3) ++ n
+strip_within o1 o2 s c1 c2 c3 c4 n = simp append_assoc
+
+lines_within : (h a g n t d p k s c1 c2 c3 : List ℕ)
+    → (h ++ a ++ (g ++ n) ++ (t ++ (n ++ (d ++ n))) ++ (p ++ n)) ++ (k ++ n) ++ s ++ (c1 ++ (c2 ++ (c3 ++ n))) ≡ (h ++ a ++ g ++ n ++ (t ++ (n ++ (d ++ (n ++ (p ++ (n ++ (k ++ (n ++ s)))))))) ++ c1 ++ c2 ++ c3) ++ n
+lines_within h a g n t d p k s c1 c2 c3 = simp append_assoc
 
 four_attributes : (h a b d m q : List ℕ) → h ++ a ++ b ++ d ++ (m ++ q) ≡ h ++ (a ++ (b ++ (d ++ m))) ++ q
 four_attributes h a b d m q = simp append_assoc
@@ -140,6 +146,26 @@ titled_line x y width height p title =
     ∙ ap (λ l. (codes "<rect" ++ l ++ codes ">" ++ (codes "<title>" ++ escaped title ++ [] ++ codes "</" ++ codes "title" ++ codes ">") ++ [] ++ codes "</" ++ codes "rect" ++ codes ">") ++ codes "\n")
     (sym (beside (number_text (codes "x") x) (beside (number_text (codes "y") y) (beside (number_text (codes "width") width) (beside (number_text (codes "height") height) (paint_text p))))))
 
+escaped_view_box : (left width height : ℕ) → escaped (view_box left width height) ≡ view_box left width height
+unfolding view_box
+escaped_view_box left width height =
+    escaped_append (decimal left ++ codes " 0 " ++ decimal width ++ codes " ") (decimal height)
+    ∙ beside (escaped_append (decimal left ++ codes " 0 " ++ decimal width) (codes " ") ∙ ap (λ l. l ++ codes " ") (escaped_append (decimal left ++ codes " 0 ") (decimal width)
+    ∙ beside (escaped_append (decimal left) (codes " 0 ") ∙ ap (λ l. l ++ codes " 0 ") (escaped_decimal left)) (escaped_decimal width))) (escaped_decimal height)
+
+use_text : node_text (Element (codes "use") (attribute (codes "href") (codes "#strip") ∷ []) End) ≡ codes "<use href=\"#strip\"/>"
+unfolding attribute_text
+use_text = refl
+
+view_line : (x y width height left : ℕ) → figure_text (View x y width height left) ≡ node_text (figure_node (View x y width height left)) ++ codes "\n"
+view_line x y width height left =
+    view_tag (codes "<svg") (attribute_text (codes "x") (decimal x)) (attribute_text (codes "y") (decimal y)) (attribute_text (codes "width") (decimal width)) (attribute_text (codes "height") (decimal height))
+    (attribute_text (codes "viewBox") (view_box left width height)) (codes ">") (codes "<use href=\"#strip\"/>") (codes "</") (codes "svg") (codes ">") (codes "\n")
+    ∙ ap₂ (λ l u. (codes "<svg" ++ l ++ codes ">" ++ u ++ [] ++ codes "</" ++ codes "svg" ++ codes ">") ++ codes "\n")
+    (sym (beside (number_text (codes "x") x) (beside (number_text (codes "y") y) (beside (number_text (codes "width") width) (beside (number_text (codes "height") height)
+    (append-nil (attribute_text (codes "viewBox") (escaped (view_box left width height))) ∙ ap (attribute_text (codes "viewBox")) (escaped_view_box left width height)))))))
+    (sym use_text)
+
 pub line_of_figure : (f : Figure) → figure_text f ≡ node_text (figure_node f) ++ codes "\n"
 line_of_figure (Rect x y width height p) = rect_line x y width height p
 line_of_figure (Titled x y width height p title) = titled_line x y width height p title
@@ -147,18 +173,20 @@ line_of_figure (Line x1 y1 x2 y2 p) = line_line x1 y1 x2 y2 p
 line_of_figure (Dot x y) = dot_line x y
 line_of_figure (Tip x y x1 y1 x2 y2) = tip_line x y x1 y1 x2 y2
 line_of_figure (Text x y a p text) = text_line x y a p text
+line_of_figure (View x y width height left) = view_line x y width height left
 
 -- the lines of the shapes
-lines_of_figures : (figures : List Figure) → flat_map figure_text figures ≡ nodes_text (nodes (flat_map figure_line figures))
+lines_of_figures : (figures : List Figure) → figures_text figures ≡ nodes_text (nodes (flat_map figure_line figures))
 lines_of_figures [] = refl
 lines_of_figures (f ∷ figures) = ap₂ ◌++◌ (line_of_figure f) (lines_of_figures figures) ∙ append_assoc (node_text (figure_node f)) (codes "\n") (nodes_text (nodes (flat_map figure_line figures)))
 
 -- ---- the text of a picture
 
-escaped_view_box : (width height : ℕ) → escaped (view_box width height) ≡ view_box width height
-unfolding view_box
-escaped_view_box width height =
-    ap (λ l. codes "0 0 " ++ l) (escaped_append (decimal width ++ codes " ") (decimal height) ∙ ap₂ ◌++◌ (escaped_append (decimal width) (codes " ") ∙ ap (λ l. l ++ codes " ") (escaped_decimal width)) (escaped_decimal height))
+strip_line : (strip : List Figure) → strip_text strip ≡ node_text (strip_node strip) ++ codes "\n"
+unfolding attribute_text
+strip_line strip =
+    ap (λ l. codes "<defs>\n<g id=\"strip\">\n" ++ l ++ codes "</g>\n</defs>\n") (lines_of_figures strip)
+    ∙ strip_within (codes "<defs>\n") (codes "<g id=\"strip\">\n") (nodes_text (nodes (flat_map figure_line strip))) (codes "</") (codes "g") (codes ">") (codes "defs") (codes "\n")
 
 -- what a picture is, as attributes
 manner_attributes : attributes_text (attribute (codes "role") (codes "img") ∷ attribute (codes "aria-labelledby") (codes "title description") ∷ attribute (codes "font-family") (codes "monospace") ∷ attribute (codes "font-size") (codes "13") ∷ [])
@@ -167,9 +195,9 @@ unfolding attribute_text
 manner_attributes = refl
 
 -- the attributes of the whole, after the first
-size_attributes : (width height : ℕ) → attribute_text (codes "viewBox") (escaped (view_box width height)) ++ (attribute_text (codes "width") (escaped (decimal width)) ++ (attribute_text (codes "height") (escaped (decimal height)) ++ attributes_text (attribute (codes "role") (codes "img") ∷ attribute (codes "aria-labelledby") (codes "title description") ∷ attribute (codes "font-family") (codes "monospace") ∷ attribute (codes "font-size") (codes "13") ∷ [])))
-    ≡ attribute_text (codes "viewBox") (view_box width height) ++ (attribute_text (codes "width") (decimal width) ++ (attribute_text (codes "height") (decimal height) ++ codes " role=\"img\" aria-labelledby=\"title description\" font-family=\"monospace\" font-size=\"13\""))
-size_attributes width height = beside (ap (attribute_text (codes "viewBox")) (escaped_view_box width height)) (beside (number_text (codes "width") width) (beside (number_text (codes "height") height) manner_attributes))
+size_attributes : (width height : ℕ) → attribute_text (codes "viewBox") (escaped (view_box 0 width height)) ++ (attribute_text (codes "width") (escaped (decimal width)) ++ (attribute_text (codes "height") (escaped (decimal height)) ++ attributes_text (attribute (codes "role") (codes "img") ∷ attribute (codes "aria-labelledby") (codes "title description") ∷ attribute (codes "font-family") (codes "monospace") ∷ attribute (codes "font-size") (codes "13") ∷ [])))
+    ≡ attribute_text (codes "viewBox") (view_box 0 width height) ++ (attribute_text (codes "width") (decimal width) ++ (attribute_text (codes "height") (decimal height) ++ codes " role=\"img\" aria-labelledby=\"title description\" font-family=\"monospace\" font-size=\"13\""))
+size_attributes width height = beside (ap (attribute_text (codes "viewBox")) (escaped_view_box 0 width height)) (beside (number_text (codes "width") width) (beside (number_text (codes "height") height) manner_attributes))
 
 first_attribute : (value : List ℕ) → attribute_text (codes "xmlns") (escaped (codes "http://www.w3.org/2000/svg")) ++ value ≡ codes " xmlns=\"http://www.w3.org/2000/svg\"" ++ value
 unfolding attribute_text
@@ -177,7 +205,7 @@ first_attribute value = refl
 
 opening_tag : (width height : ℕ) → size_text width height ≡ codes "<svg" ++ attributes_text (svg_attributes width height) ++ codes ">\n"
 opening_tag width height =
-    four_attributes (codes "<svg xmlns=\"http://www.w3.org/2000/svg\"") (attribute_text (codes "viewBox") (view_box width height)) (attribute_text (codes "width") (decimal width)) (attribute_text (codes "height") (decimal height))
+    four_attributes (codes "<svg xmlns=\"http://www.w3.org/2000/svg\"") (attribute_text (codes "viewBox") (view_box 0 width height)) (attribute_text (codes "width") (decimal width)) (attribute_text (codes "height") (decimal height))
     (codes " role=\"img\" aria-labelledby=\"title description\" font-family=\"monospace\" font-size=\"13\"") (codes ">\n")
     ∙ ap (λ l. codes "<svg" ++ l ++ codes ">\n") (sym (first_attribute _ ∙ ap (λ l. codes " xmlns=\"http://www.w3.org/2000/svg\"" ++ l) (size_attributes width height)))
 
@@ -200,8 +228,8 @@ text_of_tree q =
     let title = node_text (titled (codes "title") (codes "title") q.title) in
     let description = node_text (titled (codes "desc") (codes "description") q.description) in
     let opening = beside (beside (opening_tag q.width q.height) (titles q.title q.description)) (paper_line q.width q.height) in
-    ap (λ l. l ++ codes "</svg>\n") (beside opening (lines_of_figures q.figures))
-    ∙ lines_within (codes "<svg") (attributes_text (svg_attributes q.width q.height)) (codes ">") (codes "\n") title description (node_text (paper_node q.width q.height)) (nodes_text (nodes (flat_map figure_line q.figures))) (codes "</") (codes "svg") (codes ">")
+    ap (λ l. l ++ codes "</svg>\n") (beside (beside opening (strip_line q.strip)) (lines_of_figures q.figures))
+    ∙ lines_within (codes "<svg") (attributes_text (svg_attributes q.width q.height)) (codes ">") (codes "\n") title description (node_text (paper_node q.width q.height)) (node_text (strip_node q.strip)) (nodes_text (nodes (flat_map figure_line q.figures))) (codes "</") (codes "svg") (codes ">")
 
 -- ---- the names of a picture's tree are good
 
@@ -228,10 +256,11 @@ figure_well_named (Line x1 y1 x2 y2 p) = each_paint (λ q. is_well_named (figure
 figure_well_named (Dot x y) = refl
 figure_well_named (Tip x y x1 y1 x2 y2) = refl
 figure_well_named (Text x y a p text) = each_paint (λ q. is_well_named (figure_node (Text x y a q text)) ≡ true) refl refl refl refl refl refl refl refl refl refl refl (λ _. refl) (λ _. refl) p
+figure_well_named (View x y width height left) = refl
 
 figures_well_named : (figures : List Figure) → are_well_named (nodes (flat_map figure_line figures)) ≡ true
 figures_well_named [] = refl
 figures_well_named (f ∷ figures) = and_from (is_well_named (figure_node f)) (are_well_named (nodes (flat_map figure_line figures))) (figure_well_named f) (figures_well_named figures)
 
 pub picture_well_named : (p : Picture) → is_well_named (svg_node p) ≡ true
-picture_well_named q = figures_well_named q.figures
+picture_well_named q = and_from (is_well_named (strip_node q.strip)) (are_well_named (nodes (flat_map figure_line q.figures))) (and_from (are_well_named (nodes (flat_map figure_line q.strip))) true (figures_well_named q.strip) refl) (figures_well_named q.figures)

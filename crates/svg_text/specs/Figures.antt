@@ -14,13 +14,15 @@ pub data Figure : Type 0 where
   Dot : (x y : ℕ) → Figure
   Tip : (x y x1 y1 x2 y2 : ℕ) → Figure
   Text : (x y : ℕ) → Anchor → Paint → List ℕ → Figure
+  View : (x y width height left : ℕ) → Figure
 
--- a picture: its size, its title, its description, and its shapes, from the lowest on
+-- a picture: its size, its title, its description, the strip that its views show parts of, and its shapes, from the lowest on
 pub record Picture : Type 0 where
   pub width : ℕ
   pub height : ℕ
   pub title : List ℕ
   pub description : List ℕ
+  pub strip : List Figure
   pub figures : List Figure
 
 -- what the code's shapes and drawings are
@@ -31,6 +33,7 @@ figure (shape.Line x1 y1 x2 y2 paint) = Line x1 y1 x2 y2 paint
 figure (shape.Dot x y) = Dot x y
 figure (shape.Tip x y x1 y1 x2 y2) = Tip x y x1 y1 x2 y2
 figure (shape.Text x y anchor paint text) = Text x y anchor paint text.items
+figure (shape.View x y width height left) = View x y width height left
 
 abbrev pub picture : Drawing → Picture
 picture d = record {
@@ -38,5 +41,6 @@ picture d = record {
   height = d.height;
   title = d.title.items;
   description = d.description.items;
+  strip = map figure d.strip.items;
   figures = map figure d.shapes.items;
 }

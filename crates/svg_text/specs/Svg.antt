@@ -9,7 +9,7 @@ use Rattle.svg_text.specs.declared.paint.Paint.TheVariants.{Paper, Frame, Ink, T
 use Rattle.svg_text.specs.declared.paint.Paint.TheVariants.{Cross, Mark, Pale}
 use Rattle.svg_text.specs.declared.shape.Anchor.{Anchor}
 use Rattle.svg_text.specs.declared.shape.Anchor.TheVariants.{Start, Middle, End}
-use Rattle.svg_text.specs.Figures.{Figure, Rect, Titled, Line, Dot, Tip, Text, Picture}
+use Rattle.svg_text.specs.Figures.{Figure, Rect, Titled, Line, Dot, Tip, Text, View, Picture}
 
 -- a byte of a text as XML has it: each `<`, `>`, `&` and quote has a name
 abbrev pub escaped_byte : ℕ → List ℕ
@@ -101,6 +101,16 @@ label_text x y anchor paint text =
     codes "<text" ++ attribute_text (codes "x") (decimal x) ++ attribute_text (codes "y") (decimal y)
     ++ attribute_text (codes "text-anchor") (anchor_name anchor) ++ attributes_of paint ++ content_text text
 
+-- the part of the plane that is shown: from its top, and from a place on
+unfoldable pub view_box : (left width height : ℕ) → List ℕ
+view_box left width height = decimal left ++ codes " 0 " ++ decimal width ++ codes " " ++ decimal height
+
+abbrev pub view_text : (x y width height left : ℕ) → List ℕ
+view_text x y width height left =
+    codes "<svg" ++ attribute_text (codes "x") (decimal x) ++ attribute_text (codes "y") (decimal y)
+    ++ attribute_text (codes "width") (decimal width) ++ attribute_text (codes "height") (decimal height)
+    ++ attribute_text (codes "viewBox") (view_box left width height) ++ codes "><use href=\"#strip\"/></svg>\n"
+
 -- the text of a shape, with the end of its line
 abbrev pub figure_text : Figure → List ℕ
 figure_text (Rect x y width height paint) = rect_text x y width height paint
@@ -109,19 +119,19 @@ figure_text (Line x1 y1 x2 y2 paint) = line_text x1 y1 x2 y2 paint
 figure_text (Dot x y) = dot_text x y
 figure_text (Tip x y x1 y1 x2 y2) = tip_text x y x1 y1 x2 y2
 figure_text (Text x y anchor paint text) = label_text x y anchor paint text
+figure_text (View x y width height left) = view_text x y width height left
+
+abbrev pub figures_text : List Figure → List ℕ
+figures_text figures = flat_map figure_text figures
 
 -- what a picture is, and what its texts are
 abbrev pub manner_text : List ℕ
 manner_text = codes " role=\"img\" aria-labelledby=\"title description\" font-family=\"monospace\" font-size=\"13\">\n"
 
--- the part of the plane that a picture shows: all of it
-unfoldable pub view_box : (width height : ℕ) → List ℕ
-view_box width height = codes "0 0 " ++ decimal width ++ codes " " ++ decimal height
-
--- the size of a picture, and its manner
+-- the size of a picture, of which all is shown, and its manner
 abbrev pub size_text : (width height : ℕ) → List ℕ
 size_text width height =
-    codes "<svg xmlns=\"http://www.w3.org/2000/svg\"" ++ attribute_text (codes "viewBox") (view_box width height)
+    codes "<svg xmlns=\"http://www.w3.org/2000/svg\"" ++ attribute_text (codes "viewBox") (view_box 0 width height)
     ++ attribute_text (codes "width") (decimal width) ++ attribute_text (codes "height") (decimal height) ++ manner_text
 
 -- the title and the description, for who can't see the picture
@@ -135,13 +145,17 @@ paper_text width height =
     codes "<rect" ++ attribute_text (codes "width") (decimal width) ++ attribute_text (codes "height") (decimal height)
     ++ codes " fill=\"#ffffff\"/>\n"
 
--- what stands before the shapes
+-- what stands before the strip
 abbrev pub opening_text : Picture → List ℕ
 opening_text p = size_text p.width p.height ++ title_text p.title p.description ++ paper_text p.width p.height
 
+-- the strip, which only views show
+abbrev pub strip_text : List Figure → List ℕ
+strip_text strip = codes "<defs>\n<g id=\"strip\">\n" ++ figures_text strip ++ codes "</g>\n</defs>\n"
+
 -- the text of a picture
 abbrev pub svg_text : Picture → List ℕ
-svg_text p = opening_text p ++ flat_map figure_text p.figures ++ codes "</svg>\n"
+svg_text p = opening_text p ++ strip_text p.strip ++ figures_text p.figures ++ codes "</svg>\n"
 
 -- a label that would end its element
 escaped_label : escaped (codes "<a & \"b\">") ≡ codes "&lt;a &amp; &quot;b&quot;&gt;"

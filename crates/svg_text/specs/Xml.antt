@@ -6,7 +6,7 @@ use Rattle.std.specs.List.{flat_map}
 use Rattle.svg_text.specs.declared.paint.Paint.{Paint}
 use Rattle.svg_text.specs.declared.paint.Paint.TheVariants.{Paper, Frame, Ink, Title, DarkLetter, LightLetter, Faint, Edge, Broken, Thick}
 use Rattle.svg_text.specs.declared.paint.Paint.TheVariants.{Cross, Mark, Pale}
-use Rattle.svg_text.specs.Figures.{Figure, Rect, Titled, Line, Dot, Tip, Text, Picture}
+use Rattle.svg_text.specs.Figures.{Figure, Rect, Titled, Line, Dot, Tip, Text, View, Picture}
 use Rattle.svg_text.specs.Svg.{escaped, attribute_text, code_of, anchor_name, view_box, point}
 
 -- an attribute of an element
@@ -174,6 +174,10 @@ figure_node (Tip x y x1 y1 x2 y2) =
 figure_node (Text x y anchor paint text) =
     Element (codes "text") (number (codes "x") x ∷ number (codes "y") y ∷ attribute (codes "text-anchor") (anchor_name anchor)
     ∷ paint_attributes paint) (nodes (Words text ∷ []))
+figure_node (View x y width height left) =
+    Element (codes "svg") (number (codes "x") x ∷ number (codes "y") y ∷ number (codes "width") width
+    ∷ number (codes "height") height ∷ attribute (codes "viewBox") (view_box left width height) ∷ [])
+    (nodes (Element (codes "use") (attribute (codes "href") (codes "#strip") ∷ []) End ∷ []))
 
 abbrev pub line_end : Node
 line_end = Words (codes "\n")
@@ -189,20 +193,26 @@ abbrev pub paper_node : (width height : ℕ) → Node
 paper_node width height =
     Element (codes "rect") (number (codes "width") width ∷ number (codes "height") height ∷ fill (codes "#ffffff") ∷ []) End
 
+abbrev pub strip_node : List Figure → Node
+strip_node strip =
+    Element (codes "defs") []
+    (nodes (line_end ∷ Element (codes "g") (attribute (codes "id") (codes "strip") ∷ []) (nodes (line_end ∷ flat_map figure_line strip))
+    ∷ line_end ∷ []))
+
 abbrev pub svg_attributes : (width height : ℕ) → List Attribute
 svg_attributes width height =
-    attribute (codes "xmlns") (codes "http://www.w3.org/2000/svg") ∷ attribute (codes "viewBox") (view_box width height)
+    attribute (codes "xmlns") (codes "http://www.w3.org/2000/svg") ∷ attribute (codes "viewBox") (view_box 0 width height)
     ∷ number (codes "width") width ∷ number (codes "height") height ∷ attribute (codes "role") (codes "img")
     ∷ attribute (codes "aria-labelledby") (codes "title description") ∷ attribute (codes "font-family") (codes "monospace")
     ∷ attribute (codes "font-size") (codes "13") ∷ []
 
--- the tree of a picture: its title, its description, its paper and its shapes, each on a line of its own
+-- the tree of a picture: its title, its description, its paper, its strip and its shapes, each on a line of its own
 abbrev pub svg_node : Picture → Node
 svg_node p =
     Element (codes "svg") (svg_attributes p.width p.height)
     (nodes (line_end ∷ titled (codes "title") (codes "title") p.title ∷ line_end
     ∷ titled (codes "desc") (codes "description") p.description ∷ line_end
-    ∷ paper_node p.width p.height ∷ line_end ∷ flat_map figure_line p.figures))
+    ∷ paper_node p.width p.height ∷ line_end ∷ strip_node p.strip ∷ line_end ∷ flat_map figure_line p.figures))
 
 -- rows
 tree_of_words : node_text (Element (codes "a") (attribute (codes "b")

@@ -92,6 +92,19 @@ pub enum Shape {
         /// The text, not escaped.
         text: Vec<u8>,
     },
+    /// A part of the strip, from its top.
+    View {
+        /// Its left in the picture.
+        x: u64,
+        /// Its top in the picture.
+        y: u64,
+        /// Its width.
+        width: u64,
+        /// Its height.
+        height: u64,
+        /// Where it begins in the strip, from the left.
+        left: u64,
+    },
 }
 
 /// A picture.
@@ -105,6 +118,8 @@ pub struct Drawing {
     pub title: Vec<u8>,
     /// Its description.
     pub description: Vec<u8>,
+    /// What its views show parts of, from the lowest shape on.
+    pub strip: Vec<Shape>,
     /// Its shapes, from the lowest on.
     pub shapes: Vec<Shape>,
 }

@@ -1,13 +1,13 @@
 //! The text of shapes: an SVG.
 
-ghost use Rattle.std.specs.Prelude.{◌≡◌, ◌++◌, IfOk, OnOk, codes};
+ghost use Rattle.std.specs.Prelude.{◌≡◌, ◌++◌, IfOk, OnOk, codes, map};
 ghost use Rattle.std.specs.Fmt.{decimal};
 ghost use Rattle.svg_text.specs.Figures.{figure, picture};
 ghost use Rattle.svg_text.specs.Svg.{code_of, escaped_byte, escaped, attribute_text, anchor_name, attributes_of};
 ghost use Rattle.svg_text.specs.Svg.{content_text, point, open_rect_text, rect_text};
 ghost use Rattle.svg_text.specs.Svg.{titled_content, titled_text, line_text, dot_text, tip_text, label_text};
-ghost use Rattle.svg_text.specs.Svg.{figure_text, manner_text, view_box, size_text, title_text, paper_text};
-ghost use Rattle.svg_text.specs.Svg.{opening_text, svg_text};
+ghost use Rattle.svg_text.specs.Svg.{view_box, view_text, figure_text, figures_text, manner_text, size_text};
+ghost use Rattle.svg_text.specs.Svg.{title_text, paper_text, opening_text, strip_text, svg_text};
 
 use crate::paint::{Colour, Paint};
 use crate::shape::{Anchor, Drawing, Shape};
@@ -53,14 +53,36 @@ pub fn svg_of(alloc: Global, drawing: &Drawing) -> Result<Vec<u8>, AllocError>
 {
     let mut svg = Vec::new(alloc);
     push_opening(&mut svg, drawing)?;
-    for shape in &drawing.shapes {
-        push_shape(&mut svg, shape)?;
-    }
+    push_strip(&mut svg, &drawing.strip)?;
+    push_shapes(&mut svg, &drawing.shapes)?;
     push_words(&mut svg, "</svg>\n")?;
     Ok(svg)
 }
 
-/// Adds what stands before the shapes: the size, the title, the description, and the white paper.
+/// Adds the texts of shapes.
+///
+/// An `Err` says that memory was refused.
+fn push_shapes(svg: &mut Vec<u8>, shapes: &[Shape]) -> Result<(), AllocError>
+    ensures { OnOk result (svg.new.items ≡ svg.old.items ++ figures_text (map figure shapes.now)) }
+{
+    for shape in shapes {
+        push_shape(svg, shape)?;
+    }
+    Ok(())
+}
+
+/// Adds the strip.
+///
+/// An `Err` says that memory was refused.
+fn push_strip(svg: &mut Vec<u8>, strip: &[Shape]) -> Result<(), AllocError>
+    ensures { OnOk result (svg.new.items ≡ svg.old.items ++ strip_text (map figure strip.now)) }
+{
+    push_words(svg, "<defs>\n<g id=\"strip\">\n")?;
+    push_shapes(svg, strip)?;
+    push_words(svg, "</g>\n</defs>\n")
+}
+
+/// Adds what stands before the strip: the size, the title, the description, and the white paper.
 ///
 /// An `Err` says that memory was refused.
 fn push_opening(svg: &mut Vec<u8>, drawing: &Drawing) -> Result<(), AllocError>
@@ -78,20 +100,20 @@ fn push_size(svg: &mut Vec<u8>, width: u64, height: u64) -> Result<(), AllocErro
     ensures { OnOk result (svg.new.items ≡ svg.old.items ++ size_text width height) }
 {
     push_words(svg, "<svg xmlns=\"http://www.w3.org/2000/svg\"")?;
-    push_view_box(svg, width, height)?;
+    push_view_box(svg, 0, width, height)?;
     push_attribute(svg, "width", width)?;
     push_attribute(svg, "height", height)?;
     push_manner(svg)
 }
 
-/// Adds the part of the plane that a picture shows: all of it.
+/// Adds the part of the plane that is shown.
 ///
 /// An `Err` says that memory was refused.
-fn push_view_box(svg: &mut Vec<u8>, width: u64, height: u64) -> Result<(), AllocError>
+fn push_view_box(svg: &mut Vec<u8>, left: u64, width: u64, height: u64) -> Result<(), AllocError>
     ensures { OnOk result (svg.new.items ≡ svg.old.items
-        ++ attribute_text (codes "viewBox") (view_box width height)) }
+        ++ attribute_text (codes "viewBox") (view_box left width height)) }
 {
-    write!(svg, " viewBox=\"0 0 {width} {height}\"").map_err(|_| AllocError)
+    write!(svg, " viewBox=\"{left} 0 {width} {height}\"").map_err(|_| AllocError)
 }
 
 /// Adds what a picture is, and what its texts are.
@@ -192,6 +214,13 @@ fn push_shape(svg: &mut Vec<u8>, shape: &Shape) -> Result<(), AllocError>
             paint,
             text,
         } => push_label(svg, *x, *y, *anchor, *paint, text),
+        Shape::View {
+            x,
+            y,
+            width,
+            height,
+            left,
+        } => push_view(svg, *x, *y, *width, *height, *left),
     }
 }
 
@@ -347,6 +376,28 @@ fn push_label(
     push_anchor(svg, anchor)?;
     push_paint(svg, paint)?;
     push_content(svg, text)
+}
+
+/// Adds a part of the strip.
+///
+/// An `Err` says that memory was refused.
+fn push_view(
+    svg: &mut Vec<u8>,
+    x: u64,
+    y: u64,
+    width: u64,
+    height: u64,
+    left: u64,
+) -> Result<(), AllocError>
+    ensures { OnOk result (svg.new.items ≡ svg.old.items ++ view_text x y width height left) }
+{
+    push_words(svg, "<svg")?;
+    push_attribute(svg, "x", x)?;
+    push_attribute(svg, "y", y)?;
+    push_attribute(svg, "width", width)?;
+    push_attribute(svg, "height", height)?;
+    push_view_box(svg, left, width, height)?;
+    push_words(svg, "><use href=\"#strip\"/></svg>\n")
 }
 
 /// Adds which part of a text stands at its place.

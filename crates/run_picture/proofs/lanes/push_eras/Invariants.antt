@@ -10,5 +10,5 @@ abbrev pub invariant-loop-place : goal.invariant-loop-place
 invariant-loop-place l = record {
   small : l.left < 2 ^ 40;
   rest : map figure l.shapes.items ++ era_lanes (places_shown l.axis) l.lanes l.left l.named (map era_shown (drop l.place l.eras))
-      ≡ map figure l.initial.shapes.items ++ era_lanes (places_shown l.axis) l.lanes 44 0 (map era_shown l.eras);
+      ≡ map figure l.initial.shapes.items ++ era_lanes (places_shown l.axis) l.lanes 40 64 (map era_shown l.eras);
 }

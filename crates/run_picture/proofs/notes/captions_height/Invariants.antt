@@ -7,5 +7,5 @@ use Rattle.run_picture.proofs.notes.captions_height.Given as goal
 abbrev pub invariant-loop-place : goal.invariant-loop-place
 invariant-loop-place l = record {
   small : l.height ≤ l.place * 4000;
-  rest : l.height + captions_height (places_shown l.axis) l.width l.place (drop l.place l.remarks) ≡ captions_height (places_shown l.axis) l.width 0 l.remarks;
+  rest : l.height + captions_height (places_shown l.axis) l.row l.width l.place (drop l.place l.remarks) ≡ captions_height (places_shown l.axis) l.row l.width 0 l.remarks;
 }

@@ -8,5 +8,5 @@ use Rattle.run_picture.proofs.notes.push_marks.Given as goal
 -- the refusals so far, and those from here on
 abbrev pub invariant-loop-place : goal.invariant-loop-place
 invariant-loop-place l =
-    map figure l.shapes.items ++ refusals_from (places_shown l.axis) l.lanes l.place (map told_shown (drop l.place l.told))
-    ≡ map figure l.initial.shapes.items ++ refusals_from (places_shown l.axis) l.lanes 0 (map told_shown l.told)
+    map figure l.shapes.items ++ refusals_from (places_shown l.axis) l.place (map told_shown (drop l.place l.told))
+    ≡ map figure l.initial.shapes.items ++ refusals_from (places_shown l.axis) 0 (map told_shown l.told)
