@@ -22,6 +22,12 @@ JSON.stringify({
 })
 """
 
+# The cells of the table's rows, without the sentences.
+ROWS = """
+JSON.stringify([...document.querySelectorAll("table.rows tr")].slice(1)
+  .map((row) => [0, 1, 2, 3, 5, 6].map((k) => row.cells[k].textContent.trim())))
+"""
+
 
 class Browser:
     """A headless Chromium, spoken to by its pipe."""
@@ -84,12 +90,24 @@ class Browser:
         while not any(map(has_loaded, self.events)):
             self.events.append(self.take())
 
-    def shown(self):
-        """What the page shows."""
-        result = self.ask("Runtime.evaluate", {"expression": SHOWN, "returnByValue": True})
+    def found(self, expression):
+        """What is found in the page."""
+        result = self.ask("Runtime.evaluate", {"expression": expression, "returnByValue": True})
         if "exceptionDetails" in result:
             sys.exit(f"the page shows nothing: {result['exceptionDetails']}")
         return json.loads(result["result"]["value"])
+
+    def shown(self):
+        """What the page shows."""
+        return self.found(SHOWN)
+
+    def rows(self, page):
+        """The rows of the table that a page shows where no script runs."""
+        self.ask("Emulation.setScriptExecutionDisabled", {"value": True})
+        self.open(page, 0)
+        rows = self.found(ROWS)
+        self.ask("Emulation.setScriptExecutionDisabled", {"value": False})
+        return rows
 
     def press(self, key):
         """Presses a key."""
@@ -145,6 +163,24 @@ def wanted(lines, event):
     return {"arrays": arrays, "cells": cells}
 
 
+def wanted_rows(lines):
+    """The rows that a page has to show where no script runs: empty ones for what is no event."""
+    def counted(count, one):
+        return f"{count} {one}" if count == 1 else f"{count} {one}s"
+    def row(line):
+        if "event" not in line:
+            return [""] * 6
+        if line["what"] in ("trim", "reshape"):
+            return [str(line["event"])] + [""] * 5
+        changed = "\n".join(f"{change['place']}: {change['before']} -> {change['after']}" for change in line["changes"])
+        stage = ""
+        if line["what"] == "step":
+            reply = "" if line["reply"] is None else f", reply {line['reply']}"
+            stage = f"{counted(line['steps'], 'step')}, {counted(line['turns'], 'turn')}{reply}"
+        return [str(line["event"]), f"P{line['process']}", line["call"], line.get("kind", ""), changed, stage]
+    return [row(line) for line in lines]
+
+
 def led_to(events, at, key):
     """The event that a key leads to."""
     last = len(events) - 1
@@ -174,12 +210,16 @@ def compare(browser, page, trace):
             differ += 1
             print(f"{os.path.basename(page)}: {what}: shows {got}\n    and not {want}")
 
+    rows = browser.rows(page)
+    check("how many rows", len(rows), len(lines))
+    for row, want in zip(rows, wanted_rows(lines)):
+        check(f"row {want[0]}", row, want)
     for event in sorted({0, last // 4, last // 2, 3 * last // 4, last}):
         browser.open(page, event)
         shown = browser.shown()
         for part, want in wanted(lines, event).items():
             check(f"event {event}, {part}", shown[part], want)
-        check(f"event {event}, sentence", shown["sentence"].split(":")[0], str(event))
+        check(f"event {event}, sentence", shown["sentence"].split(":")[0], f"{event}, line {events[event]['line']}")
         for key in ["ArrowDown", "ArrowUp", "n", "ArrowLeft", "ArrowRight", "Home", "n", "End"]:
             event = led_to(events, event, key)
             browser.press(key)

@@ -1,5 +1,5 @@
 -- What is observed of a run, by its frames.
-use Rattle.std.proofs.Common.{◌≡◌, ◌∙◌, ℕ, ◌+◌, ◌-◌, List, [], ◌∷◌, ◌++◌, take, drop, arith, false, refl, subst, sym, ap, append-nil, Option, Some, None, option_map, option_and_then}
+use Rattle.std.proofs.Common.{◌≡◌, ◌∙◌, ℕ, ◌+◌, ◌-◌, List, [], ◌∷◌, ◌++◌, take, drop, slice_get, arith, false, refl, subst, sym, ap, append-nil, Option, Some, None, option_map, option_and_then}
 use Rattle.std.proofs.lemmas.List.Concat.{flat_map-append}
 use Rattle.std.specs.List.{flat_map}
 use Rattle.std.specs.Option.{option_map_or}
@@ -29,24 +29,25 @@ use Rattle.run_history.specs.Lines.{act_line, history_text, history_wording, ope
 
 -- the line of a scene that there may be
 abbrev line_of_scene : Option Scene → List ℕ
-line_of_scene scene = event_text history_wording 0 scene
+line_of_scene scene = event_text history_wording 0 None scene
 
 -- nothing is told beside the events
 no_remarks : (remarks : List PlacedRemark) → flat_map history_wording.remark remarks ≡ []
 no_remarks [] = refl
 no_remarks (one ∷ remarks) = no_remarks remarks
 
-line_of_each : (k : ℕ) (frame : Option Scene) → event_text history_wording k frame ≡ line_of_scene frame
-line_of_each k None = refl
-line_of_each k (Some frame) = refl
+line_of_each : (k : ℕ) (line : Option ℕ) (frame : Option Scene) → event_text history_wording k line frame ≡ line_of_scene frame
+line_of_each k line None = refl
+line_of_each k line (Some frame) = refl
 
-lines_alone : (k : ℕ) (frames : List (Option Scene)) (remarks : List PlacedRemark) → told_from history_wording k frames remarks ≡ flat_map line_of_scene frames
-lines_alone k [] remarks = no_remarks remarks
-lines_alone k (frame ∷ frames) remarks =
+lines_alone : (lines : List ℕ) (k : ℕ) (frames : List (Option Scene)) (remarks : List PlacedRemark) → told_from history_wording lines k frames remarks ≡ flat_map line_of_scene frames
+lines_alone lines k [] remarks = no_remarks remarks
+lines_alone lines k (frame ∷ frames) remarks =
     let here = told_before k remarks in
-    let rest = told_from history_wording (k + 1) frames (drop here remarks) in
-    ap (λ l. l ++ event_text history_wording k frame ++ rest) (no_remarks (take here remarks))
-    ∙ ap (λ l. l ++ rest) (line_of_each k frame) ∙ ap (λ l. line_of_scene frame ++ l) (lines_alone (k + 1) frames (drop here remarks))
+    let line = slice_get lines k in
+    let rest = told_from history_wording lines (k + 1) frames (drop here remarks) in
+    ap (λ l. l ++ event_text history_wording k line frame ++ rest) (no_remarks (take here remarks))
+    ∙ ap (λ l. l ++ rest) (line_of_each k line frame) ∙ ap (λ l. line_of_scene frame ++ l) (lines_alone lines (k + 1) frames (drop here remarks))
 
 module _ {S I R : Type 0} (object : Sequential S I R) (l : Language I R) (text : S → List ℕ) where
   -- a step that answers tells the reply of its own call
@@ -87,17 +88,17 @@ module _ {S I R : Type 0} (object : Sequential S I R) (l : Language I R) (text :
       ∙ sym (flat_map-append (act_line l) (observed_at w e) (observed_in object (world_after object w e) events))
 
 -- the run of a script, told, is what is observed of it
-history_is : {S I R : Type 0} (o : SpokenObject S I R) (text : S → List ℕ) (name : List ℕ) (n row first : ℕ) (events : List (Event I)) (remarks : List PlacedRemark) → IsLinearizableRun o.object n first events
-    → text_of_events history_wording o text name n row first events remarks ≡ history_text o text name n first events
-history_is o text name n row first events remarks run =
+history_is : {S I R : Type 0} (o : SpokenObject S I R) (text : S → List ℕ) (name : List ℕ) (n row first : ℕ) (events : List (Event I)) (lines : List ℕ) (remarks : List PlacedRemark) → IsLinearizableRun o.object n first events
+    → text_of_events history_wording o text name n row first events lines remarks ≡ history_text o text name n first events
+history_is o text name n row first events lines remarks run =
     let w = opened_world n o.object.initial first in
     ap (λ lines. line_text (opening_members name n (text o.object.initial)) ++ lines)
-    (lines_alone 0 (scenes_from o.object o.language text false w events) remarks
+    (lines_alone lines 0 (scenes_from o.object o.language text false w events) remarks
     ∙ lines_are_observed o.object o.language text w events (Invariant-opened_world o.object n o.object.initial first run.positive) run.accepted)
 
 pub IsHistory-told : (left : Option (List ℕ)) (text : List ℕ) → IsTold history_wording left text → IsHistory left text
 IsHistory-told left text told =
     let b = told.session in record {
       told = told;
-      observed = told.text_is ∙ history_is (spoken_of b.object) (state_text_of b.object) (word_of_object b.object) b.session.processes b.session.row b.session.first b.session.events told.remarks told.linearizable;
+      observed = told.text_is ∙ history_is (spoken_of b.object) (state_text_of b.object) (word_of_object b.object) b.session.processes b.session.row b.session.first b.session.events told.lines told.remarks told.linearizable;
     }

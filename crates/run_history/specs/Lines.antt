@@ -63,7 +63,7 @@ observed_line (Ends e) = []
 -- a run, as a history; of what is told beside the events it tells nothing
 abbrev pub history_wording : Wording
 history_wording =
-    record { is_whole = false; opening = opening_line; event = λ k scene. observed_line scene.frame; remark = λ one. [] }
+    record { is_whole = false; opening = opening_line; event = λ k line scene. observed_line scene.frame; remark = λ one. [] }
 
 -- a call of process 1, with its reply
 abbrev sample_language : Language ℕ ℕ

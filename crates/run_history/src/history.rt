@@ -33,6 +33,7 @@ impl Telling for InHistory {
     fn push_scene(
         alloc: Global,
         _: u64,
+        _: Option<u64>,
         scene: &Scene,
         text: &mut Vec<u8>,
     ) -> Result<(), AllocError> {

@@ -1,5 +1,5 @@
 -- Lists and texts, piece by piece.
-use Rattle.std.proofs.Common.{◌≡◌, ◌∙◌, ℕ, ◌+◌, ◌<◌, List, [], ◌∷◌, ◌++◌, length, map, take, get_or, ap, sym, append_assoc, length-append, arith}
+use Rattle.std.proofs.Common.{◌≡◌, ◌∙◌, ℕ, Option, ◌+◌, ◌<◌, List, [], ◌∷◌, ◌++◌, length, map, take, get_or, ap, sym, append_assoc, length-append, arith}
 use Rattle.std.proofs.lemmas.List.{take_more, map-append}
 use Rattle.run_trace.specs.Frames.{Frame, Stepped, Begins, Steps, Ends}
 use Rattle.run_trace.specs.Scenes.{Scene}
@@ -20,37 +20,37 @@ map_more f g s old new xs i x y inside is before pushed same =
     ap (map f) pushed ∙ map-append f old (y ∷ []) ∙ ap (λ l. l ++ f y ∷ []) before ∙ ap (λ z. map g (map s (take i xs)) ++ z ∷ []) same ∙ sym more
 
 -- the members of a step, part by part
-step_start-some : (k : ℕ) (s : Stepped) → 0 < length (step_start k s)
+step_start-some : (k : ℕ) (line : Option ℕ) (s : Stepped) → 0 < length (step_start k line s)
 unfolding step_start
-step_start-some k s = omega arith
+step_start-some k line s = omega arith
 
-pub step_parts : (old start place call : List ℕ) (k : ℕ) (s : Stepped) → start ≡ old ++ separated (map member_text (step_start k s))
+pub step_parts : (old start place call : List ℕ) (k : ℕ) (line : Option ℕ) (s : Stepped) → start ≡ old ++ separated (map member_text (step_start k line s))
     → place ≡ start ++ flat_map after_comma (map member_text (step_place s)) → call ≡ place ++ flat_map after_comma (map member_text (step_call s))
-    → call ≡ old ++ separated (map member_text (step_members k s))
-step_parts old start place call k s is_start is_place is_call =
-    let first = separated (map member_text (step_start k s)) in
+    → call ≡ old ++ separated (map member_text (step_members k line s))
+step_parts old start place call k line s is_start is_place is_call =
+    let first = separated (map member_text (step_start k line s)) in
     let on_place = flat_map after_comma (map member_text (step_place s)) in
     let on_call = flat_map after_comma (map member_text (step_call s)) in
     let further : flat_map after_comma (map member_text (step_place s ++ step_call s)) ≡ on_place ++ on_call =
     ap (flat_map after_comma) (map-append member_text (step_place s) (step_call s)) ∙ flat_map-append after_comma (map member_text (step_place s)) (map member_text (step_call s)) in
     is_call ∙ ap (λ l. l ++ on_call) (is_place ∙ ap (λ l. l ++ on_place) is_start) ∙ append_assoc (old ++ first) on_place on_call ∙ append_assoc old first (on_place ++ on_call)
-    ∙ ap (λ l. old ++ l) (sym (members_more (step_start k s) (step_place s ++ step_call s) (step_start-some k s) ∙ ap (λ l. first ++ l) further))
+    ∙ ap (λ l. old ++ l) (sym (members_more (step_start k line s) (step_place s ++ step_call s) (step_start-some k line s) ∙ ap (λ l. first ++ l) further))
 
 -- the line of an event, its members and then the memory
-frame_members-some : (k : ℕ) (f : Frame) → 0 < length (frame_members k f)
-frame_members-some k (Begins b) = omega arith
-frame_members-some k (Steps s) = let some = step_start-some k s in omega (arith, length-append (step_start k s) (step_place s ++ step_call s))
-frame_members-some k (Ends e) = omega arith
+frame_members-some : (k : ℕ) (line : Option ℕ) (f : Frame) → 0 < length (frame_members k line f)
+frame_members-some k line (Begins b) = omega arith
+frame_members-some k line (Steps s) = let some = step_start-some k line s in omega (arith, length-append (step_start k line s) (step_place s ++ step_call s))
+frame_members-some k line (Ends e) = omega arith
 
 braces : (old first more : List ℕ) → (((old ++ 123 ∷ []) ++ first) ++ more) ++ (125 ∷ []) ++ (10 ∷ []) ≡ old ++ ((123 ∷ []) ++ (first ++ more) ++ (125 ∷ []) ++ (10 ∷ []))
 braces old first more = simp append_assoc
 
-pub scene_parts : (old opened framed told closed new : List ℕ) (k : ℕ) (s : Scene) → opened ≡ old ++ 123 ∷ [] → framed ≡ opened ++ separated (map member_text (frame_members k s.frame))
-    → told ≡ framed ++ flat_map after_comma (map member_text (memory_members s.memory)) → closed ≡ told ++ 125 ∷ [] → new ≡ closed ++ 10 ∷ [] → new ≡ old ++ scene_line k s
+pub scene_parts : (old opened framed told closed new : List ℕ) (k : ℕ) (line : Option ℕ) (s : Scene) → opened ≡ old ++ 123 ∷ [] → framed ≡ opened ++ separated (map member_text (frame_members k line s.frame))
+    → told ≡ framed ++ flat_map after_comma (map member_text (memory_members s.memory)) → closed ≡ told ++ 125 ∷ [] → new ≡ closed ++ 10 ∷ [] → new ≡ old ++ scene_line k line s
 unfolding object_text
-scene_parts old opened framed told closed new k s is_opened is_framed is_told is_closed is_new =
-    let first = separated (map member_text (frame_members k s.frame)) in
+scene_parts old opened framed told closed new k line s is_opened is_framed is_told is_closed is_new =
+    let first = separated (map member_text (frame_members k line s.frame)) in
     let more = flat_map after_comma (map member_text (memory_members s.memory)) in
-    let whole = members_more (frame_members k s.frame) (memory_members s.memory) (frame_members-some k s.frame) in
+    let whole = members_more (frame_members k line s.frame) (memory_members s.memory) (frame_members-some k line s.frame) in
     is_new ∙ ap (λ l. l ++ 10 ∷ []) (is_closed ∙ ap (λ l. l ++ 125 ∷ []) (is_told ∙ ap (λ l. l ++ more) (is_framed ∙ ap (λ l. l ++ first) is_opened)))
     ∙ braces old first more ∙ sym (ap (λ l. old ++ ((123 ∷ []) ++ l ++ (125 ∷ []) ++ (10 ∷ []))) whole)

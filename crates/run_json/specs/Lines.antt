@@ -1,5 +1,5 @@
 -- The lines of a trace.
-use Rattle.std.specs.Prelude.{ℕ, true, false, List, ◌++◌, codes}
+use Rattle.std.specs.Prelude.{ℕ, true, false, List, ◌++◌, Option, codes}
 use Rattle.json_text.specs.Json.{Member, object_text}
 use Rattle.uni_script.specs.declared.remarks.PlacedRemark.{PlacedRemark}
 use Rattle.run_trace.specs.Scenes.{Scene}
@@ -11,10 +11,10 @@ abbrev pub line_text : List Member → List ℕ
 line_text members = object_text members ++ codes "\n"
 
 abbrev pub remark_line : PlacedRemark → List ℕ
-remark_line one = line_text (remark_members one.before one.remark)
+remark_line one = line_text (remark_members one.line one.before one.remark)
 
-abbrev pub scene_line : (event : ℕ) → Scene → List ℕ
-scene_line k scene = line_text (scene_members k scene)
+abbrev pub scene_line : (event : ℕ) → (line : Option ℕ) → Scene → List ℕ
+scene_line k line scene = line_text (scene_members k line scene)
 
 -- a run, in lines of JSON
 abbrev pub json_wording : Wording

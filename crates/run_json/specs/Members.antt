@@ -48,21 +48,22 @@ proposed_text proposed = text_or_null (option_map (λ h. h.field.text) proposed)
 -- ---- events
 
 -- a call that begins
-abbrev pub begun_members : (event : ℕ) → Begun → List Member
-begun_members k b =
-    named (codes "what") (Text (codes "call")) ∷ named (codes "event") (Number k)
-    ∷ named (codes "process") (Number b.call.process) ∷ named (codes "call") (Text (cell_text (Some b.call)))
-    ∷ named (codes "words") (Text b.words) ∷ named (codes "place") (Text b.after.field.name)
+abbrev pub begun_members : (event : ℕ) → (line : Option ℕ) → Begun → List Member
+begun_members k line b =
+    named (codes "what") (Text (codes "call")) ∷ named (codes "line") (MaybeNumber line)
+    ∷ named (codes "event") (Number k) ∷ named (codes "process") (Number b.call.process)
+    ∷ named (codes "call") (Text (cell_text (Some b.call))) ∷ named (codes "words") (Text b.words)
+    ∷ named (codes "place") (Text b.after.field.name)
     ∷ named (codes "before") (Text b.before.field.text) ∷ named (codes "after") (Text b.after.field.text)
     ∷ named (codes "changed") (is_changed b.before b.after) ∷ named (codes "changes") (changes_json b.before b.after) ∷ []
 
 -- a step: first what was done, in which call
-unfoldable pub step_start : (event : ℕ) → Stepped → List Member
-step_start k s =
-    named (codes "what") (Text (codes "step")) ∷ named (codes "event") (Number k)
-    ∷ named (codes "process") (Number s.call.process) ∷ named (codes "call") (Text (cell_text (Some s.call)))
-    ∷ named (codes "kind") (Text (letter_text s.kind)) ∷ named (codes "meaning") (Text (meaning_of s.kind))
-    ∷ named (codes "access") (Text (access_of s.kind)) ∷ []
+unfoldable pub step_start : (event : ℕ) → (line : Option ℕ) → Stepped → List Member
+step_start k line s =
+    named (codes "what") (Text (codes "step")) ∷ named (codes "line") (MaybeNumber line)
+    ∷ named (codes "event") (Number k) ∷ named (codes "process") (Number s.call.process)
+    ∷ named (codes "call") (Text (cell_text (Some s.call))) ∷ named (codes "kind") (Text (letter_text s.kind))
+    ∷ named (codes "meaning") (Text (meaning_of s.kind)) ∷ named (codes "access") (Text (access_of s.kind)) ∷ []
 
 -- then what became of its place
 unfoldable pub step_place : Stepped → List Member
@@ -77,8 +78,8 @@ step_call s =
     named (codes "next") (Json (text_or_null (option_map letter_text s.next))) ∷ named (codes "steps") (Number s.steps)
     ∷ named (codes "turns") (Number s.turns) ∷ named (codes "reply") (Json (text_or_null s.reply)) ∷ []
 
-abbrev pub step_members : (event : ℕ) → Stepped → List Member
-step_members k s = step_start k s ++ (step_place s ++ step_call s)
+abbrev pub step_members : (event : ℕ) → (line : Option ℕ) → Stepped → List Member
+step_members k line s = step_start k line s ++ (step_place s ++ step_call s)
 
 -- how an era ends
 abbrev pub end_word : Option ℕ → List ℕ
@@ -86,16 +87,16 @@ end_word None = codes "trim"
 end_word (Some processes) = codes "reshape"
 
 -- the end of an era
-abbrev pub end_members : (event : ℕ) → Ended → List Member
-end_members k e =
-    named (codes "what") (Text (end_word e.reshaped)) ∷ named (codes "event") (Number k)
-    ∷ named (codes "processes") (MaybeNumber e.reshaped) ∷ named (codes "number") (Number e.number)
+abbrev pub end_members : (event : ℕ) → (line : Option ℕ) → Ended → List Member
+end_members k line e =
+    named (codes "what") (Text (end_word e.reshaped)) ∷ named (codes "line") (MaybeNumber line)
+    ∷ named (codes "event") (Number k) ∷ named (codes "processes") (MaybeNumber e.reshaped) ∷ named (codes "number") (Number e.number)
     ∷ named (codes "state") (Text e.anchor.field.text) ∷ []
 
-abbrev pub frame_members : (event : ℕ) → Frame → List Member
-frame_members k (Begins b) = begun_members k b
-frame_members k (Steps s) = step_members k s
-frame_members k (Ends e) = end_members k e
+abbrev pub frame_members : (event : ℕ) → (line : Option ℕ) → Frame → List Member
+frame_members k line (Begins b) = begun_members k line b
+frame_members k line (Steps s) = step_members k line s
+frame_members k line (Ends e) = end_members k line e
 
 -- ---- the whole memory
 
@@ -118,32 +119,33 @@ memory_members None = []
 memory_members (Some memory) = named (codes "memory") (Json (memory_text memory)) ∷ []
 
 -- an event, and the whole memory after it where that is told
-abbrev pub scene_members : (event : ℕ) → Scene → List Member
-scene_members k s = frame_members k s.frame ++ memory_members s.memory
+abbrev pub scene_members : (event : ℕ) → (line : Option ℕ) → Scene → List Member
+scene_members k line s = frame_members k line s.frame ++ memory_members s.memory
 
 -- ---- what is told beside the events
 
--- a note, with how many events came before it
-abbrev pub note_members : (what : List ℕ) (events : ℕ) (text : List ℕ) → List Member
-note_members what k text =
-    named (codes "what") (Text what) ∷ named (codes "events") (Number k) ∷ named (codes "text") (Text text) ∷ []
+-- a note, with its line, and with how many events came before it
+abbrev pub note_members : (what : List ℕ) (line events : ℕ) (text : List ℕ) → List Member
+note_members what line k text =
+    named (codes "what") (Text what) ∷ named (codes "line") (Number line) ∷ named (codes "events") (Number k)
+    ∷ named (codes "text") (Text text) ∷ []
 
 -- a refusal, with the process of which it is, and why
-abbrev pub refusal_members : (events : ℕ) → Refusal → List Member
-refusal_members k refusal =
-    named (codes "what") (Text (codes "refusal")) ∷ named (codes "events") (Number k)
+abbrev pub refusal_members : (line events : ℕ) → Refusal → List Member
+refusal_members line k refusal =
+    named (codes "what") (Text (codes "refusal")) ∷ named (codes "line") (Number line) ∷ named (codes "events") (Number k)
     ∷ named (codes "process") (MaybeNumber (lane_of refusal)) ∷ named (codes "reason") (Text (refusal_words refusal)) ∷ []
 
-abbrev pub remark_members : (events : ℕ) → Remark → List Member
-remark_members k (Heading text) = note_members (codes "heading") k text.items
-remark_members k (Note text) = note_members (codes "note") k text.items
-remark_members k (Refused refusal) = refusal_members k refusal
+abbrev pub remark_members : (line events : ℕ) → Remark → List Member
+remark_members line k (Heading text) = note_members (codes "heading") line k text.items
+remark_members line k (Note text) = note_members (codes "note") line k text.items
+remark_members line k (Refused refusal) = refusal_members line k refusal
 
 -- ---- the run
 
 abbrev pub opening_members : Opening → List Member
 opening_members o =
-    named (codes "what") (Text (codes "run")) ∷ named (codes "trace") (Number 1) ∷ named (codes "object") (Text o.object)
+    named (codes "what") (Text (codes "run")) ∷ named (codes "trace") (Number 2) ∷ named (codes "object") (Text o.object)
     ∷ named (codes "processes") (Number o.processes) ∷ named (codes "row") (Number o.row)
     ∷ named (codes "number") (Number o.number) ∷ named (codes "state") (Text o.state) ∷ []
 

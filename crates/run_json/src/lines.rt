@@ -40,7 +40,7 @@ pub(crate) fn push_opening_line(text: &mut Vec<u8>, opened: &Opened<'_>) -> Resu
 {
     let members = [
         Member("what", Value::Text(b"run")),
-        Member("trace", Value::Number(1)),
+        Member("trace", Value::Number(2)),
         Member("object", Value::Text(opened.object.as_bytes())),
         Member("processes", Value::Number(opened.processes)),
         Member("row", Value::Number(opened.row)),
@@ -56,13 +56,14 @@ pub(crate) fn push_opening_line(text: &mut Vec<u8>, opened: &Opened<'_>) -> Resu
 pub(crate) fn push_scene_line(
     alloc: Global,
     event: u64,
+    line: Option<u64>,
     scene: &Scene,
     text: &mut Vec<u8>,
 ) -> Result<(), AllocError>
-    ensures { OnOk result (text.new.items ≡ text.old.items ++ scene_line event (scene_shown scene.now)) }
+    ensures { OnOk result (text.new.items ≡ text.old.items ++ scene_line event line (scene_shown scene.now)) }
 {
     text.push(b'{')?;
-    push_frame(alloc, event, &scene.frame, text)?;
+    push_frame(alloc, event, line, &scene.frame, text)?;
     push_memory(alloc, &scene.memory, text)?;
     text.push(b'}')?;
     text.push(b'\n')?;
@@ -75,16 +76,17 @@ pub(crate) fn push_scene_line(
 fn push_frame(
     alloc: Global,
     event: u64,
+    line: Option<u64>,
     frame: &Frame,
     text: &mut Vec<u8>,
 ) -> Result<(), AllocError>
     ensures { OnOk result (text.new.items
-        ≡ text.old.items ++ separated (map member_text (frame_members event (frame_shown frame.now)))) }
+        ≡ text.old.items ++ separated (map member_text (frame_members event line (frame_shown frame.now)))) }
 {
     match frame {
-        Frame::Call(begun) => push_begun(alloc, event, begun, text),
-        Frame::Step(step) => push_step(alloc, event, step, text),
-        Frame::End(end) => push_end(event, end, text),
+        Frame::Call(begun) => push_begun(alloc, event, line, begun, text),
+        Frame::Step(step) => push_step(alloc, event, line, step, text),
+        Frame::End(end) => push_end(event, line, end, text),
     }
 }
 
@@ -94,16 +96,18 @@ fn push_frame(
 fn push_begun(
     alloc: Global,
     event: u64,
+    line: Option<u64>,
     begun: &Begun,
     text: &mut Vec<u8>,
 ) -> Result<(), AllocError>
     ensures { OnOk result (text.new.items
-        ≡ text.old.items ++ separated (map member_text (begun_members event (begun_shown begun.now)))) }
+        ≡ text.old.items ++ separated (map member_text (begun_members event line (begun_shown begun.now)))) }
 {
     let call = cell_text(alloc, Some(begun.call))?;
     let changed = change_list(alloc, &begun.before, &begun.after)?;
     let members = [
         Member("what", Value::Text(b"call")),
+        Member("line", Value::MaybeNumber(line)),
         Member("event", Value::Number(event)),
         Member("process", Value::Number(u64::from(begun.call.process))),
         Member("call", Value::Text(&call)),
@@ -120,11 +124,17 @@ fn push_begun(
 /// Adds the members of a step.
 ///
 /// An `Err` says that memory was refused.
-fn push_step(alloc: Global, event: u64, step: &Step, text: &mut Vec<u8>) -> Result<(), AllocError>
+fn push_step(
+    alloc: Global,
+    event: u64,
+    line: Option<u64>,
+    step: &Step,
+    text: &mut Vec<u8>,
+) -> Result<(), AllocError>
     ensures { OnOk result (text.new.items
-        ≡ text.old.items ++ separated (map member_text (step_members event (step_shown step.now)))) }
+        ≡ text.old.items ++ separated (map member_text (step_members event line (step_shown step.now)))) }
 {
-    push_step_start(alloc, event, step, text)?;
+    push_step_start(alloc, event, line, step, text)?;
     push_step_place(alloc, step, text)?;
     push_step_call(alloc, step, text)
 }
@@ -135,16 +145,18 @@ fn push_step(alloc: Global, event: u64, step: &Step, text: &mut Vec<u8>) -> Resu
 fn push_step_start(
     alloc: Global,
     event: u64,
+    line: Option<u64>,
     step: &Step,
     text: &mut Vec<u8>,
 ) -> Result<(), AllocError>
     ensures { OnOk result (text.new.items
-        ≡ text.old.items ++ separated (map member_text (step_start event (step_shown step.now)))) }
+        ≡ text.old.items ++ separated (map member_text (step_start event line (step_shown step.now)))) }
 {
     let call = cell_text(alloc, Some(step.call))?;
     let kind = letter_text(alloc, step.kind)?;
     let members = [
         Member("what", Value::Text(b"step")),
+        Member("line", Value::MaybeNumber(line)),
         Member("event", Value::Number(event)),
         Member("process", Value::Number(u64::from(step.call.process))),
         Member("call", Value::Text(&call)),
@@ -206,12 +218,18 @@ fn end_word(reshaped: Option<u64>) -> &'static str
 /// Adds the members of the end of an era.
 ///
 /// An `Err` says that memory was refused.
-fn push_end(event: u64, end: &EraEnd, text: &mut Vec<u8>) -> Result<(), AllocError>
+fn push_end(
+    event: u64,
+    line: Option<u64>,
+    end: &EraEnd,
+    text: &mut Vec<u8>,
+) -> Result<(), AllocError>
     ensures { OnOk result (text.new.items
-        ≡ text.old.items ++ separated (map member_text (end_members event (end_shown end.now)))) }
+        ≡ text.old.items ++ separated (map member_text (end_members event line (end_shown end.now)))) }
 {
     let members = [
         Member("what", Value::Text(end_word(end.reshaped).as_bytes())),
+        Member("line", Value::MaybeNumber(line)),
         Member("event", Value::Number(event)),
         Member("processes", Value::MaybeNumber(end.reshaped)),
         Member("number", Value::Number(end.number)),
@@ -231,45 +249,50 @@ pub(crate) fn push_remark_line(
     ensures { OnOk result (text.new.items ≡ text.old.items ++ remark_line one.now) }
 {
     match &one.remark {
-        Remark::Heading(heading) => push_note("heading", one.before, heading, text),
-        Remark::Note(note) => push_note("note", one.before, note, text),
-        Remark::Refused(refusal) => push_refusal(alloc, one.before, *refusal, text),
+        Remark::Heading(heading) => push_note("heading", one.line, one.before, heading, text),
+        Remark::Note(note) => push_note("note", one.line, one.before, note, text),
+        Remark::Refused(refusal) => push_refusal(alloc, one.line, one.before, *refusal, text),
     }
 }
 
-/// Adds the line of a note after so many events.
+/// Adds the line of a note that stands on this line of the script, after so many events.
 ///
 /// An `Err` says that memory was refused.
 fn push_note<'a>(
     what: &'a str,
+    line: u64,
     events: u64,
     note: &'a [u8],
     text: &mut Vec<u8>,
 ) -> Result<(), AllocError>
-    ensures { OnOk result (text.new.items ≡ text.old.items ++ line_text (note_members what.now events note.now)) }
+    ensures { OnOk result (text.new.items
+        ≡ text.old.items ++ line_text (note_members what.now line events note.now)) }
 {
     let members = [
         Member("what", Value::Text(what.as_bytes())),
+        Member("line", Value::Number(line)),
         Member("events", Value::Number(events)),
         Member("text", Value::Text(note)),
     ];
     push_line(text, &members)
 }
 
-/// Adds the line of a refusal after so many events.
+/// Adds the line of a refusal to this line of the script, after so many events.
 ///
 /// An `Err` says that memory was refused.
 fn push_refusal(
     alloc: Global,
+    line: u64,
     events: u64,
     refusal: Refusal,
     text: &mut Vec<u8>,
 ) -> Result<(), AllocError>
-    ensures { OnOk result (text.new.items ≡ text.old.items ++ line_text (refusal_members events refusal)) }
+    ensures { OnOk result (text.new.items ≡ text.old.items ++ line_text (refusal_members line events refusal)) }
 {
     let reason = refusal_of(alloc, refusal)?;
     let members = [
         Member("what", Value::Text(b"refusal")),
+        Member("line", Value::Number(line)),
         Member("events", Value::Number(events)),
         Member("process", Value::MaybeNumber(lane_of(refusal))),
         Member("reason", Value::Text(&reason)),

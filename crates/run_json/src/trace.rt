@@ -33,10 +33,11 @@ impl Telling for InJson {
     fn push_scene(
         alloc: Global,
         event: u64,
+        line: Option<u64>,
         scene: &Scene,
         text: &mut Vec<u8>,
     ) -> Result<(), AllocError> {
-        push_scene_line(alloc, event, scene, text)
+        push_scene_line(alloc, event, line, scene, text)
     }
 
     fn push_remark(
@@ -71,10 +72,11 @@ impl Telling for InWholeJson {
     fn push_scene(
         alloc: Global,
         event: u64,
+        line: Option<u64>,
         scene: &Scene,
         text: &mut Vec<u8>,
     ) -> Result<(), AllocError> {
-        InJson::push_scene(alloc, event, scene, text)
+        InJson::push_scene(alloc, event, line, scene, text)
     }
 
     fn push_remark(

@@ -77,7 +77,7 @@ labels_of remarks = labels_from 0 remarks
 
 -- two equal refusals have one label, and one of another process has its own
 abbrev idle : (process : ℕ) → PlacedRemark
-idle process = record { before = 3; remark = Refused (Idle process) }
+idle process = record { line = 7; before = 3; remark = Refused (Idle process) }
 
 labels_of_three : labels_of (idle 0 ∷ idle 0 ∷ idle 1 ∷ [])
     ≡ record { before = 3; text = None }

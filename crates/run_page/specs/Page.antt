@@ -1,8 +1,12 @@
 -- The page of a script.
 use Rattle.std.specs.Prelude.{◌≡◌, ◌≢◌, ℕ, ◌==◌, if◌then◌else◌, List, [], ◌∷◌, ◌++◌, Option, codes, refl}
 use Rattle.std.specs.List.{flat_map}
-use Rattle.run_json.specs.Trace.{IsTrace}
-use Rattle.run_page.specs.declared.viewer.TheConstants.{START, END}
+use Rattle.uni_script.specs.Scripts.{ScriptSession}
+use Rattle.uni_script.specs.declared.remarks.PlacedRemark.{PlacedRemark}
+use Rattle.run_telling.specs.Told.{IsToldBy, text_of_session}
+use Rattle.run_json.specs.Lines.{json_wording}
+use Rattle.run_page.specs.Rows.{rows_wording}
+use Rattle.run_page.specs.declared.viewer.TheConstants.{START, MIDDLE, END}
 
 -- a byte of a trace as it stands in a page: `<` and `&`, which JSON has in strings alone, by their codes
 abbrev pub escaped_byte : ℕ → List ℕ
@@ -16,19 +20,18 @@ pub record IsPlain (b : ℕ) : Type 0 where
   pub no_element : b ≢ 60
   pub no_name : b ≢ 38
 
--- a trace between two fixed texts
-unfoldable pub page_text : (start end trace : List ℕ) → List ℕ
-page_text start end trace = start ++ escaped trace ++ end
+-- the rows of a table and a trace between three texts
+unfoldable pub page_text : (start rows middle trace end : List ℕ) → List ℕ
+page_text start rows middle trace end = start ++ rows ++ middle ++ escaped trace ++ end
 
--- the reader had a script that can be told, and this is its trace between these texts
-pub record IsPageBetween (start end : List ℕ) (left : Option (List ℕ)) (text : List ℕ) : Type 0 where
-  pub trace : List ℕ
-  pub is_trace : IsTrace left trace
-  pub text_is : text ≡ page_text start end trace
+-- those of the session which a script leaves, with the script's lines that stored its events, and what it tells beside them
+abbrev pub page_between : (start middle end : List ℕ) → ScriptSession → (lines : List ℕ) → List PlacedRemark → List ℕ
+page_between start middle end b lines remarks =
+    page_text start (text_of_session rows_wording b lines remarks) middle (text_of_session json_wording b lines remarks) end
 
--- the same between the fixed texts
+-- the reader had a script that can be told, and this is its run, in rows and in lines of JSON between the fixed texts
 unfoldable pub IsPage : (left : Option (List ℕ)) (text : List ℕ) → Type 0
-IsPage left text = IsPageBetween START.now END.now left text
+IsPage left text = IsToldBy (page_between START.now MIDDLE.now END.now) left text
 
 escaped_note : escaped (codes "a</script>&") ≡ codes "a\\u003c/script>\\u0026"
 escaped_note = refl

@@ -1,17 +1,22 @@
 //! From the bytes of a script to the page that shows its run.
 
-ghost use Rattle.std.specs.Prelude.{◌≡◌, ◌++◌, IfOk, OnOk, IsErrOf, false};
+ghost use Rattle.std.specs.Prelude.{◌≡◌, ◌<◌, ◌≤◌, ◌++◌, IfOk, OnOk, IsErrOf, false};
 ghost use Rattle.uni_script.specs.Replay.{HasFault, IsFaultOfScript};
 ghost use Rattle.uni_script.specs.Scripts.{scripts_of};
 ghost use Rattle.uni_script.specs.declared.fault.BenchFault.{BenchFault as Fault};
-ghost use Rattle.run_layout.specs.Subject.{HasTooManyEvents};
-ghost use Rattle.run_page.specs.Page.{IsPage, escaped, escaped_byte, page_text};
+ghost use Rattle.uni_script.specs.declared.grammar.Version.{Version};
+ghost use Rattle.uni_script.specs.ScriptRun.{session_of_record};
+ghost use Rattle.run_layout.specs.Subject.{HasTooManyEvents, events_of_record};
+ghost use Rattle.run_telling.specs.Told.{IsLinearizableSession};
+ghost use Rattle.run_page.specs.Page.{IsPage, escaped, escaped_byte, page_between, page_text};
 
-use crate::viewer::{END, START};
-use run_json::json_of;
+use crate::rows::InRows;
+use crate::viewer::{END, MIDDLE, START};
+use run_json::InJson;
 use run_layout::PictureFault;
+use run_telling::told_of_run;
 use std::alloc::{AllocError, Global};
-use uni_script::{BenchFault, TextIn};
+use uni_script::{BenchFault, Options, ScriptRecord, ScriptRun, TextIn, run_of_script};
 
 /// Adds a byte of a trace, escaped.
 ///
@@ -41,18 +46,47 @@ fn push_escaped(text: &mut Vec<u8>, trace: &[u8]) -> Result<(), AllocError>
     Ok(())
 }
 
-/// A trace, escaped, between two texts.
+/// The rows of a table and a trace, escaped, between three texts.
 ///
 /// An `Err` says that memory was refused.
 #[tactic(auto, unfolding(crate::specs::Page::page_text))]
-fn between(alloc: Global, start: &str, trace: &[u8], end: &str) -> Result<Vec<u8>, AllocError>
-    ensures { IfOk result (λ text. text.items ≡ page_text start.now end.now trace.now) }
+fn between(
+    alloc: Global,
+    start: &str,
+    rows: &[u8],
+    middle: &str,
+    trace: &[u8],
+    end: &str,
+) -> Result<Vec<u8>, AllocError>
+    ensures { IfOk result (λ text. text.items ≡ page_text start.now rows.now middle.now trace.now end.now) }
 {
     let mut text = Vec::new(alloc);
     text.extend_from_slice(start.as_bytes())?;
+    text.extend_from_slice(rows)?;
+    text.extend_from_slice(middle.as_bytes())?;
     push_escaped(&mut text, trace)?;
     text.extend_from_slice(end.as_bytes())?;
     Ok(text)
+}
+
+/// The page of the run of a script.
+///
+/// Errors: `TooManyEvents` where it has more than 2,000 events; else `Memory`.
+fn page_of_run(alloc: Global, run: &ScriptRun<ScriptRecord>) -> Result<Vec<u8>, PictureFault>
+    ensures few { OnOk result (events_of_record run.now.record ≤ 2000) }
+    ensures page { IfOk result (λ text. (version : Version) → text.items
+        ≡ page_between START.now MIDDLE.now END.now (session_of_record version run.now.record)
+        run.now.lines.items run.now.remarks.items) }
+    ensures linearizable { (version : Version) → IsLinearizableSession (session_of_record version run.now.record) }
+    ensures many { IsErrOf result PictureFault.TooManyEvents → 2000 < events_of_record run.now.record }
+    ensures memory { (e : Fault) → IsErrOf result (PictureFault.Script e) → e ≡ Fault.Memory }
+{
+    let rows = told_of_run::<InRows>(alloc, run)?;
+    let trace = told_of_run::<InJson>(alloc, run)?;
+    match between(alloc, START, &rows, MIDDLE, &trace, END) {
+        Ok(text) => Ok(text),
+        Err(AllocError) => Err(PictureFault::Script(BenchFault::Memory)),
+    }
 }
 
 /// The page that shows the run of the script that a reader has.
@@ -66,9 +100,8 @@ pub fn page_of<I: TextIn>(alloc: Global, reader: &mut I) -> Result<Vec<u8>, Pict
     ensures fault { (e : Fault) → IsErrOf result (PictureFault.Script e) → IsFaultOfScript e
         → HasFault (scripts_of 1048576) (I.remaining reader.old) e }
 {
-    let trace = json_of(alloc, reader)?;
-    match between(alloc, START, &trace, END) {
-        Ok(text) => Ok(text),
-        Err(AllocError) => Err(PictureFault::Script(BenchFault::Memory)),
+    match run_of_script(alloc, reader, &Options::default()) {
+        Ok(run) => page_of_run(alloc, &run),
+        Err(fault) => Err(PictureFault::Script(fault)),
     }
 }

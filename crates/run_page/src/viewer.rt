@@ -1,6 +1,6 @@
-//! The fixed text of a page: what stands before a trace, and what stands after it, with the program that shows it.
+//! The fixed texts of a page, with the program that shows the trace.
 
-/// What stands before the lines of a trace.
+/// What stands before the rows of the table.
 pub const START: &str = r##"<!doctype html>
 <html lang="en">
 <head>
@@ -9,7 +9,7 @@ pub const START: &str = r##"<!doctype html>
 <style>
 body { font: 18px/1.35 sans-serif; margin: 1em; color: #000; background: #fff; }
 table { border-collapse: collapse; }
-.lanes td, .lanes th, pre, code { font-family: monospace; }
+.lanes td, .lanes th, code { font-family: monospace; }
 .lanes td { width: 1.1em; text-align: center; border: 1px solid #ddd; padding: 0; }
 .lanes .pale { color: #666; font-weight: normal; }
 .lanes .here { outline: 3px solid #d55e00; background: #f0e442; }
@@ -25,13 +25,23 @@ table { border-collapse: collapse; }
 .code li.here { background: #f0e442; font-weight: bold; }
 .code { columns: 2; max-width: 70em; }
 #sentence { font-size: 1.3em; min-height: 2.8em; }
+.rows td, .rows th { border: 1px solid #ddd; padding: 0 0.4em; text-align: left; vertical-align: top; }
+.rows td { white-space: pre-line; }
 #keys { color: #333; font-size: 0.8em; }
 </style>
 </head>
 <body>
 <h1 id="title">A run, step by step</h1>
 <div id="view"></div>
-<pre id="trace">
+<noscript>
+<table class="rows">
+<tr><th>event<th>process<th>call<th>kind<th>what happened<th>what changed<th>its call
+"##;
+
+/// What stands between the rows and the lines of a trace.
+pub const MIDDLE: &str = r##"</table>
+</noscript>
+<pre id="trace" hidden>
 "##;
 
 /// What stands after the lines of a trace.
@@ -174,14 +184,19 @@ const SENTENCES = {
   F: (s) => `returns ${s.reply}; ${s.place} names ${s.after}.`,
 };
 
+// the number of an event, and that of the script's line that stored it
+function numberOf(line) {
+  return line.line === null ? `${line.event}` : `${line.event}, line ${line.line}`;
+}
+
 function sentence(line) {
   if (!line) return "Before the first event.";
-  if (line.what === "call") return `${line.event}: P${line.process} begins call ${line.call}: ${line.words}.`;
+  if (line.what === "call") return `${numberOf(line)}: P${line.process} begins call ${line.call}: ${line.words}.`;
   const anchor = `The new anchor has number ${line.number} and state ${line.state}.`;
-  if (line.what === "trim") return `${line.event}: The era ends. ${anchor}`;
+  if (line.what === "trim") return `${numberOf(line)}: The era ends. ${anchor}`;
   if (line.what === "reshape")
-    return `${line.event}: The era ends, and there are ${line.processes} processes. ${anchor}`;
-  return `${line.event}: P${line.process}, ${line.kind}: ${SENTENCES[line.kind](line)}`;
+    return `${numberOf(line)}: The era ends, and there are ${line.processes} processes. ${anchor}`;
+  return `${numberOf(line)}: P${line.process}, ${line.kind}: ${SENTENCES[line.kind](line)}`;
 }
 
 // the notes and refusals that come just before an event
@@ -337,10 +352,8 @@ function fromAddress() {
 }
 
 function start() {
-  const trace = document.getElementById("trace");
-  lines = read(trace.textContent);
+  lines = read(document.getElementById("trace").textContent);
   events = lines.filter(isEvent);
-  trace.hidden = true;
   const run = lines[0];
   document.title = `${run.object}: ${run.processes} processes, ${events.length} events`;
   document.getElementById("title").textContent = document.title;

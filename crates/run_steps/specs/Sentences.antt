@@ -28,10 +28,10 @@ line_text words = fitted words ++ codes "\n"
 
 -- a place that has changed
 abbrev pub change_words : Change → List ℕ
-change_words c = codes "    " ++ c.name ++ codes ": " ++ c.before ++ codes " -> " ++ c.after
+change_words c = c.name ++ codes ": " ++ c.before ++ codes " -> " ++ c.after
 
 abbrev pub changes_text : List Change → List ℕ
-changes_text changes = flat_map (λ c. line_text (change_words c)) changes
+changes_text changes = flat_map (λ c. line_text (codes "    " ++ change_words c)) changes
 
 -- ---- events
 
@@ -40,9 +40,11 @@ abbrev pub event_start : (event process : ℕ) → List ℕ
 event_start k p = decimal k ++ codes "  P" ++ decimal p ++ codes "  "
 
 -- a call that begins
+abbrev pub begun_sentence : Begun → List ℕ
+begun_sentence b = codes "calls " ++ b.words ++ codes ": its cell is " ++ cell_text (Some b.call) ++ codes "."
+
 abbrev pub begun_words : (event : ℕ) → Begun → List ℕ
-begun_words k b =
-    event_start k b.call.process ++ codes "calls " ++ b.words ++ codes ": its cell is " ++ cell_text (Some b.call) ++ codes "."
+begun_words k b = event_start k b.call.process ++ begun_sentence b
 
 -- what the place of a step that reads or writes is to its process
 abbrev pub role_of : StepKind → List ℕ
@@ -116,8 +118,11 @@ number_words number = codes ": the anchor alone is left, with number " ++ decima
 abbrev pub left_words : (number : ℕ) (anchor : Held) → List ℕ
 left_words number anchor = number_words number ++ anchor.field.text ++ codes "."
 
+abbrev pub end_sentence : Ended → List ℕ
+end_sentence e = end_word e.reshaped ++ left_words e.number e.anchor
+
 abbrev pub end_words : (event : ℕ) → Ended → List ℕ
-end_words k e = decimal k ++ codes "  " ++ end_word e.reshaped ++ left_words e.number e.anchor
+end_words k e = decimal k ++ codes "  " ++ end_sentence e
 
 -- an event, and under it what it changed
 abbrev pub frame_text : (event : ℕ) → Frame → List ℕ
@@ -211,5 +216,5 @@ unfolding digits
 refused_reshape = refl
 
 changed_entry : change_words (record { name = codes "announce[1]"; before = codes "anchor"; after = codes "1.0" })
-    ≡ codes "    announce[1]: anchor -> 1.0"
+    ≡ codes "announce[1]: anchor -> 1.0"
 changed_entry = refl

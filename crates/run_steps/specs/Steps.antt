@@ -10,7 +10,7 @@ steps_wording =
     record {
       is_whole = false;
       opening = λ o. line_text (opening_words o);
-      event = λ k scene. frame_text k scene.frame;
+      event = λ k line scene. frame_text k scene.frame;
       remark = λ one. line_text (remark_words one.remark);
     }
 

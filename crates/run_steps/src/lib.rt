@@ -8,4 +8,8 @@ mod lines;
 mod sentences;
 mod steps;
 
+pub use lines::push_change_words;
+pub use sentences::{
+    opening_words, push_begun_sentence, push_end_sentence, push_step_sentence, remark_words,
+};
 pub use steps::{InWords, steps_of};

@@ -1,6 +1,6 @@
 //! The lines of a run, for a terminal.
 
-ghost use Rattle.std.specs.Prelude.{◌≡◌, ◌++◌, IfOk, OnOk, map};
+ghost use Rattle.std.specs.Prelude.{◌≡◌, ◌++◌, OnOk, codes, map};
 ghost use Rattle.run_trace.specs.Frames.{Begins, Steps};
 ghost use Rattle.run_trace.specs.Shown.{begun_shown, change_shown, frame_shown, step_shown};
 ghost use Rattle.run_telling.specs.Opened.{opening_shown};
@@ -38,29 +38,29 @@ fn push_line(text: &mut Vec<u8>, words: &[u8]) -> Result<(), AllocError>
     Ok(())
 }
 
-/// The words of a place that has changed.
+/// Adds the words of a place that has changed.
 ///
 /// An `Err` says that memory was refused.
-fn change_words(alloc: Global, change: &Change) -> Result<Vec<u8>, AllocError>
-    ensures { IfOk result (λ words. words.items ≡ change_words (change_shown change.now)) }
+pub fn push_change_words(words: &mut Vec<u8>, change: &Change) -> Result<(), AllocError>
+    ensures { OnOk result (words.new.items ≡ words.old.items ++ change_words (change_shown change.now)) }
 {
-    let mut words = Vec::new(alloc);
-    words.extend_from_slice(b"    ")?;
     words.extend_from_slice(&change.name)?;
     words.extend_from_slice(b": ")?;
     words.extend_from_slice(&change.before)?;
     words.extend_from_slice(b" -> ")?;
-    words.extend_from_slice(&change.after)?;
-    Ok(words)
+    words.extend_from_slice(&change.after)
 }
 
 /// Adds a line for a place that has changed.
 ///
 /// An `Err` says that memory was refused.
 fn push_change(alloc: Global, change: &Change, text: &mut Vec<u8>) -> Result<(), AllocError>
-    ensures { OnOk result (text.new.items ≡ text.old.items ++ line_text (change_words (change_shown change.now))) }
+    ensures { OnOk result (text.new.items
+        ≡ text.old.items ++ line_text (codes "    " ++ change_words (change_shown change.now))) }
 {
-    let words = change_words(alloc, change)?;
+    let mut words = Vec::new(alloc);
+    words.extend_from_slice(b"    ")?;
+    push_change_words(&mut words, change)?;
     push_line(text, &words)
 }
 

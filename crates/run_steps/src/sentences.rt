@@ -4,14 +4,15 @@ ghost use Rattle.std.specs.Prelude.{◌≡◌, ◌++◌, IfOk, OnOk, [], map, op
 ghost use Rattle.run_trace.specs.Held.{changes_between};
 ghost use Rattle.run_trace.specs.Shown.{begun_shown, change_shown, end_shown, field_shown, held_shown, step_shown};
 ghost use Rattle.run_telling.specs.Opened.{opening_shown};
-ghost use Rattle.run_steps.specs.Sentences.{begun_words, end_word, end_words, event_start, holds_words, kept_words};
-ghost use Rattle.run_steps.specs.Sentences.{opening_words, outcome_words, plain_words, proposed_words};
-ghost use Rattle.run_steps.specs.Sentences.{refused_words, remark_words, reply_words, return_words, role_of, sentence};
-ghost use Rattle.run_steps.specs.Sentences.{left_words, note_words, number_words, spent_words, step_words};
+ghost use Rattle.run_steps.specs.Sentences.{begun_sentence, begun_words, end_sentence, end_word, end_words};
+ghost use Rattle.run_steps.specs.Sentences.{event_start, holds_words, kept_words, left_words, note_words};
+ghost use Rattle.run_steps.specs.Sentences.{number_words, opening_words, outcome_words, plain_words};
+ghost use Rattle.run_steps.specs.Sentences.{proposed_words, refused_words, remark_words, reply_words, return_words};
+ghost use Rattle.run_steps.specs.Sentences.{role_of, sentence, spent_words, step_words};
 
 use run_layout::{letter_of, push_counted, refused_text};
 use run_telling::{Opened, access_of};
-use run_trace::{Begun, Change, EraEnd, Field, Held, Step};
+use run_trace::{Begun, Change, EraEnd, Field, Held, Step, cell_text};
 use std::alloc::{AllocError, Global};
 use std::io::Write;
 use uni_core::StepKind;
@@ -26,18 +27,34 @@ fn push_event_start(words: &mut Vec<u8>, event: u64, process: u32) -> Result<(),
     write!(words, "{event}  P{process}  ").map_err(|_| AllocError)
 }
 
-/// The sentence of a call that begins.
+/// Adds the sentence of a call that begins.
+///
+/// An `Err` says that memory was refused.
+pub fn push_begun_sentence(
+    alloc: Global,
+    begun: &Begun,
+    words: &mut Vec<u8>,
+) -> Result<(), AllocError>
+    ensures { OnOk result (words.new.items ≡ words.old.items ++ begun_sentence (begun_shown begun.now)) }
+{
+    let cell = cell_text(alloc, Some(begun.call))?;
+    words.extend_from_slice(b"calls ")?;
+    words.extend_from_slice(&begun.words)?;
+    words.extend_from_slice(b": its cell is ")?;
+    words.extend_from_slice(&cell)?;
+    words.push(b'.')?;
+    Ok(())
+}
+
+/// The line of a call that begins.
 ///
 /// An `Err` says that memory was refused.
 pub fn begun_words(alloc: Global, event: u64, begun: &Begun) -> Result<Vec<u8>, AllocError>
     ensures { IfOk result (λ words. words.items ≡ begun_words event (begun_shown begun.now)) }
 {
-    let call = begun.call;
     let mut words = Vec::new(alloc);
-    push_event_start(&mut words, event, call.process)?;
-    words.extend_from_slice(b"calls ")?;
-    words.extend_from_slice(&begun.words)?;
-    write!(words, ": its cell is {call}.").map_err(|_| AllocError)?;
+    push_event_start(&mut words, event, begun.call.process)?;
+    push_begun_sentence(alloc, begun, &mut words)?;
     Ok(words)
 }
 
@@ -181,7 +198,11 @@ fn push_outcome(words: &mut Vec<u8>, changes: &[Change], after: &Held) -> Result
 /// Adds the sentence of a step, which made these changes.
 ///
 /// An `Err` says that memory was refused.
-fn push_sentence(words: &mut Vec<u8>, step: &Step, changes: &[Change]) -> Result<(), AllocError>
+pub fn push_step_sentence(
+    words: &mut Vec<u8>,
+    step: &Step,
+    changes: &[Change],
+) -> Result<(), AllocError>
     requires { map change_shown changes.now
         ≡ changes_between (held_shown step.now.before) (held_shown step.now.after) }
     ensures { OnOk result (words.new.items ≡ words.old.items ++ sentence (step_shown step.now)) }
@@ -212,7 +233,7 @@ pub fn step_words(
     push_event_start(&mut words, event, step.call.process)?;
     words.push(letter_of(step.kind))?;
     words.extend_from_slice(b"  ")?;
-    push_sentence(&mut words, step, changes)?;
+    push_step_sentence(&mut words, step, changes)?;
     Ok(words)
 }
 
@@ -257,7 +278,17 @@ fn push_left(words: &mut Vec<u8>, number: u64, anchor: &Held) -> Result<(), Allo
     Ok(())
 }
 
-/// The sentence of the end of an era.
+/// Adds the sentence of the end of an era.
+///
+/// An `Err` says that memory was refused.
+pub fn push_end_sentence(words: &mut Vec<u8>, end: &EraEnd) -> Result<(), AllocError>
+    ensures { OnOk result (words.new.items ≡ words.old.items ++ end_sentence (end_shown end.now)) }
+{
+    push_end_word(words, end.reshaped)?;
+    push_left(words, end.number, &end.anchor)
+}
+
+/// The line of the end of an era.
 ///
 /// An `Err` says that memory was refused.
 pub fn end_words(alloc: Global, event: u64, end: &EraEnd) -> Result<Vec<u8>, AllocError>
@@ -265,8 +296,7 @@ pub fn end_words(alloc: Global, event: u64, end: &EraEnd) -> Result<Vec<u8>, All
 {
     let mut words = Vec::new(alloc);
     write!(words, "{event}  ").map_err(|_| AllocError)?;
-    push_end_word(&mut words, end.reshaped)?;
-    push_left(&mut words, end.number, &end.anchor)?;
+    push_end_sentence(&mut words, end)?;
     Ok(words)
 }
 

@@ -37,6 +37,7 @@ impl Telling for InWords {
     fn push_scene(
         alloc: Global,
         event: u64,
+        _: Option<u64>,
         scene: &Scene,
         text: &mut Vec<u8>,
     ) -> Result<(), AllocError> {

@@ -8,8 +8,8 @@ use Rattle.uni_script.specs.declared.script_run.ScriptRecord.TheVariants.{Queue,
 use Rattle.uni_script.specs.ScriptRun.{session_of_record, IsScriptRun}
 use Rattle.uni_script.specs.Scripts.{ScriptSession}
 use Rattle.run_layout.specs.Subject.{events_of_record}
-use Rattle.run_telling.specs.Order.{Wording}
-use Rattle.run_telling.specs.Told.{IsLinearizableSession, IsTold, text_of_session}
+use Rattle.uni_script.specs.declared.remarks.PlacedRemark.{PlacedRemark}
+use Rattle.run_telling.specs.Told.{IsLinearizableSession, IsToldBy}
 
 events-record : (version : Version) (r : ScriptRecord) → length (session_of_record version r).session.events ≡ events_of_record r
 events-record version (Queue r) = refl
@@ -17,10 +17,10 @@ events-record version (Directory r) = refl
 events-record version (Book r) = refl
 events-record version (Sticky r) = refl
 
-pub IsTold-run : (words : Wording) (left : Option (List ℕ)) (run : ScriptRun ScriptRecord) → IsScriptRun (record { history = 1048576; echo = Off }) left run → (text : List ℕ) → events_of_record run.record ≤ 2000
-    → ((version : Version) → text ≡ text_of_session words (session_of_record version run.record) run.remarks.items)
-    → ((version : Version) → IsLinearizableSession (session_of_record version run.record)) → IsTold words left text
-IsTold-run words left run is text few same linearizable =
+pub IsToldBy-run : (tell : ScriptSession → (lines : List ℕ) → List PlacedRemark → List ℕ) (left : Option (List ℕ)) (run : ScriptRun ScriptRecord) → IsScriptRun (record { history = 1048576; echo = Off }) left run → (text : List ℕ) → events_of_record run.record ≤ 2000
+    → ((version : Version) → text ≡ tell (session_of_record version run.record) run.lines.items run.remarks.items)
+    → ((version : Version) → IsLinearizableSession (session_of_record version run.record)) → IsToldBy tell left text
+IsToldBy-run tell left run is text few same linearizable =
     let b = is.3.0 in
     let of = is.3.2 in
     let events : length b.session.events ≡ events_of_record run.record = ap (λ (s : ScriptSession). length s.session.events) of.session ∙ events-record of.version run.record in record {
@@ -30,9 +30,11 @@ IsTold-run words left run is text few same linearizable =
       session = b;
       session_is = is.3.1;
       few = subst (λ n. n ≤ 2000) (sym events) few;
+      lines = run.lines.items;
+      lines_are = of.lines_are;
       remarks = run.remarks.items;
       remarks_are = of.remarks_are;
-      text_is = same of.version ∙ ap (λ s. text_of_session words s run.remarks.items) (sym of.session);
+      text_is = same of.version ∙ ap (λ s. tell s run.lines.items run.remarks.items) (sym of.session);
       linearizable = subst IsLinearizableSession (sym of.session) (linearizable of.version);
     }
 

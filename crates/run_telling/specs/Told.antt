@@ -11,7 +11,7 @@ use Rattle.uni_script.specs.declared.grammar.ObjectName.TheVariants as name
 use Rattle.uni_script.specs.declared.remarks.PlacedRemark.{PlacedRemark}
 use Rattle.uni_script.specs.Objects.{SpokenObject, StateOf, spoken_of}
 use Rattle.uni_script.specs.Outcome.{outcome_of_script}
-use Rattle.uni_script.specs.Remarks.{remark_at, remarks_of_script}
+use Rattle.uni_script.specs.Remarks.{event_lines_of_script, remark_at, remarks_of_script}
 use Rattle.uni_script.specs.Replay.{IsInput, fault_of_script}
 use Rattle.uni_script.specs.Schedules.{word_of_object}
 use Rattle.uni_script.specs.Scripts.{ScriptSession, scripts_of}
@@ -28,13 +28,13 @@ state_text_of name.Sticky = sticky_text
 
 -- some events of n processes, told, on an object of this name whose states have these texts
 abbrev pub text_of_events : {S I R : Type 0} → Wording → SpokenObject S I R → (S → List ℕ) → (name : List ℕ)
-    → (n row first : ℕ) → List (Event I) → List PlacedRemark → List ℕ
-text_of_events words o text name n row first events remarks =
-    told_text words (opening name n row first (text o.object.initial))
+    → (n row first : ℕ) → List (Event I) → (lines : List ℕ) → List PlacedRemark → List ℕ
+text_of_events words o text name n row first events lines remarks =
+    told_text words (opening name n row first (text o.object.initial)) lines
     (scenes_from o.object o.language text words.is_whole (opened_world n o.object.initial first) events) remarks
 
--- the session which a script leaves, told, with what the script tells beside its events
-abbrev pub text_of_session : Wording → ScriptSession → List PlacedRemark → List ℕ
+-- the session which a script leaves, told, with the script's lines that stored its events, and what it tells beside them
+abbrev pub text_of_session : Wording → ScriptSession → (lines : List ℕ) → List PlacedRemark → List ℕ
 text_of_session words b =
     text_of_events words (spoken_of b.object) (state_text_of b.object) (word_of_object b.object)
     b.session.processes b.session.row b.session.first b.session.events
@@ -51,15 +51,22 @@ pub record IsLinearizableRun {S I R : Type 0} (object : Sequential S I R) (n fir
 abbrev pub IsLinearizableSession : ScriptSession → Type 0
 IsLinearizableSession b = IsLinearizableRun (spoken_of b.object).object b.session.processes b.session.first b.session.events
 
--- the reader had a script without a fault and with at most 2,000 events, and this is its run, told: a linearizable one
-pub record IsTold (words : Wording) (left : Option (List ℕ)) (text : List ℕ) : Type 0 where
+-- the reader had a script without a fault and with at most 2,000 events, and this is its run, told so: a linearizable one
+pub record IsToldBy (tell : ScriptSession → (lines : List ℕ) → List PlacedRemark → List ℕ) (left : Option (List ℕ))
+    (text : List ℕ) : Type 0 where
   pub script : List ℕ
   pub input : IsInput left script
   pub good : fault_of_script (scripts_of 1048576) script ≡ None
   pub session : ScriptSession
   pub session_is : (outcome_of_script (scripts_of 1048576) script).session ≡ Some session
   pub few : (scripts_of 1048576).events session ≤ 2000
+  pub lines : List ℕ
+  pub lines_are : event_lines_of_script (scripts_of 1048576) script ≡ lines
   pub remarks : List PlacedRemark
   pub remarks_are : remarks_of_script (scripts_of 1048576) script ≡ map remark_at remarks
-  pub text_is : text ≡ text_of_session words session remarks
+  pub text_is : text ≡ tell session lines remarks
   pub linearizable : IsLinearizableSession session
+
+-- the same in these words
+abbrev pub IsTold : (words : Wording) (left : Option (List ℕ)) (text : List ℕ) → Type 0
+IsTold words left text = IsToldBy (text_of_session words) left text

@@ -12,4 +12,4 @@ mod told;
 pub use access::access_of;
 pub use opened::Opened;
 pub use order::Telling;
-pub use told::{told_of, told_of_record};
+pub use told::{told_of, told_of_record, told_of_run};

@@ -1,6 +1,6 @@
 //! The pieces of a run, in order.
 
-ghost use Rattle.std.specs.Prelude.{◌≡◌, ◌++◌, ◌≤◌, IfOk, OnOk, Some, length, map};
+ghost use Rattle.std.specs.Prelude.{◌≡◌, ◌++◌, ◌≤◌, IfOk, OnOk, Some, length, map, slice_get};
 ghost use Rattle.std.specs.List.{flat_map};
 ghost use Rattle.run_trace.specs.Shown.{scene_shown};
 ghost use Rattle.run_telling.specs.Opened.{opening_shown};
@@ -30,16 +30,18 @@ pub trait Telling {
     ) -> Result<(), AllocError>
         ensures { OnOk result (text.new.items ≡ text.old.items ++ wording.opening (opening_shown opened.now)) };
 
-    /// Adds an event, by its number and its scene.
+    /// Adds an event, by its number, that of the script's line that stored it, and its scene.
     ///
     /// An `Err` says that memory was refused.
     fn push_scene(
         alloc: Global,
         event: u64,
+        line: Option<u64>,
         scene: &Scene,
         text: &mut Vec<u8>,
     ) -> Result<(), AllocError>
-        ensures { OnOk result (text.new.items ≡ text.old.items ++ wording.event event (scene_shown scene.now)) };
+        ensures { OnOk result (text.new.items
+            ≡ text.old.items ++ wording.event event line (scene_shown scene.now)) };
 
     /// Adds what is told beside the events.
     ///
@@ -77,42 +79,51 @@ fn told_before(event: u64, remarks: &[PlacedRemark]) -> usize
     remarks.len()
 }
 
-/// Adds all events, each behind what is told before it, and of what is told after the last.
+/// The line of the script that stored an event, where there was a script.
+fn line_of(event: usize, lines: &[u64]) -> Option<u64>
+    ensures { result ≡ slice_get lines.now event }
+{
+    lines.get(event).copied()
+}
+
+/// Adds all events, each with its line and behind what is told before it, and what is told after the last.
 ///
 /// An `Err` says that memory was refused.
 fn push_events<T: Telling>(
     alloc: Global,
+    lines: &[u64],
     scenes: &[Scene],
     remarks: &[PlacedRemark],
     text: &mut Vec<u8>,
 ) -> Result<(), AllocError>
     ensures { OnOk result (text.new.items ≡ text.old.items
-        ++ told_from T.wording 0 (map (λ scene. Some (scene_shown scene)) scenes.now) remarks.now) }
+        ++ told_from T.wording lines.now 0 (map (λ scene. Some (scene_shown scene)) scenes.now) remarks.now) }
 {
     let mut rest = remarks;
     for (event, scene) in scenes.iter().enumerate() {
         let (told, later) = rest.split_at(told_before(event as u64, rest));
         push_remarks::<T>(alloc, told, text)?;
         rest = later;
-        T::push_scene(alloc, event as u64, scene, text)?;
+        T::push_scene(alloc, event as u64, line_of(event, lines), scene, text)?;
     }
     push_remarks::<T>(alloc, rest, text)
 }
 
-/// A run that opened so and had these scenes, told, with what is told beside its events.
+/// A run that opened so and had these scenes, told, with their lines and what is told beside its events.
 ///
 /// An `Err` says that memory was refused.
 pub fn text_of<T: Telling>(
     alloc: Global,
     opened: &Opened<'_>,
+    lines: &[u64],
     scenes: &[Scene],
     remarks: &[PlacedRemark],
 ) -> Result<Vec<u8>, AllocError>
-    ensures { IfOk result (λ text. text.items ≡ told_text T.wording (opening_shown opened.now)
+    ensures { IfOk result (λ text. text.items ≡ told_text T.wording (opening_shown opened.now) lines.now
         (map (λ scene. Some (scene_shown scene)) scenes.now) remarks.now) }
 {
     let mut text = Vec::new(alloc);
     T::push_opening(alloc, opened, &mut text)?;
-    push_events::<T>(alloc, scenes, remarks, &mut text)?;
+    push_events::<T>(alloc, lines, scenes, remarks, &mut text)?;
     Ok(text)
 }

@@ -20,24 +20,25 @@ use run_trace::scenes_of;
 use std::alloc::{AllocError, Global};
 use uni_record::Recorded;
 use uni_script::{
-    BenchFault, ObjectName, Options, PlacedRemark, ScriptRecord, TextIn, run_of_script,
+    BenchFault, ObjectName, Options, PlacedRemark, ScriptRecord, ScriptRun, TextIn, run_of_script,
 };
 
-/// The run that a record has stored, told, on an object of this name, with what is told beside its events: a
-/// linearizable run.
+/// The run that a record has stored, told, on an object of this name: a linearizable run. `lines` has the number of the
+/// script's line that stored each event, where there was a script; `remarks` is what is told beside the events.
 ///
 /// Errors: `TooManyEvents` where it has more than 2,000; else `Memory`.
 pub fn told_of_record<T: Telling, O: Spoken + Copy>(
     alloc: Global,
     name: &str,
     recorded: &Recorded<O>,
+    lines: &[u64],
     remarks: &[PlacedRemark],
 ) -> Result<Vec<u8>, PictureFault>
     ensures few { OnOk result (length (events_shown recorded.now.events) ≤ 2000) }
     ensures text { IfOk result (λ text. text.items
         ≡ text_of_events T.wording (spoken O.sequential O.language recorded.now.world.object) O.state_text
         name.now recorded.now.processes recorded.now.world.row recorded.now.first
-        (events_shown recorded.now.events) remarks.now) }
+        (events_shown recorded.now.events) lines.now remarks.now) }
     ensures linearizable { IsLinearizableRun (O.sequential recorded.now.world.object) recorded.now.processes
         recorded.now.first (events_shown recorded.now.events) }
     ensures many { IsErrOf result PictureFault.TooManyEvents → 2000 < length (events_shown recorded.now.events) }
@@ -48,7 +49,7 @@ pub fn told_of_record<T: Telling, O: Spoken + Copy>(
         return Err(PictureFault::TooManyEvents);
     }
     let object = *recorded.world().object();
-    match text_of_events::<T, O>(alloc, name, object, recorded, remarks) {
+    match text_of_events::<T, O>(alloc, name, object, recorded, lines, remarks) {
         Ok(text) => Ok(text),
         Err(AllocError) => Err(PictureFault::Script(BenchFault::Memory)),
     }
@@ -73,12 +74,13 @@ fn text_of_events<T: Telling, O: Spoken>(
     name: &str,
     object: O,
     recorded: &Recorded<O>,
+    lines: &[u64],
     remarks: &[PlacedRemark],
 ) -> Result<Vec<u8>, AllocError>
     ensures { IfOk result (λ text. text.items
         ≡ text_of_events T.wording (spoken O.sequential O.language object) O.state_text
         name.now recorded.now.processes recorded.now.world.row recorded.now.first
-        (events_shown recorded.now.events) remarks.now) }
+        (events_shown recorded.now.events) lines.now remarks.now) }
 {
     let state = first_state(alloc, &object)?;
     let opened = Opened {
@@ -89,36 +91,44 @@ fn text_of_events<T: Telling, O: Spoken>(
         state: &state,
     };
     let scenes = scenes_of(alloc, object, recorded, T::is_whole())?;
-    text_of::<T>(alloc, &opened, &scenes, remarks)
+    text_of::<T>(alloc, &opened, lines, &scenes, remarks)
 }
 
-/// A record, told, by its object.
+/// The run of a script, told, by its object.
 ///
 /// Errors: `TooManyEvents` where it has more than 2,000 events; else `Memory`.
-fn text_of_record<T: Telling>(
+pub fn told_of_run<T: Telling>(
     alloc: Global,
-    stored: &ScriptRecord,
-    remarks: &[PlacedRemark],
+    run: &ScriptRun<ScriptRecord>,
 ) -> Result<Vec<u8>, PictureFault>
-    ensures few { OnOk result (events_of_record stored.now ≤ 2000) }
+    ensures few { OnOk result (events_of_record run.now.record ≤ 2000) }
     ensures text { IfOk result (λ text. (version : Version) → text.items
-        ≡ text_of_session T.wording (session_of_record version stored.now) remarks.now) }
-    ensures linearizable { (version : Version) → IsLinearizableSession (session_of_record version stored.now) }
-    ensures many { IsErrOf result PictureFault.TooManyEvents → 2000 < events_of_record stored.now }
+        ≡ text_of_session T.wording (session_of_record version run.now.record)
+        run.now.lines.items run.now.remarks.items) }
+    ensures linearizable { (version : Version) → IsLinearizableSession (session_of_record version run.now.record) }
+    ensures many { IsErrOf result PictureFault.TooManyEvents → 2000 < events_of_record run.now.record }
     ensures memory { (e : Fault) → IsErrOf result (PictureFault.Script e) → e ≡ Fault.Memory }
 {
-    match stored {
+    let lines: &[u64] = &run.lines;
+    let remarks: &[PlacedRemark] = &run.remarks;
+    match &run.record {
         ScriptRecord::Queue(recorded) => {
-            told_of_record::<T, _>(alloc, ObjectName::Queue.word(), recorded, remarks)
+            told_of_record::<T, _>(alloc, ObjectName::Queue.word(), recorded, lines, remarks)
         }
         ScriptRecord::Directory(recorded) => {
-            told_of_record::<T, _>(alloc, ObjectName::Directory.word(), recorded, remarks)
+            told_of_record::<T, _>(
+                alloc,
+                ObjectName::Directory.word(),
+                recorded,
+                lines,
+                remarks,
+            )
         }
         ScriptRecord::Book(recorded) => {
-            told_of_record::<T, _>(alloc, ObjectName::Book.word(), recorded, remarks)
+            told_of_record::<T, _>(alloc, ObjectName::Book.word(), recorded, lines, remarks)
         }
         ScriptRecord::Sticky(recorded) => {
-            told_of_record::<T, _>(alloc, ObjectName::Sticky.word(), recorded, remarks)
+            told_of_record::<T, _>(alloc, ObjectName::Sticky.word(), recorded, lines, remarks)
         }
     }
 }
@@ -138,7 +148,7 @@ pub fn told_of<T: Telling, I: TextIn>(
         → HasFault (scripts_of 1048576) (I.remaining reader.old) e }
 {
     match run_of_script(alloc, reader, &Options::default()) {
-        Ok(run) => text_of_record::<T>(alloc, &run.record, &run.remarks),
+        Ok(run) => told_of_run::<T>(alloc, &run),
         Err(fault) => Err(PictureFault::Script(fault)),
     }
 }

@@ -40,7 +40,8 @@ fn show<W: TextOut>(alloc: Global, output: &mut W) -> Option<()>
     let lines = lines_of_object(alloc, Stack, "stack", &mut Checked::new(SCRIPT)).ok()?;
     write_all(output, lines.as_slice()).ok()?;
     let run = run_of_object(alloc, Stack, "stack", &mut Checked::new(SCRIPT), &options).ok()?;
-    let steps = told_of_record::<InWords, Stack>(alloc, "stack", &run.record, &run.remarks).ok()?;
+    let (record, lines, remarks) = (&run.record, &run.lines, &run.remarks);
+    let steps = told_of_record::<InWords, Stack>(alloc, "stack", record, lines, remarks).ok()?;
     write_all(output, steps.as_slice()).ok()
 }
 

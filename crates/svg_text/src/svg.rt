@@ -17,7 +17,7 @@ use std::io::Write;
 /// Adds a text with each `<`, `>`, `&` and quote escaped.
 ///
 /// An `Err` says that memory was refused.
-fn push_escaped(svg: &mut Vec<u8>, text: &[u8]) -> Result<(), AllocError>
+pub fn push_escaped(svg: &mut Vec<u8>, text: &[u8]) -> Result<(), AllocError>
     ensures { OnOk result (svg.new.items ≡ svg.old.items ++ escaped text.now) }
 {
     for byte in text {

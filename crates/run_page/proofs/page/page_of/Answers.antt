@@ -1,12 +1,15 @@
-use Rattle.std.proofs.Common.{◌∙◌, ap}
-use Rattle.run_page.specs.Page.{IsPage, page_text}
-use Rattle.run_page.specs.declared.viewer.TheConstants.{START, END}
+use Rattle.run_layout.proofs.Scripts.{default_run, HasTooManyEvents-run}
+use Rattle.run_telling.proofs.Tellings.{IsToldBy-run, IfOk-two}
+use Rattle.run_page.specs.Page.{IsPage, page_between}
+use Rattle.run_page.specs.declared.viewer.TheConstants.{START, MIDDLE, END}
 use Rattle.run_page.proofs.page.page_of.Goals as goal
 
 pub returns-in-Ok-clause-page : goal.returns-in-Ok-clause-page
 unfolding IsPage
-returns-in-Ok-clause-page g c = record {
-  trace = c.in_ok-trace.trace.items;
-  is_trace = c.in_ok-trace.ensures.trace;
-  text_is = c.in-Ok.ensures ∙ ap (page_text START.now END.now) c.deref.ensures.value;
-}
+returns-in-Ok-clause-page g c =
+    let of = c.page_of_run.ensures in
+    let run = c.in-Ok.run' in
+    IfOk-two c.page_of_run.result _ _ _ of.few of.page (λ text few is. IsToldBy-run (page_between START.now MIDDLE.now END.now) _ run (default_run _ _ run c.default.ensures c.in-Ok.ensures.run) text.items few is of.linearizable)
+
+pub returns-in-Ok-clause-many : goal.returns-in-Ok-clause-many
+returns-in-Ok-clause-many g c = λ many. HasTooManyEvents-run _ c.in-Ok.run' (default_run _ _ c.in-Ok.run' c.default.ensures c.in-Ok.ensures.run) (c.page_of_run.ensures.many many)

@@ -22,6 +22,6 @@ returns g c =
     let scenes = ap (map (λ scene. Some (scene_shown scene))) c.deref-2.ensures.value ∙ c.in_ok-scenes.ensures
     ∙ ap (λ whole. scenes_from o g.O.Spoken.language text whole (opened_world r.processes o.initial r.first) (events_shown r.events)) c.is_whole.ensures in
     IfOk-weaker c.text_of.result _ _
-    (λ all is. is ∙ ap (λ (first : Opening). told_text words first (map (λ scene. Some (scene_shown scene)) c.deref-2.result.now) c.args.remarks.now) opened
-    ∙ ap (λ ss. told_text words (opening c.args.name.now r.processes r.world.row r.first (text o.initial)) ss c.args.remarks.now) scenes)
+    (λ all is. is ∙ ap (λ (first : Opening). told_text words first c.args.lines.now (map (λ scene. Some (scene_shown scene)) c.deref-2.result.now) c.args.remarks.now) opened
+    ∙ ap (λ ss. told_text words (opening c.args.name.now r.processes r.world.row r.first (text o.initial)) c.args.lines.now ss c.args.remarks.now) scenes)
     c.text_of.ensures
