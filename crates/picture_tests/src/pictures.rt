@@ -1,5 +1,6 @@
 //! A test of a whole picture, and of the status that it is written with.
 
+use run_layout::Range;
 use run_picture::picture_of;
 use std::alloc::Global;
 use std::process::Abort;
@@ -51,7 +52,11 @@ fn has_parts(rt: &impl Abort, text: &[u8]) {
 
 #[test]
 fn stopped_process_is_helped(rt: HostRuntime) {
-    match picture_of(rt.alloc(), &mut Checked::new(HELPED.as_bytes())) {
+    match picture_of(
+        rt.alloc(),
+        Range::all(),
+        &mut Checked::new(HELPED.as_bytes()),
+    ) {
         Ok(svg) => has_parts(&rt, svg.as_slice()),
         Err(_) => assert!(rt; false),
     }
