@@ -1,1 +1,2 @@
 pub mod ErrorKinds
+pub mod Digits

@@ -3,7 +3,9 @@
 #![tactic(auto)]
 
 mod answer;
+mod numbers;
 mod pieces;
 
 pub use answer::answer_words;
+pub use numbers::{in_range, number_of};
 pub use pieces::{flag, is_set, may_be_path};

@@ -1,9 +1,9 @@
 //! Tests of what scripts have, and of its words, lines and columns.
 
 use run_layout::{
-    Axis, Column, MOST_EVENTS, MOST_REMARKS, PictureFault, Scale, Subject, Told, axis_of,
-    cell_name, cell_words, counts_of, kinds_of, label_of, lane_of, letter_of, letters, line_of,
-    meaning_of, push_lines, refusal_of, step_title, subject_of, title_of, told_of,
+    Axis, Column, MOST_EVENTS, MOST_REMARKS, PictureFault, Range, Scale, Subject, Told, axis_of,
+    cell_name, cell_state, cell_words, counts_of, kinds_of, label_of, lane_of, letter_of, letters,
+    line_of, meaning_of, push_lines, refusal_of, step_title, subject_of, title_of, told_of,
 };
 use run_marks::Marks;
 use std::alloc::{AllocError, Global};
@@ -78,8 +78,16 @@ fn is_bar_of(alloc: Global, marks: &Marks, label: &str, counts: &str) -> bool {
     }
 }
 
-/// Whether the first cell has this name and these words.
-fn is_cell_of(alloc: Global, marks: &Marks, name: &str, words: &str) -> bool {
+/// Whether a text that memory was not refused to is there, and is this.
+fn tells(text: Result<Option<Vec<u8>>, AllocError>, want: &str) -> bool {
+    match text {
+        Ok(Some(text)) => text.as_slice() == want.as_bytes(),
+        _ => false,
+    }
+}
+
+/// Whether the first cell has this name, these words and this state.
+fn is_cell_of(alloc: Global, marks: &Marks, name: &str, words: &str, state: &str) -> bool {
     let Some(era) = marks.eras.get(0) else {
         return false;
     };
@@ -87,6 +95,7 @@ fn is_cell_of(alloc: Global, marks: &Marks, name: &str, words: &str) -> bool {
         Some(cell) => {
             reads(cell_name(alloc, &marks.dots, cell), name)
                 && reads(cell_words(alloc, cell), words)
+                && tells(cell_state(alloc, cell), state)
         }
         None => false,
     }
@@ -109,7 +118,7 @@ fn words_of_a_call_that_has_returned(rt: HostRuntime) -> Result<(), Fail> {
     assert!(rt; reads(title_of(alloc, marks), title));
     assert!(rt; is_bar_of(alloc, marks, "0.0 enq 5 -> ok", "14 steps 1 turn"));
     assert!(rt; is_line_of(alloc, marks, "trimmed 2"));
-    assert!(rt; is_cell_of(alloc, marks, "2: 0.0", "enq 5 -> ok"));
+    assert!(rt; is_cell_of(alloc, marks, "2: 0.0", "enq 5 -> ok", "state [5]"));
     Ok(())
 }
 
@@ -176,8 +185,66 @@ fn titles_of_steps(rt: HostRuntime) -> Result<(), Fail> {
     let Some(step) = marks.steps.get(7) else {
         return Err(Fail::from("there are fourteen steps"));
     };
-    let title = step_title(rt.alloc(), &marks.bars, &marks.steps, *step);
+    let title = step_title(rt.alloc(), *step);
     assert!(rt; reads(title, "P0, call 0.0, step 8: links a cell, or loses"));
+    Ok(())
+}
+
+/// Whether the one bar begins with the first event and has no end.
+fn is_open_at_both_ends(marks: &Marks) -> bool {
+    match marks.bars.as_slice() {
+        [bar] => bar.from == 0 && bar.end.is_none(),
+        _ => false,
+    }
+}
+
+/// Whether the one era has begun before and goes on, and has so many cells.
+fn is_inside_one_era(marks: &Marks, cells: usize) -> bool {
+    match marks.eras.as_slice() {
+        [era] => era.from == 0 && era.last.is_none() && era.cells.len() == cells,
+        _ => false,
+    }
+}
+
+#[test]
+fn events_inside_a_call(rt: HostRuntime) -> Result<(), Fail> {
+    let range = Range {
+        from: 7,
+        to: Some(9),
+    };
+    let marks = subject(rt.alloc(), RETURNED)?
+        .chosen(rt.alloc(), range)?
+        .marks;
+    assert!(rt; marks.events == 3 && marks.steps.len() == 3 && marks.lines.is_empty());
+    assert!(rt; marks.dots.len() == 1 && marks.dots[0].event == 1);
+    assert!(rt; is_open_at_both_ends(&marks) && is_inside_one_era(&marks, 1));
+    Ok(())
+}
+
+#[test]
+fn events_that_link_no_cell(rt: HostRuntime) -> Result<(), Fail> {
+    let range = Range {
+        from: 0,
+        to: Some(7),
+    };
+    let marks = subject(rt.alloc(), RETURNED)?
+        .chosen(rt.alloc(), range)?
+        .marks;
+    assert!(rt; marks.dots.is_empty() && is_inside_one_era(&marks, 0));
+    Ok(())
+}
+
+#[test]
+fn remarks_before_events(rt: HostRuntime) -> Result<(), Fail> {
+    let whole = subject(rt.alloc(), PENDING)?;
+    let last = Range { from: 1, to: None };
+    assert!(rt; whole.chosen(rt.alloc(), last)?.remarks.len() == 4);
+    let first = Range {
+        from: 0,
+        to: Some(1),
+    };
+    let part = subject(rt.alloc(), PENDING)?.chosen(rt.alloc(), first)?;
+    assert!(rt; part.remarks.len() == 1);
     Ok(())
 }
 

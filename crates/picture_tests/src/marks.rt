@@ -78,11 +78,13 @@ fn has_end(bar: &Bar, event: u64, reply: &[u8], steps: u64, turns: u64) -> bool 
     }
 }
 
-/// Whether a box has this number and this reply.
-fn is_box(cell: &CellBox, number: u64, reply: &[u8]) -> bool {
-    match &cell.reply {
-        Some(text) => cell.number == number && text.as_slice() == reply,
-        None => false,
+/// Whether a box has this number and this reply, and tells this state after it.
+fn is_box(cell: &CellBox, number: u64, reply: &[u8], state: &[u8]) -> bool {
+    match (&cell.reply, &cell.state) {
+        (Some(text), Some(told)) => {
+            cell.number == number && text.as_slice() == reply && told.as_slice() == state
+        }
+        _ => false,
     }
 }
 
@@ -109,6 +111,8 @@ fn one_call_of_one_process(rt: HostRuntime) -> Result<(), Fail> {
     let seventh = StepMark {
         event: 8,
         process: 0,
+        nth: 0,
+        number: 8,
         kind: StepKind::DecideAfter,
         changed: true,
     };
@@ -139,7 +143,7 @@ fn has_helped_boxes(marks: &Marks) -> bool {
         return false;
     };
     match era.cells.as_slice() {
-        [first, second] => is_box(first, 2, b"ok") && is_box(second, 3, b"5"),
+        [first, second] => is_box(first, 2, b"ok", b"[5]") && is_box(second, 3, b"5", b"[]"),
         _ => false,
     }
 }
@@ -161,9 +165,10 @@ fn stopped_process_is_helped(rt: HostRuntime) -> Result<(), Fail> {
     Ok(())
 }
 
-/// Whether an era came after so many events, with an anchor of this number, and has so many boxes.
-fn is_era(era: &Era, from: u64, anchor: u64, boxes: usize) -> bool {
-    era.from == from && era.anchor == anchor && era.cells.len() == boxes
+/// Whether an era came after so many events, ended with this one, if it did, and has an anchor of this number and so
+/// many boxes.
+fn is_era(era: &Era, from: u64, last: Option<u64>, anchor: u64, boxes: usize) -> bool {
+    era.from == from && era.last == last && era.anchor == anchor && era.cells.len() == boxes
 }
 
 #[test]
@@ -177,7 +182,9 @@ fn trim_ends_an_era(rt: HostRuntime) -> Result<(), Fail> {
     };
     assert!(rt; marks.lines.as_slice() == [line].as_slice());
     match marks.eras.as_slice() {
-        [ended, present] => assert!(rt; is_era(ended, 0, 1, 1) && is_era(present, 16, 2, 0)),
+        [ended, present] => {
+            assert!(rt; is_era(ended, 0, Some(15), 1, 1) && is_era(present, 16, None, 2, 0))
+        }
         _ => assert!(rt; false),
     }
     Ok(())

@@ -1,5 +1,6 @@
 //! A test of a whole picture, and of the status that it is written with.
 
+use run_layout::Range;
 use run_picture::picture_of;
 use std::alloc::Global;
 use std::process::Abort;
@@ -85,7 +86,7 @@ fn has(text: &[u8], part: &[u8]) -> bool {
 
 /// Asserts that each part is in the picture of a script.
 fn has_parts(rt: &impl Abort, alloc: Global, script: &str, parts: &[&str]) {
-    match picture_of(alloc, &mut Checked::new(script.as_bytes())) {
+    match picture_of(alloc, Range::all(), &mut Checked::new(script.as_bytes())) {
         Ok(svg) => {
             for part in parts {
                 assert!(rt; has(svg.as_slice(), part.as_bytes()), "{part}");

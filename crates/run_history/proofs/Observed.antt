@@ -22,7 +22,8 @@ use Rattle.uni_script.specs.Schedules.{word_of_object}
 use Rattle.run_trace.specs.Frames.{Steps, stepped}
 use Rattle.run_trace.specs.Scenes.{Scene, scene_of, scenes_from}
 use Rattle.run_telling.specs.Order.{event_text, told_before, told_from}
-use Rattle.run_telling.specs.Told.{IsLinearizableRun, IsTold, state_text_of, text_of_events}
+use Rattle.run_layout.specs.Subject.{state_text_of}
+use Rattle.run_telling.specs.Told.{IsLinearizableRun, IsTold, text_of_events}
 use Rattle.run_json.specs.Lines.{line_text}
 use Rattle.run_history.specs.History.{IsHistory}
 use Rattle.run_history.specs.Lines.{act_line, history_text, history_wording, opening_members, replied_line}

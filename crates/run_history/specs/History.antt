@@ -3,7 +3,8 @@ use Rattle.std.specs.Prelude.{◌≡◌, ℕ, List, Option}
 use Rattle.uni_script.specs.Objects.{spoken_of}
 use Rattle.uni_script.specs.Schedules.{word_of_object}
 use Rattle.uni_script.specs.Scripts.{ScriptSession}
-use Rattle.run_telling.specs.Told.{IsTold, state_text_of}
+use Rattle.run_layout.specs.Subject.{state_text_of}
+use Rattle.run_telling.specs.Told.{IsTold}
 use Rattle.run_history.specs.Lines.{history_text, history_wording}
 
 -- the history of the session which a script leaves: what is observed of it

@@ -4,3 +4,4 @@ pub mod Finding
 pub mod Columns
 pub mod Scripts
 pub mod Telling
+pub mod Everything

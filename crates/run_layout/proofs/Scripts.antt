@@ -86,13 +86,13 @@ HasTooManyEvents-run left run is many =
     }
 
 -- the same of the run of a script over one object
-module _ {O S I R : Type 0} (o : SpokenObject S I R) (name : List ℕ) (left : Option (List ℕ)) (run : ScriptRun (Recording O S I R))
+module _ {O S I R : Type 0} (o : SpokenObject S I R) (text : S → List ℕ) (name : List ℕ) (left : Option (List ℕ)) (run : ScriptRun (Recording O S I R))
     (is : HasRunWhole (own_scripts_of o name 1048576) left (λ b remarks. IsOwnRunOf o b remarks run)) where
   abbrev stored : List (Event I)
   stored = events_shown run.record.events
 
-  pub own_subject : (marks : RunMarks) (remarks : List PlacedRemark) → remarks ≡ run.remarks.items → length stored ≤ 2000 → marks ≡ marks_of_events o name run.record.processes run.record.first stored
-      → IsSubjectOf (own_scripts_of o name 1048576) (marks_of_own o name) left marks remarks
+  pub own_subject : (marks : RunMarks) (remarks : List PlacedRemark) → remarks ≡ run.remarks.items → length stored ≤ 2000 → marks ≡ marks_of_events o text name run.record.processes run.record.first stored
+      → IsSubjectOf (own_scripts_of o name 1048576) (marks_of_own o text name) left marks remarks
   own_subject marks remarks same_remarks few same =
       let of = is.3.2 in record {
         script = is.0;
@@ -101,11 +101,11 @@ module _ {O S I R : Type 0} (o : SpokenObject S I R) (name : List ℕ) (left : O
         session = is.3.0;
         session_is = is.3.1;
         few = subst (λ (s : Session S I R). length s.events ≤ 2000) (sym of.session) few;
-        marks_are = same ∙ ap (λ (s : Session S I R). marks_of_events o name s.processes s.first s.events) (sym of.session);
+        marks_are = same ∙ ap (λ (s : Session S I R). marks_of_events o text name s.processes s.first s.events) (sym of.session);
         remarks_are = of.remarks_are ∙ ap (map remark_at) (sym same_remarks);
       }
 
-  pub own_few : (marks : RunMarks) → length stored ≤ 2000 → marks ≡ marks_of_events o name run.record.processes run.record.first stored → marks.events ≤ 2000
+  pub own_few : (marks : RunMarks) → length stored ≤ 2000 → marks ≡ marks_of_events o text name run.record.processes run.record.first stored → marks.events ≤ 2000
   unfolding marks_of_events
   own_few marks few same = subst (λ n. n ≤ 2000) (sym (ap (λ (m : RunMarks). m.events) same)) few
 

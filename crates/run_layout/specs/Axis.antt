@@ -1,6 +1,6 @@
 -- Where each event and each refusal stands from left to right.
 use Rattle.std.specs.Prelude.{◌≡◌, ℕ, zero, suc, ◌+◌, ◌-◌, ◌*◌, ◌/◌, ◌≤◌, min, max, ◌==◌}
-use Rattle.std.specs.Prelude.{if◌then◌else◌, nat_le, List, [], ◌∷◌, length, map, take, slice_index_or, Option, Some, None, refl}
+use Rattle.std.specs.Prelude.{if◌then◌else◌, nat_le, List, [], ◌∷◌, length, map, fold, take, slice_index_or, Option, Some, None, refl}
 use Rattle.std.specs.List.{find, sum, sum_by}
 use Rattle.std.specs.Option.{option_map_or}
 use Rattle.uni_script.specs.declared.remarks.PlacedRemark.{PlacedRemark}
@@ -45,10 +45,13 @@ line_room scale line = max scale.step (label_room scale (line_text line))
 abbrev pub width_of_line : List EraLine → Scale → (event : ℕ) → ℕ
 width_of_line lines scale event = option_map_or (line_room scale) (find (λ line. line.event == event) lines) scale.step
 
--- how wide the column of an event is
+-- the wider one of a column and a bar, if that begins with its event
+abbrev pub widened : (events : ℕ) → Scale → (event width : ℕ) → Called → ℕ
+widened events scale event width bar = if bar.from == event then max width (bar_room events scale bar) else width
+
+-- how wide the column of an event is: it takes each bar that begins with it
 abbrev pub width_of : RunMarks → Scale → (event : ℕ) → ℕ
-width_of marks scale event =
-    option_map_or (bar_room marks.events scale) (find (λ bar. bar.from == event) marks.bars) (width_of_line marks.lines scale event)
+width_of marks scale event = fold (widened marks.events scale event) (width_of_line marks.lines scale event) marks.bars
 
 -- how wide the columns are from an event on, of so many events
 unfoldable pub widths_from : RunMarks → Scale → (event count : ℕ) → List ℕ

@@ -4,3 +4,4 @@ pub mod Refusals
 pub mod Titles
 pub mod Axis
 pub mod Subject
+pub mod Choice

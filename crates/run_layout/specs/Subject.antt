@@ -1,13 +1,17 @@
 -- What a picture shows of a script.
 use Rattle.std.specs.Prelude.{◌≡◌, ◌<◌, ◌≤◌, ℕ, List, length, map, Option, None, Some, codes}
+use Rattle.ready_objects.specs.Directory.{pairs_text}
+use Rattle.ready_objects.specs.Number.{numbers_text}
+use Rattle.ready_objects.specs.Sticky.{sticky_text}
 use Rattle.uni_model.specs.Worlds.{Event, opened_world}
 use Rattle.uni_record.specs.Event.{events_shown}
+use Rattle.uni_script.specs.declared.grammar.ObjectName.{ObjectName}
 use Rattle.uni_script.specs.declared.grammar.ObjectName.TheVariants as name
 use Rattle.uni_script.specs.declared.script_run.ScriptRecord.{ScriptRecord}
 use Rattle.uni_script.specs.declared.script_run.ScriptRecord.TheVariants.{Queue, Directory, Book, Sticky}
 use Rattle.uni_script.specs.declared.remarks.PlacedRemark.{PlacedRemark}
 use Rattle.uni_script.specs.Fault.{fault_text}
-use Rattle.uni_script.specs.Objects.{SpokenObject, spoken_of}
+use Rattle.uni_script.specs.Objects.{InvOf, SpokenObject, StateOf, spoken_of}
 use Rattle.uni_script.specs.Outcome.{Kind, outcome_of_script}
 use Rattle.uni_script.specs.Schedules.{word_of_object}
 use Rattle.uni_script.specs.Scripts.{ScriptSession, OwnSession, scripts_of}
@@ -17,19 +21,28 @@ use Rattle.run_marks.specs.Marks.{RunMarks, marks_of_run}
 use Rattle.run_layout.specs.declared.subject.PictureFault.{PictureFault}
 use Rattle.run_layout.specs.declared.subject.PictureFault.TheVariants.{Script, TooManyEvents}
 
--- the marks of some events of n processes, on an object of this name
-unfoldable pub marks_of_events : {S I R : Type 0} → SpokenObject S I R → (name : List ℕ) → (n first : ℕ) → List (Event I)
-    → RunMarks
-marks_of_events o name n first events = marks_of_run o name (opened_world n o.object.initial first) events
+-- the text of the states of a named object
+abbrev pub state_text_of : (object : ObjectName) → StateOf object → List ℕ
+state_text_of name.Queue = numbers_text
+state_text_of name.Directory = pairs_text
+state_text_of name.Book = numbers_text
+state_text_of name.Sticky = sticky_text
+
+-- the marks of some events of n processes, on an object of this name, with the text of each of its states
+unfoldable pub marks_of_events : {S I R : Type 0} → SpokenObject S I R → (S → List ℕ) → (name : List ℕ) → (n first : ℕ)
+    → List (Event I) → RunMarks
+marks_of_events o text name n first events = marks_of_run o text name (opened_world n o.object.initial first) events
+
+-- those of a named object
+abbrev pub marks_of_named : (object : ObjectName) → (n first : ℕ) → List (Event (InvOf object)) → RunMarks
+marks_of_named object = marks_of_events (spoken_of object) (state_text_of object) (word_of_object object)
 
 -- those of a record, by its object
 abbrev pub marks_of_record : ScriptRecord → RunMarks
-marks_of_record (Queue r) = marks_of_events (spoken_of name.Queue) (word_of_object name.Queue) r.processes r.first (events_shown r.events)
-marks_of_record (Directory r) =
-    marks_of_events (spoken_of name.Directory) (word_of_object name.Directory) r.processes r.first (events_shown r.events)
-marks_of_record (Book r) = marks_of_events (spoken_of name.Book) (word_of_object name.Book) r.processes r.first (events_shown r.events)
-marks_of_record (Sticky r) =
-    marks_of_events (spoken_of name.Sticky) (word_of_object name.Sticky) r.processes r.first (events_shown r.events)
+marks_of_record (Queue r) = marks_of_named name.Queue r.processes r.first (events_shown r.events)
+marks_of_record (Directory r) = marks_of_named name.Directory r.processes r.first (events_shown r.events)
+marks_of_record (Book r) = marks_of_named name.Book r.processes r.first (events_shown r.events)
+marks_of_record (Sticky r) = marks_of_named name.Sticky r.processes r.first (events_shown r.events)
 
 -- how many events it has
 abbrev pub events_of_record : ScriptRecord → ℕ
@@ -40,7 +53,7 @@ events_of_record (Sticky r) = length (events_shown r.events)
 
 -- those of the session which a script leaves
 abbrev pub marks_of_session : ScriptSession → RunMarks
-marks_of_session b = marks_of_events (spoken_of b.object) (word_of_object b.object) b.session.processes b.session.first b.session.events
+marks_of_session b = marks_of_named b.object b.session.processes b.session.first b.session.events
 
 -- the text of a fault
 abbrev pub picture_fault_text : PictureFault → List ℕ
@@ -48,8 +61,8 @@ picture_fault_text (Script e) = fault_text e
 picture_fault_text TooManyEvents = codes "too many events for a picture"
 
 -- those of a session of scripts over one object, which this word names
-abbrev pub marks_of_own : {S I R : Type 0} → SpokenObject S I R → (name : List ℕ) → OwnSession S I R → RunMarks
-marks_of_own o name b = marks_of_events o name b.session.processes b.session.first b.session.events
+abbrev pub marks_of_own : {S I R : Type 0} → SpokenObject S I R → (S → List ℕ) → (name : List ℕ) → OwnSession S I R → RunMarks
+marks_of_own o text name b = marks_of_events o text name b.session.processes b.session.first b.session.events
 
 -- the reader had a script without a fault and with at most 2,000 events; these are the marks of its session, and what it tells
 pub record IsSubjectOf {B : Type 0} (kind : Kind B) (marks_in : B → RunMarks) (left : Option (List ℕ)) (marks : RunMarks)

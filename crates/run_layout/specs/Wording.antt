@@ -1,6 +1,6 @@
 -- The texts of a picture.
 use Rattle.std.specs.Prelude.{◌≡◌, ℕ, ◌==◌, if◌then◌else◌, List, [], ◌∷◌, ◌++◌, length, Option, Some, None}
-use Rattle.std.specs.Prelude.{codes, refl, Bool, true, false, ◌&&◌, not}
+use Rattle.std.specs.Prelude.{codes, refl, Bool, true, false, ◌&&◌, not, nat_le, replicate, option_and_then}
 use Rattle.std.specs.List.{filter, find, list_any}
 use Rattle.std.specs.Fmt.{decimal, digits}
 use Rattle.std.specs.Option.{option_map_or}
@@ -114,6 +114,11 @@ lane_of (Count count) = None
 abbrev pub cell_words : Cell → List ℕ
 cell_words cell = cell.words ++ codes " -> " ++ option_map_or (λ reply. reply) cell.reply (codes "?")
 
+-- the state after a cell, where that is settled and has at most 24 letters
+abbrev pub cell_state : Cell → Option (List ℕ)
+cell_state cell =
+    option_and_then (λ state. if nat_le (length state) 24 then Some (codes "state " ++ state) else None) cell.state
+
 -- whether a dot is of this cell's call, and another process linked the cell
 abbrev pub is_help : Cell → Dot → Bool
 is_help cell dot =
@@ -139,8 +144,8 @@ title_text marks =
 -- a test and an announcement occur, in the order of calls
 abbrev two_steps : List StepMark
 two_steps =
-    record { event = 1; process = 0; kind = Test; changed = false }
-    ∷ record { event = 2; process = 1; kind = Announce; changed = true } ∷ []
+    record { event = 1; process = 0; nth = 0; number = 5; kind = Test; changed = false }
+    ∷ record { event = 2; process = 1; nth = 0; number = 1; kind = Announce; changed = true } ∷ []
 
 kinds_of_two : kinds_of two_steps ≡ Announce ∷ Test ∷ []
 kinds_of_two = refl
@@ -172,7 +177,21 @@ counts_of_one_turn = refl
 
 -- a cell that another process linked
 name_of_helped : cell_name (record { event = 9; call = record { process = 1; nth = 0 }; by = 0 } ∷ [])
-    (record { number = 2; call = record { process = 1; nth = 0 }; words = codes "deq"; reply = None })
+    (record { number = 2; call = record { process = 1; nth = 0 }; words = codes "deq"; reply = None; state = None })
     ≡ codes "2: 1.0 by P0"
 unfolding digits
 name_of_helped = refl
+
+-- the state after a cell that is settled, and one of 25 letters, which isn't told
+abbrev with_state : List ℕ → Cell
+with_state state =
+    record { number = 2; call = record { process = 1; nth = 0 }; words = codes "deq"; reply = Some (codes "5"); state = Some state }
+
+state_of_two : cell_state (with_state (codes "[6 7]")) ≡ Some (codes "state [6 7]")
+state_of_two = refl
+
+state_of_24_letters : cell_state (with_state (replicate 24 120)) ≡ Some (codes "state " ++ replicate 24 120)
+state_of_24_letters = refl
+
+state_of_25_letters : cell_state (with_state (replicate 25 120)) ≡ None
+state_of_25_letters = refl

@@ -4,7 +4,7 @@ ghost use Rattle.std.specs.Prelude.{◌≡◌, ◌+◌, ◌-◌, ◌*◌, ◌≤
 ghost use Rattle.std.specs.List.{All, sum, sum_by};
 ghost use Rattle.run_marks.specs.Shown.{bar_shown, marks_shown};
 ghost use Rattle.run_layout.specs.Axis.{IsScale, letters_of, label_room, last_event, bar_room, line_room};
-ghost use Rattle.run_layout.specs.Axis.{width_of_line, width_of, widths_from, told_room, room_of, room_until};
+ghost use Rattle.run_layout.specs.Axis.{width_of_line, widened, width_of, widths_from, told_room, room_of, room_until};
 ghost use Rattle.run_layout.specs.Refusals.{told_shown};
 ghost use Rattle.run_layout.specs.Axis.{event_columns, remark_columns, places_shown, places_of, event_column};
 ghost use Rattle.run_layout.specs.Axis.{remark_column, middle_of, right_of};
@@ -168,8 +168,31 @@ fn line_room(alloc: Global, line: &EraLine, scale: Scale) -> Result<u32, AllocEr
     Ok(scale.step.max(label))
 }
 
-/// How wide the column of an event is: that of a step, but so wide for a call that its bar takes its
-/// label, and for the end of an era that it takes its own.
+/// The wider one of a column and a bar, if that begins with its event.
+///
+/// An `Err` says that memory was refused.
+fn widened(
+    alloc: Global,
+    bar: &Bar,
+    events: u64,
+    event: u64,
+    width: u32,
+    scale: Scale,
+) -> Result<u32, AllocError>
+    requires events { events ≤ 2000 }
+    requires scale { IsScale scale }
+    requires width { width ≤ 8008 }
+    ensures small { IfOk result (λ wide. wide ≤ 8008) }
+    ensures width { IfOk result (λ wide. wide ≡ widened events scale event width (bar_shown bar.now)) }
+{
+    if bar.from != event {
+        return Ok(width);
+    }
+    Ok(width.max(bar_room(alloc, bar, events, scale)?))
+}
+
+/// How wide the column of an event is: that of a step, but so wide that it takes the label of each bar that
+/// begins with it, or of the end of an era.
 ///
 /// An `Err` says that memory was refused.
 fn width_of(alloc: Global, marks: &Marks, event: u64, scale: Scale) -> Result<u32, AllocError>
@@ -178,12 +201,11 @@ fn width_of(alloc: Global, marks: &Marks, event: u64, scale: Scale) -> Result<u3
     ensures small { IfOk result (λ width. width ≤ 8008) }
     ensures width { IfOk result (λ width. width ≡ width_of (marks_shown marks.now) scale event) }
 {
+    let mut width = width_of_line(alloc, marks.lines.as_slice(), event, scale)?;
     for bar in &marks.bars {
-        if bar.from == event {
-            return bar_room(alloc, bar, marks.events, scale);
-        }
+        width = widened(alloc, bar, marks.events, event, width, scale)?;
     }
-    width_of_line(alloc, marks.lines.as_slice(), event, scale)
+    Ok(width)
 }
 
 /// How wide the column of an event that begins no call is: the end of an era takes its label, and all

@@ -3,6 +3,7 @@
 #![tactic(auto)]
 
 mod axis;
+mod choice;
 mod refusals;
 mod subject;
 mod titles;
@@ -10,11 +11,12 @@ mod wording;
 mod wrapping;
 
 pub use axis::{Axis, Column, MOST_EVENTS, MOST_LANES, MOST_REMARKS, Scale, axis_of, letters};
+pub use choice::Range;
 pub use refusals::{Told, refused_text, told_of};
 pub use subject::{PictureFault, Subject, subject_of, subject_of_object};
 pub use titles::step_title;
 pub use wording::{
-    any_unchanged, cell_name, cell_words, counts_of, kinds_of, label_of, lane_of, letter_of,
-    line_of, meaning_of, push_counted, refusal_of, title_of,
+    any_unchanged, cell_name, cell_state, cell_words, counts_of, kinds_of, label_of, lane_of,
+    letter_of, line_of, meaning_of, push_counted, refusal_of, title_of,
 };
 pub use wrapping::{MOST_LINES, push_lines};

@@ -7,10 +7,12 @@ ghost use Rattle.uni_script.specs.Replay.{HasFault, IsFaultOfScript};
 ghost use Rattle.uni_script.specs.Scripts.{scripts_of, own_scripts_of};
 ghost use Rattle.uni_script.specs.declared.fault.BenchFault.{BenchFault as Fault};
 ghost use Rattle.run_marks.specs.Shown.{marks_shown};
+ghost use Rattle.run_layout.specs.Choice.{chosen, chosen_remarks};
 ghost use Rattle.run_layout.specs.Subject.{marks_of_events, marks_of_record, marks_of_own, events_of_record};
 ghost use Rattle.run_layout.specs.Subject.{picture_fault_text, IsSubject, IsSubjectOf, HasTooManyEvents, HasMoreEvents};
 
 use crate::axis::MOST_EVENTS;
+use crate::choice::{Range, chosen, chosen_remarks};
 use ready_objects::{BookObject, DirectoryObject, QueueObject, Spoken, StickyObject};
 use run_marks::{Marks, marks_of};
 use std::alloc::{AllocError, Global};
@@ -50,6 +52,23 @@ pub struct Subject {
     pub remarks: Vec<PlacedRemark>,
 }
 
+impl Subject {
+    /// What a picture shows where these events are chosen.
+    ///
+    /// An `Err` says that memory was refused.
+    pub fn chosen(self, alloc: Global, range: Range) -> Result<Subject, AllocError>
+        ensures marks { IfOk result (λ part. marks_shown part.marks ≡ chosen range (marks_shown self.marks)) }
+        ensures remarks { IfOk result (λ part. part.remarks.items ≡ chosen_remarks range self.remarks.items) }
+        ensures events { IfOk result (λ part. part.marks.events ≤ self.marks.events) }
+        ensures told { IfOk result (λ part. length part.remarks.items ≤ length self.remarks.items) }
+    {
+        Ok(Subject {
+            marks: chosen(alloc, range, self.marks)?,
+            remarks: chosen_remarks(alloc, range, self.remarks)?,
+        })
+    }
+}
+
 /// The marks of the run that a record has stored, on an object of this name; `object` is a further value of
 /// that object.
 ///
@@ -62,7 +81,7 @@ fn marks_of_events<O: Spoken>(
 ) -> Result<Marks, PictureFault>
     ensures few { OnOk result (length (events_shown recorded.now.events) ≤ 2000) }
     ensures marks { IfOk result (λ marks. marks_shown marks
-        ≡ marks_of_events (record { object = O.sequential object; language = O.language }) name.now
+        ≡ marks_of_events (record { object = O.sequential object; language = O.language }) O.state_text name.now
         recorded.now.processes recorded.now.first (events_shown recorded.now.events)) }
     ensures many { IsErrOf result PictureFault.TooManyEvents → 2000 < length (events_shown recorded.now.events) }
     ensures memory { (e : Fault) → IsErrOf result (PictureFault.Script e) → e ≡ Fault.Memory }
@@ -156,7 +175,7 @@ pub fn subject_of_object<O: Spoken + Copy, I: TextIn>(
     requires { I.has_failed reader.old ≡ false }
     ensures subject { IfOk result (λ subject. IsSubjectOf
         (own_scripts_of (spoken O.sequential O.language object) name.now 1048576)
-        (marks_of_own (spoken O.sequential O.language object) name.now) (I.remaining reader.old)
+        (marks_of_own (spoken O.sequential O.language object) O.state_text name.now) (I.remaining reader.old)
         (marks_shown subject.marks) subject.remarks.items) }
     ensures few { IfOk result (λ subject. subject.marks.events ≤ 2000) }
     ensures remarks { IfOk result (λ subject. length subject.remarks.items ≤ 100000) }
@@ -184,7 +203,7 @@ fn subject_of_own_run<O: Spoken>(
 ) -> Result<Subject, PictureFault>
     ensures few { OnOk result (length (events_shown run.record.events) ≤ 2000) }
     ensures marks { IfOk result (λ subject. marks_shown subject.marks
-        ≡ marks_of_events (record { object = O.sequential object; language = O.language }) name.now
+        ≡ marks_of_events (record { object = O.sequential object; language = O.language }) O.state_text name.now
         run.record.processes run.record.first (events_shown run.record.events)) }
     ensures remarks { IfOk result (λ subject. subject.remarks.items ≡ run.remarks.items) }
     ensures many { IsErrOf result PictureFault.TooManyEvents → 2000 < length (events_shown run.record.events) }

@@ -1,13 +1,13 @@
 //! The texts of a picture.
 
 ghost use Rattle.std.specs.Prelude.{◌≡◌, ◌≤◌, ◌+◌, ◌++◌, ◌∷◌, []};
-ghost use Rattle.std.specs.Prelude.{if◌then◌else◌, IfOk, OnOk, length};
+ghost use Rattle.std.specs.Prelude.{if◌then◌else◌, IfOk, OnOk, IfSome, length, option_map};
 ghost use Rattle.std.specs.List.{find};
 ghost use Rattle.std.specs.Option.{option_map_or};
 ghost use Rattle.run_marks.specs.Shown.{end_shown, bar_shown, cell_shown, marks_shown};
 ghost use Rattle.run_layout.specs.Wording.{occurs, kinds_of, any_unchanged, linker_text, is_help};
 ghost use Rattle.run_layout.specs.Wording.{letter_of, meaning_of, label_text, counted_text, counts_text, line_text};
-ghost use Rattle.run_layout.specs.Wording.{refusal_words, lane_of, cell_words, cell_name, title_text};
+ghost use Rattle.run_layout.specs.Wording.{refusal_words, lane_of, cell_words, cell_state, cell_name, title_text};
 
 use run_marks::{Bar, BarEnd, CellBox, Dot, EraEnd, EraLine, Marks, StepMark};
 use std::alloc::{AllocError, Global};
@@ -73,6 +73,9 @@ const KINDS: [StepKind; 13] = [
     StepKind::WriteHead,
     StepKind::Finish,
 ];
+
+/// How many letters a state has at most where a cell tells it.
+const MOST_STATE: usize = 24;
 
 /// Whether a step of this kind is among some.
 fn occurs(steps: &[StepMark], kind: StepKind) -> bool
@@ -233,6 +236,25 @@ pub fn cell_words(alloc: Global, cell: &CellBox) -> Result<Vec<u8>, AllocError>
         None => text.push(b'?')?,
     }
     Ok(text)
+}
+
+/// The state after a cell, where that is settled and short.
+///
+/// An `Err` says that memory was refused.
+pub fn cell_state(alloc: Global, cell: &CellBox) -> Result<Option<Vec<u8>>, AllocError>
+    ensures small { IfOk result (λ state. IfSome state (λ text. length text.items ≤ 30)) }
+    ensures state { IfOk result (λ state. option_map (λ text. text.items) state
+        ≡ cell_state (cell_shown cell.now)) }
+{
+    match &cell.state {
+        Some(state) if state.len() <= MOST_STATE => {
+            let mut text = Vec::new(alloc);
+            text.extend_from_slice(b"state ")?;
+            text.extend_from_slice(state)?;
+            Ok(Some(text))
+        }
+        _ => Ok(None),
+    }
 }
 
 /// Whether a dot is of this cell's call, and another process linked the cell.

@@ -4,16 +4,19 @@ use Rattle.uni_script.specs.declared.remarks.PlacedRemark.{PlacedRemark}
 use Rattle.run_marks.specs.Marks.{RunMarks}
 use Rattle.uni_script.specs.Outcome.{Kind}
 use Rattle.uni_script.specs.Scripts.{scripts_of}
+use Rattle.run_layout.specs.declared.choice.Range.{Range}
+use Rattle.run_layout.specs.Choice.{chosen, chosen_remarks}
 use Rattle.run_layout.specs.Subject.{marks_of_session, IsSubjectOf}
 use Rattle.run_lines.specs.Sheet.{lines_of_marks}
 
--- the reader had a script that can be drawn, and this text draws its marks and what it tells
-pub record IsLinesOf {B : Type 0} (kind : Kind B) (marks_in : B → RunMarks) (left : Option (List ℕ)) (text : List ℕ) : Type 0 where
+-- the reader had a script that can be drawn, and this text draws its marks and what it tells, where these events are chosen
+pub record IsLinesOf {B : Type 0} (kind : Kind B) (marks_in : B → RunMarks) (range : Range) (left : Option (List ℕ))
+    (text : List ℕ) : Type 0 where
   pub marks : RunMarks
   pub remarks : List PlacedRemark
   pub subject : IsSubjectOf kind marks_in left marks remarks
-  pub drawn : text ≡ lines_of_marks marks remarks
+  pub drawn : text ≡ lines_of_marks (chosen range marks) (chosen_remarks range remarks)
 
 -- the same of a script over the named objects
-abbrev pub IsLines : (left : Option (List ℕ)) (text : List ℕ) → Type 0
-IsLines left text = IsLinesOf (scripts_of 1048576) marks_of_session left text
+abbrev pub IsLines : Range → (left : Option (List ℕ)) (text : List ℕ) → Type 0
+IsLines range left text = IsLinesOf (scripts_of 1048576) marks_of_session range left text

@@ -1,6 +1,7 @@
 -- The whole text, for a terminal of 100 columns.
 use Rattle.std.specs.Prelude.{◌≡◌, ℕ, zero, suc, ◌+◌, ◌-◌, ◌*◌, ◌/◌, ◌%◌, ◌&&◌, ◌||◌, min, max, ◌==◌, nat_lt}
-use Rattle.std.specs.Prelude.{nat_le, if◌then◌else◌, Bool, true, false, List, [], ◌∷◌, ◌++◌, length, take, drop, replicate, codes, refl}
+use Rattle.std.specs.Prelude.{nat_le, if◌then◌else◌, Bool, true, false, List, [], ◌∷◌, ◌++◌, length, take, drop, replicate}
+use Rattle.std.specs.Prelude.{Option, None, Some, codes, refl}
 use Rattle.std.specs.List.{flat_map, list_any, suffix_len}
 use Rattle.std.specs.Fmt.{decimal, digits}
 use Rattle.uni_core.specs.declared.stage.StepKind.{StepKind}
@@ -10,7 +11,8 @@ use Rattle.uni_script.specs.declared.remarks.PlacedRemark.{PlacedRemark}
 use Rattle.run_marks.specs.declared.marks.Dot.{Dot}
 use Rattle.run_marks.specs.Marks.{Cell, EraMarks, RunMarks, lanes_of}
 use Rattle.run_layout.specs.declared.axis.Scale.{Scale}
-use Rattle.run_layout.specs.Wording.{letter_of, meaning_of, kinds_of, any_unchanged, cell_name, cell_words, title_text}
+use Rattle.run_layout.specs.Wording.{letter_of, meaning_of, kinds_of, any_unchanged, cell_name, cell_words, cell_state}
+use Rattle.run_layout.specs.Wording.{title_text}
 use Rattle.run_layout.specs.Wrapping.{lines_of}
 use Rattle.run_layout.specs.Axis.{Places, places_of}
 use Rattle.run_lines.specs.declared.numbering.Numbering.{Numbering}
@@ -131,9 +133,15 @@ notes_from numbering [] = []
 notes_from numbering (one ∷ remarks) =
     let next = numbering_after numbering one in note_text next.number one.remark ++ notes_from next remarks
 
+-- the state after a cell, where it is short
+abbrev pub state_text : Option (List ℕ) → List ℕ
+state_text (Some state) = codes ", " ++ state
+state_text None = []
+
 -- a cell of an era
 abbrev pub cell_text : List Dot → Cell → List ℕ
-cell_text dots cell = ended (codes "  " ++ cell_name dots cell ++ codes " " ++ cell_words cell)
+cell_text dots cell =
+    ended (codes "  " ++ cell_name dots cell ++ codes " " ++ cell_words cell ++ state_text (cell_state cell))
 
 -- an era, by its place from 0, with its anchor and its cells
 abbrev pub era_text : List Dot → (place : ℕ) → EraMarks → List ℕ
@@ -221,7 +229,9 @@ abbrev reshaped : Places
 reshaped = record { events = record { left = 9; width = 16 } ∷ []; remarks = []; end = 25 }
 
 abbrev two_eras : List EraMarks
-two_eras = record { from = 0; processes = 1; anchor = 1; cells = [] } ∷ record { from = 1; processes = 2; anchor = 1; cells = [] } ∷ []
+two_eras =
+    record { from = 0; last = Some 0; processes = 1; anchor = 1; cells = [] }
+    ∷ record { from = 1; last = None; processes = 2; anchor = 1; cells = [] } ∷ []
 
 lanes_of_parts : lanes_between reshaped two_eras 0 9 ∷ lanes_between reshaped two_eras 9 10 ∷ lanes_between reshaped two_eras 0 96 ∷ []
     ≡ 1 ∷ 2 ∷ 2 ∷ []

@@ -169,8 +169,8 @@ no_arrow_of_own : arrow_strokes 2 7 (record { event = 1; call = record { process
 no_arrow_of_own = refl
 
 -- a proposal that won, and one that lost
-letters_of_two : step_letter (record { event = 8; process = 0; kind = DecideAfter; changed = true })
-    ∷ step_letter (record { event = 9; process = 1; kind = DecideAfter; changed = false }) ∷ []
+letters_of_two : step_letter (record { event = 8; process = 0; nth = 0; number = 8; kind = DecideAfter; changed = true })
+    ∷ step_letter (record { event = 9; process = 1; nth = 0; number = 8; kind = DecideAfter; changed = false }) ∷ []
     ≡ codes "Ll"
 letters_of_two = refl
 
@@ -179,7 +179,8 @@ abbrev reshaped : Places
 reshaped = record { events = record { left = 9; width = 16 } ∷ []; remarks = []; end = 25 }
 
 name_of_new : new_names reshaped 2 64
-    (record { from = 0; processes = 1; anchor = 1; cells = [] } ∷ record { from = 1; processes = 2; anchor = 1; cells = [] } ∷ [])
+    (record { from = 0; last = Some 0; processes = 1; anchor = 1; cells = [] }
+    ∷ record { from = 1; last = None; processes = 2; anchor = 1; cells = [] } ∷ [])
     ≡ text_stroke 7 10 (codes "P1") ∷ []
 unfolding names_from digits
 name_of_new = refl

@@ -1,51 +1,73 @@
 //! From the bytes of a script to the lines that draw its run.
 
-ghost use Rattle.std.specs.Prelude.{◌≡◌, IfOk, IsErrOf, false};
+ghost use Rattle.std.specs.Prelude.{◌≡◌, ◌≤◌, IfOk, IsErrOf, false, length};
 ghost use Rattle.uni_script.specs.Objects.{spoken};
 ghost use Rattle.uni_script.specs.Replay.{HasFault, IsFaultOfScript};
 ghost use Rattle.uni_script.specs.Scripts.{scripts_of, own_scripts_of};
 ghost use Rattle.uni_script.specs.declared.fault.BenchFault.{BenchFault as Fault};
+ghost use Rattle.run_marks.specs.Shown.{marks_shown};
+ghost use Rattle.run_layout.specs.Choice.{chosen, chosen_remarks};
 ghost use Rattle.run_layout.specs.Subject.{HasTooManyEvents, HasMoreEvents, marks_of_own};
 ghost use Rattle.run_lines.specs.Lines.{IsLines, IsLinesOf};
+ghost use Rattle.run_lines.specs.Sheet.{lines_of_marks};
 
 use crate::sheet::text_of;
 use ready_objects::Spoken;
-use run_layout::{PictureFault, subject_of, subject_of_object};
+use run_layout::{PictureFault, Range, Subject, subject_of, subject_of_object};
 use std::alloc::{AllocError, Global};
 use uni_script::{BenchFault, TextIn};
 
-/// The run of the script that a reader has, as lines for a terminal of 100 columns.
+/// The lines of what a picture shows where these events are chosen.
+///
+/// An `Err` says that memory was refused.
+fn text_of_subject(alloc: Global, range: Range, subject: Subject) -> Result<Vec<u8>, AllocError>
+    requires events { subject.marks.events ≤ 2000 }
+    requires remarks { length subject.remarks.items ≤ 100000 }
+    ensures { IfOk result (λ text. text.items ≡ lines_of_marks
+        (chosen range (marks_shown subject.marks)) (chosen_remarks range subject.remarks.items)) }
+{
+    let part = subject.chosen(alloc, range)?;
+    text_of(alloc, &part.marks, &part.remarks)
+}
+
+/// The run of the script that a reader has, where these events are chosen, as lines for a terminal of 100 columns.
 ///
 /// An `Err` is the first fault of the script; `Read` where the reader failed; `Memory` where memory was
 /// refused; or `TooManyEvents` of a good script that has more than 2,000 events.
-pub fn lines_of<I: TextIn>(alloc: Global, reader: &mut I) -> Result<Vec<u8>, PictureFault>
+pub fn lines_of<I: TextIn>(
+    alloc: Global,
+    range: Range,
+    reader: &mut I,
+) -> Result<Vec<u8>, PictureFault>
     requires { I.has_failed reader.old ≡ false }
-    ensures lines { IfOk result (λ text. IsLines (I.remaining reader.old) text.items) }
+    ensures lines { IfOk result (λ text. IsLines range (I.remaining reader.old) text.items) }
     ensures many { IsErrOf result PictureFault.TooManyEvents → HasTooManyEvents (I.remaining reader.old) }
     ensures fault { (e : Fault) → IsErrOf result (PictureFault.Script e) → IsFaultOfScript e
         → HasFault (scripts_of 1048576) (I.remaining reader.old) e }
 {
     let subject = subject_of(alloc, reader)?;
-    match text_of(alloc, &subject.marks, &subject.remarks) {
+    match text_of_subject(alloc, range, subject) {
         Ok(text) => Ok(text),
         Err(AllocError) => Err(PictureFault::Script(BenchFault::Memory)),
     }
 }
 
-/// The run of the script over an object that a reader has, as lines for a terminal of 100 columns. The script's header
-/// names the object by this word, as for `uni_script::bench_object`.
+/// The same of a script over an object, whose header names the object by this word, as for
+/// `uni_script::bench_object`.
 ///
 /// The errors are those of `lines_of`.
 pub fn lines_of_object<O: Spoken + Copy, I: TextIn>(
     alloc: Global,
     object: O,
     name: &str,
+    range: Range,
     reader: &mut I,
 ) -> Result<Vec<u8>, PictureFault>
     requires { I.has_failed reader.old ≡ false }
     ensures lines { IfOk result (λ text. IsLinesOf
         (own_scripts_of (spoken O.sequential O.language object) name.now 1048576)
-        (marks_of_own (spoken O.sequential O.language object) name.now) (I.remaining reader.old) text.items) }
+        (marks_of_own (spoken O.sequential O.language object) O.state_text name.now)
+        range (I.remaining reader.old) text.items) }
     ensures many { IsErrOf result PictureFault.TooManyEvents
         → HasMoreEvents (own_scripts_of (spoken O.sequential O.language object) name.now 1048576)
         (I.remaining reader.old) }
@@ -54,7 +76,7 @@ pub fn lines_of_object<O: Spoken + Copy, I: TextIn>(
         (I.remaining reader.old) e }
 {
     let subject = subject_of_object(alloc, object, name, reader)?;
-    match text_of(alloc, &subject.marks, &subject.remarks) {
+    match text_of_subject(alloc, range, subject) {
         Ok(text) => Ok(text),
         Err(AllocError) => Err(PictureFault::Script(BenchFault::Memory)),
     }

@@ -1,14 +1,15 @@
 //! What stands above and below the rows: headings, notes, eras and the legend.
 
-ghost use Rattle.std.specs.Prelude.{◌≡◌, ◌++◌, ◌+◌, ◌<◌, ◌≤◌, ◌^◌, IfOk, OnOk, length, map};
+ghost use Rattle.std.specs.Prelude.{◌≡◌, ◌++◌, ◌+◌, ◌<◌, ◌≤◌, ◌^◌, IfOk, OnOk};
+ghost use Rattle.std.specs.Prelude.{length, map, option_map};
 ghost use Rattle.run_marks.specs.Shown.{cell_shown, era_shown};
 ghost use Rattle.run_lines.specs.Numbers.{no_notes};
-ghost use Rattle.run_lines.specs.Sheet.{ended, wrapped, padded, headings_text, numbered_note, notes_from, cell_text};
-ghost use Rattle.run_lines.specs.Sheet.{era_text, eras_from, kind_text, entry_text, legend_text};
+ghost use Rattle.run_lines.specs.Sheet.{ended, wrapped, padded, headings_text, numbered_note, notes_from, state_text};
+ghost use Rattle.run_lines.specs.Sheet.{cell_text, era_text, eras_from, kind_text, entry_text, legend_text};
 ghost use Rattle.run_lines.specs.Sheet.{small_letters};
 
 use crate::numbering::Numbering;
-use run_layout::{cell_name, cell_words, letter_of, meaning_of, push_lines};
+use run_layout::{cell_name, cell_state, cell_words, letter_of, meaning_of, push_lines};
 use run_marks::{CellBox, Dot, Era};
 use std::alloc::{AllocError, Global};
 use std::io::Write;
@@ -119,7 +120,23 @@ pub fn push_notes(
     Ok(())
 }
 
-/// Adds a cell.
+/// Adds the state after a cell, if it is told.
+///
+/// An `Err` says that memory was refused.
+fn push_state(state: Option<Vec<u8>>, text: &mut Vec<u8>) -> Result<(), AllocError>
+    ensures { OnOk result (text.new.items
+        ≡ text.old.items ++ state_text (option_map (λ told. told.items) state)) }
+{
+    match state {
+        Some(state) => {
+            text.extend_from_slice(b", ")?;
+            text.extend_from_slice(&state)
+        }
+        None => Ok(()),
+    }
+}
+
+/// Adds a cell, with the state after it where it is short.
 ///
 /// An `Err` says that memory was refused.
 fn push_cell(
@@ -133,7 +150,10 @@ fn push_cell(
     text.extend_from_slice(b"  ")?;
     text.extend_from_slice(&cell_name(alloc, dots, cell)?)?;
     text.push(b' ')?;
-    push_line(&cell_words(alloc, cell)?, text)
+    text.extend_from_slice(&cell_words(alloc, cell)?)?;
+    push_state(cell_state(alloc, cell)?, text)?;
+    text.push(b'\n')?;
+    Ok(())
 }
 
 /// Adds an era, with its place among the eras from 0: its anchor, and its cells in the order of the list.

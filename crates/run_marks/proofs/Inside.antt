@@ -81,8 +81,8 @@ module _ {S I R : Type 0} (o : SpokenObject S I R) where
   bars_within w place (Trim ∷ es) most high = bars_within (world_after o.object w Trim) (place + 1) es most (omega arith)
   bars_within w place (Reshape n ∷ es) most high = bars_within (world_after o.object w (Reshape n)) (place + 1) es most (omega arith)
 
-  pub EndsAreEvents-holds : (name : List ℕ) (n : ℕ) (start : S) (number : ℕ) (events : List (Event I)) → EndsAreEvents o name n start number events
-  EndsAreEvents-holds name n start number events = All-from_recursion _ _ (bars_within (opened_world n start number) 0 events (length events) (omega arith))
+  pub EndsAreEvents-holds : (text : S → List ℕ) (name : List ℕ) (n : ℕ) (start : S) (number : ℕ) (events : List (Event I)) → EndsAreEvents o text name n start number events
+  EndsAreEvents-holds text name n start number events = All-from_recursion _ _ (bars_within (opened_world n start number) 0 events (length events) (omega arith))
 
   -- a step that doesn't end the call of a process
   end_by-none : (p q : ℕ) (w : WorldOf S I R) (place : ℕ) → (p ≢ q) ⊎ (response_of_step w q ≡ None) → None ≡ end_by o p w place (Step q)
@@ -171,8 +171,8 @@ module _ {S I R : Type 0} (o : SpokenObject S I R) where
   dots_lie w place (Reshape n ∷ es) inv ok =
       all_imply _ _ (λ d. lies_behind_reshape w place es d n) _ (dots_lie (world_after o.object w (Reshape n)) (place + 1) es (Invariant-world_after o.object w (Reshape n) ok.0 inv) ok.1)
 
-  pub DotsLieInBars-holds : (name : List ℕ) (n : ℕ) (start : S) (number : ℕ) (events : List (Event I)) → DotsLieInBars o name n start number events
-  DotsLieInBars-holds name n start number events positive ok =
+  pub DotsLieInBars-holds : (text : S → List ℕ) (name : List ℕ) (n : ℕ) (start : S) (number : ℕ) (events : List (Event I)) → DotsLieInBars o text name n start number events
+  DotsLieInBars-holds text name n start number events positive ok =
       let w = opened_world n start number in
       All-from_recursion _ _ (all_imply (Lies w 0 events) (HasBar w 0 events) (λ d lies. elim lies.1 [
         | inl ahead ↦ absurd (let none = ahead.current.pending in cc)

@@ -5,6 +5,7 @@ pub mod Dots
 pub mod Replayed
 pub mod Whole
 pub mod Logged
+pub mod Boxed
 pub mod Opened
 pub mod Inside
 pub mod Replies

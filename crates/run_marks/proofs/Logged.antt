@@ -1,6 +1,5 @@
 -- The dots and the boxes of a run are its joined log.
 use Rattle.std.proofs.Common.{◌≡◌, ◌∙◌, ℕ, ◌+◌, refl, sym, ap, List, [], ◌∷◌, ◌++◌, map, append_assoc}
-use Rattle.std.specs.List.{flat_map}
 use Rattle.std.proofs.lemmas.List.{append-nil, map-append}
 use Rattle.seq_object.specs.Sequential.{Sequential}
 use Rattle.seq_object.specs.declared.call_id.CallId.{CallId}
@@ -9,12 +8,12 @@ use Rattle.uni_model.specs.Worlds.{WorldOf, Event, world_after, opened_world}
 use Rattle.uni_model.specs.Worlds.Event.{Call, Step, Trim, Reshape}
 use Rattle.uni_model.specs.AtomicObject.{Atomic, Act, AcceptsAll, Invoked}
 use Rattle.uni_model.specs.AtomicObject.Act.{Invoke, Linearize, Respond}
-use Rattle.uni_model.specs.History.{log, log_of_run, acts_of, history_of}
+use Rattle.uni_model.specs.History.{log_of_run, acts_of, history_of}
 use Rattle.uni_model.proofs.Linearized.{IsLinearizable-holds}
 use Rattle.uni_script.specs.Objects.{SpokenObject}
 use Rattle.run_marks.specs.declared.marks.Dot.{Dot}
-use Rattle.run_marks.specs.Marks.{EraMarks, linearized_in, dots_by, along, box_of, eras_in}
-use Rattle.run_marks.specs.Laws.{DotsAreTheLog, BoxesAreTheLog}
+use Rattle.run_marks.specs.Marks.{linearized_in, dots_by, along}
+use Rattle.run_marks.specs.Laws.{DotsAreTheLog}
 use Rattle.run_marks.proofs.Walked.{map-map}
 
 -- the name of a call
@@ -56,24 +55,9 @@ module _ {S I R : Type 0} (object : Sequential S I R) where
       ∙ ap (map id_of_call) (sym (linearized_in-both (acts_of object w e) (history_of object v es)))
 
 module _ {S I R : Type 0} (o : SpokenObject S I R) where
-  pub DotsAreTheLog-holds : (name : List ℕ) (n : ℕ) (start : S) (number : ℕ) (events : List (Event I)) → DotsAreTheLog o name n start number events
-  DotsAreTheLog-holds name n start number events positive ok =
+  pub DotsAreTheLog-holds : (text : S → List ℕ) (name : List ℕ) (n : ℕ) (start : S) (number : ℕ) (events : List (Event I)) → DotsAreTheLog o text name n start number events
+  DotsAreTheLog-holds text name n start number events positive ok =
       let shown = IsLinearizable-holds o.object n start number events positive ok in
       dots-calls o.object (opened_world n start number) 0 events
       ∙ ap (map id_of_call) (sym (agreed-AcceptsAll o.object _ (history_of o.object (opened_world n start number) events) shown.0 shown.2) ∙ sym shown.1.agreed)
       ∙ map-map (λ (e : Entry I R). e.call) id_of_call (log_of_run o.object (opened_world n start number) events)
-
-  -- the boxes of the eras, from an era on
-  boxes-eras : (w : WorldOf S I R) (from place : ℕ) (es : List (Event I)) → flat_map (λ (e : EraMarks). e.cells) (eras_in o w from place es) ≡ map (box_of o.language) (log_of_run o.object w es)
-  boxes-eras w from place [] = append-nil (map (box_of o.language) (log w))
-  boxes-eras w from place (Call p i ∷ es) = boxes-eras (world_after o.object w (Call p i)) from (place + 1) es
-  boxes-eras w from place (Step p ∷ es) = boxes-eras (world_after o.object w (Step p)) from (place + 1) es
-  boxes-eras w from place (Trim ∷ es) =
-      ap (λ l. map (box_of o.language) (log w) ++ l) (boxes-eras (world_after o.object w Trim) (place + 1) (place + 1) es)
-      ∙ sym (map-append (box_of o.language) (log w) (log_of_run o.object (world_after o.object w Trim) es))
-  boxes-eras w from place (Reshape n ∷ es) =
-      ap (λ l. map (box_of o.language) (log w) ++ l) (boxes-eras (world_after o.object w (Reshape n)) (place + 1) (place + 1) es)
-      ∙ sym (map-append (box_of o.language) (log w) (log_of_run o.object (world_after o.object w (Reshape n)) es))
-
-  pub BoxesAreTheLog-holds : (name : List ℕ) (n : ℕ) (start : S) (number : ℕ) (events : List (Event I)) → BoxesAreTheLog o name n start number events
-  BoxesAreTheLog-holds name n start number events = boxes-eras (opened_world n start number) 0 0 events

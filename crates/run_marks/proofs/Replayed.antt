@@ -1,5 +1,5 @@
 -- The marks of an event that is replayed.
-use Rattle.std.proofs.Common.{◌≡◌, ◌≢◌, ◌∙◌, ℕ, refl, sym, ap, List, [], ◌∷◌, ◌++◌, Option, None, Some, map, drop, length}
+use Rattle.std.proofs.Common.{◌≡◌, ◌≢◌, ◌∙◌, ◌-◌, ℕ, refl, sym, ap, List, [], ◌∷◌, ◌++◌, Option, None, Some, map, drop, length}
 use Rattle.std.specs.Prelude.{option_map, Bool}
 use Rattle.std.specs.Option.{option_map_or}
 use Rattle.std.proofs.lemmas.List.{append-nil, length-map}
@@ -27,9 +27,9 @@ use Rattle.run_marks.specs.Changes.{has_changed, standing_at, changes_place}
 use Rattle.run_marks.specs.Marks.{End, Called, EraMarks, RunMarks, steps_by, linearized_in, dots_by, dots_of, end_of_step}
 use Rattle.run_marks.specs.Replay.{bar_ended}
 
-pub era_is : (a b : EraMarks) → a.from ≡ b.from → a.processes ≡ b.processes → a.anchor ≡ b.anchor → a.cells ≡ b.cells → a ≡ b
-era_is a b f p n c =
-    let g : record { from = a.from; processes = a.processes; anchor = a.anchor; cells = a.cells } ≡ record { from = b.from; processes = b.processes; anchor = b.anchor; cells = b.cells } = cc in g
+pub era_is : (a b : EraMarks) → a.from ≡ b.from → a.last ≡ b.last → a.processes ≡ b.processes → a.anchor ≡ b.anchor → a.cells ≡ b.cells → a ≡ b
+era_is a b f l p n c =
+    let g : record { from = a.from; last = a.last; processes = a.processes; anchor = a.anchor; cells = a.cells } ≡ record { from = b.from; last = b.last; processes = b.processes; anchor = b.anchor; cells = b.cells } = cc in g
 
 pub marks_are : (a b : RunMarks) → a.object ≡ b.object → a.events ≡ b.events → a.steps ≡ b.steps → a.bars ≡ b.bars → a.dots ≡ b.dots → a.lines ≡ b.lines → a.eras ≡ b.eras → a ≡ b
 marks_are a b o e s r d l f =
@@ -45,18 +45,20 @@ module _ {S I R : Type 0} where
     by_call (Some c) = refl
 
   -- a step of a call that is pending, with its kind, and whether it has changed its place
-  pub steps_by-taken : (object : Sequential S I R) (w v : WorldOf S I R) (place p : ℕ) (kind : StepKind) (at : PlaceById) (before : ℕ) (changed : Bool)
+  pub steps_by-taken : (object : Sequential S I R) (w v : WorldOf S I R) (place p nth number : ℕ) (kind : StepKind) (at : PlaceById) (before : ℕ) (changed : Bool)
       → option_map (λ (c : Pending). kind_of c.stage) (w.call p) ≡ Some kind
       → option_map (λ (c : Pending). place_of w.n p c.mine c.stage) (w.call p) ≡ Some (place_named (name_in w) at)
       → v ≡ world_after object w (Step p)
+      → nth ≡ v.begun p - 1
+      → number ≡ v.steps p
       → before ≡ standing_at w.memory (place_named (name_in w) at)
       → changed ≡ has_changed kind before (standing_at v.memory (place_named (name_in v) at))
-      → steps_by object w place (Step p) ≡ record { event = place; process = p; kind = kind; changed = changed } ∷ []
-  steps_by-taken object w v place p kind at before changed kinded placed world stood has = by_call (w.call p) kinded placed
+      → steps_by object w place (Step p) ≡ record { event = place; process = p; nth = nth; number = number; kind = kind; changed = changed } ∷ []
+  steps_by-taken object w v place p nth number kind at before changed kinded placed world nth_is number_is stood has = by_call (w.call p) kinded placed
     where
       by_call : (o : Option Pending) → option_map (λ (c : Pending). kind_of c.stage) o ≡ Some kind → option_map (λ (c : Pending). place_of w.n p c.mine c.stage) o ≡ Some (place_named (name_in w) at)
-          → option_map_or (λ (c : Pending). let m : StepMark = record { event = place; process = p; kind = kind_of c.stage; changed = changes_place object w p c } in m ∷ []) o []
-          ≡ record { event = place; process = p; kind = kind; changed = changed } ∷ []
+          → let u = world_after object w (Step p) in option_map_or (λ (c : Pending). let m : StepMark = record { event = place; process = p; nth = u.begun p - 1; number = u.steps p; kind = kind_of c.stage; changed = changes_place object w p c } in m ∷ []) o []
+          ≡ record { event = place; process = p; nth = nth; number = number; kind = kind; changed = changed } ∷ []
       by_call None e f = absurd (cc)
       by_call (Some c) e f =
           let same : kind_of c.stage ≡ kind = cc in
@@ -70,8 +72,11 @@ module _ {S I R : Type 0} where
           has ∙ ap (λ k. has_changed k before (standing_at v.memory (place_named (name_in v) at))) (sym same)
           ∙ ap (λ n. has_changed (kind_of c.stage) n (standing_at v.memory (place_named (name_in v) at))) was
           ∙ ap (has_changed (kind_of c.stage) (standing_at w.memory (place_of w.n p c.mine c.stage))) now in
-          ap (λ k. let m : StepMark = record { event = place; process = p; kind = k; changed = changes_place object w p c } in m ∷ []) same
-          ∙ ap (λ b. let m : StepMark = record { event = place; process = p; kind = kind; changed = b } in m ∷ []) (sym is)
+          let u = world_after object w (Step p) in
+          ap (λ k. let m : StepMark = record { event = place; process = p; nth = u.begun p - 1; number = u.steps p; kind = k; changed = changes_place object w p c } in m ∷ []) same
+          ∙ ap (λ b. let m : StepMark = record { event = place; process = p; nth = u.begun p - 1; number = u.steps p; kind = kind; changed = b } in m ∷ []) (sym is)
+          ∙ ap (λ j. let m : StepMark = record { event = place; process = p; nth = j; number = u.steps p; kind = kind; changed = changed } in m ∷ []) (sym (nth_is ∙ ap (λ (x : WorldOf S I R). x.begun p - 1) world))
+          ∙ ap (λ j. let m : StepMark = record { event = place; process = p; nth = nth; number = j; kind = kind; changed = changed } in m ∷ []) (sym (number_is ∙ ap (λ (x : WorldOf S I R). x.steps p) world))
 
 -- a step that doesn't answer `Done` has no response
 pub none-from_other : {R : Type 0} (o : Option R) (progress : Progress R) → ((r : R) → progress ≢ Done r) → progress ≡ progress_of o → o ≡ None

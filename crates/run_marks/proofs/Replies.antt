@@ -176,9 +176,9 @@ module _ {S I R : Type 0} (o : SpokenObject S I R) where
   bars_further : (name : List ℕ) (w : WorldOf S I R) (place : ℕ) (e : Event I) (es : List (Event I)) (so_far bars : List Called)
       → map (bar_later o w place (e ∷ es)) so_far ++ bars_in o w place (e ∷ es) ≡ bars
       → let m : RunMarks = record { object = name; events = 0; steps = []; bars = so_far; dots = []; lines = []; eras = [] } in
-      map (bar_later o (world_after o.object w e) (place + 1) es) (marks_with o m w 0 place e).bars ++ bars_in o (world_after o.object w e) (place + 1) es ≡ bars
+      map (bar_later o (world_after o.object w e) (place + 1) es) (marks_with o (λ s. []) m w 0 place e).bars ++ bars_in o (world_after o.object w e) (place + 1) es ≡ bars
   bars_further name w place e es so_far bars is =
-      ap (λ (m : RunMarks). m.bars) (marks_then-event o (record { object = name; events = 0; steps = []; bars = so_far; dots = []; lines = []; eras = [] }) w 0 place e es) ∙ is
+      ap (λ (m : RunMarks). m.bars) (marks_then-event o (λ s. []) (record { object = name; events = 0; steps = []; bars = so_far; dots = []; lines = []; eras = [] }) w 0 place e es) ∙ is
 
   module _ (w v : WorldOf S I R) (p : ℕ) where
     current_same : v.call p ≡ w.call p → v.begun p ≡ w.begun p → current_of v p ≡ current_of w p
@@ -366,8 +366,8 @@ module _ {S I R : Type 0} (o : SpokenObject S I R) where
         replies_with w place (Reshape n) es so_far bars (bars_further name w place (Reshape n) es so_far bars all) (silent_before place so_far is.ended) (so_far_era w place so_far is n)
         (replies (world_after o.object w (Reshape n)) (place + 1) es (CountsSteps-world_after o.object w (Reshape n) ok.0 (helping.0, helping.1, helping.2) counts) (HelpingInvariant-world_after o.object w (Reshape n) ok.0 counts helping) ok.1)
 
-    pub BarsHaveTheReplies-holds : (n : ℕ) (start : S) (number : ℕ) (events : List (Event I)) → BarsHaveTheReplies o name n start number events
-    BarsHaveTheReplies-holds n start number events positive ok =
+    pub BarsHaveTheReplies-holds : (text : S → List ℕ) (n : ℕ) (start : S) (number : ℕ) (events : List (Event I)) → BarsHaveTheReplies o text name n start number events
+    BarsHaveTheReplies-holds text n start number events positive ok =
         let w = opened_world n start number in
         let helping = HelpingInvariant-opened_world o.object n start number positive in
         replies w 0 events (CountsSteps-opened_world o.object n start number) helping ok [] _ (record { ended = tt; pending = λ p. refl }) refl

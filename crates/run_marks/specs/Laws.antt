@@ -1,6 +1,6 @@
 -- What holds of the marks of each run from an opening.
 use Rattle.std.specs.Prelude.{◌≡◌, ℕ, ◌+◌, ◌<◌, ◌≤◌, ◌==◌, if◌then◌else◌, List, [], ◌∷◌, ◌++◌}
-use Rattle.std.specs.Prelude.{map, replicate, Some, IfSome, Contains, refl}
+use Rattle.std.specs.Prelude.{map, replicate, Some, IfSome, Contains, option_map, refl}
 use Rattle.std.specs.Option.{option_map_or}
 use Rattle.std.specs.List.{All, flat_map}
 use Rattle.seq_object.specs.declared.call_id.CallId.{CallId}
@@ -13,7 +13,7 @@ use Rattle.uni_record.specs.declared.verdict.Return.{Return}
 use Rattle.uni_record.specs.Event.{responses_in}
 use Rattle.uni_script.specs.Objects.{SpokenObject}
 use Rattle.run_marks.specs.declared.marks.Dot.{Dot}
-use Rattle.run_marks.specs.Marks.{End, Called, EraMarks, RunMarks, box_of, marks_of_run}
+use Rattle.run_marks.specs.Marks.{End, Called, Cell, EraMarks, RunMarks, box_of, marks_of_run}
 
 -- the name of the call of an entry
 abbrev pub id_of : {I R : Type 0} → Entry I R → CallId
@@ -43,11 +43,19 @@ replies_in_order bars place (e ∷ es) = flat_map (reply_at place) bars ++ repli
 abbrev pub reply_text : {I R : Type 0} → Language I R → Return R → Reply
 reply_text l r = record { call = r.call; text = l.resp_text r.reply }
 
+-- the boxes of entries that come after a state, each with the object's state after its call, where that has its response
+abbrev pub boxes_after : {S I R : Type 0} → SpokenObject S I R → (S → List ℕ) → S → List (Entry I R) → List Cell
+boxes_after o text s [] = []
+boxes_after o text s (e ∷ es) =
+    let next = o.object.next s e.call.inv in
+    box_of o.language (option_map (λ response. text next) e.response) e ∷ boxes_after o text next es
+
 -- in each run from an opening
-module _ {S I R : Type 0} (o : SpokenObject S I R) (name : List ℕ) (n : ℕ) (start : S) (number : ℕ) (events : List (Event I)) where
+module _ {S I R : Type 0} (o : SpokenObject S I R) (text : S → List ℕ) (name : List ℕ) (n : ℕ) (start : S) (number : ℕ)
+    (events : List (Event I)) where
   -- its marks
   abbrev pub marks : RunMarks
-  marks = marks_of_run o name (opened_world n start number) events
+  marks = marks_of_run o text name (opened_world n start number) events
 
   -- the entries of all eras
   abbrev pub joined : List (Entry I R)
@@ -58,9 +66,11 @@ module _ {S I R : Type 0} (o : SpokenObject S I R) (name : List ℕ) (n : ℕ) (
   DotsAreTheLog =
       1 ≤ number → AreAccepted o.object (opened_world n start number) events → map (λ d. d.call) marks.dots ≡ map id_of joined
 
-  -- and so are the boxes of all eras, one era after the other
+  -- and so are the boxes of all eras, one era after the other, each with the object's state after its call and those before it
   abbrev pub BoxesAreTheLog : Type 0
-  BoxesAreTheLog = flat_map (λ (e : EraMarks). e.cells) marks.eras ≡ map (box_of o.language) joined
+  BoxesAreTheLog =
+      1 ≤ number → AreAccepted o.object (opened_world n start number) events
+      → flat_map (λ (e : EraMarks). e.cells) marks.eras ≡ boxes_after o text start joined
 
   -- each dot lies in a bar of its call
   abbrev pub DotsLieInBars : Type 0

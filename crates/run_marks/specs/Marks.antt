@@ -1,5 +1,5 @@
 -- The marks of a run: what is drawn of its events, told by the events and the worlds before them.
-use Rattle.std.specs.Prelude.{◌≡◌, ℕ, ◌+◌, ◌==◌, if◌then◌else◌, List, [], ◌∷◌, ◌++◌, length, map, max}
+use Rattle.std.specs.Prelude.{◌≡◌, ℕ, ◌+◌, ◌-◌, ◌==◌, if◌then◌else◌, List, [], ◌∷◌, ◌++◌, length, map, max}
 use Rattle.std.specs.Prelude.{replicate, drop, true, false, Option, Some, None, option_map, refl}
 use Rattle.std.specs.Option.{option_map_or, option_or}
 use Rattle.seq_object.specs.Sequential.{Sequential}
@@ -16,6 +16,7 @@ use Rattle.uni_model.specs.AtomicObject.{Act, Invoked}
 use Rattle.uni_model.specs.AtomicObject.Act.{Invoke, Linearize, Respond}
 use Rattle.uni_model.specs.History.{log, acts_of}
 use Rattle.uni_core.specs.Readers.{kind_of}
+use Rattle.uni_log.specs.Log.{state_settled_at}
 use Rattle.uni_trim.specs.Ends.{last_number}
 use Rattle.uni_script.specs.Objects.{SpokenObject}
 use Rattle.run_marks.specs.Changes.{changes_place}
@@ -38,16 +39,18 @@ pub record Called : Type 0 where
   pub words : List ℕ
   pub end : Option End
 
--- a cell of the list: its number, its call with its words, and the reply, where that is settled
+-- a cell of the list: its number, its call with its words, and the reply and the state after it, where they are settled
 pub record Cell : Type 0 where
   pub number : ℕ
   pub call : CallId
   pub words : List ℕ
   pub reply : Option (List ℕ)
+  pub state : Option (List ℕ)
 
--- an era: how many events came before it, its processes, the number of its anchor, and its cells
+-- an era: how many events came before it, its last event, where it has ended, its processes, the number of its anchor, and its cells
 pub record EraMarks : Type 0 where
   pub from : ℕ
+  pub last : Option ℕ
   pub processes : ℕ
   pub anchor : ℕ
   pub cells : List Cell
@@ -67,11 +70,20 @@ abbrev pub lanes_of : List EraMarks → ℕ
 lanes_of [] = 0
 lanes_of (e ∷ es) = max e.processes (lanes_of es)
 
--- the step that an event is, with its kind, that of the stage at which its process stands, and whether it changes its place
+-- the step that an event is: the call that it is of, how many own steps that has taken with it, its kind, that of the stage at
+-- which its process stands, and whether it changes its place
 abbrev pub steps_by : {S I R : Type 0} → Sequential S I R → WorldOf S I R → (place : ℕ) → Event I → List StepMark
 steps_by object w place (Step p) =
+    let v = world_after object w (Step p) in
     option_map_or (λ (call : Pending).
-    record { event = place; process = p; kind = kind_of call.stage; changed = changes_place object w p call } ∷ []) (w.call p) []
+    record {
+      event = place;
+      process = p;
+      nth = v.begun p - 1;
+      number = v.steps p;
+      kind = kind_of call.stage;
+      changed = changes_place object w p call;
+    } ∷ []) (w.call p) []
 steps_by object w place _ = []
 
 -- the calls that take effect among acts, in order
@@ -102,14 +114,21 @@ abbrev pub along : {S I R A : Type 0} → Sequential S I R → (WorldOf S I R �
 along object by w place [] = []
 along object by w place (e ∷ es) = by w place e ++ along object by (world_after object w e) (place + 1) es
 
--- the box of an entry of the log
-abbrev pub box_of : {I R : Type 0} → Language I R → Entry I R → Cell
-box_of l e = record {
+-- the box of an entry of the log, with the text of the state after it, where that is settled
+abbrev pub box_of : {I R : Type 0} → Language I R → (state : Option (List ℕ)) → Entry I R → Cell
+box_of l state e = record {
   number = e.number;
   call = record { process = e.call.process; nth = e.call.nth };
   words = text_of_words (l.inv_words e.call.inv);
   reply = option_map l.resp_text e.response;
+  state = state;
 }
+
+-- the boxes of entries that stand in the list from a place on, each with the state that is settled in its cell
+abbrev pub boxes_from : {S I R : Type 0} → Language I R → (S → List ℕ) → WorldOf S I R → (place : ℕ) → List (Entry I R) → List Cell
+boxes_from l text w place [] = []
+boxes_from l text w place (e ∷ es) =
+    box_of l (option_map text (state_settled_at w place)) e ∷ boxes_from l text w (place + 1) es
 
 -- on an object with its words
 module _ {S I R : Type 0} (o : SpokenObject S I R) where
@@ -145,17 +164,27 @@ module _ {S I R : Type 0} (o : SpokenObject S I R) where
   bars_in w place (Trim ∷ es) = bars_in (world_after o.object w Trim) (place + 1) es
   bars_in w place (Reshape n ∷ es) = bars_in (world_after o.object w (Reshape n)) (place + 1) es
 
-  -- the era of a world, which began after so many events
-  abbrev pub era_of : WorldOf S I R → (from : ℕ) → EraMarks
-  era_of w from = record { from = from; processes = w.n; anchor = seq_of w.memory Anchor; cells = map (box_of o.language) (log w) }
+-- on an object with its words and the text of each of its states
+module _ {S I R : Type 0} (o : SpokenObject S I R) (text : S → List ℕ) where
+  -- the era of a world, which began after so many events, and ends with an event, if it does
+  abbrev pub era_of : WorldOf S I R → (from : ℕ) → (last : Option ℕ) → EraMarks
+  era_of w from last = record {
+    from = from;
+    last = last;
+    processes = w.n;
+    anchor = seq_of w.memory Anchor;
+    cells = boxes_from o.language text w 1 (log w);
+  }
 
   -- the eras of a run, where the present one began after so many events
   abbrev pub eras_in : WorldOf S I R → (from place : ℕ) → List (Event I) → List EraMarks
-  eras_in w from place [] = era_of w from ∷ []
+  eras_in w from place [] = era_of w from None ∷ []
   eras_in w from place (Call p i ∷ es) = eras_in (world_after o.object w (Call p i)) from (place + 1) es
   eras_in w from place (Step p ∷ es) = eras_in (world_after o.object w (Step p)) from (place + 1) es
-  eras_in w from place (Trim ∷ es) = era_of w from ∷ eras_in (world_after o.object w Trim) (place + 1) (place + 1) es
-  eras_in w from place (Reshape n ∷ es) = era_of w from ∷ eras_in (world_after o.object w (Reshape n)) (place + 1) (place + 1) es
+  eras_in w from place (Trim ∷ es) =
+      era_of w from (Some place) ∷ eras_in (world_after o.object w Trim) (place + 1) (place + 1) es
+  eras_in w from place (Reshape n ∷ es) =
+      era_of w from (Some place) ∷ eras_in (world_after o.object w (Reshape n)) (place + 1) (place + 1) es
 
   -- the marks of a run from a world, on an object of this name
   abbrev pub marks_of_run : (name : List ℕ) → WorldOf S I R → List (Event I) → RunMarks
@@ -164,7 +193,7 @@ module _ {S I R : Type 0} (o : SpokenObject S I R) where
         object = name;
         events = length events;
         steps = along o.object (steps_by o.object) w 0 events;
-        bars = bars_in w 0 events;
+        bars = bars_in o w 0 events;
         dots = along o.object (dots_by o.object) w 0 events;
         lines = along o.object lines_by w 0 events;
         eras = eras_in w 0 0 events;
@@ -190,6 +219,12 @@ helped_dots = refl
 one_call_changes : map (λ s. s.changed) (along sample (steps_by sample) (opened_world 1 9 1) 0 (Call 0 7 ∷ replicate 14 (Step 0)))
     ≡ true ∷ replicate 6 false ++ replicate 5 true ++ false ∷ false ∷ []
 one_call_changes = refl
+
+-- the steps of the second of two calls count from 1
+second_call_numbers : map {B = ℕ × ℕ} (λ s. (s.nth, s.number)) (drop 12 (along sample (steps_by sample) (opened_world 1 9 1) 0
+    (Call 0 7 ∷ replicate 14 (Step 0) ++ Call 0 8 ∷ replicate 2 (Step 0))))
+    ≡ (0, 13) ∷ (0, 14) ∷ (1, 1) ∷ (1, 2) ∷ []
+second_call_numbers = refl
 
 -- two processes propose a cell after the anchor: the second proposal changes nothing
 two_proposals : map (λ s. s.changed) (drop 18 (along sample (steps_by sample) (opened_world 2 9 1) 0
@@ -228,19 +263,20 @@ two_ends : map (λ b. option_map (λ e. e.event) b.end)
     ≡ Some 14 ∷ Some 29 ∷ []
 two_ends = refl
 
--- and each has its box, in the order of the dots
-helped_eras : eras_in spoken (opened_world 2 9 1) 0 0 (Call 1 5 ∷ Step 1 ∷ Call 0 6 ∷ replicate 24 (Step 0))
+-- and each has its box, in the order of the dots, with the state after it
+helped_eras : eras_in spoken (λ s. s ∷ []) (opened_world 2 9 1) 0 0 (Call 1 5 ∷ Step 1 ∷ Call 0 6 ∷ replicate 24 (Step 0))
     ≡ record {
       from = 0;
+      last = None;
       processes = 2;
       anchor = 1;
-      cells = record { number = 2; call = record { process = 1; nth = 0 }; words = 5 ∷ []; reply = Some (9 ∷ []) }
-          ∷ record { number = 3; call = record { process = 0; nth = 0 }; words = 6 ∷ []; reply = Some (5 ∷ []) }
+      cells = record { number = 2; call = record { process = 1; nth = 0 }; words = 5 ∷ []; reply = Some (9 ∷ []); state = Some (5 ∷ []) }
+          ∷ record { number = 3; call = record { process = 0; nth = 0 }; words = 6 ∷ []; reply = Some (5 ∷ []); state = Some (6 ∷ []) }
           ∷ [];
     }
     ∷ []
 helped_eras = refl
 
 -- a run of two processes, and then of one, has two lanes
-two_lanes : lanes_of (eras_in spoken (opened_world 2 9 1) 0 0 (Reshape 1 ∷ [])) ≡ 2
+two_lanes : lanes_of (eras_in spoken (λ s. s ∷ []) (opened_world 2 9 1) 0 0 (Reshape 1 ∷ [])) ≡ 2
 two_lanes = refl

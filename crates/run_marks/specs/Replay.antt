@@ -1,5 +1,5 @@
 -- The marks of a run, one event after the other.
-use Rattle.std.specs.Prelude.{◌≡◌, ℕ, ◌+◌, ◌==◌, if◌then◌else◌, [], ◌∷◌, ◌++◌, map, Some, None, refl}
+use Rattle.std.specs.Prelude.{◌≡◌, ℕ, ◌+◌, ◌==◌, if◌then◌else◌, List, [], ◌∷◌, ◌++◌, map, Some, None, refl}
 use Rattle.std.specs.Option.{option_map_or, option_or}
 use Rattle.uni_model.specs.Worlds.{WorldOf, Event}
 use Rattle.uni_model.specs.Worlds.Event.{Call, Step, Trim, Reshape}
@@ -18,18 +18,19 @@ from_with from place Trim = place + 1
 from_with from place (Reshape n) = place + 1
 
 -- the marks so far, and those of an event at this place, which comes to this world; the present era began after so many events
-abbrev pub marks_with : {S I R : Type 0} → SpokenObject S I R → RunMarks → WorldOf S I R → (from place : ℕ) → Event I
-    → RunMarks
-marks_with o m w from place (Call p i) = record m { bars = m.bars ++ bar_begun o w place p i ∷ [] }
-marks_with o m w from place (Step p) =
+abbrev pub marks_with : {S I R : Type 0} → SpokenObject S I R → (S → List ℕ) → RunMarks → WorldOf S I R → (from place : ℕ)
+    → Event I → RunMarks
+marks_with o text m w from place (Call p i) = record m { bars = m.bars ++ bar_begun o w place p i ∷ [] }
+marks_with o text m w from place (Step p) =
     record m {
       steps = m.steps ++ steps_by o.object w place (Step p);
       bars = option_map_or (λ end. map (bar_ended p end) m.bars) (end_of_step o w place p) m.bars;
       dots = m.dots ++ dots_by o.object w place (Step p);
     }
-marks_with o m w from place Trim = record m { lines = m.lines ++ lines_by w place Trim; eras = m.eras ++ era_of o w from ∷ [] }
-marks_with o m w from place (Reshape n) =
-    record m { lines = m.lines ++ lines_by w place (Reshape n); eras = m.eras ++ era_of o w from ∷ [] }
+marks_with o text m w from place Trim =
+    record m { lines = m.lines ++ lines_by w place Trim; eras = m.eras ++ era_of o text w from (Some place) ∷ [] }
+marks_with o text m w from place (Reshape n) =
+    record m { lines = m.lines ++ lines_by w place (Reshape n); eras = m.eras ++ era_of o text w from (Some place) ∷ [] }
 
 -- an open bar of process 0
 abbrev sample : Called

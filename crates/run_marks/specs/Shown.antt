@@ -14,10 +14,16 @@ abbrev pub bar_shown : Bar → Called
 bar_shown b = record { call = b.call; from = b.from; words = b.words.items; end = option_map end_shown b.end }
 
 abbrev pub cell_shown : CellBox → Cell
-cell_shown c = record { number = c.number; call = c.call; words = c.words.items; reply = option_map (λ r. r.items) c.reply }
+cell_shown c = record {
+  number = c.number;
+  call = c.call;
+  words = c.words.items;
+  reply = option_map (λ text. text.items) c.reply;
+  state = option_map (λ text. text.items) c.state;
+}
 
 abbrev pub era_shown : Era → EraMarks
-era_shown e = record { from = e.from; processes = e.processes; anchor = e.anchor; cells = map cell_shown e.cells.items }
+era_shown e = record { from = e.from; last = e.last; processes = e.processes; anchor = e.anchor; cells = map cell_shown e.cells.items }
 
 abbrev pub marks_shown : Marks → RunMarks
 marks_shown m =

@@ -15,6 +15,10 @@ pub struct StepMark {
     pub event: u64,
     /// The process that took it.
     pub process: u64,
+    /// Which of its process's calls it is of, from 0.
+    pub nth: u64,
+    /// Which of that call's own steps it is, from 1.
+    pub number: u64,
     /// Its kind.
     pub kind: StepKind,
     /// Whether it changed what its place contains: one that only reads and a proposal that lost change nothing.
@@ -89,6 +93,8 @@ pub struct CellBox {
     pub words: Vec<u8>,
     /// The text of the call's reply; `None` where it isn't settled.
     pub reply: Option<Vec<u8>>,
+    /// The text of the state after the call; `None` where it isn't settled.
+    pub state: Option<Vec<u8>>,
 }
 
 /// An era.
@@ -96,6 +102,8 @@ pub struct CellBox {
 pub struct Era {
     /// How many events came before it.
     pub from: u64,
+    /// The place of its last event, which ended it; `None` where none has.
+    pub last: Option<u64>,
     /// How many processes it has.
     pub processes: u64,
     /// The number of its anchor.

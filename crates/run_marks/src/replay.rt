@@ -40,7 +40,7 @@ pub fn marks_of<O: Spoken>(
     run: &Recorded<O>,
 ) -> Result<Marks, AllocError>
     ensures marks { IfOk result (λ marks. marks_shown marks
-        ≡ marks_of_run (record { object = O.sequential object; language = O.language }) name.now
+        ≡ marks_of_run (record { object = O.sequential object; language = O.language }) O.state_text name.now
         (opened_world run.now.processes (O.sequential object).initial run.now.first) (events_shown run.now.events)) }
 {
     run.promise();
@@ -61,7 +61,7 @@ pub fn marks_of<O: Spoken>(
         from = replay_event(alloc, event, from, place, &mut replay, &mut marks)?;
         place += 1;
     }
-    push_era(alloc, &replay, from, &mut marks.eras)?;
+    push_era(alloc, &replay, from, None, &mut marks.eras)?;
     Ok(marks)
 }
 
@@ -99,7 +99,7 @@ fn replay_event<O: Spoken>(
     ensures world { OnOk result (world_of replay.new
         ≡ world_after (O.sequential replay.old.object) (world_of replay.old) (event_shown (event_lent event.entry))) }
     ensures marks { OnOk result (marks_shown marks.new
-        ≡ marks_with (record { object = O.sequential replay.old.object; language = O.language })
+        ≡ marks_with (record { object = O.sequential replay.old.object; language = O.language }) O.state_text
         (marks_shown marks.old) (world_of replay.old) from place (event_shown (event_lent event.entry))) }
 {
     match event {
@@ -112,7 +112,7 @@ fn replay_event<O: Spoken>(
             Ok(from)
         }
         Event::Trim => {
-            push_era(alloc, replay, from, &mut marks.eras)?;
+            push_era(alloc, replay, from, Some(place), &mut marks.eras)?;
             let number = trim(replay).map_err(|_| AllocError)?;
             let end = EraEnd::Trim;
             let event = place;
@@ -120,7 +120,7 @@ fn replay_event<O: Spoken>(
             Ok(place + 1)
         }
         Event::Reshape(processes) => {
-            push_era(alloc, replay, from, &mut marks.eras)?;
+            push_era(alloc, replay, from, Some(place), &mut marks.eras)?;
             let number = reshape(alloc, replay, processes).map_err(|_| AllocError)?;
             let end = EraEnd::Reshape(processes);
             let event = place;
@@ -309,8 +309,8 @@ fn replay_step<O: Spoken>(
         ≡ world_after (O.sequential replay.old.object) (world_of replay.old) (Step process)) }
     ensures marks { OnOk result ((from : ℕ)
         → marks_shown marks.new ≡ marks_with
-        (record { object = O.sequential replay.old.object; language = O.language }) (marks_shown marks.old)
-        (world_of replay.old) from place (Step process)) }
+        (record { object = O.sequential replay.old.object; language = O.language }) O.state_text
+        (marks_shown marks.old) (world_of replay.old) from place (Step process)) }
 {
     if process >= replay.processes() {
         return Err(AllocError);
@@ -323,15 +323,18 @@ fn replay_step<O: Spoken>(
     let Ok(progress) = replay.step(alloc, process) else {
         return Err(AllocError);
     };
+    let nth = replay.begun(process).saturating_sub(1);
+    let steps = replay.steps(process);
     marks.steps.push(StepMark {
         event: place,
         process,
+        nth,
+        number: steps,
         kind: coming.kind,
         changed: has_changed(coming, standing, replay)?,
     })?;
     push_dots(alloc, replay, before, place, process, &mut marks.dots)?;
     if let Progress::Done(reply) = progress {
-        let steps = replay.steps(process);
         let turns = replay.turns(process);
         end_bars::<O>(alloc, process, place, reply, steps, turns, &mut marks.bars)?;
     }
@@ -417,29 +420,34 @@ fn end_bar<O: Spoken>(
     Ok(())
 }
 
-/// Adds the era of a world, which began after so many events, with its cells.
+/// Adds the era of a world, which began after so many events and ends with an event, if it does, with its cells.
 ///
 /// An `Err` says that memory was refused.
 fn push_era<O: Spoken>(
     alloc: Global,
     world: &World<O>,
     from: u64,
+    last: Option<u64>,
     eras: &mut Vec<Era>,
 ) -> Result<(), AllocError>
     ensures { OnOk result (map era_shown eras.new.items
         ≡ map era_shown eras.old.items ++ era_of
-        (record { object = O.sequential world.now.object; language = O.language }) (world_of world.now) from ∷ []) }
+        (record { object = O.sequential world.now.object; language = O.language }) O.state_text
+        (world_of world.now) from last ∷ []) }
 {
     world.shape();
     let anchor = world.seq(CellId::anchor());
-    let entries = Log::of(world).entries(alloc)?;
+    let log = Log::of(world);
+    let entries = log.entries(alloc)?;
     let mut cells = Vec::new(alloc);
-    for entry in &entries {
-        cells.push(cell_of::<O>(alloc, entry)?)?;
+    for (place, entry) in entries.iter().enumerate() {
+        let state = state_text::<O>(alloc, log.state_at(place as u64 + 1))?;
+        cells.push(cell_of::<O>(alloc, entry, state)?)?;
     }
     let processes = world.processes();
     eras.push(Era {
         from,
+        last,
         processes,
         anchor,
         cells,
@@ -447,11 +455,34 @@ fn push_era<O: Spoken>(
     Ok(())
 }
 
-/// The box of an entry of the log.
+/// The text of a state, where one is settled.
 ///
 /// An `Err` says that memory was refused.
-fn cell_of<O: Spoken>(alloc: Global, entry: &Entry<O::Inv, O::Resp>) -> Result<CellBox, AllocError>
-    ensures { IfOk result (λ cell. cell_shown cell ≡ box_of O.language (entry_shown entry.now)) }
+fn state_text<O: Spoken>(
+    alloc: Global,
+    settled: Option<&O::State>,
+) -> Result<Option<Vec<u8>>, AllocError>
+    ensures { IfOk result (λ state. option_map (λ text. text.items) state
+        ≡ option_map O.state_text (option_copied settled.entry)) }
+{
+    let Some(state) = settled else {
+        return Ok(None);
+    };
+    let mut text = Vec::new(alloc);
+    O::push_state(&mut text, state)?;
+    Ok(Some(text))
+}
+
+/// The box of an entry of the log, with the text of the state after it, where that is settled.
+///
+/// An `Err` says that memory was refused.
+fn cell_of<O: Spoken>(
+    alloc: Global,
+    entry: &Entry<O::Inv, O::Resp>,
+    state: Option<Vec<u8>>,
+) -> Result<CellBox, AllocError>
+    ensures { IfOk result (λ cell. cell_shown cell
+        ≡ box_of O.language (option_map (λ text. text.items) state) (entry_shown entry.now)) }
 {
     let words = O::inv_text(alloc, &entry.inv)?;
     let reply = match entry.reply {
@@ -463,5 +494,6 @@ fn cell_of<O: Spoken>(alloc: Global, entry: &Entry<O::Inv, O::Resp>) -> Result<C
         call: entry.call,
         words,
         reply,
+        state,
     })
 }

@@ -96,12 +96,12 @@ bar_texts places lanes bar =
     label_figures (event_column places bar.from).left (lane_top lanes bar.call.process + 18) (label_text bar)
     ++ counts_figures places (lane_top lanes bar.call.process) bar.end
 
--- the mark of a step, with its letter and this title
-abbrev pub step_figures : Places → Lanes → (title : StepMark → List ℕ) → StepMark → List Figure
-step_figures places lanes title step =
+-- the mark of a step, with its letter and its title
+abbrev pub step_figures : Places → Lanes → StepMark → List Figure
+step_figures places lanes step =
     let column = event_column places step.event in
     let top = lane_top lanes step.process + 28 in
-    Titled (column.left + 1) top (column.width - 2) 22 (mark_paint step.kind step.changed) (title step)
+    Titled (column.left + 1) top (column.width - 2) 22 (mark_paint step.kind step.changed) (step_title step)
     ∷ Text (middle_of column) (top + 17) Middle (letter_paint step.kind step.changed) (letter_of step.kind ∷ []) ∷ []
 
 -- the arrow from the process that linked a cell to the one whose call it is of, where that is another one: down to the upper
@@ -126,7 +126,7 @@ run_figures places lanes marks =
     ++ flat_map (line_figures places lanes) marks.lines
     ++ flat_map (bar_figures places lanes) marks.bars
     ++ flat_map (arrow_figures places lanes) marks.dots
-    ++ flat_map (step_figures places lanes (step_title marks.bars marks.steps)) marks.steps
+    ++ flat_map (step_figures places lanes) marks.steps
     ++ flat_map (dot_figures places lanes) marks.dots
     ++ flat_map (bar_texts places lanes) marks.bars
 

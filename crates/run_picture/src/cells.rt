@@ -1,24 +1,29 @@
 //! The list of cells, era by era, below the lanes.
 
 ghost use Rattle.std.specs.Prelude.{◌≡◌, ◌≤◌, ◌<◌, ◌^◌, ◌+◌, [], ◌∷◌, ◌++◌, map};
-ghost use Rattle.std.specs.Prelude.{IfOk, OnOk};
+ghost use Rattle.std.specs.Prelude.{IfOk, OnOk, option_map};
+ghost use Rattle.std.specs.Option.{option_copied};
 ghost use Rattle.svg_text.specs.Figures.{Rect, figure};
 ghost use Rattle.svg_text.specs.declared.paint.Paint.TheVariants.{Frame};
 ghost use Rattle.run_marks.specs.Shown.{cell_shown, era_shown};
-ghost use Rattle.run_picture.specs.Cells.{lower, box_width, box_figures, box_spot, link_figures, row_figures, row_end};
+ghost use Rattle.run_picture.specs.Cells.{lower, box_width, box_height, state_figures, box_figures, box_spot};
+ghost use Rattle.run_picture.specs.Cells.{link_figures, row_figures, row_end};
 ghost use Rattle.run_picture.specs.Cells.{cell_figures, cell_end, era_name, anchor_name, anchor_figures, anchor_end};
 ghost use Rattle.run_picture.specs.Cells.{era_figures, era_bottom, eras_figures, eras_bottom};
 
 use crate::figures::{LETTER, Toward, push_line, push_text, push_tip};
 use crate::lanes::MARGIN;
-use run_layout::{cell_name, cell_words, letters};
+use run_layout::{cell_name, cell_state, cell_words, letters};
 use run_marks::{CellBox, Dot, Era};
 use std::alloc::{AllocError, Global};
 use std::io::Write;
 use svg_text::{Anchor, Paint, Shape};
 
-/// How high a box is.
+/// How high a box of two lines is.
 const BOX: u64 = 44;
+
+/// How high a box of three lines is.
+const STATE_BOX: u64 = 62;
 
 /// How far a box stands from the next one.
 const GAP: u64 = 28;
@@ -86,7 +91,7 @@ fn push_era(
     let top = lower(bottom, MARGIN);
     let start = push_anchor(alloc, place, era.anchor, top, shapes)?;
     let end = push_row(alloc, dots, &era.cells, width, start, shapes)?;
-    Ok(end.top + BOX)
+    Ok(end.top + STATE_BOX)
 }
 
 /// So much below a place, but not below the lowest one.
@@ -122,8 +127,8 @@ fn push_anchor(
     let mut words = Vec::new(alloc);
     words.extend_from_slice("anchor".as_bytes())?;
     let at = Spot { left: FIRST, top };
-    let width = box_width(&upper, &words);
-    push_box(at, upper, words, shapes)?;
+    let width = box_width(&upper, &words, None);
+    push_box(at, upper, words, None, shapes)?;
     Ok(Spot {
         left: at.left + width,
         top,
@@ -202,10 +207,11 @@ fn push_cell(
 {
     let name = cell_name(alloc, dots, cell)?;
     let words = cell_words(alloc, cell)?;
-    let wide = box_width(&name, &words);
+    let state = cell_state(alloc, cell)?;
+    let wide = box_width(&name, &words, state.as_ref());
     let at = box_spot(before, wide, width);
     push_link(at, shapes)?;
-    push_box(at, name, words, shapes)?;
+    push_box(at, name, words, state, shapes)?;
     Ok(Spot {
         left: at.left + wide,
         top: at.top,
@@ -233,7 +239,7 @@ fn box_spot(before: Spot, wide: u64, width: u64) -> Spot
     } else {
         Spot {
             left: FIRST,
-            top: lower(before.top, BOX + MARGIN),
+            top: lower(before.top, STATE_BOX + MARGIN),
         }
     }
 }
@@ -252,46 +258,81 @@ fn push_link(at: Spot, shapes: &mut Vec<Shape>) -> Result<(), AllocError>
     push_tip(shapes, at.left - 2, y, Toward::Right)
 }
 
-/// How wide the box of two texts is.
-fn box_width(upper: &[u8], lower: &[u8]) -> u64
-    ensures width { result ≡ box_width upper.now lower.now }
+/// How wide the box of two texts is, with a state below them, if there is one.
+fn box_width(upper: &[u8], lower: &[u8], state: Option<&Vec<u8>>) -> u64
+    ensures width { result ≡ box_width upper.now lower.now
+        (option_map (λ text. text.items) (option_copied state.entry)) }
     ensures small { result ≤ 8016 }
 {
-    (u64::from(letters(upper)).max(u64::from(letters(lower))) + 2) * LETTER
+    let widest = match state {
+        Some(state) => letters(upper).max(letters(lower)).max(letters(state)),
+        None => letters(upper).max(letters(lower)),
+    };
+    (u64::from(widest) + 2) * LETTER
 }
 
-/// Adds a box with two texts.
+/// How high the box is then: it has two lines, or three.
+fn box_height(state: Option<&Vec<u8>>) -> u64
+    ensures { result ≡ box_height (option_map (λ text. text.items) (option_copied state.entry)) }
+{
+    match state {
+        Some(_) => STATE_BOX,
+        None => BOX,
+    }
+}
+
+/// Adds the state in a box, if there is one.
+///
+/// An `Err` says that memory was refused.
+fn push_state(at: Spot, state: Option<Vec<u8>>, shapes: &mut Vec<Shape>) -> Result<(), AllocError>
+    requires near { at.left < 2 ^ 37 }
+    requires low { at.top < 2 ^ 38 }
+    ensures { OnOk result (map figure shapes.new.items
+        ≡ map figure shapes.old.items ++ state_figures at (option_map (λ text. text.items) state)) }
+{
+    let left = at.left + LETTER;
+    match state {
+        Some(state) => push_text(shapes, left, at.top + 54, Anchor::Start, Paint::Ink, state),
+        None => Ok(()),
+    }
+}
+
+/// Adds a box with two texts, and below them the state, if there is one.
 ///
 /// An `Err` says that memory was refused.
 fn push_box(
     at: Spot,
     upper: Vec<u8>,
     lower: Vec<u8>,
+    state: Option<Vec<u8>>,
     shapes: &mut Vec<Shape>,
 ) -> Result<(), AllocError>
     requires near { at.left < 2 ^ 37 }
     requires low { at.top < 2 ^ 38 }
     ensures { OnOk result (map figure shapes.new.items
-        ≡ map figure shapes.old.items ++ box_figures at upper.items lower.items) }
+        ≡ map figure shapes.old.items
+        ++ box_figures at upper.items lower.items (option_map (λ text. text.items) state)) }
 {
-    push_frame(at, box_width(&upper, &lower), shapes)?;
+    let width = box_width(&upper, &lower, state.as_ref());
+    push_frame(at, width, box_height(state.as_ref()), shapes)?;
     let left = at.left + LETTER;
     push_text(shapes, left, at.top + 18, Anchor::Start, Paint::Ink, upper)?;
-    push_text(shapes, left, at.top + 36, Anchor::Start, Paint::Ink, lower)
+    push_text(shapes, left, at.top + 36, Anchor::Start, Paint::Ink, lower)?;
+    push_state(at, state, shapes)
 }
 
 /// Adds the frame of a box.
 ///
 /// An `Err` says that memory was refused.
-fn push_frame(at: Spot, width: u64, shapes: &mut Vec<Shape>) -> Result<(), AllocError>
+fn push_frame(at: Spot, width: u64, height: u64, shapes: &mut Vec<Shape>) -> Result<(), AllocError>
     ensures { OnOk result (map figure shapes.new.items
-        ≡ map figure shapes.old.items ++ (Rect at.left at.top width 44 Frame ∷ [])) }
+        ≡ map figure shapes.old.items ++ (Rect at.left at.top width height Frame ∷ [])) }
 {
     shapes.push(Shape::Rect {
         x: at.left,
         y: at.top,
         width,
-        height: BOX,
+        height,
         paint: Paint::Frame,
     })?;
     Ok(())

@@ -2,9 +2,7 @@
 
 ghost use Rattle.std.specs.Prelude.{◌≡◌, ◌++◌, OnOk, map};
 ghost use Rattle.std.specs.List.{flat_map};
-ghost use Rattle.run_marks.specs.Shown.{marks_shown};
 ghost use Rattle.run_layout.specs.Axis.{places_shown};
-ghost use Rattle.run_layout.specs.Titles.{step_title};
 ghost use Rattle.svg_text.specs.Figures.{figure};
 ghost use Rattle.run_picture.specs.Lanes.{step_figures, arrow_figures, dot_figures};
 
@@ -12,7 +10,7 @@ use crate::figures::{Toward, push_line, push_text, push_tip};
 use crate::lanes::Lanes;
 use crate::paint::{letter_paint, mark_paint};
 use run_layout::{Axis, letter_of, step_title};
-use run_marks::{Dot, Marks, StepMark};
+use run_marks::{Dot, StepMark};
 use std::alloc::{AllocError, Global};
 use svg_text::{Anchor, Paint, Shape};
 
@@ -28,20 +26,18 @@ const DOT: u64 = 60;
 /// How wide a dot is from its middle.
 const RADIUS: u64 = 6;
 
-/// Adds the mark of a step of a run with these marks, with its letter and its title.
+/// Adds the mark of a step, with its letter and its title.
 ///
 /// An `Err` says that memory was refused.
 fn push_step(
     alloc: Global,
-    marks: &Marks,
     step: StepMark,
     axis: &Axis,
     lanes: Lanes,
     shapes: &mut Vec<Shape>,
 ) -> Result<(), AllocError>
     ensures { OnOk result (map figure shapes.new.items
-        ≡ map figure shapes.old.items ++ step_figures (places_shown axis.now) lanes
-        (step_title (marks_shown marks.now).bars (marks_shown marks.now).steps) step) }
+        ≡ map figure shapes.old.items ++ step_figures (places_shown axis.now) lanes step) }
 {
     let column = axis.event(step.event);
     let top = lanes.of(step.process) + STEP;
@@ -51,7 +47,7 @@ fn push_step(
         width: u64::from(column.width.saturating_sub(2)),
         height: STEP_HEIGHT,
         paint: mark_paint(step.kind, step.changed),
-        title: step_title(alloc, &marks.bars, &marks.steps, step)?,
+        title: step_title(alloc, step)?,
     })?;
     let mut letter = Vec::new(alloc);
     letter.push(letter_of(step.kind))?;
@@ -65,17 +61,16 @@ fn push_step(
 /// An `Err` says that memory was refused.
 pub fn push_steps(
     alloc: Global,
-    marks: &Marks,
+    steps: &[StepMark],
     axis: &Axis,
     lanes: Lanes,
     shapes: &mut Vec<Shape>,
 ) -> Result<(), AllocError>
     ensures { OnOk result (map figure shapes.new.items
-        ≡ map figure shapes.old.items ++ flat_map (step_figures (places_shown axis.now) lanes
-        (step_title (marks_shown marks.now).bars (marks_shown marks.now).steps)) marks.now.steps.items) }
+        ≡ map figure shapes.old.items ++ flat_map (step_figures (places_shown axis.now) lanes) steps.now) }
 {
-    for step in &marks.steps {
-        push_step(alloc, marks, *step, axis, lanes, shapes)?;
+    for step in steps {
+        push_step(alloc, *step, axis, lanes, shapes)?;
     }
     Ok(())
 }

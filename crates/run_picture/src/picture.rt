@@ -7,63 +7,70 @@ ghost use Rattle.uni_script.specs.Scripts.{scripts_of, own_scripts_of};
 ghost use Rattle.uni_script.specs.declared.fault.BenchFault.{BenchFault as Fault};
 ghost use Rattle.run_marks.specs.Shown.{marks_shown};
 ghost use Rattle.svg_text.specs.Svg.{svg_text};
+ghost use Rattle.run_layout.specs.Choice.{chosen, chosen_remarks};
 ghost use Rattle.run_layout.specs.Subject.{HasTooManyEvents, HasMoreEvents, marks_of_own};
 ghost use Rattle.run_picture.specs.Drawing.{drawing_of_marks};
 ghost use Rattle.run_picture.specs.Picture.{IsPicture, IsPictureOf};
 
 use crate::sheet::drawing_of;
 use ready_objects::Spoken;
-use run_layout::{PictureFault, Subject, subject_of, subject_of_object};
+use run_layout::{PictureFault, Range, Subject, subject_of, subject_of_object};
 use std::alloc::{AllocError, Global};
 use svg_text::svg_of;
 use uni_script::{BenchFault, TextIn};
 
-/// The SVG of what a picture shows.
+/// The SVG of what a picture shows where these events are chosen.
 ///
 /// An `Err` says that memory was refused.
-fn svg_of_subject(alloc: Global, subject: &Subject) -> Result<Vec<u8>, AllocError>
-    requires events { subject.now.marks.events ≤ 2000 }
-    requires remarks { length subject.now.remarks.items ≤ 100000 }
+fn svg_of_subject(alloc: Global, range: Range, subject: Subject) -> Result<Vec<u8>, AllocError>
+    requires events { subject.marks.events ≤ 2000 }
+    requires remarks { length subject.remarks.items ≤ 100000 }
     ensures { IfOk result (λ svg. svg.items ≡ svg_text
-        (drawing_of_marks (marks_shown subject.now.marks) subject.now.remarks.items)) }
+        (drawing_of_marks (chosen range (marks_shown subject.marks)) (chosen_remarks range subject.remarks.items))) }
 {
-    let drawing = drawing_of(alloc, &subject.marks, &subject.remarks)?;
+    let part = subject.chosen(alloc, range)?;
+    let drawing = drawing_of(alloc, &part.marks, &part.remarks)?;
     svg_of(alloc, &drawing)
 }
 
-/// The picture of the run of the script that a reader has, as the text of an SVG.
+/// The picture of the run of the script that a reader has, where these events are chosen, as the text of an SVG.
 ///
 /// An `Err` is the first fault of the script; `Read` where the reader failed; `Memory` where memory was
 /// refused; or `TooManyEvents` of a good script that has more than 2,000 events.
-pub fn picture_of<I: TextIn>(alloc: Global, reader: &mut I) -> Result<Vec<u8>, PictureFault>
+pub fn picture_of<I: TextIn>(
+    alloc: Global,
+    range: Range,
+    reader: &mut I,
+) -> Result<Vec<u8>, PictureFault>
     requires { I.has_failed reader.old ≡ false }
-    ensures picture { IfOk result (λ svg. IsPicture (I.remaining reader.old) svg.items) }
+    ensures picture { IfOk result (λ svg. IsPicture range (I.remaining reader.old) svg.items) }
     ensures many { IsErrOf result PictureFault.TooManyEvents → HasTooManyEvents (I.remaining reader.old) }
     ensures fault { (e : Fault) → IsErrOf result (PictureFault.Script e) → IsFaultOfScript e
         → HasFault (scripts_of 1048576) (I.remaining reader.old) e }
 {
     let subject = subject_of(alloc, reader)?;
-    match svg_of_subject(alloc, &subject) {
+    match svg_of_subject(alloc, range, subject) {
         Ok(svg) => Ok(svg),
         Err(AllocError) => Err(PictureFault::Script(BenchFault::Memory)),
     }
 }
 
-/// The picture of the run of the script over an object that a reader has, whose header names the object by this word,
-/// as
-/// for `uni_script::bench_object`.
+/// The same of a script over an object, whose header names the object by this word, as for
+/// `uni_script::bench_object`.
 ///
 /// The errors are those of `picture_of`.
 pub fn picture_of_object<O: Spoken + Copy, I: TextIn>(
     alloc: Global,
     object: O,
     name: &str,
+    range: Range,
     reader: &mut I,
 ) -> Result<Vec<u8>, PictureFault>
     requires { I.has_failed reader.old ≡ false }
     ensures picture { IfOk result (λ svg. IsPictureOf
         (own_scripts_of (spoken O.sequential O.language object) name.now 1048576)
-        (marks_of_own (spoken O.sequential O.language object) name.now) (I.remaining reader.old) svg.items) }
+        (marks_of_own (spoken O.sequential O.language object) O.state_text name.now)
+        range (I.remaining reader.old) svg.items) }
     ensures many { IsErrOf result PictureFault.TooManyEvents
         → HasMoreEvents (own_scripts_of (spoken O.sequential O.language object) name.now 1048576)
         (I.remaining reader.old) }
@@ -72,7 +79,7 @@ pub fn picture_of_object<O: Spoken + Copy, I: TextIn>(
         (I.remaining reader.old) e }
 {
     let subject = subject_of_object(alloc, object, name, reader)?;
-    match svg_of_subject(alloc, &subject) {
+    match svg_of_subject(alloc, range, subject) {
         Ok(svg) => Ok(svg),
         Err(AllocError) => Err(PictureFault::Script(BenchFault::Memory)),
     }

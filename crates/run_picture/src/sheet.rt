@@ -98,7 +98,7 @@ fn push_run(
     push_era_lines(alloc, &marks.lines, axis, lanes, shapes)?;
     push_bars(&marks.bars, axis, lanes, shapes)?;
     push_arrows(&marks.dots, axis, lanes, shapes)?;
-    push_steps(alloc, marks, axis, lanes, shapes)?;
+    push_steps(alloc, &marks.steps, axis, lanes, shapes)?;
     push_dots(&marks.dots, axis, lanes, shapes)?;
     push_texts(alloc, &marks.bars, axis, lanes, shapes)
 }

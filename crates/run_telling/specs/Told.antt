@@ -1,30 +1,19 @@
 -- The run of a script, told.
 use Rattle.std.specs.Prelude.{◌≡◌, ◌≤◌, ℕ, List, map, Option, Some, None}
-use Rattle.ready_objects.specs.Number.{numbers_text}
-use Rattle.ready_objects.specs.Directory.{pairs_text}
-use Rattle.ready_objects.specs.Sticky.{sticky_text}
 use Rattle.seq_object.specs.Sequential.{Sequential}
 use Rattle.uni_model.specs.Linearizable.{IsLinearizableHistory, observed_in}
 use Rattle.uni_model.specs.Worlds.{AreAccepted, Event, opened_world}
-use Rattle.uni_script.specs.declared.grammar.ObjectName.{ObjectName}
-use Rattle.uni_script.specs.declared.grammar.ObjectName.TheVariants as name
 use Rattle.uni_script.specs.declared.remarks.PlacedRemark.{PlacedRemark}
-use Rattle.uni_script.specs.Objects.{SpokenObject, StateOf, spoken_of}
+use Rattle.uni_script.specs.Objects.{SpokenObject, spoken_of}
 use Rattle.uni_script.specs.Outcome.{outcome_of_script}
 use Rattle.uni_script.specs.Remarks.{event_lines_of_script, remark_at, remarks_of_script}
 use Rattle.uni_script.specs.Replay.{IsInput, fault_of_script}
 use Rattle.uni_script.specs.Schedules.{word_of_object}
 use Rattle.uni_script.specs.Scripts.{ScriptSession, scripts_of}
+use Rattle.run_layout.specs.Subject.{state_text_of}
 use Rattle.run_trace.specs.Scenes.{scenes_from}
 use Rattle.run_telling.specs.Opened.{opening}
 use Rattle.run_telling.specs.Order.{Wording, told_text}
-
--- the text of a state of an object
-abbrev pub state_text_of : (object : ObjectName) → StateOf object → List ℕ
-state_text_of name.Queue = numbers_text
-state_text_of name.Directory = pairs_text
-state_text_of name.Book = numbers_text
-state_text_of name.Sticky = sticky_text
 
 -- some events of n processes, told, on an object of this name whose states have these texts
 abbrev pub text_of_events : {S I R : Type 0} → Wording → SpokenObject S I R → (S → List ℕ) → (name : List ℕ)

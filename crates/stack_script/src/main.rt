@@ -5,6 +5,7 @@
 
 ghost use Rattle.std.specs.Prelude.{◌≡◌, false};
 
+use run_layout::Range;
 use run_lines::lines_of_object;
 use run_steps::InWords;
 use run_telling::told_of_record;
@@ -37,7 +38,14 @@ fn show<W: TextOut>(alloc: Global, output: &mut W) -> Option<()>
     };
     let mut script = Checked::new(SCRIPT);
     bench_object(alloc, Stack, "stack", &mut script, output, &options).ok()?;
-    let lines = lines_of_object(alloc, Stack, "stack", &mut Checked::new(SCRIPT)).ok()?;
+    let lines = lines_of_object(
+        alloc,
+        Stack,
+        "stack",
+        Range::all(),
+        &mut Checked::new(SCRIPT),
+    )
+    .ok()?;
     write_all(output, lines.as_slice()).ok()?;
     let run = run_of_object(alloc, Stack, "stack", &mut Checked::new(SCRIPT), &options).ok()?;
     let (record, lines, remarks) = (&run.record, &run.lines, &run.remarks);

@@ -10,7 +10,8 @@ use Rattle.uni_script.specs.declared.options.Options.{Options}
 use Rattle.uni_script.specs.declared.grammar.ObjectName.{ObjectName}
 use Rattle.command_line.specs.Flags.{is_set}
 use Rattle.unibench_run.specs.CommandLine.{replay_in, request_in}
-use Rattle.unibench_run.specs.Request.{form_named, echo_in, number_in, object_named, options_of, plan_of, plan_with, random_of, random_with, subject_of, value_of}
+use Rattle.command_line.specs.Numbers.{number_in, value_of}
+use Rattle.unibench_run.specs.Request.{form_named, echo_in, object_named, options_of, plan_of, plan_with, random_of, random_with, subject_of}
 use Rattle.unibench_run.specs.Threads.{IsThreadsPlan}
 use Rattle.unibench_run.specs.declared.request.Form.{Form}
 use Rattle.unibench_run.specs.declared.request.ThreadsObject.{ThreadsObject}
@@ -18,7 +19,7 @@ use Rattle.unibench_run.specs.declared.request.Plan.{Plan}
 use Rattle.unibench_run.specs.declared.request.RandomPlan.{RandomPlan}
 use Rattle.unibench_run.specs.declared.request.Request.{Request}
 use Rattle.unibench_run.specs.declared.request.Request.TheVariants.{Replay, Explained, Random, Threads, Language}
-use Rattle.unibench_run.proofs.PlanValues.{value_in-range}
+use Rattle.command_line.proofs.Digits.{value_in-range}
 
 read-range : (least most : ℕ) (text : Option Text) (n : ℕ) → option_and_then (number_in least most) text ≡ Some n → (least ≤ n) × (n ≤ most)
 read-range least most None n e = absurd (let bad : None ≡ Some n = e in cc)

@@ -4,10 +4,10 @@ use Rattle.std.specs.Prelude.{if◌then◌else◌, true, codes, refl}
 use Rattle.std.specs.Str.{bytes_eq}
 use Rattle.clap.specs.Words.{App, Row, Rule, Text, Kinds, IsAmong, new_app, new_rule, with_rule, with_subcommand, subcommand_of, fault_of}
 use Rattle.clap.proofs.OnLiterals.{clap_on_literals}
-use Rattle.clap.specs.declared.builder.value_parser.ValueParser.TheVariants.{Unsigned}
 use Rattle.clap.specs.declared.error.kind.ErrorKind.TheVariants.{DisplayHelp, DisplayVersion, InvalidSubcommand, MissingSubcommand}
 use Rattle.clap.specs.declared.error.kind.ErrorKind.TheVariants.{UnknownArgument, ValueValidation}
 use Rattle.command_line.specs.Flags.{flag, is_set, versioned}
+use Rattle.command_line.specs.Numbers.{in_range}
 use Rattle.uni_script.specs.declared.grammar.ObjectName.TheVariants as shared
 use Rattle.uni_script.specs.declared.options.Options.{Options}
 use Rattle.uni_script.specs.declared.options.Echo.TheVariants.{Off, On}
@@ -28,10 +28,6 @@ option name value = record (new_rule name) { long = Some name; value_names = 1; 
 -- a word that isn't an option, for which help has a name
 abbrev pub operand : (name : Text) → Rule
 operand name = record (new_rule name) { value_names = 1 }
-
--- the option, where its value is to be a number of a range, perhaps after a plus
-abbrev pub in_range : Rule → (least most : ℕ) → Rule
-in_range number least most = record number { parser = Some (Unsigned least most) }
 
 abbrev pub replay_command : App
 replay_command =

@@ -1,14 +1,12 @@
 -- What the values of the options of `replay`, `random` and `threads` are.
-use Rattle.std.specs.Prelude.{◌≡◌, ◌-◌, ◌^◌, ℕ, ◌&&◌, Bool, List, [], ◌∷◌, Option, None, Some, option_map, map}
-use Rattle.std.specs.Prelude.{codes, if◌then◌else◌, nat_lt, nat_le, length, option_and_then, refl}
-use Rattle.std.specs.List.{list_all}
-use Rattle.std.specs.Char.{digit_value}
+use Rattle.std.specs.Prelude.{◌≡◌, ◌-◌, ◌^◌, ℕ, List, [], ◌∷◌, Option, None, Some, option_map, map}
+use Rattle.std.specs.Prelude.{codes, if◌then◌else◌, refl}
 use Rattle.std.specs.Str.{bytes_eq}
-use Rattle.std.specs.Str.Parse.{digits_value, without_leading_plus}
 use Rattle.clap.specs.Words.{Row, Text, first_of}
 use Rattle.uni_script.specs.declared.grammar.ObjectName.{ObjectName}
 use Rattle.uni_script.specs.Grammar.{object_of_word}
 use Rattle.command_line.specs.Flags.{is_set}
+use Rattle.command_line.specs.Numbers.{number_in, value_of}
 use Rattle.uni_script.specs.declared.options.Options.{Options}
 use Rattle.uni_script.specs.declared.options.Echo.{Echo}
 use Rattle.uni_script.specs.declared.options.Echo.TheVariants.{Off, On}
@@ -33,23 +31,6 @@ object_named name =
     else if bytes_eq name (codes "sticky") then Some object.Sticky
     else if bytes_eq name (codes "tally") then Some object.Tally
     else None
-
--- one decimal digit or more, and nothing else
-abbrev pub are_digits : List ℕ → Bool
-are_digits ds = nat_lt 0 (length ds) && list_all (λ d. nat_lt (digit_value d) 10) ds
-
--- the number that digits write, if it is one of a range
-abbrev pub value_in : (least most : ℕ) → List ℕ → Option ℕ
-value_in least most ds =
-    if are_digits ds && nat_le least (digits_value 10 ds) && nat_le (digits_value 10 ds) most then Some (digits_value 10 ds) else None
-
--- the number that a text writes in decimal, perhaps after a plus, if it is one of a range
-abbrev pub number_in : (least most : ℕ) → Text → Option ℕ
-number_in least most text = value_in least most (without_leading_plus text)
-
--- what a reader makes of the first value of an option
-abbrev pub value_of : {A : Type 0} → (Text → Option A) → (id : Text) → List Row → Option A
-value_of read id rows = option_and_then read (first_of id rows)
 
 -- whether lines are written before their answers
 abbrev pub echo_in : List Row → Echo
@@ -113,15 +94,6 @@ events_are_1_to_99000 = refl
 seeds_have_64_bits : map (number_in 0 (2 ^ 64 - 1)) (codes "0" ∷ codes "18446744073709551615" ∷ codes "18446744073709551616" ∷ [])
     ≡ Some 0 ∷ Some 18446744073709551615 ∷ None ∷ []
 seeds_have_64_bits = refl
-
--- one plus may come first, and zeros
-signs_of_numbers : map (number_in 1 64) (codes "+64" ∷ codes "064" ∷ codes "++64" ∷ codes "-1" ∷ codes "+" ∷ codes "" ∷ [])
-    ≡ Some 64 ∷ Some 64 ∷ None ∷ None ∷ None ∷ None ∷ []
-signs_of_numbers = refl
-
--- bytes 47 and 58 stand beside the digits
-bytes_beside_digits : map (number_in 1 64) ((47 ∷ []) ∷ (58 ∷ []) ∷ []) ≡ None ∷ None ∷ []
-bytes_beside_digits = refl
 
 two_words_are_forms : map form_named (codes "lock" ∷ codes "words" ∷ codes "locks" ∷ [])
     ≡ Some form.Lock ∷ Some form.Words ∷ None ∷ []

@@ -4,16 +4,16 @@ ghost use Rattle.std.specs.Prelude.{◌≡◌, [], IfOk, IfErr, map, codes, fals
 ghost use Rattle.clap.specs.Words.{HasKind, app_of, found_of, rows_of, new_app, rule_of, subcommand_rows_of};
 ghost use Rattle.clap.specs.declared.builder.command.Command.TheViews.{out-Command};
 ghost use Rattle.command_line.specs.Flags.{versioned};
-ghost use Rattle.unibench_run.specs.CommandLine.{asked_of, faults_of_words, in_range, language_command};
+ghost use Rattle.command_line.specs.Numbers.{value_of};
+ghost use Rattle.unibench_run.specs.CommandLine.{asked_of, faults_of_words, language_command};
 ghost use Rattle.unibench_run.specs.CommandLine.{needs_subcommand, operand, option, random_command, replay_command};
 ghost use Rattle.unibench_run.specs.CommandLine.{replay_in, request_in, threads_command, unibench};
 ghost use Rattle.uni_script.specs.Grammar.{object_of_word};
-ghost use Rattle.unibench_run.specs.Request.{form_named, echo_in, number_in, object_named, options_of, plan_of};
-ghost use Rattle.unibench_run.specs.Request.{random_of, subject_of, value_of};
+ghost use Rattle.unibench_run.specs.Request.{form_named, echo_in, object_named, options_of, plan_of};
+ghost use Rattle.unibench_run.specs.Request.{random_of, subject_of};
 
-use clap::builder::ValueParser;
 use clap::{Arg, ArgMatches, Command};
-use command_line::{flag, is_set};
+use command_line::{flag, in_range, is_set, number_of};
 use std::alloc::{AllocError, Global};
 use std::convert::AsStr;
 use uni_model::{MAX_PROCESSES, MAX_ROW};
@@ -151,29 +151,6 @@ fn object_in(matches: &ArgMatches<'_>) -> Option<ThreadsObject>
     ThreadsObject::named(matches.get_str("object")?)
 }
 
-/// The number that an option's value writes, where it is one of a range.
-fn number_of(matches: &ArgMatches<'_>, option: &str, least: u64, most: u64) -> Option<u64>
-    ensures { result ≡ value_of (number_in least most) option.now (rows_of (found_of matches.now)) }
-{
-    number_in(matches.get_str(option)?, least, most)
-}
-
-/// The number that a text writes in decimal, where it is one of a range.
-fn number_in(text: &str, least: u64, most: u64) -> Option<u64>
-    ensures { result ≡ number_in least most text.now }
-{
-    match text.parse::<u64>() {
-        Ok(number) => {
-            if least <= number && number <= most {
-                Some(number)
-            } else {
-                None
-            }
-        }
-        Err(_) => None,
-    }
-}
-
 /// Whether lines are written before their answers.
 fn echo_in(matches: &ArgMatches<'_>) -> Echo
     ensures { result ≡ echo_in (rows_of (found_of matches.now)) }
@@ -243,15 +220,6 @@ fn operand<'a>(alloc: Global, name: &'a str, placeholder: &'a str, help: &'a str
     ensures local { result.global ≡ false }
 {
     Arg::new(alloc, name).value_name(placeholder).help(help)
-}
-
-/// An option whose value is a number of a range: another one is a fault of the command line, which
-/// names the option and the range.
-fn in_range<'a>(number: Arg<'a>, least: u64, most: u64) -> Arg<'a>
-    ensures rule { rule_of result ≡ in_range (rule_of number.entry) least most }
-    ensures local { result.global ≡ number.entry.global }
-{
-    number.value_parser(ValueParser::Unsigned(least, most))
 }
 
 /// What the help of `replay` says last.

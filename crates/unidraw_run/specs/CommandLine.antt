@@ -1,9 +1,14 @@
 -- What the words of the command line ask for, by clap's own account of a command.
-use Rattle.std.specs.Prelude.{◌≡◌, ◌⊎◌, List, [], ◌∷◌, map, filter, fold, Option, None, Some, codes, refl}
-use Rattle.clap.specs.Words.{App, IsAmong, Kinds, Row, Text, fault_of, matches_of, new_app, with_rule}
+use Rattle.std.specs.Prelude.{◌≡◌, ◌⊎◌, ◌-◌, ◌^◌, ℕ, List, [], ◌∷◌, map, filter, fold, Option, None, Some, option_and_then}
+use Rattle.std.specs.Prelude.{codes, refl}
+use Rattle.clap.specs.Words.{App, IsAmong, Kinds, Row, Rule, Text, fault_of, matches_of, new_app, new_rule, with_rule}
 use Rattle.clap.proofs.OnLiterals.{clap_on_literals}
 use Rattle.clap.specs.declared.error.kind.ErrorKind.TheVariants.{ArgumentConflict, DisplayHelp, DisplayVersion, UnknownArgument}
+use Rattle.clap.specs.declared.error.kind.ErrorKind.TheVariants.{ValueValidation}
 use Rattle.command_line.specs.Flags.{flag, is_set, versioned}
+use Rattle.command_line.specs.Numbers.{in_range, number_in, value_of}
+use Rattle.run_layout.specs.declared.choice.Range.{Range}
+use Rattle.run_layout.specs.Choice.{all_events}
 use Rattle.unidraw_run.specs.declared.program.Form.{Form}
 use Rattle.unidraw_run.specs.declared.program.Form.TheVariants.{Svg, Lines, Steps, Json, Full, Html, History}
 
@@ -18,16 +23,21 @@ asks name form = record { name = name; form = form }
 -- the options, in the order of the help: one for each form but an SVG
 abbrev pub form_options : List FormOption
 form_options =
-    asks (codes "text") Lines ∷ asks (codes "steps") Steps ∷ asks (codes "json") Json ∷ asks (codes "full") Full
+    asks (codes "text") (Lines all_events) ∷ asks (codes "steps") Steps ∷ asks (codes "json") Json ∷ asks (codes "full") Full
     ∷ asks (codes "html") Html ∷ asks (codes "history") History ∷ []
+
+-- an option whose value is the number of an event
+abbrev pub event_option : (name : Text) → Rule
+event_option name = in_range (record (new_rule name) { long = Some name; value_names = 1 }) 0 (2 ^ 64 - 1)
 
 -- a program with these options more
 abbrev pub with_options : App → List FormOption → App
 with_options = fold (λ app o. with_rule app (flag o.name))
 
--- the program has a version, and the options
+-- the program has a version, the options of forms, and two that choose events
 abbrev pub unidraw : App
-unidraw = with_options (versioned (new_app (codes "unidraw"))) form_options
+unidraw = with_rule (with_rule (with_options (versioned (new_app (codes "unidraw"))) form_options)
+    (event_option (codes "from"))) (event_option (codes "to"))
 
 -- the forms whose options are used, in the order of these
 abbrev pub forms_used : List Row → List FormOption → List Form
@@ -36,18 +46,35 @@ forms_used rows options = map (λ o. o.form) (filter (λ o. is_set o.name rows) 
 -- the form that is asked for where a further option is used: its own in place of an SVG, and the whole memory only beside a trace
 abbrev pub form_with : Option Form → Form → Option Form
 form_with (Some Json) Full = Some Full
-form_with (Some Svg) Full = None
-form_with (Some Svg) form = Some form
+form_with (Some (Svg range)) Full = None
+form_with (Some (Svg range)) form = Some form
 form_with _ _ = None
 
 -- the form that is asked for, by all whose options are used: an SVG where none is, and no form where they don't go together
 abbrev pub form_among : List Form → Option Form
-form_among = fold form_with (Some Svg)
+form_among = fold form_with (Some (Svg all_events))
+
+-- the events that are chosen, where an option says from which one on, or up to which one
+abbrev pub range_with : (from to : Option ℕ) → Option Range
+range_with None None = None
+range_with (Some from) to = Some (record { from = from; to = to })
+range_with None (Some to) = Some (record { from = 0; to = Some to })
+
+abbrev pub range_in : List Row → Option Range
+range_in rows =
+    range_with (value_of (number_in 0 (2 ^ 64 - 1)) (codes "from") rows) (value_of (number_in 0 (2 ^ 64 - 1)) (codes "to") rows)
+
+-- a form with the events that are chosen, if they are: there is no such choice but of an SVG and of lines
+abbrev pub with_range : Option Range → Form → Option Form
+with_range None form = Some form
+with_range (Some range) (Svg all) = Some (Svg range)
+with_range (Some range) (Lines all) = Some (Lines range)
+with_range (Some range) form = None
 
 abbrev pub form_in : List Row → Option Form
-form_in rows = form_among (forms_used rows form_options)
+form_in rows = option_and_then (with_range (range_in rows)) (form_among (forms_used rows form_options))
 
--- the kinds of fault, where forms that don't go together are a conflict
+-- the kinds of fault, where options that don't go together are a conflict
 abbrev pub faults_with : Kinds → Option Form → Kinds
 faults_with [] None = ArgumentConflict ∷ []
 faults_with [] (Some form) = []
@@ -76,11 +103,11 @@ IsRefused words = (form_of_words words ≡ None) × ¬ (MayAskForHelp words)
 
 -- no word asks for an SVG, `--text` for lines, `--steps` for words, `--json` for a trace, and with `--full` for one with the whole
 -- memory, `--html` for a page, `--history` for a history, and any other for nothing, whatever the program's name is
-form_without_words : (name : Text) → form_of_words (name ∷ []) ≡ Some Svg
+form_without_words : (name : Text) → form_of_words (name ∷ []) ≡ Some (Svg all_events)
 unfolding clap_on_literals
 form_without_words name = refl
 
-form_of_text : (name : Text) → form_of_words (name ∷ codes "--text" ∷ []) ≡ Some Lines
+form_of_text : (name : Text) → form_of_words (name ∷ codes "--text" ∷ []) ≡ Some (Lines all_events)
 unfolding clap_on_literals
 form_of_text name = refl
 
@@ -111,6 +138,30 @@ form_of_history name = refl
 two_forms_are_a_fault : (name : Text) → faults_of_words (name ∷ codes "--text" ∷ codes "--json" ∷ []) ≡ ArgumentConflict ∷ []
 unfolding clap_on_literals
 two_forms_are_a_fault name = refl
+
+form_of_ten_to_twenty : (name : Text) → form_of_words (name ∷ codes "--from" ∷ codes "10" ∷ codes "--to" ∷ codes "20" ∷ [])
+    ≡ Some (Svg (record { from = 10; to = Some 20 }))
+unfolding clap_on_literals
+form_of_ten_to_twenty name = refl
+
+form_of_lines_from_ten : (name : Text) → form_of_words (name ∷ codes "--from=10" ∷ codes "--text" ∷ [])
+    ≡ Some (Lines (record { from = 10; to = None }))
+unfolding clap_on_literals
+form_of_lines_from_ten name = refl
+
+form_of_lines_to_zero : (name : Text) → form_of_words (name ∷ codes "--text" ∷ codes "--to" ∷ codes "0" ∷ [])
+    ≡ Some (Lines (record { from = 0; to = Some 0 }))
+unfolding clap_on_literals
+form_of_lines_to_zero name = refl
+
+steps_from_ten_are_a_fault : (name : Text)
+    → faults_of_words (name ∷ codes "--steps" ∷ codes "--from" ∷ codes "10" ∷ []) ≡ ArgumentConflict ∷ []
+unfolding clap_on_literals
+steps_from_ten_are_a_fault name = refl
+
+from_a_word_is_a_fault : (name : Text) → faults_of_words (name ∷ codes "--from" ∷ codes "ten" ∷ []) ≡ ValueValidation ∷ []
+unfolding clap_on_literals
+from_a_word_is_a_fault name = refl
 
 form_of_other : (name : Text) → form_of_words (name ∷ codes "--texts" ∷ []) ≡ None
 unfolding clap_on_literals

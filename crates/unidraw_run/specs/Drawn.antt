@@ -19,8 +19,8 @@ use Rattle.unidraw_run.specs.declared.program.Form.TheVariants.{Svg, Lines, Step
 -- the reader had a script that can be drawn, and this is its picture in a form, or its steps in words, its trace, that with the
 -- whole memory, the page of it, or its history
 abbrev pub IsPictureIn : Form → (left : Option (List ℕ)) → (text : List ℕ) → Type 0
-IsPictureIn Svg left text = IsPicture left text
-IsPictureIn Lines left text = IsLines left text
+IsPictureIn (Svg range) left text = IsPicture range left text
+IsPictureIn (Lines range) left text = IsLines range left text
 IsPictureIn Steps left text = IsSteps left text
 IsPictureIn Json left text = IsTrace left text
 IsPictureIn Full left text = IsWholeTrace left text

@@ -14,7 +14,7 @@ use crate::words::{read_words, tip_for};
 use command_line::answer_words;
 use run_history::history_of;
 use run_json::{json_of, whole_json_of};
-use run_layout::PictureFault;
+use run_layout::{PictureFault, Range};
 use run_lines::lines_of;
 use run_page::page_of;
 use run_picture::picture_of;
@@ -26,10 +26,10 @@ use uni_script::{BenchFault, Failed, TextIn, TextOut, report_fault, tell, write_
 /// What a picture is drawn as.
 #[derive(Clone, Copy)]
 pub enum Form {
-    /// An SVG.
-    Svg,
-    /// Lines of text, for a terminal of 100 columns.
-    Lines,
+    /// An SVG of these events.
+    Svg(Range),
+    /// Lines of text, for a terminal of 100 columns, that draw these events.
+    Lines(Range),
     /// Lines of text, with a sentence for each event.
     Steps,
     /// Lines of JSON, which tell what each event did to the memory.
@@ -46,7 +46,8 @@ pub enum Form {
 /// writes the picture to `output`; the answer is the status that the program ends with. With `--text` the
 /// picture is one of lines, with `--steps` it is a sentence for each event, with `--json` the trace of the run, and
 /// beside that with `--full` the whole memory after each event, with `--html` a page that shows the trace, with
-/// `--history` the calls and the replies of the run, and with no word an SVG.
+/// `--history` the calls and the replies of the run, and with no word an SVG. Of an SVG and of lines `--from` and
+/// `--to` choose the events.
 ///
 /// The status is 0 where all went well, also for help or the version, which go to `output`; 2 for a bad script,
 /// one of more than 2,000 events, or words that ask for nothing that there is; 3 where `input` or `output`
@@ -113,8 +114,8 @@ fn picture_in<I: TextIn>(alloc: Global, form: Form, reader: &mut I) -> Result<Ve
         → HasFault (scripts_of 1048576) (I.remaining reader.old) e }
 {
     match form {
-        Form::Svg => picture_of(alloc, reader),
-        Form::Lines => lines_of(alloc, reader),
+        Form::Svg(range) => picture_of(alloc, range, reader),
+        Form::Lines(range) => lines_of(alloc, range, reader),
         Form::Steps => steps_of(alloc, reader),
         Form::Json => json_of(alloc, reader),
         Form::Full => whole_json_of(alloc, reader),

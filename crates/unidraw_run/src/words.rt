@@ -2,17 +2,18 @@
 
 ghost use Rattle.std.specs.Prelude.{◌≡◌, IfOk, IfErr, map, codes, false, Some};
 ghost use Rattle.clap.specs.Values.{kind_of};
-ghost use Rattle.clap.specs.Words.{HasKind, app_of, found_of, new_app, rows_of};
+ghost use Rattle.clap.specs.Words.{HasKind, app_of, found_of, new_app, rows_of, rule_of};
 ghost use Rattle.clap.specs.declared.builder.command.Command.TheViews.{out-Command};
 ghost use Rattle.command_line.specs.Flags.{versioned};
-ghost use Rattle.unidraw_run.specs.CommandLine.{faults_of_words, form_among, form_of_words, form_with, forms_used};
-ghost use Rattle.unidraw_run.specs.CommandLine.{unidraw, with_options};
+ghost use Rattle.unidraw_run.specs.CommandLine.{event_option, faults_of_words, form_among, form_in, form_of_words};
+ghost use Rattle.unidraw_run.specs.CommandLine.{form_with, forms_used, range_in, unidraw, with_options, with_range};
 ghost use Rattle.unidraw_run.specs.Shown.{option_shown};
 
 use crate::program::Form;
 use clap::error::ErrorKind;
-use clap::{ArgMatches, Command};
-use command_line::{flag, is_set, may_be_path};
+use clap::{Arg, ArgMatches, Command};
+use command_line::{flag, in_range, is_set, may_be_path, number_of};
+use run_layout::Range;
 use std::alloc::{AllocError, Global};
 use std::convert::AsStr;
 
@@ -29,9 +30,13 @@ With --html a browser shows the steps. With --history calls and replies are
 told alone, for a program that judges histories. A script of more than 2000
 events has no picture.
 
+With --from and --to a picture shows these events alone, both included, by the
+numbers that --steps tells, from 0. Where there are none it has no columns.
+
 Examples:
   unidraw < queue.script > queue.svg
   unidraw --text < queue.script
+  unidraw --text --from 10 --to 20 < queue.script
   unidraw --steps < queue.script
   unidraw --json < queue.script
   unidraw --html < queue.script > queue.html
@@ -39,7 +44,8 @@ Examples:
 
 /// What is said where words ask for forms that don't go together.
 const SEVERAL: &str = "\
-only one of --text, --steps, --json, --html and --history can be used, and --full beside --json alone";
+only one of --text, --steps, --json, --html and --history can be used, --full beside --json alone, \
+and --from and --to without any of them but --text";
 
 /// What is said where a word may have been meant for a file.
 const TIP: &str = "tip: a script is read from standard input: unidraw < FILE\n";
@@ -59,7 +65,7 @@ struct FormOption {
 const OPTIONS: [FormOption; 6] = [
     FormOption {
         name: "text",
-        form: Form::Lines,
+        form: Form::Lines(Range { from: 0, to: None }),
         help: "Draws lines of text in place of an SVG",
     },
     FormOption {
@@ -109,8 +115,9 @@ fn with_options<'a>(
     options: &[FormOption],
 ) -> Result<Command<'a>, AllocError>
     requires { (out-Command command).has_globals ≡ false }
-    ensures { IfOk result (λ whole. app_of whole
+    ensures app { IfOk result (λ whole. app_of whole
         ≡ with_options (app_of command.entry) (map option_shown options.now)) }
+    ensures local { IfOk result (λ whole. (out-Command whole).has_globals ≡ false) }
 {
     for option in options {
         let name: &'a str = option.name;
@@ -120,13 +127,24 @@ fn with_options<'a>(
     Ok(command)
 }
 
+/// An option whose value is the number of an event.
+fn event_option<'a>(alloc: Global, name: &'a str, help: &'a str) -> Arg<'a>
+    ensures rule { rule_of result ≡ event_option name.entry.now }
+    ensures local { result.global ≡ false }
+{
+    let option = Arg::new(alloc, name).long(name).value_name("E").help(help);
+    in_range(option, 0, u64::MAX)
+}
+
 /// The command line of the program.
 ///
 /// An `Err` says that memory was refused.
 fn unidraw<'a>(alloc: Global) -> Result<Command<'a>, AllocError>
     ensures { IfOk result (λ command. app_of command ≡ unidraw) }
 {
-    with_options(alloc, described(alloc), &OPTIONS)
+    with_options(alloc, described(alloc), &OPTIONS)?
+        .arg(event_option(alloc, "from", "Draws the events from this number on"))?
+        .arg(event_option(alloc, "to", "Draws the events up to this number"))
 }
 
 /// The form that is asked for where a further option is used, which asks for this one; `None` where they don't go
@@ -136,23 +154,55 @@ fn form_with(asked: Option<Form>, further: Form) -> Option<Form>
 {
     match (asked, further) {
         (Some(Form::Json), Form::Full) => Some(Form::Full),
-        (Some(Form::Svg), Form::Full) => None,
-        (Some(Form::Svg), form) => Some(form),
+        (Some(Form::Svg(_)), Form::Full) => None,
+        (Some(Form::Svg(_)), form) => Some(form),
         _ => None,
     }
 }
 
 /// The form that is asked for by the options that matches use, of these; `None` where they don't go together.
-fn form_in(matches: &ArgMatches<'_>, options: &[FormOption]) -> Option<Form>
+fn form_among(matches: &ArgMatches<'_>, options: &[FormOption]) -> Option<Form>
     ensures { result ≡ form_among (forms_used (rows_of (found_of matches.now)) (map option_shown options.now)) }
 {
-    let mut asked = Some(Form::Svg);
+    let mut asked = Some(Form::Svg(Range::all()));
     for option in options {
         if is_set(matches, option.name) {
             asked = form_with(asked, option.form);
         }
     }
     asked
+}
+
+/// The events that are chosen; `None` where none of the two options is used.
+fn range_in(matches: &ArgMatches<'_>) -> Option<Range>
+    ensures { result ≡ range_in (rows_of (found_of matches.now)) }
+{
+    let from = number_of(matches, "from", 0, u64::MAX);
+    let to = number_of(matches, "to", 0, u64::MAX);
+    match (from, to) {
+        (None, None) => None,
+        (Some(from), to) => Some(Range { from, to }),
+        (None, to) => Some(Range { from: 0, to }),
+    }
+}
+
+/// A form with the events that are chosen, if they are; `None` where the form has no such choice.
+fn with_range(form: Form, range: Option<Range>) -> Option<Form>
+    ensures { result ≡ with_range range form }
+{
+    match (form, range) {
+        (form, None) => Some(form),
+        (Form::Svg(_), Some(range)) => Some(Form::Svg(range)),
+        (Form::Lines(_), Some(range)) => Some(Form::Lines(range)),
+        (_, Some(_)) => None,
+    }
+}
+
+/// The form that is asked for, with the events that are chosen; `None` where the options don't go together.
+fn form_in(matches: &ArgMatches<'_>) -> Option<Form>
+    ensures { result ≡ form_in (rows_of (found_of matches.now)) }
+{
+    with_range(form_among(matches, &OPTIONS)?, range_in(matches))
 }
 
 /// The fault of words that ask for several forms.
@@ -172,7 +222,7 @@ pub(crate) fn read_words<S: AsStr>(alloc: Global, words: &[S]) -> Result<Form, c
     ensures fault { IfErr result (HasKind (faults_of_words (map S.text words.now))) }
 {
     match unidraw(alloc)?.try_get_matches_from(words) {
-        Ok(matches) => match form_in(&matches, &OPTIONS) {
+        Ok(matches) => match form_in(&matches) {
             Some(form) => Ok(form),
             None => Err(several_forms(alloc)?),
         },

@@ -10,6 +10,7 @@ use Rattle.uni_script.specs.declared.fault.BenchFault.{BenchFault}
 use Rattle.run_layout.specs.Subject.{HasTooManyEvents, picture_fault_text}
 use Rattle.run_layout.specs.declared.subject.PictureFault.{PictureFault}
 use Rattle.run_layout.specs.declared.subject.PictureFault.TheVariants.{Script, TooManyEvents}
+use Rattle.run_layout.specs.Choice.{all_events}
 use Rattle.run_picture.specs.Picture.{IsPicture}
 use Rattle.run_lines.specs.Lines.{IsLines}
 
@@ -57,10 +58,10 @@ HasNoPicture script TooManyEvents = HasTooManyEvents (Some script)
 
 -- the script's picture as an SVG, its picture as lines, or the line that says why it has neither, is like this
 abbrev pub HasPicture : (script : List ℕ) → (List ℕ → Type 0) → Type 0
-HasPicture script Is = (svg : List ℕ) × IsPicture (Some script) svg × Is svg
+HasPicture script Is = (svg : List ℕ) × IsPicture all_events (Some script) svg × Is svg
 
 abbrev pub HasLines : (script : List ℕ) → (List ℕ → Type 0) → Type 0
-HasLines script Is = (text : List ℕ) × IsLines (Some script) text × Is text
+HasLines script Is = (text : List ℕ) × IsLines all_events (Some script) text × Is text
 
 abbrev pub HasRefusal : (script : List ℕ) → (List ℕ → Type 0) → Type 0
 HasRefusal script Is = (fault : PictureFault) × HasNoPicture script fault × Is (line_of fault)

@@ -5,6 +5,7 @@ ghost use Rattle.universal_text.specs.Told.{HasLines, HasPicture, HasRefusal, Is
 
 use crate::status::DONE;
 use crate::tell::{refuse, tell};
+use run_layout::Range;
 use run_lines::lines_of;
 use run_picture::picture_of;
 use std::alloc::Global;
@@ -31,7 +32,7 @@ pub extern "C" fn universal_draw(
         ⊎ HasRefusal script.now (λ line. IsTooLong line out.old out.new written.new) }
     ensures unchanged { result ≡ 3 → (out.new ≡ out.old) × (written.new ≡ written.old) }
 {
-    match picture_of(alloc, &mut Checked::new(script)) {
+    match picture_of(alloc, Range::all(), &mut Checked::new(script)) {
         Ok(svg) => tell(DONE, svg.as_slice(), out, written),
         Err(fault) => refuse(alloc, fault, out, written),
     }
@@ -53,7 +54,7 @@ pub extern "C" fn universal_lines(
         ⊎ HasRefusal script.now (λ line. IsTooLong line out.old out.new written.new) }
     ensures unchanged { result ≡ 3 → (out.new ≡ out.old) × (written.new ≡ written.old) }
 {
-    match lines_of(alloc, &mut Checked::new(script)) {
+    match lines_of(alloc, Range::all(), &mut Checked::new(script)) {
         Ok(text) => tell(DONE, text.as_slice(), out, written),
         Err(fault) => refuse(alloc, fault, out, written),
     }

@@ -1,9 +1,11 @@
-use Rattle.std.proofs.Common.{◌≡◌, drop, map}
-use Rattle.std.specs.List.{find}
-use Rattle.std.specs.Bool.{◌==◌}
-use Rattle.run_marks.specs.Shown.{bar_shown}
+use Rattle.std.proofs.Common.{◌≡◌, ◌≤◌, drop, map, fold}
+use Rattle.run_marks.specs.Shown.{bar_shown, marks_shown}
+use Rattle.run_layout.specs.Axis.{widened, width_of}
 use Rattle.run_layout.proofs.axis.width_of.Given as goal
 
--- none of the bars so far begins there
+-- the column so far, and the bars that are left
 abbrev pub invariant-loop-bar : goal.invariant-loop-bar
-invariant-loop-bar l = find (λ bar. bar.from == l.event) (map bar_shown (drop l.bar-index l.bar-items)) ≡ find (λ bar. bar.from == l.event) (map bar_shown l.bar-items)
+invariant-loop-bar l = record {
+  small : l.width ≤ 8008;
+  rest : fold (widened l.marks.events l.scale l.event) l.width (map bar_shown (drop l.bar-index l.bar-items)) ≡ width_of (marks_shown l.marks) l.scale l.event;
+}

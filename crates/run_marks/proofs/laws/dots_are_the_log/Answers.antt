@@ -1,8 +1,9 @@
-use Rattle.run_marks.proofs.Logged.{DotsAreTheLog-holds, BoxesAreTheLog-holds}
+use Rattle.run_marks.proofs.Logged.{DotsAreTheLog-holds}
+use Rattle.run_marks.proofs.Boxed.{BoxesAreTheLog-holds}
 use Rattle.run_marks.proofs.laws.dots_are_the_log.Goals as goal
 
 pub returns-clause-dots : goal.returns-clause-dots
-returns-clause-dots g c object name n start number events = DotsAreTheLog-holds (record { object = g.O.SeqObject.sequential object; language = g.O.Spoken.language }) name n start number events
+returns-clause-dots g c object name n start number events = DotsAreTheLog-holds (record { object = g.O.SeqObject.sequential object; language = g.O.Spoken.language }) g.O.Spoken.state_text name n start number events
 
 pub returns-clause-boxes : goal.returns-clause-boxes
-returns-clause-boxes g c object name n start number events = BoxesAreTheLog-holds (record { object = g.O.SeqObject.sequential object; language = g.O.Spoken.language }) name n start number events
+returns-clause-boxes g c object name n start number events = BoxesAreTheLog-holds (record { object = g.O.SeqObject.sequential object; language = g.O.Spoken.language }) g.O.Spoken.state_text name n start number events

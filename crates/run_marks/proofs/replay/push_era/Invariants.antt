@@ -1,8 +1,12 @@
-use Rattle.std.proofs.Common.{◌≡◌, ◌++◌, map, drop}
+use Rattle.std.proofs.Common.{◌≡◌, ◌+◌, ◌++◌, map, drop}
+use Rattle.uni_core.specs.World.{world_of}
 use Rattle.uni_log.specs.Entry.{entry_shown}
-use Rattle.run_marks.specs.Marks.{box_of}
+use Rattle.run_marks.specs.Marks.{boxes_from}
 use Rattle.run_marks.specs.Shown.{cell_shown}
 use Rattle.run_marks.proofs.replay.push_era.Given as goal
 
-abbrev pub invariant-loop-entry : goal.invariant-loop-entry
-invariant-loop-entry g l = map cell_shown l.cells.items ++ map (λ e. box_of g.O.Spoken.language (entry_shown e)) (drop l.entry-index l.entry-items) ≡ map (λ e. box_of g.O.Spoken.language (entry_shown e)) l.entry-items
+-- the boxes so far, and those of the rest
+abbrev pub invariant-loop-place : goal.invariant-loop-place
+invariant-loop-place g l =
+    map cell_shown l.cells.items ++ boxes_from g.O.Spoken.language g.O.Spoken.state_text (world_of l.world) (l.place + 1) (map entry_shown (drop l.place l.entry-items))
+    ≡ boxes_from g.O.Spoken.language g.O.Spoken.state_text (world_of l.world) 1 (map entry_shown l.entry-items)

@@ -6,4 +6,4 @@ use Rattle.run_picture.proofs.cells.push_box.Goals as goal
 pub returns : goal.returns
 unfolding box_figures
 returns c =
-    on_ok_weaker c.push_text-2.result (λ h. h ∙ rw (c.in_ok-push_text.ensures, c.in_ok-push_frame.ensures, c.box_width.ensures.width, c.deref.ensures.value, c.deref-2.ensures.value) (simp append_assoc)) c.push_text-2.ensures
+    on_ok_weaker c.push_state.result (λ h. h ∙ rw (c.in_ok-push_text-2.ensures, c.in_ok-push_text.ensures, c.in_ok-push_frame.ensures, c.box_width-width.ensures.width, c.box_height.ensures, c.deref.ensures.value, c.deref-2.ensures.value, c.as_ref.ensures.value, c.as_ref-2.ensures.value) (simp append_assoc)) c.push_state.ensures

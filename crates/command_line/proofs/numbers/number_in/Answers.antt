@@ -1,7 +1,7 @@
 use Rattle.std.proofs.Common.{◌∙◌, sym, ap, arith, Some}
 use Rattle.std.specs.Str.Parse.{without_leading_plus}
-use Rattle.unibench_run.proofs.PlanValues.{value_in-none, value_in-some}
-use Rattle.unibench_run.proofs.request.number_in.Goals as goal
+use Rattle.command_line.proofs.Digits.{value_in-none, value_in-some}
+use Rattle.command_line.proofs.numbers.number_in.Goals as goal
 
 pub returns-in-Err : goal.returns-in-Err
 returns-in-Err c = sym (value_in-none c.args.least c.args.most (without_leading_plus c.args.text.now) (λ h. c.in-Err.ensures.value.0 (h.0, (let low = h.1.1 in let fits = c.ranges.most.fits in omega arith))))

@@ -1,8 +1,8 @@
 use Rattle.std.proofs.Common.{◌≡◌, ◌∙◌, None, Some, option_and_then, option_map, rules, sym, ap}
 use Rattle.clap.specs.Words.{found_of}
-use Rattle.unibench_run.specs.Request.{number_in}
-use Rattle.unibench_run.proofs.PlanReads.{value_of-text}
-use Rattle.unibench_run.proofs.request.number_of.Goals as goal
+use Rattle.command_line.specs.Numbers.{number_in}
+use Rattle.command_line.proofs.Digits.{value_of-text}
+use Rattle.command_line.proofs.numbers.number_of.Goals as goal
 
 pub returns-in_err-get_str : goal.returns-in_err-get_str
 returns-in_err-get_str c =

@@ -1,10 +1,14 @@
 -- Numbers in texts, and the first values of options.
-use Rattle.std.proofs.Common.{◌≡◌, ℕ, ◌≤◌, ◌&&◌, Bool, true, false, List, [], ◌∷◌, None, Some, length, if◌then◌else◌, nat_le, nat_lt, refl, arith}
+use Rattle.std.proofs.Common.{◌≡◌, ◌∙◌, ℕ, ◌≤◌, Option, option_map, option_and_then, sym, ap, ◌&&◌, Bool, true, false, List, [], ◌∷◌, None, Some, length, if◌then◌else◌, nat_le, nat_lt, refl, arith}
 use Rattle.std.proofs.lemmas.Bool.Decides.{nat_tests}
 use Rattle.std.specs.List.{list_all}
 use Rattle.std.specs.Char.{digit_value}
 use Rattle.std.specs.Str.Parse.{AllDigits, IsNumeral, digits_value}
-use Rattle.unibench_run.specs.Request.{are_digits, value_in}
+use Rattle.std.specs.Borrow.{Bor}
+use Rattle.clap.proofs.WalkLemmas.{first_value-rows}
+use Rattle.clap.specs.Words.{Text, first_value, rows_of}
+use Rattle.clap.specs.declared.parser.matches.Found.{Found}
+use Rattle.command_line.specs.Numbers.{are_digits, value_in, value_of}
 
 digits_pass : (ds : List ℕ) → AllDigits 10 ds → list_all (λ d. nat_lt (digit_value d) 10) ds ≡ true
 digits_pass [] all = refl
@@ -54,3 +58,8 @@ value_in-range least most ds n is = by_tests (are_digits ds) (nat_le least (digi
       let above : least ≤ digits_value 10 ds = grind (arith, nat_tests) in
       let below : digits_value 10 ds ≤ most = grind (arith, nat_tests) in
       ((omega arith), (omega arith))
+
+-- the value of an option is what is read of the text that the matches give
+pub value_of-text : {A : Type 0} (read : Text → Option A) (f : Found) (id : Text) (o : Option (Bor Text))
+    → option_map (λ s. s.now) o ≡ first_value f id → value_of read id (rows_of f) ≡ option_and_then read (option_map (λ s. s.now) o)
+value_of-text read f id o is = ap (option_and_then read) (sym (first_value-rows f id) ∙ sym is)

@@ -1,0 +1,305 @@
+//! Some events of a run, and what is drawn of it where these are chosen.
+
+ghost use Rattle.std.specs.Prelude.{◌≡◌, ◌≤◌, ◌&&◌, ◌-◌, ◌==◌, not, IfOk, List, length, map};
+ghost use Rattle.std.specs.Prelude.{option_map, option_and_then};
+ghost use Rattle.std.specs.List.{filter, list_any};
+ghost use Rattle.run_marks.specs.Shown.{bar_shown, cell_shown, end_shown, era_shown, marks_shown};
+ghost use Rattle.uni_script.specs.declared.remarks.PlacedRemark.{PlacedRemark as Placed};
+ghost use Rattle.run_marks.specs.Marks.{RunMarks};
+ghost use Rattle.run_layout.specs.Choice.{is_by, is_in, meets, all_events, count_in, step_in, dot_in, line_in};
+ghost use Rattle.run_layout.specs.Choice.{end_in, bar_in, is_bar_in, links_outside, era_in, chosen};
+ghost use Rattle.run_layout.specs.Choice.{is_told_in, remark_in, chosen_remarks};
+
+use run_marks::{Bar, BarEnd, CellBox, Dot, Era, EraLine, Marks, StepMark};
+use std::alloc::{AllocError, Global};
+use uni_script::{PlacedRemark, Remark};
+
+/// Some events of a run, by their numbers from 0.
+#[derive(Clone, Copy, Debug, PartialEq, Eq)]
+pub struct Range {
+    /// The first one.
+    pub from: u64,
+    /// The last one; `None` where it is the run's.
+    pub to: Option<u64>,
+}
+
+/// Whether an event isn't after the last one, if there is a last.
+fn is_by(event: u64, last: Option<u64>) -> bool
+    ensures { result ≡ is_by event last }
+{
+    match last {
+        Some(last) => event <= last,
+        None => true,
+    }
+}
+
+impl Range {
+    /// All events: a run is drawn whole.
+    pub fn all() -> Range
+        ensures range { result ≡ all_events }
+        ensures marks { (marks : RunMarks) → chosen result marks ≡ marks }
+        ensures remarks { (remarks : List Placed) → chosen_remarks result remarks ≡ remarks }
+    {
+        Range { from: 0, to: None }
+    }
+
+    /// Whether it has an event.
+    fn has(self, event: u64) -> bool
+        ensures { result ≡ is_in self event }
+    {
+        self.from <= event && is_by(event, self.to)
+    }
+
+    /// Whether it has one of the events from one on to the last one.
+    fn meets(self, from: u64, last: Option<u64>) -> bool
+        ensures { result ≡ meets self from last }
+    {
+        is_by(self.from.max(from), self.to) && is_by(self.from, last)
+    }
+
+    /// How many of so many events it has.
+    fn count(self, events: u64) -> u64
+        ensures small { result ≤ events }
+        ensures count { result ≡ count_in self events }
+    {
+        let end = match self.to {
+            Some(to) => to.saturating_add(1).min(events),
+            None => events,
+        };
+        end.saturating_sub(self.from)
+    }
+
+    /// The number of an event from the first one on.
+    fn shifted(self, event: u64) -> u64
+        ensures { result ≡ event - self.from }
+    {
+        event.saturating_sub(self.from)
+    }
+}
+
+/// The steps that are chosen.
+///
+/// An `Err` says that memory was refused.
+fn steps_in(alloc: Global, range: Range, steps: &[StepMark]) -> Result<Vec<StepMark>, AllocError>
+    ensures { IfOk result (λ part. part.items
+        ≡ map (step_in range) (filter (λ step. is_in range step.event) steps.now)) }
+{
+    steps
+        .iter()
+        .copied()
+        .filter(|step| range.has(step.event))
+        .map(|step| StepMark {
+            event: range.shifted(step.event),
+            ..step
+        })
+        .collect(alloc)
+}
+
+/// The dots that are chosen.
+///
+/// An `Err` says that memory was refused.
+fn dots_in(alloc: Global, range: Range, dots: &[Dot]) -> Result<Vec<Dot>, AllocError>
+    ensures { IfOk result (λ part. part.items
+        ≡ map (dot_in range) (filter (λ dot. is_in range dot.event) dots.now)) }
+{
+    dots.iter()
+        .copied()
+        .filter(|dot| range.has(dot.event))
+        .map(|dot| Dot {
+            event: range.shifted(dot.event),
+            ..dot
+        })
+        .collect(alloc)
+}
+
+/// The ends of eras that are chosen.
+///
+/// An `Err` says that memory was refused.
+fn lines_in(alloc: Global, range: Range, lines: &[EraLine]) -> Result<Vec<EraLine>, AllocError>
+    ensures { IfOk result (λ part. part.items
+        ≡ map (line_in range) (filter (λ line. is_in range line.event) lines.now)) }
+{
+    lines
+        .iter()
+        .copied()
+        .filter(|line| range.has(line.event))
+        .map(|line| EraLine {
+            event: range.shifted(line.event),
+            ..line
+        })
+        .collect(alloc)
+}
+
+/// How a call ended, where that event is chosen.
+fn end_in(range: Range, end: BarEnd) -> Option<BarEnd>
+    ensures { option_map end_shown result ≡ end_in range (end_shown end) }
+{
+    if !range.has(end.event) {
+        return None;
+    }
+    Some(BarEnd {
+        event: range.shifted(end.event),
+        ..end
+    })
+}
+
+/// A call that began before begins with the first event, and one that ends later has no end.
+fn bar_in(range: Range, bar: Bar) -> Bar
+    ensures { bar_shown result ≡ bar_in range (bar_shown bar) }
+{
+    Bar {
+        call: bar.call,
+        from: range.shifted(bar.from),
+        words: bar.words,
+        end: bar.end.and_then(|end| end_in(range, end)),
+    }
+}
+
+/// The bars that go over an event which is chosen, in a run of so many.
+///
+/// An `Err` says that memory was refused.
+fn bars_in(alloc: Global, range: Range, events: u64, bars: Vec<Bar>) -> Result<Vec<Bar>, AllocError>
+    ensures { IfOk result (λ part. map bar_shown part.items
+        ≡ map (bar_in range) (filter (is_bar_in range events) (map bar_shown bars.items))) }
+{
+    let mut part = Vec::new(alloc);
+    for bar in bars {
+        if range.meets(bar.from, Some(bar.last(events))) {
+            part.push(bar_in(range, bar))?;
+        }
+    }
+    Ok(part)
+}
+
+/// Whether a cell was linked by an event that isn't chosen.
+fn is_linked_outside(range: Range, dots: &[Dot], cell: &CellBox) -> bool
+    ensures { result ≡ list_any (links_outside range (cell_shown cell.now)) dots.now }
+{
+    dots.iter().any(|dot| {
+        !range.has(dot.event)
+            && dot.call.process == cell.call.process
+            && dot.call.nth == cell.call.nth
+    })
+}
+
+/// The cells of a run with these dots that weren't linked outside.
+///
+/// An `Err` says that memory was refused.
+fn cells_in(
+    alloc: Global,
+    range: Range,
+    dots: &[Dot],
+    cells: Vec<CellBox>,
+) -> Result<Vec<CellBox>, AllocError>
+    ensures { IfOk result (λ part. map cell_shown part.items
+        ≡ filter (λ cell. not (list_any (links_outside range cell) dots.now)) (map cell_shown cells.items)) }
+{
+    let mut part = Vec::new(alloc);
+    for cell in cells {
+        if !is_linked_outside(range, dots, &cell) {
+            part.push(cell)?;
+        }
+    }
+    Ok(part)
+}
+
+/// An era of a run with these dots, without the cells that were linked outside.
+///
+/// An `Err` says that memory was refused.
+fn era_in(alloc: Global, range: Range, dots: &[Dot], era: Era) -> Result<Era, AllocError>
+    ensures { IfOk result (λ part. era_shown part ≡ era_in range dots.now (era_shown era)) }
+{
+    let last = match era.last {
+        Some(last) if range.has(last) => Some(range.shifted(last)),
+        _ => None,
+    };
+    Ok(Era {
+        from: range.shifted(era.from),
+        last,
+        processes: era.processes,
+        anchor: era.anchor,
+        cells: cells_in(alloc, range, dots, era.cells)?,
+    })
+}
+
+/// The eras of a run with these dots that have an event which is chosen.
+///
+/// An `Err` says that memory was refused.
+fn eras_in(
+    alloc: Global,
+    range: Range,
+    dots: &[Dot],
+    eras: Vec<Era>,
+) -> Result<Vec<Era>, AllocError>
+    ensures { IfOk result (λ part. map era_shown part.items
+        ≡ map (era_in range dots.now) (filter (λ era. meets range era.from era.last) (map era_shown eras.items))) }
+{
+    let mut part = Vec::new(alloc);
+    for era in eras {
+        if range.meets(era.from, era.last) {
+            part.push(era_in(alloc, range, dots, era)?)?;
+        }
+    }
+    Ok(part)
+}
+
+/// The marks of a run, where these events are chosen.
+///
+/// An `Err` says that memory was refused.
+pub(crate) fn chosen(alloc: Global, range: Range, marks: Marks) -> Result<Marks, AllocError>
+    ensures fewer { IfOk result (λ part. part.events ≤ marks.events) }
+    ensures chosen { IfOk result (λ part. marks_shown part ≡ chosen range (marks_shown marks)) }
+{
+    let Marks {
+        object,
+        events,
+        steps,
+        bars,
+        dots,
+        lines,
+        eras,
+    } = marks;
+    Ok(Marks {
+        object,
+        events: range.count(events),
+        steps: steps_in(alloc, range, &steps)?,
+        bars: bars_in(alloc, range, events, bars)?,
+        eras: eras_in(alloc, range, &dots, eras)?,
+        dots: dots_in(alloc, range, &dots)?,
+        lines: lines_in(alloc, range, &lines)?,
+    })
+}
+
+/// Whether a remark is told where these events are chosen: a heading is, and what stands before one of them.
+fn is_told_in(range: Range, one: &PlacedRemark) -> bool
+    ensures { result ≡ is_told_in range one.now }
+{
+    match one.remark {
+        Remark::Heading(_) => true,
+        Remark::Note(_) | Remark::Refused(_) => range.has(one.before),
+    }
+}
+
+/// What is told beside a run, where these events are chosen.
+///
+/// An `Err` says that memory was refused.
+pub(crate) fn chosen_remarks(
+    alloc: Global,
+    range: Range,
+    remarks: Vec<PlacedRemark>,
+) -> Result<Vec<PlacedRemark>, AllocError>
+    ensures fewer { IfOk result (λ part. length part.items ≤ length remarks.items) }
+    ensures chosen { IfOk result (λ part. part.items ≡ chosen_remarks range remarks.items) }
+{
+    let mut part = Vec::new(alloc);
+    for one in remarks {
+        if is_told_in(range, &one) {
+            part.push(PlacedRemark {
+                line: one.line,
+                before: range.shifted(one.before),
+                remark: one.remark,
+            })?;
+        }
+    }
+    Ok(part)
+}
