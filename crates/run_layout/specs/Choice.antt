@@ -108,7 +108,8 @@ counts_of_three : count_in ten_to_twenty 27 ∷ count_in (record { from = 20; to
 counts_of_three = refl
 
 -- a range that ends before it begins has no event, and no bar goes over one
-none_of_twenty_to_ten : (count_in (record { from = 20; to = Some 10 }) 27 ≡ 0) × (meets (record { from = 20; to = Some 10 }) 5 (Some 25) ≡ false)
+none_of_twenty_to_ten : (count_in (record { from = 20; to = Some 10 }) 27 ≡ 0)
+    × (meets (record { from = 20; to = Some 10 }) 5 (Some 25) ≡ false)
 none_of_twenty_to_ten = (refl, refl)
 
 -- a call from 4 to 10 is there at the first event alone, one from 20 to 24 has no end, and one from 21 on isn't there

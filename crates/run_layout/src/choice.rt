@@ -1,12 +1,14 @@
 //! Some events of a run, and what is drawn of it where these are chosen.
 
-ghost use Rattle.std.specs.Prelude.{◌≡◌, ◌≤◌, ◌&&◌, ◌-◌, ◌==◌, not, IfOk, List, length, map, option_map, option_and_then};
+ghost use Rattle.std.specs.Prelude.{◌≡◌, ◌≤◌, ◌&&◌, ◌-◌, ◌==◌, not, IfOk, List, length};
+ghost use Rattle.std.specs.Prelude.{map, option_map, option_and_then};
 ghost use Rattle.std.specs.List.{filter, list_any};
 ghost use Rattle.run_marks.specs.Shown.{bar_shown, cell_shown, end_shown, era_shown, marks_shown};
 ghost use Rattle.uni_script.specs.declared.remarks.PlacedRemark.{PlacedRemark as Placed};
 ghost use Rattle.run_marks.specs.Marks.{RunMarks};
-ghost use Rattle.run_layout.specs.Choice.{is_by, is_in, meets, all_events, count_in, step_in, dot_in, line_in, end_in, bar_in, is_bar_in};
-ghost use Rattle.run_layout.specs.Choice.{links_outside, era_in, chosen, is_told_in, remark_in, chosen_remarks};
+ghost use Rattle.run_layout.specs.Choice.{is_by, is_in, meets, all_events, count_in, step_in, dot_in, line_in};
+ghost use Rattle.run_layout.specs.Choice.{end_in, bar_in, is_bar_in, links_outside, era_in, chosen};
+ghost use Rattle.run_layout.specs.Choice.{is_told_in, remark_in, chosen_remarks};
 
 use run_marks::{Bar, BarEnd, CellBox, Dot, Era, EraLine, Marks, StepMark};
 use std::alloc::{AllocError, Global};

@@ -1,6 +1,7 @@
 //! What stands above and below the rows: headings, notes, eras and the legend.
 
-ghost use Rattle.std.specs.Prelude.{◌≡◌, ◌++◌, ◌+◌, ◌<◌, ◌≤◌, ◌^◌, IfOk, OnOk, length, map, option_map};
+ghost use Rattle.std.specs.Prelude.{◌≡◌, ◌++◌, ◌+◌, ◌<◌, ◌≤◌, ◌^◌, IfOk, OnOk, length, map};
+ghost use Rattle.std.specs.Prelude.{option_map};
 ghost use Rattle.run_marks.specs.Shown.{cell_shown, era_shown};
 ghost use Rattle.run_lines.specs.Numbers.{no_notes};
 ghost use Rattle.run_lines.specs.Sheet.{ended, wrapped, padded, headings_text, numbered_note, notes_from, state_text};

@@ -1,7 +1,7 @@
 //! The marks of a run, by the replay of its events.
 
-ghost use Rattle.std.specs.Prelude.{◌≡◌, ℕ, ◌<◌, ◌++◌, ◌∷◌, [], ◌^◌, IfOk, OnOk, drop, map, option_map};
-ghost use Rattle.std.specs.Prelude.{IfSome, IsSome, Some};
+ghost use Rattle.std.specs.Prelude.{◌≡◌, ℕ, ◌<◌, ◌++◌, ◌∷◌, [], ◌^◌, IfOk, OnOk, drop, map};
+ghost use Rattle.std.specs.Prelude.{IfSome, IsSome, Some, option_map};
 ghost use Rattle.std.specs.Option.{option_copied};
 ghost use Rattle.cell_arena.specs.Arena.{cell_of};
 ghost use Rattle.uni_model.specs.Places.{head_seq};
