@@ -8,13 +8,16 @@ import subprocess
 import sys
 import tempfile
 
+WINDOW = 60
 FIELDS = ["inv", "seq", "before", "after", "state", "reply"]
 
-# What a page shows: the texts of the arrays and of the cells, with a star where a place has changed, and the sentence.
+# What a page shows: the sentence, the numbers of the lanes' events and their lines, and the texts of the arrays and of the
+# cells, with a star where a place has changed.
 SHOWN = """
 JSON.stringify({
   hash: location.hash,
   sentence: document.getElementById("sentence").textContent,
+  numbers: [...document.querySelectorAll("table.lanes tr:first-child td")].map((cell) => cell.title.split(":")[0]),
   arrays: Object.fromEntries([...document.querySelectorAll("table.names > tr")].filter((row) => row.querySelector("th"))
     .map((row) => [row.querySelector("th").textContent, [...row.querySelectorAll("td")].map((cell) => cell.textContent)])),
   cells: Object.fromEntries([...document.querySelectorAll("div.box")].map((box) => [box.querySelector("b").textContent,
@@ -149,8 +152,16 @@ def memory_after(lines, event):
     return processes, places, changed
 
 
+def number(line):
+    """The number of an event, and that of its line in the script."""
+    return f"{line['event']}, line {line['line']}"
+
+
 def wanted(lines, event):
-    """What a page has to show after an event: arrays and cells."""
+    """What a page has to show after an event: the numbers of events, arrays and cells."""
+    events = [line for line in lines if "event" in line]
+    start = max(0, min(event - WINDOW // 2, len(events) - WINDOW))
+    numbers = [number(line) for line in events[start:start + WINDOW]]
     processes, places, changed = memory_after(lines, event)
     def text(place, content):
         return f"{content} *" if place in changed else content
@@ -160,7 +171,7 @@ def wanted(lines, event):
     empty = {"seq": "0"}
     cells = {name: {field: text(f"{name}.{field}", places.get(f"{name}.{field}", empty.get(field, "?"))) for field in FIELDS}
              for name in names}
-    return {"arrays": arrays, "cells": cells}
+    return {"numbers": numbers, "arrays": arrays, "cells": cells}
 
 
 def wanted_rows(lines):
@@ -219,7 +230,7 @@ def compare(browser, page, trace):
         shown = browser.shown()
         for part, want in wanted(lines, event).items():
             check(f"event {event}, {part}", shown[part], want)
-        check(f"event {event}, sentence", shown["sentence"].split(":")[0], f"{event}, line {events[event]['line']}")
+        check(f"event {event}, sentence", shown["sentence"].split(":")[0], number(events[event]))
         for key in ["ArrowDown", "ArrowUp", "n", "ArrowLeft", "ArrowRight", "Home", "n", "End"]:
             event = led_to(events, event, key)
             browser.press(key)
