@@ -2,7 +2,7 @@
 use Rattle.std.proofs.Common.{◌≡◌, ◌∙◌, ℕ, zero, suc, ◌+◌, ◌<◌, ◌≤◌, length, drop, get_or, refl, sym, ap, List, [], ◌∷◌, ◌++◌, Option, Some, None, map, slice_get, option_map, option_and_then, arith}
 use Rattle.std.specs.Option.{option_map_or}
 use Rattle.std.specs.List.{flat_map}
-use Rattle.std.proofs.lemmas.List.{append-nil, drop_more}
+use Rattle.std.proofs.lemmas.List.{append-nil, drop_more, map-append}
 use Rattle.seq_object.specs.History.{state_after}
 use Rattle.uni_model.specs.Places.{Name, seq_of, after_of, new_of, inv_of}
 use Rattle.uni_model.specs.Places.Name.{Anchor, Of}
@@ -24,7 +24,7 @@ use Rattle.uni_log.specs.Entry.{entry_shown}
 use Rattle.uni_log.specs.Log.{state_settled_at}
 use Rattle.uni_script.specs.Objects.{SpokenObject}
 use Rattle.run_marks.specs.Marks.{Cell, EraMarks, box_of, boxes_from, eras_in}
-use Rattle.run_marks.specs.Laws.{boxes_after, BoxesAreTheLog}
+use Rattle.run_marks.specs.Laws.{boxes_after, stateless, BoxesAreTheLog, BoxesHaveTheEntries}
 
 -- the boxes of stored entries from a place on, one more
 pub boxes_more : {S I R : Type 0} (l : Language I R) (text : S → List ℕ) (w : WorldOf S I R) (i : ℕ) (xs : List (Stored I R)) (x : Stored I R) → i < length xs → x ≡ get_or xs i x
@@ -167,3 +167,29 @@ module _ {S I R : Type 0} (o : SpokenObject S I R) (text : S → List ℕ) where
   pub BoxesAreTheLog-holds : (name : List ℕ) (n : ℕ) (start : S) (number : ℕ) (events : List (Event I)) → BoxesAreTheLog o text name n start number events
   BoxesAreTheLog-holds name n start number events positive ok =
       boxes-eras (opened_world n start number) 0 0 events start (IsRun-opened_world o.object n start number events positive ok)
+
+  -- without states, the boxes of any run
+  stateless-from : (w : WorldOf S I R) (place : ℕ) (es : List (Entry I R)) → map stateless (boxes_from o.language text w place es) ≡ map (box_of o.language None) es
+  stateless-from w place [] = refl
+  stateless-from w place (e ∷ es) = ap (λ l. box_of o.language None e ∷ l) (stateless-from w (place + 1) es)
+
+  stateless-era : (w : WorldOf S I R) (later : List Cell) (entries : List (Entry I R)) → map stateless later ≡ map (box_of o.language None) entries
+      → map stateless (boxes_from o.language text w 1 (log w) ++ later) ≡ map (box_of o.language None) (log w ++ entries)
+  stateless-era w later entries is =
+      map-append stateless (boxes_from o.language text w 1 (log w)) later
+      ∙ ap (λ l. l ++ map stateless later) (stateless-from w 1 (log w))
+      ∙ ap (λ l. map (box_of o.language None) (log w) ++ l) is
+      ∙ sym (map-append (box_of o.language None) (log w) entries)
+
+  stateless-eras : (w : WorldOf S I R) (from place : ℕ) (es : List (Event I))
+      → map stateless (flat_map (λ (e : EraMarks). e.cells) (eras_in o text w from place es)) ≡ map (box_of o.language None) (log_of_run o.object w es)
+  stateless-eras w from place [] = ap (map stateless) (append-nil (boxes_from o.language text w 1 (log w))) ∙ stateless-from w 1 (log w)
+  stateless-eras w from place (Call p i ∷ es) = stateless-eras (world_after o.object w (Call p i)) from (place + 1) es
+  stateless-eras w from place (Step p ∷ es) = stateless-eras (world_after o.object w (Step p)) from (place + 1) es
+  stateless-eras w from place (Trim ∷ es) =
+      stateless-era w _ (log_of_run o.object (world_after o.object w Trim) es) (stateless-eras (world_after o.object w Trim) (place + 1) (place + 1) es)
+  stateless-eras w from place (Reshape n ∷ es) =
+      stateless-era w _ (log_of_run o.object (world_after o.object w (Reshape n)) es) (stateless-eras (world_after o.object w (Reshape n)) (place + 1) (place + 1) es)
+
+  pub BoxesHaveTheEntries-holds : (name : List ℕ) (n : ℕ) (start : S) (number : ℕ) (events : List (Event I)) → BoxesHaveTheEntries o text name n start number events
+  BoxesHaveTheEntries-holds name n start number events = stateless-eras (opened_world n start number) 0 0 events

@@ -1,6 +1,6 @@
 -- What holds of the marks of each run from an opening.
 use Rattle.std.specs.Prelude.{◌≡◌, ℕ, ◌+◌, ◌<◌, ◌≤◌, ◌==◌, if◌then◌else◌, List, [], ◌∷◌, ◌++◌}
-use Rattle.std.specs.Prelude.{map, replicate, Some, IfSome, Contains, option_map, refl}
+use Rattle.std.specs.Prelude.{map, replicate, Some, None, IfSome, Contains, option_map, refl}
 use Rattle.std.specs.Option.{option_map_or}
 use Rattle.std.specs.List.{All, flat_map}
 use Rattle.seq_object.specs.declared.call_id.CallId.{CallId}
@@ -50,6 +50,10 @@ boxes_after o text s (e ∷ es) =
     let next = o.object.next s e.call.inv in
     box_of o.language (option_map (λ response. text next) e.response) e ∷ boxes_after o text next es
 
+-- a box without its state
+abbrev pub stateless : Cell → Cell
+stateless cell = record cell { state = None }
+
 -- in each run from an opening
 module _ {S I R : Type 0} (o : SpokenObject S I R) (text : S → List ℕ) (name : List ℕ) (n : ℕ) (start : S) (number : ℕ)
     (events : List (Event I)) where
@@ -71,6 +75,11 @@ module _ {S I R : Type 0} (o : SpokenObject S I R) (text : S → List ℕ) (name
   BoxesAreTheLog =
       1 ≤ number → AreAccepted o.object (opened_world n start number) events
       → flat_map (λ (e : EraMarks). e.cells) marks.eras ≡ boxes_after o text start joined
+
+  -- without their states they are the entries of the joined log, whether or not the events were accepted
+  abbrev pub BoxesHaveTheEntries : Type 0
+  BoxesHaveTheEntries =
+      map stateless (flat_map (λ (e : EraMarks). e.cells) marks.eras) ≡ map (box_of o.language None) joined
 
   -- each dot lies in a bar of its call
   abbrev pub DotsLieInBars : Type 0

@@ -2,13 +2,15 @@
 
 ghost use Rattle.std.specs.Prelude.{ℕ, List};
 ghost use Rattle.uni_model.specs.Worlds.{Event};
-ghost use Rattle.run_marks.specs.Laws.{DotsAreTheLog, BoxesAreTheLog, DotsLieInBars, BarsHaveTheReplies, EndsAreEvents};
+ghost use Rattle.run_marks.specs.Laws.{DotsAreTheLog, BoxesAreTheLog, BoxesHaveTheEntries, DotsLieInBars};
+ghost use Rattle.run_marks.specs.Laws.{BarsHaveTheReplies, EndsAreEvents};
 
 use ready_objects::Spoken;
 
 /// The dots of a run, from left to right, are the calls of the joined log of all its eras, in its
 /// order: each call has one dot where it took effect, and no other. The boxes of the eras, one era
-/// after the other, are the entries of that log, each with the object's state after it.
+/// after the other, are the entries of that log, each with the object's state after it; without these states also
+/// where an event isn't accepted.
 pub fn dots_are_the_log<O: Spoken>()
     ensures dots { (object : O) (name : List ℕ) (n : ℕ) (start : O.State) (number : ℕ)
         (events : List (Event O.Inv)) →
@@ -17,6 +19,10 @@ pub fn dots_are_the_log<O: Spoken>()
     ensures boxes { (object : O) (name : List ℕ) (n : ℕ) (start : O.State) (number : ℕ)
         (events : List (Event O.Inv)) →
         BoxesAreTheLog (record { object = O.sequential object; language = O.language }) O.state_text
+        name n start number events }
+    ensures entries { (object : O) (name : List ℕ) (n : ℕ) (start : O.State) (number : ℕ)
+        (events : List (Event O.Inv)) →
+        BoxesHaveTheEntries (record { object = O.sequential object; language = O.language }) O.state_text
         name n start number events }
 {}
 
