@@ -21,9 +21,9 @@ use Rattle.uni_script.specs.Objects.{SpokenObject, spoken_of}
 use Rattle.uni_script.specs.Schedules.{word_of_object}
 use Rattle.run_trace.specs.Frames.{Steps, stepped}
 use Rattle.run_trace.specs.Scenes.{Scene, scene_of, scenes_from}
-use Rattle.run_telling.specs.Order.{event_text, told_before, told_from}
+use Rattle.run_telling.specs.Order.{event_text, told_before, told_from, told_text}
 use Rattle.run_layout.specs.Subject.{state_text_of}
-use Rattle.run_telling.specs.Told.{IsLinearizableRun, IsTold, text_of_events}
+use Rattle.run_telling.specs.Told.{IsLinearizableRun, IsTold, trace_of_events}
 use Rattle.run_json.specs.Lines.{line_text}
 use Rattle.run_history.specs.History.{IsHistory}
 use Rattle.run_history.specs.Lines.{act_line, history_text, history_wording, opening_members, replied_line}
@@ -90,7 +90,7 @@ module _ {S I R : Type 0} (object : Sequential S I R) (l : Language I R) (text :
 
 -- the run of a script, told, is what is observed of it
 history_is : {S I R : Type 0} (o : SpokenObject S I R) (text : S → List ℕ) (name : List ℕ) (n row first : ℕ) (events : List (Event I)) (lines : List ℕ) (remarks : List PlacedRemark) → IsLinearizableRun o.object n first events
-    → text_of_events history_wording o text name n row first events lines remarks ≡ history_text o text name n first events
+    → told_text history_wording (trace_of_events false o text name n row first events) lines remarks ≡ history_text o text name n first events
 history_is o text name n row first events lines remarks run =
     let w = opened_world n o.object.initial first in
     ap (λ lines. line_text (opening_members name n (text o.object.initial)) ++ lines)

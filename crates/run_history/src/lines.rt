@@ -26,7 +26,7 @@ pub(crate) fn push_opening_line(text: &mut Vec<u8>, opened: &Opened<'_>) -> Resu
         Member("history", Value::Number(1)),
         Member("object", Value::Text(opened.object.as_bytes())),
         Member("processes", Value::Number(opened.processes)),
-        Member("state", Value::Text(opened.state)),
+        Member("state", Value::Text(opened.state.as_slice())),
     ];
     push_line(text, &members)
 }

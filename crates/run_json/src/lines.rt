@@ -45,7 +45,7 @@ pub(crate) fn push_opening_line(text: &mut Vec<u8>, opened: &Opened<'_>) -> Resu
         Member("processes", Value::Number(opened.processes)),
         Member("row", Value::Number(opened.row)),
         Member("number", Value::Number(opened.number)),
-        Member("state", Value::Text(opened.state)),
+        Member("state", Value::Text(opened.state.as_slice())),
     ];
     push_line(text, &members)
 }

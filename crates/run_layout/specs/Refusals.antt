@@ -9,7 +9,7 @@ use Rattle.uni_script.specs.declared.remarks.Remark.{Remark}
 use Rattle.uni_script.specs.declared.remarks.Remark.TheVariants.{Heading, Note, Refused}
 use Rattle.uni_script.specs.declared.remarks.PlacedRemark.{PlacedRemark}
 use Rattle.run_layout.specs.declared.refusals.Told.{Told}
-use Rattle.run_layout.specs.Wording.{refusal_words, lane_of}
+use Rattle.run_layout.specs.Wording.{name_text, refusal_words, lane_of}
 
 -- the command that was refused, where the refusal tells it
 abbrev pub command_of : Refusal → List ℕ
@@ -24,7 +24,7 @@ command_of (Count count) = codes "reshape "
 
 -- the process that is the reason, if one is
 abbrev pub process_text : Option ℕ → List ℕ
-process_text (Some process) = codes "P" ++ decimal process ++ codes " "
+process_text (Some process) = name_text process ++ codes " "
 process_text None = []
 
 -- what was refused, and why

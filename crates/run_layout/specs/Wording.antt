@@ -66,6 +66,10 @@ kinds_of steps = filter (occurs steps) kinds
 abbrev pub any_unchanged : List StepMark → Bool
 any_unchanged steps = list_any (λ step. not step.changed) steps
 
+-- the name of a process
+abbrev pub name_text : (process : ℕ) → List ℕ
+name_text process = codes "P" ++ decimal process
+
 -- so many things, with the word for one of them and that for any other number
 abbrev pub counted_text : (n : ℕ) (one many : List ℕ) → List ℕ
 counted_text n one many = decimal n ++ codes " " ++ (if n == 1 then one else many)
@@ -126,7 +130,7 @@ is_help cell dot =
 
 -- the process that linked a cell by this dot
 abbrev pub linker_text : Dot → List ℕ
-linker_text dot = codes " by P" ++ decimal dot.by
+linker_text dot = codes " by " ++ name_text dot.by
 
 -- the number and the call of a cell, and the process that linked it, where that is another than the call's
 abbrev pub cell_name : List Dot → Cell → List ℕ

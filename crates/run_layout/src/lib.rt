@@ -17,6 +17,6 @@ pub use subject::{PictureFault, Subject, subject_of, subject_of_object};
 pub use titles::step_title;
 pub use wording::{
     any_unchanged, cell_name, cell_state, cell_words, counts_of, kinds_of, label_of, lane_of,
-    letter_of, line_of, meaning_of, push_counted, refusal_of, title_of,
+    letter_of, line_of, meaning_of, name_of, push_counted, refusal_of, title_of,
 };
 pub use wrapping::{MOST_LINES, push_lines};

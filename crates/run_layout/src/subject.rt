@@ -43,6 +43,29 @@ impl fmt::Display for PictureFault {
     }
 }
 
+impl From<BenchFault> for PictureFault {
+    ghost use Rattle.std.specs.Prelude.{◌≡◌};
+    ghost use Rattle.run_layout.specs.declared.subject.PictureFault.TheVariants.{Script};
+
+    ghost from_gives = { λ of fault. fault ≡ Script of };
+
+    fn from(fault: BenchFault) -> PictureFault {
+        PictureFault::Script(fault)
+    }
+}
+
+impl From<AllocError> for PictureFault {
+    ghost use Rattle.std.specs.Prelude.{◌≡◌};
+    ghost use Rattle.uni_script.specs.declared.fault.BenchFault.TheVariants.{Memory};
+    ghost use Rattle.run_layout.specs.declared.subject.PictureFault.TheVariants.{Script};
+
+    ghost from_gives = { λ _ fault. fault ≡ Script Memory };
+
+    fn from(_: AllocError) -> PictureFault {
+        PictureFault::Script(BenchFault::Memory)
+    }
+}
+
 /// What a picture shows of a script.
 #[derive(Drop)]
 pub struct Subject {
@@ -89,10 +112,7 @@ fn marks_of_events<O: Spoken>(
     if recorded.events().len() as u64 > MOST_EVENTS {
         return Err(PictureFault::TooManyEvents);
     }
-    match marks_of(alloc, name, object, recorded) {
-        Ok(marks) => Ok(marks),
-        Err(AllocError) => Err(PictureFault::Script(BenchFault::Memory)),
-    }
+    Ok(marks_of(alloc, name, object, recorded)?)
 }
 
 /// The marks of a record, by its object.
@@ -156,10 +176,8 @@ pub fn subject_of<I: TextIn>(alloc: Global, reader: &mut I) -> Result<Subject, P
     ensures fault { (e : Fault) → IsErrOf result (PictureFault.Script e) → IsFaultOfScript e
         → HasFault (scripts_of 1048576) (I.remaining reader.old) e }
 {
-    match run_of_script(alloc, reader, &Options::default()) {
-        Ok(run) => subject_of_run(alloc, run),
-        Err(fault) => Err(PictureFault::Script(fault)),
-    }
+    let run = run_of_script(alloc, reader, &Options::default())?;
+    subject_of_run(alloc, run)
 }
 
 /// What a picture shows of the script over an object that a reader has, whose header names the object by this word, as
@@ -186,10 +204,8 @@ pub fn subject_of_object<O: Spoken + Copy, I: TextIn>(
         → HasFault (own_scripts_of (spoken O.sequential O.language object) name.now 1048576)
         (I.remaining reader.old) e }
 {
-    match run_of_object(alloc, object, name, reader, &Options::default()) {
-        Ok(run) => subject_of_own_run(alloc, object, name, run),
-        Err(fault) => Err(PictureFault::Script(fault)),
-    }
+    let run = run_of_object(alloc, object, name, reader, &Options::default())?;
+    subject_of_own_run(alloc, object, name, run)
 }
 
 /// What a picture shows of the run of a script over an object; `object` is a further value of it.

@@ -8,6 +8,7 @@ ghost use Rattle.run_marks.specs.Shown.{end_shown, bar_shown, cell_shown, marks_
 ghost use Rattle.run_layout.specs.Wording.{occurs, kinds_of, any_unchanged, linker_text, is_help};
 ghost use Rattle.run_layout.specs.Wording.{letter_of, meaning_of, label_text, counted_text, counts_text, line_text};
 ghost use Rattle.run_layout.specs.Wording.{refusal_words, lane_of, cell_words, cell_state, cell_name, title_text};
+ghost use Rattle.run_layout.specs.Wording.{name_text};
 
 use run_marks::{Bar, BarEnd, CellBox, Dot, EraEnd, EraLine, Marks, StepMark};
 use std::alloc::{AllocError, Global};
@@ -125,12 +126,18 @@ pub fn kinds_of(alloc: Global, steps: &[StepMark]) -> Result<Vec<StepKind>, Allo
 pub fn any_unchanged(steps: &[StepMark]) -> bool
     ensures { result ≡ any_unchanged steps.now }
 {
-    for step in steps {
-        if !step.changed {
-            return true;
-        }
-    }
-    false
+    steps.iter().any(|step| !step.changed)
+}
+
+/// The name of a process.
+///
+/// An `Err` says that memory was refused.
+pub fn name_of(alloc: Global, process: u64) -> Result<Vec<u8>, AllocError>
+    ensures { IfOk result (λ name. name.items ≡ name_text process) }
+{
+    let mut name = Vec::new(alloc);
+    write!(name, "P{process}").map_err(|_| AllocError)?;
+    Ok(name)
 }
 
 /// The label of a call's bar: the call and its words, and its reply where it has returned.
@@ -242,8 +249,7 @@ pub fn cell_words(alloc: Global, cell: &CellBox) -> Result<Vec<u8>, AllocError>
 ///
 /// An `Err` says that memory was refused.
 pub fn cell_state(alloc: Global, cell: &CellBox) -> Result<Option<Vec<u8>>, AllocError>
-    ensures small { IfOk result (λ state. IfSome state (λ text. length text.items ≤ 30)) }
-    ensures state { IfOk result (λ state. option_map (λ text. text.items) state
+    ensures { IfOk result (λ state. option_map (λ text. text.items) state
         ≡ cell_state (cell_shown cell.now)) }
 {
     match &cell.state {

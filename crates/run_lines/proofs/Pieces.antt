@@ -5,7 +5,8 @@ use Rattle.std.proofs.lemmas.List.{drop_more, drop_all, map-id}
 use Rattle.std.proofs.lemmas.List.FromFn.{map-range_with_len_more}
 use Rattle.std.proofs.lemmas.Grind.{flat_map-append}
 use Rattle.uni_core.specs.declared.stage.StepKind.{StepKind}
-use Rattle.run_lines.specs.Strokes.{lane_row, name_text, names_from, text_stroke}
+use Rattle.run_lines.specs.Strokes.{lane_row, names_from, text_stroke}
+use Rattle.run_layout.specs.Wording.{name_text}
 use Rattle.run_lines.specs.Sheet.{entry_text, entries_from}
 
 -- the name of a process, and those of the next ones

@@ -12,14 +12,14 @@ use Rattle.run_marks.specs.declared.marks.Dot.{Dot}
 use Rattle.run_marks.specs.Marks.{Cell, EraMarks, RunMarks, lanes_of}
 use Rattle.run_layout.specs.declared.axis.Scale.{Scale}
 use Rattle.run_layout.specs.Wording.{letter_of, meaning_of, kinds_of, any_unchanged, cell_name, cell_words, cell_state}
-use Rattle.run_layout.specs.Wording.{title_text}
+use Rattle.run_layout.specs.Wording.{name_text, title_text}
 use Rattle.run_layout.specs.Wrapping.{lines_of}
 use Rattle.run_layout.specs.Axis.{Places, places_of}
 use Rattle.run_lines.specs.declared.numbering.Numbering.{Numbering}
 use Rattle.run_lines.specs.Numbers.{numbering_after, no_notes}
 use Rattle.run_lines.specs.declared.sheet.Block.{Block}
 use Rattle.run_lines.specs.Canvas.{Stroke, goes_across, rows_of}
-use Rattle.run_lines.specs.Strokes.{bottom_row, text_stroke, name_text, era_start, strokes_on}
+use Rattle.run_lines.specs.Strokes.{bottom_row, text_stroke, era_start, strokes_on}
 
 -- ---- lines of text
 

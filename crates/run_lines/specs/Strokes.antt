@@ -12,7 +12,7 @@ use Rattle.run_marks.specs.declared.marks.Dot.{Dot}
 use Rattle.run_marks.specs.declared.marks.EraLine.{EraLine}
 use Rattle.run_marks.specs.Marks.{End, Called, EraMarks, RunMarks}
 use Rattle.run_layout.specs.declared.axis.Column.{Column}
-use Rattle.run_layout.specs.Wording.{letter_of, label_text, counts_text, line_text}
+use Rattle.run_layout.specs.Wording.{letter_of, name_text, label_text, counts_text, line_text}
 use Rattle.run_layout.specs.Refusals.{Label, labels_of}
 use Rattle.run_layout.specs.Axis.{Places, event_column, remark_column, right_of}
 use Rattle.run_lines.specs.declared.canvas.Layer.{Layer}
@@ -40,10 +40,6 @@ letter_stroke row column letter = text_stroke row column (letter ∷ [])
 abbrev pub column_stroke : (top bottom column : ℕ) → Layer → Stroke
 column_stroke top bottom column layer =
     record { top = top; bottom = bottom; column = column; text = codes "|"; layer = layer; is_label = false }
-
--- the name of a process
-abbrev pub name_text : (process : ℕ) → List ℕ
-name_text process = codes "P" ++ decimal process
 
 -- the names of so many processes in the rows of their bars, from a process on
 unfoldable pub names_from : (lanes column process count : ℕ) → List Stroke

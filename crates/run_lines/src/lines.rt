@@ -15,7 +15,7 @@ use crate::sheet::text_of;
 use ready_objects::Spoken;
 use run_layout::{PictureFault, Range, Subject, subject_of, subject_of_object};
 use std::alloc::{AllocError, Global};
-use uni_script::{BenchFault, TextIn};
+use uni_script::TextIn;
 
 /// The lines of what a picture shows where these events are chosen.
 ///
@@ -46,10 +46,7 @@ pub fn lines_of<I: TextIn>(
         → HasFault (scripts_of 1048576) (I.remaining reader.old) e }
 {
     let subject = subject_of(alloc, reader)?;
-    match text_of_subject(alloc, range, subject) {
-        Ok(text) => Ok(text),
-        Err(AllocError) => Err(PictureFault::Script(BenchFault::Memory)),
-    }
+    Ok(text_of_subject(alloc, range, subject)?)
 }
 
 /// The same of a script over an object, whose header names the object by this word, as for
@@ -76,8 +73,5 @@ pub fn lines_of_object<O: Spoken + Copy, I: TextIn>(
         (I.remaining reader.old) e }
 {
     let subject = subject_of_object(alloc, object, name, reader)?;
-    match text_of_subject(alloc, range, subject) {
-        Ok(text) => Ok(text),
-        Err(AllocError) => Err(PictureFault::Script(BenchFault::Memory)),
-    }
+    Ok(text_of_subject(alloc, range, subject)?)
 }

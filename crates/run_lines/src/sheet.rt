@@ -12,11 +12,11 @@ ghost use Rattle.run_lines.specs.Sheet.{width_within, block_at, part_of, block_t
 ghost use Rattle.run_lines.specs.Sheet.{rows_text_of, lines_of_marks};
 
 use crate::canvas::{Stroke, rows_of};
-use crate::strokes::{ABOVE, LANE, bottom_row, era_start, name_text, strokes_of};
+use crate::strokes::{ABOVE, LANE, bottom_row, era_start, strokes_of};
 use crate::texts::{
     WIDTH, push_eras, push_headings, push_legend, push_line, push_notes, push_padded, push_wrapped,
 };
-use run_layout::{Axis, MOST_LANES, Scale, any_unchanged, axis_of, kinds_of, title_of};
+use run_layout::{Axis, MOST_LANES, Scale, any_unchanged, axis_of, kinds_of, name_of, title_of};
 use run_marks::{Era, Marks};
 use std::alloc::{AllocError, Global};
 use uni_script::PlacedRemark;
@@ -55,7 +55,7 @@ fn row_name(alloc: Global, named: u64, row: u64) -> Result<Vec<u8>, AllocError>
     ensures { IfOk result (λ name. name.items ≡ row_name named row) }
 {
     if row >= ABOVE && (row - ABOVE) % LANE == 1 && (row - ABOVE) / LANE < named {
-        return name_text(alloc, (row - ABOVE) / LANE);
+        return name_of(alloc, (row - ABOVE) / LANE);
     }
     Ok(Vec::new(alloc))
 }

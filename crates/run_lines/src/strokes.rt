@@ -6,19 +6,20 @@ ghost use Rattle.std.specs.List.{flat_map};
 ghost use Rattle.std.specs.Fmt.{decimal};
 ghost use Rattle.run_marks.specs.Shown.{bar_shown, end_shown, era_shown, marks_shown};
 ghost use Rattle.run_layout.specs.Refusals.{told_shown};
+ghost use Rattle.run_layout.specs.Wording.{name_text};
 ghost use Rattle.run_layout.specs.Axis.{places_shown};
 ghost use Rattle.run_lines.specs.Canvas.{stroke_shown};
 ghost use Rattle.run_lines.specs.Strokes.{lane_row, bottom_row, text_stroke, letter_stroke, column_stroke};
 ghost use Rattle.run_lines.specs.Strokes.{line_strokes, bar_end, bar_text, counts_strokes, bar_strokes, step_letter};
 ghost use Rattle.run_lines.specs.Strokes.{step_strokes, arrow_strokes, dot_strokes, notes_from};
 ghost use Rattle.run_lines.specs.Strokes.{refusal_strokes, refusals_from};
-ghost use Rattle.run_lines.specs.Strokes.{name_text, names_from, era_start, new_names, strokes_on};
+ghost use Rattle.run_lines.specs.Strokes.{names_from, era_start, new_names, strokes_on};
 ghost use Rattle.run_lines.specs.Numbers.{no_notes};
 
 use crate::canvas::{Layer, Stroke};
 use crate::numbering::Numbering;
 use run_layout::{
-    Axis, Column, MOST_LANES, Told, counts_of, label_of, letter_of, line_of, told_of,
+    Axis, Column, MOST_LANES, Told, counts_of, label_of, letter_of, line_of, name_of, told_of,
 };
 use run_marks::{Bar, BarEnd, Dot, Era, EraLine, Marks, StepMark};
 use std::alloc::{AllocError, Global};
@@ -159,17 +160,6 @@ fn push_era_lines(
     Ok(())
 }
 
-/// The name of a process.
-///
-/// An `Err` says that memory was refused.
-pub fn name_text(alloc: Global, process: u64) -> Result<Vec<u8>, AllocError>
-    ensures { IfOk result (λ name. name.items ≡ name_text process) }
-{
-    let mut name = Vec::new(alloc);
-    write!(name, "P{process}").map_err(|_| AllocError)?;
-    Ok(name)
-}
-
 /// Adds the name of a process in the row of its bars.
 ///
 /// An `Err` says that memory was refused.
@@ -186,7 +176,7 @@ fn push_name(
         ++ text_stroke (lane_row lanes process + 1) column (name_text process) ∷ []) }
 {
     let row = lane_row(lanes, process) + 1;
-    push_text(strokes, row, column, name_text(alloc, process)?)
+    push_text(strokes, row, column, name_of(alloc, process)?)
 }
 
 /// Adds the names of the processes from one on and before another.

@@ -4,7 +4,7 @@ use Rattle.std.specs.Fmt.{decimal}
 use Rattle.std.specs.List.{flat_map}
 use Rattle.std.specs.Option.{option_map_or}
 use Rattle.svg_text.specs.Svg.{escaped}
-use Rattle.run_layout.specs.Wording.{counted_text, letter_of}
+use Rattle.run_layout.specs.Wording.{counted_text, letter_of, name_text}
 use Rattle.run_trace.specs.Held.{Change, cell_text, changes_between}
 use Rattle.run_trace.specs.Frames.{Begun, Ended, Frame, Stepped, Begins, Steps, Ends}
 use Rattle.run_telling.specs.Order.{Wording}
@@ -21,9 +21,6 @@ row_text cells = codes "<tr>" ++ flat_map cell cells ++ codes "\n"
 abbrev pub changed_words : List Change → List ℕ
 changed_words changes = flat_map (λ c. change_words c ++ codes "\n") changes
 
-abbrev pub process_words : (process : ℕ) → List ℕ
-process_words p = codes "P" ++ decimal p
-
 -- what a call has come to with a step: its own steps and turns so far, and the reply where it has returned
 abbrev pub reply_words : (reply : List ℕ) → List ℕ
 reply_words reply = codes ", reply " ++ reply
@@ -37,12 +34,12 @@ stage_words s =
 -- call has come to; what there isn't is left empty.
 abbrev pub begun_cells : (event : ℕ) → Begun → List (List ℕ)
 begun_cells k b =
-    decimal k ∷ process_words b.call.process ∷ cell_text (Some b.call) ∷ [] ∷ begun_sentence b
+    decimal k ∷ name_text b.call.process ∷ cell_text (Some b.call) ∷ [] ∷ begun_sentence b
     ∷ changed_words (changes_between b.before b.after) ∷ [] ∷ []
 
 abbrev pub step_cells : (event : ℕ) → Stepped → List (List ℕ)
 step_cells k s =
-    decimal k ∷ process_words s.call.process ∷ cell_text (Some s.call) ∷ (letter_of s.kind ∷ []) ∷ sentence s
+    decimal k ∷ name_text s.call.process ∷ cell_text (Some s.call) ∷ (letter_of s.kind ∷ []) ∷ sentence s
     ∷ changed_words (changes_between s.before s.after) ∷ stage_words s ∷ []
 
 abbrev pub end_cells : (event : ℕ) → Ended → List (List ℕ)

@@ -14,9 +14,9 @@ use crate::rows::InRows;
 use crate::viewer::{END, MIDDLE, START};
 use run_json::InJson;
 use run_layout::PictureFault;
-use run_telling::told_of_run;
+use run_telling::trace_of_script;
 use std::alloc::{AllocError, Global};
-use uni_script::{BenchFault, Options, ScriptRecord, ScriptRun, TextIn, run_of_script};
+use uni_script::{Options, ScriptRecord, ScriptRun, TextIn, run_of_script};
 
 /// Adds a byte of a trace, escaped.
 ///
@@ -81,12 +81,10 @@ fn page_of_run(alloc: Global, run: &ScriptRun<ScriptRecord>) -> Result<Vec<u8>, 
     ensures many { IsErrOf result PictureFault.TooManyEvents → 2000 < events_of_record run.now.record }
     ensures memory { (e : Fault) → IsErrOf result (PictureFault.Script e) → e ≡ Fault.Memory }
 {
-    let rows = told_of_run::<InRows>(alloc, run)?;
-    let trace = told_of_run::<InJson>(alloc, run)?;
-    match between(alloc, START, &rows, MIDDLE, &trace, END) {
-        Ok(text) => Ok(text),
-        Err(AllocError) => Err(PictureFault::Script(BenchFault::Memory)),
-    }
+    let trace = trace_of_script(alloc, &run.record, false)?;
+    let rows = trace.told::<InRows>(alloc, &run.lines, &run.remarks)?;
+    let lines = trace.told::<InJson>(alloc, &run.lines, &run.remarks)?;
+    Ok(between(alloc, START, &rows, MIDDLE, &lines, END)?)
 }
 
 /// The page that shows the run of the script that a reader has.
@@ -100,8 +98,6 @@ pub fn page_of<I: TextIn>(alloc: Global, reader: &mut I) -> Result<Vec<u8>, Pict
     ensures fault { (e : Fault) → IsErrOf result (PictureFault.Script e) → IsFaultOfScript e
         → HasFault (scripts_of 1048576) (I.remaining reader.old) e }
 {
-    match run_of_script(alloc, reader, &Options::default()) {
-        Ok(run) => page_of_run(alloc, &run),
-        Err(fault) => Err(PictureFault::Script(fault)),
-    }
+    let run = run_of_script(alloc, reader, &Options::default())?;
+    page_of_run(alloc, &run)
 }

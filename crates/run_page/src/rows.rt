@@ -4,10 +4,10 @@ ghost use Rattle.std.specs.Prelude.{◌≡◌, ◌++◌, [], IfOk, OnOk, decimal
 ghost use Rattle.std.specs.List.{flat_map};
 ghost use Rattle.std.specs.Option.{option_map_or};
 ghost use Rattle.run_trace.specs.Shown.{begun_shown, change_shown, end_shown, frame_shown, step_shown};
-ghost use Rattle.run_page.specs.Rows.{begun_cells, cell, changed_words, end_cells, frame_cells, process_words};
+ghost use Rattle.run_page.specs.Rows.{begun_cells, cell, changed_words, end_cells, frame_cells};
 ghost use Rattle.run_page.specs.Rows.{reply_words, row_text, stage_words, step_cells, told_cells};
 
-use run_layout::{letter_of, push_counted};
+use run_layout::{letter_of, name_of, push_counted};
 use run_steps::{
     opening_words, push_begun_sentence, push_change_words, push_end_sentence, push_step_sentence,
     remark_words,
@@ -53,14 +53,14 @@ fn push_told_row(rows: &mut Vec<u8>, words: &[u8]) -> Result<(), AllocError>
     push_row(rows, &[b"", b"", b"", b"", words, b"", b""])
 }
 
-/// The text of a number, behind these words.
+/// The text of a number.
 ///
 /// An `Err` says that memory was refused.
-fn number_text(alloc: Global, words: &str, number: u64) -> Result<Vec<u8>, AllocError>
-    ensures { IfOk result (λ text. text.items ≡ words.now ++ decimal number) }
+fn number_text(alloc: Global, number: u64) -> Result<Vec<u8>, AllocError>
+    ensures { IfOk result (λ text. text.items ≡ decimal number) }
 {
     let mut text = Vec::new(alloc);
-    write!(text, "{words}{number}").map_err(|_| AllocError)?;
+    write!(text, "{number}").map_err(|_| AllocError)?;
     Ok(text)
 }
 
@@ -119,8 +119,8 @@ fn push_begun_row(
 ) -> Result<(), AllocError>
     ensures { OnOk result (rows.new.items ≡ rows.old.items ++ row_text (begun_cells event (begun_shown begun.now))) }
 {
-    let number = number_text(alloc, "", event)?;
-    let process = number_text(alloc, "P", u64::from(begun.call.process))?;
+    let number = number_text(alloc, event)?;
+    let process = name_of(alloc, u64::from(begun.call.process))?;
     let call = cell_text(alloc, Some(begun.call))?;
     let mut happened = Vec::new(alloc);
     push_begun_sentence(alloc, begun, &mut happened)?;
@@ -143,8 +143,8 @@ fn push_step_row(
 ) -> Result<(), AllocError>
     ensures { OnOk result (rows.new.items ≡ rows.old.items ++ row_text (step_cells event (step_shown step.now))) }
 {
-    let number = number_text(alloc, "", event)?;
-    let process = number_text(alloc, "P", u64::from(step.call.process))?;
+    let number = number_text(alloc, event)?;
+    let process = name_of(alloc, u64::from(step.call.process))?;
     let call = cell_text(alloc, Some(step.call))?;
     let kind = [letter_of(step.kind)];
     let changes = changes_of(alloc, &step.before, &step.after)?;
@@ -169,7 +169,7 @@ fn push_end_row(
 ) -> Result<(), AllocError>
     ensures { OnOk result (rows.new.items ≡ rows.old.items ++ row_text (end_cells event (end_shown end.now))) }
 {
-    let number = number_text(alloc, "", event)?;
+    let number = number_text(alloc, event)?;
     let mut happened = Vec::new(alloc);
     push_end_sentence(&mut happened, end)?;
     push_row(rows, &[&number, b"", b"", b"", &happened, b"", b""])

@@ -2,7 +2,6 @@
 use Rattle.std.specs.Prelude.{◌≡◌, ℕ, zero, suc, ◌+◌, ◌-◌, ◌*◌, min, ◌==◌, if◌then◌else◌, nat_le, nat_lt}
 use Rattle.std.specs.Prelude.{List, [], ◌∷◌, ◌++◌, Option, Some, None, codes, refl}
 use Rattle.std.specs.List.{flat_map}
-use Rattle.std.specs.Fmt.{decimal}
 use Rattle.svg_text.specs.declared.paint.Paint.TheVariants.{Paper, Frame, Ink, Faint, Edge, Broken, Thick}
 use Rattle.svg_text.specs.declared.shape.Anchor.TheVariants.{Start, Middle}
 use Rattle.run_marks.specs.declared.marks.StepMark.{StepMark}
@@ -11,7 +10,7 @@ use Rattle.run_marks.specs.declared.marks.EraLine.{EraLine}
 use Rattle.run_marks.specs.Marks.{End, Called, EraMarks, RunMarks, lanes_of}
 use Rattle.run_picture.specs.declared.figures.Toward.TheVariants.{Up, Down}
 use Rattle.run_picture.specs.declared.lanes.Lanes.{Lanes}
-use Rattle.run_layout.specs.Wording.{letter_of, label_text, counts_text, line_text}
+use Rattle.run_layout.specs.Wording.{letter_of, name_text, label_text, counts_text, line_text}
 use Rattle.run_layout.specs.Titles.{step_title}
 use Rattle.run_layout.specs.Axis.{Places, event_column, middle_of, right_of, letters_of}
 use Rattle.run_picture.specs.Paint.{mark_paint, letter_paint}
@@ -30,10 +29,6 @@ lane_middle lanes process = lane_top lanes process + 48
 -- the lanes of a run, 64 at most
 abbrev pub lanes_of_run : RunMarks → Lanes
 lanes_of_run marks = record { count = min (lanes_of marks.eras) 64 }
-
--- the name of a process
-abbrev pub name_text : (process : ℕ) → List ℕ
-name_text process = codes "P" ++ decimal process
 
 -- the lane of a process in an era, from the left to the right, with its name where so many lanes have one already
 abbrev pub lane_figures : Lanes → (left right named process : ℕ) → List Figure

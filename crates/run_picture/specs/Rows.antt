@@ -9,10 +9,11 @@ use Rattle.uni_script.specs.declared.remarks.PlacedRemark.{PlacedRemark}
 use Rattle.run_marks.specs.Marks.{EraMarks, RunMarks}
 use Rattle.run_layout.specs.declared.axis.Column.{Column}
 use Rattle.run_layout.specs.Axis.{Places}
+use Rattle.run_layout.specs.Wording.{name_text}
 use Rattle.run_picture.specs.declared.lanes.Lanes.{Lanes}
 use Rattle.run_picture.specs.declared.rows.Row.{Row}
 use Rattle.run_picture.specs.Shapes.{label_figures}
-use Rattle.run_picture.specs.Lanes.{lane_top, lane_middle, lanes_of_run, name_text, strip_end, era_end, bar_texts}
+use Rattle.run_picture.specs.Lanes.{lane_top, lane_middle, lanes_of_run, strip_end, era_end, bar_texts}
 use Rattle.run_picture.specs.Cells.{lower}
 use Rattle.run_picture.specs.Notes.{captions_from, captions_foot, rooms_from}
 

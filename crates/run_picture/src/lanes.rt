@@ -7,16 +7,16 @@ ghost use Rattle.run_marks.specs.Shown.{era_shown, marks_shown};
 ghost use Rattle.run_layout.specs.Axis.{places_shown};
 ghost use Rattle.svg_text.specs.Figures.{figure};
 ghost use Rattle.run_picture.specs.Lanes.{lane_top, lane_middle, lane_figures, lanes_from, era_end, era_lanes};
-ghost use Rattle.run_picture.specs.Lanes.{line_figures, lanes_of_run, name_text, strip_end};
+ghost use Rattle.run_picture.specs.Lanes.{line_figures, lanes_of_run, strip_end};
+ghost use Rattle.run_layout.specs.Wording.{name_text};
 ghost use Rattle.svg_text.specs.Figures.{Text};
 ghost use Rattle.svg_text.specs.declared.paint.Paint.TheVariants.{Ink};
 ghost use Rattle.svg_text.specs.declared.shape.Anchor.TheVariants.{Start};
 
 use crate::figures::{push_line, push_text};
-use run_layout::{Axis, MOST_LANES, line_of};
+use run_layout::{Axis, MOST_LANES, line_of, name_of};
 use run_marks::{Era, EraLine, Marks};
 use std::alloc::{AllocError, Global};
-use std::io::Write;
 use svg_text::{Anchor, Paint, Shape};
 
 /// How far things stand from the left and the right.
@@ -132,8 +132,7 @@ pub fn push_name(
     ensures { OnOk result (map figure shapes.new.items
         ≡ map figure shapes.old.items ++ Text at.0 at.1 Start Ink (name_text process) ∷ []) }
 {
-    let mut name = Vec::new(alloc);
-    write!(name, "P{process}").map_err(|_| AllocError)?;
+    let name = name_of(alloc, process)?;
     push_text(shapes, at.0, at.1, Anchor::Start, Paint::Ink, name)
 }
 

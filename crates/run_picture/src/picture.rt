@@ -17,7 +17,7 @@ use ready_objects::Spoken;
 use run_layout::{PictureFault, Range, Subject, subject_of, subject_of_object};
 use std::alloc::{AllocError, Global};
 use svg_text::svg_of;
-use uni_script::{BenchFault, TextIn};
+use uni_script::TextIn;
 
 /// The SVG of what a picture shows where these events are chosen.
 ///
@@ -49,10 +49,7 @@ pub fn picture_of<I: TextIn>(
         → HasFault (scripts_of 1048576) (I.remaining reader.old) e }
 {
     let subject = subject_of(alloc, reader)?;
-    match svg_of_subject(alloc, range, subject) {
-        Ok(svg) => Ok(svg),
-        Err(AllocError) => Err(PictureFault::Script(BenchFault::Memory)),
-    }
+    Ok(svg_of_subject(alloc, range, subject)?)
 }
 
 /// The same of a script over an object, whose header names the object by this word, as for
@@ -79,8 +76,5 @@ pub fn picture_of_object<O: Spoken + Copy, I: TextIn>(
         (I.remaining reader.old) e }
 {
     let subject = subject_of_object(alloc, object, name, reader)?;
-    match svg_of_subject(alloc, range, subject) {
-        Ok(svg) => Ok(svg),
-        Err(AllocError) => Err(PictureFault::Script(BenchFault::Memory)),
-    }
+    Ok(svg_of_subject(alloc, range, subject)?)
 }

@@ -354,7 +354,7 @@ pub fn opening_words(alloc: Global, opened: &Opened<'_>) -> Result<Vec<u8>, Allo
         " each in an era; the anchor has number {number} and state "
     )
     .map_err(|_| AllocError)?;
-    words.extend_from_slice(opened.state)?;
+    words.extend_from_slice(&opened.state)?;
     words.push(b'.')?;
     Ok(words)
 }

@@ -6,7 +6,7 @@ use Rattle.uni_script.specs.declared.remarks.PlacedRemark.{PlacedRemark}
 use Rattle.uni_script.specs.declared.remarks.Remark.TheVariants.{Refused}
 use Rattle.uni_script.specs.declared.answer.Refusal.TheVariants.{Sequence}
 use Rattle.run_trace.specs.Scenes.{Scene}
-use Rattle.run_telling.specs.Opened.{Opening}
+use Rattle.run_telling.specs.Opened.{Opening, Trace}
 
 -- whether the whole memory is to be told after each event; and the texts of the pieces: how the run opened, an event with its number
 -- and with that of the script's line that stored it, and what is told beside the events
@@ -37,6 +37,6 @@ told_from words lines k (scene ∷ scenes) remarks =
     flat_map words.remark (take (told_before k remarks) remarks) ++ event_text words k (slice_get lines k) scene
     ++ told_from words lines (k + 1) scenes (drop (told_before k remarks) remarks)
 
--- a run, told
-abbrev pub told_text : Wording → Opening → (lines : List ℕ) → List (Option Scene) → List PlacedRemark → List ℕ
-told_text words opening lines scenes remarks = words.opening opening ++ told_from words lines 0 scenes remarks
+-- a run, told, by its trace
+abbrev pub told_text : Wording → Trace → (lines : List ℕ) → List PlacedRemark → List ℕ
+told_text words trace lines remarks = words.opening trace.opening ++ told_from words lines 0 trace.scenes remarks

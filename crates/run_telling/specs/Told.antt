@@ -1,5 +1,5 @@
 -- The run of a script, told.
-use Rattle.std.specs.Prelude.{◌≡◌, ◌≤◌, ℕ, List, map, Option, Some, None}
+use Rattle.std.specs.Prelude.{◌≡◌, ◌≤◌, ℕ, Bool, List, map, Option, Some, None}
 use Rattle.seq_object.specs.Sequential.{Sequential}
 use Rattle.uni_model.specs.Linearizable.{IsLinearizableHistory, observed_in}
 use Rattle.uni_model.specs.Worlds.{AreAccepted, Event, opened_world}
@@ -12,21 +12,27 @@ use Rattle.uni_script.specs.Schedules.{word_of_object}
 use Rattle.uni_script.specs.Scripts.{ScriptSession, scripts_of}
 use Rattle.run_layout.specs.Subject.{state_text_of}
 use Rattle.run_trace.specs.Scenes.{scenes_from}
-use Rattle.run_telling.specs.Opened.{opening}
+use Rattle.run_telling.specs.Opened.{Trace, opening}
 use Rattle.run_telling.specs.Order.{Wording, told_text}
 
--- some events of n processes, told, on an object of this name whose states have these texts
-abbrev pub text_of_events : {S I R : Type 0} → Wording → SpokenObject S I R → (S → List ℕ) → (name : List ℕ)
-    → (n row first : ℕ) → List (Event I) → (lines : List ℕ) → List PlacedRemark → List ℕ
-text_of_events words o text name n row first events lines remarks =
-    told_text words (opening name n row first (text o.object.initial)) lines
-    (scenes_from o.object o.language text words.is_whole (opened_world n o.object.initial first) events) remarks
+-- the trace of some events of n processes, on an object of this name whose states have these texts
+abbrev pub trace_of_events : {S I R : Type 0} → (is_whole : Bool) → SpokenObject S I R → (S → List ℕ) → (name : List ℕ)
+    → (n row first : ℕ) → List (Event I) → Trace
+trace_of_events is_whole o text name n row first events =
+    record {
+      opening = opening name n row first (text o.object.initial);
+      scenes = scenes_from o.object o.language text is_whole (opened_world n o.object.initial first) events;
+    }
 
--- the session which a script leaves, told, with the script's lines that stored its events, and what it tells beside them
-abbrev pub text_of_session : Wording → ScriptSession → (lines : List ℕ) → List PlacedRemark → List ℕ
-text_of_session words b =
-    text_of_events words (spoken_of b.object) (state_text_of b.object) (word_of_object b.object)
+-- that of the session which a script leaves
+abbrev pub trace_of_session : (is_whole : Bool) → ScriptSession → Trace
+trace_of_session is_whole b =
+    trace_of_events is_whole (spoken_of b.object) (state_text_of b.object) (word_of_object b.object)
     b.session.processes b.session.row b.session.first b.session.events
+
+-- the session, told, with the script's lines that stored its events, and what it tells beside them
+abbrev pub text_of_session : Wording → ScriptSession → (lines : List ℕ) → List PlacedRemark → List ℕ
+text_of_session words b = told_text words (trace_of_session words.is_whole b)
 
 -- Events of n processes from an opening could come, and what is observed of them is a linearizable history of the object, from its
 -- first state.

@@ -10,6 +10,6 @@ mod order;
 mod told;
 
 pub use access::access_of;
-pub use opened::Opened;
+pub use opened::{Opened, Trace};
 pub use order::Telling;
-pub use told::{told_of, told_of_record, told_of_run};
+pub use told::{told_of, trace_of_record, trace_of_script};

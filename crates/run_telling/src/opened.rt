@@ -1,7 +1,9 @@
-//! How runs open.
+//! How runs open, and their traces.
+
+use run_trace::Scene;
 
 /// How a run opened.
-#[derive(Clone, Copy)]
+#[derive(Drop)]
 pub struct Opened<'a> {
     /// The word of its object.
     pub object: &'a str,
@@ -12,5 +14,14 @@ pub struct Opened<'a> {
     /// The number of the first anchor.
     pub number: u64,
     /// The text of the object's first state.
-    pub state: &'a [u8],
+    pub state: Vec<u8>,
+}
+
+/// The trace of a run.
+#[derive(Drop)]
+pub struct Trace<'a> {
+    /// How the run opened.
+    pub opened: Opened<'a>,
+    /// What each of its events did, in order.
+    pub scenes: Vec<Scene>,
 }

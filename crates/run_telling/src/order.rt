@@ -3,10 +3,10 @@
 ghost use Rattle.std.specs.Prelude.{◌≡◌, ◌++◌, ◌≤◌, IfOk, OnOk, Some, length, map, slice_get};
 ghost use Rattle.std.specs.List.{flat_map};
 ghost use Rattle.run_trace.specs.Shown.{scene_shown};
-ghost use Rattle.run_telling.specs.Opened.{opening_shown};
+ghost use Rattle.run_telling.specs.Opened.{opening_shown, trace_shown};
 ghost use Rattle.run_telling.specs.Order.{Wording, told_before, told_from, told_text};
 
-use crate::opened::Opened;
+use crate::opened::{Opened, Trace};
 use run_trace::Scene;
 use std::alloc::{AllocError, Global};
 use uni_script::PlacedRemark;
@@ -109,21 +109,22 @@ fn push_events<T: Telling>(
     push_remarks::<T>(alloc, rest, text)
 }
 
-/// A run that opened so and had these scenes, told, with their lines and what is told beside its events.
-///
-/// An `Err` says that memory was refused.
-pub fn text_of<T: Telling>(
-    alloc: Global,
-    opened: &Opened<'_>,
-    lines: &[u64],
-    scenes: &[Scene],
-    remarks: &[PlacedRemark],
-) -> Result<Vec<u8>, AllocError>
-    ensures { IfOk result (λ text. text.items ≡ told_text T.wording (opening_shown opened.now) lines.now
-        (map (λ scene. Some (scene_shown scene)) scenes.now) remarks.now) }
-{
-    let mut text = Vec::new(alloc);
-    T::push_opening(alloc, opened, &mut text)?;
-    push_events::<T>(alloc, lines, scenes, remarks, &mut text)?;
-    Ok(text)
+impl<'a> Trace<'a> {
+    /// The run, told. `lines` has the number of the script's line that stored each event, where there was a script;
+    /// `remarks` is what is told beside the events.
+    ///
+    /// An `Err` says that memory was refused.
+    pub fn told<T: Telling>(
+        &self,
+        alloc: Global,
+        lines: &[u64],
+        remarks: &[PlacedRemark],
+    ) -> Result<Vec<u8>, AllocError>
+        ensures { IfOk result (λ text. text.items ≡ told_text T.wording (trace_shown self.now) lines.now remarks.now) }
+    {
+        let mut text = Vec::new(alloc);
+        T::push_opening(alloc, &self.opened, &mut text)?;
+        push_events::<T>(alloc, lines, &self.scenes, remarks, &mut text)?;
+        Ok(text)
+    }
 }

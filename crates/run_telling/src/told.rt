@@ -9,36 +9,34 @@ ghost use Rattle.uni_script.specs.Scripts.{scripts_of};
 ghost use Rattle.uni_script.specs.declared.fault.BenchFault.{BenchFault as Fault};
 ghost use Rattle.uni_script.specs.declared.grammar.Version.{Version};
 ghost use Rattle.run_layout.specs.Subject.{HasTooManyEvents, events_of_record};
-ghost use Rattle.run_telling.specs.Told.{IsLinearizableRun, IsLinearizableSession, IsTold, text_of_events};
-ghost use Rattle.run_telling.specs.Told.{text_of_session};
+ghost use Rattle.run_telling.specs.Opened.{trace_shown};
+ghost use Rattle.run_telling.specs.Told.{IsLinearizableRun, IsLinearizableSession, IsTold, trace_of_events};
+ghost use Rattle.run_telling.specs.Told.{text_of_session, trace_of_session};
 
-use crate::opened::Opened;
-use crate::order::{Telling, text_of};
+use crate::opened::{Opened, Trace};
+use crate::order::Telling;
 use ready_objects::Spoken;
 use run_layout::{MOST_EVENTS, PictureFault};
 use run_trace::scenes_of;
 use std::alloc::{AllocError, Global};
 use uni_record::Recorded;
-use uni_script::{
-    BenchFault, ObjectName, Options, PlacedRemark, ScriptRecord, ScriptRun, TextIn, run_of_script,
-};
+use uni_script::{ObjectName, Options, ScriptRecord, ScriptRun, TextIn, run_of_script};
 
-/// The run that a record has stored, told, on an object of this name: a linearizable run. `lines` has the number of the
-/// script's line that stored each event, where there was a script; `remarks` is what is told beside the events.
+/// The trace of the run that a record has stored, on an object of this name: of a linearizable run. It has the whole
+/// memory after each event only where that is asked for.
 ///
 /// Errors: `TooManyEvents` where it has more than 2,000; else `Memory`.
-pub fn told_of_record<T: Telling, O: Spoken + Copy>(
+pub fn trace_of_record<'a, O: Spoken + Copy>(
     alloc: Global,
-    name: &str,
+    name: &'a str,
     recorded: &Recorded<O>,
-    lines: &[u64],
-    remarks: &[PlacedRemark],
-) -> Result<Vec<u8>, PictureFault>
+    is_whole: bool,
+) -> Result<Trace<'a>, PictureFault>
     ensures few { OnOk result (length (events_shown recorded.now.events) ≤ 2000) }
-    ensures text { IfOk result (λ text. text.items
-        ≡ text_of_events T.wording (spoken O.sequential O.language recorded.now.world.object) O.state_text
+    ensures trace { IfOk result (λ trace. trace_shown trace
+        ≡ trace_of_events is_whole (spoken O.sequential O.language recorded.now.world.object) O.state_text
         name.now recorded.now.processes recorded.now.world.row recorded.now.first
-        (events_shown recorded.now.events) lines.now remarks.now) }
+        (events_shown recorded.now.events)) }
     ensures linearizable { IsLinearizableRun (O.sequential recorded.now.world.object) recorded.now.processes
         recorded.now.first (events_shown recorded.now.events) }
     ensures many { IsErrOf result PictureFault.TooManyEvents → 2000 < length (events_shown recorded.now.events) }
@@ -49,10 +47,15 @@ pub fn told_of_record<T: Telling, O: Spoken + Copy>(
         return Err(PictureFault::TooManyEvents);
     }
     let object = *recorded.world().object();
-    match text_of_events::<T, O>(alloc, name, object, recorded, lines, remarks) {
-        Ok(text) => Ok(text),
-        Err(AllocError) => Err(PictureFault::Script(BenchFault::Memory)),
-    }
+    let opened = Opened {
+        object: name,
+        processes: recorded.processes(),
+        row: recorded.world().row(),
+        number: recorded.first(),
+        state: first_state(alloc, &object)?,
+    };
+    let scenes = scenes_of(alloc, object, recorded, is_whole)?;
+    Ok(Trace { opened, scenes })
 }
 
 /// The text of an object's first state.
@@ -66,38 +69,41 @@ fn first_state<O: Spoken>(alloc: Global, object: &O) -> Result<Vec<u8>, AllocErr
     Ok(text)
 }
 
-/// The same of a run of any length, on a further value of its object.
-///
-/// An `Err` says that memory was refused.
-fn text_of_events<T: Telling, O: Spoken>(
-    alloc: Global,
-    name: &str,
-    object: O,
-    recorded: &Recorded<O>,
-    lines: &[u64],
-    remarks: &[PlacedRemark],
-) -> Result<Vec<u8>, AllocError>
-    ensures { IfOk result (λ text. text.items
-        ≡ text_of_events T.wording (spoken O.sequential O.language object) O.state_text
-        name.now recorded.now.processes recorded.now.world.row recorded.now.first
-        (events_shown recorded.now.events) lines.now remarks.now) }
-{
-    let state = first_state(alloc, &object)?;
-    let opened = Opened {
-        object: name,
-        processes: recorded.processes(),
-        row: recorded.world().row(),
-        number: recorded.first(),
-        state: &state,
-    };
-    let scenes = scenes_of(alloc, object, recorded, T::is_whole())?;
-    text_of::<T>(alloc, &opened, lines, &scenes, remarks)
-}
-
-/// The run of a script, told, by its object.
+/// The trace of the run of a script, by its object.
 ///
 /// Errors: `TooManyEvents` where it has more than 2,000 events; else `Memory`.
-pub fn told_of_run<T: Telling>(
+pub fn trace_of_script(
+    alloc: Global,
+    stored: &ScriptRecord,
+    is_whole: bool,
+) -> Result<Trace<'static>, PictureFault>
+    ensures few { OnOk result (events_of_record stored.now ≤ 2000) }
+    ensures trace { IfOk result (λ trace. (version : Version) → trace_shown trace
+        ≡ trace_of_session is_whole (session_of_record version stored.now)) }
+    ensures linearizable { (version : Version) → IsLinearizableSession (session_of_record version stored.now) }
+    ensures many { IsErrOf result PictureFault.TooManyEvents → 2000 < events_of_record stored.now }
+    ensures memory { (e : Fault) → IsErrOf result (PictureFault.Script e) → e ≡ Fault.Memory }
+{
+    match stored {
+        ScriptRecord::Queue(recorded) => {
+            trace_of_record(alloc, ObjectName::Queue.word(), recorded, is_whole)
+        }
+        ScriptRecord::Directory(recorded) => {
+            trace_of_record(alloc, ObjectName::Directory.word(), recorded, is_whole)
+        }
+        ScriptRecord::Book(recorded) => {
+            trace_of_record(alloc, ObjectName::Book.word(), recorded, is_whole)
+        }
+        ScriptRecord::Sticky(recorded) => {
+            trace_of_record(alloc, ObjectName::Sticky.word(), recorded, is_whole)
+        }
+    }
+}
+
+/// The run of a script, told.
+///
+/// Errors: `TooManyEvents` where it has more than 2,000 events; else `Memory`.
+fn told_of_run<T: Telling>(
     alloc: Global,
     run: &ScriptRun<ScriptRecord>,
 ) -> Result<Vec<u8>, PictureFault>
@@ -109,28 +115,8 @@ pub fn told_of_run<T: Telling>(
     ensures many { IsErrOf result PictureFault.TooManyEvents → 2000 < events_of_record run.now.record }
     ensures memory { (e : Fault) → IsErrOf result (PictureFault.Script e) → e ≡ Fault.Memory }
 {
-    let lines: &[u64] = &run.lines;
-    let remarks: &[PlacedRemark] = &run.remarks;
-    match &run.record {
-        ScriptRecord::Queue(recorded) => {
-            told_of_record::<T, _>(alloc, ObjectName::Queue.word(), recorded, lines, remarks)
-        }
-        ScriptRecord::Directory(recorded) => {
-            told_of_record::<T, _>(
-                alloc,
-                ObjectName::Directory.word(),
-                recorded,
-                lines,
-                remarks,
-            )
-        }
-        ScriptRecord::Book(recorded) => {
-            told_of_record::<T, _>(alloc, ObjectName::Book.word(), recorded, lines, remarks)
-        }
-        ScriptRecord::Sticky(recorded) => {
-            told_of_record::<T, _>(alloc, ObjectName::Sticky.word(), recorded, lines, remarks)
-        }
-    }
+    let trace = trace_of_script(alloc, &run.record, T::is_whole())?;
+    Ok(trace.told::<T>(alloc, &run.lines, &run.remarks)?)
 }
 
 /// The run of the script that a reader has, told: a linearizable run.
@@ -147,8 +133,6 @@ pub fn told_of<T: Telling, I: TextIn>(
     ensures fault { (e : Fault) → IsErrOf result (PictureFault.Script e) → IsFaultOfScript e
         → HasFault (scripts_of 1048576) (I.remaining reader.old) e }
 {
-    match run_of_script(alloc, reader, &Options::default()) {
-        Ok(run) => told_of_run::<T>(alloc, &run),
-        Err(fault) => Err(PictureFault::Script(fault)),
-    }
+    let run = run_of_script(alloc, reader, &Options::default())?;
+    told_of_run::<T>(alloc, &run)
 }

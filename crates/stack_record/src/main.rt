@@ -5,7 +5,7 @@
 use stack::{Stack, StackInv};
 use std::alloc::Global;
 use std::io;
-use universal::{Progress, Recorded};
+use universal::{Progress, Recorded, Verdict};
 
 /// By so many steps each call of two processes has returned: 10 * 2 + 12.
 const MOST_STEPS: u64 = 32;
@@ -21,26 +21,31 @@ fn call(stack: &mut Recorded<Stack>, alloc: Global, p: u64, inv: StackInv) -> Op
     None
 }
 
-/// The record of the run, and the number of the anchor after the trim. `None` where memory was refused.
-fn record_of_run(alloc: Global) -> Option<(Recorded<Stack>, u64)> {
-    let mut stack = Recorded::open(alloc, Stack, 2, 8, 1000).ok()?;
-    call(&mut stack, alloc, 0, StackInv::Push(5))?;
-    call(&mut stack, alloc, 1, StackInv::Push(3))?;
-    call(&mut stack, alloc, 0, StackInv::Pop)?;
+/// Three calls, a trim and a call more: the number of the trim's anchor. `None` where one was refused.
+fn calls(stack: &mut Recorded<Stack>, alloc: Global) -> Option<u64> {
+    call(stack, alloc, 0, StackInv::Push(5))?;
+    call(stack, alloc, 1, StackInv::Push(3))?;
+    call(stack, alloc, 0, StackInv::Pop)?;
     let anchor = stack.trim(alloc).ok()?;
-    call(&mut stack, alloc, 1, StackInv::Pop)?;
-    Some((stack, anchor))
+    call(stack, alloc, 1, StackInv::Pop)?;
+    Some(anchor)
+}
+
+/// That number, how many events the record has, and what its audit says. `None` where memory was refused.
+fn run(alloc: Global) -> Option<(u64, usize, Verdict)> {
+    let mut stack = Recorded::open(alloc, Stack, 2, 8, 1000).ok()?;
+    let anchor = calls(&mut stack, alloc)?;
+    let verdict = stack.audit(alloc).ok()?;
+    Some((anchor, stack.events().len(), verdict))
 }
 
 fn main(rt: HostRuntime) -> io::Result<()> {
-    let alloc = rt.alloc();
-    let Some((stack, anchor)) = record_of_run(alloc) else {
-        return println!(rt; "out of memory");
-    };
-    println!(rt; "the trim left number {anchor}")?;
-    println!(rt; "{} events", stack.events().len())?;
-    match stack.audit(alloc) {
-        Ok(verdict) => println!(rt; "the audit says {verdict:?}"),
-        Err(_) => println!(rt; "out of memory"),
+    match run(rt.alloc()) {
+        Some((anchor, events, verdict)) => {
+            println!(rt;
+                "the trim left number {anchor}\n{events} events\nthe audit says {verdict:?}"
+            )
+        }
+        None => println!(rt; "out of memory"),
     }
 }

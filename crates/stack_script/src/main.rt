@@ -8,7 +8,7 @@ ghost use Rattle.std.specs.Prelude.{◌≡◌, false};
 use run_layout::Range;
 use run_lines::lines_of_object;
 use run_steps::InWords;
-use run_telling::told_of_record;
+use run_telling::trace_of_record;
 use stack::Stack;
 use std::alloc::Global;
 use std::process::ExitCode;
@@ -48,8 +48,8 @@ fn show<W: TextOut>(alloc: Global, output: &mut W) -> Option<()>
     .ok()?;
     write_all(output, lines.as_slice()).ok()?;
     let run = run_of_object(alloc, Stack, "stack", &mut Checked::new(SCRIPT), &options).ok()?;
-    let (record, lines, remarks) = (&run.record, &run.lines, &run.remarks);
-    let steps = told_of_record::<InWords, Stack>(alloc, "stack", record, lines, remarks).ok()?;
+    let trace = trace_of_record(alloc, "stack", &run.record, false).ok()?;
+    let steps = trace.told::<InWords>(alloc, &run.lines, &run.remarks).ok()?;
     write_all(output, steps.as_slice()).ok()
 }
 

@@ -1,6 +1,6 @@
 use Rattle.run_layout.specs.Subject.{marks_of_events}
 use Rattle.run_layout.proofs.subject.marks_of_events.Goals as goal
 
-pub returns-in-Ok-clause-marks : goal.returns-in-Ok-clause-marks
+pub returns-clause-marks : goal.returns-clause-marks
 unfolding marks_of_events
-returns-in-Ok-clause-marks g c = c.in-Ok.ensures.marks
+returns-clause-marks g c = c.in_ok-marks_of.ensures.marks

@@ -1,15 +1,15 @@
 use Rattle.run_layout.proofs.Scripts.{default_run, IsSubject-run, few-run, HasTooManyEvents-run, IfOk-three}
 use Rattle.run_layout.proofs.subject.subject_of.Goals as goal
 
-pub returns-in-Ok-clause-subject : goal.returns-in-Ok-clause-subject
-returns-in-Ok-clause-subject g c =
+pub returns-clause-subject : goal.returns-clause-subject
+returns-clause-subject g c =
     let of = c.subject_of_run.ensures in
-    IfOk-three c.subject_of_run.result _ _ _ _ of.few of.marks of.remarks (λ subject few marks remarks. IsSubject-run _ c.in-Ok.run' (default_run _ _ c.in-Ok.run' c.default.ensures c.in-Ok.ensures.run) subject few marks remarks)
+    IfOk-three c.subject_of_run.result _ _ _ _ of.few of.marks of.remarks (λ subject few marks remarks. IsSubject-run _ c.in_ok-run.run' (default_run _ _ c.in_ok-run.run' c.default.ensures c.in_ok-run.ensures.run) subject few marks remarks)
 
-pub returns-in-Ok-clause-few : goal.returns-in-Ok-clause-few
-returns-in-Ok-clause-few g c =
+pub returns-clause-few : goal.returns-clause-few
+returns-clause-few g c =
     let of = c.subject_of_run.ensures in
     IfOk-three c.subject_of_run.result _ _ _ _ of.few of.marks of.remarks (λ subject few marks remarks. few-run _ subject marks few)
 
-pub returns-in-Ok-clause-many : goal.returns-in-Ok-clause-many
-returns-in-Ok-clause-many g c = λ many. HasTooManyEvents-run _ c.in-Ok.run' (default_run _ _ c.in-Ok.run' c.default.ensures c.in-Ok.ensures.run) (c.subject_of_run.ensures.many many)
+pub returns-clause-many : goal.returns-clause-many
+returns-clause-many g c = λ many. HasTooManyEvents-run _ c.in_ok-run.run' (default_run _ _ c.in_ok-run.run' c.default.ensures c.in_ok-run.ensures.run) (c.subject_of_run.ensures.many many)

@@ -1,6 +1,7 @@
 use Rattle.std.proofs.Common.{◌∙◌, ◌+◌, ◌-◌, ◌++◌, ◌∷◌, [], map, ap, sym, arith}
 use Rattle.run_lines.specs.Canvas.{stroke_shown}
-use Rattle.run_lines.specs.Strokes.{lane_row, name_text, text_stroke}
+use Rattle.run_lines.specs.Strokes.{lane_row, text_stroke}
+use Rattle.run_layout.specs.Wording.{name_text}
 use Rattle.run_lines.proofs.Pieces.{names_from-more, names_from-none}
 use Rattle.run_layout.proofs.Pushing.{added_first, added_all}
 use Rattle.run_lines.proofs.strokes.push_names.Goals as goal

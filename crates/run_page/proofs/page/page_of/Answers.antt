@@ -4,12 +4,12 @@ use Rattle.run_page.specs.Page.{IsPage, page_between}
 use Rattle.run_page.specs.declared.viewer.TheConstants.{START, MIDDLE, END}
 use Rattle.run_page.proofs.page.page_of.Goals as goal
 
-pub returns-in-Ok-clause-page : goal.returns-in-Ok-clause-page
+pub returns-clause-page : goal.returns-clause-page
 unfolding IsPage
-returns-in-Ok-clause-page g c =
+returns-clause-page g c =
     let of = c.page_of_run.ensures in
-    let run = c.in-Ok.run' in
-    IfOk-two c.page_of_run.result _ _ _ of.few of.page (λ text few is. IsToldBy-run (page_between START.now MIDDLE.now END.now) _ run (default_run _ _ run c.default.ensures c.in-Ok.ensures.run) text.items few is of.linearizable)
+    let run = c.in_ok-run.run' in
+    IfOk-two c.page_of_run.result _ _ _ of.few of.page (λ text few is. IsToldBy-run (page_between START.now MIDDLE.now END.now) _ run (default_run _ _ run c.default.ensures c.in_ok-run.ensures.run) text.items few is of.linearizable)
 
-pub returns-in-Ok-clause-many : goal.returns-in-Ok-clause-many
-returns-in-Ok-clause-many g c = λ many. HasTooManyEvents-run _ c.in-Ok.run' (default_run _ _ c.in-Ok.run' c.default.ensures c.in-Ok.ensures.run) (c.page_of_run.ensures.many many)
+pub returns-clause-many : goal.returns-clause-many
+returns-clause-many g c = λ many. HasTooManyEvents-run _ c.in_ok-run.run' (default_run _ _ c.in_ok-run.run' c.default.ensures c.in_ok-run.ensures.run) (c.page_of_run.ensures.many many)

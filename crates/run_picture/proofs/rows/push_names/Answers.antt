@@ -4,7 +4,7 @@ use Rattle.std.proofs.lemmas.List.FromFn.{map-range_with_len_more}
 use Rattle.svg_text.specs.declared.paint.Paint.TheVariants.{Ink}
 use Rattle.svg_text.specs.declared.shape.Anchor.TheVariants.{Start}
 use Rattle.svg_text.specs.Figures.{Text, figure}
-use Rattle.run_picture.specs.Lanes.{name_text}
+use Rattle.run_layout.specs.Wording.{name_text}
 use Rattle.run_picture.specs.Rows.{name_figure}
 use Rattle.run_picture.proofs.rows.push_names.Goals as goal
 

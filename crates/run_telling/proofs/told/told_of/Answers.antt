@@ -3,11 +3,11 @@ use Rattle.run_telling.specs.Told.{text_of_session}
 use Rattle.run_telling.proofs.Tellings.{IsToldBy-run, IfOk-two}
 use Rattle.run_telling.proofs.told.told_of.Goals as goal
 
-pub returns-in-Ok-clause-told : goal.returns-in-Ok-clause-told
-returns-in-Ok-clause-told g c =
+pub returns-clause-told : goal.returns-clause-told
+returns-clause-told g c =
     let of = c.told_of_run.ensures in
-    let run = c.in-Ok.run' in
-    IfOk-two c.told_of_run.result _ _ _ of.few of.text (λ text few is. IsToldBy-run (text_of_session g.T.Telling.wording) _ run (default_run _ _ run c.default.ensures c.in-Ok.ensures.run) text.items few is of.linearizable)
+    let run = c.in_ok-run.run' in
+    IfOk-two c.told_of_run.result _ _ _ of.few of.text (λ text few is. IsToldBy-run (text_of_session g.T.Telling.wording) _ run (default_run _ _ run c.default.ensures c.in_ok-run.ensures.run) text.items few is of.linearizable)
 
-pub returns-in-Ok-clause-many : goal.returns-in-Ok-clause-many
-returns-in-Ok-clause-many g c = λ many. HasTooManyEvents-run _ c.in-Ok.run' (default_run _ _ c.in-Ok.run' c.default.ensures c.in-Ok.ensures.run) (c.told_of_run.ensures.many many)
+pub returns-clause-many : goal.returns-clause-many
+returns-clause-many g c = λ many. HasTooManyEvents-run _ c.in_ok-run.run' (default_run _ _ c.in_ok-run.run' c.default.ensures c.in_ok-run.ensures.run) (c.told_of_run.ensures.many many)
