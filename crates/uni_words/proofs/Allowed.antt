@@ -99,6 +99,7 @@ goes_one me c found t me' moved turn =
       begun = ap (λ (k : Known). k.begun) now;
       own = ap (λ (k : Known). k.own) now;
       taken = ap (λ (k : Known). k.taken) now;
+      seen = ap (λ (k : Known). k.seen) now;
       carried = ap (λ (x : Me ℕ View). x.1) moved.view;
     }
 
@@ -128,6 +129,7 @@ goes_still read me me' looked =
       begun = ap (λ (k : Known). k.begun) now;
       own = ap (λ (k : Known). k.own) now;
       taken = ap (λ (k : Known). k.taken) now;
+      seen = ap (λ (k : Known). k.seen) now;
       carried = ap (λ (x : Me ℕ View). x.1) looked;
     }
 

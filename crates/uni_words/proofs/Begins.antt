@@ -143,7 +143,7 @@ module _ (object : Sequential ℕ ℕ ℕ) (row : ℕ) where
     begun_leads = record {
       shown = begun_kept;
       run = λ n events run.
-          run_begins object n row w s is events run id v at single idle inv (record { mine = Of p v.begun; stage = Announce }) (begun_by v inv) refl single refl refl refl refl;
+          run_begins object n row w s is events run id v at single idle inv (record { mine = Of p v.begun; stage = Announce }) (begun_by v inv) refl single refl refl refl refl refl refl;
     }
 
   pub begins : (n slots id i : ℕ) (st : Step ℕ) (me : Me ℕ View) (inv : ℕ) → me.0.known.count ≡ 1 → me.0.known.call ≡ None → me.0.known.begun < row

@@ -1,5 +1,5 @@
 -- What closing tells, in the words of the log.
-use Rattle.std.proofs.Common.{◌≡◌, ◌∙◌, ℕ, List, ◌++◌, append-nil, length, None, map, sym, ap, subst, arith, inl, inr, ◌≤◌, slice_get, take, Contains, Some}
+use Rattle.std.proofs.Common.{All, ◌≡◌, ◌∙◌, ℕ, List, ◌++◌, append-nil, length, None, map, sym, ap, subst, arith, inl, inr, ◌≤◌, slice_get, take, Contains, Some}
 use Rattle.atomic_table.specs.Table.{State, Final, Seen}
 use Rattle.seq_object.specs.Sequential.{Sequential}
 use Rattle.seq_object.specs.History.{IsLegal}
@@ -11,17 +11,19 @@ use Rattle.uni_model.specs.Responses.{HoldsResponses, calls_among}
 use Rattle.uni_model.proofs.Ordered.{KeepsRealTime-holds}
 use Rattle.uni_model.proofs.Responses.{LogsResponses-holds}
 use Rattle.uni_model.proofs.Universal.{RunIsUniversal-holds}
-use Rattle.uni_words.specs.Log.{AreAnswered, AreCallsOf, AreCallCells, IsChained, IsLogged, told_memory, log_of, calls_by, replied}
+use Rattle.uni_words.specs.Log.{AreAnswered, AreCallsOf, AreCallCells, IsChained, IsInOrder, IsLogged, told_memory, log_of, calls_by, replied}
 use Rattle.uni_words.specs.Rule.{Rule}
-use Rattle.uni_words.specs.Run.{acts_by, IsLogOfRun, sequential_acts, opened, run_history}
+use Rattle.uni_words.specs.Run.{acts_by, HasSeen, IsLogOfRun, IsLogOfSeenRun, sequential_acts, opened, run_history}
 use Rattle.uni_words.specs.Seats.{calls_in_view}
 use Rattle.uni_words.specs.Shown.{HasReturned, IsShown, LeadsTo, pending_acts}
-use Rattle.uni_words.specs.View.{ProcessCalls}
+use Rattle.uni_words.specs.View.{ProcessCalls, Seen as SeenCalls}
 use Rattle.uni_words.specs.declared.rule.Setup.{Setup}
 use Rattle.uni_words.specs.declared.view.View.{View}
+use Rattle.uni_words.proofs.Accounted.{All-each}
 use Rattle.uni_words.proofs.Closing.{calls_inside, log_of_world, shows_chain, call_cells, legal_log, answered_log}
 use Rattle.uni_words.proofs.Joining.{first_or, ended_local}
 use Rattle.uni_words.proofs.OwnCalls.{own_is}
+use Rattle.uni_words.proofs.Ordering.{in_order}
 use Rattle.uni_words.proofs.Running.{joined_is_log}
 
 -- what holds of the last state's world and words holds of the words that are left
@@ -100,20 +102,33 @@ module _ {O : Type 0} (meaning : O → Sequential ℕ ℕ ℕ) (told setup : Set
     numbered = λ place e at mine. subst (λ p. e.call.nth ≡ calls_among p (take place (log_of setup.n setup.k words))) mine (responses.numbered place e at);
   }
 
+  -- what the seat has seen was so in the run
+  was_seen : (t : SeenCalls) → Contains view.known.seen t → HasSeen object setup.n events t
+  was_seen t has = run.seen id view last.1.1 t has
+
   -- the run that the rule carries
+  pub closed_seen : view.known.count ≡ 1 → view.known.call ≡ None → IsLogOfSeenRun object setup.n (log_of setup.n setup.k words) (calls_in_view view) view.known.seen
+  closed_seen single idle = (
+    record {
+      events = events;
+      accepted = run.accepted;
+      universal = RunIsUniversal-holds object setup.n object.initial 1 events (omega arith) run.accepted;
+      real_time = KeepsRealTime-holds object setup.n object.initial 1 events;
+      responses = responses;
+      joined = joined;
+      acts = λ c has. elim (first_or _ _ c has) [
+        | inl here ↦ subst (λ (k : ProcessCalls). acts_by k.process (run_history object setup.n events) ≡ sequential_acts k.process 0 k.calls) here
+            (run.acts id view last.1.1 view.known.first (omega arith, (let one = single in omega arith))
+            ∙ (ap (λ o. sequential_acts view.known.first 0 view.known.own ++ pending_acts view.known.first (length view.known.own) view.known.inv o) idle
+            ∙ append-nil (sequential_acts view.known.first 0 view.known.own)))
+        | inr taken ↦ run.taken id view last.1.1 c taken
+      ];
+    },
+    All-each (HasSeen object setup.n events) view.known.seen was_seen,
+  )
+
   pub closed_run : view.known.count ≡ 1 → view.known.call ≡ None → IsLogOfRun object setup.n (log_of setup.n setup.k words) (calls_in_view view)
-  closed_run single idle = record {
-    events = events;
-    accepted = run.accepted;
-    universal = RunIsUniversal-holds object setup.n object.initial 1 events (omega arith) run.accepted;
-    real_time = KeepsRealTime-holds object setup.n object.initial 1 events;
-    responses = responses;
-    joined = joined;
-    acts = λ c has. elim (first_or _ _ c has) [
-      | inl here ↦ subst (λ (k : ProcessCalls). acts_by k.process (run_history object setup.n events) ≡ sequential_acts k.process 0 k.calls) here
-          (run.acts id view last.1.1 view.known.first (omega arith, (let one = single in omega arith))
-          ∙ (ap (λ o. sequential_acts view.known.first 0 view.known.own ++ pending_acts view.known.first (length view.known.own) view.known.inv o) idle
-          ∙ append-nil (sequential_acts view.known.first 0 view.known.own)))
-      | inr taken ↦ run.taken id view last.1.1 c taken
-    ];
-  }
+  closed_run single idle = (closed_seen single idle).0
+
+  pub closed_order : All (IsInOrder (log_of setup.n setup.k words)) view.known.seen
+  closed_order = All-each (IsInOrder (log_of setup.n setup.k words)) view.known.seen (λ t has. subst (λ l. IsInOrder l t) joined (in_order object setup.n events run.accepted t (was_seen t has)))

@@ -112,7 +112,7 @@ module _ (object : Sequential ℕ ℕ ℕ) (row : ℕ) where
             ((is.seats id (record { known = v }) at).processes (let one = single in omega arith)) ((is.seats id (record { known = v }) at).calls (let one = single in omega arith)) refl single refl tells is.fits;
         run = λ n events run.
             run_ends object n row w s is events run id v at single call pending reply replied mine_is (underway object row w s is id v at single mine (Finish c_seq mine_seq) pending).0
-            (finished_by v stores reply) refl single refl refl refl;
+            (finished_by v stores reply) refl single refl refl refl refl refl;
       }
 
     -- the reply that was read

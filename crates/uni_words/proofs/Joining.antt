@@ -9,13 +9,14 @@ use Rattle.seq_object.specs.Sequential.{Sequential}
 use Rattle.uni_model.specs.Worlds.{WorldOf, Event}
 use Rattle.uni_model.proofs.Written.{number_cases}
 use Rattle.uni_words.specs.Laws.{Leads, after_join}
-use Rattle.uni_words.specs.Run.{acts_by, sequential_acts, run_history}
-use Rattle.uni_words.specs.View.{ProcessCalls, Known}
+use Rattle.uni_words.specs.Run.{acts_by, sequential_acts, run_history, HaveReturned, HasSeen}
+use Rattle.uni_words.specs.View.{ProcessCalls, Seen, Known}
 use Rattle.uni_words.specs.Seats.{calls_in_view, nobody, took_in}
 use Rattle.uni_words.specs.Shown.{IsLocal, IsTaken, Tells, IsAmong, HasProcess, IsShown, LeadsTo, ShowsRun, acts_in_view, pending_count, pending_acts}
 use Rattle.uni_words.specs.declared.view.View.{View}
 use Rattle.uni_words.proofs.Happens.{set_there}
 use Rattle.uni_words.proofs.Running.{led, no_more}
+use Rattle.uni_words.proofs.Views.{Holds-kept, Holds-set}
 
 -- an element of a list is its first, or among the others
 pub first_or : {A : Type 0} (x : A) (xs : List A) (c : A) → Contains (x ∷ xs) c → (x ≡ c) ⊎ Contains xs c
@@ -59,8 +60,8 @@ module _ (object : Sequential ℕ ℕ ℕ) (row id : ℕ) (v : View) (other : �
     local_other : IsLocal w is.owner other x.known.first x.known
     local_other = told_other.each x.known.first (omega arith) (omega (arith, single))
 
-    seated_local : (j j' q : ℕ) (u : Known) (taken : List ProcessCalls) → IsLocal w is.owner j q u → owner' q ≡ j' → IsLocal w owner' j' q (record u { taken = taken })
-    seated_local j j' q u taken h e = record {
+    seated_local : (j j' q : ℕ) (u : Known) (taken : List ProcessCalls) (seen : List Seen) → IsLocal w is.owner j q u → owner' q ≡ j' → IsLocal w owner' j' q (record u { taken = taken; seen = seen })
+    seated_local j j' q u taken seen h e = record {
       inside = h.inside;
       seat = e;
       call = h.call;
@@ -111,7 +112,7 @@ module _ (object : Sequential ℕ ℕ ℕ) (row id : ℕ) (v : View) (other : �
               processes = told.processes;
               calls = told.calls;
               several = told.several;
-              each = λ q from to. let local = told.each q from to in seated_local id id q v.known (v.known.taken ++ calls_in_view x) local (stays q id local.seat (λ same. apart (sym same)));
+              each = λ q from to. let local = told.each q from to in seated_local id id q v.known (v.known.taken ++ calls_in_view x) (v.known.seen ++ x.known.seen) local (stays q id local.seat (λ same. apart (sym same)));
               taken = λ c has. elim (Contains-append_cases v.known.taken (calls_in_view x) c has) [
                 | inl old ↦ let its = told.taken c old in (seated_taken id id c its.0 (stays c.process id its.0.seat (λ same. apart (sym same))), its.1)
                 | inr new ↦ now_taken c new
@@ -123,7 +124,7 @@ module _ (object : Sequential ℕ ℕ ℕ) (row id : ℕ) (v : View) (other : �
               processes = its.processes;
               calls = its.calls;
               several = its.several;
-              each = λ q from to. let local = its.each q from to in seated_local j j q u.known u.known.taken local (stays q j local.seat left.0);
+              each = λ q from to. let local = its.each q from to in seated_local j j q u.known u.known.taken u.known.seen local (stays q j local.seat left.0);
               taken = λ c has. let taken = its.taken c has in (seated_taken j j c taken.0 (stays c.process j taken.0.seat left.0), taken.1);
             }
       ]
@@ -217,6 +218,12 @@ module _ (object : Sequential ℕ ℕ ℕ) (row id : ℕ) (v : View) (other : �
             | inr rest ↦ run.taken j u rest.1 c has
           ]
         ];
+        told = Holds-set (λ (u : View). u.known.told) (HaveReturned object n events) (set s.views id (took_in v x)) other nobody
+            (Holds-kept (λ (u : View). u.known.told) (HaveReturned object n events) s.views id v (took_in v x) at refl run.told) (λ a has. absurd (let k = has.1 in omega arith));
+        seen = Holds-set (λ (u : View). u.known.seen) (HasSeen object n events) (set s.views id (took_in v x)) other nobody
+            (Holds-set (λ (u : View). u.known.seen) (HasSeen object n events) s.views id (took_in v x) run.seen
+            (λ a has. elim (Contains-append_cases v.known.seen x.known.seen a has) [ inl old ↦ run.seen id v at a old | inr new ↦ run.seen other x there a new ]))
+            (λ a has. absurd (let k = has.1 in omega arith));
       }
 
     pub join_leads : Leads object row w s [] w (after_join s id v other x)

@@ -10,7 +10,7 @@ use Rattle.uni_model.specs.Stages.Stage.{DecideNew, Finish}
 use Rattle.uni_model.specs.Worlds.{WorldOf}
 use Rattle.uni_model.specs.Worlds.Event.{Step}
 use Rattle.uni_model.proofs.Steps.{linked_call, head_number}
-use Rattle.uni_words.specs.Laws.{IsLoad, Leads, after_word, StoreBegins, WordStepMoves, StoreEnds, LoadEnds, LoadKeeps, OwnCallsRise, SplitKeeps, JoinKeeps}
+use Rattle.uni_words.specs.Laws.{IsLoad, Leads, after_word, StoreBegins, WordStepMoves, StoreEnds, LoadEnds, LoadKeeps, OwnCallsRise, SplitKeeps, JoinKeeps, ReceiptKeeps, NoteKeeps}
 use Rattle.uni_words.specs.Shown.{HasRead, IsShown}
 use Rattle.uni_words.specs.View.{Known, Reading, moved_at, finished_by}
 use Rattle.uni_words.specs.View.Reading.{Nothing, Invocation, Applied, Reply}
@@ -22,6 +22,7 @@ use Rattle.uni_words.proofs.Happens.{own_local, later_is}
 use Rattle.uni_words.proofs.Joining.{join_leads}
 use Rattle.uni_words.proofs.Looks.{stands, underway, inv_told, state_told, reply_told, looked_leads}
 use Rattle.uni_words.proofs.Moving.{moved_leads}
+use Rattle.uni_words.proofs.Receiving.{note_leads, receipt_leads}
 use Rattle.uni_words.proofs.Rising.{own_rises}
 use Rattle.uni_words.proofs.Splitting.{split_leads}
 
@@ -30,6 +31,12 @@ SplitKeeps-holds object row w s id v is at some_left = split_leads object row id
 
 pub JoinKeeps-holds : (object : Sequential ℕ ℕ ℕ) (row : ℕ) (w : WorldOf ℕ ℕ ℕ) (s : State ℕ View) (id : ℕ) (v : View) (other : ℕ) (x : View) → JoinKeeps object row w s id v other x
 JoinKeeps-holds object row w s id v other x is at there apart single idle = join_leads object row id v other x single idle w s is at apart there
+
+pub ReceiptKeeps-holds : (object : Sequential ℕ ℕ ℕ) (row : ℕ) (w : WorldOf ℕ ℕ ℕ) (s : State ℕ View) (id : ℕ) (v : View) → ReceiptKeeps object row w s id v
+ReceiptKeeps-holds object row w s id v is at some_left = receipt_leads object row id v some_left w s is at
+
+pub NoteKeeps-holds : (object : Sequential ℕ ℕ ℕ) (row : ℕ) (w : WorldOf ℕ ℕ ℕ) (s : State ℕ View) (id : ℕ) (v : View) (other : ℕ) (x : View) → NoteKeeps object row w s id v other x
+NoteKeeps-holds object row w s id v other x is at there apart some_left idle alone untaken = note_leads object row id v some_left other x idle alone untaken w s is at apart there
 
 module _ (object : Sequential ℕ ℕ ℕ) (row : ℕ) (w : WorldOf ℕ ℕ ℕ) (s : State ℕ View) (id : ℕ) (v : Known) where
   pub StoreBegins-holds : (word inv : ℕ) → StoreBegins object row w s id v word inv

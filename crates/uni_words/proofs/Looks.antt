@@ -82,7 +82,7 @@ module _ (object : Sequential ℕ ℕ ℕ) (row : ℕ) where
         shown = looked_kept i read has;
         run = λ n events run.
             no_more object n events w (slice_set s.views id (record { known = looked_at v read }))
-            (run_stays object n row w s is events run id v at single (looked_at v read) refl single refl refl refl refl);
+            (run_stays object n row w s is events run id v at single (looked_at v read) refl single refl refl refl refl refl refl);
       }
 
   pub looks_inv : (n slots id i : ℕ) (me : Me ℕ View) → me.0.known.count ≡ 1 → (mine c d : Name) (c_seq : ℕ) → me.0.known.call ≡ Some (record { mine = mine; stage = DecideNew c c_seq d })

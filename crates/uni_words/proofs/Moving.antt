@@ -162,7 +162,7 @@ module _ (object : Sequential ℕ ℕ ℕ) (row : ℕ) where
         shown = moved_kept fits;
         run = λ n events run.
             run_moves object n row w s is events run id v at single c pending (silent v.n v.first c.mine c.stage found on.0 w.memory on.1)
-            (record { mine = c.mine; stage = on.0 }) (moved_at v c found) refl single refl refl refl (ap (call_after c.mine) on.1);
+            (record { mine = c.mine; stage = on.0 }) (moved_at v c found) refl single refl refl refl refl refl (ap (call_after c.mine) on.1);
       }
 
       -- where the step doesn't touch `new`

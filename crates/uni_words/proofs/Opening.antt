@@ -119,6 +119,8 @@ module _ (object : Sequential ℕ ℕ ℕ) (n row : ℕ) (below : object.initial
     reached = refl;
     acts = λ id v e p among. let h = only_seat id v e in subst (λ (z : View). [] ≡ acts_in_view p z.known) h.1 refl;
     taken = λ id v e c has. absurd (let h = only_seat id v e in let none : Contains (first_view n row).known.taken c = subst (λ (z : View). Contains z.known.taken c) (sym h.1) has in let k = none.1 in omega arith);
+    told = λ id v e c has. absurd (let h = only_seat id v e in let none : Contains (first_view n row).known.told c = subst (λ (z : View). Contains z.known.told c) (sym h.1) has in let k = none.1 in omega arith);
+    seen = λ id v e t has. absurd (let h = only_seat id v e in let none : Contains (first_view n row).known.seen t = subst (λ (z : View). Contains z.known.seen t) (sym h.1) has in let k = none.1 in omega arith);
   }
 
 pub OpeningShows-holds : (object : Sequential ℕ ℕ ℕ) (n row : ℕ) → OpeningShows object n row

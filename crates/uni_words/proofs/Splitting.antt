@@ -11,25 +11,34 @@ use Rattle.uni_model.proofs.Simulation.{set_at_same}
 use Rattle.uni_model.proofs.Written.{number_cases}
 use Rattle.uni_model.proofs.LawProofs.{set_at_elsewhere}
 use Rattle.uni_words.specs.Laws.{Leads, after_split}
-use Rattle.uni_words.specs.Run.{acts_by, run_history}
-use Rattle.uni_words.specs.View.{ProcessCalls, Known}
+use Rattle.uni_words.specs.Run.{acts_by, run_history, HaveReturned, HasSeen}
+use Rattle.uni_words.specs.View.{ProcessCalls, Seen, Known}
 use Rattle.uni_words.specs.Seats.{first_alone, others}
 use Rattle.uni_words.specs.Shown.{IsLocal, IsTaken, Tells, IsAmong, HasProcess, IsShown, LeadsTo, ShowsRun, acts_in_view}
 use Rattle.uni_words.specs.declared.view.View.{View}
 use Rattle.uni_words.proofs.Happens.{set_there, taken_apart}
 use Rattle.uni_words.proofs.Running.{led, no_more}
-
--- an element of a list with one more at its end
-at_end : {A : Type 0} (l : List A) (a b : A) (j : ℕ) → get_elem? (l ++ a ∷ []) j ≡ some b → (get_elem? l j ≡ some b) ⊎ ((j ≡ length l) × (a ≡ b))
-at_end [] a b zero e = inr (refl, some-injective a b e)
-at_end [] a b (suc j) e = absurd (some-ne-none b (sym e))
-at_end (x ∷ xs) a b zero e = inl e
-at_end (x ∷ xs) a b (suc j) e = elim (at_end xs a b j e) [ inl h ↦ inl h | inr h ↦ inr (ap suc h.0, h.1) ]
+use Rattle.uni_words.proofs.Views.{at_end, Holds-kept, Holds-push}
 
 at_below : {A : Type 0} (l : List A) (j : ℕ) (b : A) → get_elem? l j ≡ some b → j < length l
 at_below [] j b e = absurd (some-ne-none b (sym e))
 at_below (x ∷ xs) zero b e = omega arith
 at_below (x ∷ xs) (suc j) b e = let h = at_below xs j b e in omega arith
+
+-- the numbers of a seat's processes, and what it was told by others, say nothing of each of them
+pub with_range : (w : WorldOf ℕ ℕ ℕ) (l : ℕ → ℕ) (j q : ℕ) (u : Known) (first count : ℕ) (taken told : List ProcessCalls) (seen : List Seen) → IsLocal w l j q u
+    → IsLocal w l j q (record u { first = first; count = count; taken = taken; told = told; seen = seen })
+with_range w l j q u first count taken told seen h = record {
+  inside = h.inside;
+  seat = h.seat;
+  call = h.call;
+  begun = h.begun;
+  steps = h.steps;
+  turns = h.turns;
+  underway = h.underway;
+  counted = h.counted;
+  own = h.own;
+}
 
 module _ (object : Sequential ℕ ℕ ℕ) (row id : ℕ) (v : View) (some_left : 1 ≤ v.known.count) where
   module _ (w : WorldOf ℕ ℕ ℕ) (s : State ℕ View) (is : IsShown object row w s) (at : get_elem? s.views id ≡ some v) where
@@ -69,21 +78,6 @@ module _ (object : Sequential ℕ ℕ ℕ) (row id : ℕ) (v : View) (some_left 
       own = h.own;
     }
 
-    -- the number of a seat's first process, and how many it has, say nothing of each of them
-    with_range : (l : ℕ → ℕ) (j q : ℕ) (first count : ℕ) (taken : List ProcessCalls) → IsLocal w l j q v.known
-        → IsLocal w l j q (record v.known { first = first; count = count; taken = taken })
-    with_range l j q first count taken h = record {
-      inside = h.inside;
-      seat = h.seat;
-      call = h.call;
-      begun = h.begun;
-      steps = h.steps;
-      turns = h.turns;
-      underway = h.underway;
-      counted = h.counted;
-      own = h.own;
-    }
-
     moved_seat : (l : ℕ → ℕ) (j : ℕ) (h : IsLocal w is.owner id v.known.first v.known) → j ≡ length s.views
         → IsLocal w seat_of j v.known.first v.known
     moved_seat l j h e = record {
@@ -110,7 +104,7 @@ module _ (object : Sequential ℕ ℕ ℕ) (row id : ℕ) (v : View) (some_left 
               several = λ two. told.several (omega (arith, two));
               taken = λ c has. let its = told.taken c has in (taken_stays id v at c has its.0, λ among. its.1 (omega (arith, among.0), omega (arith, among.1, some_left)));
               each = λ q from to.
-                  with_range seat_of id q (v.known.first + 1) (v.known.count - 1) v.known.taken (stays id q v.known (λ same. omega (arith, same, from)) (told.each q (omega (arith, from)) (omega (arith, to, some_left))));
+                  with_range w seat_of id q v.known (v.known.first + 1) (v.known.count - 1) v.known.taken v.known.told v.known.seen (stays id q v.known (λ same. omega (arith, same, from)) (told.each q (omega (arith, from)) (omega (arith, to, some_left))));
             }))
         | inr other ↦
             let its = is.seats j u other.1 in
@@ -134,7 +128,7 @@ module _ (object : Sequential ℕ ℕ ℕ) (row id : ℕ) (v : View) (some_left 
             taken = λ c has. absurd (let k = has.1 in omega arith);
             each = λ q from to.
                 let same : v.known.first ≡ q = omega (arith, from, to) in
-                subst (λ k. IsLocal w seat_of j k (first_alone v).known) same (with_range seat_of j v.known.first v.known.first 1 [] (moved_seat seat_of j first_local place));
+                subst (λ k. IsLocal w seat_of j k (first_alone v).known) same (with_range w seat_of j v.known.first v.known v.known.first 1 [] [] [] (moved_seat seat_of j first_local place));
           })
     ]
 
@@ -206,6 +200,10 @@ module _ (object : Sequential ℕ ℕ ℕ) (row id : ℕ) (v : View) (some_left 
         ]
         | inr new ↦ absurd (let none : Contains (first_alone v).known.taken c = subst (λ (z : View). Contains z.known.taken c) (sym new.1) has in let k = none.1 in omega arith)
       ];
+      told = Holds-push (λ (u : View). u.known.told) (HaveReturned object n events) (set s.views id (others v)) (first_alone v)
+          (Holds-kept (λ (u : View). u.known.told) (HaveReturned object n events) s.views id v (others v) at refl run.told) (λ a has. absurd (let k = has.1 in omega arith));
+      seen = Holds-push (λ (u : View). u.known.seen) (HasSeen object n events) (set s.views id (others v)) (first_alone v)
+          (Holds-kept (λ (u : View). u.known.seen) (HasSeen object n events) s.views id v (others v) at refl run.seen) (λ a has. absurd (let k = has.1 in omega arith));
     }
 
     pub split_leads : Leads object row w s [] w (after_split s id v)

@@ -16,7 +16,7 @@ use Rattle.uni_model.specs.Worlds.{WorldOf, Event, world_after}
 use Rattle.uni_model.specs.Effects.{effect_in}
 use Rattle.uni_model.specs.Worlds.Event.{Call, Step}
 use Rattle.uni_words.specs.Run.{opened}
-use Rattle.uni_words.specs.Seats.{first_alone, first_view, nobody, others, took_in}
+use Rattle.uni_words.specs.Seats.{first_alone, first_view, nobody, noted, others, receipt_of, took_in}
 use Rattle.uni_words.specs.Shown.{IsShown, LeadsTo}
 use Rattle.uni_words.specs.View.{Known, Reading, stage_found, begun_by, moved_at, looked_at, finished_by}
 use Rattle.uni_words.specs.View.Reading.{Invocation, Applied, Reply}
@@ -48,6 +48,13 @@ after_split s id v = record { words = s.words; homes = s.homes; views = slice_se
 abbrev pub after_join : State ℕ View → (id : ℕ) → View → (other : ℕ) → View → State ℕ View
 after_join s id v other x = record { words = s.words; homes = s.homes; views = slice_set (slice_set s.views id (took_in v x)) other nobody }
 
+-- the table after a seat has given a receipt, the last one; and after a seat has taken one in
+abbrev pub after_receipt : State ℕ View → (id : ℕ) → View → State ℕ View
+after_receipt s id v = record { words = s.words; homes = s.homes; views = slice_set s.views id v ++ receipt_of v ∷ [] }
+
+abbrev pub after_note : State ℕ View → (id : ℕ) → View → (other : ℕ) → View → State ℕ View
+after_note s id v other x = record { words = s.words; homes = s.homes; views = slice_set (slice_set s.views id (noted v x)) other nobody }
+
 -- The table that is made shows the opened world, to which a run with no events leads.
 abbrev pub OpeningShows : (object : Sequential ℕ ℕ ℕ) (n row : ℕ) → Type 0
 OpeningShows object n row =
@@ -69,6 +76,16 @@ module _ (object : Sequential ℕ ℕ ℕ) (row : ℕ) (w : WorldOf ℕ ℕ ℕ)
   JoinKeeps id v other x =
       IsShown object row w s → get_elem? s.views id ≡ some v → get_elem? s.views other ≡ some x → other ≢ id
       → x.known.count ≡ 1 → x.known.call ≡ None → Leads [] w (after_join s id v other x)
+
+  -- a seat gives a receipt
+  abbrev pub ReceiptKeeps : (id : ℕ) → View → Type 0
+  ReceiptKeeps id v = IsShown object row w s → get_elem? s.views id ≡ some v → 1 ≤ v.known.count → Leads [] w (after_receipt s id v)
+
+  -- a seat with no call pending takes in a receipt, which has no process
+  abbrev pub NoteKeeps : (id : ℕ) → View → (other : ℕ) → View → Type 0
+  NoteKeeps id v other x =
+      IsShown object row w s → get_elem? s.views id ≡ some v → get_elem? s.views other ≡ some x → other ≢ id
+      → 1 ≤ v.known.count → v.known.call ≡ None → x.known.count ≡ 0 → x.known.taken ≡ [] → Leads [] w (after_note s id v other x)
 
   module _ (id : ℕ) (v : Known) where
     -- the store of the invocation of the process's next call is the event that begins the call

@@ -5,8 +5,9 @@ use Rattle.uni_model.specs.Places.{Name, Memory, seq_of}
 use Rattle.uni_model.specs.Places.Name.{Anchor, Of}
 use Rattle.uni_model.specs.Chain.{Entry, cells_from, entries_from}
 use Rattle.uni_model.specs.Invariant.{IsNumbered}
+use Rattle.uni_model.specs.Eras.{StandsAt}
 use Rattle.uni_model.specs.Responses.{calls_among}
-use Rattle.uni_words.specs.View.{ProcessCalls}
+use Rattle.uni_words.specs.View.{ProcessCalls, Seen}
 use Rattle.uni_words.specs.Words.{words_of, memory_of}
 use Rattle.uni_words.specs.declared.read.WordEntry.{WordEntry}
 
@@ -63,6 +64,12 @@ pub record IsLogged (log : List (Entry ℕ ℕ)) (its : ProcessCalls) : Type 0 w
   pub calls : calls_by its.process log ≡ map replied its.calls
   pub numbered : (place : ℕ) (e : Entry ℕ ℕ) → slice_get log place ≡ Some e → e.call.process ≡ its.process
       → e.call.nth ≡ calls_among its.process (take place log)
+
+-- Before each call that the process of `made` made afterwards, wherever it stands in the log, stands each call of `earlier`.
+abbrev pub IsInOrder : List (Entry ℕ ℕ) → Seen → Type 0
+IsInOrder log s =
+    (i j place : ℕ) → i < length s.earlier.calls → length s.made.calls ≤ j → StandsAt log s.made.process j place
+    → (before : ℕ) × (before < place) × StandsAt log s.earlier.process i before
 
 -- an entry of the code, as one of the definitions
 abbrev pub entry_shown : WordEntry → Entry ℕ ℕ

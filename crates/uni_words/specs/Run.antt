@@ -1,5 +1,5 @@
 -- What a run tells: the acts of one process in a history, and that a log is a run's.
-use Rattle.std.specs.Prelude.{◌≡◌, ℕ, ◌+◌, ◌==◌, List, [], ◌∷◌, if◌then◌else◌, refl, replicate, Contains, Some}
+use Rattle.std.specs.Prelude.{All, ◌≡◌, ℕ, ◌+◌, ◌==◌, List, [], ◌∷◌, ◌++◌, if◌then◌else◌, refl, replicate, Contains, Some}
 use Rattle.seq_object.specs.Sequential.{Sequential}
 use Rattle.uni_model.specs.AtomicObject.{Act}
 use Rattle.uni_model.specs.AtomicObject.Act.{Invoke, Linearize, Respond}
@@ -11,7 +11,7 @@ use Rattle.uni_model.specs.Universal.{IsUniversal}
 use Rattle.uni_model.specs.Worlds.{WorldOf, Event, opened_world, AreAccepted}
 use Rattle.uni_model.specs.Worlds.Event.{Call, Step}
 use Rattle.uni_words.specs.Objects.{tally}
-use Rattle.uni_words.specs.View.{ProcessCalls}
+use Rattle.uni_words.specs.View.{ProcessCalls, Seen}
 
 -- the acts of a process in a history, in its order: it begins its calls, and is given its replies
 abbrev pub acts_by : ℕ → List (Act ℕ ℕ) → List (Act ℕ ℕ)
@@ -34,6 +34,20 @@ module _ (object : Sequential ℕ ℕ ℕ) (n : ℕ) where
   abbrev pub run_history : List (Event ℕ) → List (Act ℕ ℕ)
   run_history events = history_of object opened events
 
+  -- in the history of these events a process made these calls first, and all of them have returned
+  abbrev pub HaveReturned : List (Event ℕ) → ProcessCalls → Type 0
+  HaveReturned events its =
+      (rest : List (Act ℕ ℕ)) × (acts_by its.process (run_history events) ≡ sequential_acts its.process 0 its.calls ++ rest)
+
+  -- After some of these events the calls of `earlier` had returned, and the process of `made` had made those calls, all of which had
+  -- returned, and no others: each further call of it begins later.
+  pub record HasSeen (events : List (Event ℕ)) (s : Seen) : Type 0 where
+    pub before : List (Event ℕ)
+    pub after : List (Event ℕ)
+    pub joins : events ≡ before ++ after
+    pub earlier : HaveReturned before s.earlier
+    pub made : acts_by s.made.process (run_history before) ≡ sequential_acts s.made.process 0 s.made.calls
+
   -- The log is that of a run of n processes: it is the joined log of events that are accepted one after another from the opening on.
   -- All that holds of every run holds of it: it is universal, the log keeps real-time order, and has the response of each call. In its
   -- history each of these processes takes the acts of its calls, each with its reply before the next one begins, and no others.
@@ -46,6 +60,10 @@ module _ (object : Sequential ℕ ℕ ℕ) (n : ℕ) where
     pub joined : log_of_run object opened events ≡ log
     pub acts : (its : ProcessCalls) → Contains calls its
         → acts_by its.process (run_history events) ≡ sequential_acts its.process 0 its.calls
+
+  -- and in that run all of these were seen
+  abbrev pub IsLogOfSeenRun : (log : List (Entry ℕ ℕ)) → (calls : List ProcessCalls) → (seen : List Seen) → Type 0
+  IsLogOfSeenRun log calls seen = (run : IsLogOfRun log calls) × All (HasSeen run.events) seen
 
 -- process 1 beside another one
 sample_acts : acts_by 1 (Invoke 0 0 5 ∷ Invoke 1 0 7 ∷ Linearize (record { process = 1; nth = 0; inv = 7 }) ∷ Respond 1 0 3 ∷ [])
@@ -71,3 +89,8 @@ sample_of_run = refl
 sample_joined : log_of_run tally (opened tally 1) sample_run
     ≡ record { number = 2; call = record { process = 0; nth = 0; inv = 5 }; response = Some 0 } ∷ []
 sample_joined = refl
+
+-- process 0 has returned before process 1 begins a call: 16 own steps, of two processes
+sample_order : HasSeen tally 2 (Call 0 5 ∷ replicate 16 (Step 0) ++ Call 1 3 ∷ [])
+    (record { earlier = record { process = 0; calls = (5, 0) ∷ [] }; made = record { process = 1; calls = [] } })
+sample_order = record { before = Call 0 5 ∷ replicate 16 (Step 0); after = Call 1 3 ∷ []; joins = refl; earlier = ([], refl); made = refl }

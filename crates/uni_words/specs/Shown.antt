@@ -17,8 +17,8 @@ use Rattle.uni_model.specs.Worlds.{WorldOf, Event, world_after_all, AreAccepted}
 use Rattle.uni_model.specs.Helping.{HelpingInvariant}
 use Rattle.uni_model.specs.Counting.{CountsSteps}
 use Rattle.uni_words.specs.Words.{words_of, memory_of}
-use Rattle.uni_words.specs.Run.{acts_by, sequential_acts, opened, run_history}
-use Rattle.uni_words.specs.View.{ProcessCalls, Known, Reading}
+use Rattle.uni_words.specs.Run.{acts_by, sequential_acts, opened, run_history, HaveReturned, HasSeen}
+use Rattle.uni_words.specs.View.{ProcessCalls, Seen, Known, Reading}
 use Rattle.uni_words.specs.View.Reading.{Nothing, Invocation, Applied, Reply}
 use Rattle.uni_words.specs.declared.view.View.{View}
 
@@ -109,7 +109,8 @@ abbrev pub acts_in_view : ℕ → Known → List (Act ℕ ℕ)
 acts_in_view p v = sequential_acts p 0 v.own ++ pending_acts p (length v.own) v.inv v.call
 
 -- These events are accepted one after another from the opening of n processes on, end no era, and lead to the world w. In their
--- history each process takes the acts that the view of its seat tells.
+-- history each process takes the acts that the view of its seat tells; the calls that a receipt tells have returned in it, and what a
+-- seat has seen was so.
 pub record LeadsTo (object : Sequential ℕ ℕ ℕ) (n : ℕ) (events : List (Event ℕ)) (w : WorldOf ℕ ℕ ℕ)
     (views : List View) : Type 0 where
   pub accepted : AreAccepted object (opened object n) events
@@ -119,6 +120,9 @@ pub record LeadsTo (object : Sequential ℕ ℕ ℕ) (n : ℕ) (events : List (E
       → acts_by p (run_history object n events) ≡ acts_in_view p v.known
   pub taken : (id : ℕ) (v : View) → get_elem? views id ≡ some v → (its : ProcessCalls) → Contains v.known.taken its
       → acts_by its.process (run_history object n events) ≡ sequential_acts its.process 0 its.calls
+  pub told : (id : ℕ) (v : View) → get_elem? views id ≡ some v → (its : ProcessCalls) → Contains v.known.told its
+      → HaveReturned object n events its
+  pub seen : (id : ℕ) (v : View) → get_elem? views id ≡ some v → (s : Seen) → Contains v.known.seen s → HasSeen object n events s
 
 -- the rule: some world of n processes is shown, to which a run from the opening leads
 abbrev pub ShowsRun : (object : Sequential ℕ ℕ ℕ) → (n row : ℕ) → State ℕ View → Type 0

@@ -1,5 +1,5 @@
 -- What a seat knows.
-use Rattle.std.specs.Prelude.{ℕ, ◌+◌, List, [], ◌∷◌, ◌++◌, Option, None, Some}
+use Rattle.std.specs.Prelude.{◌≡◌, ℕ, ◌+◌, List, [], ◌∷◌, ◌++◌, map, Option, None, Some, refl}
 use Rattle.uni_model.specs.Places.{Name}
 use Rattle.uni_model.specs.Places.Name.{Of}
 use Rattle.uni_model.specs.Stages.Stage.{Announce}
@@ -20,10 +20,21 @@ pub record ProcessCalls : Type 0 where
   pub process : ℕ
   pub calls : List (ℕ × ℕ)
 
+-- of some time of the run: by then the calls of `earlier` had returned, and the process of `made` had made these calls, all of which
+-- had returned, and no others
+pub record Seen : Type 0 where
+  pub earlier : ProcessCalls
+  pub made : ProcessCalls
+
+-- what a process that has made these calls sees of a receipt that tells those
+abbrev pub seen_of : (made : ProcessCalls) → (told : List ProcessCalls) → List Seen
+seen_of made told = map (λ its. record { earlier = its; made = made }) told
+
 -- What a seat knows. Its processes are those from the first on, of n with rows of so many calls. Of each of them: the pending call
 -- with its invocation and what it has read, how many calls it has begun, the own steps and the turns of the latest one, and those that
 -- have returned, each with its invocation and its reply. How many word steps the seat has taken, and how many of its calls ended with
--- a store of the head. And the calls of each process whose seat it has taken in.
+-- a store of the head. The calls of each process whose seat it has taken in. Of a receipt, the calls that it tells. And what the seat has
+-- seen of receipts that it has taken in.
 pub record Known : Type 0 where
   pub n : ℕ
   pub row : ℕ
@@ -39,6 +50,8 @@ pub record Known : Type 0 where
   pub turns : ℕ
   pub own : List (ℕ × ℕ)
   pub taken : List ProcessCalls
+  pub told : List ProcessCalls
+  pub seen : List Seen
 
 -- a seat of some processes that have made no call
 abbrev pub nobody_called : (n row first count : ℕ) → Known
@@ -57,6 +70,8 @@ nobody_called n row first count = record {
   turns = 0;
   own = [];
   taken = [];
+  told = [];
+  seen = [];
 }
 
 -- the first seat has all processes
@@ -103,3 +118,8 @@ finished_by v stores reply = record v {
   steps = v.steps + 1;
   own = v.own ++ (v.inv, reply) ∷ [];
 }
+
+-- process 1, which has made one call, takes in a receipt that tells a call of process 0
+sample_seen : seen_of (record { process = 1; calls = (8, 4) ∷ [] }) (record { process = 0; calls = (7, 3) ∷ [] } ∷ [])
+    ≡ record { earlier = record { process = 0; calls = (7, 3) ∷ [] }; made = record { process = 1; calls = (8, 4) ∷ [] } } ∷ []
+sample_seen = refl

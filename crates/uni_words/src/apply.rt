@@ -5,7 +5,7 @@ ghost use Rattle.uni_words.specs.Standing.{StandsAt, GoesBy, IsIdle, IsCountOf};
 ghost use Rattle.uni_model.specs.Indices.{name_of};
 ghost use Rattle.uni_words.specs.Words.{cells_of};
 ghost use Rattle.uni_words.specs.Belongs.{IsSeatOf, processes_of, row_of, process_of, calls_made, own_calls};
-ghost use Rattle.uni_words.specs.Belongs.{taken_calls, latest_turns, view_of, word_steps_of};
+ghost use Rattle.uni_words.specs.Belongs.{taken_calls, seen_by, latest_turns, view_of, word_steps_of};
 ghost use Rattle.uni_model.specs.Places.Name.{Anchor};
 ghost use Rattle.uni_model.specs.Stages.Stage.{ScanHead, WriteScan, Test, ReadAnnounce, Finish};
 
@@ -133,6 +133,7 @@ impl<O: WordObject> WordLog<O> {
         ensures idle { IsIdle self.now.setup.n self.now.setup.k p (nth + 1) seat.new.me }
         ensures own { seat.new.me.0.known.own ≡ seat.old.me.0.known.own ++ (inv, result.reply) ∷ [] }
         ensures taken { seat.new.me.0.known.taken ≡ seat.old.me.0.known.taken }
+        ensures seen { seat.new.me.0.known.seen ≡ seat.old.me.0.known.seen }
         ensures turns { seat.new.me.0.known.turns ≡ result.turns }
         ensures few_turns { result.turns ≤ self.now.setup.n + 1 }
         ensures steps { IsCountOf self.now.setup.n seat.new.me.0.known.turns seat.old.me.0.known seat.new.me.0.known }
@@ -169,6 +170,7 @@ impl WordSeat {
         ensures unchanged { OnErr result (self.new ≡ self.old) }
         ensures own { IfOk result (λ answer. own_calls self.new ≡ own_calls self.old ++ (inv, answer.reply) ∷ []) }
         ensures taken { taken_calls self.new ≡ taken_calls self.old }
+        ensures seen { seen_by self.new ≡ seen_by self.old }
         ensures made { OnOk result (calls_made self.new ≡ calls_made self.old + 1) }
         ensures turns { IfOk result (λ answer. latest_turns self.new ≡ answer.turns) }
         ensures few_turns { IfOk result (λ answer. answer.turns ≤ processes_of log.now + 1) }

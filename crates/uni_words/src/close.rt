@@ -1,12 +1,12 @@
 //! Closing a log.
-ghost use Rattle.std.specs.Prelude.{◌≡◌, ◌≤◌, ◌++◌, All, map, vec_len};
+ghost use Rattle.std.specs.Prelude.{◌≡◌, ◌≤◌, ◌++◌, All, flat_map, map, vec_len};
 ghost use Rattle.seq_object.specs.History.{IsLegal};
 ghost use Rattle.uni_model.specs.History.{logged_call};
 ghost use Rattle.uni_words.specs.Belongs.{AreAllSeats, IsSeatOf, object_of, processes_of, row_of, own_calls};
-ghost use Rattle.uni_words.specs.Belongs.{calls_made, calls_of, known_calls, count_in, row_in, words_in, log_in};
+ghost use Rattle.uni_words.specs.Belongs.{calls_made, calls_of, known_calls, seen_by, count_in, row_in, words_in, log_in};
 ghost use Rattle.uni_words.specs.Compare.{Agrees};
-ghost use Rattle.uni_words.specs.Run.{IsLogOfRun};
-ghost use Rattle.uni_words.specs.Log.{AreAnswered, AreCallsOf, IsChained, IsLogged};
+ghost use Rattle.uni_words.specs.Run.{IsLogOfRun, IsLogOfSeenRun};
+ghost use Rattle.uni_words.specs.Log.{AreAnswered, AreCallsOf, IsChained, IsInOrder, IsLogged};
 
 use crate::log::WordLog;
 use crate::object::WordObject;
@@ -26,6 +26,10 @@ impl<O: WordObject> WordLog<O> {
     /// what holds of every run. In its history the seat's process begins the seat's own calls, one
     /// after another, and each responds with the reply that the seat was given; so does each process
     /// whose seat was taken in, whose calls in the log are its own too.
+    ///
+    /// That run is one in which all was so that the seat has seen of receipts, itself or by seats that
+    /// it took in. So each call that a seat made after it had taken in a receipt stands in the log
+    /// after the calls of that receipt.
     pub fn close_with(self, seat: WordSeat) -> Words
         requires seat { IsSeatOf self seat }
         ensures counts { (count_in result ≡ processes_of self) × (row_in result ≡ row_of self) }
@@ -38,6 +42,9 @@ impl<O: WordObject> WordLog<O> {
         ensures known { All (IsLogged (log_in result)) (known_calls seat) }
         ensures run { let object = O.sequential (object_of self) in
             IsLogOfRun object (processes_of self) (log_in result) (known_calls seat) }
+        ensures seen { let object = O.sequential (object_of self) in
+            IsLogOfSeenRun object (processes_of self) (log_in result) (known_calls seat) (seen_by seat) }
+        ensures order { All (IsInOrder (log_in result)) (seen_by seat) }
     {
         let WordLog { setup, table } = self;
         let Setup { object, n, k } = setup;
@@ -67,6 +74,10 @@ impl<O: WordObject> WordLog<O> {
         ensures known { All (λ seat. IsLogged (log_in result) (calls_of seat)) seats.items }
         ensures run { let object = O.sequential (object_of self) in
             IsLogOfRun object (processes_of self) (log_in result) (map calls_of seats.items) }
+        ensures seen { let object = O.sequential (object_of self) in
+            IsLogOfSeenRun object (processes_of self) (log_in result) (map calls_of seats.items)
+                (flat_map seen_by seats.items) }
+        ensures order { All (IsInOrder (log_in result)) (flat_map seen_by seats.items) }
         ensures agrees { let object = O.sequential (object_of self) in
             AreAllSeats self seats.items → Agrees object (log_in result) (map own_calls seats.items) }
     {
@@ -88,6 +99,7 @@ impl WordSeat {
         ensures kept { IsSeatOf log.now self.new × (calls_of self.new ≡ calls_of self.old) }
         ensures made { calls_made self.new ≡ calls_made self.old }
         ensures known { known_calls self.new ≡ known_calls self.old ++ known_calls other }
+        ensures seen { seen_by self.new ≡ seen_by self.old ++ seen_by other }
     {
         let WordSeat { seat, .. } = other;
         log.table.shared.join_seat::<TakesIn>(&mut self.seat, seat);

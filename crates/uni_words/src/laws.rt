@@ -1,4 +1,4 @@
-//! The laws of the word steps, and of opening, splitting and joining, each the contract of a function
+//! The laws of the word steps, and of opening, splitting, joining and receipts, each the contract of a function
 //! with an empty body.
 
 ghost use Rattle.std.specs.Prelude.{ℕ};
@@ -7,7 +7,7 @@ ghost use Rattle.uni_model.specs.Places.{Name};
 ghost use Rattle.uni_model.specs.Stages.{Stage, Pending};
 ghost use Rattle.uni_model.specs.Worlds.{WorldOf};
 ghost use Rattle.uni_words.specs.Laws.{StoreBegins, WordStepMoves, StoreEnds, LoadEnds, LoadKeeps, OwnCallsRise};
-ghost use Rattle.uni_words.specs.Laws.{OpeningShows, SplitKeeps, JoinKeeps};
+ghost use Rattle.uni_words.specs.Laws.{OpeningShows, SplitKeeps, JoinKeeps, ReceiptKeeps, NoteKeeps};
 ghost use Rattle.uni_words.specs.View.{Known, Reading};
 ghost use Rattle.uni_words.specs.declared.view.View.{View};
 
@@ -29,6 +29,19 @@ pub fn join_keeps<O: WordObject>()
     ensures { (object : O) (row : ℕ) (w : WorldOf ℕ ℕ ℕ) (s : State ℕ View) (id : ℕ) (v : View)
         (other : ℕ) (x : View) →
         JoinKeeps (O.sequential object) row w s id v other x }
+{}
+
+/// A seat gives a receipt: the world and the run to it stay as they are.
+pub fn receipt_keeps<O: WordObject>()
+    ensures { (object : O) (row : ℕ) (w : WorldOf ℕ ℕ ℕ) (s : State ℕ View) (id : ℕ) (v : View) →
+        ReceiptKeeps (O.sequential object) row w s id v }
+{}
+
+/// A seat takes in a receipt: the world and the run to it stay as they are.
+pub fn note_keeps<O: WordObject>()
+    ensures { (object : O) (row : ℕ) (w : WorldOf ℕ ℕ ℕ) (s : State ℕ View) (id : ℕ) (v : View)
+        (other : ℕ) (x : View) →
+        NoteKeeps (O.sequential object) row w s id v other x }
 {}
 
 /// The store of an invocation is the event that begins a call.

@@ -11,6 +11,7 @@ mod object;
 mod objects;
 mod open;
 mod read;
+mod receipts;
 mod rule;
 mod steps;
 mod view;
@@ -19,12 +20,12 @@ mod words;
 pub use apply::{Answer, RowFull};
 pub use compare::differs;
 pub use laws::{
-    join_keeps, load_ends, load_keeps, opening_shows, own_calls_rise, split_keeps, store_begins,
-    store_ends, word_step_moves,
+    join_keeps, load_ends, load_keeps, note_keeps, opening_shows, own_calls_rise, receipt_keeps,
+    split_keeps, store_begins, store_ends, word_step_moves,
 };
 pub use log::{WordLog, WordOpenFault};
 pub use object::WordObject;
 pub use objects::{WordSticky, WordTally};
 pub use read::{WordEntry, read_log};
-pub use steps::WordSeat;
+pub use steps::{WordReceipt, WordSeat};
 pub use words::Words;

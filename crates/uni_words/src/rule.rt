@@ -104,5 +104,27 @@ impl Join<View> for TakesIn {
     ghost spent = { nobody };
 }
 
+/// A receipt beside the seat that gives it, which stays as it is.
+pub struct Receipt;
+
+impl Split<View> for Receipt {
+    ghost use Rattle.uni_words.specs.Seats.{receipt_of};
+
+    ghost left = { λ v. v };
+
+    ghost right = { receipt_of };
+}
+
+/// A seat that takes in a receipt.
+pub struct Notes;
+
+impl Join<View> for Notes {
+    ghost use Rattle.uni_words.specs.Seats.{nobody, noted};
+
+    ghost both = { noted };
+
+    ghost spent = { nobody };
+}
+
 /// The table of a log: it has no slots.
 pub type WordTable<O> = Table<u8, View, Setup<O>, Universal<O>, Global>;

@@ -3,12 +3,12 @@ use Rattle.std.proofs.lemmas.List.Elements.{All-contains, All-head, All-map, All
 use Rattle.std.proofs.lemmas.List.{nil_from_length}
 use Rattle.std.specs.Vec.Iter.{into_iter_items}
 use Rattle.uni_words.specs.Belongs.{IsSeatOf, calls_of, known_calls, log_in}
-use Rattle.uni_words.specs.Log.{IsLogged}
-use Rattle.uni_words.specs.Run.{acts_by, run_history, sequential_acts}
+use Rattle.uni_words.specs.Log.{IsInOrder, IsLogged}
+use Rattle.uni_words.specs.Run.{HasSeen, acts_by, run_history, sequential_acts}
 use Rattle.uni_words.specs.View.{ProcessCalls}
 use Rattle.uni_words.specs.declared.steps.WordSeat.{WordSeat}
 use Rattle.uni_words.proofs.Agreeing.{agrees_all}
-use Rattle.uni_words.proofs.Accounted.{All-each, accounted_first, accounted_more, accounted_all}
+use Rattle.uni_words.proofs.Accounted.{All-each, accounted_first, accounted_more, accounted_all, known_calls_of, known_seen}
 use Rattle.uni_words.proofs.log.WordLog.close_all.Goals as goal
 
 pub loop-seat-init : goal.loop-seat-init
@@ -33,7 +33,7 @@ loop-seat-preserved g c =
     let P : WordSeat → Type 0 = IsSeatOf c.args.self in (
       c.take_in.ensures.kept.0,
       All-tail P c.in-Some-seat.seat (into_iter_items c.next.new.self) (All-same P _ _ (sym c.in-Some-seat.ensures.steps.0) c.loop-seat.invariant.1),
-      accounted_more c.args.seats.items _ (into_iter_items c.next.new.self) c.loop-seat.first c.take_in.new.self c.in-Some-seat.seat c.in-Some-seat.ensures.steps.0 c.take_in.ensures.known c.loop-seat.invariant.2,
+      accounted_more c.args.seats.items _ (into_iter_items c.next.new.self) c.loop-seat.first c.take_in.new.self c.in-Some-seat.seat c.in-Some-seat.ensures.steps.0 c.take_in.ensures.known c.take_in.ensures.seen c.loop-seat.invariant.2,
     )
 
 pub close_with-requires : goal.close_with-requires
@@ -42,25 +42,34 @@ close_with-requires g c = record { seat = c.loop-seat.invariant.0 }
 pub returns-clause-known : goal.returns-clause-known
 returns-clause-known g c =
     let P : ProcessCalls → Type 0 = IsLogged (log_in c.close_with.result) in
+    let known = accounted_all c.args.seats.items _ c.loop-seat.first (nil_from_length _ (sym c.loop-seat.seat-iterator.rest.ok.0 ∙ c.in-None.ensures.steps.0)) c.loop-seat.invariant.2 in
     All-each (λ x. P (calls_of x)) c.args.seats.items
-    (λ x has. All-contains P (known_calls c.loop-seat.first) (calls_of x) c.close_with.ensures.known
-    (accounted_all c.args.seats.items _ c.loop-seat.first (nil_from_length _ (sym c.loop-seat.seat-iterator.rest.ok.0 ∙ c.in-None.ensures.steps.0)) c.loop-seat.invariant.2 x has))
+    (λ x has. All-contains P (known_calls c.loop-seat.first) (calls_of x) c.close_with.ensures.known (known x has).0)
+
+pub returns-clause-seen : goal.returns-clause-seen
+returns-clause-seen g c =
+    let run = c.close_with.ensures.seen.0 in
+    let object = g.O.WordObject.sequential c.args.self.setup.object in
+    let known = accounted_all c.args.seats.items _ c.loop-seat.first (nil_from_length _ (sym c.loop-seat.seat-iterator.rest.ok.0 ∙ c.in-None.ensures.steps.0)) c.loop-seat.invariant.2 in (
+      record {
+        events = run.events;
+        accepted = run.accepted;
+        universal = run.universal;
+        real_time = run.real_time;
+        responses = run.responses;
+        joined = run.joined;
+        acts = known_calls_of (λ its. acts_by its.process (run_history object c.args.self.setup.n run.events) ≡ sequential_acts its.process 0 its.calls) c.args.seats.items c.loop-seat.first known run.acts;
+      },
+      known_seen (HasSeen object c.args.self.setup.n run.events) c.args.seats.items c.loop-seat.first known c.close_with.ensures.seen.1,
+    )
 
 pub returns-clause-run : goal.returns-clause-run
-returns-clause-run g c =
-    let run = c.close_with.ensures.run in
-    let object = g.O.WordObject.sequential c.args.self.setup.object in
-    let P : ProcessCalls → Type 0 = λ its. acts_by its.process (run_history object c.args.self.setup.n run.events) ≡ sequential_acts its.process 0 its.calls in
-    record {
-      events = run.events;
-      accepted = run.accepted;
-      universal = run.universal;
-      real_time = run.real_time;
-      responses = run.responses;
-      joined = run.joined;
-      acts = λ its has. All-contains P (map calls_of c.args.seats.items) its (All-map P calls_of c.args.seats.items
-          (All-each (λ x. P (calls_of x)) c.args.seats.items (λ x there. run.acts (calls_of x) (accounted_all c.args.seats.items _ c.loop-seat.first (nil_from_length _ (sym c.loop-seat.seat-iterator.rest.ok.0 ∙ c.in-None.ensures.steps.0)) c.loop-seat.invariant.2 x there)))) has;
-    }
+returns-clause-run g c = (returns-clause-seen g c).0
+
+pub returns-clause-order : goal.returns-clause-order
+returns-clause-order g c =
+    let known = accounted_all c.args.seats.items _ c.loop-seat.first (nil_from_length _ (sym c.loop-seat.seat-iterator.rest.ok.0 ∙ c.in-None.ensures.steps.0)) c.loop-seat.invariant.2 in
+    known_seen (IsInOrder (log_in c.close_with.result)) c.args.seats.items c.loop-seat.first known c.close_with.ensures.order
 
 pub returns-clause-agrees : goal.returns-clause-agrees
 returns-clause-agrees g c all =

@@ -1,0 +1,40 @@
+-- What holds of each thing that the views tell.
+use Rattle.std.proofs.Common.{◌≡◌, ℕ, zero, suc, ◌⊎◌, inl, inr, refl, sym, ap, subst, List, [], ◌∷◌, ◌++◌, length, Contains, set}
+use mathlib.Core.Option.{some, some-injective, some-ne-none}
+use lib.ListN.{get_elem?}
+use Rattle.atomic_table.proofs.Lists.{at_set}
+use Rattle.uni_words.specs.declared.view.View.{View}
+
+-- an element of a list with one more at its end
+pub at_end : {A : Type 0} (l : List A) (a b : A) (j : ℕ) → get_elem? (l ++ a ∷ []) j ≡ some b → (get_elem? l j ≡ some b) ⊎ ((j ≡ length l) × (a ≡ b))
+at_end [] a b zero e = inr (refl, some-injective a b e)
+at_end [] a b (suc j) e = absurd (some-ne-none b (sym e))
+at_end (x ∷ xs) a b zero e = inl e
+at_end (x ∷ xs) a b (suc j) e = elim (at_end xs a b j e) [ inl h ↦ inl h | inr h ↦ inr (ap suc h.0, h.1) ]
+
+module _ {A : Type 0} (tells : View → List A) where
+  -- P holds of each element of what each view tells
+  abbrev pub Holds : (A → Type 0) → List View → Type 0
+  Holds P views = (id : ℕ) (v : View) → get_elem? views id ≡ some v → (a : A) → Contains (tells v) a → P a
+
+  -- one view is another one, of which it holds too
+  pub Holds-set : (P : A → Type 0) (views : List View) (id : ℕ) (v : View) → Holds P views → ((a : A) → Contains (tells v) a → P a) → Holds P (set views id v)
+  Holds-set P views id v old new j u e a has = elim (at_set views id j v u e) [
+    | inl mine ↦ new a (subst (λ z. Contains (tells z) a) (sym mine.1) has)
+    | inr other ↦ old j u other.1 a has
+  ]
+
+  -- one that tells the same
+  pub Holds-kept : (P : A → Type 0) (views : List View) (id : ℕ) (v w : View) → get_elem? views id ≡ some v → tells w ≡ tells v → Holds P views → Holds P (set views id w)
+  Holds-kept P views id v w at same old = Holds-set P views id w old (λ a has. old id v at a (subst (λ l. Contains l a) same has))
+
+  -- there is one view more
+  pub Holds-push : (P : A → Type 0) (views : List View) (v : View) → Holds P views → ((a : A) → Contains (tells v) a → P a) → Holds P (views ++ v ∷ [])
+  Holds-push P views v old new j u e a has = elim (at_end views v u j e) [
+    | inl there ↦ old j u there a has
+    | inr last ↦ new a (subst (λ z. Contains (tells z) a) (sym last.1) has)
+  ]
+
+  -- what holds then holds later
+  pub Holds-later : (P Q : A → Type 0) (views : List View) → ((a : A) → P a → Q a) → Holds P views → Holds Q views
+  Holds-later P Q views later old id v e a has = later a (old id v e a has)
