@@ -1,5 +1,5 @@
 -- A seat gives a receipt, and a seat takes one in.
-use Rattle.std.proofs.Common.{All, ◌≡◌, ◌≢◌, ◌∙◌, ℕ, ◌+◌, ◌<◌, ◌≤◌, inl, inr, refl, sym, ap, subst, List, [], ◌∷◌, ◌++◌, append-nil, length, map, Contains, None, arith, set}
+use Rattle.std.proofs.Common.{◌≡◌, ◌∙◌, ℕ, ◌<◌, ◌≤◌, inl, inr, refl, sym, ap, subst, List, [], ◌∷◌, ◌++◌, append-nil, length, map, Contains, None, arith, set}
 use Rattle.std.proofs.lemmas.List.Elements.{All-append, All-contains, All-map, Contains-append_cases}
 use mathlib.Core.Option.{some, some-injective}
 use lib.ListN.{get_elem?}

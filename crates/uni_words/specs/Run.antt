@@ -61,7 +61,7 @@ module _ (object : Sequential ℕ ℕ ℕ) (n : ℕ) where
     pub acts : (its : ProcessCalls) → Contains calls its
         → acts_by its.process (run_history events) ≡ sequential_acts its.process 0 its.calls
 
-  -- and in that run all of these were seen
+  -- the same, and in that run all of these were seen
   abbrev pub IsLogOfSeenRun : (log : List (Entry ℕ ℕ)) → (calls : List ProcessCalls) → (seen : List Seen) → Type 0
   IsLogOfSeenRun log calls seen = (run : IsLogOfRun log calls) × All (HasSeen run.events) seen
 

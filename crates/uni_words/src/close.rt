@@ -3,7 +3,8 @@ ghost use Rattle.std.specs.Prelude.{◌≡◌, ◌≤◌, ◌++◌, All, flat_ma
 ghost use Rattle.seq_object.specs.History.{IsLegal};
 ghost use Rattle.uni_model.specs.History.{logged_call};
 ghost use Rattle.uni_words.specs.Belongs.{AreAllSeats, IsSeatOf, object_of, processes_of, row_of, own_calls};
-ghost use Rattle.uni_words.specs.Belongs.{calls_made, calls_of, known_calls, seen_by, count_in, row_in, words_in, log_in};
+ghost use Rattle.uni_words.specs.Belongs.{calls_made, calls_of, known_calls, seen_by};
+ghost use Rattle.uni_words.specs.Belongs.{count_in, row_in, words_in, log_in};
 ghost use Rattle.uni_words.specs.Compare.{Agrees};
 ghost use Rattle.uni_words.specs.Run.{IsLogOfRun, IsLogOfSeenRun};
 ghost use Rattle.uni_words.specs.Log.{AreAnswered, AreCallsOf, IsChained, IsInOrder, IsLogged};
@@ -76,7 +77,7 @@ impl<O: WordObject> WordLog<O> {
             IsLogOfRun object (processes_of self) (log_in result) (map calls_of seats.items) }
         ensures seen { let object = O.sequential (object_of self) in
             IsLogOfSeenRun object (processes_of self) (log_in result) (map calls_of seats.items)
-                (flat_map seen_by seats.items) }
+            (flat_map seen_by seats.items) }
         ensures order { All (IsInOrder (log_in result)) (flat_map seen_by seats.items) }
         ensures agrees { let object = O.sequential (object_of self) in
             AreAllSeats self seats.items → Agrees object (log_in result) (map own_calls seats.items) }
@@ -93,7 +94,9 @@ impl<O: WordObject> WordLog<O> {
 }
 
 impl WordSeat {
-    /// Takes in another seat of this log: this seat knows its calls then. It costs one load.
+    /// Takes in another seat of this log: this seat knows its calls then, and has seen what it saw of
+    /// receipts. It costs one load. For this seat's later calls to come after the other's, take in a
+    /// receipt of the other seat before.
     pub fn take_in<O: WordObject>(&mut self, log: &WordLog<O>, other: WordSeat)
         requires seats { IsSeatOf log.now self.old × IsSeatOf log.now other }
         ensures kept { IsSeatOf log.now self.new × (calls_of self.new ≡ calls_of self.old) }

@@ -8,6 +8,7 @@ use crate::log::WordLog;
 use crate::object::WordObject;
 use crate::rule::{Notes, Receipt};
 use crate::steps::{WordReceipt, WordSeat};
+
 impl WordSeat {
     /// A receipt of all calls of which this seat knows that they have returned: those that it has
     /// made, those of seats that it took in, and those of receipts that it took in. It costs one load.

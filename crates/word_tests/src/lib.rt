@@ -2,4 +2,6 @@
 #![tactic(auto)]
 
 #[cfg(test)]
+mod receipts;
+#[cfg(test)]
 mod words;

@@ -1,5 +1,5 @@
-use Rattle.std.proofs.Common.{map, ◌≡◌, ◌∙◌, ◌∷◌, ◌++◌, [], List, sym, subst}
-use Rattle.std.proofs.lemmas.List.Elements.{All-contains, All-head, All-map, All-same, All-tail, Contains-append_left, Contains-push}
+use Rattle.std.proofs.Common.{◌≡◌, ◌∙◌, ◌∷◌, ◌++◌, [], List, sym, subst}
+use Rattle.std.proofs.lemmas.List.Elements.{All-contains, All-head, All-same, All-tail, Contains-append_left, Contains-push}
 use Rattle.std.proofs.lemmas.List.{nil_from_length}
 use Rattle.std.specs.Vec.Iter.{into_iter_items}
 use Rattle.uni_words.specs.Belongs.{IsSeatOf, calls_of, known_calls, log_in}
