@@ -4,7 +4,7 @@ use Rattle.std.proofs.lemmas.List.Elements.{All-append, All-contains, All-map, C
 use mathlib.Core.Option.{some, some-injective}
 use lib.ListN.{get_elem?}
 use Rattle.atomic_table.specs.Table.{State, Joins, Splits}
-use Rattle.atomic_table.proofs.Lists.{at_longer, at_set, set_again, set_else}
+use Rattle.atomic_table.proofs.Lists.{at_longer, at_set, at_snoc, set_again, set_else}
 use Rattle.seq_object.specs.Sequential.{Sequential}
 use Rattle.uni_model.specs.Worlds.{WorldOf, Event}
 use Rattle.uni_model.proofs.Written.{number_cases}
@@ -19,7 +19,7 @@ use Rattle.uni_words.proofs.Happens.{set_there}
 use Rattle.uni_words.proofs.Joining.{first_or}
 use Rattle.uni_words.proofs.Running.{led, no_more, HaveReturned-more}
 use Rattle.uni_words.proofs.Splitting.{with_range}
-use Rattle.uni_words.proofs.Views.{at_end, Holds-kept, Holds-push, Holds-set}
+use Rattle.uni_words.proofs.Views.{Holds-kept, Holds-push, Holds-set}
 
 -- nothing is said of a seat that has no process
 no_process : (w : WorldOf ℕ ℕ ℕ) (owner : ℕ → ℕ) (row id : ℕ) (v : Known) → v.count ≡ 0 → v.taken ≡ [] → Tells w owner row id v
@@ -58,9 +58,9 @@ module _ (object : Sequential ℕ ℕ ℕ) (row id : ℕ) (v : View) (some_left 
       owner = is.owner;
       wide = is.wide;
       memory = is.memory;
-      seats = λ j u e. elim (at_end s.views (receipt_of v) u j e) [
+      seats = λ j u e. elim (at_snoc s.views (receipt_of v) u j e) [
         | inl old ↦ is.seats j u old
-        | inr new ↦ subst (λ (z : View). Tells w is.owner row j z.known) new.1 (no_process w is.owner row j (receipt_of v).known refl refl)
+        | inr new ↦ subst (λ (z : View). Tells w is.owner row j z.known) new (no_process w is.owner row j (receipt_of v).known refl refl)
       ];
       seated = λ q inside. let was = is.seated q inside in (was.0, at_longer s.views (receipt_of v ∷ []) (is.owner q) was.0 was.1, was.2);
       number = is.number;
@@ -76,9 +76,9 @@ module _ (object : Sequential ℕ ℕ ℕ) (row id : ℕ) (v : View) (some_left 
       accepted = run.accepted;
       one_era = run.one_era;
       reached = run.reached;
-      acts = λ j u e p among. elim (at_end s.views (receipt_of v) u j e) [
+      acts = λ j u e p among. elim (at_snoc s.views (receipt_of v) u j e) [
         | inl old ↦ run.acts j u old p among
-        | inr new ↦ absurd (let none : IsAmong p (receipt_of v).known = subst (λ (z : View). IsAmong p z.known) (sym new.1) among in omega (arith, none.0, none.1))
+        | inr new ↦ absurd (let none : IsAmong p (receipt_of v).known = subst (λ (z : View). IsAmong p z.known) (sym new) among in omega (arith, none.0, none.1))
       ];
       taken = Holds-push (λ (u : View). u.known.taken) (λ c. acts_by c.process (run_history object n events) ≡ sequential_acts c.process 0 c.calls) s.views (receipt_of v)
           run.taken (λ c has. absurd (let k = has.1 in omega arith));

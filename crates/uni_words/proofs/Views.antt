@@ -1,16 +1,9 @@
 -- What holds of each thing that the views tell.
-use Rattle.std.proofs.Common.{◌≡◌, ℕ, zero, suc, ◌⊎◌, inl, inr, refl, sym, ap, subst, List, [], ◌∷◌, ◌++◌, length, Contains, set}
-use mathlib.Core.Option.{some, some-injective, some-ne-none}
+use Rattle.std.proofs.Common.{◌≡◌, ℕ, inl, inr, sym, subst, List, [], ◌∷◌, ◌++◌, Contains, set}
+use mathlib.Core.Option.{some}
 use lib.ListN.{get_elem?}
-use Rattle.atomic_table.proofs.Lists.{at_set}
+use Rattle.atomic_table.proofs.Lists.{at_set, at_snoc}
 use Rattle.uni_words.specs.declared.view.View.{View}
-
--- an element of a list with one more at its end
-pub at_end : {A : Type 0} (l : List A) (a b : A) (j : ℕ) → get_elem? (l ++ a ∷ []) j ≡ some b → (get_elem? l j ≡ some b) ⊎ ((j ≡ length l) × (a ≡ b))
-at_end [] a b zero e = inr (refl, some-injective a b e)
-at_end [] a b (suc j) e = absurd (some-ne-none b (sym e))
-at_end (x ∷ xs) a b zero e = inl e
-at_end (x ∷ xs) a b (suc j) e = elim (at_end xs a b j e) [ inl h ↦ inl h | inr h ↦ inr (ap suc h.0, h.1) ]
 
 module _ {A : Type 0} (tells : View → List A) where
   -- P holds of each element of what each view tells
@@ -30,9 +23,9 @@ module _ {A : Type 0} (tells : View → List A) where
 
   -- there is one view more
   pub Holds-push : (P : A → Type 0) (views : List View) (v : View) → Holds P views → ((a : A) → Contains (tells v) a → P a) → Holds P (views ++ v ∷ [])
-  Holds-push P views v old new j u e a has = elim (at_end views v u j e) [
+  Holds-push P views v old new j u e a has = elim (at_snoc views v u j e) [
     | inl there ↦ old j u there a has
-    | inr last ↦ new a (subst (λ z. Contains (tells z) a) (sym last.1) has)
+    | inr last ↦ new a (subst (λ z. Contains (tells z) a) (sym last) has)
   ]
 
   -- what holds then holds later

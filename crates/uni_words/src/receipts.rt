@@ -24,7 +24,7 @@ impl WordSeat {
     }
 
     /// Takes in a receipt of a seat of this log: each call that this seat makes from now on comes
-    /// after the receipt's calls. It costs one load.
+    /// after the receipt's calls, in the run and in the log that is closed. It costs one load.
     pub fn take_receipt<O: WordObject>(&mut self, log: &WordLog<O>, receipt: WordReceipt)
         requires seat { IsSeatOf log.now self.old }
         requires receipt { IsReceiptOf log.now receipt }
