@@ -76,18 +76,24 @@ pub(crate) fn fault_of_names<S: AsStr>(alloc: Global, words: &[S]) -> Option<cla
     }
 }
 
+/// `threads`, of which `clap` knows the names of objects and of forms.
+fn named_threads<'a>(alloc: Global) -> Result<Command<'a>, AllocError> {
+    let threads = naming(threads_command(alloc)?, "object", OBJECTS.as_slice())?;
+    naming(threads, "form", FORMS.as_slice())
+}
+
+/// The program, of which `clap` knows the names.
+fn named_program<'a>(alloc: Global) -> Result<Command<'a>, AllocError> {
+    let random = naming(random_command(alloc)?, "object", SHARED.as_slice())?;
+    let program = program(alloc).subcommand(random)?;
+    let program = program.subcommand(named_threads(alloc)?)?;
+    program.subcommand(naming(language_command(alloc)?, "object", SHARED.as_slice())?)
+}
+
 /// Reads a command line, the program's name first, where `clap` knows the names.
 ///
 /// An `Err` has the fault of the words, or says that memory was refused.
 fn read_names<S: AsStr>(alloc: Global, words: &[S]) -> Result<(), clap::Error> {
-    let random = naming(random_command(alloc)?, "object", SHARED.as_slice())?;
-    let threads = naming(threads_command(alloc)?, "object", OBJECTS.as_slice())?;
-    let threads = naming(threads, "form", FORMS.as_slice())?;
-    let language = naming(language_command(alloc)?, "object", SHARED.as_slice())?;
-    let mut program = program(alloc)
-        .subcommand(random)?
-        .subcommand(threads)?
-        .subcommand(language)?;
-    let _ = program.try_get_matches_from_mut(words)?;
+    let _ = named_program(alloc)?.try_get_matches_from(words)?;
     Ok(())
 }
