@@ -120,7 +120,8 @@ impl<'a> Trace<'a> {
         lines: &[u64],
         remarks: &[PlacedRemark],
     ) -> Result<Vec<u8>, AllocError>
-        ensures { IfOk result (λ text. text.items ≡ told_text T.wording (trace_shown self.now) lines.now remarks.now) }
+        ensures { IfOk result (λ text. text.items
+            ≡ told_text T.wording (trace_shown self.now) lines.now remarks.now) }
     {
         let mut text = Vec::new(alloc);
         T::push_opening(alloc, &self.opened, &mut text)?;
