@@ -55,4 +55,16 @@ pub mod RenamedEra
 pub mod RenamedRun
 pub mod Linearizable
 pub mod WaitFree
+pub mod Solo
+pub mod Tight
+pub mod BoundMet
+pub mod Strong
+pub mod Members
+pub mod Completed
+pub mod Completion
+pub mod Placed
+pub mod Sole
+pub mod SoleRun
+pub mod Local
+pub mod Project
 pub mod Universal

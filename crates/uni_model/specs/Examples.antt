@@ -118,6 +118,28 @@ bound_met-call : (run 2 bound_met).call 1 ≡ None
 unfolding bound_met
 bound_met-call = refl
 
+-- three processes, of which one meets it: process 2 takes its first turn, and it helps 2 and 0 before itself
+bound_met_by_three : List (Event QueueCall)
+bound_met_by_three =
+    Call 2 (Enq 1) ∷ (steps 2 12 ++ Call 1 Deq ∷ (steps 1 16 ++ (steps 2 6 ++ Call 0 (Enq 2) ∷ Step 0 ∷ Call 2 (Enq 3) ∷ Step 2 ∷ steps 1 26)))
+
+bound_met_by_three-log : log (run 3 bound_met_by_three)
+    ≡ entry 2 2 0 (Enq 1) Ok ∷ entry 3 2 1 (Enq 3) Ok ∷ entry 4 0 0 (Enq 2) Ok ∷ entry 5 1 0 Deq (Value 1) ∷ []
+unfolding bound_met_by_three
+bound_met_by_three-log = refl
+
+bound_met_by_three-steps : (run 3 bound_met_by_three).steps 1 ≡ 42
+unfolding bound_met_by_three
+bound_met_by_three-steps = refl
+
+bound_met_by_three-turns : (run 3 bound_met_by_three).turns 1 ≡ 4
+unfolding bound_met_by_three
+bound_met_by_three-turns = refl
+
+bound_met_by_three-call : (run 3 bound_met_by_three).call 1 ≡ None
+unfolding bound_met_by_three
+bound_met_by_three-call = refl
+
 -- the call's number, 4, is n + 1 past its floor
 bound_met-floor : floor 2 (Of 1 0) bound_met ≡ Some 1
 unfolding bound_met

@@ -24,3 +24,7 @@ pub mod Examples
 pub mod Laws
 pub mod Indices
 pub mod WaitFree
+pub mod Tight
+pub mod StrongLinearizable
+pub mod HerlihyWing
+pub mod Locality

@@ -15,6 +15,11 @@ ghost use Rattle.uni_model.specs.Untrimmed.{TrimsChangeNothing};
 ghost use Rattle.uni_model.specs.Linearizable.{ObservesLinearizable};
 ghost use Rattle.uni_model.specs.WaitFree.{NeverBlocks, CallIsWaitFree, CallEndsAlone};
 ghost use Rattle.uni_model.specs.Universal.{RunIsUniversal};
+ghost use Rattle.uni_model.specs.Tight.{BoundIsMet, TakesOneTurn};
+ghost use Rattle.uni_model.specs.StrongLinearizable.{IsStronglyLinearizable};
+ghost use Rattle.uni_model.specs.HerlihyWing.{AgreesWithCompletion, ObservesCompletion};
+ghost use Rattle.uni_model.specs.Locality.{IsLocal};
+ghost use Rattle.uni_model.specs.AtomicObject.{Act};
 ghost use Rattle.uni_model.specs.Laws.{IsReached, KeepsInvariant, KeepsHelping, KeepsSettled, IsAtomic, KeepsLog};
 ghost use Rattle.uni_model.specs.Laws.{KeepsLogAlong, OpensSound, StepIsLocal, SettledStays, Simulates, IsLinearizable};
 ghost use Rattle.uni_model.specs.Laws.{LinksSoon, HasFloorOnceAnnounced};
@@ -232,4 +237,48 @@ pub fn is_wait_free<O: SeqObject>()
         CallIsWaitFree (O.sequential object) w p i later }
     ensures alone { (object : O) (w : WorldOf O.State O.Inv O.Resp) (p : ℕ)
         → CallEndsAlone (O.sequential object) w p }
+{}
+
+/// The bounds of a call are met, so no smaller ones hold (to Herlihy 1991, section 4): for two processes or
+/// more, every object and every start there is a run in which a call returns after n + 1 turns, at its
+/// process's (10n + 12)th own step, with the number n + 1 past its floor.
+pub fn bound_is_met<O: SeqObject>()
+    ensures { (object : O) (n : ℕ) (start : O.State) (number : ℕ) (i : O.Inv) →
+        BoundIsMet (O.sequential object) n start number i }
+{}
+
+/// The construction is strongly linearizable (Golab, Higham and Woelfel 2011): one function gives each run
+/// from an opening, whichever eras end in it, a linearization of what is observed of it, and what it gives a
+/// run is a prefix of what it gives every longer one.
+pub fn is_strongly_linearizable<O: SeqObject>()
+    ensures { (object : O) (n : ℕ) (start : O.State) (number : ℕ) →
+        IsStronglyLinearizable (O.sequential object) n start number }
+{}
+
+/// A history is linearizable with linearization points put in exactly where it is so in the words of Herlihy
+/// and Wing 1990: it is well-formed, and has a completion that is equivalent, process by process, to a legal
+/// sequential history that keeps its real-time order. The law names no construction.
+pub fn agrees_with_completion<O: SeqObject>()
+    ensures { (object : O) (start : O.State) (history : List (Act O.Inv O.Resp)) →
+        AgreesWithCompletion (O.sequential object) start history }
+{}
+
+/// The construction is linearizable in the words of Herlihy and Wing 1990: what is observed of every run is
+/// well-formed, and has a completion that is equivalent to a legal sequential history that keeps its real-time
+/// order.
+pub fn observes_completion<O: SeqObject>()
+    ensures { (object : O) (n : ℕ) (start : O.State) (number : ℕ) (events : List (Event O.Inv)) →
+        ObservesCompletion (O.sequential object) n start number events }
+{}
+
+/// Among one process the bound isn't met: each call that has returned there took one turn, and 14 own steps.
+pub fn takes_one_turn_alone<O: SeqObject>()
+    ensures { (object : O) (w : WorldOf O.State O.Inv O.Resp) (p : ℕ) → TakesOneTurn (O.sequential object) w p }
+{}
+
+/// Linearizability is local (Herlihy and Wing 1990, theorem 1): a well-formed history over several objects is
+/// linearizable exactly where the subhistory of each object is. The law names no construction.
+pub fn is_local<O: SeqObject>()
+    ensures { (objects : ℕ → O) (start : ℕ → O.State) (history : List (Act (ℕ × O.Inv) (ℕ × O.Resp))) →
+        IsLocal (λ x. O.sequential (objects x)) start history }
 {}
