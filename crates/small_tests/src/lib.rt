@@ -1,0 +1,5 @@
+//! Tests of objects of several words.
+#![tactic(auto)]
+
+#[cfg(test)]
+mod small;

@@ -1,0 +1,387 @@
+-- The exchange that makes a spare buffer current.
+use Rattle.std.proofs.Common.{◌≡◌, ◌≢◌, ◌∙◌, ℕ, zero, suc, ◌+◌, ◌*◌, ◌<◌, ◌≤◌, ◌⊎◌, inl, inr, refl, sym, ap, subst, List, [], ◌∷◌, ◌++◌, length, map, slice_index, slice_get, slice_set, Option, Some, None, arith, append-nil, if◌then◌else◌, ◌==◌, eqb, Bool, true, false}
+use Rattle.std.proofs.lemmas.List.{map-append, set-get_or}
+use Rattle.std.proofs.lemmas.List.Elements.{Contains-append_cases}
+use Rattle.std.proofs.lemmas.Option.{slice_get_within}
+use prog.Atomic.{either}
+use Rattle.atomic_table.specs.Table.{Me, Step, Allows}
+use Rattle.atomic_table.proofs.Lists.{exchanged}
+use Rattle.seq_object.specs.Sequential.{Sequential}
+use Rattle.seq_object.specs.History.{response_at, state_after}
+use Rattle.uni_model.specs.AtomicObject.{Act, Invoked, at_start, set_at}
+use Rattle.uni_model.specs.AtomicObject.Act.{Linearize}
+use Rattle.uni_model.proofs.Written.{set_at-cases, number_cases, lt_cases}
+use Rattle.uni_model.proofs.Simulation.{set_at_same}
+use Rattle.uni_model.proofs.LawProofs.{set_at_elsewhere, AcceptsAll-append}
+use Rattle.uni_model.proofs.Appended.{slice_get-append_left, slice_get-append_right, response_at-append}
+use Rattle.uni_words.specs.Run.{acts_by}
+use Rattle.uni_words.proofs.Running.{acts_by-append}
+use Rattle.uni_small.specs.Image.{Image, HasRows, buffer_words, due_at, calls_seen, first_image, image_from, with_seen}
+use Rattle.uni_small.specs.View.{Local, Stage, goes, brings}
+use Rattle.uni_small.specs.View.Stage.{Idle, Armed, Ready, Reading, Asking, Writing, Last}
+use Rattle.uni_small.specs.Board.{Board, in_of, current_word, buffer_in, version_in}
+use Rattle.uni_small.specs.Invariant.{IsBoard, IsSound, IsCallAt, IsAttemptAt, IsClosed, IsOpen, HasTaken, HasSeen, IsWritten}
+use Rattle.uni_small.specs.Shown.{AreWords, ShowsBoard}
+use Rattle.uni_small.specs.Plays.{with_local, brought, HasBrought}
+use Rattle.uni_small.specs.Standing.{HasWrittenAll}
+use Rattle.uni_small.specs.declared.view.View.{View}
+use Rattle.uni_small.proofs.Frame.{Found, Given, step_law, sound_with, sound_same}
+use Rattle.uni_small.proofs.Lists.{due_cases}
+use Rattle.uni_small.proofs.Images.{spell-reply, image_from-append, with_seen-calls, reached_from, rows-seen, applied-seen, reply-seen}
+use Rattle.uni_small.proofs.Batch.{call_seen, taken_seen, linearized, sum-rises}
+use Rattle.uni_small.proofs.Loads.{call_at, attempt_at, buffer_of, version_of}
+use Rattle.uni_small.proofs.Words.{words_current}
+
+-- what takes effect is nobody's act
+acts_by-linearized : (p : ℕ) (cs : List (Invoked ℕ)) (ys : List (Act ℕ ℕ)) → acts_by p (map (λ c. Linearize c) cs ++ ys) ≡ acts_by p ys
+acts_by-linearized p [] ys = refl
+acts_by-linearized p (c ∷ cs) ys = acts_by-linearized p cs ys
+
+length_map : {A B : Type 0} (f : A → B) (xs : List A) → length (map f xs) ≡ length xs
+length_map f [] = refl
+length_map f (x ∷ xs) = let e = length_map f xs in omega arith
+
+-- a response stays when the log grows
+response_stays : (object : Sequential (List ℕ) ℕ ℕ) (s : List ℕ) (is js : List ℕ) (place r : ℕ) → response_at object s is place ≡ Some r → response_at object s (is ++ js) place ≡ Some r
+response_stays object s [] js place r e = absurd (let f = e in cc)
+response_stays object s (i ∷ is) js zero r e = e
+response_stays object s (i ∷ is) js (suc place) r e = response_stays object (object.next s i) is js place r e
+
+module _ (object : Sequential (List ℕ) ℕ ℕ) (steady : (state : List ℕ) (inv : ℕ) → length (object.next state inv) ≡ length state) (n width : ℕ) (few : n ≤ 64)
+    (g : Board) (local : ℕ → Local) (sound : IsSound object n width g local) (seen : List (Option ℕ)) (long : length seen ≡ n)
+    (p : ℕ) (p_inside : p < n) (known : HasSeen g p seen) (not_in : in_of g p < g.announced p)
+    (b : ℕ) (b_inside : b < 2 * n) (written : IsWritten object n width g b (with_seen object g.image 0 seen) (buffer_words n width)) where
+  abbrev image' : Image
+  image' = with_seen object g.image 0 seen
+
+  abbrev calls : List (Invoked ℕ)
+  calls = calls_seen g.image.applied 0 seen
+
+  abbrev agreed' : List (Invoked ℕ)
+  agreed' = g.atomic.agreed ++ calls
+
+  abbrev pub brought_board : Board
+  brought_board = record g {
+    version = g.version + 1;
+    current = b;
+    mark = set_at g.mark b (λ r. slice_index image'.applied r);
+    image = image';
+    atomic = record g.atomic { agreed = agreed' };
+    acts = g.acts ++ map (λ c. Linearize c) calls;
+  }
+
+  was : IsBoard object n width g
+  was = sound.board
+
+  -- how many calls are in then, and which replies are as before
+  pub in_later : (r : ℕ) → r < n → slice_index image'.applied r ≡ in_of g r + due_at seen r
+  in_later r inside =
+      let z : r ≡ 0 + r = omega arith in
+      ap (slice_index image'.applied) z ∙ applied-seen object g.image 0 seen r (let a = was.rows.applied in omega arith) ∙ ap (λ k. slice_index g.image.applied k + due_at seen r) (sym z)
+
+  due_is : (r : ℕ) → (due_at seen r ≡ 0) ⊎ ((due_at seen r ≡ 1) × (g.announced r ≡ in_of g r + 1))
+  due_is r = elim (due_cases seen r) [ inl none ↦ inl none | inr some ↦ inr (some.1, (known.told r some.0 some.2).0) ]
+
+  same_reply : (r : ℕ) → g.announced r ≤ in_of g r → slice_index image'.reply r ≡ slice_index g.image.reply r
+  same_reply r all_in = elim (due_is r) [
+    | inl none ↦
+        let z : r ≡ 0 + r = omega arith in
+        ap (slice_index image'.reply) z ∙ reply-seen object g.image 0 seen r none ∙ ap (slice_index g.image.reply) (sym z)
+    | inr due ↦ absurd (let d = due.1 in omega arith)
+  ]
+
+  rows' : HasRows n width image'
+  rows' = rows-seen object steady n width g.image 0 seen was.rows
+
+  state_is : state_after object object.initial (map (λ c. c.inv) g.atomic.agreed) ≡ g.image.state
+  state_is = sym (reached_from object _ g.atomic.agreed) ∙ ap (λ (i : Image). i.state) was.image
+
+  -- a call that has taken effect has
+  taken_stays : (call : Invoked ℕ) (reply : ℕ) → HasTaken object g call reply → HasTaken object brought_board call reply
+  taken_stays call reply h = record {
+    place = h.place;
+    there = slice_get-append_left g.atomic.agreed calls h.place call h.there;
+    reply_is = subst (λ is. response_at object object.initial is h.place ≡ Some reply) (sym (map-append (λ (c : Invoked ℕ). c.inv) g.atomic.agreed calls))
+        (response_stays object object.initial (map (λ c. c.inv) g.atomic.agreed) (map (λ c. c.inv) calls) h.place reply h.reply_is);
+  }
+
+  -- a call that was seen takes effect
+  taken_now : (r inv : ℕ) → slice_get seen r ≡ Some (Some inv) → HasTaken object brought_board (record { process = r; nth = in_of g r; inv = inv }) (slice_index image'.reply r)
+  taken_now r inv at =
+      let now = taken_seen object g.image.applied g.image 0 seen r inv at (let a = was.rows.reply in omega arith) in
+      let z : 0 + r ≡ r = omega arith in
+      let inv_of : Invoked ℕ → ℕ = (λ c. c.inv) in
+      let wide : length (map inv_of g.atomic.agreed) ≡ length g.atomic.agreed = length_map inv_of g.atomic.agreed in
+      record {
+        place = length g.atomic.agreed + now.0;
+        there = slice_get-append_right g.atomic.agreed calls now.0 ∙ now.1 ∙ ap (λ i. Some (record { process = i; nth = slice_index g.image.applied i; inv = inv })) z;
+        reply_is =
+            ap (λ is. response_at object object.initial is (length g.atomic.agreed + now.0)) (map-append inv_of g.atomic.agreed calls)
+            ∙ ap (λ k. response_at object object.initial (map inv_of g.atomic.agreed ++ map inv_of calls) (k + now.0)) (sym wide)
+            ∙ response_at-append object object.initial (map inv_of g.atomic.agreed) (map inv_of calls) now.0
+            ∙ ap (λ s. response_at object s (map inv_of calls) now.0) state_is
+            ∙ now.2 ∙ ap (λ i. Some (slice_index image'.reply i)) z;
+      }
+
+  acts_same : (q : ℕ) → acts_by q brought_board.acts ≡ acts_by q g.acts
+  acts_same q = acts_by-append q g.acts (map (λ c. Linearize c) calls) ∙ ap (λ l. acts_by q g.acts ++ l) (
+      ap (acts_by q) (sym (append-nil (map (λ c. Linearize c) calls))) ∙ acts_by-linearized q calls []) ∙ append-nil (acts_by q g.acts)
+
+  closed_stays : (q : ℕ) (own : List (ℕ × ℕ)) → q < n → IsClosed g q own → IsClosed brought_board q own
+  closed_stays q own inside h = record {
+    none_open = h.none_open;
+    next = h.next;
+    announced = h.announced;
+    in_is = in_later q inside ∙ elim (due_is q) [
+      | inl none ↦ (let i = h.in_is in omega arith)
+      | inr due ↦ absurd (let i = h.in_is in let a = h.announced in let d = due.1 in omega arith)
+    ];
+    acts = acts_same q ∙ h.acts;
+  }
+
+  open_stays : (q inv : ℕ) (own : List (ℕ × ℕ)) → q < n → IsOpen object g q inv own → IsOpen object brought_board q inv own
+  open_stays q inv own inside h = record {
+    is_open = h.is_open;
+    next = h.next;
+    announced = h.announced;
+    argument = h.argument;
+    in_least = (let i = in_later q inside in let l = h.in_least in omega arith);
+    taken = λ full. elim (due_cases seen q) [
+      | inl none ↦
+          let all : in_of g q ≡ length own + 1 = (let i = in_later q inside in omega arith) in
+          subst (HasTaken object brought_board (record { process = q; nth = length own; inv = inv })) (sym (same_reply q (let a = h.announced in omega arith)))
+          (taken_stays _ _ (h.taken all))
+      | inr some ↦
+          let told = known.told q some.0 some.2 in
+          let nth : in_of g q ≡ length own = (let a = h.announced in let t = told.0 in omega arith) in
+          let same : some.0 ≡ inv = sym told.1 ∙ h.argument in
+          subst (λ k. HasTaken object brought_board (record { process = q; nth = k; inv = inv }) (slice_index image'.reply q)) nth
+          (subst (λ i. HasTaken object brought_board (record { process = q; nth = in_of g q; inv = i }) (slice_index image'.reply q)) same (taken_now q some.0 some.2))
+    ];
+    acts = acts_same q ∙ h.acts;
+  }
+
+  pub call_stays : (q : ℕ) (l : Local) (stage : Stage) → q < n → IsCallAt object n width g q l stage → IsCallAt object n width brought_board q l stage
+  call_stays q l Idle inside h = closed_stays q l.own inside h
+  call_stays q l Armed inside h = (closed_stays q l.own inside h.0, h.1)
+  call_stays q l (Ready t) inside h = open_stays q l.inv l.own inside h
+  call_stays q l (Reading t s copy seen) inside h = open_stays q l.inv l.own inside h
+  call_stays q l (Asking t s copy seen) inside h = open_stays q l.inv l.own inside h
+  call_stays q l (Writing t s image seen k) inside h = open_stays q l.inv l.own inside h
+  call_stays q l (Last s) inside h = open_stays q l.inv l.own inside h
+
+  -- the marks of another buffer stay, and those of this one don't fall
+  mark_least : (d r : ℕ) → r < n → g.mark d r ≤ brought_board.mark d r
+  mark_least d r inside = elim (set_at-cases g.mark b (λ r. slice_index image'.applied r) d) [
+    | inl here ↦
+        let now : brought_board.mark d r ≡ slice_index image'.applied r = ap (λ f. f r) here.1 in
+        let m = was.marked d r inside in let i = in_later r inside in omega arith
+    | inr other ↦ (let same : brought_board.mark d r ≡ g.mark d r = ap (λ f. f r) other.1 in omega arith)
+  ]
+
+  -- an attempt that began with an earlier S is at its end
+  too_old : (s : ℕ) → (128 * g.version ≤ s → (s ≡ current_word g.version g.current)) → 128 * (g.version + 1) ≤ s → ⊥
+  too_old s was_fresh fresh = let e = was_fresh (omega arith) in let c = was.current in omega arith
+
+  written_stays : (q d k : ℕ) (image : Image) → d ≢ b → IsWritten object n width g d image k → IsWritten object n width brought_board d image k
+  written_stays q d k image apart h = record {
+    rows = h.rows;
+    words = h.words;
+    replies = λ r inside least.
+        let held : g.announced r ≤ g.mark d r = subst (λ f. g.announced r ≤ f r) (set_at_elsewhere g.mark b (λ r. slice_index image'.applied r) d apart) least in
+        h.replies r inside held ∙ sym (same_reply r (let m = was.marked d r inside in omega arith));
+  }
+
+  pub attempt_stays : (q d : ℕ) (stage : Stage) → q < n → d ≢ b → IsAttemptAt object n width g q d stage → IsAttemptAt object n width brought_board q d stage
+  attempt_stays q d Idle inside apart h = h
+  attempt_stays q d Armed inside apart h = h
+  attempt_stays q d (Ready t) inside apart h = omega arith
+  attempt_stays q d (Reading t s copy seen) inside apart h = (h.0, λ fresh. absurd (too_old s (λ f. (h.1 f).0) fresh))
+  attempt_stays q d (Asking t s copy seen) inside apart h = (h.0, λ fresh. absurd (too_old s (λ f. (h.1 f).0) fresh))
+  attempt_stays q d (Writing t s image seen k) inside apart h = (h.0, (λ fresh. absurd (too_old s (λ f. (h.1 f).0) fresh)), written_stays q d k (with_seen object image 0 seen) apart h.2)
+  attempt_stays q d (Last s) inside apart h = (h.0, (let m = mark_least (buffer_in s) q inside in let a = h.1 in omega arith))
+
+  pub board' : IsBoard object n width brought_board
+  board' = record {
+    current = b_inside;
+    image = image_from-append object (first_image object n) g.atomic.agreed calls ∙ ap (λ i. image_from object i calls) was.image ∙ sym (with_seen-calls object g.image g.image.applied 0 seen);
+    rows = rows';
+    exact = λ i below. written.words i below;
+    marked = λ d r inside. elim (set_at-cases g.mark b (λ r. slice_index image'.applied r) d) [
+      | inl here ↦ (let now : brought_board.mark d r ≡ slice_index image'.applied r = ap (λ f. f r) here.1 in omega arith)
+      | inr other ↦ (let same : brought_board.mark d r ≡ g.mark d r = ap (λ f. f r) other.1 in let m = was.marked d r inside in let i = in_later r inside in omega arith)
+    ];
+    at_current = λ r inside. (let now : brought_board.mark b r ≡ slice_index image'.applied r = ap (λ f. f r) (set_at_same g.mark b (λ r. slice_index image'.applied r)) in omega arith);
+    kept = λ d r inside below least. elim (set_at-cases g.mark b (λ r. slice_index image'.applied r) d) [
+      | inl here ↦ ap (λ e. g.buffer e (n + r)) here.0 ∙ written.words (n + r) (omega arith) ∙ spell-reply n width image' rows' r below
+      | inr other ↦
+          let held : g.announced r ≤ g.mark d r = subst (λ f. g.announced r ≤ f r) other.1 least in
+          was.kept d r inside below held ∙ sym (same_reply r (let m = was.marked d r below in omega arith))
+    ];
+    in_most = λ r inside. (let i = in_later r inside in let m = was.in_most r inside in elim (due_is r) [ inl none ↦ (let z = none in omega arith) | inr due ↦ (let d = due.0 in let a = due.1 in omega arith) ]);
+    soon = λ r inside late. (let i = in_later r inside in let c = known.caught r (omega arith) (inr (omega arith)) in omega arith);
+    versions = (let v = was.versions in elim (due_is p) [
+      | inl none ↦ absurd (let c = known.caught p (omega arith) (inl refl) in let z = none in omega arith)
+      | inr due ↦ (let s = sum-rises object g.image 0 seen p (let a = was.rows.applied in omega arith) due.0 in omega arith)
+    ]);
+    room = was.room;
+    agreed = λ c has. elim (Contains-append_cases g.atomic.agreed calls c has) [
+      | inl old ↦ (let h = was.agreed c old in (h.0, (let a = h.1 in let i = in_later c.process h.0 in omega arith)))
+      | inr new ↦
+          let h = call_seen g.image.applied 0 seen c new in
+          let z : 0 + h.0 ≡ h.0 = omega arith in
+          let at : c.process ≡ h.0 = h.1 ∙ z in
+          let inside : c.process < n = (let w = slice_get_within seen h.0 (Some c.inv) h.3 in omega arith) in
+          let nth : c.nth ≡ in_of g c.process = h.2 ∙ ap (slice_index g.image.applied) (z ∙ sym at) in
+          let due : due_at seen c.process ≡ 1 = elim (due_is c.process) [
+            | inl none ↦ absurd (elim (due_cases seen h.0) [
+              | inl nil ↦ due_not seen h.0 c.inv h.3 nil
+              | inr one ↦ (let e : due_at seen c.process ≡ due_at seen h.0 = ap (due_at seen) at in let o = one.1 in let z = none in omega arith)
+            ])
+            | inr some ↦ some.0
+          ] in
+          (inside, (let i = in_later c.process inside in omega arith))
+    ];
+    start = was.start;
+    history = AcceptsAll-append object (at_start object.initial) g.atomic (record g.atomic { agreed = agreed' }) g.acts (map (λ c. Linearize c) calls) was.history
+        (linearized object g.image.applied 0 seen g.atomic (λ j inv at. opened j inv at) (λ c has. inr (was.agreed c has).1));
+  } where
+    due_not : (seen : List (Option ℕ)) (j inv : ℕ) → slice_get seen j ≡ Some (Some inv) → due_at seen j ≡ 0 → ⊥
+    due_not [] j inv at z = let f = at in cc
+    due_not (None ∷ seen) zero inv at z = let f : None ≡ Some inv = cc in cc
+    due_not (Some i ∷ seen) zero inv at z = omega arith
+    due_not (None ∷ seen) (suc j) inv at z = due_not seen j inv at z
+    due_not (Some i ∷ seen) (suc j) inv at z = due_not seen j inv at z
+
+    of_open : (r inv : ℕ) (l : Local) → g.announced r ≡ in_of g r + 1 → g.argument r ≡ inv → IsOpen object g r l.inv l.own
+        → g.atomic.open_call r ≡ Some (record { process = r; nth = in_of g r; inv = inv })
+    of_open r inv l due argument h =
+        let nth : length l.own ≡ in_of g r = (let a = h.announced in omega arith) in
+        h.is_open ∙ (λ k. Some (record { process = r; nth = nth k; inv = (sym h.argument ∙ argument) k }))
+
+    -- a call that was seen is open
+    open_at : (r inv : ℕ) → r < n → g.announced r ≡ in_of g r + 1 → g.argument r ≡ inv → (l : Local) (stage : Stage) → IsCallAt object n width g r l stage
+        → g.atomic.open_call r ≡ Some (record { process = r; nth = in_of g r; inv = inv })
+    open_at r inv inside due argument l Idle h = absurd (let a = h.announced in let i = h.in_is in omega arith)
+    open_at r inv inside due argument l Armed h = absurd (let a = h.0.announced in let i = h.0.in_is in omega arith)
+    open_at r inv inside due argument l (Ready t) h = of_open r inv l due argument h
+    open_at r inv inside due argument l (Reading t s copy seen) h = of_open r inv l due argument h
+    open_at r inv inside due argument l (Asking t s copy seen) h = of_open r inv l due argument h
+    open_at r inv inside due argument l (Writing t s image seen k) h = of_open r inv l due argument h
+    open_at r inv inside due argument l (Last s) h = of_open r inv l due argument h
+
+    opened : (j inv : ℕ) → slice_get seen j ≡ Some (Some inv) → g.atomic.open_call (0 + j) ≡ Some (record { process = 0 + j; nth = slice_index g.image.applied (0 + j); inv = inv })
+    opened j inv at =
+        let z : j ≡ 0 + j = omega arith in
+        let inside : j < n = (let w = slice_get_within seen j (Some inv) at in omega arith) in
+        let told = known.told j inv at in
+        subst (λ k. g.atomic.open_call k ≡ Some (record { process = k; nth = slice_index g.image.applied k; inv = inv })) z
+        (open_at j inv inside told.0 told.1 (local j) (local j).stage (sound.each j inside).call)
+
+module _ {O : Type 0} (meaning : O → Sequential (List ℕ) ℕ ℕ) (o : O) (n width slots id : ℕ) (few : n ≤ 64) (st : Step ℕ) (me : Me ℕ (View O)) (single : me.0.known.count ≡ 1)
+    (steady : (state : List ℕ) (inv : ℕ) → length ((meaning o).next state inv) ≡ length state) where
+  abbrev object : Sequential (List ℕ) ℕ ℕ
+  object = meaning o
+
+  abbrev p : ℕ
+  p = me.0.known.first
+
+  abbrev l : Local
+  l = me.0.known.local
+
+  module _ (tries s : ℕ) (has : HasWrittenAll n width tries s me) (new_is : st.second ≡ current_word (version_in s + 1) (2 * p + l.spare)) where
+    abbrev image : Image
+    image = has.0
+
+    abbrev seen : List (Option ℕ)
+    seen = has.1.0
+
+    stage : l.stage ≡ Writing tries s image seen (buffer_words n width)
+    stage = has.1.1
+
+    -- what the seat is told is by what was found
+    told : (found : ℕ) (l' : Local) (test : Bool) → (found == s) ≡ test → (if test then brings l st.second else goes l (Ready (tries + 1))) ≡ l'
+        → HasBrought st me found (with_local me.0 l', me.1)
+    told found l' test is same tries' s' image' seen' k' stage' =
+        let e : Writing tries s image seen (buffer_words n width) ≡ Writing tries' s' image' seen' k' = sym stage ∙ stage' in
+        let a : tries ≡ tries' = cc in let c : s ≡ s' = cc in
+        let here : brought l tries s st.second found ≡ l' = rw is same in
+        ap (λ (x : Local). (with_local me.0 x, me.1)) (sym here ∙ (λ k. brought l (a k) (c k) st.second found))
+
+    module _ (g : Board) (local : ℕ → Local) (words : List ℕ) (f : Found meaning o n width me g local words) where
+      call : IsOpen object g p l.inv l.own
+      call = call_at object n width g p l (Writing tries s image seen (buffer_words n width)) f.mine stage
+
+      at_it : IsAttemptAt object n width g p (2 * p + l.spare) (Writing tries s image seen (buffer_words n width))
+      at_it = attempt_at object n width g p l (Writing tries s image seen (buffer_words n width)) f.mine stage
+
+      -- S has changed
+      miss : slice_index words 0 ≢ s → Given meaning o n width me local (slice_set words 0 (slice_index words 0)) (HasBrought st me (slice_index words 0))
+      miss apart = record {
+        board = g;
+        local' = goes l (Ready (tries + 1));
+        sound = sound_same object n width g local p (goes l (Ready (tries + 1))) f.sound (record {
+          spare = f.mine.spare;
+          apart = f.mine.apart;
+          call = call;
+          attempt = elim (lt_cases s (128 * g.version)) [
+            | inl old ↦ (let a = at_it.0 in let b = old.0 in omega arith)
+            | inr new ↦ absurd (apart (f.words_are.current ∙ sym (at_it.1 new.0).0))
+          ];
+        });
+        words_are = subst (AreWords n width g) (sym (set-get_or words 0 0)) f.words_are;
+        said = elim (number_cases (slice_index words 0) s) [
+          | inl same ↦ absurd (apart same.0)
+          | inr other ↦ told (slice_index words 0) (goes l (Ready (tries + 1))) false other.1 refl
+        ];
+      }
+
+      -- S is as it was
+      hit : slice_index words 0 ≡ s → Given meaning o n width me local (slice_set words 0 st.second) (HasBrought st me (slice_index words 0))
+      hit same =
+          let is : s ≡ current_word g.version g.current = sym same ∙ f.words_are.current in
+          let now = at_it.1 (omega arith) in
+          let small : g.current < 128 = (let c = f.sound.board.current in omega arith) in
+          let version : version_in s ≡ g.version = ap version_in is ∙ version_of g.version g.current small in
+          let b_inside : 2 * p + l.spare < 2 * n = (let i = f.inside in let c = f.mine.spare in omega arith) in
+          let b_small : 2 * p + l.spare < 128 = omega arith in
+          let written : IsWritten object n width g (2 * p + l.spare) (with_seen object g.image 0 seen) (buffer_words n width) = subst (λ i. IsWritten object n width g (2 * p + l.spare) (with_seen object i 0 seen) (buffer_words n width)) now.1.0 at_it.2 in
+          let g' : Board = brought_board object steady n width few g local f.sound seen now.1.1 p f.inside now.1.2 now.1.3 (2 * p + l.spare) b_inside written in
+          let word : st.second ≡ current_word (g.version + 1) (2 * p + l.spare) = new_is ∙ ap (λ v. current_word (v + 1) (2 * p + l.spare)) version in
+          let named : buffer_in st.second ≡ 2 * p + l.spare = ap buffer_in word ∙ buffer_of (g.version + 1) (2 * p + l.spare) b_small in
+          record {
+            board = g';
+            local' = brings l st.second;
+            sound = sound_with object n width g g' local p (brings l st.second) f.sound
+                (board' object steady n width few g local f.sound seen now.1.1 p f.inside now.1.2 now.1.3 (2 * p + l.spare) b_inside written)
+                (λ q inside apart h.
+                let other : 2 * q + (local q).spare ≢ 2 * p + l.spare = (λ e. apart (let a = h.spare in let c = f.mine.spare in omega arith)) in
+                record {
+                  spare = h.spare;
+                  apart = other;
+                  call = call_stays object steady n width few g local f.sound seen now.1.1 p f.inside now.1.2 now.1.3 (2 * p + l.spare) b_inside written q (local q) (local q).stage inside h.call;
+                  attempt = attempt_stays object steady n width few g local f.sound seen now.1.1 p f.inside now.1.2 now.1.3 (2 * p + l.spare) b_inside written q (2 * q + (local q).spare) (local q).stage inside other h.attempt;
+                })
+                (record {
+                  spare = omega arith;
+                  apart = (λ e. let c = f.mine.spare in omega arith);
+                  call = call_stays object steady n width few g local f.sound seen now.1.1 p f.inside now.1.2 now.1.3 (2 * p + l.spare) b_inside written p l (Ready 0) f.inside call;
+                  attempt = (
+                    subst (λ b. b < 2 * n) (sym named) b_inside,
+                    subst (λ b. g.announced p ≤ g'.mark b p) (sym named) (
+                        let marked : g'.mark (2 * p + l.spare) p ≡ slice_index (with_seen object g.image 0 seen).applied p = ap (λ f. f p) (set_at_same g.mark (2 * p + l.spare) _) in
+                        let later = in_later object steady n width few g local f.sound seen now.1.1 p f.inside now.1.2 now.1.3 (2 * p + l.spare) b_inside written p f.inside in
+                        let caught = now.1.2.caught p (let w = now.1.1 in let i = f.inside in omega arith) (inl refl) in omega arith),
+                  );
+                });
+            words_are = words_current n width g g' words f.words_are refl refl refl st.second word;
+            said = elim (number_cases (slice_index words 0) s) [
+              | inl here ↦ told (slice_index words 0) (brings l st.second) true here.1 refl
+              | inr other ↦ absurd (other.0 same)
+            ];
+          }
+
+    pub brings_in : Allows (ShowsBoard meaning o n width) slots id me 0 (λ found. either (eqb found s) st.second found) (λ found me'. HasBrought st me found me')
+    brings_in = step_law meaning o n width slots id me 0 (λ found. either (eqb found s) st.second found) (λ found me'. HasBrought st me found me') single (λ g local words f fits.
+        exchanged (slice_index words 0) s st.second (λ x. Given meaning o n width me local (slice_set words 0 x) (HasBrought st me (slice_index words 0)))
+        (hit g local words f) (miss g local words f))

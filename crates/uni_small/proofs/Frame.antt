@@ -1,0 +1,156 @@
+-- A word step of a seat of one process keeps the rule: what has to be shown of the board.
+use Rattle.std.proofs.Common.{◌≡◌, ◌≢◌, ◌∙◌, ℕ, ◌<◌, inl, inr, ⊎_elim, sym, ap, subst, List, slice_index, slice_set, Some, arith, set}
+use Rattle.std.proofs.lemmas.List.{set-get_or}
+use mathlib.Core.Option.{some}
+use lib.ListN.{get_elem?}
+use Rattle.atomic_table.specs.Table.{State, Me, keeps, Allows}
+use Rattle.atomic_table.proofs.Lists.{at_set}
+use Rattle.seq_object.specs.Sequential.{Sequential}
+use Rattle.uni_model.specs.AtomicObject.{set_at}
+use Rattle.uni_model.proofs.Written.{set_at-cases}
+use Rattle.uni_model.proofs.Simulation.{set_at_same}
+use Rattle.uni_model.proofs.LawProofs.{set_at_elsewhere}
+use Rattle.uni_small.specs.View.{Local}
+use Rattle.uni_small.specs.Board.{Board}
+use Rattle.uni_small.specs.Invariant.{IsAt, IsBoard, IsSound}
+use Rattle.uni_small.specs.Shown.{AreWords, Tells, IsShown, ShowsBoard}
+use Rattle.uni_small.specs.Plays.{with_local}
+use Rattle.uni_small.specs.declared.view.View.{View}
+
+-- one process gets another local, and the others stay where they are
+pub sound_with : (object : Sequential (List ℕ) ℕ ℕ) (n width : ℕ) (g g' : Board) (local : ℕ → Local) (p : ℕ) (l' : Local) → IsSound object n width g local
+    → IsBoard object n width g' → ((q : ℕ) → q < n → q ≢ p → IsAt object n width g q (local q) → IsAt object n width g' q (local q)) → IsAt object n width g' p l'
+    → IsSound object n width g' (set_at local p l')
+sound_with object n width g g' local p l' sound board others mine = record {
+  board = board;
+  each = λ q inside. elim (set_at-cases local p l' q) [
+    | inl here ↦ subst (λ l. IsAt object n width g' q l) (sym here.1) (subst (λ k. IsAt object n width g' k l') (sym here.0) mine)
+    | inr other ↦ subst (λ l. IsAt object n width g' q l) (sym other.1) (others q inside other.0 (sound.each q inside))
+  ];
+}
+
+-- where the board stays as it is
+pub sound_same : (object : Sequential (List ℕ) ℕ ℕ) (n width : ℕ) (g : Board) (local : ℕ → Local) (p : ℕ) (l' : Local) → IsSound object n width g local
+    → IsAt object n width g p l' → IsSound object n width g (set_at local p l')
+sound_same object n width g local p l' sound mine = sound_with object n width g g local p l' sound sound.board (λ q inside apart h. h) mine
+
+-- what is found of the seat and of the board when a step is taken
+pub record Found {O : Type 0} (meaning : O → Sequential (List ℕ) ℕ ℕ) (o : O) (n width : ℕ) (me : Me ℕ (View O)) (g : Board) (local : ℕ → Local) (words : List ℕ) : Type 0 where
+  pub object : me.0.object ≡ Some o
+  pub processes : me.0.known.n ≡ n
+  pub inside : me.0.known.first < n
+  pub local_is : local me.0.known.first ≡ me.0.known.local
+  pub words_are : AreWords n width g words
+  pub sound : IsSound (meaning o) n width g local
+  pub mine : IsAt (meaning o) n width g me.0.known.first me.0.known.local
+
+-- what has to be given: the board afterwards, and what the process knows then
+pub record Given {O : Type 0} (meaning : O → Sequential (List ℕ) ℕ ℕ) (o : O) (n width : ℕ) (me : Me ℕ (View O)) (local : ℕ → Local) (words' : List ℕ) (says : Me ℕ (View O) → Type 0) : Type 0 where
+  pub board : Board
+  pub local' : Local
+  pub sound : IsSound (meaning o) n width board (set_at local me.0.known.first local')
+  pub words_are : AreWords n width board words'
+  pub said : says (with_local me.0 local', me.1)
+
+module _ {O : Type 0} (meaning : O → Sequential (List ℕ) ℕ ℕ) (o : O) (n width slots id : ℕ) (me : Me ℕ (View O)) (i : ℕ) (f : ℕ → ℕ) (says : ℕ → Me ℕ (View O) → Type 0)
+    (single : me.0.known.count ≡ 1) where
+  abbrev p : ℕ
+  p = me.0.known.first
+
+  module _ (s : State ℕ (View O)) (g : Board) (local : ℕ → Local) (seat_of : ℕ → ℕ) (is : IsShown n width meaning o g local seat_of s) (at : get_elem? s.views id ≡ some me.0) where
+    told : Tells n width o local seat_of id me.0
+    told = is.seats id me.0 at
+
+    own : (p < n) × (seat_of p ≡ id) × (local p ≡ me.0.known.local)
+    own = told.each p (omega arith) (omega (arith, single))
+
+    found : Found meaning o n width me g local s.words
+    found = record {
+      object = told.object (omega (arith, single));
+      processes = told.processes (omega (arith, single));
+      inside = own.0;
+      local_is = own.2;
+      words_are = is.words;
+      sound = is.sound;
+      mine = subst (λ l. IsAt (meaning o) n width g p l) own.2 (is.sound.each p own.0);
+    }
+
+    module _ (given : Given meaning o n width me local (slice_set s.words i (f (slice_index s.words i))) (says (slice_index s.words i))) where
+      seats_later : (j : ℕ) (u : View O) → get_elem? (set s.views id (with_local me.0 given.local')) j ≡ some u → Tells n width o (set_at local p given.local') seat_of j u
+      seats_later j u e = ⊎_elim
+          (λ (h : (j ≡ id) × (with_local me.0 given.local' ≡ u)).
+          subst (λ (z : View O). Tells n width o (set_at local p given.local') seat_of j z) h.1 (record {
+            object = told.object;
+            processes = told.processes;
+            each = λ q from below.
+                let here : q ≡ p = omega (arith, from, below, single) in (
+                  subst (λ k. k < n) (sym here) own.0,
+                  ap seat_of here ∙ own.1 ∙ sym h.0,
+                  ap (set_at local p given.local') here ∙ set_at_same local p given.local',
+                );
+            taken = λ its has.
+                let was = told.taken its has in
+                let apart : its.process ≢ p = (λ same. was.apart (omega (arith, same)) (omega (arith, same, single))) in
+                let stays : set_at local p given.local' its.process ≡ local its.process = set_at_elsewhere local p given.local' its.process apart in
+                record { inside = was.inside; seat = was.seat ∙ sym h.0; apart = was.apart; idle = ap (λ (l : Local). l.stage) stays ∙ was.idle; calls = ap (λ (l : Local). l.own) stays ∙ was.calls };
+          }))
+          (λ (h : (j ≢ id) × (get_elem? s.views j ≡ some u)).
+          let theirs = is.seats j u h.1 in
+          record {
+            object = theirs.object;
+            processes = theirs.processes;
+            each = λ q from below.
+                let one = theirs.each q from below in
+                let apart : q ≢ p = (λ same. h.0 (sym one.1 ∙ ap seat_of same ∙ own.1)) in (
+                  one.0,
+                  one.1,
+                  set_at_elsewhere local p given.local' q apart ∙ one.2,
+                );
+            taken = λ its has.
+                let was = theirs.taken its has in
+                let apart : its.process ≢ p = (λ same. h.0 (sym was.seat ∙ ap seat_of same ∙ own.1)) in
+                let stays : set_at local p given.local' its.process ≡ local its.process = set_at_elsewhere local p given.local' its.process apart in
+                record { inside = was.inside; seat = was.seat; apart = was.apart; idle = ap (λ (l : Local). l.stage) stays ∙ was.idle; calls = ap (λ (l : Local). l.own) stays ∙ was.calls };
+          })
+          (at_set s.views id j (with_local me.0 given.local') u e)
+
+  pub step_law : ((g : Board) (local : ℕ → Local) (words : List ℕ) → Found meaning o n width me g local words → slice_index words i < 18446744073709551616
+      → Given meaning o n width me local (slice_set words i (f (slice_index words i))) (says (slice_index words i)))
+      → Allows (ShowsBoard meaning o n width) slots id me i f says
+  step_law give s holds homes at fits =
+      let given = give holds.0 holds.1.0 s.words (found s holds.0 holds.1.0 holds.1.1.0 holds.1.1.1 at) fits in (
+        with_local me.0 given.local',
+        keeps,
+        tt,
+        (
+          given.board,
+          (
+            set_at holds.1.0 p given.local',
+            (
+              holds.1.1.0,
+              record {
+                words = given.words_are;
+                seats = seats_later s holds.0 holds.1.0 holds.1.1.0 holds.1.1.1 at given;
+                sound = given.sound;
+              },
+            ),
+          ),
+        ),
+        given.said,
+      )
+
+-- a load leaves the words and the board as they are
+pub load_law : {O : Type 0} (meaning : O → Sequential (List ℕ) ℕ ℕ) (o : O) (n width slots id : ℕ) (me : Me ℕ (View O)) (i : ℕ) (says : ℕ → Me ℕ (View O) → Type 0)
+    → me.0.known.count ≡ 1
+    → ((g : Board) (local : ℕ → Local) (words : List ℕ) → Found meaning o n width me g local words
+    → (l' : Local) × IsAt (meaning o) n width g me.0.known.first l' × says (slice_index words i) (with_local me.0 l', me.1))
+    → Allows (ShowsBoard meaning o n width) slots id me i (λ x. x) says
+load_law meaning o n width slots id me i says single give = step_law meaning o n width slots id me i (λ x. x) says single
+    (λ g local words found fits.
+    let given = give g local words found in record {
+      board = g;
+      local' = given.0;
+      sound = sound_same (meaning o) n width g local me.0.known.first given.0 found.sound given.1;
+      words_are = subst (AreWords n width g) (sym (set-get_or words i 0)) found.words_are;
+      said = given.2;
+    })

@@ -1,0 +1,62 @@
+-- Lists with one more element, and two lists with the same elements.
+use Rattle.std.proofs.Common.{◌≡◌, ℕ, zero, suc, ◌+◌, ◌*◌, ◌<◌, ◌≤◌, ◌⊎◌, inl, inr, refl, ap, List, [], ◌∷◌, ◌++◌, length, slice_index, slice_get, Option, Some, None, arith, suc-mul}
+use Rattle.std.specs.List.{sum, fold}
+use Rattle.uni_small.specs.Image.{due_at}
+
+pub index_snoc : (xs : List ℕ) (x j : ℕ) → j < length xs → slice_index (xs ++ x ∷ []) j ≡ slice_index xs j
+index_snoc [] x j h = absurd (omega arith)
+index_snoc (y ∷ xs) x zero h = refl
+index_snoc (y ∷ xs) x (suc j) h = index_snoc xs x j (omega arith)
+
+pub index_last : (xs : List ℕ) (x j : ℕ) → j ≡ length xs → slice_index (xs ++ x ∷ []) j ≡ x
+index_last [] x zero e = refl
+index_last [] x (suc j) e = absurd (omega arith)
+index_last (y ∷ xs) x zero e = absurd (omega arith)
+index_last (y ∷ xs) x (suc j) e = index_last xs x j (omega arith)
+
+pub get_snoc : {A : Type 0} (xs : List A) (x : A) (j : ℕ) (y : A) → slice_get (xs ++ x ∷ []) j ≡ Some y → (slice_get xs j ≡ Some y) ⊎ ((j ≡ length xs) × (x ≡ y))
+get_snoc [] x zero y e = inr (refl, cc)
+get_snoc [] x (suc j) y e = absurd (let f = e in cc)
+get_snoc (z ∷ xs) x zero y e = inl e
+get_snoc (z ∷ xs) x (suc j) y e = elim (get_snoc xs x j y e) [ inl h ↦ inl h | inr h ↦ inr (ap suc h.0, h.1) ]
+
+pub due_snoc : (seen : List (Option ℕ)) (o : Option ℕ) (j : ℕ) → j < length seen → due_at (seen ++ o ∷ []) j ≡ due_at seen j
+due_snoc [] o j h = absurd (omega arith)
+due_snoc (None ∷ seen) o zero h = refl
+due_snoc (Some i ∷ seen) o zero h = refl
+due_snoc (None ∷ seen) o (suc j) h = due_snoc seen o j (omega arith)
+due_snoc (Some i ∷ seen) o (suc j) h = due_snoc seen o j (omega arith)
+
+pub due_last : (seen : List (Option ℕ)) (inv j : ℕ) → j ≡ length seen → due_at (seen ++ Some inv ∷ []) j ≡ 1
+due_last [] inv zero e = refl
+due_last [] inv (suc j) e = absurd (omega arith)
+due_last (x ∷ seen) inv zero e = absurd (omega arith)
+due_last (None ∷ seen) inv (suc j) e = due_last seen inv j (omega arith)
+due_last (Some i ∷ seen) inv (suc j) e = due_last seen inv j (omega arith)
+
+-- a process that is due was seen with an invocation
+pub due_cases : (seen : List (Option ℕ)) (j : ℕ) → (due_at seen j ≡ 0) ⊎ ((inv : ℕ) × (due_at seen j ≡ 1) × (slice_get seen j ≡ Some (Some inv)))
+due_cases [] j = inl refl
+due_cases (None ∷ seen) zero = inl refl
+due_cases (Some i ∷ seen) zero = inr (i, refl, refl)
+due_cases (None ∷ seen) (suc j) = due_cases seen j
+due_cases (Some i ∷ seen) (suc j) = due_cases seen j
+
+pub same_list : (xs ys : List ℕ) → length xs ≡ length ys → ((i : ℕ) → i < length xs → slice_index xs i ≡ slice_index ys i) → xs ≡ ys
+same_list [] [] e h = refl
+same_list [] (y ∷ ys) e h = absurd (omega arith)
+same_list (x ∷ xs) [] e h = absurd (omega arith)
+same_list (x ∷ xs) (y ∷ ys) e h =
+    let first : x ≡ y = h 0 (omega arith) in
+    let others : xs ≡ ys = same_list xs ys (omega arith) (λ i below. h (suc i) (omega arith)) in cc
+
+-- a sum of numbers, each of which is at most m
+pub sum_most : (m : ℕ) (xs : List ℕ) → ((i : ℕ) → i < length xs → slice_index xs i ≤ m) → sum xs ≤ length xs * m
+sum_most m xs h = (let all : sum xs ≤ 0 + length xs * m = from 0 xs h in omega arith) where
+  from : (a : ℕ) (ys : List ℕ) → ((i : ℕ) → i < length ys → slice_index ys i ≤ m) → fold (λ b x. b + x) a ys ≤ a + length ys * m
+  from a [] k = omega arith
+  from a (y ∷ ys) k =
+      let here : y ≤ m = k 0 (omega arith) in
+      let more : fold (λ b x. b + x) (a + y) ys ≤ (a + y) + length ys * m = from (a + y) ys (λ i below. k (suc i) (omega arith)) in
+      let all : suc (length ys) * m ≡ length ys * m + m = suc-mul (length ys) m in
+      omega arith

@@ -1,0 +1,109 @@
+-- A step of one process by which S, the image and the marks stay leaves the others where they are.
+use Rattle.std.proofs.Common.{◌≡◌, ◌≢◌, ◌∙◌, ℕ, ◌+◌, ◌*◌, ◌<◌, ◌≤◌, inl, inr, refl, sym, ap, List, [], ◌∷◌, ◌++◌, length, map, slice_get, Option, arith, append-nil}
+use Rattle.seq_object.specs.Sequential.{Sequential}
+use Rattle.seq_object.specs.History.{response_at}
+use Rattle.uni_model.specs.AtomicObject.{Atomic, Act, Invoked}
+use Rattle.uni_model.specs.AtomicObject.Act.{Invoke, Respond}
+use Rattle.uni_model.proofs.Written.{number_cases}
+use Rattle.uni_words.specs.Run.{acts_by}
+use Rattle.uni_words.proofs.Running.{acts_by-append}
+use Rattle.uni_small.specs.View.{Local, Stage}
+use Rattle.uni_small.specs.View.Stage.{Idle, Armed, Ready, Reading, Asking, Writing, Last}
+use Rattle.uni_small.specs.Board.{Board, in_of}
+use Rattle.uni_small.specs.Invariant.{IsAt, IsCallAt, IsAttemptAt, IsClosed, IsOpen, HasTaken, HasSeen}
+
+-- what another process does is no act of this one
+pub invoked_other : (q p k i : ℕ) (acts : List (Act ℕ ℕ)) → q ≢ p → acts_by q (acts ++ Invoke p k i ∷ []) ≡ acts_by q acts
+invoked_other q p k i acts apart = acts_by-append q acts (Invoke p k i ∷ []) ∙ ap (λ l. acts_by q acts ++ l) (elim (number_cases p q) [
+  | inl same ↦ absurd (apart (sym same.0))
+  | inr other ↦ rw other.1 refl
+]) ∙ append-nil (acts_by q acts)
+
+pub responded_other : (q p k r : ℕ) (acts : List (Act ℕ ℕ)) → q ≢ p → acts_by q (acts ++ Respond p k r ∷ []) ≡ acts_by q acts
+responded_other q p k r acts apart = acts_by-append q acts (Respond p k r ∷ []) ∙ ap (λ l. acts_by q acts ++ l) (elim (number_cases p q) [
+  | inl same ↦ absurd (apart (sym same.0))
+  | inr other ↦ rw other.1 refl
+]) ∙ append-nil (acts_by q acts)
+
+pub invoked_own : (p k i : ℕ) (acts : List (Act ℕ ℕ)) → acts_by p (acts ++ Invoke p k i ∷ []) ≡ acts_by p acts ++ Invoke p k i ∷ []
+invoked_own p k i acts = acts_by-append p acts (Invoke p k i ∷ []) ∙ ap (λ l. acts_by p acts ++ l) (elim (number_cases p p) [
+  | inl same ↦ rw same.1 refl
+  | inr other ↦ absurd (other.0 refl)
+])
+
+pub responded_own : (p k r : ℕ) (acts : List (Act ℕ ℕ)) → acts_by p (acts ++ Respond p k r ∷ []) ≡ acts_by p acts ++ Respond p k r ∷ []
+responded_own p k r acts = acts_by-append p acts (Respond p k r ∷ []) ∙ ap (λ l. acts_by p acts ++ l) (elim (number_cases p p) [
+  | inl same ↦ rw same.1 refl
+  | inr other ↦ absurd (other.0 refl)
+])
+
+module _ (object : Sequential (List ℕ) ℕ ℕ) (n width : ℕ) (g : Board) (announced' argument' since' : ℕ → ℕ) (buffer' : ℕ → ℕ → ℕ) (atomic' : Atomic (List ℕ) ℕ) (acts' : List (Act ℕ ℕ)) where
+  -- the board afterwards
+  abbrev pub quiet : Board
+  quiet = record g { announced = announced'; argument = argument'; since = since'; buffer = buffer'; atomic = atomic'; acts = acts' }
+
+  -- what stays as it is for process q, whose spare buffer is b
+  pub record Spares (q b : ℕ) : Type 0 where
+    pub since : since' q ≡ g.since q
+    pub seen : (seen : List (Option ℕ)) → HasSeen g q seen → HasSeen quiet q seen
+    pub due : (r : ℕ) → g.announced r ≡ in_of g r + 1 → announced' r ≡ in_of g r + 1
+    pub announced : announced' q ≡ g.announced q
+    pub argument : argument' q ≡ g.argument q
+    pub buffer : (i : ℕ) → buffer' b i ≡ g.buffer b i
+    pub marked : (r : ℕ) → r < n → announced' r ≤ g.mark b r → g.announced r ≤ g.mark b r
+    pub is_open : atomic'.open_call q ≡ g.atomic.open_call q
+    pub next : atomic'.next_nth q ≡ g.atomic.next_nth q
+    pub agreed : atomic'.agreed ≡ g.atomic.agreed
+    pub acts : acts_by q acts' ≡ acts_by q g.acts
+
+  module _ (q b : ℕ) (spares : Spares q b) where
+    attempt_stays : (stage : Stage) → IsAttemptAt object n width g q b stage → IsAttemptAt object n width quiet q b stage
+    attempt_stays Idle h = h
+    attempt_stays Armed h = h
+    attempt_stays (Ready t) h = let e = spares.since in omega arith
+    attempt_stays (Reading t s copy seen) h = ((let e = spares.since in let a = h.0 in omega arith), λ fresh. let now = h.1 fresh in (now.0, (now.1.0, spares.seen seen now.1.1)))
+    attempt_stays (Asking t s copy seen) h = ((let e = spares.since in let a = h.0 in omega arith), λ fresh. let now = h.1 fresh in (now.0, (now.1.0, spares.seen seen now.1.1, spares.due (length seen) now.1.2)))
+    attempt_stays (Writing t s image seen k) h = (
+      (let e = spares.since in let a = h.0 in omega arith),
+      (λ fresh. let now = h.1 fresh in (now.0, (now.1.0, now.1.1, spares.seen seen now.1.2, (let e = spares.announced in let m = now.1.3 in omega arith)))),
+      record { rows = h.2.rows; words = λ i below. spares.buffer i ∙ h.2.words i below; replies = λ r inside least. h.2.replies r inside (spares.marked r inside least) },
+    )
+    attempt_stays (Last s) h = (h.0, (let e = spares.announced in let m = h.1 in omega arith))
+
+    taken_stays : (call : Invoked ℕ) (reply : ℕ) → HasTaken object g call reply → HasTaken object quiet call reply
+    taken_stays call reply h = record {
+      place = h.place;
+      there = ap (λ xs. slice_get xs h.place) spares.agreed ∙ h.there;
+      reply_is = ap (λ (xs : List (Invoked ℕ)). response_at object object.initial (map (λ c. c.inv) xs) h.place) spares.agreed ∙ h.reply_is;
+    }
+
+    closed_stays : (own : List (ℕ × ℕ)) → IsClosed g q own → IsClosed quiet q own
+    closed_stays own h = record { none_open = spares.is_open ∙ h.none_open; next = spares.next ∙ h.next; announced = spares.announced ∙ h.announced; in_is = h.in_is; acts = spares.acts ∙ h.acts }
+
+    open_stays : (inv : ℕ) (own : List (ℕ × ℕ)) → IsOpen object g q inv own → IsOpen object quiet q inv own
+    open_stays inv own h = record {
+      is_open = spares.is_open ∙ h.is_open;
+      next = spares.next ∙ h.next;
+      announced = spares.announced ∙ h.announced;
+      argument = spares.argument ∙ h.argument;
+      in_least = h.in_least;
+      taken = λ full. taken_stays _ _ (h.taken full);
+      acts = spares.acts ∙ h.acts;
+    }
+
+    call_stays : (l : Local) (stage : Stage) → IsCallAt object n width g q l stage → IsCallAt object n width quiet q l stage
+    call_stays l Idle h = closed_stays l.own h
+    call_stays l Armed h = (closed_stays l.own h.0, spares.argument ∙ h.1)
+    call_stays l (Ready t) h = open_stays l.inv l.own h
+    call_stays l (Reading t s copy seen) h = open_stays l.inv l.own h
+    call_stays l (Asking t s copy seen) h = open_stays l.inv l.own h
+    call_stays l (Writing t s image seen k) h = open_stays l.inv l.own h
+    call_stays l (Last s) h = open_stays l.inv l.own h
+
+  pub at_stays : (q : ℕ) (l : Local) → Spares q (2 * q + l.spare) → IsAt object n width g q l → IsAt object n width quiet q l
+  at_stays q l spares h = record {
+    spare = h.spare;
+    apart = h.apart;
+    call = call_stays q (2 * q + l.spare) spares l l.stage h.call;
+    attempt = attempt_stays q (2 * q + l.spare) spares l.stage h.attempt;
+  }

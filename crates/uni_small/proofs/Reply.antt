@@ -1,0 +1,125 @@
+-- The load of the reply, by which a call returns.
+use Rattle.std.proofs.Common.{◌≡◌, ◌∙◌, ℕ, suc, ◌+◌, ◌*◌, ◌<◌, refl, sym, ap, subst, List, [], ◌∷◌, ◌++◌, length, map, slice_index, Some, None, arith, append_assoc, length-append}
+use Rattle.std.proofs.lemmas.List.{set-get_or}
+use Rattle.atomic_table.specs.Table.{Me, Step, Allows}
+use Rattle.seq_object.specs.Sequential.{Sequential}
+use Rattle.seq_object.specs.History.{response_at}
+use Rattle.uni_model.specs.AtomicObject.{Atomic, Act, Invoked, at_start, set_at}
+use Rattle.uni_model.specs.AtomicObject.Act.{Invoke, Respond}
+use Rattle.uni_model.proofs.Simulation.{set_at_same}
+use Rattle.uni_model.proofs.LawProofs.{set_at_elsewhere, AcceptsAll-append}
+use Rattle.uni_words.specs.Run.{sequential_acts}
+use Rattle.uni_small.specs.View.{Local, returns}
+use Rattle.uni_small.specs.View.Stage.{Last}
+use Rattle.uni_small.specs.Board.{Board, in_of, buffer_in, buffer_word}
+use Rattle.uni_small.specs.Invariant.{IsOpen, HasTaken}
+use Rattle.uni_small.specs.Shown.{AreWords, ShowsBoard}
+use Rattle.uni_small.specs.Plays.{stage_of, HasReplied}
+use Rattle.uni_small.specs.declared.view.View.{View}
+use Rattle.uni_small.proofs.Frame.{step_law, sound_with}
+use Rattle.uni_small.proofs.Loads.{call_at, attempt_at}
+use Rattle.uni_small.proofs.Others.{quiet, at_stays, responded_other, responded_own}
+
+sequential_acts-snoc : (p k : ℕ) (xs : List (ℕ × ℕ)) (c : ℕ × ℕ) → sequential_acts p k (xs ++ c ∷ []) ≡ sequential_acts p k xs ++ Invoke p (length xs + k) c.0 ∷ Respond p (length xs + k) c.1 ∷ []
+sequential_acts-snoc p k [] c = (let e : k ≡ 0 + k = omega arith in ap (λ j. Invoke p j c.0 ∷ Respond p j c.1 ∷ []) e)
+sequential_acts-snoc p k (x ∷ xs) c =
+    let e : length xs + (k + 1) ≡ suc (length xs) + k = omega arith in
+    ap (λ l. Invoke p k x.0 ∷ Respond p k x.1 ∷ l) (sequential_acts-snoc p (k + 1) xs c
+    ∙ ap (λ j. sequential_acts p (k + 1) xs ++ Invoke p j c.0 ∷ Respond p j c.1 ∷ []) e)
+
+module _ {O : Type 0} (meaning : O → Sequential (List ℕ) ℕ ℕ) (o : O) (n width slots id : ℕ) (st : Step ℕ) (me : Me ℕ (View O)) (single : me.0.known.count ≡ 1) where
+  abbrev object : Sequential (List ℕ) ℕ ℕ
+  object = meaning o
+
+  abbrev p : ℕ
+  p = me.0.known.first
+
+  abbrev l : Local
+  l = me.0.known.local
+
+  pub replies : (s : ℕ) → stage_of me ≡ Last s → buffer_in s < 2 * n
+      → Allows (ShowsBoard meaning o n width) slots id me (buffer_word n width (buffer_in s) (n + p)) (λ x. x) (λ found me'. HasReplied st me found me')
+  replies s stage named = step_law meaning o n width slots id me (buffer_word n width (buffer_in s) (n + p)) (λ x. x) (λ found me'. HasReplied st me found me') single (λ g local words f fits.
+      let x = slice_index words (buffer_word n width (buffer_in s) (n + p)) in
+      let call : IsOpen object g p l.inv l.own = call_at object n width g p l (Last s) f.mine stage in
+      let was = attempt_at object n width g p l (Last s) f.mine stage in
+      let b = f.sound.board in
+      let found : x ≡ g.buffer (buffer_in s) (n + p) = f.words_are.buffer (buffer_in s) (n + p) named (let i = f.inside in omega arith) in
+      let reply : x ≡ slice_index g.image.reply p = found ∙ b.kept (buffer_in s) p named f.inside was.1 in
+      let all_in : in_of g p ≡ length l.own + 1 = (let m = b.marked (buffer_in s) p f.inside in let w = was.1 in let i = b.in_most p f.inside in let a = call.announced in omega arith) in
+      let taken : HasTaken object g (record { process = p; nth = length l.own; inv = l.inv }) (slice_index g.image.reply p) = call.taken all_in in
+      let more : length (l.own ++ (l.inv, x) ∷ []) ≡ length l.own + 1 = length-append l.own ((l.inv, x) ∷ []) in
+      let atomic' : Atomic (List ℕ) ℕ = record g.atomic { open_call = set_at g.atomic.open_call p None } in
+      let acts' : List (Act ℕ ℕ) = g.acts ++ Respond p (length l.own) x ∷ [] in
+      let g' : Board = quiet object n width g g.announced g.argument g.since g.buffer atomic' acts' in
+      record {
+        board = g';
+        local' = returns l x;
+        sound = sound_with object n width g g' local p (returns l x) f.sound
+            (record {
+              current = b.current;
+              image = b.image;
+              rows = b.rows;
+              exact = b.exact;
+              marked = b.marked;
+              at_current = b.at_current;
+              kept = b.kept;
+              in_most = b.in_most;
+              soon = b.soon;
+              versions = b.versions;
+              room = b.room;
+              agreed = b.agreed;
+              start = b.start;
+              history = AcceptsAll-append object (at_start object.initial) g.atomic atomic' g.acts (Respond p (length l.own) x ∷ []) b.history (
+                atomic',
+                (
+                  (
+                    l.inv,
+                    taken.place,
+                    call.is_open,
+                    taken.there,
+                    ap (λ z. response_at object z (map (λ (c : Invoked ℕ). c.inv) g.atomic.agreed) taken.place) b.start ∙ taken.reply_is ∙ ap Some (sym reply),
+                  ),
+                  refl,
+                ),
+                refl,
+              );
+            })
+            (λ q inside apart h. at_stays object n width g g.announced g.argument g.since g.buffer atomic' acts' q (local q)
+            (record {
+              since = refl;
+              seen = λ seen k. record { told = k.told; caught = k.caught };
+              due = λ r d. d;
+              announced = refl;
+              argument = refl;
+              buffer = λ i. refl;
+              marked = λ r inside m. m;
+              is_open = set_at_elsewhere g.atomic.open_call p None q apart;
+              next = refl;
+              agreed = refl;
+              acts = responded_other q p (length l.own) x g.acts apart;
+            }) h)
+            (record {
+              spare = f.mine.spare;
+              apart = f.mine.apart;
+              call = record {
+                none_open = set_at_same g.atomic.open_call p None;
+                next = call.next ∙ sym more;
+                announced = call.announced ∙ sym more;
+                in_is = all_in ∙ sym more;
+                acts = responded_own p (length l.own) x g.acts ∙ ap (λ xs. xs ++ Respond p (length l.own) x ∷ []) call.acts
+                    ∙ append_assoc (sequential_acts p 0 l.own) (Invoke p (length l.own) l.inv ∷ []) (Respond p (length l.own) x ∷ [])
+                    ∙ ap (λ k. sequential_acts p 0 l.own ++ Invoke p k l.inv ∷ Respond p k x ∷ []) (let z : length l.own ≡ length l.own + 0 = omega arith in z)
+                    ∙ sym (sequential_acts-snoc p 0 l.own (l.inv, x));
+              };
+              attempt = tt;
+            });
+        words_are = subst (AreWords n width g') (sym (set-get_or words (buffer_word n width (buffer_in s) (n + p)) 0)) (record {
+          wide = f.words_are.wide;
+          current = f.words_are.current;
+          announced = f.words_are.announced;
+          argument = f.words_are.argument;
+          buffer = f.words_are.buffer;
+        });
+        said = refl;
+      })

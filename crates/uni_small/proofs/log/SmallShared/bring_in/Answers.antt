@@ -1,0 +1,27 @@
+use Rattle.std.proofs.Common.{ℕ, arith, refl, sym, ◌∙◌, ◌+◌, ◌*◌, eqb}
+use mathlib.Core.Option.{none}
+use Rattle.atomic_table.specs.Table.{step}
+use Rattle.uni_small.specs.Plays.{HasBrought}
+use Rattle.uni_small.proofs.Allowed.{by_key}
+use Rattle.uni_small.proofs.Exchange.{brings_in}
+use prog.Atomic.{either}
+use Rattle.uni_small.specs.Board.{current_word, version_in}
+use Rattle.uni_small.proofs.log.SmallShared.bring_in.Goals as goal
+
+pub compare_exchange-requires : goal.compare_exchange-requires
+compare_exchange-requires g c =
+    let shared = c.args.self.now in
+    let n = shared.setup.n in
+    let width = shared.setup.width in
+    let o = shared.setup.object in
+    let meaning = g.O.SmallObject.sequential in
+    let slots = shared.table.shared.table_id.slots in
+    let id = c.args.seat.now.id in
+    let me = c.args.seat.now.me in
+    let i : ℕ = 0 in
+    let st = step slots 0 c.args.s c.args.new none in (
+      c.requires.table,
+      (let q0 = shared.sized in omega arith),
+      by_key meaning shared.table.shared.key shared.setup shared.same slots id me i 0 refl (λ found. either (eqb found c.args.s) c.args.new found) (λ x me'. HasBrought st me x me')
+          (brings_in meaning o n width slots id shared.few.1 st me c.requires.of.alone (g.met.O.SmallObject.steady o) c.args.tries c.args.s c.requires.stage (c.requires.word ∙ (λ k. current_word (version_in c.args.s + 1) (2 * sym c.requires.of.first k + sym c.requires.spare.0 k)))),
+    )

@@ -1,0 +1,11 @@
+use Rattle.std.proofs.Common.{◌≡◌, List, ℕ, [], ◌++◌, take}
+use Rattle.uni_small.specs.View.Stage.{Reading}
+use Rattle.uni_small.specs.Plays.{stage_of}
+use Rattle.uni_small.specs.Standing.{GoesBy}
+use Rattle.uni_small.proofs.log.SmallShared.copy_row.Given as goal
+
+abbrev pub invariant-loop-i : goal.invariant-loop-i
+invariant-loop-i g l =
+    (l.seat.table_id ≡ l.fn.seat.table_id) × (l.seat.id ≡ l.fn.seat.id)
+    × ((copy : List ℕ) → stage_of l.fn.seat.me ≡ Reading l.tries l.s copy []
+    → GoesBy l.fn.seat.me l.i (Reading l.tries l.s (copy ++ take l.i l.row) []) l.seat.me)

@@ -1,0 +1,17 @@
+use Rattle.std.proofs.Common.{◌≡◌, ◌-◌, [], Some}
+use Rattle.uni_small.specs.View.{at_rest}
+use Rattle.uni_small.specs.Belongs.{AreFirstSeats}
+use Rattle.uni_small.proofs.log.SmallShared.seats.Given as goal
+
+abbrev pub invariant-loop-p : goal.invariant-loop-p
+invariant-loop-p g l =
+    (l.rest.table_id ≡ l.fn.self.table.shared.table_id)
+    × (l.rest.me ≡ (
+      record {
+        marker = record {};
+        known = record { n = l.fn.self.setup.n; first = l.p; count = l.fn.self.setup.n - l.p; local = at_rest; taken = [] };
+        object = Some l.fn.self.setup.object;
+      },
+      [],
+    ))
+    × AreFirstSeats l.fn.self l.p l.seats.items

@@ -1,0 +1,11 @@
+pub mod Image
+pub mod View
+pub mod Board
+pub mod Invariant
+pub mod Shown
+pub mod Rule
+pub mod Plays
+pub mod Standing
+pub mod Belongs
+pub mod Final
+pub mod Objects

@@ -1,0 +1,120 @@
+-- What a step tells the seat that takes it, and how a seat is split.
+use Rattle.std.specs.Prelude.{◌≡◌, ℕ, ◌+◌, ◌-◌, ◌*◌, ◌<◌, ◌≤◌, ◌==◌, List, [], ◌∷◌, ◌++◌, Option, None, Some, if◌then◌else◌}
+use Rattle.std.specs.Prelude.{length, slice_index}
+use Rattle.atomic_table.specs.Table.{Me, Step}
+use Rattle.seq_object.specs.Sequential.{Sequential}
+use Rattle.uni_words.specs.View.{ProcessCalls}
+use Rattle.uni_small.specs.Image.{Image, IsReached, read_image}
+use Rattle.uni_small.specs.View.{Local, Stage, everyone, goes, arms, brings, returns}
+use Rattle.uni_small.specs.View.Stage.{Ready, Reading, Asking, Writing, Last}
+use Rattle.uni_small.specs.Board.{buffer_in, version_in}
+use Rattle.uni_small.specs.Invariant.{most_calls}
+use Rattle.uni_small.specs.declared.view.View.{View}
+
+abbrev pub first_view : {O : Type 0} → O → (n : ℕ) → View O
+first_view object n = record { marker = record {}; known = everyone n; object = Some object }
+
+-- the first process of a seat, and the others
+abbrev pub first_alone : {O : Type 0} → View O → View O
+first_alone v = record v { known = record v.known { count = 1; taken = [] } }
+
+abbrev pub others : {O : Type 0} → View O → View O
+others v = record v { known = record v.known { first = v.known.first + 1; count = v.known.count - 1 } }
+
+-- a seat's first process with its calls
+abbrev pub own_in_view : {O : Type 0} → View O → ProcessCalls
+own_in_view v = record { process = v.known.first; calls = v.known.local.own }
+
+-- a seat that takes in another one knows its calls too; the other one is left with no process
+abbrev pub took_in : {O : Type 0} → View O → View O → View O
+took_in v x = record v { known = record v.known { taken = v.known.taken ++ own_in_view x ∷ x.known.taken } }
+
+abbrev pub nobody : {O : Type 0} → View O
+nobody = record { marker = record {}; known = everyone 0; object = None }
+
+-- a seat is left with this local, and has changed in nothing else
+abbrev pub with_local : {O : Type 0} → View O → Local → View O
+with_local v l = record v { known = record v.known { local = l } }
+
+abbrev pub IsLeft : {O : Type 0} → Me ℕ (View O) → Local → Me ℕ (View O) → Type 0
+IsLeft me l me' = me' ≡ (with_local me.0 l, me.1)
+
+abbrev pub stage_of : {O : Type 0} → Me ℕ (View O) → Stage
+stage_of me = me.0.known.local.stage
+
+-- it goes to this stage
+abbrev pub Goes : {O : Type 0} → Me ℕ (View O) → Stage → Me ℕ (View O) → Type 0
+Goes me stage me' = IsLeft me (goes me.0.known.local stage) me'
+
+abbrev pub HasArmed : {O : Type 0} → Step ℕ → Me ℕ (View O) → (inv : ℕ) → Me ℕ (View O) → Type 0
+HasArmed step me inv me' = IsLeft me (arms me.0.known.local inv) me'
+
+abbrev pub HasAnnounced : {O : Type 0} → Step ℕ → Me ℕ (View O) → ℕ → Me ℕ (View O) → Type 0
+HasAnnounced step me x me' = Goes me (Ready 0) me'
+
+-- a word S that was found names a buffer, and its version leaves room for more
+abbrev pub IsNamed : (n s : ℕ) → Type 0
+IsNamed n s = (buffer_in s < 2 * n) × (version_in s ≤ n * most_calls)
+
+abbrev pub HasStarted : {O : Type 0} → Step ℕ → Me ℕ (View O) → (s : ℕ) → Me ℕ (View O) → Type 0
+HasStarted step me s me' =
+    (tries : ℕ) → stage_of me ≡ Ready tries → Goes me (Reading tries s [] []) me' × IsNamed me.0.known.n s
+
+abbrev pub HasCopied : {O : Type 0} → Step ℕ → Me ℕ (View O) → (found : ℕ) → Me ℕ (View O) → Type 0
+HasCopied step me found me' =
+    (tries s : ℕ) (copy : List ℕ) → stage_of me ≡ Reading tries s copy [] → Goes me (Reading tries s (copy ++ found ∷ []) []) me'
+
+-- where an announcement is as the copy has it, the process has no call to apply
+abbrev pub looked : (tries s : ℕ) (copy : List ℕ) (seen : List (Option ℕ)) (found : ℕ) → Stage
+looked tries s copy seen found =
+    if found == slice_index copy (length seen) then Reading tries s copy (seen ++ None ∷ []) else Asking tries s copy seen
+
+abbrev pub HasLooked : {O : Type 0} → Step ℕ → Me ℕ (View O) → (found : ℕ) → Me ℕ (View O) → Type 0
+HasLooked step me found me' =
+    (tries s : ℕ) (copy : List ℕ) (seen : List (Option ℕ)) → stage_of me ≡ Reading tries s copy seen
+    → Goes me (looked tries s copy seen found) me'
+
+abbrev pub HasAsked : {O : Type 0} → Step ℕ → Me ℕ (View O) → (found : ℕ) → Me ℕ (View O) → Type 0
+HasAsked step me found me' =
+    (tries s : ℕ) (copy : List ℕ) (seen : List (Option ℕ)) → stage_of me ≡ Asking tries s copy seen
+    → Goes me (Reading tries s copy (seen ++ Some found ∷ [])) me'
+
+-- where S is as it was, the copy was good: the call is in already, or the spare buffer is written
+abbrev pub checked : (n p made tries s : ℕ) (copy : List ℕ) (seen : List (Option ℕ)) (found : ℕ) → Stage
+checked n p made tries s copy seen found =
+    if found == s
+    then (if slice_index copy p == made then Last s else Writing tries s (read_image n copy) seen 0)
+    else Ready (tries + 1)
+
+-- an image is that of a state that calls lead to, and counts no more calls than there can be
+abbrev pub IsGood : Sequential (List ℕ) ℕ ℕ → (n : ℕ) → Image → Type 0
+IsGood object n image =
+    IsReached object image.state × ((r : ℕ) → r < n → slice_index image.applied r ≤ most_calls)
+
+abbrev pub HasChecked : {O : Type 0} → Sequential (List ℕ) ℕ ℕ → Step ℕ → Me ℕ (View O) → (found : ℕ) → Me ℕ (View O) → Type 0
+HasChecked object step me found me' =
+    (tries s : ℕ) (copy : List ℕ) (seen : List (Option ℕ)) → stage_of me ≡ Reading tries s copy seen
+    → let v = me.0.known in
+    Goes me (checked v.n v.first (length v.local.own + 1) tries s copy seen found) me'
+    × (found ≡ s → IsGood object v.n (read_image v.n copy))
+
+abbrev pub HasWritten : {O : Type 0} → Step ℕ → Me ℕ (View O) → ℕ → Me ℕ (View O) → Type 0
+HasWritten step me x me' =
+    (tries s : ℕ) (image : Image) (seen : List (Option ℕ)) (k : ℕ) → stage_of me ≡ Writing tries s image seen k
+    → Goes me (Writing tries s image seen (k + 1)) me'
+
+-- where the exchange finds what the attempt began with, the spare buffer is current
+abbrev pub brought : Local → (tries s new found : ℕ) → Local
+brought l tries s new found = if found == s then brings l new else goes l (Ready (tries + 1))
+
+abbrev pub HasBrought : {O : Type 0} → Step ℕ → Me ℕ (View O) → (found : ℕ) → Me ℕ (View O) → Type 0
+HasBrought step me found me' =
+    (tries s : ℕ) (image : Image) (seen : List (Option ℕ)) (k : ℕ) → stage_of me ≡ Writing tries s image seen k
+    → IsLeft me (brought me.0.known.local tries s step.second found) me'
+
+abbrev pub HasTurned : {O : Type 0} → Step ℕ → Me ℕ (View O) → (s : ℕ) → Me ℕ (View O) → Type 0
+HasTurned step me s me' =
+    (tries : ℕ) → stage_of me ≡ Ready tries → 2 ≤ tries → Goes me (Last s) me' × IsNamed me.0.known.n s
+
+abbrev pub HasReplied : {O : Type 0} → Step ℕ → Me ℕ (View O) → (found : ℕ) → Me ℕ (View O) → Type 0
+HasReplied step me found me' = IsLeft me (returns me.0.known.local found) me'

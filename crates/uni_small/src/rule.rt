@@ -1,0 +1,153 @@
+//! The rule of the table, and what its steps tell.
+use crate::object::SmallObject;
+use crate::view::View;
+use atomic_table::{Join, Play, Split, Table, TableRule};
+use std::alloc::Global;
+use std::marker::PhantomData;
+
+/// What the table is told once: the object, how many processes there are, and how many words a state has.
+#[derive(Drop)]
+pub struct Setup<O: SmallObject> {
+    pub object: O,
+    pub n: u64,
+    pub width: u64,
+}
+
+/// The rule of the table: its words and the views of its seats show a board.
+pub struct Boards<O> {
+    object: PhantomData<O>,
+}
+
+impl<O: SmallObject> TableRule<u8, View<O>, Setup<O>> for Boards<O> {
+    ghost use Rattle.uni_small.specs.Shown.{ShowsBoard};
+    ghost use Rattle.uni_small.specs.Plays.{first_view};
+
+    ghost holds = { λ key. ShowsBoard O.sequential key.object key.n key.width };
+
+    ghost first = { λ key. first_view key.object key.n };
+}
+
+/// The store of an invocation.
+pub struct Arms;
+
+impl<O> Play<u8, View<O>> for Arms {
+    ghost use Rattle.uni_small.specs.Plays.{HasArmed};
+
+    ghost then = { HasArmed };
+}
+
+/// The store of an announcement.
+pub struct Announces;
+
+impl<O> Play<u8, View<O>> for Announces {
+    ghost use Rattle.uni_small.specs.Plays.{HasAnnounced};
+
+    ghost then = { HasAnnounced };
+}
+
+/// The load of S with which an attempt begins.
+pub struct Starts;
+
+impl<O> Play<u8, View<O>> for Starts {
+    ghost use Rattle.uni_small.specs.Plays.{HasStarted};
+
+    ghost then = { HasStarted };
+}
+
+/// The load of a word of the current buffer.
+pub struct Copies;
+
+impl<O> Play<u8, View<O>> for Copies {
+    ghost use Rattle.uni_small.specs.Plays.{HasCopied};
+
+    ghost then = { HasCopied };
+}
+
+/// The load of an announcement.
+pub struct Looks;
+
+impl<O> Play<u8, View<O>> for Looks {
+    ghost use Rattle.uni_small.specs.Plays.{HasLooked};
+
+    ghost then = { HasLooked };
+}
+
+/// The load of an invocation.
+pub struct Asks;
+
+impl<O> Play<u8, View<O>> for Asks {
+    ghost use Rattle.uni_small.specs.Plays.{HasAsked};
+
+    ghost then = { HasAsked };
+}
+
+/// The store of a word of the spare buffer.
+pub struct Writes;
+
+impl<O> Play<u8, View<O>> for Writes {
+    ghost use Rattle.uni_small.specs.Plays.{HasWritten};
+
+    ghost then = { HasWritten };
+}
+
+/// The exchange of S.
+pub struct Brings;
+
+impl<O> Play<u8, View<O>> for Brings {
+    ghost use Rattle.uni_small.specs.Plays.{HasBrought};
+
+    ghost then = { HasBrought };
+}
+
+/// The load of S after two failed attempts.
+pub struct Turns;
+
+impl<O> Play<u8, View<O>> for Turns {
+    ghost use Rattle.uni_small.specs.Plays.{HasTurned};
+
+    ghost then = { HasTurned };
+}
+
+/// The load of the reply.
+pub struct Replies;
+
+impl<O> Play<u8, View<O>> for Replies {
+    ghost use Rattle.uni_small.specs.Plays.{HasReplied};
+
+    ghost then = { HasReplied };
+}
+
+/// The load of S after which an attempt goes on or has failed.
+pub struct Checks;
+
+impl<O: SmallObject> Play<u8, View<O>> for Checks {
+    ghost use Rattle.std.specs.Prelude.{◌≡◌, Some};
+    ghost use Rattle.uni_small.specs.Plays.{HasChecked};
+
+    ghost then = { λ step me found me'. (o : O) → me.0.object ≡ Some o → HasChecked (O.sequential o) step me found me' };
+}
+
+/// The first process apart from the others.
+pub struct First;
+
+impl<O> Split<View<O>> for First {
+    ghost use Rattle.uni_small.specs.Plays.{others, first_alone};
+
+    ghost left = { others };
+
+    ghost right = { first_alone };
+}
+
+/// A seat that takes in another one, of one process, with what that knows.
+pub struct TakesIn;
+
+impl<O> Join<View<O>> for TakesIn {
+    ghost use Rattle.uni_small.specs.Plays.{nobody, took_in};
+
+    ghost both = { took_in };
+
+    ghost spent = { nobody };
+}
+
+/// The table of an object: it has no slots.
+pub type SmallTable<O> = Table<u8, View<O>, Setup<O>, Boards<O>, Global>;
