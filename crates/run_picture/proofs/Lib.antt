@@ -1,4 +1,0 @@
-pub mod LaneSteps
-pub mod Entries
-pub mod Boxes
-pub mod RowSteps

@@ -1,9 +1,3 @@
-pub mod Paint
-pub mod Shapes
-pub mod Lanes
-pub mod Cells
-pub mod Notes
-pub mod Rows
-pub mod Legend
-pub mod Drawing
+pub mod Marked
+pub mod Drawn
 pub mod Picture

@@ -1,13 +1,6 @@
 //! Bars and their texts.
 
-ghost use Rattle.std.specs.Prelude.{◌≡◌, ◌++◌, ◌+◌, ◌<◌, ◌^◌, ◌-◌, ◌∷◌, [], OnOk, Some};
-ghost use Rattle.std.specs.Prelude.{map};
-ghost use Rattle.std.specs.List.{flat_map};
-ghost use Rattle.run_marks.specs.Shown.{bar_shown, end_shown};
-ghost use Rattle.run_layout.specs.Axis.{places_shown};
-ghost use Rattle.svg_text.specs.Figures.{figure};
-ghost use Rattle.svg_text.specs.Figures.{Rect};
-ghost use Rattle.run_picture.specs.Lanes.{open_figures, bar_figures, counts_figures, bar_texts};
+ghost use Rattle.std.specs.Prelude.{◌<◌, ◌^◌};
 
 use crate::figures::{LETTER, push_label, push_line};
 use crate::lanes::{Lanes, strip_end};
@@ -32,8 +25,6 @@ const COUNTS: u64 = 86;
 ///
 /// An `Err` says that memory was refused.
 fn push_bar(bar: &Bar, axis: &Axis, lanes: Lanes, shapes: &mut Vec<Shape>) -> Result<(), AllocError>
-    ensures { OnOk result (map figure shapes.new.items
-        ≡ map figure shapes.old.items ++ bar_figures (places_shown axis.now) lanes (bar_shown bar.now)) }
 {
     let left = u64::from(axis.event(bar.from).left) + 1;
     let top = lanes.of(u64::from(bar.call.process)) + TOP;
@@ -56,8 +47,6 @@ fn push_frame(
     paint: Paint,
     shapes: &mut Vec<Shape>,
 ) -> Result<(), AllocError>
-    ensures { OnOk result (map figure shapes.new.items
-        ≡ map figure shapes.old.items ++ Rect left top (right - left) 46 paint ∷ []) }
 {
     shapes.push(Shape::Rect {
         x: left,
@@ -74,7 +63,6 @@ fn push_frame(
 /// An `Err` says that memory was refused.
 fn push_open_bar(left: u64, right: u64, top: u64, shapes: &mut Vec<Shape>) -> Result<(), AllocError>
     requires { top < 2 ^ 40 }
-    ensures { OnOk result (map figure shapes.new.items ≡ map figure shapes.old.items ++ open_figures left right top) }
 {
     let bottom = top + HEIGHT;
     push_frame(left, right, top, Paint::Paper, shapes)?;
@@ -92,9 +80,6 @@ pub fn push_bars(
     lanes: Lanes,
     shapes: &mut Vec<Shape>,
 ) -> Result<(), AllocError>
-    ensures { OnOk result (map figure shapes.new.items
-        ≡ map figure shapes.old.items ++ flat_map (bar_figures (places_shown axis.now) lanes)
-        (map bar_shown bars.now)) }
 {
     for bar in bars {
         push_bar(bar, axis, lanes, shapes)?;
@@ -113,8 +98,6 @@ fn push_counts(
     shapes: &mut Vec<Shape>,
 ) -> Result<(), AllocError>
     requires { top < 2 ^ 40 }
-    ensures { OnOk result (map figure shapes.new.items
-        ≡ map figure shapes.old.items ++ counts_figures (places_shown axis.now) top (Some (end_shown end.now))) }
 {
     let counts = counts_of(alloc, end)?;
     let right = axis.event(end.event).right();
@@ -132,8 +115,6 @@ fn push_bar_texts(
     lanes: Lanes,
     shapes: &mut Vec<Shape>,
 ) -> Result<(), AllocError>
-    ensures { OnOk result (map figure shapes.new.items
-        ≡ map figure shapes.old.items ++ bar_texts (places_shown axis.now) lanes (bar_shown bar.now)) }
 {
     let top = lanes.of(u64::from(bar.call.process));
     let left = u64::from(axis.event(bar.from).left);
@@ -154,9 +135,6 @@ pub fn push_texts(
     lanes: Lanes,
     shapes: &mut Vec<Shape>,
 ) -> Result<(), AllocError>
-    ensures { OnOk result (map figure shapes.new.items
-        ≡ map figure shapes.old.items ++ flat_map (bar_texts (places_shown axis.now) lanes)
-        (map bar_shown bars.now)) }
 {
     for bar in bars {
         push_bar_texts(alloc, bar, axis, lanes, shapes)?;

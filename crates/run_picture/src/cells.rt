@@ -1,15 +1,6 @@
 //! The list of cells, era by era, below the lanes.
 
-ghost use Rattle.std.specs.Prelude.{◌≡◌, ◌≤◌, ◌<◌, ◌^◌, ◌+◌, [], ◌∷◌, ◌++◌, map};
-ghost use Rattle.std.specs.Prelude.{IfOk, OnOk, option_map};
-ghost use Rattle.std.specs.Option.{option_copied};
-ghost use Rattle.svg_text.specs.Figures.{Rect, figure};
-ghost use Rattle.svg_text.specs.declared.paint.Paint.TheVariants.{Frame};
-ghost use Rattle.run_marks.specs.Shown.{cell_shown, era_shown};
-ghost use Rattle.run_picture.specs.Cells.{lower, box_width, box_height, state_figures, box_figures, box_spot};
-ghost use Rattle.run_picture.specs.Cells.{link_figures, row_figures, row_end};
-ghost use Rattle.run_picture.specs.Cells.{cell_figures, cell_end, era_name, anchor_name, anchor_figures, anchor_end};
-ghost use Rattle.run_picture.specs.Cells.{era_figures, era_bottom, eras_figures, eras_bottom};
+ghost use Rattle.std.specs.Prelude.{◌≤◌, ◌<◌, ◌^◌, ◌+◌, IfOk};
 
 use crate::figures::{LETTER, Toward, push_line, push_text, push_tip};
 use crate::lanes::MARGIN;
@@ -56,9 +47,6 @@ pub fn push_cells(
 ) -> Result<u64, AllocError>
     requires wide { width < 2 ^ 36 }
     requires low { bottom < 2 ^ 35 }
-    ensures figures { OnOk result (map figure shapes.new.items
-        ≡ map figure shapes.old.items ++ eras_figures dots.now width bottom 0 (map era_shown eras.now)) }
-    ensures bottom { IfOk result (λ end. end ≡ eras_bottom dots.now width bottom (map era_shown eras.now)) }
     ensures low { IfOk result (λ end. end < 2 ^ 35) }
 {
     let mut end = bottom;
@@ -83,9 +71,6 @@ fn push_era(
 ) -> Result<u64, AllocError>
     requires next { place + 1 < 2 ^ 64 }
     requires wide { width < 2 ^ 36 }
-    ensures figures { OnOk result (map figure shapes.new.items
-        ≡ map figure shapes.old.items ++ era_figures dots.now width bottom place (era_shown era.now)) }
-    ensures bottom { IfOk result (λ end. end ≡ era_bottom dots.now width bottom (era_shown era.now)) }
     ensures low { IfOk result (λ end. end < 2 ^ 35) }
 {
     let top = lower(bottom, MARGIN);
@@ -97,7 +82,6 @@ fn push_era(
 /// So much below a place, but not below the lowest one.
 pub fn lower(top: u64, by: u64) -> u64
     requires little { by ≤ 100 }
-    ensures lower { result ≡ lower top by }
     ensures low { result < 2 ^ 34 }
 {
     top.min(LOWEST) + by
@@ -115,9 +99,6 @@ fn push_anchor(
 ) -> Result<Spot, AllocError>
     requires next { place + 1 < 2 ^ 64 }
     requires low { top < 2 ^ 34 }
-    ensures figures { OnOk result (map figure shapes.new.items
-        ≡ map figure shapes.old.items ++ anchor_figures top place anchor) }
-    ensures end { IfOk result (λ end. end ≡ anchor_end top anchor) }
     ensures near { IfOk result (λ end. end.left < 2 ^ 37) }
     ensures low { IfOk result (λ end. end.top < 2 ^ 34) }
 {
@@ -140,7 +121,6 @@ fn push_anchor(
 /// An `Err` says that memory was refused.
 fn era_name(alloc: Global, place: u64) -> Result<Vec<u8>, AllocError>
     requires next { place + 1 < 2 ^ 64 }
-    ensures { IfOk result (λ text. text.items ≡ era_name place) }
 {
     let mut name = Vec::new(alloc);
     let number = place + 1;
@@ -152,7 +132,6 @@ fn era_name(alloc: Global, place: u64) -> Result<Vec<u8>, AllocError>
 ///
 /// An `Err` says that memory was refused.
 fn anchor_name(alloc: Global, anchor: u64) -> Result<Vec<u8>, AllocError>
-    ensures { IfOk result (λ text. text.items ≡ anchor_name anchor) }
 {
     let mut name = Vec::new(alloc);
     write!(name, "{anchor}:").map_err(|_| AllocError)?;
@@ -173,9 +152,6 @@ fn push_row(
     requires wide { width < 2 ^ 36 }
     requires near { start.left < 2 ^ 37 }
     requires low { start.top < 2 ^ 34 }
-    ensures figures { OnOk result (map figure shapes.new.items
-        ≡ map figure shapes.old.items ++ row_figures dots.now width start (map cell_shown cells.now)) }
-    ensures end { IfOk result (λ end. end ≡ row_end dots.now width start (map cell_shown cells.now)) }
     ensures low { IfOk result (λ end. end.top < 2 ^ 34) }
 {
     let mut spot = start;
@@ -199,9 +175,6 @@ fn push_cell(
     requires wide { width < 2 ^ 36 }
     requires near { before.left < 2 ^ 37 }
     requires low { before.top < 2 ^ 34 }
-    ensures figures { OnOk result (map figure shapes.new.items
-        ≡ map figure shapes.old.items ++ cell_figures dots.now width before (cell_shown cell.now)) }
-    ensures end { IfOk result (λ end. end ≡ cell_end dots.now width before (cell_shown cell.now)) }
     ensures near { IfOk result (λ end. end.left < 2 ^ 37) }
     ensures low { IfOk result (λ end. end.top < 2 ^ 34) }
 {
@@ -225,7 +198,6 @@ fn box_spot(before: Spot, wide: u64, width: u64) -> Spot
     requires near { before.left < 2 ^ 37 }
     requires low { before.top < 2 ^ 34 }
     requires small { wide ≤ 8016 }
-    ensures spot { result ≡ box_spot before wide width }
     ensures far { 28 ≤ result.left }
     ensures near { result.left < 2 ^ 36 }
     ensures low { result.top < 2 ^ 34 }
@@ -251,7 +223,6 @@ fn push_link(at: Spot, shapes: &mut Vec<Shape>) -> Result<(), AllocError>
     requires far { 28 ≤ at.left }
     requires near { at.left < 2 ^ 37 }
     requires low { at.top < 2 ^ 37 }
-    ensures { OnOk result (map figure shapes.new.items ≡ map figure shapes.old.items ++ link_figures at) }
 {
     let y = at.top + BOX / 2;
     push_line(shapes, (at.left - 24, y), (at.left - 3, y), Paint::Thick)?;
@@ -260,8 +231,6 @@ fn push_link(at: Spot, shapes: &mut Vec<Shape>) -> Result<(), AllocError>
 
 /// How wide the box of two texts is, with a state below them, if there is one.
 fn box_width(upper: &[u8], lower: &[u8], state: Option<&Vec<u8>>) -> u64
-    ensures width { result ≡ box_width upper.now lower.now
-        (option_map (λ text. text.items) (option_copied state.entry)) }
     ensures small { result ≤ 8016 }
 {
     let widest = match state {
@@ -273,7 +242,6 @@ fn box_width(upper: &[u8], lower: &[u8], state: Option<&Vec<u8>>) -> u64
 
 /// How high the box is then: it has two lines, or three.
 fn box_height(state: Option<&Vec<u8>>) -> u64
-    ensures { result ≡ box_height (option_map (λ text. text.items) (option_copied state.entry)) }
 {
     match state {
         Some(_) => STATE_BOX,
@@ -287,8 +255,6 @@ fn box_height(state: Option<&Vec<u8>>) -> u64
 fn push_state(at: Spot, state: Option<Vec<u8>>, shapes: &mut Vec<Shape>) -> Result<(), AllocError>
     requires near { at.left < 2 ^ 37 }
     requires low { at.top < 2 ^ 38 }
-    ensures { OnOk result (map figure shapes.new.items
-        ≡ map figure shapes.old.items ++ state_figures at (option_map (λ text. text.items) state)) }
 {
     let left = at.left + LETTER;
     match state {
@@ -309,9 +275,6 @@ fn push_box(
 ) -> Result<(), AllocError>
     requires near { at.left < 2 ^ 37 }
     requires low { at.top < 2 ^ 38 }
-    ensures { OnOk result (map figure shapes.new.items
-        ≡ map figure shapes.old.items
-        ++ box_figures at upper.items lower.items (option_map (λ text. text.items) state)) }
 {
     let width = box_width(&upper, &lower, state.as_ref());
     push_frame(at, width, box_height(state.as_ref()), shapes)?;
@@ -325,8 +288,6 @@ fn push_box(
 ///
 /// An `Err` says that memory was refused.
 fn push_frame(at: Spot, width: u64, height: u64, shapes: &mut Vec<Shape>) -> Result<(), AllocError>
-    ensures { OnOk result (map figure shapes.new.items
-        ≡ map figure shapes.old.items ++ (Rect at.left at.top width height Frame ∷ [])) }
 {
     shapes.push(Shape::Rect {
         x: at.left,

@@ -1,11 +1,5 @@
 //! The marks of steps, the dots of calls, and the arrows of help.
 
-ghost use Rattle.std.specs.Prelude.{◌≡◌, ◌++◌, OnOk, map};
-ghost use Rattle.std.specs.List.{flat_map};
-ghost use Rattle.run_layout.specs.Axis.{places_shown};
-ghost use Rattle.svg_text.specs.Figures.{figure};
-ghost use Rattle.run_picture.specs.Lanes.{step_figures, arrow_figures, dot_figures};
-
 use crate::figures::{Toward, push_line, push_text, push_tip};
 use crate::lanes::Lanes;
 use crate::paint::{letter_paint, mark_paint};
@@ -36,8 +30,6 @@ fn push_step(
     lanes: Lanes,
     shapes: &mut Vec<Shape>,
 ) -> Result<(), AllocError>
-    ensures { OnOk result (map figure shapes.new.items
-        ≡ map figure shapes.old.items ++ step_figures (places_shown axis.now) lanes step) }
 {
     let column = axis.event(step.event);
     let top = lanes.of(step.process) + STEP;
@@ -66,8 +58,6 @@ pub fn push_steps(
     lanes: Lanes,
     shapes: &mut Vec<Shape>,
 ) -> Result<(), AllocError>
-    ensures { OnOk result (map figure shapes.new.items
-        ≡ map figure shapes.old.items ++ flat_map (step_figures (places_shown axis.now) lanes) steps.now) }
 {
     for step in steps {
         push_step(alloc, *step, axis, lanes, shapes)?;
@@ -85,8 +75,6 @@ fn push_arrow(
     lanes: Lanes,
     shapes: &mut Vec<Shape>,
 ) -> Result<(), AllocError>
-    ensures { OnOk result (map figure shapes.new.items
-        ≡ map figure shapes.old.items ++ arrow_figures (places_shown axis.now) lanes dot) }
 {
     let of = u64::from(dot.call.process);
     let x = axis.event(dot.event).middle();
@@ -114,8 +102,6 @@ pub fn push_arrows(
     lanes: Lanes,
     shapes: &mut Vec<Shape>,
 ) -> Result<(), AllocError>
-    ensures { OnOk result (map figure shapes.new.items
-        ≡ map figure shapes.old.items ++ flat_map (arrow_figures (places_shown axis.now) lanes) dots.now) }
 {
     for dot in dots {
         push_arrow(*dot, axis, lanes, shapes)?;
@@ -127,8 +113,6 @@ pub fn push_arrows(
 ///
 /// An `Err` says that memory was refused.
 fn push_dot(dot: Dot, axis: &Axis, lanes: Lanes, shapes: &mut Vec<Shape>) -> Result<(), AllocError>
-    ensures { OnOk result (map figure shapes.new.items
-        ≡ map figure shapes.old.items ++ dot_figures (places_shown axis.now) lanes dot) }
 {
     shapes.push(Shape::Dot {
         x: axis.event(dot.event).middle(),
@@ -146,8 +130,6 @@ pub fn push_dots(
     lanes: Lanes,
     shapes: &mut Vec<Shape>,
 ) -> Result<(), AllocError>
-    ensures { OnOk result (map figure shapes.new.items
-        ≡ map figure shapes.old.items ++ flat_map (dot_figures (places_shown axis.now) lanes) dots.now) }
 {
     for dot in dots {
         push_dot(*dot, axis, lanes, shapes)?;

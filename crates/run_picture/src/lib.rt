@@ -10,6 +10,7 @@ mod dots;
 mod figures;
 mod lanes;
 mod legend;
+mod marked;
 mod notes;
 mod paint;
 mod picture;

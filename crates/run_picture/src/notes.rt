@@ -1,16 +1,6 @@
 //! What is told beside the events: headings, captions and refusals.
 
-ghost use Rattle.std.specs.Prelude.{◌≡◌, ◌++◌, ◌+◌, ◌*◌, ◌^◌, ◌<◌, ◌≤◌, IfOk, OnOk};
-ghost use Rattle.std.specs.Prelude.{Some, length, map};
-ghost use Rattle.run_layout.specs.Axis.{places_shown};
-ghost use Rattle.svg_text.specs.Figures.{figure};
-ghost use Rattle.run_picture.specs.Cells.{lower};
-ghost use Rattle.run_picture.specs.Notes.{line_letters, headings, lines_down, stem_of, note_text, text_in, place_in};
-ghost use Rattle.run_picture.specs.Notes.{room_of, lines_left, letters_beside, caption_lines, note_rooms, rooms_from};
-ghost use Rattle.run_picture.specs.Notes.{labels_down, caption_figures, captions_from};
-ghost use Rattle.run_picture.specs.Notes.{captions_height, captions_foot};
-ghost use Rattle.run_picture.specs.Notes.{refusal_figures, refusals_from, after_text, description_text};
-ghost use Rattle.run_layout.specs.Refusals.{told_shown, labels_of};
+ghost use Rattle.std.specs.Prelude.{◌≤◌, ◌<◌, ◌^◌, ◌+◌, ◌*◌, IfOk, length};
 
 use crate::cells::lower;
 use crate::figures::{LETTER, Toward, push_label, push_line, push_text, push_tip};
@@ -35,7 +25,6 @@ const LEAST_LETTERS: usize = 30;
 
 /// How many letters a line takes in a picture of this width.
 pub fn line_letters(width: u64) -> usize
-    ensures { result ≡ line_letters width }
 {
     (width.saturating_sub(48) / LETTER) as usize
 }
@@ -49,7 +38,6 @@ fn headings(
     most: usize,
 ) -> Result<Vec<Vec<u8>>, AllocError>
     ensures few { IfOk result (λ lines. length lines.items ≤ length remarks.now * 200) }
-    ensures lines { IfOk result (λ lines. map (λ line. line.items) lines.items ≡ headings most remarks.now) }
 {
     let mut lines = Vec::new(alloc);
     for one in remarks {
@@ -71,8 +59,6 @@ fn push_down(
 ) -> Result<(), AllocError>
     requires count { length lines.now ≤ 20000000 }
     requires bottom { bottom < 2 ^ 40 }
-    ensures { OnOk result (map figure shapes.new.items
-        ≡ map figure shapes.old.items ++ lines_down bottom (map (λ line. line.items) lines.now)) }
 {
     let mut place = bottom;
     for line in lines {
@@ -96,10 +82,7 @@ pub fn push_headings(
 ) -> Result<u64, AllocError>
     requires remarks { length remarks.now ≤ 100000 }
     requires bottom { bottom < 2 ^ 40 }
-    ensures shapes { OnOk result (map figure shapes.new.items
-        ≡ map figure shapes.old.items ++ lines_down bottom (headings most remarks.now)) }
     ensures small { IfOk result (λ end. end ≤ bottom + 400000000) }
-    ensures end { IfOk result (λ end. end ≡ bottom + length (headings most remarks.now) * 20) }
 {
     let lines = headings(alloc, remarks, most)?;
     push_down(alloc, &lines, bottom, shapes)?;
@@ -109,14 +92,12 @@ pub fn push_headings(
 /// Where the stem of a caption stands in the strip, by its place among what is told: at the column of what follows it.
 fn stem_of(axis: &Axis, place: usize) -> u64
     ensures small { result < 2 ^ 33 }
-    ensures stem { result ≡ stem_of (places_shown axis.now) place }
 {
     u64::from(axis.remark(place).left) + STEM
 }
 
 /// The text of a note that comes after the header; nothing of anything else.
 fn note_text(remark: &Remark) -> &[u8]
-    ensures { result.now ≡ note_text remark.now }
 {
     match remark {
         Remark::Note(text) => text,
@@ -126,7 +107,6 @@ fn note_text(remark: &Remark) -> &[u8]
 
 /// The text of a note whose stem stands in a row; nothing of anything else.
 fn text_in<'a>(axis: &Axis, row: Row, place: usize, remark: &'a Remark) -> &'a [u8]
-    ensures { result.now ≡ text_in (places_shown axis.now) row place remark.now }
 {
     let stem = stem_of(axis, place);
     if row.from <= stem && stem < row.to {
@@ -139,7 +119,6 @@ fn text_in<'a>(axis: &Axis, row: Row, place: usize, remark: &'a Remark) -> &'a [
 /// How wide 30 letters of a text are, or all of a shorter one.
 fn room_of(text: &[u8]) -> u64
     ensures small { result ≤ 240 }
-    ensures room { result ≡ room_of text.now }
 {
     text.len().min(LEAST_LETTERS) as u64 * LETTER
 }
@@ -148,8 +127,6 @@ fn room_of(text: &[u8]) -> u64
 /// the stem where 30 letters have room there, and else left of it.
 fn beside(width: u64, stem: u64, text: &[u8]) -> (u64, u64)
     requires { stem < 2 ^ 34 }
-    ensures left { result.0 ≡ lines_left width stem text.now }
-    ensures letters { result.1 ≡ letters_beside width stem text.now }
 {
     let room = room_of(text);
     let right = stem + STEM_GAP + MARGIN;
@@ -184,11 +161,6 @@ fn caption_of(
 ) -> Result<Caption, AllocError>
     ensures near { IfOk result (λ caption. caption.stem < 2 ^ 34) }
     ensures few { IfOk result (λ caption. length caption.lines.items ≤ 200) }
-    ensures stem { IfOk result (λ caption. caption.stem ≡ place_in row (stem_of (places_shown axis.now) place)) }
-    ensures left { IfOk result (λ caption. caption.left ≡ lines_left width
-        (place_in row (stem_of (places_shown axis.now) place)) (text_in (places_shown axis.now) row place remark.now)) }
-    ensures lines { IfOk result (λ caption. map (λ line. line.items) caption.lines.items ≡ caption_lines width
-        (place_in row (stem_of (places_shown axis.now) place)) (text_in (places_shown axis.now) row place remark.now)) }
 {
     let stem = START + stem_of(axis, place).saturating_sub(row.from);
     let text = text_in(axis, row, place, remark);
@@ -210,8 +182,6 @@ fn captions_height(
 ) -> Result<u64, AllocError>
     requires { length remarks.now ≤ 100000 }
     ensures small { IfOk result (λ height. height ≤ 400000000) }
-    ensures height { IfOk result (λ height. height
-        ≡ captions_height (places_shown axis.now) row width 0 remarks.now) }
 {
     let mut height = 0;
     for (place, one) in remarks.iter().enumerate() {
@@ -233,8 +203,6 @@ fn push_labels(
 ) -> Result<(), AllocError>
     requires count { length lines.now ≤ 200 }
     requires bottom { bottom < 2 ^ 40 }
-    ensures { OnOk result (map figure shapes.new.items
-        ≡ map figure shapes.old.items ++ labels_down left bottom (map (λ line. line.items) lines.now)) }
 {
     let mut place = bottom;
     for line in lines {
@@ -260,9 +228,6 @@ fn push_caption(
     requires stem { caption.now.stem < 2 ^ 40 }
     requires bottom { bottom < 2 ^ 40 }
     requires foot { foot < 2 ^ 40 }
-    ensures { OnOk result (map figure shapes.new.items ≡ map figure shapes.old.items
-        ++ caption_figures caption.now.stem caption.now.left bottom foot
-        (map (λ line. line.items) caption.now.lines.items)) }
 {
     if caption.lines.is_empty() {
         return Ok(());
@@ -287,12 +252,7 @@ pub fn push_captions(
     shapes: &mut Vec<Shape>,
 ) -> Result<u64, AllocError>
     requires { length remarks.now ≤ 100000 }
-    ensures shapes { OnOk result (map figure shapes.new.items
-        ≡ map figure shapes.old.items ++ captions_from (places_shown axis.now) row width
-        (captions_foot (places_shown axis.now) row width bottom remarks.now) 0 (lower bottom 12) remarks.now) }
     ensures small { IfOk result (λ foot. foot < 2 ^ 34 + 400000010) }
-    ensures foot { IfOk result (λ foot. foot
-        ≡ captions_foot (places_shown axis.now) row width bottom remarks.now) }
 {
     let mut top = lower(bottom, MARGIN);
     let foot = top + captions_height(alloc, remarks, axis, row, width)? + 10;
@@ -312,8 +272,6 @@ pub fn push_rooms(
     axis: &Axis,
     rooms: &mut Vec<Shape>,
 ) -> Result<(), AllocError>
-    ensures { OnOk result (map figure rooms.new.items
-        ≡ map figure rooms.old.items ++ rooms_from (places_shown axis.now) 0 remarks.now) }
 {
     for (place, one) in remarks.iter().enumerate() {
         push_room(stem_of(axis, place), &one.remark, rooms)?;
@@ -326,8 +284,6 @@ pub fn push_rooms(
 /// An `Err` says that memory was refused.
 fn push_room(stem: u64, remark: &Remark, rooms: &mut Vec<Shape>) -> Result<(), AllocError>
     requires { stem < 2 ^ 33 }
-    ensures { OnOk result (map figure rooms.new.items
-        ≡ map figure rooms.old.items ++ note_rooms stem remark.now) }
 {
     if let Remark::Note(text) = remark {
         rooms.push(Shape::Rect {
@@ -345,8 +301,6 @@ fn push_room(stem: u64, remark: &Remark, rooms: &mut Vec<Shape>) -> Result<(), A
 ///
 /// An `Err` says that memory was refused.
 fn push_refusal(label: Vec<u8>, column: Column, shapes: &mut Vec<Shape>) -> Result<(), AllocError>
-    ensures { OnOk result (map figure shapes.new.items
-        ≡ map figure shapes.old.items ++ refusal_figures column (Some label.items)) }
 {
     let x = u64::from(column.left);
     shapes.push(Shape::Rect {
@@ -370,8 +324,6 @@ fn push_mark(
     column: Column,
     shapes: &mut Vec<Shape>,
 ) -> Result<(), AllocError>
-    ensures { OnOk result (map figure shapes.new.items
-        ≡ map figure shapes.old.items ++ refusal_figures column (told_shown told.now).text) }
 {
     match &told.label {
         Some(label) => push_refusal(label.as_slice().to_vec(alloc)?, column, shapes),
@@ -388,8 +340,6 @@ fn push_marks(
     axis: &Axis,
     shapes: &mut Vec<Shape>,
 ) -> Result<(), AllocError>
-    ensures { OnOk result (map figure shapes.new.items
-        ≡ map figure shapes.old.items ++ refusals_from (places_shown axis.now) 0 (map told_shown told.now)) }
 {
     for (place, one) in told.iter().enumerate() {
         push_mark(alloc, one, axis.remark(place), shapes)?;
@@ -406,8 +356,6 @@ pub fn push_refusals(
     axis: &Axis,
     shapes: &mut Vec<Shape>,
 ) -> Result<(), AllocError>
-    ensures { OnOk result (map figure shapes.new.items
-        ≡ map figure shapes.old.items ++ refusals_from (places_shown axis.now) 0 (labels_of remarks.now)) }
 {
     let told = told_of(alloc, remarks)?;
     push_marks(alloc, &told, axis, shapes)
@@ -417,7 +365,6 @@ pub fn push_refusals(
 ///
 /// An `Err` says that memory was refused.
 pub fn description_of(alloc: Global, remarks: &[PlacedRemark]) -> Result<Vec<u8>, AllocError>
-    ensures { IfOk result (λ text. text.items ≡ description_text remarks.now) }
 {
     let mut text = Vec::new(alloc);
     for one in remarks {
@@ -432,7 +379,6 @@ pub fn description_of(alloc: Global, remarks: &[PlacedRemark]) -> Result<Vec<u8>
 ///
 /// An `Err` says that memory was refused.
 fn push_heading(text: &mut Vec<u8>, heading: &[u8]) -> Result<(), AllocError>
-    ensures { OnOk result (text.new.items ≡ after_text text.old.items heading.now) }
 {
     if !text.is_empty() {
         text.push(b' ')?;

@@ -1,14 +1,10 @@
 //! The colours of steps.
 
-ghost use Rattle.std.specs.Prelude.{◌≡◌};
-ghost use Rattle.run_picture.specs.Paint.{colour_of, mark_paint, letter_paint};
-
 use svg_text::{Colour, Paint};
 use uni_core::StepKind;
 
 /// The colour of the mark of a step: one for each phase of a call.
 fn colour_of(kind: StepKind) -> Colour
-    ensures { result ≡ colour_of kind }
 {
     match kind {
         StepKind::Announce => Colour::Orange,
@@ -24,7 +20,6 @@ fn colour_of(kind: StepKind) -> Colour
 
 /// How the mark of a step is painted: it is pale where the step changed nothing.
 pub fn mark_paint(kind: StepKind, changed: bool) -> Paint
-    ensures { result ≡ mark_paint kind changed }
 {
     if changed {
         Paint::Mark(colour_of(kind))
@@ -35,7 +30,6 @@ pub fn mark_paint(kind: StepKind, changed: bool) -> Paint
 
 /// How the letter of a step is painted upon its mark.
 pub fn letter_paint(kind: StepKind, changed: bool) -> Paint
-    ensures { result ≡ letter_paint kind changed }
 {
     match (kind, changed) {
         (StepKind::Finish | StepKind::DecideAfter, true) => Paint::LightLetter,

@@ -6,10 +6,9 @@ ghost use Rattle.uni_script.specs.Replay.{HasFault, IsFaultOfScript};
 ghost use Rattle.uni_script.specs.Scripts.{scripts_of, own_scripts_of};
 ghost use Rattle.uni_script.specs.declared.fault.BenchFault.{BenchFault as Fault};
 ghost use Rattle.run_marks.specs.Shown.{marks_shown};
-ghost use Rattle.svg_text.specs.Svg.{svg_text};
-ghost use Rattle.run_layout.specs.Choice.{chosen, chosen_remarks};
+ghost use Rattle.run_layout.specs.Choice.{chosen};
 ghost use Rattle.run_layout.specs.Subject.{HasTooManyEvents, HasMoreEvents, marks_of_own};
-ghost use Rattle.run_picture.specs.Drawing.{drawing_of_marks};
+ghost use Rattle.run_picture.specs.Drawn.{IsSvgOf};
 ghost use Rattle.run_picture.specs.Picture.{IsPicture, IsPictureOf};
 
 use crate::sheet::drawing_of;
@@ -25,8 +24,7 @@ use uni_script::TextIn;
 fn svg_of_subject(alloc: Global, range: Range, subject: Subject) -> Result<Vec<u8>, AllocError>
     requires events { subject.marks.events ≤ 2000 }
     requires remarks { length subject.remarks.items ≤ 100000 }
-    ensures { IfOk result (λ svg. svg.items ≡ svg_text
-        (drawing_of_marks (chosen range (marks_shown subject.marks)) (chosen_remarks range subject.remarks.items))) }
+    ensures { IfOk result (λ svg. IsSvgOf (chosen range (marks_shown subject.marks)) svg.items) }
 {
     let part = subject.chosen(alloc, range)?;
     let drawing = drawing_of(alloc, &part.marks, &part.remarks)?;

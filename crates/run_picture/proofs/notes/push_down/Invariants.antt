@@ -1,12 +1,6 @@
-use Rattle.std.proofs.Common.{◌≡◌, ◌++◌, ◌+◌, ◌*◌, map, drop}
-use Rattle.svg_text.specs.Figures.{figure}
-use Rattle.run_picture.specs.Notes.{lines_down}
+use Rattle.std.proofs.Common.{◌≡◌, ◌+◌, ◌*◌}
 use Rattle.run_picture.proofs.notes.push_down.Given as goal
 
--- the lines so far, and those from here on
+-- so far
 abbrev pub invariant-loop-line : goal.invariant-loop-line
-invariant-loop-line l = record {
-  place : l.place ≡ l.bottom + l.line-index * 20;
-  rest : map figure l.shapes.items ++ lines_down l.place (map (λ line. line.items) (drop l.line-index l.lines))
-      ≡ map figure l.initial.shapes.items ++ lines_down l.bottom (map (λ line. line.items) l.lines);
-}
+invariant-loop-line l = l.place ≡ l.bottom + l.line-index * 20

@@ -1,0 +1,8 @@
+use Rattle.std.proofs.Common.{map, drop}
+use Rattle.svg_text.specs.Figures.{figure}
+use Rattle.signs.specs.Signs.{AreWithin}
+use Rattle.signs.proofs.check.are_within.Given as goal
+
+-- what is seen of the rest is all that is missing
+abbrev pub invariant-loop-shape : goal.invariant-loop-shape
+invariant-loop-shape l = AreWithin l.wide l.high (map figure (drop l.shape-index l.shapes)) → AreWithin l.wide l.high (map figure l.shapes)

@@ -1,0 +1,8 @@
+use Rattle.std.proofs.Common.{map, drop}
+use Rattle.svg_text.specs.Figures.{figure}
+use Rattle.signs.specs.Signs.{Fills}
+use Rattle.signs.proofs.check.fill.Given as goal
+
+-- what is seen of the rest is all that is missing
+abbrev pub invariant-loop-shape : goal.invariant-loop-shape
+invariant-loop-shape l = Fills l.end l.to (map figure (drop l.shape-index l.shapes)) → Fills l.from l.to (map figure l.shapes)
