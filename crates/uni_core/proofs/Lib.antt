@@ -13,3 +13,4 @@ mod Walk
 mod OpenedWorld
 mod NoCalls
 pub mod Renewed
+pub mod Likeness

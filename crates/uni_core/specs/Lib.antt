@@ -5,6 +5,7 @@ pub mod World
 pub mod Refusals
 pub mod Readers
 pub mod Run
+pub mod Same
 pub use Rattle.uni_model.specs.Places
 pub use Rattle.uni_model.specs.Stages
 pub use Rattle.uni_model.specs.Transition

@@ -8,6 +8,7 @@ mod local;
 mod readers;
 mod renew;
 mod run;
+mod same;
 mod shared;
 mod stage;
 mod transition;

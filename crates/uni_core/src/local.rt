@@ -1,6 +1,6 @@
 //! What a process keeps for itself.
 
-ghost use Rattle.std.specs.Prelude.{◌≡◌, ◌+◌, ◌<◌, ◌^◌, option_map};
+ghost use Rattle.std.specs.Prelude.{◌≡◌, ◌+◌, ◌<◌, ◌^◌, IsTrue, option_map};
 ghost use Rattle.uni_core.specs.Stage.{turns_to};
 
 use crate::stage::{Pending, Stage};
@@ -39,6 +39,13 @@ impl Local {
         ensures { result ≡ self.now.call }
     {
         self.call
+    }
+
+    /// Whether a process has begun as many calls, and has the same call pending at the same stage.
+    pub(crate) fn stands_as(&self, other: &Local) -> bool
+        ensures { IsTrue result → (self.now.begun ≡ other.now.begun) × (self.now.call ≡ other.now.call) }
+    {
+        self.begun == other.begun && self.call == other.call
     }
 
     /// Takes note of a step, which left the process at this stage in the call of cell `mine`, or ended the

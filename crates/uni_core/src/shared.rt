@@ -1,6 +1,6 @@
 //! The shared places: the cells, and the entries of announce and head.
 
-ghost use Rattle.std.specs.Prelude.{◌≡◌, ◌+◌, ◌-◌, ◌<◌, ◌≤◌, ℕ, IfOk, OnOk, OnErr, IsSome};
+ghost use Rattle.std.specs.Prelude.{◌≡◌, ◌+◌, ◌-◌, ◌<◌, ◌≤◌, ℕ, IfOk, OnOk, OnErr, IsSome, IsTrue};
 ghost use Rattle.std.specs.Prelude.{Some, None, IsSomeAnd, length, slice_index_or, option_map, unwrap_or, replicate};
 ghost use Rattle.std.specs.Option.{option_copied};
 ghost use Rattle.cell_arena.specs.CellRecord.{ChangesOnly, index_of};
@@ -50,6 +50,36 @@ impl<S, I, R> Model for SharedEntries<S, I, R> {
 
     ghost invariant = { λ a. (length a.announce.items ≡ processes_of a.cells)
         × (length a.heads.items ≡ processes_of a.cells) × (processes_of a.cells ≤ length a.first.items) };
+}
+
+/// Whether two lists of entries name the same cells.
+fn same_names(a: &[Own<CellId>], b: &[Own<CellId>]) -> bool
+    ensures { IsTrue result → a.now ≡ b.now }
+{
+    if a.len() != b.len() {
+        return false;
+    }
+    for i in 0..a.len() {
+        if a[i].read() != b[i].read() {
+            return false;
+        }
+    }
+    true
+}
+
+/// Whether two lists of numbers are the same.
+fn same_numbers(a: &[u64], b: &[u64]) -> bool
+    ensures { IsTrue result → a.now ≡ b.now }
+{
+    if a.len() != b.len() {
+        return false;
+    }
+    for i in 0..a.len() {
+        if a[i] != b[i] {
+            return false;
+        }
+    }
+    true
 }
 
 /// The next call of each process becomes its first of an era.
@@ -111,6 +141,16 @@ impl<S: Drop, I: Drop, R: Copy> SharedEntries<S, I, R> {
         ensures { result ≡ first_of self.now p }
     {
         self.first[p as usize]
+    }
+
+    /// Whether the entries name the same cells, and the first calls of the era are the same.
+    pub(crate) fn same_entries(&self, other: &Self) -> bool
+        ensures { IsTrue result → (self.now.announce ≡ other.now.announce) × (self.now.heads ≡ other.now.heads)
+            × (self.now.first ≡ other.now.first) }
+    {
+        same_names(&self.announce, &other.announce)
+            && same_names(&self.heads, &other.heads)
+            && same_numbers(&self.first, &other.first)
     }
 
     /// Ends the era: leaves one cell, the anchor, with the state and the number of `last`. Every entry

@@ -55,7 +55,7 @@ pub enum Place {
 }
 
 /// The kind of a process's next step, with what the process has read that it still needs.
-#[derive(Clone, Copy)]
+#[derive(Clone, Copy, PartialEq, Eq)]
 pub(crate) enum Stage {
     Announce,
     ScanHead {
@@ -167,7 +167,7 @@ impl Stage {
 }
 
 /// A call that is pending: its cell, and where its process stands.
-#[derive(Clone, Copy)]
+#[derive(Clone, Copy, PartialEq, Eq)]
 pub(crate) struct Pending {
     pub(crate) mine: CellId,
     pub(crate) stage: Stage,

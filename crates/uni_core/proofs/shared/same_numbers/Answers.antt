@@ -1,0 +1,6 @@
+use Rattle.std.proofs.Common.{arith, below_more}
+use Rattle.std.proofs.lemmas.List.{ext_get_or}
+use Rattle.uni_core.proofs.shared.same_numbers.Goals as goal
+
+pub returns : goal.returns
+returns c = λ same. ext_get_or 0 _ _ c.loop-i.invariant.0 (λ k below. c.loop-i.invariant.1 k (omega arith))
