@@ -12,7 +12,7 @@ use Rattle.uni_model.specs.Tight.{MeetsBound, BoundIsMet}
 use Rattle.uni_model.proofs.Written.{name_eq_same}
 use Rattle.uni_model.proofs.LawProofs.{CountsSteps-reached}
 use Rattle.uni_model.proofs.Announced.{HasFloorOnceAnnounced-holds}
-use Rattle.uni_model.proofs.WaitFree.{world_after_all-append, AreAccepted-append}
+use Rattle.uni_model.proofs.Runs.{world_after_all-append, AreAccepted-append}
 use Rattle.uni_model.proofs.Solo.{Can, and_then, set_at_here}
 use Rattle.uni_model.proofs.Tight.{Setting, Blocked, Served, remainders_apart, blocks, loses_first, finishes}
 

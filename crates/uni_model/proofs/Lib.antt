@@ -1,3 +1,4 @@
+pub mod Runs
 pub mod Written
 pub mod Grows
 pub mod Numbered

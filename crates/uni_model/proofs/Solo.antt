@@ -13,7 +13,8 @@ use Rattle.uni_model.specs.Worlds.{WorldOf, Event, world_after, world_after_step
 use Rattle.uni_model.specs.Worlds.Event.{Step}
 use Rattle.uni_model.specs.AtomicObject.{set_at}
 use Rattle.uni_model.proofs.Written.{number_cases, lt_cases, set_at-cases, written_same}
-use Rattle.uni_model.proofs.WaitFree.{NeverBlocks-holds, world_after_all-append, AreAccepted-append}
+use Rattle.uni_model.proofs.WaitFree.{NeverBlocks-holds}
+use Rattle.uni_model.proofs.Runs.{world_after_all-append, AreAccepted-append}
 
 pub set_at_here : {A : Type 0} (f : ℕ → A) (p : ℕ) (v : A) → set_at f p v p ≡ v
 set_at_here f p v = elim (set_at-cases f p v p) [ inl h ↦ h.1 | inr h ↦ absurd (h.0 refl) ]

@@ -11,7 +11,8 @@ use Rattle.uni_model.proofs.LawProofs.{AreAccepted-take, IsBounded-along}
 use Rattle.uni_model.proofs.Counted.{CountsSteps-opened_world}
 use Rattle.uni_model.proofs.Bounded.{HelpingInvariant-opened_world}
 use Rattle.uni_model.proofs.Linearizable.{observed-history_of, IsLinearizedAs-holds, ObservesLinearizable-holds}
-use Rattle.uni_model.proofs.WaitFree.{AreAccepted-split, NeverBlocks-holds, CallIsWaitFree-holds}
+use Rattle.uni_model.proofs.WaitFree.{NeverBlocks-holds, CallIsWaitFree-holds}
+use Rattle.uni_model.proofs.Runs.{AreAccepted-split}
 use Rattle.uni_model.proofs.RenamedRun.{TrimsChangeNothing-holds}
 
 module _ {S I R : Type 0} (object : Sequential S I R) where

@@ -18,6 +18,7 @@ use Rattle.uni_model.specs.Laws.{IsReached}
 use Rattle.uni_model.specs.WaitFree.{is_step_of, steps_among, AreNoCallsOf, NeverBlocks, IsWaitFree, CallIsWaitFree, EndsAlone, CallEndsAlone}
 use Rattle.uni_model.proofs.Written.{number_cases, set_at-cases}
 use Rattle.uni_model.proofs.LawProofs.{set_at_elsewhere, IsBounded-reached}
+use Rattle.uni_model.proofs.Runs.{world_after_all-append, AreAccepted-append, AreAccepted-split, history_of-append}
 use Rattle.uni_model.proofs.Linearized.{IsLinearizable-holds}
 use Rattle.uni_model.proofs.Linearizable.{observed-history_of}
 
@@ -87,24 +88,6 @@ module _ {S I R : Type 0} (object : Sequential S I R) where
         steps = let sum = steps_among-cons p e es in let one = first.steps in let more = rest.steps in omega arith;
       }
 
-  pub world_after_all-append : (w : WorldOf S I R) (es fs : List (Event I)) → world_after_all object w (es ++ fs) ≡ world_after_all object (world_after_all object w es) fs
-  world_after_all-append w [] fs = refl
-  world_after_all-append w (e ∷ es) fs = world_after_all-append (world_after object w e) es fs
-
-  pub AreAccepted-append : (w : WorldOf S I R) (es fs : List (Event I)) → AreAccepted object w es → AreAccepted object (world_after_all object w es) fs → AreAccepted object w (es ++ fs)
-  AreAccepted-append w [] fs ok more = more
-  AreAccepted-append w (e ∷ es) fs ok more = (ok.0, AreAccepted-append (world_after object w e) es fs ok.1 more)
-
-  pub AreAccepted-split : (w : WorldOf S I R) (es fs : List (Event I)) → AreAccepted object w (es ++ fs) → AreAccepted object w es × AreAccepted object (world_after_all object w es) fs
-  AreAccepted-split w [] fs ok = (tt, ok)
-  AreAccepted-split w (e ∷ es) fs ok = let rest = AreAccepted-split (world_after object w e) es fs ok.1 in ((ok.0, rest.0), rest.1)
-
-  history_of-append : (w : WorldOf S I R) (es fs : List (Event I)) → history_of object w (es ++ fs) ≡ history_of object w es ++ history_of object (world_after_all object w es) fs
-  history_of-append w [] fs = refl
-  history_of-append w (e ∷ es) fs =
-      ap (λ acts. acts_of object w e ++ acts) (history_of-append (world_after object w e) es fs)
-      ∙ sym (append_assoc (acts_of object w e) (history_of object (world_after object w e) es) (history_of object (world_after_all object (world_after object w e) es) fs))
-
   -- the atomic object between acts and further acts
   AcceptsAll-split : (a b : Atomic S I) (xs ys : List (Act I R)) → AcceptsAll object a (xs ++ ys) b → (c : Atomic S I) × AcceptsAll object a xs c × AcceptsAll object c ys b
   AcceptsAll-split a b [] ys h = (a, refl, h)
@@ -157,7 +140,7 @@ module _ {S I R : Type 0} (object : Sequential S I R) where
       let last = world_after_all object opened (es ++ Call p i ∷ fs) in
       let shown = IsLinearizable-holds object n start number (es ++ Call p i ∷ fs) positive ok in
       let before = AcceptsAll-split (at_start start) shown.0 (history_of object opened es) (history_of object w (Call p i ∷ fs))
-      (subst (λ acts. AcceptsAll object (at_start start) acts shown.0) (history_of-append opened es (Call p i ∷ fs)) shown.2) in
+      (subst (λ acts. AcceptsAll object (at_start start) acts shown.0) (history_of-append object opened es (Call p i ∷ fs)) shown.2) in
       let later = before.2 in
       let is : later.0.open_call p ≡ Some (record { process = p; nth = w.begun p; inv = i })
       = ap (λ (x : Atomic S I). x.open_call p) later.1.2 ∙ set_at_here before.0.open_call p (Some (record { process = p; nth = w.begun p; inv = i })) in
@@ -175,8 +158,8 @@ module _ {S I R : Type 0} (object : Sequential S I R) where
       let u = world_after_all object opened es in
       let v = world_after object u (Call p i) in
       let last = world_after_all object opened (es ++ Call p i ∷ fs) in
-      let all = AreAccepted-append opened es (Call p i ∷ fs) ok accepted in
-      let joined : last ≡ world_after_all object v fs = world_after_all-append opened es (Call p i ∷ fs) in
+      let all = AreAccepted-append object opened es (Call p i ∷ fs) ok accepted in
+      let joined : last ≡ world_after_all object v fs = world_after_all-append object opened es (Call p i ∷ fs) in
       let same : IsSameCall v last p (steps_among p fs) = subst (λ x. IsSameCall v x p (steps_among p fs)) (sym joined) (same_call_along v fs p accepted.1 others) in
       let within = IsBounded-reached object last (record { n = n; start = start; number = number; events = es ++ Call p i ∷ fs; positive = positive; accepted = all; reached = refl }) p in
       let called : v.begun p ≡ u.begun p + 1 = set_at_here u.begun p (u.begun p + 1) in
@@ -213,8 +196,8 @@ module _ {S I R : Type 0} (object : Sequential S I R) where
     number = r.number;
     events = r.events ++ e ∷ [];
     positive = r.positive;
-    accepted = AreAccepted-append (opened_world r.n r.start r.number) r.events (e ∷ []) r.accepted (subst (λ u. IsAccepted u e) (sym r.reached) ok, tt);
-    reached = world_after_all-append (opened_world r.n r.start r.number) r.events (e ∷ []) ∙ ap (λ u. world_after object u e) r.reached;
+    accepted = AreAccepted-append object (opened_world r.n r.start r.number) r.events (e ∷ []) r.accepted (subst (λ u. IsAccepted u e) (sym r.reached) ok, tt);
+    reached = world_after_all-append object (opened_world r.n r.start r.number) r.events (e ∷ []) ∙ ap (λ u. world_after object u e) r.reached;
   }
 
   -- the own steps of a pending call

@@ -12,6 +12,7 @@ pub mod OneList
 pub mod Growth
 pub mod Eras
 pub mod Responses
+pub mod ProcessCalls
 pub mod Linearizable
 pub mod Trims
 pub mod Untrimmed

@@ -14,7 +14,8 @@ use Rattle.uni_record.specs.Event.{event_shown, events_shown, completed_by, comp
 use Rattle.uni_record.specs.Recorded.{Recording, IsRecording, HasRoom, meaning, opening, set_aside, pending_count, share}
 use Rattle.uni_record.proofs.Owed.{owed-begun, one_idle}
 use Rattle.uni_record.proofs.Paid.{step_pays}
-use Rattle.uni_record.proofs.Runs.{world_after_all-snoc, AreAccepted-snoc, completed_in-snoc, ended_log-snoc}
+use Rattle.uni_record.proofs.Runs.{completed_in-snoc, ended_log-snoc}
+use Rattle.uni_model.proofs.Runs.{world_after_all-snoc, AreAccepted-snoc}
 
 -- the room of a record, with room for so many events, returns and counts
 abbrev pub HasRoomFor : {O S I R : Type 0} → Recording O S I R → (events returns counts : ℕ) → Type 0

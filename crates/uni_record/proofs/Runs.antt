@@ -8,14 +8,6 @@ use Rattle.uni_model.specs.History.{log, log_of_run}
 use Rattle.uni_record.specs.Event.{completed_by, completed_in, log_ended_by, ended_log}
 
 module _ {S I R : Type 0} (object : Sequential S I R) where
-  pub world_after_all-snoc : (w : WorldOf S I R) (es : List (Event I)) (e : Event I) → world_after_all object w (es ++ e ∷ []) ≡ world_after object (world_after_all object w es) e
-  world_after_all-snoc w [] e = refl
-  world_after_all-snoc w (f ∷ es) e = world_after_all-snoc (world_after object w f) es e
-
-  pub AreAccepted-snoc : (w : WorldOf S I R) (es : List (Event I)) (e : Event I) → AreAccepted object w es → IsAccepted (world_after_all object w es) e → AreAccepted object w (es ++ e ∷ [])
-  AreAccepted-snoc w [] e ok last = (last, tt)
-  AreAccepted-snoc w (f ∷ es) e ok last = (ok.0, AreAccepted-snoc (world_after object w f) es e ok.1 last)
-
   pub completed_in-snoc : (w : WorldOf S I R) (es : List (Event I)) (e : Event I)
       → completed_in object w (es ++ e ∷ []) ≡ completed_in object w es ++ option_to_list (completed_by object (world_after_all object w es) e)
   completed_in-snoc w [] e = append-nil (option_to_list (completed_by object w e))

@@ -10,7 +10,7 @@ use Rattle.uni_model.specs.Worlds.{AreAccepted, Event, IsAccepted, WorldOf, open
 use Rattle.uni_model.specs.Worlds.Event.{Call, Step, Trim, Reshape}
 use Rattle.uni_model.specs.Untrimmed.{ShowsSame, TrimsChangeNothing}
 use Rattle.uni_model.proofs.RenamedRun.{TrimsChangeNothing-holds}
-use Rattle.uni_model.proofs.WaitFree.{world_after_all-append}
+use Rattle.uni_model.proofs.Runs.{world_after_all-append}
 use Rattle.uni_core.specs.World.{IsProgress, current_of, progress_of, world_of}
 use Rattle.uni_core.specs.declared.fault.Progress.{Progress}
 use Rattle.uni_record.specs.declared.command.Command.{Command}
@@ -22,7 +22,7 @@ use Rattle.uni_record.specs.declared.event.Event.TheVariants as stored
 use Rattle.uni_record.specs.Event.{event_shown, events_shown}
 use Rattle.uni_record.specs.Run.{AreAnswersUntrimmed, AreOutcomes, IsAnswerIn, IsOutcome, event_of, standing_after}
 use Rattle.uni_record.specs.Recorded.{IsRecording, KeepsOpening, Recording, Standing, meaning, opening, standing_of, untrimmed_world}
-use Rattle.uni_record.proofs.Runs.{AreAccepted-snoc, world_after_all-snoc}
+use Rattle.uni_model.proofs.Runs.{AreAccepted-snoc, world_after_all-snoc}
 
 without_trims-trim : {I : Type 0} (es : List (Event I)) → without_trims (es ++ Trim ∷ []) ≡ without_trims es
 without_trims-trim [] = refl

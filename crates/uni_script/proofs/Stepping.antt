@@ -13,6 +13,7 @@ use Rattle.uni_model.specs.Laws.{IsReached}
 use Rattle.uni_model.proofs.Bounded.{HelpingInvariant-world_after, IsBounded-held}
 use Rattle.uni_model.proofs.Counted.{CountsSteps-world_after}
 use Rattle.uni_model.proofs.LawProofs.{CountsSteps-reached}
+use Rattle.uni_model.proofs.Runs.{world_after_all-append}
 use Rattle.uni_core.specs.World.{world_of, progress_of}
 use Rattle.uni_core.specs.declared.fault.Progress.{Progress}
 use Rattle.uni_core.specs.declared.fault.Progress.TheVariants.{Going, Done}
@@ -38,16 +39,12 @@ session_is b c p f r l e w =
     let g : record { processes = b.processes; first = b.first; row = b.row; limit = b.limit; events = b.events; world = b.world }
     ≡ record { processes = c.processes; first = c.first; row = c.row; limit = c.limit; events = c.events; world = c.world } = cc in g
 
-world_after_all-append : {S I R : Type 0} (object : Sequential S I R) (w : WorldOf S I R) (es fs : List (Event I)) → world_after_all object (world_after_all object w es) fs ≡ world_after_all object w (es ++ fs)
-world_after_all-append object w [] fs = refl
-world_after_all-append object w (e ∷ es) fs = world_after_all-append object (world_after object w e) es fs
-
 module _ {S I R : Type 0} (o : SpokenObject S I R) where
   pub session_after-none : (b : Session S I R) → session_after o b [] ≡ b
   session_after-none b = session_is _ _ refl refl refl refl (append-nil b.events) refl
 
   pub session_after-append : (b : Session S I R) (es fs : List (Event I)) → session_after o (session_after o b es) fs ≡ session_after o b (es ++ fs)
-  session_after-append b es fs = session_is _ _ refl refl refl refl (append_assoc b.events es fs) (world_after_all-append o.object b.world es fs)
+  session_after-append b es fs = session_is _ _ refl refl refl refl (append_assoc b.events es fs) (sym (world_after_all-append o.object b.world es fs))
 
   -- a record with one event more
   pub session_of-event : {O : Type 0} (r r' : Recording O S I R) (e : Stored I) → KeepsOpening r r' → r'.events ≡ r.events ++ e ∷ [] → world_of r'.world ≡ world_after o.object (world_of r.world) (event_shown e)

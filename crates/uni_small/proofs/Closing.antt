@@ -2,8 +2,7 @@
 use Rattle.std.proofs.Common.{◌≡◌, ◌∙◌, ℕ, zero, suc, ◌+◌, ◌*◌, ◌<◌, ◌≤◌, refl, sym, ap, subst, List, ◌∷◌, length, Contains, slice_index, arith}
 use Rattle.atomic_table.specs.Table.{Final, Seen}
 use Rattle.seq_object.specs.Sequential.{Sequential}
-use Rattle.uni_words.specs.Run.{acts_by, sequential_acts}
-use Rattle.uni_words.specs.View.{ProcessCalls}
+use Rattle.uni_model.specs.ProcessCalls.{ProcessCalls, acts_by, sequential_acts}
 use Rattle.uni_small.specs.Image.{Image}
 use Rattle.uni_small.specs.View.{Local}
 use Rattle.uni_small.specs.View.Stage.{Idle}
@@ -72,7 +71,7 @@ module _ {O : Type 0} (meaning : O → Sequential (List ℕ) ℕ ℕ) (told setu
         let closed : IsClosed g view.known.first view.known.local.own = call_at object n width g view.known.first view.known.local Idle at idle in
         closed.acts
 
-    taken : (its : ProcessCalls) → Contains view.known.taken its → acts_by its.process g.acts ≡ sequential_acts its.process 0 its.calls
+    taken : (its : ProcessCalls ℕ ℕ) → Contains view.known.taken its → acts_by its.process g.acts ≡ sequential_acts its.process 0 its.calls
     taken its has =
         let it = (is.seats id view last.1.1).taken its has in
         let at : IsAt object n width g its.process (local its.process) = is.sound.each its.process it.inside in
@@ -89,6 +88,6 @@ module _ {O : Type 0} (meaning : O → Sequential (List ℕ) ℕ ℕ) (told setu
       state = sym (reached_from object _ g.atomic.agreed) ∙ ap (λ (i : Image). i.state) board.image ∙ state_is state long each;
       own = one;
     } where
-      one : (its : ProcessCalls) → Contains (record { process = view.known.first; calls = view.known.local.own } ∷ view.known.taken) its → acts_by its.process g.acts ≡ sequential_acts its.process 0 its.calls
-      one its (zero, below, e) = subst (λ (c : ProcessCalls). acts_by c.process g.acts ≡ sequential_acts c.process 0 c.calls) e own
+      one : (its : ProcessCalls ℕ ℕ) → Contains (record { process = view.known.first; calls = view.known.local.own } ∷ view.known.taken) its → acts_by its.process g.acts ≡ sequential_acts its.process 0 its.calls
+      one its (zero, below, e) = subst (λ (c : ProcessCalls ℕ ℕ). acts_by c.process g.acts ≡ sequential_acts c.process 0 c.calls) e own
       one its (suc k, below, e) = taken its (k, (let b = below in omega arith), e)

@@ -14,7 +14,7 @@ use Rattle.uni_model.proofs.Written.{set_at-cases, number_cases, lt_cases}
 use Rattle.uni_model.proofs.Simulation.{set_at_same}
 use Rattle.uni_model.proofs.LawProofs.{set_at_elsewhere, AcceptsAll-append}
 use Rattle.uni_model.proofs.Appended.{slice_get-append_left, slice_get-append_right, response_at-append}
-use Rattle.uni_words.specs.Run.{acts_by}
+use Rattle.uni_model.specs.ProcessCalls.{acts_by}
 use Rattle.uni_words.proofs.Running.{acts_by-append}
 use Rattle.uni_small.specs.Image.{Image, HasRows, buffer_words, due_at, calls_seen, first_image, image_from, with_seen}
 use Rattle.uni_small.specs.View.{Local, Stage, goes, brings}

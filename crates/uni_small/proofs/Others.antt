@@ -5,7 +5,7 @@ use Rattle.seq_object.specs.History.{response_at}
 use Rattle.uni_model.specs.AtomicObject.{Atomic, Act, Invoked}
 use Rattle.uni_model.specs.AtomicObject.Act.{Invoke, Respond}
 use Rattle.uni_model.proofs.Written.{number_cases}
-use Rattle.uni_words.specs.Run.{acts_by}
+use Rattle.uni_model.specs.ProcessCalls.{acts_by}
 use Rattle.uni_words.proofs.Running.{acts_by-append}
 use Rattle.uni_small.specs.View.{Local, Stage}
 use Rattle.uni_small.specs.View.Stage.{Idle, Armed, Ready, Reading, Asking, Writing, Last}

@@ -8,7 +8,7 @@ use Rattle.uni_model.specs.AtomicObject.{Atomic, Act, Invoked, at_start, set_at}
 use Rattle.uni_model.specs.AtomicObject.Act.{Invoke, Respond}
 use Rattle.uni_model.proofs.Simulation.{set_at_same}
 use Rattle.uni_model.proofs.LawProofs.{set_at_elsewhere, AcceptsAll-append}
-use Rattle.uni_words.specs.Run.{sequential_acts}
+use Rattle.uni_model.specs.ProcessCalls.{sequential_acts}
 use Rattle.uni_small.specs.View.{Local, returns}
 use Rattle.uni_small.specs.View.Stage.{Last}
 use Rattle.uni_small.specs.Board.{Board, in_of, buffer_in, buffer_word}

@@ -1,6 +1,6 @@
 -- Which seats are an object's, and what they have.
 use Rattle.std.specs.Prelude.{◌≡◌, ℕ, ◌<◌, List, [], ◌∷◌, length, slice_get, Some}
-use Rattle.uni_words.specs.View.{ProcessCalls}
+use Rattle.uni_model.specs.ProcessCalls.{ProcessCalls}
 use Rattle.uni_small.specs.Image.{Image}
 use Rattle.uni_small.specs.declared.log.SmallShared.{SmallShared}
 use Rattle.uni_small.specs.declared.seat.SmallSeat.{SmallSeat}
@@ -61,12 +61,12 @@ pub record AreFirstSeats {O : Type 0} (shared : SmallShared O) (count : ℕ) (se
   pub each : (p : ℕ) (seat : SmallSeat O) → slice_get seats p ≡ Some seat → IsFreshSeat shared p seat
 
 -- a seat's process with its calls
-abbrev pub calls_of : {O : Type 0} → SmallSeat O → ProcessCalls
+abbrev pub calls_of : {O : Type 0} → SmallSeat O → ProcessCalls ℕ ℕ
 calls_of seat = record { process = process_of seat; calls = own_calls seat }
 
 -- the calls of the processes whose seats it has taken in, and all that it knows
-abbrev pub taken_calls : {O : Type 0} → SmallSeat O → List ProcessCalls
+abbrev pub taken_calls : {O : Type 0} → SmallSeat O → List (ProcessCalls ℕ ℕ)
 taken_calls seat = seat.seat.me.0.known.taken
 
-abbrev pub known_calls : {O : Type 0} → SmallSeat O → List ProcessCalls
+abbrev pub known_calls : {O : Type 0} → SmallSeat O → List (ProcessCalls ℕ ℕ)
 known_calls seat = calls_of seat ∷ taken_calls seat

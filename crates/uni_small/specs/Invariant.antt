@@ -5,7 +5,7 @@ use Rattle.seq_object.specs.Sequential.{Sequential}
 use Rattle.seq_object.specs.History.{response_at}
 use Rattle.uni_model.specs.AtomicObject.{Invoked, AcceptsAll, at_start}
 use Rattle.uni_model.specs.AtomicObject.Act.{Invoke}
-use Rattle.uni_words.specs.Run.{acts_by, sequential_acts}
+use Rattle.uni_model.specs.ProcessCalls.{acts_by, sequential_acts}
 use Rattle.uni_small.specs.Image.{Image, HasRows, buffer_words, spell, due_at, first_image, image_from, with_seen}
 use Rattle.uni_small.specs.View.{Local, Stage}
 use Rattle.uni_small.specs.View.Stage.{Idle, Armed, Ready, Reading, Asking, Writing, Last}

@@ -3,7 +3,7 @@ use Rattle.std.specs.Prelude.{◌≡◌, ℕ, ◌+◌, ◌-◌, ◌*◌, ◌<◌
 use Rattle.std.specs.Prelude.{length, slice_index}
 use Rattle.atomic_table.specs.Table.{Me, Step}
 use Rattle.seq_object.specs.Sequential.{Sequential}
-use Rattle.uni_words.specs.View.{ProcessCalls}
+use Rattle.uni_model.specs.ProcessCalls.{ProcessCalls}
 use Rattle.uni_small.specs.Image.{Image, IsReached, read_image}
 use Rattle.uni_small.specs.View.{Local, Stage, everyone, goes, arms, brings, returns}
 use Rattle.uni_small.specs.View.Stage.{Ready, Reading, Asking, Writing, Last}
@@ -22,7 +22,7 @@ abbrev pub others : {O : Type 0} → View O → View O
 others v = record v { known = record v.known { first = v.known.first + 1; count = v.known.count - 1 } }
 
 -- a seat's first process with its calls
-abbrev pub own_in_view : {O : Type 0} → View O → ProcessCalls
+abbrev pub own_in_view : {O : Type 0} → View O → ProcessCalls ℕ ℕ
 own_in_view v = record { process = v.known.first; calls = v.known.local.own }
 
 -- a seat that takes in another one knows its calls too; the other one is left with no process

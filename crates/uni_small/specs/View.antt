@@ -1,6 +1,6 @@
 -- What a seat knows.
 use Rattle.std.specs.Prelude.{ℕ, ◌+◌, ◌-◌, List, [], ◌∷◌, ◌++◌, Option}
-use Rattle.uni_words.specs.View.{ProcessCalls}
+use Rattle.uni_model.specs.ProcessCalls.{ProcessCalls}
 use Rattle.uni_small.specs.Image.{Image}
 
 -- Where a process stands. `tries` counts the attempts of its call that have failed, `s` is the word S that the attempt began with,
@@ -37,7 +37,7 @@ pub record Known : Type 0 where
   pub first : ℕ
   pub count : ℕ
   pub local : Local
-  pub taken : List ProcessCalls
+  pub taken : List (ProcessCalls ℕ ℕ)
 
 abbrev pub at_rest : Local
 at_rest = record { stage = Idle; inv = 0; spare = 1; own = []; steps = 0 }

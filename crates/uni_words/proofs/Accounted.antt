@@ -1,8 +1,9 @@
 -- Seats that are taken in one after another.
 use Rattle.std.proofs.Common.{All, Contains, flat_map, map, ◌≡◌, ◌⊎◌, inl, inr, sym, subst, List, [], ◌∷◌, ◌++◌, arith}
 use Rattle.std.proofs.lemmas.List.Elements.{All-append, All-contains, All-head, All-map, All-tail, Contains-append_left, Contains-append_right, Contains-get_or, Contains-push_cases}
+use Rattle.uni_model.specs.ProcessCalls.{ProcessCalls}
 use Rattle.uni_words.specs.Belongs.{calls_of, known_calls, seen_by}
-use Rattle.uni_words.specs.View.{ProcessCalls, Seen}
+use Rattle.uni_words.specs.View.{Seen}
 use Rattle.uni_words.specs.declared.steps.WordSeat.{WordSeat}
 use Rattle.uni_words.proofs.Joining.{first_or, first_there}
 
@@ -51,8 +52,8 @@ accounted_all all rest first is are x has = elim (All-contains (IsAccounted rest
 ]
 
 -- what is so of all that one seat knows and has seen is so of all seats that it knows
-pub known_calls_of : (P : ProcessCalls → Type 0) (all : List WordSeat) (first : WordSeat) → ((x : WordSeat) → Contains all x → IsKnown first x)
-    → ((c : ProcessCalls) → Contains (known_calls first) c → P c) → (c : ProcessCalls) → Contains (map calls_of all) c → P c
+pub known_calls_of : (P : ProcessCalls ℕ ℕ → Type 0) (all : List WordSeat) (first : WordSeat) → ((x : WordSeat) → Contains all x → IsKnown first x)
+    → ((c : ProcessCalls ℕ ℕ) → Contains (known_calls first) c → P c) → (c : ProcessCalls ℕ ℕ) → Contains (map calls_of all) c → P c
 known_calls_of P all first known each c has = All-contains P (map calls_of all) c (All-map P calls_of all (All-each (λ x. P (calls_of x)) all (λ x there. each (calls_of x) (known x there).0))) has
 
 pub known_seen : (P : Seen → Type 0) (all : List WordSeat) (first : WordSeat) → ((x : WordSeat) → Contains all x → IsKnown first x) → All P (seen_by first) → All P (flat_map seen_by all)

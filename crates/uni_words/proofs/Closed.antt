@@ -11,12 +11,13 @@ use Rattle.uni_model.specs.Responses.{HoldsResponses, calls_among}
 use Rattle.uni_model.proofs.Ordered.{KeepsRealTime-holds}
 use Rattle.uni_model.proofs.Responses.{LogsResponses-holds}
 use Rattle.uni_model.proofs.Universal.{RunIsUniversal-holds}
+use Rattle.uni_model.specs.ProcessCalls.{ProcessCalls, acts_by, sequential_acts}
 use Rattle.uni_words.specs.Log.{AreAnswered, AreCallsOf, AreCallCells, IsChained, IsInOrder, IsLogged, told_memory, log_of, calls_by, replied}
 use Rattle.uni_words.specs.Rule.{Rule}
-use Rattle.uni_words.specs.Run.{acts_by, HasSeen, IsLogOfRun, IsLogOfSeenRun, sequential_acts, opened, run_history}
+use Rattle.uni_words.specs.Run.{HasSeen, IsLogOfRun, IsLogOfSeenRun, opened, run_history}
 use Rattle.uni_words.specs.Seats.{calls_in_view}
 use Rattle.uni_words.specs.Shown.{HasReturned, IsShown, LeadsTo, pending_acts}
-use Rattle.uni_words.specs.View.{ProcessCalls, Seen as SeenCalls}
+use Rattle.uni_words.specs.View.{Seen as SeenCalls}
 use Rattle.uni_words.specs.declared.rule.Setup.{Setup}
 use Rattle.uni_words.specs.declared.view.View.{View}
 use Rattle.uni_words.proofs.Accounted.{All-each}
@@ -62,18 +63,18 @@ module _ {O : Type 0} (meaning : O → Sequential ℕ ℕ ℕ) (told setup : Set
   closed_answered = left setup.n words w last.0 last.1.0.1 last.2 (λ n ws. AreAnswered (log_of n setup.k ws)) (answered_log (meaning setup.object) setup.k w last.0 is)
 
   -- the seat's process and those that it took in have no call pending, and their calls have returned
-  ended : view.known.call ≡ None → 1 ≤ view.known.count → (c : ProcessCalls) → Contains (calls_in_view view) c
+  ended : view.known.call ≡ None → 1 ≤ view.known.count → (c : ProcessCalls ℕ ℕ) → Contains (calls_in_view view) c
       → (w.begun c.process ≡ length c.calls) × ((j : ℕ) (a : ℕ × ℕ) → slice_get c.calls j ≡ Some a → HasReturned w.memory (Of c.process j) a.0 a.1)
   ended idle any c has = elim (first_or _ _ c has) [
     | inl here ↦
         let local = (is.seats id view last.1.1).each view.known.first (omega arith) (omega (arith, any)) in
-        subst (λ (k : ProcessCalls). (w.begun k.process ≡ length k.calls) × ((j : ℕ) (a : ℕ × ℕ) → slice_get k.calls j ≡ Some a → HasReturned w.memory (Of k.process j) a.0 a.1)) here
+        subst (λ (k : ProcessCalls ℕ ℕ). (w.begun k.process ≡ length k.calls) × ((j : ℕ) (a : ℕ × ℕ) → slice_get k.calls j ≡ Some a → HasReturned w.memory (Of k.process j) a.0 a.1)) here
         (ended_local w is.owner id view.known.first view.known local idle, local.own)
     | inr taken ↦ let its = ((is.seats id view last.1.1).taken c taken).0 in (its.begun, its.own)
   ]
 
   -- so their calls in the log are these
-  closed_calls : view.known.count ≡ 1 → view.known.call ≡ None → (c : ProcessCalls) → Contains (calls_in_view view) c → calls_by c.process (log_of setup.n setup.k words) ≡ map replied c.calls
+  closed_calls : view.known.count ≡ 1 → view.known.call ≡ None → (c : ProcessCalls ℕ ℕ) → Contains (calls_in_view view) c → calls_by c.process (log_of setup.n setup.k words) ≡ map replied c.calls
   closed_calls single idle c has =
       let its = ended idle (let one = single in omega arith) c has in
       left setup.n words w last.0 last.1.0.1 last.2 (λ n ws. calls_by c.process (log_of n setup.k ws) ≡ map replied c.calls)
@@ -96,7 +97,7 @@ module _ {O : Type 0} (meaning : O → Sequential ℕ ℕ ℕ) (told setup : Set
   responses = subst (λ l. HoldsResponses l (run_history object setup.n events)) joined (LogsResponses-holds object setup.n object.initial 1 events (omega arith) run.accepted)
 
   -- each is numbered as in the run's history
-  pub closed_logged : view.known.count ≡ 1 → view.known.call ≡ None → (c : ProcessCalls) → Contains (calls_in_view view) c → IsLogged (log_of setup.n setup.k words) c
+  pub closed_logged : view.known.count ≡ 1 → view.known.call ≡ None → (c : ProcessCalls ℕ ℕ) → Contains (calls_in_view view) c → IsLogged (log_of setup.n setup.k words) c
   closed_logged single idle c has = record {
     calls = closed_calls single idle c has;
     numbered = λ place e at mine. subst (λ p. e.call.nth ≡ calls_among p (take place (log_of setup.n setup.k words))) mine (responses.numbered place e at);
@@ -117,7 +118,7 @@ module _ {O : Type 0} (meaning : O → Sequential ℕ ℕ ℕ) (told setup : Set
       responses = responses;
       joined = joined;
       acts = λ c has. elim (first_or _ _ c has) [
-        | inl here ↦ subst (λ (k : ProcessCalls). acts_by k.process (run_history object setup.n events) ≡ sequential_acts k.process 0 k.calls) here
+        | inl here ↦ subst (λ (k : ProcessCalls ℕ ℕ). acts_by k.process (run_history object setup.n events) ≡ sequential_acts k.process 0 k.calls) here
             (run.acts id view last.1.1 view.known.first (omega arith, (let one = single in omega arith))
             ∙ (ap (λ o. sequential_acts view.known.first 0 view.known.own ++ pending_acts view.known.first (length view.known.own) view.known.inv o) idle
             ∙ append-nil (sequential_acts view.known.first 0 view.known.own)))

@@ -20,8 +20,9 @@ use Rattle.uni_model.proofs.LawProofs.{set_at_elsewhere}
 use Rattle.uni_model.proofs.Kept.{Invariant-world_after_step}
 use Rattle.uni_model.proofs.Bounded.{HelpingInvariant-world_after_step}
 use Rattle.uni_model.proofs.Counted.{CountsSteps-world_after}
+use Rattle.uni_model.specs.ProcessCalls.{ProcessCalls}
 use Rattle.uni_words.specs.Words.{content_of, word_of, memory_of, words_of}
-use Rattle.uni_words.specs.View.{ProcessCalls, Known}
+use Rattle.uni_words.specs.View.{Known}
 use Rattle.uni_words.specs.Shown.{IsLocal, IsTaken, Tells, IsAmong, HasProcess, IsShown}
 use Rattle.uni_words.specs.declared.view.View.{View}
 use Rattle.uni_words.proofs.Locality.{memory_at, word_here, words_written}
@@ -34,7 +35,7 @@ set_there (x ∷ xs) (suc i) a b e = set_there xs i a b e
 
 -- a process that a seat has taken in isn't the first one of a seat that can take steps
 pub taken_apart : (object : Sequential ℕ ℕ ℕ) (row : ℕ) (w : WorldOf ℕ ℕ ℕ) (s : State ℕ View) (is : IsShown object row w s) (id : ℕ) (v : View) → get_elem? s.views id ≡ some v → 1 ≤ v.known.count
-    → (j : ℕ) (u : View) → get_elem? s.views j ≡ some u → (c : ProcessCalls) → Contains u.known.taken c → c.process ≢ v.known.first
+    → (j : ℕ) (u : View) → get_elem? s.views j ≡ some u → (c : ProcessCalls ℕ ℕ) → Contains u.known.taken c → c.process ≢ v.known.first
 taken_apart object row w s is id v at some_left j u there c has same =
     let its = (is.seats j u there).taken c has in
     elim (number_cases j id) [
@@ -85,7 +86,7 @@ module _ (object : Sequential ℕ ℕ ℕ) (row : ℕ) (w : WorldOf ℕ ℕ ℕ)
     }
 
     -- a process that was taken in
-    other_taken : (j : ℕ) (c : ProcessCalls) → c.process ≢ v.first → IsTaken w is.owner j c → IsTaken w' is.owner j c
+    other_taken : (j : ℕ) (c : ProcessCalls ℕ ℕ) → c.process ≢ v.first → IsTaken w is.owner j c → IsTaken w' is.owner j c
     other_taken j c apart h = record {
       inside = subst (λ k. c.process < k) (sym stay.n) h.inside;
       seat = h.seat;

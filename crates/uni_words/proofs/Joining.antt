@@ -8,9 +8,10 @@ use Rattle.atomic_table.proofs.Lists.{at_set, set_else}
 use Rattle.seq_object.specs.Sequential.{Sequential}
 use Rattle.uni_model.specs.Worlds.{WorldOf, Event}
 use Rattle.uni_model.proofs.Written.{number_cases}
+use Rattle.uni_model.specs.ProcessCalls.{ProcessCalls, acts_by, sequential_acts}
 use Rattle.uni_words.specs.Laws.{Leads, after_join}
-use Rattle.uni_words.specs.Run.{acts_by, sequential_acts, run_history, HaveReturned, HasSeen}
-use Rattle.uni_words.specs.View.{ProcessCalls, Seen, Known}
+use Rattle.uni_words.specs.Run.{run_history, HaveReturned, HasSeen}
+use Rattle.uni_words.specs.View.{Seen, Known}
 use Rattle.uni_words.specs.Seats.{calls_in_view, nobody, took_in}
 use Rattle.uni_words.specs.Shown.{IsLocal, IsTaken, Tells, IsAmong, HasProcess, IsShown, LeadsTo, ShowsRun, acts_in_view, pending_count, pending_acts}
 use Rattle.uni_words.specs.declared.view.View.{View}
@@ -60,7 +61,7 @@ module _ (object : Sequential ℕ ℕ ℕ) (row id : ℕ) (v : View) (other : �
     local_other : IsLocal w is.owner other x.known.first x.known
     local_other = told_other.each x.known.first (omega arith) (omega (arith, single))
 
-    seated_local : (j j' q : ℕ) (u : Known) (taken : List ProcessCalls) (seen : List Seen) → IsLocal w is.owner j q u → owner' q ≡ j' → IsLocal w owner' j' q (record u { taken = taken; seen = seen })
+    seated_local : (j j' q : ℕ) (u : Known) (taken : List (ProcessCalls ℕ ℕ)) (seen : List Seen) → IsLocal w is.owner j q u → owner' q ≡ j' → IsLocal w owner' j' q (record u { taken = taken; seen = seen })
     seated_local j j' q u taken seen h e = record {
       inside = h.inside;
       seat = e;
@@ -73,14 +74,14 @@ module _ (object : Sequential ℕ ℕ ℕ) (row id : ℕ) (v : View) (other : �
       own = h.own;
     }
 
-    seated_taken : (j j' : ℕ) (c : ProcessCalls) → IsTaken w is.owner j c → owner' c.process ≡ j' → IsTaken w owner' j' c
+    seated_taken : (j j' : ℕ) (c : ProcessCalls ℕ ℕ) → IsTaken w is.owner j c → owner' c.process ≡ j' → IsTaken w owner' j' c
     seated_taken j j' c h e = record { inside = h.inside; seat = e; call = h.call; begun = h.begun; own = h.own }
 
     -- none of the other seat's processes is one of the seat
     not_among : (q : ℕ) → is.owner q ≡ other → IsAmong q v.known → ⊥
     not_among q e among = apart (sym e ∙ (told.each q among.0 among.1).seat)
 
-    now_taken : (c : ProcessCalls) → Contains (calls_in_view x) c → IsTaken w owner' id c × (IsAmong c.process v.known → ⊥)
+    now_taken : (c : ProcessCalls ℕ ℕ) → Contains (calls_in_view x) c → IsTaken w owner' id c × (IsAmong c.process v.known → ⊥)
     now_taken c has = elim (first_or _ _ c has) [
       | inl here ↦ subst (λ k. IsTaken w owner' id k × (IsAmong k.process v.known → ⊥)) here (
         record {
@@ -183,10 +184,10 @@ module _ (object : Sequential ℕ ℕ ℕ) (row id : ℕ) (v : View) (other : �
     }
 
     module _ (n : ℕ) (events : List (Event ℕ)) (run : LeadsTo object n events w s.views) where
-      abbrev Acts : ProcessCalls → Type 0
+      abbrev Acts : ProcessCalls ℕ ℕ → Type 0
       Acts c = acts_by c.process (run_history object n events) ≡ sequential_acts c.process 0 c.calls
 
-      acts_taken : (c : ProcessCalls) → Contains (calls_in_view x) c → Acts c
+      acts_taken : (c : ProcessCalls ℕ ℕ) → Contains (calls_in_view x) c → Acts c
       acts_taken c has = elim (first_or _ _ c has) [
         | inl here ↦ subst Acts here (run.acts other x there x.known.first (omega arith, omega (arith, single))
             ∙ (ap (λ o. sequential_acts x.known.first 0 x.known.own ++ pending_acts x.known.first (length x.known.own) x.known.inv o) idle ∙ append-nil (sequential_acts x.known.first 0 x.known.own)))

@@ -16,10 +16,11 @@ use Rattle.uni_model.proofs.Linearized.{IsLinearizable-holds}
 use Rattle.uni_model.proofs.Ordered.{KeepsRealTime-holds}
 use Rattle.uni_model.proofs.Orderly.{IsOver, IsOrderly-at_start, responses_end}
 use Rattle.uni_model.proofs.Simulation.{set_at_same}
-use Rattle.uni_model.proofs.WaitFree.{AreAccepted-split}
+use Rattle.uni_model.proofs.Runs.{AreAccepted-split}
 use Rattle.uni_model.proofs.Written.{number_cases}
+use Rattle.uni_model.specs.ProcessCalls.{acts_by, sequential_acts}
 use Rattle.uni_words.specs.Log.{IsInOrder}
-use Rattle.uni_words.specs.Run.{acts_by, sequential_acts, opened, run_history, HasSeen}
+use Rattle.uni_words.specs.Run.{opened, run_history, HasSeen}
 use Rattle.uni_words.specs.View.{Seen}
 use Rattle.uni_words.proofs.OwnCalls.{there_below}
 

@@ -8,9 +8,10 @@ use Rattle.atomic_table.proofs.Lists.{at_longer, at_set, at_snoc, set_again, set
 use Rattle.seq_object.specs.Sequential.{Sequential}
 use Rattle.uni_model.specs.Worlds.{WorldOf, Event}
 use Rattle.uni_model.proofs.Written.{number_cases}
+use Rattle.uni_model.specs.ProcessCalls.{ProcessCalls, acts_by, sequential_acts}
 use Rattle.uni_words.specs.Laws.{Leads, after_note, after_receipt}
-use Rattle.uni_words.specs.Run.{acts_by, sequential_acts, run_history, HaveReturned, HasSeen}
-use Rattle.uni_words.specs.View.{ProcessCalls, Seen, Known, seen_of}
+use Rattle.uni_words.specs.Run.{run_history, HaveReturned, HasSeen}
+use Rattle.uni_words.specs.View.{Seen, Known, seen_of}
 use Rattle.uni_words.specs.Seats.{calls_in_view, nobody, noted, own_in_view, receipt_of, returned_in_view}
 use Rattle.uni_words.specs.Shown.{Tells, IsAmong, HasProcess, IsShown, LeadsTo, ShowsRun, acts_in_view, pending_acts}
 use Rattle.uni_words.specs.declared.view.View.{View}
@@ -34,14 +35,14 @@ no_process w owner row id v none untaken = record {
 module _ (object : Sequential ℕ ℕ ℕ) (row id : ℕ) (v : View) (some_left : 1 ≤ v.known.count) where
   module _ (w : WorldOf ℕ ℕ ℕ) (s : State ℕ View) (is : IsShown object row w s) (at : get_elem? s.views id ≡ some v) where
     -- what the seat knows has returned
-    returned : (n : ℕ) (events : List (Event ℕ)) → LeadsTo object n events w s.views → (c : ProcessCalls) → Contains (returned_in_view v) c → HaveReturned object n events c
+    returned : (n : ℕ) (events : List (Event ℕ)) → LeadsTo object n events w s.views → (c : ProcessCalls ℕ ℕ) → Contains (returned_in_view v) c → HaveReturned object n events c
     returned n events run c has = All-contains P (returned_in_view v) c (All-append P (calls_in_view v) (map (λ (t : Seen). t.earlier) v.known.seen)
         (All-each P (calls_in_view v) own)
         (All-map P (λ (t : Seen). t.earlier) v.known.seen (All-each (λ (t : Seen). P t.earlier) v.known.seen seen))) has where
-          P : ProcessCalls → Type 0
+          P : ProcessCalls ℕ ℕ → Type 0
           P c = HaveReturned object n events c
 
-          own : (c : ProcessCalls) → Contains (calls_in_view v) c → HaveReturned object n events c
+          own : (c : ProcessCalls ℕ ℕ) → Contains (calls_in_view v) c → HaveReturned object n events c
           own c has = elim (first_or _ _ c has) [
             | inl here ↦ subst (HaveReturned object n events) here (pending_acts v.known.first (length v.known.own) v.known.inv v.known.call, run.acts id v at v.known.first (omega arith, omega (arith, some_left)))
             | inr taken ↦ ([], run.taken id v at c taken ∙ sym (append-nil (sequential_acts c.process 0 c.calls)))
@@ -174,8 +175,8 @@ module _ (object : Sequential ℕ ℕ ℕ) (row id : ℕ) (v : View) (some_left 
         sees t has = elim (Contains-append_cases v.known.seen (seen_of (own_in_view v) x.known.told) t has) [
           | inl old ↦ run.seen id v at t old
           | inr new ↦ All-contains (HasSeen object n events) (seen_of (own_in_view v) x.known.told) t
-              (All-map (HasSeen object n events) (λ (c : ProcessCalls). record { earlier = c; made = own_in_view v }) x.known.told
-              (All-each (λ (c : ProcessCalls). HasSeen object n events (record { earlier = c; made = own_in_view v })) x.known.told
+              (All-map (HasSeen object n events) (λ (c : ProcessCalls ℕ ℕ). record { earlier = c; made = own_in_view v }) x.known.told
+              (All-each (λ (c : ProcessCalls ℕ ℕ). HasSeen object n events (record { earlier = c; made = own_in_view v })) x.known.told
               (λ c there_too. record { before = events; after = []; joins = sym (append-nil events); earlier = run.told other x there c there_too; made = own_acts }))) new
         ]
 
@@ -199,7 +200,7 @@ module _ (object : Sequential ℕ ℕ ℕ) (row id : ℕ) (v : View) (some_left 
           seen = Holds-set (λ (u : View). u.known.seen) (HasSeen object n events) with_note other nobody
               (Holds-set (λ (u : View). u.known.seen) (HasSeen object n events) s.views id (noted v x) run.seen sees) (λ t has. absurd (let k = has.1 in omega arith));
         } where
-          Acts : ProcessCalls → Type 0
+          Acts : ProcessCalls ℕ ℕ → Type 0
           Acts c = acts_by c.process (run_history object n events) ≡ sequential_acts c.process 0 c.calls
 
       pub note_leads : Leads object row w s [] w (after_note s id v other x)

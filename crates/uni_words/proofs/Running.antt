@@ -18,9 +18,11 @@ use Rattle.uni_model.specs.Worlds.{WorldOf, Event, world_after, world_after_all,
 use Rattle.uni_model.specs.Transition.{response_after}
 use Rattle.uni_model.specs.Worlds.Event.{Call, Step, Trim, Reshape}
 use Rattle.uni_model.proofs.Written.{number_cases}
+use Rattle.uni_model.specs.ProcessCalls.{ProcessCalls, acts_by, sequential_acts}
+use Rattle.uni_model.proofs.Runs.{world_after_all-snoc, AreAccepted-snoc, history_of-append, history_of-snoc}
 use Rattle.uni_words.specs.Laws.{Leads}
-use Rattle.uni_words.specs.Run.{acts_by, sequential_acts, opened, run_history, HaveReturned, HasSeen}
-use Rattle.uni_words.specs.View.{ProcessCalls, Seen, Known}
+use Rattle.uni_words.specs.Run.{opened, run_history, HaveReturned, HasSeen}
+use Rattle.uni_words.specs.View.{Seen, Known}
 use Rattle.uni_words.specs.Shown.{IsLocal, IsAmong, IsShown, ShowsRun, LeadsTo, acts_in_view, pending_count, pending_acts}
 use Rattle.uni_words.specs.declared.view.View.{View}
 use Rattle.uni_words.proofs.Happens.{taken_apart}
@@ -52,25 +54,9 @@ sequential_acts-append p k (x ∷ xs) c =
     ∙ ap (λ j. sequential_acts p (k + 1) xs ++ Invoke p j c.0 ∷ Respond p j c.1 ∷ []) e)
 
 module _ (object : Sequential ℕ ℕ ℕ) where
-  reached_more : (w : WorldOf ℕ ℕ ℕ) (es : List (Event ℕ)) (e : Event ℕ) → world_after_all object w (es ++ e ∷ []) ≡ world_after object (world_after_all object w es) e
-  reached_more w [] e = refl
-  reached_more w (x ∷ xs) e = reached_more (world_after object w x) xs e
-
-  accepted_more : (w : WorldOf ℕ ℕ ℕ) (es : List (Event ℕ)) (e : Event ℕ) → AreAccepted object w es → IsAccepted (world_after_all object w es) e → AreAccepted object w (es ++ e ∷ [])
-  accepted_more w [] e ok more = (more, tt)
-  accepted_more w (x ∷ xs) e ok more = (ok.0, accepted_more (world_after object w x) xs e ok.1 more)
-
   one_era_more : (es : List (Event ℕ)) (e : Event ℕ) → EndNoEra es → EndsNoEra e → EndNoEra (es ++ e ∷ [])
   one_era_more [] e ok more = (more, tt)
   one_era_more (x ∷ xs) e ok more = (ok.0, one_era_more xs e ok.1 more)
-
-  history_append : (w : WorldOf ℕ ℕ ℕ) (es fs : List (Event ℕ)) → history_of object w (es ++ fs) ≡ history_of object w es ++ history_of object (world_after_all object w es) fs
-  history_append w [] fs = refl
-  history_append w (x ∷ xs) fs = ap (λ l. acts_of object w x ++ l) (history_append (world_after object w x) xs fs)
-      ∙ sym (append_assoc (acts_of object w x) (history_of object (world_after object w x) xs) (history_of object (world_after_all object (world_after object w x) xs) fs))
-
-  history_more : (w : WorldOf ℕ ℕ ℕ) (es : List (Event ℕ)) (e : Event ℕ) → history_of object w (es ++ e ∷ []) ≡ history_of object w es ++ acts_of object (world_after_all object w es) e
-  history_more w es e = history_append w es (e ∷ []) ∙ ap (λ l. history_of object w es ++ l) (append-nil (acts_of object (world_after_all object w es) e))
 
   -- in one era the joined log is the log
   pub joined_is_log : (w : WorldOf ℕ ℕ ℕ) (es : List (Event ℕ)) → EndNoEra es → log_of_run object w es ≡ log (world_after_all object w es)
@@ -99,13 +85,13 @@ module _ (object : Sequential ℕ ℕ ℕ) where
 
 -- what has returned, and what was seen, stays so
 module _ (object : Sequential ℕ ℕ ℕ) (n : ℕ) (events more : List (Event ℕ)) where
-  pub HaveReturned-more : (its : ProcessCalls) → HaveReturned object n events its → HaveReturned object n (events ++ more) its
+  pub HaveReturned-more : (its : ProcessCalls ℕ ℕ) → HaveReturned object n events its → HaveReturned object n (events ++ more) its
   HaveReturned-more its h =
       let p = its.process in
       let first = run_history object n events in
       let then = history_of object (world_after_all object (opened object n) events) more in (
         h.0 ++ acts_by p then,
-        ap (acts_by p) (history_append object (opened object n) events more)
+        ap (acts_by p) (history_of-append object (opened object n) events more)
             ∙ (acts_by-append p first then ∙ (ap (λ l. l ++ acts_by p then) h.1 ∙ append_assoc (sequential_acts p 0 its.calls) h.0 (acts_by p then))),
       )
 
@@ -151,7 +137,7 @@ module _ (object : Sequential ℕ ℕ ℕ) (n row : ℕ) (w : WorldOf ℕ ℕ �
   -- nor do the processes that were taken in act
   takes_later : (acts : List (Act ℕ ℕ)) (v' : Known) → v'.taken ≡ v.taken
       → ((q : ℕ) → q ≢ v.first → acts_by q acts ≡ acts_by q (run_history object n events))
-      → (j : ℕ) (u : View) → get_elem? (set s.views id (record { known = v' })) j ≡ some u → (c : ProcessCalls) → Contains u.known.taken c → acts_by c.process acts ≡ sequential_acts c.process 0 c.calls
+      → (j : ℕ) (u : View) → get_elem? (set s.views id (record { known = v' })) j ≡ some u → (c : ProcessCalls ℕ ℕ) → Contains u.known.taken c → acts_by c.process acts ≡ sequential_acts c.process 0 c.calls
   takes_later acts v' taken_is others j u e c has = ⊎_elim
       (λ (h : (j ≡ id) × (record { known = v' } ≡ u)).
       let had : Contains v.taken c = subst (λ l. Contains l c) taken_is (subst (λ (z : View). Contains z.known.taken c) (sym h.1) has) in
@@ -181,9 +167,9 @@ module _ (object : Sequential ℕ ℕ ℕ) (n row : ℕ) (w : WorldOf ℕ ℕ �
       → ((q : ℕ) → q ≢ v.first → acts_by q (acts_of object w e) ≡ []) → acts_in_view v.first v ++ acts_by v.first (acts_of object w e) ≡ acts_in_view v.first v'
       → LeadsTo object n (events ++ e ∷ []) w' (set s.views id (record { known = v' }))
   run_more e ok goes w' later v' first_is count_is taken_is told_is seen_is others own = record {
-    accepted = accepted_more object (opened object n) events e run.accepted (subst (λ u. IsAccepted u e) (sym run.reached) ok);
+    accepted = AreAccepted-snoc object (opened object n) events e run.accepted (subst (λ u. IsAccepted u e) (sym run.reached) ok);
     one_era = one_era_more object events e run.one_era goes;
-    reached = reached_more object (opened object n) events e ∙ (ap (λ u. world_after object u e) run.reached ∙ later);
+    reached = world_after_all-snoc object (opened object n) events e ∙ (ap (λ u. world_after object u e) run.reached ∙ later);
     acts = acts_later (run_history object n (events ++ e ∷ [])) v' first_is count_is same
         (more v.first ∙ (ap (λ l. l ++ acts_by v.first (acts_of object w e)) (run.acts id (record { known = v }) at v.first (omega arith, (let one = single in omega arith))) ∙ own));
     taken = takes_later (run_history object n (events ++ e ∷ [])) v' taken_is same;
@@ -193,7 +179,7 @@ module _ (object : Sequential ℕ ℕ ℕ) (n row : ℕ) (w : WorldOf ℕ ℕ �
         (Holds-later (λ (u : View). u.known.seen) (HasSeen object n events) (HasSeen object n (events ++ e ∷ [])) s.views (HasSeen-more object n events (e ∷ [])) run.seen);
   } where
     more : (q : ℕ) → acts_by q (run_history object n (events ++ e ∷ [])) ≡ acts_by q (run_history object n events) ++ acts_by q (acts_of object w e)
-    more q = ap (acts_by q) (history_more object (opened object n) events e)
+    more q = ap (acts_by q) (history_of-snoc object (opened object n) events e)
         ∙ (ap (λ u. acts_by q (run_history object n events ++ acts_of object u e)) run.reached ∙ acts_by-append q (run_history object n events) (acts_of object w e))
 
     same : (q : ℕ) → q ≢ v.first → acts_by q (run_history object n (events ++ e ∷ [])) ≡ acts_by q (run_history object n events)

@@ -10,9 +10,10 @@ use Rattle.uni_model.specs.Worlds.{WorldOf, Event}
 use Rattle.uni_model.proofs.Simulation.{set_at_same}
 use Rattle.uni_model.proofs.Written.{number_cases}
 use Rattle.uni_model.proofs.LawProofs.{set_at_elsewhere}
+use Rattle.uni_model.specs.ProcessCalls.{ProcessCalls, acts_by}
 use Rattle.uni_words.specs.Laws.{Leads, after_split}
-use Rattle.uni_words.specs.Run.{acts_by, run_history, HaveReturned, HasSeen}
-use Rattle.uni_words.specs.View.{ProcessCalls, Seen, Known}
+use Rattle.uni_words.specs.Run.{run_history, HaveReturned, HasSeen}
+use Rattle.uni_words.specs.View.{Seen, Known}
 use Rattle.uni_words.specs.Seats.{first_alone, others}
 use Rattle.uni_words.specs.Shown.{IsLocal, IsTaken, Tells, IsAmong, HasProcess, IsShown, LeadsTo, ShowsRun, acts_in_view}
 use Rattle.uni_words.specs.declared.view.View.{View}
@@ -33,7 +34,7 @@ at_below (x ∷ xs) zero b e = omega arith
 at_below (x ∷ xs) (suc j) b e = let h = at_below xs j b e in omega arith
 
 -- the numbers of a seat's processes, and what it was told by others, say nothing of each of them
-pub with_range : (w : WorldOf ℕ ℕ ℕ) (l : ℕ → ℕ) (j q : ℕ) (u : Known) (first count : ℕ) (taken told : List ProcessCalls) (seen : List Seen) → IsLocal w l j q u
+pub with_range : (w : WorldOf ℕ ℕ ℕ) (l : ℕ → ℕ) (j q : ℕ) (u : Known) (first count : ℕ) (taken told : List (ProcessCalls ℕ ℕ)) (seen : List Seen) → IsLocal w l j q u
     → IsLocal w l j q (record u { first = first; count = count; taken = taken; told = told; seen = seen })
 with_range w l j q u first count taken told seen h = record {
   inside = h.inside;
@@ -76,7 +77,7 @@ module _ (object : Sequential ℕ ℕ ℕ) (row id : ℕ) (v : View) (some_left 
     }
 
     -- nor does a process that was taken in
-    taken_stays : (j : ℕ) (u : View) (there : get_elem? s.views j ≡ some u) (c : ProcessCalls) → Contains u.known.taken c → IsTaken w is.owner j c → IsTaken w seat_of j c
+    taken_stays : (j : ℕ) (u : View) (there : get_elem? s.views j ≡ some u) (c : ProcessCalls ℕ ℕ) → Contains u.known.taken c → IsTaken w is.owner j c → IsTaken w seat_of j c
     taken_stays j u there c has h = record {
       inside = h.inside;
       seat = set_at_elsewhere is.owner v.known.first (length s.views) c.process (taken_apart object row w s is id v at some_left j u there c has) ∙ h.seat;

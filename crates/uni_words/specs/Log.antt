@@ -7,7 +7,8 @@ use Rattle.uni_model.specs.Chain.{Entry, cells_from, entries_from}
 use Rattle.uni_model.specs.Invariant.{IsNumbered}
 use Rattle.uni_model.specs.Eras.{StandsAt}
 use Rattle.uni_model.specs.Responses.{calls_among}
-use Rattle.uni_words.specs.View.{ProcessCalls, Seen}
+use Rattle.uni_model.specs.ProcessCalls.{ProcessCalls}
+use Rattle.uni_words.specs.View.{Seen}
 use Rattle.uni_words.specs.Words.{words_of, memory_of}
 use Rattle.uni_words.specs.declared.read.WordEntry.{WordEntry}
 
@@ -60,7 +61,7 @@ abbrev pub replied : ℕ × ℕ → ℕ × Option ℕ
 replied c = (c.0, Some c.1)
 
 -- In the log a process has these calls, in this order, each with its reply; its entries are numbered from 0 on.
-pub record IsLogged (log : List (Entry ℕ ℕ)) (its : ProcessCalls) : Type 0 where
+pub record IsLogged (log : List (Entry ℕ ℕ)) (its : ProcessCalls ℕ ℕ) : Type 0 where
   pub calls : calls_by its.process log ≡ map replied its.calls
   pub numbered : (place : ℕ) (e : Entry ℕ ℕ) → slice_get log place ≡ Some e → e.call.process ≡ its.process
       → e.call.nth ≡ calls_among its.process (take place log)

@@ -10,20 +10,9 @@ use Rattle.uni_model.specs.Responses.{HoldsResponses}
 use Rattle.uni_model.specs.Universal.{IsUniversal}
 use Rattle.uni_model.specs.Worlds.{WorldOf, Event, opened_world, AreAccepted}
 use Rattle.uni_model.specs.Worlds.Event.{Call, Step}
+use Rattle.uni_model.specs.ProcessCalls.{ProcessCalls, acts_by, sequential_acts}
 use Rattle.uni_words.specs.Objects.{tally}
-use Rattle.uni_words.specs.View.{ProcessCalls, Seen}
-
--- the acts of a process in a history, in its order: it begins its calls, and is given its replies
-abbrev pub acts_by : ℕ → List (Act ℕ ℕ) → List (Act ℕ ℕ)
-acts_by p [] = []
-acts_by p (Invoke q k i ∷ acts) = if q == p then Invoke q k i ∷ acts_by p acts else acts_by p acts
-acts_by p (Linearize c ∷ acts) = acts_by p acts
-acts_by p (Respond q k r ∷ acts) = if q == p then Respond q k r ∷ acts_by p acts else acts_by p acts
-
--- the acts of calls of a process, from its call k on, each of which has returned before the next one begins
-abbrev pub sequential_acts : (p k : ℕ) → List (ℕ × ℕ) → List (Act ℕ ℕ)
-sequential_acts p k [] = []
-sequential_acts p k (c ∷ cs) = Invoke p k c.0 ∷ Respond p k c.1 ∷ sequential_acts p (k + 1) cs
+use Rattle.uni_words.specs.View.{Seen}
 
 module _ (object : Sequential ℕ ℕ ℕ) (n : ℕ) where
   -- n processes that have made no call: the anchor has the number 1 and the start state
@@ -35,7 +24,7 @@ module _ (object : Sequential ℕ ℕ ℕ) (n : ℕ) where
   run_history events = history_of object opened events
 
   -- in the history of these events a process made these calls first, and all of them have returned
-  abbrev pub HaveReturned : List (Event ℕ) → ProcessCalls → Type 0
+  abbrev pub HaveReturned : List (Event ℕ) → ProcessCalls ℕ ℕ → Type 0
   HaveReturned events its =
       (rest : List (Act ℕ ℕ)) × (acts_by its.process (run_history events) ≡ sequential_acts its.process 0 its.calls ++ rest)
 
@@ -51,28 +40,19 @@ module _ (object : Sequential ℕ ℕ ℕ) (n : ℕ) where
   -- The log is that of a run of n processes: it is the joined log of events that are accepted one after another from the opening on.
   -- All that holds of every run holds of it: it is universal, the log keeps real-time order, and has the response of each call. In its
   -- history each of these processes takes the acts of its calls, each with its reply before the next one begins, and no others.
-  pub record IsLogOfRun (log : List (Entry ℕ ℕ)) (calls : List ProcessCalls) : Type 0 where
+  pub record IsLogOfRun (log : List (Entry ℕ ℕ)) (calls : List (ProcessCalls ℕ ℕ)) : Type 0 where
     pub events : List (Event ℕ)
     pub accepted : AreAccepted object opened events
     pub universal : IsUniversal object n object.initial 1 events
     pub real_time : KeepsRealTime object n object.initial 1 events
     pub responses : HoldsResponses log (run_history events)
     pub joined : log_of_run object opened events ≡ log
-    pub acts : (its : ProcessCalls) → Contains calls its
+    pub acts : (its : ProcessCalls ℕ ℕ) → Contains calls its
         → acts_by its.process (run_history events) ≡ sequential_acts its.process 0 its.calls
 
   -- the same, and in that run all of these were seen
-  abbrev pub IsLogOfSeenRun : (log : List (Entry ℕ ℕ)) → (calls : List ProcessCalls) → (seen : List Seen) → Type 0
+  abbrev pub IsLogOfSeenRun : (log : List (Entry ℕ ℕ)) → (calls : List (ProcessCalls ℕ ℕ)) → (seen : List Seen) → Type 0
   IsLogOfSeenRun log calls seen = (run : IsLogOfRun log calls) × All (HasSeen run.events) seen
-
--- process 1 beside another one
-sample_acts : acts_by 1 (Invoke 0 0 5 ∷ Invoke 1 0 7 ∷ Linearize (record { process = 1; nth = 0; inv = 7 }) ∷ Respond 1 0 3 ∷ [])
-    ≡ sequential_acts 1 0 ((7, 3) ∷ [])
-sample_acts = refl
-
--- two calls, one after the other
-sample_calls : sequential_acts 1 0 ((7, 3) ∷ (8, 4) ∷ []) ≡ Invoke 1 0 7 ∷ Respond 1 0 3 ∷ Invoke 1 1 8 ∷ Respond 1 1 4 ∷ []
-sample_calls = refl
 
 -- one process adds 5 to a tally, in its 14 own steps
 abbrev sample_run : List (Event ℕ)

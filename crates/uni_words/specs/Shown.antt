@@ -16,9 +16,10 @@ use Rattle.uni_model.specs.Growth.{EndNoEra}
 use Rattle.uni_model.specs.Worlds.{WorldOf, Event, world_after_all, AreAccepted}
 use Rattle.uni_model.specs.Helping.{HelpingInvariant}
 use Rattle.uni_model.specs.Counting.{CountsSteps}
+use Rattle.uni_model.specs.ProcessCalls.{ProcessCalls, acts_by, sequential_acts}
 use Rattle.uni_words.specs.Words.{words_of, memory_of}
-use Rattle.uni_words.specs.Run.{acts_by, sequential_acts, opened, run_history, HaveReturned, HasSeen}
-use Rattle.uni_words.specs.View.{ProcessCalls, Seen, Known, Reading}
+use Rattle.uni_words.specs.Run.{opened, run_history, HaveReturned, HasSeen}
+use Rattle.uni_words.specs.View.{Seen, Known, Reading}
 use Rattle.uni_words.specs.View.Reading.{Nothing, Invocation, Applied, Reply}
 use Rattle.uni_words.specs.declared.view.View.{View}
 
@@ -60,7 +61,7 @@ pub record IsLocal (w : WorldOf ℕ ℕ ℕ) (seat_of : ℕ → ℕ) (id p : ℕ
   pub own : (j : ℕ) (c : ℕ × ℕ) → slice_get v.own j ≡ Some c → HasReturned w.memory (Of p j) c.0 c.1
 
 -- what the seat id knows of a process whose seat it has taken in: all its calls have returned
-pub record IsTaken (w : WorldOf ℕ ℕ ℕ) (seat_of : ℕ → ℕ) (id : ℕ) (its : ProcessCalls) : Type 0 where
+pub record IsTaken (w : WorldOf ℕ ℕ ℕ) (seat_of : ℕ → ℕ) (id : ℕ) (its : ProcessCalls ℕ ℕ) : Type 0 where
   pub inside : its.process < w.n
   pub seat : seat_of its.process ≡ id
   pub call : w.call its.process ≡ None
@@ -73,7 +74,7 @@ IsAmong p v = (v.first ≤ p) × (p < v.first + v.count)
 
 -- or one that it has taken in
 abbrev pub HasProcess : ℕ → Known → Type 0
-HasProcess p v = IsAmong p v ⊎ ((its : ProcessCalls) × Contains v.taken its × (its.process ≡ p))
+HasProcess p v = IsAmong p v ⊎ ((its : ProcessCalls ℕ ℕ) × Contains v.taken its × (its.process ≡ p))
 
 -- what the seat id knows; where it has several processes, none of them has called
 pub record Tells (w : WorldOf ℕ ℕ ℕ) (seat_of : ℕ → ℕ) (row id : ℕ) (v : Known) : Type 0 where
@@ -81,7 +82,7 @@ pub record Tells (w : WorldOf ℕ ℕ ℕ) (seat_of : ℕ → ℕ) (row id : ℕ
   pub calls : 1 ≤ v.count → v.row ≡ row
   pub each : (p : ℕ) → v.first ≤ p → p < v.first + v.count → IsLocal w seat_of id p v
   pub several : 2 ≤ v.count → v.begun ≡ 0
-  pub taken : (its : ProcessCalls) → Contains v.taken its → IsTaken w seat_of id its × ¬ (IsAmong its.process v)
+  pub taken : (its : ProcessCalls ℕ ℕ) → Contains v.taken its → IsTaken w seat_of id its × ¬ (IsAmong its.process v)
 
 -- The words and the views show the world w, whose processes have rows of so many calls: the words are its memory; each view
 -- tells the locals of its seat's processes, and each process has one seat; the anchor has number 1 and the start state, and
@@ -118,9 +119,9 @@ pub record LeadsTo (object : Sequential ℕ ℕ ℕ) (n : ℕ) (events : List (E
   pub reached : world_after_all object (opened object n) events ≡ w
   pub acts : (id : ℕ) (v : View) → get_elem? views id ≡ some v → (p : ℕ) → IsAmong p v.known
       → acts_by p (run_history object n events) ≡ acts_in_view p v.known
-  pub taken : (id : ℕ) (v : View) → get_elem? views id ≡ some v → (its : ProcessCalls) → Contains v.known.taken its
+  pub taken : (id : ℕ) (v : View) → get_elem? views id ≡ some v → (its : ProcessCalls ℕ ℕ) → Contains v.known.taken its
       → acts_by its.process (run_history object n events) ≡ sequential_acts its.process 0 its.calls
-  pub told : (id : ℕ) (v : View) → get_elem? views id ≡ some v → (its : ProcessCalls) → Contains v.known.told its
+  pub told : (id : ℕ) (v : View) → get_elem? views id ≡ some v → (its : ProcessCalls ℕ ℕ) → Contains v.known.told its
       → HaveReturned object n events its
   pub seen : (id : ℕ) (v : View) → get_elem? views id ≡ some v → (s : Seen) → Contains v.known.seen s → HasSeen object n events s
 

@@ -6,6 +6,7 @@ use Rattle.uni_model.specs.Stages.Stage.{Announce}
 use Rattle.uni_model.specs.Stages.{Stage, Pending}
 use Rattle.uni_model.specs.Transition.{place_of, stage_after, turn_of}
 use Rattle.uni_model.specs.Effects.{call_after}
+use Rattle.uni_model.specs.ProcessCalls.{ProcessCalls}
 use Rattle.uni_words.specs.Words.{content_of}
 
 -- what a process has read of settled words since its last step
@@ -15,19 +16,14 @@ pub data Reading : Type 0 where
   Applied : (inv state : ℕ) → Reading
   Reply : (reply : ℕ) → Reading
 
--- the calls of one process that have returned, in their order, each with its invocation and its reply
-pub record ProcessCalls : Type 0 where
-  pub process : ℕ
-  pub calls : List (ℕ × ℕ)
-
 -- of some time of the run: by then the calls of `earlier` had returned, and the process of `made` had made these calls, all of which
 -- had returned, and no others
 pub record Seen : Type 0 where
-  pub earlier : ProcessCalls
-  pub made : ProcessCalls
+  pub earlier : ProcessCalls ℕ ℕ
+  pub made : ProcessCalls ℕ ℕ
 
 -- what a process that has made these calls sees of a receipt that tells those
-abbrev pub seen_of : (made : ProcessCalls) → (told : List ProcessCalls) → List Seen
+abbrev pub seen_of : (made : ProcessCalls ℕ ℕ) → (told : List (ProcessCalls ℕ ℕ)) → List Seen
 seen_of made told = map (λ its. record { earlier = its; made = made }) told
 
 -- What a seat knows. Its processes are those from the first on, of n with rows of so many calls. Of each of them: the pending call
@@ -49,8 +45,8 @@ pub record Known : Type 0 where
   pub steps : ℕ
   pub turns : ℕ
   pub own : List (ℕ × ℕ)
-  pub taken : List ProcessCalls
-  pub told : List ProcessCalls
+  pub taken : List (ProcessCalls ℕ ℕ)
+  pub told : List (ProcessCalls ℕ ℕ)
   pub seen : List Seen
 
 -- a seat of some processes that have made no call

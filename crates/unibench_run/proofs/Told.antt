@@ -9,7 +9,7 @@ use Rattle.std.specs.declared.alloc.AllocError.{AllocError}
 use Rattle.uni_words.specs.Belongs.{AreAllSeats, AreFirstSeats, IsFreshSeat, IsSeatOf, calls_of, own_calls, process_of, processes_of, row_of}
 use Rattle.uni_words.specs.Compare.{Agrees}
 use Rattle.uni_words.specs.Run.{IsLogOfRun}
-use Rattle.uni_words.specs.View.{ProcessCalls}
+use Rattle.uni_model.specs.ProcessCalls.{ProcessCalls}
 use Rattle.uni_words.specs.declared.log.WordLog.{WordLog}
 use Rattle.uni_words.specs.declared.steps.WordSeat.{WordSeat}
 use Rattle.uni_words.proofs.Agreeing.{at_of_map}
@@ -98,8 +98,8 @@ module _ {O : Type 0} (log : WordLog O) (seed : ℕ) (done : List Done) (are : A
   pub lists_whole : All (λ told. vec_len told ≡ row_of log) (map list_in done)
   lists_whole = All-map (λ told. vec_len told ≡ row_of log) list_in done (λ k d below. (are.each k (slice_index_or done k d) (slice_get-index done k d below)).0.1)
 
-  lists_told : map own_calls (map seat_in done) ≡ map (λ (its : ProcessCalls). its.calls) (map told_to done)
-  lists_told = sym (map-map calls_of (λ (its : ProcessCalls). its.calls) (map seat_in done)) ∙ ap (map (λ (its : ProcessCalls). its.calls)) seats_told
+  lists_told : map own_calls (map seat_in done) ≡ map (λ (its : ProcessCalls ℕ ℕ). its.calls) (map told_to done)
+  lists_told = sym (map-map calls_of (λ (its : ProcessCalls ℕ ℕ). its.calls) (map seat_in done)) ∙ ap (map (λ (its : ProcessCalls ℕ ℕ). its.calls)) seats_told
 
   -- a log of a run of the seats' calls, with which they agree, is that of a run of the threads
   pub run_of_threads : (object : Sequential ℕ ℕ ℕ) (entries : List (Entry ℕ ℕ)) (seats : List WordSeat) → seats ≡ map seat_in done → IsLogOfRun object (processes_of log) entries (map calls_of seats)
@@ -109,7 +109,7 @@ module _ {O : Type 0} (log : WordLog O) (seed : ℕ) (done : List Done) (are : A
     each = λ p its at.
         let one = at_of_map told_to done p its at in
         let made = are.each p one.0 one.1 in
-        (ap (λ (k : ProcessCalls). k.process) (sym one.2) ∙ made.1, ap (λ (k : ProcessCalls). asked_in k.calls) (sym one.2) ∙ made.2);
+        (ap (λ (k : ProcessCalls ℕ ℕ). k.process) (sym one.2) ∙ made.1, ap (λ (k : ProcessCalls ℕ ℕ). asked_in k.calls) (sym one.2) ∙ made.2);
     log = entries;
     run = subst (IsLogOfRun object (processes_of log) entries) (ap (map calls_of) seats_are ∙ seats_told) run;
     agrees = subst (Agrees object entries) (ap (map own_calls) seats_are ∙ lists_told) agrees;

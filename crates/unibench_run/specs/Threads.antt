@@ -26,7 +26,7 @@ use Rattle.uni_words.specs.Belongs.{IsSeatOf, own_calls, process_of, processes_o
 use Rattle.uni_words.specs.Compare.{Agrees}
 use Rattle.uni_words.specs.Objects.{sticky, tally}
 use Rattle.uni_words.specs.Run.{IsLogOfRun}
-use Rattle.uni_words.specs.View.{ProcessCalls}
+use Rattle.uni_model.specs.ProcessCalls.{ProcessCalls}
 use Rattle.uni_words.specs.declared.log.WordLog.{WordLog}
 use Rattle.uni_words.specs.declared.steps.WordSeat.{WordSeat}
 use Rattle.unibench_run.specs.Draws.{below_1000, drawn_by, seed_of}
@@ -80,9 +80,9 @@ asked_in calls = map (λ (call : ℕ × ℕ). call.0) calls
 -- A run of so many threads, each of which made so many calls, those of process p as they are drawn from its seed. What they were told
 -- is, of process p, the p-th of these lists of calls: the calls of a log that is that of a run of the construction, with which they
 -- agree.
-pub record IsRunOfThreads (object : Sequential ℕ ℕ ℕ) (threads calls seed : ℕ) (told : List ProcessCalls) : Type 0 where
+pub record IsRunOfThreads (object : Sequential ℕ ℕ ℕ) (threads calls seed : ℕ) (told : List (ProcessCalls ℕ ℕ)) : Type 0 where
   pub many : length told ≡ threads
-  pub each : (p : ℕ) (its : ProcessCalls) → slice_get told p ≡ Some its
+  pub each : (p : ℕ) (its : ProcessCalls ℕ ℕ) → slice_get told p ≡ Some its
       → (its.process ≡ p) × (asked_in its.calls ≡ drawn_by below_1000 (seed_of seed p) calls)
   pub log : List (Entry ℕ ℕ)
   pub run : IsLogOfRun object threads log told
@@ -91,7 +91,7 @@ pub record IsRunOfThreads (object : Sequential ℕ ℕ ℕ) (threads calls seed 
 -- so many replies are those of all calls of such a run
 abbrev pub HasRun : Sequential ℕ ℕ ℕ → (threads calls seed replies : ℕ) → Type 0
 HasRun object threads calls seed replies =
-    (replies ≡ threads * calls) × ((told : List ProcessCalls) × IsRunOfThreads object threads calls seed told)
+    (replies ≡ threads * calls) × ((told : List (ProcessCalls ℕ ℕ)) × IsRunOfThreads object threads calls seed told)
 
 -- what the calls of a seat asked for that it has receipts of
 abbrev pub asked_by : {I R : Type 0} → SeatOf I R → List I
@@ -198,7 +198,7 @@ pub record AreDone {O : Type 0} (log : WordLog O) (seed : ℕ) (done : List Done
       × (asked_in one.told.items ≡ drawn_by below_1000 (seed_of seed p) (row_of log))
 
 -- what a thread was told, by its process
-abbrev pub told_to : Done → ProcessCalls
+abbrev pub told_to : Done → ProcessCalls ℕ ℕ
 told_to one = record { process = process_of one.seat; calls = one.told.items }
 
 eight_threads : agrees_line 8 800 ≡ codes "threads 8 calls 800 agrees" ++ 10 ∷ []

@@ -4,8 +4,8 @@ use Rattle.std.proofs.lemmas.List.{nil_from_length}
 use Rattle.std.specs.Vec.Iter.{into_iter_items}
 use Rattle.uni_words.specs.Belongs.{IsSeatOf, calls_of, known_calls, log_in}
 use Rattle.uni_words.specs.Log.{IsInOrder, IsLogged}
-use Rattle.uni_words.specs.Run.{HasSeen, acts_by, run_history, sequential_acts}
-use Rattle.uni_words.specs.View.{ProcessCalls}
+use Rattle.uni_words.specs.Run.{HasSeen, run_history}
+use Rattle.uni_model.specs.ProcessCalls.{ProcessCalls, acts_by, sequential_acts}
 use Rattle.uni_words.specs.declared.steps.WordSeat.{WordSeat}
 use Rattle.uni_words.proofs.Agreeing.{agrees_all}
 use Rattle.uni_words.proofs.Accounted.{All-each, accounted_first, accounted_more, accounted_all, known_calls_of, known_seen}
@@ -41,7 +41,7 @@ close_with-requires g c = record { seat = c.loop-seat.invariant.0 }
 
 pub returns-clause-known : goal.returns-clause-known
 returns-clause-known g c =
-    let P : ProcessCalls → Type 0 = IsLogged (log_in c.close_with.result) in
+    let P : ProcessCalls ℕ ℕ → Type 0 = IsLogged (log_in c.close_with.result) in
     let known = accounted_all c.args.seats.items _ c.loop-seat.first (nil_from_length _ (sym c.loop-seat.seat-iterator.rest.ok.0 ∙ c.in-None.ensures.steps.0)) c.loop-seat.invariant.2 in
     All-each (λ x. P (calls_of x)) c.args.seats.items
     (λ x has. All-contains P (known_calls c.loop-seat.first) (calls_of x) c.close_with.ensures.known (known x has).0)
