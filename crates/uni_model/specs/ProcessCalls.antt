@@ -21,10 +21,10 @@ sequential_acts p k [] = []
 sequential_acts p k (c ∷ cs) = Invoke p k c.0 ∷ Respond p k c.1 ∷ sequential_acts p (k + 1) cs
 
 -- process 1 beside another one
-sample_acts : acts_by 1 (Invoke 0 0 5 ∷ Invoke 1 0 7 ∷ Linearize (record { process = 1; nth = 0; inv = 7 }) ∷ Respond 1 0 3 ∷ [])
+sample_acts : acts_by {I = ℕ} {R = ℕ} 1 (Invoke 0 0 5 ∷ Invoke 1 0 7 ∷ Linearize (record { process = 1; nth = 0; inv = 7 }) ∷ Respond 1 0 3 ∷ [])
     ≡ sequential_acts 1 0 ((7, 3) ∷ [])
 sample_acts = refl
 
 -- two calls, one after the other
-sample_calls : sequential_acts 1 0 ((7, 3) ∷ (8, 4) ∷ []) ≡ Invoke 1 0 7 ∷ Respond 1 0 3 ∷ Invoke 1 1 8 ∷ Respond 1 1 4 ∷ []
+sample_calls : sequential_acts {I = ℕ} {R = ℕ} 1 0 ((7, 3) ∷ (8, 4) ∷ []) ≡ Invoke 1 0 7 ∷ Respond 1 0 3 ∷ Invoke 1 1 8 ∷ Respond 1 1 4 ∷ []
 sample_calls = refl
