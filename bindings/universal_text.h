@@ -30,7 +30,8 @@ typedef enum universal_text_status {
     UNIVERSAL_TEXT_BAD_SCRIPT = 1, /* the script has a fault, and the text is its line */
     UNIVERSAL_TEXT_SMALL = 2,      /* `capacity` is less than the text takes: `out` is as it was, and *written what it takes */
     UNIVERSAL_TEXT_MEMORY = 3,     /* memory was refused: `out` and *written are as they were */
-    UNIVERSAL_TEXT_BAD_HISTORY = 4 /* `history` isn't from 1 to 16,777,216: `out` and *written are as they were */
+    UNIVERSAL_TEXT_BAD_HISTORY = 4, /* `history` isn't from 1 to 16,777,216: `out` and *written are as they were */
+    UNIVERSAL_TEXT_MISDRAWN = 5    /* the drawing does not show the run, of which no script is known: both are as they were */
 } universal_text_status;
 
 /* How many events a script's history can have where `unibench replay` isn't told. */

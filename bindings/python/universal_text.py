@@ -22,7 +22,7 @@ __all__ = ["BadScript", "HISTORY", "Svg", "draw", "lines", "replay"]
 HISTORY = 1 << 20
 """How many events a script's history can have where `replay` isn't told."""
 
-_DONE, _BAD_SCRIPT, _SMALL, _MEMORY, _BAD_HISTORY = range(5)
+_DONE, _BAD_SCRIPT, _SMALL, _MEMORY, _BAD_HISTORY, _MISDRAWN = range(6)
 
 
 class BadScript(ValueError):
@@ -73,6 +73,8 @@ def _text(name: str, script: str, *numbers: int) -> str:
         raise MemoryError
     if status == _BAD_HISTORY:
         raise ValueError("history isn't from 1 to 16777216")
+    if status == _MISDRAWN:
+        raise RuntimeError("the picture does not show its run")
     text = bytes(out[: written.value]).decode()
     if status == _BAD_SCRIPT:
         raise BadScript(text.rstrip("\n"))

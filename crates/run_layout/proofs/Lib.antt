@@ -1,7 +1,7 @@
 pub mod Breaking
 pub mod Pushing
 pub mod Finding
-pub mod Columns
 pub mod Scripts
 pub mod Telling
 pub mod Everything
+pub mod Names

@@ -2,6 +2,6 @@ pub mod Wording
 pub mod Wrapping
 pub mod Refusals
 pub mod Titles
-pub mod Axis
+pub mod Marked
 pub mod Subject
 pub mod Choice

@@ -19,7 +19,7 @@ use Rattle.uni_script.specs.Replay.{IsInput, fault_of_script}
 use Rattle.uni_script.specs.Remarks.{remark_at, remarks_of_script}
 use Rattle.run_marks.specs.Marks.{RunMarks, marks_of_run}
 use Rattle.run_layout.specs.declared.subject.PictureFault.{PictureFault}
-use Rattle.run_layout.specs.declared.subject.PictureFault.TheVariants.{Script, TooManyEvents}
+use Rattle.run_layout.specs.declared.subject.PictureFault.TheVariants.{Script, TooManyEvents, Misdrawn}
 
 -- the text of the states of a named object
 abbrev pub state_text_of : (object : ObjectName) → StateOf object → List ℕ
@@ -59,6 +59,7 @@ marks_of_session b = marks_of_named b.object b.session.processes b.session.first
 abbrev pub picture_fault_text : PictureFault → List ℕ
 picture_fault_text (Script e) = fault_text e
 picture_fault_text TooManyEvents = codes "too many events for a picture"
+picture_fault_text Misdrawn = codes "the picture does not show its run"
 
 -- those of a session of scripts over one object, which this word names
 abbrev pub marks_of_own : {S I R : Type 0} → SpokenObject S I R → (S → List ℕ) → (name : List ℕ) → OwnSession S I R → RunMarks

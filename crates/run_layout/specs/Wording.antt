@@ -1,7 +1,7 @@
 -- The texts of a picture.
 use Rattle.std.specs.Prelude.{◌≡◌, ℕ, ◌==◌, if◌then◌else◌, List, [], ◌∷◌, ◌++◌, length, Option, Some, None}
 use Rattle.std.specs.Prelude.{codes, refl, Bool, true, false, ◌&&◌, not, nat_le, replicate, option_and_then}
-use Rattle.std.specs.List.{filter, find, list_any}
+use Rattle.std.specs.List.{find}
 use Rattle.std.specs.Fmt.{decimal, digits}
 use Rattle.std.specs.Option.{option_map_or}
 use Rattle.uni_core.specs.declared.stage.StepKind.{StepKind}
@@ -10,7 +10,6 @@ use Rattle.uni_core.specs.declared.stage.StepKind.TheVariants.{DecideAfter, Deci
 use Rattle.uni_script.specs.declared.answer.Refusal.{Refusal}
 use Rattle.uni_script.specs.declared.answer.Refusal.TheVariants.{Process, Busy, Row, Idle, Pending, Sequence, History, Count}
 use Rattle.uni_script.specs.Answer.{call_text}
-use Rattle.run_marks.specs.declared.marks.StepMark.{StepMark}
 use Rattle.run_marks.specs.declared.marks.Dot.{Dot}
 use Rattle.run_marks.specs.declared.marks.EraEnd.{EraEnd}
 use Rattle.run_marks.specs.declared.marks.EraEnd.TheVariants.{Trim, Reshape}
@@ -48,23 +47,6 @@ meaning_of WriteBefore = codes "writes the way back"
 meaning_of WriteSeq = codes "writes the number"
 meaning_of WriteHead = codes "moves its head on"
 meaning_of Finish = codes "raises its head, returns"
-
--- the kinds of step, in the order in which a call takes them
-abbrev pub kinds : List StepKind
-kinds = Announce ∷ ScanHead ∷ ScanSeq ∷ WriteScan ∷ Test ∷ ReadAnnounce ∷ ReadHelpSeq ∷ DecideAfter ∷ DecideNew
-    ∷ WriteBefore ∷ WriteSeq ∷ WriteHead ∷ Finish ∷ []
-
--- whether a step of this kind is among some: letters tell kinds apart
-abbrev pub occurs : List StepMark → StepKind → Bool
-occurs steps kind = list_any (λ step. letter_of step.kind == letter_of kind) steps
-
--- the kinds of step that occur, in the order in which a call takes them
-abbrev pub kinds_of : List StepMark → List StepKind
-kinds_of steps = filter (occurs steps) kinds
-
--- whether one of some steps changed nothing
-abbrev pub any_unchanged : List StepMark → Bool
-any_unchanged steps = list_any (λ step. not step.changed) steps
 
 -- the name of a process
 abbrev pub name_text : (process : ℕ) → List ℕ
@@ -144,19 +126,6 @@ title_text marks =
     marks.object ++ codes ": " ++ counted_text (lanes_of marks.eras) (codes "process") (codes "processes") ++ codes ", "
     ++ counted_text (length marks.bars) (codes "call") (codes "calls") ++ codes ", "
     ++ counted_text marks.events (codes "event") (codes "events")
-
--- a test and an announcement occur, in the order of calls
-abbrev two_steps : List StepMark
-two_steps =
-    record { event = 1; process = 0; nth = 0; number = 5; kind = Test; changed = false }
-    ∷ record { event = 2; process = 1; nth = 0; number = 1; kind = Announce; changed = true } ∷ []
-
-kinds_of_two : kinds_of two_steps ≡ Announce ∷ Test ∷ []
-kinds_of_two = refl
-
--- and the test changed nothing
-unchanged_of_two : any_unchanged two_steps ≡ true
-unchanged_of_two = refl
 
 -- a call that has returned, and one that hasn't
 label_returned : label_text (record {

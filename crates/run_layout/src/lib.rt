@@ -4,14 +4,19 @@
 
 mod axis;
 mod choice;
+mod marked;
 mod refusals;
 mod subject;
 mod titles;
 mod wording;
 mod wrapping;
 
-pub use axis::{Axis, Column, MOST_EVENTS, MOST_LANES, MOST_REMARKS, Scale, axis_of, letters};
+pub use axis::{
+    Axis, Column, MOST_EVENTS, MOST_LANES, MOST_REMARKS, Scale, Side, Stretch, axis_of,
+    lanes_between, letters,
+};
 pub use choice::Range;
+pub use marked::{Mark, Sign, after_events, push_part, push_part_in, signs_of};
 pub use refusals::{Told, refused_text, told_of};
 pub use subject::{PictureFault, Subject, subject_of, subject_of_object};
 pub use titles::step_title;

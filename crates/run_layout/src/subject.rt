@@ -30,6 +30,8 @@ pub enum PictureFault {
     Script(BenchFault),
     /// The script has more than 2,000 events.
     TooManyEvents,
+    /// The drawing of its run does not show what it is to show: no script is known to come to this.
+    Misdrawn,
 }
 
 impl fmt::Display for PictureFault {
@@ -39,6 +41,7 @@ impl fmt::Display for PictureFault {
         match self {
             PictureFault::Script(fault) => write!(f, "{fault}"),
             PictureFault::TooManyEvents => write!(f, "too many events for a picture"),
+            PictureFault::Misdrawn => write!(f, "the picture does not show its run"),
         }
     }
 }

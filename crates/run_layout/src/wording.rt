@@ -1,11 +1,10 @@
 //! The texts of a picture.
 
-ghost use Rattle.std.specs.Prelude.{◌≡◌, ◌≤◌, ◌+◌, ◌++◌, ◌∷◌, []};
-ghost use Rattle.std.specs.Prelude.{if◌then◌else◌, IfOk, OnOk, IfSome, length, option_map};
+ghost use Rattle.std.specs.Prelude.{◌≡◌, ◌++◌, [], IfOk, OnOk, option_map};
 ghost use Rattle.std.specs.List.{find};
 ghost use Rattle.std.specs.Option.{option_map_or};
 ghost use Rattle.run_marks.specs.Shown.{end_shown, bar_shown, cell_shown, marks_shown};
-ghost use Rattle.run_layout.specs.Wording.{occurs, kinds_of, any_unchanged, linker_text, is_help};
+ghost use Rattle.run_layout.specs.Wording.{linker_text, is_help};
 ghost use Rattle.run_layout.specs.Wording.{letter_of, meaning_of, label_text, counted_text, counts_text, line_text};
 ghost use Rattle.run_layout.specs.Wording.{refusal_words, lane_of, cell_words, cell_state, cell_name, title_text};
 ghost use Rattle.run_layout.specs.Wording.{name_text};
@@ -78,54 +77,22 @@ const KINDS: [StepKind; 13] = [
 /// How many letters a state has at most where a cell tells it.
 const MOST_STATE: usize = 24;
 
-/// Whether a step of this kind is among some.
-fn occurs(steps: &[StepMark], kind: StepKind) -> bool
-    ensures { result ≡ occurs steps.now kind }
-{
-    for step in steps {
-        if letter_of(step.kind) == letter_of(kind) {
-            return true;
-        }
-    }
-    false
-}
-
-/// Adds a kind of step where one of that kind is among some.
-///
-/// An `Err` says that memory was refused.
-fn push_kind(
-    steps: &[StepMark],
-    kind: StepKind,
-    found: &mut Vec<StepKind>,
-) -> Result<(), AllocError>
-    ensures few { OnOk result (length found.new.items ≤ length found.old.items + 1) }
-    ensures kinds { OnOk result (found.new.items
-        ≡ found.old.items ++ (if occurs steps.now kind then kind ∷ [] else [])) }
-{
-    if occurs(steps, kind) {
-        found.push(kind)?;
-    }
-    Ok(())
-}
-
 /// The kinds of step that are among some, in the order in which a call takes them.
 ///
 /// An `Err` says that memory was refused.
-pub fn kinds_of(alloc: Global, steps: &[StepMark]) -> Result<Vec<StepKind>, AllocError>
-    ensures few { IfOk result (λ found. length found.items ≤ 13) }
-    ensures kinds { IfOk result (λ found. found.items ≡ kinds_of steps.now) }
-{
+pub fn kinds_of(alloc: Global, steps: &[StepMark]) -> Result<Vec<StepKind>, AllocError> {
     let mut found = Vec::new(alloc);
     for kind in KINDS {
-        push_kind(steps, kind, &mut found)?;
+        let letter = letter_of(kind);
+        if steps.iter().any(|step| letter_of(step.kind) == letter) {
+            found.push(kind)?;
+        }
     }
     Ok(found)
 }
 
 /// Whether one of some steps changed nothing.
-pub fn any_unchanged(steps: &[StepMark]) -> bool
-    ensures { result ≡ any_unchanged steps.now }
-{
+pub fn any_unchanged(steps: &[StepMark]) -> bool {
     steps.iter().any(|step| !step.changed)
 }
 

@@ -1,5 +1,5 @@
 pub mod Canvas
 pub mod Numbers
-pub mod Strokes
+pub mod Parts
 pub mod Sheet
 pub mod Lines

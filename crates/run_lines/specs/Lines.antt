@@ -1,5 +1,5 @@
 -- The lines of a script.
-use Rattle.std.specs.Prelude.{◌≡◌, ℕ, List, Option}
+use Rattle.std.specs.Prelude.{ℕ, List, Option}
 use Rattle.uni_script.specs.declared.remarks.PlacedRemark.{PlacedRemark}
 use Rattle.run_marks.specs.Marks.{RunMarks}
 use Rattle.uni_script.specs.Outcome.{Kind}
@@ -7,7 +7,7 @@ use Rattle.uni_script.specs.Scripts.{scripts_of}
 use Rattle.run_layout.specs.declared.choice.Range.{Range}
 use Rattle.run_layout.specs.Choice.{chosen, chosen_remarks}
 use Rattle.run_layout.specs.Subject.{marks_of_session, IsSubjectOf}
-use Rattle.run_lines.specs.Sheet.{lines_of_marks}
+use Rattle.run_lines.specs.Sheet.{IsTextOf}
 
 -- the reader had a script that can be drawn, and this text draws its marks and what it tells, where these events are chosen
 pub record IsLinesOf {B : Type 0} (kind : Kind B) (marks_in : B → RunMarks) (range : Range) (left : Option (List ℕ))
@@ -15,7 +15,7 @@ pub record IsLinesOf {B : Type 0} (kind : Kind B) (marks_in : B → RunMarks) (r
   pub marks : RunMarks
   pub remarks : List PlacedRemark
   pub subject : IsSubjectOf kind marks_in left marks remarks
-  pub drawn : text ≡ lines_of_marks (chosen range marks) (chosen_remarks range remarks)
+  pub drawn : IsTextOf (chosen range marks) (chosen_remarks range remarks) text
 
 -- the same of a script over the named objects
 abbrev pub IsLines : Range → (left : Option (List ℕ)) (text : List ℕ) → Type 0

@@ -1,39 +1,61 @@
 //! Rows of letters, upon which strokes are put one after the other.
 
-ghost use Rattle.std.specs.Prelude.{◌≡◌, ◌<◌, ℕ, IfOk, length, map, slice_index};
-ghost use Rattle.run_lines.specs.Canvas.{stroke_shown, letter_seen, letter_over, is_in_row, goes_across};
-ghost use Rattle.run_lines.specs.Canvas.{row_of, rows_of};
+ghost use Rattle.std.specs.Prelude.{◌≡◌, ◌<◌, ℕ, IfOk, IfSome, length, map, slice_index};
+ghost use Rattle.run_lines.specs.Canvas.{ink_shown, is_in_row, letter_in, letter_over, letter_seen, outline_of, row_of};
+ghost use Rattle.run_lines.specs.Canvas.{right_of, rows_of, stroke_shown, width_of};
 
+use signs::{Look, Seen, Span, holds};
 use std::alloc::{AllocError, Global};
 
-/// How the letters of a stroke stand to those before it.
-#[derive(Clone, Copy)]
-pub enum Layer {
-    /// Over them.
-    Over,
-    /// Behind them: they show only through blanks and through the `-` of bars.
-    Behind,
+/// What a stroke has.
+#[derive(Drop)]
+pub enum Ink {
+    /// A text.
+    Text(Vec<u8>),
+    /// A bar that is so wide: a `[`, and then `-`.
+    Bar(u64),
+    /// A `|`.
+    Line,
+    /// A `|` behind what stands there: it shows only through blanks and through the `-` of bars.
+    Arrow,
 }
 
-impl Layer {
-    /// The letter that is seen where a letter meets one that stands there.
-    fn seen(self, under: u8, letter: u8) -> u8
-        ensures { result ≡ letter_seen self under letter }
+impl Ink {
+    /// How wide it is.
+    fn width(&self) -> u64
+        ensures { result ≡ width_of (ink_shown self.now) }
     {
         match self {
-            Layer::Over => letter,
-            Layer::Behind => {
-                if under == b' ' || under == b'-' {
-                    letter
-                } else {
-                    under
-                }
-            }
+            Ink::Text(text) => text.len() as u64,
+            Ink::Bar(width) => *width,
+            Ink::Line | Ink::Arrow => 1,
+        }
+    }
+
+    /// A letter, by its place from 0.
+    fn letter(&self, place: usize) -> u8
+        requires { place < width_of (ink_shown self.now) }
+        ensures { result ≡ letter_in (ink_shown self.now) place }
+    {
+        match self {
+            Ink::Text(text) => text[place],
+            Ink::Bar(_) => { if place == 0 { b'[' } else { b'-' } }
+            Ink::Line | Ink::Arrow => b'|',
+        }
+    }
+
+    /// The letter that is seen where one meets one that stands there.
+    fn seen(&self, under: u8, letter: u8) -> u8
+        ensures { result ≡ letter_seen (ink_shown self.now) under letter }
+    {
+        match self {
+            Ink::Arrow if under != b' ' && under != b'-' => under,
+            _ => letter,
         }
     }
 }
 
-/// A text that stands in some rows from a column on.
+/// What stands in some rows from a column on.
 #[derive(Drop)]
 pub struct Stroke {
     /// The first row.
@@ -42,12 +64,8 @@ pub struct Stroke {
     pub bottom: u64,
     /// The column of its first letter.
     pub column: u64,
-    /// Its letters.
-    pub text: Vec<u8>,
-    /// How they stand to those before it.
-    pub layer: Layer,
-    /// Whether it is a label: no end of a block is to cut it.
-    pub is_label: bool,
+    /// What it has.
+    pub ink: Ink,
 }
 
 impl Stroke {
@@ -58,23 +76,66 @@ impl Stroke {
         self.top <= row && row < self.bottom
     }
 
-    /// Whether it is a label with letters on both sides of the left edge of a column.
-    pub fn goes_across(&self, column: u64) -> bool
-        ensures { result ≡ goes_across column (stroke_shown self.now) }
-    {
-        self.is_label && self.column < column && column - self.column < self.text.len() as u64
+    /// Whether it is a text with letters on both sides of the left edge of a column.
+    pub fn goes_across(&self, column: u64) -> bool {
+        match &self.ink {
+            Ink::Text(text) => { self.column < column && column - self.column < text.len() as u64 }
+            Ink::Bar(_) | Ink::Line | Ink::Arrow => false,
+        }
     }
 
-    /// Puts its text upon the letters of a row, as far as they go.
+    /// Puts its letters upon those of a row, as far as they go.
     fn put(&self, letters: &mut [u8])
         ensures { (column : ℕ) → column < length letters.old
             → slice_index letters.new column ≡ letter_over (stroke_shown self.now) column
             (slice_index letters.old column) }
     {
         let from = (self.column as usize).min(letters.len());
-        let count = self.text.len().min(letters.len() - from);
+        let count = (self.ink.width() as usize).min(letters.len() - from);
         for place in 0..count {
-            letters[from + place] = self.layer.seen(letters[from + place], self.text[place]);
+            let letter = self.ink.letter(place);
+            letters[from + place] = self.ink.seen(letters[from + place], letter);
+        }
+    }
+
+    /// The column after it; after its first letter for a text.
+    fn right(&self) -> Option<u64>
+        ensures { IfSome result (λ right. right ≡ right_of (stroke_shown self.now)) }
+    {
+        match &self.ink {
+            Ink::Bar(width) => self.column.checked_add(*width),
+            Ink::Text(_) | Ink::Line | Ink::Arrow => self.column.checked_add(1),
+        }
+    }
+}
+
+impl Seen for Stroke {
+    ghost use Rattle.run_lines.specs.Canvas.{outline_of, stroke_shown};
+
+    ghost seen = { λ stroke. outline_of (stroke_shown stroke) };
+
+    fn look(&self) -> Option<Look> {
+        match &self.ink {
+            Ink::Text(_) => Some(Look::Text),
+            Ink::Bar(_) => Some(Look::Bar),
+            Ink::Line => Some(Look::End),
+            Ink::Arrow => Some(Look::Arrow),
+        }
+    }
+
+    fn says(&self, text: &[u8]) -> bool {
+        match &self.ink {
+            Ink::Text(said) => said.as_slice() == text,
+            Ink::Bar(_) | Ink::Line | Ink::Arrow => text.is_empty(),
+        }
+    }
+
+    fn is_within(&self, wide: Span, high: Span) -> bool {
+        match self.right() {
+            Some(right) => {
+                holds(wide, high, self.column, self.top) && holds(wide, high, right, self.bottom)
+            }
+            None => false,
         }
     }
 }

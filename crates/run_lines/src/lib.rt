@@ -1,14 +1,17 @@
 //! The runs of scripts as lines of a terminal: from the bytes of a script to a text of 100 columns.
 //!
-//! What a picture shows of a script (`run_layout`) becomes strokes, one after the other (`strokes_of`), those
-//! rows of letters (`rows_of`), and the rows a text. docs/pictures.md tells what a reader sees.
+//! What a picture shows of a script (`run_layout`) becomes strokes, one upon the other (`sketch_of`); they are tried, and
+//! where they show all of it they become a text (`tried`). docs/pictures.md tells what a reader sees.
 #![tactic(auto)]
 
 mod canvas;
 mod lines;
 mod numbering;
+mod parts;
 mod sheet;
 mod strokes;
 mod texts;
 
+pub use canvas::{Ink, Stroke};
 pub use lines::{lines_of, lines_of_object};
+pub use sheet::{Block, Sketch, sketch_of, tried};

@@ -1,6 +1,6 @@
 //! From the bytes of a script to the lines that draw its run.
 
-ghost use Rattle.std.specs.Prelude.{◌≡◌, ◌≤◌, IfOk, IsErrOf, false, length};
+ghost use Rattle.std.specs.Prelude.{◌≡◌, ◌≤◌, ⊥, IfOk, IsErrOf, false, length};
 ghost use Rattle.uni_script.specs.Objects.{spoken};
 ghost use Rattle.uni_script.specs.Replay.{HasFault, IsFaultOfScript};
 ghost use Rattle.uni_script.specs.Scripts.{scripts_of, own_scripts_of};
@@ -9,31 +9,35 @@ ghost use Rattle.run_marks.specs.Shown.{marks_shown};
 ghost use Rattle.run_layout.specs.Choice.{chosen, chosen_remarks};
 ghost use Rattle.run_layout.specs.Subject.{HasTooManyEvents, HasMoreEvents, marks_of_own};
 ghost use Rattle.run_lines.specs.Lines.{IsLines, IsLinesOf};
-ghost use Rattle.run_lines.specs.Sheet.{lines_of_marks};
+ghost use Rattle.run_lines.specs.Sheet.{IsTextOf};
 
-use crate::sheet::text_of;
+use crate::sheet::{sketch_of, tried};
 use ready_objects::Spoken;
 use run_layout::{PictureFault, Range, Subject, subject_of, subject_of_object};
-use std::alloc::{AllocError, Global};
+use std::alloc::Global;
 use uni_script::TextIn;
 
 /// The lines of what a picture shows where these events are chosen.
 ///
-/// An `Err` says that memory was refused.
-fn text_of_subject(alloc: Global, range: Range, subject: Subject) -> Result<Vec<u8>, AllocError>
+/// An `Err` is `Misdrawn` where what is drawn does not show it, or says that memory was refused.
+fn text_of_subject(alloc: Global, range: Range, subject: Subject) -> Result<Vec<u8>, PictureFault>
     requires events { subject.marks.events ≤ 2000 }
     requires remarks { length subject.remarks.items ≤ 100000 }
-    ensures { IfOk result (λ text. text.items ≡ lines_of_marks
-        (chosen range (marks_shown subject.marks)) (chosen_remarks range subject.remarks.items)) }
+    ensures text { IfOk result (λ text. IsTextOf (chosen range (marks_shown subject.marks))
+        (chosen_remarks range subject.remarks.items) text.items) }
+    ensures few { IsErrOf result PictureFault.TooManyEvents → ⊥ }
+    ensures memory { (e : Fault) → IsErrOf result (PictureFault.Script e) → e ≡ Fault.Memory }
 {
     let part = subject.chosen(alloc, range)?;
-    text_of(alloc, &part.marks, &part.remarks)
+    let drawn = sketch_of(alloc, &part.marks, &part.remarks)?;
+    tried(alloc, &part.marks, &part.remarks, &drawn)
 }
 
 /// The run of the script that a reader has, where these events are chosen, as lines for a terminal of 100 columns.
 ///
 /// An `Err` is the first fault of the script; `Read` where the reader failed; `Memory` where memory was
-/// refused; or `TooManyEvents` of a good script that has more than 2,000 events.
+/// refused; `TooManyEvents` of a good script that has more than 2,000 events; or `Misdrawn` where what is drawn of its run
+/// does not show its marks, of which no script is known.
 pub fn lines_of<I: TextIn>(
     alloc: Global,
     range: Range,
@@ -46,7 +50,7 @@ pub fn lines_of<I: TextIn>(
         → HasFault (scripts_of 1048576) (I.remaining reader.old) e }
 {
     let subject = subject_of(alloc, reader)?;
-    Ok(text_of_subject(alloc, range, subject)?)
+    text_of_subject(alloc, range, subject)
 }
 
 /// The same of a script over an object, whose header names the object by this word, as for
@@ -73,5 +77,5 @@ pub fn lines_of_object<O: Spoken + Copy, I: TextIn>(
         (I.remaining reader.old) e }
 {
     let subject = subject_of_object(alloc, object, name, reader)?;
-    Ok(text_of_subject(alloc, range, subject)?)
+    text_of_subject(alloc, range, subject)
 }

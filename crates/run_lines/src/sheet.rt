@@ -1,23 +1,27 @@
 //! The whole text.
 
-ghost use Rattle.std.specs.Prelude.{◌≡◌, ◌++◌, ◌+◌, ◌<◌, ◌≤◌, ◌^◌, ◌&&◌, IfOk, OnOk};
-ghost use Rattle.std.specs.Prelude.{if◌then◌else◌, nat_lt, length, map, take};
-ghost use Rattle.std.specs.List.{list_any};
-ghost use Rattle.run_marks.specs.Shown.{era_shown, marks_shown};
-ghost use Rattle.run_layout.specs.Axis.{places_shown};
-ghost use Rattle.run_lines.specs.Canvas.{goes_across, stroke_shown};
-ghost use Rattle.run_lines.specs.Strokes.{bottom_row, era_start};
-ghost use Rattle.run_lines.specs.Sheet.{trimmed, row_name, named_row, shown_line, row_text, era_end, lanes_between};
-ghost use Rattle.run_lines.specs.Sheet.{width_within, block_at, part_of, block_text, blocks_text, lanes_drawn};
-ghost use Rattle.run_lines.specs.Sheet.{rows_text_of, lines_of_marks};
+ghost use Rattle.std.specs.Prelude.{◌≡◌, ◌++◌, ◌∷◌, [], ◌+◌, ◌<◌, ◌≤◌, ◌^◌, ⊥, IfOk, IsErrOf, IsTrue, OnOk};
+ghost use Rattle.std.specs.Prelude.{length, map, take};
+ghost use Rattle.std.specs.List.{flat_map};
+ghost use Rattle.signs.specs.Signs.{meaning, places_shown};
+ghost use Rattle.uni_script.specs.declared.fault.BenchFault.{BenchFault as Fault};
+ghost use Rattle.run_marks.specs.Shown.{marks_shown};
+ghost use Rattle.run_lines.specs.Canvas.{stroke_shown};
+ghost use Rattle.run_lines.specs.Sheet.{AreSide, HasText, IsTextOf, ShowsRows, above_text, below_text, block_text, bottom_row};
+ghost use Rattle.run_lines.specs.Sheet.{named_row, part_of, row_name, row_text, rows_text_of, shown_line, trimmed};
 
 use crate::canvas::{Stroke, rows_of};
-use crate::strokes::{ABOVE, LANE, bottom_row, era_start, strokes_of};
+use crate::parts::{layered, parts_of_run};
+use crate::strokes::{ABOVE, LANE, push_numbers, push_signs};
 use crate::texts::{
-    WIDTH, push_eras, push_headings, push_legend, push_line, push_notes, push_padded, push_wrapped,
+    WIDTH, legend_of, push_eras, push_headings, push_line, push_notes, push_padded, push_wrapped,
 };
-use run_layout::{Axis, MOST_LANES, Scale, any_unchanged, axis_of, kinds_of, name_of, title_of};
-use run_marks::{Era, Marks};
+use run_layout::{
+    MOST_LANES, PictureFault, Scale, Side, Stretch, any_unchanged, axis_of, kinds_of,
+    lanes_between, name_of, signs_of, title_of,
+};
+use run_marks::Marks;
+use signs::{Layout, Part, are_apart, are_shown};
 use std::alloc::{AllocError, Global};
 use uni_script::PlacedRemark;
 
@@ -37,15 +41,26 @@ const NARROW: Scale = Scale {
 
 /// A block of columns.
 #[derive(Clone, Copy)]
-struct Block {
+pub struct Block {
     /// Its first column.
-    from: usize,
+    pub from: usize,
     /// The column after its last one.
-    to: usize,
+    pub to: usize,
     /// How many lanes have their names before the rows.
-    named: u64,
+    pub named: u64,
     /// How many lanes are drawn.
-    lanes: u64,
+    pub lanes: u8,
+}
+
+/// What is drawn of a run in rows, and not yet tried, with what tells where its marks stand.
+#[derive(Drop)]
+pub struct Sketch {
+    /// The strokes, one upon the other.
+    pub strokes: Vec<Stroke>,
+    /// Where the events and the processes stand.
+    pub layout: Layout,
+    /// The blocks in which the rows are told.
+    pub blocks: Vec<Block>,
 }
 
 /// What stands before a row: the name of its process, before the row of its bars, where so many lanes have names there.
@@ -112,88 +127,101 @@ fn push_row(
     push_shown(row, trimmed(&line), text)
 }
 
-/// Where an era ends that these ones follow: where the next one begins, or after all columns.
-fn era_end(axis: &Axis, eras: &[Era]) -> u64
-    ensures { result ≡ era_end (places_shown axis.now) (map era_shown eras.now) }
-{
-    match eras.first() {
-        Some(next) => era_start(axis, next),
-        None => u64::from(axis.end) + 1,
-    }
-}
-
-/// How many processes an era has that these ones follow, where it has a column from one on and before another; else 0.
-fn lanes_of_era(axis: &Axis, era: &Era, rest: &[Era], from: u64, to: u64) -> u64
-    ensures { result ≡ (if nat_lt (era_start (places_shown axis.now) (era_shown era.now)) to
-        && nat_lt from (era_end (places_shown axis.now) (map era_shown rest.now)) then era.now.processes else 0) }
-{
-    if era_start(axis, era) < to && from < era_end(axis, rest) {
-        era.processes
-    } else {
-        0
-    }
-}
-
-/// The most processes of an era that has a column from one on and before another.
-fn lanes_between(axis: &Axis, eras: &[Era], from: u64, to: u64) -> u64
-    ensures { result ≡ lanes_between (places_shown axis.now) (map era_shown eras.now) from to }
-{
-    let mut lanes = 0;
-    for (place, era) in eras.iter().enumerate() {
-        lanes = lanes.max(lanes_of_era(axis, era, &eras[place + 1..], from, to));
-    }
-    lanes
-}
-
-/// Whether a label goes across the left edge of a column.
-fn is_cut(strokes: &[Stroke], column: u64) -> bool
-    ensures { result ≡ list_any (goes_across column) (map stroke_shown strokes.now) }
-{
-    for stroke in strokes {
-        if stroke.goes_across(column) {
-            return true;
-        }
-    }
-    false
-}
-
 /// How wide a block is that begins at a column: as wide as it can be, so that its end cuts no label.
-#[tactic(auto, using(crate::proofs::Blocks::narrower, crate::proofs::Blocks::uncut, crate::proofs::Blocks::width_none))]
 fn block_width(strokes: &[Stroke], from: usize) -> usize
     requires { from ≤ 2 ^ 33 }
     ensures some { 0 < result }
     ensures most { result ≤ 96 }
-    ensures width { result ≡ width_within (map stroke_shown strokes.now) from 96 }
 {
     for left_out in 0..BLOCK {
         let width = BLOCK - left_out;
-        if !is_cut(strokes, (from + width) as u64) {
+        let edge = (from + width) as u64;
+        if !strokes.iter().any(|stroke| stroke.goes_across(edge)) {
             return width;
         }
     }
     BLOCK
 }
 
-/// The block that begins at a column.
-fn block_at(axis: &Axis, eras: &[Era], strokes: &[Stroke], from: usize) -> Block
-    requires { from ≤ 2 ^ 33 }
-    ensures begin { result.from ≡ from }
-    ensures some { from < result.to }
-    ensures most { result.to ≤ from + 96 }
-    ensures few { result.lanes ≤ 64 }
-    ensures block { result
-        ≡ block_at (places_shown axis.now) (map era_shown eras.now) (map stroke_shown strokes.now) from }
-{
-    let to = from + block_width(strokes, from);
-    let start = from as u64;
-    let named = lanes_between(axis, eras, start, start + 1);
-    let lanes = lanes_between(axis, eras, start, to as u64).min(MOST_LANES);
-    Block {
-        from,
-        to,
-        named,
-        lanes,
+/// The blocks of the rows.
+///
+/// An `Err` says that memory was refused.
+fn blocks_of(
+    alloc: Global,
+    width: u32,
+    stretches: &[Stretch],
+    strokes: &[Stroke],
+) -> Result<Vec<Block>, AllocError> {
+    let width = width as usize;
+    let mut blocks = Vec::new(alloc);
+    let mut from = 0;
+    while from < width {
+        let to = from + block_width(strokes, from);
+        let start = from as u64;
+        let named = lanes_between(stretches, start, start + 1);
+        let lanes = lanes_between(stretches, start, to as u64) as u8;
+        blocks.push(Block {
+            from,
+            to,
+            named,
+            lanes,
+        })?;
+        from = to;
     }
+    Ok(blocks)
+}
+
+/// Draws the marks of a run in rows, with what was told beside its events.
+///
+/// An `Err` says that memory was refused.
+pub fn sketch_of(
+    alloc: Global,
+    marks: &Marks,
+    remarks: &[PlacedRemark],
+) -> Result<Sketch, AllocError>
+    requires events { marks.now.events ≤ 2000 }
+    requires remarks { length remarks.now ≤ 100000 }
+{
+    let axis = axis_of(alloc, marks, remarks, NARROW)?;
+    let width = axis.end.saturating_add(1);
+    let end = u64::from(width);
+    let layout = axis.layout(alloc, end, ABOVE, LANE, marks.lanes().min(MOST_LANES))?;
+    let signs = layered(alloc, signs_of(alloc, marks, remarks)?)?;
+    let mut strokes = Vec::new(alloc);
+    push_signs(alloc, &layout, signs, &mut strokes)?;
+    push_numbers(alloc, remarks, &axis, &mut strokes)?;
+    let stretches = axis.stretches(alloc, &marks.eras, 0, end, Side::Left)?;
+    let blocks = blocks_of(alloc, width, &stretches, &strokes)?;
+    Ok(Sketch {
+        strokes,
+        layout,
+        blocks,
+    })
+}
+
+/// Whether blocks stand side by side, from a column to another.
+fn are_side(from: u64, to: u64, blocks: &[Block]) -> bool
+    ensures { IsTrue result → AreSide from to blocks.now }
+{
+    let mut end = from;
+    for block in blocks {
+        if block.from as u64 != end {
+            return false;
+        }
+        end = block.to as u64;
+    }
+    to <= end
+}
+
+/// Whether strokes are these, and blocks show all columns.
+fn shows(parts: &[Part], sketch: &Sketch) -> bool
+    ensures { IsTrue result → ShowsRows (places_shown sketch.now.layout) (map meaning parts.now)
+        (map stroke_shown sketch.now.strokes.items) sketch.now.blocks.items }
+{
+    are_apart(&sketch.layout.columns)
+        && are_apart(&sketch.layout.lanes)
+        && are_shown(&sketch.layout, parts, &sketch.strokes)
+        && are_side(0, sketch.layout.width, &sketch.blocks)
 }
 
 /// The letters of a row in a block.
@@ -206,11 +234,10 @@ fn part_of(letters: &[u8], block: Block) -> &[u8]
 }
 
 /// The rows above the lanes and those of so many lanes.
-fn rows_drawn(rows: &[Vec<u8>], lanes: u64) -> &[Vec<u8>]
-    requires { lanes ≤ 64 }
+fn rows_drawn(rows: &[Vec<u8>], lanes: u8) -> &[Vec<u8>]
     ensures { result.now ≡ take (bottom_row lanes) rows.now }
 {
-    let count = (bottom_row(lanes) as usize).min(rows.len());
+    let count = ((ABOVE + u64::from(lanes) * LANE) as usize).min(rows.len());
     &rows[..count]
 }
 
@@ -223,7 +250,6 @@ fn push_block(
     block: Block,
     text: &mut Vec<u8>,
 ) -> Result<(), AllocError>
-    requires { block.lanes ≤ 64 }
     ensures { OnOk result (text.new.items ≡ text.old.items ++ block_text (map (λ row. row.items) rows.now) block) }
 {
     text.push(b'\n')?;
@@ -240,86 +266,111 @@ fn push_block(
     Ok(())
 }
 
-/// Adds rows that are so wide, in blocks of as many columns as a terminal has beside the names, or fewer where a label
-/// would be cut, and a blank line.
+/// Adds the rows of blocks.
 ///
 /// An `Err` says that memory was refused.
 fn push_blocks(
     alloc: Global,
     rows: &[Vec<u8>],
-    axis: &Axis,
-    eras: &[Era],
-    strokes: &[Stroke],
+    blocks: &[Block],
     text: &mut Vec<u8>,
 ) -> Result<(), AllocError>
-    ensures { OnOk result (text.new.items ≡ text.old.items ++ blocks_text
-        (block_at (places_shown axis.now) (map era_shown eras.now) (map stroke_shown strokes.now))
-        (axis.now.end + 1) (map (λ row. row.items) rows.now)) }
+    ensures { OnOk result (text.new.items
+        ≡ text.old.items ++ flat_map (block_text (map (λ row. row.items) rows.now)) blocks.now) }
 {
-    let width = axis.end as usize + 1;
-    let mut from = 0;
-    while from < width {
-        let block = block_at(axis, eras, strokes, from);
-        push_block(alloc, rows, block, text)?;
-        from = block.to;
+    for block in blocks {
+        push_block(alloc, rows, *block, text)?;
     }
+    Ok(())
+}
+
+/// Adds what stands above the rows: the title and the headings.
+///
+/// An `Err` says that memory was refused.
+fn push_above(
+    alloc: Global,
+    marks: &Marks,
+    remarks: &[PlacedRemark],
+    text: &mut Vec<u8>,
+) -> Result<(), AllocError>
+    ensures { OnOk result (text.new.items ≡ text.old.items ++ above_text (marks_shown marks.now) remarks.now) }
+{
+    push_wrapped(alloc, &title_of(alloc, marks)?, text)?;
+    push_headings(alloc, remarks, text)
+}
+
+/// Adds the rows of a sketch, and a blank line.
+///
+/// An `Err` says that memory was refused.
+fn push_sketch(alloc: Global, sketch: &Sketch, text: &mut Vec<u8>) -> Result<(), AllocError>
+    ensures { OnOk result (text.new.items ≡ text.old.items ++ rows_text_of (places_shown sketch.now.layout)
+        (map stroke_shown sketch.now.strokes.items) sketch.now.blocks.items) }
+{
+    let width = sketch.layout.width as usize;
+    let rows = rows_of(alloc, &sketch.strokes, width, sketch.layout.height)?;
+    push_blocks(alloc, &rows, &sketch.blocks, text)?;
     text.push(b'\n')?;
     Ok(())
 }
 
-/// How many lanes are drawn.
-fn lanes_drawn(marks: &Marks) -> u64
-    ensures few { result ≤ 64 }
-    ensures lanes { result ≡ lanes_drawn (marks_shown marks.now) }
-{
-    marks.lanes().min(MOST_LANES)
-}
-
-/// Adds what is drawn of a run in rows.
+/// Adds what stands below the rows: the notes and the eras.
 ///
 /// An `Err` says that memory was refused.
-fn push_rows(
+fn push_below(
     alloc: Global,
     marks: &Marks,
     remarks: &[PlacedRemark],
-    axis: &Axis,
     text: &mut Vec<u8>,
 ) -> Result<(), AllocError>
     requires { length remarks.now ≤ 100000 }
-    ensures { OnOk result (text.new.items ≡ text.old.items
-        ++ rows_text_of (places_shown axis.now) (marks_shown marks.now) remarks.now) }
+    ensures { OnOk result (text.new.items ≡ text.old.items ++ below_text (marks_shown marks.now) remarks.now) }
 {
-    let lanes = lanes_drawn(marks);
-    let width = axis.end as usize + 1;
-    let strokes = strokes_of(alloc, marks, remarks, axis, lanes)?;
-    let rows = rows_of(alloc, &strokes, width, bottom_row(lanes))?;
-    push_blocks(alloc, &rows, axis, &marks.eras, &strokes, text)
+    push_notes(alloc, remarks, text)?;
+    push_eras(alloc, &marks.dots, &marks.eras, text)
 }
 
-/// The text that draws the marks of a run, with what was told beside its events.
+/// The text of a sketch, with what stands above and below its rows.
 ///
 /// An `Err` says that memory was refused.
-pub fn text_of(
+#[tactic(auto, using(crate::proofs::Pieces::has_text))]
+fn text_of(
     alloc: Global,
     marks: &Marks,
     remarks: &[PlacedRemark],
+    sketch: &Sketch,
 ) -> Result<Vec<u8>, AllocError>
-    requires events { marks.now.events ≤ 2000 }
     requires remarks { length remarks.now ≤ 100000 }
-    ensures { IfOk result (λ text. text.items ≡ lines_of_marks (marks_shown marks.now) remarks.now) }
+    ensures { IfOk result (λ text. HasText (marks_shown marks.now) remarks.now
+        (rows_text_of (places_shown sketch.now.layout) (map stroke_shown sketch.now.strokes.items)
+        sketch.now.blocks.items) text.items) }
 {
     let mut text = Vec::new(alloc);
-    push_wrapped(alloc, &title_of(alloc, marks)?, &mut text)?;
-    push_headings(alloc, remarks, &mut text)?;
-    let axis = axis_of(alloc, marks, remarks, NARROW)?;
-    push_rows(alloc, marks, remarks, &axis, &mut text)?;
-    push_notes(alloc, remarks, &mut text)?;
-    push_eras(alloc, &marks.dots, &marks.eras, &mut text)?;
-    push_legend(
-        alloc,
-        &kinds_of(alloc, &marks.steps)?,
-        any_unchanged(&marks.steps),
-        &mut text,
-    )?;
+    push_above(alloc, marks, remarks, &mut text)?;
+    push_sketch(alloc, sketch, &mut text)?;
+    push_below(alloc, marks, remarks, &mut text)?;
+    let kinds = kinds_of(alloc, &marks.steps)?;
+    let legend = legend_of(alloc, &kinds, any_unchanged(&marks.steps))?;
+    text.extend_from_slice(&legend)?;
     Ok(text)
+}
+
+/// The text of a sketch, where it shows the marks of a run with what was told beside its events.
+///
+/// An `Err` is `Misdrawn` where it does not, or says that memory was refused.
+pub fn tried(
+    alloc: Global,
+    marks: &Marks,
+    remarks: &[PlacedRemark],
+    sketch: &Sketch,
+) -> Result<Vec<u8>, PictureFault>
+    requires remarks { length remarks.now ≤ 100000 }
+    ensures text { IfOk result (λ text. IsTextOf (marks_shown marks.now) remarks.now text.items) }
+    ensures few { IsErrOf result PictureFault.TooManyEvents → ⊥ }
+    ensures memory { (e : Fault) → IsErrOf result (PictureFault.Script e) → e ≡ Fault.Memory }
+{
+    let parts = parts_of_run(alloc, marks, remarks)?;
+    if !shows(&parts, sketch) {
+        return Err(PictureFault::Misdrawn);
+    }
+    Ok(text_of(alloc, marks, remarks, sketch)?)
 }

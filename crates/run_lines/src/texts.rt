@@ -5,8 +5,7 @@ ghost use Rattle.std.specs.Prelude.{length, map, option_map};
 ghost use Rattle.run_marks.specs.Shown.{cell_shown, era_shown};
 ghost use Rattle.run_lines.specs.Numbers.{no_notes};
 ghost use Rattle.run_lines.specs.Sheet.{ended, wrapped, padded, headings_text, numbered_note, notes_from, state_text};
-ghost use Rattle.run_lines.specs.Sheet.{cell_text, era_text, eras_from, kind_text, entry_text, legend_text};
-ghost use Rattle.run_lines.specs.Sheet.{small_letters};
+ghost use Rattle.run_lines.specs.Sheet.{cell_text, era_text, eras_from};
 
 use crate::numbering::Numbering;
 use run_layout::{cell_name, cell_state, cell_words, letter_of, meaning_of, push_lines};
@@ -195,67 +194,27 @@ pub fn push_eras(
     Ok(())
 }
 
-/// A kind of step: its letter and what it means.
+/// The legend of some kinds of step, three in a line, with what a small letter means where a step changed nothing.
 ///
 /// An `Err` says that memory was refused.
-fn kind_text(alloc: Global, kind: StepKind) -> Result<Vec<u8>, AllocError>
-    ensures { IfOk result (λ text. text.items ≡ kind_text kind) }
-{
-    let mut text = Vec::new(alloc);
-    text.push(letter_of(kind))?;
-    text.push(b' ')?;
-    text.extend_from_slice(meaning_of(kind).as_bytes())?;
-    Ok(text)
-}
-
-/// Adds a kind of step to the legend, by its place from 0 among so many: three stand in a line.
-///
-/// An `Err` says that memory was refused.
-fn push_entry(
-    alloc: Global,
-    count: usize,
-    place: usize,
-    kind: StepKind,
-    text: &mut Vec<u8>,
-) -> Result<(), AllocError>
-    requires { place < count }
-    ensures { OnOk result (text.new.items ≡ text.old.items ++ entry_text count place kind) }
-{
-    let entry = kind_text(alloc, kind)?;
-    if place % 3 == 2 || place + 1 == count {
-        push_line(&entry, text)
-    } else {
-        push_padded(alloc, &entry, ENTRY, text)
-    }
-}
-
-/// Adds what a small letter means, where there is one.
-///
-/// An `Err` says that memory was refused.
-fn push_small_letters(unchanged: bool, text: &mut Vec<u8>) -> Result<(), AllocError>
-    ensures { OnOk result (text.new.items ≡ text.old.items ++ small_letters unchanged) }
-{
-    if unchanged {
-        push_line(b"a small letter: that step changed nothing", text)?;
-    }
-    Ok(())
-}
-
-/// Adds the legend of some kinds of step, with what a small letter means where a step changed nothing.
-///
-/// An `Err` says that memory was refused.
-pub fn push_legend(
+pub fn legend_of(
     alloc: Global,
     kinds: &[StepKind],
     unchanged: bool,
-    text: &mut Vec<u8>,
-) -> Result<(), AllocError>
-    ensures { OnOk result (text.new.items ≡ text.old.items ++ legend_text kinds.now unchanged) }
-{
-    text.push(b'\n')?;
+) -> Result<Vec<u8>, AllocError> {
+    let mut legend = b"\n".to_vec(alloc)?;
     for (place, kind) in kinds.iter().enumerate() {
-        push_entry(alloc, kinds.len(), place, *kind, text)?;
+        let mut entry = [letter_of(*kind), b' '].to_vec(alloc)?;
+        entry.extend_from_slice(meaning_of(*kind).as_bytes())?;
+        if place % 3 == 2 || place + 1 == kinds.len() {
+            push_line(&entry, &mut legend)?;
+        } else {
+            push_padded(alloc, &entry, ENTRY, &mut legend)?;
+        }
     }
-    push_small_letters(unchanged, text)?;
-    push_line(SIGNS.as_bytes(), text)
+    if unchanged {
+        push_line(b"a small letter: that step changed nothing", &mut legend)?;
+    }
+    push_line(SIGNS.as_bytes(), &mut legend)?;
+    Ok(legend)
 }

@@ -5,17 +5,18 @@ use Rattle.run_marks.specs.Marks.{RunMarks}
 use Rattle.uni_script.specs.Outcome.{Kind}
 use Rattle.uni_script.specs.Scripts.{scripts_of}
 use Rattle.run_layout.specs.declared.choice.Range.{Range}
-use Rattle.run_layout.specs.Choice.{chosen}
+use Rattle.run_layout.specs.Choice.{chosen, chosen_remarks}
 use Rattle.run_layout.specs.Subject.{marks_of_session, IsSubjectOf}
 use Rattle.run_picture.specs.Drawn.{IsSvgOf}
 
--- the reader had a script that can be drawn, and this is the text of a drawing of its marks, where these events are chosen
+-- the reader had a script that can be drawn, and this is the text of a drawing of its marks and of what it tells, where these events are
+-- chosen
 pub record IsPictureOf {B : Type 0} (kind : Kind B) (marks_in : B → RunMarks) (range : Range) (left : Option (List ℕ))
     (svg : List ℕ) : Type 0 where
   pub marks : RunMarks
   pub remarks : List PlacedRemark
   pub subject : IsSubjectOf kind marks_in left marks remarks
-  pub drawn : IsSvgOf (chosen range marks) svg
+  pub drawn : IsSvgOf (chosen range marks) (chosen_remarks range remarks) svg
 
 -- the same of a script over the named objects
 abbrev pub IsPicture : Range → (left : Option (List ℕ)) (svg : List ℕ) → Type 0

@@ -2,19 +2,21 @@
 
 ghost use Rattle.std.specs.Prelude.{◌≤◌, ◌<◌, ◌^◌, ◌+◌, IfOk};
 
-use crate::figures::{LETTER, Toward, push_line, push_text, push_tip};
+use crate::figures::{Toward, push_line, push_rect, push_text, push_tip, width_of};
 use crate::lanes::MARGIN;
-use run_layout::{cell_name, cell_state, cell_words, letters};
+use crate::parts::{anchor_lines, cell_lines, era_name};
 use run_marks::{CellBox, Dot, Era};
 use std::alloc::{AllocError, Global};
-use std::io::Write;
-use svg_text::{Anchor, Paint, Shape};
+use svg_text::{Paint, Shape};
 
-/// How high a box of two lines is.
-const BOX: u64 = 44;
+/// How high a line of a box is.
+const LINE: u64 = 18;
 
-/// How high a box of three lines is.
-const STATE_BOX: u64 = 62;
+/// How high a box of three lines is, the highest one.
+const BOX: u64 = 62;
+
+/// How far a text stands from the edge of its box.
+const INSIDE: u64 = 8;
 
 /// How far a box stands from the next one.
 const GAP: u64 = 28;
@@ -74,9 +76,13 @@ fn push_era(
     ensures low { IfOk result (λ end. end < 2 ^ 35) }
 {
     let top = lower(bottom, MARGIN);
-    let start = push_anchor(alloc, place, era.anchor, top, shapes)?;
-    let end = push_row(alloc, dots, &era.cells, width, start, shapes)?;
-    Ok(end.top + STATE_BOX)
+    push_text(shapes, MARGIN, top + 27, era_name(alloc, place)?)?;
+    let anchor = anchor_lines(alloc, era.anchor)?;
+    let mut spot = push_box(Spot { left: FIRST, top }, anchor, shapes)?;
+    for cell in &era.cells {
+        spot = push_cell(alloc, dots, cell, width, spot, shapes)?;
+    }
+    Ok(spot.top + BOX)
 }
 
 /// So much below a place, but not below the lowest one.
@@ -85,80 +91,6 @@ pub fn lower(top: u64, by: u64) -> u64
     ensures low { result < 2 ^ 34 }
 {
     top.min(LOWEST) + by
-}
-
-/// Adds the name of an era and the box of its anchor; the answer is where that ends.
-///
-/// An `Err` says that memory was refused.
-fn push_anchor(
-    alloc: Global,
-    place: u64,
-    anchor: u64,
-    top: u64,
-    shapes: &mut Vec<Shape>,
-) -> Result<Spot, AllocError>
-    requires next { place + 1 < 2 ^ 64 }
-    requires low { top < 2 ^ 34 }
-    ensures near { IfOk result (λ end. end.left < 2 ^ 37) }
-    ensures low { IfOk result (λ end. end.top < 2 ^ 34) }
-{
-    let name = era_name(alloc, place)?;
-    push_text(shapes, MARGIN, top + 27, Anchor::Start, Paint::Ink, name)?;
-    let upper = anchor_name(alloc, anchor)?;
-    let mut words = Vec::new(alloc);
-    words.extend_from_slice("anchor".as_bytes())?;
-    let at = Spot { left: FIRST, top };
-    let width = box_width(&upper, &words, None);
-    push_box(at, upper, words, None, shapes)?;
-    Ok(Spot {
-        left: at.left + width,
-        top,
-    })
-}
-
-/// The name of an era, by its place from 0.
-///
-/// An `Err` says that memory was refused.
-fn era_name(alloc: Global, place: u64) -> Result<Vec<u8>, AllocError>
-    requires next { place + 1 < 2 ^ 64 }
-{
-    let mut name = Vec::new(alloc);
-    let number = place + 1;
-    write!(name, "era {number}").map_err(|_| AllocError)?;
-    Ok(name)
-}
-
-/// The number of an anchor.
-///
-/// An `Err` says that memory was refused.
-fn anchor_name(alloc: Global, anchor: u64) -> Result<Vec<u8>, AllocError>
-{
-    let mut name = Vec::new(alloc);
-    write!(name, "{anchor}:").map_err(|_| AllocError)?;
-    Ok(name)
-}
-
-/// Adds cells one after another from a place on; the answer is where the last one ends.
-///
-/// An `Err` says that memory was refused.
-fn push_row(
-    alloc: Global,
-    dots: &[Dot],
-    cells: &[CellBox],
-    width: u64,
-    start: Spot,
-    shapes: &mut Vec<Shape>,
-) -> Result<Spot, AllocError>
-    requires wide { width < 2 ^ 36 }
-    requires near { start.left < 2 ^ 37 }
-    requires low { start.top < 2 ^ 34 }
-    ensures low { IfOk result (λ end. end.top < 2 ^ 34) }
-{
-    let mut spot = start;
-    for cell in cells {
-        spot = push_cell(alloc, dots, cell, width, spot, shapes)?;
-    }
-    Ok(spot)
 }
 
 /// Adds a cell after the box that ends at a place; the answer is where its own ends.
@@ -178,17 +110,10 @@ fn push_cell(
     ensures near { IfOk result (λ end. end.left < 2 ^ 37) }
     ensures low { IfOk result (λ end. end.top < 2 ^ 34) }
 {
-    let name = cell_name(alloc, dots, cell)?;
-    let words = cell_words(alloc, cell)?;
-    let state = cell_state(alloc, cell)?;
-    let wide = box_width(&name, &words, state.as_ref());
-    let at = box_spot(before, wide, width);
+    let lines = cell_lines(alloc, dots, cell)?;
+    let at = box_spot(before, box_width(&lines), width);
     push_link(at, shapes)?;
-    push_box(at, name, words, state, shapes)?;
-    Ok(Spot {
-        left: at.left + wide,
-        top: at.top,
-    })
+    push_box(at, lines, shapes)
 }
 
 /// Where a box stands after one that ends at a place: in its line, or at the start of the next line
@@ -211,7 +136,7 @@ fn box_spot(before: Spot, wide: u64, width: u64) -> Spot
     } else {
         Spot {
             left: FIRST,
-            top: lower(before.top, STATE_BOX + MARGIN),
+            top: lower(before.top, BOX + MARGIN),
         }
     }
 }
@@ -224,77 +149,41 @@ fn push_link(at: Spot, shapes: &mut Vec<Shape>) -> Result<(), AllocError>
     requires near { at.left < 2 ^ 37 }
     requires low { at.top < 2 ^ 37 }
 {
-    let y = at.top + BOX / 2;
+    let y = at.top + 22;
     push_line(shapes, (at.left - 24, y), (at.left - 3, y), Paint::Thick)?;
     push_tip(shapes, at.left - 2, y, Toward::Right)
 }
 
-/// How wide the box of two texts is, with a state below them, if there is one.
-fn box_width(upper: &[u8], lower: &[u8], state: Option<&Vec<u8>>) -> u64
+/// How wide the box of some lines is.
+fn box_width(lines: &[Vec<u8>]) -> u64
     ensures small { result ≤ 8016 }
 {
-    let widest = match state {
-        Some(state) => letters(upper).max(letters(lower)).max(letters(state)),
-        None => letters(upper).max(letters(lower)),
-    };
-    (u64::from(widest) + 2) * LETTER
-}
-
-/// How high the box is then: it has two lines, or three.
-fn box_height(state: Option<&Vec<u8>>) -> u64
-{
-    match state {
-        Some(_) => STATE_BOX,
-        None => BOX,
+    let mut widest = 0;
+    for line in lines {
+        widest = width_of(line).max(widest);
     }
+    widest + 2 * INSIDE
 }
 
-/// Adds the state in a box, if there is one.
+/// Adds a box with lines of text; the answer is where it ends.
 ///
 /// An `Err` says that memory was refused.
-fn push_state(at: Spot, state: Option<Vec<u8>>, shapes: &mut Vec<Shape>) -> Result<(), AllocError>
-    requires near { at.left < 2 ^ 37 }
-    requires low { at.top < 2 ^ 38 }
+fn push_box(at: Spot, lines: Vec<Vec<u8>>, shapes: &mut Vec<Shape>) -> Result<Spot, AllocError>
+    requires near { at.left < 2 ^ 36 }
+    requires low { at.top < 2 ^ 34 }
+    ensures near { IfOk result (λ end. end.left < 2 ^ 37) }
+    ensures low { IfOk result (λ end. end.top < 2 ^ 34) }
 {
-    let left = at.left + LETTER;
-    match state {
-        Some(state) => push_text(shapes, left, at.top + 54, Anchor::Start, Paint::Ink, state),
-        None => Ok(()),
+    let width = box_width(&lines);
+    let mut below = LINE;
+    let height = (lines.len() as u64).min(3) * LINE + INSIDE;
+    push_rect(shapes, (at.left, at.top), (width, height), Paint::Frame)?;
+    for line in lines {
+        push_text(shapes, at.left + INSIDE, at.top + below, line)?;
+        below = (below + LINE).min(BOX);
     }
-}
-
-/// Adds a box with two texts, and below them the state, if there is one.
-///
-/// An `Err` says that memory was refused.
-fn push_box(
-    at: Spot,
-    upper: Vec<u8>,
-    lower: Vec<u8>,
-    state: Option<Vec<u8>>,
-    shapes: &mut Vec<Shape>,
-) -> Result<(), AllocError>
-    requires near { at.left < 2 ^ 37 }
-    requires low { at.top < 2 ^ 38 }
-{
-    let width = box_width(&upper, &lower, state.as_ref());
-    push_frame(at, width, box_height(state.as_ref()), shapes)?;
-    let left = at.left + LETTER;
-    push_text(shapes, left, at.top + 18, Anchor::Start, Paint::Ink, upper)?;
-    push_text(shapes, left, at.top + 36, Anchor::Start, Paint::Ink, lower)?;
-    push_state(at, state, shapes)
-}
-
-/// Adds the frame of a box.
-///
-/// An `Err` says that memory was refused.
-fn push_frame(at: Spot, width: u64, height: u64, shapes: &mut Vec<Shape>) -> Result<(), AllocError>
-{
-    shapes.push(Shape::Rect {
-        x: at.left,
-        y: at.top,
-        width,
-        height,
-        paint: Paint::Frame,
-    })?;
-    Ok(())
+    Ok(Spot {
+        left: at.left + width,
+        top: at.top,
+    })
 }

@@ -9,18 +9,31 @@ use svg_text::{Anchor, Paint, Shape};
 /// How wide a letter is.
 pub const LETTER: u64 = 8;
 
+/// How wide a text is, where each letter is so wide.
+pub fn width_of(text: &[u8]) -> u64
+    ensures { result ≤ 8000 }
+{
+    u64::from(letters(text)) * LETTER
+}
+
+/// Adds a text that begins at a place.
+///
+/// An `Err` says that memory was refused.
+pub fn push_text(shapes: &mut Vec<Shape>, x: u64, y: u64, text: Vec<u8>) -> Result<(), AllocError> {
+    push_anchored(shapes, (x, y), Anchor::Start, Paint::Ink, text)
+}
+
 /// Adds a text.
 ///
 /// An `Err` says that memory was refused.
-pub fn push_text(
+pub fn push_anchored(
     shapes: &mut Vec<Shape>,
-    x: u64,
-    y: u64,
+    at: (u64, u64),
     anchor: Anchor,
     paint: Paint,
     text: Vec<u8>,
-) -> Result<(), AllocError>
-{
+) -> Result<(), AllocError> {
+    let (x, y) = at;
     shapes.push(Shape::Text {
         x,
         y,
@@ -37,14 +50,27 @@ pub fn push_text(
 pub fn push_label(shapes: &mut Vec<Shape>, x: u64, y: u64, text: Vec<u8>) -> Result<(), AllocError>
     requires { 13 ≤ y }
 {
+    push_rect(shapes, (x, y - 13), (width_of(&text), 17), Paint::Paper)?;
+    push_text(shapes, x, y, text)
+}
+
+/// Adds a rectangle of a width and a height.
+///
+/// An `Err` says that memory was refused.
+pub fn push_rect(
+    shapes: &mut Vec<Shape>,
+    at: (u64, u64),
+    size: (u64, u64),
+    paint: Paint,
+) -> Result<(), AllocError> {
     shapes.push(Shape::Rect {
-        x,
-        y: y - 13,
-        width: u64::from(letters(&text)) * LETTER,
-        height: 17,
-        paint: Paint::Paper,
+        x: at.0,
+        y: at.1,
+        width: size.0,
+        height: size.1,
+        paint,
     })?;
-    push_text(shapes, x, y, Anchor::Start, Paint::Ink, text)
+    Ok(())
 }
 
 /// Adds a line.
@@ -55,8 +81,7 @@ pub fn push_line(
     from: (u64, u64),
     to: (u64, u64),
     paint: Paint,
-) -> Result<(), AllocError>
-{
+) -> Result<(), AllocError> {
     shapes.push(Shape::Line {
         x1: from.0,
         y1: from.1,
@@ -65,6 +90,31 @@ pub fn push_line(
         paint,
     })?;
     Ok(())
+}
+
+/// Adds the two lines of a cross between two corners.
+///
+/// An `Err` says that memory was refused.
+pub fn push_cross(
+    shapes: &mut Vec<Shape>,
+    from: (u64, u64),
+    to: (u64, u64),
+) -> Result<(), AllocError> {
+    push_line(shapes, from, to, Paint::Cross)?;
+    push_line(shapes, (from.0, to.1), (to.0, from.1), Paint::Cross)
+}
+
+/// Adds three edges of a rectangle that is open at its right.
+///
+/// An `Err` says that memory was refused.
+pub fn push_open(
+    shapes: &mut Vec<Shape>,
+    from: (u64, u64),
+    to: (u64, u64),
+) -> Result<(), AllocError> {
+    push_line(shapes, from, (to.0, from.1), Paint::Edge)?;
+    push_line(shapes, from, (from.0, to.1), Paint::Edge)?;
+    push_line(shapes, (from.0, to.1), to, Paint::Edge)
 }
 
 /// Where the tip of an arrow points.
@@ -82,8 +132,8 @@ pub enum Toward {
 ///
 /// An `Err` says that memory was refused.
 pub fn push_tip(shapes: &mut Vec<Shape>, x: u64, y: u64, toward: Toward) -> Result<(), AllocError>
-    requires right { x < 2 ^ 40 }
-    requires bottom { y < 2 ^ 40 }
+    requires right { x < 2 ^ 41 }
+    requires bottom { y < 2 ^ 41 }
 {
     let (x1, y1, x2, y2) = match toward {
         Toward::Up => (x.saturating_sub(5), y + 9, x + 5, y + 9),

@@ -1,12 +1,12 @@
-//! Lanes and the ends of eras.
+//! Lanes.
 
 ghost use Rattle.std.specs.Prelude.{◌≤◌, ◌<◌, ◌^◌, ◌+◌, ◌*◌};
 
 use crate::figures::{push_line, push_text};
-use run_layout::{Axis, MOST_LANES, line_of, name_of};
-use run_marks::{Era, EraLine, Marks};
+use run_layout::{Axis, MOST_LANES, Stretch, name_of};
+use run_marks::Marks;
 use std::alloc::{AllocError, Global};
-use svg_text::{Anchor, Paint, Shape};
+use svg_text::{Paint, Shape};
 
 /// How far things stand from the left and the right.
 pub const MARGIN: u64 = 12;
@@ -15,10 +15,10 @@ pub const MARGIN: u64 = 12;
 pub const START: u64 = 40;
 
 /// The top of the first lane, below refusals and the labels of ends of eras.
-const TOP: u64 = 20;
+pub const TOP: u64 = 20;
 
 /// How high a lane is.
-const LANE: u64 = 96;
+pub const LANE: u64 = 96;
 
 /// Lanes, one below the other.
 #[derive(Clone, Copy)]
@@ -39,6 +39,7 @@ impl Lanes {
 
     /// The lanes of a run, 64 at most.
     pub fn of_run(marks: &Marks) -> Lanes
+        ensures few { result.count ≤ 64 }
     {
         Lanes::for_processes(marks.lanes())
     }
@@ -68,17 +69,6 @@ impl Lanes {
     }
 }
 
-/// How the lanes of an era stand.
-#[derive(Clone, Copy)]
-struct Stretch {
-    /// From where.
-    left: u64,
-    /// To where.
-    right: u64,
-    /// How many lanes have a name already.
-    named: u64,
-}
-
 /// Where the strip ends, and bars that stay open.
 pub fn strip_end(axis: &Axis) -> u64
     ensures small { result < 2 ^ 33 }
@@ -86,22 +76,26 @@ pub fn strip_end(axis: &Axis) -> u64
     u64::from(axis.end) + MARGIN
 }
 
-/// Adds the lane of a process in an era, with its name where it is new.
+/// Adds the lane of a process in an era, with its name where only so many lanes have one already.
 ///
 /// An `Err` says that memory was refused.
 fn push_lane(
     alloc: Global,
     lanes: Lanes,
     stretch: Stretch,
+    named: u64,
     process: u64,
     shapes: &mut Vec<Shape>,
-) -> Result<(), AllocError>
-    requires { stretch.left < 2 ^ 40 }
-{
+) -> Result<(), AllocError> {
     let y = lanes.middle(process);
-    push_line(shapes, (stretch.left, y), (stretch.right, y), Paint::Faint)?;
-    if stretch.named <= process {
-        push_name(alloc, process, (stretch.left + 4, y - 5), shapes)
+    push_line(shapes, (stretch.from, y), (stretch.to, y), Paint::Faint)?;
+    if named <= process {
+        push_name(
+            alloc,
+            process,
+            (stretch.from.saturating_add(4), y - 5),
+            shapes,
+        )
     } else {
         Ok(())
     }
@@ -115,39 +109,9 @@ pub fn push_name(
     process: u64,
     at: (u64, u64),
     shapes: &mut Vec<Shape>,
-) -> Result<(), AllocError>
-{
+) -> Result<(), AllocError> {
     let name = name_of(alloc, process)?;
-    push_text(shapes, at.0, at.1, Anchor::Start, Paint::Ink, name)
-}
-
-/// Adds the lanes of an era of so many processes.
-///
-/// An `Err` says that memory was refused.
-fn push_lanes(
-    alloc: Global,
-    lanes: Lanes,
-    stretch: Stretch,
-    processes: u64,
-    shapes: &mut Vec<Shape>,
-) -> Result<(), AllocError>
-    requires { stretch.left < 2 ^ 40 }
-{
-    for process in 0..processes {
-        push_lane(alloc, lanes, stretch, process, shapes)?;
-    }
-    Ok(())
-}
-
-/// Where an era ends that these ones follow: in the middle of the event before the next one, or with the
-/// strip.
-pub fn era_end(axis: &Axis, eras: &[Era]) -> u64
-    ensures small { result < 2 ^ 40 }
-{
-    match eras.first() {
-        Some(next) => axis.event(next.from.saturating_sub(1)).middle(),
-        None => strip_end(axis),
-    }
+    push_text(shapes, at.0, at.1, name)
 }
 
 /// Adds the lanes of all eras.
@@ -155,54 +119,16 @@ pub fn era_end(axis: &Axis, eras: &[Era]) -> u64
 /// An `Err` says that memory was refused.
 pub fn push_eras(
     alloc: Global,
-    eras: &[Era],
-    axis: &Axis,
+    stretches: &[Stretch],
     lanes: Lanes,
     shapes: &mut Vec<Shape>,
-) -> Result<(), AllocError>
-{
-    let mut left = START;
+) -> Result<(), AllocError> {
     let mut named = MOST_LANES;
-    for (place, era) in eras.iter().enumerate() {
-        let right = era_end(axis, &eras[place + 1..]);
-        let stretch = Stretch { left, right, named };
-        push_lanes(alloc, lanes, stretch, era.processes, shapes)?;
-        left = right;
-        named = era.processes;
-    }
-    Ok(())
-}
-
-/// Adds the end of an era: a line through all lanes, with its label above them.
-///
-/// An `Err` says that memory was refused.
-fn push_era_line(
-    alloc: Global,
-    line: &EraLine,
-    axis: &Axis,
-    lanes: Lanes,
-    shapes: &mut Vec<Shape>,
-) -> Result<(), AllocError>
-{
-    let x = axis.event(line.event).middle();
-    push_line(shapes, (x, TOP), (x, lanes.bottom()), Paint::Broken)?;
-    let label = line_of(alloc, line)?;
-    push_text(shapes, x, TOP - 6, Anchor::Middle, Paint::Ink, label)
-}
-
-/// Adds the ends of eras.
-///
-/// An `Err` says that memory was refused.
-pub fn push_era_lines(
-    alloc: Global,
-    lines: &[EraLine],
-    axis: &Axis,
-    lanes: Lanes,
-    shapes: &mut Vec<Shape>,
-) -> Result<(), AllocError>
-{
-    for line in lines {
-        push_era_line(alloc, line, axis, lanes, shapes)?;
+    for stretch in stretches {
+        for process in 0..stretch.lanes {
+            push_lane(alloc, lanes, *stretch, named, process, shapes)?;
+        }
+        named = stretch.lanes;
     }
     Ok(())
 }

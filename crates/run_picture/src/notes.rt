@@ -5,10 +5,10 @@ ghost use Rattle.std.specs.Prelude.{◌≤◌, ◌<◌, ◌^◌, ◌+◌, ◌*�
 use crate::cells::lower;
 use crate::figures::{LETTER, Toward, push_label, push_line, push_text, push_tip};
 use crate::lanes::{MARGIN, START};
-use crate::rows::Row;
-use run_layout::{Axis, Column, Told, push_lines, told_of};
+use run_layout::{Axis, push_lines};
+use signs::Span;
 use std::alloc::{AllocError, Global};
-use svg_text::{Anchor, Paint, Shape};
+use svg_text::{Paint, Shape};
 use uni_script::{PlacedRemark, Remark};
 
 /// How high a line of text is.
@@ -24,8 +24,7 @@ const STEM_GAP: u64 = 5;
 const LEAST_LETTERS: usize = 30;
 
 /// How many letters a line takes in a picture of this width.
-pub fn line_letters(width: u64) -> usize
-{
+pub fn line_letters(width: u64) -> usize {
     (width.saturating_sub(48) / LETTER) as usize
 }
 
@@ -64,7 +63,7 @@ fn push_down(
     for line in lines {
         let mut text = Vec::new(alloc);
         text.extend_from_slice(line)?;
-        push_text(shapes, MARGIN, place + 16, Anchor::Start, Paint::Ink, text)?;
+        push_text(shapes, MARGIN, place + 16, text)?;
         place += LINE;
     }
     Ok(())
@@ -97,8 +96,7 @@ fn stem_of(axis: &Axis, place: usize) -> u64
 }
 
 /// The text of a note that comes after the header; nothing of anything else.
-fn note_text(remark: &Remark) -> &[u8]
-{
+fn note_text(remark: &Remark) -> &[u8] {
     match remark {
         Remark::Note(text) => text,
         Remark::Heading(_) | Remark::Refused(_) => &[],
@@ -106,8 +104,7 @@ fn note_text(remark: &Remark) -> &[u8]
 }
 
 /// The text of a note whose stem stands in a row; nothing of anything else.
-fn text_in<'a>(axis: &Axis, row: Row, place: usize, remark: &'a Remark) -> &'a [u8]
-{
+fn text_in<'a>(axis: &Axis, row: Span, place: usize, remark: &'a Remark) -> &'a [u8] {
     let stem = stem_of(axis, place);
     if row.from <= stem && stem < row.to {
         note_text(remark)
@@ -154,7 +151,7 @@ struct Caption {
 fn caption_of(
     alloc: Global,
     axis: &Axis,
-    row: Row,
+    row: Span,
     width: u64,
     place: usize,
     remark: &Remark,
@@ -177,7 +174,7 @@ fn captions_height(
     alloc: Global,
     remarks: &[PlacedRemark],
     axis: &Axis,
-    row: Row,
+    row: Span,
     width: u64,
 ) -> Result<u64, AllocError>
     requires { length remarks.now ≤ 100000 }
@@ -246,7 +243,7 @@ pub fn push_captions(
     alloc: Global,
     remarks: &[PlacedRemark],
     axis: &Axis,
-    row: Row,
+    row: Span,
     width: u64,
     bottom: u64,
     shapes: &mut Vec<Shape>,
@@ -264,108 +261,30 @@ pub fn push_captions(
     Ok(foot)
 }
 
-/// Adds the room of each note right of its stem in the strip, as paper.
+/// Adds the room of each note right of its stem in the strip.
 ///
 /// An `Err` says that memory was refused.
 pub fn push_rooms(
     remarks: &[PlacedRemark],
     axis: &Axis,
-    rooms: &mut Vec<Shape>,
-) -> Result<(), AllocError>
-{
+    rooms: &mut Vec<Span>,
+) -> Result<(), AllocError> {
     for (place, one) in remarks.iter().enumerate() {
-        push_room(stem_of(axis, place), &one.remark, rooms)?;
+        if let Remark::Note(text) = &one.remark {
+            let from = stem_of(axis, place) + STEM_GAP;
+            rooms.push(Span {
+                from,
+                to: from + room_of(text),
+            })?;
+        }
     }
     Ok(())
-}
-
-/// Adds the room of a note right of its stem, as paper.
-///
-/// An `Err` says that memory was refused.
-fn push_room(stem: u64, remark: &Remark, rooms: &mut Vec<Shape>) -> Result<(), AllocError>
-    requires { stem < 2 ^ 33 }
-{
-    if let Remark::Note(text) = remark {
-        rooms.push(Shape::Rect {
-            x: stem + STEM_GAP,
-            y: 0,
-            width: room_of(text),
-            height: LINE,
-            paint: Paint::Paper,
-        })?;
-    }
-    Ok(())
-}
-
-/// Adds the mark of a refusal, above the lanes: a cross and its label.
-///
-/// An `Err` says that memory was refused.
-fn push_refusal(label: Vec<u8>, column: Column, shapes: &mut Vec<Shape>) -> Result<(), AllocError>
-{
-    let x = u64::from(column.left);
-    shapes.push(Shape::Rect {
-        x: x + 2,
-        y: 1,
-        width: u64::from(column.width.saturating_sub(4)),
-        height: 18,
-        paint: Paint::Paper,
-    })?;
-    push_line(shapes, (x + 4, 5), (x + 14, 15), Paint::Cross)?;
-    push_line(shapes, (x + 4, 15), (x + 14, 5), Paint::Cross)?;
-    push_text(shapes, x + 18, 14, Anchor::Start, Paint::Ink, label)
-}
-
-/// Adds the mark of what is told, if it has one.
-///
-/// An `Err` says that memory was refused.
-fn push_mark(
-    alloc: Global,
-    told: &Told,
-    column: Column,
-    shapes: &mut Vec<Shape>,
-) -> Result<(), AllocError>
-{
-    match &told.label {
-        Some(label) => push_refusal(label.as_slice().to_vec(alloc)?, column, shapes),
-        None => Ok(()),
-    }
-}
-
-/// Adds the marks of what is told.
-///
-/// An `Err` says that memory was refused.
-fn push_marks(
-    alloc: Global,
-    told: &[Told],
-    axis: &Axis,
-    shapes: &mut Vec<Shape>,
-) -> Result<(), AllocError>
-{
-    for (place, one) in told.iter().enumerate() {
-        push_mark(alloc, one, axis.remark(place), shapes)?;
-    }
-    Ok(())
-}
-
-/// Adds the refusals.
-///
-/// An `Err` says that memory was refused.
-pub fn push_refusals(
-    alloc: Global,
-    remarks: &[PlacedRemark],
-    axis: &Axis,
-    shapes: &mut Vec<Shape>,
-) -> Result<(), AllocError>
-{
-    let told = told_of(alloc, remarks)?;
-    push_marks(alloc, &told, axis, shapes)
 }
 
 /// The description of a picture, for who can't see it: the notes that come before the header.
 ///
 /// An `Err` says that memory was refused.
-pub fn description_of(alloc: Global, remarks: &[PlacedRemark]) -> Result<Vec<u8>, AllocError>
-{
+pub fn description_of(alloc: Global, remarks: &[PlacedRemark]) -> Result<Vec<u8>, AllocError> {
     let mut text = Vec::new(alloc);
     for one in remarks {
         if let Remark::Heading(heading) = &one.remark {
@@ -378,8 +297,7 @@ pub fn description_of(alloc: Global, remarks: &[PlacedRemark]) -> Result<Vec<u8>
 /// Adds a heading after a text, with a space between them where there is a text.
 ///
 /// An `Err` says that memory was refused.
-fn push_heading(text: &mut Vec<u8>, heading: &[u8]) -> Result<(), AllocError>
-{
+fn push_heading(text: &mut Vec<u8>, heading: &[u8]) -> Result<(), AllocError> {
     if !text.is_empty() {
         text.push(b' ')?;
     }

@@ -2,11 +2,10 @@
 
 ghost use Rattle.std.specs.Prelude.{◌≤◌, ◌<◌, ◌^◌, ◌+◌, IfOk, length};
 
-use crate::bars::push_texts;
-use crate::lanes::{Lanes, MARGIN, START, era_end, push_name, strip_end};
-use crate::notes::{push_captions, push_rooms};
-use run_layout::{Axis, Column};
-use run_marks::{Era, Marks};
+use crate::lanes::{Lanes, MARGIN, START, push_name, strip_end};
+use crate::notes::push_captions;
+use run_layout::{Axis, Column, Stretch, lanes_between};
+use signs::Span;
 use std::alloc::{AllocError, Global};
 use svg_text::Shape;
 use uni_script::PlacedRemark;
@@ -14,44 +13,21 @@ use uni_script::PlacedRemark;
 /// How wide a row is at most.
 const WIDEST: u64 = 1_348;
 
-/// A row.
-#[derive(Clone, Copy)]
-pub struct Row {
-    /// Where it begins in the strip.
-    pub from: u64,
-    /// Where it ends there.
-    pub to: u64,
-}
-
-/// Whether an edge goes through a label or the room of a note, by its paper.
-fn goes_through(edge: u64, label: &Shape) -> bool
-{
-    match label {
-        Shape::Rect { x, width, .. } => *x < edge && edge - *x < *width,
-        _ => false,
-    }
-}
-
 /// Whether an edge goes through one of some labels.
-fn is_cut(edge: u64, labels: &[Shape]) -> bool
-{
-    for label in labels {
-        if goes_through(edge, label) {
-            return true;
-        }
-    }
-    false
+fn is_cut(edge: u64, labels: &[Span]) -> bool {
+    labels
+        .iter()
+        .any(|label| label.from < edge && edge < label.to)
 }
 
 /// Adds the left edges of columns that go through no label.
 ///
 /// An `Err` says that memory was refused.
 fn push_free_edges(
-    labels: &[Shape],
+    labels: &[Span],
     columns: &[Column],
     edges: &mut Vec<u64>,
-) -> Result<(), AllocError>
-{
+) -> Result<(), AllocError> {
     for column in columns {
         let edge = u64::from(column.left);
         if !is_cut(edge, labels) {
@@ -61,23 +37,14 @@ fn push_free_edges(
     Ok(())
 }
 
-/// Where a row may end: at the left edge of an event or of what is told that goes through no label of a bar and no
-/// room of a note, and with the strip.
+/// Where a row may end: at the left edge of an event or of what is told that goes through none of these labels, and with
+/// the strip.
 ///
 /// An `Err` says that memory was refused.
-fn edges_of(
-    alloc: Global,
-    marks: &Marks,
-    remarks: &[PlacedRemark],
-    axis: &Axis,
-) -> Result<Vec<u64>, AllocError>
-{
-    let mut labels = Vec::new(alloc);
-    push_texts(alloc, &marks.bars, axis, Lanes::of_run(marks), &mut labels)?;
-    push_rooms(remarks, axis, &mut labels)?;
+fn edges_of(alloc: Global, labels: &[Span], axis: &Axis) -> Result<Vec<u64>, AllocError> {
     let mut edges = Vec::new(alloc);
-    push_free_edges(&labels, &axis.events, &mut edges)?;
-    push_free_edges(&labels, &axis.remarks, &mut edges)?;
+    push_free_edges(labels, &axis.events, &mut edges)?;
+    push_free_edges(labels, &axis.remarks, &mut edges)?;
     edges.push(strip_end(axis))?;
     Ok(edges)
 }
@@ -109,42 +76,20 @@ fn row_end(edges: &[u64], from: u64) -> u64
     }
 }
 
-/// The rows of a strip.
+/// The rows of a strip, of which none ends within one of these labels.
 ///
 /// An `Err` says that memory was refused.
-fn rows_of(
-    alloc: Global,
-    marks: &Marks,
-    remarks: &[PlacedRemark],
-    axis: &Axis,
-) -> Result<Vec<Row>, AllocError>
-{
-    let edges = edges_of(alloc, marks, remarks, axis)?;
+pub fn rows_of(alloc: Global, labels: &[Span], axis: &Axis) -> Result<Vec<Span>, AllocError> {
+    let edges = edges_of(alloc, labels, axis)?;
     let end = strip_end(axis);
     let mut rows = Vec::new(alloc);
     let mut from = START;
     while from < end {
         let to = row_end(&edges, from);
-        rows.push(Row { from, to })?;
+        rows.push(Span { from, to })?;
         from = to;
     }
     Ok(rows)
-}
-
-/// The lanes from a place to another: as many as the most that an era has there.
-fn lanes_between(axis: &Axis, eras: &[Era], from: u64, to: u64) -> Lanes
-    ensures few { result.count ≤ 64 }
-{
-    let mut left = START;
-    let mut most = 0;
-    for (place, era) in eras.iter().enumerate() {
-        let right = era_end(axis, &eras[place + 1..]);
-        if left <= to && from < right {
-            most = era.processes.max(most);
-        }
-        left = right;
-    }
-    Lanes::for_processes(most)
 }
 
 /// Adds the names of lanes left of a row with this top.
@@ -171,11 +116,11 @@ fn push_names(
 /// An `Err` says that memory was refused.
 fn push_row(
     alloc: Global,
-    marks: &Marks,
+    stretches: &[Stretch],
     remarks: &[PlacedRemark],
     axis: &Axis,
     width: u64,
-    row: Row,
+    row: Span,
     bottom: u64,
     shapes: &mut Vec<Shape>,
 ) -> Result<u64, AllocError>
@@ -183,9 +128,14 @@ fn push_row(
     ensures small { IfOk result (λ end. end < 2 ^ 35) }
 {
     let top = push_captions(alloc, remarks, axis, row, width, bottom, shapes)?;
-    let named = lanes_between(axis, &marks.eras, row.from, row.from);
+    let named = Lanes::for_processes(lanes_between(
+        stretches,
+        row.from,
+        row.from.saturating_add(1),
+    ));
     push_names(alloc, top, named, shapes)?;
-    let height = lanes_between(axis, &marks.eras, row.from, row.to).bottom();
+    let lanes = lanes_between(stretches, row.from, row.to.saturating_add(1));
+    let height = Lanes::for_processes(lanes).bottom();
     shapes.push(Shape::View {
         x: START,
         y: top,
@@ -201,9 +151,10 @@ fn push_row(
 /// An `Err` says that memory was refused.
 pub fn push_rows(
     alloc: Global,
-    marks: &Marks,
+    stretches: &[Stretch],
     remarks: &[PlacedRemark],
     axis: &Axis,
+    rows: &[Span],
     width: u64,
     bottom: u64,
     shapes: &mut Vec<Shape>,
@@ -212,10 +163,9 @@ pub fn push_rows(
     requires low { bottom < 2 ^ 35 }
     ensures small { IfOk result (λ end. end < 2 ^ 35) }
 {
-    let rows = rows_of(alloc, marks, remarks, axis)?;
     let mut end = bottom;
-    for row in &rows {
-        end = push_row(alloc, marks, remarks, axis, width, *row, end, shapes)?;
+    for row in rows {
+        end = push_row(alloc, stretches, remarks, axis, width, *row, end, shapes)?;
     }
     Ok(end)
 }

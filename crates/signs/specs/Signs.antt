@@ -1,12 +1,15 @@
 -- What a drawing has to show of marks, without a number of pixels.
-use Rattle.std.specs.Prelude.{◌≡◌, ℕ, ◌+◌, ◌<◌, ◌≤◌, List, [], ◌∷◌, Option, Some, None, ⊤, slice_index_or}
+use Rattle.std.specs.Prelude.{◌≡◌, ℕ, ◌+◌, ◌<◌, ◌≤◌, List, [], ◌∷◌, Option, Some, None, ⊤, slice_index_or, refl}
+use Rattle.std.specs.List.{All}
 use Rattle.svg_text.specs.declared.paint.Paint.{Paint}
 use Rattle.svg_text.specs.declared.paint.Paint.TheVariants.{Paper, Faint, Edge, Broken, Thick, Pale}
 use Rattle.svg_text.specs.Figures.{Figure, Rect, Titled, Line, Dot, Tip, Text, View}
 use Rattle.signs.specs.declared.sign.Look.{Look}
 use Rattle.signs.specs.declared.sign.Look.TheVariants as look
+use Rattle.signs.specs.declared.sign.Edge.{Edge as Side}
+use Rattle.signs.specs.declared.sign.Edge.TheVariants.{Start, Before, After, End}
 use Rattle.signs.specs.declared.sign.Span.{Span}
-use Rattle.signs.specs.declared.sign.Sign.{Sign}
+use Rattle.signs.specs.declared.sign.Part.{Part}
 use Rattle.signs.specs.declared.sign.Layout.{Layout}
 
 -- ---- where things stand
@@ -32,38 +35,39 @@ pub record AreApart (places : Places) : Type 0 where
 abbrev pub span_at : List Span → (place : ℕ) → Span
 span_at spans place = slice_index_or spans place (record { from = 1; to = 0 })
 
--- from the first one to the last one, or all
-abbrev pub across : List Span → (whole : ℕ) → Option (ℕ × ℕ) → Span
-across spans whole None = record { from = 0; to = whole }
-across spans whole (Some ends) = record { from = (span_at spans ends.0).from; to = (span_at spans ends.1).to }
+-- where all begins, the column of an event begins or ends, or all ends
+abbrev pub edge_at : Places → Side → ℕ
+edge_at places Start = 0
+edge_at places (Before event) = (span_at places.columns event).from
+edge_at places (After event) = (span_at places.columns event).to
+edge_at places End = places.width
+
+-- from one edge to another
+abbrev pub wide_of : Places → Side × Side → Span
+wide_of places edges = record { from = edge_at places edges.0; to = edge_at places edges.1 }
+
+-- from the lane of one process to that of another, or from the top of all to the bottom
+abbrev pub high_of : Places → Option (ℕ × ℕ) → Span
+high_of places None = record { from = 0; to = places.height }
+high_of places (Some ends) = record { from = (span_at places.lanes ends.0).from; to = (span_at places.lanes ends.1).to }
 
 -- ---- what a shape is
 
 -- a point is in a span from left to right, and in one from the top down
-pub record Holds (wide high : Span) (x y : ℕ) : Type 0 where
-  pub left : wide.from ≤ x
-  pub right : x ≤ wide.to
-  pub top : high.from ≤ y
-  pub bottom : y ≤ high.to
+pub record Holds (wide high : Span) (point : ℕ × ℕ) : Type 0 where
+  pub left : wide.from ≤ point.0
+  pub right : point.0 ≤ wide.to
+  pub top : high.from ≤ point.1
+  pub bottom : point.1 ≤ high.to
 
--- both ends of a rectangle are
-pub record HoldsBox (wide high : Span) (x y width height : ℕ) : Type 0 where
-  pub first : Holds wide high x y
-  pub last : Holds wide high (x + width) (y + height)
+-- what is looked at of a shape: what it tells by its looks, what it says, and its corners
+pub record Outline : Type 0 where
+  pub look : Option Look
+  pub text : List ℕ
+  pub corners : List (ℕ × ℕ)
 
--- all corners of a shape are, and the point at which a text stands
-abbrev pub IsWithin : (wide high : Span) → Figure → Type 0
-IsWithin wide high (Rect x y width height _) = HoldsBox wide high x y width height
-IsWithin wide high (Titled x y width height _ _) = HoldsBox wide high x y width height
-IsWithin wide high (Line x1 y1 x2 y2 _) = Holds wide high x1 y1 × Holds wide high x2 y2
-IsWithin wide high (Dot x y) = Holds wide high x y
-IsWithin wide high (Tip x y x1 y1 x2 y2) = Holds wide high x y × Holds wide high x1 y1 × Holds wide high x2 y2
-IsWithin wide high (Text x y _ _ _) = Holds wide high x y
-IsWithin wide high (View x y width height _) = HoldsBox wide high x y width height
-
-abbrev pub AreWithin : (wide high : Span) → List Figure → Type 0
-AreWithin wide high [] = ⊤
-AreWithin wide high (figure ∷ figures) = IsWithin wide high figure × AreWithin wide high figures
+abbrev pub IsWithin : (wide high : Span) → Outline → Type 0
+IsWithin wide high outline = All (Holds wide high) outline.corners
 
 -- what a line tells by its looks, and a shape: paper and pale lines tell nothing
 abbrev pub line_look : Paint → Option Look
@@ -89,28 +93,47 @@ text_of (Titled _ _ _ _ _ title) = title
 text_of (Text _ _ _ _ text) = text
 text_of _ = []
 
+-- all corners, and the point at which a text stands
+abbrev pub corners_of : Figure → List (ℕ × ℕ)
+corners_of (Rect x y width height _) = (x, y) ∷ (x + width, y + height) ∷ []
+corners_of (Titled x y width height _ _) = (x, y) ∷ (x + width, y + height) ∷ []
+corners_of (Line x1 y1 x2 y2 _) = (x1, y1) ∷ (x2, y2) ∷ []
+corners_of (Dot x y) = (x, y) ∷ []
+corners_of (Tip x y x1 y1 x2 y2) = (x, y) ∷ (x1, y1) ∷ (x2, y2) ∷ []
+corners_of (Text x y _ _ _) = (x, y) ∷ []
+corners_of (View x y width height _) = (x, y) ∷ (x + width, y + height) ∷ []
+
+abbrev pub outline_of : Figure → Outline
+outline_of figure = record { look = look_of figure; text = text_of figure; corners = corners_of figure }
+
+-- no shape passes an edge
+abbrev pub AreWithin : (width height : ℕ) → List Figure → Type 0
+AreWithin width height [] = ⊤
+AreWithin width height (figure ∷ figures) =
+    IsWithin (record { from = 0; to = width }) (record { from = 0; to = height }) (outline_of figure) × AreWithin width height figures
+
 -- ---- what it shows
 
 -- a shape that a mark is to have: its looks, its columns, its lanes, and what it says
 pub record Meaning : Type 0 where
   pub look : Look
-  pub columns : Option (ℕ × ℕ)
+  pub columns : Side × Side
   pub lanes : Option (ℕ × ℕ)
   pub text : List ℕ
 
 -- this is such a shape
-pub record Shows (places : Places) (sign : Meaning) (figure : Figure) : Type 0 where
-  pub look : look_of figure ≡ Some sign.look
-  pub text : text_of figure ≡ sign.text
-  pub place : IsWithin (across places.columns places.width sign.columns) (across places.lanes places.height sign.lanes) figure
+pub record Shows (places : Places) (part : Meaning) (outline : Outline) : Type 0 where
+  pub look : outline.look ≡ Some part.look
+  pub text : outline.text ≡ part.text
+  pub place : IsWithin (wide_of places part.columns) (high_of places part.lanes) outline
 
 -- the shapes that tell something are these, in order: each is drawn once, and no other
-pub data AreShown (places : Places) : List Meaning → List Figure → Type 0 where
+pub data AreShown (places : Places) : List Meaning → List Outline → Type 0 where
   done : AreShown places [] []
-  plain : {signs : List Meaning} {figures : List Figure} (figure : Figure) → look_of figure ≡ None → AreShown places signs figures
-      → AreShown places signs (figure ∷ figures)
-  shown : {signs : List Meaning} {figures : List Figure} (sign : Meaning) (figure : Figure) → Shows places sign figure
-      → AreShown places signs figures → AreShown places (sign ∷ signs) (figure ∷ figures)
+  plain : {parts : List Meaning} {outlines : List Outline} (outline : Outline) → outline.look ≡ None
+      → AreShown places parts outlines → AreShown places parts (outline ∷ outlines)
+  shown : {parts : List Meaning} {outlines : List Outline} (part : Meaning) (outline : Outline) → Shows places part outline
+      → AreShown places parts outlines → AreShown places (part ∷ parts) (outline ∷ outlines)
 
 -- ---- the rows
 
@@ -122,8 +145,22 @@ Fills from to (_ ∷ figures) = Fills from to figures
 
 -- ---- what the code has
 
-abbrev pub meaning : Sign → Meaning
-meaning s = record { look = s.look; columns = s.columns; lanes = s.lanes; text = s.text.items }
+abbrev pub meaning : Part → Meaning
+meaning p = record { look = p.look; columns = p.columns; lanes = p.lanes; text = p.text.items }
 
 abbrev pub places_shown : Layout → Places
 places_shown l = record { columns = l.columns.items; lanes = l.lanes.items; width = l.width; height = l.height }
+
+-- a dot of the second event and the first process, upon paper: it is within the column and the lane of both
+abbrev two_of_one : Places
+two_of_one =
+    record { columns = record { from = 0; to = 20 } ∷ record { from = 20; to = 50 } ∷ []; lanes = record { from = 10; to = 90 } ∷ []; width = 60; height = 90 }
+
+dot_of_second : wide_of two_of_one (Before 1, After 1) ≡ record { from = 20; to = 50 }
+dot_of_second = refl
+
+lane_of_first : high_of two_of_one (Some (0, 0)) ≡ record { from = 10; to = 90 }
+lane_of_first = refl
+
+dot_shown : outline_of (Dot 35 50) ≡ record { look = Some look.Dot; text = []; corners = (35, 50) ∷ [] }
+dot_shown = refl

@@ -1,12 +1,33 @@
 //! Whether a drawing shows what it is to show.
 
-ghost use Rattle.std.specs.Prelude.{◌≡◌, ◌+◌, ◌≤◌, ℕ, ◌∷◌, IsTrue, IfSome, Some, List, drop, map};
+ghost use Rattle.std.specs.Prelude.{◌≡◌, ◌∷◌, ℕ, IsTrue, IfSome, Some, List, drop, map};
 ghost use Rattle.svg_text.specs.Figures.{Figure, figure};
-ghost use Rattle.signs.specs.Signs.{AreApartFrom, span_at, across, Holds, HoldsBox, IsWithin, AreWithin};
-ghost use Rattle.signs.specs.Signs.{line_look, look_of, text_of, Shows, AreShown, Fills, meaning, places_shown};
+ghost use Rattle.signs.specs.Signs.{AreApartFrom, AreShown, AreWithin, Fills, IsWithin, Outline, Shows};
+ghost use Rattle.signs.specs.Signs.{meaning, places_shown};
 
-use crate::sign::{Layout, Look, Sign, Span};
-use svg_text::{Paint, Shape};
+use crate::sign::{Layout, Look, Part, Span};
+use svg_text::Shape;
+
+/// A shape that can be looked at.
+pub trait Seen {
+    ghost use Rattle.std.specs.Prelude.{◌≡◌, IsTrue};
+    ghost use Rattle.signs.specs.Signs.{IsWithin, Outline};
+
+    /// What is looked at of it.
+    ghost seen: { Self → Outline };
+
+    /// What it tells by its looks; `None` where it tells nothing.
+    fn look(&self) -> Option<Look>
+        ensures { result ≡ (seen self.now).look };
+
+    /// Whether it says this.
+    fn says(&self, text: &[u8]) -> bool
+        ensures { IsTrue result → (seen self.now).text ≡ text.now };
+
+    /// Whether it is in a span from left to right, and in one from the top down.
+    fn is_within(&self, wide: Span, high: Span) -> bool
+        ensures { IsTrue result → IsWithin wide high (seen self.now) };
+}
 
 /// Whether spans stand one after the other.
 pub fn are_apart(spans: &[Span]) -> bool
@@ -22,141 +43,43 @@ pub fn are_apart(spans: &[Span]) -> bool
     true
 }
 
-/// One of some spans; where there is none nothing stands.
-fn span_at(spans: &[Span], place: u64) -> Span
-    ensures { result ≡ span_at spans.now place }
-{
-    match spans.get(place as usize) {
-        Some(span) => *span,
-        None => Span { from: 1, to: 0 },
-    }
-}
-
-/// From the first one to the last one, or all.
-fn across(spans: &[Span], whole: u64, ends: Option<(u64, u64)>) -> Span
-    ensures { result ≡ across spans.now whole ends }
-{
-    match ends {
-        Some((first, last)) => Span {
-            from: span_at(spans, first).from,
-            to: span_at(spans, last).to,
-        },
-        None => Span { from: 0, to: whole },
-    }
-}
-
-/// Whether a point is in a span from left to right, and in one from the top down.
-fn holds(wide: Span, high: Span, x: u64, y: u64) -> bool
-    ensures { IsTrue result → Holds wide high x y }
-{
-    wide.from <= x && x <= wide.to && high.from <= y && y <= high.to
-}
-
-/// Whether both ends of a rectangle are.
-fn holds_box(wide: Span, high: Span, x: u64, y: u64, width: u64, height: u64) -> bool
-    ensures { IsTrue result → HoldsBox wide high x y width height }
-{
-    holds(wide, high, x, y) && width <= wide.to - x && height <= high.to - y
-}
-
-/// Whether a shape is.
-fn is_within(wide: Span, high: Span, shape: &Shape) -> bool
-    ensures { IsTrue result → IsWithin wide high (figure shape.now) }
-{
-    match shape {
-        Shape::Rect { x, y, width, height, .. }
-        | Shape::Titled { x, y, width, height, .. }
-        | Shape::View { x, y, width, height, .. } => holds_box(wide, high, *x, *y, *width, *height),
-        Shape::Line { x1, y1, x2, y2, .. } => {
-            holds(wide, high, *x1, *y1) && holds(wide, high, *x2, *y2)
-        }
-        Shape::Dot { x, y } | Shape::Text { x, y, .. } => holds(wide, high, *x, *y),
-        Shape::Tip { x, y, x1, y1, x2, y2 } => {
-            holds(wide, high, *x, *y)
-                && holds(wide, high, *x1, *y1)
-                && holds(wide, high, *x2, *y2)
-        }
-    }
-}
-
 /// Whether all shapes are within a width and a height.
 pub fn are_within(width: u64, height: u64, shapes: &[Shape]) -> bool
-    ensures { IsTrue result → AreWithin (record { from = 0; to = width }) (record { from = 0; to = height })
-        (map figure shapes.now) }
+    ensures { IsTrue result → AreWithin width height (map figure shapes.now) }
 {
     let wide = Span { from: 0, to: width };
-    let high = Span { from: 0, to: height };
+    let high = Span {
+        from: 0,
+        to: height,
+    };
     for shape in shapes {
-        if !is_within(wide, high, shape) {
+        if !shape.is_within(wide, high) {
             return false;
         }
     }
     true
 }
 
-/// What a shape tells by its looks.
-fn look_of(shape: &Shape) -> Option<Look>
-    ensures { result ≡ look_of (figure shape.now) }
-{
-    match shape {
-        Shape::Rect { paint: Paint::Paper, .. } => None,
-        Shape::Rect { .. } => Some(Look::Bar),
-        Shape::Titled { paint: Paint::Pale(_), .. } => Some(Look::Pale),
-        Shape::Titled { .. } => Some(Look::Step),
-        Shape::Line { paint, .. } => look_of_line(*paint),
-        Shape::Dot { .. } => Some(Look::Dot),
-        Shape::Tip { .. } => Some(Look::Tip),
-        Shape::Text { .. } => Some(Look::Text),
-        Shape::View { .. } => None,
-    }
-}
-
-/// What a line tells.
-fn look_of_line(paint: Paint) -> Option<Look>
-    ensures { result ≡ line_look paint }
-{
-    match paint {
-        Paint::Faint => None,
-        Paint::Edge => Some(Look::Edge),
-        Paint::Broken => Some(Look::End),
-        Paint::Thick => Some(Look::Arrow),
-        _ => Some(Look::Cross),
-    }
-}
-
-/// Whether a shape says this.
-fn says(shape: &Shape, text: &[u8]) -> bool
-    ensures { IsTrue result → text_of (figure shape.now) ≡ text.now }
-{
-    match shape {
-        Shape::Titled { title, .. } => title.as_slice() == text,
-        Shape::Text { text: said, .. } => said.as_slice() == text,
-        _ => text.is_empty(),
-    }
-}
-
 /// Whether a shape of these looks is one that a mark is to have.
-fn shows(layout: &Layout, sign: &Sign, shape: &Shape, look: Look) -> bool
-    requires { look_of (figure shape.now) ≡ Some look }
-    ensures { IsTrue result → Shows (places_shown layout.now) (meaning sign.now) (figure shape.now) }
+fn shows<S: Seen>(layout: &Layout, part: &Part, shape: &S, look: Look) -> bool
+    requires { (S.seen shape.now).look ≡ Some look }
+    ensures { IsTrue result → Shows (places_shown layout.now) (meaning part.now) (S.seen shape.now) }
 {
-    if look != sign.look || !says(shape, &sign.text) {
+    if look != part.look || !shape.says(&part.text) {
         return false;
     }
-    let wide = across(&layout.columns, layout.width, sign.columns);
-    let high = across(&layout.lanes, layout.height, sign.lanes);
-    is_within(wide, high, shape)
+    shape.is_within(layout.wide(part.columns), layout.high(part.lanes))
 }
 
-/// Up to which sign a shape and those before it tell, where they told so many before it; `None` where it tells another.
-fn told(layout: &Layout, signs: &[Sign], next: usize, shape: &Shape) -> Option<usize>
-    ensures { IfSome result (λ after. (rest : List Figure)
-        → AreShown (places_shown layout.now) (map meaning (drop after signs.now)) rest
-        → AreShown (places_shown layout.now) (map meaning (drop next signs.now)) (figure shape.now ∷ rest)) }
+/// Up to which part a shape and those before it tell, where they told so many before it; `None` where it tells another.
+fn told<S: Seen>(layout: &Layout, parts: &[Part], next: usize, shape: &S) -> Option<usize>
+    ensures { IfSome result (λ after. (rest : List Outline)
+        → AreShown (places_shown layout.now) (map meaning (drop after parts.now)) rest
+        → AreShown (places_shown layout.now) (map meaning (drop next parts.now)) (S.seen shape.now ∷ rest)) }
 {
-    match look_of(shape) {
-        Some(look) if next < signs.len() => {
-            if shows(layout, &signs[next], shape, look) {
+    match shape.look() {
+        Some(look) if next < parts.len() => {
+            if shows(layout, &parts[next], shape, look) {
                 Some(next + 1)
             } else {
                 None
@@ -168,17 +91,17 @@ fn told(layout: &Layout, signs: &[Sign], next: usize, shape: &Shape) -> Option<u
 }
 
 /// Whether the shapes that tell something are these, in order.
-pub fn are_shown(layout: &Layout, signs: &[Sign], shapes: &[Shape]) -> bool
-    ensures { IsTrue result → AreShown (places_shown layout.now) (map meaning signs.now) (map figure shapes.now) }
+pub fn are_shown<S: Seen>(layout: &Layout, parts: &[Part], shapes: &[S]) -> bool
+    ensures { IsTrue result → AreShown (places_shown layout.now) (map meaning parts.now) (map S.seen shapes.now) }
 {
     let mut next = 0;
     for shape in shapes {
-        match told(layout, signs, next, shape) {
+        match told(layout, parts, next, shape) {
             Some(after) => next = after,
             None => return false,
         }
     }
-    next >= signs.len()
+    next >= parts.len()
 }
 
 /// Up to where a strip is shown by a shape and those before it, which show it up to a place; `None` where it leaves a gap.

@@ -2,7 +2,9 @@
 #![tactic(auto)]
 
 mod check;
+mod shape;
 mod sign;
 
-pub use check::{are_apart, are_shown, are_within, fill};
-pub use sign::{Layout, Look, Sign, Span};
+pub use check::{Seen, are_apart, are_shown, are_within, fill};
+pub use shape::holds;
+pub use sign::{Edge, Layout, Look, Part, Span};

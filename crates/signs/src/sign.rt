@@ -1,4 +1,7 @@
-//! The shapes that marks are to have.
+//! The shapes that marks are to have, and where events and processes stand.
+
+ghost use Rattle.std.specs.Prelude.{◌≡◌, ◌≤◌};
+ghost use Rattle.signs.specs.Signs.{edge_at, high_of, places_shown, span_at, wide_of};
 
 /// What a shape tells by its looks.
 #[derive(Clone, Copy, Debug, PartialEq, Eq)]
@@ -34,6 +37,35 @@ pub struct Span {
     pub to: u64,
 }
 
+/// How far things are drawn at most, so that each place is a number of 64 bits.
+const FURTHEST: u64 = 1_000_000_000_000;
+
+impl Span {
+    /// As much of it as things are drawn.
+    pub fn bounded(self) -> Span
+        ensures from { result.from ≤ 1000000000000 }
+        ensures to { result.to ≤ 1000000000000 }
+    {
+        Span {
+            from: self.from.min(FURTHEST),
+            to: self.to.min(FURTHEST),
+        }
+    }
+}
+
+/// An edge of a column, from left to right.
+#[derive(Clone, Copy)]
+pub enum Edge {
+    /// Where all begins.
+    Start,
+    /// Where the column of an event begins.
+    Before(u64),
+    /// Where it ends.
+    After(u64),
+    /// Where all ends.
+    End,
+}
+
 /// Where events and processes stand.
 #[derive(Drop)]
 pub struct Layout {
@@ -47,13 +79,63 @@ pub struct Layout {
     pub height: u64,
 }
 
+/// One of some spans; where there is none nothing stands.
+fn span_at(spans: &[Span], place: u64) -> Span
+    ensures { result ≡ span_at spans.now place }
+{
+    match spans.get(place as usize) {
+        Some(span) => *span,
+        None => Span { from: 1, to: 0 },
+    }
+}
+
+impl Layout {
+    /// Where an edge stands.
+    fn edge(&self, edge: Edge) -> u64
+        ensures { result ≡ edge_at (places_shown self.now) edge }
+    {
+        match edge {
+            Edge::Start => 0,
+            Edge::Before(event) => span_at(&self.columns, event).from,
+            Edge::After(event) => span_at(&self.columns, event).to,
+            Edge::End => self.width,
+        }
+    }
+
+    /// From one edge to another.
+    pub fn wide(&self, columns: (Edge, Edge)) -> Span
+        ensures { result ≡ wide_of (places_shown self.now) columns }
+    {
+        Span {
+            from: self.edge(columns.0),
+            to: self.edge(columns.1),
+        }
+    }
+
+    /// From the lane of one process to that of another, or from the top of all to the bottom.
+    pub fn high(&self, lanes: Option<(u64, u64)>) -> Span
+        ensures { result ≡ high_of (places_shown self.now) lanes }
+    {
+        match lanes {
+            Some((first, last)) => Span {
+                from: span_at(&self.lanes, first).from,
+                to: span_at(&self.lanes, last).to,
+            },
+            None => Span {
+                from: 0,
+                to: self.height,
+            },
+        }
+    }
+}
+
 /// A shape that a mark is to have.
 #[derive(Drop)]
-pub struct Sign {
+pub struct Part {
     /// How it looks.
     pub look: Look,
-    /// In which columns it stands, the first and the last one; `None` where its lane alone is told.
-    pub columns: Option<(u64, u64)>,
+    /// Between which edges it stands.
+    pub columns: (Edge, Edge),
     /// In which lanes, the upper and the lower one; `None` where it stands above or across all.
     pub lanes: Option<(u64, u64)>,
     /// What it says.

@@ -7,7 +7,7 @@ use Rattle.uni_script.specs.declared.fault.BenchFault.{BenchFault}
 use Rattle.uni_script.specs.declared.fault.BenchFault.TheVariants.{NoHeader, BadHeader, TooLong, BadByte, BadLine, TooMany, Read, Write, Memory, Audit}
 use Rattle.run_layout.specs.Subject.{HasTooManyEvents}
 use Rattle.run_layout.specs.declared.subject.PictureFault.{PictureFault}
-use Rattle.run_layout.specs.declared.subject.PictureFault.TheVariants.{Script, TooManyEvents}
+use Rattle.run_layout.specs.declared.subject.PictureFault.TheVariants.{Script, TooManyEvents, Misdrawn}
 use Rattle.unidraw_run.specs.Drawn.{HasNoPicture, IsDrawn}
 use Rattle.unidraw_run.specs.Statuses.{status_of_picture, IsStatusOfPicture}
 use Rattle.unidraw_run.specs.declared.program.Form.{Form}
@@ -27,6 +27,7 @@ least_status (Audit verdict) = omega arith
 
 status_not_0 : (f : PictureFault) (status : ℕ) → IsStatusOfPicture f status → status ≢ 0
 status_not_0 TooManyEvents status is zero = omega arith
+status_not_0 Misdrawn status is zero = omega arith
 status_not_0 (Script f) status is zero = elim is [
   | inl same ↦ let least = least_status f in omega arith
   | inr other ↦ let four = other.1 in omega arith
@@ -35,6 +36,7 @@ status_not_0 (Script f) status is zero = elim is [
 -- a status of 2 is that of the fault
 status_2 : (f : PictureFault) (status : ℕ) → IsStatusOfPicture f status → status ≡ 2 → status_of_picture f ≡ 2
 status_2 TooManyEvents status is two = refl
+status_2 Misdrawn status is two = absurd (omega arith)
 status_2 (Script f) status is two = elim is [
   | inl same ↦ sym same ∙ two
   | inr other ↦ let four = other.1 in absurd (omega arith)
@@ -44,6 +46,7 @@ status_2 (Script f) status is two = elim is [
 no_picture : (left : Option (List ℕ)) (f : PictureFault) → status_of_picture f ≡ 2 → (f ≡ TooManyEvents → HasTooManyEvents left)
     → ((e : BenchFault) → f ≡ Script e → IsFaultOfScript e → HasFault (scripts_of 1048576) left e) → HasNoPicture left
 no_picture left TooManyEvents two many fault = inl (many refl)
+no_picture left Misdrawn two many fault = absurd (omega arith)
 no_picture left (Script (NoHeader l)) two many fault = inr (NoHeader l, tt, fault (NoHeader l) refl tt)
 no_picture left (Script (BadHeader l)) two many fault = inr (BadHeader l, tt, fault (BadHeader l) refl tt)
 no_picture left (Script (TooLong l)) two many fault = inr (TooLong l, tt, fault (TooLong l) refl tt)

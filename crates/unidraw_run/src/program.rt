@@ -51,7 +51,8 @@ pub enum Form {
 ///
 /// The status is 0 where all went well, also for help or the version, which go to `output`; 2 for a bad script,
 /// one of more than 2,000 events, or words that ask for nothing that there is; 3 where `input` or `output`
-/// failed; and 4 where memory was refused. The text that says so goes to `faults`, as far as that takes it.
+/// failed; 4 where memory was refused; and 5 where the drawing does not show its run, of which no script is known. The
+/// text that says so goes to `faults`, as far as that takes it.
 pub fn run<S: AsStr, I: TextIn, O: TextOut, F: TextOut>(
     alloc: Global,
     words: &[S],
@@ -105,7 +106,8 @@ fn draw<I: TextIn, O: TextOut, F: TextOut>(
 /// The picture of the script that a reader has, in a form.
 ///
 /// An `Err` is the first fault of the script; `Read` where the reader failed; `Memory` where memory was
-/// refused; or `TooManyEvents` of a good script that has more than 2,000 events.
+/// refused; `TooManyEvents` of a good script that has more than 2,000 events; or `Misdrawn` where the drawing of its run
+/// does not show it.
 fn picture_in<I: TextIn>(alloc: Global, form: Form, reader: &mut I) -> Result<Vec<u8>, PictureFault>
     requires { I.has_failed reader.old ≡ false }
     ensures picture { IfOk result (λ text. IsPictureIn form (I.remaining reader.old) text.items) }
@@ -135,6 +137,10 @@ fn report<F: TextOut>(alloc: Global, fault: PictureFault, faults: &mut F) -> u8
         PictureFault::TooManyEvents => {
             tell(faults, b"too many events for a picture\n");
             2
+        }
+        PictureFault::Misdrawn => {
+            tell(faults, b"the picture does not show its run\n");
+            5
         }
     }
 }

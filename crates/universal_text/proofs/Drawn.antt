@@ -5,7 +5,7 @@ use Rattle.uni_script.specs.Replay.{HasFault, IsFaultOfScript, fault_of_script}
 use Rattle.uni_script.specs.declared.fault.BenchFault.{BenchFault}
 use Rattle.run_layout.specs.Subject.{HasTooManyEvents}
 use Rattle.run_layout.specs.declared.subject.PictureFault.{PictureFault}
-use Rattle.run_layout.specs.declared.subject.PictureFault.TheVariants.{Script, TooManyEvents}
+use Rattle.run_layout.specs.declared.subject.PictureFault.TheVariants.{Script, TooManyEvents, Misdrawn}
 use Rattle.universal_text.specs.Told.{HasNoPicture, IsFaultOfPicture}
 
 -- a fault for which there is no picture is the script's
@@ -13,4 +13,5 @@ pub no_picture : {A : Type 0} (script : List ℕ) (r : Result A PictureFault) (f
     → (IsErrOf r TooManyEvents → HasTooManyEvents (Some script)) → ((e : BenchFault) → IsErrOf r (Script e) → IsFaultOfScript e → HasFault (scripts_of 1048576) (Some script) e)
     → IsFaultOfPicture f → HasNoPicture script f
 no_picture script r TooManyEvents is many fault of = many is
+no_picture script r Misdrawn is many fault of = of
 no_picture script r (Script e) is many fault of = let h = fault e is of in ap (fault_of_script (scripts_of 1048576)) h.1 ∙ h.2

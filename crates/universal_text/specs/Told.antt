@@ -1,5 +1,5 @@
 -- What is told of a script, and how it is written.
-use Rattle.std.specs.Prelude.{◌≡◌, ℕ, ◌<◌, ◌≤◌, List, [], ◌∷◌, ◌++◌, drop, length, Some, refl}
+use Rattle.std.specs.Prelude.{◌≡◌, ℕ, ◌<◌, ◌≤◌, List, [], ◌∷◌, ◌++◌, drop, length, Some, ⊥, refl}
 use Rattle.std.proofs.Common.{arith}
 use Rattle.std.specs.declared.option.Option.{Option}
 use Rattle.std.specs.declared.option.Option.TheVariants.{None}
@@ -9,7 +9,7 @@ use Rattle.uni_script.specs.Replay.{IsFaultOfScript, fault_of_script, text_of_sc
 use Rattle.uni_script.specs.declared.fault.BenchFault.{BenchFault}
 use Rattle.run_layout.specs.Subject.{HasTooManyEvents, picture_fault_text}
 use Rattle.run_layout.specs.declared.subject.PictureFault.{PictureFault}
-use Rattle.run_layout.specs.declared.subject.PictureFault.TheVariants.{Script, TooManyEvents}
+use Rattle.run_layout.specs.declared.subject.PictureFault.TheVariants.{Script, TooManyEvents, Misdrawn}
 use Rattle.run_layout.specs.Choice.{all_events}
 use Rattle.run_picture.specs.Picture.{IsPicture}
 use Rattle.run_lines.specs.Lines.{IsLines}
@@ -46,6 +46,7 @@ answer_to history script = line_or (fault_of_script (scripts_of history) script)
 abbrev pub IsFaultOfPicture : PictureFault → Type 0
 IsFaultOfPicture (Script fault) = IsFaultOfScript fault
 IsFaultOfPicture TooManyEvents = Unit {0}
+IsFaultOfPicture Misdrawn = ⊥
 
 -- the line that says why a script has no picture
 abbrev pub line_of : PictureFault → List ℕ
@@ -55,6 +56,7 @@ line_of fault = picture_fault_text fault ++ 10 ∷ []
 abbrev pub HasNoPicture : (script : List ℕ) → PictureFault → Type 0
 HasNoPicture script (Script fault) = fault_of_script (scripts_of 1048576) script ≡ Some fault
 HasNoPicture script TooManyEvents = HasTooManyEvents (Some script)
+HasNoPicture script Misdrawn = ⊥
 
 -- the script's picture as an SVG, its picture as lines, or the line that says why it has neither, is like this
 abbrev pub HasPicture : (script : List ℕ) → (List ℕ → Type 0) → Type 0

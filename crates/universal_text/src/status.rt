@@ -14,3 +14,6 @@ pub const MEMORY: u32 = 3;
 
 /// The number of events isn't from 1 to 16,777,216, and nothing is written.
 pub const BAD_HISTORY: u32 = 4;
+
+/// The drawing of the script's run does not show it, and nothing is written. No script is known to come to this.
+pub const MISDRAWN: u32 = 5;

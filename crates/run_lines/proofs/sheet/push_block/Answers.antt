@@ -1,7 +1,6 @@
 use Rattle.std.proofs.Common.{◌≡◌, ◌∙◌, ◌++◌, ◌∷◌, [], List, ℕ, ap, map, take, sym, append-nil, append_assoc}
 use Rattle.std.proofs.lemmas.List.{drop_all, take-map}
-use Rattle.run_lines.specs.Strokes.{bottom_row}
-use Rattle.run_lines.specs.Sheet.{rows_text, block_text}
+use Rattle.run_lines.specs.Sheet.{bottom_row, rows_text, block_text}
 use Rattle.run_lines.proofs.sheet.push_block.Goals as goal
 
 pub returns : goal.returns

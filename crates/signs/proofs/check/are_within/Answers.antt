@@ -1,18 +1,18 @@
 use Rattle.std.proofs.Common.{List, map, rules}
 use Rattle.svg_text.specs.declared.shape.Shape.{Shape}
 use Rattle.svg_text.specs.Figures.{figure}
-use Rattle.signs.specs.Signs.{AreWithin, IsWithin}
+use Rattle.signs.specs.Signs.{AreWithin, IsWithin, outline_of}
 use Rattle.signs.proofs.Rest.{more, none}
 use Rattle.signs.proofs.check.are_within.Goals as goal
 
 pub loop-shape-preserved : goal.loop-shape-preserved
 loop-shape-preserved c =
-    let here : IsWithin (record { from = 0; to = c.args.width }) (record { from = 0; to = c.args.height }) (figure c.shape-item.result) = search rules in
+    let here : IsWithin (record { from = 0; to = c.args.width }) (record { from = 0; to = c.args.height }) (outline_of (figure c.shape-item.result)) = search rules in
     λ rest. c.loop-shape.invariant
-    (more (λ (l : List Shape). AreWithin (record { from = 0; to = c.args.width }) (record { from = 0; to = c.args.height }) (map figure l))
+    (more (λ (l : List Shape). AreWithin c.args.width c.args.height (map figure l))
     c.args.shapes.now c.loop-shape.shape-index c.shape-item.result c.loop-shape-test.true c.shape-item.is (here, rest))
 
 pub returns : goal.returns
 returns c = λ _. c.loop-shape.invariant
-    (none (λ (l : List Shape). AreWithin (record { from = 0; to = c.args.width }) (record { from = 0; to = c.args.height }) (map figure l))
+    (none (λ (l : List Shape). AreWithin c.args.width c.args.height (map figure l))
     c.args.shapes.now c.loop-shape.shape-index c.loop-shape-test.false tt)

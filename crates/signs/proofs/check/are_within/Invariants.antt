@@ -5,4 +5,4 @@ use Rattle.signs.proofs.check.are_within.Given as goal
 
 -- what is seen of the rest is all that is missing
 abbrev pub invariant-loop-shape : goal.invariant-loop-shape
-invariant-loop-shape l = AreWithin l.wide l.high (map figure (drop l.shape-index l.shapes)) → AreWithin l.wide l.high (map figure l.shapes)
+invariant-loop-shape l = AreWithin l.width l.height (map figure (drop l.shape-index l.shapes)) → AreWithin l.width l.height (map figure l.shapes)

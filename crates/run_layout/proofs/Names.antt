@@ -1,0 +1,14 @@
+-- The names of lanes, one after the other.
+use Rattle.std.proofs.Common.{◌≡◌, ℕ, suc, ◌+◌, [], ◌∷◌, ap}
+use Rattle.run_layout.specs.declared.marked.Mark.TheVariants.{Name}
+use Rattle.run_layout.specs.Marked.{at, names_from}
+use Rattle.run_layout.specs.Wording.{name_text}
+
+pub names_from-more : (event process n m : ℕ) → n ≡ suc m
+    → names_from event process n ≡ at Name event process (name_text process) ∷ names_from event (process + 1) m
+unfolding names_from
+names_from-more event process n m e = ap (names_from event process) e
+
+pub names_from-none : (event process n : ℕ) → n ≡ 0 → names_from event process n ≡ []
+unfolding names_from
+names_from-none event process n e = ap (names_from event process) e

@@ -1,0 +1,142 @@
+-- What a drawing has to show of a run, mark by mark, whatever it is drawn with: from which event's column to which, in the lanes of
+-- which processes, and with what text.
+use Rattle.std.specs.Prelude.{◌≡◌, ℕ, zero, suc, ◌+◌, ◌-◌, ◌==◌, nat_lt, if◌then◌else◌, true, false, Bool, List, [], ◌∷◌, ◌++◌}
+use Rattle.std.specs.Prelude.{map, Option, Some, None, codes, refl}
+use Rattle.std.specs.List.{flat_map}
+use Rattle.std.specs.Fmt.{digits}
+use Rattle.std.specs.Option.{option_map_or}
+use Rattle.signs.specs.declared.sign.Look.{Look}
+use Rattle.signs.specs.declared.sign.Edge.{Edge}
+use Rattle.signs.specs.declared.sign.Edge.TheVariants.{Start, Before, After}
+use Rattle.signs.specs.Signs.{Meaning}
+use Rattle.uni_script.specs.declared.remarks.PlacedRemark.{PlacedRemark}
+use Rattle.run_marks.specs.declared.marks.StepMark.{StepMark}
+use Rattle.run_marks.specs.declared.marks.Dot.{Dot}
+use Rattle.run_marks.specs.declared.marks.EraLine.{EraLine}
+use Rattle.run_marks.specs.Marks.{End, Called, EraMarks, RunMarks}
+use Rattle.run_layout.specs.declared.marked.Mark.{Mark}
+use Rattle.run_layout.specs.declared.marked.Mark.TheVariants as mark
+use Rattle.run_layout.specs.declared.marked.Sign as code
+use Rattle.run_layout.specs.Wording.{name_text, label_text, counts_text, line_text}
+use Rattle.run_layout.specs.Refusals.{Label, labels_of}
+use Rattle.run_layout.specs.Titles.{step_title}
+
+-- what is to be shown: a mark, the edges between which it stands, its lanes, and what it says
+pub record Sign : Type 0 where
+  pub mark : Mark
+  pub columns : Edge × Edge
+  pub lanes : Option (ℕ × ℕ)
+  pub text : List ℕ
+
+-- what the code's sign is
+abbrev pub sign_shown : code.Sign → Sign
+sign_shown s = record { mark = s.mark; columns = s.columns; lanes = s.lanes; text = s.text.items }
+
+-- a mark in the column of an event and the lane of a process
+abbrev pub at : Mark → (event process : ℕ) → (text : List ℕ) → Sign
+at mark event process text =
+    record { mark = mark; columns = (Before event, After event); lanes = Some (process, process); text = text }
+
+-- the names of so many processes from one on, in the column of an event
+unfoldable pub names_from : (event process count : ℕ) → List Sign
+names_from event process zero = []
+names_from event process (suc n) = at mark.Name event process (name_text process) ∷ names_from event (process + 1) n
+
+-- the names of the lanes that an era has and the one before it hasn't, where the era before it ends; that had so many lanes
+abbrev pub new_names : (named : ℕ) → List EraMarks → List Sign
+new_names named [] = []
+new_names named (era ∷ eras) = names_from (era.from - 1) named (era.processes - named) ++ new_names era.processes eras
+
+-- the end of an era, through all lanes
+abbrev pub line_sign : EraLine → Sign
+line_sign line =
+    record { mark = mark.End; columns = (Before line.event, After line.event); lanes = None; text = line_text line }
+
+-- a call, from the column of its begin to that of its end; one that has not returned stays open, up to the end of all
+abbrev pub bar_sign : (events : ℕ) → Called → Sign
+bar_sign events bar =
+    record {
+      mark = option_map_or (λ _. mark.Bar) bar.end mark.Open;
+      columns = (Before bar.from, After (option_map_or (λ end. end.event) bar.end events));
+      lanes = Some (bar.call.process, bar.call.process);
+      text = [];
+    }
+
+-- the arrow of help, from the lane of who helps down or up to that of the call
+abbrev pub arrow_in : (event by process : ℕ) → Sign
+arrow_in event by process =
+    if nat_lt by process then
+    record { mark = mark.Down; columns = (Before event, After event); lanes = Some (by, process); text = [] }
+    else
+    record { mark = mark.Up; columns = (Before event, After event); lanes = Some (process, by); text = [] }
+
+abbrev pub arrow_signs : Dot → List Sign
+arrow_signs dot = if dot.call.process == dot.by then [] else arrow_in dot.event dot.by dot.call.process ∷ []
+
+-- a step, with its title
+abbrev pub step_sign : StepMark → Sign
+step_sign step = at (mark.Step step.kind step.changed) step.event step.process (step_title step)
+
+-- the point where a call takes effect, in its own lane
+abbrev pub dot_sign : Dot → Sign
+dot_sign dot = at mark.Dot dot.event dot.call.process []
+
+-- the label of a call at its begin, and where it has returned its counts, which are over with its end
+abbrev pub counts_signs : (process : ℕ) → Option End → List Sign
+counts_signs process (Some end) =
+    record { mark = mark.Counts; columns = (Start, After end.event); lanes = Some (process, process); text = counts_text end } ∷ []
+counts_signs process None = []
+
+abbrev pub text_signs : Called → List Sign
+text_signs bar = at mark.Label bar.from bar.call.process (label_text bar) ∷ counts_signs bar.call.process bar.end
+
+-- where so many events are over
+abbrev pub after_events : (count : ℕ) → Edge
+after_events count = if count == 0 then Start else After (count - 1)
+
+-- a refusal, above the lanes, after so many events and before the next one
+abbrev pub refusal_of_text : (before : ℕ) → Option (List ℕ) → List Sign
+refusal_of_text before (Some text) =
+    record { mark = mark.Refusal; columns = (after_events before, Before before); lanes = None; text = text } ∷ []
+refusal_of_text before None = []
+
+abbrev pub refusal_signs : Label → List Sign
+refusal_signs label = refusal_of_text label.before label.text
+
+-- all of them, from the lowest on; no era before the first one has fewer lanes, so that its lanes have no names among them
+unfoldable pub signs_of : RunMarks → List PlacedRemark → List Sign
+signs_of marks remarks =
+    new_names 64 marks.eras
+    ++ map line_sign marks.lines
+    ++ map (bar_sign marks.events) marks.bars
+    ++ flat_map arrow_signs marks.dots
+    ++ map step_sign marks.steps
+    ++ map dot_sign marks.dots
+    ++ flat_map text_signs marks.bars
+    ++ flat_map refusal_signs (labels_of remarks)
+
+-- ---- what it is drawn as
+
+-- a shape of a sign, in these lanes; most are in the sign's own
+abbrev pub part_in : Option (ℕ × ℕ) → Look → Sign → (text : List ℕ) → Meaning
+part_in lanes look sign text = record { look = look; columns = sign.columns; lanes = lanes; text = text }
+
+abbrev pub part : Look → Sign → (text : List ℕ) → Meaning
+part look sign text = part_in sign.lanes look sign text
+
+-- process 0 links the cell of process 1: an arrow goes down to it; from process 2 one goes up, and one's own cell has none
+abbrev linked : (by : ℕ) → Dot
+linked by = record { event = 7; call = record { process = 1; nth = 0 }; by = by }
+
+arrows_of_three : flat_map arrow_signs (linked 0 ∷ linked 2 ∷ linked 1 ∷ [])
+    ≡ record { mark = mark.Down; columns = (Before 7, After 7); lanes = Some (0, 1); text = [] }
+    ∷ record { mark = mark.Up; columns = (Before 7, After 7); lanes = Some (1, 2); text = [] } ∷ []
+arrows_of_three = refl
+
+-- a reshape from one process to two, by the first event, names the lane of the second one
+name_of_new : new_names 64
+    (record { from = 0; last = Some 0; processes = 1; anchor = 1; cells = [] }
+    ∷ record { from = 1; last = None; processes = 2; anchor = 1; cells = [] } ∷ [])
+    ≡ at mark.Name 0 1 (codes "P1") ∷ []
+unfolding names_from digits
+name_of_new = refl

@@ -1,0 +1,330 @@
+//! What a drawing has to show of a run, mark by mark, whatever it is drawn with.
+
+ghost use Rattle.std.specs.Prelude.{◌≡◌, ◌-◌, ◌++◌, ◌∷◌, [], IfOk, OnOk, Some, map};
+ghost use Rattle.std.specs.List.{flat_map};
+ghost use Rattle.signs.specs.Signs.{meaning};
+ghost use Rattle.run_marks.specs.Shown.{bar_shown, era_shown, marks_shown};
+ghost use Rattle.run_layout.specs.Refusals.{told_shown};
+ghost use Rattle.run_layout.specs.Marked.{after_events, arrow_in, arrow_signs, at, bar_sign, counts_signs, dot_sign};
+ghost use Rattle.run_layout.specs.Marked.{line_sign, names_from, new_names, refusal_signs, sign_shown, signs_of};
+ghost use Rattle.run_layout.specs.Marked.{part, part_in, step_sign, text_signs};
+
+use crate::axis::MOST_LANES;
+use crate::refusals::{Told, told_of};
+use crate::titles::step_title;
+use crate::wording::{counts_of, label_of, line_of, name_of};
+use run_marks::{Bar, Dot, Era, EraLine, Marks, StepMark};
+use signs::{Edge, Look, Part};
+use std::alloc::{AllocError, Global};
+use uni_core::StepKind;
+use uni_script::PlacedRemark;
+
+/// What is to be shown.
+#[derive(Clone, Copy, Debug, PartialEq, Eq)]
+pub enum Mark {
+    /// The name of a lane.
+    Name,
+    /// The end of an era.
+    End,
+    /// A call that has returned.
+    Bar,
+    /// One that hasn't.
+    Open,
+    /// An arrow of help from the upper lane to the lower one.
+    Down,
+    /// One from the lower lane to the upper one.
+    Up,
+    /// A step of a kind, and whether it changed what its place contains.
+    Step(StepKind, bool),
+    /// Where a call took effect.
+    Dot,
+    /// The label of a call.
+    Label,
+    /// The own steps and the turns of a call.
+    Counts,
+    /// A refusal.
+    Refusal,
+}
+
+/// A mark that is to be shown.
+#[derive(Drop)]
+pub struct Sign {
+    /// The mark.
+    pub mark: Mark,
+    /// Between which edges it stands.
+    pub columns: (Edge, Edge),
+    /// In which lanes, the upper and the lower one; `None` where it stands above or across all.
+    pub lanes: Option<(u64, u64)>,
+    /// What it says.
+    pub text: Vec<u8>,
+}
+
+/// The signs of a run, as they are added.
+type Signs = Vec<Sign>;
+
+/// Adds a mark in the column of an event and the lane of a process.
+///
+/// An `Err` says that memory was refused.
+fn push_at(
+    signs: &mut Signs,
+    mark: Mark,
+    event: u64,
+    process: u64,
+    text: Vec<u8>,
+) -> Result<(), AllocError>
+    ensures { OnOk result (map sign_shown signs.new.items
+        ≡ map sign_shown signs.old.items ++ at mark event process text.items ∷ []) }
+{
+    signs.push(Sign {
+        mark,
+        columns: (Edge::Before(event), Edge::After(event)),
+        lanes: Some((process, process)),
+        text,
+    })?;
+    Ok(())
+}
+
+/// Adds the names of the processes from one on and before another.
+///
+/// An `Err` says that memory was refused.
+fn push_names(
+    alloc: Global,
+    event: u64,
+    from: u64,
+    to: u64,
+    signs: &mut Signs,
+) -> Result<(), AllocError>
+    ensures { OnOk result (map sign_shown signs.new.items
+        ≡ map sign_shown signs.old.items ++ names_from event from (to - from)) }
+{
+    for process in from..to {
+        push_at(signs, Mark::Name, event, process, name_of(alloc, process)?)?;
+    }
+    Ok(())
+}
+
+/// Adds the names of the lanes that an era has and the one before it hasn't.
+///
+/// An `Err` says that memory was refused.
+fn push_new_names(alloc: Global, eras: &[Era], signs: &mut Signs) -> Result<(), AllocError>
+    ensures { OnOk result (map sign_shown signs.new.items
+        ≡ map sign_shown signs.old.items ++ new_names 64 (map era_shown eras.now)) }
+{
+    let mut named = MOST_LANES;
+    for era in eras {
+        push_names(
+            alloc,
+            era.from.saturating_sub(1),
+            named,
+            era.processes,
+            signs,
+        )?;
+        named = era.processes;
+    }
+    Ok(())
+}
+
+/// The end of an era.
+///
+/// An `Err` says that memory was refused.
+fn line_sign(alloc: Global, line: &EraLine) -> Result<Sign, AllocError>
+    ensures { IfOk result (λ sign. sign_shown sign ≡ line_sign line.now) }
+{
+    Ok(Sign {
+        mark: Mark::End,
+        columns: (Edge::Before(line.event), Edge::After(line.event)),
+        lanes: None,
+        text: line_of(alloc, line)?,
+    })
+}
+
+/// A call.
+fn bar_sign(alloc: Global, events: u64, bar: &Bar) -> Sign
+    ensures { sign_shown result ≡ bar_sign events (bar_shown bar.now) }
+{
+    let (mark, last) = match &bar.end {
+        Some(end) => (Mark::Bar, end.event),
+        None => (Mark::Open, events),
+    };
+    let process = u64::from(bar.call.process);
+    Sign {
+        mark,
+        columns: (Edge::Before(bar.from), Edge::After(last)),
+        lanes: Some((process, process)),
+        text: Vec::new(alloc),
+    }
+}
+
+/// An arrow of help, from the lane of who helps to that of the call.
+fn arrow_in(alloc: Global, event: u64, by: u64, process: u64) -> Sign
+    ensures { sign_shown result ≡ arrow_in event by process }
+{
+    let (mark, lanes) = if by < process {
+        (Mark::Down, (by, process))
+    } else {
+        (Mark::Up, (process, by))
+    };
+    Sign {
+        mark,
+        columns: (Edge::Before(event), Edge::After(event)),
+        lanes: Some(lanes),
+        text: Vec::new(alloc),
+    }
+}
+
+/// Adds the arrow of help, where another process linked the cell of a call.
+///
+/// An `Err` says that memory was refused.
+fn push_arrow(alloc: Global, dot: Dot, signs: &mut Signs) -> Result<(), AllocError>
+    ensures { OnOk result (map sign_shown signs.new.items
+        ≡ map sign_shown signs.old.items ++ arrow_signs dot) }
+{
+    let process = u64::from(dot.call.process);
+    if process != dot.by {
+        signs.push(arrow_in(alloc, dot.event, dot.by, process))?;
+    }
+    Ok(())
+}
+
+/// Adds a step.
+///
+/// An `Err` says that memory was refused.
+fn push_step(alloc: Global, step: StepMark, signs: &mut Signs) -> Result<(), AllocError>
+    ensures { OnOk result (map sign_shown signs.new.items
+        ≡ map sign_shown signs.old.items ++ step_sign step ∷ []) }
+{
+    let mark = Mark::Step(step.kind, step.changed);
+    push_at(
+        signs,
+        mark,
+        step.event,
+        step.process,
+        step_title(alloc, step)?,
+    )
+}
+
+/// Adds the label of a call, and where it has returned its counts.
+///
+/// An `Err` says that memory was refused.
+fn push_texts(alloc: Global, bar: &Bar, signs: &mut Signs) -> Result<(), AllocError>
+    ensures { OnOk result (map sign_shown signs.new.items
+        ≡ map sign_shown signs.old.items ++ text_signs (bar_shown bar.now)) }
+{
+    let process = u64::from(bar.call.process);
+    push_at(signs, Mark::Label, bar.from, process, label_of(alloc, bar)?)?;
+    if let Some(end) = &bar.end {
+        signs.push(Sign {
+            mark: Mark::Counts,
+            columns: (Edge::Start, Edge::After(end.event)),
+            lanes: Some((process, process)),
+            text: counts_of(alloc, end)?,
+        })?;
+    }
+    Ok(())
+}
+
+/// Adds a shape of a sign, in its lanes.
+///
+/// An `Err` says that memory was refused.
+pub fn push_part(
+    alloc: Global,
+    sign: &Sign,
+    look: Look,
+    text: &[u8],
+    parts: &mut Vec<Part>,
+) -> Result<(), AllocError>
+    ensures { OnOk result (map meaning parts.new.items
+        ≡ map meaning parts.old.items ++ part look (sign_shown sign.now) text.now ∷ []) }
+{
+    push_part_in(alloc, sign, sign.lanes, look, text, parts)
+}
+
+/// Adds a shape of a sign, in some lanes.
+///
+/// An `Err` says that memory was refused.
+pub fn push_part_in(
+    alloc: Global,
+    sign: &Sign,
+    lanes: Option<(u64, u64)>,
+    look: Look,
+    text: &[u8],
+    parts: &mut Vec<Part>,
+) -> Result<(), AllocError>
+    ensures { OnOk result (map meaning parts.new.items
+        ≡ map meaning parts.old.items ++ part_in lanes look (sign_shown sign.now) text.now ∷ []) }
+{
+    parts.push(Part {
+        look,
+        columns: sign.columns,
+        lanes,
+        text: text.to_vec(alloc)?,
+    })?;
+    Ok(())
+}
+
+/// Where so many events are over.
+pub fn after_events(count: u64) -> Edge
+    ensures { result ≡ after_events count }
+{
+    if count == 0 {
+        Edge::Start
+    } else {
+        Edge::After(count - 1)
+    }
+}
+
+/// Adds what is told, where it has a label.
+///
+/// An `Err` says that memory was refused.
+fn push_refusal(alloc: Global, told: &Told, signs: &mut Signs) -> Result<(), AllocError>
+    ensures { OnOk result (map sign_shown signs.new.items
+        ≡ map sign_shown signs.old.items ++ refusal_signs (told_shown told.now)) }
+{
+    if let Some(label) = &told.label {
+        signs.push(Sign {
+            mark: Mark::Refusal,
+            columns: (after_events(told.before), Edge::Before(told.before)),
+            lanes: None,
+            text: label.as_slice().to_vec(alloc)?,
+        })?;
+    }
+    Ok(())
+}
+
+/// What a drawing has to show of the marks of a run, with what was told beside its events, from the lowest on.
+///
+/// An `Err` says that memory was refused.
+pub fn signs_of(
+    alloc: Global,
+    marks: &Marks,
+    remarks: &[PlacedRemark],
+) -> Result<Vec<Sign>, AllocError>
+    ensures { IfOk result (λ signs. map sign_shown signs.items ≡ signs_of (marks_shown marks.now) remarks.now) }
+{
+    let mut signs = Vec::new(alloc);
+    push_new_names(alloc, &marks.eras, &mut signs)?;
+    for line in &marks.lines {
+        signs.push(line_sign(alloc, line)?)?;
+    }
+    for bar in &marks.bars {
+        signs.push(bar_sign(alloc, marks.events, bar))?;
+    }
+    for dot in &marks.dots {
+        push_arrow(alloc, *dot, &mut signs)?;
+    }
+    for step in &marks.steps {
+        push_step(alloc, *step, &mut signs)?;
+    }
+    for dot in &marks.dots {
+        let process = u64::from(dot.call.process);
+        push_at(&mut signs, Mark::Dot, dot.event, process, Vec::new(alloc))?;
+    }
+    for bar in &marks.bars {
+        push_texts(alloc, bar, &mut signs)?;
+    }
+    let all = told_of(alloc, remarks)?;
+    for told in &all {
+        push_refusal(alloc, told, &mut signs)?;
+    }
+    Ok(signs)
+}

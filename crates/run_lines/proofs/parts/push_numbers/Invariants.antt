@@ -1,0 +1,13 @@
+use Rattle.std.proofs.Common.{◌≡◌, ◌≤◌, ◌++◌, map, drop}
+use Rattle.signs.specs.Signs.{meaning}
+use Rattle.run_lines.specs.Numbers.{no_notes}
+use Rattle.run_lines.specs.Parts.{numbers_from}
+use Rattle.run_lines.proofs.parts.push_numbers.Given as goal
+
+-- the numbers so far, and those of the rest
+abbrev pub invariant-loop-one : goal.invariant-loop-one
+invariant-loop-one l = record {
+  small : l.numbering.number ≤ l.one-index;
+  rest : map meaning l.parts.items ++ numbers_from l.numbering (drop l.one-index l.remarks)
+      ≡ map meaning l.initial.parts.items ++ numbers_from no_notes l.remarks;
+}

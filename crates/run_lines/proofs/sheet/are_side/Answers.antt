@@ -1,0 +1,14 @@
+use Rattle.std.proofs.Common.{List, sym, rules, arith}
+use Rattle.signs.proofs.Rest.{more, none}
+use Rattle.run_lines.specs.declared.sheet.Block.{Block}
+use Rattle.run_lines.specs.Sheet.{AreSide}
+use Rattle.run_lines.proofs.sheet.are_side.Goals as goal
+
+pub loop-block-preserved : goal.loop-block-preserved
+loop-block-preserved c = λ rest. c.loop-block.invariant
+    (more (λ (l : List Block). AreSide c.loop-block.end c.args.to l) c.args.blocks.now c.loop-block.block-index c.block-item.result c.loop-block-test.true
+    c.block-item.is (omega arith, rest))
+
+pub returns : goal.returns
+returns c = λ past. c.loop-block.invariant
+    (none (λ (l : List Block). AreSide c.loop-block.end c.args.to l) c.args.blocks.now c.loop-block.block-index c.loop-block-test.false (search rules))

@@ -1,0 +1,9 @@
+use Rattle.std.proofs.Common.{◌≤◌, ◌+◌, ◌-◌}
+use Rattle.run_lines.proofs.sheet.blocks_of.Given as goal
+
+-- so far
+abbrev pub invariant-loop-from : goal.invariant-loop-from
+invariant-loop-from l = l.from ≤ l.width + 96
+
+abbrev pub decreases-loop-from : goal.decreases-loop-from
+decreases-loop-from l = l.width - l.from

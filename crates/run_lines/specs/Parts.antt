@@ -1,0 +1,68 @@
+-- The strokes that the rows of a text are to have, sign by sign, from the lowest on.
+use Rattle.std.specs.Prelude.{◌≡◌, ℕ, ◌+◌, if◌then◌else◌, not, Bool, true, false, List, [], ◌∷◌, ◌++◌, map, None, codes, refl}
+use Rattle.std.specs.List.{filter, flat_map}
+use Rattle.std.specs.Fmt.{decimal}
+use Rattle.signs.specs.declared.sign.Look.TheVariants as look
+use Rattle.signs.specs.declared.sign.Edge.TheVariants.{After}
+use Rattle.signs.specs.Signs.{Meaning}
+use Rattle.uni_core.specs.declared.stage.StepKind.{StepKind}
+use Rattle.uni_core.specs.declared.stage.StepKind.TheVariants.{DecideAfter}
+use Rattle.uni_script.specs.declared.remarks.Remark.{Remark}
+use Rattle.uni_script.specs.declared.remarks.Remark.TheVariants.{Heading, Note, Refused}
+use Rattle.uni_script.specs.declared.remarks.PlacedRemark.{PlacedRemark}
+use Rattle.run_marks.specs.Marks.{RunMarks}
+use Rattle.run_layout.specs.declared.marked.Mark.{Mark}
+use Rattle.run_layout.specs.declared.marked.Mark.TheVariants as mark
+use Rattle.run_layout.specs.Marked.{Sign, after_events, part, signs_of}
+use Rattle.run_layout.specs.Wording.{letter_of}
+use Rattle.run_lines.specs.declared.numbering.Numbering.{Numbering}
+use Rattle.run_lines.specs.Numbers.{no_notes, numbering_after}
+
+-- the letter of a step: a small one where the step changed nothing
+abbrev pub step_letter : StepKind → (changed : Bool) → ℕ
+step_letter kind changed = if changed then letter_of kind else letter_of kind + 32
+
+abbrev pub parts_for : Sign → Mark → List Meaning
+parts_for sign mark.Name = part look.Text sign sign.text ∷ []
+parts_for sign mark.End = part look.End sign [] ∷ part look.Text sign sign.text ∷ []
+parts_for sign mark.Bar = part look.Bar sign [] ∷ []
+parts_for sign mark.Open = part look.Bar sign [] ∷ []
+parts_for sign mark.Down = part look.Arrow sign [] ∷ []
+parts_for sign mark.Up = part look.Arrow sign [] ∷ []
+parts_for sign (mark.Step kind changed) = part look.Text sign (step_letter kind changed ∷ []) ∷ []
+parts_for sign mark.Dot = part look.Text sign (codes "*") ∷ []
+parts_for sign mark.Label = part look.Text sign sign.text ∷ []
+parts_for sign mark.Counts = part look.Text sign sign.text ∷ []
+parts_for sign mark.Refusal = part look.Text sign (120 ∷ 32 ∷ sign.text) ∷ []
+
+abbrev pub parts_of : Sign → List Meaning
+parts_of sign = parts_for sign sign.mark
+
+-- arrows are behind all else, and are painted last
+abbrev pub is_arrow : Mark → Bool
+is_arrow mark.Down = true
+is_arrow mark.Up = true
+is_arrow _ = false
+
+abbrev pub layered : List Sign → List Sign
+layered signs = filter (λ sign. not (is_arrow sign.mark)) signs ++ filter (λ sign. is_arrow sign.mark) signs
+
+-- the number of a note, from where so many events are over to where the next one is
+abbrev pub number_parts : (number before : ℕ) → Remark → List Meaning
+number_parts number before (Note text) =
+    record { look = look.Text; columns = (after_events before, After before); lanes = None; text = decimal number } ∷ []
+number_parts number before (Heading text) = []
+number_parts number before (Refused refusal) = []
+
+abbrev pub numbers_from : Numbering → List PlacedRemark → List Meaning
+numbers_from numbering [] = []
+numbers_from numbering (one ∷ remarks) =
+    let next = numbering_after numbering one in number_parts next.number one.before one.remark ++ numbers_from next remarks
+
+-- all of them
+unfoldable pub parts_of_run : RunMarks → List PlacedRemark → List Meaning
+parts_of_run marks remarks = flat_map parts_of (layered (signs_of marks remarks)) ++ numbers_from no_notes remarks
+
+-- a proposal that won, and one that lost
+letters_of_two : step_letter DecideAfter true ∷ step_letter DecideAfter false ∷ [] ≡ codes "Ll"
+letters_of_two = refl

@@ -1,0 +1,181 @@
+//! The strokes that signs are to have, from the lowest on.
+
+ghost use Rattle.std.specs.Prelude.{◌≡◌, ◌≤◌, ◌++◌, ◌∷◌, IfOk, OnOk, length, map};
+ghost use Rattle.std.specs.List.{flat_map};
+ghost use Rattle.signs.specs.Signs.{meaning};
+ghost use Rattle.run_marks.specs.Shown.{marks_shown};
+ghost use Rattle.run_layout.specs.Marked.{sign_shown};
+ghost use Rattle.run_lines.specs.Numbers.{no_notes};
+ghost use Rattle.run_lines.specs.Parts.{is_arrow, layered, number_parts, numbers_from, parts_for, parts_of, parts_of_run};
+ghost use Rattle.run_lines.specs.Parts.{step_letter};
+
+use crate::numbering::Numbering;
+use run_layout::{Mark, Sign, after_events, letter_of, push_part, signs_of};
+use run_marks::Marks;
+use signs::{Edge, Look, Part};
+use std::alloc::{AllocError, Global};
+use std::io::Write;
+use uni_core::StepKind;
+use uni_script::{PlacedRemark, Remark};
+
+/// The letter of a step: a small one where the step changed nothing.
+pub fn step_letter(kind: StepKind, changed: bool) -> u8
+    ensures { result ≡ step_letter kind changed }
+{
+    let letter = letter_of(kind);
+    if changed {
+        letter
+    } else {
+        letter.to_ascii_lowercase()
+    }
+}
+
+/// What a refusal says: an `x` and its label.
+///
+/// An `Err` says that memory was refused.
+pub fn refusal_text(alloc: Global, label: &[u8]) -> Result<Vec<u8>, AllocError>
+    ensures { IfOk result (λ text. text.items ≡ 120 ∷ 32 ∷ label.now) }
+{
+    let mut text = b"x ".to_vec(alloc)?;
+    text.extend_from_slice(label)?;
+    Ok(text)
+}
+
+/// Whether a mark is an arrow.
+fn is_arrow(mark: Mark) -> bool
+    ensures { result ≡ is_arrow mark }
+{
+    match mark {
+        Mark::Down | Mark::Up => true,
+        _ => false,
+    }
+}
+
+/// Signs as they are painted: arrows are behind all else, and come last.
+///
+/// An `Err` says that memory was refused.
+pub fn layered(alloc: Global, signs: Vec<Sign>) -> Result<Vec<Sign>, AllocError>
+    ensures { IfOk result (λ all. map sign_shown all.items ≡ layered (map sign_shown signs.items)) }
+{
+    let mut first = Vec::new(alloc);
+    let mut arrows = Vec::new(alloc);
+    for sign in signs {
+        if is_arrow(sign.mark) {
+            arrows.push(sign)?;
+        } else {
+            first.push(sign)?;
+        }
+    }
+    first.append(&mut arrows)?;
+    Ok(first)
+}
+
+/// Adds the strokes that a sign is to have.
+///
+/// An `Err` says that memory was refused.
+fn push_parts(alloc: Global, sign: &Sign, parts: &mut Vec<Part>) -> Result<(), AllocError>
+    ensures { OnOk result (map meaning parts.new.items
+        ≡ map meaning parts.old.items ++ parts_of (sign_shown sign.now)) }
+{
+    match sign.mark {
+        Mark::Name | Mark::Label | Mark::Counts => {
+            push_part(alloc, sign, Look::Text, &sign.text, parts)
+        }
+        Mark::End => {
+            push_part(alloc, sign, Look::End, &[], parts)?;
+            push_part(alloc, sign, Look::Text, &sign.text, parts)
+        }
+        Mark::Bar | Mark::Open => push_part(alloc, sign, Look::Bar, &[], parts),
+        Mark::Down | Mark::Up => push_part(alloc, sign, Look::Arrow, &[], parts),
+        Mark::Step(kind, changed) => {
+            push_part(
+                alloc,
+                sign,
+                Look::Text,
+                &[step_letter(kind, changed)],
+                parts,
+            )
+        }
+        Mark::Dot => push_part(alloc, sign, Look::Text, b"*", parts),
+        Mark::Refusal => {
+            let text = refusal_text(alloc, &sign.text)?;
+            push_part(alloc, sign, Look::Text, &text, parts)
+        }
+    }
+}
+
+/// Adds the strokes that signs are to have.
+///
+/// An `Err` says that memory was refused.
+fn push_all_parts(alloc: Global, signs: &[Sign], parts: &mut Vec<Part>) -> Result<(), AllocError>
+    ensures { OnOk result (map meaning parts.new.items
+        ≡ map meaning parts.old.items ++ flat_map parts_of (map sign_shown signs.now)) }
+{
+    for sign in signs {
+        push_parts(alloc, sign, parts)?;
+    }
+    Ok(())
+}
+
+/// Adds the number of a note, where the events before it are over.
+///
+/// An `Err` says that memory was refused.
+fn push_number(
+    alloc: Global,
+    number: u64,
+    one: &PlacedRemark,
+    parts: &mut Vec<Part>,
+) -> Result<(), AllocError>
+    ensures { OnOk result (map meaning parts.new.items
+        ≡ map meaning parts.old.items ++ number_parts number one.now.before one.now.remark) }
+{
+    if let Remark::Note(_) = one.remark {
+        let mut text = Vec::new(alloc);
+        write!(text, "{number}").map_err(|_| AllocError)?;
+        parts.push(Part {
+            look: Look::Text,
+            columns: (after_events(one.before), Edge::After(one.before)),
+            lanes: None,
+            text,
+        })?;
+    }
+    Ok(())
+}
+
+/// Adds the numbers of notes.
+///
+/// An `Err` says that memory was refused.
+fn push_numbers(
+    alloc: Global,
+    remarks: &[PlacedRemark],
+    parts: &mut Vec<Part>,
+) -> Result<(), AllocError>
+    requires { length remarks.now ≤ 100000 }
+    ensures { OnOk result (map meaning parts.new.items
+        ≡ map meaning parts.old.items ++ numbers_from no_notes remarks.now) }
+{
+    let mut numbering = Numbering::none();
+    for one in remarks {
+        numbering = numbering.after(one);
+        push_number(alloc, numbering.number, one, parts)?;
+    }
+    Ok(())
+}
+
+/// The strokes that the marks of a run are to have, with what is told beside its events.
+///
+/// An `Err` says that memory was refused.
+pub fn parts_of_run(
+    alloc: Global,
+    marks: &Marks,
+    remarks: &[PlacedRemark],
+) -> Result<Vec<Part>, AllocError>
+    requires { length remarks.now ≤ 100000 }
+    ensures { IfOk result (λ parts. map meaning parts.items ≡ parts_of_run (marks_shown marks.now) remarks.now) }
+{
+    let mut parts = Vec::new(alloc);
+    let signs = layered(alloc, signs_of(alloc, marks, remarks)?)?;
+    push_all_parts(alloc, &signs, &mut parts)?;
+    push_numbers(alloc, remarks, &mut parts)?;
+    Ok(parts)
+}

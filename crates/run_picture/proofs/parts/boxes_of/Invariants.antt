@@ -1,0 +1,10 @@
+use Rattle.std.proofs.Common.{◌≡◌, ◌++◌, map, drop}
+use Rattle.signs.specs.Signs.{meaning}
+use Rattle.run_marks.specs.Shown.{era_shown}
+use Rattle.run_picture.specs.Parts.{eras_from}
+use Rattle.run_picture.proofs.parts.boxes_of.Given as goal
+
+-- those so far, and those of the eras from here on
+abbrev pub invariant-loop-place : goal.invariant-loop-place
+invariant-loop-place l =
+    map meaning l.parts.items ++ eras_from l.dots l.place (map era_shown (drop l.place l.eras)) ≡ eras_from l.dots 0 (map era_shown l.eras)

@@ -1,0 +1,76 @@
+-- The shapes that the strip of an SVG is to have, sign by sign, from the lowest on, and those of the boxes of cells.
+use Rattle.std.specs.Prelude.{◌≡◌, ℕ, ◌+◌, Bool, true, false, List, [], ◌∷◌, ◌++◌, map, Option, Some, None, option_map, codes, refl}
+use Rattle.std.specs.List.{flat_map}
+use Rattle.std.specs.Fmt.{decimal}
+use Rattle.std.specs.Option.{option_map_or}
+use Rattle.signs.specs.declared.sign.Look.{Look}
+use Rattle.signs.specs.declared.sign.Look.TheVariants as look
+use Rattle.signs.specs.declared.sign.Edge.TheVariants as edge
+use Rattle.signs.specs.Signs.{Meaning}
+use Rattle.run_marks.specs.declared.marks.Dot.{Dot}
+use Rattle.run_marks.specs.Marks.{Cell, EraMarks}
+use Rattle.run_layout.specs.declared.marked.Mark.{Mark}
+use Rattle.run_layout.specs.declared.marked.Mark.TheVariants as mark
+use Rattle.run_layout.specs.Marked.{Sign, part, part_in}
+use Rattle.run_layout.specs.Wording.{cell_name, cell_state, cell_words, letter_of}
+
+-- a mark of a step is pale where the step changed nothing
+abbrev pub step_look : (changed : Bool) → Look
+step_look true = look.Step
+step_look false = look.Pale
+
+-- the tip of an arrow is in the lane of the call that is helped: the lower one, or the upper one
+abbrev pub parts_for : Sign → Mark → List Meaning
+parts_for sign mark.Name = part look.Text sign sign.text ∷ []
+parts_for sign mark.End = part look.End sign [] ∷ part look.Text sign sign.text ∷ []
+parts_for sign mark.Bar = part look.Bar sign [] ∷ []
+parts_for sign mark.Open = part look.Edge sign [] ∷ part look.Edge sign [] ∷ part look.Edge sign [] ∷ []
+parts_for sign mark.Down = part look.Arrow sign [] ∷ part_in (option_map (λ l. (l.1, l.1)) sign.lanes) look.Tip sign [] ∷ []
+parts_for sign mark.Up = part look.Arrow sign [] ∷ part_in (option_map (λ l. (l.0, l.0)) sign.lanes) look.Tip sign [] ∷ []
+parts_for sign (mark.Step kind changed) = part (step_look changed) sign sign.text ∷ part look.Text sign (letter_of kind ∷ []) ∷ []
+parts_for sign mark.Dot = part look.Dot sign [] ∷ []
+parts_for sign mark.Label = part look.Text sign sign.text ∷ []
+parts_for sign mark.Counts = part look.Text sign sign.text ∷ []
+parts_for sign mark.Refusal = part look.Cross sign [] ∷ part look.Cross sign [] ∷ part look.Text sign sign.text ∷ []
+
+abbrev pub parts_of : Sign → List Meaning
+parts_of sign = parts_for sign sign.mark
+
+-- ---- the boxes of cells, which stand in no column
+
+abbrev pub anywhere : Look → (text : List ℕ) → Meaning
+anywhere look text = record { look = look; columns = (edge.Start, edge.End); lanes = None; text = text }
+
+-- a box with lines of text
+abbrev pub box_parts : List (List ℕ) → List Meaning
+box_parts lines = anywhere look.Bar [] ∷ map (anywhere look.Text) lines
+
+-- a cell: its number and its call, its words and its reply, and where it is settled and short the state after it
+abbrev pub cell_lines : List Dot → Cell → List (List ℕ)
+cell_lines dots cell = cell_name dots cell ∷ cell_words cell ∷ option_map_or (λ state. state ∷ []) (cell_state cell) []
+
+-- its box, with the arrow to it
+abbrev pub cell_parts : List Dot → Cell → List Meaning
+cell_parts dots cell = anywhere look.Arrow [] ∷ anywhere look.Tip [] ∷ box_parts (cell_lines dots cell)
+
+abbrev pub anchor_lines : (anchor : ℕ) → List (List ℕ)
+anchor_lines anchor = (decimal anchor ++ codes ":") ∷ codes "anchor" ∷ []
+
+-- an era, by its place from 0: its name, its anchor, and its cells in the order of the list
+abbrev pub era_name : (place : ℕ) → List ℕ
+era_name place = codes "era " ++ decimal (place + 1)
+
+abbrev pub era_parts : List Dot → (place : ℕ) → EraMarks → List Meaning
+era_parts dots place era =
+    anywhere look.Text (era_name place) ∷ box_parts (anchor_lines era.anchor) ++ flat_map (cell_parts dots) era.cells
+
+abbrev pub eras_from : List Dot → (place : ℕ) → List EraMarks → List Meaning
+eras_from dots place [] = []
+eras_from dots place (era ∷ eras) = era_parts dots place era ++ eras_from dots (place + 1) eras
+
+-- an arrow of help up from process 2 to process 1 has its tip in the lane of process 1
+abbrev up_of_two : Sign
+up_of_two = record { mark = mark.Up; columns = (edge.Before 7, edge.After 7); lanes = Some (1, 2); text = [] }
+
+tip_of_up : map (λ p. p.lanes) (parts_of up_of_two) ≡ Some (1, 2) ∷ Some (1, 1) ∷ []
+tip_of_up = refl
