@@ -104,7 +104,7 @@ abbrev pub refusal_signs : Label → List Sign
 refusal_signs label = refusal_of_text label.before label.text
 
 -- all of them, from the lowest on; no era before the first one has fewer lanes, so that its lanes have no names among them
-unfoldable pub signs_of : RunMarks → List PlacedRemark → List Sign
+abbrev pub signs_of : RunMarks → List PlacedRemark → List Sign
 signs_of marks remarks =
     new_names 64 marks.eras
     ++ map line_sign marks.lines

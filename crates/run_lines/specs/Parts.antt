@@ -60,7 +60,7 @@ numbers_from numbering (one ∷ remarks) =
     let next = numbering_after numbering one in number_parts next.number one.before one.remark ++ numbers_from next remarks
 
 -- all of them
-unfoldable pub parts_of_run : RunMarks → List PlacedRemark → List Meaning
+abbrev pub parts_of_run : RunMarks → List PlacedRemark → List Meaning
 parts_of_run marks remarks = flat_map parts_of (layered (signs_of marks remarks)) ++ numbers_from no_notes remarks
 
 -- a proposal that won, and one that lost
