@@ -147,7 +147,7 @@ pub record ShowsRows (places : Places) (parts : List Meaning) (strokes : List St
 -- a text has these rows, and ends with a legend
 pub record HasText (marks : RunMarks) (remarks : List PlacedRemark) (rows text : List ℕ) : Type 0 where
   pub legend : List ℕ
-  pub text : text ≡ above_text marks remarks ++ rows ++ below_text marks remarks ++ legend
+  pub parts : text ≡ above_text marks remarks ++ rows ++ below_text marks remarks ++ legend
 
 -- a text of marks, with what is told beside them: its rows show the signs of both
 pub record IsTextOf (marks : RunMarks) (remarks : List PlacedRemark) (text : List ℕ) : Type 0 where
@@ -155,7 +155,7 @@ pub record IsTextOf (marks : RunMarks) (remarks : List PlacedRemark) (text : Lis
   pub strokes : List Stroke
   pub blocks : List Block
   pub shown : ShowsRows places (parts_of_run marks remarks) strokes blocks
-  pub text : HasText marks remarks (rows_text_of places strokes blocks) text
+  pub whole : HasText marks remarks (rows_text_of places strokes blocks) text
 
 -- a row of bars has its name; a row without letters is blank, and above the lanes left out
 fourth_row : row_text 1 3 (codes "[AH  ") ≡ codes "P0  [AH\n"

@@ -1,6 +1,6 @@
 //! From the bytes of a script to the lines that draw its run.
 
-ghost use Rattle.std.specs.Prelude.{◌≡◌, ◌≤◌, ⊥, IfOk, IsErrOf, false, length};
+ghost use Rattle.std.specs.Prelude.{◌≡◌, ◌≤◌, IfOk, IsErrOf, false, length};
 ghost use Rattle.uni_script.specs.Objects.{spoken};
 ghost use Rattle.uni_script.specs.Replay.{HasFault, IsFaultOfScript};
 ghost use Rattle.uni_script.specs.Scripts.{scripts_of, own_scripts_of};

@@ -1,6 +1,6 @@
 //! The whole text.
 
-ghost use Rattle.std.specs.Prelude.{◌≡◌, ◌++◌, ◌∷◌, [], ◌+◌, ◌<◌, ◌≤◌, ◌^◌, ⊥, IfOk, IsErrOf, IsTrue, OnOk};
+ghost use Rattle.std.specs.Prelude.{◌≡◌, ◌++◌, ◌∷◌, [], ◌+◌, ◌<◌, ◌≤◌, ◌^◌, IfOk, IsErrOf, IsTrue, OnOk};
 ghost use Rattle.std.specs.Prelude.{length, map, take};
 ghost use Rattle.std.specs.List.{flat_map};
 ghost use Rattle.signs.specs.Signs.{meaning, places_shown};
@@ -218,10 +218,13 @@ fn shows(parts: &[Part], sketch: &Sketch) -> bool
     ensures { IsTrue result → ShowsRows (places_shown sketch.now.layout) (map meaning parts.now)
         (map stroke_shown sketch.now.strokes.items) sketch.now.blocks.items }
 {
-    are_apart(&sketch.layout.columns)
-        && are_apart(&sketch.layout.lanes)
-        && are_shown(&sketch.layout, parts, &sketch.strokes)
-        && are_side(0, sketch.layout.width, &sketch.blocks)
+    if !are_apart(&sketch.layout.columns) || !are_apart(&sketch.layout.lanes) {
+        return false;
+    }
+    if !are_shown(&sketch.layout, parts, &sketch.strokes) {
+        return false;
+    }
+    are_side(0, sketch.layout.width, &sketch.blocks)
 }
 
 /// The letters of a row in a block.

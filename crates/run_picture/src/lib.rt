@@ -15,8 +15,8 @@ mod picture;
 mod rows;
 mod sheet;
 mod strip;
-mod tried;
+mod trial;
 
 pub use picture::{picture_of, picture_of_object};
 pub use sheet::{Drawn, draw};
-pub use tried::tried;
+pub use trial::tried;

@@ -1,6 +1,6 @@
 //! From the bytes of a script to the text of its picture.
 
-ghost use Rattle.std.specs.Prelude.{◌≡◌, ◌≤◌, ⊥, IfOk, IsErrOf, false, length};
+ghost use Rattle.std.specs.Prelude.{◌≡◌, ◌≤◌, IfOk, IsErrOf, false, length};
 ghost use Rattle.uni_script.specs.Objects.{spoken};
 ghost use Rattle.uni_script.specs.Replay.{HasFault, IsFaultOfScript};
 ghost use Rattle.uni_script.specs.Scripts.{scripts_of, own_scripts_of};
@@ -12,7 +12,7 @@ ghost use Rattle.run_picture.specs.Drawn.{IsSvgOf};
 ghost use Rattle.run_picture.specs.Picture.{IsPicture, IsPictureOf};
 
 use crate::sheet::draw;
-use crate::tried::tried;
+use crate::trial::tried;
 use ready_objects::Spoken;
 use run_layout::{PictureFault, Range, Subject, subject_of, subject_of_object};
 use std::alloc::Global;

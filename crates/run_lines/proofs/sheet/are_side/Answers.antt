@@ -1,13 +1,13 @@
-use Rattle.std.proofs.Common.{List, sym, rules, arith}
-use Rattle.signs.proofs.Rest.{more, none}
+use Rattle.std.proofs.Common.{List, rules}
+use Rattle.signs.proofs.Rest.{more_at, none}
 use Rattle.run_lines.specs.declared.sheet.Block.{Block}
 use Rattle.run_lines.specs.Sheet.{AreSide}
 use Rattle.run_lines.proofs.sheet.are_side.Goals as goal
 
 pub loop-block-preserved : goal.loop-block-preserved
 loop-block-preserved c = λ rest. c.loop-block.invariant
-    (more (λ (l : List Block). AreSide c.loop-block.end c.args.to l) c.args.blocks.now c.loop-block.block-index c.block-item.result c.loop-block-test.true
-    c.block-item.is (omega arith, rest))
+    (more_at (λ (l : List Block). AreSide c.loop-block.end c.args.to l) c.args.blocks.now c.loop-block.block-index
+    (record { from = 0; to = 0; named = 0; lanes = 0 }) c.loop-block-test.true (c.if-block-end.false, rest))
 
 pub returns : goal.returns
 returns c = λ past. c.loop-block.invariant

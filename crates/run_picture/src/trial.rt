@@ -1,6 +1,6 @@
 //! A drawing is tried before it becomes a picture.
 
-ghost use Rattle.std.specs.Prelude.{◌≡◌, ◌-◌, [], ⊥, IfOk, IsErrOf, IsTrue, map};
+ghost use Rattle.std.specs.Prelude.{◌≡◌, ◌-◌, [], IfOk, IsErrOf, IsTrue, map};
 ghost use Rattle.svg_text.specs.Figures.{picture};
 ghost use Rattle.signs.specs.Signs.{AreWithin, meaning, places_shown};
 ghost use Rattle.uni_script.specs.declared.fault.BenchFault.{BenchFault as Fault};
