@@ -1,4 +1,5 @@
 -- What is told of a process's next step: that its cells are there, and whether it changes its place.
+use Rattle.std.proofs.lemmas.Nat.{mod_below}
 use Rattle.std.proofs.Common.{◌≡◌, ◌≢◌, ◌∙◌, ◌↔◌, ℕ, ◌<◌, inl, inr, refl, sym, ap, subst, Option, Some, None, option_map, IfSome, IsTrue, arith, Bool}
 use Rattle.seq_object.specs.Sequential.{Sequential}
 use Rattle.cell_arena.specs.Arena.{processes_of}
@@ -18,52 +19,53 @@ use Rattle.uni_core.specs.declared.stage.Place.TheVariants as by_id
 use Rattle.uni_core.specs.declared.stage.Pending.{Pending}
 use Rattle.uni_core.specs.SharedEntries.{SharedEntries, named, memory_of}
 use Rattle.uni_core.specs.Stage.{stage_of, pending_of, effect_at, CanStep, ChangesAt, IsThere}
-use Rattle.uni_core.specs.Readers.{cell_in, place_named, proposed_at, ChangesItsPlace}
+use Rattle.uni_core.specs.Readers.{place_named, proposed_at, ChangesItsPlace, IsPlaceIn}
 use Rattle.uni_core.specs.World.{Whole, world_of, IsWorld}
 use Rattle.uni_core.proofs.Begin.{inside_view}
 use Rattle.uni_core.proofs.Steppable.{CanStep-pending, there_inv}
 
--- names that tell their index, and the index in a place of such a name
+-- names that tell their index
 abbrev coded : ℕ → Name
 coded i = Of i 0
 
-abbrev index_of_name : Name → Option ℕ
-index_of_name Anchor = None
-index_of_name (Of i k) = Some i
+-- a place of such a name is that of one of n processes, or of a cell that there is
+abbrev IsCellIn : (There : ℕ → Type 0) → Name → Type 0
+IsCellIn There Anchor = ⊥
+IsCellIn There (Of i k) = There i
 
-abbrev index_in : Place → Option ℕ
-index_in (Announced p) = None
-index_in (HeadOf p) = None
-index_in (InvOf x) = None
-index_in (SeqOf x) = index_of_name x
-index_in (AfterOf x) = index_of_name x
-index_in (NewOf x) = index_of_name x
-index_in (BeforeOf x) = index_of_name x
+abbrev IsIn : (n : ℕ) → (There : ℕ → Type 0) → Place → Type 0
+IsIn n There (Announced p) = p < n
+IsIn n There (HeadOf p) = p < n
+IsIn n There (InvOf x) = IsCellIn There x
+IsIn n There (SeqOf x) = IsCellIn There x
+IsIn n There (AfterOf x) = IsCellIn There x
+IsIn n There (NewOf x) = IsCellIn There x
+IsIn n There (BeforeOf x) = IsCellIn There x
 
-cell_in-coded : (place : PlaceById) → index_in (place_named coded place) ≡ cell_in place
-cell_in-coded (by_id.Announced p) = refl
-cell_in-coded (by_id.HeadOf p) = refl
-cell_in-coded (by_id.SeqOf c) = refl
-cell_in-coded (by_id.AfterOf c) = refl
-cell_in-coded (by_id.NewOf c) = refl
-cell_in-coded (by_id.BeforeOf c) = refl
+IsIn-coded : (n : ℕ) (There : ℕ → Type 0) (place : PlaceById) → IsIn n There (place_named coded place) → IsPlaceIn n There place
+IsIn-coded n There (by_id.Announced p) h = h
+IsIn-coded n There (by_id.HeadOf p) h = h
+IsIn-coded n There (by_id.SeqOf c) h = h
+IsIn-coded n There (by_id.AfterOf c) h = h
+IsIn-coded n There (by_id.NewOf c) h = h
+IsIn-coded n There (by_id.BeforeOf c) h = h
 
--- a field that a step touches is one of a cell that there is
-place_there : {S I R : Type 0} (a : SharedEntries S I R) (n p mine : ℕ) (stage : Stage) → CanStep a mine stage
-    → IfSome (index_in (place_of n p (coded mine) (stage_of coded stage))) (IsThere a)
-place_there a n p mine Announce can = tt
-place_there a n p mine (ScanHead q best s) can = tt
-place_there a n p mine (ScanSeq q best s head) can = can.1
-place_there a n p mine (WriteScan best s) can = tt
-place_there a n p mine (Test c s) can = can
-place_there a n p mine (ReadAnnounce c s) can = tt
-place_there a n p mine (ReadHelpSeq c s help) can = can
-place_there a n p mine (DecideAfter c s prefer) can = can
-place_there a n p mine (DecideNew c s d) can = can.1
-place_there a n p mine (WriteBefore c s d) can = can
-place_there a n p mine (WriteSeq c s d) can = can.0
-place_there a n p mine (WriteHead c s d) can = tt
-place_there a n p mine (Finish s t) can = tt
+-- the place of a step is
+place_there : {S I R : Type 0} (a : SharedEntries S I R) (n p mine : ℕ) → n ≡ processes_of a.cells → p < n → (stage : Stage) → CanStep a mine stage
+    → IsIn n (IsThere a) (place_of n p (coded mine) (stage_of coded stage))
+place_there a n p mine count inside Announce can = inside
+place_there a n p mine count inside (ScanHead q best s) can = subst (λ k. q < k) (sym count) can
+place_there a n p mine count inside (ScanSeq q best s head) can = can.1
+place_there a n p mine count inside (WriteScan best s) can = inside
+place_there a n p mine count inside (Test c s) can = can
+place_there a n p mine count inside (ReadAnnounce c s) can = mod_below s n (omega (arith, inside))
+place_there a n p mine count inside (ReadHelpSeq c s help) can = can
+place_there a n p mine count inside (DecideAfter c s prefer) can = can
+place_there a n p mine count inside (DecideNew c s d) can = can.1
+place_there a n p mine count inside (WriteBefore c s d) can = can
+place_there a n p mine count inside (WriteSeq c s d) can = can.0
+place_there a n p mine count inside (WriteHead c s d) can = inside
+place_there a n p mine count inside (Finish s t) can = inside
 
 -- where a process stands in a call that is pending, as it was read
 module _ {O S I R : Type 0} (object : Sequential S I R) (v now : Whole O S I R) (view : v ≡ now) (is : IsWorld object v) (p : ℕ) (below : p < processes_of now.shared.cells)
@@ -78,12 +80,14 @@ module _ {O S I R : Type 0} (object : Sequential S I R) (v now : Whole O S I R) 
   pub can_step_now : CanStep v.shared call.mine call.stage
   can_step_now = CanStep-pending object v is p inside call.mine call.stage pend
 
-  pub place_there_now : (n : ℕ) (place : PlaceById) → ((name : ℕ → Name) → place_named name place ≡ place_of n p (name call.mine) (stage_of name call.stage))
-      → IfSome (cell_in place) (λ cell. IsThere now.shared cell)
-  place_there_now n place means =
-      subst (λ (x : Whole O S I R). IfSome (cell_in place) (λ cell. IsThere x.shared cell)) view
-      (subst (λ cell. IfSome cell (IsThere v.shared)) (ap index_in (sym (means coded)) ∙ cell_in-coded place)
-      (place_there v.shared n p call.mine call.stage can_step_now))
+  pub place_there_now : (n : ℕ) → n ≡ processes_of now.shared.cells → (place : PlaceById)
+      → ((name : ℕ → Name) → place_named name place ≡ place_of n p (name call.mine) (stage_of name call.stage))
+      → IsPlaceIn (processes_of now.shared.cells) (λ cell. IsThere now.shared cell) place
+  place_there_now n count place means =
+      subst (λ k. IsPlaceIn k (λ cell. IsThere now.shared cell) place) count
+      (subst (λ (x : Whole O S I R). IsPlaceIn n (λ cell. IsThere x.shared cell) place) view
+      (IsIn-coded n (λ cell. IsThere v.shared cell) place (subst (IsIn n (λ cell. IsThere v.shared cell)) (sym (means coded))
+      (place_there v.shared n p call.mine (count ∙ ap (λ (x : Whole O S I R). processes_of x.shared.cells) (sym view)) (subst (λ k. p < k) (sym count) below) call.stage can_step_now))))
 
   -- the cell that it proposes is one of a call of the era
   proposal_has : (stage : at) → (world_of v).call p ≡ Some (record { mine = named v.shared call.mine; stage = stage }) → (x : Name) → proposed_at stage ≡ Some x

@@ -1,5 +1,5 @@
 -- What the readers of a world answer.
-use Rattle.std.specs.Prelude.{◌≡◌, ◌≢◌, ℕ, Option, Some, None, refl}
+use Rattle.std.specs.Prelude.{◌≡◌, ◌≢◌, ℕ, ◌<◌, Option, Some, None, refl}
 use Rattle.seq_object.specs.Sequential.{Sequential}
 use Rattle.seq_object.specs.declared.call_id.CallId.{CallId}
 use Rattle.uni_model.specs.Places.{Name, Place}
@@ -45,14 +45,14 @@ kind_of (WriteSeq c c_seq d) = kinds.WriteSeq
 kind_of (WriteHead c c_seq d) = kinds.WriteHead
 kind_of (Finish c_seq mine_seq) = kinds.Finish
 
--- the cell, by index, that a place is a field of
-abbrev pub cell_in : PlaceById → Option ℕ
-cell_in (by_id.Announced p) = None
-cell_in (by_id.HeadOf p) = None
-cell_in (by_id.SeqOf c) = Some c
-cell_in (by_id.AfterOf c) = Some c
-cell_in (by_id.NewOf c) = Some c
-cell_in (by_id.BeforeOf c) = Some c
+-- the place is that of one of n processes, or of a cell that there is
+abbrev pub IsPlaceIn : (n : ℕ) → (IsThere : ℕ → Type 0) → PlaceById → Type 0
+IsPlaceIn n IsThere (by_id.Announced p) = p < n
+IsPlaceIn n IsThere (by_id.HeadOf p) = p < n
+IsPlaceIn n IsThere (by_id.SeqOf c) = IsThere c
+IsPlaceIn n IsThere (by_id.AfterOf c) = IsThere c
+IsPlaceIn n IsThere (by_id.NewOf c) = IsThere c
+IsPlaceIn n IsThere (by_id.BeforeOf c) = IsThere c
 
 -- the cell that a process at a stage is about to propose after its head
 abbrev pub proposed_at : Stage → Option Name

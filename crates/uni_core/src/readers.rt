@@ -16,7 +16,7 @@ ghost use Rattle.uni_model.specs.OneList.{HasOneList, HasLegalLog};
 ghost use Rattle.uni_model.specs.Worlds.{chain, calls_in_era, last_cell, IsQuiescent};
 ghost use Rattle.uni_model.specs.Transition.{place_of};
 ghost use Rattle.uni_core.specs.Stage.{pending_of};
-ghost use Rattle.uni_core.specs.Readers.{call_of_name, cell_in, kind_of, place_named, proposed_at, ChangesItsPlace};
+ghost use Rattle.uni_core.specs.Readers.{call_of_name, kind_of, place_named, proposed_at, ChangesItsPlace, IsPlaceIn};
 ghost use Rattle.uni_core.specs.World.{world_of, name_in, current_of, CountsNone};
 
 use crate::shared::WorldCells;
@@ -122,12 +122,12 @@ impl<O: SeqObject> World<O> {
     }
 
     /// The one shared place that the next step of process `p` touches; `None` where it has no call
-    /// pending. A place that is a field of a cell is one of a cell that there is.
+    /// pending. It is an entry of a process that there is, or a field of a cell that there is.
     pub fn next_place(&self, p: u64) -> Option<Place>
         requires { p < (world_of self.now).n }
         ensures place { option_map (place_named (name_in (world_of self.now))) result
             ≡ option_map (λ c. place_of (world_of self.now).n p c.mine c.stage) ((world_of self.now).call p) }
-        ensures there { IfSome result (λ place. IfSome (cell_in place)
+        ensures there { IfSome result (IsPlaceIn (world_of self.now).n
             (λ cell. IsSome (cell_of self.now.shared.cells cell))) }
     {
         let _ = &self.machine;
