@@ -19,7 +19,10 @@ fn answers<O: SmallObject>(
     ensures { IsSeatOf shared.now seat.new }
 {
     for row in rows {
-        assert!(rt; seat.apply(shared, row.0) == Ok(row.1), "with {row:?}");
+        let Ok(answer) = seat.apply(shared, row.0) else {
+            panic!(rt; "calls are spent")
+        };
+        assert!(rt; answer.reply == row.1, "with {row:?}");
     }
 }
 
@@ -76,8 +79,8 @@ fn calls(
 {
     let mut replies = Vec::new(alloc);
     for _ in 0..count {
-        if let Ok(reply) = seat.apply(shared, inv) {
-            let _ = replies.push(reply);
+        if let Ok(answer) = seat.apply(shared, inv) {
+            let _ = replies.push(answer.reply);
         }
     }
     (seat, replies)

@@ -1,22 +1,23 @@
 -- The word steps that load, but the last one of a call.
-use Rattle.std.proofs.Common.{◌≡◌, ◌≢◌, ◌∙◌, ℕ, ◌+◌, ◌*◌, ◌<◌, ◌≤◌, inl, inr, refl, sym, ap, subst, List, [], ◌∷◌, ◌++◌, length, map, slice_index, Option, Some, None, arith, Bool, true, false, cond, if◌then◌else◌, length-append, ◌==◌}
+use Rattle.std.proofs.Common.{◌≡◌, ◌≢◌, ◌∙◌, ℕ, ◌+◌, ◌*◌, ◌<◌, ◌≤◌, inl, inr, refl, sym, ap, subst, List, [], ◌∷◌, ◌++◌, length, map, slice_index, slice_get, Option, Some, None, arith, Bool, true, false, cond, if◌then◌else◌, length-append, ◌==◌}
 use Rattle.std.proofs.lemmas.Bool.Decides.{nat_tests}
 use Rattle.std.proofs.lemmas.Option.{slice_get_within}
 use Rattle.std.specs.List.{sum}
 use Rattle.atomic_table.specs.Table.{Me, Step, Allows}
 use Rattle.seq_object.specs.Sequential.{Sequential}
+use Rattle.uni_model.specs.AtomicObject.{Invoked}
 use Rattle.uni_model.proofs.Written.{number_cases, lt_cases}
 use Rattle.uni_small.specs.Image.{Image, buffer_words, spell, read_image, with_seen}
-use Rattle.uni_small.specs.View.{Local, Stage, goes}
+use Rattle.uni_small.specs.View.{Local, Stage, goes, knows}
 use Rattle.uni_small.specs.View.Stage.{Idle, Armed, Ready, Reading, Asking, Writing, Last}
 use Rattle.uni_small.specs.Board.{Board, in_of, current_word, buffer_in, version_in, announce_word, argument_word, buffer_word}
-use Rattle.uni_small.specs.Invariant.{IsAt, IsBoard, IsSound, IsCallAt, IsAttemptAt, IsClosed, IsOpen, IfFresh, IsWritten, most_calls}
+use Rattle.uni_small.specs.Invariant.{IsAt, IsBoard, IsSound, IsCallAt, IsAttemptAt, IsClosed, IsOpen, IfFresh, IsWritten, AreIn, most_calls}
 use Rattle.uni_small.specs.Shown.{ShowsBoard}
-use Rattle.uni_small.specs.Plays.{stage_of, with_local, IsNamed, IsGood, looked, checked, HasStarted, HasCopied, HasLooked, HasAsked, HasChecked, HasTurned}
+use Rattle.uni_small.specs.Plays.{stage_of, with_local, IsNamed, IsGood, looked, checked, HasStarted, HasCopied, HasLooked, HasAsked, HasChecked, HasTurned, HasFollowed}
 use Rattle.uni_small.specs.Standing.{IsCopying, IsLooking, IsAsking}
 use Rattle.uni_small.specs.declared.view.View.{View}
 use Rattle.uni_small.proofs.Frame.{Found, load_law}
-use Rattle.uni_small.proofs.Lists.{index_snoc, index_last, get_snoc, due_snoc, due_last, due_cases, same_list, sum_most}
+use Rattle.uni_small.proofs.Lists.{get-contains, index_snoc, index_last, get_snoc, due_snoc, due_last, due_cases, same_list, sum_most}
 use Rattle.uni_small.proofs.Images.{spell-length, spell-applied, read-spell, reached_from, rows-seen, reply-seen}
 
 -- a word S in parts
@@ -66,6 +67,22 @@ module _ (object : Sequential (List ℕ) ℕ ℕ) (n width : ℕ) (g : Board) wh
         subst (λ k. k ≤ n * most_calls) (sym (version_of g.version g.current small)) (omega arith),
       )
 
+-- a call that took effect is one of those that are in
+pub none_beyond : (object : Sequential (List ℕ) ℕ ℕ) (n width : ℕ) (g : Board) (p : ℕ) → IsBoard object n width g → (c : Invoked ℕ) (place : ℕ) → slice_get g.atomic.agreed place ≡ Some c → c.process ≡ p → in_of g p ≤ c.nth → ⊥
+none_beyond object n width g p board c place at own from =
+    let known = board.agreed c (get-contains g.atomic.agreed place c at) in
+    let mine : in_of g c.process ≡ in_of g p = ap (in_of g) own in
+    (let k = known.1 in omega (arith, from, k))
+
+-- where s is the present S, all calls that took effect are in its version
+pub all_in : (object : Sequential (List ℕ) ℕ ℕ) (n width : ℕ) (g : Board) (p s : ℕ) → n ≤ 64 → IsBoard object n width g → s ≡ current_word g.version g.current → AreIn g p (version_in s)
+all_in object n width g p s few board is =
+    let small : g.current < 128 = (let c = board.current in omega arith) in
+    let version : version_in s ≡ g.version = ap version_in is ∙ version_of g.version g.current small in (
+      omega arith,
+      λ c place at own below. (let w = slice_get_within g.atomic.agreed place c at in let all = board.counted (version_in s) (omega arith) in omega arith),
+    )
+
 module _ {O : Type 0} (meaning : O → Sequential (List ℕ) ℕ ℕ) (o : O) (n width slots id : ℕ) (few : n ≤ 64) (st : Step ℕ) (me : Me ℕ (View O)) (single : me.0.known.count ≡ 1) where
   abbrev object : Sequential (List ℕ) ℕ ℕ
   object = meaning o
@@ -78,7 +95,7 @@ module _ {O : Type 0} (meaning : O → Sequential (List ℕ) ℕ ℕ) (o : O) (n
 
   -- the process goes to another stage, of the same call
   at_next : (g : Board) (stage : Stage) → IsAt object n width g p l → IsCallAt object n width g p l stage → IsAttemptAt object n width g p (2 * p + l.spare) stage → IsAt object n width g p (goes l stage)
-  at_next g stage was call attempt = record { spare = was.spare; apart = was.apart; call = by_stage stage call; attempt = attempt } where
+  at_next g stage was call attempt = record { spare = was.spare; apart = was.apart; call = by_stage stage call; attempt = attempt; ordered = was.ordered } where
     by_stage : (stage : Stage) → IsCallAt object n width g p l stage → IsCallAt object n width g p (goes l stage) stage
     by_stage Idle c = c
     by_stage Armed c = c
@@ -268,7 +285,8 @@ module _ {O : Type 0} (meaning : O → Sequential (List ℕ) ℕ ℕ) (o : O) (n
       let in_now : g.announced p ≤ in_of g p = f.sound.board.soon p f.inside (omega arith) in
       let marked : g.announced p ≤ g.mark g.current p = (let m = f.sound.board.at_current p f.inside in omega arith) in (
         goes l (Last s),
-        at_next g (Last s) f.mine (call_at object n width g p l (Ready tries) f.mine stage) (named_now.0, subst (λ b. g.announced p ≤ g.mark b p) (sym here) marked),
+        at_next g (Last s) f.mine (call_at object n width g p l (Ready tries) f.mine stage)
+            (named_now.0, subst (λ b. g.announced p ≤ g.mark b p) (sym here) marked, all_in object n width g p s few f.sound.board is),
         λ tries' stage' two'. (refl, subst (λ k. IsNamed k s) (sym f.processes) named_now),
       ))
 
@@ -329,6 +347,7 @@ module _ {O : Type 0} (meaning : O → Sequential (List ℕ) ℕ ℕ) (o : O) (n
             at_next g (Last s) f.mine call (
               subst (λ b. b < 2 * n) here f.sound.board.current,
               subst (λ b. g.announced p ≤ g.mark b p) here (let m : g.announced p ≤ g.mark g.current p = omega arith in m),
+              all_in object n width g p s few f.sound.board (sym same ∙ is),
             )
         by_in g copy seen x f wide long call was is same false e =
             let copied = image_is g copy seen x f wide was is same in
@@ -366,3 +385,28 @@ module _ {O : Type 0} (meaning : O → Sequential (List ℕ) ℕ ℕ) (o : O) (n
             let same : x ≡ s = (let h : (x == s) ≡ true = e in grind (arith, nat_tests, h)) in
             subst (λ b. IsAt object n width g p (goes l (if b then (if slice_index copy p == length l.own + 1 then Last s else Writing tries s (read_image n copy) seen 0) else Ready (tries + 1)))) (sym e)
             (by_in {local = local} {words = words} g copy seen x f wide long call was is same (slice_index copy p == length l.own + 1) refl)
+
+  -- S is loaded between calls
+  pub follows_on : stage_of me ≡ Idle → Allows (ShowsBoard meaning o n width) slots id me 0 (λ x. x) (λ found me'. HasFollowed st me found me')
+  follows_on stage = load_law meaning o n width slots id me 0 (λ found me'. HasFollowed st me found me') single (λ g local words f.
+      let s = slice_index words 0 in
+      let is : s ≡ current_word g.version g.current = f.words_are.current in
+      let b = f.sound.board in
+      let small : g.current < 128 = (let c = b.current in omega arith) in
+      let version : version_in s ≡ g.version = ap version_in is ∙ version_of g.version g.current small in
+      let closed : IsClosed g p l.own = call_at object n width g p l Idle f.mine stage in (
+        knows l (version_in s),
+        record {
+          spare = f.mine.spare;
+          apart = f.mine.apart;
+          call = subst (IsCallAt object n width g p (knows l (version_in s))) (sym stage) closed;
+          attempt = f.mine.attempt;
+          ordered = record {
+            reached = omega arith;
+            later = λ c place at own from. absurd (none_beyond object n width g p b c place at own (let i = closed.in_is in omega arith));
+            known = f.mine.ordered.known;
+            stand = f.mine.ordered.stand;
+          };
+        },
+        λ stage'. (refl, (let r = f.mine.ordered.reached in omega arith)),
+      ))

@@ -19,7 +19,8 @@ use Rattle.uni_small.specs.declared.view.View.{View}
 use Rattle.uni_small.proofs.Frame.{step_law, sound_with}
 use Rattle.uni_small.proofs.Images.{spell-reply}
 use Rattle.uni_small.proofs.Loads.{call_at, attempt_at}
-use Rattle.uni_small.proofs.Others.{quiet, at_stays, invoked_other, invoked_own}
+use Rattle.uni_small.proofs.Acts.{invoked_other, invoked_own}
+use Rattle.uni_small.proofs.Others.{quiet, at_stays}
 use Rattle.uni_small.proofs.Words.{words_announced, words_argument, words_buffer}
 
 module _ {O : Type 0} (meaning : O → Sequential (List ℕ) ℕ ℕ) (o : O) (n width slots id : ℕ) (st : Step ℕ) (me : Me ℕ (View O)) (single : me.0.known.count ≡ 1) where
@@ -54,6 +55,8 @@ module _ {O : Type 0} (meaning : O → Sequential (List ℕ) ℕ ℕ) (o : O) (n
               versions = b.versions;
               room = b.room;
               agreed = b.agreed;
+              counted = b.counted;
+              rising = b.rising;
               start = b.start;
               history = b.history;
             })
@@ -80,6 +83,7 @@ module _ {O : Type 0} (meaning : O → Sequential (List ℕ) ℕ ℕ) (o : O) (n
               apart = f.mine.apart;
               call = (record { none_open = closed.none_open; next = closed.next; announced = closed.announced; in_is = closed.in_is; acts = closed.acts }, set_at_same g.argument p inv);
               attempt = tt;
+              ordered = f.mine.ordered;
             });
         words_are = words_argument n width g (record g { argument = set_at g.argument p inv }) words f.words_are refl refl p inv f.inside refl refl refl;
         said = refl;
@@ -131,6 +135,8 @@ module _ {O : Type 0} (meaning : O → Sequential (List ℕ) ℕ ℕ) (o : O) (n
                 | inr other ↦ subst (λ x. x ≤ most_calls) (sym other.1) (b.room r inside)
               ];
               agreed = b.agreed;
+              counted = b.counted;
+              rising = b.rising;
               start = b.start;
               history = AcceptsAll-append object (at_start object.initial) g.atomic atomic' g.acts (Invoke p (length l.own) l.inv ∷ []) b.history
                   (atomic', (closed.none_open, closed.next, refl), refl);
@@ -179,6 +185,7 @@ module _ {O : Type 0} (meaning : O → Sequential (List ℕ) ℕ ℕ) (o : O) (n
                 acts = invoked_own p (length l.own) l.inv g.acts ∙ ap (λ xs. xs ++ Invoke p (length l.own) l.inv ∷ []) closed.acts;
               };
               attempt = (let v = set_at_same g.since p g.version in omega arith);
+              ordered = f.mine.ordered;
             });
         words_are = words_announced n width g g' words f.words_are refl refl p number f.inside refl refl refl;
         said = refl;
@@ -227,6 +234,8 @@ module _ {O : Type 0} (meaning : O → Sequential (List ℕ) ℕ ℕ) (o : O) (n
               versions = b.versions;
               room = b.room;
               agreed = b.agreed;
+              counted = b.counted;
+              rising = b.rising;
               start = b.start;
               history = b.history;
             })
@@ -268,6 +277,7 @@ module _ {O : Type 0} (meaning : O → Sequential (List ℕ) ℕ ℕ) (o : O) (n
                   replies = was.2.replies;
                 },
               );
+              ordered = f.mine.ordered;
             });
         words_are = words_buffer n width g g' words f.words_are refl refl (2 * p + l.spare) k x inside_mine room refl refl refl;
         said = λ tries' s' image' seen' k' stage'.

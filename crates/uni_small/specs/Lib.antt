@@ -1,6 +1,8 @@
 pub mod Image
 pub mod View
 pub mod Board
+pub mod Order
+pub mod Reading
 pub mod Invariant
 pub mod Shown
 pub mod Rule

@@ -1,7 +1,9 @@
 //! The wait-free protocol for objects of several words on the words of an `atomic_table`.
 #![tactic(auto)]
 
+mod answer;
 mod apply;
+mod attempt;
 mod close;
 mod log;
 mod object;
@@ -12,6 +14,7 @@ mod seat;
 mod steps;
 mod view;
 
+pub use answer::Answer;
 pub use apply::{CallsSpent, MAX_CALLS};
 pub use log::{MAX_PROCESSES, MAX_WIDTH, SmallOpenFault, SmallShared};
 pub use object::SmallObject;

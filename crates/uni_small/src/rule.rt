@@ -117,6 +117,15 @@ impl<O> Play<u8, View<O>> for Replies {
     ghost then = { HasReplied };
 }
 
+/// The load of S between calls.
+pub struct Follows;
+
+impl<O> Play<u8, View<O>> for Follows {
+    ghost use Rattle.uni_small.specs.Plays.{HasFollowed};
+
+    ghost then = { HasFollowed };
+}
+
 /// The load of S after which an attempt goes on or has failed.
 pub struct Checks;
 

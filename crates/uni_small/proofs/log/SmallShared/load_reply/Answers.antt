@@ -8,8 +8,8 @@ use Rattle.uni_small.proofs.Reply.{replies}
 use Rattle.uni_small.proofs.Words.{buffer_inside}
 use Rattle.uni_small.proofs.log.SmallShared.load_reply.Goals as goal
 
-pub load-requires : goal.load-requires
-load-requires g c =
+pub load-reply-requires : goal.load-reply-requires
+load-reply-requires g c =
     let shared = c.args.self.now in
     let n = shared.setup.n in
     let width = shared.setup.width in
