@@ -3,3 +3,5 @@
 
 #[cfg(test)]
 mod small;
+#[cfg(test)]
+mod threads;

@@ -4,7 +4,7 @@ use Rattle.std.proofs.lemmas.List.{map-append, set-get_or}
 use Rattle.std.proofs.lemmas.List.Elements.{Contains-append_cases}
 use Rattle.std.proofs.lemmas.Option.{slice_get_within}
 use prog.Atomic.{either}
-use Rattle.atomic_table.specs.Table.{Me, Step, Allows}
+use Rattle.atomic_table.specs.Table.{Me, Step}
 use Rattle.atomic_table.proofs.Lists.{exchanged}
 use Rattle.seq_object.specs.Sequential.{Sequential}
 use Rattle.seq_object.specs.History.{response_at, state_after}
@@ -15,20 +15,21 @@ use Rattle.uni_model.proofs.Simulation.{set_at_same}
 use Rattle.uni_model.proofs.LawProofs.{set_at_elsewhere, AcceptsAll-append}
 use Rattle.uni_model.proofs.Appended.{slice_get-append_left, slice_get-append_right, response_at-append}
 use Rattle.uni_model.specs.ProcessCalls.{acts_by}
-use Rattle.uni_small.specs.Image.{Image, HasRows, buffer_words, due_at, calls_seen, first_image, image_from, with_seen}
+use Rattle.uni_small.specs.Image.{Image, HasRows, IsSteady, buffer_words, due_at, calls_seen, first_image, image_from, with_seen}
 use Rattle.uni_small.specs.View.{Local, Returned, Stage, goes, brings}
 use Rattle.uni_small.specs.View.Stage.{Idle, Armed, Ready, Reading, Asking, Writing, Last}
 use Rattle.uni_small.specs.Board.{Board, in_of, current_word, buffer_in, version_in}
 use Rattle.uni_small.specs.Invariant.{IsBoard, IsSound, IsCallAt, IsAttemptAt, IsClosed, IsOpen, HasTaken, HasSeen, AreIn, IsWritten}
 use Rattle.uni_small.specs.Order.{StandsIn, IsOrdered}
-use Rattle.uni_small.specs.Shown.{AreWords, ShowsBoard}
+use Rattle.uni_small.specs.Shown.{AreWords}
+use Rattle.uni_small.specs.Laws.{Moves, takes_effect}
 use Rattle.uni_small.specs.Plays.{with_local, brought, HasBrought}
 use Rattle.uni_small.specs.Standing.{HasWrittenAll}
 use Rattle.uni_small.specs.declared.view.View.{View}
 use Rattle.uni_small.proofs.Frame.{Found, Given, step_law, sound_with, sound_same}
 use Rattle.uni_small.proofs.Lists.{due_cases, get-append, get-contains}
 use Rattle.uni_small.proofs.Acts.{acts_by-append, acts_by-linearized}
-use Rattle.uni_small.proofs.Images.{spell-reply, image_from-append, with_seen-calls, reached_from, rows-seen, applied-seen, reply-seen}
+use Rattle.uni_small.proofs.Images.{spell-reply, image_from-append, with_seen-calls, reached_from, rows-seen, width_is, applied-seen, reply-seen}
 use Rattle.uni_small.proofs.Batch.{call_seen, taken_seen, linearized, sum-rises}
 use Rattle.uni_small.proofs.Loads.{call_at, attempt_at, buffer_of, version_of}
 use Rattle.uni_small.proofs.Words.{words_current}
@@ -43,7 +44,7 @@ response_stays object s [] js place r e = absurd (let f = e in cc)
 response_stays object s (i ∷ is) js zero r e = e
 response_stays object s (i ∷ is) js (suc place) r e = response_stays object (object.next s i) is js place r e
 
-module _ (object : Sequential (List ℕ) ℕ ℕ) (steady : (state : List ℕ) (inv : ℕ) → length (object.next state inv) ≡ length state) (n width : ℕ) (few : n ≤ 64)
+module _ (object : Sequential (List ℕ) ℕ ℕ) (steady : IsSteady object) (n width : ℕ) (few : n ≤ 64)
     (g : Board) (local : ℕ → Local) (sound : IsSound object n width g local) (seen : List (Option ℕ)) (long : length seen ≡ n)
     (p : ℕ) (p_inside : p < n) (known : HasSeen g p seen) (not_in : in_of g p < g.announced p)
     (b : ℕ) (b_inside : b < 2 * n) (written : IsWritten object n width g b (with_seen object g.image 0 seen) (buffer_words n width)) where
@@ -88,7 +89,7 @@ module _ (object : Sequential (List ℕ) ℕ ℕ) (steady : (state : List ℕ) (
   ]
 
   rows' : HasRows n width image'
-  rows' = rows-seen object steady n width g.image 0 seen was.rows
+  rows' = rows-seen object steady n width (width_is object steady n width g.atomic.agreed g.image was.image was.rows) g.image 0 seen was.rows
 
   state_is : state_after object object.initial (map (λ c. c.inv) g.atomic.agreed) ≡ g.image.state
   state_is = sym (reached_from object _ g.atomic.agreed) ∙ ap (λ (i : Image). i.state) was.image
@@ -351,8 +352,8 @@ module _ (object : Sequential (List ℕ) ℕ ℕ) (steady : (state : List ℕ) (
         subst (λ k. g.atomic.open_call k ≡ Some (record { process = k; nth = slice_index g.image.applied k; inv = inv })) z
         (open_at j inv inside told.0 told.1 (local j) (local j).stage (sound.each j inside).call)
 
-module _ {O : Type 0} (meaning : O → Sequential (List ℕ) ℕ ℕ) (o : O) (n width slots id : ℕ) (few : n ≤ 64) (st : Step ℕ) (me : Me ℕ (View O)) (single : me.0.known.count ≡ 1)
-    (steady : (state : List ℕ) (inv : ℕ) → length ((meaning o).next state inv) ≡ length state) where
+module _ {O : Type 0} (meaning : O → Sequential (List ℕ) ℕ ℕ) (o : O) (n width id : ℕ) (few : n ≤ 64) (st : Step ℕ) (me : Me ℕ (View O)) (single : me.0.known.count ≡ 1)
+    (steady : IsSteady (meaning o)) where
   abbrev object : Sequential (List ℕ) ℕ ℕ
   object = meaning o
 
@@ -389,7 +390,7 @@ module _ {O : Type 0} (meaning : O → Sequential (List ℕ) ℕ ℕ) (o : O) (n
       at_it = attempt_at object n width g p l (Writing tries s image seen (buffer_words n width)) f.mine stage
 
       -- S has changed
-      miss : slice_index words 0 ≢ s → Given meaning o n width me local (slice_set words 0 (slice_index words 0)) (HasBrought st me (slice_index words 0))
+      miss : slice_index words 0 ≢ s → Given meaning o n width me g local (slice_set words 0 (slice_index words 0)) (takes_effect s seen g (slice_index words 0)) (HasBrought st me (slice_index words 0))
       miss apart = record {
         board = g;
         local' = goes l (Ready (tries + 1));
@@ -408,10 +409,11 @@ module _ {O : Type 0} (meaning : O → Sequential (List ℕ) ℕ ℕ) (o : O) (n
           | inl same ↦ absurd (apart same.0)
           | inr other ↦ told (slice_index words 0) (goes l (Ready (tries + 1))) false other.1 refl
         ];
+        appended = elim (number_cases (slice_index words 0) s) [ inl same ↦ absurd (apart same.0) | inr other ↦ rw other.1 (sym (append-nil g.acts)) ];
       }
 
       -- S is as it was
-      hit : slice_index words 0 ≡ s → Given meaning o n width me local (slice_set words 0 st.second) (HasBrought st me (slice_index words 0))
+      hit : slice_index words 0 ≡ s → Given meaning o n width me g local (slice_set words 0 st.second) (takes_effect s seen g (slice_index words 0)) (HasBrought st me (slice_index words 0))
       hit same =
           let is : s ≡ current_word g.version g.current = sym same ∙ f.words_are.current in
           let now = at_it.1 (omega arith) in
@@ -456,9 +458,10 @@ module _ {O : Type 0} (meaning : O → Sequential (List ℕ) ℕ ℕ) (o : O) (n
               | inl here ↦ told (slice_index words 0) (brings l st.second) true here.1 refl
               | inr other ↦ absurd (other.0 same)
             ];
+            appended = elim (number_cases (slice_index words 0) s) [ inl here ↦ rw here.1 refl | inr other ↦ absurd (other.0 same) ];
           }
 
-    pub brings_in : Allows (ShowsBoard meaning o n width) slots id me 0 (λ found. either (eqb found s) st.second found) (λ found me'. HasBrought st me found me')
-    brings_in = step_law meaning o n width slots id me 0 (λ found. either (eqb found s) st.second found) (λ found me'. HasBrought st me found me') single (λ g local words f fits.
-        exchanged (slice_index words 0) s st.second (λ x. Given meaning o n width me local (slice_set words 0 x) (HasBrought st me (slice_index words 0)))
+    pub brings_in : Moves meaning o n width id me 0 (λ found. either (eqb found s) st.second found) (takes_effect s seen) (λ found me'. HasBrought st me found me')
+    brings_in = step_law meaning o n width id me 0 (λ found. either (eqb found s) st.second found) (takes_effect s seen) (λ found me'. HasBrought st me found me') single (λ g local words f fits.
+        exchanged (slice_index words 0) s st.second (λ x. Given meaning o n width me g local (slice_set words 0 x) (takes_effect s seen g (slice_index words 0)) (HasBrought st me (slice_index words 0)))
         (hit g local words f) (miss g local words f))

@@ -3,22 +3,23 @@ use Rattle.std.proofs.Common.{◌≡◌, ◌≢◌, ◌∙◌, ℕ, ◌+◌, ◌
 use Rattle.std.proofs.lemmas.Bool.Decides.{nat_tests}
 use Rattle.std.proofs.lemmas.Option.{slice_get_within}
 use Rattle.std.specs.List.{sum}
-use Rattle.atomic_table.specs.Table.{Me, Step, Allows}
+use Rattle.atomic_table.specs.Table.{State, Me, Step}
 use Rattle.seq_object.specs.Sequential.{Sequential}
 use Rattle.uni_model.specs.AtomicObject.{Invoked}
 use Rattle.uni_model.proofs.Written.{number_cases, lt_cases}
-use Rattle.uni_small.specs.Image.{Image, buffer_words, spell, read_image, with_seen}
-use Rattle.uni_small.specs.View.{Local, Stage, goes, knows}
+use Rattle.uni_small.specs.Image.{Image, IsSteady, buffer_words, spell, read_image, with_seen}
+use Rattle.uni_small.specs.View.{Local, Returned, Stage, goes, knows}
 use Rattle.uni_small.specs.View.Stage.{Idle, Armed, Ready, Reading, Asking, Writing, Last}
 use Rattle.uni_small.specs.Board.{Board, in_of, current_word, buffer_in, version_in, announce_word, argument_word, buffer_word}
 use Rattle.uni_small.specs.Invariant.{IsAt, IsBoard, IsSound, IsCallAt, IsAttemptAt, IsClosed, IsOpen, IfFresh, IsWritten, AreIn, most_calls}
-use Rattle.uni_small.specs.Shown.{ShowsBoard}
+use Rattle.uni_small.specs.Shown.{IsShown}
+use Rattle.uni_small.specs.Laws.{Moves, nothing}
 use Rattle.uni_small.specs.Plays.{stage_of, with_local, IsNamed, IsGood, looked, checked, HasStarted, HasCopied, HasLooked, HasAsked, HasChecked, HasTurned, HasFollowed}
 use Rattle.uni_small.specs.Standing.{IsCopying, IsLooking, IsAsking}
 use Rattle.uni_small.specs.declared.view.View.{View}
 use Rattle.uni_small.proofs.Frame.{Found, load_law}
 use Rattle.uni_small.proofs.Lists.{get-contains, index_snoc, index_last, get_snoc, due_snoc, due_last, due_cases, same_list, sum_most}
-use Rattle.uni_small.proofs.Images.{spell-length, spell-applied, read-spell, reached_from, rows-seen, reply-seen}
+use Rattle.uni_small.proofs.Images.{spell-length, spell-applied, read-spell, reached_from, rows-seen, width_is, reply-seen}
 
 -- a word S in parts
 pub buffer_of : (v c : ℕ) → c < 128 → buffer_in (current_word v c) ≡ c
@@ -83,7 +84,7 @@ all_in object n width g p s few board is =
       λ c place at own below. (let w = slice_get_within g.atomic.agreed place c at in let all = board.counted (version_in s) (omega arith) in omega arith),
     )
 
-module _ {O : Type 0} (meaning : O → Sequential (List ℕ) ℕ ℕ) (o : O) (n width slots id : ℕ) (few : n ≤ 64) (st : Step ℕ) (me : Me ℕ (View O)) (single : me.0.known.count ≡ 1) where
+module _ {O : Type 0} (meaning : O → Sequential (List ℕ) ℕ ℕ) (o : O) (n width id : ℕ) (few : n ≤ 64) (st : Step ℕ) (me : Me ℕ (View O)) (single : me.0.known.count ≡ 1) where
   abbrev object : Sequential (List ℕ) ℕ ℕ
   object = meaning o
 
@@ -106,8 +107,8 @@ module _ {O : Type 0} (meaning : O → Sequential (List ℕ) ℕ ℕ) (o : O) (n
     by_stage (Last s) c = c
 
   -- an attempt begins
-  pub starts : (tries : ℕ) → stage_of me ≡ Ready tries → Allows (ShowsBoard meaning o n width) slots id me 0 (λ x. x) (λ found me'. HasStarted st me found me')
-  starts tries stage = load_law meaning o n width slots id me 0 (λ found me'. HasStarted st me found me') single (λ g local words f.
+  pub starts : (tries : ℕ) → stage_of me ≡ Ready tries → Moves meaning o n width id me 0 (λ x. x) nothing (λ found me'. HasStarted st me found me')
+  starts tries stage = load_law meaning o n width id me 0 (λ found me'. HasStarted st me found me') single (λ g local words f.
       let s = slice_index words 0 in
       let is : s ≡ current_word g.version g.current = f.words_are.current in
       let since : g.since p + tries ≤ g.version = attempt_at object n width g p l (Ready tries) f.mine stage in (
@@ -134,8 +135,8 @@ module _ {O : Type 0} (meaning : O → Sequential (List ℕ) ℕ ℕ) (o : O) (n
 
   -- a word of the current buffer is copied
   pub copies : (tries s i : ℕ) → IsCopying tries s i me → i < buffer_words n width → buffer_in s < 2 * n
-      → Allows (ShowsBoard meaning o n width) slots id me (buffer_word n width (buffer_in s) i) (λ x. x) (λ found me'. HasCopied st me found me')
-  copies tries s i copying below named = load_law meaning o n width slots id me (buffer_word n width (buffer_in s) i) (λ found me'. HasCopied st me found me') single (λ g local words f.
+      → Moves meaning o n width id me (buffer_word n width (buffer_in s) i) (λ x. x) nothing (λ found me'. HasCopied st me found me')
+  copies tries s i copying below named = load_law meaning o n width id me (buffer_word n width (buffer_in s) i) (λ found me'. HasCopied st me found me') single (λ g local words f.
       let x = slice_index words (buffer_word n width (buffer_in s) i) in
       let copy = copying.0 in
       let stage = copying.1 in
@@ -168,8 +169,8 @@ module _ {O : Type 0} (meaning : O → Sequential (List ℕ) ℕ ℕ) (o : O) (n
 
   -- an announcement is looked at
   pub looks : (tries s r : ℕ) → IsLooking n width tries s r me → r < n
-      → Allows (ShowsBoard meaning o n width) slots id me (announce_word r) (λ x. x) (λ found me'. HasLooked st me found me')
-  looks tries s r looking inside = load_law meaning o n width slots id me (announce_word r) (λ found me'. HasLooked st me found me') single (λ g local words f.
+      → Moves meaning o n width id me (announce_word r) (λ x. x) nothing (λ found me'. HasLooked st me found me')
+  looks tries s r looking inside = load_law meaning o n width id me (announce_word r) (λ found me'. HasLooked st me found me') single (λ g local words f.
       let x = slice_index words (announce_word r) in
       let copy = looking.0 in
       let seen = looking.1.0 in
@@ -232,8 +233,8 @@ module _ {O : Type 0} (meaning : O → Sequential (List ℕ) ℕ ℕ) (o : O) (n
 
   -- an invocation is asked for
   pub asks : (tries s r : ℕ) → IsAsking tries s r me → r < n
-      → Allows (ShowsBoard meaning o n width) slots id me (argument_word n r) (λ x. x) (λ found me'. HasAsked st me found me')
-  asks tries s r asking inside = load_law meaning o n width slots id me (argument_word n r) (λ found me'. HasAsked st me found me') single (λ g local words f.
+      → Moves meaning o n width id me (argument_word n r) (λ x. x) nothing (λ found me'. HasAsked st me found me')
+  asks tries s r asking inside = load_law meaning o n width id me (argument_word n r) (λ found me'. HasAsked st me found me') single (λ g local words f.
       let x = slice_index words (argument_word n r) in
       let copy = asking.0 in
       let seen = asking.1.0 in
@@ -275,8 +276,8 @@ module _ {O : Type 0} (meaning : O → Sequential (List ℕ) ℕ ℕ) (o : O) (n
       ))
 
   -- after two attempts that failed the call is in
-  pub turns : (tries : ℕ) → 2 ≤ tries → stage_of me ≡ Ready tries → Allows (ShowsBoard meaning o n width) slots id me 0 (λ x. x) (λ found me'. HasTurned st me found me')
-  turns tries two stage = load_law meaning o n width slots id me 0 (λ found me'. HasTurned st me found me') single (λ g local words f.
+  pub turns : (tries : ℕ) → 2 ≤ tries → stage_of me ≡ Ready tries → Moves meaning o n width id me 0 (λ x. x) nothing (λ found me'. HasTurned st me found me')
+  turns tries two stage = load_law meaning o n width id me 0 (λ found me'. HasTurned st me found me') single (λ g local words f.
       let s = slice_index words 0 in
       let is : s ≡ current_word g.version g.current = f.words_are.current in
       let since : g.since p + tries ≤ g.version = attempt_at object n width g p l (Ready tries) f.mine stage in
@@ -291,9 +292,9 @@ module _ {O : Type 0} (meaning : O → Sequential (List ℕ) ℕ ℕ) (o : O) (n
       ))
 
   -- S is loaded again
-  pub checks : (tries s : ℕ) → IsLooking n width tries s n me → ((state : List ℕ) (inv : ℕ) → length ((meaning o).next state inv) ≡ length state)
-      → Allows (ShowsBoard meaning o n width) slots id me 0 (λ x. x) (λ found me'. (q : O) → me.0.object ≡ Some q → HasChecked (meaning q) st me found me')
-  checks tries s looking steady = load_law meaning o n width slots id me 0 (λ found me'. (q : O) → me.0.object ≡ Some q → HasChecked (meaning q) st me found me') single (λ g local words f.
+  pub checks : (tries s : ℕ) → IsLooking n width tries s n me → IsSteady (meaning o)
+      → Moves meaning o n width id me 0 (λ x. x) nothing (λ found me'. (q : O) → me.0.object ≡ Some q → HasChecked (meaning q) st me found me')
+  checks tries s looking steady = load_law meaning o n width id me 0 (λ found me'. (q : O) → me.0.object ≡ Some q → HasChecked (meaning q) st me found me') single (λ g local words f.
       let x = slice_index words 0 in
       let copy = looking.0 in
       let seen = looking.1.0 in
@@ -360,7 +361,7 @@ module _ {O : Type 0} (meaning : O → Sequential (List ℕ) ℕ ℕ) (o : O) (n
               was.0,
               (λ fresh. (now.0, (image, long, now.1.1, not_in))),
               subst (λ i. IsWritten object n width g (2 * p + l.spare) (with_seen object i 0 seen) 0) (sym image) (record {
-                rows = rows-seen object steady n width g.image 0 seen f.sound.board.rows;
+                rows = rows-seen object steady n width (width_is object steady n width g.atomic.agreed g.image f.sound.board.image f.sound.board.rows) g.image 0 seen f.sound.board.rows;
                 words = λ i below. absurd (omega arith);
                 replies = λ r inside least. ap (slice_index (with_seen object g.image 0 seen).reply) (let z : r ≡ 0 + r = omega arith in z)
                     ∙ reply-seen object g.image 0 seen r (elim (due_cases seen r) [
@@ -387,8 +388,8 @@ module _ {O : Type 0} (meaning : O → Sequential (List ℕ) ℕ ℕ) (o : O) (n
             (by_in {local = local} {words = words} g copy seen x f wide long call was is same (slice_index copy p == length l.own + 1) refl)
 
   -- S is loaded between calls
-  pub follows_on : stage_of me ≡ Idle → Allows (ShowsBoard meaning o n width) slots id me 0 (λ x. x) (λ found me'. HasFollowed st me found me')
-  follows_on stage = load_law meaning o n width slots id me 0 (λ found me'. HasFollowed st me found me') single (λ g local words f.
+  pub follows_on : stage_of me ≡ Idle → Moves meaning o n width id me 0 (λ x. x) nothing (λ found me'. HasFollowed st me found me')
+  follows_on stage = load_law meaning o n width id me 0 (λ found me'. HasFollowed st me found me') single (λ g local words f.
       let s = slice_index words 0 in
       let is : s ≡ current_word g.version g.current = f.words_are.current in
       let b = f.sound.board in
@@ -410,3 +411,11 @@ module _ {O : Type 0} (meaning : O → Sequential (List ℕ) ℕ ℕ) (o : O) (n
         },
         λ stage'. (refl, (let r = f.mine.ordered.reached in omega arith)),
       ))
+
+-- the version of a call that has returned has come
+pub returned_come : {O : Type 0} (meaning : O → Sequential (List ℕ) ℕ ℕ) (o : O) (n width : ℕ) (g : Board) (local : ℕ → Local) (seat_of : ℕ → ℕ) (s : State ℕ (View O)) → n ≤ 64
+    → IsShown n width meaning o g local seat_of s → (p k : ℕ) (call : Returned) → p < n → slice_get (local p).own k ≡ Some call → call.version ≤ version_in (slice_index s.words 0)
+returned_come meaning o n width g local seat_of s few is p k call inside at =
+    let known = (is.sound.each p inside).ordered.known k call at in
+    let version : version_in (slice_index s.words 0) ≡ g.version = ap version_in is.words.current ∙ version_of g.version g.current (let c = is.sound.board.current in omega arith) in
+    omega arith

@@ -1,7 +1,7 @@
 -- The load of the reply, by which a call returns.
 use Rattle.std.proofs.Common.{◌≡◌, ◌∙◌, ℕ, suc, ◌+◌, ◌*◌, ◌<◌, ◌≤◌, inl, inr, refl, sym, ap, subst, List, [], ◌∷◌, ◌++◌, length, map, slice_index, Some, None, arith, append_assoc, length-append}
 use Rattle.std.proofs.lemmas.List.{set-get_or}
-use Rattle.atomic_table.specs.Table.{Me, Step, Allows}
+use Rattle.atomic_table.specs.Table.{Me, Step}
 use Rattle.seq_object.specs.Sequential.{Sequential}
 use Rattle.seq_object.specs.History.{response_at}
 use Rattle.uni_model.specs.AtomicObject.{Atomic, Act, Invoked, at_start, set_at}
@@ -15,7 +15,8 @@ use Rattle.uni_small.specs.View.Stage.{Last}
 use Rattle.uni_small.specs.Board.{Board, in_of, buffer_in, buffer_word, version_in}
 use Rattle.uni_small.specs.Order.{StandsIn}
 use Rattle.uni_small.specs.Invariant.{IsOpen, HasTaken}
-use Rattle.uni_small.specs.Shown.{AreWords, ShowsBoard}
+use Rattle.uni_small.specs.Shown.{AreWords}
+use Rattle.uni_small.specs.Laws.{Moves, ends}
 use Rattle.uni_small.specs.Plays.{stage_of, with_local, HasReplied}
 use Rattle.uni_small.specs.declared.view.View.{View}
 use Rattle.uni_small.proofs.Frame.{step_law, sound_with}
@@ -24,7 +25,7 @@ use Rattle.uni_small.proofs.Loads.{call_at, attempt_at, none_beyond}
 use Rattle.uni_small.proofs.Acts.{responded_other, responded_own, sequential_acts-snoc}
 use Rattle.uni_small.proofs.Others.{quiet, at_stays}
 
-module _ {O : Type 0} (meaning : O → Sequential (List ℕ) ℕ ℕ) (o : O) (n width slots id : ℕ) (st : Step ℕ) (me : Me ℕ (View O)) (single : me.0.known.count ≡ 1) where
+module _ {O : Type 0} (meaning : O → Sequential (List ℕ) ℕ ℕ) (o : O) (n width id : ℕ) (st : Step ℕ) (me : Me ℕ (View O)) (single : me.0.known.count ≡ 1) where
   abbrev object : Sequential (List ℕ) ℕ ℕ
   object = meaning o
 
@@ -35,8 +36,8 @@ module _ {O : Type 0} (meaning : O → Sequential (List ℕ) ℕ ℕ) (o : O) (n
   l = me.0.known.local
 
   pub replies : (s : ℕ) → stage_of me ≡ Last s → buffer_in s < 2 * n
-      → Allows (ShowsBoard meaning o n width) slots id me (buffer_word n width (buffer_in s) (n + p)) (λ x. x) (λ found me'. HasReplied st me found me')
-  replies s stage named = step_law meaning o n width slots id me (buffer_word n width (buffer_in s) (n + p)) (λ x. x) (λ found me'. HasReplied st me found me') single (λ g local words f fits.
+      → Moves meaning o n width id me (buffer_word n width (buffer_in s) (n + p)) (λ x. x) (ends l p) (λ found me'. HasReplied st me found me')
+  replies s stage named = step_law meaning o n width id me (buffer_word n width (buffer_in s) (n + p)) (λ x. x) (ends l p) (λ found me'. HasReplied st me found me') single (λ g local words f fits.
       let x = slice_index words (buffer_word n width (buffer_in s) (n + p)) in
       let call : IsOpen object g p l.inv l.own = call_at object n width g p l (Last s) f.mine stage in
       let was = attempt_at object n width g p l (Last s) f.mine stage in
@@ -146,4 +147,5 @@ module _ {O : Type 0} (meaning : O → Sequential (List ℕ) ℕ ℕ) (o : O) (n
                 | inr more ↦ absurd (let r = b.rising (version_in s) l.after more.0 in let t = stands.after in let u = stands.before in omega arith)
               ]),
             );
+        appended = refl;
       })

@@ -1,6 +1,6 @@
 -- The word steps that store.
-use Rattle.std.proofs.Common.{◌≡◌, ◌≢◌, ◌∙◌, ℕ, ◌+◌, ◌*◌, ◌<◌, ◌≤◌, inl, inr, refl, sym, ap, subst, List, [], ◌∷◌, ◌++◌, length, slice_index, Some, arith}
-use Rattle.atomic_table.specs.Table.{Me, Step, Allows}
+use Rattle.std.proofs.Common.{◌≡◌, ◌≢◌, ◌∙◌, ℕ, ◌+◌, ◌*◌, ◌<◌, ◌≤◌, inl, inr, refl, sym, ap, subst, List, [], ◌∷◌, ◌++◌, length, slice_index, Some, append-nil, arith}
+use Rattle.atomic_table.specs.Table.{Me, Step}
 use Rattle.seq_object.specs.Sequential.{Sequential}
 use Rattle.uni_model.specs.AtomicObject.{Atomic, Act, at_start, set_at}
 use Rattle.uni_model.specs.AtomicObject.Act.{Invoke}
@@ -12,7 +12,7 @@ use Rattle.uni_small.specs.View.{Local, goes, arms}
 use Rattle.uni_small.specs.View.Stage.{Idle, Armed, Ready, Writing}
 use Rattle.uni_small.specs.Board.{Board, in_of, announce_word, argument_word, buffer_word}
 use Rattle.uni_small.specs.Invariant.{IsClosed, IsOpen, most_calls}
-use Rattle.uni_small.specs.Shown.{ShowsBoard}
+use Rattle.uni_small.specs.Laws.{Moves, nothing, begins}
 use Rattle.uni_small.specs.Plays.{stage_of, with_local, HasArmed, HasAnnounced, HasWritten}
 use Rattle.uni_small.specs.Standing.{IsWriting}
 use Rattle.uni_small.specs.declared.view.View.{View}
@@ -23,7 +23,7 @@ use Rattle.uni_small.proofs.Acts.{invoked_other, invoked_own}
 use Rattle.uni_small.proofs.Others.{quiet, at_stays}
 use Rattle.uni_small.proofs.Words.{words_announced, words_argument, words_buffer}
 
-module _ {O : Type 0} (meaning : O → Sequential (List ℕ) ℕ ℕ) (o : O) (n width slots id : ℕ) (st : Step ℕ) (me : Me ℕ (View O)) (single : me.0.known.count ≡ 1) where
+module _ {O : Type 0} (meaning : O → Sequential (List ℕ) ℕ ℕ) (o : O) (n width id : ℕ) (st : Step ℕ) (me : Me ℕ (View O)) (single : me.0.known.count ≡ 1) where
   abbrev object : Sequential (List ℕ) ℕ ℕ
   object = meaning o
 
@@ -34,8 +34,8 @@ module _ {O : Type 0} (meaning : O → Sequential (List ℕ) ℕ ℕ) (o : O) (n
   l = me.0.known.local
 
   -- the invocation of the next call is stored
-  pub arms_call : (inv : ℕ) → stage_of me ≡ Idle → Allows (ShowsBoard meaning o n width) slots id me (argument_word n p) (λ x. inv) (λ found me'. HasArmed st me inv me')
-  arms_call inv stage = step_law meaning o n width slots id me (argument_word n p) (λ x. inv) (λ found me'. HasArmed st me inv me') single (λ g local words f fits.
+  pub arms_call : (inv : ℕ) → stage_of me ≡ Idle → Moves meaning o n width id me (argument_word n p) (λ x. inv) nothing (λ found me'. HasArmed st me inv me')
+  arms_call inv stage = step_law meaning o n width id me (argument_word n p) (λ x. inv) nothing (λ found me'. HasArmed st me inv me') single (λ g local words f fits.
       let closed : IsClosed g p l.own = call_at object n width g p l Idle f.mine stage in
       let b = f.sound.board in
       record {
@@ -87,12 +87,13 @@ module _ {O : Type 0} (meaning : O → Sequential (List ℕ) ℕ ℕ) (o : O) (n
             });
         words_are = words_argument n width g (record g { argument = set_at g.argument p inv }) words f.words_are refl refl p inv f.inside refl refl refl;
         said = refl;
+        appended = sym (append-nil g.acts);
       })
 
   -- the call is announced: it begins
   pub announces : (number : ℕ) → number ≡ length l.own + 1 → number ≤ most_calls → stage_of me ≡ Armed
-      → Allows (ShowsBoard meaning o n width) slots id me (announce_word p) (λ x. number) (λ found me'. HasAnnounced st me number me')
-  announces number is few stage = step_law meaning o n width slots id me (announce_word p) (λ x. number) (λ found me'. HasAnnounced st me number me') single (λ g local words f fits.
+      → Moves meaning o n width id me (announce_word p) (λ x. number) (begins l p) (λ found me'. HasAnnounced st me number me')
+  announces number is few stage = step_law meaning o n width id me (announce_word p) (λ x. number) (begins l p) (λ found me'. HasAnnounced st me number me') single (λ g local words f fits.
       let armed = call_at object n width g p l Armed f.mine stage in
       let closed : IsClosed g p l.own = armed.0 in
       let b = f.sound.board in
@@ -189,12 +190,13 @@ module _ {O : Type 0} (meaning : O → Sequential (List ℕ) ℕ ℕ) (o : O) (n
             });
         words_are = words_announced n width g g' words f.words_are refl refl p number f.inside refl refl refl;
         said = refl;
+        appended = refl;
       })
 
   -- a word of the spare buffer is stored
   pub writes : (tries s k x : ℕ) → IsWriting object tries s k x me → k < buffer_words n width
-      → Allows (ShowsBoard meaning o n width) slots id me (buffer_word n width (2 * p + l.spare) k) (λ y. x) (λ found me'. HasWritten st me x me')
-  writes tries s k x writing room = step_law meaning o n width slots id me (buffer_word n width (2 * p + l.spare) k) (λ y. x) (λ found me'. HasWritten st me x me') single (λ g local words f fits.
+      → Moves meaning o n width id me (buffer_word n width (2 * p + l.spare) k) (λ y. x) nothing (λ found me'. HasWritten st me x me')
+  writes tries s k x writing room = step_law meaning o n width id me (buffer_word n width (2 * p + l.spare) k) (λ y. x) nothing (λ found me'. HasWritten st me x me') single (λ g local words f fits.
       let image = writing.0 in
       let seen = writing.1.0 in
       let stage : l.stage ≡ Writing tries s image seen k = writing.1.1 in
@@ -284,4 +286,5 @@ module _ {O : Type 0} (meaning : O → Sequential (List ℕ) ℕ ℕ) (o : O) (n
             let e : Writing tries s image seen k ≡ Writing tries' s' image' seen' k' = sym stage ∙ stage' in
             let a : tries ≡ tries' = cc in let c : s ≡ s' = cc in let d : image ≡ image' = cc in let h : seen ≡ seen' = cc in let i : k ≡ k' = cc in
             λ j. (with_local me.0 (goes l (Writing (a j) (c j) (d j) (h j) (i j + 1))), me.1);
+        appended = sym (append-nil g.acts);
       })

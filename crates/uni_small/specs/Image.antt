@@ -32,6 +32,11 @@ pub record HasRows (n width : ℕ) (image : Image) : Type 0 where
 abbrev pub IsReached : Sequential (List ℕ) ℕ ℕ → List ℕ → Type 0
 IsReached object state = (is : List ℕ) × (state_after object object.initial is ≡ state)
 
+-- an object's invocations change no state's number of words, where a state has as many as the start state
+abbrev pub IsSteady : Sequential (List ℕ) ℕ ℕ → Type 0
+IsSteady object = (state : List ℕ) (inv : ℕ) → length state ≡ length object.initial
+    → length (object.next state inv) ≡ length object.initial
+
 -- what a scan saw of process r: 1 where it saw a call that is to be applied
 abbrev pub due_at : List (Option ℕ) → (r : ℕ) → ℕ
 due_at [] r = 0

@@ -5,9 +5,9 @@ pub mod Order
 pub mod Reading
 pub mod Invariant
 pub mod Shown
+pub mod Laws
 pub mod Rule
 pub mod Plays
 pub mod Standing
 pub mod Belongs
 pub mod Final
-pub mod Objects
