@@ -48,7 +48,8 @@ pub trait StoredObject: Drop {
         ensures reply { result ≡ (sequential self.now).answer state.old inv };
 
     /// All states have as many words.
-    ghost steady: { (o : Self) (state : Self.State) → length (encode o state) ≡ length (encode o (sequential o).initial) };
+    ghost steady: { (o : Self) (state : Self.State) →
+        length (encode o state) ≡ length (encode o (sequential o).initial) };
 
     /// A state that was stored is loaded as it was.
     ghost fits: { (o : Self) → Fits (sequential o) (encode o) (decode o) };
@@ -81,7 +82,8 @@ impl<T: StoredObject> SmallObject for Encoded<T> {
         reply
     }
 
-    ghost steady = { λ o. always_steady (T.sequential o.object) (T.encode o.object) (T.decode o.object) (T.steady o.object) };
+    ghost steady = { λ o. always_steady (T.sequential o.object) (T.encode o.object) (T.decode o.object)
+        (T.steady o.object) };
 }
 
 /// What is so of the states on words is so of the plain ones: after the same invocations the words are those

@@ -3,7 +3,8 @@
 ghost use Rattle.std.specs.Prelude.{◌≡◌, All, length};
 ghost use Rattle.uni_small.specs.Belongs.{IsSeatOf, width_of};
 
-use small_objects::{SmallCounter, SmallCounters, SmallQueue, SmallRegister, SmallStack};
+use crate::account::AccountObject;
+use small_objects::{Encoded, SmallCounter, SmallCounters, SmallQueue, SmallRegister, SmallStack};
 use std::alloc::Global;
 use std::process::Abort;
 use uni_small::{Answer, SmallObject, SmallOpenFault, SmallSeat, SmallShared};
@@ -117,6 +118,22 @@ fn counters(rt: HostRuntime) {
         &mut seats[0],
         &[(2, 0), (2, 1), (0, 0), (3, 0), (2, 2)],
     );
+}
+
+#[test]
+fn an_account(rt: HostRuntime) {
+    let object = Encoded {
+        object: AccountObject,
+    };
+    let Ok((shared, mut seats)) = SmallShared::open(rt.alloc(), object, 2) else {
+        panic!(rt; "not opened")
+    };
+    answers(&rt, &shared, &mut seats[0], &[(10, 0), (7, 5)]);
+    answers(&rt, &shared, &mut seats[1], &[(7, 2), (1, 2)]);
+    let mut state = [0; 3];
+    assert!(rt; shared.width() == 3);
+    shared.close(&mut state);
+    assert!(rt; state == [2, 2, 1]);
 }
 
 #[test]

@@ -59,7 +59,7 @@ fn in_two_threads<R: Threads + Sync>(
     )
 }
 
-/// Four threads: the first values of thread t is `1 + t * VALUES`.
+/// Four threads: the first value of thread t is `1 + t * VALUES`.
 fn in_four_threads<R: Threads + Sync>(
     rt: &R,
     alloc: Global,
@@ -184,7 +184,7 @@ fn queue_in_four_threads<R: Threads + Abort + Sync>(rt: &R, alloc: Global) -> Op
     for done in [&a.1, &b.1, &c.1, &d.1] {
         assert!(rt; done.len() as u64 == 2 * VALUES);
         unmark_refused(&mut marks, from, done);
-        from += VALUES;
+        from = VALUES.wrapping_add(from);
     }
     for done in [&a.1, &b.1, &c.1, &d.1] {
         assert!(rt; unmark_taken(&mut marks, done));

@@ -94,13 +94,17 @@ module _ (object : Sequential (List ℕ) ℕ ℕ) (steady : IsSteady object) (n 
   state_is : state_after object object.initial (map (λ c. c.inv) g.atomic.agreed) ≡ g.image.state
   state_is = sym (reached_from object _ g.atomic.agreed) ∙ ap (λ (i : Image). i.state) was.image
 
+  -- what was answered at a place is
+  response_kept : (place reply : ℕ) → response_at object object.initial (map (λ c. c.inv) g.atomic.agreed) place ≡ Some reply → response_at object object.initial (map (λ c. c.inv) agreed') place ≡ Some reply
+  response_kept place reply told = subst (λ is. response_at object object.initial is place ≡ Some reply) (sym (map-append (λ (c : Invoked ℕ). c.inv) g.atomic.agreed calls))
+      (response_stays object object.initial (map (λ c. c.inv) g.atomic.agreed) (map (λ c. c.inv) calls) place reply told)
+
   -- a call that has taken effect has
   taken_stays : (call : Invoked ℕ) (reply : ℕ) → HasTaken object g call reply → HasTaken object brought_board call reply
   taken_stays call reply h = record {
     place = h.place;
     there = slice_get-append_left g.atomic.agreed calls h.place call h.there;
-    reply_is = subst (λ is. response_at object object.initial is h.place ≡ Some reply) (sym (map-append (λ (c : Invoked ℕ). c.inv) g.atomic.agreed calls))
-        (response_stays object object.initial (map (λ c. c.inv) g.atomic.agreed) (map (λ c. c.inv) calls) h.place reply h.reply_is);
+    reply_is = response_kept h.place reply h.reply_is;
   }
 
   -- a call that was seen takes effect
@@ -213,7 +217,7 @@ module _ (object : Sequential (List ℕ) ℕ ℕ) (steady : IsSteady object) (n 
   ]
 
   -- a call that takes effect now is after all that did before
-  stands_stays : (q k : ℕ) (call : Returned) → call.version ≤ g.version → StandsIn g.atomic.agreed g.agreed_at q k call → StandsIn agreed' brought_board.agreed_at q k call
+  stands_stays : (q k : ℕ) (call : Returned) → call.version ≤ g.version → StandsIn object g.atomic.agreed g.agreed_at q k call → StandsIn object agreed' brought_board.agreed_at q k call
   stands_stays q k call known h =
       let first : call.after ≤ g.version = elim (lt_cases g.version call.after) [
         | inl late ↦ absurd (let l = late.0 in let r = was.rising call.version call.after (omega arith) in let a = h.after in let b = h.before in omega arith)
@@ -222,11 +226,12 @@ module _ (object : Sequential (List ℕ) ℕ ℕ) (steady : IsSteady object) (n 
       record {
         place = h.place;
         there = slice_get-append_left g.atomic.agreed calls h.place _ h.there;
+        reply = response_kept h.place call.reply h.reply;
         after = (let a = h.after in let o = at_old call.after first in omega arith);
         before = (let b = h.before in let o = at_old call.version known in omega arith);
       }
 
-  pub ordered_stays : (q after : ℕ) (own : List Returned) → IsOrdered g.atomic.agreed g.agreed_at g.version q after own → IsOrdered agreed' brought_board.agreed_at (g.version + 1) q after own
+  pub ordered_stays : (q after : ℕ) (own : List Returned) → IsOrdered object g.atomic.agreed g.agreed_at g.version q after own → IsOrdered object agreed' brought_board.agreed_at (g.version + 1) q after own
   ordered_stays q after own h = record {
     reached = (let r = h.reached in omega arith);
     later = λ c place at mine from. elim (get-append g.atomic.agreed calls place c at) [

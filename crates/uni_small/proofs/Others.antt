@@ -85,5 +85,5 @@ module _ (object : Sequential (List ℕ) ℕ ℕ) (n width : ℕ) (g : Board) (a
     apart = h.apart;
     call = call_stays q (2 * q + l.spare) spares l l.stage h.call;
     attempt = attempt_stays q (2 * q + l.spare) spares l.stage h.attempt;
-    ordered = subst (λ agreed. IsOrdered agreed g.agreed_at g.version q l.after l.own) (sym spares.agreed) h.ordered;
+    ordered = subst (λ agreed. IsOrdered object agreed g.agreed_at g.version q l.after l.own) (sym spares.agreed) h.ordered;
   }

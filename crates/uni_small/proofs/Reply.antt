@@ -47,9 +47,10 @@ module _ {O : Type 0} (meaning : O → Sequential (List ℕ) ℕ ℕ) (o : O) (n
       let all_in : in_of g p ≡ length l.own + 1 = (let m = b.marked (buffer_in s) p f.inside in let w = was.1 in let i = b.in_most p f.inside in let a = call.announced in omega arith) in
       let taken : HasTaken object g (record { process = p; nth = length l.own; inv = l.inv }) (slice_index g.image.reply p) = call.taken all_in in
       let more : length (l.own ++ ending l s x ∷ []) ≡ length l.own + 1 = length-append l.own (ending l s x ∷ []) in
-      let stands : StandsIn g.atomic.agreed g.agreed_at p (length l.own) (ending l s x) = record {
+      let stands : StandsIn object g.atomic.agreed g.agreed_at p (length l.own) (ending l s x) = record {
         place = taken.place;
         there = taken.there;
+        reply = taken.reply_is ∙ ap Some (sym reply);
         after = f.mine.ordered.later (record { process = p; nth = length l.own; inv = l.inv }) taken.place taken.there refl (omega arith);
         before = was.2.1 (record { process = p; nth = length l.own; inv = l.inv }) taken.place taken.there refl (let a = call.announced in omega arith);
       } in
@@ -128,7 +129,7 @@ module _ {O : Type 0} (meaning : O → Sequential (List ℕ) ℕ ℕ) (o : O) (n
                 ];
                 stand = λ k call at. elim (get_snoc l.own (ending l s x) k call at) [
                   | inl old ↦ f.mine.ordered.stand k call old
-                  | inr new ↦ subst (λ (c : Returned). StandsIn g.atomic.agreed g.agreed_at p k c) new.1 (subst (λ j. StandsIn g.atomic.agreed g.agreed_at p j (ending l s x)) (sym new.0) stands)
+                  | inr new ↦ subst (λ (c : Returned). StandsIn object g.atomic.agreed g.agreed_at p k c) new.1 (subst (λ j. StandsIn object g.atomic.agreed g.agreed_at p j (ending l s x)) (sym new.0) stands)
                 ];
               };
             });

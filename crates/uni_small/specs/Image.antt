@@ -90,3 +90,12 @@ sample_seen = refl
 
 sample_due : due_at (None ∷ Some 7 ∷ []) 1 ≡ 1
 sample_due = refl
+
+-- a counter of one word
+abbrev pub sample_counter : Sequential (List ℕ) ℕ ℕ
+sample_counter = record { initial = 0 ∷ []; next = λ state inv. (slice_index state 0 + inv) ∷ []; answer = λ state inv. slice_index state 0 }
+
+-- a batch of three: each call is answered the sum before it
+sample_batch : with_seen sample_counter (first_image sample_counter 3) 0 (Some 5 ∷ Some 3 ∷ Some 1 ∷ [])
+    ≡ record { applied = 1 ∷ 1 ∷ 1 ∷ []; reply = 0 ∷ 5 ∷ 8 ∷ []; state = 9 ∷ [] }
+sample_batch = refl

@@ -101,7 +101,7 @@ module _ (object : Sequential (List ℕ) ℕ ℕ) (n width : ℕ) where
     pub apart : 2 * p + l.spare ≢ g.current
     pub call : IsCallAt g p l l.stage
     pub attempt : IsAttemptAt g p (2 * p + l.spare) l.stage
-    pub ordered : IsOrdered g.atomic.agreed g.agreed_at g.version p l.after l.own
+    pub ordered : IsOrdered object g.atomic.agreed g.agreed_at g.version p l.after l.own
 
   -- The board on its own. The current buffer is the image of the calls that took effect, in their order, of which each process has as
   -- many as are in. What a buffer tells a process whose pending call was in when the buffer was last current is the reply of that call.

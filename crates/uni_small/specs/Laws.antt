@@ -1,14 +1,14 @@
 -- What the steps on words append to the history of the board.
-use Rattle.std.specs.Prelude.{◌≡◌, ℕ, ◌==◌, ◌<◌, List, [], ◌∷◌, ◌++◌, map, length, slice_index, Option, if◌then◌else◌}
+use Rattle.std.specs.Prelude.{◌≡◌, ℕ, ◌==◌, ◌<◌, List, [], ◌∷◌, ◌++◌, map, length, slice_index, Option, Some, refl, if◌then◌else◌}
 use mathlib.Core.Option.{some}
 use lib.ListN.{get_elem?}
 use Rattle.atomic_table.specs.Table.{State, Me, keeps, stepped}
 use Rattle.seq_object.specs.Sequential.{Sequential}
 use Rattle.uni_model.specs.AtomicObject.{Act}
 use Rattle.uni_model.specs.AtomicObject.Act.{Invoke, Linearize, Respond}
-use Rattle.uni_small.specs.Image.{calls_seen}
+use Rattle.uni_small.specs.Image.{calls_seen, sample_counter}
 use Rattle.uni_small.specs.View.{Local}
-use Rattle.uni_small.specs.Board.{Board}
+use Rattle.uni_small.specs.Board.{Board, opened}
 use Rattle.uni_small.specs.Shown.{IsShown}
 use Rattle.uni_small.specs.declared.view.View.{View}
 
@@ -38,3 +38,12 @@ takes_effect s seen g found = if found == s then map (λ c. Linearize c) (calls_
 -- a call ends with the reply that was found
 abbrev pub ends : Local → (p : ℕ) → Board → (found : ℕ) → List (Act ℕ ℕ)
 ends l p g found = Respond p (length l.own) found ∷ []
+
+-- a batch of three takes effect by the exchange of S = 0, and not by one that finds version 1
+sample_batch : takes_effect 0 (Some 5 ∷ Some 3 ∷ Some 1 ∷ []) (opened sample_counter 3) 0
+    ≡ Linearize (record { process = 0; nth = 0; inv = 5 }) ∷ Linearize (record { process = 1; nth = 0; inv = 3 })
+    ∷ Linearize (record { process = 2; nth = 0; inv = 1 }) ∷ []
+sample_batch = refl
+
+sample_missed : takes_effect 0 (Some 5 ∷ []) (opened sample_counter 3) 130 ≡ []
+sample_missed = refl

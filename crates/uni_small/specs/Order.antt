@@ -1,22 +1,18 @@
 -- The order in which calls took effect, and versions.
-use Rattle.std.specs.Prelude.{◌≡◌, refl, ℕ, ◌<◌, ◌≤◌, List, [], ◌∷◌, Some, length, slice_get}
+use Rattle.std.specs.Prelude.{◌≡◌, refl, ℕ, ◌<◌, ◌≤◌, List, [], ◌∷◌, Some, length, map, slice_get}
+use Rattle.seq_object.specs.Sequential.{Sequential}
+use Rattle.seq_object.specs.History.{response_at}
 use Rattle.uni_model.specs.AtomicObject.{Invoked}
 use Rattle.uni_small.specs.View.{Returned}
 
--- one call took effect before another one
-pub record ComesBefore (agreed : List (Invoked ℕ)) (first second : Invoked ℕ) : Type 0 where
-  pub place : ℕ
-  pub later : ℕ
-  pub there : slice_get agreed place ≡ Some first
-  pub here : slice_get agreed later ≡ Some second
-  pub before : place < later
-
-module _ (agreed : List (Invoked ℕ)) (agreed_at : ℕ → ℕ) where
-  -- Of the calls, in the order in which they took effect, the first agreed_at v are in version v. Call k of process p has returned: it
-  -- comes after all that are in its version `after`, and is one of those that are in its version `version`.
+module _ (object : Sequential (List ℕ) ℕ ℕ) (agreed : List (Invoked ℕ)) (agreed_at : ℕ → ℕ) where
+  -- Of the calls, in the order in which they took effect, the first agreed_at v are in version v. Call k of process p has returned: its
+  -- reply is the object's at its place, it comes after all that are in its version `after`, and is one of those that are in its version
+  -- `version`.
   pub record StandsIn (p k : ℕ) (call : Returned) : Type 0 where
     pub place : ℕ
     pub there : slice_get agreed place ≡ Some (record { process = p; nth = k; inv = call.inv })
+    pub reply : response_at object object.initial (map (λ c. c.inv) agreed) place ≡ Some call.reply
     pub after : agreed_at call.after ≤ place
     pub before : place < agreed_at call.version
 

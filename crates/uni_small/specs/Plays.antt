@@ -1,10 +1,10 @@
 -- What a step tells the seat that takes it, and how a seat is split.
-use Rattle.std.specs.Prelude.{◌≡◌, ℕ, ◌+◌, ◌-◌, ◌*◌, ◌<◌, ◌≤◌, ◌==◌, List, [], ◌∷◌, ◌++◌, Option, None, Some, if◌then◌else◌}
+use Rattle.std.specs.Prelude.{◌≡◌, ℕ, ◌+◌, ◌-◌, ◌*◌, ◌<◌, ◌≤◌, ◌==◌, List, [], ◌∷◌, ◌++◌, Option, None, Some, if◌then◌else◌, refl}
 use Rattle.std.specs.Prelude.{length, slice_index}
 use Rattle.atomic_table.specs.Table.{Me, Step}
 use Rattle.seq_object.specs.Sequential.{Sequential}
 use Rattle.uni_small.specs.Image.{Image, IsReached, read_image}
-use Rattle.uni_small.specs.View.{Local, ProcessReturned, Stage, everyone, goes, arms, brings, returns, knows}
+use Rattle.uni_small.specs.View.{Local, ProcessReturned, Stage, at_rest, everyone, goes, arms, brings, returns, knows}
 use Rattle.uni_small.specs.View.Stage.{Idle, Ready, Reading, Asking, Writing, Last}
 use Rattle.uni_small.specs.Board.{buffer_in, version_in}
 use Rattle.uni_small.specs.Invariant.{most_calls}
@@ -124,3 +124,17 @@ HasReplied step me found me' =
 abbrev pub HasFollowed : {O : Type 0} → Step ℕ → Me ℕ (View O) → (s : ℕ) → Me ℕ (View O) → Type 0
 HasFollowed step me s me' =
     stage_of me ≡ Idle → let l = me.0.known.local in IsLeft me (knows l (version_in s)) me' × (l.after ≤ version_in s)
+
+-- One that fails twice: at the exchange of its first attempt S is another one, and then at the check of its second one. An attempt whose
+-- exchange finds what it began with is at its end, and so is one whose copy has the call.
+sample_misses : (brought at_rest 0 128 257 256).stage ≡ Ready 1
+sample_misses = refl
+
+sample_misses_again : checked 2 0 1 1 256 (0 ∷ 4 ∷ 0 ∷ 7 ∷ 9 ∷ []) (Some 5 ∷ None ∷ []) 384 ≡ Ready 2
+sample_misses_again = refl
+
+sample_brings : (brought at_rest 0 128 257 128).stage ≡ Last 257
+sample_brings = refl
+
+sample_is_in : checked 2 0 1 1 256 (1 ∷ 4 ∷ 0 ∷ 7 ∷ 9 ∷ []) (None ∷ None ∷ []) 256 ≡ Last 256
+sample_is_in = refl

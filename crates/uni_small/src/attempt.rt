@@ -5,7 +5,8 @@ ghost use Rattle.uni_small.specs.View.Stage.{Ready, Reading, Writing};
 ghost use Rattle.uni_small.specs.Board.{buffer_in};
 ghost use Rattle.uni_small.specs.Invariant.{most_calls};
 ghost use Rattle.uni_small.specs.Plays.{stage_of, IsNamed, IsGood};
-ghost use Rattle.uni_small.specs.Standing.{IsOf, GoesBy, GoesWithin, IsCopying, IsLooking, HasCopy, HasRow, local_of, AttemptEnds, BringEnds};
+ghost use Rattle.uni_small.specs.Standing.{IsOf, GoesBy, GoesWithin, IsCopying, IsLooking};
+ghost use Rattle.uni_small.specs.Standing.{HasCopy, HasRow, local_of, AttemptEnds, BringEnds};
 ghost use Rattle.uni_small.specs.Belongs.{HasRoom, image_in};
 
 use crate::log::SmallShared;
@@ -172,7 +173,8 @@ impl<O: SmallObject> SmallShared<O> {
         requires stage { stage_of seat.old.me ≡ Ready tries }
         requires room { HasRoom self.now.setup.n self.now.setup.width room.old }
         ensures same { (seat.new.table_id ≡ seat.old.table_id) × (seat.new.id ≡ seat.old.id) }
-        ensures goes { GoesWithin seat.old.me (1 + buffer_words self.now.setup.n self.now.setup.width + 2 * self.now.setup.n)
+        ensures goes { GoesWithin seat.old.me
+            (1 + buffer_words self.now.setup.n self.now.setup.width + 2 * self.now.setup.n)
             (Reading tries result (spell (image_in room.new)) room.new.seen.items) seat.new.me }
         ensures named { IsNamed self.now.setup.n result }
         ensures room { HasRoom self.now.setup.n self.now.setup.width room.new }
@@ -267,7 +269,8 @@ impl<O: SmallObject> SmallShared<O> {
         requires spare { ((local_of seat.old.me).spare ≡ spare.old) × (spare.old ≤ 1) }
         requires room { HasRoom self.now.setup.n self.now.setup.width room.old }
         ensures same { (seat.new.table_id ≡ seat.old.table_id) × (seat.new.id ≡ seat.old.id) }
-        ensures ends { AttemptEnds self.now.setup.n self.now.setup.width tries seat.old.me result spare.new seat.new.me }
+        ensures ends { AttemptEnds self.now.setup.n self.now.setup.width tries
+            seat.old.me result spare.new seat.new.me }
         ensures spare { spare.new ≤ 1 }
         ensures room { HasRoom self.now.setup.n self.now.setup.width room.new }
     {

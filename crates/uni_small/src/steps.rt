@@ -133,7 +133,8 @@ impl<O: SmallObject> SmallShared<O> {
         requires named { buffer_in s < 2 * self.now.setup.n }
         ensures same { (seat.new.table_id ≡ seat.old.table_id) × (seat.new.id ≡ seat.old.id) }
         ensures left { (copy : List ℕ) (seen : List (Option ℕ)) → stage_of seat.old.me ≡ Reading tries s copy seen
-            → Goes seat.old.me (checked self.now.setup.n p (length (local_of seat.old.me).own + 1) tries s copy seen result)
+            → Goes seat.old.me
+            (checked self.now.setup.n p (length (local_of seat.old.me).own + 1) tries s copy seen result)
             seat.new.me × (result ≡ s → IsGood (O.sequential self.now.setup.object) self.now.setup.n
             (read_image self.now.setup.n copy)) }
     {
