@@ -134,3 +134,16 @@ module _ {S I R : Type 0} (object : Sequential S I R) where
         let few : w.turns p ≤ w.n + 1 = subst (λ n. w.turns p ≤ n + 1) counted.0 (turns_bounded w counts inv p) in
         let less : steps_at w.n c.stage (w.turns p) < 10 * w.n + 12 = steps_at-lt w.memory inv.0 w.n p c.mine c.stage (w.turns p) (inv.2.stands p c is) few in
         (counted.0, few, subst (λ u. u < 10 * w.n + 12) (sym counted.2) less)
+
+  -- after n + 1 turns a call's last step finds its own cell no farther than its head
+  pub at_its_cell : (w : WorldOf S I R) → HelpingInvariant object w → (p : ℕ) (mine : Name) (s t : ℕ)
+      → w.call p ≡ Some (record { mine = mine; stage = Finish s t }) → w.turns p ≡ w.n + 1 → t ≤ s
+  at_its_cell w inv p mine s t is turns =
+      let linked = (inv.3.each p (record { mine = mine; stage = Finish s t }) is).linked in
+      let stands = inv.2.stands p (record { mine = mine; stage = Finish s t }) is in
+      let found : linked.0 + w.turns p ≤ s = linked.1 in
+      let near : inv.0 mine ≤ linked.0 + w.n + 1 = linked.2 in
+      let threaded : 1 ≤ t = stands.1 in
+      let number : seq_of w.memory mine ≡ t = stands.2 in
+      let own : seq_of w.memory mine ≡ inv.0 mine = inv.2.numbered.seq mine (omega arith) in
+      omega arith

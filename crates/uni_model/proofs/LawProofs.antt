@@ -1,5 +1,5 @@
 -- The laws over every list of accepted events.
-use Rattle.std.proofs.Common.{◌≡◌, ◌≢◌, ℕ, zero, suc, take, inl, inr, refl, sym, subst, List, [], ◌∷◌, ◌++◌, Option, Some, None, IsSome, Bool, true, false, cond}
+use Rattle.std.proofs.Common.{◌≡◌, ◌≢◌, ◌∙◌, ℕ, zero, suc, take, inl, inr, refl, sym, ap, subst, List, [], ◌∷◌, ◌++◌, Option, Some, None, IsSome, Bool, true, false, cond}
 use Rattle.seq_object.specs.Sequential.{Sequential}
 use Rattle.uni_model.specs.Places.{Place, Content, Memory, memory_with, place_eq}
 use Rattle.uni_model.specs.Stages.{Pending}
@@ -11,6 +11,7 @@ use Rattle.uni_model.specs.History.{Shows, acts_of}
 use Rattle.uni_model.specs.Growth.{EndsNoEra}
 use Rattle.uni_model.specs.Settled.{ChangesOnly}
 use Rattle.uni_model.specs.Invariant.{Invariant}
+use Rattle.uni_model.specs.Tight.{EndsAtItsCell}
 use Rattle.uni_model.specs.Laws.{IsReached, BoundedAlong, StepIsLocal, SettledStays, Simulates}
 use Rattle.uni_model.proofs.Written.{set_at-cases, place_eq_true}
 use Rattle.uni_model.proofs.Kept.{Invariant-opened_world, Invariant-world_after_all, Grows-world_after}
@@ -18,7 +19,7 @@ use Rattle.uni_model.specs.Bound.{IsBounded}
 use Rattle.uni_model.specs.Counting.{CountsSteps}
 use Rattle.uni_model.proofs.Counted.{CountsSteps-opened_world, CountsSteps-world_after_all}
 use Rattle.uni_model.specs.Helping.{HelpingInvariant}
-use Rattle.uni_model.proofs.Bounded.{HelpingInvariant-opened_world, HelpingInvariant-world_after_all, IsBounded-held}
+use Rattle.uni_model.proofs.Bounded.{HelpingInvariant-opened_world, HelpingInvariant-world_after_all, IsBounded-held, at_its_cell}
 use Rattle.uni_model.proofs.Simulation.{step_accepted, call_accepted}
 
 -- a place that isn't written
@@ -54,9 +55,16 @@ module _ {S I R : Type 0} (object : Sequential S I R) where
   CountsSteps-reached w r = subst (λ v. CountsSteps v) r.reached
       (CountsSteps-world_after_all object (opened_world r.n r.start r.number) r.events r.accepted (Invariant-opened_world object r.n r.start r.number r.positive) (CountsSteps-opened_world object r.n r.start r.number))
 
+  pub HelpingInvariant-reached : (w : WorldOf S I R) → IsReached object w → HelpingInvariant object w
+  HelpingInvariant-reached w r = subst (λ v. HelpingInvariant object v) r.reached
+      (HelpingInvariant-world_after_all object (opened_world r.n r.start r.number) r.events r.accepted (CountsSteps-opened_world object r.n r.start r.number) (HelpingInvariant-opened_world object r.n r.start r.number r.positive))
+
   pub IsBounded-reached : (w : WorldOf S I R) → IsReached object w → IsBounded w
-  IsBounded-reached w r = IsBounded-held object w (CountsSteps-reached w r) (subst (λ v. HelpingInvariant object v) r.reached
-      (HelpingInvariant-world_after_all object (opened_world r.n r.start r.number) r.events r.accepted (CountsSteps-opened_world object r.n r.start r.number) (HelpingInvariant-opened_world object r.n r.start r.number r.positive)))
+  IsBounded-reached w r = IsBounded-held object w (CountsSteps-reached w r) (HelpingInvariant-reached w r)
+
+  pub EndsAtItsCell-holds : (w : WorldOf S I R) (p : ℕ) → EndsAtItsCell object w p
+  EndsAtItsCell-holds w p reached call is turns s t at =
+      at_its_cell object w (HelpingInvariant-reached w reached) p call.mine s t (is ∙ ap (λ k. Some (record { mine = call.mine; stage = k })) at) turns
 
   pub AreAccepted-take : (j : ℕ) (w : WorldOf S I R) (es : List (Event I)) → AreAccepted object w es → AreAccepted object w (take j es)
   AreAccepted-take zero w es ok = tt

@@ -3,6 +3,8 @@ use Rattle.std.specs.Prelude.{◌≡◌, ℕ, ◌+◌, ◌≤◌, List, None, So
 use Rattle.seq_object.specs.Sequential.{Sequential}
 use Rattle.uni_model.specs.Places.{seq_of}
 use Rattle.uni_model.specs.Places.Name.{Of}
+use Rattle.uni_model.specs.Stages.{Pending}
+use Rattle.uni_model.specs.Stages.Stage.{Finish}
 use Rattle.uni_model.specs.Worlds.{WorldOf, Event, opened_world, world_after_all, AreAccepted}
 use Rattle.uni_model.specs.Frontier.{floor_of}
 use Rattle.uni_model.specs.Bound.{most_steps}
@@ -30,3 +32,9 @@ module _ {S I R : Type 0} (object : Sequential S I R) where
   abbrev pub TakesOneTurn : WorldOf S I R → ℕ → Type 0
   TakesOneTurn w p =
       IsReached object w → w.call p ≡ None → 1 ≤ w.begun p → w.among p ≡ 1 → (w.turns p ≡ 1) × (w.steps p ≡ 14)
+
+  -- A call whose last step comes after n + 1 turns has its own cell for its head by then, so that step writes no head.
+  abbrev pub EndsAtItsCell : WorldOf S I R → ℕ → Type 0
+  EndsAtItsCell w p =
+      IsReached object w → (call : Pending) → w.call p ≡ Some call → w.turns p ≡ w.n + 1
+      → (c_seq mine_seq : ℕ) → call.stage ≡ Finish c_seq mine_seq → mine_seq ≤ c_seq

@@ -28,7 +28,8 @@ AreNoCallsOf {I} p events = (i : I) → ¬ (Contains events (Call p i))
 sample_steps : steps_among {I = ℕ} 1 (Step 1 ∷ Step 0 ∷ Call 1 7 ∷ Trim ∷ Step 1 ∷ []) ≡ 2
 sample_steps = refl
 
--- a process whose call is pending can take its next step, wherever the others stand
+-- A process whose call is pending can take its next step, wherever the others stand. That is so by what an accepted step is: a step of
+-- the model is a total function. The weight lies on `IsWaitFree` and `EndsAlone`.
 abbrev pub NeverBlocks : {S I R : Type 0} → WorldOf S I R → ℕ → Type 0
 NeverBlocks w p = (call : Pending) → w.call p ≡ Some call → IsAccepted w (Step p)
 

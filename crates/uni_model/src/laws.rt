@@ -15,7 +15,7 @@ ghost use Rattle.uni_model.specs.Untrimmed.{TrimsChangeNothing};
 ghost use Rattle.uni_model.specs.Linearizable.{ObservesLinearizable};
 ghost use Rattle.uni_model.specs.WaitFree.{NeverBlocks, CallIsWaitFree, CallEndsAlone};
 ghost use Rattle.uni_model.specs.Universal.{RunIsUniversal};
-ghost use Rattle.uni_model.specs.Tight.{BoundIsMet, TakesOneTurn};
+ghost use Rattle.uni_model.specs.Tight.{BoundIsMet, TakesOneTurn, EndsAtItsCell};
 ghost use Rattle.uni_model.specs.StrongLinearizable.{IsStronglyLinearizable};
 ghost use Rattle.uni_model.specs.HerlihyWing.{AgreesWithCompletion, ObservesCompletion};
 ghost use Rattle.uni_model.specs.Locality.{IsLocal};
@@ -281,4 +281,10 @@ pub fn takes_one_turn_alone<O: SeqObject>()
 pub fn is_local<O: SeqObject>()
     ensures { (objects : ℕ → O) (start : ℕ → O.State) (history : List (Act (ℕ × O.Inv) (ℕ × O.Resp))) →
         IsLocal (λ x. O.sequential (objects x)) start history }
+{}
+
+/// A call's last step after n + 1 turns writes no head: the process's own cell is its head by then. So where
+/// a step takes a known number of steps on words, a call of the most turns takes no further one for its head.
+pub fn ends_at_its_cell<O: SeqObject>()
+    ensures { (object : O) (w : WorldOf O.State O.Inv O.Resp) (p : ℕ) → EndsAtItsCell (O.sequential object) w p }
 {}
