@@ -73,10 +73,10 @@ module _ (object : Sequential ℕ ℕ ℕ) where
       acts_by-linearized q (drop (length (calls_of w)) (calls_of (world_after object w (Step p)))) (option_map_or (λ (call : Pending). responses_of w.memory p call.mine (response_after call.mine call.stage w.memory)) (w.call p) [])
       ∙ ap (λ o. acts_by q (option_map_or (λ (call : Pending). responses_of w.memory p call.mine (response_after call.mine call.stage w.memory)) o [])) pending
 
-  response_elsewhere : (m : Memory ℕ ℕ ℕ) (p q : ℕ) (mine : Name) → q ≢ p → (o : Option ℕ) → acts_by q (responses_of m p mine o) ≡ []
+  response_elsewhere : (m : Memory ℕ ℕ ℕ) (p q : ℕ) (mine : Name) → q ≢ p → (o : Option ℕ) → acts_by {I = ℕ} q (responses_of m p mine o) ≡ []
   response_elsewhere m p q mine apart None = refl
   response_elsewhere m p q mine apart (Some r) = by_call (invoked_at m mine) where
-    by_call : (o : Option (Invoked ℕ)) → acts_by q (option_map_or (λ (c : Invoked ℕ). Respond p c.nth r ∷ []) o []) ≡ []
+    by_call : (o : Option (Invoked ℕ)) → acts_by {I = ℕ} q (option_map_or (λ (c : Invoked ℕ). Respond p c.nth r ∷ []) o []) ≡ []
     by_call None = refl
     by_call (Some c) = elim (number_cases p q) [ inl same ↦ absurd (apart (sym same.0)) | inr other ↦ rw other.1 refl ]
 
