@@ -100,6 +100,7 @@ goes_one me c found t me' moved turn =
       own = ap (λ (k : Known). k.own) now;
       taken = ap (λ (k : Known). k.taken) now;
       seen = ap (λ (k : Known). k.seen) now;
+      number = ap (λ (k : Known). k.number) now;
       carried = ap (λ (x : Me ℕ View). x.1) moved.view;
     }
 
@@ -130,6 +131,7 @@ goes_still read me me' looked =
       own = ap (λ (k : Known). k.own) now;
       taken = ap (λ (k : Known). k.taken) now;
       seen = ap (λ (k : Known). k.seen) now;
+      number = ap (λ (k : Known). k.number) now;
       carried = ap (λ (x : Me ℕ View). x.1) looked;
     }
 

@@ -26,7 +26,7 @@ use Rattle.uni_words.specs.Laws.{Leads, after_word}
 use Rattle.uni_words.specs.Shown.{IsLocal, IsShown, ShowsRun, pending_count}
 use Rattle.uni_words.specs.declared.view.View.{View}
 use Rattle.uni_words.proofs.Locality.{set_here, set_elsewhere}
-use Rattle.uni_words.proofs.Underway.{HasReturned-grows}
+use Rattle.uni_words.proofs.Underway.{HasReturned-grows, last_number-grows}
 use Rattle.uni_words.proofs.Happens.{own_local, keeps_rule}
 use Rattle.uni_words.proofs.Running.{led, run_begins}
 
@@ -120,6 +120,7 @@ module _ (object : Sequential ℕ ℕ ℕ) (row : ℕ) where
       underway = (subst (λ k. inv_of later.memory (Of p k) ≡ Some inv) before.begun told_inv, tt);
       counted = (let was : v.begun ≡ length v.own + 0 = subst (λ o. v.begun ≡ length v.own + pending_count o) idle before.counted in omega arith);
       own = λ k call e. HasReturned-grows w.memory later.memory grows (Of p k) call.0 call.1 (before.own k call e);
+      number = before.number ∙ sym (last_number-grows w.memory later.memory grows p v.own before.own);
     }
 
     begun_kept : IsShown object row later (record { words = words'; homes = s.homes; views = slice_set s.views id (record { known = begun_by v inv }) })
@@ -143,7 +144,7 @@ module _ (object : Sequential ℕ ℕ ℕ) (row : ℕ) where
     begun_leads = record {
       shown = begun_kept;
       run = λ n events run.
-          run_begins object n row w s is events run id v at single idle inv (record { mine = Of p v.begun; stage = Announce }) (begun_by v inv) refl single refl refl refl refl refl refl;
+          run_begins object n row w s is events run id v at single idle inv (record { mine = Of p v.begun; stage = Announce }) (begun_by v inv) refl single refl refl refl refl refl;
     }
 
   pub begins : (n slots id i : ℕ) (st : Step ℕ) (me : Me ℕ View) (inv : ℕ) → me.0.known.count ≡ 1 → me.0.known.call ≡ None → me.0.known.begun < row

@@ -12,20 +12,21 @@ use Rattle.uni_model.proofs.Ordered.{KeepsRealTime-holds}
 use Rattle.uni_model.proofs.Responses.{LogsResponses-holds}
 use Rattle.uni_model.proofs.Universal.{RunIsUniversal-holds}
 use Rattle.uni_model.specs.ProcessCalls.{ProcessCalls, acts_by, sequential_acts}
-use Rattle.uni_words.specs.Log.{AreAnswered, AreCallsOf, AreCallCells, IsChained, IsInOrder, IsLogged, told_memory, log_of, calls_by, replied}
+use Rattle.uni_words.specs.Log.{AreAnswered, AreCallsOf, AreCallCells, HasNumber, IsChained, IsInOrder, IsLogged, told_memory, log_of, calls_by, replied}
 use Rattle.uni_words.specs.Rule.{Rule}
 use Rattle.uni_words.specs.Run.{HasSeen, IsLogOfRun, IsLogOfSeenRun, opened, run_history}
 use Rattle.uni_words.specs.Seats.{calls_in_view}
 use Rattle.uni_words.specs.Shown.{HasReturned, IsShown, LeadsTo, pending_acts}
-use Rattle.uni_words.specs.View.{Seen as SeenCalls}
+use Rattle.uni_words.specs.View.{Seen as SeenCalls, own_of}
 use Rattle.uni_words.specs.declared.rule.Setup.{Setup}
 use Rattle.uni_words.specs.declared.view.View.{View}
-use Rattle.uni_words.proofs.Accounted.{All-each}
 use Rattle.uni_words.proofs.Closing.{calls_inside, log_of_world, shows_chain, call_cells, legal_log, answered_log}
-use Rattle.uni_words.proofs.Joining.{first_or, ended_local}
+use Rattle.uni_words.proofs.Joining.{ended_local}
+use Rattle.uni_words.proofs.Rising.{last_numbered}
+use Rattle.uni_words.proofs.Views.{All-each, first_or}
 use Rattle.uni_words.proofs.OwnCalls.{own_is}
 use Rattle.uni_words.proofs.Ordering.{in_order}
-use Rattle.uni_words.proofs.Running.{joined_is_log}
+use Rattle.uni_words.proofs.Running.{idle_acts, joined_is_log}
 
 -- what holds of the last state's world and words holds of the words that are left
 left : (n : ℕ) (words : List ℕ) (w : WorldOf ℕ ℕ ℕ) (s : State ℕ View) → w.n ≡ n → s.words ≡ words
@@ -119,9 +120,7 @@ module _ {O : Type 0} (meaning : O → Sequential ℕ ℕ ℕ) (told setup : Set
       joined = joined;
       acts = λ c has. elim (first_or _ _ c has) [
         | inl here ↦ subst (λ (k : ProcessCalls ℕ ℕ). acts_by k.process (run_history object setup.n events) ≡ sequential_acts k.process 0 k.calls) here
-            (run.acts id view last.1.1 view.known.first (omega arith, (let one = single in omega arith))
-            ∙ (ap (λ o. sequential_acts view.known.first 0 view.known.own ++ pending_acts view.known.first (length view.known.own) view.known.inv o) idle
-            ∙ append-nil (sequential_acts view.known.first 0 view.known.own)))
+            (idle_acts object setup.n events w last.0.views run id view last.1.1 (let one = single in omega arith) idle)
         | inr taken ↦ run.taken id view last.1.1 c taken
       ];
     },
@@ -133,3 +132,8 @@ module _ {O : Type 0} (meaning : O → Sequential ℕ ℕ ℕ) (told setup : Set
 
   pub closed_order : All (IsInOrder (log_of setup.n setup.k words)) view.known.seen
   closed_order = All-each (IsInOrder (log_of setup.n setup.k words)) view.known.seen (λ t has. subst (λ l. IsInOrder l t) joined (in_order object setup.n events run.accepted t (was_seen t has)))
+
+  -- the seat's latest call has the number that the seat knows
+  pub closed_number : view.known.count ≡ 1 → HasNumber (log_of setup.n setup.k words) (own_of view.known) view.known.number
+  closed_number single = left setup.n words w last.0 last.1.0.1 last.2 (λ n ws. HasNumber (log_of n setup.k ws) (own_of view.known) view.known.number)
+      (last_numbered object setup.k w last.0 is id view last.1.1 single)

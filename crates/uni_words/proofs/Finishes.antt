@@ -7,7 +7,7 @@ use Rattle.atomic_table.specs.Table.{State, Me, keeps, Allows}
 use Rattle.atomic_table.specs.Table as table
 use Rattle.seq_object.specs.Sequential.{Sequential}
 use Rattle.uni_model.specs.Indices.{name_of}
-use Rattle.uni_model.specs.Places.{Name, Content, memory_with}
+use Rattle.uni_model.specs.Places.{Name, Content, memory_with, seq_of}
 use Rattle.uni_model.specs.Places.Name.{Of}
 use Rattle.uni_model.specs.Places.Place.{HeadOf, NewOf}
 use Rattle.uni_model.specs.Places.Content.{CellName}
@@ -20,13 +20,13 @@ use Rattle.uni_model.specs.Worlds.Event.{Step}
 use Rattle.uni_model.proofs.Simulation.{set_at_same}
 use Rattle.uni_model.proofs.Written.{lt_cases, written_same}
 use Rattle.uni_words.specs.Words.{reply_in, content_of, word_of, memory_of}
-use Rattle.uni_words.specs.View.{Known, finished_by}
+use Rattle.uni_words.specs.View.{Known, finished_by, number_of}
 use Rattle.uni_words.specs.View.Reading.{Reply}
 use Rattle.uni_words.specs.Seats.{HasFinished, TellsReply}
 use Rattle.uni_words.specs.Laws.{Leads, after_word}
-use Rattle.uni_words.specs.Shown.{HasReturned, HasRead, IsLocal, IsShown, ShowsRun, pending_count}
+use Rattle.uni_words.specs.Shown.{HasReturned, HasRead, IsLocal, IsShown, ShowsRun, last_number, pending_count}
 use Rattle.uni_words.specs.declared.view.View.{View}
-use Rattle.uni_words.proofs.Underway.{HasReturned-grows}
+use Rattle.uni_words.proofs.Underway.{HasReturned-grows, there_below}
 use Rattle.uni_words.proofs.Happens.{own_local, effect, later, memory_grows, memory_set, kept}
 use Rattle.uni_words.proofs.Running.{led, run_ends}
 use Rattle.uni_words.proofs.Looks.{stands, underway, reply_told, looks_reply}
@@ -78,6 +78,24 @@ module _ (object : Sequential ℕ ℕ ℕ) (row : ℕ) where
         let same : its.0 ≡ length v.own = (let a = its.2 in let b = before.begun in let d = counted in omega arith) in
         its.1 ∙ ap (Of v.first) same
 
+    -- its number is above that of the call before
+    pub rises : v.number < number_of v.call
+    rises =
+        let h = stands object row w s is id v at single mine (Finish c_seq mine_seq) pending in
+        subst (λ o. v.number < number_of o) (sym pending) (subst (λ k. k < mine_seq) (sym before.number) (by_count h.1 (subst (λ t. 1 ≤ t) (sym h.2) h.1) h.2 (length v.own) refl)) where
+          by_count : 1 ≤ mine_seq → 1 ≤ seq_of w.memory mine → seq_of w.memory mine ≡ mine_seq → (k : ℕ) → length v.own ≡ k → last_number w.memory v.first k < mine_seq
+          by_count some_number threaded is_number zero e = omega (arith, some_number)
+          by_count some_number threaded is_number (suc k) e =
+              let c = there_below v.own k (omega (arith, e)) in
+              let early = (before.own k c.0 c.1).threaded in
+              let here : mine ≡ Of v.first (suc k) = mine_is ∙ ap (Of v.first) e in
+              let late : 1 ≤ seq_of w.memory (Of v.first (suc k)) = subst (λ x. 1 ≤ seq_of w.memory x) here threaded in
+              let number : seq_of w.memory (Of v.first (suc k)) ≡ mine_seq = ap (seq_of w.memory) (sym here) ∙ is_number in
+              let early_num = is.sound.2.numbered.seq (Of v.first k) early in
+              let late_num = is.sound.2.numbered.seq (Of v.first (suc k)) late in
+              let order = is.sound.2.calls.order v.first k (suc k) (omega arith) (omega arith) (omega arith) in
+              omega arith
+
     module _ (words' : List ℕ) (long : length words' ≡ length s.words) (memory_is : ended.memory ≡ memory_of w.n row words' w.begun)
         (stores reply : ℕ) (replied : response_in w.memory mine ≡ Some reply) where
       grows : Grows w.memory ended.memory
@@ -104,6 +122,12 @@ module _ (object : Sequential ℕ ℕ ℕ) (row : ℕ) where
           | inl old ↦ HasReturned-grows w.memory ended.memory grows (Of v.first k) c.0 c.1 (before.own k c old)
           | inr new ↦ subst (λ (y : ℕ × ℕ). HasReturned ended.memory (Of v.first k) y.0 y.1) new.1 (subst (λ j. HasReturned ended.memory (Of v.first j) v.inv reply) (sym new.0) returned)
         ];
+        number =
+            let h = stands object row w s is id v at single mine (Finish c_seq mine_seq) pending in
+            let is_last : length v.own + 1 ≡ length (v.own ++ (v.inv, reply) ∷ []) = sym (length-append v.own ((v.inv, reply) ∷ [])) in
+            let next : suc (length v.own) ≡ length (v.own ++ (v.inv, reply) ∷ []) = omega (arith, is_last) in
+            let was : 1 ≤ seq_of w.memory (Of v.first (length v.own)) = subst (λ x. 1 ≤ seq_of w.memory x) mine_is (subst (λ t. 1 ≤ t) (sym h.2) h.1) in
+            ap number_of pending ∙ (sym h.2 ∙ (ap (seq_of w.memory) mine_is ∙ (sym (grows.seq (Of v.first (length v.own)) was) ∙ ap (last_number ended.memory v.first) next)));
       }
 
       pub finished_leads : Leads object row w s (Step v.first ∷ []) ended (record { words = words'; homes = s.homes; views = slice_set s.views id (record { known = finished_by v stores reply }) })
@@ -112,7 +136,7 @@ module _ (object : Sequential ℕ ℕ ℕ) (row : ℕ) where
             ((is.seats id (record { known = v }) at).processes (let one = single in omega arith)) ((is.seats id (record { known = v }) at).calls (let one = single in omega arith)) refl single refl tells is.fits;
         run = λ n events run.
             run_ends object n row w s is events run id v at single call pending reply replied mine_is (underway object row w s is id v at single mine (Finish c_seq mine_seq) pending).0
-            (finished_by v stores reply) refl single refl refl refl refl refl;
+            (finished_by v stores reply) refl single refl refl refl refl;
       }
 
     -- the reply that was read
@@ -150,7 +174,7 @@ module _ (object : Sequential ℕ ℕ ℕ) (row : ℕ) where
         keeps,
         tt,
         led n shown.1 shown.3 (stored_leads w s shown.2 id v at single (name_of n mine) c_seq mine_seq pending less i mine word (ap (λ k. name_of k mine) shown.1) reply read),
-        refl,
+        (refl, rises w s shown.2 id v at single (name_of n mine) c_seq mine_seq pending),
       )
 
   pub told_reply : (n slots id i : ℕ) (st : table.Step ℕ) (me : Me ℕ View) → me.0.known.count ≡ 1 → (mine : Name) (c_seq mine_seq : ℕ)
@@ -168,6 +192,6 @@ module _ (object : Sequential ℕ ℕ ℕ) (row : ℕ) where
           keeps,
           tt,
           led n shown.1 shown.3 (loaded_leads shown.0 s shown.2 id v at single mine c_seq mine_seq pending more.0 i word),
-          λ other c m e. (let same = one_finish mine other c_seq mine_seq c m (sym pending ∙ e) in (λ yes. absurd (let a = same.0 in let b = same.1 in let d = more.0 in omega arith), λ no. refl)),
+          λ other c m e. (let same = one_finish mine other c_seq mine_seq c m (sym pending ∙ e) in (λ yes. absurd (let a = same.0 in let b = same.1 in let d = more.0 in omega arith), λ no. (refl, rises shown.0 s shown.2 id v at single mine c_seq mine_seq pending))),
         )
   ]

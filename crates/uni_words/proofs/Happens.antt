@@ -1,5 +1,6 @@
 -- A word step keeps the rule: what has to be shown of it, and of a step that is an event.
 use Rattle.std.proofs.Common.{◌≡◌, ◌≢◌, ◌∙◌, ℕ, zero, suc, ◌+◌, ◌<◌, ◌≤◌, ◌^◌, inl, inr, ⊎_elim, refl, sym, ap, subst, List, [], ◌∷◌, length, slice_index, slice_set, Contains, Option, Some, None, IsSome, arith, set}
+use Rattle.std.proofs.lemmas.List.{set-get_or}
 use mathlib.Core.Option.{some, some-injective, some-ne-none}
 use lib.ListN.{get_elem?}
 use Rattle.atomic_table.specs.Table.{State}
@@ -15,6 +16,7 @@ use Rattle.uni_model.specs.Worlds.Event.{Step}
 use Rattle.uni_model.specs.Helping.{HelpingInvariant}
 use Rattle.uni_model.specs.Counting.{CountsSteps}
 use Rattle.uni_model.specs.Settled.{Grows}
+use Rattle.uni_model.proofs.SamePlace.{Grows-same}
 use Rattle.uni_model.proofs.Written.{number_cases}
 use Rattle.uni_model.proofs.LawProofs.{set_at_elsewhere}
 use Rattle.uni_model.proofs.Kept.{Invariant-world_after_step}
@@ -26,7 +28,7 @@ use Rattle.uni_words.specs.View.{Known}
 use Rattle.uni_words.specs.Shown.{IsLocal, IsTaken, Tells, IsAmong, HasProcess, IsShown}
 use Rattle.uni_words.specs.declared.view.View.{View}
 use Rattle.uni_words.proofs.Locality.{memory_at, word_here, words_written}
-use Rattle.uni_words.proofs.Underway.{HasReturned-grows, IsUnderway-grows, place_shared}
+use Rattle.uni_words.proofs.Underway.{HasReturned-grows, IsUnderway-grows, last_number-grows, place_shared}
 
 pub set_there : {A : Type 0} (l : List A) (i : ℕ) (a b : A) → get_elem? l i ≡ some a → get_elem? (set l i b) i ≡ some b
 set_there [] i a b e = absurd (some-ne-none a (sym e))
@@ -83,6 +85,7 @@ module _ (object : Sequential ℕ ℕ ℕ) (row : ℕ) (w : WorldOf ℕ ℕ ℕ)
       underway = IsUnderway-grows _ _ grows u.call u.inv u.read h.underway;
       counted = h.counted;
       own = λ k call e. HasReturned-grows _ _ grows (Of q k) call.0 call.1 (h.own k call e);
+      number = h.number ∙ sym (last_number-grows _ _ grows q u.own h.own);
     }
 
     -- a process that was taken in
@@ -161,6 +164,16 @@ module _ (object : Sequential ℕ ℕ ℕ) (row : ℕ) (w : WorldOf ℕ ℕ ℕ)
       sound = sound;
       counts = counts;
     }
+
+  -- no word changes, and the seat knows more
+  pub knows_more : (i : ℕ) (v' : Known) → v'.n ≡ v.n → v'.row ≡ v.row → v'.first ≡ v.first → v'.count ≡ 1 → v'.taken ≡ v.taken → IsLocal w is.owner id v.first v'
+      → IsShown object row w (record { words = slice_set s.words i (slice_index s.words i); homes = s.homes; views = slice_set s.views id (record { known = v' }) })
+  knows_more i v' n_is row_is first_is count_is taken_is tells =
+      let told = is.seats id (record { known = v }) at in
+      subst (λ ws. IsShown object row w (record { words = ws; homes = s.homes; views = slice_set s.views id (record { known = v' }) })) (sym (set-get_or s.words i 0))
+      (keeps_rule s.words w refl (record { n = refl; call = λ q a. refl; begun = λ q a. refl; steps = λ q a. refl; turns = λ q a. refl })
+      (Grows-same w.memory) is.memory v' (n_is ∙ told.processes (let one = single in omega arith)) (row_is ∙ told.calls (let one = single in omega arith)) first_is count_is taken_is tells
+      (is.room v.first) is.fits is.sound is.counts)
 
 module _ (object : Sequential ℕ ℕ ℕ) (row : ℕ) (w : WorldOf ℕ ℕ ℕ) (s : State ℕ View) (is : IsShown object row w s)
     (id : ℕ) (v : Known) (at : get_elem? s.views id ≡ some (record { known = v })) (single : v.count ≡ 1) (c : Pending) (pending : v.call ≡ Some c) where

@@ -1,5 +1,5 @@
 -- A seat takes in another one.
-use Rattle.std.proofs.Common.{◌≡◌, ◌≢◌, ◌∙◌, ℕ, ◌+◌, ◌<◌, ◌⊎◌, inl, inr, refl, sym, ap, subst, List, [], ◌∷◌, ◌++◌, append-nil, length, Contains, None, arith, ◌==◌, if◌then◌else◌, set}
+use Rattle.std.proofs.Common.{◌≡◌, ◌≢◌, ◌∙◌, ℕ, ◌+◌, ◌<◌, ◌≤◌, ◌⊎◌, inl, inr, refl, sym, ap, subst, List, [], ◌∷◌, ◌++◌, append-nil, length, Contains, None, arith, ◌==◌, if◌then◌else◌, set}
 use Rattle.std.proofs.lemmas.List.Elements.{Contains-append_cases, Contains-append_left, Contains-append_right, Contains-push_cases}
 use mathlib.Core.Option.{some, some-injective}
 use lib.ListN.{get_elem?}
@@ -10,33 +10,21 @@ use Rattle.uni_model.specs.Worlds.{WorldOf, Event}
 use Rattle.uni_model.proofs.Written.{number_cases}
 use Rattle.uni_model.specs.ProcessCalls.{ProcessCalls, acts_by, sequential_acts}
 use Rattle.uni_words.specs.Laws.{Leads, after_join}
-use Rattle.uni_words.specs.Run.{run_history, HaveReturned, HasSeen}
+use Rattle.uni_words.specs.Run.{run_history, HasSeen}
 use Rattle.uni_words.specs.View.{Seen, Known}
-use Rattle.uni_words.specs.Seats.{calls_in_view, nobody, took_in}
+use Rattle.uni_words.specs.Seats.{calls_in_view, logged_in_view, nobody, took_in}
 use Rattle.uni_words.specs.Shown.{IsLocal, IsTaken, Tells, IsAmong, HasProcess, IsShown, LeadsTo, ShowsRun, acts_in_view, pending_count, pending_acts}
 use Rattle.uni_words.specs.declared.view.View.{View}
 use Rattle.uni_words.proofs.Happens.{set_there}
-use Rattle.uni_words.proofs.Running.{led, no_more}
-use Rattle.uni_words.proofs.Views.{Holds-kept, Holds-set}
-
--- an element of a list is its first, or among the others
-pub first_or : {A : Type 0} (x : A) (xs : List A) (c : A) → Contains (x ∷ xs) c → (x ≡ c) ⊎ Contains xs c
-first_or x xs c has = elim (Contains-append_cases (x ∷ []) xs c has) [
-  | inl one ↦ elim (Contains-push_cases [] x c one) [ inl none ↦ absurd (let k = none.1 in omega arith) | inr same ↦ inl same ]
-  | inr more ↦ inr more
-]
-
-pub first_there : {A : Type 0} (x : A) (xs : List A) → Contains (x ∷ xs) x
-first_there x xs = (0, omega arith, refl)
-
-pub later_there : {A : Type 0} (x : A) (xs : List A) (c : A) → Contains xs c → Contains (x ∷ xs) c
-later_there x xs c has = Contains-append_right (x ∷ []) xs c has
+use Rattle.uni_words.proofs.Asking.{sees_now, view_logged}
+use Rattle.uni_words.proofs.Running.{idle_acts, led, no_more}
+use Rattle.uni_words.proofs.Views.{Holds-set, first_or, first_there, later_there}
 
 -- the calls of a process of which nothing is pending
 pub ended_local : (w : WorldOf ℕ ℕ ℕ) (owner : ℕ → ℕ) (id p : ℕ) (v : Known) → IsLocal w owner id p v → v.call ≡ None → w.begun p ≡ length v.own
 ended_local w owner id p v local idle = local.begun ∙ (let c : v.begun ≡ length v.own + 0 = subst (λ o. v.begun ≡ length v.own + pending_count o) idle local.counted in omega arith)
 
-module _ (object : Sequential ℕ ℕ ℕ) (row id : ℕ) (v : View) (other : ℕ) (x : View) (single : x.known.count ≡ 1) (idle : x.known.call ≡ None) where
+module _ (object : Sequential ℕ ℕ ℕ) (row id : ℕ) (v : View) (some_left : 1 ≤ v.known.count) (own_idle : v.known.call ≡ None) (other : ℕ) (x : View) (single : x.known.count ≡ 1) (idle : x.known.call ≡ None) where
   module _ (w : WorldOf ℕ ℕ ℕ) (s : State ℕ View) (is : IsShown object row w s) (at : get_elem? s.views id ≡ some v) (apart : other ≡ id → ⊥)
       (there : get_elem? s.views other ≡ some x) where
     abbrev views' : List View
@@ -72,6 +60,7 @@ module _ (object : Sequential ℕ ℕ ℕ) (row id : ℕ) (v : View) (other : �
       underway = h.underway;
       counted = h.counted;
       own = h.own;
+      number = h.number;
     }
 
     seated_taken : (j j' : ℕ) (c : ProcessCalls ℕ ℕ) → IsTaken w is.owner j c → owner' c.process ≡ j' → IsTaken w owner' j' c
@@ -113,7 +102,7 @@ module _ (object : Sequential ℕ ℕ ℕ) (row id : ℕ) (v : View) (other : �
               processes = told.processes;
               calls = told.calls;
               several = told.several;
-              each = λ q from to. let local = told.each q from to in seated_local id id q v.known (v.known.taken ++ calls_in_view x) (v.known.seen ++ x.known.seen) local (stays q id local.seat (λ same. apart (sym same)));
+              each = λ q from to. let local = told.each q from to in seated_local id id q v.known (v.known.taken ++ calls_in_view x) (took_in v x).known.seen local (stays q id local.seat (λ same. apart (sym same)));
               taken = λ c has. elim (Contains-append_cases v.known.taken (calls_in_view x) c has) [
                 | inl old ↦ let its = told.taken c old in (seated_taken id id c its.0 (stays c.process id its.0.seat (λ same. apart (sym same))), its.1)
                 | inr new ↦ now_taken c new
@@ -189,9 +178,18 @@ module _ (object : Sequential ℕ ℕ ℕ) (row id : ℕ) (v : View) (other : �
 
       acts_taken : (c : ProcessCalls ℕ ℕ) → Contains (calls_in_view x) c → Acts c
       acts_taken c has = elim (first_or _ _ c has) [
-        | inl here ↦ subst Acts here (run.acts other x there x.known.first (omega arith, omega (arith, single))
-            ∙ (ap (λ o. sequential_acts x.known.first 0 x.known.own ++ pending_acts x.known.first (length x.known.own) x.known.inv o) idle ∙ append-nil (sequential_acts x.known.first 0 x.known.own)))
+        | inl here ↦ subst Acts here (idle_acts object n events w s.views run other x there (omega (arith, single)) idle)
         | inr taken ↦ run.taken other x there c taken
+      ]
+
+      -- what the other one saw, and that all calls of which it knows stand in the log
+      sees : (t : Seen) → Contains (took_in v x).known.seen t → HasSeen object n events t
+      sees t has = elim (Contains-append_cases v.known.seen _ t has) [
+        | inl own ↦ run.seen id v at t own
+        | inr more ↦ elim (Contains-append_cases x.known.seen _ t more) [
+          | inl theirs ↦ run.seen other x there t theirs
+          | inr new ↦ sees_now object row w s is n events run id v at some_left own_idle (logged_in_view x) (view_logged object row w s is n events run other x there (omega (arith, single))) t new
+        ]
       ]
 
       join_run : LeadsTo object n events w views'
@@ -219,11 +217,8 @@ module _ (object : Sequential ℕ ℕ ℕ) (row id : ℕ) (v : View) (other : �
             | inr rest ↦ run.taken j u rest.1 c has
           ]
         ];
-        told = Holds-set (λ (u : View). u.known.told) (HaveReturned object n events) (set s.views id (took_in v x)) other nobody
-            (Holds-kept (λ (u : View). u.known.told) (HaveReturned object n events) s.views id v (took_in v x) at refl run.told) (λ a has. absurd (let k = has.1 in omega arith));
         seen = Holds-set (λ (u : View). u.known.seen) (HasSeen object n events) (set s.views id (took_in v x)) other nobody
-            (Holds-set (λ (u : View). u.known.seen) (HasSeen object n events) s.views id (took_in v x) run.seen
-            (λ a has. elim (Contains-append_cases v.known.seen x.known.seen a has) [ inl old ↦ run.seen id v at a old | inr new ↦ run.seen other x there a new ]))
+            (Holds-set (λ (u : View). u.known.seen) (HasSeen object n events) s.views id (took_in v x) run.seen sees)
             (λ a has. absurd (let k = has.1 in omega arith));
       }
 

@@ -1,6 +1,5 @@
 -- The word steps that are no events: reads of settled words.
 use Rattle.std.proofs.Common.{◌≡◌, ◌∙◌, ℕ, zero, suc, ◌<◌, ◌≤◌, ◌^◌, refl, sym, ap, subst, [], slice_index, slice_set, Option, Some, None, option_and_then, arith, nat_lt, Bool, true, false, cond}
-use Rattle.std.proofs.lemmas.List.{set-get_or}
 use mathlib.Core.Option.{some}
 use lib.ListN.{get_elem?}
 use Rattle.atomic_table.specs.Table.{State, Me, Step, keeps, Allows}
@@ -13,7 +12,6 @@ use Rattle.uni_model.specs.Stages.Stage.{DecideNew, Finish}
 use Rattle.uni_model.specs.Chain.{response_in}
 use Rattle.uni_model.specs.Worlds.{WorldOf}
 use Rattle.uni_model.specs.Invariant.{Has, Stands}
-use Rattle.uni_model.proofs.SamePlace.{Grows-same}
 use Rattle.uni_model.proofs.Steps.{linked_call, head_number}
 use Rattle.uni_words.specs.Words.{settled_at, state_in, reply_in, reply_at, word_of, word_at}
 use Rattle.uni_words.specs.View.{Known, Reading, looked_at}
@@ -23,7 +21,7 @@ use Rattle.uni_words.specs.Laws.{Leads, after_word}
 use Rattle.uni_words.specs.Shown.{HasRead, IsUnderway, IsLocal, IsShown, ShowsRun}
 use Rattle.uni_words.specs.declared.view.View.{View}
 use Rattle.uni_words.proofs.Locality.{word_here}
-use Rattle.uni_words.proofs.Happens.{own_local, keeps_rule}
+use Rattle.uni_words.proofs.Happens.{own_local, knows_more}
 use Rattle.uni_words.proofs.Running.{led, no_more, run_stays}
 
 module _ (object : Sequential ℕ ℕ ℕ) (row : ℕ) where
@@ -58,11 +56,7 @@ module _ (object : Sequential ℕ ℕ ℕ) (row : ℕ) where
       looked_kept : (i : ℕ) (read : Reading) → HasRead w.memory mine stage read
           → IsShown object row w (record { words = slice_set s.words i (slice_index s.words i); homes = s.homes; views = slice_set s.views id (record { known = looked_at v read }) })
       looked_kept i read has =
-          let told = is.seats id (record { known = v }) at in
-          subst (λ ws. IsShown object row w (record { words = ws; homes = s.homes; views = slice_set s.views id (record { known = looked_at v read }) })) (sym (set-get_or s.words i 0))
-          (keeps_rule object row w s is id v at single s.words w refl
-          (record { n = refl; call = λ q a. refl; begun = λ q a. refl; steps = λ q a. refl; turns = λ q a. refl })
-          (Grows-same w.memory) is.memory (looked_at v read) (told.processes (let one = single in omega arith)) (told.calls (let one = single in omega arith)) refl single refl
+          knows_more object row w s is id v at single i (looked_at v read) refl refl refl single refl
           (record {
             inside = before.inside;
             seat = before.seat;
@@ -73,8 +67,8 @@ module _ (object : Sequential ℕ ℕ ℕ) (row : ℕ) where
             underway = subst (λ o. IsUnderway w.memory o v.inv read) (sym pending) (underway.0, has);
             counted = before.counted;
             own = before.own;
+            number = before.number;
           })
-          (is.room v.first) is.fits is.sound is.counts)
 
       pub looked_leads : (i : ℕ) (read : Reading) → HasRead w.memory mine stage read
           → Leads object row w s [] w (after_word s i (slice_index s.words i) id (looked_at v read))
@@ -82,7 +76,7 @@ module _ (object : Sequential ℕ ℕ ℕ) (row : ℕ) where
         shown = looked_kept i read has;
         run = λ n events run.
             no_more object n events w (slice_set s.views id (record { known = looked_at v read }))
-            (run_stays object n row w s is events run id v at single (looked_at v read) refl single refl refl refl refl refl refl);
+            (run_stays object n row w s is events run id v at single (looked_at v read) refl single refl (run.seen id (record { known = v }) at) refl refl refl);
       }
 
   pub looks_inv : (n slots id i : ℕ) (me : Me ℕ View) → me.0.known.count ≡ 1 → (mine c d : Name) (c_seq : ℕ) → me.0.known.call ≡ Some (record { mine = mine; stage = DecideNew c c_seq d })

@@ -26,7 +26,7 @@ use Rattle.uni_words.specs.Laws.{Leads, after_word}
 use Rattle.uni_words.specs.Shown.{IsUnderway, IsLocal, IsShown, ShowsRun, pending_count}
 use Rattle.uni_words.specs.declared.view.View.{View}
 use Rattle.uni_words.proofs.Columns.{word_below}
-use Rattle.uni_words.proofs.Underway.{HasReturned-grows}
+use Rattle.uni_words.proofs.Underway.{HasReturned-grows, last_number-grows}
 use Rattle.uni_words.proofs.Within.{within}
 use Rattle.uni_words.proofs.Running.{led, run_moves}
 use Rattle.uni_words.proofs.Happens.{own_call, own_local, effect, there, memory_set, memory_grows, later, kept}
@@ -147,6 +147,7 @@ module _ (object : Sequential ℕ ℕ ℕ) (row : ℕ) where
           underway = subst (λ o. IsUnderway after.memory (call_after c.mine o) v.inv Nothing) (sym on.1) (grows.inv c.mine v.inv underway.0, tt);
           counted = subst (λ o. v.begun ≡ length v.own + pending_count (call_after c.mine o)) (sym on.1) counted;
           own = λ k call e. HasReturned-grows w.memory after.memory grows (Of v.first k) call.0 call.1 (before.own k call e);
+          number = before.number ∙ sym (last_number-grows w.memory after.memory grows v.first v.own before.own);
         }
 
     module _ (x : ℕ) (writes : content_of w.n place x ≡ does.content) where
@@ -162,7 +163,7 @@ module _ (object : Sequential ℕ ℕ ℕ) (row : ℕ) where
         shown = moved_kept fits;
         run = λ n events run.
             run_moves object n row w s is events run id v at single c pending (silent v.n v.first c.mine c.stage found on.0 w.memory on.1)
-            (record { mine = c.mine; stage = on.0 }) (moved_at v c found) refl single refl refl refl refl refl (ap (call_after c.mine) on.1);
+            (record { mine = c.mine; stage = on.0 }) (moved_at v c found) refl single refl refl refl refl (ap (call_after c.mine) on.1);
       }
 
       -- where the step doesn't touch `new`

@@ -88,7 +88,7 @@ module _ (object : Sequential ℕ ℕ ℕ) (n row : ℕ) (below : object.initial
   nothing_there k c e = absurd (let f : None ≡ Some c = e in cc)
 
   first_local : (q : ℕ) → q < n → IsLocal (opened object n) (λ p. 0) 0 q (everyone n row)
-  first_local q inside = record { inside = inside; seat = refl; call = refl; begun = refl; steps = refl; turns = refl; underway = tt; counted = refl; own = λ k c e. nothing_there k c e }
+  first_local q inside = record { inside = inside; seat = refl; call = refl; begun = refl; steps = refl; turns = refl; underway = tt; counted = refl; own = λ k c e. nothing_there k c e; number = refl }
 
   only_seat : (id : ℕ) (v : View) → get_elem? (first_view n row ∷ []) id ≡ some v → (id ≡ 0) × (first_view n row ≡ v)
   only_seat zero v e = (refl, some-injective _ _ e)
@@ -119,7 +119,6 @@ module _ (object : Sequential ℕ ℕ ℕ) (n row : ℕ) (below : object.initial
     reached = refl;
     acts = λ id v e p among. let h = only_seat id v e in subst (λ (z : View). [] ≡ acts_in_view p z.known) h.1 refl;
     taken = λ id v e c has. absurd (let h = only_seat id v e in let none : Contains (first_view n row).known.taken c = subst (λ (z : View). Contains z.known.taken c) (sym h.1) has in let k = none.1 in omega arith);
-    told = λ id v e c has. absurd (let h = only_seat id v e in let none : Contains (first_view n row).known.told c = subst (λ (z : View). Contains z.known.told c) (sym h.1) has in let k = none.1 in omega arith);
     seen = λ id v e t has. absurd (let h = only_seat id v e in let none : Contains (first_view n row).known.seen t = subst (λ (z : View). Contains z.known.seen t) (sym h.1) has in let k = none.1 in omega arith);
   }
 

@@ -16,6 +16,7 @@ use Rattle.uni_words.specs.Log.{calls_by, log_of, replied}
 use Rattle.uni_words.specs.Shown.{HasReturned, IsShown}
 use Rattle.uni_words.specs.declared.view.View.{View}
 use Rattle.uni_words.proofs.Closing.{log_is}
+use Rattle.uni_words.proofs.Underway.{there_below}
 
 pub drop-here : {A : Type 0} (l : List A) (i : ℕ) (a : A) → slice_get l i ≡ Some a → drop i l ≡ a ∷ drop (suc i) l
 drop-here [] i a e = absurd (let f : None ≡ Some a = e in cc)
@@ -27,11 +28,6 @@ drop-past [] zero h = refl
 drop-past [] (suc i) h = refl
 drop-past (x ∷ xs) zero h = absurd (omega arith)
 drop-past (x ∷ xs) (suc i) h = drop-past xs i (omega arith)
-
-pub there_below : {A : Type 0} (l : List A) (i : ℕ) → i < length l → (a : A) × (slice_get l i ≡ Some a)
-there_below [] i h = absurd (omega arith)
-there_below (x ∷ xs) zero h = (x, refl)
-there_below (x ∷ xs) (suc i) h = there_below xs i (omega arith)
 
 -- a process that has no call pending, with the calls that it was given replies to
 module _ (object : Sequential ℕ ℕ ℕ) (row : ℕ) (w : WorldOf ℕ ℕ ℕ) (s : State ℕ View) (is : IsShown object row w s)

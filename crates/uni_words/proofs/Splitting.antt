@@ -12,7 +12,7 @@ use Rattle.uni_model.proofs.Written.{number_cases}
 use Rattle.uni_model.proofs.LawProofs.{set_at_elsewhere}
 use Rattle.uni_model.specs.ProcessCalls.{ProcessCalls, acts_by}
 use Rattle.uni_words.specs.Laws.{Leads, after_split}
-use Rattle.uni_words.specs.Run.{run_history, HaveReturned, HasSeen}
+use Rattle.uni_words.specs.Run.{run_history, HasSeen}
 use Rattle.uni_words.specs.View.{Seen, Known}
 use Rattle.uni_words.specs.Seats.{first_alone, others}
 use Rattle.uni_words.specs.Shown.{IsLocal, IsTaken, Tells, IsAmong, HasProcess, IsShown, LeadsTo, ShowsRun, acts_in_view}
@@ -34,9 +34,9 @@ at_below (x ∷ xs) zero b e = omega arith
 at_below (x ∷ xs) (suc j) b e = let h = at_below xs j b e in omega arith
 
 -- the numbers of a seat's processes, and what it was told by others, say nothing of each of them
-pub with_range : (w : WorldOf ℕ ℕ ℕ) (l : ℕ → ℕ) (j q : ℕ) (u : Known) (first count : ℕ) (taken told : List (ProcessCalls ℕ ℕ)) (seen : List Seen) → IsLocal w l j q u
-    → IsLocal w l j q (record u { first = first; count = count; taken = taken; told = told; seen = seen })
-with_range w l j q u first count taken told seen h = record {
+pub with_range : (w : WorldOf ℕ ℕ ℕ) (l : ℕ → ℕ) (j q : ℕ) (u : Known) (first count : ℕ) (taken : List (ProcessCalls ℕ ℕ)) (seen : List Seen) → IsLocal w l j q u
+    → IsLocal w l j q (record u { first = first; count = count; taken = taken; seen = seen })
+with_range w l j q u first count taken seen h = record {
   inside = h.inside;
   seat = h.seat;
   call = h.call;
@@ -46,6 +46,7 @@ with_range w l j q u first count taken told seen h = record {
   underway = h.underway;
   counted = h.counted;
   own = h.own;
+  number = h.number;
 }
 
 module _ (object : Sequential ℕ ℕ ℕ) (row id : ℕ) (v : View) (some_left : 1 ≤ v.known.count) where
@@ -74,6 +75,7 @@ module _ (object : Sequential ℕ ℕ ℕ) (row id : ℕ) (v : View) (some_left 
       underway = h.underway;
       counted = h.counted;
       own = h.own;
+      number = h.number;
     }
 
     -- nor does a process that was taken in
@@ -98,6 +100,7 @@ module _ (object : Sequential ℕ ℕ ℕ) (row id : ℕ) (v : View) (some_left 
       underway = h.underway;
       counted = h.counted;
       own = h.own;
+      number = h.number;
     }
 
     seats_later : (j : ℕ) (u : View) → get_elem? views' j ≡ some u → Tells w seat_of row j u.known
@@ -112,7 +115,7 @@ module _ (object : Sequential ℕ ℕ ℕ) (row id : ℕ) (v : View) (some_left 
               several = λ two. told.several (omega (arith, two));
               taken = λ c has. let its = told.taken c has in (taken_stays id v at c has its.0, λ among. its.1 (omega (arith, among.0), omega (arith, among.1, some_left)));
               each = λ q from to.
-                  with_range w seat_of id q v.known (v.known.first + 1) (v.known.count - 1) v.known.taken v.known.told v.known.seen (stays id q v.known (λ same. omega (arith, same, from)) (told.each q (omega (arith, from)) (omega (arith, to, some_left))));
+                  with_range w seat_of id q v.known (v.known.first + 1) (v.known.count - 1) v.known.taken v.known.seen (stays id q v.known (λ same. omega (arith, same, from)) (told.each q (omega (arith, from)) (omega (arith, to, some_left))));
             }))
         | inr other ↦
             let its = is.seats j u other.1 in
@@ -136,7 +139,7 @@ module _ (object : Sequential ℕ ℕ ℕ) (row id : ℕ) (v : View) (some_left 
             taken = λ c has. absurd (let k = has.1 in omega arith);
             each = λ q from to.
                 let same : v.known.first ≡ q = omega (arith, from, to) in
-                subst (λ k. IsLocal w seat_of j k (first_alone v).known) same (with_range w seat_of j v.known.first v.known v.known.first 1 [] [] [] (moved_seat seat_of j first_local place));
+                subst (λ k. IsLocal w seat_of j k (first_alone v).known) same (with_range w seat_of j v.known.first v.known v.known.first 1 [] [] (moved_seat seat_of j first_local place));
           })
     ]
 
@@ -208,8 +211,6 @@ module _ (object : Sequential ℕ ℕ ℕ) (row id : ℕ) (v : View) (some_left 
         ]
         | inr new ↦ absurd (let none : Contains (first_alone v).known.taken c = subst (λ (z : View). Contains z.known.taken c) (sym new.1) has in let k = none.1 in omega arith)
       ];
-      told = Holds-push (λ (u : View). u.known.told) (HaveReturned object n events) (set s.views id (others v)) (first_alone v)
-          (Holds-kept (λ (u : View). u.known.told) (HaveReturned object n events) s.views id v (others v) at refl run.told) (λ a has. absurd (let k = has.1 in omega arith));
       seen = Holds-push (λ (u : View). u.known.seen) (HasSeen object n events) (set s.views id (others v)) (first_alone v)
           (Holds-kept (λ (u : View). u.known.seen) (HasSeen object n events) s.views id v (others v) at refl run.seen) (λ a has. absurd (let k = has.1 in omega arith));
     }

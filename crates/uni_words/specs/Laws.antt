@@ -5,10 +5,12 @@ use mathlib.Core.Option.{some}
 use lib.ListN.{get_elem?}
 use Rattle.atomic_table.specs.Table.{State, opening}
 use Rattle.seq_object.specs.Sequential.{Sequential}
+use Rattle.seq_object.specs.declared.call_id.CallId.{CallId}
+use Rattle.uni_model.specs.Eras.{HasReturned}
 use Rattle.uni_model.specs.Indices.{name_of}
 use Rattle.uni_model.specs.Places.{Name, seq_of, new_of}
 use Rattle.uni_model.specs.Places.Name.{Of}
-use Rattle.uni_model.specs.Places.Place.{InvOf, NewOf, HeadOf}
+use Rattle.uni_model.specs.Places.Place.{InvOf, NewOf, HeadOf, SeqOf}
 use Rattle.uni_model.specs.Stages.{Stage, Pending}
 use Rattle.uni_model.specs.Stages.Stage.{DecideNew, Finish}
 use Rattle.uni_model.specs.Transition.{place_of}
@@ -16,9 +18,9 @@ use Rattle.uni_model.specs.Worlds.{WorldOf, Event, world_after}
 use Rattle.uni_model.specs.Effects.{effect_in}
 use Rattle.uni_model.specs.Worlds.Event.{Call, Step}
 use Rattle.uni_words.specs.Run.{opened}
-use Rattle.uni_words.specs.Seats.{first_alone, first_view, nobody, noted, others, receipt_of, took_in}
+use Rattle.uni_words.specs.Seats.{first_alone, first_view, nobody, others, took_in}
 use Rattle.uni_words.specs.Shown.{IsShown, LeadsTo}
-use Rattle.uni_words.specs.View.{Known, Reading, stage_found, begun_by, moved_at, looked_at, finished_by}
+use Rattle.uni_words.specs.View.{Known, Reading, asked_of, stage_found, begun_by, moved_at, looked_at, finished_by}
 use Rattle.uni_words.specs.View.Reading.{Invocation, Applied, Reply}
 use Rattle.uni_words.specs.Words.{first_words, content_of, word_of, state_in, reply_in}
 use Rattle.uni_words.specs.declared.view.View.{View}
@@ -48,13 +50,6 @@ after_split s id v = record { words = s.words; homes = s.homes; views = slice_se
 abbrev pub after_join : State ℕ View → (id : ℕ) → View → (other : ℕ) → View → State ℕ View
 after_join s id v other x = record { words = s.words; homes = s.homes; views = slice_set (slice_set s.views id (took_in v x)) other nobody }
 
--- the table after a seat has given a receipt, the last one; and after a seat has taken one in
-abbrev pub after_receipt : State ℕ View → (id : ℕ) → View → State ℕ View
-after_receipt s id v = record { words = s.words; homes = s.homes; views = slice_set s.views id v ++ receipt_of v ∷ [] }
-
-abbrev pub after_note : State ℕ View → (id : ℕ) → View → (other : ℕ) → View → State ℕ View
-after_note s id v other x = record { words = s.words; homes = s.homes; views = slice_set (slice_set s.views id (noted v x)) other nobody }
-
 -- The table that is made shows the opened world, to which a run with no events leads.
 abbrev pub OpeningShows : (object : Sequential ℕ ℕ ℕ) (n row : ℕ) → Type 0
 OpeningShows object n row =
@@ -71,21 +66,17 @@ module _ (object : Sequential ℕ ℕ ℕ) (row : ℕ) (w : WorldOf ℕ ℕ ℕ)
   abbrev pub SplitKeeps : (id : ℕ) → View → Type 0
   SplitKeeps id v = IsShown object row w s → get_elem? s.views id ≡ some v → 1 ≤ v.known.count → Leads [] w (after_split s id v)
 
-  -- a seat takes in another one, of one process with no call pending
+  -- a seat takes in another one, of one process, and neither has a call pending
   abbrev pub JoinKeeps : (id : ℕ) → View → (other : ℕ) → View → Type 0
   JoinKeeps id v other x =
       IsShown object row w s → get_elem? s.views id ≡ some v → get_elem? s.views other ≡ some x → other ≢ id
-      → x.known.count ≡ 1 → x.known.call ≡ None → Leads [] w (after_join s id v other x)
+      → 1 ≤ v.known.count → v.known.call ≡ None → x.known.count ≡ 1 → x.known.call ≡ None → Leads [] w (after_join s id v other x)
 
-  -- a seat gives a receipt
-  abbrev pub ReceiptKeeps : (id : ℕ) → View → Type 0
-  ReceiptKeeps id v = IsShown object row w s → get_elem? s.views id ≡ some v → 1 ≤ v.known.count → Leads [] w (after_receipt s id v)
-
-  -- a seat with no call pending takes in a receipt, which has no process
-  abbrev pub NoteKeeps : (id : ℕ) → View → (other : ℕ) → View → Type 0
-  NoteKeeps id v other x =
-      IsShown object row w s → get_elem? s.views id ≡ some v → get_elem? s.views other ≡ some x → other ≢ id
-      → 1 ≤ v.known.count → v.known.call ≡ None → x.known.count ≡ 0 → x.known.taken ≡ [] → Leads [] w (after_note s id v other x)
+  -- a call that has returned has a number, so that to ask about it is always answered yes
+  abbrev pub ReturnedIsThere : (call : CallId) → (word : ℕ) → Type 0
+  ReturnedIsThere call word =
+      IsShown object row w s → HasReturned w call.process call.nth → word_of w.n row (SeqOf (Of call.process call.nth)) ≡ Some word
+      → 1 ≤ slice_index s.words word
 
   module _ (id : ℕ) (v : Known) where
     -- the store of the invocation of the process's next call is the event that begins the call
@@ -131,6 +122,13 @@ module _ (object : Sequential ℕ ℕ ℕ) (row : ℕ) (w : WorldOf ℕ ℕ ℕ)
         let found = slice_index s.words word in
         IsShown object row w s → HasSeat s id v → v.call ≡ Some c → IsLoad w.n row v c.mine c.stage word found read
         → Leads [] w (after_word s word found id (looked_at v read))
+
+    -- so does the load of the number of a call, by which a seat with no call pending asks about it
+    abbrev pub AskKeeps : CallId → (word : ℕ) → Type 0
+    AskKeeps call word =
+        let found = slice_index s.words word in
+        IsShown object row w s → HasSeat s id v → v.call ≡ None → word_of w.n row (SeqOf (Of call.process call.nth)) ≡ Some word
+        → Leads [] w (after_word s word found id (asked_of v call found))
 
     -- the calls that a seat was given replies to have rising numbers
     abbrev pub OwnCallsRise : (j k : ℕ) (a b : ℕ × ℕ) → Type 0

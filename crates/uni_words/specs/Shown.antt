@@ -1,5 +1,5 @@
 -- The rule of the table: its words and the views of its seats show a world of the definitions.
-use Rattle.std.specs.Prelude.{◌≡◌, ℕ, ◌+◌, ◌<◌, ◌≤◌, ◌^◌, ◌⊎◌, List, [], ◌∷◌, ◌++◌, Contains}
+use Rattle.std.specs.Prelude.{◌≡◌, ℕ, zero, suc, ◌+◌, ◌<◌, ◌≤◌, ◌^◌, ◌⊎◌, List, [], ◌∷◌, ◌++◌, Contains}
 use Rattle.std.specs.Prelude.{Option, None, Some, length, slice_get}
 use mathlib.Core.Option.{some}
 use lib.ListN.{get_elem?}
@@ -18,7 +18,7 @@ use Rattle.uni_model.specs.Helping.{HelpingInvariant}
 use Rattle.uni_model.specs.Counting.{CountsSteps}
 use Rattle.uni_model.specs.ProcessCalls.{ProcessCalls, acts_by, sequential_acts}
 use Rattle.uni_words.specs.Words.{words_of, memory_of}
-use Rattle.uni_words.specs.Run.{opened, run_history, HaveReturned, HasSeen}
+use Rattle.uni_words.specs.Run.{opened, run_history, HasSeen}
 use Rattle.uni_words.specs.View.{Seen, Known, Reading}
 use Rattle.uni_words.specs.View.Reading.{Nothing, Invocation, Applied, Reply}
 use Rattle.uni_words.specs.declared.view.View.{View}
@@ -47,6 +47,11 @@ abbrev pub pending_count : Option Pending → ℕ
 pending_count None = 0
 pending_count (Some c) = 1
 
+-- the number of the last of so many calls of a process, 0 where there is none
+abbrev pub last_number : Memory ℕ ℕ ℕ → (p count : ℕ) → ℕ
+last_number m p zero = 0
+last_number m p (suc k) = seq_of m (Of p k)
+
 -- what the seat id knows of one of its processes
 pub record IsLocal (w : WorldOf ℕ ℕ ℕ) (seat_of : ℕ → ℕ) (id p : ℕ) (v : Known) : Type 0 where
   pub inside : p < w.n
@@ -59,6 +64,7 @@ pub record IsLocal (w : WorldOf ℕ ℕ ℕ) (seat_of : ℕ → ℕ) (id p : ℕ
   -- its own calls are those that it has begun, but for the pending one
   pub counted : v.begun ≡ length v.own + pending_count v.call
   pub own : (j : ℕ) (c : ℕ × ℕ) → slice_get v.own j ≡ Some c → HasReturned w.memory (Of p j) c.0 c.1
+  pub number : v.number ≡ last_number w.memory p (length v.own)
 
 -- what the seat id knows of a process whose seat it has taken in: all its calls have returned
 pub record IsTaken (w : WorldOf ℕ ℕ ℕ) (seat_of : ℕ → ℕ) (id : ℕ) (its : ProcessCalls ℕ ℕ) : Type 0 where
@@ -110,8 +116,7 @@ abbrev pub acts_in_view : ℕ → Known → List (Act ℕ ℕ)
 acts_in_view p v = sequential_acts p 0 v.own ++ pending_acts p (length v.own) v.inv v.call
 
 -- These events are accepted one after another from the opening of n processes on, end no era, and lead to the world w. In their
--- history each process takes the acts that the view of its seat tells; the calls that a receipt tells have returned in it, and what a
--- seat has seen was so.
+-- history each process takes the acts that the view of its seat tells, and what a seat has seen was so.
 pub record LeadsTo (object : Sequential ℕ ℕ ℕ) (n : ℕ) (events : List (Event ℕ)) (w : WorldOf ℕ ℕ ℕ)
     (views : List View) : Type 0 where
   pub accepted : AreAccepted object (opened object n) events
@@ -121,8 +126,6 @@ pub record LeadsTo (object : Sequential ℕ ℕ ℕ) (n : ℕ) (events : List (E
       → acts_by p (run_history object n events) ≡ acts_in_view p v.known
   pub taken : (id : ℕ) (v : View) → get_elem? views id ≡ some v → (its : ProcessCalls ℕ ℕ) → Contains v.known.taken its
       → acts_by its.process (run_history object n events) ≡ sequential_acts its.process 0 its.calls
-  pub told : (id : ℕ) (v : View) → get_elem? views id ≡ some v → (its : ProcessCalls ℕ ℕ) → Contains v.known.told its
-      → HaveReturned object n events its
   pub seen : (id : ℕ) (v : View) → get_elem? views id ≡ some v → (s : Seen) → Contains v.known.seen s → HasSeen object n events s
 
 -- the rule: some world of n processes is shown, to which a run from the opening leads

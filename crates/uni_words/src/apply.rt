@@ -5,20 +5,27 @@ ghost use Rattle.uni_words.specs.Standing.{StandsAt, GoesBy, IsIdle, IsCountOf};
 ghost use Rattle.uni_model.specs.Indices.{name_of};
 ghost use Rattle.uni_words.specs.Words.{cells_of};
 ghost use Rattle.uni_words.specs.Belongs.{IsSeatOf, processes_of, row_of, process_of, calls_made, own_calls};
-ghost use Rattle.uni_words.specs.Belongs.{taken_calls, seen_by, latest_turns, view_of, word_steps_of};
+ghost use Rattle.uni_words.specs.Belongs.{taken_calls, seen_by, latest_number, latest_turns, view_of, word_steps_of};
 ghost use Rattle.uni_model.specs.Places.Name.{Anchor};
 ghost use Rattle.uni_model.specs.Stages.Stage.{ScanHead, WriteScan, Test, ReadAnnounce, Finish};
 
 use crate::log::WordLog;
 use crate::object::WordObject;
-use crate::steps::WordSeat;
+use crate::seat::WordSeat;
 use crate::view::View;
 use atomic_table::Seat;
+use seq_object::CallId;
 
-/// What a call answers: its reply, and how many turns it took.
+/// What a call answers.
 #[derive(Debug, Clone, Copy, PartialEq, Eq, Drop)]
 pub struct Answer {
+    /// The call, by which others can ask about it.
+    pub call: CallId,
+    /// Its reply.
     pub reply: u32,
+    /// Its number in the log, whose first entry has 2.
+    pub number: u64,
+    /// How many turns it took.
     pub turns: u32,
 }
 
@@ -132,6 +139,9 @@ impl<O: WordObject> WordLog<O> {
         ensures same { (seat.new.table_id ≡ seat.old.table_id) × (seat.new.id ≡ seat.old.id) }
         ensures idle { IsIdle self.now.setup.n self.now.setup.k p (nth + 1) seat.new.me }
         ensures own { seat.new.me.0.known.own ≡ seat.old.me.0.known.own ++ (inv, result.reply) ∷ [] }
+        ensures call { (result.call.process ≡ p) × (result.call.nth ≡ nth) }
+        ensures number { seat.new.me.0.known.number ≡ result.number }
+        ensures rises { seat.old.me.0.known.number < result.number }
         ensures taken { seat.new.me.0.known.taken ≡ seat.old.me.0.known.taken }
         ensures seen { seat.new.me.0.known.seen ≡ seat.old.me.0.known.seen }
         ensures turns { seat.new.me.0.known.turns ≡ result.turns }
@@ -150,17 +160,23 @@ impl<O: WordObject> WordLog<O> {
             self.finish(seat, p, mine, c_seq, mine_seq, reply);
         }
         Answer {
+            call: CallId {
+                process: p as u32,
+                nth,
+            },
             reply,
+            number: mine_seq,
             turns: turns as u32,
         }
     }
 }
 
 impl WordSeat {
-    /// Applies the invocation: the reply, and how many turns it took. It returns after a known
+    /// Applies the invocation: the call, its reply, its number, and how many turns it took. It returns after a known
     /// number of word steps, whatever the other seats do, and takes no memory and no lock. The seat
     /// is one of this log's. With n processes a call of so many turns takes `2n + 5` word steps and
-    /// ten a turn; where its last step stores the head that is one more, which the seat counts.
+    /// ten a turn; where its last step stores the head that is one more, which the seat counts. The
+    /// numbers of a seat's calls rise.
     ///
     /// The error says that the seat has made all the calls that it can make; nothing is changed then.
     pub fn apply<O: WordObject>(&mut self, log: &WordLog<O>, inv: u64) -> Result<Answer, RowFull>
@@ -169,6 +185,10 @@ impl WordSeat {
         ensures full { IsErr result ↔ (calls_made self.old ≡ row_of log.now) }
         ensures unchanged { OnErr result (self.new ≡ self.old) }
         ensures own { IfOk result (λ answer. own_calls self.new ≡ own_calls self.old ++ (inv, answer.reply) ∷ []) }
+        ensures call { IfOk result (λ answer. (answer.call.process ≡ process_of self.old)
+            × (answer.call.nth ≡ calls_made self.old)) }
+        ensures number { IfOk result (λ answer. latest_number self.new ≡ answer.number) }
+        ensures rises { IfOk result (λ answer. latest_number self.old < answer.number) }
         ensures taken { taken_calls self.new ≡ taken_calls self.old }
         ensures seen { seen_by self.new ≡ seen_by self.old }
         ensures made { OnOk result (calls_made self.new ≡ calls_made self.old + 1) }

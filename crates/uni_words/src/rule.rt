@@ -82,6 +82,15 @@ impl Play<u8, View> for StoresHead {
     ghost then = { HeadIsStored };
 }
 
+/// A load of the number of a call that a seat asks about.
+pub struct Asks;
+
+impl Play<u8, View> for Asks {
+    ghost use Rattle.uni_words.specs.Seats.{HasAsked};
+
+    ghost then = { HasAsked };
+}
+
 /// The first process apart from the others.
 pub struct First;
 
@@ -100,28 +109,6 @@ impl Join<View> for TakesIn {
     ghost use Rattle.uni_words.specs.Seats.{nobody, took_in};
 
     ghost both = { took_in };
-
-    ghost spent = { nobody };
-}
-
-/// A receipt beside the seat that gives it, which stays as it is.
-pub struct Receipt;
-
-impl Split<View> for Receipt {
-    ghost use Rattle.uni_words.specs.Seats.{receipt_of};
-
-    ghost left = { λ v. v };
-
-    ghost right = { receipt_of };
-}
-
-/// A seat that takes in a receipt.
-pub struct Notes;
-
-impl Join<View> for Notes {
-    ghost use Rattle.uni_words.specs.Seats.{nobody, noted};
-
-    ghost both = { noted };
 
     ghost spent = { nobody };
 }

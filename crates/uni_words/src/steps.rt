@@ -1,7 +1,7 @@
 //! The word steps, each one function.
 ghost use Rattle.std.specs.Prelude.{◌≡◌, ◌+◌, ◌<◌, ◌≤◌, ◌%◌, ◌==◌, if◌then◌else◌};
-ghost use Rattle.std.specs.Prelude.{unwrap_or, Some, []};
-ghost use Rattle.uni_words.specs.Standing.{StandsAt, GoesBy, IsIdle, IsBeforeNumber, IsBeforeHead, IsPastHead};
+ghost use Rattle.std.specs.Prelude.{unwrap_or, Some};
+ghost use Rattle.uni_words.specs.Standing.{StandsAt, GoesBy, IsBeforeNumber, IsBeforeHead, IsPastHead};
 ghost use Rattle.uni_model.specs.Places.Name.{Anchor};
 ghost use Rattle.uni_model.specs.Transition.{stage_after_scan};
 ghost use Rattle.uni_model.specs.Indices.{name_of};
@@ -16,24 +16,6 @@ use crate::object::WordObject;
 use crate::rule::{Moves, StoresHead};
 use crate::view::View;
 use atomic_table::Seat;
-
-/// A process's place at the object.
-#[derive(Drop)]
-pub struct WordSeat {
-    pub(crate) seat: Seat<u8, View>,
-    pub(crate) n: u64,
-    pub(crate) k: u64,
-    pub(crate) p: u64,
-    pub(crate) made: u64,
-    pub ghost idle: { IsIdle n k p made seat.me },
-}
-
-/// That calls have returned: for another thread, whose later calls then come after them.
-#[derive(Drop)]
-pub struct WordReceipt {
-    pub(crate) seat: Seat<u8, View>,
-    pub ghost alone: { (seat.me.0.known.count ≡ 0) × (seat.me.0.known.taken ≡ []) × (seat.me.1 ≡ []) },
-}
 
 impl<O: WordObject> WordLog<O> {
     /// The load of the number of a cell, at each stage that does it.
