@@ -28,7 +28,7 @@ use Rattle.uni_words.proofs.Moving.{GoesOn, moves}
 
 -- what the table was told is what the log has
 pub may_move : {O : Type 0} (meaning : O → Sequential ℕ ℕ ℕ) (told setup : Setup O) → told ≡ setup
-    → (slots id i : ℕ) (st : Step ℕ) (me : Me ℕ View) (f said : ℕ → ℕ) → me.0.known.count ≡ 1 → (c : Pending) → me.0.known.call ≡ Some c → GoesOn c.stage
+    → (slots id i : ℕ) (st : Step ℕ) (me : Me ℕ View) (f said : ℕ → ℕ) → me.0.known.count ≡ 1 → (c : Pending) → me.0.known.its.call ≡ Some c → GoesOn c.stage
     → word_of setup.n setup.k (place_of setup.n me.0.known.first c.mine c.stage) ≡ Some i
     → ((found : ℕ) (seen : Memory ℕ ℕ ℕ) → content_of setup.n (place_of setup.n me.0.known.first c.mine c.stage) (f found)
     ≡ content_after (meaning setup.object) c.mine c.stage (content_of setup.n (place_of setup.n me.0.known.first c.mine c.stage) found) seen)
@@ -94,13 +94,13 @@ goes_one me c found t me' moved turn =
     record {
       word_steps = ap (λ (k : Known). k.word_steps) now;
       stored_ends = ap (λ (k : Known). k.stored_ends) now;
-      turns = ap (λ (k : Known). k.turns) now ∙ ap (λ x. me.0.known.turns + x) turn;
-      inv = ap (λ (k : Known). k.inv) now;
-      begun = ap (λ (k : Known). k.begun) now;
-      own = ap (λ (k : Known). k.own) now;
+      turns = ap (λ (k : Known). k.its.turns) now ∙ ap (λ x. me.0.known.its.turns + x) turn;
+      inv = ap (λ (k : Known). k.its.inv) now;
+      begun = ap (λ (k : Known). k.its.begun) now;
+      own = ap (λ (k : Known). k.its.own) now;
       taken = ap (λ (k : Known). k.taken) now;
       seen = ap (λ (k : Known). k.seen) now;
-      number = ap (λ (k : Known). k.number) now;
+      number = ap (λ (k : Known). k.its.number) now;
       carried = ap (λ (x : Me ℕ View). x.1) moved.view;
     }
 
@@ -110,8 +110,8 @@ within_here n row p mine stage found me me' moved stands =
     (subst (λ r. IsWithin me.0.known.n r (place_of me.0.known.n p mine stage) found) stands.calls
     (subst (λ q. IsWithin me.0.known.n me.0.known.row (place_of me.0.known.n q mine stage) found) stands.first moved.within))
 
-pub few_turns : (n row p : ℕ) (mine : Name) (stage : Stage) (found : ℕ) (me me' : Me ℕ View) → HasMoved me (record { mine = mine; stage = stage }) found me' → StandsAt n row p mine stage me → me'.0.known.turns ≤ n + 1
-few_turns n row p mine stage found me me' moved stands = subst (λ k. me'.0.known.turns ≤ k + 1) stands.processes moved.turns
+pub few_turns : (n row p : ℕ) (mine : Name) (stage : Stage) (found : ℕ) (me me' : Me ℕ View) → HasMoved me (record { mine = mine; stage = stage }) found me' → StandsAt n row p mine stage me → me'.0.known.its.turns ≤ n + 1
+few_turns n row p mine stage found me me' moved stands = subst (λ k. me'.0.known.its.turns ≤ k + 1) stands.processes moved.turns
 
 -- a read of a settled word changes nothing else
 pub stands_still : (n row p : ℕ) (mine : Name) (stage : Stage) (read : Reading) (me me' : Me ℕ View) → StandsAt n row p mine stage me → HasLooked me read me' → StandsAt n row p mine stage me'
@@ -125,18 +125,18 @@ goes_still read me me' looked =
     record {
       word_steps = ap (λ (k : Known). k.word_steps) now;
       stored_ends = ap (λ (k : Known). k.stored_ends) now;
-      turns = (let t = ap (λ (k : Known). k.turns) now in omega arith);
-      inv = ap (λ (k : Known). k.inv) now;
-      begun = ap (λ (k : Known). k.begun) now;
-      own = ap (λ (k : Known). k.own) now;
+      turns = (let t = ap (λ (k : Known). k.its.turns) now in omega arith);
+      inv = ap (λ (k : Known). k.its.inv) now;
+      begun = ap (λ (k : Known). k.its.begun) now;
+      own = ap (λ (k : Known). k.its.own) now;
       taken = ap (λ (k : Known). k.taken) now;
       seen = ap (λ (k : Known). k.seen) now;
-      number = ap (λ (k : Known). k.number) now;
+      number = ap (λ (k : Known). k.its.number) now;
       carried = ap (λ (x : Me ℕ View). x.1) looked;
     }
 
-pub read_is : (read : Reading) (me me' : Me ℕ View) → HasLooked me read me' → me'.0.known.read ≡ read
-read_is read me me' looked = ap (λ (x : Me ℕ View). x.0.known.read) looked
+pub read_is : (read : Reading) (me me' : Me ℕ View) → HasLooked me read me' → me'.0.known.its.read ≡ read
+read_is read me me' looked = ap (λ (x : Me ℕ View). x.0.known.its.read) looked
 
 pub stands_begun : (n row p nth mine inv : ℕ) (me me' : Me ℕ View) → p < n → mine ≡ index_of n p nth → IsIdle n row p nth me → me' ≡ (record { known = begun_by me.0.known inv }, me.1) → StandsAt n row p (name_of n mine) Announce me'
 stands_begun n row p nth mine inv me me' inside cell idle begun =
@@ -147,5 +147,5 @@ stands_begun n row p nth mine inv me me' inside cell idle begun =
       calls = idle.1;
       first = idle.2;
       alone = idle.3;
-      call = ap (λ x. Some (record { mine = x; stage = Announce })) (ap (λ q. Of q me.0.known.begun) idle.2 ∙ ap (Of p) idle.4 ∙ sym name);
+      call = ap (λ x. Some (record { mine = x; stage = Announce })) (ap (λ q. Of q me.0.known.its.begun) idle.2 ∙ ap (Of p) idle.4 ∙ sym name);
     })

@@ -21,7 +21,7 @@ use Rattle.uni_model.proofs.Written.{lt_cases}
 use Rattle.uni_words.specs.Laws.{Leads, after_word}
 use Rattle.uni_words.specs.Run.{AreLogged, opened, run_history, HasSeen}
 use Rattle.uni_words.specs.Seats.{HasAsked, HasCall, calls_in_view, logged_in_view}
-use Rattle.uni_words.specs.Shown.{IsLocal, IsShown, LeadsTo, ShowsRun}
+use Rattle.uni_words.specs.Shown.{IsShown, LeadsTo, ShowsRun}
 use Rattle.uni_words.specs.View.{FirstCalls, Known, Seen, all_of, asked_of, own_of, seen_of, told_by, up_to}
 use Rattle.uni_words.specs.Words.{word_at, word_of}
 use Rattle.uni_words.specs.declared.view.View.{View}
@@ -39,12 +39,12 @@ module _ (object : Sequential ℕ ℕ ℕ) (row : ℕ) (w : WorldOf ℕ ℕ ℕ)
 
   -- the number of a cell, as its word tells it
   pub number_told : (x : Name) (i : ℕ) → word_of w.n row (SeqOf x) ≡ Some i → seq_of w.memory x ≡ slice_index s.words i
-  number_told x i word = ap (λ m. seq_of m x) is.memory ∙ word_here w.n row s.words is.wide (SeqOf x) i word
+  number_told x i word = ap (λ m. seq_of m x) is.words.memory ∙ word_here w.n row s.words is.words.wide (SeqOf x) i word
 
   -- a call that has begun has its invocation
   invoked : (p k : ℕ) → k < w.begun p → Has (inv_of w.memory (Of p k))
   invoked p k below = elim (lt_cases k (w.begun p)) [
-    | inl inside ↦ (word_at w.n row s.words (InvOf (Of p k)), ap (λ m. inv_of m (Of p k)) is.memory ∙ rw inside.1 refl)
+    | inl inside ↦ (word_at w.n row s.words (InvOf (Of p k)), ap (λ m. inv_of m (Of p k)) is.words.memory ∙ rw inside.1 refl)
     | inr past ↦ absurd (let h = past.0 in omega arith)
   ]
 
@@ -100,10 +100,10 @@ module _ (object : Sequential ℕ ℕ ℕ) (row : ℕ) (w : WorldOf ℕ ℕ ℕ)
   had : (id : ℕ) (v : View) → get_elem? s.views id ≡ some v → 1 ≤ v.known.count → (c : ProcessCalls ℕ ℕ) → Contains (calls_in_view v) c → (j : ℕ) → j < length c.calls → 1 ≤ seq_of w.memory (Of c.process j)
   had id v at some_left c has = elim (first_or _ _ c has) [
     | inl here ↦
-        let local = (is.seats id v at).each v.known.first (omega arith) (omega (arith, some_left)) in
+        let local = (is.seats.each id v at).each v.known.first (omega arith) (omega (arith, some_left)) in
         subst (λ (k : ProcessCalls ℕ ℕ). (j : ℕ) → j < length k.calls → 1 ≤ seq_of w.memory (Of k.process j)) here
-        (λ j below. let a = there_below v.known.own j below in (local.own j a.0 a.1).threaded)
-    | inr taken ↦ λ j below. let a = there_below c.calls j below in (((is.seats id v at).taken c taken).0.own j a.0 a.1).threaded
+        (λ j below. let a = there_below v.known.its.own j below in (local.1.own j a.0 a.1).threaded)
+    | inr taken ↦ λ j below. let a = there_below c.calls j below in (((is.seats.each id v at).taken c taken).1.own j a.0 a.1).threaded
   ]
 
   module _ (n : ℕ) (events : List (Event ℕ)) (run : LeadsTo object n events w s.views) where
@@ -119,7 +119,7 @@ module _ (object : Sequential ℕ ℕ ℕ) (row : ℕ) (w : WorldOf ℕ ℕ ℕ)
         (All-each (λ (t : Seen). AreLogged object n events t.earlier) v.known.seen (λ t has. AreLogged-later object n events run.accepted t (run.seen id v at t has))))
 
     -- at this time a seat with no call pending sees that these stand there
-    pub sees_now : (id : ℕ) (v : View) → get_elem? s.views id ≡ some v → 1 ≤ v.known.count → v.known.call ≡ None → (earlier : List FirstCalls) → All (AreLogged object n events) earlier
+    pub sees_now : (id : ℕ) (v : View) → get_elem? s.views id ≡ some v → 1 ≤ v.known.count → v.known.its.call ≡ None → (earlier : List FirstCalls) → All (AreLogged object n events) earlier
         → (t : Seen) → Contains (seen_of (own_of v.known) earlier) t → HasSeen object n events t
     sees_now id v at some_left idle earlier all t has = All-contains (HasSeen object n events) (seen_of (own_of v.known) earlier) t
         (All-map (HasSeen object n events) (λ (its : FirstCalls). record { earlier = its; made = own_of v.known }) earlier
@@ -132,11 +132,8 @@ module _ (object : Sequential ℕ ℕ ℕ) (row : ℕ) (w : WorldOf ℕ ℕ ℕ)
           made = idle_acts object n events w s.views run id v at some_left idle;
         }))) has
 
-  module _ (id : ℕ) (v : Known) (at : get_elem? s.views id ≡ some (record { known = v })) (single : v.count ≡ 1) (idle : v.call ≡ None)
+  module _ (id : ℕ) (v : Known) (at : get_elem? s.views id ≡ some (record { known = v })) (single : v.count ≡ 1) (idle : v.its.call ≡ None)
       (call : CallId) (i : ℕ) (word : word_of w.n row (SeqOf (Of call.process call.nth)) ≡ Some i) where
-    before : IsLocal w is.owner id v.first v
-    before = own_local object row w s is id v at single
-
     abbrev found : ℕ
     found = slice_index s.words i
 
@@ -157,19 +154,7 @@ module _ (object : Sequential ℕ ℕ ℕ) (row : ℕ) (w : WorldOf ℕ ℕ ℕ)
 
     pub asked_leads : Leads object row w s [] w (after_word s i found id (asked_of v call found))
     asked_leads = record {
-      shown = knows_more object row w s is id v at single i (asked_of v call found) refl refl refl single refl
-          (record {
-            inside = before.inside;
-            seat = before.seat;
-            call = before.call;
-            begun = before.begun;
-            steps = before.steps;
-            turns = before.turns;
-            underway = before.underway;
-            counted = before.counted;
-            own = before.own;
-            number = before.number;
-          });
+      shown = knows_more object row w s is id v at single i (asked_of v call found) refl refl refl single refl (own_local object row w s is id v at single);
       run = λ n events run. no_more object n events w (slice_set s.views id (record { known = asked_of v call found })) (asked_run n events run);
     }
 
@@ -188,7 +173,7 @@ same_call n row i a b at_a at_b =
       both : a.process ≡ b.process → a.nth ≡ b.nth → a ≡ b
       both process nth = ap (λ k. record { process = k; nth = a.nth }) process ∙ ap (λ k. record { process = b.process; nth = k }) nth
 
-pub asks : (object : Sequential ℕ ℕ ℕ) (row n slots id i : ℕ) (st : Step ℕ) (me : Me ℕ View) → me.0.known.n ≡ n → me.0.known.row ≡ row → me.0.known.count ≡ 1 → me.0.known.call ≡ None → st.word ≡ i → (call : CallId)
+pub asks : (object : Sequential ℕ ℕ ℕ) (row n slots id i : ℕ) (st : Step ℕ) (me : Me ℕ View) → me.0.known.n ≡ n → me.0.known.row ≡ row → me.0.known.count ≡ 1 → me.0.known.its.call ≡ None → st.word ≡ i → (call : CallId)
     → word_of n row (SeqOf (Of call.process call.nth)) ≡ Some i
     → Allows (ShowsRun object n row) slots id me i (λ x. x) (λ found me'. HasAsked st me found me')
 asks object row n slots id i st me n_is row_is single idle at_word call word_n s shown deep at small =

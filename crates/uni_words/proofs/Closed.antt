@@ -16,7 +16,7 @@ use Rattle.uni_words.specs.Log.{AreAnswered, AreCallsOf, AreCallCells, HasNumber
 use Rattle.uni_words.specs.Rule.{Rule}
 use Rattle.uni_words.specs.Run.{HasSeen, IsLogOfRun, IsLogOfSeenRun, opened, run_history}
 use Rattle.uni_words.specs.Seats.{calls_in_view}
-use Rattle.uni_words.specs.Shown.{HasReturned, IsShown, LeadsTo, pending_acts}
+use Rattle.uni_words.specs.Shown.{HasReturned, IsShown, LeadsTo}
 use Rattle.uni_words.specs.View.{Seen as SeenCalls, own_of}
 use Rattle.uni_words.specs.declared.rule.Setup.{Setup}
 use Rattle.uni_words.specs.declared.view.View.{View}
@@ -64,18 +64,18 @@ module _ {O : Type 0} (meaning : O → Sequential ℕ ℕ ℕ) (told setup : Set
   closed_answered = left setup.n words w last.0 last.1.0.1 last.2 (λ n ws. AreAnswered (log_of n setup.k ws)) (answered_log (meaning setup.object) setup.k w last.0 is)
 
   -- the seat's process and those that it took in have no call pending, and their calls have returned
-  ended : view.known.call ≡ None → 1 ≤ view.known.count → (c : ProcessCalls ℕ ℕ) → Contains (calls_in_view view) c
+  ended : view.known.its.call ≡ None → 1 ≤ view.known.count → (c : ProcessCalls ℕ ℕ) → Contains (calls_in_view view) c
       → (w.begun c.process ≡ length c.calls) × ((j : ℕ) (a : ℕ × ℕ) → slice_get c.calls j ≡ Some a → HasReturned w.memory (Of c.process j) a.0 a.1)
   ended idle any c has = elim (first_or _ _ c has) [
     | inl here ↦
-        let local = (is.seats id view last.1.1).each view.known.first (omega arith) (omega (arith, any)) in
+        let local = (is.seats.each id view last.1.1).each view.known.first (omega arith) (omega (arith, any)) in
         subst (λ (k : ProcessCalls ℕ ℕ). (w.begun k.process ≡ length k.calls) × ((j : ℕ) (a : ℕ × ℕ) → slice_get k.calls j ≡ Some a → HasReturned w.memory (Of k.process j) a.0 a.1)) here
-        (ended_local w is.owner id view.known.first view.known local idle, local.own)
-    | inr taken ↦ let its = ((is.seats id view last.1.1).taken c taken).0 in (its.begun, its.own)
+        (ended_local w view.known.first view.known.its local.1 idle, local.1.own)
+    | inr taken ↦ let its = ((is.seats.each id view last.1.1).taken c taken).1 in (its.begun, its.own)
   ]
 
   -- so their calls in the log are these
-  closed_calls : view.known.count ≡ 1 → view.known.call ≡ None → (c : ProcessCalls ℕ ℕ) → Contains (calls_in_view view) c → calls_by c.process (log_of setup.n setup.k words) ≡ map replied c.calls
+  closed_calls : view.known.count ≡ 1 → view.known.its.call ≡ None → (c : ProcessCalls ℕ ℕ) → Contains (calls_in_view view) c → calls_by c.process (log_of setup.n setup.k words) ≡ map replied c.calls
   closed_calls single idle c has =
       let its = ended idle (let one = single in omega arith) c has in
       left setup.n words w last.0 last.1.0.1 last.2 (λ n ws. calls_by c.process (log_of n setup.k ws) ≡ map replied c.calls)
@@ -98,7 +98,7 @@ module _ {O : Type 0} (meaning : O → Sequential ℕ ℕ ℕ) (told setup : Set
   responses = subst (λ l. HoldsResponses l (run_history object setup.n events)) joined (LogsResponses-holds object setup.n object.initial 1 events (omega arith) run.accepted)
 
   -- each is numbered as in the run's history
-  pub closed_logged : view.known.count ≡ 1 → view.known.call ≡ None → (c : ProcessCalls ℕ ℕ) → Contains (calls_in_view view) c → IsLogged (log_of setup.n setup.k words) c
+  pub closed_logged : view.known.count ≡ 1 → view.known.its.call ≡ None → (c : ProcessCalls ℕ ℕ) → Contains (calls_in_view view) c → IsLogged (log_of setup.n setup.k words) c
   closed_logged single idle c has = record {
     calls = closed_calls single idle c has;
     numbered = λ place e at mine. subst (λ p. e.call.nth ≡ calls_among p (take place (log_of setup.n setup.k words))) mine (responses.numbered place e at);
@@ -109,7 +109,7 @@ module _ {O : Type 0} (meaning : O → Sequential ℕ ℕ ℕ) (told setup : Set
   was_seen t has = run.seen id view last.1.1 t has
 
   -- the run that the rule carries
-  pub closed_seen : view.known.count ≡ 1 → view.known.call ≡ None → IsLogOfSeenRun object setup.n (log_of setup.n setup.k words) (calls_in_view view) view.known.seen
+  pub closed_seen : view.known.count ≡ 1 → view.known.its.call ≡ None → IsLogOfSeenRun object setup.n (log_of setup.n setup.k words) (calls_in_view view) view.known.seen
   closed_seen single idle = (
     record {
       events = events;
@@ -127,13 +127,13 @@ module _ {O : Type 0} (meaning : O → Sequential ℕ ℕ ℕ) (told setup : Set
     All-each (HasSeen object setup.n events) view.known.seen was_seen,
   )
 
-  pub closed_run : view.known.count ≡ 1 → view.known.call ≡ None → IsLogOfRun object setup.n (log_of setup.n setup.k words) (calls_in_view view)
+  pub closed_run : view.known.count ≡ 1 → view.known.its.call ≡ None → IsLogOfRun object setup.n (log_of setup.n setup.k words) (calls_in_view view)
   closed_run single idle = (closed_seen single idle).0
 
   pub closed_order : All (IsInOrder (log_of setup.n setup.k words)) view.known.seen
   closed_order = All-each (IsInOrder (log_of setup.n setup.k words)) view.known.seen (λ t has. subst (λ l. IsInOrder l t) joined (in_order object setup.n events run.accepted t (was_seen t has)))
 
   -- the seat's latest call has the number that the seat knows
-  pub closed_number : view.known.count ≡ 1 → HasNumber (log_of setup.n setup.k words) (own_of view.known) view.known.number
-  closed_number single = left setup.n words w last.0 last.1.0.1 last.2 (λ n ws. HasNumber (log_of n setup.k ws) (own_of view.known) view.known.number)
+  pub closed_number : view.known.count ≡ 1 → HasNumber (log_of setup.n setup.k words) (own_of view.known) view.known.its.number
+  closed_number single = left setup.n words w last.0 last.1.0.1 last.2 (λ n ws. HasNumber (log_of n setup.k ws) (own_of view.known) view.known.its.number)
       (last_numbered object setup.k w last.0 is id view last.1.1 single)

@@ -60,7 +60,7 @@ module _ (object : Sequential ℕ ℕ ℕ) (row : ℕ) (w : WorldOf ℕ ℕ ℕ)
       (loaded_leads object row w s is id v seat.0 seat.1 mine c_seq mine_seq pending more word there)
 
   -- what is read is settled so
-  loaded : (is : IsShown object row w s) → (at : get_elem? s.views id ≡ some (record { known = v })) → (single : v.count ≡ 1) → (mine : Name) (stage : Stage) (pending : v.call ≡ Some (record { mine = mine; stage = stage })) (word : ℕ) (read : Reading)
+  loaded : (is : IsShown object row w s) → (at : get_elem? s.views id ≡ some (record { known = v })) → (single : v.count ≡ 1) → (mine : Name) (stage : Stage) (pending : v.its.call ≡ Some (record { mine = mine; stage = stage })) (word : ℕ) (read : Reading)
       → IsLoad w.n row v mine stage word (slice_index s.words word) read → HasRead w.memory mine stage read
   loaded is at single mine (DecideNew c c_seq d) pending word (Invocation inv) load =
       let h = stands object row w s is id v at single mine (DecideNew c c_seq d) pending in

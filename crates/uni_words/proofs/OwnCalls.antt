@@ -155,5 +155,5 @@ module _ (object : Sequential ℕ ℕ ℕ) (row : ℕ) (w : WorldOf ℕ ℕ ℕ)
   pub own_is : calls_by p (log_of w.n row s.words) ≡ map replied own
   own_is =
       let all = enough object w is.sound.0 is.sound.1 sound in
-      let each : era_calls w ≤ w.n * row = sum_below-bound w.n row (calls_in_era w) (λ q. let few = is.room q in omega arith) in
+      let each : era_calls w ≤ w.n * row = sum_below-bound w.n row (calls_in_era w) (λ q. let few = is.words.room q in omega arith) in
       ap (calls_by p) (log_is object row w s is) ∙ rest_is (w.n * row) 2 Anchor 0 sound.numbered.first (omega arith) around_anchor

@@ -104,18 +104,21 @@ pub led : {object : Sequential ℕ ℕ ℕ} {row : ℕ} {w : WorldOf ℕ ℕ ℕ
 led {more = more} {w' = w'} n count run leads = (w', count, leads.shown, (run.0 ++ more, leads.run n run.0 run.1))
 
 -- a process that has no call pending has made its calls, and no others
-pub idle_acts : (object : Sequential ℕ ℕ ℕ) (n : ℕ) (events : List (Event ℕ)) (w : WorldOf ℕ ℕ ℕ) (views : List View) → LeadsTo object n events w views → (id : ℕ) (v : View) → get_elem? views id ≡ some v → 1 ≤ v.known.count → v.known.call ≡ None
-    → acts_by v.known.first (run_history object n events) ≡ sequential_acts v.known.first 0 v.known.own
+pub idle_acts : (object : Sequential ℕ ℕ ℕ) (n : ℕ) (events : List (Event ℕ)) (w : WorldOf ℕ ℕ ℕ) (views : List View) → LeadsTo object n events w views → (id : ℕ) (v : View) → get_elem? views id ≡ some v → 1 ≤ v.known.count → v.known.its.call ≡ None
+    → acts_by v.known.first (run_history object n events) ≡ sequential_acts v.known.first 0 v.known.its.own
 idle_acts object n events w views run id v at some_left idle =
     let p = v.known.first in
     run.acts id v at p (omega arith, omega (arith, some_left))
-    ∙ (ap (λ o. sequential_acts p 0 v.known.own ++ pending_acts p (length v.known.own) v.known.inv o) idle ∙ append-nil (sequential_acts p 0 v.known.own))
+    ∙ (ap (λ o. sequential_acts p 0 v.known.its.own ++ pending_acts p (length v.known.its.own) v.known.its.inv o) idle ∙ append-nil (sequential_acts p 0 v.known.its.own))
 
 module _ (object : Sequential ℕ ℕ ℕ) (n row : ℕ) (w : WorldOf ℕ ℕ ℕ) (s : State ℕ View) (is : IsShown object row w s)
     (events : List (Event ℕ)) (run : LeadsTo object n events w s.views)
     (id : ℕ) (v : Known) (at : get_elem? s.views id ≡ some (record { known = v })) (single : v.count ≡ 1) where
-  local : IsLocal w is.owner id v.first v
-  local = (is.seats id (record { known = v }) at).each v.first (omega arith) (let one = single in omega arith)
+  own_seat : (is.seats.owner v.first ≡ id) × IsLocal w v.first v.its
+  own_seat = (is.seats.each id (record { known = v }) at).each v.first (omega arith) (let one = single in omega arith)
+
+  local : IsLocal w v.first v.its
+  local = own_seat.1
 
   -- the acts of each process afterwards, where those of the others are as before
   acts_later : (acts : List (Act ℕ ℕ)) (v' : Known) → v'.first ≡ v.first → v'.count ≡ 1
@@ -128,8 +131,8 @@ module _ (object : Sequential ℕ ℕ ℕ) (n row : ℕ) (w : WorldOf ℕ ℕ �
       subst (λ (z : View). acts_by q acts ≡ acts_in_view q z.known) h.1
       (subst (λ k. acts_by k acts ≡ acts_in_view k v') (sym same) own))
       (λ (h : (j ≢ id) × (get_elem? s.views j ≡ some u)).
-      let its = (is.seats j u h.1).each q among.0 among.1 in
-      others q (λ same. h.0 (sym its.seat ∙ (ap is.owner same ∙ local.seat))) ∙ run.acts j u h.1 q among)
+      let its = (is.seats.each j u h.1).each q among.0 among.1 in
+      others q (λ same. h.0 (sym its.0 ∙ (ap is.seats.owner same ∙ own_seat.0))) ∙ run.acts j u h.1 q among)
       (at_set s.views id j (record { known = v' }) u e)
 
   -- nor do the processes that were taken in act
@@ -145,7 +148,7 @@ module _ (object : Sequential ℕ ℕ ℕ) (n row : ℕ) (w : WorldOf ℕ ℕ �
       (at_set s.views id j (record { known = v' }) u e)
 
   -- no event: the seat knows of the same acts
-  pub run_stays : (v' : Known) → v'.first ≡ v.first → v'.count ≡ 1 → v'.taken ≡ v.taken → ((t : Seen) → Contains v'.seen t → HasSeen object n events t) → v'.own ≡ v.own → v'.inv ≡ v.inv → v'.call ≡ v.call
+  pub run_stays : (v' : Known) → v'.first ≡ v.first → v'.count ≡ 1 → v'.taken ≡ v.taken → ((t : Seen) → Contains v'.seen t → HasSeen object n events t) → v'.its.own ≡ v.its.own → v'.its.inv ≡ v.its.inv → v'.its.call ≡ v.its.call
       → LeadsTo object n events w (set s.views id (record { known = v' }))
   run_stays v' first_is count_is taken_is sees own inv call = record {
     accepted = run.accepted;
@@ -153,9 +156,9 @@ module _ (object : Sequential ℕ ℕ ℕ) (n row : ℕ) (w : WorldOf ℕ ℕ �
     reached = run.reached;
     acts = acts_later (run_history object n events) v' first_is count_is (λ q apart. refl)
         (run.acts id (record { known = v }) at v.first (omega arith, (let one = single in omega arith))
-        ∙ ap (λ l. sequential_acts v.first 0 l ++ pending_acts v.first (length l) v.inv v.call) (sym own)
-        ∙ ap (λ i. sequential_acts v.first 0 v'.own ++ pending_acts v.first (length v'.own) i v.call) (sym inv)
-        ∙ ap (λ o. sequential_acts v.first 0 v'.own ++ pending_acts v.first (length v'.own) v'.inv o) (sym call));
+        ∙ ap (λ l. sequential_acts v.first 0 l ++ pending_acts v.first (length l) v.its.inv v.its.call) (sym own)
+        ∙ ap (λ i. sequential_acts v.first 0 v'.its.own ++ pending_acts v.first (length v'.its.own) i v.its.call) (sym inv)
+        ∙ ap (λ o. sequential_acts v.first 0 v'.its.own ++ pending_acts v.first (length v'.its.own) v'.its.inv o) (sym call));
     taken = takes_later (run_history object n events) v' taken_is (λ q apart. refl);
     seen = Holds-set (λ (u : View). u.known.seen) (HasSeen object n events) s.views id (record { known = v' }) run.seen sees;
   }
@@ -182,53 +185,53 @@ module _ (object : Sequential ℕ ℕ ℕ) (n row : ℕ) (w : WorldOf ℕ ℕ �
     same q apart = more q ∙ (ap (λ l. acts_by q (run_history object n events) ++ l) (others q apart) ∙ append-nil (acts_by q (run_history object n events)))
 
   -- a call is begun
-  pub run_begins : (idle : v.call ≡ None) (inv : ℕ) (c : Pending) (v' : Known) → v'.first ≡ v.first → v'.count ≡ 1 → v'.taken ≡ v.taken → v'.seen ≡ v.seen → v'.own ≡ v.own → v'.inv ≡ inv → v'.call ≡ Some c
+  pub run_begins : (idle : v.its.call ≡ None) (inv : ℕ) (c : Pending) (v' : Known) → v'.first ≡ v.first → v'.count ≡ 1 → v'.taken ≡ v.taken → v'.seen ≡ v.seen → v'.its.own ≡ v.its.own → v'.its.inv ≡ inv → v'.its.call ≡ Some c
       → LeadsTo object n (events ++ Call v.first inv ∷ []) (world_after_call w v.first inv) (set s.views id (record { known = v' }))
   run_begins idle inv c v' first_is count_is taken_is seen_is own asked call =
-      let nth : w.begun v.first ≡ length v.own = (let b = local.begun in let k : v.begun ≡ length v.own + 0 = subst (λ o. v.begun ≡ length v.own + pending_count o) idle local.counted in omega arith) in
+      let nth : w.begun v.first ≡ length v.its.own = (let b = local.begun in let k : v.its.begun ≡ length v.its.own + 0 = subst (λ o. v.its.begun ≡ length v.its.own + pending_count o) idle local.counted in omega arith) in
       run_more (Call v.first inv) (local.inside, local.call ∙ idle) tt (world_after_call w v.first inv) refl v' first_is count_is taken_is seen_is
       (λ q apart. elim (number_cases v.first q) [ inl same ↦ absurd (apart (sym same.0)) | inr other ↦ rw other.1 refl ])
-      (ap (λ o. (sequential_acts v.first 0 v.own ++ pending_acts v.first (length v.own) v.inv o) ++ acts_by v.first (Invoke v.first (w.begun v.first) inv ∷ [])) idle
-      ∙ (ap (λ l. l ++ acts_by v.first (Invoke v.first (w.begun v.first) inv ∷ [])) (append-nil (sequential_acts v.first 0 v.own))
-      ∙ (ap (λ l. sequential_acts v.first 0 v.own ++ l) (elim (number_cases v.first v.first) [ inl same ↦ rw same.1 (ap (λ k. Invoke v.first k inv ∷ []) nth) | inr other ↦ absurd (other.0 refl) ])
+      (ap (λ o. (sequential_acts v.first 0 v.its.own ++ pending_acts v.first (length v.its.own) v.its.inv o) ++ acts_by v.first (Invoke v.first (w.begun v.first) inv ∷ [])) idle
+      ∙ (ap (λ l. l ++ acts_by v.first (Invoke v.first (w.begun v.first) inv ∷ [])) (append-nil (sequential_acts v.first 0 v.its.own))
+      ∙ (ap (λ l. sequential_acts v.first 0 v.its.own ++ l) (elim (number_cases v.first v.first) [ inl same ↦ rw same.1 (ap (λ k. Invoke v.first k inv ∷ []) nth) | inr other ↦ absurd (other.0 refl) ])
       ∙ (ap (λ l. sequential_acts v.first 0 l ++ Invoke v.first (length l) inv ∷ []) (sym own)
-      ∙ (ap (λ i. sequential_acts v.first 0 v'.own ++ Invoke v.first (length v'.own) i ∷ []) (sym asked)
-      ∙ ap (λ o. sequential_acts v.first 0 v'.own ++ pending_acts v.first (length v'.own) v'.inv o) (sym call))))))
+      ∙ (ap (λ i. sequential_acts v.first 0 v'.its.own ++ Invoke v.first (length v'.its.own) i ∷ []) (sym asked)
+      ∙ ap (λ o. sequential_acts v.first 0 v'.its.own ++ pending_acts v.first (length v'.its.own) v'.its.inv o) (sym call))))))
 
-  module _ (c : Pending) (pending : v.call ≡ Some c) where
+  module _ (c : Pending) (pending : v.its.call ≡ Some c) where
     own_call : w.call v.first ≡ Some c
     own_call = local.call ∙ pending
 
     -- a step after which the call goes on
-    pub run_moves : (response_after c.mine c.stage w.memory) ≡ None → (d : Pending) (v' : Known) → v'.first ≡ v.first → v'.count ≡ 1 → v'.taken ≡ v.taken → v'.seen ≡ v.seen → v'.own ≡ v.own → v'.inv ≡ v.inv → v'.call ≡ Some d
+    pub run_moves : (response_after c.mine c.stage w.memory) ≡ None → (d : Pending) (v' : Known) → v'.first ≡ v.first → v'.count ≡ 1 → v'.taken ≡ v.taken → v'.seen ≡ v.seen → v'.its.own ≡ v.its.own → v'.its.inv ≡ v.its.inv → v'.its.call ≡ Some d
         → LeadsTo object n (events ++ Step v.first ∷ []) (world_after_step object w v.first (Some c)) (set s.views id (record { known = v' }))
     run_moves silent d v' first_is count_is taken_is seen_is own asked call =
         run_more (Step v.first) (subst IsSome (sym own_call) refl) tt (world_after_step object w v.first (Some c)) (ap (world_after_step object w v.first) own_call) v' first_is count_is taken_is seen_is
         (λ q apart. step_acts object w v.first c own_call q ∙ response_elsewhere object w.memory v.first q c.mine apart (response_after c.mine c.stage w.memory))
         (ap (λ l. acts_in_view v.first v ++ l) (step_acts object w v.first c own_call v.first ∙ ap (λ o. acts_by v.first (responses_of w.memory v.first c.mine o)) silent)
         ∙ (append-nil (acts_in_view v.first v)
-        ∙ (ap (λ o. sequential_acts v.first 0 v.own ++ pending_acts v.first (length v.own) v.inv o) pending
-        ∙ (ap (λ l. sequential_acts v.first 0 l ++ Invoke v.first (length l) v.inv ∷ []) (sym own)
-        ∙ (ap (λ i. sequential_acts v.first 0 v'.own ++ Invoke v.first (length v'.own) i ∷ []) (sym asked)
-        ∙ ap (λ o. sequential_acts v.first 0 v'.own ++ pending_acts v.first (length v'.own) v'.inv o) (sym call))))))
+        ∙ (ap (λ o. sequential_acts v.first 0 v.its.own ++ pending_acts v.first (length v.its.own) v.its.inv o) pending
+        ∙ (ap (λ l. sequential_acts v.first 0 l ++ Invoke v.first (length l) v.its.inv ∷ []) (sym own)
+        ∙ (ap (λ i. sequential_acts v.first 0 v'.its.own ++ Invoke v.first (length v'.its.own) i ∷ []) (sym asked)
+        ∙ ap (λ o. sequential_acts v.first 0 v'.its.own ++ pending_acts v.first (length v'.its.own) v'.its.inv o) (sym call))))))
 
     -- the last step of a call
-    pub run_ends : (reply : ℕ) → (response_after c.mine c.stage w.memory) ≡ Some reply → c.mine ≡ Of v.first (length v.own) → inv_of w.memory c.mine ≡ Some v.inv
-        → (v' : Known) → v'.first ≡ v.first → v'.count ≡ 1 → v'.taken ≡ v.taken → v'.seen ≡ v.seen → v'.own ≡ v.own ++ (v.inv, reply) ∷ [] → v'.call ≡ None
+    pub run_ends : (reply : ℕ) → (response_after c.mine c.stage w.memory) ≡ Some reply → c.mine ≡ Of v.first (length v.its.own) → inv_of w.memory c.mine ≡ Some v.its.inv
+        → (v' : Known) → v'.first ≡ v.first → v'.count ≡ 1 → v'.taken ≡ v.taken → v'.seen ≡ v.seen → v'.its.own ≡ v.its.own ++ (v.its.inv, reply) ∷ [] → v'.its.call ≡ None
         → LeadsTo object n (events ++ Step v.first ∷ []) (world_after_step object w v.first (Some c)) (set s.views id (record { known = v' }))
     run_ends reply answer mine asked v' first_is count_is taken_is seen_is own call =
-        let k : ℕ = length v.own in
-        let k_is : k ≡ length v.own + 0 = omega arith in
+        let k : ℕ = length v.its.own in
+        let k_is : k ≡ length v.its.own + 0 = omega arith in
         run_more (Step v.first) (subst IsSome (sym own_call) refl) tt (world_after_step object w v.first (Some c)) (ap (world_after_step object w v.first) own_call) v' first_is count_is taken_is seen_is
         (λ q apart. step_acts object w v.first c own_call q ∙ response_elsewhere object w.memory v.first q c.mine apart (response_after c.mine c.stage w.memory))
         (ap (λ l. acts_in_view v.first v ++ l) (step_acts object w v.first c own_call v.first
         ∙ (ap (λ o. acts_by v.first (responses_of w.memory v.first c.mine o)) answer
         ∙ (ap (λ x. acts_by v.first (responses_of w.memory v.first x (Some reply))) mine
-        ∙ response_here object w.memory v.first k v.inv reply (subst (λ x. inv_of w.memory x ≡ Some v.inv) mine asked))))
-        ∙ (ap (λ o. (sequential_acts v.first 0 v.own ++ pending_acts v.first k v.inv o) ++ Respond v.first k reply ∷ []) pending
-        ∙ (append_assoc (sequential_acts v.first 0 v.own) (Invoke v.first k v.inv ∷ []) (Respond v.first k reply ∷ [])
-        ∙ (ap (λ j. sequential_acts v.first 0 v.own ++ Invoke v.first j v.inv ∷ Respond v.first j reply ∷ []) k_is
-        ∙ (sym (sequential_acts-append v.first 0 v.own (v.inv, reply))
+        ∙ response_here object w.memory v.first k v.its.inv reply (subst (λ x. inv_of w.memory x ≡ Some v.its.inv) mine asked))))
+        ∙ (ap (λ o. (sequential_acts v.first 0 v.its.own ++ pending_acts v.first k v.its.inv o) ++ Respond v.first k reply ∷ []) pending
+        ∙ (append_assoc (sequential_acts v.first 0 v.its.own) (Invoke v.first k v.its.inv ∷ []) (Respond v.first k reply ∷ [])
+        ∙ (ap (λ j. sequential_acts v.first 0 v.its.own ++ Invoke v.first j v.its.inv ∷ Respond v.first j reply ∷ []) k_is
+        ∙ (sym (sequential_acts-append v.first 0 v.its.own (v.its.inv, reply))
         ∙ (ap (sequential_acts v.first 0) (sym own)
-        ∙ (sym (append-nil (sequential_acts v.first 0 v'.own))
-        ∙ ap (λ o. sequential_acts v.first 0 v'.own ++ pending_acts v.first (length v'.own) v'.inv o) (sym call))))))))
+        ∙ (sym (append-nil (sequential_acts v.first 0 v'.its.own))
+        ∙ ap (λ o. sequential_acts v.first 0 v'.its.own ++ pending_acts v.first (length v'.its.own) v'.its.inv o) (sym call))))))))

@@ -45,14 +45,14 @@ number_stays object n p x mine (ReadHelpSeq c s help) loads found seen = refl
 number_stays object n p x mine _ loads found seen = absurd loads
 
 -- a seat before the store of its head may store it
-pub stores_head : (object : Sequential ℕ ℕ ℕ) (row n slots id i : ℕ) (st : Step ℕ) (me : Me ℕ View) (cell : ℕ) → me.0.known.count ≡ 1 → (c : Pending) → me.0.known.call ≡ Some c
-    → StoresHead (name_of n cell) c.mine c.stage me.0.known.read → cell < cells_of n row → word_of n row (HeadOf me.0.known.first) ≡ Some i
+pub stores_head : (object : Sequential ℕ ℕ ℕ) (row n slots id i : ℕ) (st : Step ℕ) (me : Me ℕ View) (cell : ℕ) → me.0.known.count ≡ 1 → (c : Pending) → me.0.known.its.call ≡ Some c
+    → StoresHead (name_of n cell) c.mine c.stage me.0.known.its.read → cell < cells_of n row → word_of n row (HeadOf me.0.known.first) ≡ Some i
     → Allows (ShowsRun object n row) slots id me i (λ x. cell) (λ found me'. HeadIsStored st me cell me')
-stores_head object row n slots id i st me cell single c pending stores inside word = by_stage c.stage me.0.known.read pending refl stores where
-  same_call : (d : Pending) → me.0.known.call ≡ Some d → c ≡ d
+stores_head object row n slots id i st me cell single c pending stores inside word = by_stage c.stage me.0.known.its.read pending refl stores where
+  same_call : (d : Pending) → me.0.known.its.call ≡ Some d → c ≡ d
   same_call d e = let g = sym pending ∙ e in cc
 
-  by_stage : (stage : Stage) (read : Reading) → me.0.known.call ≡ Some (record { mine = c.mine; stage = stage }) → me.0.known.read ≡ read → StoresHead (name_of n cell) c.mine stage read
+  by_stage : (stage : Stage) (read : Reading) → me.0.known.its.call ≡ Some (record { mine = c.mine; stage = stage }) → me.0.known.its.read ≡ read → StoresHead (name_of n cell) c.mine stage read
       → Allows (ShowsRun object n row) slots id me i (λ x. cell) (λ found me'. HeadIsStored st me cell me')
   by_stage (WriteScan best s) read at is names = Allows-told (ShowsRun object n row) slots id me i (λ x. cell) (λ found me'. Moved st me cell me') (λ found me'. HeadIsStored st me cell me')
       (λ found me' moved d e. let same : record { mine = c.mine; stage = WriteScan best s } ≡ d = (let g = sym at ∙ e in cc) in
@@ -65,5 +65,5 @@ stores_head object row n slots id i st me cell single c pending stores inside wo
   by_stage (Finish c_seq mine_seq) (Reply reply) at is stores = Allows-told (ShowsRun object n row) slots id me i (λ x. cell) (λ found me'. HasFinished me 1 reply me') (λ found me'. HeadIsStored st me cell me')
       (λ found me' finished k e. let same : record { mine = c.mine; stage = Finish c_seq mine_seq } ≡ k = (let g = sym at ∙ e in cc) in
       subst (λ (k : Pending). IsPastHead me k.mine k.stage cell me') same (λ other read. (let one : reply ≡ other = (let f = sym is ∙ read in cc) in subst (λ r. HasFinished me 1 r me') one finished)))
-      (ends object row n slots id i me single cell c_seq mine_seq reply (subst (λ x. me.0.known.call ≡ Some (record { mine = x; stage = Finish c_seq mine_seq })) stores.0 at) is stores.1 word)
+      (ends object row n slots id i me single cell c_seq mine_seq reply (subst (λ x. me.0.known.its.call ≡ Some (record { mine = x; stage = Finish c_seq mine_seq })) stores.0 at) is stores.1 word)
   by_stage _ _ at is stores = absurd stores

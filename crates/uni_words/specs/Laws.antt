@@ -38,7 +38,7 @@ after_word s word x id v = record { words = slice_set s.words word x; homes = s.
 abbrev pub IsLoad : (n row : ℕ) → Known → (mine : Name) → Stage → (word found : ℕ) → Reading → Type 0
 IsLoad n row v mine (DecideNew c c_seq d) word found (Invocation inv) = (word_of n row (InvOf d) ≡ Some word) × (inv ≡ found)
 IsLoad n row v mine (DecideNew c c_seq d) word found (Applied inv state) =
-    (word_of n row (NewOf c) ≡ Some word) × (v.read ≡ Invocation inv) × (state ≡ state_in found)
+    (word_of n row (NewOf c) ≡ Some word) × (v.its.read ≡ Invocation inv) × (state ≡ state_in found)
 IsLoad n row v mine (Finish c_seq mine_seq) word found (Reply reply) =
     (word_of n row (NewOf mine) ≡ Some word) × (reply ≡ reply_in found)
 IsLoad n row v mine stage word found read = ⊥
@@ -70,7 +70,7 @@ module _ (object : Sequential ℕ ℕ ℕ) (row : ℕ) (w : WorldOf ℕ ℕ ℕ)
   abbrev pub JoinKeeps : (id : ℕ) → View → (other : ℕ) → View → Type 0
   JoinKeeps id v other x =
       IsShown object row w s → get_elem? s.views id ≡ some v → get_elem? s.views other ≡ some x → other ≢ id
-      → 1 ≤ v.known.count → v.known.call ≡ None → x.known.count ≡ 1 → x.known.call ≡ None → Leads [] w (after_join s id v other x)
+      → 1 ≤ v.known.count → v.known.its.call ≡ None → x.known.count ≡ 1 → x.known.its.call ≡ None → Leads [] w (after_join s id v other x)
 
   -- a call that has returned has a number, so that to ask about it is always answered yes
   abbrev pub ReturnedIsThere : (call : CallId) → (word : ℕ) → Type 0
@@ -82,15 +82,15 @@ module _ (object : Sequential ℕ ℕ ℕ) (row : ℕ) (w : WorldOf ℕ ℕ ℕ)
     -- the store of the invocation of the process's next call is the event that begins the call
     abbrev pub StoreBegins : (word inv : ℕ) → Type 0
     StoreBegins word inv =
-        IsShown object row w s → HasSeat s id v → v.call ≡ None → v.begun < row
-        → word_of w.n row (InvOf (Of v.first v.begun)) ≡ Some word
+        IsShown object row w s → HasSeat s id v → v.its.call ≡ None → v.its.begun < row
+        → word_of w.n row (InvOf (Of v.first v.its.begun)) ≡ Some word
         → Leads (Call v.first inv ∷ []) (world_after object w (Call v.first inv)) (after_word s word inv id (begun_by v inv))
 
     -- A word step at the place of the stage where a call stands is the event Step, as long as the call goes on after it: it leaves
     -- in the word a number that reads as what the event leaves, and no state past 31 bits.
     abbrev pub WordStepMoves : Pending → (next : Stage) → (word x : ℕ) → Type 0
     WordStepMoves c next word x =
-        IsShown object row w s → HasSeat s id v → v.call ≡ Some c
+        IsShown object row w s → HasSeat s id v → v.its.call ≡ Some c
         → word_of w.n row (place_of w.n v.first c.mine c.stage) ≡ Some word
         → stage_found v.n v.first c.mine c.stage (slice_index s.words word) ≡ Some next
         → content_of w.n (place_of w.n v.first c.mine c.stage) x ≡ (effect_in object w v.first c).content
@@ -101,16 +101,16 @@ module _ (object : Sequential ℕ ℕ ℕ) (row : ℕ) (w : WorldOf ℕ ℕ ℕ)
     -- where the process's head moves at the end of its call, the store of the head is the last Step
     abbrev pub StoreEnds : (mine : Name) → (c_seq mine_seq reply : ℕ) → (word x : ℕ) → Type 0
     StoreEnds mine c_seq mine_seq reply word x =
-        IsShown object row w s → HasSeat s id v → v.call ≡ Some (record { mine = mine; stage = Finish c_seq mine_seq })
+        IsShown object row w s → HasSeat s id v → v.its.call ≡ Some (record { mine = mine; stage = Finish c_seq mine_seq })
         → c_seq < mine_seq
-        → v.read ≡ Reply reply → word_of w.n row (HeadOf v.first) ≡ Some word → name_of w.n x ≡ mine
+        → v.its.read ≡ Reply reply → word_of w.n row (HeadOf v.first) ≡ Some word → name_of w.n x ≡ mine
         → Leads (Step v.first ∷ []) (world_after object w (Step v.first)) (after_word s word x id (finished_by v 1 reply))
 
     -- where the head stays, the load of the reply is the last Step
     abbrev pub LoadEnds : (mine : Name) → (c_seq mine_seq : ℕ) → (word : ℕ) → Type 0
     LoadEnds mine c_seq mine_seq word =
         let found = slice_index s.words word in
-        IsShown object row w s → HasSeat s id v → v.call ≡ Some (record { mine = mine; stage = Finish c_seq mine_seq })
+        IsShown object row w s → HasSeat s id v → v.its.call ≡ Some (record { mine = mine; stage = Finish c_seq mine_seq })
         → mine_seq ≤ c_seq
         → word_of w.n row (NewOf mine) ≡ Some word
         → Leads (Step v.first ∷ []) (world_after object w (Step v.first))
@@ -120,18 +120,18 @@ module _ (object : Sequential ℕ ℕ ℕ) (row : ℕ) (w : WorldOf ℕ ℕ ℕ)
     abbrev pub LoadKeeps : Pending → (word : ℕ) → Reading → Type 0
     LoadKeeps c word read =
         let found = slice_index s.words word in
-        IsShown object row w s → HasSeat s id v → v.call ≡ Some c → IsLoad w.n row v c.mine c.stage word found read
+        IsShown object row w s → HasSeat s id v → v.its.call ≡ Some c → IsLoad w.n row v c.mine c.stage word found read
         → Leads [] w (after_word s word found id (looked_at v read))
 
     -- so does the load of the number of a call, by which a seat with no call pending asks about it
     abbrev pub AskKeeps : CallId → (word : ℕ) → Type 0
     AskKeeps call word =
         let found = slice_index s.words word in
-        IsShown object row w s → HasSeat s id v → v.call ≡ None → word_of w.n row (SeqOf (Of call.process call.nth)) ≡ Some word
+        IsShown object row w s → HasSeat s id v → v.its.call ≡ None → word_of w.n row (SeqOf (Of call.process call.nth)) ≡ Some word
         → Leads [] w (after_word s word found id (asked_of v call found))
 
     -- the calls that a seat was given replies to have rising numbers
     abbrev pub OwnCallsRise : (j k : ℕ) (a b : ℕ × ℕ) → Type 0
     OwnCallsRise j k a b =
-        IsShown object row w s → HasSeat s id v → j < k → slice_get v.own j ≡ Some a → slice_get v.own k ≡ Some b
+        IsShown object row w s → HasSeat s id v → j < k → slice_get v.its.own j ≡ Some a → slice_get v.its.own k ≡ Some b
         → seq_of w.memory (Of v.first j) < seq_of w.memory (Of v.first k)

@@ -111,7 +111,7 @@ impl<O: WordObject> WordLog<O> {
             × (best_seq ≤ cells_of self.now.setup.n self.now.setup.k) }
         requires stands { StandsAt self.now.setup.n self.now.setup.k p (name_of self.now.setup.n mine)
             (Test (name_of self.now.setup.n best) best_seq) seat.old.me }
-        requires first { seat.old.me.0.known.turns ≡ 0 }
+        requires first { seat.old.me.0.known.its.turns ≡ 0 }
         ensures same { (seat.new.table_id ≡ seat.old.table_id) × (seat.new.id ≡ seat.old.id) }
         ensures stands { StandsAt self.now.setup.n self.now.setup.k p (name_of self.now.setup.n mine)
             (Finish result.1 result.2) seat.new.me }
@@ -138,15 +138,15 @@ impl<O: WordObject> WordLog<O> {
         requires idle { IsIdle self.now.setup.n self.now.setup.k p nth seat.old.me }
         ensures same { (seat.new.table_id ≡ seat.old.table_id) × (seat.new.id ≡ seat.old.id) }
         ensures idle { IsIdle self.now.setup.n self.now.setup.k p (nth + 1) seat.new.me }
-        ensures own { seat.new.me.0.known.own ≡ seat.old.me.0.known.own ++ (inv, result.reply) ∷ [] }
+        ensures own { seat.new.me.0.known.its.own ≡ seat.old.me.0.known.its.own ++ (inv, result.reply) ∷ [] }
         ensures call { (result.call.process ≡ p) × (result.call.nth ≡ nth) }
-        ensures number { seat.new.me.0.known.number ≡ result.number }
-        ensures rises { seat.old.me.0.known.number < result.number }
+        ensures number { seat.new.me.0.known.its.number ≡ result.number }
+        ensures rises { seat.old.me.0.known.its.number < result.number }
         ensures taken { seat.new.me.0.known.taken ≡ seat.old.me.0.known.taken }
         ensures seen { seat.new.me.0.known.seen ≡ seat.old.me.0.known.seen }
-        ensures turns { seat.new.me.0.known.turns ≡ result.turns }
+        ensures turns { seat.new.me.0.known.its.turns ≡ result.turns }
         ensures few_turns { result.turns ≤ self.now.setup.n + 1 }
-        ensures steps { IsCountOf self.now.setup.n seat.new.me.0.known.turns seat.old.me.0.known seat.new.me.0.known }
+        ensures steps { IsCountOf self.now.setup.n seat.new.me.0.known.its.turns seat.old.me.0.known seat.new.me.0.known }
     {
         let mine = self.cell(p, nth);
         self.store_inv(seat, p, nth, mine, inv);

@@ -58,7 +58,7 @@ impl<O: WordObject> WordLog<O> {
         ensures same { (seat.new.table_id ≡ seat.old.table_id) × (seat.new.id ≡ seat.old.id) }
         ensures stands { StandsAt self.now.setup.n self.now.setup.k p (name_of self.now.setup.n mine)
             (DecideNew (name_of self.now.setup.n c) c_seq (name_of self.now.setup.n d)) seat.new.me }
-        ensures read { seat.new.me.0.known.read ≡ Invocation result }
+        ensures read { seat.new.me.0.known.its.read ≡ Invocation result }
         ensures goes { GoesBy seat.old.me seat.new.me 1 0 }
     {
         self.table.shared.load::<LooksInv>(seat, self.inv_word(d))
@@ -79,11 +79,11 @@ impl<O: WordObject> WordLog<O> {
         requires inside { c < cells_of self.now.setup.n self.now.setup.k }
         requires stands { StandsAt self.now.setup.n self.now.setup.k p (name_of self.now.setup.n mine)
             (DecideNew (name_of self.now.setup.n c) c_seq (name_of self.now.setup.n d)) seat.old.me }
-        requires read { seat.old.me.0.known.read ≡ Invocation inv }
+        requires read { seat.old.me.0.known.its.read ≡ Invocation inv }
         ensures same { (seat.new.table_id ≡ seat.old.table_id) × (seat.new.id ≡ seat.old.id) }
         ensures stands { StandsAt self.now.setup.n self.now.setup.k p (name_of self.now.setup.n mine)
             (DecideNew (name_of self.now.setup.n c) c_seq (name_of self.now.setup.n d)) seat.new.me }
-        ensures read { seat.new.me.0.known.read ≡ Applied inv (state_in result) }
+        ensures read { seat.new.me.0.known.its.read ≡ Applied inv (state_in result) }
         ensures goes { GoesBy seat.old.me seat.new.me 1 0 }
         ensures fits { state_in result < 2 ^ 31 }
     {
@@ -106,7 +106,7 @@ impl<O: WordObject> WordLog<O> {
         requires inside { (d < cells_of self.now.setup.n self.now.setup.k) × (state < 2 ^ 31) }
         requires stands { StandsAt self.now.setup.n self.now.setup.k p (name_of self.now.setup.n mine)
             (DecideNew (name_of self.now.setup.n c) c_seq (name_of self.now.setup.n d)) seat.old.me }
-        requires read { seat.old.me.0.known.read ≡ Applied inv state }
+        requires read { seat.old.me.0.known.its.read ≡ Applied inv state }
         ensures same { (seat.new.table_id ≡ seat.old.table_id) × (seat.new.id ≡ seat.old.id) }
         ensures stands { StandsAt self.now.setup.n self.now.setup.k p (name_of self.now.setup.n mine)
             (WriteBefore (name_of self.now.setup.n c) c_seq (name_of self.now.setup.n d)) seat.new.me }
@@ -157,7 +157,7 @@ impl<O: WordObject> WordLog<O> {
             × (c_seq < mine_seq) }
         requires stands { StandsAt self.now.setup.n self.now.setup.k p (name_of self.now.setup.n mine)
             (Finish c_seq mine_seq) seat.old.me }
-        requires read { seat.old.me.0.known.read ≡ Reply reply }
+        requires read { seat.old.me.0.known.its.read ≡ Reply reply }
         ensures same { (seat.new.table_id ≡ seat.old.table_id) × (seat.new.id ≡ seat.old.id) }
         ensures finished { HasFinished seat.old.me 1 reply seat.new.me }
     {

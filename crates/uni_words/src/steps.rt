@@ -25,7 +25,7 @@ impl<O: WordObject> WordLog<O> {
         requires before { IsBeforeNumber self.now.setup.n self.now.setup.k p
             (name_of self.now.setup.n cell) seat.old.me }
         ensures same { (seat.new.table_id ≡ seat.old.table_id) × (seat.new.id ≡ seat.old.id) }
-        ensures moved { (c : Pending) → seat.old.me.0.known.call ≡ Some c
+        ensures moved { (c : Pending) → seat.old.me.0.known.its.call ≡ Some c
             → HasMoved seat.old.me c result seat.new.me }
     {
         self.table.shared.load::<Moves>(seat, self.seq_word(cell))
@@ -37,7 +37,7 @@ impl<O: WordObject> WordLog<O> {
         requires inside { (p < self.now.setup.n) × (cell < cells_of self.now.setup.n self.now.setup.k) }
         requires before { IsBeforeHead self.now.setup.n self.now.setup.k p (name_of self.now.setup.n cell) seat.old.me }
         ensures same { (seat.new.table_id ≡ seat.old.table_id) × (seat.new.id ≡ seat.old.id) }
-        ensures past { (c : Pending) → seat.old.me.0.known.call ≡ Some c
+        ensures past { (c : Pending) → seat.old.me.0.known.its.call ≡ Some c
             → IsPastHead seat.old.me c.mine c.stage cell seat.new.me }
     {
         self.table
@@ -148,7 +148,7 @@ impl<O: WordObject> WordLog<O> {
             (if result == 0 then ReadAnnounce (name_of self.now.setup.n c) c_seq else Finish c_seq result) seat.new.me }
         ensures goes { GoesBy seat.old.me seat.new.me 1 (if result == 0 then 1 else 0) }
         ensures within { result ≤ cells_of self.now.setup.n self.now.setup.k }
-        ensures bound { seat.new.me.0.known.turns ≤ self.now.setup.n + 1 }
+        ensures bound { seat.new.me.0.known.its.turns ≤ self.now.setup.n + 1 }
     {
         self.load_seq(seat, p, mine)
     }
