@@ -2,7 +2,8 @@
 use Rattle.std.proofs.Common.{◌≡◌, ◌∙◌, ℕ, zero, suc, ◌+◌, ◌*◌, ◌<◌, ◌≤◌, inl, inr, refl, sym, ap, subst, Option, Some, None, option_map, arith, nat_lt, eqb, if◌then◌else◌}
 use Rattle.std.specs.Option.{option_or}
 use prog.Atomic.{either}
-use Rattle.atomic_table.specs.Table.{Me, Step, Allows}
+use mathlib.Core.Option.{none}
+use Rattle.atomic_table.specs.Table.{Me, Step, Allows, step}
 use Rattle.atomic_table.proofs.Lists.{exchanged}
 use Rattle.seq_object.specs.Sequential.{Sequential}
 use Rattle.uni_model.specs.Places.{Memory, Name, Content}
@@ -23,7 +24,8 @@ use Rattle.uni_words.specs.Standing.{StandsAt, GoesBy, IsIdle}
 use Rattle.uni_words.specs.Rule.{Rule}
 use Rattle.uni_words.specs.declared.view.View.{View}
 use Rattle.uni_words.specs.declared.rule.Setup.{Setup}
-use Rattle.uni_words.proofs.Columns.{index_in-name_of}
+use Rattle.uni_words.specs.declared.log.WordLog.{WordLog}
+use Rattle.uni_words.proofs.Columns.{index_in-name_of, word_below}
 use Rattle.uni_words.proofs.Moving.{GoesOn, moves}
 
 -- what the table was told is what the log has
@@ -44,6 +46,37 @@ pub by_key : {O : Type 0} (meaning : O → Sequential ℕ ℕ ℕ) (told setup :
     → Allows (Rule meaning setup) slots id me i f says → Allows (Rule meaning told) slots id me i f says
 by_key meaning told setup same slots id me i f says allowed =
     subst (λ key. Allows (Rule meaning key) slots id me i f says) (sym same) allowed
+
+-- A word step of a call that stands at its stage, at the word of the stage's place: a load, a store, and a proposal to a word that is 0.
+-- With it goes what else the table asks of a seat.
+module _ {O : Type 0} (meaning : O → Sequential ℕ ℕ ℕ) (log : WordLog O) (id : ℕ) (me : Me ℕ View) (p : ℕ) (mine : Name) (stage : Stage) (i : ℕ)
+    (stands : StandsAt log.setup.n log.setup.k p mine stage me) (goes : GoesOn stage)
+    (word : word_of log.setup.n log.setup.k (place_of log.setup.n me.0.known.first mine stage) ≡ Some i) where
+  -- what a step tells says nothing of its operands
+  abbrev no_step : Step ℕ
+  no_step = step 0 0 0 0 none
+
+  inside : i < log.table.shared.table_id.words
+  inside = subst (λ k. i < k) (sym log.sized) (word_below log.setup.n log.setup.k (place_of log.setup.n me.0.known.first mine stage) i word)
+
+  -- what the word becomes is what the stage leaves in its place
+  abbrev Leaves : (ℕ → ℕ) → Type 0
+  Leaves f = (found : ℕ) (seen : Memory ℕ ℕ ℕ) → content_of log.setup.n (place_of log.setup.n me.0.known.first mine stage) (f found)
+      ≡ content_after (meaning log.setup.object) mine stage (content_of log.setup.n (place_of log.setup.n me.0.known.first mine stage) found) seen
+
+  -- the table's clause: the seat is of the table, the word is there, and the rule holds after it
+  abbrev MayStep : Type 0 → (ℕ → ℕ) → (ℕ → Me ℕ View → Type 0) → Type 0
+  MayStep OfTable f says = OfTable × (i < log.table.shared.table_id.words) × Allows (Rule meaning log.table.shared.key) log.table.shared.table_id.slots id me i f says
+
+  pub may_load : {OfTable : Type 0} → OfTable → Leaves (λ x. x) → MayStep OfTable (λ x. x) (λ found me'. Moved no_step me found me')
+  may_load of_table leaves = (of_table, inside, may_move meaning log.table.shared.key log.setup log.same log.table.shared.table_id.slots id i no_step me (λ x. x) (λ x. x) stands.alone (record { mine = mine; stage = stage }) stands.call goes word leaves (λ found. refl) (λ found a b. a))
+
+  -- where what is found says nothing
+  pub may_store : {OfTable : Type 0} → OfTable → (v : ℕ) → Leaves (λ x. v) → ((found : ℕ) → moved_at me.0.known (record { mine = mine; stage = stage }) found ≡ moved_at me.0.known (record { mine = mine; stage = stage }) v) → MayStep OfTable (λ x. v) (λ found me'. Moved no_step me v me')
+  may_store of_table v leaves blind = (of_table, inside, may_move meaning log.table.shared.key log.setup log.same log.table.shared.table_id.slots id i no_step me (λ x. v) (λ x. v) stands.alone (record { mine = mine; stage = stage }) stands.call goes word leaves blind (λ found a b. b))
+
+  pub may_propose : {OfTable : Type 0} → OfTable → (v : ℕ) → Leaves (λ x. either (eqb x 0) v x) → MayStep OfTable (λ x. either (eqb x 0) v x) (λ found me'. Moved no_step me found me')
+  may_propose of_table v leaves = (of_table, inside, may_move meaning log.table.shared.key log.setup log.same log.table.shared.table_id.slots id i no_step me (λ x. either (eqb x 0) v x) (λ x. x) stands.alone (record { mine = mine; stage = stage }) stands.call goes word leaves (λ found. refl) (λ found a b. a))
 
 pub cell_word : (n row column cell i : ℕ) → 1 ≤ n → cell < cells_of n row → i ≡ start_of n row column + cell
     → option_map (λ j. start_of n row column + j) (index_in n row (name_of n cell)) ≡ Some i

@@ -5,6 +5,7 @@ mod apply;
 mod calls;
 mod close;
 mod compare;
+mod cursor;
 mod follows;
 mod laws;
 mod log;

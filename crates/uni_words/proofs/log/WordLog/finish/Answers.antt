@@ -9,11 +9,11 @@ store_head-requires g c =
     let n = c.args.self.now.setup.n in
     record {
       table = c.requires.table;
-      inside = (c.requires.inside.0, c.requires.inside.1);
+      inside = (c.requires.cursor.process, c.requires.cursor.cell);
       before = record {
-        pending = record { mine = name_of n c.args.mine; stage = Finish c.args.c_seq c.args.mine_seq };
+        pending = record { mine = name_of n c.args.at.cell; stage = Finish c.args.at.number c.args.mine_seq };
         stands = c.requires.stands;
-        stores = subst (λ r. StoresHead (name_of n c.args.mine) (name_of n c.args.mine) (Finish c.args.c_seq c.args.mine_seq) r) (sym c.requires.read) (refl, c.requires.inside.2);
+        stores = subst (λ r. StoresHead (name_of n c.args.at.cell) (name_of n c.args.at.cell) (Finish c.args.at.number c.args.mine_seq) r) (sym c.requires.read) (refl, c.requires.later);
       };
     }
 

@@ -1,17 +1,14 @@
 use Rattle.std.proofs.Common.{refl}
-use Rattle.uni_model.specs.Indices.{name_of}
 use Rattle.uni_model.specs.Stages.Stage.{ReadHelpSeq}
-use Rattle.uni_words.proofs.Allowed.{stands_next, goes_one, within_here}
+use Rattle.uni_words.specs.Standing.{cell_at, head_at}
+use Rattle.uni_words.proofs.Allowed.{goes_one, stands_next, within_here}
 use Rattle.uni_words.proofs.log.WordLog.read_help_seq.Goals as goal
 
 pub load_seq-requires : goal.load_seq-requires
 load_seq-requires g c =
-    let n = c.args.self.now.setup.n in
-    record {
-      table = c.requires.table;
-      inside = c.requires.inside;
-      before = record { pending = record { mine = name_of n c.args.mine; stage = ReadHelpSeq (name_of n c.args.c) c.args.c_seq (name_of n c.args.help) }; stands = c.requires.stands; loads = refl };
-    }
+    let log = c.args.self.now in
+    let at = c.args.at in
+    record { table = c.requires.table; inside = c.requires.inside; before = record { pending = record { mine = cell_at log at.cell; stage = ReadHelpSeq (head_at log at) at.number (cell_at log c.args.help) }; stands = c.requires.stands; loads = refl } }
 
 pub returns-clause-stands : goal.returns-clause-stands
 returns-clause-stands g c = stands_next _ _ _ _ _ _ _ _ _ c.requires.stands (c.load_seq.ensures.moved _ c.requires.stands.call) refl

@@ -1,17 +1,14 @@
 use Rattle.std.proofs.Common.{refl}
-use Rattle.uni_model.specs.Indices.{name_of}
 use Rattle.uni_model.specs.Stages.Stage.{WriteHead}
-use Rattle.uni_words.proofs.Allowed.{stands_next, goes_one}
+use Rattle.uni_words.specs.Standing.{cell_at, head_at}
+use Rattle.uni_words.proofs.Allowed.{goes_one, stands_next}
 use Rattle.uni_words.proofs.log.WordLog.write_head.Goals as goal
 
 pub store_head-requires : goal.store_head-requires
 store_head-requires g c =
-    let n = c.args.self.now.setup.n in
-    record {
-      table = c.requires.table;
-      inside = c.requires.inside;
-      before = record { pending = record { mine = name_of n c.args.mine; stage = WriteHead (name_of n c.args.c) c.args.c_seq (name_of n c.args.d) }; stands = c.requires.stands; stores = refl };
-    }
+    let log = c.args.self.now in
+    let at = c.args.at in
+    record { table = c.requires.table; inside = (c.requires.cursor.process, c.requires.inside); before = record { pending = record { mine = cell_at log at.cell; stage = WriteHead (head_at log at) at.number (cell_at log c.args.d) }; stands = c.requires.stands; stores = refl } }
 
 pub returns-clause-stands : goal.returns-clause-stands
 returns-clause-stands g c = stands_next _ _ _ _ _ _ _ _ _ c.requires.stands (c.store_head.ensures.past _ c.requires.stands.call) refl
