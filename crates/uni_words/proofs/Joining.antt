@@ -140,17 +140,10 @@ module _ (object : Sequential ℕ ℕ ℕ) (row id : ℕ) (v : View) (some_left 
             | inr rest ↦ run.acts j u rest.1 p among
           ]
         ];
-        taken = λ j u e c has. elim (at_set (set s.views id (took_in v x)) other j nobody u e) [
-          | inl spent ↦ absurd (let none : Contains nobody.known.taken c = subst (λ (z : View). Contains z.known.taken c) (sym spent.1) has in let k = none.1 in omega arith)
-          | inr left ↦ elim (at_set s.views id j (took_in v x) u left.1) [
-            | inl mine ↦
-                elim (Contains-append_cases v.known.taken (calls_in_view x) c (subst (λ (z : View). Contains z.known.taken c) (sym mine.1) has)) [
-                  | inl old ↦ run.taken id v at c old
-                  | inr new ↦ acts_taken c new
-                ]
-            | inr rest ↦ run.taken j u rest.1 c has
-          ]
-        ];
+        taken = Holds-set (λ (u : View). u.known.taken) Acts (set s.views id (took_in v x)) other nobody
+            (Holds-set (λ (u : View). u.known.taken) Acts s.views id (took_in v x) run.taken
+            (λ c has. elim (Contains-append_cases v.known.taken (calls_in_view x) c has) [ inl old ↦ run.taken id v at c old | inr new ↦ acts_taken c new ]))
+            (λ c has. absurd (let k = has.1 in omega arith));
         seen = Holds-set (λ (u : View). u.known.seen) (HasSeen object n events) (set s.views id (took_in v x)) other nobody
             (Holds-set (λ (u : View). u.known.seen) (HasSeen object n events) s.views id (took_in v x) run.seen sees)
             (λ a has. absurd (let k = has.1 in omega arith));

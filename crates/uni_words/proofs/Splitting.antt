@@ -10,7 +10,7 @@ use Rattle.uni_model.specs.Worlds.{WorldOf, Event}
 use Rattle.uni_model.proofs.Simulation.{set_at_same}
 use Rattle.uni_model.proofs.Written.{number_cases}
 use Rattle.uni_model.proofs.LawProofs.{set_at_elsewhere}
-use Rattle.uni_model.specs.ProcessCalls.{ProcessCalls, acts_by}
+use Rattle.uni_model.specs.ProcessCalls.{ProcessCalls, acts_by, sequential_acts}
 use Rattle.uni_words.specs.Laws.{Leads, after_split}
 use Rattle.uni_words.specs.Run.{run_history, HasSeen}
 use Rattle.uni_words.specs.View.{Seen, Known}
@@ -116,16 +116,12 @@ module _ (object : Sequential ℕ ℕ ℕ) (row id : ℕ) (v : View) (some_left 
             subst (λ (z : View). acts_by p (run_history object n events) ≡ acts_in_view p z.known) new.1
             (run.acts id v at p (here.0, omega (arith, here.1, some_left)))
       ];
-      taken = λ j u e c has. elim (at_end (set s.views id (others v)) (first_alone v) u j e) [
-        | inl old ↦ elim (at_set s.views id j (others v) u old) [
-          | inl mine ↦ run.taken id v at c (subst (λ (z : View). Contains z.known.taken c) (sym mine.1) has)
-          | inr other ↦ run.taken j u other.1 c has
-        ]
-        | inr new ↦ absurd (let none : Contains (first_alone v).known.taken c = subst (λ (z : View). Contains z.known.taken c) (sym new.1) has in let k = none.1 in omega arith)
-      ];
+      taken = Holds-push (λ (u : View). u.known.taken) Acts (set s.views id (others v)) (first_alone v) (Holds-kept (λ (u : View). u.known.taken) Acts s.views id v (others v) at refl run.taken) (λ a has. absurd (let k = has.1 in omega arith));
       seen = Holds-push (λ (u : View). u.known.seen) (HasSeen object n events) (set s.views id (others v)) (first_alone v)
           (Holds-kept (λ (u : View). u.known.seen) (HasSeen object n events) s.views id v (others v) at refl run.seen) (λ a has. absurd (let k = has.1 in omega arith));
-    }
+    } where
+      Acts : ProcessCalls ℕ ℕ → Type 0
+      Acts c = acts_by c.process (run_history object n events) ≡ sequential_acts c.process 0 c.calls
 
     pub split_leads : Leads object row w s [] w (after_split s id v)
     split_leads = record { shown = split_kept; run = λ n events run. no_more object n events w views' (split_run n events run) }

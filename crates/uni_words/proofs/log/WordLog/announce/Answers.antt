@@ -10,8 +10,7 @@ store-requires g c =
     may_store g.O.WordObject.sequential log c.args.seat.now.id c.args.seat.now.me _ _ _ c.announce_word.result c.requires.stands tt
     (first_word n k 0 c.args.seat.now.me.0.known.first c.args.at.process _ c.requires.cursor.process c.requires.stands.first c.announce_word.ensures) c.requires.table c.args.at.cell (λ found seen. refl) (λ found. refl)
 
-pub returns-clause-stands : goal.returns-clause-stands
-returns-clause-stands g c = stands_next _ _ _ _ _ _ _ _ _ c.requires.stands (c.store.ensures.2 _ c.requires.stands.call) refl
-
-pub returns-clause-goes : goal.returns-clause-goes
-returns-clause-goes g c = goes_one _ _ _ _ _ (c.store.ensures.2 _ c.requires.stands.call) refl
+pub returns : goal.returns
+returns g c =
+    let moved = c.store.ensures.2 _ c.requires.stands.call in
+    record { same = (c.store.ensures.0, c.store.ensures.1); stands = stands_next _ _ _ _ _ _ _ _ _ c.requires.stands moved refl; goes = goes_one _ _ _ _ _ moved refl }

@@ -10,11 +10,7 @@ compare_exchange-requires g c =
     may_propose g.O.WordObject.sequential log c.args.seat.now.id c.args.seat.now.me _ _ _ c.after_word.result c.requires.stands tt
     (cell_word n k 5 c.args.at.head _ log.few.0 c.requires.cursor.head c.after_word.ensures) c.requires.table (c.args.prefer + 1) (λ found seen. link_decided n c.args.prefer found)
 
-pub returns-clause-stands : goal.returns-clause-stands
-returns-clause-stands g c = stands_next _ _ _ _ _ _ _ _ _ c.requires.stands (c.compare_exchange.ensures.2 _ c.requires.stands.call) refl
-
-pub returns-clause-goes : goal.returns-clause-goes
-returns-clause-goes g c = goes_one _ _ _ _ _ (c.compare_exchange.ensures.2 _ c.requires.stands.call) refl
-
-pub returns-clause-within : goal.returns-clause-within
-returns-clause-within g c = within_here _ _ _ _ _ _ _ _ (c.compare_exchange.ensures.2 _ c.requires.stands.call) c.requires.stands
+pub returns : goal.returns
+returns g c =
+    let moved = c.compare_exchange.ensures.2 _ c.requires.stands.call in
+    record { same = (c.compare_exchange.ensures.0, c.compare_exchange.ensures.1); stands = stands_next _ _ _ _ _ _ _ _ _ c.requires.stands moved refl; goes = goes_one _ _ _ _ _ moved refl; within = within_here _ _ _ _ _ _ _ _ moved c.requires.stands }

@@ -11,11 +11,7 @@ load-requires g c =
     may_load g.O.WordObject.sequential log c.args.seat.now.id c.args.seat.now.me _ _ _ c.announce_word.result c.requires.stands tt
     (process_word n k 0 (c.args.at.number % n) _ (mod_below c.args.at.number n log.few.0) c.announce_word.ensures) c.requires.table (λ found seen. refl)
 
-pub returns-clause-stands : goal.returns-clause-stands
-returns-clause-stands g c = stands_next _ _ _ _ _ _ _ _ _ c.requires.stands (c.load.ensures.2 _ c.requires.stands.call) refl
-
-pub returns-clause-goes : goal.returns-clause-goes
-returns-clause-goes g c = goes_one _ _ _ _ _ (c.load.ensures.2 _ c.requires.stands.call) refl
-
-pub returns-clause-within : goal.returns-clause-within
-returns-clause-within g c = within_here _ _ _ _ _ _ _ _ (c.load.ensures.2 _ c.requires.stands.call) c.requires.stands
+pub returns : goal.returns
+returns g c =
+    let moved = c.load.ensures.2 _ c.requires.stands.call in
+    record { same = (c.load.ensures.0, c.load.ensures.1); stands = stands_next _ _ _ _ _ _ _ _ _ c.requires.stands moved refl; goes = goes_one _ _ _ _ _ moved refl; within = within_here _ _ _ _ _ _ _ _ moved c.requires.stands }

@@ -10,11 +10,7 @@ load_seq-requires g c =
     let at = c.args.at in
     record { table = c.requires.table; inside = c.requires.inside; before = record { pending = record { mine = cell_at log at.cell; stage = ReadHelpSeq (head_at log at) at.number (cell_at log c.args.help) }; stands = c.requires.stands; loads = refl } }
 
-pub returns-clause-stands : goal.returns-clause-stands
-returns-clause-stands g c = stands_next _ _ _ _ _ _ _ _ _ c.requires.stands (c.load_seq.ensures.moved _ c.requires.stands.call) refl
-
-pub returns-clause-goes : goal.returns-clause-goes
-returns-clause-goes g c = goes_one _ _ _ _ _ (c.load_seq.ensures.moved _ c.requires.stands.call) refl
-
-pub returns-clause-within : goal.returns-clause-within
-returns-clause-within g c = within_here _ _ _ _ _ _ _ _ (c.load_seq.ensures.moved _ c.requires.stands.call) c.requires.stands
+pub returns : goal.returns
+returns g c =
+    let moved = c.load_seq.ensures.moved _ c.requires.stands.call in
+    record { same = c.load_seq.ensures.same; stands = stands_next _ _ _ _ _ _ _ _ _ c.requires.stands moved refl; goes = goes_one _ _ _ _ _ moved refl; within = within_here _ _ _ _ _ _ _ _ moved c.requires.stands }

@@ -10,8 +10,7 @@ store-requires g c =
     may_store g.O.WordObject.sequential log c.args.seat.now.id c.args.seat.now.me _ _ _ c.before_word.result c.requires.stands tt
     (cell_word n k 4 c.args.d _ log.few.0 c.requires.inside c.before_word.ensures) c.requires.table (1 + c.args.at.head) (λ found seen. link_is n c.args.at.head) (λ found. refl)
 
-pub returns-clause-stands : goal.returns-clause-stands
-returns-clause-stands g c = stands_next _ _ _ _ _ _ _ _ _ c.requires.stands (c.store.ensures.2 _ c.requires.stands.call) refl
-
-pub returns-clause-goes : goal.returns-clause-goes
-returns-clause-goes g c = goes_one _ _ _ _ _ (c.store.ensures.2 _ c.requires.stands.call) refl
+pub returns : goal.returns
+returns g c =
+    let moved = c.store.ensures.2 _ c.requires.stands.call in
+    record { same = (c.store.ensures.0, c.store.ensures.1); stands = stands_next _ _ _ _ _ _ _ _ _ c.requires.stands moved refl; goes = goes_one _ _ _ _ _ moved refl }

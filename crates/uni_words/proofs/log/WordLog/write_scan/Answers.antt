@@ -10,8 +10,7 @@ store_head-requires g c =
     let at = c.args.at in
     record { table = c.requires.table; inside = (c.requires.cursor.process, c.requires.cursor.head); before = record { pending = record { mine = cell_at log at.cell; stage = WriteScan (head_at log at) at.number }; stands = c.requires.stands; stores = refl } }
 
-pub returns-clause-stands : goal.returns-clause-stands
-returns-clause-stands g c = stands_next _ _ _ _ _ _ _ _ _ c.requires.stands (c.store_head.ensures.past _ c.requires.stands.call) refl
-
-pub returns-clause-goes : goal.returns-clause-goes
-returns-clause-goes g c = goes_one _ _ _ _ _ (c.store_head.ensures.past _ c.requires.stands.call) refl
+pub returns : goal.returns
+returns g c =
+    let moved = c.store_head.ensures.past _ c.requires.stands.call in
+    record { same = c.store_head.ensures.same; stands = stands_next _ _ _ _ _ _ _ _ _ c.requires.stands moved refl; goes = goes_one _ _ _ _ _ moved refl }

@@ -10,11 +10,7 @@ store-requires g c =
     may_store g.O.WordObject.sequential log c.args.seat.now.id c.args.seat.now.me _ _ _ c.seq_word.result c.requires.stands tt
     (cell_word n k 3 c.args.d _ log.few.0 c.requires.inside c.seq_word.ensures) c.requires.table (c.args.at.number + 1) (λ found seen. refl) (λ found. refl)
 
-pub returns-clause-stands : goal.returns-clause-stands
-returns-clause-stands g c = stands_next _ _ _ _ _ _ _ _ _ c.requires.stands (c.store.ensures.2 _ c.requires.stands.call) refl
-
-pub returns-clause-goes : goal.returns-clause-goes
-returns-clause-goes g c = goes_one _ _ _ _ _ (c.store.ensures.2 _ c.requires.stands.call) refl
-
-pub returns-clause-within : goal.returns-clause-within
-returns-clause-within g c = within_here _ _ _ _ _ _ _ _ (c.store.ensures.2 _ c.requires.stands.call) c.requires.stands
+pub returns : goal.returns
+returns g c =
+    let moved = c.store.ensures.2 _ c.requires.stands.call in
+    record { same = (c.store.ensures.0, c.store.ensures.1); stands = stands_next _ _ _ _ _ _ _ _ _ c.requires.stands moved refl; goes = goes_one _ _ _ _ _ moved refl; within = within_here _ _ _ _ _ _ _ _ moved c.requires.stands }
