@@ -164,7 +164,7 @@ module _ (object : Sequential ℕ ℕ ℕ) (row : ℕ) where
 
   pub ends : (n slots id i : ℕ) (me : Me ℕ View) → me.0.known.count ≡ 1 → (mine c_seq mine_seq reply : ℕ)
       → me.0.known.its.call ≡ Some (record { mine = name_of n mine; stage = Finish c_seq mine_seq }) → me.0.known.its.read ≡ Reply reply → c_seq < mine_seq → word_of n row (HeadOf me.0.known.first) ≡ Some i
-      → Allows (ShowsRun object n row) slots id me i (λ x. mine) (λ found me'. HasFinished me 1 reply me')
+      → Allows (ShowsRun object n row) slots id me i (λ x. mine) (λ found me'. (other : ℕ) → me.0.known.its.read ≡ Reply other → HasFinished me 1 other me')
   ends n slots id i me single mine c_seq mine_seq reply pending read less word_n s shown deep at small =
       let v : Known = me.0.known in
       let w : WorldOf ℕ ℕ ℕ = shown.0 in
@@ -173,7 +173,8 @@ module _ (object : Sequential ℕ ℕ ℕ) (row : ℕ) where
         keeps,
         tt,
         led n shown.1 shown.3 (stored_leads w s shown.2 id v at single (name_of n mine) c_seq mine_seq pending less i mine word (ap (λ k. name_of k mine) shown.1) reply read),
-        (refl, rises w s shown.2 id v at single (name_of n mine) c_seq mine_seq pending),
+        λ other is. (let one : reply ≡ other = (let f = sym read ∙ is in cc) in
+            subst (λ r. HasFinished me 1 r (record { known = finished_by v 1 reply }, me.1)) one (refl, rises w s shown.2 id v at single (name_of n mine) c_seq mine_seq pending)),
       )
 
   pub told_reply : (n slots id i : ℕ) (st : table.Step ℕ) (me : Me ℕ View) → me.0.known.count ≡ 1 → (mine : Name) (c_seq mine_seq : ℕ)

@@ -1,7 +1,8 @@
 //! A call from its start to its reply.
 ghost use Rattle.std.specs.Prelude.{◌≡◌, ◌↔◌, ◌+◌, ◌*◌, ◌<◌, ◌≤◌, ◌++◌, ◌∷◌};
 ghost use Rattle.std.specs.Prelude.{[], IsErr, IfOk, OnOk, OnErr};
-ghost use Rattle.uni_words.specs.Standing.{GetsOn, GoesBy, IsCountOf, IsCursor, IsIdle, Stands, StandsAt, cell_at, head_at};
+ghost use Rattle.uni_words.specs.Standing.{GetsOn, GoesBy, IsCountOf, IsCursor};
+ghost use Rattle.uni_words.specs.Standing.{IsIdle, Stands, StandsAt, cell_at, head_at};
 ghost use Rattle.uni_words.specs.Words.{cells_of};
 ghost use Rattle.uni_words.specs.Belongs.{IsSeatOf, processes_of, row_of, process_of, calls_made, own_calls};
 ghost use Rattle.uni_words.specs.Belongs.{taken_calls, seen_by, latest_number, latest_turns, view_of, word_steps_of};
@@ -127,7 +128,8 @@ impl<O: WordObject> WordLog<O> {
         ensures seen { seat.new.me.0.known.seen ≡ seat.old.me.0.known.seen }
         ensures turns { seat.new.me.0.known.its.turns ≡ result.turns }
         ensures few_turns { result.turns ≤ self.now.setup.n + 1 }
-        ensures steps { IsCountOf self.now.setup.n seat.new.me.0.known.its.turns seat.old.me.0.known seat.new.me.0.known }
+        ensures steps { IsCountOf self.now.setup.n seat.new.me.0.known.its.turns
+            seat.old.me.0.known seat.new.me.0.known }
     {
         let at = Cursor {
             process: p,

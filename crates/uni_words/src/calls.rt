@@ -11,7 +11,7 @@ ghost use Rattle.uni_model.specs.Stages.Stage.{Announce, DecideNew, WriteBefore,
 use crate::cursor::Cursor;
 use crate::log::WordLog;
 use crate::object::WordObject;
-use crate::rule::{Begins, LooksInv, LooksNew, LooksReply, Moves};
+use crate::rule::{Begins, Ends, LooksInv, LooksNew, LooksReply, Moves};
 use crate::view::View;
 use atomic_table::Seat;
 
@@ -45,9 +45,11 @@ impl<O: WordObject> WordLog<O> {
         requires table { seat.old.table_id ≡ self.now.table.shared.table_id }
         requires cursor { IsCursor self.now at }
         requires inside { HasCell self.now d }
-        requires stands { Stands self.now at (DecideNew (head_at self.now at) at.number (cell_at self.now d)) seat.old.me }
+        requires stands { Stands self.now at (DecideNew (head_at self.now at) at.number (cell_at self.now d))
+            seat.old.me }
         ensures same { (seat.new.table_id ≡ seat.old.table_id) × (seat.new.id ≡ seat.old.id) }
-        ensures stands { Stands self.now at (DecideNew (head_at self.now at) at.number (cell_at self.now d)) seat.new.me }
+        ensures stands { Stands self.now at (DecideNew (head_at self.now at) at.number (cell_at self.now d))
+            seat.new.me }
         ensures goes { GoesBy seat.old.me seat.new.me 1 0 }
         ensures read { seat.new.me.0.known.its.read ≡ Invocation result }
     {
@@ -59,9 +61,11 @@ impl<O: WordObject> WordLog<O> {
         requires table { seat.old.table_id ≡ self.now.table.shared.table_id }
         requires cursor { IsCursor self.now at }
         requires read { seat.old.me.0.known.its.read ≡ Invocation inv }
-        requires stands { Stands self.now at (DecideNew (head_at self.now at) at.number (cell_at self.now d)) seat.old.me }
+        requires stands { Stands self.now at (DecideNew (head_at self.now at) at.number (cell_at self.now d))
+            seat.old.me }
         ensures same { (seat.new.table_id ≡ seat.old.table_id) × (seat.new.id ≡ seat.old.id) }
-        ensures stands { Stands self.now at (DecideNew (head_at self.now at) at.number (cell_at self.now d)) seat.new.me }
+        ensures stands { Stands self.now at (DecideNew (head_at self.now at) at.number (cell_at self.now d))
+            seat.new.me }
         ensures goes { GoesBy seat.old.me seat.new.me 1 0 }
         ensures read { seat.new.me.0.known.its.read ≡ Applied inv (state_in result) }
         ensures fits { state_in result < 2 ^ 31 }
@@ -84,9 +88,11 @@ impl<O: WordObject> WordLog<O> {
         requires cursor { IsCursor self.now at }
         requires inside { HasCell self.now d × (state < 2 ^ 31) }
         requires read { seat.old.me.0.known.its.read ≡ Applied inv state }
-        requires stands { Stands self.now at (DecideNew (head_at self.now at) at.number (cell_at self.now d)) seat.old.me }
+        requires stands { Stands self.now at (DecideNew (head_at self.now at) at.number (cell_at self.now d))
+            seat.old.me }
         ensures same { (seat.new.table_id ≡ seat.old.table_id) × (seat.new.id ≡ seat.old.id) }
-        ensures stands { Stands self.now at (WriteBefore (head_at self.now at) at.number (cell_at self.now d)) seat.new.me }
+        ensures stands { Stands self.now at (WriteBefore (head_at self.now at) at.number (cell_at self.now d))
+            seat.new.me }
         ensures goes { GoesBy seat.old.me seat.new.me 1 0 }
     {
         let next = self.setup.object.next(state, inv);
@@ -121,6 +127,8 @@ impl<O: WordObject> WordLog<O> {
         ensures same { (seat.new.table_id ≡ seat.old.table_id) × (seat.new.id ≡ seat.old.id) }
         ensures finished { HasFinished seat.old.me 1 reply seat.new.me }
     {
-        self.store_head(seat, at.process, at.cell);
+        self.table
+            .shared
+            .store::<Ends>(seat, self.head_word(at.process), at.cell);
     }
 }

@@ -23,7 +23,8 @@ impl WordSeat {
         ensures kept { IsSeatOf log.now self.new × (calls_of self.new ≡ calls_of self.old) }
         ensures outside { ¬ IsCallOf log.now call → (result ≡ false) × (self.new ≡ self.old) }
         ensures steps { IsCallOf log.now call → word_steps_of self.new ≡ word_steps_of self.old + 1 }
-        ensures there { result ≡ true → seen_by self.new ≡ seen_by self.old ++ seen_of (calls_of self.old) (up_to call ∷ []) }
+        ensures there { result ≡ true →
+            seen_by self.new ≡ seen_by self.old ++ seen_of (calls_of self.old) (up_to call ∷ []) }
         ensures unknown { result ≡ false → seen_by self.new ≡ seen_by self.old }
         ensures known { IsCallOf log.now call → KnowsCall self.old call → result ≡ true }
         ensures rest { view_of self.new ≡ record (view_of self.old) {

@@ -1,49 +1,21 @@
 //! The word steps, each one function.
 ghost use Rattle.std.specs.Prelude.{◌≡◌, ◌+◌, ◌<◌, ◌≤◌, ◌==◌, if◌then◌else◌, unwrap_or, Some};
-ghost use Rattle.uni_words.specs.Standing.{GoesBy, HasCell, IsBeforeHead, IsBeforeNumber, IsCursor, IsPastHead, Stands};
+ghost use Rattle.uni_words.specs.Standing.{GoesBy, HasCell, IsCursor, Stands};
 ghost use Rattle.uni_words.specs.Standing.{cell_at, head_at};
 ghost use Rattle.uni_model.specs.Places.Name.{Anchor};
 ghost use Rattle.uni_model.specs.Transition.{stage_after_scan};
 ghost use Rattle.uni_words.specs.Words.{cells_of, link_of};
-ghost use Rattle.uni_model.specs.Stages.{Pending};
-ghost use Rattle.uni_words.specs.Seats.{HasMoved};
 ghost use Rattle.uni_model.specs.Stages.Stage.{Announce, ScanHead, ScanSeq, WriteScan, Test, ReadAnnounce, ReadHelpSeq};
 ghost use Rattle.uni_model.specs.Stages.Stage.{DecideAfter, DecideNew, WriteBefore, WriteSeq, WriteHead, Finish};
 
 use crate::cursor::Cursor;
 use crate::log::WordLog;
 use crate::object::WordObject;
-use crate::rule::{Moves, StoresHead};
+use crate::rule::Moves;
 use crate::view::View;
 use atomic_table::Seat;
 
 impl<O: WordObject> WordLog<O> {
-    /// The load of the number of a cell, at each stage that does it.
-    fn load_seq(&self, seat: &mut Seat<u8, View>, p: u64, cell: u64) -> u64
-        requires table { seat.old.table_id ≡ self.now.table.shared.table_id }
-        requires inside { HasCell self.now cell }
-        requires before { IsBeforeNumber self.now.setup.n self.now.setup.k p (cell_at self.now cell) seat.old.me }
-        ensures same { (seat.new.table_id ≡ seat.old.table_id) × (seat.new.id ≡ seat.old.id) }
-        ensures moved { (c : Pending) → seat.old.me.0.known.its.call ≡ Some c
-            → HasMoved seat.old.me c result seat.new.me }
-    {
-        self.table.shared.load::<Moves>(seat, self.seq_word(cell))
-    }
-
-    /// The store of a cell in the head of process p, at each stage that does it.
-    pub(crate) fn store_head(&self, seat: &mut Seat<u8, View>, p: u64, cell: u64)
-        requires table { seat.old.table_id ≡ self.now.table.shared.table_id }
-        requires inside { (p < self.now.setup.n) × HasCell self.now cell }
-        requires before { IsBeforeHead self.now.setup.n self.now.setup.k p (cell_at self.now cell) seat.old.me }
-        ensures same { (seat.new.table_id ≡ seat.old.table_id) × (seat.new.id ≡ seat.old.id) }
-        ensures past { (c : Pending) → seat.old.me.0.known.its.call ≡ Some c
-            → IsPastHead seat.old.me c.mine c.stage cell seat.new.me }
-    {
-        self.table
-            .shared
-            .store::<StoresHead>(seat, self.head_word(p), cell);
-    }
-
     /// `Announce`: stores the call's cell in the announce entry of the process.
     pub(crate) fn announce(&self, seat: &mut Seat<u8, View>, at: Cursor)
         requires table { seat.old.table_id ≡ self.now.table.shared.table_id }
@@ -65,7 +37,8 @@ impl<O: WordObject> WordLog<O> {
         requires inside { q < self.now.setup.n }
         requires stands { Stands self.now at (ScanHead q (head_at self.now at) at.number) seat.old.me }
         ensures same { (seat.new.table_id ≡ seat.old.table_id) × (seat.new.id ≡ seat.old.id) }
-        ensures stands { Stands self.now at (ScanSeq q (head_at self.now at) at.number (cell_at self.now result)) seat.new.me }
+        ensures stands { Stands self.now at (ScanSeq q (head_at self.now at) at.number (cell_at self.now result))
+            seat.new.me }
         ensures goes { GoesBy seat.old.me seat.new.me 1 0 }
         ensures within { HasCell self.now result }
     {
@@ -77,14 +50,15 @@ impl<O: WordObject> WordLog<O> {
         requires table { seat.old.table_id ≡ self.now.table.shared.table_id }
         requires cursor { IsCursor self.now at }
         requires inside { HasCell self.now h }
-        requires stands { Stands self.now at (ScanSeq q (head_at self.now at) at.number (cell_at self.now h)) seat.old.me }
+        requires stands { Stands self.now at (ScanSeq q (head_at self.now at) at.number (cell_at self.now h))
+            seat.old.me }
         ensures same { (seat.new.table_id ≡ seat.old.table_id) × (seat.new.id ≡ seat.old.id) }
         ensures stands { Stands self.now at (stage_after_scan self.now.setup.n q (head_at self.now at) at.number
             (cell_at self.now h) result) seat.new.me }
         ensures goes { GoesBy seat.old.me seat.new.me 1 0 }
         ensures within { result ≤ cells_of self.now.setup.n self.now.setup.k }
     {
-        self.load_seq(seat, at.process, h)
+        self.table.shared.load::<Moves>(seat, self.seq_word(h))
     }
 
     /// `WriteScan`: stores the best cell of the scan in the process's head.
@@ -96,7 +70,9 @@ impl<O: WordObject> WordLog<O> {
         ensures stands { Stands self.now at (Test (head_at self.now at) at.number) seat.new.me }
         ensures goes { GoesBy seat.old.me seat.new.me 1 0 }
     {
-        self.store_head(seat, at.process, at.head);
+        self.table
+            .shared
+            .store::<Moves>(seat, self.head_word(at.process), at.head);
     }
 
     /// `Test`: loads the number of the call's cell.
@@ -111,7 +87,9 @@ impl<O: WordObject> WordLog<O> {
         ensures within { result ≤ cells_of self.now.setup.n self.now.setup.k }
         ensures bound { seat.new.me.0.known.its.turns ≤ self.now.setup.n + 1 }
     {
-        self.load_seq(seat, at.process, at.cell)
+        self.table
+            .shared
+            .load::<Moves>(seat, self.seq_word(at.cell))
     }
 
     /// `ReadAnnounce`: loads the announce entry of the process whose turn it is.
@@ -120,7 +98,8 @@ impl<O: WordObject> WordLog<O> {
         requires cursor { IsCursor self.now at }
         requires stands { Stands self.now at (ReadAnnounce (head_at self.now at) at.number) seat.old.me }
         ensures same { (seat.new.table_id ≡ seat.old.table_id) × (seat.new.id ≡ seat.old.id) }
-        ensures stands { Stands self.now at (ReadHelpSeq (head_at self.now at) at.number (cell_at self.now result)) seat.new.me }
+        ensures stands { Stands self.now at (ReadHelpSeq (head_at self.now at) at.number (cell_at self.now result))
+            seat.new.me }
         ensures goes { GoesBy seat.old.me seat.new.me 1 0 }
         ensures within { HasCell self.now result }
     {
@@ -134,14 +113,15 @@ impl<O: WordObject> WordLog<O> {
         requires table { seat.old.table_id ≡ self.now.table.shared.table_id }
         requires cursor { IsCursor self.now at }
         requires inside { HasCell self.now help }
-        requires stands { Stands self.now at (ReadHelpSeq (head_at self.now at) at.number (cell_at self.now help)) seat.old.me }
+        requires stands { Stands self.now at (ReadHelpSeq (head_at self.now at) at.number (cell_at self.now help))
+            seat.old.me }
         ensures same { (seat.new.table_id ≡ seat.old.table_id) × (seat.new.id ≡ seat.old.id) }
         ensures stands { Stands self.now at (DecideAfter (head_at self.now at) at.number
             (if result == 0 then cell_at self.now help else cell_at self.now at.cell)) seat.new.me }
         ensures goes { GoesBy seat.old.me seat.new.me 1 0 }
         ensures within { result ≤ cells_of self.now.setup.n self.now.setup.k }
     {
-        self.load_seq(seat, at.process, help)
+        self.table.shared.load::<Moves>(seat, self.seq_word(help))
     }
 
     /// `DecideAfter`: proposes `prefer` after the head.
@@ -149,7 +129,8 @@ impl<O: WordObject> WordLog<O> {
         requires table { seat.old.table_id ≡ self.now.table.shared.table_id }
         requires cursor { IsCursor self.now at }
         requires inside { HasCell self.now prefer }
-        requires stands { Stands self.now at (DecideAfter (head_at self.now at) at.number (cell_at self.now prefer)) seat.old.me }
+        requires stands { Stands self.now at (DecideAfter (head_at self.now at) at.number (cell_at self.now prefer))
+            seat.old.me }
         ensures same { (seat.new.table_id ≡ seat.old.table_id) × (seat.new.id ≡ seat.old.id) }
         ensures stands { Stands self.now at (DecideNew (head_at self.now at) at.number
             (unwrap_or (link_of self.now.setup.n result) (cell_at self.now prefer))) seat.new.me }
@@ -166,9 +147,11 @@ impl<O: WordObject> WordLog<O> {
         requires table { seat.old.table_id ≡ self.now.table.shared.table_id }
         requires cursor { IsCursor self.now at }
         requires inside { HasCell self.now d }
-        requires stands { Stands self.now at (WriteBefore (head_at self.now at) at.number (cell_at self.now d)) seat.old.me }
+        requires stands { Stands self.now at (WriteBefore (head_at self.now at) at.number (cell_at self.now d))
+            seat.old.me }
         ensures same { (seat.new.table_id ≡ seat.old.table_id) × (seat.new.id ≡ seat.old.id) }
-        ensures stands { Stands self.now at (WriteSeq (head_at self.now at) at.number (cell_at self.now d)) seat.new.me }
+        ensures stands { Stands self.now at (WriteSeq (head_at self.now at) at.number (cell_at self.now d))
+            seat.new.me }
         ensures goes { GoesBy seat.old.me seat.new.me 1 0 }
     {
         self.table
@@ -181,9 +164,11 @@ impl<O: WordObject> WordLog<O> {
         requires table { seat.old.table_id ≡ self.now.table.shared.table_id }
         requires cursor { IsCursor self.now at }
         requires inside { HasCell self.now d }
-        requires stands { Stands self.now at (WriteSeq (head_at self.now at) at.number (cell_at self.now d)) seat.old.me }
+        requires stands { Stands self.now at (WriteSeq (head_at self.now at) at.number (cell_at self.now d))
+            seat.old.me }
         ensures same { (seat.new.table_id ≡ seat.old.table_id) × (seat.new.id ≡ seat.old.id) }
-        ensures stands { Stands self.now at (WriteHead (head_at self.now at) at.number (cell_at self.now d)) seat.new.me }
+        ensures stands { Stands self.now at (WriteHead (head_at self.now at) at.number (cell_at self.now d))
+            seat.new.me }
         ensures goes { GoesBy seat.old.me seat.new.me 1 0 }
         ensures within { at.number + 1 ≤ cells_of self.now.setup.n self.now.setup.k }
     {
@@ -197,11 +182,14 @@ impl<O: WordObject> WordLog<O> {
         requires table { seat.old.table_id ≡ self.now.table.shared.table_id }
         requires cursor { IsCursor self.now at }
         requires inside { HasCell self.now d }
-        requires stands { Stands self.now at (WriteHead (head_at self.now at) at.number (cell_at self.now d)) seat.old.me }
+        requires stands { Stands self.now at (WriteHead (head_at self.now at) at.number (cell_at self.now d))
+            seat.old.me }
         ensures same { (seat.new.table_id ≡ seat.old.table_id) × (seat.new.id ≡ seat.old.id) }
         ensures stands { Stands self.now at (Test (cell_at self.now d) (at.number + 1)) seat.new.me }
         ensures goes { GoesBy seat.old.me seat.new.me 1 0 }
     {
-        self.store_head(seat, at.process, d);
+        self.table
+            .shared
+            .store::<Moves>(seat, self.head_word(at.process), d);
     }
 }

@@ -1,16 +1,16 @@
 use Rattle.std.proofs.Common.{refl}
-use Rattle.uni_model.specs.Stages.Stage.{Test}
-use Rattle.uni_words.specs.Standing.{cell_at, head_at}
-use Rattle.uni_words.proofs.Allowed.{few_turns, goes_one, stands_next, within_here}
+use Rattle.uni_words.proofs.Allowed.{cell_word, few_turns, goes_one, may_load, stands_next, within_here}
 use Rattle.uni_words.proofs.log.WordLog.test.Goals as goal
 
-pub load_seq-requires : goal.load_seq-requires
-load_seq-requires g c =
+pub load-requires : goal.load-requires
+load-requires g c =
     let log = c.args.self.now in
-    let at = c.args.at in
-    record { table = c.requires.table; inside = c.requires.cursor.cell; before = record { pending = record { mine = cell_at log at.cell; stage = Test (head_at log at) at.number }; stands = c.requires.stands; loads = refl } }
+    let n = log.setup.n in
+    let k = log.setup.k in
+    may_load g.O.WordObject.sequential log c.args.seat.now.id c.args.seat.now.me _ _ _ c.seq_word.result c.requires.stands tt
+    (cell_word n k 3 c.args.at.cell _ log.few.0 c.requires.cursor.cell c.seq_word.ensures) c.requires.table (λ found seen. refl)
 
 pub returns : goal.returns
 returns g c =
-    let moved = c.load_seq.ensures.moved _ c.requires.stands.call in
-    record { same = c.load_seq.ensures.same; stands = stands_next _ _ _ _ _ _ _ _ _ c.requires.stands moved refl; goes = goes_one _ _ _ _ _ moved refl; within = within_here _ _ _ _ _ _ _ _ moved c.requires.stands; bound = few_turns _ _ _ _ _ _ _ _ moved c.requires.stands }
+    let moved = c.load.ensures.2 _ c.requires.stands.call in
+    record { same = (c.load.ensures.0, c.load.ensures.1); stands = stands_next _ _ _ _ _ _ _ _ _ c.requires.stands moved refl; goes = goes_one _ _ _ _ _ moved refl; within = within_here _ _ _ _ _ _ _ _ moved c.requires.stands; bound = few_turns _ _ _ _ _ _ _ _ moved c.requires.stands }
