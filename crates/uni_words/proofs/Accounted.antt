@@ -1,6 +1,6 @@
 -- Seats that are taken in one after another.
 use Rattle.std.proofs.Common.{All, Contains, flat_map, map, ℕ, ◌≡◌, ◌⊎◌, inl, inr, sym, subst, List, [], ◌∷◌, ◌++◌, arith}
-use Rattle.std.proofs.lemmas.List.Elements.{All-append, All-contains, All-head, All-map, All-tail, Contains-append_left, Contains-append_right, Contains-get_or, Contains-push_cases}
+use Rattle.std.proofs.lemmas.List.Elements.{All-append, All-contains, All-head, All-map, All-tail, Contains-append_left, Contains-append_right, Contains-push_cases}
 use Rattle.uni_model.specs.ProcessCalls.{ProcessCalls}
 use Rattle.uni_words.specs.Belongs.{calls_of, known_calls, seen_by}
 use Rattle.uni_words.specs.View.{Seen}

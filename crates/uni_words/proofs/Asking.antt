@@ -1,5 +1,5 @@
 -- A seat asks about a call.
-use Rattle.std.proofs.Common.{All, ◌≡◌, ◌∙◌, ℕ, zero, suc, ◌+◌, ◌<◌, ◌≤◌, inl, inr, refl, sym, ap, subst, List, [], ◌∷◌, ◌++◌, append-nil, length, map, slice_get, slice_index, slice_set, Contains, Option, Some, None, option_and_then, arith}
+use Rattle.std.proofs.Common.{All, ◌≡◌, ◌∙◌, ℕ, zero, suc, ◌+◌, ◌<◌, ◌≤◌, inl, inr, refl, sym, ap, subst, List, [], ◌∷◌, append-nil, length, map, slice_get, slice_index, slice_set, Contains, Some, None, option_and_then, arith}
 use Rattle.std.proofs.lemmas.List.Elements.{All-append, All-contains, All-map, Contains-append_cases}
 use mathlib.Core.Option.{some}
 use lib.ListN.{get_elem?}
@@ -19,7 +19,7 @@ use Rattle.uni_model.proofs.Growing.{entry_of, slice_get-log}
 use Rattle.uni_model.proofs.OneLists.{HasOneList-held}
 use Rattle.uni_model.proofs.Written.{lt_cases}
 use Rattle.uni_words.specs.Laws.{Leads, after_word}
-use Rattle.uni_words.specs.Run.{AreLogged, opened, run_history, HasSeen}
+use Rattle.uni_words.specs.Run.{AreLogged, opened, HasSeen}
 use Rattle.uni_words.specs.Seats.{HasAsked, HasCall, calls_in_view, logged_in_view}
 use Rattle.uni_words.specs.Shown.{IsShown, LeadsTo, ShowsRun}
 use Rattle.uni_words.specs.View.{FirstCalls, Known, Seen, all_of, asked_of, own_of, seen_of, told_by, up_to}

@@ -1,5 +1,5 @@
 -- What closing tells, in the words of the log.
-use Rattle.std.proofs.Common.{All, ◌≡◌, ◌∙◌, ℕ, List, ◌++◌, append-nil, length, None, map, sym, ap, subst, arith, inl, inr, ◌≤◌, slice_get, take, Contains, Some}
+use Rattle.std.proofs.Common.{All, ◌≡◌, ◌∙◌, ℕ, List, length, None, map, sym, ap, subst, arith, inl, inr, ◌≤◌, slice_get, take, Contains, Some}
 use Rattle.atomic_table.specs.Table.{State, Final, Seen}
 use Rattle.seq_object.specs.Sequential.{Sequential}
 use Rattle.seq_object.specs.History.{IsLegal}

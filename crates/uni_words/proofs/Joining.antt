@@ -1,7 +1,7 @@
 -- A seat takes in another one.
-use Rattle.std.proofs.Common.{◌≡◌, ◌≢◌, ◌∙◌, ℕ, ◌+◌, ◌<◌, ◌≤◌, ◌⊎◌, inl, inr, refl, sym, ap, subst, List, [], ◌∷◌, ◌++◌, append-nil, length, Contains, None, arith, ◌==◌, if◌then◌else◌, set}
-use Rattle.std.proofs.lemmas.List.Elements.{Contains-append_cases, Contains-append_left, Contains-append_right, Contains-push_cases}
-use mathlib.Core.Option.{some, some-injective}
+use Rattle.std.proofs.Common.{◌≡◌, ◌≢◌, ◌∙◌, ℕ, ◌+◌, ◌≤◌, inl, inr, refl, sym, subst, List, [], length, Contains, None, arith, ◌==◌, if◌then◌else◌, set}
+use Rattle.std.proofs.lemmas.List.Elements.{Contains-append_cases}
+use mathlib.Core.Option.{some}
 use lib.ListN.{get_elem?}
 use Rattle.atomic_table.specs.Table.{State, Joins}
 use Rattle.atomic_table.proofs.Lists.{at_set, set_else}
@@ -11,14 +11,13 @@ use Rattle.uni_model.proofs.Written.{number_cases}
 use Rattle.uni_model.specs.ProcessCalls.{ProcessCalls, acts_by, sequential_acts}
 use Rattle.uni_words.specs.Laws.{Leads, after_join}
 use Rattle.uni_words.specs.Run.{run_history, HasSeen}
-use Rattle.uni_words.specs.View.{Seen, Known, Process}
+use Rattle.uni_words.specs.View.{Seen, Process}
 use Rattle.uni_words.specs.Seats.{calls_in_view, logged_in_view, nobody, took_in}
-use Rattle.uni_words.specs.Shown.{IsLocal, IsTaken, Tells, IsAmong, IsShown, LeadsTo, ShowsRun, acts_in_view, pending_count, pending_acts}
+use Rattle.uni_words.specs.Shown.{IsLocal, IsTaken, Tells, IsAmong, IsShown, LeadsTo, ShowsRun, acts_in_view, pending_count}
 use Rattle.uni_words.specs.declared.view.View.{View}
-use Rattle.uni_words.proofs.Happens.{set_there}
 use Rattle.uni_words.proofs.Asking.{sees_now, view_logged}
 use Rattle.uni_words.proofs.Running.{idle_acts, led, no_more}
-use Rattle.uni_words.proofs.Views.{Holds-set, first_or, first_there, later_there}
+use Rattle.uni_words.proofs.Views.{Holds-set, first_or}
 
 -- the calls of a process of which nothing is pending
 pub ended_local : (w : WorldOf ℕ ℕ ℕ) (p : ℕ) (its : Process) → IsLocal w p its → its.call ≡ None → w.begun p ≡ length its.own

@@ -10,16 +10,16 @@ use Rattle.uni_model.specs.AtomicObject.{Act, Invoked}
 use Rattle.uni_model.specs.AtomicObject.Act.{Invoke, Linearize, Respond}
 use Rattle.uni_model.specs.Chain.{invoked_at}
 use Rattle.uni_model.specs.Growth.{EndsNoEra, EndNoEra}
-use Rattle.uni_model.specs.History.{acts_of, calls_of, history_of, log, log_of_run, responses_of}
+use Rattle.uni_model.specs.History.{acts_of, calls_of, log, log_of_run, responses_of}
 use Rattle.uni_model.specs.Places.{Name, Memory, inv_of}
 use Rattle.uni_model.specs.Places.Name.{Of}
 use Rattle.uni_model.specs.Stages.{Pending}
-use Rattle.uni_model.specs.Worlds.{WorldOf, Event, world_after, world_after_all, world_after_call, world_after_step, IsAccepted, AreAccepted}
+use Rattle.uni_model.specs.Worlds.{WorldOf, Event, world_after, world_after_all, world_after_call, world_after_step, IsAccepted}
 use Rattle.uni_model.specs.Transition.{response_after}
 use Rattle.uni_model.specs.Worlds.Event.{Call, Step, Trim, Reshape}
 use Rattle.uni_model.proofs.Written.{number_cases}
 use Rattle.uni_model.specs.ProcessCalls.{ProcessCalls, acts_by, sequential_acts}
-use Rattle.uni_model.proofs.Runs.{world_after_all-snoc, AreAccepted-snoc, history_of-append, history_of-snoc}
+use Rattle.uni_model.proofs.Runs.{world_after_all-snoc, AreAccepted-snoc, history_of-snoc}
 use Rattle.uni_words.specs.Laws.{Leads}
 use Rattle.uni_words.specs.Run.{opened, run_history, HasSeen}
 use Rattle.uni_words.specs.View.{Seen, Known}

@@ -1,5 +1,5 @@
 -- What a run tells: the acts of one process in a history, and that a log is a run's.
-use Rattle.std.specs.Prelude.{All, ◌≡◌, ℕ, zero, suc, ◌<◌, ◌+◌, ◌==◌, List, [], ◌∷◌, ◌++◌, if◌then◌else◌, refl, replicate, Contains, Some}
+use Rattle.std.specs.Prelude.{All, ◌≡◌, ℕ, zero, suc, ◌<◌, List, [], ◌∷◌, ◌++◌, refl, replicate, Contains, Some}
 use Rattle.std.proofs.Common.{arith}
 use Rattle.seq_object.specs.Sequential.{Sequential}
 use Rattle.uni_model.specs.AtomicObject.{Act}
