@@ -124,6 +124,14 @@ uint32_t universal_seat(universal_handle *log, universal_handle *seat, uint64_t 
  * UNIVERSAL_WRONG_HANDLE: *seat has no seat. UNIVERSAL_FULL: it has made its k calls. After either nothing is changed. */
 uint32_t universal_apply(universal_handle *seat, uint64_t inv, universal_reply *answer);
 
+/* Asks whether a call stands in the log: the call `nth`, from 0, of a process, as that process counts its own calls. It
+ * takes no lock and no memory. *is_there is 1 or 0. 1: it stands there, with all that its process made before it, and
+ * all later calls of this seat come after it, in the log that is closed too. It is always 1 of a call that has returned,
+ * so that whoever was told so can rely on it. 0 says nothing; it is 0 where there is no such process or call.
+ *
+ * UNIVERSAL_WRONG_HANDLE: *seat has no seat, and nothing is changed. */
+uint32_t universal_follows(universal_handle *seat, uint64_t process, uint64_t nth, uint32_t *is_there);
+
 /* Closes the log of a seat, by the last handle that has the log: drop the log's own handle and the other seats before.
  * Afterwards *seat has the entries in place of the seat.
  *

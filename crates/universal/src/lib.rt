@@ -15,4 +15,4 @@ pub use uni_record::{
 };
 pub use uni_shared::{ApplyFault, CloseFault, Gate, GaveUp, NoGate, Seat, Shared};
 pub use uni_trim::{ReshapeFault, TrimFault, reshape, trim};
-pub use uni_words::{RowFull, WordLog, WordObject, WordOpenFault, WordReceipt, WordSeat, read_log};
+pub use uni_words::{Answer, RowFull, WordLog, WordObject, WordOpenFault, WordSeat, read_log};
