@@ -70,12 +70,7 @@ pub fn lesson_of<R: Files + Alloc<A = Global>>(rt: &R, case: &str) -> io::Result
 /// Whether this is told of a goal and a script.
 ///
 /// An `Err` is the first fault of the script, or `Memory`.
-fn has_goal(
-    alloc: Global,
-    goal: &[u8],
-    script: &[u8],
-    wanted: &[u8],
-) -> Result<bool, BenchFault>
+fn has_goal(alloc: Global, goal: &[u8], script: &[u8], wanted: &[u8]) -> Result<bool, BenchFault>
     ensures { IfOk result (λ same. (same ≡ true)
         ↔ (wanted.now ≡ judgement_text goal.now (missing_of goal.now script.now))) }
 {
@@ -86,12 +81,7 @@ fn has_goal(
 /// Whether this is written of a script on a world with a flaw.
 ///
 /// An `Err` is the first fault of the script, or `Memory`.
-fn has_flawed(
-    alloc: Global,
-    flaw: Flaw,
-    script: &[u8],
-    wanted: &[u8],
-) -> Result<bool, BenchFault>
+fn has_flawed(alloc: Global, flaw: Flaw, script: &[u8], wanted: &[u8]) -> Result<bool, BenchFault>
     ensures { IfOk result (λ same. same ≡ true → BeginsWithBanner flaw wanted.now) }
 {
     Ok(flawed_text(alloc, flaw, script)?.as_slice() == wanted)

@@ -142,7 +142,11 @@ fn tell_case<R: Files + Threads + Wait + Watch + Sync + Print + Alloc<A = Global
     }
     if let Some(lesson) = lesson_of(rt, path)? {
         let name = format!(in rt.alloc(); "{path}.lesson")?;
-        tally.tell(rt, name.as_str(), agrees_on_lesson(rt.alloc(), &case, &lesson))?;
+        tally.tell(
+            rt,
+            name.as_str(),
+            agrees_on_lesson(rt.alloc(), &case, &lesson),
+        )?;
     }
     Ok(())
 }

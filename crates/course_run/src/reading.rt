@@ -11,7 +11,7 @@ const MANY_BYTES: u64 = 20_100_001;
 /// The bytes of a script or a goal, as far as a script can have them.
 ///
 /// An `Err` says that the reader failed, or that memory was refused.
-pub fn read_text<R: Read>(alloc: Global, input: R) -> Result<Vec<u8>, BenchFault> {
+pub fn read_text<R: Read + Drop>(alloc: Global, input: R) -> Result<Vec<u8>, BenchFault> {
     let mut text = Vec::new(alloc);
     match input.take(MANY_BYTES).read_to_end(&mut text) {
         Ok(_) => Ok(text),
