@@ -89,14 +89,18 @@ uint32_t universal_open_sticky(uint64_t n, uint64_t k, universal_handle *log);
  * The statuses are those of universal_open_tally. */
 uint32_t universal_open_register(uint64_t n, uint64_t k, universal_handle *log);
 
-/* The invocations of a register; values are below 2^31. A write is answered 0, each other call the value before. */
+/* The lowest 31 bits of a number: of -1 they are 2^31 - 1, which is what adding -1 modulo 2^31 wants. */
+#define UNIVERSAL_31_BITS(number) ((uint64_t)(number) & 0x7fffffff)
+
+/* The invocations of a register; of each value the lowest 31 bits count. A write is answered 0, each other call the
+ * value before. */
 #define UNIVERSAL_READ ((uint64_t)0)
-#define UNIVERSAL_WRITE(value) (((uint64_t)1 << 31) + (uint64_t)(value))
-#define UNIVERSAL_SWAP(value) (((uint64_t)2 << 31) + (uint64_t)(value))
-#define UNIVERSAL_FETCH_ADD(number) (((uint64_t)3 << 31) + (uint64_t)(number))
-#define UNIVERSAL_FETCH_MAX(value) (((uint64_t)4 << 31) + (uint64_t)(value))
+#define UNIVERSAL_WRITE(value) (((uint64_t)1 << 31) + UNIVERSAL_31_BITS(value))
+#define UNIVERSAL_SWAP(value) (((uint64_t)2 << 31) + UNIVERSAL_31_BITS(value))
+#define UNIVERSAL_FETCH_ADD(number) (((uint64_t)3 << 31) + UNIVERSAL_31_BITS(number))
+#define UNIVERSAL_FETCH_MAX(value) (((uint64_t)4 << 31) + UNIVERSAL_31_BITS(value))
 #define UNIVERSAL_COMPARE_EXCHANGE(expected, value) \
-    (((((uint64_t)1 << 31) + (uint64_t)(expected)) << 31) + (uint64_t)(value))
+    (((((uint64_t)1 << 31) + UNIVERSAL_31_BITS(expected)) << 31) + UNIVERSAL_31_BITS(value))
 
 /* Opens a log of the machine of two tables, which are copied. Its states are the numbers below `states`, of which 0 is
  * the start; its invocations are those below `invocations`, and each greater inv is the last of them. In state s a call
@@ -119,6 +123,14 @@ uint32_t universal_seat(universal_handle *log, universal_handle *seat, uint64_t 
  *
  * UNIVERSAL_WRONG_HANDLE: *seat has no seat. UNIVERSAL_FULL: it has made its k calls. After either nothing is changed. */
 uint32_t universal_apply(universal_handle *seat, uint64_t inv, universal_reply *answer);
+
+/* Asks whether a call stands in the log: the call `nth`, from 0, of a process, as that process counts its own calls. It
+ * takes no lock and no memory. *is_there is 1 or 0. 1: it stands there, with all that its process made before it, and
+ * all later calls of this seat come after it, in the log that is closed too. It is always 1 of a call that has returned,
+ * so that whoever was told so can rely on it. 0 says nothing; it is 0 where there is no such process or call.
+ *
+ * UNIVERSAL_WRONG_HANDLE: *seat has no seat, and nothing is changed. */
+uint32_t universal_follows(universal_handle *seat, uint64_t process, uint64_t nth, uint32_t *is_there);
 
 /* Closes the log of a seat, by the last handle that has the log: drop the log's own handle and the other seats before.
  * Afterwards *seat has the entries in place of the seat.

@@ -51,7 +51,7 @@ static void objects(void) {
     IS(replied(&seat, 10), 8);
     universal_drop(&seat);
 
-    IS(universal_open_register(1, 8, &log), UNIVERSAL_DONE);
+    IS(universal_open_register(1, 12, &log), UNIVERSAL_DONE);
     seat = only_seat(&log);
     IS(replied(&seat, UNIVERSAL_WRITE(5)), 0);
     IS(replied(&seat, UNIVERSAL_SWAP(9)), 5);
@@ -61,6 +61,10 @@ static void objects(void) {
     IS(replied(&seat, UNIVERSAL_COMPARE_EXCHANGE(1, 2)), 20);
     IS(replied(&seat, UNIVERSAL_COMPARE_EXCHANGE(20, 2)), 20);
     IS(replied(&seat, UNIVERSAL_READ), 2);
+    IS(replied(&seat, UNIVERSAL_FETCH_ADD(-1)), 2);
+    IS(replied(&seat, UNIVERSAL_COMPARE_EXCHANGE(1, -1)), 1);
+    IS(replied(&seat, UNIVERSAL_WRITE(UINT64_MAX)), 0);
+    IS(replied(&seat, UNIVERSAL_READ), 2147483647);
     universal_drop(&seat);
 
     uint32_t next[] = {0, 1, 1, 0}, reply[] = {0, 0, 1, 1};

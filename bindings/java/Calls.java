@@ -89,7 +89,9 @@ public final class Calls {
     private static void busy() throws Exception {
         Log log = Log.tally(2, 2);
         Seat first = log.seat(), second = log.seat();
+        is(second.follows(first.process, 0), false);
         is(first.apply(3), 0);
+        is(second.follows(first.process, 0), true);
         refuses(Fault.BUSY, first::finish);
         log.close();
         refuses(Fault.BUSY, first::finish);

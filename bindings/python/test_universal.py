@@ -54,6 +54,16 @@ class Calls(unittest.TestCase):
         self.assertRaises(ValueError, lambda: seat.apply(1 << 64))
         self.assertEqual(seat.close(), [Entry(seq=2, process=0, nth=0, inv=4, reply=0)])
 
+    def test_follows(self):
+        with Log.tally(2, 1) as log:
+            first, second = log.seats()
+        self.assertFalse(first.follows(0, 0))
+        second.apply(5)
+        self.assertTrue(first.follows(0, 0))
+        self.assertFalse(first.follows(0, 1))
+        self.assertFalse(first.follows(2, 0))
+        self.assertEqual(first.apply(3).reply, 5)
+
     def test_busy(self):
         log = Log.tally(2, 2)
         first, second = log.seats()

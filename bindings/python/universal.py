@@ -114,6 +114,7 @@ _SIGNATURES = {
     ],
     "universal_seat": [POINTER(_Handle), POINTER(_Handle), POINTER(c_uint64)],
     "universal_apply": [POINTER(_Handle), c_uint64, POINTER(_Reply)],
+    "universal_follows": [POINTER(_Handle), c_uint64, c_uint64, POINTER(c_uint32)],
     "universal_close": [POINTER(_Handle)],
     "universal_read": [POINTER(_Handle), POINTER(_Entry), c_size_t, POINTER(c_size_t)],
     "universal_compare": [POINTER(_Handle), c_uint64, POINTER(_Call), c_size_t, POINTER(c_uint64)],
@@ -256,6 +257,15 @@ class Seat(_Held):
         answer = _Reply()
         self._call("universal_apply", byref(self._handle), _number(inv, 64), byref(answer))
         return Reply(answer.reply, answer.turns)
+
+    def follows(self, process: int, nth: int) -> bool:
+        """Whether the call nth, from 0, of a process stands in the log: all later calls of this seat come after it then.
+
+        It is always true of a call that has returned.
+        """
+        is_there = c_uint32()
+        self._call("universal_follows", byref(self._handle), _number(process, 64), _number(nth, 64), byref(is_there))
+        return is_there.value != 0
 
     def close(self, told: Mapping[int, Sequence[tuple[int, int]]] | None = None) -> list[Entry]:
         """Closes the log, by the last that has it: all calls, in their order.

@@ -33,6 +33,15 @@ public final class Seat implements AutoCloseable {
     }
 
     /**
+     * Whether the call nth, from 0, of a process stands in the log: all later calls of this seat come after it then. It is
+     * always true of a call that has returned.
+     */
+    public synchronized boolean follows(long process, long nth) throws Refused {
+        Universal.done(() -> (int) Universal.FOLLOWS.invokeExact(handle.use(), process, nth, answer));
+        return answer.get(JAVA_INT, 0) != 0;
+    }
+
+    /**
      * Closes the log, by the last that has it: all calls, in their order. Refused: another has the log, and the seat stays;
      * memory was refused, and the log is lost.
      */

@@ -25,6 +25,7 @@ final class Universal {
             JAVA_LONG, ADDRESS, JAVA_LONG, ADDRESS);
     static final MethodHandle SEAT = status("universal_seat", ADDRESS, ADDRESS, ADDRESS);
     static final MethodHandle APPLY = status("universal_apply", ADDRESS, JAVA_LONG, ADDRESS);
+    static final MethodHandle FOLLOWS = status("universal_follows", ADDRESS, JAVA_LONG, JAVA_LONG, ADDRESS);
     static final MethodHandle CLOSE = status("universal_close", ADDRESS);
     static final MethodHandle READ = status("universal_read", ADDRESS, ADDRESS, JAVA_LONG, ADDRESS);
     static final MethodHandle COMPARE = status("universal_compare", ADDRESS, JAVA_LONG, ADDRESS, JAVA_LONG, ADDRESS);

@@ -183,6 +183,12 @@ impl Seat {
         self.handle.apply(inv)
     }
 
+    /// Asks whether the call `nth`, from 0, of a process stands in the log. `true`: it does, and all later calls of this
+    /// seat come after it, in the closed log too. It is always `true` of a call that has returned.
+    pub fn follows(&mut self, process: u64, nth: u64) -> bool {
+        self.handle.follows(process, nth).expect("a seat's handle has a seat")
+    }
+
     /// Closes the log, if this is the last handle that has it: all calls, in their order.
     pub fn close(self) -> Result<Vec<Entry>, NotClosed> {
         Ok(self.finish()?.entries())

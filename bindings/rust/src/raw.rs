@@ -73,6 +73,7 @@ extern "C" {
     ) -> u32;
     fn universal_seat(log: &mut Handle, seat: &mut Handle, process: &mut u64) -> u32;
     fn universal_apply(seat: &mut Handle, inv: u64, answer: &mut Reply) -> u32;
+    fn universal_follows(seat: &mut Handle, process: u64, nth: u64, is_there: &mut u32) -> u32;
     fn universal_close(seat: &mut Handle) -> u32;
     fn universal_read(log: &mut Handle, entries: *mut Entry, capacity: usize, count: &mut usize) -> u32;
     fn universal_compare(log: &mut Handle, process: u64, calls: *const Call, count: usize, nth: &mut u64) -> u32;
@@ -133,6 +134,12 @@ impl Handle {
         let mut reply = Reply::default();
         Fault::of(unsafe { universal_apply(self, inv, &mut reply) })?;
         Ok(reply)
+    }
+
+    pub(crate) fn follows(&mut self, process: u64, nth: u64) -> Result<bool, Fault> {
+        let mut is_there = 0;
+        Fault::of(unsafe { universal_follows(self, process, nth, &mut is_there) })?;
+        Ok(is_there != 0)
     }
 
     pub(crate) fn close(&mut self) -> Result<(), Fault> {

@@ -171,3 +171,15 @@ fn handles_go_to_other_threads() {
     goes::<Log>();
     goes::<universal::Seat>();
 }
+
+#[test]
+fn a_call_that_has_returned_is_there() {
+    let mut seats = Log::tally(2, 1).unwrap().into_seats().unwrap();
+    assert!(!seats[0].follows(0, 0));
+    seats[1].apply(5).unwrap();
+    assert!(seats[0].follows(0, 0));
+    assert!(!seats[0].follows(0, 1));
+    assert!(!seats[0].follows(2, 0));
+    assert!(!seats[0].follows(1 << 32, 0));
+    assert_eq!(seats[0].apply(3).unwrap().reply, 5);
+}

@@ -1,7 +1,7 @@
 //! The files of a case.
 
 use crate::compare::Wanted;
-use case_files::file_if_any;
+use crate::files::file_if_any;
 use std::alloc::{AllocError, Global};
 use std::fs::Files;
 use std::io;

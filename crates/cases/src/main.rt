@@ -9,18 +9,26 @@
 //!
 //! Without a file the script, the answers and the fault are empty, the words are `unibench replay`, and the status
 //! is 2 where there is a fault and 0 where there is none.
+//!
+//! Where there is `NAME.goal`, the script meets that goal, and of the script `NAME.beside`, which misses the point,
+//! `NAME.missing` is told. Where there is `NAME.flaw`, that names a flaw, and `NAME.flawed` is written of the script on
+//! a world with it. In both a plain world of the same steps gives the answers too.
 #![tactic(auto)]
 
 mod case;
 mod compare;
+mod files;
+mod lesson;
 mod pieces;
 
 use crate::case::{Case, case_of, picture_case_of, words_of};
 use crate::compare::{Wanted, is_drawn, is_run};
+use crate::files::names_in;
+use crate::lesson::{Lesson, is_about, lesson_of};
 use crate::pieces::Pieces;
-use case_files::names_in;
 use std::alloc::Global;
 use std::env::Env;
+use std::fs::Files;
 use std::sync::Wait;
 use std::thread::Threads;
 use std::{env, io};
@@ -99,25 +107,48 @@ struct Tally {
 }
 
 impl Tally {
-    /// Runs a case, counts it, and prints its name with what came of it.
-    fn tell<R: Threads + Wait + Watch + Sync + Print + Alloc<A = Global>>(
-        &mut self,
-        rt: &R,
-        name: &str,
-        case: &Case,
-    ) -> io::Result<()> {
-        let agreed = agrees(rt, rt.alloc(), case);
+    /// Counts a case, and prints its name with whether it agrees; `None` says that it was not run.
+    fn tell<R: Print>(&mut self, rt: &R, name: &str, agreed: Option<bool>) -> io::Result<()> {
         match agreed {
-            Ok(true) => self.agree = self.agree.saturating_add(1),
+            Some(true) => self.agree = self.agree.saturating_add(1),
             _ => self.differ = self.differ.saturating_add(1),
         }
         let verdict = match agreed {
-            Ok(true) => "agrees",
-            Ok(false) => "differs",
-            Err(_) => "was not run",
+            Some(true) => "agrees",
+            Some(false) => "differs",
+            None => "was not run",
         };
         println!(rt; "{name} {verdict}")
     }
+}
+
+/// Whether a case is about this lesson; `None` where a script has a fault, or memory was refused.
+fn agrees_on_lesson(alloc: Global, case: &Case, lesson: &Lesson) -> Option<bool> {
+    let script = case.scripts.first()?.as_slice();
+    is_about(alloc, script, case.wanted.answers.as_slice(), lesson).ok()
+}
+
+/// Runs the case of this name, with its picture and its lesson, if it has them.
+fn tell_case<R: Files + Threads + Wait + Watch + Sync + Print + Alloc<A = Global>>(
+    rt: &R,
+    path: &str,
+    tally: &mut Tally,
+) -> io::Result<()> {
+    let case = case_of(rt, path)?;
+    tally.tell(rt, path, agrees(rt, rt.alloc(), &case).ok())?;
+    if let Some(picture) = picture_case_of(rt, path)? {
+        let name = format!(in rt.alloc(); "{path}.svg")?;
+        tally.tell(rt, name.as_str(), agrees(rt, rt.alloc(), &picture).ok())?;
+    }
+    if let Some(lesson) = lesson_of(rt, path)? {
+        let name = format!(in rt.alloc(); "{path}.lesson")?;
+        tally.tell(
+            rt,
+            name.as_str(),
+            agrees_on_lesson(rt.alloc(), &case, &lesson),
+        )?;
+    }
+    Ok(())
 }
 
 fn main(rt: HostRuntime) -> io::Result<()> {
@@ -128,14 +159,7 @@ fn main(rt: HostRuntime) -> io::Result<()> {
     for folder in env::args(&rt)?.skip(1) {
         for name in names_in(&rt, folder.as_str())?.iter() {
             let path = format!(in rt.alloc(); "{folder}/{name}")?;
-            tally.tell(&rt, path.as_str(), &case_of(&rt, path.as_str())?)?;
-            if let Some(picture) = picture_case_of(&rt, path.as_str())? {
-                tally.tell(
-                    &rt,
-                    format!(in rt.alloc(); "{path}.svg")?.as_str(),
-                    &picture,
-                )?;
-            }
+            tell_case(&rt, path.as_str(), &mut tally)?;
         }
     }
     println!(rt; "{} agree, {} differ", tally.agree, tally.differ)

@@ -2,61 +2,90 @@
 //! broke. The first line says that this is not the proved construction.
 #![tactic(auto)]
 
-use flawed_run::{Flaw, run};
+use course_run::{Flaw, read_text, run_flawed};
 use std::alloc::Global;
 use std::env::Env;
-use std::io::{Read, Stdin};
 use std::process::ExitCode;
 use std::{env, io};
-use uni_script::{Checked, tell};
+use uni_script::{Checked, report_fault, tell};
 
-/// More bytes than a script without a fault has: 100,000 lines of 200 bytes, each with its end, and one.
-const MANY_BYTES: u64 = 20_100_001;
+/// What the program does, which flaws there are, and how it ends.
+const HELP: &[u8] = b"\
+Runs the script on standard input on a construction that is wrong
 
-/// What is told where the words ask for nothing that there is.
-const USAGE: &[u8] = b"\
-usage: flawed FLAW < SCRIPT
-FLAW is nothing, never-helps, helps-blindly, number-first, last-wins, newest-reply or trims-pending
+Usage: flawed FLAW < SCRIPT
+
+The script's object is a queue or a sticky register.
+
+Flaws:
+  nothing        a plain world that has no flaw
+  never-helps    it never helps
+  helps-blindly  it helps without looking at the helped number
+  number-first   it writes the number before the state is settled
+  last-wins      it lets the last proposal win
+  newest-reply   it takes the reply from the newest state
+  trims-pending  it trims with a call pending
+
+Status:
+  0 where all went well, 2 for a bad command line or script, 3 where the input or
+  the output failed, 4 where memory was refused.
 ";
 
-/// The flaw that the one argument names; `None` where it names none, or there is another number of them.
-fn flaw_of<R: Env + Alloc<A = Global>>(rt: &R) -> io::Result<Option<Flaw>> {
+/// What is told of words that name no flaw.
+const NO_FLAW: &[u8] = b"\
+error: one flaw is wanted
+  [flaws: nothing, never-helps, helps-blindly, number-first, last-wins, newest-reply, trims-pending]
+
+Usage: flawed FLAW < SCRIPT
+
+For more information, try '--help'.
+";
+
+/// What the words ask for.
+#[derive(Clone, Copy)]
+enum Request {
+    /// The help.
+    Help,
+    /// A run with this flaw.
+    Flaw(Flaw),
+}
+
+/// What the words ask for; `None` where they name no flaw, or can't be read.
+fn request_of<R: Env + Alloc<A = Global>>(rt: &R) -> io::Result<Option<Request>> {
     let words: Vec<String> = env::args(rt)?.collect(rt.alloc())?;
     match words.as_slice() {
-        [_, word] => Ok(Flaw::named(word.as_str())),
+        [_, word] if matches!(word.as_str(), "--help" | "-h" | "help") => Ok(Some(Request::Help)),
+        [_, word] => Ok(Flaw::named(word.as_str()).map(Request::Flaw)),
         _ => Ok(None),
     }
 }
 
-/// The bytes of standard input, as far as a script can have them.
-fn script_of(alloc: Global, input: Stdin) -> io::Result<Vec<u8>> {
-    let mut script = Vec::new(alloc);
-    input.take(MANY_BYTES).read_to_end(&mut script)?;
-    Ok(script)
-}
-
-fn main(rt: HostRuntime) -> ExitCode {
+/// Runs the script on standard input on a world with a flaw; the answer is the status.
+fn run(rt: &HostRuntime, flaw: Flaw) -> u8 {
     let mut output = Checked::new(rt.stdout());
     let mut faults = Checked::new(rt.stderr());
-    let flaw = match flaw_of(&rt) {
-        Ok(Some(flaw)) => flaw,
-        _ => {
-            tell(&mut faults, USAGE);
-            return ExitCode::from(2);
-        }
-    };
-    let status = match script_of(rt.alloc(), rt.stdin()) {
-        Ok(script) => run(
+    match read_text(rt.alloc(), rt.stdin()) {
+        Ok(script) => run_flawed(
             rt.alloc(),
             flaw,
             script.as_slice(),
             &mut output,
             &mut faults,
         ),
-        Err(_) => {
-            tell(&mut faults, b"cannot read\n");
-            3
+        Err(fault) => report_fault(rt.alloc(), fault, &mut faults),
+    }
+}
+
+fn main(rt: HostRuntime) -> ExitCode {
+    match request_of(&rt) {
+        Ok(Some(Request::Flaw(flaw))) => ExitCode::from(run(&rt, flaw)),
+        Ok(Some(Request::Help)) => {
+            tell(&mut Checked::new(rt.stdout()), HELP);
+            ExitCode::SUCCESS
         }
-    };
-    ExitCode::from(status)
+        _ => {
+            tell(&mut Checked::new(rt.stderr()), NO_FLAW);
+            ExitCode::from(2)
+        }
+    }
 }

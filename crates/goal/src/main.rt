@@ -2,60 +2,109 @@
 //! or the first line of the goal that isn't met, with status 1.
 #![tactic(auto)]
 
-use goal_run::run;
+use course_run::{read_text, run_goal};
 use std::alloc::Global;
 use std::env::Env;
-use std::fs::Files;
-use std::io::{Read, Stdin};
+use std::fs::{File, Files};
 use std::process::ExitCode;
-use std::{env, fs, io};
-use uni_script::{Checked, tell};
+use std::{env, io};
+use uni_script::{BenchFault, Checked, report_fault, tell};
 
-/// More bytes than a script without a fault has: 100,000 lines of 200 bytes, each with its end, and one.
-const MANY_BYTES: u64 = 20_100_001;
+/// What the program does, and how it ends.
+const HELP: &[u8] = b"\
+Judges the script on standard input by a goal
 
-/// The goal whose file the one argument names.
-fn goal_of<R: Env + Files + Alloc<A = Global>>(rt: &R) -> io::Result<Option<Vec<u8>>> {
+Usage: goal GOAL < SCRIPT
+
+GOAL is a file. An empty line of it, and one that begins with `#`, is a note. Each
+other line asks for one thing:
+
+  no refusals          no command is refused
+  at most N lines      the script has at most N lines, notes aside
+  log P.M before Q.L   a log that was answered has call P.M, and Q.L after it
+  script TEXT          a line of the script is TEXT
+  TEXT                 a line of the answers is TEXT
+
+The first `..` in a TEXT stands for any text, or none.
+
+Status:
+  0 where the goal is met, 1 where a line of it isn't, 2 for a bad command line or a
+  fault of the script, 3 where an input or the output failed, 4 where memory was
+  refused.
+";
+
+/// What is told of words that name no goal.
+const NO_GOAL: &[u8] = b"\
+error: the file of one goal is wanted
+
+Usage: goal GOAL < SCRIPT
+
+For more information, try '--help'.
+";
+
+/// What the words ask for.
+#[derive(Drop)]
+enum Request {
+    /// The help.
+    Help,
+    /// A judgement by the goal of the file of this path.
+    Goal(String),
+}
+
+/// What the words ask for; `None` where they are none or several, or can't be read.
+fn request_of<R: Env + Alloc<A = Global>>(rt: &R) -> io::Result<Option<Request>> {
     let words: Vec<String> = env::args(rt)?.collect(rt.alloc())?;
     match words.as_slice() {
-        [_, path] => Ok(Some(fs::read(rt, path.as_str())?)),
+        [_, word] if matches!(word.as_str(), "--help" | "-h" | "help") => Ok(Some(Request::Help)),
+        [_, path] => Ok(Some(Request::Goal(path.clone()?))),
         _ => Ok(None),
     }
 }
 
-/// The bytes of standard input, as far as a script can have them.
-fn script_of(alloc: Global, input: Stdin) -> io::Result<Vec<u8>> {
-    let mut script = Vec::new(alloc);
-    input.take(MANY_BYTES).read_to_end(&mut script)?;
-    Ok(script)
+/// The goal of the file of this path.
+///
+/// An `Err` says that it can't be read, or that memory was refused.
+fn goal_in<R: Files + Alloc<A = Global>>(rt: &R, path: &str) -> Result<Vec<u8>, BenchFault> {
+    match File::open(rt, path) {
+        Ok(file) => read_text(rt.alloc(), file),
+        Err(_) => Err(BenchFault::Read),
+    }
 }
 
-fn main(rt: HostRuntime) -> ExitCode {
+/// Judges the script on standard input by the goal of the file of this path; the answer is the status.
+fn judge(rt: &HostRuntime, path: &str) -> u8 {
     let mut output = Checked::new(rt.stdout());
     let mut faults = Checked::new(rt.stderr());
-    let goal = match goal_of(&rt) {
-        Ok(Some(goal)) => goal,
-        Ok(None) => {
-            tell(&mut faults, b"usage: goal GOAL < SCRIPT\n");
-            return ExitCode::from(2);
-        }
-        Err(_) => {
+    let goal = match goal_in(rt, path) {
+        Ok(goal) => goal,
+        Err(BenchFault::Read) => {
             tell(&mut faults, b"cannot read the goal\n");
-            return ExitCode::from(3);
+            return 3;
         }
+        Err(fault) => return report_fault(rt.alloc(), fault, &mut faults),
     };
-    let status = match script_of(rt.alloc(), rt.stdin()) {
-        Ok(script) => run(
+    match read_text(rt.alloc(), rt.stdin()) {
+        Ok(script) => run_goal(
             rt.alloc(),
             goal.as_slice(),
             script.as_slice(),
             &mut output,
             &mut faults,
         ),
-        Err(_) => {
-            tell(&mut faults, b"cannot read\n");
-            3
+        Err(fault) => report_fault(rt.alloc(), fault, &mut faults),
+    }
+}
+
+fn main(rt: HostRuntime) -> ExitCode {
+    match request_of(&rt) {
+        Ok(Some(Request::Goal(path))) => ExitCode::from(judge(&rt, path.as_str())),
+        Ok(Some(Request::Help)) => {
+            tell(&mut Checked::new(rt.stdout()), HELP);
+            ExitCode::SUCCESS
         }
-    };
-    ExitCode::from(status)
+        _ => {
+            tell(&mut Checked::new(rt.stderr()), NO_GOAL);
+            ExitCode::from(2)
+        }
+    }
 }

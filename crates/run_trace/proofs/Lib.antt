@@ -1,5 +1,5 @@
-pub mod Announcing
-pub mod Preferring
+pub mod Proposing
+pub mod Staying
 pub mod Telling
 pub mod EachEvent
 pub mod PlacesMore

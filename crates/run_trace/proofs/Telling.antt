@@ -1,6 +1,6 @@
 -- The frame of an event, put together from what was read.
-use Rattle.std.proofs.Common.{◌≡◌, ◌∙◌, Result, Ok, Err, OnOk, Bool, false, ℕ, ◌-◌, refl, sym, ap, List, [], ◌∷◌, ◌++◌, Option, None, Some, append_assoc, codes}
-use Rattle.std.specs.Prelude.{option_map}
+use Rattle.std.proofs.Common.{◌≡◌, ◌∙◌, Bool, false, ℕ, ◌-◌, refl, sym, ap, List, [], ◌∷◌, ◌++◌, Option, None, Some, append_assoc, codes}
+use Rattle.std.specs.Prelude.{option_map, option_and_then}
 use Rattle.std.specs.Option.{option_map_or}
 use Rattle.seq_object.specs.Sequential.{Sequential}
 use Rattle.seq_object.specs.declared.call_id.CallId.{CallId}
@@ -12,7 +12,7 @@ use Rattle.uni_model.specs.Transition.{place_of}
 use Rattle.uni_model.specs.Worlds.{WorldOf, world_after, world_after_step, response_of_step}
 use Rattle.uni_model.specs.Worlds.Event.{Step}
 use Rattle.uni_model.specs.Invariant.{Invariant}
-use Rattle.uni_core.specs.Readers.{kind_of, place_named}
+use Rattle.uni_core.specs.Readers.{call_of_name, kind_of, place_named, proposed_at}
 use Rattle.uni_core.specs.World.{current_of, name_in, progress_of}
 use Rattle.uni_core.specs.declared.fault.Progress.{Progress}
 use Rattle.uni_core.specs.declared.stage.Place.{Place as PlaceById}
@@ -22,11 +22,8 @@ use Rattle.std.specs.Str.{bytes_eq}
 use Rattle.run_trace.specs.Held.{Field, Held, alone, change_of, field_name, held}
 use Rattle.run_trace.specs.Frames.{answered, Begun, Stepped, Frame, Steps, begun, stepped, frame_of}
 use Rattle.run_trace.specs.Scenes.{Scene, memory_asked, scene_of, scenes_from}
-use Rattle.run_trace.specs.declared.preferences.Preference.{Preference}
-use Rattle.run_trace.specs.Preferred.{preferred_from, IsPreferred}
 use Rattle.run_trace.specs.Proposal.{proposal_told}
-use Rattle.run_trace.proofs.Announcing.{unmade, asked}
-use Rattle.run_trace.proofs.Preferring.{proposal_is}
+use Rattle.run_trace.proofs.Proposing.{unmade, asked, proposal_is, proposed_in}
 
 steps_are : (a b : Stepped) → a.call ≡ b.call → a.kind ≡ b.kind → a.before ≡ b.before → a.after ≡ b.after → a.proposed ≡ b.proposed → a.next ≡ b.next → a.steps ≡ b.steps → a.turns ≡ b.turns → a.reply ≡ b.reply → a ≡ b
 steps_are a b c k e f o n s t r =
@@ -43,11 +40,6 @@ answered-progress o progress is = ap answered is ∙ by_response o where
   by_response : {R : Type 0} (p : Option R) → answered (progress_of p) ≡ p
   by_response None = refl
   by_response (Some r) = refl
-
--- what holds whatever an answer is
-pub on_ok_held : {A E : Type 0} (r : Result A E) (P : Type 0) → P → OnOk r P
-on_ok_held (Ok a) P p = p
-on_ok_held (Err e) P p = tt
 
 -- a call, by its process and its number
 pub call_is : (call : CallId) (p k : ℕ) → call.process ≡ p → call.nth ≡ k → call ≡ record { process = p; nth = k }
@@ -72,18 +64,19 @@ module _ {S I R : Type 0} where
 
   module _ (object : Sequential S I R) (l : Language I R) (text : S → List ℕ) where
     -- a step
-    pub stepped_is : (w v : WorldOf S I R) → Invariant object w → (p : ℕ) (place : PlaceById) (s : Stepped) (notes : List Preference) → IsPreferred w notes
+    pub stepped_is : (w v : WorldOf S I R) → Invariant object w → (p : ℕ) (place : PlaceById) (s : Stepped) (proposes : Option CallId)
         → current_of w p ≡ Some s.call
         → option_map (λ (c : Pending). kind_of c.stage) (w.call p) ≡ Some s.kind
         → option_map (λ (c : Pending). place_of w.n p c.mine c.stage) (w.call p) ≡ Some (place_named (name_in w) place)
         → v ≡ world_after object w (Step p)
         → s.before ≡ held l text w.memory (place_named (name_in w) place)
         → s.after ≡ held l text v.memory (place_named (name_in v) place)
-        → s.proposed ≡ proposal_told s.kind (preferred_from None notes p) s.after
+        → proposes ≡ option_and_then call_of_name (option_and_then (λ (c : Pending). proposed_at c.stage) (w.call p))
+        → s.proposed ≡ proposal_told s.kind proposes s.after
         → s.next ≡ option_map (λ (c : Pending). kind_of c.stage) (v.call p) → s.steps ≡ v.steps p → s.turns ≡ v.turns p
         → s.reply ≡ option_map l.resp_text (response_of_step w p)
         → Some s ≡ option_map (stepped object l text w p) (w.call p)
-    stepped_is w v inv p place s notes noted current kinded placed world before after proposed next steps turns reply = by_call (w.call p) refl current kinded placed
+    stepped_is w v inv p place s proposes current kinded placed world before after offers proposed next steps turns reply = by_call (w.call p) refl current kinded placed
       where
         by_call : (o : Option Pending) → w.call p ≡ o → option_map (λ (c : Pending). let named : CallId = record { process = p; nth = w.begun p - 1 } in named) o ≡ Some s.call
             → option_map (λ (c : Pending). kind_of c.stage) o ≡ Some s.kind
@@ -97,8 +90,9 @@ module _ {S I R : Type 0} where
             let later = after ∙ ap (λ name. held l text v.memory (place_named name place)) (names_kept object w v p world)
             ∙ ap (λ (u : WorldOf S I R). held l text u.memory (place_named (name_in w) place)) world
             ∙ ap (held l text (world_after object w (Step p)).memory) there in
-            let offered = proposed ∙ ap (λ k. proposal_told k (preferred_from None notes p) s.after) same_kind
-            ∙ ap (proposal_told (kind_of c.stage) (preferred_from None notes p)) later ∙ sym (proposal_is object w l text inv p c notes some noted) in
+            let offered = proposed ∙ ap (λ k. proposal_told k proposes s.after) same_kind
+            ∙ ap (λ o. proposal_told (kind_of c.stage) o s.after) (offers ∙ proposed_in object w p c some)
+            ∙ ap (proposal_told (kind_of c.stage) (option_and_then call_of_name (proposed_at c.stage))) later ∙ sym (proposal_is object w l text inv p c some) in
             ap Some (steps_are s (stepped object l text w p c) same_call same_kind (before ∙ ap (held l text w.memory) there) later offered
             (next ∙ ap (λ (u : WorldOf S I R). option_map (λ (d : Pending). kind_of d.stage) (u.call p)) world)
             (steps ∙ ap (λ (u : WorldOf S I R). u.steps p) world) (turns ∙ ap (λ (u : WorldOf S I R). u.turns p) world) reply)

@@ -1,7 +1,5 @@
-pub mod Announced
 pub mod Held
 pub mod Proposal
-pub mod Preferred
 pub mod Frames
 pub mod Whole
 pub mod Scenes

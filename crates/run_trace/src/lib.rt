@@ -8,7 +8,6 @@
 mod frame;
 mod laws;
 mod places;
-mod preferences;
 mod replay;
 mod whole;
 

@@ -1,13 +1,11 @@
 //! What the places of a world hold, as text.
 
-ghost use Rattle.std.specs.Prelude.{◌≡◌, ◌<◌, None, Some, IfOk, OnOk, IsSome, codes, option_map};
+ghost use Rattle.std.specs.Prelude.{◌≡◌, ◌<◌, Some, IfOk, IfSome, IsSome, codes, option_map};
 ghost use Rattle.std.specs.Option.{option_copied};
 ghost use Rattle.cell_arena.specs.Arena.{cell_of};
-ghost use Rattle.uni_model.specs.Places.{head_of};
 ghost use Rattle.uni_model.specs.Places.Place.{Announced, HeadOf, SeqOf, AfterOf, NewOf, BeforeOf};
-ghost use Rattle.uni_core.specs.Readers.{call_of_name, place_named};
+ghost use Rattle.uni_core.specs.Readers.{place_named, IsPlaceIn};
 ghost use Rattle.uni_core.specs.World.{name_in, world_of};
-ghost use Rattle.run_trace.specs.Announced.{announced_from, later, IsMirrored};
 ghost use Rattle.run_trace.specs.Held.{alone, cell_text, entry_name, field_name, held, link_text, reply_text};
 ghost use Rattle.run_trace.specs.Held.{state_text};
 ghost use Rattle.run_trace.specs.Shown.{held_shown};
@@ -66,80 +64,6 @@ pub(crate) fn alone(name: Vec<u8>, text: Vec<u8>) -> Held
     }
 }
 
-/// The call that a process has announced last, after a further one was announced.
-fn later(call: CallId, last: Option<CallId>, process: u64) -> Option<CallId>
-    ensures { result ≡ later call last process }
-{
-    if process == u64::from(call.process) {
-        Some(call)
-    } else {
-        last
-    }
-}
-
-/// The call that a process has announced last, among calls in the order in which they were announced.
-fn announced_by(calls: &[CallId], process: u64) -> Option<CallId>
-    ensures { result ≡ announced_from None calls.now process }
-{
-    let mut last = None;
-    for call in calls {
-        last = later(*call, last, process);
-    }
-    last
-}
-
-/// The call that a cell was made for; `None` of the anchor.
-///
-/// An `Err` would say that there is no such cell, as a world's own places never do.
-pub(crate) fn maker_of<O: SeqObject>(
-    world: &World<O>,
-    cell: CellId,
-) -> Result<Option<CallId>, AllocError>
-    ensures there { OnOk result (IsSome (cell_of world.now.shared.cells cell)) }
-    ensures call { IfOk result (λ call. call ≡ call_of_name (name_in (world_of world.now) cell)) }
-{
-    world.shape();
-    if cell.index() == 0 {
-        return Ok(None);
-    }
-    let place = u64::from(cell.index()) - 1;
-    let process = place % world.processes();
-    let first = world
-        .begun(process)
-        .saturating_sub(world.calls_in_era(process));
-    let nth = first.saturating_add(place / world.processes());
-    let process = process as u32;
-    let Some(found) = world.cell_of(CallId { process, nth }) else {
-        return Err(AllocError);
-    };
-    if found.index() != cell.index() {
-        return Err(AllocError);
-    }
-    Ok(world.call_of(cell))
-}
-
-/// The cell that the head of a process names: the one with the head's number.
-///
-/// An `Err` would say that no cell has it, as never happens.
-fn head_of<O: SeqObject>(world: &World<O>, process: u64) -> Result<CellId, AllocError>
-    requires { process < (world_of world.now).n }
-    ensures { IfOk result (λ cell. name_in (world_of world.now) cell ≡ head_of (world_of world.now).memory process) }
-{
-    world.shape();
-    let number = world.head_seq(process);
-    let mut cell = CellId::anchor();
-    for _ in 0..u64::MAX {
-        if world.seq(cell) == number {
-            return Ok(cell);
-        }
-        let Some(next) = world.after(cell) else {
-            return Err(AllocError);
-        };
-        cell = next;
-    }
-    Err(AllocError)
-}
-
 /// The text of a link to a cell, or `?` where there is none.
 ///
 /// An `Err` says that memory was refused.
@@ -148,10 +72,11 @@ fn link_text<O: SeqObject>(
     world: &World<O>,
     cell: Option<CellId>,
 ) -> Result<Vec<u8>, AllocError>
+    requires { IfSome cell (λ cell. IsSome (cell_of world.now.shared.cells cell)) }
     ensures { IfOk result (λ text. text.items ≡ link_text (option_map (name_in (world_of world.now)) cell)) }
 {
     match cell {
-        Some(cell) => cell_text(alloc, maker_of(world, cell)?),
+        Some(cell) => cell_text(alloc, world.call_of(cell)),
         None => Vec::from_slice(alloc, b"?"),
     }
 }
@@ -195,15 +120,13 @@ fn reply_text<O: Spoken>(
 pub(crate) fn announced_entry<O: Spoken>(
     alloc: Global,
     world: &World<O>,
-    announced: &[CallId],
     process: u64,
 ) -> Result<Held, AllocError>
-    requires { IsMirrored (world_of world.now) announced.now }
+    requires { process < (world_of world.now).n }
     ensures { IfOk result (λ found. held_shown found ≡
         held O.language O.state_text (world_of world.now).memory (Announced process)) }
 {
-    let _ = world;
-    let text = cell_text(alloc, announced_by(announced, process))?;
+    let text = cell_text(alloc, world.call_of(world.announced(process)))?;
     Ok(alone(entry_name(alloc, "announce", process)?, text))
 }
 
@@ -215,13 +138,11 @@ pub(crate) fn head_entry<O: Spoken>(
     world: &World<O>,
     process: u64,
 ) -> Result<Held, AllocError>
+    requires { process < (world_of world.now).n }
     ensures { IfOk result (λ found. held_shown found ≡
         held O.language O.state_text (world_of world.now).memory (HeadOf process)) }
 {
-    if process >= world.processes() {
-        return Err(AllocError);
-    }
-    let text = cell_text(alloc, maker_of(world, head_of(world, process)?)?)?;
+    let text = cell_text(alloc, world.call_of(world.head(process)))?;
     Ok(alone(entry_name(alloc, "head", process)?, text))
 }
 
@@ -233,10 +154,11 @@ pub(crate) fn number_field<O: Spoken>(
     world: &World<O>,
     cell: CellId,
 ) -> Result<Held, AllocError>
+    requires { IsSome (cell_of world.now.shared.cells cell) }
     ensures { IfOk result (λ found. held_shown found ≡
         held O.language O.state_text (world_of world.now).memory (SeqOf (name_in (world_of world.now) cell))) }
 {
-    let call = maker_of(world, cell)?;
+    let call = world.call_of(cell);
     let number = world.seq(cell);
     let mut text = Vec::new(alloc);
     write!(text, "{number}").map_err(|_| AllocError)?;
@@ -251,10 +173,11 @@ pub(crate) fn after_field<O: Spoken>(
     world: &World<O>,
     cell: CellId,
 ) -> Result<Held, AllocError>
+    requires { IsSome (cell_of world.now.shared.cells cell) }
     ensures { IfOk result (λ found. held_shown found ≡
         held O.language O.state_text (world_of world.now).memory (AfterOf (name_in (world_of world.now) cell))) }
 {
-    let call = maker_of(world, cell)?;
+    let call = world.call_of(cell);
     let text = link_text(alloc, world, world.after(cell))?;
     Ok(alone(field_name(alloc, call, "after")?, text))
 }
@@ -267,10 +190,11 @@ pub(crate) fn before_field<O: Spoken>(
     world: &World<O>,
     cell: CellId,
 ) -> Result<Held, AllocError>
+    requires { IsSome (cell_of world.now.shared.cells cell) }
     ensures { IfOk result (λ found. held_shown found ≡
         held O.language O.state_text (world_of world.now).memory (BeforeOf (name_in (world_of world.now) cell))) }
 {
-    let call = maker_of(world, cell)?;
+    let call = world.call_of(cell);
     let text = link_text(alloc, world, world.before(cell))?;
     Ok(alone(field_name(alloc, call, "before")?, text))
 }
@@ -292,10 +216,11 @@ pub(crate) fn settled_fields<O: Spoken>(
     world: &World<O>,
     cell: CellId,
 ) -> Result<Held, AllocError>
+    requires { IsSome (cell_of world.now.shared.cells cell) }
     ensures { IfOk result (λ found. held_shown found ≡
         held O.language O.state_text (world_of world.now).memory (NewOf (name_in (world_of world.now) cell))) }
 {
-    let call = maker_of(world, cell)?;
+    let call = world.call_of(cell);
     let state = Field {
         name: field_name(alloc, call, "state")?,
         text: state_text::<O>(alloc, world.new_of(cell))?,
@@ -310,21 +235,20 @@ pub(crate) fn settled_fields<O: Spoken>(
     })
 }
 
-/// What a place of a world holds; `announced` are the calls that were announced in its era, in order.
+/// What a place of a world holds.
 ///
-/// An `Err` says that memory was refused. It would come too where the place isn't one of the world's.
+/// An `Err` says that memory was refused.
 pub(crate) fn read_place<O: Spoken>(
     alloc: Global,
     world: &World<O>,
-    announced: &[CallId],
     place: Place,
 ) -> Result<Held, AllocError>
-    requires { IsMirrored (world_of world.now) announced.now }
+    requires { IsPlaceIn (world_of world.now).n (λ cell. IsSome (cell_of world.now.shared.cells cell)) place }
     ensures { IfOk result (λ found. held_shown found ≡
         held O.language O.state_text (world_of world.now).memory (place_named (name_in (world_of world.now)) place)) }
 {
     match place {
-        Place::Announced(process) => announced_entry(alloc, world, announced, process),
+        Place::Announced(process) => announced_entry(alloc, world, process),
         Place::HeadOf(process) => head_entry(alloc, world, process),
         Place::SeqOf(cell) => number_field(alloc, world, cell),
         Place::AfterOf(cell) => after_field(alloc, world, cell),

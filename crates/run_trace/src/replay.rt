@@ -1,16 +1,16 @@
 //! The scenes of a run, by the replay of its events.
 
-ghost use Rattle.std.specs.Prelude.{◌≡◌, ◌<◌, None, Some, IfOk, IfSome, OnOk, map, option_map};
+ghost use Rattle.std.specs.Prelude.{◌≡◌, ◌<◌, ℕ, None, Some, IfOk, IfSome, IsSome, OnOk, map};
+ghost use Rattle.std.specs.Prelude.{option_and_then, option_map};
+ghost use Rattle.cell_arena.specs.Arena.{cell_of};
 ghost use Rattle.uni_model.specs.Transition.{place_of};
 ghost use Rattle.uni_model.specs.Worlds.{opened_world, world_after};
 ghost use Rattle.uni_model.specs.Worlds.{Event as model};
-ghost use Rattle.uni_core.specs.Readers.{kind_of, place_named};
-ghost use Rattle.uni_core.specs.World.{current_of, name_in, world_of};
+ghost use Rattle.uni_core.specs.Readers.{call_of_name, kind_of, place_named, proposed_at, IsPlaceIn};
+ghost use Rattle.uni_core.specs.World.{current_of, name_in, world_of, IsProgress};
 ghost use Rattle.uni_trim.specs.Ends.{last_number};
 ghost use Rattle.uni_record.specs.Event.{event_lent, event_shown, events_shown};
-ghost use Rattle.run_trace.specs.Announced.{announced_with, IsMirrored};
 ghost use Rattle.run_trace.specs.Frames.{answered, begun, ended, frame_of, stepped};
-ghost use Rattle.run_trace.specs.Preferred.{IsPreferred};
 ghost use Rattle.run_trace.specs.Proposal.{proposal_told};
 ghost use Rattle.run_trace.specs.Scenes.{scenes_from};
 ghost use Rattle.run_trace.specs.Shown.{begun_shown, end_shown, frame_shown, held_shown, scene_shown};
@@ -18,9 +18,8 @@ ghost use Rattle.run_trace.specs.Shown.{step_shown};
 
 use crate::frame::{Begun, EraEnd, Frame, Held, Scene, Step, held_copy};
 use crate::places::{alone, asked_field, cell_text, read_place, settled_fields};
-use crate::preferences::{Preference, note_preferred, preferred_by};
 use crate::whole::memory_asked;
-use cell_arena::CellId;
+use cell_arena::{CellId, Cells};
 use ready_objects::Spoken;
 use seq_object::CallId;
 use std::alloc::{AllocError, Global};
@@ -44,12 +43,10 @@ pub fn scenes_of<O: Spoken>(
         (opened_world run.now.processes (O.sequential object).initial run.now.first) (events_shown run.now.events)) }
 {
     let mut replay = reopened(alloc, object, run)?;
-    let mut announced = Vec::new(alloc);
-    let mut preferences = Vec::new(alloc);
     let mut scenes = Vec::new(alloc);
     for event in run.events() {
-        let frame = frame_of(alloc, event, &mut replay, &mut announced, &mut preferences)?;
-        let memory = memory_asked(alloc, is_whole, &replay, &announced)?;
+        let frame = frame_of(alloc, event, &mut replay)?;
+        let memory = memory_asked(alloc, is_whole, &replay)?;
         scenes.push(Scene { frame, memory })?;
     }
     Ok(scenes)
@@ -71,24 +68,17 @@ fn reopened<O: Spoken>(alloc: Global, object: O, run: &Recorded<O>) -> Result<Wo
     }
 }
 
-/// Takes an event in a replay; the answer is its frame. The calls that were announced in the present era are kept
-/// beside the replay, and what the processes prefer.
+/// Takes an event in a replay; the answer is its frame.
 ///
 /// An `Err` says that memory was refused, or the event.
 fn frame_of<O: Spoken>(
     alloc: Global,
     event: Event<&O::Inv>,
     replay: &mut World<O>,
-    announced: &mut Vec<CallId>,
-    preferences: &mut Vec<Preference>,
 ) -> Result<Frame, AllocError>
-    requires mirror { IsMirrored (world_of replay.old) announced.old.items }
-    requires preferred { IsPreferred (world_of replay.old) preferences.old.items }
     ensures object { replay.new.object ≡ replay.old.object }
     ensures world { OnOk result (world_of replay.new ≡
         world_after (O.sequential replay.old.object) (world_of replay.old) (event_shown (event_lent event.entry))) }
-    ensures mirror { OnOk result (IsMirrored (world_of replay.new) announced.new.items) }
-    ensures preferred { OnOk result (IsPreferred (world_of replay.new) preferences.new.items) }
     ensures frame { IfOk result (λ frame. Some (frame_shown frame) ≡
         frame_of (O.sequential replay.old.object) O.language O.state_text (world_of replay.old)
         (event_shown (event_lent event.entry))) }
@@ -96,37 +86,28 @@ fn frame_of<O: Spoken>(
     match event {
         Event::Call(process, inv) => Ok(Frame::Call(begun_of(alloc, process, inv, replay)?)),
         Event::Step(process) => {
-            let step = step_of(alloc, process, replay, announced, preferences)?;
+            let step = step_of(alloc, process, replay)?;
             Ok(Frame::Step(step))
         }
-        Event::Trim => Ok(Frame::End(trimmed(alloc, replay, announced)?)),
-        Event::Reshape(processes) => {
-            Ok(Frame::End(reshaped(alloc, processes, replay, announced)?))
-        }
+        Event::Trim => Ok(Frame::End(trimmed(alloc, replay)?)),
+        Event::Reshape(processes) => Ok(Frame::End(reshaped(alloc, processes, replay)?)),
     }
 }
 
 /// An era ends by a trim in a replay; the answer is what that left.
 ///
 /// An `Err` says that memory was refused, or the trim.
-fn trimmed<O: Spoken>(
-    alloc: Global,
-    replay: &mut World<O>,
-    announced: &mut Vec<CallId>,
-) -> Result<EraEnd, AllocError>
+fn trimmed<O: Spoken>(alloc: Global, replay: &mut World<O>) -> Result<EraEnd, AllocError>
     ensures object { replay.new.object ≡ replay.old.object }
     ensures world { OnOk result (world_of replay.new ≡
         world_after (O.sequential replay.old.object) (world_of replay.old) model.Trim) }
-    ensures mirror { OnOk result (IsMirrored (world_of replay.new) announced.new.items) }
     ensures end { IfOk result (λ end. end_shown end ≡
         ended O.language O.state_text None (last_number (world_of replay.old))
         (world_after (O.sequential replay.old.object) (world_of replay.old) model.Trim).memory) }
 {
-    replay.shape();
     let Ok(number) = trim(replay) else {
         return Err(AllocError);
     };
-    announced.clear();
     end_of(alloc, None, number, replay)
 }
 
@@ -137,21 +118,17 @@ fn reshaped<O: Spoken>(
     alloc: Global,
     processes: u64,
     replay: &mut World<O>,
-    announced: &mut Vec<CallId>,
 ) -> Result<EraEnd, AllocError>
     ensures object { replay.new.object ≡ replay.old.object }
     ensures world { OnOk result (world_of replay.new ≡
         world_after (O.sequential replay.old.object) (world_of replay.old) (model.Reshape processes)) }
-    ensures mirror { OnOk result (IsMirrored (world_of replay.new) announced.new.items) }
     ensures end { IfOk result (λ end. end_shown end ≡
         ended O.language O.state_text (Some processes) (last_number (world_of replay.old))
         (world_after (O.sequential replay.old.object) (world_of replay.old) (model.Reshape processes)).memory) }
 {
-    replay.shape();
     let Ok(number) = reshape(alloc, replay, processes) else {
         return Err(AllocError);
     };
-    announced.clear();
     end_of(alloc, Some(processes), number, replay)
 }
 
@@ -187,36 +164,6 @@ fn begun_of<O: Spoken>(
     })
 }
 
-/// Notes a call as announced, where its step of this kind announces it.
-///
-/// An `Err` says that memory was refused.
-fn note_announced(
-    kind: StepKind,
-    call: CallId,
-    announced: &mut Vec<CallId>,
-) -> Result<(), AllocError>
-    ensures { OnOk result (announced.new.items ≡ announced_with kind call announced.old.items) }
-{
-    match kind {
-        StepKind::Announce => {
-            announced.push(call)?;
-            Ok(())
-        }
-        StepKind::ScanHead
-        | StepKind::ScanSeq
-        | StepKind::WriteScan
-        | StepKind::Test
-        | StepKind::ReadAnnounce
-        | StepKind::ReadHelpSeq
-        | StepKind::DecideAfter
-        | StepKind::DecideNew
-        | StepKind::WriteBefore
-        | StepKind::WriteSeq
-        | StepKind::WriteHead
-        | StepKind::Finish => Ok(()),
-    }
-}
-
 /// The text of the reply that a step answers; `None` where the call goes on.
 ///
 /// An `Err` says that memory was refused.
@@ -233,22 +180,22 @@ fn reply_of<O: Spoken>(
     }
 }
 
-/// What a step of this kind proposed, by what its process preferred and by what its place holds after it.
+/// What a step of this kind proposed, by the call whose cell it proposed and by what its place holds after it.
 ///
 /// An `Err` says that memory was refused.
 fn proposed_of(
     alloc: Global,
     kind: StepKind,
-    prefer: Option<CallId>,
+    offered: Option<CallId>,
     after: &Held,
 ) -> Result<Option<Held>, AllocError>
     ensures { IfOk result (λ proposed. option_map held_shown proposed
-        ≡ proposal_told kind prefer (held_shown after.now)) }
+        ≡ proposal_told kind offered (held_shown after.now)) }
 {
     match kind {
         StepKind::DecideAfter => {
             let name = Vec::from_slice(alloc, &after.field.name)?;
-            Ok(Some(alone(name, cell_text(alloc, prefer)?)))
+            Ok(Some(alone(name, cell_text(alloc, offered)?)))
         }
         StepKind::DecideNew => Ok(Some(held_copy(alloc, after)?)),
         StepKind::Announce
@@ -268,9 +215,26 @@ fn proposed_of(
 /// A step that a process is about to take.
 #[derive(Clone, Copy)]
 struct Coming {
+    /// Its call.
     call: CallId,
+    /// Its kind.
     kind: StepKind,
+    /// Its place.
     place: Place,
+    /// The call whose cell it proposes, if it proposes a cell.
+    proposed: Option<CallId>,
+}
+
+/// The call whose cell the next step of a process proposes after its head.
+fn proposed_call<O: Spoken>(world: &World<O>, process: u64) -> Option<CallId>
+    requires { process < (world_of world.now).n }
+    ensures { result ≡ option_and_then call_of_name
+        (option_and_then (λ c. proposed_at c.stage) ((world_of world.now).call process)) }
+{
+    match world.next_proposal(process) {
+        Some(cell) => world.call_of(cell),
+        None => None,
+    }
 }
 
 /// The next step of a process; `None` where it has no call pending.
@@ -282,11 +246,46 @@ fn coming_step<O: Spoken>(world: &World<O>, process: u64) -> Option<Coming>
     ensures place { IfSome result (λ coming. option_map (λ c. place_of (world_of world.now).n process c.mine c.stage)
         ((world_of world.now).call process)
         ≡ Some (place_named (name_in (world_of world.now)) coming.place)) }
+    ensures there { IfSome result (λ coming. IsPlaceIn (world_of world.now).n
+        (λ cell. IsSome (cell_of world.now.shared.cells cell)) coming.place) }
+    ensures proposed { IfSome result (λ coming. coming.proposed ≡ option_and_then call_of_name
+        (option_and_then (λ c. proposed_at c.stage) ((world_of world.now).call process))) }
 {
     let call = world.current(process)?;
     let kind = world.next_kind(process)?;
     let place = world.next_place(process)?;
-    Some(Coming { call, kind, place })
+    let proposed = proposed_call(world, process);
+    Some(Coming {
+        call,
+        kind,
+        place,
+        proposed,
+    })
+}
+
+/// A process takes a step in a replay; the answer is that of the step. The cells stay.
+///
+/// An `Err` says that memory was refused, or the step.
+fn take_step<O: Spoken>(
+    alloc: Global,
+    process: u64,
+    replay: &mut World<O>,
+) -> Result<Progress<O::Resp>, AllocError>
+    ensures object { replay.new.object ≡ replay.old.object }
+    ensures world { OnOk result (world_of replay.new ≡
+        world_after (O.sequential replay.old.object) (world_of replay.old) (model.Step process)) }
+    ensures progress { IfOk result (IsProgress (world_of replay.old) process) }
+    ensures cells { OnOk result ((cell : ℕ) → IsSome (cell_of replay.old.shared.cells cell)
+        → IsSome (cell_of replay.new.shared.cells cell)) }
+{
+    replay.shape();
+    replay.cells().shape();
+    let Ok(progress) = replay.step(alloc, process) else {
+        return Err(AllocError);
+    };
+    replay.shape();
+    replay.cells().shape();
+    Ok(progress)
 }
 
 /// A process takes a step in a replay; the answer is what it did.
@@ -296,16 +295,10 @@ fn step_of<O: Spoken>(
     alloc: Global,
     process: u64,
     replay: &mut World<O>,
-    announced: &mut Vec<CallId>,
-    preferences: &mut Vec<Preference>,
 ) -> Result<Step, AllocError>
-    requires mirror { IsMirrored (world_of replay.old) announced.old.items }
-    requires preferred { IsPreferred (world_of replay.old) preferences.old.items }
     ensures object { replay.new.object ≡ replay.old.object }
     ensures world { OnOk result (world_of replay.new ≡
         world_after (O.sequential replay.old.object) (world_of replay.old) (model.Step process)) }
-    ensures mirror { OnOk result (IsMirrored (world_of replay.new) announced.new.items) }
-    ensures preferred { OnOk result (IsPreferred (world_of replay.new) preferences.new.items) }
     ensures step { IfOk result (λ step. Some (step_shown step) ≡
         option_map (stepped (O.sequential replay.old.object) O.language O.state_text (world_of replay.old) process)
         ((world_of replay.old).call process)) }
@@ -317,15 +310,10 @@ fn step_of<O: Spoken>(
     let Some(coming) = coming_step(replay, process) else {
         return Err(AllocError);
     };
-    let before = read_place(alloc, replay, announced, coming.place)?;
-    let prefer = preferred_by(preferences, process);
-    note_preferred(replay, coming.kind, coming.place, coming.call, preferences)?;
-    let Ok(progress) = replay.step(alloc, process) else {
-        return Err(AllocError);
-    };
-    note_announced(coming.kind, coming.call, announced)?;
-    let after = read_place(alloc, replay, announced, coming.place)?;
-    let proposed = proposed_of(alloc, coming.kind, prefer, &after)?;
+    let before = read_place(alloc, replay, coming.place)?;
+    let progress = take_step(alloc, process, replay)?;
+    let after = read_place(alloc, replay, coming.place)?;
+    let proposed = proposed_of(alloc, coming.kind, coming.proposed, &after)?;
     let reply = reply_of::<O>(alloc, progress)?;
     Ok(Step {
         call: coming.call,
@@ -352,6 +340,7 @@ fn end_of<O: Spoken>(
     ensures { IfOk result (λ end. end_shown end ≡
         ended O.language O.state_text reshaped number (world_of replay.now).memory) }
 {
+    replay.shape();
     let anchor = settled_fields(alloc, replay, CellId::anchor())?;
     Ok(EraEnd {
         reshaped,

@@ -1,12 +1,12 @@
 //! The whole memory of a world, as text.
 
-ghost use Rattle.std.specs.Prelude.{◌≡◌, ◌++◌, ◌∷◌, [], ◌<◌, IfOk, OnOk, map, codes, option_map};
+ghost use Rattle.std.specs.Prelude.{◌≡◌, ◌++◌, ◌∷◌, [], ◌<◌, IfOk, IsSome, OnOk, map, codes, option_map};
+ghost use Rattle.cell_arena.specs.Arena.{cell_of};
 ghost use Rattle.std.specs.List.{flat_map, range_with_len};
 ghost use Rattle.std.specs.Option.{option_copied, option_map_or};
 ghost use Rattle.ready_objects.specs.Words.{text_of_words};
 ghost use Rattle.uni_model.specs.Places.Place.{Announced, HeadOf, InvOf};
 ghost use Rattle.uni_core.specs.World.{name_in, world_of};
-ghost use Rattle.run_trace.specs.Announced.{IsMirrored};
 ghost use Rattle.run_trace.specs.Held.{held};
 ghost use Rattle.run_trace.specs.Scenes.{memory_asked};
 ghost use Rattle.run_trace.specs.Shown.{held_shown};
@@ -14,8 +14,8 @@ ghost use Rattle.run_trace.specs.Whole.{cells_below, cells_of, fields_of, whole_
 
 use crate::frame::Held;
 use crate::places::{
-    after_field, alone, announced_entry, before_field, field_name, head_entry, maker_of,
-    number_field, settled_fields,
+    after_field, alone, announced_entry, before_field, field_name, head_entry, number_field,
+    settled_fields,
 };
 use cell_arena::CellId;
 use ready_objects::Spoken;
@@ -40,16 +40,14 @@ fn push_held(memory: &mut Vec<Held>, held: Held) -> Result<(), AllocError>
 fn push_announced<O: Spoken>(
     alloc: Global,
     world: &World<O>,
-    announced: &[CallId],
     memory: &mut Vec<Held>,
 ) -> Result<(), AllocError>
-    requires { IsMirrored (world_of world.now) announced.now }
     ensures { OnOk result (map held_shown memory.new.items ≡ map held_shown memory.old.items
         ++ map (held O.language O.state_text (world_of world.now).memory)
         (map Announced (range_with_len 0 (world_of world.now).n))) }
 {
     for process in 0..world.processes() {
-        push_held(memory, announced_entry(alloc, world, announced, process)?)?;
+        push_held(memory, announced_entry(alloc, world, process)?)?;
     }
     Ok(())
 }
@@ -89,10 +87,11 @@ fn asked_text<O: Spoken>(alloc: Global, inv: Option<&O::Inv>) -> Result<Vec<u8>,
 ///
 /// An `Err` says that memory was refused.
 fn asked_of<O: Spoken>(alloc: Global, world: &World<O>, cell: CellId) -> Result<Held, AllocError>
+    requires { IsSome (cell_of world.now.shared.cells cell) }
     ensures { IfOk result (λ found. held_shown found ≡
         held O.language O.state_text (world_of world.now).memory (InvOf (name_in (world_of world.now) cell))) }
 {
-    let call = maker_of(world, cell)?;
+    let call = world.call_of(cell);
     let text = asked_text::<O>(alloc, world.inv(cell))?;
     Ok(alone(field_name(alloc, call, "inv")?, text))
 }
@@ -106,6 +105,7 @@ fn push_cell<O: Spoken>(
     cell: CellId,
     memory: &mut Vec<Held>,
 ) -> Result<(), AllocError>
+    requires { IsSome (cell_of world.now.shared.cells cell) }
     ensures { OnOk result (map held_shown memory.new.items ≡ map held_shown memory.old.items
         ++ map (held O.language O.state_text (world_of world.now).memory)
         (fields_of (name_in (world_of world.now) cell))) }
@@ -165,20 +165,16 @@ fn push_cells<O: Spoken>(
     Ok(())
 }
 
-/// What all places of a world hold; `announced` are the calls that were announced in its era, in order.
+/// What all places of a world hold.
 ///
 /// An `Err` says that memory was refused.
-fn whole_memory<O: Spoken>(
-    alloc: Global,
-    world: &World<O>,
-    announced: &[CallId],
-) -> Result<Vec<Held>, AllocError>
-    requires { IsMirrored (world_of world.now) announced.now }
+fn whole_memory<O: Spoken>(alloc: Global, world: &World<O>) -> Result<Vec<Held>, AllocError>
     ensures { IfOk result (λ memory. map held_shown memory.items
         ≡ whole_memory O.language O.state_text (world_of world.now)) }
 {
+    world.shape();
     let mut memory = Vec::new(alloc);
-    push_announced(alloc, world, announced, &mut memory)?;
+    push_announced(alloc, world, &mut memory)?;
     push_heads(alloc, world, &mut memory)?;
     push_cell(alloc, world, CellId::anchor(), &mut memory)?;
     push_cells(alloc, world, &mut memory)?;
@@ -192,14 +188,12 @@ pub(crate) fn memory_asked<O: Spoken>(
     alloc: Global,
     is_whole: bool,
     world: &World<O>,
-    announced: &[CallId],
 ) -> Result<Option<Vec<Held>>, AllocError>
-    requires { IsMirrored (world_of world.now) announced.now }
     ensures { IfOk result (λ memory. option_map (λ m. map held_shown m.items) memory
         ≡ memory_asked O.language O.state_text is_whole (world_of world.now)) }
 {
     if is_whole {
-        Ok(Some(whole_memory(alloc, world, announced)?))
+        Ok(Some(whole_memory(alloc, world)?))
     } else {
         Ok(None)
     }

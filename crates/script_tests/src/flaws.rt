@@ -1,6 +1,6 @@
 //! A test of what is told of a script with a fault on a world with a flaw: no answer is written then.
 
-use flawed_run::{Flaw, run};
+use course_run::{Flaw, run_flawed};
 use uni_script::Checked;
 
 /// Scripts with a fault, and what is told of each.
@@ -22,7 +22,7 @@ fn a_fault_is_told_and_no_answer_is_written(rt: HostRuntime) {
     for &(script, fault) in FAULTS {
         let mut text = Vec::new(rt.alloc());
         let mut remarks = Vec::new(rt.alloc());
-        let status = run(
+        let status = run_flawed(
             rt.alloc(),
             Flaw::HelpsBlindly,
             script.as_bytes(),

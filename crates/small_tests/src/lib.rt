@@ -1,5 +1,11 @@
-//! Tests of objects of several words.
+//! Tests of objects of several words, and an object of one's own to copy.
 #![tactic(auto)]
+
+mod account;
+
+pub use account::{Account, AccountObject};
 
 #[cfg(test)]
 mod small;
+#[cfg(test)]
+mod threads;

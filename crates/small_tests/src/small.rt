@@ -1,12 +1,29 @@
-//! Calls of seats in turn and of threads, on a counter and on a queue.
+//! Calls of seats in turn.
 
-ghost use Rattle.std.specs.Prelude.{◌≡◌, ◌≤◌, All, IfOk, IfSome, length};
+ghost use Rattle.std.specs.Prelude.{◌≡◌, All, length};
 ghost use Rattle.uni_small.specs.Belongs.{IsSeatOf, width_of};
 
+use crate::account::AccountObject;
+use small_objects::{Encoded, SmallCounter, SmallCounters, SmallQueue, SmallRegister, SmallStack};
 use std::alloc::Global;
 use std::process::Abort;
-use std::thread::{Threads, join};
-use uni_small::{SmallCounter, SmallObject, SmallOpenFault, SmallQueue, SmallSeat, SmallShared};
+use uni_small::{Answer, SmallObject, SmallOpenFault, SmallSeat, SmallShared};
+
+/// The answer to the seat's next call.
+fn answer<O: SmallObject>(
+    rt: &impl Abort,
+    shared: &SmallShared<O>,
+    seat: &mut SmallSeat<O>,
+    inv: u64,
+) -> Answer
+    requires { IsSeatOf shared.now seat.old }
+    ensures { IsSeatOf shared.now seat.new }
+{
+    let Ok(answer) = seat.apply(shared, inv) else {
+        panic!(rt; "calls are spent")
+    };
+    answer
+}
 
 /// The seat's next calls, each with its invocation and its reply.
 fn answers<O: SmallObject>(
@@ -19,7 +36,8 @@ fn answers<O: SmallObject>(
     ensures { IsSeatOf shared.now seat.new }
 {
     for row in rows {
-        assert!(rt; seat.apply(shared, row.0) == Ok(row.1), "with {row:?}");
+        let told = answer(rt, shared, seat, row.0);
+        assert!(rt; told.reply == row.1, "with {row:?}: {told:?}");
     }
 }
 
@@ -34,7 +52,8 @@ fn two_seats_in_turn(rt: HostRuntime) {
 
 #[test]
 fn a_queue(rt: HostRuntime) {
-    let Ok((shared, mut seats)) = SmallShared::open(rt.alloc(), SmallQueue, 3) else {
+    let Ok((shared, mut seats)) = SmallShared::open(rt.alloc(), SmallQueue { capacity: 4 }, 2)
+    else {
         panic!(rt; "not opened")
     };
     answers(&rt, &shared, &mut seats[0], &[(0, 0), (8, 1), (9, 1)]);
@@ -42,14 +61,92 @@ fn a_queue(rt: HostRuntime) {
         &rt,
         &shared,
         &mut seats[1],
-        &[(0, 8), (7, 1), (6, 1), (5, 1)],
+        &[(0, 8), (7, 1), (6, 1), (5, 1), (4, 0)],
     );
     answers(
         &rt,
         &shared,
-        &mut seats[2],
-        &[(4, 0), (0, 9), (0, 7), (0, 6), (0, 5), (0, 0)],
+        &mut seats[0],
+        &[(0, 9), (0, 7), (0, 6), (0, 5), (0, 0)],
     );
+}
+
+#[test]
+fn a_stack(rt: HostRuntime) {
+    let Ok((shared, mut seats)) = SmallShared::open(rt.alloc(), SmallStack { capacity: 2 }, 2)
+    else {
+        panic!(rt; "not opened")
+    };
+    answers(
+        &rt,
+        &shared,
+        &mut seats[1],
+        &[(0, 0), (8, 1), (9, 1), (7, 0)],
+    );
+    answers(&rt, &shared, &mut seats[0], &[(0, 9), (0, 8), (0, 0)]);
+}
+
+#[test]
+fn a_register(rt: HostRuntime) {
+    let Ok((shared, mut seats)) = SmallShared::open(rt.alloc(), SmallRegister, 2) else {
+        panic!(rt; "not opened")
+    };
+    let swap = SmallRegister::compare_exchange(7, 9);
+    answers(
+        &rt,
+        &shared,
+        &mut seats[1],
+        &[(swap, 0), (SmallRegister::write(7), 0)],
+    );
+    answers(
+        &rt,
+        &shared,
+        &mut seats[0],
+        &[(swap, 7), (SmallRegister::read(), 9)],
+    );
+}
+
+#[test]
+fn counters(rt: HostRuntime) {
+    let Ok((shared, mut seats)) = SmallShared::open(rt.alloc(), SmallCounters { count: 3 }, 1)
+    else {
+        panic!(rt; "not opened")
+    };
+    answers(
+        &rt,
+        &shared,
+        &mut seats[0],
+        &[(2, 0), (2, 1), (0, 0), (3, 0), (2, 2)],
+    );
+}
+
+#[test]
+fn an_account(rt: HostRuntime) {
+    let object = Encoded {
+        object: AccountObject,
+    };
+    let Ok((shared, mut seats)) = SmallShared::open(rt.alloc(), object, 2) else {
+        panic!(rt; "not opened")
+    };
+    answers(&rt, &shared, &mut seats[0], &[(10, 0), (7, 5)]);
+    answers(&rt, &shared, &mut seats[1], &[(7, 2), (1, 2)]);
+    let mut state = [0; 3];
+    assert!(rt; shared.width() == 3);
+    shared.close(&mut state);
+    assert!(rt; state == [2, 2, 1]);
+}
+
+#[test]
+fn a_version_is_followed(rt: HostRuntime) {
+    let Ok((shared, mut seats)) = SmallShared::open(rt.alloc(), SmallCounter, 2) else {
+        panic!(rt; "not opened")
+    };
+    let first = answer(&rt, &shared, &mut seats[0], 5);
+    assert!(rt; first.version == 1);
+    assert!(rt; seats[1].follows(&shared, first.version));
+    assert!(rt; !seats[1].follows(&shared, first.version + 1));
+    let second = answer(&rt, &shared, &mut seats[1], 3);
+    assert!(rt; second.reply == 5 && second.version > first.version);
 }
 
 #[test]
@@ -58,157 +155,41 @@ fn what_is_not_opened(rt: HostRuntime) {
         let fault = SmallShared::open(rt.alloc(), SmallCounter, n).err();
         assert!(rt; fault == Some(SmallOpenFault::BadCount), "{n} processes");
     }
+    let wide = SmallCounters { count: 65_537 };
+    let fault = SmallShared::open(rt.alloc(), wide, 2).err();
+    assert!(rt; fault == Some(SmallOpenFault::BadWidth));
 }
 
-/// A seat, and the replies that it was given.
-type Done = (SmallSeat<SmallCounter>, Vec<u64>);
-
-/// So many calls with one invocation, and their replies: less where memory was refused.
-fn calls(
-    alloc: Global,
-    shared: &SmallShared<SmallCounter>,
-    mut seat: SmallSeat<SmallCounter>,
-    inv: u64,
-    count: u32,
-) -> Done
-    requires { IsSeatOf shared.now seat }
-    ensures { IsSeatOf shared.now result.0 }
-{
-    let mut replies = Vec::new(alloc);
-    for _ in 0..count {
-        if let Ok(reply) = seat.apply(shared, inv) {
-            let _ = replies.push(reply);
-        }
-    }
-    (seat, replies)
-}
-
-/// Two threads, each of which makes so many calls through a seat of its own.
-fn in_two_threads<R: Threads + Sync>(
-    rt: &R,
-    alloc: Global,
-    shared: &SmallShared<SmallCounter>,
-    seats: (SmallSeat<SmallCounter>, SmallSeat<SmallCounter>),
-    count: u32,
-) -> (Done, Done)
-    requires { IsSeatOf shared.now seats.0 × IsSeatOf shared.now seats.1 }
-    ensures { IsSeatOf shared.now result.0.0 × IsSeatOf shared.now result.1.0 }
-{
-    let (first, second) = seats;
-    join(
-        rt,
-        move || calls(alloc, shared, first, 1, count),
-        move || calls(alloc, shared, second, 1, count),
-    )
-}
-
-/// Four threads.
-fn in_four_threads<R: Threads + Sync>(
-    rt: &R,
-    alloc: Global,
-    shared: &SmallShared<SmallCounter>,
-    first: (SmallSeat<SmallCounter>, SmallSeat<SmallCounter>),
-    second: (SmallSeat<SmallCounter>, SmallSeat<SmallCounter>),
-    count: u32,
-) -> ((Done, Done), (Done, Done))
-    requires first { IsSeatOf shared.now first.0 × IsSeatOf shared.now first.1 }
-    requires second { IsSeatOf shared.now second.0 × IsSeatOf shared.now second.1 }
-    ensures first { IsSeatOf shared.now result.0.0.0 × IsSeatOf shared.now result.0.1.0 }
-    ensures second { IsSeatOf shared.now result.1.0.0 × IsSeatOf shared.now result.1.1.0 }
-{
-    join(
-        rt,
-        move ||
-            requires { IsSeatOf shared.now first.0 × IsSeatOf shared.now first.1 }
-        { in_two_threads(rt, alloc, shared, first, count) },
-        move ||
-            requires { IsSeatOf shared.now second.0 × IsSeatOf shared.now second.1 }
-        { in_two_threads(rt, alloc, shared, second, count) },
-    )
-}
-
-/// Whether each of these numbers is greater than the one before.
-fn rises(replies: &[u64]) -> bool {
-    let mut last = 0;
-    for (i, reply) in replies.iter().enumerate() {
-        if i > 0 && *reply <= last {
-            return false;
-        }
-        last = *reply;
-    }
-    true
-}
-
-/// Marks the replies; whether each was there to mark, and not marked yet.
-fn mark(marks: &mut [bool], replies: &[u64]) -> bool {
-    for reply in replies {
-        let at = *reply as usize;
-        if at >= marks.len() || marks[at] {
-            return false;
-        }
-        marks[at] = true;
-    }
-    true
-}
-
-/// The last seat.
-fn last(
-    shared: &SmallShared<SmallCounter>,
-    seats: &mut Vec<SmallSeat<SmallCounter>>,
-) -> Option<SmallSeat<SmallCounter>>
-    requires { All (IsSeatOf shared.now) seats.old.items }
-    ensures rest { All (IsSeatOf shared.now) seats.new.items }
-    ensures last { IfSome result (IsSeatOf shared.now) }
-{
-    seats.pop()
-}
-
-/// The last two seats.
-fn last_two(
-    shared: &SmallShared<SmallCounter>,
-    seats: &mut Vec<SmallSeat<SmallCounter>>,
-) -> Option<(SmallSeat<SmallCounter>, SmallSeat<SmallCounter>)>
-    requires { All (IsSeatOf shared.now) seats.old.items }
-    ensures rest { All (IsSeatOf shared.now) seats.new.items }
-    ensures two { IfSome result (λ two. IsSeatOf shared.now two.0 × IsSeatOf shared.now two.1) }
-{
-    let second = last(shared, seats)?;
-    let first = last(shared, seats)?;
-    Some((first, second))
-}
-
-/// The state of a counter after 20000 calls of each of four threads, if all replies are right.
-fn count_in_four_threads<R: Threads + Abort + Sync>(rt: &R, alloc: Global) -> Option<u64> {
-    let (shared, mut seats) = SmallShared::open(alloc, SmallCounter, 4).ok()?;
-    let second = last_two(&shared, &mut seats)?;
-    let first = last_two(&shared, &mut seats)?;
-    let ((a, b), (c, d)) = in_four_threads(rt, alloc, &shared, first, second, 20_000);
-    let mut marks = vec![in alloc; false; 80_000].ok()?;
-    for done in [&a.1, &b.1, &c.1, &d.1] {
-        assert!(rt; done.len() == 20_000);
-        assert!(rt; rises(done));
-        assert!(rt; mark(&mut marks, done));
-    }
-    let mut seat = a.0;
-    seat.take_in(&shared, b.0);
-    seat.take_in(&shared, c.0);
-    seat.take_in(&shared, d.0);
-    closed(shared, seat)
-}
-
-/// The state of a counter that is closed.
-fn closed(shared: SmallShared<SmallCounter>, seat: SmallSeat<SmallCounter>) -> Option<u64>
-    requires { IsSeatOf shared seat }
+/// The state of a counter that is closed with these seats.
+fn closed(shared: SmallShared<SmallCounter>, seats: Vec<SmallSeat<SmallCounter>>) -> Option<u64>
+    requires { All (IsSeatOf shared) seats.items }
 {
     let mut state = [0];
     if shared.width() != 1 {
         return None;
     }
-    shared.close_with(seat, &mut state);
+    shared.close_all(seats, &mut state);
     Some(state[0])
 }
 
+/// The state of a counter after two calls, closed with so many of its two seats, the others dropped: `None`
+/// where memory was refused.
+fn closed_with(rt: &impl Abort, alloc: Global, kept: usize) -> Option<u64> {
+    let (shared, mut seats) = SmallShared::open(alloc, SmallCounter, 2).ok()?;
+    answers(rt, &shared, &mut seats[0], &[(5, 0)]);
+    answers(rt, &shared, &mut seats[1], &[(3, 5)]);
+    for _ in kept..2 {
+        let _ = seats.pop();
+    }
+    closed(shared, seats)
+}
+
 #[test]
-fn four_threads_on_a_counter(rt: HostRuntime) {
-    assert!(rt; count_in_four_threads(&rt, rt.alloc()) == Some(80_000));
+fn closed_with_all_with_one_and_with_none(rt: HostRuntime) {
+    for kept in 0..3 {
+        assert!(rt;
+            closed_with(&rt, rt.alloc(), kept) == Some(8),
+            "with {kept} seats"
+        );
+    }
 }

@@ -14,3 +14,4 @@ mod OpenedWorld
 mod NoCalls
 pub mod Renewed
 pub mod Likeness
+pub mod NextStep

@@ -13,13 +13,13 @@ use Rattle.uni_model.specs.Places.Place.{Announced, HeadOf, InvOf, SeqOf, AfterO
 use Rattle.uni_model.specs.Places.Content.{Invocation, Number, Link, Settled}
 use Rattle.uni_model.specs.Indices.{name_from}
 use Rattle.uni_core.specs.declared.local.Local.{Local}
-use Rattle.uni_core.specs.SharedEntries.{SharedEntries, first_of, memory_of, memory_at, cell_named}
+use Rattle.uni_core.specs.SharedEntries.{first_of, memory_of, memory_at, cell_named}
 use Rattle.uni_core.specs.Stage.{pending_of}
 use Rattle.uni_core.specs.World.{Whole, world_of, call_at}
 use Rattle.uni_core.specs.Same.{without_counts, Outline, outline, Standing, standing_of}
 use Rattle.uni_model.specs.Places.Name.{Anchor, Of}
 use Rattle.uni_model.specs.Worlds.{WorldOf}
-use Rattle.uni_model.specs.Invariant.{Invariant, Has, IsAfter}
+use Rattle.uni_model.specs.Invariant.{Invariant, IsAfter}
 
 none_both : {A : Type 0} (o o' : Option A) → o ≡ None → is_some o ≡ is_some o' → o ≡ o'
 none_both None None e f = refl

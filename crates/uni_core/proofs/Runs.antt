@@ -1,14 +1,13 @@
 -- What a command does, and the run of a list of them.
-use Rattle.std.proofs.Common.{◌≡◌, ◌∙◌, ℕ, ◌+◌, ◌-◌, ◌<◌, ◌≤◌, ◌⊎◌, inl, inr, refl, sym, ap, subst, List, [], ◌∷◌, ◌++◌, append_assoc, Option, Some, None, option_map, IsSome, suc, get_or, take, length, Result, Ok, Err, true, false, arith}
+use Rattle.std.proofs.Common.{◌≡◌, ◌∙◌, ℕ, ◌+◌, ◌-◌, ◌<◌, ◌≤◌, refl, sym, ap, subst, List, [], ◌∷◌, ◌++◌, append_assoc, Option, Some, None, option_map, IsSome, suc, get_or, take, length, Ok, Err, arith}
 use Rattle.std.proofs.lemmas.List.{append-nil}
-use Rattle.std.proofs.lemmas.Bool.{cases_lt}
 use Rattle.std.proofs.Math.Seq.{take-suc, take-length}
 use Rattle.std.specs.Option.{option_map_or}
 use Rattle.std.specs.Result.{IsErrOf}
 use Rattle.seq_object.specs.Sequential.{Sequential}
 use Rattle.seq_object.specs.declared.call_id.CallId.{CallId}
 use Rattle.uni_model.specs.Stages.{Pending}
-use Rattle.uni_model.specs.Worlds.{WorldOf, Event, AreAccepted, calls_in_era, world_after, world_after_all}
+use Rattle.uni_model.specs.Worlds.{WorldOf, Event, AreAccepted, world_after, world_after_all}
 use Rattle.uni_model.specs.Growth.{EndNoEra}
 use Rattle.uni_model.specs.AtomicObject.{Act}
 use Rattle.uni_model.specs.History.{acts_of, history_of}

@@ -1,9 +1,9 @@
 -- What commands to a world answer, which events they are, and the run of a list of them.
-use Rattle.std.specs.Prelude.{◌≡◌, ℕ, ◌<◌, ◌≤◌, List, [], ◌∷◌, replicate, Option, Some, None, IsSome, refl}
+use Rattle.std.specs.Prelude.{◌≡◌, ℕ, ◌<◌, List, [], ◌∷◌, replicate, Option, Some, None, refl}
 use Rattle.std.proofs.Common.{arith}
 use Rattle.std.specs.Option.{option_map_or}
 use Rattle.seq_object.specs.Sequential.{Sequential}
-use Rattle.uni_model.specs.Worlds.{WorldOf, Event, world_after, world_after_all, response_of_step, calls_in_era, opened_world}
+use Rattle.uni_model.specs.Worlds.{WorldOf, Event, world_after, world_after_all, response_of_step, opened_world}
 use Rattle.uni_model.specs.Worlds.{Event as event}
 use Rattle.uni_model.specs.AtomicObject.Act.{Invoke}
 use Rattle.uni_model.specs.History.{acts_of, history_of}

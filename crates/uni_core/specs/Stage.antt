@@ -1,5 +1,5 @@
 -- Where a process stands, as the code has it and as the definitions do; and the transition of each stage.
-use Rattle.std.specs.Prelude.{◌≡◌, ℕ, ◌<◌, ◌^◌, Option, Some, None, IsSome}
+use Rattle.std.specs.Prelude.{◌≡◌, ◌≢◌, ℕ, ◌<◌, ◌^◌, Option, Some, None, IsSome}
 use Rattle.seq_object.specs.Sequential.{Sequential}
 use Rattle.cell_arena.specs.Arena.{processes_of, cell_of}
 use Rattle.uni_model.specs.Places.{Name, memory_with, inv_of, new_of}
@@ -39,6 +39,11 @@ pending_of name call = record { mine = name call.mine; stage = stage_of name cal
 abbrev pub effect_at : {S I R : Type 0} → Sequential S I R → SharedEntries S I R → (p : ℕ) → (mine : Name) → at → Effect S I R
 effect_at object a p mine stage =
     effect_of object (processes_of a.cells) mine stage (memory_of a (place_of (processes_of a.cells) p mine stage)) (memory_of a)
+
+-- that step changes what its place contains
+abbrev pub ChangesAt : {S I R : Type 0} → Sequential S I R → SharedEntries S I R → (p : ℕ) → (mine : Name) → at → Type 0
+ChangesAt object a p mine stage =
+    (effect_at object a p mine stage).content ≢ memory_of a (place_of (processes_of a.cells) p mine stage)
 
 -- where the process stands after a step, and the response, where its call has ended
 abbrev pub stage_told : {R : Type 0} → (name : ℕ → Name) → After R → Option at

@@ -2,10 +2,10 @@
 
 ghost use Rattle.std.specs.Option.{option_copied};
 ghost use Rattle.std.specs.Prelude.{length, ℕ, ◌≡◌, ◌+◌, ◌-◌, ◌*◌, ◌<◌, ◌≤◌, ◌^◌};
-ghost use Rattle.std.specs.Prelude.{◌↔◌, IsSome, IfSome, None, option_map};
+ghost use Rattle.std.specs.Prelude.{◌↔◌, IsSome, IsTrue, IfSome, None, option_map, option_and_then};
 ghost use Rattle.cell_arena.specs.CellRecord.{index_of};
 ghost use Rattle.cell_arena.specs.Arena.{made_of, cell_of};
-ghost use Rattle.uni_model.specs.Places.{seq_of, head_seq, inv_of, after_of, new_of, before_of};
+ghost use Rattle.uni_model.specs.Places.{announce_of, head_of, seq_of, head_seq, inv_of, after_of, new_of, before_of};
 ghost use Rattle.uni_model.specs.Places.Name.{Anchor, Of};
 ghost use Rattle.uni_model.specs.Invariant.{Invariant};
 ghost use Rattle.uni_model.specs.Frontier.{frontier};
@@ -16,7 +16,7 @@ ghost use Rattle.uni_model.specs.OneList.{HasOneList, HasLegalLog};
 ghost use Rattle.uni_model.specs.Worlds.{chain, calls_in_era, last_cell, IsQuiescent};
 ghost use Rattle.uni_model.specs.Transition.{place_of};
 ghost use Rattle.uni_core.specs.Stage.{pending_of};
-ghost use Rattle.uni_core.specs.Readers.{call_of_name, kind_of, place_named};
+ghost use Rattle.uni_core.specs.Readers.{call_of_name, kind_of, place_named, proposed_at, ChangesItsPlace, IsPlaceIn};
 ghost use Rattle.uni_core.specs.World.{world_of, name_in, current_of, CountsNone};
 
 use crate::shared::WorldCells;
@@ -122,16 +122,64 @@ impl<O: SeqObject> World<O> {
     }
 
     /// The one shared place that the next step of process `p` touches; `None` where it has no call
-    /// pending.
+    /// pending. It is an entry of a process that there is, or a field of a cell that there is.
     pub fn next_place(&self, p: u64) -> Option<Place>
         requires { p < (world_of self.now).n }
-        ensures { option_map (place_named (name_in (world_of self.now))) result
+        ensures place { option_map (place_named (name_in (world_of self.now))) result
             ≡ option_map (λ c. place_of (world_of self.now).n p c.mine c.stage) ((world_of self.now).call p) }
+        ensures there { IfSome result (IsPlaceIn (world_of self.now).n
+            (λ cell. IsSome (cell_of self.now.shared.cells cell))) }
     {
+        let _ = &self.machine;
         let Some(call) = self.standing(p) else {
             return None;
         };
         Some(call.stage.place(self.processes(), p, call.mine))
+    }
+
+    /// The cell that the next step of process `p` proposes after its head; `None` where it proposes none.
+    pub fn next_proposal(&self, p: u64) -> Option<CellId>
+        requires { p < (world_of self.now).n }
+        ensures cell { option_map (name_in (world_of self.now)) result
+            ≡ option_and_then (λ c. proposed_at c.stage) ((world_of self.now).call p) }
+        ensures there { IfSome result (λ cell. IsSome (cell_of self.now.shared.cells cell)) }
+    {
+        let _ = &self.machine;
+        match self.standing(p) {
+            Some(call) => call.stage.proposed(),
+            None => None,
+        }
+    }
+
+    /// Whether the next step of process `p` changes what its place contains. A step that only reads changes
+    /// nothing, nor does a proposal that loses. False where it has no call pending.
+    pub fn next_changes(&self, p: u64) -> bool
+        requires { p < (world_of self.now).n }
+        ensures { IsTrue result ↔ ChangesItsPlace (O.sequential self.now.object) (world_of self.now) p }
+    {
+        match self.standing(p) {
+            Some(call) => self.machine.changes(p, call.mine, call.stage),
+            None => false,
+        }
+    }
+
+    /// The cell that process `p` announces: that of its latest call that has taken its first step, or the
+    /// anchor where the present era has none.
+    pub fn announced(&self, p: u64) -> CellId
+        requires { p < (world_of self.now).n }
+        ensures name { name_in (world_of self.now) result ≡ announce_of (world_of self.now).memory p }
+        ensures there { IsSome (cell_of self.now.shared.cells result) }
+    {
+        self.machine.shared.announced(p)
+    }
+
+    /// The cell that the head entry of process `p` names: the farthest that it knows.
+    pub fn head(&self, p: u64) -> CellId
+        requires { p < (world_of self.now).n }
+        ensures name { name_in (world_of self.now) result ≡ head_of (world_of self.now).memory p }
+        ensures there { IsSome (cell_of self.now.shared.cells result) }
+    {
+        self.machine.shared.head(p)
     }
 
     /// The number of the cell that the head of process `p` names.
@@ -139,7 +187,7 @@ impl<O: SeqObject> World<O> {
         requires { p < (world_of self.now).n }
         ensures { result ≡ head_seq (world_of self.now).memory p }
     {
-        self.machine.shared.seq(self.machine.shared.head(p))
+        self.seq(self.head(p))
     }
 
     /// The frontier: the greatest number that the cell of a head has.

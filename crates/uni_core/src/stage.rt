@@ -119,7 +119,8 @@ pub(crate) enum Stage {
 
 impl Stage {
     ghost use Rattle.uni_core.specs.Stage.{stage_of};
-    ghost use Rattle.uni_core.specs.Readers.{kind_of, place_named};
+    ghost use Rattle.std.specs.Prelude.{option_map};
+    ghost use Rattle.uni_core.specs.Readers.{kind_of, place_named, proposed_at};
 
     /// The kind of the next step.
     pub(crate) fn kind(self) -> StepKind
@@ -139,6 +140,16 @@ impl Stage {
             Stage::WriteSeq { .. } => StepKind::WriteSeq,
             Stage::WriteHead { .. } => StepKind::WriteHead,
             Stage::Finish { .. } => StepKind::Finish,
+        }
+    }
+
+    /// The cell that the next step proposes after the head of its process, if it proposes one.
+    pub(crate) fn proposed(self) -> Option<CellId>
+        ensures { (name : ℕ → Name) → option_map name result ≡ proposed_at (stage_of name self) }
+    {
+        match self {
+            Stage::DecideAfter { prefer, .. } => Some(prefer),
+            _ => None,
         }
     }
 

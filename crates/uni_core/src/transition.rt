@@ -2,7 +2,7 @@
 //! its process stands then.
 
 ghost use Rattle.std.specs.Prelude.{◌≡◌, ◌+◌, ◌<◌, ◌==◌, if◌then◌else◌, ℕ, IsSome, Some};
-ghost use Rattle.std.specs.Prelude.{None, OnOk, IfOk, OnErr, option_map};
+ghost use Rattle.std.specs.Prelude.{◌↔◌, IsTrue, None, OnOk, IfOk, OnErr, option_map};
 ghost use Rattle.std.specs.Option.{option_or};
 ghost use Rattle.cell_arena.specs.Arena.{processes_of, cell_of};
 ghost use Rattle.uni_model.specs.Places.{Name, new_of, inv_of, memory_with};
@@ -11,7 +11,7 @@ ghost use Rattle.uni_model.specs.Places.Content.{Settled};
 ghost use Rattle.uni_model.specs.Stages.{Stage as at};
 ghost use Rattle.uni_model.specs.Transition.{stage_after_scan, value_after};
 ghost use Rattle.uni_core.specs.SharedEntries.{named, memory_of, HasShapeOf};
-ghost use Rattle.uni_core.specs.Stage.{stage_of, stage_told, response_told, Takes, CanStep, MayBeRefused};
+ghost use Rattle.uni_core.specs.Stage.{stage_of, stage_told, response_told, Takes, CanStep, ChangesAt, MayBeRefused};
 
 use crate::fault::Progress;
 use crate::shared::SharedEntries;
@@ -123,6 +123,31 @@ impl<O: SeqObject> Machine<O> {
         let (state, response) = self.object.apply(alloc, &before.0, inv)?;
         self.shared.decide_new(d, (state, Some(response)));
         Ok(())
+    }
+
+    /// Whether the next step of process `p`, which stands at `stage` in the call of cell `mine`, changes what
+    /// its place contains.
+    pub(crate) fn changes(&self, p: u64, mine: CellId, stage: Stage) -> bool
+        requires process { p < processes_of self.now.shared.cells }
+        requires step { CanStep self.now.shared mine stage }
+        ensures { IsTrue result ↔ ChangesAt (O.sequential self.now.object) self.now.shared p
+            (named self.now.shared mine) (stage_of (named self.now.shared) stage) }
+    {
+        match stage {
+            Stage::Announce => self.shared.announced(p) != mine,
+            Stage::WriteScan { best, best_seq: _ } => self.shared.head(p) != best,
+            Stage::DecideAfter { c, .. } => self.shared.after(c).is_none(),
+            Stage::DecideNew { c: _, c_seq: _, d } => self.shared.new_of(d).is_none(),
+            Stage::WriteBefore { c, c_seq: _, d } => self.shared.before(d) != Some(c),
+            Stage::WriteSeq { c: _, c_seq, d } => self.shared.seq(d) != c_seq + 1,
+            Stage::WriteHead { c: _, c_seq: _, d } => self.shared.head(p) != d,
+            Stage::Finish { c_seq, mine_seq } => c_seq < mine_seq && self.shared.head(p) != mine,
+            Stage::ScanHead { .. }
+            | Stage::ScanSeq { .. }
+            | Stage::Test { .. }
+            | Stage::ReadAnnounce { .. }
+            | Stage::ReadHelpSeq { .. } => false,
+        }
     }
 
     /// Takes the next step of process `p`, which stands at `stage` in the call of cell `mine`: it

@@ -5,9 +5,9 @@ use Rattle.atomic_table.specs.Table.{Me}
 use Rattle.seq_object.specs.Sequential.{Sequential}
 use Rattle.uni_model.proofs.Written.{number_cases}
 use Rattle.uni_small.specs.Image.{Image, HasRows, buffer_words, spell, read_image}
-use Rattle.uni_small.specs.View.{Local, Stage, goes, arms, returns}
+use Rattle.uni_small.specs.View.{Local, Returned, Stage, goes, arms, returns}
 use Rattle.uni_small.specs.View.Stage.{Ready, Reading, Writing, Last}
-use Rattle.uni_small.specs.Board.{buffer_in}
+use Rattle.uni_small.specs.Board.{buffer_in, version_in}
 use Rattle.uni_small.specs.Plays.{Goes, IsLeft, IsGood, checked, stage_of, with_local}
 use Rattle.uni_small.specs.Standing.{GoesBy, local_of, went, AttemptEnds, BringEnds, CallEnds, attempt_steps, call_steps}
 use Rattle.uni_small.specs.declared.view.View.{View}
@@ -41,7 +41,7 @@ module _ {O : Type 0} (object : Sequential (List ℕ) ℕ ℕ) (n width p tries 
   at = stage_after me me1 words (Reading tries s (spell image) seen) first
 
   own_is : length (local_of me1).own + 1 ≡ length (local_of me).own + 1
-  own_is = ap (λ (l : List (ℕ × ℕ)). length l + 1) (own_after me me1 words (Reading tries s (spell image) seen) first)
+  own_is = ap (λ (l : List Returned). length l + 1) (own_after me me1 words (Reading tries s (spell image) seen) first)
 
   next : (stage : Stage) → checked n p (length (local_of me1).own + 1) tries s (spell image) seen again ≡ stage → GoesBy me (words + 1) stage me2
   next stage is = goes_on me me1 words (Reading tries s (spell image) seen) first me2 stage (subst (λ st. Goes me1 st me2) is (told (spell image) seen at).0)
@@ -86,25 +86,35 @@ module _ {O : Type 0} (n width tries words spare : ℕ) (few : words + (buffer_w
   ends_none (Some s) none h = absurd (let f : true ≡ false = none in cc)
 
 -- a call from its first store to its reply
-module _ {O : Type 0} (n width inv reply : ℕ) (me me1 me2 : Me ℕ (View O)) (armed : IsLeft me (arms (local_of me) inv) me1) (announced : Goes me1 (Ready 0) me2) where
+module _ {O : Type 0} (n width inv reply version : ℕ) (me me1 me2 : Me ℕ (View O)) (armed : IsLeft me (arms (local_of me) inv) me1) (announced : Goes me1 (Ready 0) me2) where
   begun : IsLeft me (goes (arms (local_of me) inv) (Ready 0)) me2
   begun = left_more me me1 me2 (λ l. goes l (Ready 0)) (arms (local_of me) inv) armed announced
 
+  -- the reply is read in the buffer that s names
+  abbrev HasEnded : (s : ℕ) → Me ℕ (View O) → Me ℕ (View O) → Type 0
+  HasEnded s me3 me4 = IsLeft me3 (returns (local_of me3) s reply) me4 × (version ≡ version_in s) × ((local_of me3).after < version_in s)
+
   ends : (s words spare : ℕ) (me3 me4 : Me ℕ (View O)) → words + 3 ≤ call_steps n width
       → IsLeft me2 (record (local_of me2) { stage = Last s; spare = spare; steps = (local_of me2).steps + words }) me3
-      → IsLeft me3 (returns (local_of me3) reply) me4 → CallEnds n width me inv reply spare me4
+      → HasEnded s me3 me4 → CallEnds n width me inv reply version spare me4
   ends s words spare me3 me4 few there returned =
       let a = left_more me me2 me3 (λ l. record l { stage = Last s; spare = spare; steps = l.steps + words }) (goes (arms (local_of me) inv) (Ready 0)) begun there in
-      let b = left_more me me3 me4 (λ l. returns l reply) (record (goes (arms (local_of me) inv) (Ready 0)) { stage = Last s; spare = spare; steps = (local_of me).steps + 1 + 1 + words }) a returned in
+      let b = left_more me me3 me4 (λ l. returns l s reply) (record (goes (arms (local_of me) inv) (Ready 0)) { stage = Last s; spare = spare; steps = (local_of me).steps + 1 + 1 + words }) a returned.0 in
       let count : (local_of me).steps + 1 + 1 + words + 1 ≡ (local_of me).steps + (words + 3) = omega (arith) in
-      (words + 3, few, b ∙ (λ k. (with_local me.0 (record (returns (record (local_of me) { inv = inv; spare = spare }) reply) { steps = count k }), me.1)))
+      let same : (local_of me3).after ≡ (local_of me).after = ap (λ (m : Me ℕ (View O)). (local_of m).after) a in
+      subst (λ v. CallEnds n width me inv reply v spare me4) (sym returned.1) (
+        words + 3,
+        few,
+        subst (λ v. v < version_in s) same returned.2,
+        b ∙ (λ k. (with_local me.0 (record (returns (record (local_of me) { inv = inv; spare = spare }) s reply) { steps = count k }), me.1)),
+      )
 
   -- the first attempt ends it
-  pub ends_first : (s spare : ℕ) (me3 me4 : Me ℕ (View O)) → AttemptEnds n width 0 me2 (Some s) spare me3 → IsLeft me3 (returns (local_of me3) reply) me4 → CallEnds n width me inv reply spare me4
+  pub ends_first : (s spare : ℕ) (me3 me4 : Me ℕ (View O)) → AttemptEnds n width 0 me2 (Some s) spare me3 → HasEnded s me3 me4 → CallEnds n width me inv reply version spare me4
   ends_first s spare me3 me4 h returned = ends s h.0 spare me3 me4 (let f = h.1 in omega arith) h.3 returned
 
   -- the second one does
-  pub ends_second : (s spare0 spare : ℕ) (me3 me4 me5 : Me ℕ (View O)) → AttemptEnds n width 0 me2 None spare0 me3 → AttemptEnds n width 1 me3 (Some s) spare me4 → IsLeft me4 (returns (local_of me4) reply) me5 → CallEnds n width me inv reply spare me5
+  pub ends_second : (s spare0 spare : ℕ) (me3 me4 me5 : Me ℕ (View O)) → AttemptEnds n width 0 me2 None spare0 me3 → AttemptEnds n width 1 me3 (Some s) spare me4 → HasEnded s me4 me5 → CallEnds n width me inv reply version spare me5
   ends_second s spare0 spare me3 me4 me5 failed h returned =
       let a = left_more me2 me3 me4 (λ l. record l { stage = Last s; spare = spare; steps = l.steps + h.0 }) (went (local_of me2) failed.0.0 (Ready 1)) failed.0.2 h.3 in
       let count : (local_of me2).steps + failed.0.0 + h.0 ≡ (local_of me2).steps + (failed.0.0 + h.0) = omega (arith) in
@@ -112,8 +122,8 @@ module _ {O : Type 0} (n width inv reply : ℕ) (me me1 me2 : Me ℕ (View O)) (
       (a ∙ (λ k. (with_local me2.0 (record (local_of me2) { stage = Last s; spare = spare; steps = count k }), me2.1))) returned
 
   -- both have failed
-  pub ends_last : (s spare0 spare : ℕ) (me3 me4 me5 me6 : Me ℕ (View O)) → AttemptEnds n width 0 me2 None spare0 me3 → AttemptEnds n width 1 me3 None spare me4 → Goes me4 (Last s) me5 → IsLeft me5 (returns (local_of me5) reply) me6
-      → CallEnds n width me inv reply spare me6
+  pub ends_last : (s spare0 spare : ℕ) (me3 me4 me5 me6 : Me ℕ (View O)) → AttemptEnds n width 0 me2 None spare0 me3 → AttemptEnds n width 1 me3 None spare me4 → Goes me4 (Last s) me5 → HasEnded s me5 me6
+      → CallEnds n width me inv reply version spare me6
   ends_last s spare0 spare me3 me4 me5 me6 failed again turned returned =
       let a = goes_more me2 me3 failed.0.0 (Ready 1) failed.0.2 me4 again.0.0 (Ready 2) again.0.2 in
       let b = goes_on me2 me4 (failed.0.0 + again.0.0) (Ready 2) a me5 (Last s) turned in

@@ -1,10 +1,10 @@
 -- The exchange that makes a spare buffer current.
-use Rattle.std.proofs.Common.{◌≡◌, ◌≢◌, ◌∙◌, ℕ, zero, suc, ◌+◌, ◌*◌, ◌<◌, ◌≤◌, ◌⊎◌, inl, inr, refl, sym, ap, subst, List, [], ◌∷◌, ◌++◌, length, map, slice_index, slice_get, slice_set, Option, Some, None, arith, append-nil, if◌then◌else◌, ◌==◌, eqb, Bool, true, false}
+use Rattle.std.proofs.Common.{◌≡◌, ◌≢◌, ◌∙◌, ℕ, zero, suc, ◌+◌, ◌*◌, ◌<◌, ◌≤◌, ◌⊎◌, inl, inr, refl, sym, ap, subst, List, [], ◌∷◌, ◌++◌, length, map, slice_index, slice_get, slice_set, Option, Some, None, arith, append-nil, if◌then◌else◌, length-append, nat_lt, ◌==◌, eqb, Bool, true, false}
 use Rattle.std.proofs.lemmas.List.{map-append, set-get_or}
 use Rattle.std.proofs.lemmas.List.Elements.{Contains-append_cases}
 use Rattle.std.proofs.lemmas.Option.{slice_get_within}
 use prog.Atomic.{either}
-use Rattle.atomic_table.specs.Table.{Me, Step, Allows}
+use Rattle.atomic_table.specs.Table.{Me, Step}
 use Rattle.atomic_table.proofs.Lists.{exchanged}
 use Rattle.seq_object.specs.Sequential.{Sequential}
 use Rattle.seq_object.specs.History.{response_at, state_after}
@@ -15,27 +15,24 @@ use Rattle.uni_model.proofs.Simulation.{set_at_same}
 use Rattle.uni_model.proofs.LawProofs.{set_at_elsewhere, AcceptsAll-append}
 use Rattle.uni_model.proofs.Appended.{slice_get-append_left, slice_get-append_right, response_at-append}
 use Rattle.uni_model.specs.ProcessCalls.{acts_by}
-use Rattle.uni_words.proofs.Running.{acts_by-append}
-use Rattle.uni_small.specs.Image.{Image, HasRows, buffer_words, due_at, calls_seen, first_image, image_from, with_seen}
-use Rattle.uni_small.specs.View.{Local, Stage, goes, brings}
+use Rattle.uni_small.specs.Image.{Image, HasRows, IsSteady, buffer_words, due_at, calls_seen, first_image, image_from, with_seen}
+use Rattle.uni_small.specs.View.{Local, Returned, Stage, goes, brings}
 use Rattle.uni_small.specs.View.Stage.{Idle, Armed, Ready, Reading, Asking, Writing, Last}
 use Rattle.uni_small.specs.Board.{Board, in_of, current_word, buffer_in, version_in}
-use Rattle.uni_small.specs.Invariant.{IsBoard, IsSound, IsCallAt, IsAttemptAt, IsClosed, IsOpen, HasTaken, HasSeen, IsWritten}
-use Rattle.uni_small.specs.Shown.{AreWords, ShowsBoard}
+use Rattle.uni_small.specs.Invariant.{IsBoard, IsSound, IsCallAt, IsAttemptAt, IsClosed, IsOpen, HasTaken, HasSeen, AreIn, IsWritten}
+use Rattle.uni_small.specs.Order.{StandsIn, IsOrdered}
+use Rattle.uni_small.specs.Shown.{AreWords}
+use Rattle.uni_small.specs.Laws.{Moves, takes_effect}
 use Rattle.uni_small.specs.Plays.{with_local, brought, HasBrought}
 use Rattle.uni_small.specs.Standing.{HasWrittenAll}
 use Rattle.uni_small.specs.declared.view.View.{View}
 use Rattle.uni_small.proofs.Frame.{Found, Given, step_law, sound_with, sound_same}
-use Rattle.uni_small.proofs.Lists.{due_cases}
-use Rattle.uni_small.proofs.Images.{spell-reply, image_from-append, with_seen-calls, reached_from, rows-seen, applied-seen, reply-seen}
+use Rattle.uni_small.proofs.Lists.{due_cases, get-append, get-contains}
+use Rattle.uni_small.proofs.Acts.{acts_by-append, acts_by-linearized}
+use Rattle.uni_small.proofs.Images.{spell-reply, image_from-append, with_seen-calls, reached_from, rows-seen, width_is, applied-seen, reply-seen}
 use Rattle.uni_small.proofs.Batch.{call_seen, taken_seen, linearized, sum-rises}
 use Rattle.uni_small.proofs.Loads.{call_at, attempt_at, buffer_of, version_of}
 use Rattle.uni_small.proofs.Words.{words_current}
-
--- what takes effect is nobody's act
-acts_by-linearized : (p : ℕ) (cs : List (Invoked ℕ)) (ys : List (Act ℕ ℕ)) → acts_by p (map (λ c. Linearize c) cs ++ ys) ≡ acts_by p ys
-acts_by-linearized p [] ys = refl
-acts_by-linearized p (c ∷ cs) ys = acts_by-linearized p cs ys
 
 length_map : {A B : Type 0} (f : A → B) (xs : List A) → length (map f xs) ≡ length xs
 length_map f [] = refl
@@ -47,7 +44,7 @@ response_stays object s [] js place r e = absurd (let f = e in cc)
 response_stays object s (i ∷ is) js zero r e = e
 response_stays object s (i ∷ is) js (suc place) r e = response_stays object (object.next s i) is js place r e
 
-module _ (object : Sequential (List ℕ) ℕ ℕ) (steady : (state : List ℕ) (inv : ℕ) → length (object.next state inv) ≡ length state) (n width : ℕ) (few : n ≤ 64)
+module _ (object : Sequential (List ℕ) ℕ ℕ) (steady : IsSteady object) (n width : ℕ) (few : n ≤ 64)
     (g : Board) (local : ℕ → Local) (sound : IsSound object n width g local) (seen : List (Option ℕ)) (long : length seen ≡ n)
     (p : ℕ) (p_inside : p < n) (known : HasSeen g p seen) (not_in : in_of g p < g.announced p)
     (b : ℕ) (b_inside : b < 2 * n) (written : IsWritten object n width g b (with_seen object g.image 0 seen) (buffer_words n width)) where
@@ -67,6 +64,7 @@ module _ (object : Sequential (List ℕ) ℕ ℕ) (steady : (state : List ℕ) (
     mark = set_at g.mark b (λ r. slice_index image'.applied r);
     image = image';
     atomic = record g.atomic { agreed = agreed' };
+    agreed_at = λ v. if nat_lt g.version v then length agreed' else g.agreed_at v;
     acts = g.acts ++ map (λ c. Linearize c) calls;
   }
 
@@ -91,18 +89,22 @@ module _ (object : Sequential (List ℕ) ℕ ℕ) (steady : (state : List ℕ) (
   ]
 
   rows' : HasRows n width image'
-  rows' = rows-seen object steady n width g.image 0 seen was.rows
+  rows' = rows-seen object steady n width (width_is object steady n width g.atomic.agreed g.image was.image was.rows) g.image 0 seen was.rows
 
   state_is : state_after object object.initial (map (λ c. c.inv) g.atomic.agreed) ≡ g.image.state
   state_is = sym (reached_from object _ g.atomic.agreed) ∙ ap (λ (i : Image). i.state) was.image
+
+  -- what was answered at a place is
+  response_kept : (place reply : ℕ) → response_at object object.initial (map (λ c. c.inv) g.atomic.agreed) place ≡ Some reply → response_at object object.initial (map (λ c. c.inv) agreed') place ≡ Some reply
+  response_kept place reply told = subst (λ is. response_at object object.initial is place ≡ Some reply) (sym (map-append (λ (c : Invoked ℕ). c.inv) g.atomic.agreed calls))
+      (response_stays object object.initial (map (λ c. c.inv) g.atomic.agreed) (map (λ c. c.inv) calls) place reply told)
 
   -- a call that has taken effect has
   taken_stays : (call : Invoked ℕ) (reply : ℕ) → HasTaken object g call reply → HasTaken object brought_board call reply
   taken_stays call reply h = record {
     place = h.place;
     there = slice_get-append_left g.atomic.agreed calls h.place call h.there;
-    reply_is = subst (λ is. response_at object object.initial is h.place ≡ Some reply) (sym (map-append (λ (c : Invoked ℕ). c.inv) g.atomic.agreed calls))
-        (response_stays object object.initial (map (λ c. c.inv) g.atomic.agreed) (map (λ c. c.inv) calls) h.place reply h.reply_is);
+    reply_is = response_kept h.place reply h.reply_is;
   }
 
   -- a call that was seen takes effect
@@ -127,7 +129,7 @@ module _ (object : Sequential (List ℕ) ℕ ℕ) (steady : (state : List ℕ) (
   acts_same q = acts_by-append q g.acts (map (λ c. Linearize c) calls) ∙ ap (λ l. acts_by q g.acts ++ l) (
       ap (acts_by q) (sym (append-nil (map (λ c. Linearize c) calls))) ∙ acts_by-linearized q calls []) ∙ append-nil (acts_by q g.acts)
 
-  closed_stays : (q : ℕ) (own : List (ℕ × ℕ)) → q < n → IsClosed g q own → IsClosed brought_board q own
+  closed_stays : (q : ℕ) (own : List Returned) → q < n → IsClosed g q own → IsClosed brought_board q own
   closed_stays q own inside h = record {
     none_open = h.none_open;
     next = h.next;
@@ -139,7 +141,7 @@ module _ (object : Sequential (List ℕ) ℕ ℕ) (steady : (state : List ℕ) (
     acts = acts_same q ∙ h.acts;
   }
 
-  open_stays : (q inv : ℕ) (own : List (ℕ × ℕ)) → q < n → IsOpen object g q inv own → IsOpen object brought_board q inv own
+  open_stays : (q inv : ℕ) (own : List Returned) → q < n → IsOpen object g q inv own → IsOpen object brought_board q inv own
   open_stays q inv own inside h = record {
     is_open = h.is_open;
     next = h.next;
@@ -192,6 +194,77 @@ module _ (object : Sequential (List ℕ) ℕ ℕ) (steady : (state : List ℕ) (
         h.replies r inside held ∙ sym (same_reply r (let m = was.marked d r inside in omega arith));
   }
 
+  -- the calls of a version that has been are the same ones, and the next version has all
+  at_old : (v : ℕ) → v ≤ g.version → brought_board.agreed_at v ≡ g.agreed_at v
+  at_old v old = elim (lt_cases g.version v) [ inl new ↦ absurd (let n = new.0 in omega arith) | inr h ↦ rw h.1 refl ]
+
+  at_new : (v : ℕ) → g.version < v → brought_board.agreed_at v ≡ length agreed'
+  at_new v new = elim (lt_cases g.version v) [ inl h ↦ rw h.1 refl | inr old ↦ absurd (let o = old.0 in omega arith) ]
+
+  grown : length agreed' ≡ length g.atomic.agreed + length calls
+  grown = length-append g.atomic.agreed calls
+
+  at_most : (v : ℕ) → v ≤ g.version → g.agreed_at v ≤ length g.atomic.agreed
+  at_most v old = (let r = was.rising v g.version old in let c = was.counted g.version (omega arith) in omega arith)
+
+  rising' : (v w : ℕ) → v ≤ w → brought_board.agreed_at v ≤ brought_board.agreed_at w
+  rising' v w below = elim (lt_cases g.version w) [
+    | inl new ↦ elim (lt_cases g.version v) [
+      | inl also ↦ (let a = at_new v also.0 in let b = at_new w new.0 in omega arith)
+      | inr old ↦ (let a = at_old v old.0 in let b = at_new w new.0 in let m = at_most v old.0 in let l = grown in omega arith)
+    ]
+    | inr old ↦ (let o = old.0 in let a = at_old v (omega arith) in let b = at_old w (omega arith) in let r = was.rising v w below in omega arith)
+  ]
+
+  -- a call that takes effect now is after all that did before
+  stands_stays : (q k : ℕ) (call : Returned) → call.version ≤ g.version → StandsIn object g.atomic.agreed g.agreed_at q k call → StandsIn object agreed' brought_board.agreed_at q k call
+  stands_stays q k call known h =
+      let first : call.after ≤ g.version = elim (lt_cases g.version call.after) [
+        | inl late ↦ absurd (let l = late.0 in let r = was.rising call.version call.after (omega arith) in let a = h.after in let b = h.before in omega arith)
+        | inr old ↦ old.0
+      ] in
+      record {
+        place = h.place;
+        there = slice_get-append_left g.atomic.agreed calls h.place _ h.there;
+        reply = response_kept h.place call.reply h.reply;
+        after = (let a = h.after in let o = at_old call.after first in omega arith);
+        before = (let b = h.before in let o = at_old call.version known in omega arith);
+      }
+
+  pub ordered_stays : (q after : ℕ) (own : List Returned) → IsOrdered object g.atomic.agreed g.agreed_at g.version q after own → IsOrdered object agreed' brought_board.agreed_at (g.version + 1) q after own
+  ordered_stays q after own h = record {
+    reached = (let r = h.reached in omega arith);
+    later = λ c place at mine from. elim (get-append g.atomic.agreed calls place c at) [
+      | inl old ↦ (let l = h.later c place old mine from in let o = at_old after h.reached in omega arith)
+      | inr new ↦ (let e = new.1 in let o = at_old after h.reached in let m = at_most after h.reached in omega arith)
+    ];
+    known = λ k call at. (let v = h.known k call at in omega arith);
+    stand = λ k call at. stands_stays q k call (h.known k call at) (h.stand k call at);
+  }
+
+  -- a process whose calls are all in has none among those that take effect now
+  are_in_stays : (q version : ℕ) → g.announced q ≤ in_of g q → AreIn g q version → AreIn brought_board q version
+  are_in_stays q version all_in h = (
+    (let v = h.0 in omega arith),
+    λ c place at mine below. elim (get-append g.atomic.agreed calls place c at) [
+      | inl old ↦ (let b = h.1 c place old mine below in let o = at_old version h.0 in omega arith)
+      | inr new ↦
+          let seen_it = call_seen g.image.applied 0 seen c (get-contains calls new.0 c new.2) in
+          let same : seen_it.0 ≡ q = (let z : 0 + seen_it.0 ≡ seen_it.0 = omega arith in sym (seen_it.1 ∙ z) ∙ mine) in
+          let due = (known.told seen_it.0 c.inv seen_it.3).0 in
+          let a : g.announced seen_it.0 ≡ g.announced q = ap g.announced same in
+          let i : in_of g seen_it.0 ≡ in_of g q = ap (in_of g) same in
+          absurd (omega arith)
+    ],
+  )
+
+  -- all that took effect is in the next version
+  pub all_now : (q version : ℕ) → version ≡ g.version + 1 → AreIn brought_board q version
+  all_now q version is = (
+    omega arith,
+    λ c place at mine below. (let w = slice_get_within agreed' place c at in let a = at_new version (omega arith) in omega arith),
+  )
+
   pub attempt_stays : (q d : ℕ) (stage : Stage) → q < n → d ≢ b → IsAttemptAt object n width g q d stage → IsAttemptAt object n width brought_board q d stage
   attempt_stays q d Idle inside apart h = h
   attempt_stays q d Armed inside apart h = h
@@ -199,7 +272,11 @@ module _ (object : Sequential (List ℕ) ℕ ℕ) (steady : (state : List ℕ) (
   attempt_stays q d (Reading t s copy seen) inside apart h = (h.0, λ fresh. absurd (too_old s (λ f. (h.1 f).0) fresh))
   attempt_stays q d (Asking t s copy seen) inside apart h = (h.0, λ fresh. absurd (too_old s (λ f. (h.1 f).0) fresh))
   attempt_stays q d (Writing t s image seen k) inside apart h = (h.0, (λ fresh. absurd (too_old s (λ f. (h.1 f).0) fresh)), written_stays q d k (with_seen object image 0 seen) apart h.2)
-  attempt_stays q d (Last s) inside apart h = (h.0, (let m = mark_least (buffer_in s) q inside in let a = h.1 in omega arith))
+  attempt_stays q d (Last s) inside apart h = (
+    h.0,
+    (let m = mark_least (buffer_in s) q inside in let a = h.1 in omega arith),
+    are_in_stays q (version_in s) (let m = was.marked (buffer_in s) q inside in let a = h.1 in omega arith) h.2,
+  )
 
   pub board' : IsBoard object n width brought_board
   board' = record {
@@ -242,6 +319,8 @@ module _ (object : Sequential (List ℕ) ℕ ℕ) (steady : (state : List ℕ) (
           ] in
           (inside, (let i = in_later c.process inside in omega arith))
     ];
+    counted = λ v late. at_new v (omega arith);
+    rising = rising';
     start = was.start;
     history = AcceptsAll-append object (at_start object.initial) g.atomic (record g.atomic { agreed = agreed' }) g.acts (map (λ c. Linearize c) calls) was.history
         (linearized object g.image.applied 0 seen g.atomic (λ j inv at. opened j inv at) (λ c has. inr (was.agreed c has).1));
@@ -278,8 +357,8 @@ module _ (object : Sequential (List ℕ) ℕ ℕ) (steady : (state : List ℕ) (
         subst (λ k. g.atomic.open_call k ≡ Some (record { process = k; nth = slice_index g.image.applied k; inv = inv })) z
         (open_at j inv inside told.0 told.1 (local j) (local j).stage (sound.each j inside).call)
 
-module _ {O : Type 0} (meaning : O → Sequential (List ℕ) ℕ ℕ) (o : O) (n width slots id : ℕ) (few : n ≤ 64) (st : Step ℕ) (me : Me ℕ (View O)) (single : me.0.known.count ≡ 1)
-    (steady : (state : List ℕ) (inv : ℕ) → length ((meaning o).next state inv) ≡ length state) where
+module _ {O : Type 0} (meaning : O → Sequential (List ℕ) ℕ ℕ) (o : O) (n width id : ℕ) (few : n ≤ 64) (st : Step ℕ) (me : Me ℕ (View O)) (single : me.0.known.count ≡ 1)
+    (steady : IsSteady (meaning o)) where
   abbrev object : Sequential (List ℕ) ℕ ℕ
   object = meaning o
 
@@ -316,7 +395,7 @@ module _ {O : Type 0} (meaning : O → Sequential (List ℕ) ℕ ℕ) (o : O) (n
       at_it = attempt_at object n width g p l (Writing tries s image seen (buffer_words n width)) f.mine stage
 
       -- S has changed
-      miss : slice_index words 0 ≢ s → Given meaning o n width me local (slice_set words 0 (slice_index words 0)) (HasBrought st me (slice_index words 0))
+      miss : slice_index words 0 ≢ s → Given meaning o n width me g local (slice_set words 0 (slice_index words 0)) (takes_effect s seen g (slice_index words 0)) (HasBrought st me (slice_index words 0))
       miss apart = record {
         board = g;
         local' = goes l (Ready (tries + 1));
@@ -328,16 +407,18 @@ module _ {O : Type 0} (meaning : O → Sequential (List ℕ) ℕ ℕ) (o : O) (n
             | inl old ↦ (let a = at_it.0 in let b = old.0 in omega arith)
             | inr new ↦ absurd (apart (f.words_are.current ∙ sym (at_it.1 new.0).0))
           ];
+          ordered = f.mine.ordered;
         });
         words_are = subst (AreWords n width g) (sym (set-get_or words 0 0)) f.words_are;
         said = elim (number_cases (slice_index words 0) s) [
           | inl same ↦ absurd (apart same.0)
           | inr other ↦ told (slice_index words 0) (goes l (Ready (tries + 1))) false other.1 refl
         ];
+        appended = elim (number_cases (slice_index words 0) s) [ inl same ↦ absurd (apart same.0) | inr other ↦ rw other.1 (sym (append-nil g.acts)) ];
       }
 
       -- S is as it was
-      hit : slice_index words 0 ≡ s → Given meaning o n width me local (slice_set words 0 st.second) (HasBrought st me (slice_index words 0))
+      hit : slice_index words 0 ≡ s → Given meaning o n width me g local (slice_set words 0 st.second) (takes_effect s seen g (slice_index words 0)) (HasBrought st me (slice_index words 0))
       hit same =
           let is : s ≡ current_word g.version g.current = sym same ∙ f.words_are.current in
           let now = at_it.1 (omega arith) in
@@ -361,6 +442,7 @@ module _ {O : Type 0} (meaning : O → Sequential (List ℕ) ℕ ℕ) (o : O) (n
                   apart = other;
                   call = call_stays object steady n width few g local f.sound seen now.1.1 p f.inside now.1.2 now.1.3 (2 * p + l.spare) b_inside written q (local q) (local q).stage inside h.call;
                   attempt = attempt_stays object steady n width few g local f.sound seen now.1.1 p f.inside now.1.2 now.1.3 (2 * p + l.spare) b_inside written q (2 * q + (local q).spare) (local q).stage inside other h.attempt;
+                  ordered = ordered_stays object steady n width few g local f.sound seen now.1.1 p f.inside now.1.2 now.1.3 (2 * p + l.spare) b_inside written q (local q).after (local q).own h.ordered;
                 })
                 (record {
                   spare = omega arith;
@@ -372,16 +454,19 @@ module _ {O : Type 0} (meaning : O → Sequential (List ℕ) ℕ ℕ) (o : O) (n
                         let marked : g'.mark (2 * p + l.spare) p ≡ slice_index (with_seen object g.image 0 seen).applied p = ap (λ f. f p) (set_at_same g.mark (2 * p + l.spare) _) in
                         let later = in_later object steady n width few g local f.sound seen now.1.1 p f.inside now.1.2 now.1.3 (2 * p + l.spare) b_inside written p f.inside in
                         let caught = now.1.2.caught p (let w = now.1.1 in let i = f.inside in omega arith) (inl refl) in omega arith),
+                    all_now object steady n width few g local f.sound seen now.1.1 p f.inside now.1.2 now.1.3 (2 * p + l.spare) b_inside written p (version_in st.second) (ap version_in word ∙ version_of (g.version + 1) (2 * p + l.spare) b_small),
                   );
+                  ordered = ordered_stays object steady n width few g local f.sound seen now.1.1 p f.inside now.1.2 now.1.3 (2 * p + l.spare) b_inside written p l.after l.own f.mine.ordered;
                 });
             words_are = words_current n width g g' words f.words_are refl refl refl st.second word;
             said = elim (number_cases (slice_index words 0) s) [
               | inl here ↦ told (slice_index words 0) (brings l st.second) true here.1 refl
               | inr other ↦ absurd (other.0 same)
             ];
+            appended = elim (number_cases (slice_index words 0) s) [ inl here ↦ rw here.1 refl | inr other ↦ absurd (other.0 same) ];
           }
 
-    pub brings_in : Allows (ShowsBoard meaning o n width) slots id me 0 (λ found. either (eqb found s) st.second found) (λ found me'. HasBrought st me found me')
-    brings_in = step_law meaning o n width slots id me 0 (λ found. either (eqb found s) st.second found) (λ found me'. HasBrought st me found me') single (λ g local words f fits.
-        exchanged (slice_index words 0) s st.second (λ x. Given meaning o n width me local (slice_set words 0 x) (HasBrought st me (slice_index words 0)))
+    pub brings_in : Moves meaning o n width id me 0 (λ found. either (eqb found s) st.second found) (takes_effect s seen) (λ found me'. HasBrought st me found me')
+    brings_in = step_law meaning o n width id me 0 (λ found. either (eqb found s) st.second found) (takes_effect s seen) (λ found me'. HasBrought st me found me') single (λ g local words f fits.
+        exchanged (slice_index words 0) s st.second (λ x. Given meaning o n width me g local (slice_set words 0 x) (takes_effect s seen g (slice_index words 0)) (HasBrought st me (slice_index words 0)))
         (hit g local words f) (miss g local words f))

@@ -1,19 +1,20 @@
 -- A word step of a seat of one process keeps the rule: what has to be shown of the board.
-use Rattle.std.proofs.Common.{◌≡◌, ◌≢◌, ◌∙◌, ℕ, ◌<◌, inl, inr, ⊎_elim, sym, ap, subst, List, slice_index, slice_set, Some, arith, set}
+use Rattle.std.proofs.Common.{◌≡◌, ◌≢◌, ◌∙◌, ℕ, ◌<◌, inl, inr, ⊎_elim, sym, ap, subst, List, slice_index, slice_set, Some, ◌++◌, append-nil, arith, set}
 use Rattle.std.proofs.lemmas.List.{set-get_or}
 use mathlib.Core.Option.{some}
 use lib.ListN.{get_elem?}
-use Rattle.atomic_table.specs.Table.{State, Me, keeps, Allows}
+use Rattle.atomic_table.specs.Table.{State, Me}
 use Rattle.atomic_table.proofs.Lists.{at_set}
 use Rattle.seq_object.specs.Sequential.{Sequential}
-use Rattle.uni_model.specs.AtomicObject.{set_at}
+use Rattle.uni_model.specs.AtomicObject.{Act, set_at}
 use Rattle.uni_model.proofs.Written.{set_at-cases}
 use Rattle.uni_model.proofs.Simulation.{set_at_same}
 use Rattle.uni_model.proofs.LawProofs.{set_at_elsewhere}
 use Rattle.uni_small.specs.View.{Local}
 use Rattle.uni_small.specs.Board.{Board}
 use Rattle.uni_small.specs.Invariant.{IsAt, IsBoard, IsSound}
-use Rattle.uni_small.specs.Shown.{AreWords, Tells, IsShown, ShowsBoard}
+use Rattle.uni_small.specs.Shown.{AreWords, Tells, IsShown}
+use Rattle.uni_small.specs.Laws.{Moves, nothing}
 use Rattle.uni_small.specs.Plays.{with_local}
 use Rattle.uni_small.specs.declared.view.View.{View}
 
@@ -44,15 +45,16 @@ pub record Found {O : Type 0} (meaning : O → Sequential (List ℕ) ℕ ℕ) (o
   pub sound : IsSound (meaning o) n width g local
   pub mine : IsAt (meaning o) n width g me.0.known.first me.0.known.local
 
--- what has to be given: the board afterwards, and what the process knows then
-pub record Given {O : Type 0} (meaning : O → Sequential (List ℕ) ℕ ℕ) (o : O) (n width : ℕ) (me : Me ℕ (View O)) (local : ℕ → Local) (words' : List ℕ) (says : Me ℕ (View O) → Type 0) : Type 0 where
+-- what has to be given: the board afterwards, with these acts more, and what the process knows then
+pub record Given {O : Type 0} (meaning : O → Sequential (List ℕ) ℕ ℕ) (o : O) (n width : ℕ) (me : Me ℕ (View O)) (g : Board) (local : ℕ → Local) (words' : List ℕ) (acts : List (Act ℕ ℕ)) (says : Me ℕ (View O) → Type 0) : Type 0 where
   pub board : Board
   pub local' : Local
   pub sound : IsSound (meaning o) n width board (set_at local me.0.known.first local')
   pub words_are : AreWords n width board words'
   pub said : says (with_local me.0 local', me.1)
+  pub appended : board.acts ≡ g.acts ++ acts
 
-module _ {O : Type 0} (meaning : O → Sequential (List ℕ) ℕ ℕ) (o : O) (n width slots id : ℕ) (me : Me ℕ (View O)) (i : ℕ) (f : ℕ → ℕ) (says : ℕ → Me ℕ (View O) → Type 0)
+module _ {O : Type 0} (meaning : O → Sequential (List ℕ) ℕ ℕ) (o : O) (n width id : ℕ) (me : Me ℕ (View O)) (i : ℕ) (f : ℕ → ℕ) (acts : Board → ℕ → List (Act ℕ ℕ)) (says : ℕ → Me ℕ (View O) → Type 0)
     (single : me.0.known.count ≡ 1) where
   abbrev p : ℕ
   p = me.0.known.first
@@ -75,7 +77,7 @@ module _ {O : Type 0} (meaning : O → Sequential (List ℕ) ℕ ℕ) (o : O) (n
       mine = subst (λ l. IsAt (meaning o) n width g p l) own.2 (is.sound.each p own.0);
     }
 
-    module _ (given : Given meaning o n width me local (slice_set s.words i (f (slice_index s.words i))) (says (slice_index s.words i))) where
+    module _ (given : Given meaning o n width me g local (slice_set s.words i (f (slice_index s.words i))) (acts g (slice_index s.words i)) (says (slice_index s.words i))) where
       seats_later : (j : ℕ) (u : View O) → get_elem? (set s.views id (with_local me.0 given.local')) j ≡ some u → Tells n width o (set_at local p given.local') seat_of j u
       seats_later j u e = ⊎_elim
           (λ (h : (j ≡ id) × (with_local me.0 given.local' ≡ u)).
@@ -115,37 +117,29 @@ module _ {O : Type 0} (meaning : O → Sequential (List ℕ) ℕ ℕ) (o : O) (n
           (at_set s.views id j (with_local me.0 given.local') u e)
 
   pub step_law : ((g : Board) (local : ℕ → Local) (words : List ℕ) → Found meaning o n width me g local words → slice_index words i < 18446744073709551616
-      → Given meaning o n width me local (slice_set words i (f (slice_index words i))) (says (slice_index words i)))
-      → Allows (ShowsBoard meaning o n width) slots id me i f says
-  step_law give s holds homes at fits =
-      let given = give holds.0 holds.1.0 s.words (found s holds.0 holds.1.0 holds.1.1.0 holds.1.1.1 at) fits in (
+      → Given meaning o n width me g local (slice_set words i (f (slice_index words i))) (acts g (slice_index words i)) (says (slice_index words i)))
+      → Moves meaning o n width id me i f acts says
+  step_law give s g local seat_of is at fits =
+      let given = give g local s.words (found s g local seat_of is at) fits in (
         with_local me.0 given.local',
-        keeps,
-        tt,
         (
           given.board,
           (
-            set_at holds.1.0 p given.local',
-            (
-              holds.1.1.0,
-              record {
-                words = given.words_are;
-                seats = seats_later s holds.0 holds.1.0 holds.1.1.0 holds.1.1.1 at given;
-                sound = given.sound;
-              },
-            ),
+            set_at local p given.local',
+            record { words = given.words_are; seats = seats_later s g local seat_of is at given; sound = given.sound },
+            given.said,
+            given.appended,
           ),
         ),
-        given.said,
       )
 
 -- a load leaves the words and the board as they are
-pub load_law : {O : Type 0} (meaning : O → Sequential (List ℕ) ℕ ℕ) (o : O) (n width slots id : ℕ) (me : Me ℕ (View O)) (i : ℕ) (says : ℕ → Me ℕ (View O) → Type 0)
+pub load_law : {O : Type 0} (meaning : O → Sequential (List ℕ) ℕ ℕ) (o : O) (n width id : ℕ) (me : Me ℕ (View O)) (i : ℕ) (says : ℕ → Me ℕ (View O) → Type 0)
     → me.0.known.count ≡ 1
     → ((g : Board) (local : ℕ → Local) (words : List ℕ) → Found meaning o n width me g local words
     → (l' : Local) × IsAt (meaning o) n width g me.0.known.first l' × says (slice_index words i) (with_local me.0 l', me.1))
-    → Allows (ShowsBoard meaning o n width) slots id me i (λ x. x) says
-load_law meaning o n width slots id me i says single give = step_law meaning o n width slots id me i (λ x. x) says single
+    → Moves meaning o n width id me i (λ x. x) nothing says
+load_law meaning o n width id me i says single give = step_law meaning o n width id me i (λ x. x) nothing says single
     (λ g local words found fits.
     let given = give g local words found in record {
       board = g;
@@ -153,4 +147,5 @@ load_law meaning o n width slots id me i says single give = step_law meaning o n
       sound = sound_same (meaning o) n width g local me.0.known.first given.0 found.sound given.1;
       words_are = subst (AreWords n width g) (sym (set-get_or words i 0)) found.words_are;
       said = given.2;
+      appended = sym (append-nil g.acts);
     })

@@ -5,7 +5,7 @@ use Rattle.std.proofs.lemmas.List.{get_or-append-add, get_or_append_left}
 use Rattle.seq_object.specs.Sequential.{Sequential}
 use Rattle.seq_object.specs.History.{state_after}
 use Rattle.uni_model.specs.AtomicObject.{Invoked}
-use Rattle.uni_small.specs.Image.{Image, HasRows, buffer_words, spell, read_image, due_at, calls_seen, taken_in, image_from, with_seen}
+use Rattle.uni_small.specs.Image.{Image, HasRows, IsSteady, buffer_words, spell, read_image, due_at, calls_seen, taken_in, first_image, image_from, with_seen}
 
 -- the words of an image
 module _ (n width : ℕ) (image : Image) (rows : HasRows n width image) where
@@ -44,12 +44,12 @@ module _ (object : Sequential (List ℕ) ℕ ℕ) where
   reached_from image [] = refl
   reached_from image (c ∷ calls) = reached_from (taken_in object image c.process c.inv) calls
 
-  module _ (steady : (state : List ℕ) (inv : ℕ) → length (object.next state inv) ≡ length state) (n width : ℕ) where
+  module _ (steady : IsSteady object) (n width : ℕ) (wide : length object.initial ≡ width) where
     pub rows-taken : (image : Image) (r inv : ℕ) → HasRows n width image → HasRows n width (taken_in object image r inv)
     rows-taken image r inv rows = record {
       applied = length-set image.applied r _ ∙ rows.applied;
       reply = length-set image.reply r _ ∙ rows.reply;
-      state = steady image.state inv ∙ rows.state;
+      state = steady image.state inv (rows.state ∙ sym wide) ∙ wide;
     }
 
     pub rows-seen : (image : Image) (r : ℕ) (seen : List (Option ℕ)) → HasRows n width image → HasRows n width (with_seen object image r seen)
@@ -122,6 +122,12 @@ module _ (n width : ℕ) (image : Image) (rows : HasRows n width image) where
       ∙ subst (λ k. slice_index (image.reply ++ image.state) (k + j) ≡ slice_index image.state j) rows.reply (get_or-append-add image.reply image.state j 0)
 
 -- a state that calls lead to has as many words as the start state
-pub reached_length : (object : Sequential (List ℕ) ℕ ℕ) → ((state : List ℕ) (inv : ℕ) → length (object.next state inv) ≡ length state) → (s : List ℕ) (is : List ℕ) → length (state_after object s is) ≡ length s
-reached_length object steady s [] = refl
-reached_length object steady s (i ∷ is) = reached_length object steady (object.next s i) is ∙ steady s i
+pub reached_length : (object : Sequential (List ℕ) ℕ ℕ) → IsSteady object → (s : List ℕ) (is : List ℕ) → length s ≡ length object.initial → length (state_after object s is) ≡ length object.initial
+reached_length object steady s [] long = long
+reached_length object steady s (i ∷ is) long = reached_length object steady (object.next s i) is (steady s i long)
+
+-- as many as the image of a board has
+pub width_is : (object : Sequential (List ℕ) ℕ ℕ) → IsSteady object → (n width : ℕ) (calls : List (Invoked ℕ)) (image : Image) → image_from object (first_image object n) calls ≡ image → HasRows n width image → length object.initial ≡ width
+width_is object steady n width calls image is rows =
+    sym (reached_length object steady object.initial (map (λ c. c.inv) calls) refl) ∙ ap length (sym (reached_from object (first_image object n) calls))
+    ∙ ap (λ (i : Image). length i.state) is ∙ rows.state

@@ -7,8 +7,7 @@ use Rattle.atomic_table.specs.Table.{Joins}
 use Rattle.atomic_table.proofs.Lists.{at_set, set_else}
 use Rattle.seq_object.specs.Sequential.{Sequential}
 use Rattle.uni_model.proofs.Written.{number_cases}
-use Rattle.uni_model.specs.ProcessCalls.{ProcessCalls}
-use Rattle.uni_small.specs.View.{Local}
+use Rattle.uni_small.specs.View.{Local, ProcessReturned}
 use Rattle.uni_small.specs.View.Stage.{Idle}
 use Rattle.uni_small.specs.Board.{Board}
 use Rattle.uni_small.specs.Shown.{Tells, IsTaken, IsShown, ShowsBoard}
@@ -71,7 +70,7 @@ joins {O} meaning o n width id v other x some_left single idle s holds at apart 
                   | inr new ↦ elim (Contains-append_cases (own_in_view x ∷ []) x.known.taken its new) [
                     | inl own ↦
                         let same : own_in_view x ≡ its = only (own_in_view x) its own in
-                        subst (λ (c : ProcessCalls ℕ ℕ). IsTaken n width local (moved seat_of id other) j (took_in v x).known c) same (record {
+                        subst (λ (c : ProcessReturned). IsTaken n width local (moved seat_of id other) j (took_in v x).known c) same (record {
                           inside = first.0;
                           seat = moved_here seat_of id other x.known.first first.1 ∙ sym mine.0;
                           apart = λ from below. apart (sym first.1 ∙ (told.each x.known.first from below).1);
@@ -100,6 +99,6 @@ joins {O} meaning o n width id v other x some_left single idle s holds at apart 
             ]
           ]
         where
-          only : (a c : ProcessCalls ℕ ℕ) → Contains (a ∷ []) c → a ≡ c
+          only : (a c : ProcessReturned) → Contains (a ∷ []) c → a ≡ c
           only a c (zero, below, e) = e
           only a c (suc k, below, e) = absurd (let b = below in omega arith)

@@ -1,5 +1,6 @@
 pub mod Frame
 pub mod Lists
+pub mod Acts
 pub mod Images
 pub mod Loads
 pub mod Words

@@ -1,6 +1,9 @@
 -- Lists with one more element, and two lists with the same elements.
-use Rattle.std.proofs.Common.{◌≡◌, ℕ, zero, suc, ◌+◌, ◌*◌, ◌<◌, ◌≤◌, ◌⊎◌, inl, inr, refl, ap, List, [], ◌∷◌, ◌++◌, length, slice_index, slice_get, Option, Some, None, arith, suc-mul}
+use Rattle.std.proofs.Common.{◌≡◌, ℕ, zero, suc, ◌+◌, ◌*◌, ◌<◌, ◌≤◌, ◌⊎◌, inl, inr, refl, sym, ap, List, [], ◌∷◌, ◌++◌, length, slice_index, slice_index_or, slice_get, Option, Some, None, Contains, arith, suc-mul}
+use Rattle.std.proofs.lemmas.Option.{slice_get_within, get_or_from_slice_get}
 use Rattle.std.specs.List.{sum, fold}
+use mathlib.Core.Option.{some, some-injective, some-ne-none}
+use lib.ListN.{get_elem?}
 use Rattle.uni_small.specs.Image.{due_at}
 
 pub index_snoc : (xs : List ℕ) (x j : ℕ) → j < length xs → slice_index (xs ++ x ∷ []) j ≡ slice_index xs j
@@ -60,3 +63,23 @@ sum_most m xs h = (let all : sum xs ≤ 0 + length xs * m = from 0 xs h in omega
       let more : fold (λ b x. b + x) (a + y) ys ≤ (a + y) + length ys * m = from (a + y) ys (λ i below. k (suc i) (omega arith)) in
       let all : suc (length ys) * m ≡ length ys * m + m = suc-mul (length ys) m in
       omega arith
+
+-- an element that is found in one way and in another
+pub slice_index-get : (l : List ℕ) (i a : ℕ) → get_elem? l i ≡ some a → a ≡ slice_index l i
+slice_index-get [] i a e = absurd (some-ne-none a (sym e))
+slice_index-get (x ∷ xs) zero a e = sym (some-injective _ _ e)
+slice_index-get (x ∷ xs) (suc i) a e = slice_index-get xs i a e
+
+pub slice_get-index : {A : Type 0} (l : List A) (i : ℕ) (d : A) → i < length l → slice_get l i ≡ Some (slice_index_or l i d)
+slice_get-index [] i d h = absurd (omega arith)
+slice_get-index (x ∷ xs) zero d h = refl
+slice_get-index (x ∷ xs) (suc i) d h = slice_get-index xs i d (omega arith)
+
+pub get-contains : {A : Type 0} (xs : List A) (place : ℕ) (x : A) → slice_get xs place ≡ Some x → Contains xs x
+get-contains xs place x e = (place, slice_get_within xs place x e, get_or_from_slice_get xs place x x e)
+
+-- an element of two lists, one after the other
+pub get-append : {A : Type 0} (xs ys : List A) (j : ℕ) (y : A) → slice_get (xs ++ ys) j ≡ Some y → (slice_get xs j ≡ Some y) ⊎ ((k : ℕ) × (j ≡ length xs + k) × (slice_get ys k ≡ Some y))
+get-append [] ys j y e = inr (j, (let z : j ≡ 0 + j = omega arith in z), e)
+get-append (x ∷ xs) ys zero y e = inl e
+get-append (x ∷ xs) ys (suc j) y e = elim (get-append xs ys j y e) [ inl h ↦ inl h | inr h ↦ inr (h.0, (let i = h.1 in omega arith), h.2) ]

@@ -1,23 +1,25 @@
 -- The word steps that load, but the last one of a call.
-use Rattle.std.proofs.Common.{◌≡◌, ◌≢◌, ◌∙◌, ℕ, ◌+◌, ◌*◌, ◌<◌, ◌≤◌, inl, inr, refl, sym, ap, subst, List, [], ◌∷◌, ◌++◌, length, map, slice_index, Option, Some, None, arith, Bool, true, false, cond, if◌then◌else◌, length-append, ◌==◌}
+use Rattle.std.proofs.Common.{◌≡◌, ◌≢◌, ◌∙◌, ℕ, ◌+◌, ◌*◌, ◌<◌, ◌≤◌, inl, inr, refl, sym, ap, subst, List, [], ◌∷◌, ◌++◌, length, map, slice_index, slice_get, Option, Some, None, arith, Bool, true, false, cond, if◌then◌else◌, length-append, ◌==◌}
 use Rattle.std.proofs.lemmas.Bool.Decides.{nat_tests}
 use Rattle.std.proofs.lemmas.Option.{slice_get_within}
 use Rattle.std.specs.List.{sum}
-use Rattle.atomic_table.specs.Table.{Me, Step, Allows}
+use Rattle.atomic_table.specs.Table.{State, Me, Step}
 use Rattle.seq_object.specs.Sequential.{Sequential}
+use Rattle.uni_model.specs.AtomicObject.{Invoked}
 use Rattle.uni_model.proofs.Written.{number_cases, lt_cases}
-use Rattle.uni_small.specs.Image.{Image, buffer_words, spell, read_image, with_seen}
-use Rattle.uni_small.specs.View.{Local, Stage, goes}
+use Rattle.uni_small.specs.Image.{Image, IsSteady, buffer_words, spell, read_image, with_seen}
+use Rattle.uni_small.specs.View.{Local, Returned, Stage, goes, knows}
 use Rattle.uni_small.specs.View.Stage.{Idle, Armed, Ready, Reading, Asking, Writing, Last}
 use Rattle.uni_small.specs.Board.{Board, in_of, current_word, buffer_in, version_in, announce_word, argument_word, buffer_word}
-use Rattle.uni_small.specs.Invariant.{IsAt, IsBoard, IsSound, IsCallAt, IsAttemptAt, IsClosed, IsOpen, IfFresh, IsWritten, most_calls}
-use Rattle.uni_small.specs.Shown.{ShowsBoard}
-use Rattle.uni_small.specs.Plays.{stage_of, with_local, IsNamed, IsGood, looked, checked, HasStarted, HasCopied, HasLooked, HasAsked, HasChecked, HasTurned}
+use Rattle.uni_small.specs.Invariant.{IsAt, IsBoard, IsSound, IsCallAt, IsAttemptAt, IsClosed, IsOpen, IfFresh, IsWritten, AreIn, most_calls}
+use Rattle.uni_small.specs.Shown.{IsShown}
+use Rattle.uni_small.specs.Laws.{Moves, nothing}
+use Rattle.uni_small.specs.Plays.{stage_of, with_local, IsNamed, IsGood, looked, checked, HasStarted, HasCopied, HasLooked, HasAsked, HasChecked, HasTurned, HasFollowed}
 use Rattle.uni_small.specs.Standing.{IsCopying, IsLooking, IsAsking}
 use Rattle.uni_small.specs.declared.view.View.{View}
 use Rattle.uni_small.proofs.Frame.{Found, load_law}
-use Rattle.uni_small.proofs.Lists.{index_snoc, index_last, get_snoc, due_snoc, due_last, due_cases, same_list, sum_most}
-use Rattle.uni_small.proofs.Images.{spell-length, spell-applied, read-spell, reached_from, rows-seen, reply-seen}
+use Rattle.uni_small.proofs.Lists.{get-contains, index_snoc, index_last, get_snoc, due_snoc, due_last, due_cases, same_list, sum_most}
+use Rattle.uni_small.proofs.Images.{spell-length, spell-applied, read-spell, reached_from, rows-seen, width_is, reply-seen}
 
 -- a word S in parts
 pub buffer_of : (v c : ℕ) → c < 128 → buffer_in (current_word v c) ≡ c
@@ -66,7 +68,23 @@ module _ (object : Sequential (List ℕ) ℕ ℕ) (n width : ℕ) (g : Board) wh
         subst (λ k. k ≤ n * most_calls) (sym (version_of g.version g.current small)) (omega arith),
       )
 
-module _ {O : Type 0} (meaning : O → Sequential (List ℕ) ℕ ℕ) (o : O) (n width slots id : ℕ) (few : n ≤ 64) (st : Step ℕ) (me : Me ℕ (View O)) (single : me.0.known.count ≡ 1) where
+-- a call that took effect is one of those that are in
+pub none_beyond : (object : Sequential (List ℕ) ℕ ℕ) (n width : ℕ) (g : Board) (p : ℕ) → IsBoard object n width g → (c : Invoked ℕ) (place : ℕ) → slice_get g.atomic.agreed place ≡ Some c → c.process ≡ p → in_of g p ≤ c.nth → ⊥
+none_beyond object n width g p board c place at own from =
+    let known = board.agreed c (get-contains g.atomic.agreed place c at) in
+    let mine : in_of g c.process ≡ in_of g p = ap (in_of g) own in
+    (let k = known.1 in omega (arith, from, k))
+
+-- where s is the present S, all calls that took effect are in its version
+pub all_in : (object : Sequential (List ℕ) ℕ ℕ) (n width : ℕ) (g : Board) (p s : ℕ) → n ≤ 64 → IsBoard object n width g → s ≡ current_word g.version g.current → AreIn g p (version_in s)
+all_in object n width g p s few board is =
+    let small : g.current < 128 = (let c = board.current in omega arith) in
+    let version : version_in s ≡ g.version = ap version_in is ∙ version_of g.version g.current small in (
+      omega arith,
+      λ c place at own below. (let w = slice_get_within g.atomic.agreed place c at in let all = board.counted (version_in s) (omega arith) in omega arith),
+    )
+
+module _ {O : Type 0} (meaning : O → Sequential (List ℕ) ℕ ℕ) (o : O) (n width id : ℕ) (few : n ≤ 64) (st : Step ℕ) (me : Me ℕ (View O)) (single : me.0.known.count ≡ 1) where
   abbrev object : Sequential (List ℕ) ℕ ℕ
   object = meaning o
 
@@ -78,7 +96,7 @@ module _ {O : Type 0} (meaning : O → Sequential (List ℕ) ℕ ℕ) (o : O) (n
 
   -- the process goes to another stage, of the same call
   at_next : (g : Board) (stage : Stage) → IsAt object n width g p l → IsCallAt object n width g p l stage → IsAttemptAt object n width g p (2 * p + l.spare) stage → IsAt object n width g p (goes l stage)
-  at_next g stage was call attempt = record { spare = was.spare; apart = was.apart; call = by_stage stage call; attempt = attempt } where
+  at_next g stage was call attempt = record { spare = was.spare; apart = was.apart; call = by_stage stage call; attempt = attempt; ordered = was.ordered } where
     by_stage : (stage : Stage) → IsCallAt object n width g p l stage → IsCallAt object n width g p (goes l stage) stage
     by_stage Idle c = c
     by_stage Armed c = c
@@ -89,8 +107,8 @@ module _ {O : Type 0} (meaning : O → Sequential (List ℕ) ℕ ℕ) (o : O) (n
     by_stage (Last s) c = c
 
   -- an attempt begins
-  pub starts : (tries : ℕ) → stage_of me ≡ Ready tries → Allows (ShowsBoard meaning o n width) slots id me 0 (λ x. x) (λ found me'. HasStarted st me found me')
-  starts tries stage = load_law meaning o n width slots id me 0 (λ found me'. HasStarted st me found me') single (λ g local words f.
+  pub starts : (tries : ℕ) → stage_of me ≡ Ready tries → Moves meaning o n width id me 0 (λ x. x) nothing (λ found me'. HasStarted st me found me')
+  starts tries stage = load_law meaning o n width id me 0 (λ found me'. HasStarted st me found me') single (λ g local words f.
       let s = slice_index words 0 in
       let is : s ≡ current_word g.version g.current = f.words_are.current in
       let since : g.since p + tries ≤ g.version = attempt_at object n width g p l (Ready tries) f.mine stage in (
@@ -117,8 +135,8 @@ module _ {O : Type 0} (meaning : O → Sequential (List ℕ) ℕ ℕ) (o : O) (n
 
   -- a word of the current buffer is copied
   pub copies : (tries s i : ℕ) → IsCopying tries s i me → i < buffer_words n width → buffer_in s < 2 * n
-      → Allows (ShowsBoard meaning o n width) slots id me (buffer_word n width (buffer_in s) i) (λ x. x) (λ found me'. HasCopied st me found me')
-  copies tries s i copying below named = load_law meaning o n width slots id me (buffer_word n width (buffer_in s) i) (λ found me'. HasCopied st me found me') single (λ g local words f.
+      → Moves meaning o n width id me (buffer_word n width (buffer_in s) i) (λ x. x) nothing (λ found me'. HasCopied st me found me')
+  copies tries s i copying below named = load_law meaning o n width id me (buffer_word n width (buffer_in s) i) (λ found me'. HasCopied st me found me') single (λ g local words f.
       let x = slice_index words (buffer_word n width (buffer_in s) i) in
       let copy = copying.0 in
       let stage = copying.1 in
@@ -151,8 +169,8 @@ module _ {O : Type 0} (meaning : O → Sequential (List ℕ) ℕ ℕ) (o : O) (n
 
   -- an announcement is looked at
   pub looks : (tries s r : ℕ) → IsLooking n width tries s r me → r < n
-      → Allows (ShowsBoard meaning o n width) slots id me (announce_word r) (λ x. x) (λ found me'. HasLooked st me found me')
-  looks tries s r looking inside = load_law meaning o n width slots id me (announce_word r) (λ found me'. HasLooked st me found me') single (λ g local words f.
+      → Moves meaning o n width id me (announce_word r) (λ x. x) nothing (λ found me'. HasLooked st me found me')
+  looks tries s r looking inside = load_law meaning o n width id me (announce_word r) (λ found me'. HasLooked st me found me') single (λ g local words f.
       let x = slice_index words (announce_word r) in
       let copy = looking.0 in
       let seen = looking.1.0 in
@@ -215,8 +233,8 @@ module _ {O : Type 0} (meaning : O → Sequential (List ℕ) ℕ ℕ) (o : O) (n
 
   -- an invocation is asked for
   pub asks : (tries s r : ℕ) → IsAsking tries s r me → r < n
-      → Allows (ShowsBoard meaning o n width) slots id me (argument_word n r) (λ x. x) (λ found me'. HasAsked st me found me')
-  asks tries s r asking inside = load_law meaning o n width slots id me (argument_word n r) (λ found me'. HasAsked st me found me') single (λ g local words f.
+      → Moves meaning o n width id me (argument_word n r) (λ x. x) nothing (λ found me'. HasAsked st me found me')
+  asks tries s r asking inside = load_law meaning o n width id me (argument_word n r) (λ found me'. HasAsked st me found me') single (λ g local words f.
       let x = slice_index words (argument_word n r) in
       let copy = asking.0 in
       let seen = asking.1.0 in
@@ -258,8 +276,8 @@ module _ {O : Type 0} (meaning : O → Sequential (List ℕ) ℕ ℕ) (o : O) (n
       ))
 
   -- after two attempts that failed the call is in
-  pub turns : (tries : ℕ) → 2 ≤ tries → stage_of me ≡ Ready tries → Allows (ShowsBoard meaning o n width) slots id me 0 (λ x. x) (λ found me'. HasTurned st me found me')
-  turns tries two stage = load_law meaning o n width slots id me 0 (λ found me'. HasTurned st me found me') single (λ g local words f.
+  pub turns : (tries : ℕ) → 2 ≤ tries → stage_of me ≡ Ready tries → Moves meaning o n width id me 0 (λ x. x) nothing (λ found me'. HasTurned st me found me')
+  turns tries two stage = load_law meaning o n width id me 0 (λ found me'. HasTurned st me found me') single (λ g local words f.
       let s = slice_index words 0 in
       let is : s ≡ current_word g.version g.current = f.words_are.current in
       let since : g.since p + tries ≤ g.version = attempt_at object n width g p l (Ready tries) f.mine stage in
@@ -268,14 +286,15 @@ module _ {O : Type 0} (meaning : O → Sequential (List ℕ) ℕ ℕ) (o : O) (n
       let in_now : g.announced p ≤ in_of g p = f.sound.board.soon p f.inside (omega arith) in
       let marked : g.announced p ≤ g.mark g.current p = (let m = f.sound.board.at_current p f.inside in omega arith) in (
         goes l (Last s),
-        at_next g (Last s) f.mine (call_at object n width g p l (Ready tries) f.mine stage) (named_now.0, subst (λ b. g.announced p ≤ g.mark b p) (sym here) marked),
+        at_next g (Last s) f.mine (call_at object n width g p l (Ready tries) f.mine stage)
+            (named_now.0, subst (λ b. g.announced p ≤ g.mark b p) (sym here) marked, all_in object n width g p s few f.sound.board is),
         λ tries' stage' two'. (refl, subst (λ k. IsNamed k s) (sym f.processes) named_now),
       ))
 
   -- S is loaded again
-  pub checks : (tries s : ℕ) → IsLooking n width tries s n me → ((state : List ℕ) (inv : ℕ) → length ((meaning o).next state inv) ≡ length state)
-      → Allows (ShowsBoard meaning o n width) slots id me 0 (λ x. x) (λ found me'. (q : O) → me.0.object ≡ Some q → HasChecked (meaning q) st me found me')
-  checks tries s looking steady = load_law meaning o n width slots id me 0 (λ found me'. (q : O) → me.0.object ≡ Some q → HasChecked (meaning q) st me found me') single (λ g local words f.
+  pub checks : (tries s : ℕ) → IsLooking n width tries s n me → IsSteady (meaning o)
+      → Moves meaning o n width id me 0 (λ x. x) nothing (λ found me'. (q : O) → me.0.object ≡ Some q → HasChecked (meaning q) st me found me')
+  checks tries s looking steady = load_law meaning o n width id me 0 (λ found me'. (q : O) → me.0.object ≡ Some q → HasChecked (meaning q) st me found me') single (λ g local words f.
       let x = slice_index words 0 in
       let copy = looking.0 in
       let seen = looking.1.0 in
@@ -329,6 +348,7 @@ module _ {O : Type 0} (meaning : O → Sequential (List ℕ) ℕ ℕ) (o : O) (n
             at_next g (Last s) f.mine call (
               subst (λ b. b < 2 * n) here f.sound.board.current,
               subst (λ b. g.announced p ≤ g.mark b p) here (let m : g.announced p ≤ g.mark g.current p = omega arith in m),
+              all_in object n width g p s few f.sound.board (sym same ∙ is),
             )
         by_in g copy seen x f wide long call was is same false e =
             let copied = image_is g copy seen x f wide was is same in
@@ -341,7 +361,7 @@ module _ {O : Type 0} (meaning : O → Sequential (List ℕ) ℕ ℕ) (o : O) (n
               was.0,
               (λ fresh. (now.0, (image, long, now.1.1, not_in))),
               subst (λ i. IsWritten object n width g (2 * p + l.spare) (with_seen object i 0 seen) 0) (sym image) (record {
-                rows = rows-seen object steady n width g.image 0 seen f.sound.board.rows;
+                rows = rows-seen object steady n width (width_is object steady n width g.atomic.agreed g.image f.sound.board.image f.sound.board.rows) g.image 0 seen f.sound.board.rows;
                 words = λ i below. absurd (omega arith);
                 replies = λ r inside least. ap (slice_index (with_seen object g.image 0 seen).reply) (let z : r ≡ 0 + r = omega arith in z)
                     ∙ reply-seen object g.image 0 seen r (elim (due_cases seen r) [
@@ -366,3 +386,36 @@ module _ {O : Type 0} (meaning : O → Sequential (List ℕ) ℕ ℕ) (o : O) (n
             let same : x ≡ s = (let h : (x == s) ≡ true = e in grind (arith, nat_tests, h)) in
             subst (λ b. IsAt object n width g p (goes l (if b then (if slice_index copy p == length l.own + 1 then Last s else Writing tries s (read_image n copy) seen 0) else Ready (tries + 1)))) (sym e)
             (by_in {local = local} {words = words} g copy seen x f wide long call was is same (slice_index copy p == length l.own + 1) refl)
+
+  -- S is loaded between calls
+  pub follows_on : stage_of me ≡ Idle → Moves meaning o n width id me 0 (λ x. x) nothing (λ found me'. HasFollowed st me found me')
+  follows_on stage = load_law meaning o n width id me 0 (λ found me'. HasFollowed st me found me') single (λ g local words f.
+      let s = slice_index words 0 in
+      let is : s ≡ current_word g.version g.current = f.words_are.current in
+      let b = f.sound.board in
+      let small : g.current < 128 = (let c = b.current in omega arith) in
+      let version : version_in s ≡ g.version = ap version_in is ∙ version_of g.version g.current small in
+      let closed : IsClosed g p l.own = call_at object n width g p l Idle f.mine stage in (
+        knows l (version_in s),
+        record {
+          spare = f.mine.spare;
+          apart = f.mine.apart;
+          call = subst (IsCallAt object n width g p (knows l (version_in s))) (sym stage) closed;
+          attempt = f.mine.attempt;
+          ordered = record {
+            reached = omega arith;
+            later = λ c place at own from. absurd (none_beyond object n width g p b c place at own (let i = closed.in_is in omega arith));
+            known = f.mine.ordered.known;
+            stand = f.mine.ordered.stand;
+          };
+        },
+        λ stage'. (refl, (let r = f.mine.ordered.reached in omega arith)),
+      ))
+
+-- the version of a call that has returned has come
+pub returned_come : {O : Type 0} (meaning : O → Sequential (List ℕ) ℕ ℕ) (o : O) (n width : ℕ) (g : Board) (local : ℕ → Local) (seat_of : ℕ → ℕ) (s : State ℕ (View O)) → n ≤ 64
+    → IsShown n width meaning o g local seat_of s → (p k : ℕ) (call : Returned) → p < n → slice_get (local p).own k ≡ Some call → call.version ≤ version_in (slice_index s.words 0)
+returned_come meaning o n width g local seat_of s few is p k call inside at =
+    let known = (is.sound.each p inside).ordered.known k call at in
+    let version : version_in (slice_index s.words 0) ≡ g.version = ap version_in is.words.current ∙ version_of g.version g.current (let c = is.sound.board.current in omega arith) in
+    omega arith

@@ -1,6 +1,7 @@
 -- The table that is made shows the board that is opened.
 use Rattle.std.proofs.Common.{◌≡◌, ◌∙◌, ℕ, zero, suc, ◌+◌, ◌-◌, ◌*◌, ◌<◌, ◌≤◌, inl, inr, refl, sym, ap, subst, List, [], ◌∷◌, ◌++◌, length, replicate, slice_index, arith, drop, length-append, mul-le-mul_right, suc-mul}
 use Rattle.std.proofs.lemmas.List.{get_or-append-add, get_or_append_left}
+use Rattle.std.proofs.lemmas.Option.{slice_get_within}
 use mathlib.Core.Option.{some, some-injective, some-ne-none}
 use lib.ListN.{get_elem?}
 use Rattle.atomic_table.specs.Table.{opening}
@@ -111,6 +112,8 @@ module _ (object : Sequential (List ℕ) ℕ ℕ) (n width : ℕ) (few : 1 ≤ n
     versions = omega arith;
     room = λ r below. omega arith;
     agreed = λ c has. absurd (let h = has.1 in omega arith);
+    counted = λ v late. refl;
+    rising = λ v w below. omega arith;
     start = refl;
     history = refl;
   } where
@@ -126,6 +129,12 @@ module _ (object : Sequential (List ℕ) ℕ ℕ) (n width : ℕ) (few : 1 ≤ n
       apart = λ e. omega (arith, e);
       call = record { none_open = refl; next = refl; announced = refl; in_is = zeros n p; acts = refl };
       attempt = tt;
+      ordered = record {
+        reached = omega arith;
+        later = λ c place at own from. absurd (let h = slice_get_within [] place c at in omega arith);
+        known = λ k call at. absurd (let h = slice_get_within [] k call at in omega arith);
+        stand = λ k call at. absurd (let h = slice_get_within [] k call at in omega arith);
+      };
     };
   }
 

@@ -1,41 +1,16 @@
 -- A step of one process by which S, the image and the marks stay leaves the others where they are.
-use Rattle.std.proofs.Common.{◌≡◌, ◌≢◌, ◌∙◌, ℕ, ◌+◌, ◌*◌, ◌<◌, ◌≤◌, inl, inr, refl, sym, ap, List, [], ◌∷◌, ◌++◌, length, map, slice_get, Option, arith, append-nil}
+use Rattle.std.proofs.Common.{◌≡◌, ◌≢◌, ◌∙◌, ℕ, ◌+◌, ◌*◌, ◌<◌, ◌≤◌, inl, inr, refl, sym, ap, subst, List, [], ◌∷◌, ◌++◌, length, map, slice_get, Option, arith, append-nil}
 use Rattle.seq_object.specs.Sequential.{Sequential}
 use Rattle.seq_object.specs.History.{response_at}
 use Rattle.uni_model.specs.AtomicObject.{Atomic, Act, Invoked}
 use Rattle.uni_model.specs.AtomicObject.Act.{Invoke, Respond}
 use Rattle.uni_model.proofs.Written.{number_cases}
 use Rattle.uni_model.specs.ProcessCalls.{acts_by}
-use Rattle.uni_words.proofs.Running.{acts_by-append}
-use Rattle.uni_small.specs.View.{Local, Stage}
+use Rattle.uni_small.specs.View.{Local, Returned, Stage}
 use Rattle.uni_small.specs.View.Stage.{Idle, Armed, Ready, Reading, Asking, Writing, Last}
 use Rattle.uni_small.specs.Board.{Board, in_of}
 use Rattle.uni_small.specs.Invariant.{IsAt, IsCallAt, IsAttemptAt, IsClosed, IsOpen, HasTaken, HasSeen}
-
--- what another process does is no act of this one
-pub invoked_other : (q p k i : ℕ) (acts : List (Act ℕ ℕ)) → q ≢ p → acts_by q (acts ++ Invoke p k i ∷ []) ≡ acts_by q acts
-invoked_other q p k i acts apart = acts_by-append q acts (Invoke p k i ∷ []) ∙ ap (λ l. acts_by q acts ++ l) (elim (number_cases p q) [
-  | inl same ↦ absurd (apart (sym same.0))
-  | inr other ↦ rw other.1 refl
-]) ∙ append-nil (acts_by q acts)
-
-pub responded_other : (q p k r : ℕ) (acts : List (Act ℕ ℕ)) → q ≢ p → acts_by q (acts ++ Respond p k r ∷ []) ≡ acts_by q acts
-responded_other q p k r acts apart = acts_by-append q acts (Respond p k r ∷ []) ∙ ap (λ l. acts_by q acts ++ l) (elim (number_cases p q) [
-  | inl same ↦ absurd (apart (sym same.0))
-  | inr other ↦ rw other.1 refl
-]) ∙ append-nil (acts_by q acts)
-
-pub invoked_own : (p k i : ℕ) (acts : List (Act ℕ ℕ)) → acts_by p (acts ++ Invoke p k i ∷ []) ≡ acts_by p acts ++ Invoke p k i ∷ []
-invoked_own p k i acts = acts_by-append p acts (Invoke p k i ∷ []) ∙ ap (λ l. acts_by p acts ++ l) (elim (number_cases p p) [
-  | inl same ↦ rw same.1 refl
-  | inr other ↦ absurd (other.0 refl)
-])
-
-pub responded_own : (p k r : ℕ) (acts : List (Act ℕ ℕ)) → acts_by p (acts ++ Respond p k r ∷ []) ≡ acts_by p acts ++ Respond p k r ∷ []
-responded_own p k r acts = acts_by-append p acts (Respond p k r ∷ []) ∙ ap (λ l. acts_by p acts ++ l) (elim (number_cases p p) [
-  | inl same ↦ rw same.1 refl
-  | inr other ↦ absurd (other.0 refl)
-])
+use Rattle.uni_small.specs.Order.{IsOrdered}
 
 module _ (object : Sequential (List ℕ) ℕ ℕ) (n width : ℕ) (g : Board) (announced' argument' since' : ℕ → ℕ) (buffer' : ℕ → ℕ → ℕ) (atomic' : Atomic (List ℕ) ℕ) (acts' : List (Act ℕ ℕ)) where
   -- the board afterwards
@@ -68,7 +43,11 @@ module _ (object : Sequential (List ℕ) ℕ ℕ) (n width : ℕ) (g : Board) (a
       (λ fresh. let now = h.1 fresh in (now.0, (now.1.0, now.1.1, spares.seen seen now.1.2, (let e = spares.announced in let m = now.1.3 in omega arith)))),
       record { rows = h.2.rows; words = λ i below. spares.buffer i ∙ h.2.words i below; replies = λ r inside least. h.2.replies r inside (spares.marked r inside least) },
     )
-    attempt_stays (Last s) h = (h.0, (let e = spares.announced in let m = h.1 in omega arith))
+    attempt_stays (Last s) h = (
+      h.0,
+      (let e = spares.announced in let m = h.1 in omega arith),
+      (h.2.0, λ c place at own below. h.2.1 c place (ap (λ xs. slice_get xs place) (sym spares.agreed) ∙ at) own (subst (λ k. c.nth < k) spares.announced below)),
+    )
 
     taken_stays : (call : Invoked ℕ) (reply : ℕ) → HasTaken object g call reply → HasTaken object quiet call reply
     taken_stays call reply h = record {
@@ -77,10 +56,10 @@ module _ (object : Sequential (List ℕ) ℕ ℕ) (n width : ℕ) (g : Board) (a
       reply_is = ap (λ (xs : List (Invoked ℕ)). response_at object object.initial (map (λ c. c.inv) xs) h.place) spares.agreed ∙ h.reply_is;
     }
 
-    closed_stays : (own : List (ℕ × ℕ)) → IsClosed g q own → IsClosed quiet q own
+    closed_stays : (own : List Returned) → IsClosed g q own → IsClosed quiet q own
     closed_stays own h = record { none_open = spares.is_open ∙ h.none_open; next = spares.next ∙ h.next; announced = spares.announced ∙ h.announced; in_is = h.in_is; acts = spares.acts ∙ h.acts }
 
-    open_stays : (inv : ℕ) (own : List (ℕ × ℕ)) → IsOpen object g q inv own → IsOpen object quiet q inv own
+    open_stays : (inv : ℕ) (own : List Returned) → IsOpen object g q inv own → IsOpen object quiet q inv own
     open_stays inv own h = record {
       is_open = spares.is_open ∙ h.is_open;
       next = spares.next ∙ h.next;
@@ -106,4 +85,5 @@ module _ (object : Sequential (List ℕ) ℕ ℕ) (n width : ℕ) (g : Board) (a
     apart = h.apart;
     call = call_stays q (2 * q + l.spare) spares l l.stage h.call;
     attempt = attempt_stays q (2 * q + l.spare) spares l.stage h.attempt;
+    ordered = subst (λ agreed. IsOrdered object agreed g.agreed_at g.version q l.after l.own) (sym spares.agreed) h.ordered;
   }

@@ -1,33 +1,31 @@
 -- The load of the reply, by which a call returns.
-use Rattle.std.proofs.Common.{◌≡◌, ◌∙◌, ℕ, suc, ◌+◌, ◌*◌, ◌<◌, refl, sym, ap, subst, List, [], ◌∷◌, ◌++◌, length, map, slice_index, Some, None, arith, append_assoc, length-append}
+use Rattle.std.proofs.Common.{◌≡◌, ◌∙◌, ℕ, suc, ◌+◌, ◌*◌, ◌<◌, ◌≤◌, inl, inr, refl, sym, ap, subst, List, [], ◌∷◌, ◌++◌, length, map, slice_index, Some, None, arith, append_assoc, length-append}
 use Rattle.std.proofs.lemmas.List.{set-get_or}
-use Rattle.atomic_table.specs.Table.{Me, Step, Allows}
+use Rattle.atomic_table.specs.Table.{Me, Step}
 use Rattle.seq_object.specs.Sequential.{Sequential}
 use Rattle.seq_object.specs.History.{response_at}
 use Rattle.uni_model.specs.AtomicObject.{Atomic, Act, Invoked, at_start, set_at}
 use Rattle.uni_model.specs.AtomicObject.Act.{Invoke, Respond}
+use Rattle.uni_model.proofs.Written.{lt_cases}
 use Rattle.uni_model.proofs.Simulation.{set_at_same}
 use Rattle.uni_model.proofs.LawProofs.{set_at_elsewhere, AcceptsAll-append}
 use Rattle.uni_model.specs.ProcessCalls.{sequential_acts}
-use Rattle.uni_small.specs.View.{Local, returns}
+use Rattle.uni_small.specs.View.{Local, Returned, ending, plain, returns}
 use Rattle.uni_small.specs.View.Stage.{Last}
-use Rattle.uni_small.specs.Board.{Board, in_of, buffer_in, buffer_word}
+use Rattle.uni_small.specs.Board.{Board, in_of, buffer_in, buffer_word, version_in}
+use Rattle.uni_small.specs.Order.{StandsIn}
 use Rattle.uni_small.specs.Invariant.{IsOpen, HasTaken}
-use Rattle.uni_small.specs.Shown.{AreWords, ShowsBoard}
-use Rattle.uni_small.specs.Plays.{stage_of, HasReplied}
+use Rattle.uni_small.specs.Shown.{AreWords}
+use Rattle.uni_small.specs.Laws.{Moves, ends}
+use Rattle.uni_small.specs.Plays.{stage_of, with_local, HasReplied}
 use Rattle.uni_small.specs.declared.view.View.{View}
 use Rattle.uni_small.proofs.Frame.{step_law, sound_with}
-use Rattle.uni_small.proofs.Loads.{call_at, attempt_at}
-use Rattle.uni_small.proofs.Others.{quiet, at_stays, responded_other, responded_own}
+use Rattle.uni_small.proofs.Lists.{get_snoc}
+use Rattle.uni_small.proofs.Loads.{call_at, attempt_at, none_beyond}
+use Rattle.uni_small.proofs.Acts.{responded_other, responded_own, sequential_acts-snoc}
+use Rattle.uni_small.proofs.Others.{quiet, at_stays}
 
-sequential_acts-snoc : (p k : ℕ) (xs : List (ℕ × ℕ)) (c : ℕ × ℕ) → sequential_acts p k (xs ++ c ∷ []) ≡ sequential_acts p k xs ++ Invoke p (length xs + k) c.0 ∷ Respond p (length xs + k) c.1 ∷ []
-sequential_acts-snoc p k [] c = (let e : k ≡ 0 + k = omega arith in ap (λ j. Invoke p j c.0 ∷ Respond p j c.1 ∷ []) e)
-sequential_acts-snoc p k (x ∷ xs) c =
-    let e : length xs + (k + 1) ≡ suc (length xs) + k = omega arith in
-    ap (λ l. Invoke p k x.0 ∷ Respond p k x.1 ∷ l) (sequential_acts-snoc p (k + 1) xs c
-    ∙ ap (λ j. sequential_acts p (k + 1) xs ++ Invoke p j c.0 ∷ Respond p j c.1 ∷ []) e)
-
-module _ {O : Type 0} (meaning : O → Sequential (List ℕ) ℕ ℕ) (o : O) (n width slots id : ℕ) (st : Step ℕ) (me : Me ℕ (View O)) (single : me.0.known.count ≡ 1) where
+module _ {O : Type 0} (meaning : O → Sequential (List ℕ) ℕ ℕ) (o : O) (n width id : ℕ) (st : Step ℕ) (me : Me ℕ (View O)) (single : me.0.known.count ≡ 1) where
   abbrev object : Sequential (List ℕ) ℕ ℕ
   object = meaning o
 
@@ -38,8 +36,8 @@ module _ {O : Type 0} (meaning : O → Sequential (List ℕ) ℕ ℕ) (o : O) (n
   l = me.0.known.local
 
   pub replies : (s : ℕ) → stage_of me ≡ Last s → buffer_in s < 2 * n
-      → Allows (ShowsBoard meaning o n width) slots id me (buffer_word n width (buffer_in s) (n + p)) (λ x. x) (λ found me'. HasReplied st me found me')
-  replies s stage named = step_law meaning o n width slots id me (buffer_word n width (buffer_in s) (n + p)) (λ x. x) (λ found me'. HasReplied st me found me') single (λ g local words f fits.
+      → Moves meaning o n width id me (buffer_word n width (buffer_in s) (n + p)) (λ x. x) (ends l p) (λ found me'. HasReplied st me found me')
+  replies s stage named = step_law meaning o n width id me (buffer_word n width (buffer_in s) (n + p)) (λ x. x) (ends l p) (λ found me'. HasReplied st me found me') single (λ g local words f fits.
       let x = slice_index words (buffer_word n width (buffer_in s) (n + p)) in
       let call : IsOpen object g p l.inv l.own = call_at object n width g p l (Last s) f.mine stage in
       let was = attempt_at object n width g p l (Last s) f.mine stage in
@@ -48,14 +46,21 @@ module _ {O : Type 0} (meaning : O → Sequential (List ℕ) ℕ ℕ) (o : O) (n
       let reply : x ≡ slice_index g.image.reply p = found ∙ b.kept (buffer_in s) p named f.inside was.1 in
       let all_in : in_of g p ≡ length l.own + 1 = (let m = b.marked (buffer_in s) p f.inside in let w = was.1 in let i = b.in_most p f.inside in let a = call.announced in omega arith) in
       let taken : HasTaken object g (record { process = p; nth = length l.own; inv = l.inv }) (slice_index g.image.reply p) = call.taken all_in in
-      let more : length (l.own ++ (l.inv, x) ∷ []) ≡ length l.own + 1 = length-append l.own ((l.inv, x) ∷ []) in
+      let more : length (l.own ++ ending l s x ∷ []) ≡ length l.own + 1 = length-append l.own (ending l s x ∷ []) in
+      let stands : StandsIn object g.atomic.agreed g.agreed_at p (length l.own) (ending l s x) = record {
+        place = taken.place;
+        there = taken.there;
+        reply = taken.reply_is ∙ ap Some (sym reply);
+        after = f.mine.ordered.later (record { process = p; nth = length l.own; inv = l.inv }) taken.place taken.there refl (omega arith);
+        before = was.2.1 (record { process = p; nth = length l.own; inv = l.inv }) taken.place taken.there refl (let a = call.announced in omega arith);
+      } in
       let atomic' : Atomic (List ℕ) ℕ = record g.atomic { open_call = set_at g.atomic.open_call p None } in
       let acts' : List (Act ℕ ℕ) = g.acts ++ Respond p (length l.own) x ∷ [] in
       let g' : Board = quiet object n width g g.announced g.argument g.since g.buffer atomic' acts' in
       record {
         board = g';
-        local' = returns l x;
-        sound = sound_with object n width g g' local p (returns l x) f.sound
+        local' = returns l s x;
+        sound = sound_with object n width g g' local p (returns l s x) f.sound
             (record {
               current = b.current;
               image = b.image;
@@ -69,6 +74,8 @@ module _ {O : Type 0} (meaning : O → Sequential (List ℕ) ℕ ℕ) (o : O) (n
               versions = b.versions;
               room = b.room;
               agreed = b.agreed;
+              counted = b.counted;
+              rising = b.rising;
               start = b.start;
               history = AcceptsAll-append object (at_start object.initial) g.atomic atomic' g.acts (Respond p (length l.own) x ∷ []) b.history (
                 atomic',
@@ -108,11 +115,23 @@ module _ {O : Type 0} (meaning : O → Sequential (List ℕ) ℕ ℕ) (o : O) (n
                 announced = call.announced ∙ sym more;
                 in_is = all_in ∙ sym more;
                 acts = responded_own p (length l.own) x g.acts ∙ ap (λ xs. xs ++ Respond p (length l.own) x ∷ []) call.acts
-                    ∙ append_assoc (sequential_acts p 0 l.own) (Invoke p (length l.own) l.inv ∷ []) (Respond p (length l.own) x ∷ [])
-                    ∙ ap (λ k. sequential_acts p 0 l.own ++ Invoke p k l.inv ∷ Respond p k x ∷ []) (let z : length l.own ≡ length l.own + 0 = omega arith in z)
-                    ∙ sym (sequential_acts-snoc p 0 l.own (l.inv, x));
+                    ∙ append_assoc (sequential_acts p 0 (map plain l.own)) (Invoke p (length l.own) l.inv ∷ []) (Respond p (length l.own) x ∷ [])
+                    ∙ ap (λ k. sequential_acts p 0 (map plain l.own) ++ Invoke p k l.inv ∷ Respond p k x ∷ []) (let z : length l.own ≡ length l.own + 0 = omega arith in z)
+                    ∙ sym (sequential_acts-snoc p 0 l.own (ending l s x));
               };
               attempt = tt;
+              ordered = record {
+                reached = was.2.0;
+                later = λ c place at own from. absurd (none_beyond object n width g p b c place at own (omega arith));
+                known = λ k call at. elim (get_snoc l.own (ending l s x) k call at) [
+                  | inl old ↦ f.mine.ordered.known k call old
+                  | inr new ↦ subst (λ c. c.version ≤ g.version) new.1 was.2.0
+                ];
+                stand = λ k call at. elim (get_snoc l.own (ending l s x) k call at) [
+                  | inl old ↦ f.mine.ordered.stand k call old
+                  | inr new ↦ subst (λ (c : Returned). StandsIn object g.atomic.agreed g.agreed_at p k c) new.1 (subst (λ j. StandsIn object g.atomic.agreed g.agreed_at p j (ending l s x)) (sym new.0) stands)
+                ];
+              };
             });
         words_are = subst (AreWords n width g') (sym (set-get_or words (buffer_word n width (buffer_in s) (n + p)) 0)) (record {
           wide = f.words_are.wide;
@@ -121,5 +140,13 @@ module _ {O : Type 0} (meaning : O → Sequential (List ℕ) ℕ ℕ) (o : O) (n
           argument = f.words_are.argument;
           buffer = f.words_are.buffer;
         });
-        said = refl;
+        said = λ s' stage'.
+            let same : s ≡ s' = (let e : Last s ≡ Last s' = sym stage ∙ stage' in cc) in (
+              (λ k. (with_local me.0 (returns l (same k) x), me.1)),
+              subst (λ k. l.after < version_in k) same (elim (lt_cases l.after (version_in s)) [
+                | inl less ↦ less.0
+                | inr more ↦ absurd (let r = b.rising (version_in s) l.after more.0 in let t = stands.after in let u = stands.before in omega arith)
+              ]),
+            );
+        appended = refl;
       })

@@ -1,6 +1,6 @@
 -- The word steps that store.
-use Rattle.std.proofs.Common.{◌≡◌, ◌≢◌, ◌∙◌, ℕ, ◌+◌, ◌*◌, ◌<◌, ◌≤◌, inl, inr, refl, sym, ap, subst, List, [], ◌∷◌, ◌++◌, length, slice_index, Some, arith}
-use Rattle.atomic_table.specs.Table.{Me, Step, Allows}
+use Rattle.std.proofs.Common.{◌≡◌, ◌≢◌, ◌∙◌, ℕ, ◌+◌, ◌*◌, ◌<◌, ◌≤◌, inl, inr, refl, sym, ap, subst, List, [], ◌∷◌, ◌++◌, length, slice_index, Some, append-nil, arith}
+use Rattle.atomic_table.specs.Table.{Me, Step}
 use Rattle.seq_object.specs.Sequential.{Sequential}
 use Rattle.uni_model.specs.AtomicObject.{Atomic, Act, at_start, set_at}
 use Rattle.uni_model.specs.AtomicObject.Act.{Invoke}
@@ -12,17 +12,18 @@ use Rattle.uni_small.specs.View.{Local, goes, arms}
 use Rattle.uni_small.specs.View.Stage.{Idle, Armed, Ready, Writing}
 use Rattle.uni_small.specs.Board.{Board, in_of, announce_word, argument_word, buffer_word}
 use Rattle.uni_small.specs.Invariant.{IsClosed, IsOpen, most_calls}
-use Rattle.uni_small.specs.Shown.{ShowsBoard}
+use Rattle.uni_small.specs.Laws.{Moves, nothing, begins}
 use Rattle.uni_small.specs.Plays.{stage_of, with_local, HasArmed, HasAnnounced, HasWritten}
 use Rattle.uni_small.specs.Standing.{IsWriting}
 use Rattle.uni_small.specs.declared.view.View.{View}
 use Rattle.uni_small.proofs.Frame.{step_law, sound_with}
 use Rattle.uni_small.proofs.Images.{spell-reply}
 use Rattle.uni_small.proofs.Loads.{call_at, attempt_at}
-use Rattle.uni_small.proofs.Others.{quiet, at_stays, invoked_other, invoked_own}
+use Rattle.uni_small.proofs.Acts.{invoked_other, invoked_own}
+use Rattle.uni_small.proofs.Others.{quiet, at_stays}
 use Rattle.uni_small.proofs.Words.{words_announced, words_argument, words_buffer}
 
-module _ {O : Type 0} (meaning : O → Sequential (List ℕ) ℕ ℕ) (o : O) (n width slots id : ℕ) (st : Step ℕ) (me : Me ℕ (View O)) (single : me.0.known.count ≡ 1) where
+module _ {O : Type 0} (meaning : O → Sequential (List ℕ) ℕ ℕ) (o : O) (n width id : ℕ) (st : Step ℕ) (me : Me ℕ (View O)) (single : me.0.known.count ≡ 1) where
   abbrev object : Sequential (List ℕ) ℕ ℕ
   object = meaning o
 
@@ -33,8 +34,8 @@ module _ {O : Type 0} (meaning : O → Sequential (List ℕ) ℕ ℕ) (o : O) (n
   l = me.0.known.local
 
   -- the invocation of the next call is stored
-  pub arms_call : (inv : ℕ) → stage_of me ≡ Idle → Allows (ShowsBoard meaning o n width) slots id me (argument_word n p) (λ x. inv) (λ found me'. HasArmed st me inv me')
-  arms_call inv stage = step_law meaning o n width slots id me (argument_word n p) (λ x. inv) (λ found me'. HasArmed st me inv me') single (λ g local words f fits.
+  pub arms_call : (inv : ℕ) → stage_of me ≡ Idle → Moves meaning o n width id me (argument_word n p) (λ x. inv) nothing (λ found me'. HasArmed st me inv me')
+  arms_call inv stage = step_law meaning o n width id me (argument_word n p) (λ x. inv) nothing (λ found me'. HasArmed st me inv me') single (λ g local words f fits.
       let closed : IsClosed g p l.own = call_at object n width g p l Idle f.mine stage in
       let b = f.sound.board in
       record {
@@ -54,6 +55,8 @@ module _ {O : Type 0} (meaning : O → Sequential (List ℕ) ℕ ℕ) (o : O) (n
               versions = b.versions;
               room = b.room;
               agreed = b.agreed;
+              counted = b.counted;
+              rising = b.rising;
               start = b.start;
               history = b.history;
             })
@@ -80,15 +83,17 @@ module _ {O : Type 0} (meaning : O → Sequential (List ℕ) ℕ ℕ) (o : O) (n
               apart = f.mine.apart;
               call = (record { none_open = closed.none_open; next = closed.next; announced = closed.announced; in_is = closed.in_is; acts = closed.acts }, set_at_same g.argument p inv);
               attempt = tt;
+              ordered = f.mine.ordered;
             });
         words_are = words_argument n width g (record g { argument = set_at g.argument p inv }) words f.words_are refl refl p inv f.inside refl refl refl;
         said = refl;
+        appended = sym (append-nil g.acts);
       })
 
   -- the call is announced: it begins
   pub announces : (number : ℕ) → number ≡ length l.own + 1 → number ≤ most_calls → stage_of me ≡ Armed
-      → Allows (ShowsBoard meaning o n width) slots id me (announce_word p) (λ x. number) (λ found me'. HasAnnounced st me number me')
-  announces number is few stage = step_law meaning o n width slots id me (announce_word p) (λ x. number) (λ found me'. HasAnnounced st me number me') single (λ g local words f fits.
+      → Moves meaning o n width id me (announce_word p) (λ x. number) (begins l p) (λ found me'. HasAnnounced st me number me')
+  announces number is few stage = step_law meaning o n width id me (announce_word p) (λ x. number) (begins l p) (λ found me'. HasAnnounced st me number me') single (λ g local words f fits.
       let armed = call_at object n width g p l Armed f.mine stage in
       let closed : IsClosed g p l.own = armed.0 in
       let b = f.sound.board in
@@ -131,6 +136,8 @@ module _ {O : Type 0} (meaning : O → Sequential (List ℕ) ℕ ℕ) (o : O) (n
                 | inr other ↦ subst (λ x. x ≤ most_calls) (sym other.1) (b.room r inside)
               ];
               agreed = b.agreed;
+              counted = b.counted;
+              rising = b.rising;
               start = b.start;
               history = AcceptsAll-append object (at_start object.initial) g.atomic atomic' g.acts (Invoke p (length l.own) l.inv ∷ []) b.history
                   (atomic', (closed.none_open, closed.next, refl), refl);
@@ -179,15 +186,17 @@ module _ {O : Type 0} (meaning : O → Sequential (List ℕ) ℕ ℕ) (o : O) (n
                 acts = invoked_own p (length l.own) l.inv g.acts ∙ ap (λ xs. xs ++ Invoke p (length l.own) l.inv ∷ []) closed.acts;
               };
               attempt = (let v = set_at_same g.since p g.version in omega arith);
+              ordered = f.mine.ordered;
             });
         words_are = words_announced n width g g' words f.words_are refl refl p number f.inside refl refl refl;
         said = refl;
+        appended = refl;
       })
 
   -- a word of the spare buffer is stored
   pub writes : (tries s k x : ℕ) → IsWriting object tries s k x me → k < buffer_words n width
-      → Allows (ShowsBoard meaning o n width) slots id me (buffer_word n width (2 * p + l.spare) k) (λ y. x) (λ found me'. HasWritten st me x me')
-  writes tries s k x writing room = step_law meaning o n width slots id me (buffer_word n width (2 * p + l.spare) k) (λ y. x) (λ found me'. HasWritten st me x me') single (λ g local words f fits.
+      → Moves meaning o n width id me (buffer_word n width (2 * p + l.spare) k) (λ y. x) nothing (λ found me'. HasWritten st me x me')
+  writes tries s k x writing room = step_law meaning o n width id me (buffer_word n width (2 * p + l.spare) k) (λ y. x) nothing (λ found me'. HasWritten st me x me') single (λ g local words f fits.
       let image = writing.0 in
       let seen = writing.1.0 in
       let stage : l.stage ≡ Writing tries s image seen k = writing.1.1 in
@@ -227,6 +236,8 @@ module _ {O : Type 0} (meaning : O → Sequential (List ℕ) ℕ ℕ) (o : O) (n
               versions = b.versions;
               room = b.room;
               agreed = b.agreed;
+              counted = b.counted;
+              rising = b.rising;
               start = b.start;
               history = b.history;
             })
@@ -268,10 +279,12 @@ module _ {O : Type 0} (meaning : O → Sequential (List ℕ) ℕ ℕ) (o : O) (n
                   replies = was.2.replies;
                 },
               );
+              ordered = f.mine.ordered;
             });
         words_are = words_buffer n width g g' words f.words_are refl refl (2 * p + l.spare) k x inside_mine room refl refl refl;
         said = λ tries' s' image' seen' k' stage'.
             let e : Writing tries s image seen k ≡ Writing tries' s' image' seen' k' = sym stage ∙ stage' in
             let a : tries ≡ tries' = cc in let c : s ≡ s' = cc in let d : image ≡ image' = cc in let h : seen ≡ seen' = cc in let i : k ≡ k' = cc in
             λ j. (with_local me.0 (goes l (Writing (a j) (c j) (d j) (h j) (i j + 1))), me.1);
+        appended = sym (append-nil g.acts);
       })

@@ -1,7 +1,7 @@
 -- Which seats are an object's, and what they have.
 use Rattle.std.specs.Prelude.{◌≡◌, ℕ, ◌<◌, List, [], ◌∷◌, length, slice_get, Some}
-use Rattle.uni_model.specs.ProcessCalls.{ProcessCalls}
 use Rattle.uni_small.specs.Image.{Image}
+use Rattle.uni_small.specs.View.{Returned, ProcessReturned}
 use Rattle.uni_small.specs.declared.log.SmallShared.{SmallShared}
 use Rattle.uni_small.specs.declared.seat.SmallSeat.{SmallSeat}
 use Rattle.uni_small.specs.declared.seat.Room.{Room}
@@ -15,16 +15,19 @@ processes_of shared = shared.setup.n
 abbrev pub width_of : {O : Type 0} → SmallShared O → ℕ
 width_of shared = shared.setup.width
 
--- a seat's process; its calls that have returned, each with its invocation and its reply; how many they are; and how many word steps
--- it has taken
+-- a seat's process; its calls that have returned; how many they are; the version that its next calls come after; and how many word
+-- steps it has taken
 abbrev pub process_of : {O : Type 0} → SmallSeat O → ℕ
 process_of seat = seat.p
 
-abbrev pub own_calls : {O : Type 0} → SmallSeat O → List (ℕ × ℕ)
+abbrev pub own_calls : {O : Type 0} → SmallSeat O → List Returned
 own_calls seat = seat.seat.me.0.known.local.own
 
 abbrev pub calls_made : {O : Type 0} → SmallSeat O → ℕ
 calls_made seat = seat.made
+
+abbrev pub version_of : {O : Type 0} → SmallSeat O → ℕ
+version_of seat = seat.seat.me.0.known.local.after
 
 abbrev pub word_steps_of : {O : Type 0} → SmallSeat O → ℕ
 word_steps_of seat = seat.seat.me.0.known.local.steps
@@ -54,6 +57,7 @@ pub record IsFreshSeat {O : Type 0} (shared : SmallShared O) (p : ℕ) (seat : S
   pub process : process_of seat ≡ p
   pub calls : own_calls seat ≡ []
   pub made : calls_made seat ≡ 0
+  pub version : version_of seat ≡ 0
 
 -- the seats of the first processes, in order, none of which has made a call
 pub record AreFirstSeats {O : Type 0} (shared : SmallShared O) (count : ℕ) (seats : List (SmallSeat O)) : Type 0 where
@@ -61,12 +65,12 @@ pub record AreFirstSeats {O : Type 0} (shared : SmallShared O) (count : ℕ) (se
   pub each : (p : ℕ) (seat : SmallSeat O) → slice_get seats p ≡ Some seat → IsFreshSeat shared p seat
 
 -- a seat's process with its calls
-abbrev pub calls_of : {O : Type 0} → SmallSeat O → ProcessCalls ℕ ℕ
+abbrev pub calls_of : {O : Type 0} → SmallSeat O → ProcessReturned
 calls_of seat = record { process = process_of seat; calls = own_calls seat }
 
 -- the calls of the processes whose seats it has taken in, and all that it knows
-abbrev pub taken_calls : {O : Type 0} → SmallSeat O → List (ProcessCalls ℕ ℕ)
+abbrev pub taken_calls : {O : Type 0} → SmallSeat O → List (ProcessReturned)
 taken_calls seat = seat.seat.me.0.known.taken
 
-abbrev pub known_calls : {O : Type 0} → SmallSeat O → List (ProcessCalls ℕ ℕ)
+abbrev pub known_calls : {O : Type 0} → SmallSeat O → List (ProcessReturned)
 known_calls seat = calls_of seat ∷ taken_calls seat

@@ -8,7 +8,8 @@ use Rattle.uni_small.specs.Image.{Image, first_image, spell}
 -- The word S names a version and the current buffer, which is one of 2n: buffer 2p or 2p + 1 is of process p. Of each process: how
 -- many calls it has announced, and its argument. The words of each buffer.
 -- And what no word tells: the version at which each process last announced a call; how many calls of a process a buffer had
--- in it when it was last current; what the current buffer means; the atomic object; and its history.
+-- in it when it was last current; what the current buffer means; the atomic object, and how many of its calls are in each version;
+-- and its history.
 pub record Board : Type 0 where
   pub version : ℕ
   pub current : ℕ
@@ -19,6 +20,7 @@ pub record Board : Type 0 where
   pub mark : ℕ → ℕ → ℕ
   pub image : Image
   pub atomic : Atomic (List ℕ) ℕ
+  pub agreed_at : ℕ → ℕ
   pub acts : List (Act ℕ ℕ)
 
 -- how many calls of a process are in
@@ -69,6 +71,7 @@ opened object n = record {
   mark = λ b r. 0;
   image = first_image object n;
   atomic = at_start object.initial;
+  agreed_at = λ v. 0;
   acts = [];
 }
 

@@ -32,6 +32,11 @@ pub record HasRows (n width : ℕ) (image : Image) : Type 0 where
 abbrev pub IsReached : Sequential (List ℕ) ℕ ℕ → List ℕ → Type 0
 IsReached object state = (is : List ℕ) × (state_after object object.initial is ≡ state)
 
+-- an object's invocations change no state's number of words, where a state has as many as the start state
+abbrev pub IsSteady : Sequential (List ℕ) ℕ ℕ → Type 0
+IsSteady object = (state : List ℕ) (inv : ℕ) → length state ≡ length object.initial
+    → length (object.next state inv) ≡ length object.initial
+
 -- what a scan saw of process r: 1 where it saw a call that is to be applied
 abbrev pub due_at : List (Option ℕ) → (r : ℕ) → ℕ
 due_at [] r = 0
@@ -85,3 +90,12 @@ sample_seen = refl
 
 sample_due : due_at (None ∷ Some 7 ∷ []) 1 ≡ 1
 sample_due = refl
+
+-- a counter of one word
+abbrev pub sample_counter : Sequential (List ℕ) ℕ ℕ
+sample_counter = record { initial = 0 ∷ []; next = λ state inv. (slice_index state 0 + inv) ∷ []; answer = λ state inv. slice_index state 0 }
+
+-- a batch of three: each call is answered the sum before it
+sample_batch : with_seen sample_counter (first_image sample_counter 3) 0 (Some 5 ∷ Some 3 ∷ Some 1 ∷ [])
+    ≡ record { applied = 1 ∷ 1 ∷ 1 ∷ []; reply = 0 ∷ 5 ∷ 8 ∷ []; state = 9 ∷ [] }
+sample_batch = refl

@@ -6,10 +6,11 @@ use Rattle.seq_object.specs.History.{response_at}
 use Rattle.uni_model.specs.AtomicObject.{Invoked, AcceptsAll, at_start}
 use Rattle.uni_model.specs.AtomicObject.Act.{Invoke}
 use Rattle.uni_model.specs.ProcessCalls.{acts_by, sequential_acts}
+use Rattle.uni_small.specs.Order.{IsOrdered}
 use Rattle.uni_small.specs.Image.{Image, HasRows, buffer_words, spell, due_at, first_image, image_from, with_seen}
-use Rattle.uni_small.specs.View.{Local, Stage}
+use Rattle.uni_small.specs.View.{Local, Returned, Stage, plain}
 use Rattle.uni_small.specs.View.Stage.{Idle, Armed, Ready, Reading, Asking, Writing, Last}
-use Rattle.uni_small.specs.Board.{Board, in_of, current_word, buffer_in}
+use Rattle.uni_small.specs.Board.{Board, in_of, current_word, buffer_in, version_in}
 
 -- how many calls a process can make: so many that versions fit
 abbrev pub most_calls : ℕ
@@ -22,16 +23,16 @@ pub record HasTaken (object : Sequential (List ℕ) ℕ ℕ) (g : Board) (call :
   pub reply_is : response_at object object.initial (map (λ c. c.inv) g.atomic.agreed) place ≡ Some reply
 
 -- A process with no call pending: all its calls are in, and have returned.
-pub record IsClosed (g : Board) (p : ℕ) (own : List (ℕ × ℕ)) : Type 0 where
+pub record IsClosed (g : Board) (p : ℕ) (own : List Returned) : Type 0 where
   pub none_open : g.atomic.open_call p ≡ None
   pub next : g.atomic.next_nth p ≡ length own
   pub announced : g.announced p ≡ length own
   pub in_is : in_of g p ≡ length own
-  pub acts : acts_by p g.acts ≡ sequential_acts p 0 own
+  pub acts : acts_by p g.acts ≡ sequential_acts p 0 (map plain own)
 
 -- A process with a call pending, which is announced, with its argument: all its calls but perhaps this one are in; once this one is in,
 -- its reply is that of the image.
-pub record IsOpen (object : Sequential (List ℕ) ℕ ℕ) (g : Board) (p inv : ℕ) (own : List (ℕ × ℕ)) : Type 0 where
+pub record IsOpen (object : Sequential (List ℕ) ℕ ℕ) (g : Board) (p inv : ℕ) (own : List Returned) : Type 0 where
   pub is_open : g.atomic.open_call p ≡ Some (record { process = p; nth = length own; inv = inv })
   pub next : g.atomic.next_nth p ≡ length own + 1
   pub announced : g.announced p ≡ length own + 1
@@ -39,7 +40,7 @@ pub record IsOpen (object : Sequential (List ℕ) ℕ ℕ) (g : Board) (p inv : 
   pub in_least : length own ≤ in_of g p
   pub taken : in_of g p ≡ length own + 1
       → HasTaken object g (record { process = p; nth = length own; inv = inv }) (slice_index g.image.reply p)
-  pub acts : acts_by p g.acts ≡ sequential_acts p 0 own ++ Invoke p (length own) inv ∷ []
+  pub acts : acts_by p g.acts ≡ sequential_acts p 0 (map plain own) ++ Invoke p (length own) inv ∷ []
 
 -- the words that were copied are those of the current buffer
 abbrev pub IsCopied : Board → List ℕ → Type 0
@@ -50,6 +51,12 @@ IsCopied g copy = (i : ℕ) → i < length copy → slice_index copy i ≡ slice
 pub record HasSeen (g : Board) (p : ℕ) (seen : List (Option ℕ)) : Type 0 where
   pub told : (r inv : ℕ) → slice_get seen r ≡ Some (Some inv) → (g.announced r ≡ in_of g r + 1) × (g.argument r ≡ inv)
   pub caught : (r : ℕ) → r < length seen → (r ≡ p) ⊎ (g.since r < g.version) → g.announced r ≤ in_of g r + due_at seen r
+
+-- the version has come; and all calls that process p has announced, where they took effect, are in it
+abbrev pub AreIn : Board → (p version : ℕ) → Type 0
+AreIn g p version = (version ≤ g.version)
+    × ((c : Invoked ℕ) (place : ℕ) → slice_get g.atomic.agreed place ≡ Some c → c.process ≡ p → c.nth < g.announced p
+    → place < g.agreed_at version)
 
 -- where s is not an earlier S, it is the present one, and this holds
 abbrev pub IfFresh : Board → (s : ℕ) → Type 0 → Type 0
@@ -86,7 +93,7 @@ module _ (object : Sequential (List ℕ) ℕ ℕ) (n width : ℕ) where
   IsAttemptAt g p b (Writing tries s image seen k) =
       IsAfter g p tries s × IfFresh g s ((image ≡ g.image) × (length seen ≡ n) × HasSeen g p seen × (in_of g p < g.announced p))
       × IsWritten g b (with_seen object image 0 seen) k
-  IsAttemptAt g p b (Last s) = (buffer_in s < 2 * n) × (g.announced p ≤ g.mark (buffer_in s) p)
+  IsAttemptAt g p b (Last s) = (buffer_in s < 2 * n) × (g.announced p ≤ g.mark (buffer_in s) p) × AreIn g p (version_in s)
 
   -- process p is where its seat says
   pub record IsAt (g : Board) (p : ℕ) (l : Local) : Type 0 where
@@ -94,10 +101,12 @@ module _ (object : Sequential (List ℕ) ℕ ℕ) (n width : ℕ) where
     pub apart : 2 * p + l.spare ≢ g.current
     pub call : IsCallAt g p l l.stage
     pub attempt : IsAttemptAt g p (2 * p + l.spare) l.stage
+    pub ordered : IsOrdered object g.atomic.agreed g.agreed_at g.version p l.after l.own
 
   -- The board on its own. The current buffer is the image of the calls that took effect, in their order, of which each process has as
   -- many as are in. What a buffer tells a process whose pending call was in when the buffer was last current is the reply of that call.
-  -- A call is in two versions after it was announced, at the latest. The history is accepted by the atomic object.
+  -- A call is in two versions after it was announced, at the latest. The calls of a version are in each later one. The history is
+  -- accepted by the atomic object.
   pub record IsBoard (g : Board) : Type 0 where
     pub current : g.current < 2 * n
     pub image : image_from object (first_image object n) g.atomic.agreed ≡ g.image
@@ -111,6 +120,8 @@ module _ (object : Sequential (List ℕ) ℕ ℕ) (n width : ℕ) where
     pub versions : g.version ≤ sum g.image.applied
     pub room : (r : ℕ) → r < n → g.announced r ≤ most_calls
     pub agreed : (c : Invoked ℕ) → Contains g.atomic.agreed c → (c.process < n) × (c.nth < in_of g c.process)
+    pub counted : (v : ℕ) → g.version ≤ v → g.agreed_at v ≡ length g.atomic.agreed
+    pub rising : (v w : ℕ) → v ≤ w → g.agreed_at v ≤ g.agreed_at w
     pub start : g.atomic.start ≡ object.initial
     pub history : AcceptsAll object (at_start object.initial) g.acts g.atomic
 

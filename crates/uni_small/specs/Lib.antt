@@ -1,11 +1,13 @@
 pub mod Image
 pub mod View
 pub mod Board
+pub mod Order
+pub mod Reading
 pub mod Invariant
 pub mod Shown
+pub mod Laws
 pub mod Rule
 pub mod Plays
 pub mod Standing
 pub mod Belongs
 pub mod Final
-pub mod Objects

@@ -1,12 +1,11 @@
 -- What a step tells the seat that takes it, and how a seat is split.
-use Rattle.std.specs.Prelude.{◌≡◌, ℕ, ◌+◌, ◌-◌, ◌*◌, ◌<◌, ◌≤◌, ◌==◌, List, [], ◌∷◌, ◌++◌, Option, None, Some, if◌then◌else◌}
+use Rattle.std.specs.Prelude.{◌≡◌, ℕ, ◌+◌, ◌-◌, ◌*◌, ◌<◌, ◌≤◌, ◌==◌, List, [], ◌∷◌, ◌++◌, Option, None, Some, if◌then◌else◌, refl}
 use Rattle.std.specs.Prelude.{length, slice_index}
 use Rattle.atomic_table.specs.Table.{Me, Step}
 use Rattle.seq_object.specs.Sequential.{Sequential}
-use Rattle.uni_model.specs.ProcessCalls.{ProcessCalls}
 use Rattle.uni_small.specs.Image.{Image, IsReached, read_image}
-use Rattle.uni_small.specs.View.{Local, Stage, everyone, goes, arms, brings, returns}
-use Rattle.uni_small.specs.View.Stage.{Ready, Reading, Asking, Writing, Last}
+use Rattle.uni_small.specs.View.{Local, ProcessReturned, Stage, at_rest, everyone, goes, arms, brings, returns, knows}
+use Rattle.uni_small.specs.View.Stage.{Idle, Ready, Reading, Asking, Writing, Last}
 use Rattle.uni_small.specs.Board.{buffer_in, version_in}
 use Rattle.uni_small.specs.Invariant.{most_calls}
 use Rattle.uni_small.specs.declared.view.View.{View}
@@ -22,7 +21,7 @@ abbrev pub others : {O : Type 0} → View O → View O
 others v = record v { known = record v.known { first = v.known.first + 1; count = v.known.count - 1 } }
 
 -- a seat's first process with its calls
-abbrev pub own_in_view : {O : Type 0} → View O → ProcessCalls ℕ ℕ
+abbrev pub own_in_view : {O : Type 0} → View O → ProcessReturned
 own_in_view v = record { process = v.known.first; calls = v.known.local.own }
 
 -- a seat that takes in another one knows its calls too; the other one is left with no process
@@ -116,5 +115,26 @@ abbrev pub HasTurned : {O : Type 0} → Step ℕ → Me ℕ (View O) → (s : �
 HasTurned step me s me' =
     (tries : ℕ) → stage_of me ≡ Ready tries → 2 ≤ tries → Goes me (Last s) me' × IsNamed me.0.known.n s
 
+-- the version that a call is in is greater than the one that it comes after
 abbrev pub HasReplied : {O : Type 0} → Step ℕ → Me ℕ (View O) → (found : ℕ) → Me ℕ (View O) → Type 0
-HasReplied step me found me' = IsLeft me (returns me.0.known.local found) me'
+HasReplied step me found me' =
+    (s : ℕ) → stage_of me ≡ Last s → let l = me.0.known.local in IsLeft me (returns l s found) me' × (l.after < version_in s)
+
+-- the version that S names is no smaller than the one that the process knew of
+abbrev pub HasFollowed : {O : Type 0} → Step ℕ → Me ℕ (View O) → (s : ℕ) → Me ℕ (View O) → Type 0
+HasFollowed step me s me' =
+    stage_of me ≡ Idle → let l = me.0.known.local in IsLeft me (knows l (version_in s)) me' × (l.after ≤ version_in s)
+
+-- One that fails twice: at the exchange of its first attempt S is another one, and then at the check of its second one. An attempt whose
+-- exchange finds what it began with is at its end, and so is one whose copy has the call.
+sample_misses : (brought at_rest 0 128 257 256).stage ≡ Ready 1
+sample_misses = refl
+
+sample_misses_again : checked 2 0 1 1 256 (0 ∷ 4 ∷ 0 ∷ 7 ∷ 9 ∷ []) (Some 5 ∷ None ∷ []) 384 ≡ Ready 2
+sample_misses_again = refl
+
+sample_brings : (brought at_rest 0 128 257 128).stage ≡ Last 257
+sample_brings = refl
+
+sample_is_in : checked 2 0 1 1 256 (1 ∷ 4 ∷ 0 ∷ 7 ∷ 9 ∷ []) (None ∷ None ∷ []) 256 ≡ Last 256
+sample_is_in = refl

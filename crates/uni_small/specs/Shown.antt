@@ -5,8 +5,7 @@ use lib.ListN.{get_elem?}
 use Rattle.atomic_table.specs.Table.{State}
 use Rattle.seq_object.specs.Sequential.{Sequential}
 use Rattle.uni_small.specs.Image.{buffer_words}
-use Rattle.uni_model.specs.ProcessCalls.{ProcessCalls}
-use Rattle.uni_small.specs.View.{Local, Known}
+use Rattle.uni_small.specs.View.{Local, Known, ProcessReturned}
 use Rattle.uni_small.specs.View.Stage.{Idle}
 use Rattle.uni_small.specs.Board.{Board, words_of, current_word, announce_word, argument_word, buffer_word}
 use Rattle.uni_small.specs.Invariant.{IsSound}
@@ -22,7 +21,7 @@ module _ (n width : ℕ) where
     pub buffer : (b i : ℕ) → b < 2 * n → i < buffer_words n width → slice_index words (buffer_word n width b i) ≡ g.buffer b i
 
   -- a process whose seat the seat id has taken in: it has no call pending, and these are its calls
-  pub record IsTaken (local : ℕ → Local) (seat_of : ℕ → ℕ) (id : ℕ) (v : Known) (its : ProcessCalls ℕ ℕ) : Type 0 where
+  pub record IsTaken (local : ℕ → Local) (seat_of : ℕ → ℕ) (id : ℕ) (v : Known) (its : ProcessReturned) : Type 0 where
     pub inside : its.process < n
     pub seat : seat_of its.process ≡ id
     pub apart : v.first ≤ its.process → its.process < v.first + v.count → ⊥
@@ -35,7 +34,7 @@ module _ (n width : ℕ) where
     pub processes : 1 ≤ v.known.count → v.known.n ≡ n
     pub each : (p : ℕ) → v.known.first ≤ p → p < v.known.first + v.known.count
         → (p < n) × (seat_of p ≡ id) × (local p ≡ v.known.local)
-    pub taken : (its : ProcessCalls ℕ ℕ) → Contains v.known.taken its → IsTaken local seat_of id v.known its
+    pub taken : (its : ProcessReturned) → Contains v.known.taken its → IsTaken local seat_of id v.known its
 
   pub record IsShown {O : Type 0} (meaning : O → Sequential (List ℕ) ℕ ℕ) (o : O) (g : Board) (local : ℕ → Local) (seat_of : ℕ → ℕ)
       (s : State ℕ (View O)) : Type 0 where

@@ -92,8 +92,16 @@ AttemptEnds n width tries me (Some s) spare me' =
 AttemptEnds n width tries me None spare me' =
     GoesWithin me (attempt_steps n width) (Ready (tries + 1)) me' × ((local_of me).spare ≡ spare)
 
--- a call has returned with this reply
-abbrev pub CallEnds : {O : Type 0} → (n width : ℕ) → Me ℕ (View O) → (inv reply spare : ℕ) → Me ℕ (View O) → Type 0
-CallEnds n width me inv reply spare me' =
-    (words : ℕ) × (words ≤ call_steps n width)
-    × IsLeft me (record { stage = Idle; inv = inv; spare = spare; own = (local_of me).own ++ (inv, reply) ∷ []; steps = (local_of me).steps + words }) me'
+-- a call has returned with this reply, and is in this version, which is greater than the one that it comes after
+abbrev pub CallEnds : {O : Type 0} → (n width : ℕ) → Me ℕ (View O) → (inv reply version spare : ℕ) → Me ℕ (View O) → Type 0
+CallEnds n width me inv reply version spare me' =
+    let l = local_of me in
+    (words : ℕ) × (words ≤ call_steps n width) × (l.after < version)
+    × IsLeft me (record {
+      stage = Idle;
+      inv = inv;
+      spare = spare;
+      after = version;
+      own = l.own ++ record { inv = inv; reply = reply; after = l.after; version = version } ∷ [];
+      steps = l.steps + words;
+    }) me'

@@ -1,7 +1,24 @@
 -- What a seat knows.
 use Rattle.std.specs.Prelude.{ℕ, ◌+◌, ◌-◌, List, [], ◌∷◌, ◌++◌, Option}
-use Rattle.uni_model.specs.ProcessCalls.{ProcessCalls}
 use Rattle.uni_small.specs.Image.{Image}
+use Rattle.uni_small.specs.Board.{version_in}
+
+-- A call that has returned: its invocation and its reply. It comes after all calls that are in its version `after`, and is one of those
+-- that are in its version `version`.
+pub record Returned : Type 0 where
+  pub inv : ℕ
+  pub reply : ℕ
+  pub after : ℕ
+  pub version : ℕ
+
+-- its invocation with its reply
+abbrev pub plain : Returned → ℕ × ℕ
+plain call = (call.inv, call.reply)
+
+-- the calls of one process that have returned, in their order
+pub record ProcessReturned : Type 0 where
+  pub process : ℕ
+  pub calls : List Returned
 
 -- Where a process stands. `tries` counts the attempts of its call that have failed, `s` is the word S that the attempt began with,
 -- `copy` the words of the buffer that it has copied, and `seen` what it has seen of each process: nothing to apply, or an invocation.
@@ -21,13 +38,14 @@ pub data Stage : Type 0 where
   -- the call is in, and its reply is in the buffer that s names
   Last : (s : ℕ) → Stage
 
--- of one process: its stage, the invocation of its latest call, which of its buffers is its spare one, its calls that have returned,
--- each with its invocation and its reply, and how many word steps it has taken
+-- of one process: its stage, the invocation of its latest call, which of its buffers is its spare one, the version that its next calls
+-- come after, its calls that have returned, and how many word steps it has taken
 pub record Local : Type 0 where
   pub stage : Stage
   pub inv : ℕ
   pub spare : ℕ
-  pub own : List (ℕ × ℕ)
+  pub after : ℕ
+  pub own : List Returned
   pub steps : ℕ
 
 -- a seat has the processes from the first on, of n; what it knows of each of them; and the calls of each process whose seat it has
@@ -37,10 +55,10 @@ pub record Known : Type 0 where
   pub first : ℕ
   pub count : ℕ
   pub local : Local
-  pub taken : List (ProcessCalls ℕ ℕ)
+  pub taken : List ProcessReturned
 
 abbrev pub at_rest : Local
-at_rest = record { stage = Idle; inv = 0; spare = 1; own = []; steps = 0 }
+at_rest = record { stage = Idle; inv = 0; spare = 1; after = 0; own = []; steps = 0 }
 
 abbrev pub everyone : (n : ℕ) → Known
 everyone n = record { n = n; first = 0; count = n; local = at_rest; taken = [] }
@@ -57,6 +75,15 @@ arms l inv = record l { stage = Armed; inv = inv; steps = l.steps + 1 }
 abbrev pub brings : Local → (s : ℕ) → Local
 brings l s = record l { stage = Last s; spare = 1 - l.spare; steps = l.steps + 1 }
 
--- after its call has returned
-abbrev pub returns : Local → (reply : ℕ) → Local
-returns l reply = record l { stage = Idle; own = l.own ++ (l.inv, reply) ∷ []; steps = l.steps + 1 }
+-- its call that returns with this reply, which was read in the buffer that s names
+abbrev pub ending : Local → (s reply : ℕ) → Returned
+ending l s reply = record { inv = l.inv; reply = reply; after = l.after; version = version_in s }
+
+-- after that call has returned
+abbrev pub returns : Local → (s reply : ℕ) → Local
+returns l s reply =
+    record l { stage = Idle; after = version_in s; own = l.own ++ ending l s reply ∷ []; steps = l.steps + 1 }
+
+-- after it has asked which version has come, and found this one
+abbrev pub knows : Local → (version : ℕ) → Local
+knows l version = record l { after = version; steps = l.steps + 1 }

@@ -1,12 +1,34 @@
 //! Closing an object.
-ghost use Rattle.std.specs.Prelude.{◌≡◌, ◌++◌, length};
-ghost use Rattle.uni_small.specs.Belongs.{IsSeatOf, calls_made, calls_of, known_calls, object_of, width_of};
+ghost use Rattle.std.specs.Prelude.{◌≡◌, ◌++◌, ◌+◌, ◌*◌, ◌<◌, ◌≤◌, [], All, flat_map, length, slice_index};
+ghost use Rattle.std.specs.Mem.Slots.{IsFull, slots_items, slots_len};
+ghost use Rattle.uni_small.specs.Belongs.{IsSeatOf, calls_made, calls_of, known_calls, object_of, version_of, width_of};
+ghost use Rattle.uni_small.specs.Board.{buffer_in, words_of};
 ghost use Rattle.uni_small.specs.Final.{IsFinal};
+ghost use Rattle.uni_small.specs.Reading.{IsStateIn};
 
 use crate::log::SmallShared;
 use crate::object::SmallObject;
 use crate::rule::{Setup, TakesIn};
 use crate::seat::SmallSeat;
+use atomic_table::Closed;
+use std::alloc::Global;
+
+/// Writes the state that is in a closed table of n processes with states of so many words.
+fn write_state(closed: Closed<u8, Global>, n: u64, width: u64, state: &mut [u64])
+    requires full { IsFull closed.words × (slots_len closed.words ≡ words_of n width) }
+    requires slotless { slots_len closed.slots ≡ 0 }
+    requires few { (n ≤ 64) × (width ≤ 65536) }
+    requires named { buffer_in (slice_index (slots_items closed.words) 0) < 2 * n }
+    requires wide { length state.old ≡ width }
+    ensures read { IsStateIn n width (slots_items closed.words) state.new }
+{
+    let buffer = closed.word(0) % 128;
+    let from = 1 + 2 * n + buffer * (2 * n + width) + 2 * n;
+    for i in 0..width {
+        state[i as usize] = closed.word((from + i) as usize);
+    }
+    closed.free();
+}
 
 impl<O: SmallObject> SmallShared<O> {
     /// How many words a state has.
@@ -16,12 +38,26 @@ impl<O: SmallObject> SmallShared<O> {
         self.setup.width
     }
 
-    /// Closes the object, with the seat of one of its processes, which is one of this object's, and writes its
-    /// state. Other seats may be dropped.
+    /// Closes the object with no seat, and writes its state: that after a list of calls, in the order in which
+    /// they took effect. Which calls the seats made is not said. All seats may be dropped; a call that a seat
+    /// was in when its thread died has taken effect whole, or not at all.
+    pub fn close(self, state: &mut [u64])
+        requires wide { length state.old ≡ width_of self }
+        ensures told { IsFinal (O.sequential (object_of self)) [] state.new }
+    {
+        let SmallShared { setup, table } = self;
+        let Setup { object, n, width } = setup;
+        drop(object);
+        write_state(table.close(), n, width, state);
+    }
+
+    /// Closes the object with the seat of one of its processes, which is one of this object's, and writes its
+    /// state. Other seats may be dropped: which calls they made is not said.
     ///
     /// The calls of the seat's process, and of each process whose seat it has taken in, with the replies
     /// that they were given, are those of a history that the atomic object accepts. The state is that
-    /// after the calls of this history, in the order in which they took effect.
+    /// after the calls of this history, in the order in which they took effect. In that order each known call
+    /// comes after all calls of the version that its seat had followed, and is among those of its own version.
     pub fn close_with(self, seat: SmallSeat<O>, state: &mut [u64])
         requires seat { IsSeatOf self seat }
         requires wide { length state.old ≡ width_of self }
@@ -31,22 +67,35 @@ impl<O: SmallObject> SmallShared<O> {
         let Setup { object, n, width } = setup;
         drop(object);
         let SmallSeat { seat, .. } = seat;
-        let closed = table.close_with(seat);
-        let buffer = closed.word(0) % 128;
-        let from = 1 + 2 * n + buffer * (2 * n + width) + 2 * n;
-        for i in 0..width {
-            state[i as usize] = closed.word((from + i) as usize);
+        write_state(table.close_with(seat), n, width, state);
+    }
+
+    /// Closes the object with these seats, of all processes, of some, or of none: what `close_with` tells of one
+    /// seat's calls is told of each one's. It takes no memory, and a load for each seat but one.
+    pub fn close_all(self, seats: Vec<SmallSeat<O>>, state: &mut [u64])
+        requires seats { All (IsSeatOf self) seats.items }
+        requires wide { length state.old ≡ width_of self }
+        ensures told { IsFinal (O.sequential (object_of self)) (flat_map known_calls seats.items) state.new }
+    {
+        let mut seats = seats;
+        let Some(mut first) = seats.pop() else {
+            return self.close(state);
+        };
+        for seat in seats {
+            first.take_in(&self, seat);
         }
-        closed.free();
+        self.close_with(first, state);
     }
 }
 
 impl<O: SmallObject> SmallSeat<O> {
-    /// Takes in another seat of this object: this seat knows its calls then. It costs one load.
+    /// Takes in another seat of this object: this seat knows its calls then. It costs one load. For this
+    /// seat's later calls to come after the other's, follow the version of its last call.
     pub fn take_in(&mut self, shared: &SmallShared<O>, other: SmallSeat<O>)
         requires seats { IsSeatOf shared.now self.old × IsSeatOf shared.now other }
         ensures kept { IsSeatOf shared.now self.new × (calls_of self.new ≡ calls_of self.old) }
         ensures made { calls_made self.new ≡ calls_made self.old }
+        ensures version { version_of self.new ≡ version_of self.old }
         ensures known { known_calls self.new ≡ known_calls self.old ++ known_calls other }
     {
         let SmallSeat { seat, .. } = other;

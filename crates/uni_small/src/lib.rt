@@ -1,19 +1,21 @@
 //! The wait-free protocol for objects of several words on the words of an `atomic_table`.
 #![tactic(auto)]
 
+mod answer;
 mod apply;
+mod attempt;
 mod close;
+pub mod laws;
 mod log;
 mod object;
-mod objects;
 mod open;
 mod rule;
 mod seat;
 mod steps;
 mod view;
 
+pub use answer::Answer;
 pub use apply::{CallsSpent, MAX_CALLS};
 pub use log::{MAX_PROCESSES, MAX_WIDTH, SmallOpenFault, SmallShared};
 pub use object::SmallObject;
-pub use objects::{SmallCounter, SmallQueue};
 pub use seat::SmallSeat;

@@ -1,7 +1,7 @@
 //! What an object of several words is.
 ghost use Rattle.std.specs.Prelude.{ℕ, List, ◌≡◌, length};
 ghost use Rattle.seq_object.specs.Sequential.{Sequential};
-ghost use Rattle.uni_small.specs.Image.{IsReached};
+ghost use Rattle.uni_small.specs.Image.{IsReached, IsSteady};
 
 /// A sequential object whose state is a fixed number of words, and whose invocations and replies are
 /// words.
@@ -29,5 +29,5 @@ pub trait SmallObject: Drop {
         ensures reply { result ≡ (sequential self.now).answer state.old inv };
 
     /// No invocation changes how many words a state has.
-    ghost steady: { (o : Self) (state : List ℕ) (inv : ℕ) → length ((sequential o).next state inv) ≡ length state };
+    ghost steady: { (o : Self) → IsSteady (sequential o) };
 }

@@ -117,6 +117,15 @@ impl<O> Play<u8, View<O>> for Replies {
     ghost then = { HasReplied };
 }
 
+/// The load of S between calls.
+pub struct Follows;
+
+impl<O> Play<u8, View<O>> for Follows {
+    ghost use Rattle.uni_small.specs.Plays.{HasFollowed};
+
+    ghost then = { HasFollowed };
+}
+
 /// The load of S after which an attempt goes on or has failed.
 pub struct Checks;
 
@@ -124,7 +133,8 @@ impl<O: SmallObject> Play<u8, View<O>> for Checks {
     ghost use Rattle.std.specs.Prelude.{◌≡◌, Some};
     ghost use Rattle.uni_small.specs.Plays.{HasChecked};
 
-    ghost then = { λ step me found me'. (o : O) → me.0.object ≡ Some o → HasChecked (O.sequential o) step me found me' };
+    ghost then = { λ step me found me'. (o : O) → me.0.object ≡ Some o
+        → HasChecked (O.sequential o) step me found me' };
 }
 
 /// The first process apart from the others.

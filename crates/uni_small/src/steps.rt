@@ -2,17 +2,18 @@
 ghost use Rattle.std.specs.Prelude.{◌≡◌, ℕ, ◌+◌, ◌*◌, ◌<◌, ◌≤◌, ◌==◌, List, [], ◌∷◌, ◌++◌, Option, Some, None};
 ghost use Rattle.std.specs.Prelude.{if◌then◌else◌, length, slice_index};
 ghost use Rattle.uni_small.specs.Image.{Image, HasRows, buffer_words, spell, with_seen, read_image};
-ghost use Rattle.uni_small.specs.View.{goes, arms, brings, returns};
+ghost use Rattle.uni_small.specs.View.{goes, arms, brings, returns, knows};
 ghost use Rattle.uni_small.specs.View.Stage.{Idle, Armed, Ready, Reading, Asking, Writing, Last};
 ghost use Rattle.uni_small.specs.Board.{buffer_in, current_word, version_in};
 ghost use Rattle.uni_small.specs.Invariant.{most_calls};
 ghost use Rattle.uni_small.specs.Plays.{Goes, IsLeft, stage_of, IsNamed, looked, checked, IsGood, brought};
 ghost use Rattle.uni_small.specs.Standing.{IsOf, local_of, IsCopying, IsLooking, IsAsking, IsWriting, HasWrittenAll};
 
+use crate::answer::Answer;
 use crate::log::SmallShared;
 use crate::object::SmallObject;
 use crate::rule::{
-    Announces, Arms, Asks, Brings, Checks, Copies, Looks, Replies, Starts, Turns, Writes,
+    Announces, Arms, Asks, Brings, Checks, Copies, Follows, Looks, Replies, Starts, Turns, Writes,
 };
 use crate::view::View;
 use atomic_table::Seat;
@@ -132,7 +133,8 @@ impl<O: SmallObject> SmallShared<O> {
         requires named { buffer_in s < 2 * self.now.setup.n }
         ensures same { (seat.new.table_id ≡ seat.old.table_id) × (seat.new.id ≡ seat.old.id) }
         ensures left { (copy : List ℕ) (seen : List (Option ℕ)) → stage_of seat.old.me ≡ Reading tries s copy seen
-            → Goes seat.old.me (checked self.now.setup.n p (length (local_of seat.old.me).own + 1) tries s copy seen result)
+            → Goes seat.old.me
+            (checked self.now.setup.n p (length (local_of seat.old.me).own + 1) tries s copy seen result)
             seat.new.me × (result ≡ s → IsGood (O.sequential self.now.setup.object) self.now.setup.n
             (read_image self.now.setup.n copy)) }
     {
@@ -201,18 +203,38 @@ impl<O: SmallObject> SmallShared<O> {
         self.table.shared.load::<Turns>(seat, 0)
     }
 
-    /// Loads the reply: the call returns.
-    pub(crate) fn load_reply(&self, seat: &mut Seat<u8, View<O>>, p: u64, s: u64) -> u64
+    /// Loads the reply: the call returns, and is in the version that s names.
+    pub(crate) fn load_reply(&self, seat: &mut Seat<u8, View<O>>, p: u64, s: u64) -> Answer
         requires table { seat.old.table_id ≡ self.now.table.shared.table_id }
         requires inside { p < self.now.setup.n }
         requires of { IsOf self.now.setup.object self.now.setup.n p seat.old.me }
         requires stage { stage_of seat.old.me ≡ Last s }
         requires named { buffer_in s < 2 * self.now.setup.n }
         ensures same { (seat.new.table_id ≡ seat.old.table_id) × (seat.new.id ≡ seat.old.id) }
-        ensures left { IsLeft seat.old.me (returns (local_of seat.old.me) result) seat.new.me }
+        ensures left { IsLeft seat.old.me (returns (local_of seat.old.me) s result.reply) seat.new.me }
+        ensures version { result.version ≡ version_in s }
+        ensures later { (local_of seat.old.me).after < version_in s }
     {
-        self.table
+        let reply = self
+            .table
             .shared
-            .load::<Replies>(seat, self.buffer_word(s % 128, self.setup.n + p))
+            .load::<Replies>(seat, self.buffer_word(s % 128, self.setup.n + p));
+        Answer {
+            reply,
+            version: s / 128,
+        }
+    }
+
+    /// Loads S between calls: the present version.
+    pub(crate) fn present(&self, seat: &mut Seat<u8, View<O>>, p: u64) -> u64
+        requires table { seat.old.table_id ≡ self.now.table.shared.table_id }
+        requires inside { p < self.now.setup.n }
+        requires of { IsOf self.now.setup.object self.now.setup.n p seat.old.me }
+        requires stage { stage_of seat.old.me ≡ Idle }
+        ensures same { (seat.new.table_id ≡ seat.old.table_id) × (seat.new.id ≡ seat.old.id) }
+        ensures left { IsLeft seat.old.me (knows (local_of seat.old.me) result) seat.new.me }
+        ensures later { (local_of seat.old.me).after ≤ result }
+    {
+        self.table.shared.load::<Follows>(seat, 0) / 128
     }
 }

@@ -1,20 +1,16 @@
 -- Seats that are taken in one after another.
-use Rattle.std.proofs.Common.{All, Contains, flat_map, map, ◌≡◌, ◌⊎◌, inl, inr, sym, subst, List, [], ◌∷◌, ◌++◌, arith}
-use Rattle.std.proofs.lemmas.List.Elements.{All-append, All-contains, All-head, All-map, All-tail, Contains-append_left, Contains-append_right, Contains-get_or, Contains-push_cases}
+use Rattle.std.proofs.Common.{All, Contains, flat_map, map, ℕ, ◌≡◌, ◌⊎◌, inl, inr, sym, subst, List, [], ◌∷◌, ◌++◌, arith}
+use Rattle.std.proofs.lemmas.List.Elements.{All-append, All-contains, All-head, All-map, All-tail, Contains-append_left, Contains-append_right, Contains-push_cases}
 use Rattle.uni_model.specs.ProcessCalls.{ProcessCalls}
 use Rattle.uni_words.specs.Belongs.{calls_of, known_calls, seen_by}
 use Rattle.uni_words.specs.View.{Seen}
-use Rattle.uni_words.specs.declared.steps.WordSeat.{WordSeat}
-use Rattle.uni_words.proofs.Joining.{first_or, first_there}
+use Rattle.uni_words.specs.declared.seat.WordSeat.{WordSeat}
+use Rattle.uni_words.proofs.Views.{All-each, first_or, first_there}
 
 -- what holds of each element of each list
 All-flat_map : {A B : Type 0} (P : B → Type 0) (f : A → List B) (xs : List A) → All (λ x. All P (f x)) xs → All P (flat_map f xs)
 All-flat_map P f [] all = λ k d inside. absurd (omega arith)
 All-flat_map P f (x ∷ xs) all = All-append P (f x) (flat_map f xs) (All-head (λ x. All P (f x)) x xs all) (All-flat_map P f xs (All-tail (λ x. All P (f x)) x xs all))
-
--- what holds of each element
-pub All-each : {A : Type 0} (P : A → Type 0) (xs : List A) → ((x : A) → Contains xs x → P x) → All P xs
-All-each P xs each k d inside = each _ (Contains-get_or xs k d inside)
 
 -- another seat knows the calls of a seat, and has seen what it saw
 abbrev pub IsKnown : (first x : WordSeat) → Type 0
@@ -30,18 +26,18 @@ accounted_first all rest first is = All-each (IsAccounted rest first) all (λ x 
   | inr same ↦ inr (subst (IsKnown first) same (first_there _ _, λ t has. has))
 ])
 
-pub accounted_more : (all rest rest' : List WordSeat) (first first' seat : WordSeat) → rest ≡ seat ∷ rest' → known_calls first' ≡ known_calls first ++ known_calls seat → seen_by first' ≡ seen_by first ++ seen_by seat → All (IsAccounted rest first) all → All (IsAccounted rest' first') all
-accounted_more all rest rest' first first' seat is known seen were = All-each (IsAccounted rest' first') all (λ x has. elim (All-contains (IsAccounted rest first) all x were has) [
+pub accounted_more : (all rest rest' : List WordSeat) (first first' seat : WordSeat) (more : List Seen) → rest ≡ seat ∷ rest' → known_calls first' ≡ known_calls first ++ known_calls seat → seen_by first' ≡ seen_by first ++ (seen_by seat ++ more) → All (IsAccounted rest first) all → All (IsAccounted rest' first') all
+accounted_more all rest rest' first first' seat more is known seen were = All-each (IsAccounted rest' first') all (λ x has. elim (All-contains (IsAccounted rest first) all x were has) [
   | inl left ↦ elim (first_or seat rest' x (subst (λ l. Contains l x) is left)) [
     | inl same ↦ inr (subst (IsKnown first') same (
       subst (λ l. Contains l (calls_of seat)) (sym known) (Contains-append_right (known_calls first) (known_calls seat) (calls_of seat) (first_there _ _)),
-      λ t has. subst (λ l. Contains l t) (sym seen) (Contains-append_right (seen_by first) (seen_by seat) t has),
+      λ t has. subst (λ l. Contains l t) (sym seen) (Contains-append_right (seen_by first) (seen_by seat ++ more) t (Contains-append_left (seen_by seat) more t has)),
     ))
     | inr later ↦ inl later
   ]
   | inr there ↦ inr (
     subst (λ l. Contains l (calls_of x)) (sym known) (Contains-append_left (known_calls first) (known_calls seat) (calls_of x) there.0),
-    λ t has. subst (λ l. Contains l t) (sym seen) (Contains-append_left (seen_by first) (seen_by seat) t (there.1 t has)),
+    λ t has. subst (λ l. Contains l t) (sym seen) (Contains-append_left (seen_by first) (seen_by seat ++ more) t (there.1 t has)),
   )
 ])
 

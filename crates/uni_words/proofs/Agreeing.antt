@@ -13,10 +13,10 @@ use Rattle.uni_words.specs.Belongs.{AreAllSeats, calls_of, own_calls}
 use Rattle.uni_words.specs.Compare.{Agrees}
 use Rattle.uni_words.specs.Log.{AreCallsOf, IsLogged, calls_by, replied}
 use Rattle.uni_words.specs.declared.log.WordLog.{WordLog}
-use Rattle.uni_words.specs.declared.steps.WordSeat.{WordSeat}
+use Rattle.uni_words.specs.declared.seat.WordSeat.{WordSeat}
 use Rattle.uni_words.proofs.Comparing.{slice_get-map}
-use Rattle.uni_words.proofs.Joining.{first_there, later_there}
-use Rattle.uni_words.proofs.OwnCalls.{there_below}
+use Rattle.uni_words.proofs.Views.{first_there, later_there}
+use Rattle.uni_words.proofs.Underway.{there_below}
 
 Contains-at : {A : Type 0} (xs : List A) (i : ℕ) (x : A) → slice_get xs i ≡ Some x → Contains xs x
 Contains-at [] i x e = absurd (let f : None ≡ Some x = e in cc)

@@ -2,7 +2,8 @@
 use Rattle.std.proofs.Common.{◌≡◌, ◌∙◌, ℕ, zero, suc, ◌+◌, ◌*◌, ◌<◌, ◌≤◌, inl, inr, refl, sym, ap, subst, Option, Some, None, option_map, arith, nat_lt, eqb, if◌then◌else◌}
 use Rattle.std.specs.Option.{option_or}
 use prog.Atomic.{either}
-use Rattle.atomic_table.specs.Table.{Me, Step, Allows}
+use mathlib.Core.Option.{none}
+use Rattle.atomic_table.specs.Table.{Me, Step, Allows, step}
 use Rattle.atomic_table.proofs.Lists.{exchanged}
 use Rattle.seq_object.specs.Sequential.{Sequential}
 use Rattle.uni_model.specs.Places.{Memory, Name, Content}
@@ -23,12 +24,13 @@ use Rattle.uni_words.specs.Standing.{StandsAt, GoesBy, IsIdle}
 use Rattle.uni_words.specs.Rule.{Rule}
 use Rattle.uni_words.specs.declared.view.View.{View}
 use Rattle.uni_words.specs.declared.rule.Setup.{Setup}
-use Rattle.uni_words.proofs.Columns.{index_in-name_of}
+use Rattle.uni_words.specs.declared.log.WordLog.{WordLog}
+use Rattle.uni_words.proofs.Columns.{index_in-name_of, word_below}
 use Rattle.uni_words.proofs.Moving.{GoesOn, moves}
 
 -- what the table was told is what the log has
 pub may_move : {O : Type 0} (meaning : O → Sequential ℕ ℕ ℕ) (told setup : Setup O) → told ≡ setup
-    → (slots id i : ℕ) (st : Step ℕ) (me : Me ℕ View) (f said : ℕ → ℕ) → me.0.known.count ≡ 1 → (c : Pending) → me.0.known.call ≡ Some c → GoesOn c.stage
+    → (slots id i : ℕ) (st : Step ℕ) (me : Me ℕ View) (f said : ℕ → ℕ) → me.0.known.count ≡ 1 → (c : Pending) → me.0.known.its.call ≡ Some c → GoesOn c.stage
     → word_of setup.n setup.k (place_of setup.n me.0.known.first c.mine c.stage) ≡ Some i
     → ((found : ℕ) (seen : Memory ℕ ℕ ℕ) → content_of setup.n (place_of setup.n me.0.known.first c.mine c.stage) (f found)
     ≡ content_after (meaning setup.object) c.mine c.stage (content_of setup.n (place_of setup.n me.0.known.first c.mine c.stage) found) seen)
@@ -44,6 +46,37 @@ pub by_key : {O : Type 0} (meaning : O → Sequential ℕ ℕ ℕ) (told setup :
     → Allows (Rule meaning setup) slots id me i f says → Allows (Rule meaning told) slots id me i f says
 by_key meaning told setup same slots id me i f says allowed =
     subst (λ key. Allows (Rule meaning key) slots id me i f says) (sym same) allowed
+
+-- A word step of a call that stands at its stage, at the word of the stage's place: a load, a store, and a proposal to a word that is 0.
+-- With it goes what else the table asks of a seat.
+module _ {O : Type 0} (meaning : O → Sequential ℕ ℕ ℕ) (log : WordLog O) (id : ℕ) (me : Me ℕ View) (p : ℕ) (mine : Name) (stage : Stage) (i : ℕ)
+    (stands : StandsAt log.setup.n log.setup.k p mine stage me) (goes : GoesOn stage)
+    (word : word_of log.setup.n log.setup.k (place_of log.setup.n me.0.known.first mine stage) ≡ Some i) where
+  -- what a step tells says nothing of its operands
+  abbrev no_step : Step ℕ
+  no_step = step 0 0 0 0 none
+
+  inside : i < log.table.shared.table_id.words
+  inside = subst (λ k. i < k) (sym log.sized) (word_below log.setup.n log.setup.k (place_of log.setup.n me.0.known.first mine stage) i word)
+
+  -- what the word becomes is what the stage leaves in its place
+  abbrev Leaves : (ℕ → ℕ) → Type 0
+  Leaves f = (found : ℕ) (seen : Memory ℕ ℕ ℕ) → content_of log.setup.n (place_of log.setup.n me.0.known.first mine stage) (f found)
+      ≡ content_after (meaning log.setup.object) mine stage (content_of log.setup.n (place_of log.setup.n me.0.known.first mine stage) found) seen
+
+  -- the table's clause: the seat is of the table, the word is there, and the rule holds after it
+  abbrev MayStep : Type 0 → (ℕ → ℕ) → (ℕ → Me ℕ View → Type 0) → Type 0
+  MayStep OfTable f says = OfTable × (i < log.table.shared.table_id.words) × Allows (Rule meaning log.table.shared.key) log.table.shared.table_id.slots id me i f says
+
+  pub may_load : {OfTable : Type 0} → OfTable → Leaves (λ x. x) → MayStep OfTable (λ x. x) (λ found me'. Moved no_step me found me')
+  may_load of_table leaves = (of_table, inside, may_move meaning log.table.shared.key log.setup log.same log.table.shared.table_id.slots id i no_step me (λ x. x) (λ x. x) stands.alone (record { mine = mine; stage = stage }) stands.call goes word leaves (λ found. refl) (λ found a b. a))
+
+  -- where what is found says nothing
+  pub may_store : {OfTable : Type 0} → OfTable → (v : ℕ) → Leaves (λ x. v) → ((found : ℕ) → moved_at me.0.known (record { mine = mine; stage = stage }) found ≡ moved_at me.0.known (record { mine = mine; stage = stage }) v) → MayStep OfTable (λ x. v) (λ found me'. Moved no_step me v me')
+  may_store of_table v leaves blind = (of_table, inside, may_move meaning log.table.shared.key log.setup log.same log.table.shared.table_id.slots id i no_step me (λ x. v) (λ x. v) stands.alone (record { mine = mine; stage = stage }) stands.call goes word leaves blind (λ found a b. b))
+
+  pub may_propose : {OfTable : Type 0} → OfTable → (v : ℕ) → Leaves (λ x. either (eqb x 0) v x) → MayStep OfTable (λ x. either (eqb x 0) v x) (λ found me'. Moved no_step me found me')
+  may_propose of_table v leaves = (of_table, inside, may_move meaning log.table.shared.key log.setup log.same log.table.shared.table_id.slots id i no_step me (λ x. either (eqb x 0) v x) (λ x. x) stands.alone (record { mine = mine; stage = stage }) stands.call goes word leaves (λ found. refl) (λ found a b. a))
 
 pub cell_word : (n row column cell i : ℕ) → 1 ≤ n → cell < cells_of n row → i ≡ start_of n row column + cell
     → option_map (λ j. start_of n row column + j) (index_in n row (name_of n cell)) ≡ Some i
@@ -94,12 +127,13 @@ goes_one me c found t me' moved turn =
     record {
       word_steps = ap (λ (k : Known). k.word_steps) now;
       stored_ends = ap (λ (k : Known). k.stored_ends) now;
-      turns = ap (λ (k : Known). k.turns) now ∙ ap (λ x. me.0.known.turns + x) turn;
-      inv = ap (λ (k : Known). k.inv) now;
-      begun = ap (λ (k : Known). k.begun) now;
-      own = ap (λ (k : Known). k.own) now;
+      turns = ap (λ (k : Known). k.its.turns) now ∙ ap (λ x. me.0.known.its.turns + x) turn;
+      inv = ap (λ (k : Known). k.its.inv) now;
+      begun = ap (λ (k : Known). k.its.begun) now;
+      own = ap (λ (k : Known). k.its.own) now;
       taken = ap (λ (k : Known). k.taken) now;
       seen = ap (λ (k : Known). k.seen) now;
+      number = ap (λ (k : Known). k.its.number) now;
       carried = ap (λ (x : Me ℕ View). x.1) moved.view;
     }
 
@@ -109,8 +143,8 @@ within_here n row p mine stage found me me' moved stands =
     (subst (λ r. IsWithin me.0.known.n r (place_of me.0.known.n p mine stage) found) stands.calls
     (subst (λ q. IsWithin me.0.known.n me.0.known.row (place_of me.0.known.n q mine stage) found) stands.first moved.within))
 
-pub few_turns : (n row p : ℕ) (mine : Name) (stage : Stage) (found : ℕ) (me me' : Me ℕ View) → HasMoved me (record { mine = mine; stage = stage }) found me' → StandsAt n row p mine stage me → me'.0.known.turns ≤ n + 1
-few_turns n row p mine stage found me me' moved stands = subst (λ k. me'.0.known.turns ≤ k + 1) stands.processes moved.turns
+pub few_turns : (n row p : ℕ) (mine : Name) (stage : Stage) (found : ℕ) (me me' : Me ℕ View) → HasMoved me (record { mine = mine; stage = stage }) found me' → StandsAt n row p mine stage me → me'.0.known.its.turns ≤ n + 1
+few_turns n row p mine stage found me me' moved stands = subst (λ k. me'.0.known.its.turns ≤ k + 1) stands.processes moved.turns
 
 -- a read of a settled word changes nothing else
 pub stands_still : (n row p : ℕ) (mine : Name) (stage : Stage) (read : Reading) (me me' : Me ℕ View) → StandsAt n row p mine stage me → HasLooked me read me' → StandsAt n row p mine stage me'
@@ -124,17 +158,18 @@ goes_still read me me' looked =
     record {
       word_steps = ap (λ (k : Known). k.word_steps) now;
       stored_ends = ap (λ (k : Known). k.stored_ends) now;
-      turns = (let t = ap (λ (k : Known). k.turns) now in omega arith);
-      inv = ap (λ (k : Known). k.inv) now;
-      begun = ap (λ (k : Known). k.begun) now;
-      own = ap (λ (k : Known). k.own) now;
+      turns = (let t = ap (λ (k : Known). k.its.turns) now in omega arith);
+      inv = ap (λ (k : Known). k.its.inv) now;
+      begun = ap (λ (k : Known). k.its.begun) now;
+      own = ap (λ (k : Known). k.its.own) now;
       taken = ap (λ (k : Known). k.taken) now;
       seen = ap (λ (k : Known). k.seen) now;
+      number = ap (λ (k : Known). k.its.number) now;
       carried = ap (λ (x : Me ℕ View). x.1) looked;
     }
 
-pub read_is : (read : Reading) (me me' : Me ℕ View) → HasLooked me read me' → me'.0.known.read ≡ read
-read_is read me me' looked = ap (λ (x : Me ℕ View). x.0.known.read) looked
+pub read_is : (read : Reading) (me me' : Me ℕ View) → HasLooked me read me' → me'.0.known.its.read ≡ read
+read_is read me me' looked = ap (λ (x : Me ℕ View). x.0.known.its.read) looked
 
 pub stands_begun : (n row p nth mine inv : ℕ) (me me' : Me ℕ View) → p < n → mine ≡ index_of n p nth → IsIdle n row p nth me → me' ≡ (record { known = begun_by me.0.known inv }, me.1) → StandsAt n row p (name_of n mine) Announce me'
 stands_begun n row p nth mine inv me me' inside cell idle begun =
@@ -145,5 +180,5 @@ stands_begun n row p nth mine inv me me' inside cell idle begun =
       calls = idle.1;
       first = idle.2;
       alone = idle.3;
-      call = ap (λ x. Some (record { mine = x; stage = Announce })) (ap (λ q. Of q me.0.known.begun) idle.2 ∙ ap (Of p) idle.4 ∙ sym name);
+      call = ap (λ x. Some (record { mine = x; stage = Announce })) (ap (λ q. Of q me.0.known.its.begun) idle.2 ∙ ap (Of p) idle.4 ∙ sym name);
     })

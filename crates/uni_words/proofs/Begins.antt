@@ -26,14 +26,14 @@ use Rattle.uni_words.specs.Laws.{Leads, after_word}
 use Rattle.uni_words.specs.Shown.{IsLocal, IsShown, ShowsRun, pending_count}
 use Rattle.uni_words.specs.declared.view.View.{View}
 use Rattle.uni_words.proofs.Locality.{set_here, set_elsewhere}
-use Rattle.uni_words.proofs.Underway.{HasReturned-grows}
+use Rattle.uni_words.proofs.Underway.{HasReturned-grows, last_number-grows}
 use Rattle.uni_words.proofs.Happens.{own_local, keeps_rule}
 use Rattle.uni_words.proofs.Running.{led, run_begins}
 
 module _ (object : Sequential ℕ ℕ ℕ) (row : ℕ) where
   module _ (w : WorldOf ℕ ℕ ℕ) (s : State ℕ View) (is : IsShown object row w s)
-      (id : ℕ) (v : Known) (at : get_elem? s.views id ≡ some (record { known = v })) (single : v.count ≡ 1) (idle : v.call ≡ None) (fits : v.begun < row)
-      (i : ℕ) (word : word_of w.n row (InvOf (Of v.first v.begun)) ≡ Some i) (inv : ℕ) where
+      (id : ℕ) (v : Known) (at : get_elem? s.views id ≡ some (record { known = v })) (single : v.count ≡ 1) (idle : v.its.call ≡ None) (fits : v.its.begun < row)
+      (i : ℕ) (word : word_of w.n row (InvOf (Of v.first v.its.begun)) ≡ Some i) (inv : ℕ) where
     abbrev p : ℕ
     p = v.first
 
@@ -47,7 +47,7 @@ module _ (object : Sequential ℕ ℕ ℕ) (row : ℕ) where
     abbrev pub later : WorldOf ℕ ℕ ℕ
     later = world_after_call w p inv
 
-    before : IsLocal w is.owner id p v
+    before : IsLocal w p v.its
     before = own_local object row w s is id v at single
 
     abbrev words' : List ℕ
@@ -74,7 +74,7 @@ module _ (object : Sequential ℕ ℕ ℕ) (row : ℕ) where
     begun_is = ap (nat_lt (w.begun p)) (set_at_same w.begun p (w.begun p + 1)) ∙ elim (lt_cases (w.begun p) (w.begun p + 1)) [ inl a ↦ a.1 | inr a ↦ absurd (let h = a.0 in omega arith) ]
 
     elsewhere : (x : Place) → x ≢ InvOf mine → memory_of w.n row words' later.begun x ≡ was x
-    elsewhere x apart = by_place x apart (set_elsewhere w.n row s.words is.wide (InvOf mine) i word_is inv x apart) where
+    elsewhere x apart = by_place x apart (set_elsewhere w.n row s.words is.words.wide (InvOf mine) i word_is inv x apart) where
       by_place : (x : Place) → x ≢ InvOf mine → word_at w.n row words' x ≡ word_at w.n row s.words x → memory_of w.n row words' later.begun x ≡ was x
       by_place (Announced q) a e = ap (content_of w.n (Announced q)) e
       by_place (HeadOf q) a e = ap (content_of w.n (HeadOf q)) e
@@ -87,7 +87,7 @@ module _ (object : Sequential ℕ ℕ ℕ) (row : ℕ) where
       by_place (BeforeOf y) a e = ap (content_of w.n (BeforeOf y)) e
 
     here : memory_of w.n row words' later.begun (InvOf mine) ≡ Invocation (Some inv)
-    here = ap (λ b. Invocation (cond b (Some (word_at w.n row words' (InvOf mine))) None)) begun_is ∙ ap (λ u. Invocation (Some u)) (set_here w.n row s.words is.wide (InvOf mine) i word_is inv)
+    here = ap (λ b. Invocation (cond b (Some (word_at w.n row words' (InvOf mine))) None)) begun_is ∙ ap (λ u. Invocation (Some u)) (set_here w.n row s.words is.words.wide (InvOf mine) i word_is inv)
 
     shows : memory_of w.n row words' later.begun ≡ memory_with was (InvOf mine) (Invocation (Some inv))
     shows = λ k x. at_place x k where
@@ -98,7 +98,7 @@ module _ (object : Sequential ℕ ℕ ℕ) (row : ℕ) where
         by_test false e = elsewhere x (place_eq_false x (InvOf mine) e)
 
     memory_is : later.memory ≡ memory_of w.n row words' later.begun
-    memory_is = ap (λ m. memory_with m (InvOf mine) (Invocation (Some inv))) is.memory ∙ sym shows
+    memory_is = ap (λ m. memory_with m (InvOf mine) (Invocation (Some inv))) is.words.memory ∙ sym shows
 
     none : w.call p ≡ None
     none = before.call ∙ idle
@@ -109,22 +109,22 @@ module _ (object : Sequential ℕ ℕ ℕ) (row : ℕ) where
     told_inv : inv_of later.memory mine ≡ Some inv
     told_inv = ap (λ m. inv_of m mine) memory_is ∙ ap invocation_in here
 
-    tells : IsLocal later is.owner id p (begun_by v inv)
+    tells : IsLocal later p (begun_by v inv).its
     tells = record {
       inside = before.inside;
-      seat = before.seat;
       call = set_at_same w.call p _ ∙ ap (λ k. Some (record { mine = Of p k; stage = Announce })) before.begun;
       begun = set_at_same w.begun p (w.begun p + 1) ∙ ap (λ k. k + 1) before.begun;
       steps = set_at_same w.steps p 0;
       turns = set_at_same w.turns p 0;
       underway = (subst (λ k. inv_of later.memory (Of p k) ≡ Some inv) before.begun told_inv, tt);
-      counted = (let was : v.begun ≡ length v.own + 0 = subst (λ o. v.begun ≡ length v.own + pending_count o) idle before.counted in omega arith);
+      counted = (let was : v.its.begun ≡ length v.its.own + 0 = subst (λ o. v.its.begun ≡ length v.its.own + pending_count o) idle before.counted in omega arith);
       own = λ k call e. HasReturned-grows w.memory later.memory grows (Of p k) call.0 call.1 (before.own k call e);
+      number = before.number ∙ sym (last_number-grows w.memory later.memory grows p v.its.own before.own);
     }
 
     begun_kept : IsShown object row later (record { words = words'; homes = s.homes; views = slice_set s.views id (record { known = begun_by v inv }) })
     begun_kept =
-        let told = is.seats id (record { known = v }) at in
+        let told = is.seats.each id (record { known = v }) at in
         keeps_rule object row w s is id v at single words' later (length-set s.words i inv)
         (record {
           n = refl;
@@ -135,7 +135,7 @@ module _ (object : Sequential ℕ ℕ ℕ) (row : ℕ) where
         })
         grows memory_is (begun_by v inv) (told.processes (let one = single in omega arith)) (told.calls (let one = single in omega arith)) refl single refl tells
         (subst (λ k. k ≤ row) (sym (set_at_same w.begun p (w.begun p + 1))) (let e = before.begun in omega arith))
-        is.fits
+        is.words.fits
         (HelpingInvariant-begun object w p inv before.inside none is.sound)
         (CountsSteps-world_after object w (Call p inv) (before.inside, none) (is.sound.0, is.sound.1, is.sound.2) is.counts)
 
@@ -143,14 +143,14 @@ module _ (object : Sequential ℕ ℕ ℕ) (row : ℕ) where
     begun_leads = record {
       shown = begun_kept;
       run = λ n events run.
-          run_begins object n row w s is events run id v at single idle inv (record { mine = Of p v.begun; stage = Announce }) (begun_by v inv) refl single refl refl refl refl refl refl;
+          run_begins object n row w s is events run id v at single idle inv (record { mine = Of p v.its.begun; stage = Announce }) (begun_by v inv) refl single refl refl refl refl refl;
     }
 
-  pub begins : (n slots id i : ℕ) (st : Step ℕ) (me : Me ℕ View) (inv : ℕ) → me.0.known.count ≡ 1 → me.0.known.call ≡ None → me.0.known.begun < row
-      → word_of n row (InvOf (Of me.0.known.first me.0.known.begun)) ≡ Some i
+  pub begins : (n slots id i : ℕ) (st : Step ℕ) (me : Me ℕ View) (inv : ℕ) → me.0.known.count ≡ 1 → me.0.known.its.call ≡ None → me.0.known.its.begun < row
+      → word_of n row (InvOf (Of me.0.known.first me.0.known.its.begun)) ≡ Some i
       → Allows (ShowsRun object n row) slots id me i (λ x. inv) (λ found me'. HasBegun st me inv me')
   begins n slots id i st me inv single idle room word s shown deep at small =
-      let word_w : word_of shown.0.n row (InvOf (Of me.0.known.first me.0.known.begun)) ≡ Some i = subst (λ k. word_of k row (InvOf (Of me.0.known.first me.0.known.begun)) ≡ Some i) (sym shown.1) word in (
+      let word_w : word_of shown.0.n row (InvOf (Of me.0.known.first me.0.known.its.begun)) ≡ Some i = subst (λ k. word_of k row (InvOf (Of me.0.known.first me.0.known.its.begun)) ≡ Some i) (sym shown.1) word in (
         record { known = begun_by me.0.known inv },
         keeps,
         tt,

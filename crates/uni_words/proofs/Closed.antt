@@ -1,5 +1,5 @@
 -- What closing tells, in the words of the log.
-use Rattle.std.proofs.Common.{All, ◌≡◌, ◌∙◌, ℕ, List, ◌++◌, append-nil, length, None, map, sym, ap, subst, arith, inl, inr, ◌≤◌, slice_get, take, Contains, Some}
+use Rattle.std.proofs.Common.{All, ◌≡◌, ◌∙◌, ℕ, List, length, None, map, sym, ap, subst, arith, inl, inr, ◌≤◌, slice_get, take, Contains, Some}
 use Rattle.atomic_table.specs.Table.{State, Final, Seen}
 use Rattle.seq_object.specs.Sequential.{Sequential}
 use Rattle.seq_object.specs.History.{IsLegal}
@@ -12,20 +12,21 @@ use Rattle.uni_model.proofs.Ordered.{KeepsRealTime-holds}
 use Rattle.uni_model.proofs.Responses.{LogsResponses-holds}
 use Rattle.uni_model.proofs.Universal.{RunIsUniversal-holds}
 use Rattle.uni_model.specs.ProcessCalls.{ProcessCalls, acts_by, sequential_acts}
-use Rattle.uni_words.specs.Log.{AreAnswered, AreCallsOf, AreCallCells, IsChained, IsInOrder, IsLogged, told_memory, log_of, calls_by, replied}
+use Rattle.uni_words.specs.Log.{AreAnswered, AreCallsOf, AreCallCells, HasNumber, IsChained, IsInOrder, IsLogged, told_memory, log_of, calls_by, replied}
 use Rattle.uni_words.specs.Rule.{Rule}
 use Rattle.uni_words.specs.Run.{HasSeen, IsLogOfRun, IsLogOfSeenRun, opened, run_history}
 use Rattle.uni_words.specs.Seats.{calls_in_view}
-use Rattle.uni_words.specs.Shown.{HasReturned, IsShown, LeadsTo, pending_acts}
-use Rattle.uni_words.specs.View.{Seen as SeenCalls}
+use Rattle.uni_words.specs.Shown.{HasReturned, IsShown, LeadsTo}
+use Rattle.uni_words.specs.View.{Seen as SeenCalls, own_of}
 use Rattle.uni_words.specs.declared.rule.Setup.{Setup}
 use Rattle.uni_words.specs.declared.view.View.{View}
-use Rattle.uni_words.proofs.Accounted.{All-each}
 use Rattle.uni_words.proofs.Closing.{calls_inside, log_of_world, shows_chain, call_cells, legal_log, answered_log}
-use Rattle.uni_words.proofs.Joining.{first_or, ended_local}
+use Rattle.uni_words.proofs.Joining.{ended_local}
+use Rattle.uni_words.proofs.Rising.{last_numbered}
+use Rattle.uni_words.proofs.Views.{All-each, first_or}
 use Rattle.uni_words.proofs.OwnCalls.{own_is}
 use Rattle.uni_words.proofs.Ordering.{in_order}
-use Rattle.uni_words.proofs.Running.{joined_is_log}
+use Rattle.uni_words.proofs.Running.{idle_acts, joined_is_log}
 
 -- what holds of the last state's world and words holds of the words that are left
 left : (n : ℕ) (words : List ℕ) (w : WorldOf ℕ ℕ ℕ) (s : State ℕ View) → w.n ≡ n → s.words ≡ words
@@ -63,18 +64,18 @@ module _ {O : Type 0} (meaning : O → Sequential ℕ ℕ ℕ) (told setup : Set
   closed_answered = left setup.n words w last.0 last.1.0.1 last.2 (λ n ws. AreAnswered (log_of n setup.k ws)) (answered_log (meaning setup.object) setup.k w last.0 is)
 
   -- the seat's process and those that it took in have no call pending, and their calls have returned
-  ended : view.known.call ≡ None → 1 ≤ view.known.count → (c : ProcessCalls ℕ ℕ) → Contains (calls_in_view view) c
+  ended : view.known.its.call ≡ None → 1 ≤ view.known.count → (c : ProcessCalls ℕ ℕ) → Contains (calls_in_view view) c
       → (w.begun c.process ≡ length c.calls) × ((j : ℕ) (a : ℕ × ℕ) → slice_get c.calls j ≡ Some a → HasReturned w.memory (Of c.process j) a.0 a.1)
   ended idle any c has = elim (first_or _ _ c has) [
     | inl here ↦
-        let local = (is.seats id view last.1.1).each view.known.first (omega arith) (omega (arith, any)) in
+        let local = (is.seats.each id view last.1.1).each view.known.first (omega arith) (omega (arith, any)) in
         subst (λ (k : ProcessCalls ℕ ℕ). (w.begun k.process ≡ length k.calls) × ((j : ℕ) (a : ℕ × ℕ) → slice_get k.calls j ≡ Some a → HasReturned w.memory (Of k.process j) a.0 a.1)) here
-        (ended_local w is.owner id view.known.first view.known local idle, local.own)
-    | inr taken ↦ let its = ((is.seats id view last.1.1).taken c taken).0 in (its.begun, its.own)
+        (ended_local w view.known.first view.known.its local.1 idle, local.1.own)
+    | inr taken ↦ let its = ((is.seats.each id view last.1.1).taken c taken).1 in (its.begun, its.own)
   ]
 
   -- so their calls in the log are these
-  closed_calls : view.known.count ≡ 1 → view.known.call ≡ None → (c : ProcessCalls ℕ ℕ) → Contains (calls_in_view view) c → calls_by c.process (log_of setup.n setup.k words) ≡ map replied c.calls
+  closed_calls : view.known.count ≡ 1 → view.known.its.call ≡ None → (c : ProcessCalls ℕ ℕ) → Contains (calls_in_view view) c → calls_by c.process (log_of setup.n setup.k words) ≡ map replied c.calls
   closed_calls single idle c has =
       let its = ended idle (let one = single in omega arith) c has in
       left setup.n words w last.0 last.1.0.1 last.2 (λ n ws. calls_by c.process (log_of n setup.k ws) ≡ map replied c.calls)
@@ -97,7 +98,7 @@ module _ {O : Type 0} (meaning : O → Sequential ℕ ℕ ℕ) (told setup : Set
   responses = subst (λ l. HoldsResponses l (run_history object setup.n events)) joined (LogsResponses-holds object setup.n object.initial 1 events (omega arith) run.accepted)
 
   -- each is numbered as in the run's history
-  pub closed_logged : view.known.count ≡ 1 → view.known.call ≡ None → (c : ProcessCalls ℕ ℕ) → Contains (calls_in_view view) c → IsLogged (log_of setup.n setup.k words) c
+  pub closed_logged : view.known.count ≡ 1 → view.known.its.call ≡ None → (c : ProcessCalls ℕ ℕ) → Contains (calls_in_view view) c → IsLogged (log_of setup.n setup.k words) c
   closed_logged single idle c has = record {
     calls = closed_calls single idle c has;
     numbered = λ place e at mine. subst (λ p. e.call.nth ≡ calls_among p (take place (log_of setup.n setup.k words))) mine (responses.numbered place e at);
@@ -108,7 +109,7 @@ module _ {O : Type 0} (meaning : O → Sequential ℕ ℕ ℕ) (told setup : Set
   was_seen t has = run.seen id view last.1.1 t has
 
   -- the run that the rule carries
-  pub closed_seen : view.known.count ≡ 1 → view.known.call ≡ None → IsLogOfSeenRun object setup.n (log_of setup.n setup.k words) (calls_in_view view) view.known.seen
+  pub closed_seen : view.known.count ≡ 1 → view.known.its.call ≡ None → IsLogOfSeenRun object setup.n (log_of setup.n setup.k words) (calls_in_view view) view.known.seen
   closed_seen single idle = (
     record {
       events = events;
@@ -119,17 +120,20 @@ module _ {O : Type 0} (meaning : O → Sequential ℕ ℕ ℕ) (told setup : Set
       joined = joined;
       acts = λ c has. elim (first_or _ _ c has) [
         | inl here ↦ subst (λ (k : ProcessCalls ℕ ℕ). acts_by k.process (run_history object setup.n events) ≡ sequential_acts k.process 0 k.calls) here
-            (run.acts id view last.1.1 view.known.first (omega arith, (let one = single in omega arith))
-            ∙ (ap (λ o. sequential_acts view.known.first 0 view.known.own ++ pending_acts view.known.first (length view.known.own) view.known.inv o) idle
-            ∙ append-nil (sequential_acts view.known.first 0 view.known.own)))
+            (idle_acts object setup.n events w last.0.views run id view last.1.1 (let one = single in omega arith) idle)
         | inr taken ↦ run.taken id view last.1.1 c taken
       ];
     },
     All-each (HasSeen object setup.n events) view.known.seen was_seen,
   )
 
-  pub closed_run : view.known.count ≡ 1 → view.known.call ≡ None → IsLogOfRun object setup.n (log_of setup.n setup.k words) (calls_in_view view)
+  pub closed_run : view.known.count ≡ 1 → view.known.its.call ≡ None → IsLogOfRun object setup.n (log_of setup.n setup.k words) (calls_in_view view)
   closed_run single idle = (closed_seen single idle).0
 
   pub closed_order : All (IsInOrder (log_of setup.n setup.k words)) view.known.seen
   closed_order = All-each (IsInOrder (log_of setup.n setup.k words)) view.known.seen (λ t has. subst (λ l. IsInOrder l t) joined (in_order object setup.n events run.accepted t (was_seen t has)))
+
+  -- the seat's latest call has the number that the seat knows
+  pub closed_number : view.known.count ≡ 1 → HasNumber (log_of setup.n setup.k words) (own_of view.known) view.known.its.number
+  closed_number single = left setup.n words w last.0 last.1.0.1 last.2 (λ n ws. HasNumber (log_of n setup.k ws) (own_of view.known) view.known.its.number)
+      (last_numbered object setup.k w last.0 is id view last.1.1 single)

@@ -8,7 +8,8 @@ use Rattle.uni_model.proofs.Written.{number_cases, lt_cases}
 use Rattle.uni_words.specs.Compare.{invocations_of, Agrees, IsRight, IsFirstWrong, IsFirstOther, DiffersFirstAt}
 use Rattle.uni_words.specs.Log.{calls_by, entry_shown, replied}
 use Rattle.uni_words.specs.declared.read.WordEntry.{WordEntry}
-use Rattle.uni_words.proofs.OwnCalls.{drop-here, drop-past, there_below}
+use Rattle.uni_words.proofs.OwnCalls.{drop-here, drop-past}
+use Rattle.uni_words.proofs.Underway.{there_below}
 
 pub slice_get-map : {A B : Type 0} (f : A → B) (l : List A) (i : ℕ) (a : A) → slice_get l i ≡ Some a → slice_get (map f l) i ≡ Some (f a)
 slice_get-map f [] i a e = absurd (let g : None ≡ Some a = e in cc)

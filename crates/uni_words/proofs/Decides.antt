@@ -38,7 +38,7 @@ exchanged_is (Of q k) apart state reply small (suc found) = exchanged (suc found
 
 module _ (object : Sequential ℕ ℕ ℕ) (row : ℕ) where
   pub decides : (n slots id i : ℕ) (st : Step ℕ) (me : Me ℕ View) → me.0.known.count ≡ 1 → (mine c d : Name) (c_seq inv state : ℕ)
-      → me.0.known.call ≡ Some (record { mine = mine; stage = DecideNew c c_seq d }) → me.0.known.read ≡ Applied inv state
+      → me.0.known.its.call ≡ Some (record { mine = mine; stage = DecideNew c c_seq d }) → me.0.known.its.read ≡ Applied inv state
       → object.next state inv < 2 ^ 31 → object.answer state inv < 2 ^ 31 → word_of n row (NewOf d) ≡ Some i
       → Allows (ShowsRun object n row) slots id me i (λ found. either (eqb found 0) (settled_word (object.next state inv) (object.answer state inv)) found) (λ found me'. Moved st me found me')
   decides n slots id i st me single mine c d c_seq inv state pending read next_fits answer_fits word_n s shown deep at small =
@@ -64,9 +64,9 @@ module _ (object : Sequential ℕ ℕ ℕ) (row : ℕ) where
       let after : WorldOf ℕ ℕ ℕ = later object row w s is id v at single call pending in
       let fits : (y : Name) (u : ℕ × Option ℕ) → new_of after.memory y ≡ Some u → u.0 < 2 ^ 31
       = (λ y u e. elim (new_of-memory_with w.memory d y value) [
-        | inl here ↦ decision_fits found d (object.next state inv) (object.answer state inv) next_fits (is.fits d) (ap settled_in (sym is_there)) u
+        | inl here ↦ decision_fits found d (object.next state inv) (object.answer state inv) next_fits (is.words.fits d) (ap settled_in (sym is_there)) u
             (sym (exchanged_is d apart (object.next state inv) (object.answer state inv) answer_fits found) ∙ value_is ∙ sym here.1 ∙ e)
-        | inr other ↦ is.fits y u (sym other.1 ∙ e)
+        | inr other ↦ is.words.fits y u (sym other.1 ∙ e)
       ]) in
       let on : (k : Stage) × (stage_found v.n v.first mine stage found ≡ Some k) = (WriteBefore c c_seq d, refl) in
       let leads = moved_leads object row w s is id v at single call pending i word on x writes fits in
@@ -85,7 +85,7 @@ module _ (object : Sequential ℕ ℕ ℕ) (row : ℕ) where
 
   -- the same, of the numbers that the code has
   pub decides_word : (n slots id i : ℕ) (st : Step ℕ) (me : Me ℕ View) → me.0.known.count ≡ 1 → (mine c d : Name) (c_seq inv state new_state reply : ℕ)
-      → me.0.known.call ≡ Some (record { mine = mine; stage = DecideNew c c_seq d }) → me.0.known.read ≡ Applied inv state
+      → me.0.known.its.call ≡ Some (record { mine = mine; stage = DecideNew c c_seq d }) → me.0.known.its.read ≡ Applied inv state
       → new_state ≡ object.next state inv → new_state < 2 ^ 31 → reply ≡ object.answer state inv → reply < 2 ^ 31 → word_of n row (NewOf d) ≡ Some i
       → Allows (ShowsRun object n row) slots id me i (λ found. either (eqb found 0) (1 + 2 * reply + 4294967296 * new_state) found) (λ found me'. Moved st me found me')
   decides_word n slots id i st me single mine c d c_seq inv state new_state reply pending read state_is state_fits reply_is reply_fits word =

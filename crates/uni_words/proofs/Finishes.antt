@@ -7,7 +7,7 @@ use Rattle.atomic_table.specs.Table.{State, Me, keeps, Allows}
 use Rattle.atomic_table.specs.Table as table
 use Rattle.seq_object.specs.Sequential.{Sequential}
 use Rattle.uni_model.specs.Indices.{name_of}
-use Rattle.uni_model.specs.Places.{Name, Content, memory_with}
+use Rattle.uni_model.specs.Places.{Name, Content, memory_with, seq_of}
 use Rattle.uni_model.specs.Places.Name.{Of}
 use Rattle.uni_model.specs.Places.Place.{HeadOf, NewOf}
 use Rattle.uni_model.specs.Places.Content.{CellName}
@@ -20,13 +20,13 @@ use Rattle.uni_model.specs.Worlds.Event.{Step}
 use Rattle.uni_model.proofs.Simulation.{set_at_same}
 use Rattle.uni_model.proofs.Written.{lt_cases, written_same}
 use Rattle.uni_words.specs.Words.{reply_in, content_of, word_of, memory_of}
-use Rattle.uni_words.specs.View.{Known, finished_by}
+use Rattle.uni_words.specs.View.{Known, finished_by, number_of}
 use Rattle.uni_words.specs.View.Reading.{Reply}
 use Rattle.uni_words.specs.Seats.{HasFinished, TellsReply}
 use Rattle.uni_words.specs.Laws.{Leads, after_word}
-use Rattle.uni_words.specs.Shown.{HasReturned, HasRead, IsLocal, IsShown, ShowsRun, pending_count}
+use Rattle.uni_words.specs.Shown.{HasReturned, HasRead, IsLocal, IsShown, ShowsRun, last_number, pending_count}
 use Rattle.uni_words.specs.declared.view.View.{View}
-use Rattle.uni_words.proofs.Underway.{HasReturned-grows}
+use Rattle.uni_words.proofs.Underway.{HasReturned-grows, there_below}
 use Rattle.uni_words.proofs.Happens.{own_local, effect, later, memory_grows, memory_set, kept}
 use Rattle.uni_words.proofs.Running.{led, run_ends}
 use Rattle.uni_words.proofs.Looks.{stands, underway, reply_told, looks_reply}
@@ -55,7 +55,7 @@ module _ (object : Sequential ℕ ℕ ℕ) (row : ℕ) where
   -- the words afterwards show the memory after the last step
   module _ (w : WorldOf ℕ ℕ ℕ) (s : State ℕ View) (is : IsShown object row w s)
       (id : ℕ) (v : Known) (at : get_elem? s.views id ≡ some (record { known = v })) (single : v.count ≡ 1) (mine : Name) (c_seq mine_seq : ℕ)
-      (pending : v.call ≡ Some (record { mine = mine; stage = Finish c_seq mine_seq })) where
+      (pending : v.its.call ≡ Some (record { mine = mine; stage = Finish c_seq mine_seq })) where
     abbrev call : Pending
     call = record { mine = mine; stage = Finish c_seq mine_seq }
 
@@ -65,62 +65,85 @@ module _ (object : Sequential ℕ ℕ ℕ) (row : ℕ) where
     abbrev pub ended : WorldOf ℕ ℕ ℕ
     ended = later object row w s is id v at single call pending
 
-    before : IsLocal w is.owner id v.first v
+    before : IsLocal w v.first v.its
     before = own_local object row w s is id v at single
 
-    counted : v.begun ≡ length v.own + 1
-    counted = subst (λ o. v.begun ≡ length v.own + pending_count o) pending before.counted
+    counted : v.its.begun ≡ length v.its.own + 1
+    counted = subst (λ o. v.its.begun ≡ length v.its.own + pending_count o) pending before.counted
 
     -- the call that returns is the next one of the seat's own
-    mine_is : mine ≡ Of v.first (length v.own)
+    mine_is : mine ≡ Of v.first (length v.its.own)
     mine_is =
         let its = is.sound.2.calls.mine v.first call (before.call ∙ pending) in
-        let same : its.0 ≡ length v.own = (let a = its.2 in let b = before.begun in let d = counted in omega arith) in
+        let same : its.0 ≡ length v.its.own = (let a = its.2 in let b = before.begun in let d = counted in omega arith) in
         its.1 ∙ ap (Of v.first) same
+
+    -- its number is above that of the call before
+    pub rises : v.its.number < number_of v.its.call
+    rises =
+        let h = stands object row w s is id v at single mine (Finish c_seq mine_seq) pending in
+        subst (λ o. v.its.number < number_of o) (sym pending) (subst (λ k. k < mine_seq) (sym before.number) (by_count h.1 (subst (λ t. 1 ≤ t) (sym h.2) h.1) h.2 (length v.its.own) refl)) where
+          by_count : 1 ≤ mine_seq → 1 ≤ seq_of w.memory mine → seq_of w.memory mine ≡ mine_seq → (k : ℕ) → length v.its.own ≡ k → last_number w.memory v.first k < mine_seq
+          by_count some_number threaded is_number zero e = omega (arith, some_number)
+          by_count some_number threaded is_number (suc k) e =
+              let c = there_below v.its.own k (omega (arith, e)) in
+              let early = (before.own k c.0 c.1).threaded in
+              let here : mine ≡ Of v.first (suc k) = mine_is ∙ ap (Of v.first) e in
+              let late : 1 ≤ seq_of w.memory (Of v.first (suc k)) = subst (λ x. 1 ≤ seq_of w.memory x) here threaded in
+              let number : seq_of w.memory (Of v.first (suc k)) ≡ mine_seq = ap (seq_of w.memory) (sym here) ∙ is_number in
+              let early_num = is.sound.2.numbered.seq (Of v.first k) early in
+              let late_num = is.sound.2.numbered.seq (Of v.first (suc k)) late in
+              let order = is.sound.2.calls.order v.first k (suc k) (omega arith) (omega arith) (omega arith) in
+              omega arith
 
     module _ (words' : List ℕ) (long : length words' ≡ length s.words) (memory_is : ended.memory ≡ memory_of w.n row words' w.begun)
         (stores reply : ℕ) (replied : response_in w.memory mine ≡ Some reply) where
       grows : Grows w.memory ended.memory
       grows = memory_grows object row w s is id v at single call pending
 
-      returned : HasReturned ended.memory (Of v.first (length v.own)) v.inv reply
+      returned : HasReturned ended.memory (Of v.first (length v.its.own)) v.its.inv reply
       returned =
           let h = stands object row w s is id v at single mine (Finish c_seq mine_seq) pending in
           let under = underway object row w s is id v at single mine (Finish c_seq mine_seq) pending in
-          let was : HasReturned w.memory mine v.inv reply = record { inv_is = under.0; threaded = subst (λ t. 1 ≤ t) (sym h.2) h.1; reply_is = replied } in
-          subst (λ x. HasReturned ended.memory x v.inv reply) mine_is (HasReturned-grows w.memory ended.memory grows mine v.inv reply was)
+          let was : HasReturned w.memory mine v.its.inv reply = record { inv_is = under.0; threaded = subst (λ t. 1 ≤ t) (sym h.2) h.1; reply_is = replied } in
+          subst (λ x. HasReturned ended.memory x v.its.inv reply) mine_is (HasReturned-grows w.memory ended.memory grows mine v.its.inv reply was)
 
-      tells : IsLocal ended is.owner id v.first (finished_by v stores reply)
+      tells : IsLocal ended v.first (finished_by v stores reply).its
       tells = record {
         inside = before.inside;
-        seat = before.seat;
         call = set_at_same w.call v.first None;
         begun = before.begun;
         steps = set_at_same w.steps v.first (w.steps v.first + 1) ∙ ap (λ k. k + 1) before.steps;
         turns = set_at_same w.turns v.first (w.turns v.first + 0) ∙ (let t = before.turns in omega arith);
         underway = tt;
-        counted = (let l : length (v.own ++ (v.inv, reply) ∷ []) ≡ length v.own + 1 = length-append v.own ((v.inv, reply) ∷ []) in let d = counted in omega arith);
-        own = λ k c e. elim (last_of_list v.own (v.inv, reply) k c e) [
+        counted = (let l : length (v.its.own ++ (v.its.inv, reply) ∷ []) ≡ length v.its.own + 1 = length-append v.its.own ((v.its.inv, reply) ∷ []) in let d = counted in omega arith);
+        own = λ k c e. elim (last_of_list v.its.own (v.its.inv, reply) k c e) [
           | inl old ↦ HasReturned-grows w.memory ended.memory grows (Of v.first k) c.0 c.1 (before.own k c old)
-          | inr new ↦ subst (λ (y : ℕ × ℕ). HasReturned ended.memory (Of v.first k) y.0 y.1) new.1 (subst (λ j. HasReturned ended.memory (Of v.first j) v.inv reply) (sym new.0) returned)
+          | inr new ↦ subst (λ (y : ℕ × ℕ). HasReturned ended.memory (Of v.first k) y.0 y.1) new.1 (subst (λ j. HasReturned ended.memory (Of v.first j) v.its.inv reply) (sym new.0) returned)
         ];
+        number =
+            let h = stands object row w s is id v at single mine (Finish c_seq mine_seq) pending in
+            let is_last : length v.its.own + 1 ≡ length (v.its.own ++ (v.its.inv, reply) ∷ []) = sym (length-append v.its.own ((v.its.inv, reply) ∷ [])) in
+            let next : suc (length v.its.own) ≡ length (v.its.own ++ (v.its.inv, reply) ∷ []) = omega (arith, is_last) in
+            let was : 1 ≤ seq_of w.memory (Of v.first (length v.its.own)) = subst (λ x. 1 ≤ seq_of w.memory x) mine_is (subst (λ t. 1 ≤ t) (sym h.2) h.1) in
+            ap number_of pending ∙ (sym h.2 ∙ (ap (seq_of w.memory) mine_is ∙ (sym (grows.seq (Of v.first (length v.its.own)) was) ∙ ap (last_number ended.memory v.first) next)));
       }
 
       pub finished_leads : Leads object row w s (Step v.first ∷ []) ended (record { words = words'; homes = s.homes; views = slice_set s.views id (record { known = finished_by v stores reply }) })
       finished_leads = record {
         shown = kept object row w s is id v at single call pending words' long memory_is (finished_by v stores reply)
-            ((is.seats id (record { known = v }) at).processes (let one = single in omega arith)) ((is.seats id (record { known = v }) at).calls (let one = single in omega arith)) refl single refl tells is.fits;
+            ((is.seats.each id (record { known = v }) at).processes (let one = single in omega arith)) ((is.seats.each id (record { known = v }) at).calls (let one = single in omega arith)) refl single refl tells is.words.fits;
         run = λ n events run.
             run_ends object n row w s is events run id v at single call pending reply replied mine_is (underway object row w s is id v at single mine (Finish c_seq mine_seq) pending).0
-            (finished_by v stores reply) refl single refl refl refl refl refl;
+            (finished_by v stores reply) refl single refl refl refl refl;
       }
 
     -- the reply that was read
-    pub reply_had : (reply : ℕ) → v.read ≡ Reply reply → response_in w.memory mine ≡ Some reply
+    pub reply_had : (reply : ℕ) → v.its.read ≡ Reply reply → response_in w.memory mine ≡ Some reply
     reply_had reply read = subst (λ r. HasRead w.memory mine (Finish c_seq mine_seq) r) read (underway object row w s is id v at single mine (Finish c_seq mine_seq) pending).1
 
     -- by a store of the head, after the reply was read
-    pub stored_leads : c_seq < mine_seq → (i x : ℕ) → word_of w.n row (HeadOf v.first) ≡ Some i → name_of w.n x ≡ mine → (reply : ℕ) → v.read ≡ Reply reply
+    pub stored_leads : c_seq < mine_seq → (i x : ℕ) → word_of w.n row (HeadOf v.first) ≡ Some i → name_of w.n x ≡ mine → (reply : ℕ) → v.its.read ≡ Reply reply
         → Leads object row w s (Step v.first ∷ []) ended (after_word s i x id (finished_by v 1 reply))
     stored_leads less i x word named reply read =
         let writes : content_of w.n (HeadOf v.first) x ≡ last_content
@@ -136,12 +159,12 @@ module _ (object : Sequential ℕ ℕ ℕ) (row : ℕ) where
         = elim (lt_cases c_seq mine_seq) [ inl a ↦ absurd (let h = a.0 in omega arith) | inr a ↦ rw a.1 refl ] in
         let same : slice_set s.words i found ≡ s.words = set-get_or s.words i 0 in
         let memory_is : ended.memory ≡ memory_of w.n row (slice_set s.words i found) w.begun
-        = ap (memory_with w.memory (HeadOf v.first)) stays ∙ (written_same w.memory (HeadOf v.first) ∙ (is.memory ∙ ap (λ ws. memory_of w.n row ws w.begun) (sym same))) in
+        = ap (memory_with w.memory (HeadOf v.first)) stays ∙ (written_same w.memory (HeadOf v.first) ∙ (is.words.memory ∙ ap (λ ws. memory_of w.n row ws w.begun) (sym same))) in
         finished_leads (slice_set s.words i found) (length-set s.words i found) memory_is 0 (reply_in found) (reply_told object row w s is id v at single mine c_seq mine_seq pending i word)
 
   pub ends : (n slots id i : ℕ) (me : Me ℕ View) → me.0.known.count ≡ 1 → (mine c_seq mine_seq reply : ℕ)
-      → me.0.known.call ≡ Some (record { mine = name_of n mine; stage = Finish c_seq mine_seq }) → me.0.known.read ≡ Reply reply → c_seq < mine_seq → word_of n row (HeadOf me.0.known.first) ≡ Some i
-      → Allows (ShowsRun object n row) slots id me i (λ x. mine) (λ found me'. HasFinished me 1 reply me')
+      → me.0.known.its.call ≡ Some (record { mine = name_of n mine; stage = Finish c_seq mine_seq }) → me.0.known.its.read ≡ Reply reply → c_seq < mine_seq → word_of n row (HeadOf me.0.known.first) ≡ Some i
+      → Allows (ShowsRun object n row) slots id me i (λ x. mine) (λ found me'. (other : ℕ) → me.0.known.its.read ≡ Reply other → HasFinished me 1 other me')
   ends n slots id i me single mine c_seq mine_seq reply pending read less word_n s shown deep at small =
       let v : Known = me.0.known in
       let w : WorldOf ℕ ℕ ℕ = shown.0 in
@@ -150,11 +173,12 @@ module _ (object : Sequential ℕ ℕ ℕ) (row : ℕ) where
         keeps,
         tt,
         led n shown.1 shown.3 (stored_leads w s shown.2 id v at single (name_of n mine) c_seq mine_seq pending less i mine word (ap (λ k. name_of k mine) shown.1) reply read),
-        refl,
+        λ other is. (let one : reply ≡ other = (let f = sym read ∙ is in cc) in
+            subst (λ r. HasFinished me 1 r (record { known = finished_by v 1 reply }, me.1)) one (refl, rises w s shown.2 id v at single (name_of n mine) c_seq mine_seq pending)),
       )
 
   pub told_reply : (n slots id i : ℕ) (st : table.Step ℕ) (me : Me ℕ View) → me.0.known.count ≡ 1 → (mine : Name) (c_seq mine_seq : ℕ)
-      → me.0.known.call ≡ Some (record { mine = mine; stage = Finish c_seq mine_seq }) → word_of n row (NewOf mine) ≡ Some i
+      → me.0.known.its.call ≡ Some (record { mine = mine; stage = Finish c_seq mine_seq }) → word_of n row (NewOf mine) ≡ Some i
       → Allows (ShowsRun object n row) slots id me i (λ x. x) (λ found me'. TellsReply st me found me')
   unfolding looks_reply
   told_reply n slots id i st me single mine c_seq mine_seq pending word_n s shown deep at small = elim (lt_cases c_seq mine_seq) [
@@ -168,6 +192,6 @@ module _ (object : Sequential ℕ ℕ ℕ) (row : ℕ) where
           keeps,
           tt,
           led n shown.1 shown.3 (loaded_leads shown.0 s shown.2 id v at single mine c_seq mine_seq pending more.0 i word),
-          λ other c m e. (let same = one_finish mine other c_seq mine_seq c m (sym pending ∙ e) in (λ yes. absurd (let a = same.0 in let b = same.1 in let d = more.0 in omega arith), λ no. refl)),
+          λ other c m e. (let same = one_finish mine other c_seq mine_seq c m (sym pending ∙ e) in (λ yes. absurd (let a = same.0 in let b = same.1 in let d = more.0 in omega arith), λ no. (refl, rises shown.0 s shown.2 id v at single mine c_seq mine_seq pending))),
         )
   ]

@@ -1,7 +1,7 @@
 -- A seat takes in another one.
-use Rattle.std.proofs.Common.{◌≡◌, ◌≢◌, ◌∙◌, ℕ, ◌+◌, ◌<◌, ◌⊎◌, inl, inr, refl, sym, ap, subst, List, [], ◌∷◌, ◌++◌, append-nil, length, Contains, None, arith, ◌==◌, if◌then◌else◌, set}
-use Rattle.std.proofs.lemmas.List.Elements.{Contains-append_cases, Contains-append_left, Contains-append_right, Contains-push_cases}
-use mathlib.Core.Option.{some, some-injective}
+use Rattle.std.proofs.Common.{◌≡◌, ◌≢◌, ◌∙◌, ℕ, ◌+◌, ◌≤◌, inl, inr, refl, sym, subst, List, [], length, Contains, None, arith, ◌==◌, if◌then◌else◌, set}
+use Rattle.std.proofs.lemmas.List.Elements.{Contains-append_cases}
+use mathlib.Core.Option.{some}
 use lib.ListN.{get_elem?}
 use Rattle.atomic_table.specs.Table.{State, Joins}
 use Rattle.atomic_table.proofs.Lists.{at_set, set_else}
@@ -10,33 +10,20 @@ use Rattle.uni_model.specs.Worlds.{WorldOf, Event}
 use Rattle.uni_model.proofs.Written.{number_cases}
 use Rattle.uni_model.specs.ProcessCalls.{ProcessCalls, acts_by, sequential_acts}
 use Rattle.uni_words.specs.Laws.{Leads, after_join}
-use Rattle.uni_words.specs.Run.{run_history, HaveReturned, HasSeen}
-use Rattle.uni_words.specs.View.{Seen, Known}
-use Rattle.uni_words.specs.Seats.{calls_in_view, nobody, took_in}
-use Rattle.uni_words.specs.Shown.{IsLocal, IsTaken, Tells, IsAmong, HasProcess, IsShown, LeadsTo, ShowsRun, acts_in_view, pending_count, pending_acts}
+use Rattle.uni_words.specs.Run.{run_history, HasSeen}
+use Rattle.uni_words.specs.View.{Seen, Process}
+use Rattle.uni_words.specs.Seats.{calls_in_view, logged_in_view, nobody, took_in}
+use Rattle.uni_words.specs.Shown.{IsLocal, IsTaken, Tells, IsAmong, IsShown, LeadsTo, ShowsRun, acts_in_view, pending_count}
 use Rattle.uni_words.specs.declared.view.View.{View}
-use Rattle.uni_words.proofs.Happens.{set_there}
-use Rattle.uni_words.proofs.Running.{led, no_more}
-use Rattle.uni_words.proofs.Views.{Holds-kept, Holds-set}
-
--- an element of a list is its first, or among the others
-pub first_or : {A : Type 0} (x : A) (xs : List A) (c : A) → Contains (x ∷ xs) c → (x ≡ c) ⊎ Contains xs c
-first_or x xs c has = elim (Contains-append_cases (x ∷ []) xs c has) [
-  | inl one ↦ elim (Contains-push_cases [] x c one) [ inl none ↦ absurd (let k = none.1 in omega arith) | inr same ↦ inl same ]
-  | inr more ↦ inr more
-]
-
-pub first_there : {A : Type 0} (x : A) (xs : List A) → Contains (x ∷ xs) x
-first_there x xs = (0, omega arith, refl)
-
-pub later_there : {A : Type 0} (x : A) (xs : List A) (c : A) → Contains xs c → Contains (x ∷ xs) c
-later_there x xs c has = Contains-append_right (x ∷ []) xs c has
+use Rattle.uni_words.proofs.Asking.{sees_now, view_logged}
+use Rattle.uni_words.proofs.Running.{idle_acts, led, no_more}
+use Rattle.uni_words.proofs.Views.{Holds-set, first_or}
 
 -- the calls of a process of which nothing is pending
-pub ended_local : (w : WorldOf ℕ ℕ ℕ) (owner : ℕ → ℕ) (id p : ℕ) (v : Known) → IsLocal w owner id p v → v.call ≡ None → w.begun p ≡ length v.own
-ended_local w owner id p v local idle = local.begun ∙ (let c : v.begun ≡ length v.own + 0 = subst (λ o. v.begun ≡ length v.own + pending_count o) idle local.counted in omega arith)
+pub ended_local : (w : WorldOf ℕ ℕ ℕ) (p : ℕ) (its : Process) → IsLocal w p its → its.call ≡ None → w.begun p ≡ length its.own
+ended_local w p its local idle = local.begun ∙ (let c : its.begun ≡ length its.own + 0 = subst (λ o. its.begun ≡ length its.own + pending_count o) idle local.counted in omega arith)
 
-module _ (object : Sequential ℕ ℕ ℕ) (row id : ℕ) (v : View) (other : ℕ) (x : View) (single : x.known.count ≡ 1) (idle : x.known.call ≡ None) where
+module _ (object : Sequential ℕ ℕ ℕ) (row id : ℕ) (v : View) (some_left : 1 ≤ v.known.count) (own_idle : v.known.its.call ≡ None) (other : ℕ) (x : View) (single : x.known.count ≡ 1) (idle : x.known.its.call ≡ None) where
   module _ (w : WorldOf ℕ ℕ ℕ) (s : State ℕ View) (is : IsShown object row w s) (at : get_elem? s.views id ≡ some v) (apart : other ≡ id → ⊥)
       (there : get_elem? s.views other ≡ some x) where
     abbrev views' : List View
@@ -44,56 +31,40 @@ module _ (object : Sequential ℕ ℕ ℕ) (row id : ℕ) (v : View) (other : �
 
     -- the processes of the other seat go over
     abbrev owner' : ℕ → ℕ
-    owner' q = if is.owner q == other then id else is.owner q
+    owner' q = if is.seats.owner q == other then id else is.seats.owner q
 
-    goes_over : (q : ℕ) → is.owner q ≡ other → owner' q ≡ id
-    goes_over q e = elim (number_cases (is.owner q) other) [ inl same ↦ rw same.1 refl | inr away ↦ absurd (away.0 e) ]
+    goes_over : (q : ℕ) → is.seats.owner q ≡ other → owner' q ≡ id
+    goes_over q e = elim (number_cases (is.seats.owner q) other) [ inl same ↦ rw same.1 refl | inr away ↦ absurd (away.0 e) ]
 
-    stays : (q j : ℕ) → is.owner q ≡ j → j ≢ other → owner' q ≡ j
-    stays q j e away = elim (number_cases (is.owner q) other) [ inl same ↦ absurd (away (sym e ∙ same.0)) | inr off ↦ rw off.1 e ]
+    stays : (q j : ℕ) → is.seats.owner q ≡ j → j ≢ other → owner' q ≡ j
+    stays q j e away = elim (number_cases (is.seats.owner q) other) [ inl same ↦ absurd (away (sym e ∙ same.0)) | inr off ↦ rw off.1 e ]
 
-    told : Tells w is.owner row id v.known
-    told = is.seats id v at
+    told : Tells w is.seats.owner row id v.known
+    told = is.seats.each id v at
 
-    told_other : Tells w is.owner row other x.known
-    told_other = is.seats other x there
+    told_other : Tells w is.seats.owner row other x.known
+    told_other = is.seats.each other x there
 
-    local_other : IsLocal w is.owner other x.known.first x.known
+    local_other : (is.seats.owner x.known.first ≡ other) × IsLocal w x.known.first x.known.its
     local_other = told_other.each x.known.first (omega arith) (omega (arith, single))
 
-    seated_local : (j j' q : ℕ) (u : Known) (taken : List (ProcessCalls ℕ ℕ)) (seen : List Seen) → IsLocal w is.owner j q u → owner' q ≡ j' → IsLocal w owner' j' q (record u { taken = taken; seen = seen })
-    seated_local j j' q u taken seen h e = record {
-      inside = h.inside;
-      seat = e;
-      call = h.call;
-      begun = h.begun;
-      steps = h.steps;
-      turns = h.turns;
-      underway = h.underway;
-      counted = h.counted;
-      own = h.own;
-    }
-
-    seated_taken : (j j' : ℕ) (c : ProcessCalls ℕ ℕ) → IsTaken w is.owner j c → owner' c.process ≡ j' → IsTaken w owner' j' c
-    seated_taken j j' c h e = record { inside = h.inside; seat = e; call = h.call; begun = h.begun; own = h.own }
-
     -- none of the other seat's processes is one of the seat
-    not_among : (q : ℕ) → is.owner q ≡ other → IsAmong q v.known → ⊥
-    not_among q e among = apart (sym e ∙ (told.each q among.0 among.1).seat)
+    not_among : (q : ℕ) → is.seats.owner q ≡ other → IsAmong q v.known → ⊥
+    not_among q e among = apart (sym e ∙ (told.each q among.0 among.1).0)
 
-    now_taken : (c : ProcessCalls ℕ ℕ) → Contains (calls_in_view x) c → IsTaken w owner' id c × (IsAmong c.process v.known → ⊥)
+    now_taken : (c : ProcessCalls ℕ ℕ) → Contains (calls_in_view x) c → (owner' c.process ≡ id) × IsTaken w c × (IsAmong c.process v.known → ⊥)
     now_taken c has = elim (first_or _ _ c has) [
-      | inl here ↦ subst (λ k. IsTaken w owner' id k × (IsAmong k.process v.known → ⊥)) here (
+      | inl here ↦ subst (λ k. (owner' k.process ≡ id) × IsTaken w k × (IsAmong k.process v.known → ⊥)) here (
+        goes_over x.known.first local_other.0,
         record {
-          inside = local_other.inside;
-          seat = goes_over x.known.first local_other.seat;
-          call = local_other.call ∙ idle;
-          begun = ended_local w is.owner other x.known.first x.known local_other idle;
-          own = local_other.own;
+          inside = local_other.1.inside;
+          call = local_other.1.call ∙ idle;
+          begun = ended_local w x.known.first x.known.its local_other.1 idle;
+          own = local_other.1.own;
         },
-        not_among x.known.first local_other.seat,
+        not_among x.known.first local_other.0,
       )
-      | inr taken ↦ let its = (told_other.taken c taken).0 in (seated_taken other id c its (goes_over c.process its.seat), not_among c.process its.seat)
+      | inr taken ↦ let its = told_other.taken c taken in (goes_over c.process its.0, its.1, not_among c.process its.0)
     ]
 
     seats_later : (j : ℕ) (u : View) → get_elem? views' j ≡ some u → Tells w owner' row j u.known
@@ -113,75 +84,26 @@ module _ (object : Sequential ℕ ℕ ℕ) (row id : ℕ) (v : View) (other : �
               processes = told.processes;
               calls = told.calls;
               several = told.several;
-              each = λ q from to. let local = told.each q from to in seated_local id id q v.known (v.known.taken ++ calls_in_view x) (v.known.seen ++ x.known.seen) local (stays q id local.seat (λ same. apart (sym same)));
+              each = λ q from to. let local = told.each q from to in (stays q id local.0 (λ same. apart (sym same)), local.1);
               taken = λ c has. elim (Contains-append_cases v.known.taken (calls_in_view x) c has) [
-                | inl old ↦ let its = told.taken c old in (seated_taken id id c its.0 (stays c.process id its.0.seat (λ same. apart (sym same))), its.1)
+                | inl old ↦ let its = told.taken c old in (stays c.process id its.0 (λ same. apart (sym same)), its.1, its.2)
                 | inr new ↦ now_taken c new
               ];
             }))
         | inr rest ↦
-            let its = is.seats j u rest.1 in
+            let its = is.seats.each j u rest.1 in
             record {
               processes = its.processes;
               calls = its.calls;
               several = its.several;
-              each = λ q from to. let local = its.each q from to in seated_local j j q u.known u.known.taken u.known.seen local (stays q j local.seat left.0);
-              taken = λ c has. let taken = its.taken c has in (seated_taken j j c taken.0 (stays c.process j taken.0.seat left.0), taken.1);
+              each = λ q from to. let local = its.each q from to in (stays q j local.0 left.0, local.1);
+              taken = λ c has. let taken = its.taken c has in (stays c.process j taken.0 left.0, taken.1, taken.2);
             }
       ]
     ]
 
-    mine_there : get_elem? views' id ≡ some (took_in v x)
-    mine_there = set_else (set s.views id (took_in v x)) other id nobody (λ same. apart (sym same)) ∙ set_there s.views id v (took_in v x) at
-
-    seated_later : (q : ℕ) → q < w.n → (u : View) × (get_elem? views' (owner' q) ≡ some u) × HasProcess q u.known
-    seated_later q inside =
-        let was = is.seated q inside in
-        elim (number_cases (is.owner q) other) [
-          | inl over ↦
-              let same : was.0 ≡ x = some-injective _ _ (sym (subst (λ k. get_elem? s.views k ≡ some was.0) over.0 was.1) ∙ there) in
-              let has : HasProcess q x.known = subst (λ (z : View). HasProcess q z.known) same was.2 in (
-                took_in v x,
-                subst (λ k. get_elem? views' k ≡ some (took_in v x)) (sym (goes_over q over.0)) mine_there,
-                inr (elim has [
-                  | inl among ↦ (record { process = x.known.first; calls = x.known.own }, Contains-append_right v.known.taken (calls_in_view x) _ (first_there _ _), omega (arith, single, among.0, among.1))
-                  | inr taken ↦ (taken.0, Contains-append_right v.known.taken (calls_in_view x) taken.0 (later_there _ _ taken.0 taken.1), taken.2)
-                ]),
-              )
-          | inr off ↦ elim (number_cases (is.owner q) id) [
-            | inl mine ↦
-                let same : was.0 ≡ v = some-injective _ _ (sym (subst (λ k. get_elem? s.views k ≡ some was.0) mine.0 was.1) ∙ at) in
-                let has : HasProcess q v.known = subst (λ (z : View). HasProcess q z.known) same was.2 in (
-                  took_in v x,
-                  subst (λ k. get_elem? views' k ≡ some (took_in v x)) (sym (stays q id mine.0 (λ same. apart (sym same)))) mine_there,
-                  elim has [
-                    | inl among ↦ inl among
-                    | inr taken ↦ inr (taken.0, Contains-append_left v.known.taken (calls_in_view x) taken.0 taken.1, taken.2)
-                  ],
-                )
-            | inr rest ↦ (
-              was.0,
-              subst (λ k. get_elem? views' k ≡ some was.0) (sym (stays q (is.owner q) refl off.0))
-                  (set_else (set s.views id (took_in v x)) other (is.owner q) nobody off.0 ∙ (set_else s.views id (is.owner q) (took_in v x) rest.0 ∙ was.1)),
-              was.2,
-            )
-          ]
-        ]
-
     join_kept : IsShown object row w (record { words = s.words; homes = s.homes; views = views' })
-    join_kept = record {
-      owner = owner';
-      wide = is.wide;
-      memory = is.memory;
-      seats = seats_later;
-      seated = seated_later;
-      number = is.number;
-      state = is.state;
-      room = is.room;
-      fits = is.fits;
-      sound = is.sound;
-      counts = is.counts;
-    }
+    join_kept = record { words = is.words; seats = record { owner = owner'; each = seats_later }; sound = is.sound; counts = is.counts }
 
     module _ (n : ℕ) (events : List (Event ℕ)) (run : LeadsTo object n events w s.views) where
       abbrev Acts : ProcessCalls ℕ ℕ → Type 0
@@ -189,9 +111,18 @@ module _ (object : Sequential ℕ ℕ ℕ) (row id : ℕ) (v : View) (other : �
 
       acts_taken : (c : ProcessCalls ℕ ℕ) → Contains (calls_in_view x) c → Acts c
       acts_taken c has = elim (first_or _ _ c has) [
-        | inl here ↦ subst Acts here (run.acts other x there x.known.first (omega arith, omega (arith, single))
-            ∙ (ap (λ o. sequential_acts x.known.first 0 x.known.own ++ pending_acts x.known.first (length x.known.own) x.known.inv o) idle ∙ append-nil (sequential_acts x.known.first 0 x.known.own)))
+        | inl here ↦ subst Acts here (idle_acts object n events w s.views run other x there (omega (arith, single)) idle)
         | inr taken ↦ run.taken other x there c taken
+      ]
+
+      -- what the other one saw, and that all calls of which it knows stand in the log
+      sees : (t : Seen) → Contains (took_in v x).known.seen t → HasSeen object n events t
+      sees t has = elim (Contains-append_cases v.known.seen _ t has) [
+        | inl own ↦ run.seen id v at t own
+        | inr more ↦ elim (Contains-append_cases x.known.seen _ t more) [
+          | inl theirs ↦ run.seen other x there t theirs
+          | inr new ↦ sees_now object row w s is n events run id v at some_left own_idle (logged_in_view x) (view_logged object row w s is n events run other x there (omega (arith, single))) t new
+        ]
       ]
 
       join_run : LeadsTo object n events w views'
@@ -208,22 +139,12 @@ module _ (object : Sequential ℕ ℕ ℕ) (row id : ℕ) (v : View) (other : �
             | inr rest ↦ run.acts j u rest.1 p among
           ]
         ];
-        taken = λ j u e c has. elim (at_set (set s.views id (took_in v x)) other j nobody u e) [
-          | inl spent ↦ absurd (let none : Contains nobody.known.taken c = subst (λ (z : View). Contains z.known.taken c) (sym spent.1) has in let k = none.1 in omega arith)
-          | inr left ↦ elim (at_set s.views id j (took_in v x) u left.1) [
-            | inl mine ↦
-                elim (Contains-append_cases v.known.taken (calls_in_view x) c (subst (λ (z : View). Contains z.known.taken c) (sym mine.1) has)) [
-                  | inl old ↦ run.taken id v at c old
-                  | inr new ↦ acts_taken c new
-                ]
-            | inr rest ↦ run.taken j u rest.1 c has
-          ]
-        ];
-        told = Holds-set (λ (u : View). u.known.told) (HaveReturned object n events) (set s.views id (took_in v x)) other nobody
-            (Holds-kept (λ (u : View). u.known.told) (HaveReturned object n events) s.views id v (took_in v x) at refl run.told) (λ a has. absurd (let k = has.1 in omega arith));
+        taken = Holds-set (λ (u : View). u.known.taken) Acts (set s.views id (took_in v x)) other nobody
+            (Holds-set (λ (u : View). u.known.taken) Acts s.views id (took_in v x) run.taken
+            (λ c has. elim (Contains-append_cases v.known.taken (calls_in_view x) c has) [ inl old ↦ run.taken id v at c old | inr new ↦ acts_taken c new ]))
+            (λ c has. absurd (let k = has.1 in omega arith));
         seen = Holds-set (λ (u : View). u.known.seen) (HasSeen object n events) (set s.views id (took_in v x)) other nobody
-            (Holds-set (λ (u : View). u.known.seen) (HasSeen object n events) s.views id (took_in v x) run.seen
-            (λ a has. elim (Contains-append_cases v.known.seen x.known.seen a has) [ inl old ↦ run.seen id v at a old | inr new ↦ run.seen other x there a new ]))
+            (Holds-set (λ (u : View). u.known.seen) (HasSeen object n events) s.views id (took_in v x) run.seen sees)
             (λ a has. absurd (let k = has.1 in omega arith));
       }
 

@@ -1,6 +1,5 @@
 -- The word steps that are no events: reads of settled words.
 use Rattle.std.proofs.Common.{◌≡◌, ◌∙◌, ℕ, zero, suc, ◌<◌, ◌≤◌, ◌^◌, refl, sym, ap, subst, [], slice_index, slice_set, Option, Some, None, option_and_then, arith, nat_lt, Bool, true, false, cond}
-use Rattle.std.proofs.lemmas.List.{set-get_or}
 use mathlib.Core.Option.{some}
 use lib.ListN.{get_elem?}
 use Rattle.atomic_table.specs.Table.{State, Me, Step, keeps, Allows}
@@ -13,7 +12,6 @@ use Rattle.uni_model.specs.Stages.Stage.{DecideNew, Finish}
 use Rattle.uni_model.specs.Chain.{response_in}
 use Rattle.uni_model.specs.Worlds.{WorldOf}
 use Rattle.uni_model.specs.Invariant.{Has, Stands}
-use Rattle.uni_model.proofs.SamePlace.{Grows-same}
 use Rattle.uni_model.proofs.Steps.{linked_call, head_number}
 use Rattle.uni_words.specs.Words.{settled_at, state_in, reply_in, reply_at, word_of, word_at}
 use Rattle.uni_words.specs.View.{Known, Reading, looked_at}
@@ -23,7 +21,7 @@ use Rattle.uni_words.specs.Laws.{Leads, after_word}
 use Rattle.uni_words.specs.Shown.{HasRead, IsUnderway, IsLocal, IsShown, ShowsRun}
 use Rattle.uni_words.specs.declared.view.View.{View}
 use Rattle.uni_words.proofs.Locality.{word_here}
-use Rattle.uni_words.proofs.Happens.{own_local, keeps_rule}
+use Rattle.uni_words.proofs.Happens.{own_local, knows_more}
 use Rattle.uni_words.proofs.Running.{led, no_more, run_stays}
 
 module _ (object : Sequential ℕ ℕ ℕ) (row : ℕ) where
@@ -31,26 +29,26 @@ module _ (object : Sequential ℕ ℕ ℕ) (row : ℕ) where
     -- a call that has begun has the invocation that its word tells
     pub inv_told : (x : Name) (i : ℕ) → word_of w.n row (InvOf x) ≡ Some i → Has (inv_of w.memory x) → inv_of w.memory x ≡ Some (slice_index s.words i)
     inv_told Anchor i word has = absurd (let e : inv_of w.memory Anchor ≡ Some has.0 = has.1 in let none = is.sound.2.calls.anchor in cc)
-    inv_told (Of q k) i word has = by_test (nat_lt k (w.begun q)) (ap (λ m. inv_of m (Of q k)) is.memory) where
+    inv_told (Of q k) i word has = by_test (nat_lt k (w.begun q)) (ap (λ m. inv_of m (Of q k)) is.words.memory) where
       by_test : (b : Bool) → inv_of w.memory (Of q k) ≡ cond b (Some (word_at w.n row s.words (InvOf (Of q k)))) None → inv_of w.memory (Of q k) ≡ Some (slice_index s.words i)
-      by_test true e = e ∙ ap Some (word_here w.n row s.words is.wide (InvOf (Of q k)) i word)
+      by_test true e = e ∙ ap Some (word_here w.n row s.words is.words.wide (InvOf (Of q k)) i word)
       by_test false e = absurd (let g = has.1 in cc)
 
     -- the state that is settled, as the word tells it
     pub state_told : (x : Name) (i : ℕ) → word_of w.n row (NewOf x) ≡ Some i → Has (new_of w.memory x)
         → (1 ≤ slice_index s.words i) × (new_of w.memory x ≡ Some (state_in (slice_index s.words i), reply_at x (reply_in (slice_index s.words i))))
-    state_told x i word has = by_word (slice_index s.words i) (ap (λ m. new_of m x) is.memory ∙ ap (settled_at x) (word_here w.n row s.words is.wide (NewOf x) i word)) where
+    state_told x i word has = by_word (slice_index s.words i) (ap (λ m. new_of m x) is.words.memory ∙ ap (settled_at x) (word_here w.n row s.words is.words.wide (NewOf x) i word)) where
       by_word : (u : ℕ) → new_of w.memory x ≡ settled_at x u → (1 ≤ u) × (new_of w.memory x ≡ Some (state_in u, reply_at x (reply_in u)))
       by_word zero e = absurd (let g = has.1 in cc)
       by_word (suc u) e = (omega arith, e)
 
     module _ (id : ℕ) (v : Known) (at : get_elem? s.views id ≡ some (record { known = v })) (single : v.count ≡ 1) (mine : Name) (stage : Stage)
-        (pending : v.call ≡ Some (record { mine = mine; stage = stage })) where
-      before : IsLocal w is.owner id v.first v
+        (pending : v.its.call ≡ Some (record { mine = mine; stage = stage })) where
+      before : IsLocal w v.first v.its
       before = own_local object row w s is id v at single
 
-      pub underway : IsUnderway w.memory (Some (record { mine = mine; stage = stage })) v.inv v.read
-      underway = subst (λ o. IsUnderway w.memory o v.inv v.read) pending before.underway
+      pub underway : IsUnderway w.memory (Some (record { mine = mine; stage = stage })) v.its.inv v.its.read
+      underway = subst (λ o. IsUnderway w.memory o v.its.inv v.its.read) pending before.underway
 
       pub stands : Stands w.memory is.sound.0 w.n v.first mine stage
       stands = is.sound.2.stands v.first (record { mine = mine; stage = stage }) (before.call ∙ pending)
@@ -58,23 +56,18 @@ module _ (object : Sequential ℕ ℕ ℕ) (row : ℕ) where
       looked_kept : (i : ℕ) (read : Reading) → HasRead w.memory mine stage read
           → IsShown object row w (record { words = slice_set s.words i (slice_index s.words i); homes = s.homes; views = slice_set s.views id (record { known = looked_at v read }) })
       looked_kept i read has =
-          let told = is.seats id (record { known = v }) at in
-          subst (λ ws. IsShown object row w (record { words = ws; homes = s.homes; views = slice_set s.views id (record { known = looked_at v read }) })) (sym (set-get_or s.words i 0))
-          (keeps_rule object row w s is id v at single s.words w refl
-          (record { n = refl; call = λ q a. refl; begun = λ q a. refl; steps = λ q a. refl; turns = λ q a. refl })
-          (Grows-same w.memory) is.memory (looked_at v read) (told.processes (let one = single in omega arith)) (told.calls (let one = single in omega arith)) refl single refl
+          knows_more object row w s is id v at single i (looked_at v read) refl refl refl single refl
           (record {
             inside = before.inside;
-            seat = before.seat;
             call = before.call;
             begun = before.begun;
             steps = before.steps;
             turns = before.turns;
-            underway = subst (λ o. IsUnderway w.memory o v.inv read) (sym pending) (underway.0, has);
+            underway = subst (λ o. IsUnderway w.memory o v.its.inv read) (sym pending) (underway.0, has);
             counted = before.counted;
             own = before.own;
+            number = before.number;
           })
-          (is.room v.first) is.fits is.sound is.counts)
 
       pub looked_leads : (i : ℕ) (read : Reading) → HasRead w.memory mine stage read
           → Leads object row w s [] w (after_word s i (slice_index s.words i) id (looked_at v read))
@@ -82,10 +75,10 @@ module _ (object : Sequential ℕ ℕ ℕ) (row : ℕ) where
         shown = looked_kept i read has;
         run = λ n events run.
             no_more object n events w (slice_set s.views id (record { known = looked_at v read }))
-            (run_stays object n row w s is events run id v at single (looked_at v read) refl single refl refl refl refl refl refl);
+            (run_stays object n row w s is events run id v at single (looked_at v read) refl single refl (run.seen id (record { known = v }) at) refl refl refl);
       }
 
-  pub looks_inv : (n slots id i : ℕ) (me : Me ℕ View) → me.0.known.count ≡ 1 → (mine c d : Name) (c_seq : ℕ) → me.0.known.call ≡ Some (record { mine = mine; stage = DecideNew c c_seq d })
+  pub looks_inv : (n slots id i : ℕ) (me : Me ℕ View) → me.0.known.count ≡ 1 → (mine c d : Name) (c_seq : ℕ) → me.0.known.its.call ≡ Some (record { mine = mine; stage = DecideNew c c_seq d })
       → word_of n row (InvOf d) ≡ Some i
       → Allows (ShowsRun object n row) slots id me i (λ x. x) (λ found me'. HasLooked me (Invocation found) me')
   looks_inv n slots id i me single mine c d c_seq pending word_n s shown deep at small =
@@ -102,8 +95,8 @@ module _ (object : Sequential ℕ ℕ ℕ) (row : ℕ) where
         refl,
       )
 
-  pub looks_new : (n slots id i : ℕ) (me : Me ℕ View) → me.0.known.count ≡ 1 → (mine c d : Name) (c_seq inv : ℕ) → me.0.known.call ≡ Some (record { mine = mine; stage = DecideNew c c_seq d })
-      → me.0.known.read ≡ Invocation inv → word_of n row (NewOf c) ≡ Some i
+  pub looks_new : (n slots id i : ℕ) (me : Me ℕ View) → me.0.known.count ≡ 1 → (mine c d : Name) (c_seq inv : ℕ) → me.0.known.its.call ≡ Some (record { mine = mine; stage = DecideNew c c_seq d })
+      → me.0.known.its.read ≡ Invocation inv → word_of n row (NewOf c) ≡ Some i
       → Allows (ShowsRun object n row) slots id me i (λ x. x) (λ found me'. HasLooked me (Applied inv (state_in found)) me' × (state_in found < 2 ^ 31))
   looks_new n slots id i me single mine c d c_seq inv pending read word_n s shown deep at small =
       let w : WorldOf ℕ ℕ ℕ = shown.0 in
@@ -119,13 +112,13 @@ module _ (object : Sequential ℕ ℕ ℕ) (row : ℕ) where
         keeps,
         tt,
         led n shown.1 shown.3 (looked_leads w s is id me.0.known at single mine (DecideNew c c_seq d) pending i (Applied inv (state_in (slice_index s.words i))) (had, (reply_at c (reply_in (slice_index s.words i)), told.1))),
-        (refl, is.fits c (state_in (slice_index s.words i), reply_at c (reply_in (slice_index s.words i))) told.1),
+        (refl, is.words.fits c (state_in (slice_index s.words i), reply_at c (reply_in (slice_index s.words i))) told.1),
       )
 
   -- the response of a call that stands before its last step
   pub reply_told : (w : WorldOf ℕ ℕ ℕ) (s : State ℕ View) (is : IsShown object row w s)
       (id : ℕ) (v : Known) (at : get_elem? s.views id ≡ some (record { known = v })) (single : v.count ≡ 1) (mine : Name) (c_seq mine_seq : ℕ)
-      (pending : v.call ≡ Some (record { mine = mine; stage = Finish c_seq mine_seq })) (i : ℕ) → word_of w.n row (NewOf mine) ≡ Some i
+      (pending : v.its.call ≡ Some (record { mine = mine; stage = Finish c_seq mine_seq })) (i : ℕ) → word_of w.n row (NewOf mine) ≡ Some i
       → response_in w.memory mine ≡ Some (reply_in (slice_index s.words i))
   reply_told w s is id v at single mine c_seq mine_seq pending i word =
       let h = stands w s is id v at single mine (Finish c_seq mine_seq) pending in
@@ -135,7 +128,7 @@ module _ (object : Sequential ℕ ℕ ℕ) (row : ℕ) where
       let told = state_told w s is mine i word (is.sound.2.values.threaded mine threaded) in
       ap (λ o. option_and_then (λ (new : ℕ × Option ℕ). new.1) o) told.1 ∙ ap (λ x. reply_at x (reply_in (slice_index s.words i))) its.1
 
-  unfoldable pub looks_reply : (n slots id i : ℕ) (me : Me ℕ View) → me.0.known.count ≡ 1 → (mine : Name) (c_seq mine_seq : ℕ) → me.0.known.call ≡ Some (record { mine = mine; stage = Finish c_seq mine_seq })
+  unfoldable pub looks_reply : (n slots id i : ℕ) (me : Me ℕ View) → me.0.known.count ≡ 1 → (mine : Name) (c_seq mine_seq : ℕ) → me.0.known.its.call ≡ Some (record { mine = mine; stage = Finish c_seq mine_seq })
       → word_of n row (NewOf mine) ≡ Some i
       → Allows (ShowsRun object n row) slots id me i (λ x. x) (λ found me'. HasLooked me (Reply (reply_in found)) me')
   looks_reply n slots id i me single mine c_seq mine_seq pending word_n s shown deep at small =
@@ -148,8 +141,8 @@ module _ (object : Sequential ℕ ℕ ℕ) (row : ℕ) where
         refl,
       )
 
-  pub told_state : (n slots id i : ℕ) (st : Step ℕ) (me : Me ℕ View) → me.0.known.count ≡ 1 → (mine c d : Name) (c_seq : ℕ) → me.0.known.call ≡ Some (record { mine = mine; stage = DecideNew c c_seq d })
-      → (inv : ℕ) → me.0.known.read ≡ Invocation inv → word_of n row (NewOf c) ≡ Some i
+  pub told_state : (n slots id i : ℕ) (st : Step ℕ) (me : Me ℕ View) → me.0.known.count ≡ 1 → (mine c d : Name) (c_seq : ℕ) → me.0.known.its.call ≡ Some (record { mine = mine; stage = DecideNew c c_seq d })
+      → (inv : ℕ) → me.0.known.its.read ≡ Invocation inv → word_of n row (NewOf c) ≡ Some i
       → Allows (ShowsRun object n row) slots id me i (λ x. x) (λ found me'. TellsState st me found me')
   unfolding looks_new
   told_state n slots id i st me single mine c d c_seq pending inv read word s shown deep at small =

@@ -26,7 +26,7 @@ use Rattle.uni_words.specs.Laws.{Leads, after_word}
 use Rattle.uni_words.specs.Shown.{IsUnderway, IsLocal, IsShown, ShowsRun, pending_count}
 use Rattle.uni_words.specs.declared.view.View.{View}
 use Rattle.uni_words.proofs.Columns.{word_below}
-use Rattle.uni_words.proofs.Underway.{HasReturned-grows}
+use Rattle.uni_words.proofs.Underway.{HasReturned-grows, last_number-grows}
 use Rattle.uni_words.proofs.Within.{within}
 use Rattle.uni_words.proofs.Running.{led, run_moves}
 use Rattle.uni_words.proofs.Happens.{own_call, own_local, effect, there, memory_set, memory_grows, later, kept}
@@ -99,7 +99,7 @@ silent n p mine (Finish s t) found next seen on = absurd (let none : None ≡ So
 module _ (object : Sequential ℕ ℕ ℕ) (row : ℕ) where
   -- a step after which the call goes on, whatever the word of its place becomes
   module _ (w : WorldOf ℕ ℕ ℕ) (s : State ℕ View) (is : IsShown object row w s)
-      (id : ℕ) (v : Known) (at : get_elem? s.views id ≡ some (record { known = v })) (single : v.count ≡ 1) (c : Pending) (pending : v.call ≡ Some c)
+      (id : ℕ) (v : Known) (at : get_elem? s.views id ≡ some (record { known = v })) (single : v.count ≡ 1) (c : Pending) (pending : v.its.call ≡ Some c)
       (i : ℕ) (word : word_of w.n row (place_of w.n v.first c.mine c.stage) ≡ Some i)
       (on : (k : Stage) × (stage_found v.n v.first c.mine c.stage (slice_index s.words i) ≡ Some k)) where
     abbrev place : Place
@@ -118,7 +118,7 @@ module _ (object : Sequential ℕ ℕ ℕ) (row : ℕ) where
     is_there = there object row w s is id v at single c pending i word
 
     processes : v.n ≡ w.n
-    processes = (is.seats id (record { known = v }) at).processes (let one = single in omega arith)
+    processes = (is.seats.each id (record { known = v }) at).processes (let one = single in omega arith)
 
     stage_is : does.stage ≡ stage_found v.n v.first c.mine c.stage found
     stage_is = ap (stage_after w.n c.mine c.stage) is_there ∙ ap (λ k. stage_found k v.first c.mine c.stage found) (sym processes)
@@ -126,27 +126,27 @@ module _ (object : Sequential ℕ ℕ ℕ) (row : ℕ) where
     turn_is : turn_of c.stage (w.memory place) ≡ turn_of c.stage (content_of v.n (place_of v.n v.first c.mine c.stage) found)
     turn_is = ap (turn_of c.stage) is_there ∙ ap (λ k. turn_of c.stage (content_of k (place_of k v.first c.mine c.stage) found)) (sym processes)
 
-    before : IsLocal w is.owner id v.first v
+    before : IsLocal w v.first v.its
     before = own_local object row w s is id v at single
 
     grows : Grows w.memory after.memory
     grows = memory_grows object row w s is id v at single c pending
 
-    tells : IsLocal after is.owner id v.first (moved_at v c found)
+    tells : IsLocal after v.first (moved_at v c found).its
     tells =
-        let underway : IsUnderway w.memory (Some c) v.inv v.read = subst (λ o. IsUnderway w.memory o v.inv v.read) pending before.underway in
-        let counted : v.begun ≡ length v.own + pending_count (Some c) = subst (λ o. v.begun ≡ length v.own + pending_count o) pending before.counted in
+        let underway : IsUnderway w.memory (Some c) v.its.inv v.its.read = subst (λ o. IsUnderway w.memory o v.its.inv v.its.read) pending before.underway in
+        let counted : v.its.begun ≡ length v.its.own + pending_count (Some c) = subst (λ o. v.its.begun ≡ length v.its.own + pending_count o) pending before.counted in
         record {
           inside = before.inside;
-          seat = before.seat;
           call = set_at_same w.call v.first (call_after c.mine does.stage) ∙ ap (call_after c.mine) stage_is;
           begun = before.begun;
           steps = set_at_same w.steps v.first (w.steps v.first + 1) ∙ ap (λ k. k + 1) before.steps;
           turns = set_at_same w.turns v.first (w.turns v.first + turn_of c.stage (w.memory place))
-              ∙ ap (λ k. k + turn_of c.stage (w.memory place)) before.turns ∙ ap (λ k. v.turns + k) turn_is;
-          underway = subst (λ o. IsUnderway after.memory (call_after c.mine o) v.inv Nothing) (sym on.1) (grows.inv c.mine v.inv underway.0, tt);
-          counted = subst (λ o. v.begun ≡ length v.own + pending_count (call_after c.mine o)) (sym on.1) counted;
+              ∙ ap (λ k. k + turn_of c.stage (w.memory place)) before.turns ∙ ap (λ k. v.its.turns + k) turn_is;
+          underway = subst (λ o. IsUnderway after.memory (call_after c.mine o) v.its.inv Nothing) (sym on.1) (grows.inv c.mine v.its.inv underway.0, tt);
+          counted = subst (λ o. v.its.begun ≡ length v.its.own + pending_count (call_after c.mine o)) (sym on.1) counted;
           own = λ k call e. HasReturned-grows w.memory after.memory grows (Of v.first k) call.0 call.1 (before.own k call e);
+          number = before.number ∙ sym (last_number-grows w.memory after.memory grows v.first v.its.own before.own);
         }
 
     module _ (x : ℕ) (writes : content_of w.n place x ≡ does.content) where
@@ -154,7 +154,7 @@ module _ (object : Sequential ℕ ℕ ℕ) (row : ℕ) where
           → IsShown object row after (record { words = slice_set s.words i x; homes = s.homes; views = slice_set s.views id (record { known = moved_at v c found }) })
       moved_kept fits = kept object row w s is id v at single c pending (slice_set s.words i x) (length-set s.words i x)
           (memory_set object row w s is id v at single c pending i word x writes) (moved_at v c found) processes
-          ((is.seats id (record { known = v }) at).calls (let one = single in omega arith)) refl single refl tells fits
+          ((is.seats.each id (record { known = v }) at).calls (let one = single in omega arith)) refl single refl tells fits
 
       pub moved_leads : ((y : Name) (u : ℕ × Option ℕ) → new_of after.memory y ≡ Some u → u.0 < 2 ^ 31)
           → Leads object row w s (Step v.first ∷ []) after (after_word s i x id (moved_at v c found))
@@ -162,12 +162,12 @@ module _ (object : Sequential ℕ ℕ ℕ) (row : ℕ) where
         shown = moved_kept fits;
         run = λ n events run.
             run_moves object n row w s is events run id v at single c pending (silent v.n v.first c.mine c.stage found on.0 w.memory on.1)
-            (record { mine = c.mine; stage = on.0 }) (moved_at v c found) refl single refl refl refl refl refl (ap (call_after c.mine) on.1);
+            (record { mine = c.mine; stage = on.0 }) (moved_at v c found) refl single refl refl refl refl (ap (call_after c.mine) on.1);
       }
 
       -- where the step doesn't touch `new`
       pub fits_elsewhere : GoesOn c.stage → (y : Name) (u : ℕ × Option ℕ) → new_of after.memory y ≡ Some u → u.0 < 2 ^ 31
-      fits_elsewhere goes y u e = is.fits y u (sym (new_elsewhere w.memory place does.content y (not_new w.n v.first c.mine c.stage goes)) ∙ e)
+      fits_elsewhere goes y u e = is.words.fits y u (sym (new_elsewhere w.memory place does.content y (not_new w.n v.first c.mine c.stage goes)) ∙ e)
 
       -- what the step tells the seat, of what it found
       pub moved_told : (said : ℕ) → (shown : IsShown object row after (record { words = slice_set s.words i x; homes = s.homes; views = slice_set s.views id (record { known = moved_at v c found }) }))
@@ -175,17 +175,17 @@ module _ (object : Sequential ℕ ℕ ℕ) (row : ℕ) where
           → HasMoved (record { known = v }, carried) c said (record { known = moved_at v c found }, carried)
       moved_told said shown carried same small =
           let v' : Known = moved_at v c found in
-          let told = is.seats id (record { known = v }) at in
+          let told = is.seats.each id (record { known = v }) at in
           let few : after.turns v.first ≤ w.n + 1 = subst (λ k. after.turns v.first ≤ k + 1) (IsCounted-pending w is.counts v.first c (own_call object row w s is id v at single c pending)).0 (turns_bounded object after shown.counts shown.sound v.first) in
           record {
             view = ap (λ (k : Known). (record { known = k }, carried)) same;
             within = subst (λ k. IsWithin k v.row (place_of k v.first c.mine c.stage) said) (sym (told.processes (let one = single in omega arith)))
                 (subst (λ r. IsWithin w.n r (place_of w.n v.first c.mine c.stage) said) (sym (told.calls (let one = single in omega arith))) small);
-            turns = subst (λ k. v'.turns ≤ k + 1) (sym (told.processes (let one = single in omega arith))) (subst (λ t. t ≤ w.n + 1) tells.turns few);
+            turns = subst (λ k. v'.its.turns ≤ k + 1) (sym (told.processes (let one = single in omega arith))) (subst (λ t. t ≤ w.n + 1) tells.turns few);
           }
 
   -- The seat may take the step, by which the word becomes f of what it was, and it is told so of what it found.
-  pub moves : (n slots id i : ℕ) (st : table.Step ℕ) (me : Me ℕ View) (f said : ℕ → ℕ) → me.0.known.count ≡ 1 → (c : Pending) → me.0.known.call ≡ Some c → GoesOn c.stage
+  pub moves : (n slots id i : ℕ) (st : table.Step ℕ) (me : Me ℕ View) (f said : ℕ → ℕ) → me.0.known.count ≡ 1 → (c : Pending) → me.0.known.its.call ≡ Some c → GoesOn c.stage
       → word_of n row (place_of n me.0.known.first c.mine c.stage) ≡ Some i
       → ((found : ℕ) (seen : Memory ℕ ℕ ℕ) → content_of n (place_of n me.0.known.first c.mine c.stage) (f found)
       ≡ content_after object c.mine c.stage (content_of n (place_of n me.0.known.first c.mine c.stage) found) seen)
@@ -210,7 +210,7 @@ module _ (object : Sequential ℕ ℕ ℕ) (row : ℕ) where
       let leads : Leads object row w s (Step v.first ∷ []) (later object row w s is id v at single c pending) (after_word s i (f found) id (moved_at v c found))
       = moved_leads w s is id v at single c pending i word on (f found) writes_it (fits_elsewhere w s is id v at single c pending i word on (f found) writes_it goes) in
       let moved = moved_told w s is id v at single c pending i word on (f found) writes_it (said found) leads.shown me.1 (same found) (small (within object row w s is place i word)
-      (subst (λ x. IsWithin w.n row place x) (get_or-set_same s.words i (f found) 0 (subst (λ l. i < l) (sym is.wide) (word_below w.n row place i word)))
+      (subst (λ x. IsWithin w.n row place x) (get_or-set_same s.words i (f found) 0 (subst (λ l. i < l) (sym is.words.wide) (word_below w.n row place i word)))
       (within object row (later object row w s is id v at single c pending) (after_word s i (f found) id (moved_at v c found)) leads.shown place i word))) in (
         record { known = moved_at v c found },
         keeps,

@@ -17,7 +17,7 @@ use Rattle.uni_model.proofs.Written.{lt_cases}
 use Rattle.uni_model.proofs.Bounded.{HelpingInvariant-opened_world}
 use Rattle.uni_model.proofs.Counted.{CountsSteps-opened_world}
 use Rattle.uni_words.specs.Words.{first_words, settled_word, settled_at, state_in, link_of, content_of, start_of, word_of, words_of, word_at, memory_of}
-use Rattle.uni_words.specs.View.{everyone}
+use Rattle.uni_words.specs.View.{no_calls}
 use Rattle.uni_words.specs.Laws.{OpeningShows}
 use Rattle.uni_words.specs.Run.{opened}
 use Rattle.uni_words.specs.Seats.{first_view}
@@ -87,27 +87,31 @@ module _ (object : Sequential ℕ ℕ ℕ) (n row : ℕ) (below : object.initial
   nothing_there : {A B : Type 0} (k : ℕ) (c : A) → slice_get [] k ≡ Some c → B
   nothing_there k c e = absurd (let f : None ≡ Some c = e in cc)
 
-  first_local : (q : ℕ) → q < n → IsLocal (opened object n) (λ p. 0) 0 q (everyone n row)
-  first_local q inside = record { inside = inside; seat = refl; call = refl; begun = refl; steps = refl; turns = refl; underway = tt; counted = refl; own = λ k c e. nothing_there k c e }
+  first_local : (q : ℕ) → q < n → IsLocal (opened object n) q no_calls
+  first_local q inside = record { inside = inside; call = refl; begun = refl; steps = refl; turns = refl; underway = tt; counted = refl; own = λ k c e. nothing_there k c e; number = refl }
 
   only_seat : (id : ℕ) (v : View) → get_elem? (first_view n row ∷ []) id ≡ some v → (id ≡ 0) × (first_view n row ≡ v)
   only_seat zero v e = (refl, some-injective _ _ e)
   only_seat (suc id) v e = absurd (some-ne-none v (sym e))
 
+  opening_seats : (id : ℕ) (v : View) → get_elem? (first_view n row ∷ []) id ≡ some v → Tells (opened object n) (λ p. 0) row id v.known
+  opening_seats id v e =
+      let h = only_seat id v e in
+      subst (λ k. Tells (opened object n) (λ p. 0) row k v.known) (sym h.0)
+      (subst (λ (z : View). Tells (opened object n) (λ p. 0) row 0 z.known) h.1
+      (record { processes = λ any. refl; calls = λ any. refl; several = λ two. refl; each = λ q from to. (refl, first_local q (omega arith)); taken = λ c has. absurd (let k = has.1 in omega arith) }))
+
   opening_shown : IsShown object row (opened object n) (opening {S = ℕ} words [] (first_view n row))
   opening_shown = record {
-    owner = λ p. 0;
-    wide = length-set _ j (settled_word object.initial 0) ∙ (length-set _ i 1 ∙ long);
-    memory = sym opened_memory;
-    seats = λ id v e. let h = only_seat id v e in
-        subst (λ k. Tells (opened object n) (λ p. 0) row k v.known) (sym h.0)
-        (subst (λ (z : View). Tells (opened object n) (λ p. 0) row 0 z.known) h.1
-        (record { processes = λ any. refl; calls = λ any. refl; several = λ two. refl; each = λ q from to. first_local q (omega arith); taken = λ c has. absurd (let k = has.1 in omega arith) }));
-    seated = λ p inside. (first_view n row, refl, inl (omega arith, omega arith));
-    number = refl;
-    state = refl;
-    room = λ p. omega arith;
-    fits = new_fits;
+    words = record {
+      wide = length-set _ j (settled_word object.initial 0) ∙ (length-set _ i 1 ∙ long);
+      memory = sym opened_memory;
+      number = refl;
+      state = refl;
+      room = λ p. omega arith;
+      fits = new_fits;
+    };
+    seats = record { owner = λ p. 0; each = opening_seats };
     sound = HelpingInvariant-opened_world object n object.initial 1 (omega arith);
     counts = CountsSteps-opened_world object n object.initial 1;
   }
@@ -119,7 +123,6 @@ module _ (object : Sequential ℕ ℕ ℕ) (n row : ℕ) (below : object.initial
     reached = refl;
     acts = λ id v e p among. let h = only_seat id v e in subst (λ (z : View). [] ≡ acts_in_view p z.known) h.1 refl;
     taken = λ id v e c has. absurd (let h = only_seat id v e in let none : Contains (first_view n row).known.taken c = subst (λ (z : View). Contains z.known.taken c) (sym h.1) has in let k = none.1 in omega arith);
-    told = λ id v e c has. absurd (let h = only_seat id v e in let none : Contains (first_view n row).known.told c = subst (λ (z : View). Contains z.known.told c) (sym h.1) has in let k = none.1 in omega arith);
     seen = λ id v e t has. absurd (let h = only_seat id v e in let none : Contains (first_view n row).known.seen t = subst (λ (z : View). Contains z.known.seen t) (sym h.1) has in let k = none.1 in omega arith);
   }
 

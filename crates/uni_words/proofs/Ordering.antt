@@ -1,28 +1,26 @@
 -- The calls that had returned stand in the log before those that were begun later.
-use Rattle.std.proofs.Common.{◌≡◌, ◌∙◌, ℕ, zero, suc, ◌+◌, ◌<◌, ◌≤◌, inl, inr, refl, sym, ap, subst, List, [], ◌∷◌, ◌++◌, length, slice_get, take, Some, None, option_map, arith}
+use Rattle.std.proofs.Common.{◌≡◌, ◌∙◌, ℕ, suc, ◌+◌, ◌<◌, inl, inr, refl, sym, ap, subst, List, [], ◌∷◌, ◌++◌, length, take, arith}
 use Rattle.std.proofs.Math.Seq.{take-append_seam}
+use Rattle.std.proofs.lemmas.Option.{slice_get_within}
 use Rattle.seq_object.specs.Sequential.{Sequential}
 use Rattle.uni_model.specs.AtomicObject.{Act, Atomic, AcceptsAll, at_start}
 use Rattle.uni_model.specs.AtomicObject.Act.{Invoke, Linearize, Respond}
-use Rattle.uni_model.specs.Chain.{invoked_at}
-use Rattle.uni_model.specs.Eras.{HasReturned}
-use Rattle.uni_model.specs.History.{log_of_run, open_at}
-use Rattle.uni_model.specs.Places.Name.{Of}
+use Rattle.uni_model.specs.Chain.{Entry}
+use Rattle.uni_model.specs.Eras.{StandsAt}
+use Rattle.uni_model.specs.Growth.{IsPrefixOf}
+use Rattle.uni_model.specs.History.{log_of_run}
 use Rattle.uni_model.specs.Worlds.{WorldOf, Event, AreAccepted, world_after_all}
-use Rattle.uni_model.proofs.Joined.{IsRun-opened_world}
-use Rattle.uni_model.proofs.Kept.{Invariant-world_after_all}
+use Rattle.uni_model.proofs.Joined.{IsRun-opened_world, begun_run, prefixes_run}
 use Rattle.uni_model.proofs.LawProofs.{set_at_elsewhere}
 use Rattle.uni_model.proofs.Linearized.{IsLinearizable-holds}
-use Rattle.uni_model.proofs.Ordered.{KeepsRealTime-holds}
-use Rattle.uni_model.proofs.Orderly.{IsOver, IsOrderly-at_start, responses_end}
 use Rattle.uni_model.proofs.Simulation.{set_at_same}
 use Rattle.uni_model.proofs.Runs.{AreAccepted-split}
-use Rattle.uni_model.proofs.Written.{number_cases}
+use Rattle.uni_model.proofs.Written.{lt_cases, number_cases}
 use Rattle.uni_model.specs.ProcessCalls.{acts_by, sequential_acts}
 use Rattle.uni_words.specs.Log.{IsInOrder}
-use Rattle.uni_words.specs.Run.{opened, run_history, HasSeen}
+use Rattle.uni_words.specs.Run.{AreLogged, opened, run_history, HasSeen}
 use Rattle.uni_words.specs.View.{Seen}
-use Rattle.uni_words.proofs.OwnCalls.{there_below}
+use Rattle.uni_words.proofs.Underway.{there_below}
 
 -- how many calls these acts begin
 abbrev invokes : List (Act ℕ ℕ) → ℕ
@@ -35,36 +33,12 @@ invokes-sequential : (p k : ℕ) (calls : List (ℕ × ℕ)) → invokes (sequen
 invokes-sequential p k [] = refl
 invokes-sequential p k (c ∷ cs) = ap suc (invokes-sequential p (k + 1) cs)
 
--- each of the calls responds
-responds : (p m : ℕ) (calls : List (ℕ × ℕ)) (rest : List (Act ℕ ℕ)) (k nth : ℕ) (c : ℕ × ℕ) → nth ≡ m + k → slice_get calls k ≡ Some c
-    → (i : ℕ) × (slice_get (sequential_acts p m calls ++ rest) i ≡ Some (Respond p nth c.1))
-responds p m [] rest k nth c number at = absurd (let e : None ≡ Some c = at in cc)
-responds p m (x ∷ xs) rest zero nth c number at =
-    let same : x ≡ c = (let e : Some x ≡ Some c = at in cc) in
-    let first : m ≡ nth = omega (arith, number) in
-    (1, ap (λ k. Some (Respond p k x.1)) first ∙ ap (λ (y : ℕ × ℕ). Some (Respond p nth y.1)) same)
-responds p m (x ∷ xs) rest (suc k) nth c number at =
-    let later = responds p (m + 1) xs rest k nth c (omega (arith, number)) at in
-    (suc (suc later.0), later.1)
-
--- an act of a process is one of the history
-among_all : (p : ℕ) (acts : List (Act ℕ ℕ)) (i : ℕ) (a : Act ℕ ℕ) → slice_get (acts_by p acts) i ≡ Some a → (j : ℕ) × (slice_get acts j ≡ Some a)
-among_all p [] i a at = absurd (let e : None ≡ Some a = at in cc)
-among_all p (Linearize c ∷ acts) i a at = let rest = among_all p acts i a at in (suc rest.0, rest.1)
-among_all p (Invoke q k v ∷ acts) i a at = elim (number_cases q p) [
-  | inl same ↦ by_place (λ j e. among_all p acts j a e) i (rw same.1 at at)
-  | inr other ↦ let rest = among_all p acts i a (rw other.1 at at) in (suc rest.0, rest.1)
-] where
-  by_place : ((j : ℕ) → slice_get (acts_by p acts) j ≡ Some a → (k : ℕ) × (slice_get acts k ≡ Some a)) → (i : ℕ) → slice_get (Invoke q k v ∷ acts_by p acts) i ≡ Some a → (j : ℕ) × (slice_get (Invoke q k v ∷ acts) j ≡ Some a)
-  by_place further zero at = (0, at)
-  by_place further (suc i) at = let rest = further i at in (suc rest.0, rest.1)
-among_all p (Respond q k r ∷ acts) i a at = elim (number_cases q p) [
-  | inl same ↦ by_place (λ j e. among_all p acts j a e) i (rw same.1 at at)
-  | inr other ↦ let rest = among_all p acts i a (rw other.1 at at) in (suc rest.0, rest.1)
-] where
-  by_place : ((j : ℕ) → slice_get (acts_by p acts) j ≡ Some a → (k : ℕ) × (slice_get acts k ≡ Some a)) → (i : ℕ) → slice_get (Respond q k r ∷ acts_by p acts) i ≡ Some a → (j : ℕ) × (slice_get (Respond q k r ∷ acts) j ≡ Some a)
-  by_place further zero at = (0, at)
-  by_place further (suc i) at = let rest = further i at in (suc rest.0, rest.1)
+-- a call stands at its place in each later log
+stays_at : (xs ys : List (Entry ℕ ℕ)) → IsPrefixOf xs ys → (p k j : ℕ) → StandsAt xs p k j → StandsAt ys p k j
+stays_at xs ys prefix p k j h =
+    let later = prefix.entries j h.entry h.at in
+    let call : later.0.call ≡ h.entry.call = elim later.2 [ inl same ↦ ap (λ (e : Entry ℕ ℕ). e.call) same | inr gets ↦ gets.1.call ] in
+    record { entry = later.0; at = later.1; process = ap (λ c. c.process) call ∙ h.process; nth = ap (λ c. c.nth) call ∙ h.nth }
 
 module _ (object : Sequential ℕ ℕ ℕ) where
   -- the next number of a process counts the calls that it has begun
@@ -91,6 +65,19 @@ module _ (object : Sequential ℕ ℕ ℕ) where
         | inr other ↦ rw other.1 (counted h.0 b acts q h.2 ∙ ap (λ k. k + invokes (acts_by q acts)) now)
       ]
 
+  -- the log of the first events only grows
+  grows_to : (n : ℕ) (events before after : List (Event ℕ)) → AreAccepted object (opened object n) events → events ≡ before ++ after → IsPrefixOf (log_of_run object (opened object n) before) (log_of_run object (opened object n) events)
+  grows_to n events before after ok joins =
+      let first : take (length before) events ≡ before = ap (take (length before)) joins ∙ take-append_seam before after in
+      subst (λ es. IsPrefixOf (log_of_run object (opened object n) es) (log_of_run object (opened object n) events)) first
+      (prefixes_run object (opened object n) events object.initial (IsRun-opened_world object n object.initial 1 events (omega arith) ok) (length before))
+
+  -- what stands in the log of the first events stands in that of all
+  pub AreLogged-later : (n : ℕ) (events : List (Event ℕ)) → AreAccepted object (opened object n) events → (t : Seen) → HasSeen object n events t → AreLogged object n events t.earlier
+  AreLogged-later n events ok t seen i inside =
+      let at = seen.earlier i inside in
+      (at.0, stays_at _ _ (grows_to n events seen.before seen.after ok seen.joins) t.earlier.process i at.0 at.1)
+
   module _ (n : ℕ) (events : List (Event ℕ)) (ok : AreAccepted object (opened object n) events) (s : Seen) (seen : HasSeen object n events s) where
     abbrev w : WorldOf ℕ ℕ ℕ
     w = world_after_all object (opened object n) seen.before
@@ -111,33 +98,26 @@ module _ (object : Sequential ℕ ℕ ℕ) where
         let same : w.begun q ≡ shown.0.next_nth q = shown.1.next_nth q in
         omega arith
 
-    -- and the calls of `earlier` have returned
-    returned : (k : ℕ) → k < length s.earlier.calls → HasReturned w s.earlier.process k
-    returned k inside =
-        let p = s.earlier.process in
-        let shown = IsLinearizable-holds object n object.initial 1 seen.before (omega arith) accepted in
-        let c = there_below s.earlier.calls k inside in
-        let own = responds p 0 s.earlier.calls seen.earlier.0 k k c.0 (omega arith) c.1 in
-        let all = among_all p acts own.0 (Respond p k c.0.1) (ap (λ l. slice_get l own.0) seen.earlier.1 ∙ own.1) in
-        let over : IsOver shown.0 p k = (responses_end object (at_start object.initial) shown.0 acts (IsOrderly-at_start object.initial) shown.2 all.0 p k c.0.1 all.1).0 in
-        let run = IsRun-opened_world object n object.initial 1 seen.before (omega arith) accepted in
-        record {
-          begun = subst (λ m. k < m) (sym (shown.1.next_nth p)) over.begun;
-          over = λ d pending same.
-              let mine = (Invariant-world_after_all object (opened object n) seen.before run.accepted run.inv).2.calls.mine p d pending in
-              let cell : Of p mine.0 ≡ Of p k = sym mine.1 ∙ same in
-              let its_nth : mine.0 ≡ k = cc in
-              let its_open : shown.0.open_call p ≡ Some (record { process = p; nth = mine.0; inv = mine.3.0 }) = sym (shown.1.open_call p) ∙ ap (open_at w.memory) pending ∙ ap (invoked_at w.memory) mine.1 ∙ ap (option_map (λ (v : ℕ). record { process = p; nth = mine.0; inv = v })) mine.3.1 in
-              let later : k < mine.0 = over.later (record { process = p; nth = mine.0; inv = mine.3.0 }) its_open in
-              omega arith;
-        }
-
+    -- what stands in the log of the first events stands before what was begun later
     pub in_order : IsInOrder (log_of_run object (opened object n) events) s
     in_order i j place inside later stands =
-        let p = s.earlier.process in
         let q = s.made.process in
-        let first : take (length seen.before) events ≡ seen.before = ap (take (length seen.before)) seen.joins ∙ take-append_seam seen.before seen.after in
-        KeepsRealTime-holds object n object.initial 1 events (omega arith) ok (length seen.before) p i q j place
-        (subst (λ es. HasReturned (world_after_all object (opened object n) es) p i) (sym first) (returned i inside))
-        (subst (λ es. (world_after_all object (opened object n) es).begun q ≤ j) (sym first) (subst (λ m. m ≤ j) (sym begun_made) later))
-        stands
+        let short = log_of_run object (opened object n) seen.before in
+        let grown = grows_to n events seen.before seen.after ok seen.joins in
+        let at = seen.earlier i inside in
+        elim (lt_cases at.0 place) [
+          | inl less ↦ (at.0, less.0, stays_at short _ grown s.earlier.process i at.0 at.1)
+          | inr more ↦ absurd (
+              let within : at.0 < length short = slice_get_within short at.0 at.1.entry at.1.at in
+              let there = there_below short place (let m = more.0 in omega arith) in
+              let kept = grown.entries place there.0 there.1 in
+              let call : kept.0.call ≡ there.0.call = elim kept.2 [ inl same ↦ ap (λ (e : Entry ℕ ℕ). e.call) same | inr gets ↦ gets.1.call ] in
+              let same : kept.0 ≡ stands.entry = (let a = kept.1 in let b = stands.at in cc) in
+              let process : there.0.call.process ≡ q = ap (λ c. c.process) (sym call) ∙ ap (λ (e : Entry ℕ ℕ). e.call.process) same ∙ stands.process in
+              let nth : there.0.call.nth ≡ j = ap (λ c. c.nth) (sym call) ∙ ap (λ (e : Entry ℕ ℕ). e.call.nth) same ∙ stands.nth in
+              let early = IsRun-opened_world object n object.initial 1 seen.before (omega arith) accepted in
+              let less = (begun_run object (opened object n) seen.before object.initial early place there.0 there.1).1 in
+              let begun : w.begun there.0.call.process ≡ w.begun q = ap w.begun process in
+              let made = begun_made in
+              omega arith)
+        ]

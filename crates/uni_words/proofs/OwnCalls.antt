@@ -16,6 +16,7 @@ use Rattle.uni_words.specs.Log.{calls_by, log_of, replied}
 use Rattle.uni_words.specs.Shown.{HasReturned, IsShown}
 use Rattle.uni_words.specs.declared.view.View.{View}
 use Rattle.uni_words.proofs.Closing.{log_is}
+use Rattle.uni_words.proofs.Underway.{there_below}
 
 pub drop-here : {A : Type 0} (l : List A) (i : ℕ) (a : A) → slice_get l i ≡ Some a → drop i l ≡ a ∷ drop (suc i) l
 drop-here [] i a e = absurd (let f : None ≡ Some a = e in cc)
@@ -27,11 +28,6 @@ drop-past [] zero h = refl
 drop-past [] (suc i) h = refl
 drop-past (x ∷ xs) zero h = absurd (omega arith)
 drop-past (x ∷ xs) (suc i) h = drop-past xs i (omega arith)
-
-pub there_below : {A : Type 0} (l : List A) (i : ℕ) → i < length l → (a : A) × (slice_get l i ≡ Some a)
-there_below [] i h = absurd (omega arith)
-there_below (x ∷ xs) zero h = (x, refl)
-there_below (x ∷ xs) (suc i) h = there_below xs i (omega arith)
 
 -- a process that has no call pending, with the calls that it was given replies to
 module _ (object : Sequential ℕ ℕ ℕ) (row : ℕ) (w : WorldOf ℕ ℕ ℕ) (s : State ℕ View) (is : IsShown object row w s)
@@ -159,5 +155,5 @@ module _ (object : Sequential ℕ ℕ ℕ) (row : ℕ) (w : WorldOf ℕ ℕ ℕ)
   pub own_is : calls_by p (log_of w.n row s.words) ≡ map replied own
   own_is =
       let all = enough object w is.sound.0 is.sound.1 sound in
-      let each : era_calls w ≤ w.n * row = sum_below-bound w.n row (calls_in_era w) (λ q. let few = is.room q in omega arith) in
+      let each : era_calls w ≤ w.n * row = sum_below-bound w.n row (calls_in_era w) (λ q. let few = is.words.room q in omega arith) in
       ap (calls_by p) (log_is object row w s is) ∙ rest_is (w.n * row) 2 Anchor 0 sound.numbered.first (omega arith) around_anchor

@@ -1,5 +1,5 @@
 -- The calls of one process stand in the chain in their order.
-use Rattle.std.proofs.Common.{◌≡◌, ℕ, ◌<◌, ◌≤◌, Some, slice_get, arith}
+use Rattle.std.proofs.Common.{◌≡◌, ◌∙◌, ℕ, suc, ◌<◌, ◌≤◌, sym, ap, Some, length, slice_get, arith}
 use mathlib.Core.Option.{some}
 use lib.ListN.{get_elem?}
 use Rattle.atomic_table.specs.Table.{State}
@@ -7,18 +7,41 @@ use Rattle.seq_object.specs.Sequential.{Sequential}
 use Rattle.uni_model.specs.Places.{seq_of}
 use Rattle.uni_model.specs.Places.Name.{Of}
 use Rattle.uni_model.specs.Worlds.{WorldOf}
-use Rattle.uni_words.specs.Shown.{IsShown}
+use Rattle.uni_model.specs.History.{log}
+use Rattle.uni_model.proofs.Eras.{entry_at, number_of_entry}
+use Rattle.uni_words.specs.Log.{HasNumber, log_of}
+use Rattle.uni_words.specs.Shown.{IsShown, last_number}
+use Rattle.uni_words.specs.View.{own_of}
+use Rattle.uni_words.proofs.Closing.{log_of_world}
+use Rattle.uni_words.proofs.Underway.{there_below}
 use Rattle.uni_words.specs.declared.view.View.{View}
 
 -- a seat's own calls have rising numbers
 pub own_rises : (object : Sequential ℕ ℕ ℕ) (row : ℕ) (w : WorldOf ℕ ℕ ℕ) (s : State ℕ View) (is : IsShown object row w s) (id : ℕ) (v : View) → get_elem? s.views id ≡ some v → 1 ≤ v.known.count
-    → (j k : ℕ) (a b : ℕ × ℕ) → j < k → slice_get v.known.own j ≡ Some a → slice_get v.known.own k ≡ Some b
+    → (j k : ℕ) (a b : ℕ × ℕ) → j < k → slice_get v.known.its.own j ≡ Some a → slice_get v.known.its.own k ≡ Some b
     → seq_of w.memory (Of v.known.first j) < seq_of w.memory (Of v.known.first k)
 own_rises object row w s is id v at some_left j k a b less first second =
-    let local = (is.seats id v at).each v.known.first (omega arith) (omega (arith, some_left)) in
+    let local = ((is.seats.each id v at).each v.known.first (omega arith) (omega (arith, some_left))).1 in
     let early = (local.own j a first).threaded in
     let late = (local.own k b second).threaded in
     let early_num = is.sound.2.numbered.seq (Of v.known.first j) early in
     let late_num = is.sound.2.numbered.seq (Of v.known.first k) late in
     let order = is.sound.2.calls.order v.known.first j k less (omega arith) (omega arith) in
+    omega arith
+
+-- the last call that a seat made has its number in the log
+pub last_numbered : (object : Sequential ℕ ℕ ℕ) (row : ℕ) (w : WorldOf ℕ ℕ ℕ) (s : State ℕ View) (is : IsShown object row w s) (id : ℕ) (v : View) → get_elem? s.views id ≡ some v → v.known.count ≡ 1
+    → HasNumber (log_of w.n row s.words) (own_of v.known) v.known.its.number
+last_numbered object row w s is id v at single place e there mine last =
+    let local = ((is.seats.each id v at).each v.known.first (omega arith) (let one = single in omega arith)).1 in
+    let logged : slice_get (log w) place ≡ Some e = ap (λ l. slice_get l place) (log_of_world object row w s is) ∙ there in
+    let entry = (entry_at object w is.sound.0 is.sound.1 is.sound.2 place e logged).number in
+    let number = number_of_entry object w is.sound.0 is.sound.1 is.sound.2 place e logged in
+    let c = there_below v.known.its.own e.call.nth (omega (arith, last)) in
+    let cell : Of v.known.first e.call.nth ≡ Of e.call.process e.call.nth = ap (λ p. Of p e.call.nth) (sym mine) in
+    let seq = is.sound.2.numbered.seq (Of v.known.first e.call.nth) (local.own e.call.nth c.0 c.1).threaded in
+    let same : is.sound.0 (Of v.known.first e.call.nth) ≡ is.sound.0 (Of e.call.process e.call.nth) = ap is.sound.0 cell in
+    let next : suc e.call.nth ≡ length v.known.its.own = omega (arith, last) in
+    let known : v.known.its.number ≡ seq_of w.memory (Of v.known.first e.call.nth) = local.number ∙ ap (last_number w.memory v.known.first) (sym next) in
+    let anchor = is.sound.2.numbered.anchor in
     omega arith

@@ -1,5 +1,5 @@
 -- A run with one more event, and what it tells of each process.
-use Rattle.std.proofs.Common.{◌≡◌, ◌≢◌, ◌∙◌, ℕ, suc, ◌+◌, inl, inr, ⊎_elim, refl, sym, ap, subst, List, [], ◌∷◌, ◌++◌, append_assoc, append-nil, length, drop, map, Contains, Option, Some, None, IsSome, arith, set}
+use Rattle.std.proofs.Common.{◌≡◌, ◌≢◌, ◌∙◌, ℕ, suc, ◌+◌, ◌≤◌, inl, inr, ⊎_elim, refl, sym, ap, subst, List, [], ◌∷◌, ◌++◌, append_assoc, append-nil, length, drop, map, Contains, Option, Some, None, IsSome, arith, set}
 use Rattle.std.specs.Option.{option_map_or}
 use mathlib.Core.Option.{some}
 use lib.ListN.{get_elem?}
@@ -10,23 +10,23 @@ use Rattle.uni_model.specs.AtomicObject.{Act, Invoked}
 use Rattle.uni_model.specs.AtomicObject.Act.{Invoke, Linearize, Respond}
 use Rattle.uni_model.specs.Chain.{invoked_at}
 use Rattle.uni_model.specs.Growth.{EndsNoEra, EndNoEra}
-use Rattle.uni_model.specs.History.{acts_of, calls_of, history_of, log, log_of_run, responses_of}
+use Rattle.uni_model.specs.History.{acts_of, calls_of, log, log_of_run, responses_of}
 use Rattle.uni_model.specs.Places.{Name, Memory, inv_of}
 use Rattle.uni_model.specs.Places.Name.{Of}
 use Rattle.uni_model.specs.Stages.{Pending}
-use Rattle.uni_model.specs.Worlds.{WorldOf, Event, world_after, world_after_all, world_after_call, world_after_step, IsAccepted, AreAccepted}
+use Rattle.uni_model.specs.Worlds.{WorldOf, Event, world_after, world_after_all, world_after_call, world_after_step, IsAccepted}
 use Rattle.uni_model.specs.Transition.{response_after}
 use Rattle.uni_model.specs.Worlds.Event.{Call, Step, Trim, Reshape}
 use Rattle.uni_model.proofs.Written.{number_cases}
 use Rattle.uni_model.specs.ProcessCalls.{ProcessCalls, acts_by, sequential_acts}
-use Rattle.uni_model.proofs.Runs.{world_after_all-snoc, AreAccepted-snoc, history_of-append, history_of-snoc}
+use Rattle.uni_model.proofs.Runs.{world_after_all-snoc, AreAccepted-snoc, history_of-snoc}
 use Rattle.uni_words.specs.Laws.{Leads}
-use Rattle.uni_words.specs.Run.{opened, run_history, HaveReturned, HasSeen}
+use Rattle.uni_words.specs.Run.{opened, run_history, HasSeen}
 use Rattle.uni_words.specs.View.{Seen, Known}
 use Rattle.uni_words.specs.Shown.{IsLocal, IsAmong, IsShown, ShowsRun, LeadsTo, acts_in_view, pending_count, pending_acts}
 use Rattle.uni_words.specs.declared.view.View.{View}
 use Rattle.uni_words.proofs.Happens.{taken_apart}
-use Rattle.uni_words.proofs.Views.{Holds-kept, Holds-later}
+use Rattle.uni_words.proofs.Views.{Holds-kept, Holds-later, Holds-set}
 
 -- what a process takes in two histories, one after the other
 pub acts_by-append : (p : ℕ) (xs ys : List (Act ℕ ℕ)) → acts_by p (xs ++ ys) ≡ acts_by p xs ++ acts_by p ys
@@ -73,28 +73,18 @@ module _ (object : Sequential ℕ ℕ ℕ) where
       acts_by-linearized q (drop (length (calls_of w)) (calls_of (world_after object w (Step p)))) (option_map_or (λ (call : Pending). responses_of w.memory p call.mine (response_after call.mine call.stage w.memory)) (w.call p) [])
       ∙ ap (λ o. acts_by q (option_map_or (λ (call : Pending). responses_of w.memory p call.mine (response_after call.mine call.stage w.memory)) o [])) pending
 
-  response_elsewhere : (m : Memory ℕ ℕ ℕ) (p q : ℕ) (mine : Name) → q ≢ p → (o : Option ℕ) → acts_by q (responses_of m p mine o) ≡ []
+  response_elsewhere : (m : Memory ℕ ℕ ℕ) (p q : ℕ) (mine : Name) → q ≢ p → (o : Option ℕ) → acts_by {I = ℕ} q (responses_of m p mine o) ≡ []
   response_elsewhere m p q mine apart None = refl
   response_elsewhere m p q mine apart (Some r) = by_call (invoked_at m mine) where
-    by_call : (o : Option (Invoked ℕ)) → acts_by q (option_map_or (λ (c : Invoked ℕ). Respond p c.nth r ∷ []) o []) ≡ []
+    by_call : (o : Option (Invoked ℕ)) → acts_by {I = ℕ} q (option_map_or (λ (c : Invoked ℕ). Respond p c.nth r ∷ []) o []) ≡ []
     by_call None = refl
     by_call (Some c) = elim (number_cases p q) [ inl same ↦ absurd (apart (sym same.0)) | inr other ↦ rw other.1 refl ]
 
   response_here : (m : Memory ℕ ℕ ℕ) (p k inv r : ℕ) → inv_of m (Of p k) ≡ Some inv → acts_by p (responses_of m p (Of p k) (Some r)) ≡ Respond p k r ∷ []
   response_here m p k inv r asked = rw asked (elim (number_cases p p) [ inl same ↦ rw same.1 refl | inr other ↦ absurd (other.0 refl) ])
 
--- what has returned, and what was seen, stays so
+-- what was seen stays so
 module _ (object : Sequential ℕ ℕ ℕ) (n : ℕ) (events more : List (Event ℕ)) where
-  pub HaveReturned-more : (its : ProcessCalls ℕ ℕ) → HaveReturned object n events its → HaveReturned object n (events ++ more) its
-  HaveReturned-more its h =
-      let p = its.process in
-      let first = run_history object n events in
-      let then = history_of object (world_after_all object (opened object n) events) more in (
-        h.0 ++ acts_by p then,
-        ap (acts_by p) (history_of-append object (opened object n) events more)
-            ∙ (acts_by-append p first then ∙ (ap (λ l. l ++ acts_by p then) h.1 ∙ append_assoc (sequential_acts p 0 its.calls) h.0 (acts_by p then))),
-      )
-
   pub HasSeen-more : (s : Seen) → HasSeen object n events s → HasSeen object n (events ++ more) s
   HasSeen-more s h = record {
     before = h.before;
@@ -113,11 +103,22 @@ pub led : {object : Sequential ℕ ℕ ℕ} {row : ℕ} {w : WorldOf ℕ ℕ ℕ
     → ((events : List (Event ℕ)) × LeadsTo object n events w s.views) → Leads object row w s more w' s' → ShowsRun object n row s'
 led {more = more} {w' = w'} n count run leads = (w', count, leads.shown, (run.0 ++ more, leads.run n run.0 run.1))
 
+-- a process that has no call pending has made its calls, and no others
+pub idle_acts : (object : Sequential ℕ ℕ ℕ) (n : ℕ) (events : List (Event ℕ)) (w : WorldOf ℕ ℕ ℕ) (views : List View) → LeadsTo object n events w views → (id : ℕ) (v : View) → get_elem? views id ≡ some v → 1 ≤ v.known.count → v.known.its.call ≡ None
+    → acts_by v.known.first (run_history object n events) ≡ sequential_acts v.known.first 0 v.known.its.own
+idle_acts object n events w views run id v at some_left idle =
+    let p = v.known.first in
+    run.acts id v at p (omega arith, omega (arith, some_left))
+    ∙ (ap (λ o. sequential_acts p 0 v.known.its.own ++ pending_acts p (length v.known.its.own) v.known.its.inv o) idle ∙ append-nil (sequential_acts p 0 v.known.its.own))
+
 module _ (object : Sequential ℕ ℕ ℕ) (n row : ℕ) (w : WorldOf ℕ ℕ ℕ) (s : State ℕ View) (is : IsShown object row w s)
     (events : List (Event ℕ)) (run : LeadsTo object n events w s.views)
     (id : ℕ) (v : Known) (at : get_elem? s.views id ≡ some (record { known = v })) (single : v.count ≡ 1) where
-  local : IsLocal w is.owner id v.first v
-  local = (is.seats id (record { known = v }) at).each v.first (omega arith) (let one = single in omega arith)
+  own_seat : (is.seats.owner v.first ≡ id) × IsLocal w v.first v.its
+  own_seat = (is.seats.each id (record { known = v }) at).each v.first (omega arith) (let one = single in omega arith)
+
+  local : IsLocal w v.first v.its
+  local = own_seat.1
 
   -- the acts of each process afterwards, where those of the others are as before
   acts_later : (acts : List (Act ℕ ℕ)) (v' : Known) → v'.first ≡ v.first → v'.count ≡ 1
@@ -130,8 +131,8 @@ module _ (object : Sequential ℕ ℕ ℕ) (n row : ℕ) (w : WorldOf ℕ ℕ �
       subst (λ (z : View). acts_by q acts ≡ acts_in_view q z.known) h.1
       (subst (λ k. acts_by k acts ≡ acts_in_view k v') (sym same) own))
       (λ (h : (j ≢ id) × (get_elem? s.views j ≡ some u)).
-      let its = (is.seats j u h.1).each q among.0 among.1 in
-      others q (λ same. h.0 (sym its.seat ∙ (ap is.owner same ∙ local.seat))) ∙ run.acts j u h.1 q among)
+      let its = (is.seats.each j u h.1).each q among.0 among.1 in
+      others q (λ same. h.0 (sym its.0 ∙ (ap is.seats.owner same ∙ own_seat.0))) ∙ run.acts j u h.1 q among)
       (at_set s.views id j (record { known = v' }) u e)
 
   -- nor do the processes that were taken in act
@@ -147,34 +148,32 @@ module _ (object : Sequential ℕ ℕ ℕ) (n row : ℕ) (w : WorldOf ℕ ℕ �
       (at_set s.views id j (record { known = v' }) u e)
 
   -- no event: the seat knows of the same acts
-  pub run_stays : (v' : Known) → v'.first ≡ v.first → v'.count ≡ 1 → v'.taken ≡ v.taken → v'.told ≡ v.told → v'.seen ≡ v.seen → v'.own ≡ v.own → v'.inv ≡ v.inv → v'.call ≡ v.call → LeadsTo object n events w (set s.views id (record { known = v' }))
-  run_stays v' first_is count_is taken_is told_is seen_is own inv call = record {
+  pub run_stays : (v' : Known) → v'.first ≡ v.first → v'.count ≡ 1 → v'.taken ≡ v.taken → ((t : Seen) → Contains v'.seen t → HasSeen object n events t) → v'.its.own ≡ v.its.own → v'.its.inv ≡ v.its.inv → v'.its.call ≡ v.its.call
+      → LeadsTo object n events w (set s.views id (record { known = v' }))
+  run_stays v' first_is count_is taken_is sees own inv call = record {
     accepted = run.accepted;
     one_era = run.one_era;
     reached = run.reached;
     acts = acts_later (run_history object n events) v' first_is count_is (λ q apart. refl)
         (run.acts id (record { known = v }) at v.first (omega arith, (let one = single in omega arith))
-        ∙ ap (λ l. sequential_acts v.first 0 l ++ pending_acts v.first (length l) v.inv v.call) (sym own)
-        ∙ ap (λ i. sequential_acts v.first 0 v'.own ++ pending_acts v.first (length v'.own) i v.call) (sym inv)
-        ∙ ap (λ o. sequential_acts v.first 0 v'.own ++ pending_acts v.first (length v'.own) v'.inv o) (sym call));
+        ∙ ap (λ l. sequential_acts v.first 0 l ++ pending_acts v.first (length l) v.its.inv v.its.call) (sym own)
+        ∙ ap (λ i. sequential_acts v.first 0 v'.its.own ++ pending_acts v.first (length v'.its.own) i v.its.call) (sym inv)
+        ∙ ap (λ o. sequential_acts v.first 0 v'.its.own ++ pending_acts v.first (length v'.its.own) v'.its.inv o) (sym call));
     taken = takes_later (run_history object n events) v' taken_is (λ q apart. refl);
-    told = Holds-kept (λ (u : View). u.known.told) (HaveReturned object n events) s.views id (record { known = v }) (record { known = v' }) at told_is run.told;
-    seen = Holds-kept (λ (u : View). u.known.seen) (HasSeen object n events) s.views id (record { known = v }) (record { known = v' }) at seen_is run.seen;
+    seen = Holds-set (λ (u : View). u.known.seen) (HasSeen object n events) s.views id (record { known = v' }) run.seen sees;
   }
 
   -- one more event, by the process of the seat
-  run_more : (e : Event ℕ) → IsAccepted w e → EndsNoEra e → (w' : WorldOf ℕ ℕ ℕ) → world_after object w e ≡ w' → (v' : Known) → v'.first ≡ v.first → v'.count ≡ 1 → v'.taken ≡ v.taken → v'.told ≡ v.told → v'.seen ≡ v.seen
+  run_more : (e : Event ℕ) → IsAccepted w e → EndsNoEra e → (w' : WorldOf ℕ ℕ ℕ) → world_after object w e ≡ w' → (v' : Known) → v'.first ≡ v.first → v'.count ≡ 1 → v'.taken ≡ v.taken → v'.seen ≡ v.seen
       → ((q : ℕ) → q ≢ v.first → acts_by q (acts_of object w e) ≡ []) → acts_in_view v.first v ++ acts_by v.first (acts_of object w e) ≡ acts_in_view v.first v'
       → LeadsTo object n (events ++ e ∷ []) w' (set s.views id (record { known = v' }))
-  run_more e ok goes w' later v' first_is count_is taken_is told_is seen_is others own = record {
+  run_more e ok goes w' later v' first_is count_is taken_is seen_is others own = record {
     accepted = AreAccepted-snoc object (opened object n) events e run.accepted (subst (λ u. IsAccepted u e) (sym run.reached) ok);
     one_era = one_era_more object events e run.one_era goes;
     reached = world_after_all-snoc object (opened object n) events e ∙ (ap (λ u. world_after object u e) run.reached ∙ later);
     acts = acts_later (run_history object n (events ++ e ∷ [])) v' first_is count_is same
         (more v.first ∙ (ap (λ l. l ++ acts_by v.first (acts_of object w e)) (run.acts id (record { known = v }) at v.first (omega arith, (let one = single in omega arith))) ∙ own));
     taken = takes_later (run_history object n (events ++ e ∷ [])) v' taken_is same;
-    told = Holds-kept (λ (u : View). u.known.told) (HaveReturned object n (events ++ e ∷ [])) s.views id (record { known = v }) (record { known = v' }) at told_is
-        (Holds-later (λ (u : View). u.known.told) (HaveReturned object n events) (HaveReturned object n (events ++ e ∷ [])) s.views (HaveReturned-more object n events (e ∷ [])) run.told);
     seen = Holds-kept (λ (u : View). u.known.seen) (HasSeen object n (events ++ e ∷ [])) s.views id (record { known = v }) (record { known = v' }) at seen_is
         (Holds-later (λ (u : View). u.known.seen) (HasSeen object n events) (HasSeen object n (events ++ e ∷ [])) s.views (HasSeen-more object n events (e ∷ [])) run.seen);
   } where
@@ -186,53 +185,53 @@ module _ (object : Sequential ℕ ℕ ℕ) (n row : ℕ) (w : WorldOf ℕ ℕ �
     same q apart = more q ∙ (ap (λ l. acts_by q (run_history object n events) ++ l) (others q apart) ∙ append-nil (acts_by q (run_history object n events)))
 
   -- a call is begun
-  pub run_begins : (idle : v.call ≡ None) (inv : ℕ) (c : Pending) (v' : Known) → v'.first ≡ v.first → v'.count ≡ 1 → v'.taken ≡ v.taken → v'.told ≡ v.told → v'.seen ≡ v.seen → v'.own ≡ v.own → v'.inv ≡ inv → v'.call ≡ Some c
+  pub run_begins : (idle : v.its.call ≡ None) (inv : ℕ) (c : Pending) (v' : Known) → v'.first ≡ v.first → v'.count ≡ 1 → v'.taken ≡ v.taken → v'.seen ≡ v.seen → v'.its.own ≡ v.its.own → v'.its.inv ≡ inv → v'.its.call ≡ Some c
       → LeadsTo object n (events ++ Call v.first inv ∷ []) (world_after_call w v.first inv) (set s.views id (record { known = v' }))
-  run_begins idle inv c v' first_is count_is taken_is told_is seen_is own asked call =
-      let nth : w.begun v.first ≡ length v.own = (let b = local.begun in let k : v.begun ≡ length v.own + 0 = subst (λ o. v.begun ≡ length v.own + pending_count o) idle local.counted in omega arith) in
-      run_more (Call v.first inv) (local.inside, local.call ∙ idle) tt (world_after_call w v.first inv) refl v' first_is count_is taken_is told_is seen_is
+  run_begins idle inv c v' first_is count_is taken_is seen_is own asked call =
+      let nth : w.begun v.first ≡ length v.its.own = (let b = local.begun in let k : v.its.begun ≡ length v.its.own + 0 = subst (λ o. v.its.begun ≡ length v.its.own + pending_count o) idle local.counted in omega arith) in
+      run_more (Call v.first inv) (local.inside, local.call ∙ idle) tt (world_after_call w v.first inv) refl v' first_is count_is taken_is seen_is
       (λ q apart. elim (number_cases v.first q) [ inl same ↦ absurd (apart (sym same.0)) | inr other ↦ rw other.1 refl ])
-      (ap (λ o. (sequential_acts v.first 0 v.own ++ pending_acts v.first (length v.own) v.inv o) ++ acts_by v.first (Invoke v.first (w.begun v.first) inv ∷ [])) idle
-      ∙ (ap (λ l. l ++ acts_by v.first (Invoke v.first (w.begun v.first) inv ∷ [])) (append-nil (sequential_acts v.first 0 v.own))
-      ∙ (ap (λ l. sequential_acts v.first 0 v.own ++ l) (elim (number_cases v.first v.first) [ inl same ↦ rw same.1 (ap (λ k. Invoke v.first k inv ∷ []) nth) | inr other ↦ absurd (other.0 refl) ])
+      (ap (λ o. (sequential_acts v.first 0 v.its.own ++ pending_acts v.first (length v.its.own) v.its.inv o) ++ acts_by v.first (Invoke v.first (w.begun v.first) inv ∷ [])) idle
+      ∙ (ap (λ l. l ++ acts_by v.first (Invoke v.first (w.begun v.first) inv ∷ [])) (append-nil (sequential_acts v.first 0 v.its.own))
+      ∙ (ap (λ l. sequential_acts v.first 0 v.its.own ++ l) (elim (number_cases v.first v.first) [ inl same ↦ rw same.1 (ap (λ k. Invoke v.first k inv ∷ []) nth) | inr other ↦ absurd (other.0 refl) ])
       ∙ (ap (λ l. sequential_acts v.first 0 l ++ Invoke v.first (length l) inv ∷ []) (sym own)
-      ∙ (ap (λ i. sequential_acts v.first 0 v'.own ++ Invoke v.first (length v'.own) i ∷ []) (sym asked)
-      ∙ ap (λ o. sequential_acts v.first 0 v'.own ++ pending_acts v.first (length v'.own) v'.inv o) (sym call))))))
+      ∙ (ap (λ i. sequential_acts v.first 0 v'.its.own ++ Invoke v.first (length v'.its.own) i ∷ []) (sym asked)
+      ∙ ap (λ o. sequential_acts v.first 0 v'.its.own ++ pending_acts v.first (length v'.its.own) v'.its.inv o) (sym call))))))
 
-  module _ (c : Pending) (pending : v.call ≡ Some c) where
+  module _ (c : Pending) (pending : v.its.call ≡ Some c) where
     own_call : w.call v.first ≡ Some c
     own_call = local.call ∙ pending
 
     -- a step after which the call goes on
-    pub run_moves : (response_after c.mine c.stage w.memory) ≡ None → (d : Pending) (v' : Known) → v'.first ≡ v.first → v'.count ≡ 1 → v'.taken ≡ v.taken → v'.told ≡ v.told → v'.seen ≡ v.seen → v'.own ≡ v.own → v'.inv ≡ v.inv → v'.call ≡ Some d
+    pub run_moves : (response_after c.mine c.stage w.memory) ≡ None → (d : Pending) (v' : Known) → v'.first ≡ v.first → v'.count ≡ 1 → v'.taken ≡ v.taken → v'.seen ≡ v.seen → v'.its.own ≡ v.its.own → v'.its.inv ≡ v.its.inv → v'.its.call ≡ Some d
         → LeadsTo object n (events ++ Step v.first ∷ []) (world_after_step object w v.first (Some c)) (set s.views id (record { known = v' }))
-    run_moves silent d v' first_is count_is taken_is told_is seen_is own asked call =
-        run_more (Step v.first) (subst IsSome (sym own_call) refl) tt (world_after_step object w v.first (Some c)) (ap (world_after_step object w v.first) own_call) v' first_is count_is taken_is told_is seen_is
+    run_moves silent d v' first_is count_is taken_is seen_is own asked call =
+        run_more (Step v.first) (subst IsSome (sym own_call) refl) tt (world_after_step object w v.first (Some c)) (ap (world_after_step object w v.first) own_call) v' first_is count_is taken_is seen_is
         (λ q apart. step_acts object w v.first c own_call q ∙ response_elsewhere object w.memory v.first q c.mine apart (response_after c.mine c.stage w.memory))
         (ap (λ l. acts_in_view v.first v ++ l) (step_acts object w v.first c own_call v.first ∙ ap (λ o. acts_by v.first (responses_of w.memory v.first c.mine o)) silent)
         ∙ (append-nil (acts_in_view v.first v)
-        ∙ (ap (λ o. sequential_acts v.first 0 v.own ++ pending_acts v.first (length v.own) v.inv o) pending
-        ∙ (ap (λ l. sequential_acts v.first 0 l ++ Invoke v.first (length l) v.inv ∷ []) (sym own)
-        ∙ (ap (λ i. sequential_acts v.first 0 v'.own ++ Invoke v.first (length v'.own) i ∷ []) (sym asked)
-        ∙ ap (λ o. sequential_acts v.first 0 v'.own ++ pending_acts v.first (length v'.own) v'.inv o) (sym call))))))
+        ∙ (ap (λ o. sequential_acts v.first 0 v.its.own ++ pending_acts v.first (length v.its.own) v.its.inv o) pending
+        ∙ (ap (λ l. sequential_acts v.first 0 l ++ Invoke v.first (length l) v.its.inv ∷ []) (sym own)
+        ∙ (ap (λ i. sequential_acts v.first 0 v'.its.own ++ Invoke v.first (length v'.its.own) i ∷ []) (sym asked)
+        ∙ ap (λ o. sequential_acts v.first 0 v'.its.own ++ pending_acts v.first (length v'.its.own) v'.its.inv o) (sym call))))))
 
     -- the last step of a call
-    pub run_ends : (reply : ℕ) → (response_after c.mine c.stage w.memory) ≡ Some reply → c.mine ≡ Of v.first (length v.own) → inv_of w.memory c.mine ≡ Some v.inv
-        → (v' : Known) → v'.first ≡ v.first → v'.count ≡ 1 → v'.taken ≡ v.taken → v'.told ≡ v.told → v'.seen ≡ v.seen → v'.own ≡ v.own ++ (v.inv, reply) ∷ [] → v'.call ≡ None
+    pub run_ends : (reply : ℕ) → (response_after c.mine c.stage w.memory) ≡ Some reply → c.mine ≡ Of v.first (length v.its.own) → inv_of w.memory c.mine ≡ Some v.its.inv
+        → (v' : Known) → v'.first ≡ v.first → v'.count ≡ 1 → v'.taken ≡ v.taken → v'.seen ≡ v.seen → v'.its.own ≡ v.its.own ++ (v.its.inv, reply) ∷ [] → v'.its.call ≡ None
         → LeadsTo object n (events ++ Step v.first ∷ []) (world_after_step object w v.first (Some c)) (set s.views id (record { known = v' }))
-    run_ends reply answer mine asked v' first_is count_is taken_is told_is seen_is own call =
-        let k : ℕ = length v.own in
-        let k_is : k ≡ length v.own + 0 = omega arith in
-        run_more (Step v.first) (subst IsSome (sym own_call) refl) tt (world_after_step object w v.first (Some c)) (ap (world_after_step object w v.first) own_call) v' first_is count_is taken_is told_is seen_is
+    run_ends reply answer mine asked v' first_is count_is taken_is seen_is own call =
+        let k : ℕ = length v.its.own in
+        let k_is : k ≡ length v.its.own + 0 = omega arith in
+        run_more (Step v.first) (subst IsSome (sym own_call) refl) tt (world_after_step object w v.first (Some c)) (ap (world_after_step object w v.first) own_call) v' first_is count_is taken_is seen_is
         (λ q apart. step_acts object w v.first c own_call q ∙ response_elsewhere object w.memory v.first q c.mine apart (response_after c.mine c.stage w.memory))
         (ap (λ l. acts_in_view v.first v ++ l) (step_acts object w v.first c own_call v.first
         ∙ (ap (λ o. acts_by v.first (responses_of w.memory v.first c.mine o)) answer
         ∙ (ap (λ x. acts_by v.first (responses_of w.memory v.first x (Some reply))) mine
-        ∙ response_here object w.memory v.first k v.inv reply (subst (λ x. inv_of w.memory x ≡ Some v.inv) mine asked))))
-        ∙ (ap (λ o. (sequential_acts v.first 0 v.own ++ pending_acts v.first k v.inv o) ++ Respond v.first k reply ∷ []) pending
-        ∙ (append_assoc (sequential_acts v.first 0 v.own) (Invoke v.first k v.inv ∷ []) (Respond v.first k reply ∷ [])
-        ∙ (ap (λ j. sequential_acts v.first 0 v.own ++ Invoke v.first j v.inv ∷ Respond v.first j reply ∷ []) k_is
-        ∙ (sym (sequential_acts-append v.first 0 v.own (v.inv, reply))
+        ∙ response_here object w.memory v.first k v.its.inv reply (subst (λ x. inv_of w.memory x ≡ Some v.its.inv) mine asked))))
+        ∙ (ap (λ o. (sequential_acts v.first 0 v.its.own ++ pending_acts v.first k v.its.inv o) ++ Respond v.first k reply ∷ []) pending
+        ∙ (append_assoc (sequential_acts v.first 0 v.its.own) (Invoke v.first k v.its.inv ∷ []) (Respond v.first k reply ∷ [])
+        ∙ (ap (λ j. sequential_acts v.first 0 v.its.own ++ Invoke v.first j v.its.inv ∷ Respond v.first j reply ∷ []) k_is
+        ∙ (sym (sequential_acts-append v.first 0 v.its.own (v.its.inv, reply))
         ∙ (ap (sequential_acts v.first 0) (sym own)
-        ∙ (sym (append-nil (sequential_acts v.first 0 v'.own))
-        ∙ ap (λ o. sequential_acts v.first 0 v'.own ++ pending_acts v.first (length v'.own) v'.inv o) (sym call))))))))
+        ∙ (sym (append-nil (sequential_acts v.first 0 v'.its.own))
+        ∙ ap (λ o. sequential_acts v.first 0 v'.its.own ++ pending_acts v.first (length v'.its.own) v'.its.inv o) (sym call))))))))

@@ -1,23 +1,21 @@
 -- A seat of several processes is cut in two.
-use Rattle.std.proofs.Common.{◌≡◌, ◌≢◌, ◌∙◌, ℕ, zero, suc, ◌+◌, ◌-◌, ◌<◌, ◌≤◌, ◌⊎◌, inl, inr, refl, sym, ap, subst, List, [], ◌∷◌, ◌++◌, length, Contains, arith, set, length-set}
+use Rattle.std.proofs.Common.{◌≡◌, ◌≢◌, ◌∙◌, ℕ, zero, suc, ◌<◌, ◌≤◌, ◌⊎◌, inl, inr, refl, sym, ap, subst, List, [], ◌∷◌, ◌++◌, length, Contains, arith, set, length-set}
 use mathlib.Core.Option.{some, some-injective, some-ne-none}
 use lib.ListN.{get_elem?}
 use Rattle.atomic_table.specs.Table.{State, Splits}
-use Rattle.atomic_table.proofs.Lists.{at_set, at_longer, at_last, set_else}
+use Rattle.atomic_table.proofs.Lists.{at_set}
 use Rattle.seq_object.specs.Sequential.{Sequential}
 use Rattle.uni_model.specs.AtomicObject.{set_at}
 use Rattle.uni_model.specs.Worlds.{WorldOf, Event}
 use Rattle.uni_model.proofs.Simulation.{set_at_same}
-use Rattle.uni_model.proofs.Written.{number_cases}
 use Rattle.uni_model.proofs.LawProofs.{set_at_elsewhere}
-use Rattle.uni_model.specs.ProcessCalls.{ProcessCalls, acts_by}
+use Rattle.uni_model.specs.ProcessCalls.{ProcessCalls, acts_by, sequential_acts}
 use Rattle.uni_words.specs.Laws.{Leads, after_split}
-use Rattle.uni_words.specs.Run.{run_history, HaveReturned, HasSeen}
-use Rattle.uni_words.specs.View.{Seen, Known}
+use Rattle.uni_words.specs.Run.{run_history, HasSeen}
 use Rattle.uni_words.specs.Seats.{first_alone, others}
-use Rattle.uni_words.specs.Shown.{IsLocal, IsTaken, Tells, IsAmong, HasProcess, IsShown, LeadsTo, ShowsRun, acts_in_view}
+use Rattle.uni_words.specs.Shown.{IsLocal, Tells, IsAmong, IsShown, LeadsTo, ShowsRun, acts_in_view}
 use Rattle.uni_words.specs.declared.view.View.{View}
-use Rattle.uni_words.proofs.Happens.{set_there, taken_apart}
+use Rattle.uni_words.proofs.Happens.{taken_apart}
 use Rattle.uni_words.proofs.Running.{led, no_more}
 use Rattle.uni_words.proofs.Views.{Holds-kept, Holds-push}
 
@@ -33,72 +31,26 @@ at_below [] j b e = absurd (some-ne-none b (sym e))
 at_below (x ∷ xs) zero b e = omega arith
 at_below (x ∷ xs) (suc j) b e = let h = at_below xs j b e in omega arith
 
--- the numbers of a seat's processes, and what it was told by others, say nothing of each of them
-pub with_range : (w : WorldOf ℕ ℕ ℕ) (l : ℕ → ℕ) (j q : ℕ) (u : Known) (first count : ℕ) (taken told : List (ProcessCalls ℕ ℕ)) (seen : List Seen) → IsLocal w l j q u
-    → IsLocal w l j q (record u { first = first; count = count; taken = taken; told = told; seen = seen })
-with_range w l j q u first count taken told seen h = record {
-  inside = h.inside;
-  seat = h.seat;
-  call = h.call;
-  begun = h.begun;
-  steps = h.steps;
-  turns = h.turns;
-  underway = h.underway;
-  counted = h.counted;
-  own = h.own;
-}
-
 module _ (object : Sequential ℕ ℕ ℕ) (row id : ℕ) (v : View) (some_left : 1 ≤ v.known.count) where
   module _ (w : WorldOf ℕ ℕ ℕ) (s : State ℕ View) (is : IsShown object row w s) (at : get_elem? s.views id ≡ some v) where
     abbrev seat_of : ℕ → ℕ
-    seat_of = set_at is.owner v.known.first (length s.views)
+    seat_of = set_at is.seats.owner v.known.first (length s.views)
 
     abbrev views' : List View
     views' = set s.views id (others v) ++ first_alone v ∷ []
 
-    told : Tells w is.owner row id v.known
-    told = is.seats id v at
+    told : Tells w is.seats.owner row id v.known
+    told = is.seats.each id v at
 
-    first_local : IsLocal w is.owner id v.known.first v.known
+    first_local : (is.seats.owner v.known.first ≡ id) × IsLocal w v.known.first v.known.its
     first_local = told.each v.known.first (omega arith) (omega (arith, some_left))
 
     -- a process that isn't the one that leaves has its seat as before
-    stays : (j q : ℕ) (u : Known) → q ≢ v.known.first → IsLocal w is.owner j q u → IsLocal w seat_of j q u
-    stays j q u apart h = record {
-      inside = h.inside;
-      seat = set_at_elsewhere is.owner v.known.first (length s.views) q apart ∙ h.seat;
-      call = h.call;
-      begun = h.begun;
-      steps = h.steps;
-      turns = h.turns;
-      underway = h.underway;
-      counted = h.counted;
-      own = h.own;
-    }
+    stays : (q : ℕ) → q ≢ v.known.first → seat_of q ≡ is.seats.owner q
+    stays q apart = set_at_elsewhere is.seats.owner v.known.first (length s.views) q apart
 
-    -- nor does a process that was taken in
-    taken_stays : (j : ℕ) (u : View) (there : get_elem? s.views j ≡ some u) (c : ProcessCalls ℕ ℕ) → Contains u.known.taken c → IsTaken w is.owner j c → IsTaken w seat_of j c
-    taken_stays j u there c has h = record {
-      inside = h.inside;
-      seat = set_at_elsewhere is.owner v.known.first (length s.views) c.process (taken_apart object row w s is id v at some_left j u there c has) ∙ h.seat;
-      call = h.call;
-      begun = h.begun;
-      own = h.own;
-    }
-
-    moved_seat : (l : ℕ → ℕ) (j : ℕ) (h : IsLocal w is.owner id v.known.first v.known) → j ≡ length s.views
-        → IsLocal w seat_of j v.known.first v.known
-    moved_seat l j h e = record {
-      inside = h.inside;
-      seat = set_at_same is.owner v.known.first (length s.views) ∙ sym e;
-      call = h.call;
-      begun = h.begun;
-      steps = h.steps;
-      turns = h.turns;
-      underway = h.underway;
-      counted = h.counted;
-      own = h.own;
-    }
+    taken_stays : (j : ℕ) (u : View) (there : get_elem? s.views j ≡ some u) (c : ProcessCalls ℕ ℕ) → Contains u.known.taken c → seat_of c.process ≡ is.seats.owner c.process
+    taken_stays j u there c has = stays c.process (taken_apart object row w s is id v at some_left j u there c has)
 
     seats_later : (j : ℕ) (u : View) → get_elem? views' j ≡ some u → Tells w seat_of row j u.known
     seats_later j u e = elim (at_end (set s.views id (others v)) (first_alone v) u j e) [
@@ -110,20 +62,21 @@ module _ (object : Sequential ℕ ℕ ℕ) (row id : ℕ) (v : View) (some_left 
               processes = λ any. told.processes some_left;
               calls = λ any. told.calls some_left;
               several = λ two. told.several (omega (arith, two));
-              taken = λ c has. let its = told.taken c has in (taken_stays id v at c has its.0, λ among. its.1 (omega (arith, among.0), omega (arith, among.1, some_left)));
+              taken = λ c has. let its = told.taken c has in (taken_stays id v at c has ∙ its.0, its.1, λ among. its.2 (omega (arith, among.0), omega (arith, among.1, some_left)));
               each = λ q from to.
-                  with_range w seat_of id q v.known (v.known.first + 1) (v.known.count - 1) v.known.taken v.known.told v.known.seen (stays id q v.known (λ same. omega (arith, same, from)) (told.each q (omega (arith, from)) (omega (arith, to, some_left))));
+                  let local = told.each q (omega (arith, from)) (omega (arith, to, some_left)) in
+                  (stays q (λ same. omega (arith, same, from)) ∙ local.0, local.1);
             }))
         | inr other ↦
-            let its = is.seats j u other.1 in
+            let its = is.seats.each j u other.1 in
             record {
               processes = its.processes;
               calls = its.calls;
               several = its.several;
-              taken = λ c has. let taken = its.taken c has in (taken_stays j u other.1 c has taken.0, taken.1);
+              taken = λ c has. let taken = its.taken c has in (taken_stays j u other.1 c has ∙ taken.0, taken.1, taken.2);
               each = λ q from to.
                   let local = its.each q from to in
-                  stays j q u.known (λ same. other.0 (sym local.seat ∙ (ap is.owner same ∙ first_local.seat))) local;
+                  (stays q (λ same. other.0 (sym local.0 ∙ (ap is.seats.owner same ∙ first_local.0))) ∙ local.0, local.1);
             }
       ]
       | inr new ↦
@@ -136,52 +89,12 @@ module _ (object : Sequential ℕ ℕ ℕ) (row id : ℕ) (v : View) (some_left 
             taken = λ c has. absurd (let k = has.1 in omega arith);
             each = λ q from to.
                 let same : v.known.first ≡ q = omega (arith, from, to) in
-                subst (λ k. IsLocal w seat_of j k (first_alone v).known) same (with_range w seat_of j v.known.first v.known v.known.first 1 [] [] [] (moved_seat seat_of j first_local place));
+                subst (λ k. (seat_of k ≡ j) × IsLocal w k v.known.its) same (set_at_same is.seats.owner v.known.first (length s.views) ∙ sym place, first_local.1);
           })
     ]
 
-    seated_later : (q : ℕ) → q < w.n → (u : View) × (get_elem? views' (seat_of q) ≡ some u) × HasProcess q u.known
-    seated_later q inside = elim (number_cases q v.known.first) [
-      | inl here ↦ (
-        first_alone v,
-        at_last (set s.views id (others v)) (first_alone v) (seat_of q) (length-set s.views id (others v) ∙ sym (ap seat_of here.0 ∙ set_at_same is.owner v.known.first (length s.views))),
-        inl (let e = here.0 in omega arith, let e = here.0 in omega arith),
-      )
-      | inr other ↦
-          let was = is.seated q inside in
-          let own : seat_of q ≡ is.owner q = set_at_elsewhere is.owner v.known.first (length s.views) q other.0 in
-          elim (number_cases (is.owner q) id) [
-            | inl mine ↦
-                let same : was.0 ≡ v = some-injective _ _ (sym (subst (λ k. get_elem? s.views k ≡ some was.0) mine.0 was.1) ∙ at) in
-                let among : HasProcess q v.known = subst (λ (z : View). HasProcess q z.known) same was.2 in (
-                  others v,
-                  at_longer (set s.views id (others v)) (first_alone v ∷ []) (seat_of q) (others v)
-                      (subst (λ k. get_elem? (set s.views id (others v)) k ≡ some (others v)) (sym (own ∙ mine.0)) (set_there s.views id v (others v) at)),
-                  elim among [ inl a ↦ inl (omega (arith, a.0, other.0), omega (arith, a.1, some_left)) | inr c ↦ inr c ],
-                )
-            | inr else ↦ (
-              was.0,
-              at_longer (set s.views id (others v)) (first_alone v ∷ []) (seat_of q) was.0
-                  (ap (get_elem? (set s.views id (others v))) own ∙ (set_else s.views id (is.owner q) (others v) else.0 ∙ was.1)),
-              was.2,
-            )
-          ]
-    ]
-
     split_kept : IsShown object row w (record { words = s.words; homes = s.homes; views = views' })
-    split_kept = record {
-      owner = seat_of;
-      wide = is.wide;
-      memory = is.memory;
-      seats = seats_later;
-      seated = seated_later;
-      number = is.number;
-      state = is.state;
-      room = is.room;
-      fits = is.fits;
-      sound = is.sound;
-      counts = is.counts;
-    }
+    split_kept = record { words = is.words; seats = record { owner = seat_of; each = seats_later }; sound = is.sound; counts = is.counts }
 
     split_run : (n : ℕ) (events : List (Event ℕ)) → LeadsTo object n events w s.views → LeadsTo object n events w views'
     split_run n events run = record {
@@ -201,18 +114,12 @@ module _ (object : Sequential ℕ ℕ ℕ) (row id : ℕ) (v : View) (some_left 
             subst (λ (z : View). acts_by p (run_history object n events) ≡ acts_in_view p z.known) new.1
             (run.acts id v at p (here.0, omega (arith, here.1, some_left)))
       ];
-      taken = λ j u e c has. elim (at_end (set s.views id (others v)) (first_alone v) u j e) [
-        | inl old ↦ elim (at_set s.views id j (others v) u old) [
-          | inl mine ↦ run.taken id v at c (subst (λ (z : View). Contains z.known.taken c) (sym mine.1) has)
-          | inr other ↦ run.taken j u other.1 c has
-        ]
-        | inr new ↦ absurd (let none : Contains (first_alone v).known.taken c = subst (λ (z : View). Contains z.known.taken c) (sym new.1) has in let k = none.1 in omega arith)
-      ];
-      told = Holds-push (λ (u : View). u.known.told) (HaveReturned object n events) (set s.views id (others v)) (first_alone v)
-          (Holds-kept (λ (u : View). u.known.told) (HaveReturned object n events) s.views id v (others v) at refl run.told) (λ a has. absurd (let k = has.1 in omega arith));
+      taken = Holds-push (λ (u : View). u.known.taken) Acts (set s.views id (others v)) (first_alone v) (Holds-kept (λ (u : View). u.known.taken) Acts s.views id v (others v) at refl run.taken) (λ a has. absurd (let k = has.1 in omega arith));
       seen = Holds-push (λ (u : View). u.known.seen) (HasSeen object n events) (set s.views id (others v)) (first_alone v)
           (Holds-kept (λ (u : View). u.known.seen) (HasSeen object n events) s.views id v (others v) at refl run.seen) (λ a has. absurd (let k = has.1 in omega arith));
-    }
+    } where
+      Acts : ProcessCalls ℕ ℕ → Type 0
+      Acts c = acts_by c.process (run_history object n events) ≡ sequential_acts c.process 0 c.calls
 
     pub split_leads : Leads object row w s [] w (after_split s id v)
     split_leads = record { shown = split_kept; run = λ n events run. no_more object n events w views' (split_run n events run) }

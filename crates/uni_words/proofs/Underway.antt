@@ -1,6 +1,7 @@
 -- What a seat knows stays while the memory grows.
-use Rattle.std.proofs.Common.{◌≡◌, ◌∙◌, ℕ, ◌≤◌, refl, sym, subst, Option, Some, None, option_and_then, ap}
+use Rattle.std.proofs.Common.{◌≡◌, ◌∙◌, ℕ, zero, suc, ◌<◌, ◌≤◌, refl, sym, subst, List, [], ◌∷◌, length, slice_get, Option, Some, None, option_and_then, ap, arith}
 use Rattle.uni_model.specs.Places.{Name, Memory, new_of}
+use Rattle.uni_model.specs.Places.Name.{Of}
 use Rattle.uni_model.specs.Stages.{Stage, Pending}
 use Rattle.uni_model.specs.Stages.Stage.{Announce, ScanHead, ScanSeq, WriteScan, Test, ReadAnnounce, ReadHelpSeq, DecideAfter, DecideNew, WriteBefore, WriteSeq, WriteHead, Finish}
 use Rattle.uni_model.specs.Chain.{response_in}
@@ -9,7 +10,12 @@ use Rattle.uni_model.specs.Settled.{Grows}
 use Rattle.uni_words.specs.Words.{IsShared}
 use Rattle.uni_words.specs.View.{Reading}
 use Rattle.uni_words.specs.View.Reading.{Nothing, Invocation, Applied, Reply}
-use Rattle.uni_words.specs.Shown.{HasReturned, HasRead, IsUnderway}
+use Rattle.uni_words.specs.Shown.{HasReturned, HasRead, IsUnderway, last_number}
+
+pub there_below : {A : Type 0} (l : List A) (i : ℕ) → i < length l → (a : A) × (slice_get l i ≡ Some a)
+there_below [] i h = absurd (omega arith)
+there_below (x ∷ xs) zero h = (x, refl)
+there_below (x ∷ xs) (suc i) h = there_below xs i (omega arith)
 
 module _ (m m' : Memory ℕ ℕ ℕ) (grows : Grows m m') where
   pub response-grows : (x : Name) (r : ℕ) → response_in m x ≡ Some r → response_in m' x ≡ Some r
@@ -24,6 +30,12 @@ module _ (m m' : Memory ℕ ℕ ℕ) (grows : Grows m m') where
     threaded = subst (λ t. 1 ≤ t) (sym (grows.seq x h.threaded)) h.threaded;
     reply_is = response-grows x reply h.reply_is;
   }
+
+  pub last_number-grows : (p : ℕ) (own : List (ℕ × ℕ)) → ((j : ℕ) (c : ℕ × ℕ) → slice_get own j ≡ Some c → HasReturned m (Of p j) c.0 c.1) → last_number m' p (length own) ≡ last_number m p (length own)
+  last_number-grows p own returned = by_count (length own) refl where
+    by_count : (k : ℕ) → length own ≡ k → last_number m' p k ≡ last_number m p k
+    by_count zero e = refl
+    by_count (suc k) e = let c = there_below own k (omega (arith, e)) in grows.seq (Of p k) (returned k c.0 c.1).threaded
 
   pub HasRead-grows : (mine : Name) (stage : Stage) (read : Reading) → HasRead m mine stage read → HasRead m' mine stage read
   HasRead-grows mine stage Nothing h = tt

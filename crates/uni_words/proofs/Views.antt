@@ -1,9 +1,27 @@
 -- What holds of each thing that the views tell.
-use Rattle.std.proofs.Common.{◌≡◌, ℕ, inl, inr, sym, subst, List, [], ◌∷◌, ◌++◌, Contains, set}
+use Rattle.std.proofs.Common.{All, ◌≡◌, ◌⊎◌, ℕ, inl, inr, refl, sym, subst, List, [], ◌∷◌, ◌++◌, Contains, set, arith}
+use Rattle.std.proofs.lemmas.List.Elements.{Contains-append_cases, Contains-append_right, Contains-get_or, Contains-push_cases}
 use mathlib.Core.Option.{some}
 use lib.ListN.{get_elem?}
 use Rattle.atomic_table.proofs.Lists.{at_set, at_snoc}
 use Rattle.uni_words.specs.declared.view.View.{View}
+
+-- an element of a list is its first, or among the others
+pub first_or : {A : Type 0} (x : A) (xs : List A) (c : A) → Contains (x ∷ xs) c → (x ≡ c) ⊎ Contains xs c
+first_or x xs c has = elim (Contains-append_cases (x ∷ []) xs c has) [
+  | inl one ↦ elim (Contains-push_cases [] x c one) [ inl none ↦ absurd (let k = none.1 in omega arith) | inr same ↦ inl same ]
+  | inr more ↦ inr more
+]
+
+pub first_there : {A : Type 0} (x : A) (xs : List A) → Contains (x ∷ xs) x
+first_there x xs = (0, omega arith, refl)
+
+pub later_there : {A : Type 0} (x : A) (xs : List A) (c : A) → Contains xs c → Contains (x ∷ xs) c
+later_there x xs c has = Contains-append_right (x ∷ []) xs c has
+
+-- what holds of each element
+pub All-each : {A : Type 0} (P : A → Type 0) (xs : List A) → ((x : A) → Contains xs x → P x) → All P xs
+All-each P xs each k d inside = each _ (Contains-get_or xs k d inside)
 
 module _ {A : Type 0} (tells : View → List A) where
   -- P holds of each element of what each view tells

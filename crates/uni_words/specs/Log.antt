@@ -66,11 +66,17 @@ pub record IsLogged (log : List (Entry ℕ ℕ)) (its : ProcessCalls ℕ ℕ) : 
   pub numbered : (place : ℕ) (e : Entry ℕ ℕ) → slice_get log place ≡ Some e → e.call.process ≡ its.process
       → e.call.nth ≡ calls_among its.process (take place log)
 
--- Before each call that the process of `made` made afterwards, wherever it stands in the log, stands each call of `earlier`.
+-- before each call that the process of `made` made afterwards, wherever it stands in the log, stands each call of `earlier`
 abbrev pub IsInOrder : List (Entry ℕ ℕ) → Seen → Type 0
 IsInOrder log s =
-    (i j place : ℕ) → i < length s.earlier.calls → length s.made.calls ≤ j → StandsAt log s.made.process j place
+    (i j place : ℕ) → i < s.earlier.count → length s.made.calls ≤ j → StandsAt log s.made.process j place
     → (before : ℕ) × (before < place) × StandsAt log s.earlier.process i before
+
+-- where a process has made these calls, the entry of the last one has this number
+abbrev pub HasNumber : List (Entry ℕ ℕ) → ProcessCalls ℕ ℕ → (number : ℕ) → Type 0
+HasNumber log its number =
+    (place : ℕ) (e : Entry ℕ ℕ) → slice_get log place ≡ Some e → e.call.process ≡ its.process → e.call.nth + 1 ≡ length its.calls
+    → e.number ≡ number
 
 -- an entry of the code, as one of the definitions
 abbrev pub entry_shown : WordEntry → Entry ℕ ℕ

@@ -1,10 +1,11 @@
 -- What a run tells: the acts of one process in a history, and that a log is a run's.
-use Rattle.std.specs.Prelude.{All, ◌≡◌, ℕ, ◌+◌, ◌==◌, List, [], ◌∷◌, ◌++◌, if◌then◌else◌, refl, replicate, Contains, Some}
+use Rattle.std.specs.Prelude.{All, ◌≡◌, ℕ, zero, suc, ◌<◌, List, [], ◌∷◌, ◌++◌, refl, replicate, Contains, Some}
+use Rattle.std.proofs.Common.{arith}
 use Rattle.seq_object.specs.Sequential.{Sequential}
 use Rattle.uni_model.specs.AtomicObject.{Act}
 use Rattle.uni_model.specs.AtomicObject.Act.{Invoke, Linearize, Respond}
 use Rattle.uni_model.specs.Chain.{Entry}
-use Rattle.uni_model.specs.Eras.{KeepsRealTime}
+use Rattle.uni_model.specs.Eras.{KeepsRealTime, StandsAt}
 use Rattle.uni_model.specs.History.{history_of, log_of_run}
 use Rattle.uni_model.specs.Responses.{HoldsResponses}
 use Rattle.uni_model.specs.Universal.{IsUniversal}
@@ -12,7 +13,7 @@ use Rattle.uni_model.specs.Worlds.{WorldOf, Event, opened_world, AreAccepted}
 use Rattle.uni_model.specs.Worlds.Event.{Call, Step}
 use Rattle.uni_model.specs.ProcessCalls.{ProcessCalls, acts_by, sequential_acts}
 use Rattle.uni_words.specs.Objects.{tally}
-use Rattle.uni_words.specs.View.{Seen}
+use Rattle.uni_words.specs.View.{FirstCalls, Seen}
 
 module _ (object : Sequential ℕ ℕ ℕ) (n : ℕ) where
   -- n processes that have made no call: the anchor has the number 1 and the start state
@@ -23,18 +24,17 @@ module _ (object : Sequential ℕ ℕ ℕ) (n : ℕ) where
   abbrev pub run_history : List (Event ℕ) → List (Act ℕ ℕ)
   run_history events = history_of object opened events
 
-  -- in the history of these events a process made these calls first, and all of them have returned
-  abbrev pub HaveReturned : List (Event ℕ) → ProcessCalls ℕ ℕ → Type 0
-  HaveReturned events its =
-      (rest : List (Act ℕ ℕ)) × (acts_by its.process (run_history events) ≡ sequential_acts its.process 0 its.calls ++ rest)
+  -- these calls stand in the log of a run
+  abbrev pub AreLogged : List (Event ℕ) → FirstCalls → Type 0
+  AreLogged events its = (i : ℕ) → i < its.count → (place : ℕ) × StandsAt (log_of_run object opened events) its.process i place
 
-  -- After some of these events the calls of `earlier` had returned, and the process of `made` had made those calls, all of which had
+  -- After some of these events the calls of `earlier` stood in the log, and the process of `made` had made those calls, all of which had
   -- returned, and no others: each further call of it begins later.
   pub record HasSeen (events : List (Event ℕ)) (s : Seen) : Type 0 where
     pub before : List (Event ℕ)
     pub after : List (Event ℕ)
     pub joins : events ≡ before ++ after
-    pub earlier : HaveReturned before s.earlier
+    pub earlier : AreLogged before s.earlier
     pub made : acts_by s.made.process (run_history before) ≡ sequential_acts s.made.process 0 s.made.calls
 
   -- The log is that of a run of n processes: it is the joined log of events that are accepted one after another from the opening on.
@@ -72,5 +72,14 @@ sample_joined = refl
 
 -- process 0 has returned before process 1 begins a call: 16 own steps, of two processes
 sample_order : HasSeen tally 2 (Call 0 5 ∷ replicate 16 (Step 0) ++ Call 1 3 ∷ [])
-    (record { earlier = record { process = 0; calls = (5, 0) ∷ [] }; made = record { process = 1; calls = [] } })
-sample_order = record { before = Call 0 5 ∷ replicate 16 (Step 0); after = Call 1 3 ∷ []; joins = refl; earlier = ([], refl); made = refl }
+    (record { earlier = record { process = 0; count = 1 }; made = record { process = 1; calls = [] } })
+sample_order = record {
+  before = Call 0 5 ∷ replicate 16 (Step 0);
+  after = Call 1 3 ∷ [];
+  joins = refl;
+  earlier = logged;
+  made = refl;
+} where
+  logged : AreLogged tally 2 (Call 0 5 ∷ replicate 16 (Step 0)) (record { process = 0; count = 1 })
+  logged zero inside = (0, record { entry = _; at = refl; process = refl; nth = refl })
+  logged (suc i) inside = absurd (omega arith)

@@ -102,12 +102,7 @@ inv_at n row words begun (Of p k) = if nat_lt k (begun p) then Some (word_at n r
 -- what the shared places contain
 abbrev pub memory_of : (n row : ℕ) → List ℕ → (begun : ℕ → ℕ) → Memory ℕ ℕ ℕ
 memory_of n row words begun (InvOf x) = Invocation (inv_at n row words begun x)
-memory_of n row words begun (Announced p) = content_of n (Announced p) (word_at n row words (Announced p))
-memory_of n row words begun (HeadOf p) = content_of n (HeadOf p) (word_at n row words (HeadOf p))
-memory_of n row words begun (SeqOf x) = content_of n (SeqOf x) (word_at n row words (SeqOf x))
-memory_of n row words begun (AfterOf x) = content_of n (AfterOf x) (word_at n row words (AfterOf x))
-memory_of n row words begun (NewOf x) = content_of n (NewOf x) (word_at n row words (NewOf x))
-memory_of n row words begun (BeforeOf x) = content_of n (BeforeOf x) (word_at n row words (BeforeOf x))
+memory_of n row words begun place = content_of n place (word_at n row words place)
 
 -- the places that steps touch: all but invocations
 abbrev pub IsShared : Place → Type 0

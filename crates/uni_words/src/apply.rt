@@ -1,24 +1,32 @@
 //! A call from its start to its reply.
 ghost use Rattle.std.specs.Prelude.{◌≡◌, ◌↔◌, ◌+◌, ◌*◌, ◌<◌, ◌≤◌, ◌++◌, ◌∷◌};
 ghost use Rattle.std.specs.Prelude.{[], IsErr, IfOk, OnOk, OnErr};
-ghost use Rattle.uni_words.specs.Standing.{StandsAt, GoesBy, IsIdle, IsCountOf};
-ghost use Rattle.uni_model.specs.Indices.{name_of};
+ghost use Rattle.uni_words.specs.Standing.{GetsOn, GoesBy, IsCountOf, IsCursor};
+ghost use Rattle.uni_words.specs.Standing.{IsIdle, Stands, StandsAt, cell_at, head_at};
 ghost use Rattle.uni_words.specs.Words.{cells_of};
 ghost use Rattle.uni_words.specs.Belongs.{IsSeatOf, processes_of, row_of, process_of, calls_made, own_calls};
-ghost use Rattle.uni_words.specs.Belongs.{taken_calls, seen_by, latest_turns, view_of, word_steps_of};
+ghost use Rattle.uni_words.specs.Belongs.{taken_calls, seen_by, latest_number, latest_turns, view_of, word_steps_of};
 ghost use Rattle.uni_model.specs.Places.Name.{Anchor};
 ghost use Rattle.uni_model.specs.Stages.Stage.{ScanHead, WriteScan, Test, ReadAnnounce, Finish};
 
+use crate::cursor::Cursor;
 use crate::log::WordLog;
 use crate::object::WordObject;
-use crate::steps::WordSeat;
+use crate::seat::WordSeat;
 use crate::view::View;
 use atomic_table::Seat;
+use seq_object::CallId;
 
-/// What a call answers: its reply, and how many turns it took.
+/// What a call answers.
 #[derive(Debug, Clone, Copy, PartialEq, Eq, Drop)]
 pub struct Answer {
+    /// The call, by which others can ask about it.
+    pub call: CallId,
+    /// Its reply.
     pub reply: u32,
+    /// Its number in the log, whose first entry has 2.
+    pub number: u64,
+    /// How many turns it took.
     pub turns: u32,
 }
 
@@ -27,99 +35,80 @@ pub struct Answer {
 pub struct RowFull;
 
 impl<O: WordObject> WordLog<O> {
-    /// The scan of the heads: the greatest cell that it finds, and its number.
-    pub(crate) fn scan(&self, seat: &mut Seat<u8, View>, p: u64, mine: u64) -> (u64, u64)
+    /// The scan of the heads: the greatest cell that it finds is the head.
+    pub(crate) fn scan(&self, seat: &mut Seat<u8, View>, at: Cursor) -> Cursor
         requires table { seat.old.table_id ≡ self.now.table.shared.table_id }
-        requires stands { StandsAt self.now.setup.n self.now.setup.k p (name_of self.now.setup.n mine)
-            (ScanHead 0 Anchor 0) seat.old.me }
+        requires cursor { IsCursor self.now at }
+        requires stands { Stands self.now at (ScanHead 0 Anchor 0) seat.old.me }
         ensures same { (seat.new.table_id ≡ seat.old.table_id) × (seat.new.id ≡ seat.old.id) }
-        ensures stands { StandsAt self.now.setup.n self.now.setup.k p (name_of self.now.setup.n mine)
-            (WriteScan (name_of self.now.setup.n result.0) result.1) seat.new.me }
+        ensures on { GetsOn self.now at result }
+        ensures stands { Stands self.now result (WriteScan (head_at self.now result) result.number) seat.new.me }
         ensures goes { GoesBy seat.old.me seat.new.me (2 * self.now.setup.n) 0 }
-        ensures within { (result.0 < cells_of self.now.setup.n self.now.setup.k)
-            × (result.1 ≤ cells_of self.now.setup.n self.now.setup.k) }
     {
-        let mut best = 0;
-        let mut best_seq = 0;
+        let mut best = at;
+        best.head = 0;
+        best.number = 0;
         for q in 0..self.setup.n {
-            let h = self.scan_head(seat, p, mine, q, best, best_seq);
-            let s = self.scan_seq(seat, p, mine, q, best, best_seq, h);
-            if s > best_seq {
-                best = h;
-                best_seq = s;
+            let h = self.scan_head(seat, best, q);
+            let s = self.scan_seq(seat, best, q, h);
+            if s > best.number {
+                best.head = h;
+                best.number = s;
             }
         }
-        (best, best_seq)
+        best
     }
 
-    /// A turn, after a test that found no number: the cell after c, which is the process's head then.
-    pub(crate) fn turn(
-        &self,
-        seat: &mut Seat<u8, View>,
-        p: u64,
-        mine: u64,
-        c: u64,
-        c_seq: u64,
-    ) -> u64
+    /// A turn, after a test that found no number: the head is the cell after the head then.
+    pub(crate) fn turn(&self, seat: &mut Seat<u8, View>, at: Cursor) -> Cursor
         requires table { seat.old.table_id ≡ self.now.table.shared.table_id }
-        requires inside { (p < self.now.setup.n) × (mine < cells_of self.now.setup.n self.now.setup.k)
-            × (c < cells_of self.now.setup.n self.now.setup.k)
-            × (c_seq ≤ cells_of self.now.setup.n self.now.setup.k) }
-        requires stands { StandsAt self.now.setup.n self.now.setup.k p (name_of self.now.setup.n mine)
-            (ReadAnnounce (name_of self.now.setup.n c) c_seq) seat.old.me }
+        requires cursor { IsCursor self.now at }
+        requires stands { Stands self.now at (ReadAnnounce (head_at self.now at) at.number) seat.old.me }
         ensures same { (seat.new.table_id ≡ seat.old.table_id) × (seat.new.id ≡ seat.old.id) }
-        ensures stands { StandsAt self.now.setup.n self.now.setup.k p (name_of self.now.setup.n mine)
-            (Test (name_of self.now.setup.n result) (c_seq + 1)) seat.new.me }
+        ensures on { GetsOn self.now at result }
+        ensures next { result.number ≡ at.number + 1 }
+        ensures stands { Stands self.now result (Test (head_at self.now result) result.number) seat.new.me }
         ensures goes { GoesBy seat.old.me seat.new.me 9 0 }
-        ensures within { (result < cells_of self.now.setup.n self.now.setup.k)
-            × (c_seq + 1 ≤ cells_of self.now.setup.n self.now.setup.k) }
     {
-        let help = self.read_announce(seat, p, mine, c, c_seq);
-        let help_seq = self.read_help_seq(seat, p, mine, c, c_seq, help);
-        let prefer = if help_seq == 0 { help } else { mine };
-        let found = self.decide_after(seat, p, mine, c, c_seq, prefer);
+        let help = self.read_announce(seat, at);
+        let help_seq = self.read_help_seq(seat, at, help);
+        let prefer = if help_seq == 0 { help } else { at.cell };
+        let found = self.decide_after(seat, at, prefer);
         let d = if found == 0 { prefer } else { found - 1 };
-        let inv = self.load_inv(seat, p, mine, c, c_seq, d);
-        let new = self.load_new(seat, p, mine, c, c_seq, d, inv);
+        let inv = self.load_inv(seat, at, d);
+        let new = self.load_new(seat, at, d, inv);
         let state = (new / 4_294_967_296) as u32;
-        self.decide_new(seat, p, mine, c, c_seq, d, inv, state);
-        self.write_before(seat, p, mine, c, c_seq, d);
-        self.write_seq(seat, p, mine, c, c_seq, d);
-        self.write_head(seat, p, mine, c, c_seq, d);
-        d
+        self.decide_new(seat, at, d, inv, state);
+        self.write_before(seat, at, d);
+        self.write_seq(seat, at, d);
+        self.write_head(seat, at, d);
+        let mut next = at;
+        next.head = d;
+        next.number += 1;
+        next
     }
 
-    /// Turns until `mine` has a number: how many there were, the number of the process's head, and that of `mine`.
-    pub(crate) fn turns(
-        &self,
-        seat: &mut Seat<u8, View>,
-        p: u64,
-        mine: u64,
-        best: u64,
-        best_seq: u64,
-    ) -> (u64, u64, u64)
+    /// Turns until the call's cell has a number: how many there were, the number of the process's head, and
+    /// that of the cell.
+    pub(crate) fn turns(&self, seat: &mut Seat<u8, View>, at: Cursor) -> (u64, u64, u64)
         requires table { seat.old.table_id ≡ self.now.table.shared.table_id }
-        requires inside { (p < self.now.setup.n) × (mine < cells_of self.now.setup.n self.now.setup.k)
-            × (best < cells_of self.now.setup.n self.now.setup.k)
-            × (best_seq ≤ cells_of self.now.setup.n self.now.setup.k) }
-        requires stands { StandsAt self.now.setup.n self.now.setup.k p (name_of self.now.setup.n mine)
-            (Test (name_of self.now.setup.n best) best_seq) seat.old.me }
-        requires first { seat.old.me.0.known.turns ≡ 0 }
+        requires cursor { IsCursor self.now at }
+        requires stands { Stands self.now at (Test (head_at self.now at) at.number) seat.old.me }
+        requires first { seat.old.me.0.known.its.turns ≡ 0 }
         ensures same { (seat.new.table_id ≡ seat.old.table_id) × (seat.new.id ≡ seat.old.id) }
-        ensures stands { StandsAt self.now.setup.n self.now.setup.k p (name_of self.now.setup.n mine)
+        ensures stands { StandsAt self.now.setup.n self.now.setup.k at.process (cell_at self.now at.cell)
             (Finish result.1 result.2) seat.new.me }
+        ensures number { result.1 ≤ cells_of self.now.setup.n self.now.setup.k }
         ensures goes { GoesBy seat.old.me seat.new.me (10 * result.0 + 1) result.0 }
         ensures bound { result.0 ≤ self.now.setup.n + 1 }
     {
-        let mut c = best;
-        let mut c_seq = best_seq;
+        let mut at = at;
         for turns in 0..self.setup.n + 2 {
-            let found = self.test(seat, p, mine, c, c_seq);
+            let found = self.test(seat, at);
             if found != 0 {
-                return (turns, c_seq, found);
+                return (turns, at.number, found);
             }
-            c = self.turn(seat, p, mine, c, c_seq);
-            c_seq += 1;
+            at = self.turn(seat, at);
         }
         unreachable!()
     }
@@ -131,36 +120,52 @@ impl<O: WordObject> WordLog<O> {
         requires idle { IsIdle self.now.setup.n self.now.setup.k p nth seat.old.me }
         ensures same { (seat.new.table_id ≡ seat.old.table_id) × (seat.new.id ≡ seat.old.id) }
         ensures idle { IsIdle self.now.setup.n self.now.setup.k p (nth + 1) seat.new.me }
-        ensures own { seat.new.me.0.known.own ≡ seat.old.me.0.known.own ++ (inv, result.reply) ∷ [] }
+        ensures own { seat.new.me.0.known.its.own ≡ seat.old.me.0.known.its.own ++ (inv, result.reply) ∷ [] }
+        ensures call { (result.call.process ≡ p) × (result.call.nth ≡ nth) }
+        ensures number { seat.new.me.0.known.its.number ≡ result.number }
+        ensures rises { seat.old.me.0.known.its.number < result.number }
         ensures taken { seat.new.me.0.known.taken ≡ seat.old.me.0.known.taken }
         ensures seen { seat.new.me.0.known.seen ≡ seat.old.me.0.known.seen }
-        ensures turns { seat.new.me.0.known.turns ≡ result.turns }
+        ensures turns { seat.new.me.0.known.its.turns ≡ result.turns }
         ensures few_turns { result.turns ≤ self.now.setup.n + 1 }
-        ensures steps { IsCountOf self.now.setup.n seat.new.me.0.known.turns seat.old.me.0.known seat.new.me.0.known }
+        ensures steps { IsCountOf self.now.setup.n seat.new.me.0.known.its.turns
+            seat.old.me.0.known seat.new.me.0.known }
     {
-        let mine = self.cell(p, nth);
-        self.store_inv(seat, p, nth, mine, inv);
-        self.announce(seat, p, mine);
-        let (best, best_seq) = self.scan(seat, p, mine);
-        self.write_scan(seat, p, mine, best, best_seq);
-        let (turns, c_seq, mine_seq) = self.turns(seat, p, mine, best, best_seq);
-        let word = self.load_reply(seat, p, mine, c_seq, mine_seq);
+        let at = Cursor {
+            process: p,
+            cell: self.cell(p, nth),
+            head: 0,
+            number: 0,
+        };
+        self.store_inv(seat, at, nth, inv);
+        self.announce(seat, at);
+        let mut at = self.scan(seat, at);
+        self.write_scan(seat, at);
+        let (turns, number, mine_seq) = self.turns(seat, at);
+        at.number = number;
+        let word = self.load_reply(seat, at, mine_seq);
         let reply = (word % 4_294_967_296 / 2) as u32;
-        if mine_seq > c_seq {
-            self.finish(seat, p, mine, c_seq, mine_seq, reply);
+        if mine_seq > number {
+            self.finish(seat, at, mine_seq, reply);
         }
         Answer {
+            call: CallId {
+                process: p as u32,
+                nth,
+            },
             reply,
+            number: mine_seq,
             turns: turns as u32,
         }
     }
 }
 
 impl WordSeat {
-    /// Applies the invocation: the reply, and how many turns it took. It returns after a known
+    /// Applies the invocation: the call, its reply, its number, and how many turns it took. It returns after a known
     /// number of word steps, whatever the other seats do, and takes no memory and no lock. The seat
     /// is one of this log's. With n processes a call of so many turns takes `2n + 5` word steps and
-    /// ten a turn; where its last step stores the head that is one more, which the seat counts.
+    /// ten a turn; where its last step stores the head that is one more, which the seat counts. The
+    /// numbers of a seat's calls rise.
     ///
     /// The error says that the seat has made all the calls that it can make; nothing is changed then.
     pub fn apply<O: WordObject>(&mut self, log: &WordLog<O>, inv: u64) -> Result<Answer, RowFull>
@@ -169,6 +174,10 @@ impl WordSeat {
         ensures full { IsErr result ↔ (calls_made self.old ≡ row_of log.now) }
         ensures unchanged { OnErr result (self.new ≡ self.old) }
         ensures own { IfOk result (λ answer. own_calls self.new ≡ own_calls self.old ++ (inv, answer.reply) ∷ []) }
+        ensures call { IfOk result (λ answer. (answer.call.process ≡ process_of self.old)
+            × (answer.call.nth ≡ calls_made self.old)) }
+        ensures number { IfOk result (λ answer. latest_number self.new ≡ answer.number) }
+        ensures rises { IfOk result (λ answer. latest_number self.old < answer.number) }
         ensures taken { taken_calls self.new ≡ taken_calls self.old }
         ensures seen { seen_by self.new ≡ seen_by self.old }
         ensures made { OnOk result (calls_made self.new ≡ calls_made self.old + 1) }

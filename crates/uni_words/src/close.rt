@@ -1,18 +1,18 @@
 //! Closing a log.
-ghost use Rattle.std.specs.Prelude.{◌≡◌, ◌≤◌, ◌++◌, All, flat_map, map, vec_len};
+ghost use Rattle.std.specs.Prelude.{◌≡◌, ◌≤◌, All, flat_map, map, vec_len};
 ghost use Rattle.seq_object.specs.History.{IsLegal};
 ghost use Rattle.uni_model.specs.History.{logged_call};
 ghost use Rattle.uni_words.specs.Belongs.{AreAllSeats, IsSeatOf, object_of, processes_of, row_of, own_calls};
-ghost use Rattle.uni_words.specs.Belongs.{calls_made, calls_of, known_calls, seen_by};
+ghost use Rattle.uni_words.specs.Belongs.{calls_of, known_calls, latest_number, seen_by};
 ghost use Rattle.uni_words.specs.Belongs.{count_in, row_in, words_in, log_in};
 ghost use Rattle.uni_words.specs.Compare.{Agrees};
 ghost use Rattle.uni_words.specs.Run.{IsLogOfRun, IsLogOfSeenRun};
-ghost use Rattle.uni_words.specs.Log.{AreAnswered, AreCallsOf, IsChained, IsInOrder, IsLogged};
+ghost use Rattle.uni_words.specs.Log.{AreAnswered, AreCallsOf, HasNumber, IsChained, IsInOrder, IsLogged};
 
 use crate::log::WordLog;
 use crate::object::WordObject;
-use crate::rule::{Setup, TakesIn};
-use crate::steps::WordSeat;
+use crate::rule::Setup;
+use crate::seat::WordSeat;
 use crate::words::Words;
 
 impl<O: WordObject> WordLog<O> {
@@ -28,9 +28,12 @@ impl<O: WordObject> WordLog<O> {
     /// after another, and each responds with the reply that the seat was given; so does each process
     /// whose seat was taken in, whose calls in the log are its own too.
     ///
-    /// That run is one in which all was so that the seat has seen of receipts, itself or by seats that
-    /// it took in. So each call that a seat made after it had taken in a receipt stands in the log
-    /// after the calls of that receipt.
+    /// In that run all was so that the seat has seen, itself or by seats that it took in. So each call
+    /// that a seat made after it had asked about another one, and was answered yes, stands in the log
+    /// after that one. Of a seat that asked and was dropped no clause says so: the rule of the table
+    /// keeps what it saw, but closing hands out the view of one seat alone.
+    ///
+    /// The entry of the seat's latest call has the number that the call was answered.
     pub fn close_with(self, seat: WordSeat) -> Words
         requires seat { IsSeatOf self seat }
         ensures counts { (count_in result ≡ processes_of self) × (row_in result ≡ row_of self) }
@@ -46,6 +49,7 @@ impl<O: WordObject> WordLog<O> {
         ensures seen { let object = O.sequential (object_of self) in
             IsLogOfSeenRun object (processes_of self) (log_in result) (known_calls seat) (seen_by seat) }
         ensures order { All (IsInOrder (log_in result)) (seen_by seat) }
+        ensures number { HasNumber (log_in result) (calls_of seat) (latest_number seat) }
     {
         let WordLog { setup, table } = self;
         let Setup { object, n, k } = setup;
@@ -60,6 +64,8 @@ impl<O: WordObject> WordLog<O> {
 
     /// Closes the log with these seats, of which there is one at least: what `close_with` tells of one
     /// seat's process is told of each one's. It costs one load for each seat but one.
+    ///
+    /// What these seats saw was so in the run, and orders their calls in the log.
     ///
     /// With the seats of all processes, in order, the log and what their callers were told agree, so
     /// that `differs` finds nothing.
@@ -90,21 +96,5 @@ impl<O: WordObject> WordLog<O> {
             first.take_in(&self, seat);
         }
         self.close_with(first)
-    }
-}
-
-impl WordSeat {
-    /// Takes in another seat of this log: this seat knows its calls then, and has seen what it saw of
-    /// receipts. It costs one load. For this seat's later calls to come after the other's, take in a
-    /// receipt of the other seat before.
-    pub fn take_in<O: WordObject>(&mut self, log: &WordLog<O>, other: WordSeat)
-        requires seats { IsSeatOf log.now self.old × IsSeatOf log.now other }
-        ensures kept { IsSeatOf log.now self.new × (calls_of self.new ≡ calls_of self.old) }
-        ensures made { calls_made self.new ≡ calls_made self.old }
-        ensures known { known_calls self.new ≡ known_calls self.old ++ known_calls other }
-        ensures seen { seen_by self.new ≡ seen_by self.old ++ seen_by other }
-    {
-        let WordSeat { seat, .. } = other;
-        log.table.shared.join_seat::<TakesIn>(&mut self.seat, seat);
     }
 }

@@ -1,5 +1,5 @@
-//! The laws of the word steps, and of opening, splitting, joining and receipts, each the contract of a function
-//! with an empty body.
+//! The laws of the word steps, and of opening, splitting, joining and asking, each the contract of a
+//! function with an empty body.
 
 ghost use Rattle.std.specs.Prelude.{ℕ};
 ghost use Rattle.atomic_table.specs.Table.{State};
@@ -7,7 +7,8 @@ ghost use Rattle.uni_model.specs.Places.{Name};
 ghost use Rattle.uni_model.specs.Stages.{Stage, Pending};
 ghost use Rattle.uni_model.specs.Worlds.{WorldOf};
 ghost use Rattle.uni_words.specs.Laws.{StoreBegins, WordStepMoves, StoreEnds, LoadEnds, LoadKeeps, OwnCallsRise};
-ghost use Rattle.uni_words.specs.Laws.{OpeningShows, SplitKeeps, JoinKeeps, ReceiptKeeps, NoteKeeps};
+ghost use Rattle.uni_words.specs.Laws.{AskKeeps, JoinKeeps, OpeningShows, ReturnedIsThere, SplitKeeps};
+ghost use Rattle.seq_object.specs.declared.call_id.CallId.{CallId};
 ghost use Rattle.uni_words.specs.View.{Known, Reading};
 ghost use Rattle.uni_words.specs.declared.view.View.{View};
 
@@ -31,17 +32,17 @@ pub fn join_keeps<O: WordObject>()
         JoinKeeps (O.sequential object) row w s id v other x }
 {}
 
-/// A seat gives a receipt: the world and the run to it stay as they are.
-pub fn receipt_keeps<O: WordObject>()
-    ensures { (object : O) (row : ℕ) (w : WorldOf ℕ ℕ ℕ) (s : State ℕ View) (id : ℕ) (v : View) →
-        ReceiptKeeps (O.sequential object) row w s id v }
+/// A call that has returned has a number: to ask about it is always answered yes.
+pub fn returned_is_there<O: WordObject>()
+    ensures { (object : O) (row : ℕ) (w : WorldOf ℕ ℕ ℕ) (s : State ℕ View) (call : CallId) (word : ℕ) →
+        ReturnedIsThere (O.sequential object) row w s call word }
 {}
 
-/// A seat takes in a receipt: the world and the run to it stay as they are.
-pub fn note_keeps<O: WordObject>()
-    ensures { (object : O) (row : ℕ) (w : WorldOf ℕ ℕ ℕ) (s : State ℕ View) (id : ℕ) (v : View)
-        (other : ℕ) (x : View) →
-        NoteKeeps (O.sequential object) row w s id v other x }
+/// A seat asks about a call: the world and the run to it stay as they are.
+pub fn ask_keeps<O: WordObject>()
+    ensures { (object : O) (row : ℕ) (w : WorldOf ℕ ℕ ℕ) (s : State ℕ View) (id : ℕ) (v : Known)
+        (call : CallId) (word : ℕ) →
+        AskKeeps (O.sequential object) row w s id v call word }
 {}
 
 /// The store of an invocation is the event that begins a call.

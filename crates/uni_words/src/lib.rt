@@ -5,14 +5,16 @@ mod apply;
 mod calls;
 mod close;
 mod compare;
+mod cursor;
+mod follows;
 mod laws;
 mod log;
 mod object;
 mod objects;
 mod open;
 mod read;
-mod receipts;
 mod rule;
+mod seat;
 mod steps;
 mod view;
 mod words;
@@ -20,12 +22,12 @@ mod words;
 pub use apply::{Answer, RowFull};
 pub use compare::differs;
 pub use laws::{
-    join_keeps, load_ends, load_keeps, note_keeps, opening_shows, own_calls_rise, receipt_keeps,
+    ask_keeps, join_keeps, load_ends, load_keeps, opening_shows, own_calls_rise, returned_is_there,
     split_keeps, store_begins, store_ends, word_step_moves,
 };
 pub use log::{WordLog, WordOpenFault};
 pub use object::WordObject;
 pub use objects::{WordSticky, WordTally};
 pub use read::{WordEntry, read_log};
-pub use steps::{WordReceipt, WordSeat};
+pub use seat::WordSeat;
 pub use words::Words;

@@ -1,4 +1,8 @@
 //! The rule of the table, and what its steps tell.
+ghost use Rattle.uni_words.specs.Shown.{ShowsRun};
+ghost use Rattle.uni_words.specs.Seats.{EndsCall, HasAsked, HasBegun, Moved, TellsInv, TellsReply, TellsState};
+ghost use Rattle.uni_words.specs.Seats.{first_alone, first_view, nobody, others, took_in};
+
 use crate::object::WordObject;
 use crate::view::View;
 use atomic_table::{Join, Play, Split, Table, TableRule};
@@ -20,9 +24,6 @@ pub struct Universal<O> {
 }
 
 impl<O: WordObject> TableRule<u8, View, Setup<O>> for Universal<O> {
-    ghost use Rattle.uni_words.specs.Shown.{ShowsRun};
-    ghost use Rattle.uni_words.specs.Seats.{first_view};
-
     ghost holds = { λ key. ShowsRun (O.sequential key.object) key.n key.k };
 
     ghost first = { λ key. first_view key.n key.k };
@@ -32,8 +33,6 @@ impl<O: WordObject> TableRule<u8, View, Setup<O>> for Universal<O> {
 pub struct Moves;
 
 impl Play<u8, View> for Moves {
-    ghost use Rattle.uni_words.specs.Seats.{Moved};
-
     ghost then = { Moved };
 }
 
@@ -41,8 +40,6 @@ impl Play<u8, View> for Moves {
 pub struct Begins;
 
 impl Play<u8, View> for Begins {
-    ghost use Rattle.uni_words.specs.Seats.{HasBegun};
-
     ghost then = { HasBegun };
 }
 
@@ -50,8 +47,6 @@ impl Play<u8, View> for Begins {
 pub struct LooksInv;
 
 impl Play<u8, View> for LooksInv {
-    ghost use Rattle.uni_words.specs.Seats.{TellsInv};
-
     ghost then = { TellsInv };
 }
 
@@ -59,8 +54,6 @@ impl Play<u8, View> for LooksInv {
 pub struct LooksNew;
 
 impl Play<u8, View> for LooksNew {
-    ghost use Rattle.uni_words.specs.Seats.{TellsState};
-
     ghost then = { TellsState };
 }
 
@@ -68,26 +61,27 @@ impl Play<u8, View> for LooksNew {
 pub struct LooksReply;
 
 impl Play<u8, View> for LooksReply {
-    ghost use Rattle.uni_words.specs.Seats.{TellsReply};
-
     ghost then = { TellsReply };
 }
 
-/// A store of the head, which ends a call where it is its last step.
-pub struct StoresHead;
+/// A store of the head that is the last step of a call.
+pub struct Ends;
 
-impl Play<u8, View> for StoresHead {
-    ghost use Rattle.uni_words.specs.Standing.{HeadIsStored};
+impl Play<u8, View> for Ends {
+    ghost then = { EndsCall };
+}
 
-    ghost then = { HeadIsStored };
+/// A load of the number of a call that a seat asks about.
+pub struct Asks;
+
+impl Play<u8, View> for Asks {
+    ghost then = { HasAsked };
 }
 
 /// The first process apart from the others.
 pub struct First;
 
 impl Split<View> for First {
-    ghost use Rattle.uni_words.specs.Seats.{others, first_alone};
-
     ghost left = { others };
 
     ghost right = { first_alone };
@@ -97,31 +91,7 @@ impl Split<View> for First {
 pub struct TakesIn;
 
 impl Join<View> for TakesIn {
-    ghost use Rattle.uni_words.specs.Seats.{nobody, took_in};
-
     ghost both = { took_in };
-
-    ghost spent = { nobody };
-}
-
-/// A receipt beside the seat that gives it, which stays as it is.
-pub struct Receipt;
-
-impl Split<View> for Receipt {
-    ghost use Rattle.uni_words.specs.Seats.{receipt_of};
-
-    ghost left = { λ v. v };
-
-    ghost right = { receipt_of };
-}
-
-/// A seat that takes in a receipt.
-pub struct Notes;
-
-impl Join<View> for Notes {
-    ghost use Rattle.uni_words.specs.Seats.{nobody, noted};
-
-    ghost both = { noted };
 
     ghost spent = { nobody };
 }

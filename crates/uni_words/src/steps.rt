@@ -1,321 +1,195 @@
 //! The word steps, each one function.
-ghost use Rattle.std.specs.Prelude.{◌≡◌, ◌+◌, ◌<◌, ◌≤◌, ◌%◌, ◌==◌, if◌then◌else◌};
-ghost use Rattle.std.specs.Prelude.{unwrap_or, Some, []};
-ghost use Rattle.uni_words.specs.Standing.{StandsAt, GoesBy, IsIdle, IsBeforeNumber, IsBeforeHead, IsPastHead};
+ghost use Rattle.std.specs.Prelude.{◌≡◌, ◌+◌, ◌<◌, ◌≤◌, ◌==◌, if◌then◌else◌, unwrap_or, Some};
+ghost use Rattle.uni_words.specs.Standing.{GoesBy, HasCell, IsCursor, Stands};
+ghost use Rattle.uni_words.specs.Standing.{cell_at, head_at};
 ghost use Rattle.uni_model.specs.Places.Name.{Anchor};
 ghost use Rattle.uni_model.specs.Transition.{stage_after_scan};
-ghost use Rattle.uni_model.specs.Indices.{name_of};
 ghost use Rattle.uni_words.specs.Words.{cells_of, link_of};
-ghost use Rattle.uni_model.specs.Stages.{Pending};
-ghost use Rattle.uni_words.specs.Seats.{HasMoved};
 ghost use Rattle.uni_model.specs.Stages.Stage.{Announce, ScanHead, ScanSeq, WriteScan, Test, ReadAnnounce, ReadHelpSeq};
 ghost use Rattle.uni_model.specs.Stages.Stage.{DecideAfter, DecideNew, WriteBefore, WriteSeq, WriteHead, Finish};
 
+use crate::cursor::Cursor;
 use crate::log::WordLog;
 use crate::object::WordObject;
-use crate::rule::{Moves, StoresHead};
+use crate::rule::Moves;
 use crate::view::View;
 use atomic_table::Seat;
 
-/// A process's place at the object.
-#[derive(Drop)]
-pub struct WordSeat {
-    pub(crate) seat: Seat<u8, View>,
-    pub(crate) n: u64,
-    pub(crate) k: u64,
-    pub(crate) p: u64,
-    pub(crate) made: u64,
-    pub ghost idle: { IsIdle n k p made seat.me },
-}
-
-/// That calls have returned: for another thread, whose later calls then come after them.
-#[derive(Drop)]
-pub struct WordReceipt {
-    pub(crate) seat: Seat<u8, View>,
-    pub ghost alone: { (seat.me.0.known.count ≡ 0) × (seat.me.0.known.taken ≡ []) × (seat.me.1 ≡ []) },
-}
-
 impl<O: WordObject> WordLog<O> {
-    /// The load of the number of a cell, at each stage that does it.
-    fn load_seq(&self, seat: &mut Seat<u8, View>, p: u64, cell: u64) -> u64
+    /// `Announce`: stores the call's cell in the announce entry of the process.
+    pub(crate) fn announce(&self, seat: &mut Seat<u8, View>, at: Cursor)
         requires table { seat.old.table_id ≡ self.now.table.shared.table_id }
-        requires inside { cell < cells_of self.now.setup.n self.now.setup.k }
-        requires before { IsBeforeNumber self.now.setup.n self.now.setup.k p
-            (name_of self.now.setup.n cell) seat.old.me }
+        requires cursor { IsCursor self.now at }
+        requires stands { Stands self.now at Announce seat.old.me }
         ensures same { (seat.new.table_id ≡ seat.old.table_id) × (seat.new.id ≡ seat.old.id) }
-        ensures moved { (c : Pending) → seat.old.me.0.known.call ≡ Some c
-            → HasMoved seat.old.me c result seat.new.me }
-    {
-        self.table.shared.load::<Moves>(seat, self.seq_word(cell))
-    }
-
-    /// The store of a cell in the head of process p, at each stage that does it.
-    pub(crate) fn store_head(&self, seat: &mut Seat<u8, View>, p: u64, cell: u64)
-        requires table { seat.old.table_id ≡ self.now.table.shared.table_id }
-        requires inside { (p < self.now.setup.n) × (cell < cells_of self.now.setup.n self.now.setup.k) }
-        requires before { IsBeforeHead self.now.setup.n self.now.setup.k p (name_of self.now.setup.n cell) seat.old.me }
-        ensures same { (seat.new.table_id ≡ seat.old.table_id) × (seat.new.id ≡ seat.old.id) }
-        ensures past { (c : Pending) → seat.old.me.0.known.call ≡ Some c
-            → IsPastHead seat.old.me c.mine c.stage cell seat.new.me }
-    {
-        self.table
-            .shared
-            .store::<StoresHead>(seat, self.head_word(p), cell);
-    }
-
-    /// `Announce`: stores `mine` in the announce entry of the process.
-    pub(crate) fn announce(&self, seat: &mut Seat<u8, View>, p: u64, mine: u64)
-        requires table { seat.old.table_id ≡ self.now.table.shared.table_id }
-        requires inside { (p < self.now.setup.n) × (mine < cells_of self.now.setup.n self.now.setup.k) }
-        requires stands { StandsAt self.now.setup.n self.now.setup.k p (name_of self.now.setup.n mine)
-            Announce seat.old.me }
-        ensures same { (seat.new.table_id ≡ seat.old.table_id) × (seat.new.id ≡ seat.old.id) }
-        ensures stands { StandsAt self.now.setup.n self.now.setup.k p (name_of self.now.setup.n mine)
-            (ScanHead 0 Anchor 0) seat.new.me }
+        ensures stands { Stands self.now at (ScanHead 0 Anchor 0) seat.new.me }
         ensures goes { GoesBy seat.old.me seat.new.me 1 0 }
     {
         self.table
             .shared
-            .store::<Moves>(seat, self.announce_word(p), mine);
+            .store::<Moves>(seat, self.announce_word(at.process), at.cell);
     }
 
-    /// `ScanHead`: loads the head of process q.
-    pub(crate) fn scan_head(
-        &self,
-        seat: &mut Seat<u8, View>,
-        p: u64,
-        mine: u64,
-        q: u64,
-        best: u64,
-        best_seq: u64,
-    ) -> u64
+    /// `ScanHead`: loads the head of process q. The cursor has the best one so far.
+    pub(crate) fn scan_head(&self, seat: &mut Seat<u8, View>, at: Cursor, q: u64) -> u64
         requires table { seat.old.table_id ≡ self.now.table.shared.table_id }
+        requires cursor { IsCursor self.now at }
         requires inside { q < self.now.setup.n }
-        requires stands { StandsAt self.now.setup.n self.now.setup.k p (name_of self.now.setup.n mine)
-            (ScanHead q (name_of self.now.setup.n best) best_seq) seat.old.me }
+        requires stands { Stands self.now at (ScanHead q (head_at self.now at) at.number) seat.old.me }
         ensures same { (seat.new.table_id ≡ seat.old.table_id) × (seat.new.id ≡ seat.old.id) }
-        ensures stands { StandsAt self.now.setup.n self.now.setup.k p (name_of self.now.setup.n mine)
-            (ScanSeq q (name_of self.now.setup.n best) best_seq (name_of self.now.setup.n result)) seat.new.me }
+        ensures stands { Stands self.now at (ScanSeq q (head_at self.now at) at.number (cell_at self.now result))
+            seat.new.me }
         ensures goes { GoesBy seat.old.me seat.new.me 1 0 }
-        ensures within { result < cells_of self.now.setup.n self.now.setup.k }
+        ensures within { HasCell self.now result }
     {
         self.table.shared.load::<Moves>(seat, self.head_word(q))
     }
 
     /// `ScanSeq`: loads the number of the head of process q.
-    pub(crate) fn scan_seq(
-        &self,
-        seat: &mut Seat<u8, View>,
-        p: u64,
-        mine: u64,
-        q: u64,
-        best: u64,
-        best_seq: u64,
-        h: u64,
-    ) -> u64
+    pub(crate) fn scan_seq(&self, seat: &mut Seat<u8, View>, at: Cursor, q: u64, h: u64) -> u64
         requires table { seat.old.table_id ≡ self.now.table.shared.table_id }
-        requires inside { h < cells_of self.now.setup.n self.now.setup.k }
-        requires stands { StandsAt self.now.setup.n self.now.setup.k p (name_of self.now.setup.n mine)
-            (ScanSeq q (name_of self.now.setup.n best) best_seq (name_of self.now.setup.n h)) seat.old.me }
+        requires cursor { IsCursor self.now at }
+        requires inside { HasCell self.now h }
+        requires stands { Stands self.now at (ScanSeq q (head_at self.now at) at.number (cell_at self.now h))
+            seat.old.me }
         ensures same { (seat.new.table_id ≡ seat.old.table_id) × (seat.new.id ≡ seat.old.id) }
-        ensures stands { StandsAt self.now.setup.n self.now.setup.k p (name_of self.now.setup.n mine)
-            (stage_after_scan self.now.setup.n q (name_of self.now.setup.n best) best_seq
-            (name_of self.now.setup.n h) result) seat.new.me }
+        ensures stands { Stands self.now at (stage_after_scan self.now.setup.n q (head_at self.now at) at.number
+            (cell_at self.now h) result) seat.new.me }
         ensures goes { GoesBy seat.old.me seat.new.me 1 0 }
         ensures within { result ≤ cells_of self.now.setup.n self.now.setup.k }
     {
-        self.load_seq(seat, p, h)
+        self.table.shared.load::<Moves>(seat, self.seq_word(h))
     }
 
     /// `WriteScan`: stores the best cell of the scan in the process's head.
-    pub(crate) fn write_scan(
-        &self,
-        seat: &mut Seat<u8, View>,
-        p: u64,
-        mine: u64,
-        best: u64,
-        best_seq: u64,
-    )
+    pub(crate) fn write_scan(&self, seat: &mut Seat<u8, View>, at: Cursor)
         requires table { seat.old.table_id ≡ self.now.table.shared.table_id }
-        requires inside { (p < self.now.setup.n) × (best < cells_of self.now.setup.n self.now.setup.k) }
-        requires stands { StandsAt self.now.setup.n self.now.setup.k p (name_of self.now.setup.n mine)
-            (WriteScan (name_of self.now.setup.n best) best_seq) seat.old.me }
+        requires cursor { IsCursor self.now at }
+        requires stands { Stands self.now at (WriteScan (head_at self.now at) at.number) seat.old.me }
         ensures same { (seat.new.table_id ≡ seat.old.table_id) × (seat.new.id ≡ seat.old.id) }
-        ensures stands { StandsAt self.now.setup.n self.now.setup.k p (name_of self.now.setup.n mine)
-            (Test (name_of self.now.setup.n best) best_seq) seat.new.me }
+        ensures stands { Stands self.now at (Test (head_at self.now at) at.number) seat.new.me }
         ensures goes { GoesBy seat.old.me seat.new.me 1 0 }
     {
-        self.store_head(seat, p, best);
+        self.table
+            .shared
+            .store::<Moves>(seat, self.head_word(at.process), at.head);
     }
 
-    /// `Test`: loads the number of `mine`.
-    pub(crate) fn test(
-        &self,
-        seat: &mut Seat<u8, View>,
-        p: u64,
-        mine: u64,
-        c: u64,
-        c_seq: u64,
-    ) -> u64
+    /// `Test`: loads the number of the call's cell.
+    pub(crate) fn test(&self, seat: &mut Seat<u8, View>, at: Cursor) -> u64
         requires table { seat.old.table_id ≡ self.now.table.shared.table_id }
-        requires inside { mine < cells_of self.now.setup.n self.now.setup.k }
-        requires stands { StandsAt self.now.setup.n self.now.setup.k p (name_of self.now.setup.n mine)
-            (Test (name_of self.now.setup.n c) c_seq) seat.old.me }
+        requires cursor { IsCursor self.now at }
+        requires stands { Stands self.now at (Test (head_at self.now at) at.number) seat.old.me }
         ensures same { (seat.new.table_id ≡ seat.old.table_id) × (seat.new.id ≡ seat.old.id) }
-        ensures stands { StandsAt self.now.setup.n self.now.setup.k p (name_of self.now.setup.n mine)
-            (if result == 0 then ReadAnnounce (name_of self.now.setup.n c) c_seq else Finish c_seq result) seat.new.me }
+        ensures stands { Stands self.now at (if result == 0 then ReadAnnounce (head_at self.now at) at.number
+            else Finish at.number result) seat.new.me }
         ensures goes { GoesBy seat.old.me seat.new.me 1 (if result == 0 then 1 else 0) }
         ensures within { result ≤ cells_of self.now.setup.n self.now.setup.k }
-        ensures bound { seat.new.me.0.known.turns ≤ self.now.setup.n + 1 }
+        ensures bound { seat.new.me.0.known.its.turns ≤ self.now.setup.n + 1 }
     {
-        self.load_seq(seat, p, mine)
+        self.table
+            .shared
+            .load::<Moves>(seat, self.seq_word(at.cell))
     }
 
     /// `ReadAnnounce`: loads the announce entry of the process whose turn it is.
-    pub(crate) fn read_announce(
-        &self,
-        seat: &mut Seat<u8, View>,
-        p: u64,
-        mine: u64,
-        c: u64,
-        c_seq: u64,
-    ) -> u64
+    pub(crate) fn read_announce(&self, seat: &mut Seat<u8, View>, at: Cursor) -> u64
         requires table { seat.old.table_id ≡ self.now.table.shared.table_id }
-        requires inside { 1 ≤ self.now.setup.n }
-        requires stands { StandsAt self.now.setup.n self.now.setup.k p (name_of self.now.setup.n mine)
-            (ReadAnnounce (name_of self.now.setup.n c) c_seq) seat.old.me }
+        requires cursor { IsCursor self.now at }
+        requires stands { Stands self.now at (ReadAnnounce (head_at self.now at) at.number) seat.old.me }
         ensures same { (seat.new.table_id ≡ seat.old.table_id) × (seat.new.id ≡ seat.old.id) }
-        ensures stands { StandsAt self.now.setup.n self.now.setup.k p (name_of self.now.setup.n mine)
-            (ReadHelpSeq (name_of self.now.setup.n c) c_seq (name_of self.now.setup.n result)) seat.new.me }
+        ensures stands { Stands self.now at (ReadHelpSeq (head_at self.now at) at.number (cell_at self.now result))
+            seat.new.me }
         ensures goes { GoesBy seat.old.me seat.new.me 1 0 }
-        ensures within { result < cells_of self.now.setup.n self.now.setup.k }
+        ensures within { HasCell self.now result }
     {
         self.table
             .shared
-            .load::<Moves>(seat, self.announce_word(c_seq % self.setup.n))
+            .load::<Moves>(seat, self.announce_word(at.number % self.setup.n))
     }
 
     /// `ReadHelpSeq`: loads the number of the cell to be helped.
-    pub(crate) fn read_help_seq(
-        &self,
-        seat: &mut Seat<u8, View>,
-        p: u64,
-        mine: u64,
-        c: u64,
-        c_seq: u64,
-        help: u64,
-    ) -> u64
+    pub(crate) fn read_help_seq(&self, seat: &mut Seat<u8, View>, at: Cursor, help: u64) -> u64
         requires table { seat.old.table_id ≡ self.now.table.shared.table_id }
-        requires inside { help < cells_of self.now.setup.n self.now.setup.k }
-        requires stands { StandsAt self.now.setup.n self.now.setup.k p (name_of self.now.setup.n mine)
-            (ReadHelpSeq (name_of self.now.setup.n c) c_seq (name_of self.now.setup.n help)) seat.old.me }
+        requires cursor { IsCursor self.now at }
+        requires inside { HasCell self.now help }
+        requires stands { Stands self.now at (ReadHelpSeq (head_at self.now at) at.number (cell_at self.now help))
+            seat.old.me }
         ensures same { (seat.new.table_id ≡ seat.old.table_id) × (seat.new.id ≡ seat.old.id) }
-        ensures stands { StandsAt self.now.setup.n self.now.setup.k p (name_of self.now.setup.n mine)
-            (DecideAfter (name_of self.now.setup.n c) c_seq
-            (if result == 0 then (name_of self.now.setup.n help) else (name_of self.now.setup.n mine))) seat.new.me }
+        ensures stands { Stands self.now at (DecideAfter (head_at self.now at) at.number
+            (if result == 0 then cell_at self.now help else cell_at self.now at.cell)) seat.new.me }
         ensures goes { GoesBy seat.old.me seat.new.me 1 0 }
         ensures within { result ≤ cells_of self.now.setup.n self.now.setup.k }
     {
-        self.load_seq(seat, p, help)
+        self.table.shared.load::<Moves>(seat, self.seq_word(help))
     }
 
-    /// `DecideAfter`: proposes `prefer` after c.
-    pub(crate) fn decide_after(
-        &self,
-        seat: &mut Seat<u8, View>,
-        p: u64,
-        mine: u64,
-        c: u64,
-        c_seq: u64,
-        prefer: u64,
-    ) -> u64
+    /// `DecideAfter`: proposes `prefer` after the head.
+    pub(crate) fn decide_after(&self, seat: &mut Seat<u8, View>, at: Cursor, prefer: u64) -> u64
         requires table { seat.old.table_id ≡ self.now.table.shared.table_id }
-        requires inside { (c < cells_of self.now.setup.n self.now.setup.k)
-            × (prefer < cells_of self.now.setup.n self.now.setup.k) }
-        requires stands { StandsAt self.now.setup.n self.now.setup.k p (name_of self.now.setup.n mine)
-            (DecideAfter (name_of self.now.setup.n c) c_seq (name_of self.now.setup.n prefer)) seat.old.me }
+        requires cursor { IsCursor self.now at }
+        requires inside { HasCell self.now prefer }
+        requires stands { Stands self.now at (DecideAfter (head_at self.now at) at.number (cell_at self.now prefer))
+            seat.old.me }
         ensures same { (seat.new.table_id ≡ seat.old.table_id) × (seat.new.id ≡ seat.old.id) }
-        ensures stands { StandsAt self.now.setup.n self.now.setup.k p (name_of self.now.setup.n mine)
-            (DecideNew (name_of self.now.setup.n c) c_seq
-            (unwrap_or (link_of self.now.setup.n result) (name_of self.now.setup.n prefer))) seat.new.me }
+        ensures stands { Stands self.now at (DecideNew (head_at self.now at) at.number
+            (unwrap_or (link_of self.now.setup.n result) (cell_at self.now prefer))) seat.new.me }
         ensures goes { GoesBy seat.old.me seat.new.me 1 0 }
         ensures within { result ≤ cells_of self.now.setup.n self.now.setup.k }
     {
         self.table
             .shared
-            .compare_exchange::<Moves>(seat, self.after_word(c), 0, prefer + 1)
+            .compare_exchange::<Moves>(seat, self.after_word(at.head), 0, prefer + 1)
     }
 
-    /// `WriteBefore`: stores c before d.
-    pub(crate) fn write_before(
-        &self,
-        seat: &mut Seat<u8, View>,
-        p: u64,
-        mine: u64,
-        c: u64,
-        c_seq: u64,
-        d: u64,
-    )
+    /// `WriteBefore`: stores the head before d.
+    pub(crate) fn write_before(&self, seat: &mut Seat<u8, View>, at: Cursor, d: u64)
         requires table { seat.old.table_id ≡ self.now.table.shared.table_id }
-        requires inside { (d < cells_of self.now.setup.n self.now.setup.k)
-            × (c < cells_of self.now.setup.n self.now.setup.k) }
-        requires stands { StandsAt self.now.setup.n self.now.setup.k p (name_of self.now.setup.n mine)
-            (WriteBefore (name_of self.now.setup.n c) c_seq (name_of self.now.setup.n d)) seat.old.me }
+        requires cursor { IsCursor self.now at }
+        requires inside { HasCell self.now d }
+        requires stands { Stands self.now at (WriteBefore (head_at self.now at) at.number (cell_at self.now d))
+            seat.old.me }
         ensures same { (seat.new.table_id ≡ seat.old.table_id) × (seat.new.id ≡ seat.old.id) }
-        ensures stands { StandsAt self.now.setup.n self.now.setup.k p (name_of self.now.setup.n mine)
-            (WriteSeq (name_of self.now.setup.n c) c_seq (name_of self.now.setup.n d)) seat.new.me }
+        ensures stands { Stands self.now at (WriteSeq (head_at self.now at) at.number (cell_at self.now d))
+            seat.new.me }
         ensures goes { GoesBy seat.old.me seat.new.me 1 0 }
     {
         self.table
             .shared
-            .store::<Moves>(seat, self.before_word(d), 1 + c);
+            .store::<Moves>(seat, self.before_word(d), 1 + at.head);
     }
 
     /// `WriteSeq`: stores the number of d.
-    pub(crate) fn write_seq(
-        &self,
-        seat: &mut Seat<u8, View>,
-        p: u64,
-        mine: u64,
-        c: u64,
-        c_seq: u64,
-        d: u64,
-    )
+    pub(crate) fn write_seq(&self, seat: &mut Seat<u8, View>, at: Cursor, d: u64)
         requires table { seat.old.table_id ≡ self.now.table.shared.table_id }
-        requires inside { (d < cells_of self.now.setup.n self.now.setup.k)
-            × (c_seq ≤ cells_of self.now.setup.n self.now.setup.k) }
-        requires stands { StandsAt self.now.setup.n self.now.setup.k p (name_of self.now.setup.n mine)
-            (WriteSeq (name_of self.now.setup.n c) c_seq (name_of self.now.setup.n d)) seat.old.me }
+        requires cursor { IsCursor self.now at }
+        requires inside { HasCell self.now d }
+        requires stands { Stands self.now at (WriteSeq (head_at self.now at) at.number (cell_at self.now d))
+            seat.old.me }
         ensures same { (seat.new.table_id ≡ seat.old.table_id) × (seat.new.id ≡ seat.old.id) }
-        ensures stands { StandsAt self.now.setup.n self.now.setup.k p (name_of self.now.setup.n mine)
-            (WriteHead (name_of self.now.setup.n c) c_seq (name_of self.now.setup.n d)) seat.new.me }
+        ensures stands { Stands self.now at (WriteHead (head_at self.now at) at.number (cell_at self.now d))
+            seat.new.me }
         ensures goes { GoesBy seat.old.me seat.new.me 1 0 }
-        ensures within { c_seq + 1 ≤ cells_of self.now.setup.n self.now.setup.k }
+        ensures within { at.number + 1 ≤ cells_of self.now.setup.n self.now.setup.k }
     {
         self.table
             .shared
-            .store::<Moves>(seat, self.seq_word(d), c_seq + 1);
+            .store::<Moves>(seat, self.seq_word(d), at.number + 1);
     }
 
     /// `WriteHead`: stores d in the process's head.
-    pub(crate) fn write_head(
-        &self,
-        seat: &mut Seat<u8, View>,
-        p: u64,
-        mine: u64,
-        c: u64,
-        c_seq: u64,
-        d: u64,
-    )
+    pub(crate) fn write_head(&self, seat: &mut Seat<u8, View>, at: Cursor, d: u64)
         requires table { seat.old.table_id ≡ self.now.table.shared.table_id }
-        requires inside { (p < self.now.setup.n) × (d < cells_of self.now.setup.n self.now.setup.k) }
-        requires stands { StandsAt self.now.setup.n self.now.setup.k p (name_of self.now.setup.n mine)
-            (WriteHead (name_of self.now.setup.n c) c_seq (name_of self.now.setup.n d)) seat.old.me }
+        requires cursor { IsCursor self.now at }
+        requires inside { HasCell self.now d }
+        requires stands { Stands self.now at (WriteHead (head_at self.now at) at.number (cell_at self.now d))
+            seat.old.me }
         ensures same { (seat.new.table_id ≡ seat.old.table_id) × (seat.new.id ≡ seat.old.id) }
-        ensures stands { StandsAt self.now.setup.n self.now.setup.k p (name_of self.now.setup.n mine)
-            (Test (name_of self.now.setup.n d) (c_seq + 1)) seat.new.me }
+        ensures stands { Stands self.now at (Test (cell_at self.now d) (at.number + 1)) seat.new.me }
         ensures goes { GoesBy seat.old.me seat.new.me 1 0 }
     {
-        self.store_head(seat, p, d);
+        self.table
+            .shared
+            .store::<Moves>(seat, self.head_word(at.process), d);
     }
 }

@@ -11,7 +11,7 @@ use Rattle.uni_words.specs.Compare.{Agrees}
 use Rattle.uni_words.specs.Run.{IsLogOfRun}
 use Rattle.uni_model.specs.ProcessCalls.{ProcessCalls}
 use Rattle.uni_words.specs.declared.log.WordLog.{WordLog}
-use Rattle.uni_words.specs.declared.steps.WordSeat.{WordSeat}
+use Rattle.uni_words.specs.declared.seat.WordSeat.{WordSeat}
 use Rattle.uni_words.proofs.Agreeing.{at_of_map}
 use Rattle.uni_words.proofs.Comparing.{slice_get-index, slice_get-map}
 use Rattle.unibench_run.specs.Draws.{below_1000, drawn_by, seed_of}

@@ -28,7 +28,7 @@ use Rattle.uni_words.specs.Objects.{sticky, tally}
 use Rattle.uni_words.specs.Run.{IsLogOfRun}
 use Rattle.uni_model.specs.ProcessCalls.{ProcessCalls}
 use Rattle.uni_words.specs.declared.log.WordLog.{WordLog}
-use Rattle.uni_words.specs.declared.steps.WordSeat.{WordSeat}
+use Rattle.uni_words.specs.declared.seat.WordSeat.{WordSeat}
 use Rattle.unibench_run.specs.Draws.{below_1000, drawn_by, seed_of}
 use Rattle.unibench_run.specs.declared.request.Form.{Form}
 use Rattle.unibench_run.specs.declared.request.Form.TheVariants as form

@@ -5,7 +5,7 @@ use Rattle.std.proofs.lemmas.Option.{slice_get_within, get_or_from_slice_get, sl
 use Rattle.std.proofs.lemmas.List.{get_or_append_left, get_or_push}
 use Rattle.uni_words.specs.Belongs.{AreFirstSeats, IsFreshSeat}
 use Rattle.uni_words.specs.declared.log.WordLog.{WordLog}
-use Rattle.uni_words.specs.declared.steps.WordSeat.{WordSeat}
+use Rattle.uni_words.specs.declared.seat.WordSeat.{WordSeat}
 
 get_left : {X : Type 0} (xs ys : List X) (i : ℕ) (x : X) → slice_get xs i ≡ Some x → slice_get (xs ++ ys) i ≡ Some x
 get_left xs ys i x e = let inside : i < length xs = slice_get_within xs i x e in

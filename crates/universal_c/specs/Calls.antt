@@ -1,16 +1,17 @@
 -- What a handle's value is to a caller.
-use Rattle.std.specs.Prelude.{◌≡◌, ℕ, ◌+◌, ◌*◌, ◌≤◌, ◌++◌, ◌∷◌, List, [], map, vec_len, IsSomeAnd}
+use Rattle.std.specs.Prelude.{All, ◌≡◌, ℕ, ◌+◌, ◌*◌, ◌≤◌, ◌++◌, ◌∷◌, List, [], map, vec_len, IsSomeAnd}
 use Rattle.std.specs.declared.option.Option.{Option}
 use Rattle.std.specs.declared.option.Option.TheVariants.{None, Some}
 use Rattle.seq_object.specs.History.{IsLegal}
 use Rattle.uni_model.specs.History.{logged_call}
 use Rattle.uni_words.specs.declared.log.WordLog.{WordLog}
-use Rattle.uni_words.specs.declared.steps.WordSeat.{WordSeat}
+use Rattle.uni_words.specs.declared.seat.WordSeat.{WordSeat}
 use Rattle.uni_words.specs.declared.read.WordEntry.{WordEntry}
 use Rattle.uni_words.specs.Belongs.{object_of, own_calls, calls_made, calls_of, known_calls, latest_turns, process_of, processes_of, row_of}
-use Rattle.uni_words.specs.Belongs.{word_steps_of}
-use Rattle.uni_words.specs.Log.{AreAnswered, AreCallsOf, IsLogged, entry_shown}
+use Rattle.uni_words.specs.Belongs.{seen_by, word_steps_of}
+use Rattle.uni_words.specs.Log.{AreAnswered, AreCallsOf, IsInOrder, IsLogged, entry_shown}
 use Rattle.uni_words.specs.Run.{IsLogOfRun}
+use Rattle.universal_c.specs.Asks.{AsksOf}
 use Rattle.universal_c.specs.Meaning.{meaning}
 use Rattle.universal_c.specs.declared.object.Object.{Object}
 use Rattle.universal_c.specs.declared.held.Held.{Held}
@@ -69,10 +70,16 @@ HasCalled old new inv reply turns = IsSomeAnd (log_in old) (λ log. IsSomeAnd (s
     × (calls_made t ≡ calls_made s + 1) × (latest_turns t ≡ turns)
     × (word_steps_of t ≤ word_steps_of s + (12 * processes_of log + 16)))))
 
+-- the same seat, which has asked about the call
+abbrev pub HasAsked : (old new : Option Held) (process nth number : ℕ) → Type 0
+HasAsked old new process nth number = IsSomeAnd (log_in old) (λ log. IsSomeAnd (seat_in old) (λ s. IsSomeAnd (seat_in new) (λ t.
+    AsksOf log s t (record { process = process; nth = nth }) number)))
+
 -- In place of the seat are the log's entries: a legal history of the object from its start, that of a run of the construction,
--- in which the calls of the seat's process are the seat's own, with the replies that it was given.
+-- in which the calls of the seat's process are the seat's own, with the replies that it was given. They are in the order that it saw.
 abbrev pub HasClosed : (old new : Option Held) → Type 0
 HasClosed old new = IsSomeAnd (log_in old) (λ log. IsSomeAnd (seat_in old) (λ s. IsSomeAnd (entries_in new) (λ called.
     let object = meaning (object_of log) in let entries = map entry_shown called in
     IsLegal object object.initial (map logged_call entries) × AreAnswered entries × AreCallsOf (processes_of log) entries
-    × IsLogged entries (calls_of s) × IsLogOfRun object (processes_of log) entries (known_calls s))))
+    × IsLogged entries (calls_of s) × IsLogOfRun object (processes_of log) entries (known_calls s)
+    × All (IsInOrder entries) (seen_by s))))

@@ -1,3 +1,4 @@
+pub mod Asks
 pub mod Calls
 pub mod Meaning
 pub mod Owned

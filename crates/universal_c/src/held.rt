@@ -1,15 +1,17 @@
 //! What a handle holds: a log with its seats, a seat, or the entries of a closed log.
 ghost use Rattle.std.specs.Prelude.{◌≡◌, ◌==◌, ◌+◌, ◌*◌, ◌<◌, ◌≤◌, ◌++◌, ◌∷◌};
-ghost use Rattle.std.specs.Prelude.{◌↔◌, ◌⊎◌, [], map, vec_len, IfOk, IfErr, IsErr, IsErrOf, OnOk, OnErr};
+ghost use Rattle.std.specs.Prelude.{◌↔◌, ◌⊎◌, All, [], map, vec_len, IfOk, IfErr, IsErr, IsErrOf, OnOk, OnErr};
 ghost use Rattle.seq_object.specs.History.{IsLegal};
 ghost use Rattle.uni_model.specs.History.{logged_call};
 ghost use Rattle.uni_words.specs.Belongs.{AreFirstSeats, IsSeatOf, own_calls, calls_made, latest_turns, process_of};
-ghost use Rattle.uni_words.specs.Belongs.{processes_of, row_of, word_steps_of, calls_of, known_calls, object_of};
-ghost use Rattle.uni_words.specs.Log.{AreAnswered, AreCallsOf, IsLogged, entry_shown};
+ghost use Rattle.uni_words.specs.Belongs.{processes_of, row_of, word_steps_of, calls_of, known_calls, object_of, seen_by};
+ghost use Rattle.uni_words.specs.Log.{AreAnswered, AreCallsOf, IsInOrder, IsLogged, entry_shown};
 ghost use Rattle.uni_words.specs.Run.{IsLogOfRun};
+ghost use Rattle.universal_c.specs.Asks.{AsksOf};
 ghost use Rattle.universal_c.specs.Meaning.{meaning};
 
 use crate::object::Object;
+use seq_object::CallId;
 use std::alloc::Global;
 use std::sync::Arc;
 use uni_words::{Answer, RowFull, WordEntry, WordLog, WordOpenFault, WordSeat, read_log};
@@ -136,6 +138,22 @@ impl Seated {
         self.seat.apply(&self.log, inv)
     }
 
+    /// Asks whether a call stands in the log, by one load: 1 or 0.
+    pub(crate) fn ask(&mut self, process: u64, nth: u64) -> u32
+        ensures log { self.new.log ≡ self.old.log }
+        ensures asked { AsksOf self.old.log.value self.old.seat self.new.seat
+            (record { process = process; nth = nth }) result }
+    {
+        let Ok(process) = u32::try_from(process) else {
+            return 0;
+        };
+        if self.seat.follows(&self.log, CallId { process, nth }) {
+            1
+        } else {
+            0
+        }
+    }
+
     /// Closes the log, where this is the last that has it: the calls that took effect, in order.
     /// Errors: another has the log, and the seat comes back; memory was refused, and the log is lost.
     pub(crate) fn close(self, alloc: Global) -> Result<Vec<WordEntry>, CloseFault>
@@ -151,6 +169,7 @@ impl Seated {
         ensures run { let object = meaning (object_of self.log.value) in
             IfOk result (λ entries.
             IsLogOfRun object (processes_of self.log.value) (map entry_shown entries.items) (known_calls self.seat)) }
+        ensures order { IfOk result (λ entries. All (IsInOrder (map entry_shown entries.items)) (seen_by self.seat)) }
     {
         let Seated { log, seat } = self;
         match Arc::try_unwrap(log) {

@@ -1,7 +1,7 @@
 //! Taking a seat, and a call by it.
 ghost use Rattle.std.specs.Prelude.{◌≡◌, ◌≢◌, ◌↔◌, ◌⊎◌, ◌+◌, vec_len};
 ghost use Rattle.std.specs.declared.option.Option.TheVariants.{None, Some};
-ghost use Rattle.universal_c.specs.Calls.{HasCalled, HasSeat, IsFull, left_in, log_in, seat_in};
+ghost use Rattle.universal_c.specs.Calls.{HasAsked, HasCalled, HasSeat, IsFull, left_in, log_in, seat_in};
 
 use crate::Reply;
 use crate::handle::Handle;
@@ -90,6 +90,7 @@ pub extern "C" fn universal_seat(
 
 fn apply_to(held: &mut Held, inv: u64, answer: &mut Reply) -> u32
     ensures same { log_in (Some held.new) ≡ log_in (Some held.old) }
+    ensures status { (result ≡ 0) ⊎ (result ≡ 4) ⊎ (result ≡ 7) }
     ensures wrong { (result ≡ 7) ↔ (seat_in (Some held.old) ≡ None) }
     ensures full { (result ≡ 4) ↔ IsFull (Some held.old) }
     ensures kept { result ≡ 7 → held.new ≡ held.old }
@@ -111,7 +112,8 @@ fn apply_to(held: &mut Held, inv: u64, answer: &mut Reply) -> u32
 }
 
 /// A call by a seat. It takes no lock and no memory.
-/// 4: the seat has made its k calls. 7: the handle has no seat. After either nothing is changed.
+/// 0: it is done. 4: the seat has made its k calls. 7: the handle has no seat. After 4 and 7 nothing is
+/// changed, and there is no other status.
 #[unsafe(no_mangle)]
 pub extern "C" fn universal_apply(
     alloc: Global,
@@ -120,6 +122,7 @@ pub extern "C" fn universal_apply(
     answer: &mut Reply,
 ) -> u32
     ensures same { log_in seat.new.value ≡ log_in seat.old.value }
+    ensures status { (result ≡ 0) ⊎ (result ≡ 4) ⊎ (result ≡ 7) }
     ensures wrong { (result ≡ 7) ↔ (seat_in seat.old.value ≡ None) }
     ensures full { (result ≡ 4) ↔ IsFull seat.old.value }
     ensures kept { result ≡ 7 → seat.new.value ≡ seat.old.value }
@@ -130,6 +133,47 @@ pub extern "C" fn universal_apply(
     match replace(seat, Handle::empty(alloc)).into_box() {
         Some(mut held) => {
             let status = apply_to(&mut held, inv, answer);
+            *seat = Handle::of(held);
+            status
+        }
+        None => WRONG_HANDLE,
+    }
+}
+
+fn ask(held: &mut Held, process: u64, nth: u64, is_there: &mut u32) -> u32
+    ensures same { log_in (Some held.new) ≡ log_in (Some held.old) }
+    ensures status { (result ≡ 0) ⊎ (result ≡ 7) }
+    ensures wrong { (result ≡ 7) ↔ (seat_in (Some held.old) ≡ None) }
+    ensures kept { result ≡ 7 → (held.new ≡ held.old) × (is_there.new ≡ is_there.old) }
+    ensures asked { result ≡ 0 → HasAsked (Some held.old) (Some held.new) process nth is_there.new }
+{
+    let Held::Seat(seated) = held else {
+        return WRONG_HANDLE;
+    };
+    *is_there = seated.ask(process, nth);
+    DONE
+}
+
+/// Asks whether the call `nth` of a process stands in the log: 1 or 0, by one load. 1 says that all later
+/// calls of this seat come after it; a call that has returned is answered 1.
+/// 0: it is done. 7: the handle has no seat, and nothing is changed.
+#[unsafe(no_mangle)]
+pub extern "C" fn universal_follows(
+    alloc: Global,
+    seat: &mut Handle,
+    process: u64,
+    nth: u64,
+    is_there: &mut u32,
+) -> u32
+    ensures same { log_in seat.new.value ≡ log_in seat.old.value }
+    ensures status { (result ≡ 0) ⊎ (result ≡ 7) }
+    ensures wrong { (result ≡ 7) ↔ (seat_in seat.old.value ≡ None) }
+    ensures kept { result ≡ 7 → (seat.new.value ≡ seat.old.value) × (is_there.new ≡ is_there.old) }
+    ensures asked { result ≡ 0 → HasAsked seat.old.value seat.new.value process nth is_there.new }
+{
+    match replace(seat, Handle::empty(alloc)).into_box() {
+        Some(mut held) => {
+            let status = ask(&mut held, process, nth, is_there);
             *seat = Handle::of(held);
             status
         }

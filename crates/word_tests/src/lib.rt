@@ -2,6 +2,6 @@
 #![tactic(auto)]
 
 #[cfg(test)]
-mod receipts;
+mod follows;
 #[cfg(test)]
 mod words;

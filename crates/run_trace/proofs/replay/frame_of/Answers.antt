@@ -3,18 +3,12 @@ use Rattle.uni_model.specs.Worlds.{world_after}
 use Rattle.uni_core.specs.World.{world_of}
 use Rattle.uni_record.specs.Event.{event_lent, event_shown}
 use Rattle.run_trace.specs.Frames.{Begins, frame_of}
-use Rattle.run_trace.proofs.Announcing.{mirrored-call}
-use Rattle.run_trace.proofs.Preferring.{preferred-call, preferred-era}
 use Rattle.run_trace.proofs.Telling.{steps_told}
 use Rattle.run_trace.proofs.replay.frame_of.Goals as goal
 
 pub returns-in_ok-begun_of-in-Call-clause-world : goal.returns-in_ok-begun_of-in-Call-clause-world
 returns-in_ok-begun_of-in-Call-clause-world g c =
     c.in_ok-begun_of-in-Call.ensures.world ∙ ap (λ e. world_after (g.O.SeqObject.sequential c.args.replay.now.object) (world_of c.args.replay.now) (event_shown (event_lent e))) (sym c.in-Call.is)
-
-pub returns-in_ok-begun_of-in-Call-clause-mirror : goal.returns-in_ok-begun_of-in-Call-clause-mirror
-returns-in_ok-begun_of-in-Call-clause-mirror g c =
-    mirrored-call (g.O.SeqObject.sequential c.args.replay.now.object) (world_of c.args.replay.now) (world_of c.begun_of.new.replay) c.in-Call.process c.in-Call.inv.now c.args.announced.now.items c.in_ok-begun_of-in-Call.ensures.world c.requires.mirror
 
 pub returns-in_ok-begun_of-in-Call-clause-frame : goal.returns-in_ok-begun_of-in-Call-clause-frame
 returns-in_ok-begun_of-in-Call-clause-frame g c =
@@ -25,15 +19,3 @@ pub returns-in_ok-step-in-Step-clause-frame : goal.returns-in_ok-step-in-Step-cl
 returns-in_ok-step-in-Step-clause-frame g c =
     steps_told (g.O.SeqObject.sequential c.args.replay.now.object) g.O.Spoken.language g.O.Spoken.state_text (world_of c.args.replay.now) c.in-Step.process _ c.in_ok-step-in-Step.ensures.step
     ∙ ap (λ e. frame_of (g.O.SeqObject.sequential c.args.replay.now.object) g.O.Spoken.language g.O.Spoken.state_text (world_of c.args.replay.now) (event_shown (event_lent e))) (sym c.in-Step.is)
-
-pub returns-in_ok-begun_of-in-Call-clause-preferred : goal.returns-in_ok-begun_of-in-Call-clause-preferred
-returns-in_ok-begun_of-in-Call-clause-preferred g c =
-    preferred-call (g.O.SeqObject.sequential c.args.replay.now.object) (world_of c.args.replay.now) (world_of c.begun_of.new.replay) c.in-Call.process c.in-Call.inv.now c.args.preferences.now.items c.in_ok-begun_of-in-Call.ensures.world c.requires.preferred
-
-pub returns-in_ok-trimmed-in-Trim-clause-preferred : goal.returns-in_ok-trimmed-in-Trim-clause-preferred
-returns-in_ok-trimmed-in-Trim-clause-preferred g c =
-    preferred-era (g.O.SeqObject.sequential c.args.replay.now.object) (world_of c.args.replay.now) (world_of c.trimmed.new.replay) (world_of c.args.replay.now).n c.args.preferences.now.items c.in_ok-trimmed-in-Trim.ensures.world c.requires.preferred
-
-pub returns-in_ok-reshaped-in-Reshape-clause-preferred : goal.returns-in_ok-reshaped-in-Reshape-clause-preferred
-returns-in_ok-reshaped-in-Reshape-clause-preferred g c =
-    preferred-era (g.O.SeqObject.sequential c.args.replay.now.object) (world_of c.args.replay.now) (world_of c.reshaped.new.replay) c.in-Reshape.processes c.args.preferences.now.items c.in_ok-reshaped-in-Reshape.ensures.world c.requires.preferred

@@ -1,18 +1,10 @@
-use Rattle.std.proofs.Common.{◌∙◌, Some, sym, ap, subst}
+use Rattle.std.proofs.Common.{◌∙◌, Some, ap}
 use Rattle.std.proofs.lemmas.Result.{IfOk-weaker}
 use Rattle.uni_model.specs.Worlds.{WorldOf}
 use Rattle.uni_core.specs.World.{world_of}
 use Rattle.uni_trim.specs.Ends.{last_number}
-use Rattle.run_trace.specs.Announced.{IsMirrored}
 use Rattle.run_trace.specs.Frames.{ended}
-use Rattle.run_trace.proofs.Announcing.{mirrored-era}
-use Rattle.run_trace.proofs.Telling.{on_ok_held}
 use Rattle.run_trace.proofs.replay.reshaped.Goals as goal
-
-pub returns-clause-mirror : goal.returns-clause-mirror
-returns-clause-mirror g c =
-    on_ok_held c.end_of.result _ (subst (IsMirrored (world_of c.reshape.new.world)) (sym c.clear.ensures.items)
-    (mirrored-era (g.O.SeqObject.sequential c.args.replay.now.object) (world_of c.args.replay.now) (world_of c.reshape.new.world) c.args.processes c.shape.ensures.sound c.in-Ok.ensures.could.1.0 c.in-Ok.ensures.reshaped))
 
 pub returns-clause-end : goal.returns-clause-end
 returns-clause-end g c =

@@ -1,13 +1,9 @@
-use Rattle.std.proofs.Common.{◌≡◌, ◌∙◌, ◌++◌, ◌∷◌, [], None, Some, sym, ap, subst, map, append-nil}
+use Rattle.std.proofs.Common.{◌≡◌, ◌∙◌, ◌++◌, ◌∷◌, [], Some, sym, ap, subst, map, append-nil}
 use Rattle.std.proofs.lemmas.List.{map-append}
-use Rattle.uni_model.specs.Places.{announce_of}
-use Rattle.uni_model.specs.Worlds.{WorldOf, opened_world, world_after}
-use Rattle.uni_core.specs.Readers.{call_of_name}
+use Rattle.uni_model.specs.Worlds.{opened_world, world_after}
 use Rattle.uni_core.specs.World.{world_of}
 use Rattle.uni_record.specs.Event.{event_lent, event_shown, events_shown}
-use Rattle.run_trace.specs.Announced.{announced_from, IsMirrored}
 use Rattle.run_trace.specs.Frames.{frame_of}
-use Rattle.run_trace.specs.Preferred.{IsPreferred}
 use Rattle.run_trace.specs.Scenes.{scenes_from}
 use Rattle.run_trace.specs.Shown.{frame_shown, scene_shown}
 use Rattle.run_trace.specs.declared.frame.Scene.{Scene}
@@ -20,8 +16,6 @@ loop-event-init g c =
     let all = c.into_iter-event-iterator.ensures.into_iter_gives ∙ c.events-event-items.ensures in
     record {
       object = c.in_ok-replay.ensures.object;
-      mirror = λ q. ap (λ (w : WorldOf _ _ _). call_of_name (announce_of w.memory q)) c.in_ok-replay.ensures.world ∙ ap (λ calls. announced_from None calls q) (sym c.new-announced.ensures.items);
-      preferred = subst (λ (w : WorldOf _ _ _). IsPreferred w c.new-preferences.result.items) (sym c.in_ok-replay.ensures.world) (λ q. tt);
       scenes = ap (λ made. map (λ scene. Some (scene_shown scene)) made ++ from (world_of c.in_ok-replay.replay) (events_shown c.into_iter-event-iterator.result)) c.new-scenes.ensures.items
           ∙ ap (λ w. from w (events_shown c.into_iter-event-iterator.result)) c.in_ok-replay.ensures.world
           ∙ ap (λ es. from (opened_world c.args.run.now.processes (g.O.SeqObject.sequential c.args.object).initial c.args.run.now.first) (events_shown es)) all;
@@ -37,8 +31,6 @@ loop-event-preserved g c =
     let scene : Scene = record { frame = c.in_ok-frame.frame; memory = c.in_ok-memory.memory } in
     record {
       object = took.object ∙ here.object;
-      mirror = took.mirror;
-      preferred = took.preferred;
       scenes = scenes_taken (g.O.SeqObject.sequential c.args.object) g.O.Spoken.language g.O.Spoken.state_text c.args.is_whole
           (map (λ scene. Some (scene_shown scene)) c.loop-event.scenes.items) (map (λ scene. Some (scene_shown scene)) c.push.new.self.items)
           w v event c.next.new.self (scene_shown scene)

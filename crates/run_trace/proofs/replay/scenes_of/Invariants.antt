@@ -2,9 +2,7 @@ use Rattle.std.proofs.Common.{◌≡◌, ◌++◌, map, Some}
 use Rattle.uni_model.specs.Worlds.{opened_world}
 use Rattle.uni_core.specs.World.{world_of}
 use Rattle.uni_record.specs.Event.{events_shown}
-use Rattle.run_trace.specs.Announced.{IsMirrored}
 use Rattle.run_trace.specs.Scenes.{scenes_from}
-use Rattle.run_trace.specs.Preferred.{IsPreferred}
 use Rattle.run_trace.specs.Shown.{scene_shown}
 use Rattle.run_trace.proofs.replay.scenes_of.Given as goal
 
@@ -12,8 +10,6 @@ use Rattle.run_trace.proofs.replay.scenes_of.Given as goal
 abbrev pub invariant-loop-event : goal.invariant-loop-event
 invariant-loop-event g l = record {
   object : l.replay.object ≡ l.fn.object;
-  mirror : IsMirrored (world_of l.replay) l.announced.items;
-  preferred : IsPreferred (world_of l.replay) l.preferences.items;
   scenes : map (λ scene. Some (scene_shown scene)) l.scenes.items
       ++ scenes_from (g.O.SeqObject.sequential l.fn.object) g.O.Spoken.language g.O.Spoken.state_text l.is_whole (world_of l.replay) (events_shown l.event-iterator)
       ≡ scenes_from (g.O.SeqObject.sequential l.fn.object) g.O.Spoken.language g.O.Spoken.state_text l.is_whole (opened_world l.run.processes (g.O.SeqObject.sequential l.fn.object).initial l.run.first) (events_shown l.run.events);

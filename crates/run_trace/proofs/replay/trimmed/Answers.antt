@@ -1,18 +1,10 @@
-use Rattle.std.proofs.Common.{◌∙◌, None, sym, ap, subst}
+use Rattle.std.proofs.Common.{◌∙◌, None, ap}
 use Rattle.std.proofs.lemmas.Result.{IfOk-weaker}
 use Rattle.uni_model.specs.Worlds.{WorldOf}
 use Rattle.uni_core.specs.World.{world_of}
 use Rattle.uni_trim.specs.Ends.{last_number}
-use Rattle.run_trace.specs.Announced.{IsMirrored}
 use Rattle.run_trace.specs.Frames.{ended}
-use Rattle.run_trace.proofs.Announcing.{mirrored-era}
-use Rattle.run_trace.proofs.Telling.{on_ok_held}
 use Rattle.run_trace.proofs.replay.trimmed.Goals as goal
-
-pub returns-clause-mirror : goal.returns-clause-mirror
-returns-clause-mirror g c =
-    on_ok_held c.end_of.result _ (subst (IsMirrored (world_of c.trim.new.world)) (sym c.clear.ensures.items)
-    (mirrored-era (g.O.SeqObject.sequential c.args.replay.now.object) (world_of c.args.replay.now) (world_of c.trim.new.world) (world_of c.args.replay.now).n c.shape.ensures.sound c.in-Ok.ensures.could.0 c.in-Ok.ensures.trimmed))
 
 pub returns-clause-end : goal.returns-clause-end
 returns-clause-end g c =

@@ -1,4 +1,4 @@
-use Rattle.std.proofs.Common.{arith, below_more}
+use Rattle.std.proofs.Common.{arith}
 use Rattle.std.proofs.lemmas.List.{ext_get_or}
 use Rattle.uni_core.proofs.shared.same_numbers.Goals as goal
 

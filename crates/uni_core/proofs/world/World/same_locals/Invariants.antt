@@ -1,5 +1,4 @@
 use Rattle.std.proofs.Common.{◌≡◌, ◌<◌, ℕ, option_map, length, slice_get}
-use Rattle.uni_core.specs.World.{world_of}
 use Rattle.uni_core.specs.Same.{standing_of}
 use Rattle.uni_core.proofs.world.World.same_locals.Given as goal
 

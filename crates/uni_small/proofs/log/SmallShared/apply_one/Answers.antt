@@ -1,4 +1,4 @@
-use Rattle.std.proofs.Common.{◌∙◌, ◌++◌, ◌∷◌, [], ap, sym, List, ℕ, length}
+use Rattle.std.proofs.Common.{◌∙◌, ◌++◌, ◌∷◌, [], ap, refl, sym, List, ℕ, length}
 use Rattle.uni_model.proofs.Appended.{state_after-append}
 use Rattle.uni_small.proofs.Images.{reached_length}
 use Rattle.uni_small.proofs.log.SmallShared.apply_one.Goals as goal
@@ -13,4 +13,4 @@ pub apply-answer-requires-clause-wide : goal.apply-answer-requires-clause-wide
 apply-answer-requires-clause-wide g c =
     let object = g.O.SmallObject.sequential c.args.self.now.setup.object in
     let was = c.requires.reached in
-    ap (λ (s : List ℕ). length s) (sym was.1) ∙ reached_length object (g.met.O.SmallObject.steady c.args.self.now.setup.object) object.initial was.0
+    ap (λ (s : List ℕ). length s) (sym was.1) ∙ reached_length object (g.met.O.SmallObject.steady c.args.self.now.setup.object) object.initial was.0 refl

@@ -3,6 +3,7 @@ use mathlib.Core.Option.{none}
 use Rattle.atomic_table.specs.Table.{step}
 use Rattle.uni_small.specs.Board.{argument_word}
 use Rattle.uni_small.specs.Plays.{HasAsked}
+use Rattle.uni_small.specs.Laws.{nothing}
 use Rattle.uni_small.proofs.Allowed.{by_key}
 use Rattle.uni_small.proofs.Loads.{asks}
 use Rattle.uni_small.proofs.log.SmallShared.ask.Goals as goal
@@ -22,5 +23,6 @@ load-requires g c =
       c.requires.table,
       (let q0 = c.argument_word.ensures in let q1 = c.requires.inside.1 in let q2 = shared.sized in omega arith),
       by_key meaning shared.table.shared.key shared.setup shared.same slots id me i (argument_word n c.args.r) c.argument_word.ensures (λ x. x) (λ x me'. HasAsked st me x me')
-          (asks meaning o n width slots id shared.few.1 st me c.requires.of.alone c.args.tries c.args.s c.args.r c.requires.stage c.requires.inside.1),
+          nothing
+          (asks meaning o n width id shared.few.1 st me c.requires.of.alone c.args.tries c.args.s c.args.r c.requires.stage c.requires.inside.1),
     )

@@ -2,6 +2,7 @@ use Rattle.std.proofs.Common.{ℕ, arith, refl, sym, ◌∙◌, ◌+◌, ◌*◌
 use mathlib.Core.Option.{none}
 use Rattle.atomic_table.specs.Table.{step}
 use Rattle.uni_small.specs.Plays.{HasBrought}
+use Rattle.uni_small.specs.Laws.{takes_effect}
 use Rattle.uni_small.proofs.Allowed.{by_key}
 use Rattle.uni_small.proofs.Exchange.{brings_in}
 use prog.Atomic.{either}
@@ -23,5 +24,6 @@ compare_exchange-requires g c =
       c.requires.table,
       (let q0 = shared.sized in omega arith),
       by_key meaning shared.table.shared.key shared.setup shared.same slots id me i 0 refl (λ found. either (eqb found c.args.s) c.args.new found) (λ x me'. HasBrought st me x me')
-          (brings_in meaning o n width slots id shared.few.1 st me c.requires.of.alone (g.met.O.SmallObject.steady o) c.args.tries c.args.s c.requires.stage (c.requires.word ∙ (λ k. current_word (version_in c.args.s + 1) (2 * sym c.requires.of.first k + sym c.requires.spare.0 k)))),
+          (takes_effect c.args.s c.requires.stage.1.0)
+          (brings_in meaning o n width id shared.few.1 st me c.requires.of.alone (g.met.O.SmallObject.steady o) c.args.tries c.args.s c.requires.stage (c.requires.word ∙ (λ k. current_word (version_in c.args.s + 1) (2 * sym c.requires.of.first k + sym c.requires.spare.0 k)))),
     )

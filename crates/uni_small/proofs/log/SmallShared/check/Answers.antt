@@ -5,6 +5,7 @@ use Rattle.std.proofs.Common.{length}
 use Rattle.uni_small.specs.Image.{read_image}
 use Rattle.uni_small.specs.View.{goes}
 use Rattle.uni_small.specs.Plays.{HasChecked, IsGood, checked, with_local}
+use Rattle.uni_small.specs.Laws.{nothing}
 use Rattle.uni_small.proofs.Allowed.{by_key}
 use Rattle.uni_small.proofs.Loads.{checks}
 use Rattle.uni_small.proofs.log.SmallShared.check.Goals as goal
@@ -24,7 +25,8 @@ load-requires g c =
       c.requires.table,
       (let q0 = shared.sized in omega arith),
       by_key meaning shared.table.shared.key shared.setup shared.same slots id me i 0 refl (λ x. x) (λ x me'. (q : _) → me.0.object ≡ Some q → HasChecked (meaning q) st me x me')
-          (checks meaning o n width slots id shared.few.1 st me c.requires.of.alone c.args.tries c.args.s c.requires.stage (g.met.O.SmallObject.steady o)),
+          nothing
+          (checks meaning o n width id shared.few.1 st me c.requires.of.alone c.args.tries c.args.s c.requires.stage (g.met.O.SmallObject.steady o)),
     )
 
 pub returns-clause-left : goal.returns-clause-left

@@ -3,6 +3,7 @@ use mathlib.Core.Option.{none}
 use Rattle.atomic_table.specs.Table.{step}
 use Rattle.uni_small.specs.Board.{buffer_word, buffer_in}
 use Rattle.uni_small.specs.Plays.{HasCopied}
+use Rattle.uni_small.specs.Laws.{nothing}
 use Rattle.uni_small.proofs.Allowed.{by_key}
 use Rattle.uni_small.proofs.Loads.{copies}
 use Rattle.uni_small.proofs.Words.{buffer_inside}
@@ -23,5 +24,6 @@ load-requires g c =
       c.requires.table,
       (let q = c.buffer_word.ensures in let r = buffer_inside n width (buffer_in c.args.s) c.args.i c.requires.named c.requires.inside.1 in let t = shared.sized in omega arith),
       by_key meaning shared.table.shared.key shared.setup shared.same slots id me i (buffer_word n width (buffer_in c.args.s) c.args.i) c.buffer_word.ensures (λ x. x) (λ x me'. HasCopied st me x me')
-          (copies meaning o n width slots id shared.few.1 st me c.requires.of.alone c.args.tries c.args.s c.args.i c.requires.stage c.requires.inside.1 c.requires.named),
+          nothing
+          (copies meaning o n width id shared.few.1 st me c.requires.of.alone c.args.tries c.args.s c.args.i c.requires.stage c.requires.inside.1 c.requires.named),
     )

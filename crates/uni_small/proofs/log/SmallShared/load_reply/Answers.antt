@@ -3,13 +3,14 @@ use mathlib.Core.Option.{none}
 use Rattle.atomic_table.specs.Table.{step}
 use Rattle.uni_small.specs.Board.{buffer_word, buffer_in}
 use Rattle.uni_small.specs.Plays.{HasReplied}
+use Rattle.uni_small.specs.Laws.{ends}
 use Rattle.uni_small.proofs.Allowed.{by_key}
 use Rattle.uni_small.proofs.Reply.{replies}
 use Rattle.uni_small.proofs.Words.{buffer_inside}
 use Rattle.uni_small.proofs.log.SmallShared.load_reply.Goals as goal
 
-pub load-requires : goal.load-requires
-load-requires g c =
+pub load-reply-requires : goal.load-reply-requires
+load-reply-requires g c =
     let shared = c.args.self.now in
     let n = shared.setup.n in
     let width = shared.setup.width in
@@ -23,5 +24,6 @@ load-requires g c =
       c.requires.table,
       (let q = c.buffer_word.ensures in let r = buffer_inside n width (buffer_in c.args.s) (n + c.args.p) c.requires.named (let a = c.requires.inside in omega arith) in let t = shared.sized in omega arith),
       by_key meaning shared.table.shared.key shared.setup shared.same slots id me i (buffer_word n width (buffer_in c.args.s) (n + me.0.known.first)) (c.buffer_word.ensures ∙ ap (λ k. buffer_word n width (buffer_in c.args.s) (n + k)) (sym c.requires.of.first)) (λ x. x) (λ x me'. HasReplied st me x me')
-          (replies meaning o n width slots id st me c.requires.of.alone c.args.s c.requires.stage c.requires.named),
+          (ends me.0.known.local me.0.known.first)
+          (replies meaning o n width id st me c.requires.of.alone c.args.s c.requires.stage c.requires.named),
     )

@@ -2,6 +2,7 @@ use Rattle.std.proofs.Common.{ℕ, arith, refl}
 use mathlib.Core.Option.{none}
 use Rattle.atomic_table.specs.Table.{step}
 use Rattle.uni_small.specs.Plays.{HasStarted}
+use Rattle.uni_small.specs.Laws.{nothing}
 use Rattle.uni_small.proofs.Allowed.{by_key}
 use Rattle.uni_small.proofs.Loads.{starts}
 use Rattle.uni_small.proofs.log.SmallShared.start.Goals as goal
@@ -21,5 +22,6 @@ load-requires g c =
       c.requires.table,
       (let q0 = shared.sized in omega arith),
       by_key meaning shared.table.shared.key shared.setup shared.same slots id me i 0 refl (λ x. x) (λ x me'. HasStarted st me x me')
-          (starts meaning o n width slots id shared.few.1 st me c.requires.of.alone c.args.tries c.requires.stage),
+          nothing
+          (starts meaning o n width id shared.few.1 st me c.requires.of.alone c.args.tries c.requires.stage),
     )

@@ -3,6 +3,7 @@ use mathlib.Core.Option.{none}
 use Rattle.atomic_table.specs.Table.{step}
 use Rattle.uni_small.specs.Board.{buffer_word}
 use Rattle.uni_small.specs.Plays.{HasWritten}
+use Rattle.uni_small.specs.Laws.{nothing}
 use Rattle.uni_small.proofs.Allowed.{by_key}
 use Rattle.uni_small.proofs.Stores.{writes}
 use Rattle.uni_small.proofs.Words.{buffer_inside}
@@ -23,5 +24,6 @@ store-requires g c =
       c.requires.table,
       (let q = c.buffer_word.ensures in let r = buffer_inside n width (2 * c.args.p + c.args.spare) c.args.i (let a = c.requires.inside.0 in let b = c.requires.spare.1 in omega arith) c.requires.inside.1 in let t = shared.sized in omega arith),
       by_key meaning shared.table.shared.key shared.setup shared.same slots id me i (buffer_word n width (2 * me.0.known.first + me.0.known.local.spare) c.args.i) (c.buffer_word.ensures ∙ (λ k. buffer_word n width (2 * sym c.requires.of.first k + sym c.requires.spare.0 k) c.args.i)) (λ x. c.args.x) (λ x me'. HasWritten st me c.args.x me')
-          (writes meaning o n width slots id st me c.requires.of.alone c.args.tries c.args.s c.args.i c.args.x c.requires.stage c.requires.inside.1),
+          nothing
+          (writes meaning o n width id st me c.requires.of.alone c.args.tries c.args.s c.args.i c.args.x c.requires.stage c.requires.inside.1),
     )

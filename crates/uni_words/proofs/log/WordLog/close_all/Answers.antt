@@ -1,4 +1,4 @@
-use Rattle.std.proofs.Common.{◌≡◌, ◌∙◌, ◌∷◌, ◌++◌, [], List, sym, subst}
+use Rattle.std.proofs.Common.{ℕ, ◌≡◌, ◌∙◌, ◌∷◌, ◌++◌, [], List, sym, subst}
 use Rattle.std.proofs.lemmas.List.Elements.{All-contains, All-head, All-same, All-tail, Contains-append_left, Contains-push}
 use Rattle.std.proofs.lemmas.List.{nil_from_length}
 use Rattle.std.specs.Vec.Iter.{into_iter_items}
@@ -6,9 +6,10 @@ use Rattle.uni_words.specs.Belongs.{IsSeatOf, calls_of, known_calls, log_in}
 use Rattle.uni_words.specs.Log.{IsInOrder, IsLogged}
 use Rattle.uni_words.specs.Run.{HasSeen, run_history}
 use Rattle.uni_model.specs.ProcessCalls.{ProcessCalls, acts_by, sequential_acts}
-use Rattle.uni_words.specs.declared.steps.WordSeat.{WordSeat}
+use Rattle.uni_words.specs.declared.seat.WordSeat.{WordSeat}
 use Rattle.uni_words.proofs.Agreeing.{agrees_all}
-use Rattle.uni_words.proofs.Accounted.{All-each, accounted_first, accounted_more, accounted_all, known_calls_of, known_seen}
+use Rattle.uni_words.proofs.Accounted.{accounted_first, accounted_more, accounted_all, known_calls_of, known_seen}
+use Rattle.uni_words.proofs.Views.{All-each}
 use Rattle.uni_words.proofs.log.WordLog.close_all.Goals as goal
 
 pub loop-seat-init : goal.loop-seat-init
@@ -33,7 +34,7 @@ loop-seat-preserved g c =
     let P : WordSeat → Type 0 = IsSeatOf c.args.self in (
       c.take_in.ensures.kept.0,
       All-tail P c.in-Some-seat.seat (into_iter_items c.next.new.self) (All-same P _ _ (sym c.in-Some-seat.ensures.steps.0) c.loop-seat.invariant.1),
-      accounted_more c.args.seats.items _ (into_iter_items c.next.new.self) c.loop-seat.first c.take_in.new.self c.in-Some-seat.seat c.in-Some-seat.ensures.steps.0 c.take_in.ensures.known c.take_in.ensures.seen c.loop-seat.invariant.2,
+      accounted_more c.args.seats.items _ (into_iter_items c.next.new.self) c.loop-seat.first c.take_in.new.self c.in-Some-seat.seat _ c.in-Some-seat.ensures.steps.0 c.take_in.ensures.known c.take_in.ensures.seen c.loop-seat.invariant.2,
     )
 
 pub close_with-requires : goal.close_with-requires

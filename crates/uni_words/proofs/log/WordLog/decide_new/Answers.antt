@@ -21,7 +21,7 @@ compare_exchange-requires g c =
       c.requires.table,
       (let a = c.new_word.ensures in let b = c.requires.inside.0 in let d = log.sized in omega arith),
       by_key g.O.WordObject.sequential log.table.shared.key log.setup log.same slots id me i (λ found. either (eqb found 0) (1 + 2 * c.answer-reply.result + 4294967296 * c.next-next.result) found) (λ found me'. Moved (step slots i 0 (1 + 2 * c.answer-reply.result + 4294967296 * c.next-next.result) none) me found me')
-          (decides_word object k n slots id i (step slots i 0 (1 + 2 * c.answer-reply.result + 4294967296 * c.next-next.result) none) me c.requires.stands.alone (name_of n c.args.mine) (name_of n c.args.c) (name_of n c.args.d) c.args.c_seq c.args.inv c.args.state c.next-next.result c.answer-reply.result c.requires.stands.call c.requires.read c.next-next.ensures.value c.next-next.ensures.fits c.answer-reply.ensures.value c.answer-reply.ensures.fits (cell_word n k 6 c.args.d i log.few.0 c.requires.inside.0 c.new_word.ensures)),
+          (decides_word object k n slots id i (step slots i 0 (1 + 2 * c.answer-reply.result + 4294967296 * c.next-next.result) none) me c.requires.stands.alone (name_of n c.args.at.cell) (name_of n c.args.at.head) (name_of n c.args.d) c.args.at.number c.args.inv c.args.state c.next-next.result c.answer-reply.result c.requires.stands.call c.requires.read c.next-next.ensures.value c.next-next.ensures.fits c.answer-reply.ensures.value c.answer-reply.ensures.fits (cell_word n k 6 c.args.d i log.few.0 c.requires.inside.0 c.new_word.ensures)),
     )
 
 pub returns-clause-stands : goal.returns-clause-stands

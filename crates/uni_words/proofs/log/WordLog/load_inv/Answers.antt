@@ -19,7 +19,7 @@ load-requires g c =
       c.requires.table,
       (let a = c.inv_word.ensures in let b = c.requires.inside in let d = log.sized in omega arith),
       by_key g.O.WordObject.sequential log.table.shared.key log.setup log.same slots id me i (λ x. x) (λ x me'. HasLooked me (Invocation x) me')
-          (looks_inv object k n slots id i me c.requires.stands.alone (name_of n c.args.mine) (name_of n c.args.c) (name_of n c.args.d) c.args.c_seq c.requires.stands.call (cell_word n k 2 c.args.d i log.few.0 c.requires.inside c.inv_word.ensures)),
+          (looks_inv object k n slots id i me c.requires.stands.alone (name_of n c.args.at.cell) (name_of n c.args.at.head) (name_of n c.args.d) c.args.at.number c.requires.stands.call (cell_word n k 2 c.args.d i log.few.0 c.requires.inside c.inv_word.ensures)),
     )
 
 pub returns-clause-stands : goal.returns-clause-stands

@@ -18,9 +18,9 @@ load-requires g c =
     let object = g.O.WordObject.sequential log.setup.object in
     let i = c.new_word.result in (
       c.requires.table,
-      (let a = c.new_word.ensures in let b = c.requires.inside in let d = log.sized in omega arith),
+      (let a = c.new_word.ensures in let b = c.requires.cursor.head in let d = log.sized in omega arith),
       by_key g.O.WordObject.sequential log.table.shared.key log.setup log.same slots id me i (λ x. x) (λ x me'. TellsState (step slots i 0 0 none) me x me')
-          (told_state object k n slots id i (step slots i 0 0 none) me c.requires.stands.alone (name_of n c.args.mine) (name_of n c.args.c) (name_of n c.args.d) c.args.c_seq c.requires.stands.call c.args.inv c.requires.read (cell_word n k 6 c.args.c i log.few.0 c.requires.inside c.new_word.ensures)),
+          (told_state object k n slots id i (step slots i 0 0 none) me c.requires.stands.alone (name_of n c.args.at.cell) (name_of n c.args.at.head) (name_of n c.args.d) c.args.at.number c.requires.stands.call c.args.inv c.requires.read (cell_word n k 6 c.args.at.head i log.few.0 c.requires.cursor.head c.new_word.ensures)),
     )
 
 pub returns-clause-stands : goal.returns-clause-stands

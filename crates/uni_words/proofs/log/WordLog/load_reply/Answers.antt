@@ -18,9 +18,9 @@ load-requires g c =
     let object = g.O.WordObject.sequential log.setup.object in
     let i = c.new_word.result in (
       c.requires.table,
-      (let a = c.new_word.ensures in let b = c.requires.inside in let d = log.sized in omega arith),
+      (let a = c.new_word.ensures in let b = c.requires.cursor.cell in let d = log.sized in omega arith),
       by_key g.O.WordObject.sequential log.table.shared.key log.setup log.same slots id me i (λ x. x) (λ x me'. TellsReply (step slots i 0 0 none) me x me')
-          (told_reply object k n slots id i (step slots i 0 0 none) me c.requires.stands.alone (name_of n c.args.mine) c.args.c_seq c.args.mine_seq c.requires.stands.call (cell_word n k 6 c.args.mine i log.few.0 c.requires.inside c.new_word.ensures)),
+          (told_reply object k n slots id i (step slots i 0 0 none) me c.requires.stands.alone (name_of n c.args.at.cell) c.args.at.number c.args.mine_seq c.requires.stands.call (cell_word n k 6 c.args.at.cell i log.few.0 c.requires.cursor.cell c.new_word.ensures)),
     )
 
 pub returns-clause-looked : goal.returns-clause-looked

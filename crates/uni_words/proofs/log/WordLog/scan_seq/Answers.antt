@@ -1,23 +1,16 @@
 use Rattle.std.proofs.Common.{refl}
-use Rattle.uni_model.specs.Indices.{name_of}
-use Rattle.uni_model.specs.Stages.Stage.{ScanSeq}
-use Rattle.uni_words.proofs.Allowed.{stands_next, goes_one, within_here}
+use Rattle.uni_words.proofs.Allowed.{cell_word, goes_one, may_load, stands_next, within_here}
 use Rattle.uni_words.proofs.log.WordLog.scan_seq.Goals as goal
 
-pub load_seq-requires : goal.load_seq-requires
-load_seq-requires g c =
-    let n = c.args.self.now.setup.n in
-    record {
-      table = c.requires.table;
-      inside = c.requires.inside;
-      before = record { pending = record { mine = name_of n c.args.mine; stage = ScanSeq c.args.q (name_of n c.args.best) c.args.best_seq (name_of n c.args.h) }; stands = c.requires.stands; loads = refl };
-    }
+pub load-requires : goal.load-requires
+load-requires g c =
+    let log = c.args.self.now in
+    let n = log.setup.n in
+    let k = log.setup.k in
+    may_load g.O.WordObject.sequential log c.args.seat.now.id c.args.seat.now.me _ _ _ c.seq_word.result c.requires.stands tt
+    (cell_word n k 3 c.args.h _ log.few.0 c.requires.inside c.seq_word.ensures) c.requires.table (λ found seen. refl)
 
-pub returns-clause-stands : goal.returns-clause-stands
-returns-clause-stands g c = stands_next _ _ _ _ _ _ _ _ _ c.requires.stands (c.load_seq.ensures.moved _ c.requires.stands.call) refl
-
-pub returns-clause-goes : goal.returns-clause-goes
-returns-clause-goes g c = goes_one _ _ _ _ _ (c.load_seq.ensures.moved _ c.requires.stands.call) refl
-
-pub returns-clause-within : goal.returns-clause-within
-returns-clause-within g c = within_here _ _ _ _ _ _ _ _ (c.load_seq.ensures.moved _ c.requires.stands.call) c.requires.stands
+pub returns : goal.returns
+returns g c =
+    let moved = c.load.ensures.2 _ c.requires.stands.call in
+    record { same = (c.load.ensures.0, c.load.ensures.1); stands = stands_next _ _ _ _ _ _ _ _ _ c.requires.stands moved refl; goes = goes_one _ _ _ _ _ moved refl; within = within_here _ _ _ _ _ _ _ _ moved c.requires.stands }

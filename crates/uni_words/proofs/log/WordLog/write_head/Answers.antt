@@ -1,20 +1,16 @@
 use Rattle.std.proofs.Common.{refl}
-use Rattle.uni_model.specs.Indices.{name_of}
-use Rattle.uni_model.specs.Stages.Stage.{WriteHead}
-use Rattle.uni_words.proofs.Allowed.{stands_next, goes_one}
+use Rattle.uni_words.proofs.Allowed.{first_word, goes_one, may_store, stands_next}
 use Rattle.uni_words.proofs.log.WordLog.write_head.Goals as goal
 
-pub store_head-requires : goal.store_head-requires
-store_head-requires g c =
-    let n = c.args.self.now.setup.n in
-    record {
-      table = c.requires.table;
-      inside = c.requires.inside;
-      before = record { pending = record { mine = name_of n c.args.mine; stage = WriteHead (name_of n c.args.c) c.args.c_seq (name_of n c.args.d) }; stands = c.requires.stands; stores = refl };
-    }
+pub store-requires : goal.store-requires
+store-requires g c =
+    let log = c.args.self.now in
+    let n = log.setup.n in
+    let k = log.setup.k in
+    may_store g.O.WordObject.sequential log c.args.seat.now.id c.args.seat.now.me _ _ _ c.head_word.result c.requires.stands tt
+    (first_word n k 1 c.args.seat.now.me.0.known.first c.args.at.process _ c.requires.cursor.process c.requires.stands.first c.head_word.ensures) c.requires.table c.args.d (λ found seen. refl) (λ found. refl)
 
-pub returns-clause-stands : goal.returns-clause-stands
-returns-clause-stands g c = stands_next _ _ _ _ _ _ _ _ _ c.requires.stands (c.store_head.ensures.past _ c.requires.stands.call) refl
-
-pub returns-clause-goes : goal.returns-clause-goes
-returns-clause-goes g c = goes_one _ _ _ _ _ (c.store_head.ensures.past _ c.requires.stands.call) refl
+pub returns : goal.returns
+returns g c =
+    let moved = c.store.ensures.2 _ c.requires.stands.call in
+    record { same = (c.store.ensures.0, c.store.ensures.1); stands = stands_next _ _ _ _ _ _ _ _ _ c.requires.stands moved refl; goes = goes_one _ _ _ _ _ moved refl }

@@ -1,10 +1,5 @@
-use Rattle.std.proofs.Common.{◌+◌, arith, refl}
-use mathlib.Core.Option.{none}
-use Rattle.atomic_table.specs.Table.{step}
-use Rattle.uni_model.specs.Stages.{Pending}
-use Rattle.uni_model.specs.Stages.Stage.{WriteSeq}
-use Rattle.uni_model.specs.Indices.{name_of}
-use Rattle.uni_words.proofs.Allowed.{may_move, cell_word, stands_next, goes_one, within_here}
+use Rattle.std.proofs.Common.{◌+◌, refl}
+use Rattle.uni_words.proofs.Allowed.{cell_word, goes_one, may_store, stands_next, within_here}
 use Rattle.uni_words.proofs.log.WordLog.write_seq.Goals as goal
 
 pub store-requires : goal.store-requires
@@ -12,21 +7,10 @@ store-requires g c =
     let log = c.args.self.now in
     let n = log.setup.n in
     let k = log.setup.k in
-    let slots = log.table.shared.table_id.slots in
-    let me = c.args.seat.now.me in
-    let i = c.seq_word.result in
-    let call : Pending = record { mine = name_of n c.args.mine; stage = WriteSeq (name_of n c.args.c) c.args.c_seq (name_of n c.args.d) } in (
-      c.requires.table,
-      (let a = c.seq_word.ensures in let b = c.requires.inside.0 in let d = log.sized in omega arith),
-      may_move g.O.WordObject.sequential log.table.shared.key log.setup log.same slots c.args.seat.now.id i (step slots i (c.args.c_seq + 1) 0 none) me
-          (λ x. (c.args.c_seq + 1)) (λ x. (c.args.c_seq + 1)) c.requires.stands.alone call c.requires.stands.call tt (cell_word n k 3 c.args.d i log.few.0 c.requires.inside.0 c.seq_word.ensures) (λ found seen. refl) (λ found. refl) (λ found a b. b),
-    )
+    may_store g.O.WordObject.sequential log c.args.seat.now.id c.args.seat.now.me _ _ _ c.seq_word.result c.requires.stands tt
+    (cell_word n k 3 c.args.d _ log.few.0 c.requires.inside c.seq_word.ensures) c.requires.table (c.args.at.number + 1) (λ found seen. refl) (λ found. refl)
 
-pub returns-clause-stands : goal.returns-clause-stands
-returns-clause-stands g c = stands_next _ _ _ _ _ _ _ _ _ c.requires.stands (c.store.ensures.2 _ c.requires.stands.call) refl
-
-pub returns-clause-goes : goal.returns-clause-goes
-returns-clause-goes g c = goes_one _ _ _ _ _ (c.store.ensures.2 _ c.requires.stands.call) refl
-
-pub returns-clause-within : goal.returns-clause-within
-returns-clause-within g c = within_here _ _ _ _ _ _ _ _ (c.store.ensures.2 _ c.requires.stands.call) c.requires.stands
+pub returns : goal.returns
+returns g c =
+    let moved = c.store.ensures.2 _ c.requires.stands.call in
+    record { same = (c.store.ensures.0, c.store.ensures.1); stands = stands_next _ _ _ _ _ _ _ _ _ c.requires.stands moved refl; goes = goes_one _ _ _ _ _ moved refl; within = within_here _ _ _ _ _ _ _ _ moved c.requires.stands }

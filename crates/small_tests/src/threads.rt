@@ -1,0 +1,201 @@
+//! Calls of four threads at the same time, on a queue.
+
+ghost use Rattle.std.specs.Prelude.{◌≡◌, All, IfSome, length};
+ghost use Rattle.uni_small.specs.Belongs.{IsSeatOf, width_of};
+
+use small_objects::SmallQueue;
+use std::alloc::Global;
+use std::process::Abort;
+use std::thread::{Threads, join};
+use uni_small::{SmallSeat, SmallShared};
+
+/// A seat, and the replies that it was given.
+type Done = (SmallSeat<SmallQueue>, Vec<u64>);
+
+/// How many values each thread puts in.
+const VALUES: u64 = 5_000;
+
+/// A thread puts its values in, the first of them this one, and takes a value out after each. The replies are
+/// those of the puts and takes in turn: fewer where memory was refused.
+fn calls(
+    alloc: Global,
+    shared: &SmallShared<SmallQueue>,
+    mut seat: SmallSeat<SmallQueue>,
+    first: u64,
+) -> Done
+    requires { IsSeatOf shared.now seat }
+    ensures { IsSeatOf shared.now result.0 }
+{
+    let mut replies = Vec::new(alloc);
+    for i in 0..2 * VALUES {
+        let inv = if i % 2 == 0 {
+            first.wrapping_add(i / 2)
+        } else {
+            0
+        };
+        if let Ok(answer) = seat.apply(shared, inv) {
+            let _ = replies.push(answer.reply);
+        }
+    }
+    (seat, replies)
+}
+
+/// Two threads, whose first values are these.
+fn in_two_threads<R: Threads + Sync>(
+    rt: &R,
+    alloc: Global,
+    shared: &SmallShared<SmallQueue>,
+    seats: (SmallSeat<SmallQueue>, SmallSeat<SmallQueue>),
+    firsts: (u64, u64),
+) -> (Done, Done)
+    requires { IsSeatOf shared.now seats.0 × IsSeatOf shared.now seats.1 }
+    ensures { IsSeatOf shared.now result.0.0 × IsSeatOf shared.now result.1.0 }
+{
+    let (first, second) = seats;
+    join(
+        rt,
+        move || calls(alloc, shared, first, firsts.0),
+        move || calls(alloc, shared, second, firsts.1),
+    )
+}
+
+/// Four threads: the first value of thread t is `1 + t * VALUES`.
+fn in_four_threads<R: Threads + Sync>(
+    rt: &R,
+    alloc: Global,
+    shared: &SmallShared<SmallQueue>,
+    first: (SmallSeat<SmallQueue>, SmallSeat<SmallQueue>),
+    second: (SmallSeat<SmallQueue>, SmallSeat<SmallQueue>),
+) -> ((Done, Done), (Done, Done))
+    requires first { IsSeatOf shared.now first.0 × IsSeatOf shared.now first.1 }
+    requires second { IsSeatOf shared.now second.0 × IsSeatOf shared.now second.1 }
+    ensures first { IsSeatOf shared.now result.0.0.0 × IsSeatOf shared.now result.0.1.0 }
+    ensures second { IsSeatOf shared.now result.1.0.0 × IsSeatOf shared.now result.1.1.0 }
+{
+    join(
+        rt,
+        move ||
+            requires { IsSeatOf shared.now first.0 × IsSeatOf shared.now first.1 }
+        { in_two_threads(rt, alloc, shared, first, (1, 1 + VALUES)) },
+        move ||
+            requires { IsSeatOf shared.now second.0 × IsSeatOf shared.now second.1 }
+        { in_two_threads(rt, alloc, shared, second, (1 + 2 * VALUES, 1 + 3 * VALUES)) },
+    )
+}
+
+/// Takes back the values whose puts were answered 0, since the queue was full.
+fn unmark_refused(marks: &mut [bool], first: u64, replies: &[u64]) {
+    for (i, reply) in replies.iter().enumerate() {
+        if i % 2 == 0 && *reply == 0 {
+            let at = first.wrapping_add(i as u64 / 2) as usize;
+            if at < marks.len() {
+                marks[at] = false;
+            }
+        }
+    }
+}
+
+/// Unmarks a value that came out; whether it was marked.
+fn unmark(marks: &mut [bool], value: u64) -> bool {
+    let at = value as usize;
+    if at >= marks.len() || !marks[at] {
+        return false;
+    }
+    marks[at] = false;
+    true
+}
+
+/// Unmarks the values that a thread took out. They were marked, and those that one thread put in come out in
+/// the order in which they went in.
+fn unmark_taken(marks: &mut [bool], replies: &[u64]) -> bool {
+    let mut last = [0; 4];
+    for (i, reply) in replies.iter().enumerate() {
+        if i % 2 == 0 || *reply == 0 {
+            continue;
+        }
+        let from = ((*reply - 1) / VALUES % 4) as usize;
+        if *reply <= last[from] || !unmark(marks, *reply) {
+            return false;
+        }
+        last[from] = *reply;
+    }
+    true
+}
+
+/// Unmarks the values that the queue's state has.
+fn unmark_left(marks: &mut [bool], state: &[u64]) -> bool {
+    let Some((count, values)) = state.split_first() else {
+        return false;
+    };
+    for value in values.iter().take(*count as usize) {
+        if !unmark(marks, *value) {
+            return false;
+        }
+    }
+    true
+}
+
+/// The last two seats.
+fn last_two(
+    shared: &SmallShared<SmallQueue>,
+    seats: &mut Vec<SmallSeat<SmallQueue>>,
+) -> Option<(SmallSeat<SmallQueue>, SmallSeat<SmallQueue>)>
+    requires { All (IsSeatOf shared.now) seats.old.items }
+    ensures rest { All (IsSeatOf shared.now) seats.new.items }
+    ensures two { IfSome result (λ two. IsSeatOf shared.now two.0 × IsSeatOf shared.now two.1) }
+{
+    let second = last(shared, seats)?;
+    let first = last(shared, seats)?;
+    Some((first, second))
+}
+
+/// The last seat.
+fn last(
+    shared: &SmallShared<SmallQueue>,
+    seats: &mut Vec<SmallSeat<SmallQueue>>,
+) -> Option<SmallSeat<SmallQueue>>
+    requires { All (IsSeatOf shared.now) seats.old.items }
+    ensures rest { All (IsSeatOf shared.now) seats.new.items }
+    ensures last { IfSome result (IsSeatOf shared.now) }
+{
+    seats.pop()
+}
+
+/// Closes the queue with a seat, and writes its state: whether that has as many words.
+fn closed(shared: SmallShared<SmallQueue>, seat: SmallSeat<SmallQueue>, state: &mut [u64]) -> bool
+    requires { IsSeatOf shared seat }
+{
+    if shared.width() != state.len() as u64 {
+        return false;
+    }
+    shared.close_with(seat, state);
+    true
+}
+
+/// Whether each value that went into the queue came out once, or is left; `None` where memory was refused.
+fn queue_in_four_threads<R: Threads + Abort + Sync>(rt: &R, alloc: Global) -> Option<bool> {
+    let (shared, mut seats) = SmallShared::open(alloc, SmallQueue { capacity: 64 }, 4).ok()?;
+    let second = last_two(&shared, &mut seats)?;
+    let first = last_two(&shared, &mut seats)?;
+    let ((a, b), (c, d)) = in_four_threads(rt, alloc, &shared, first, second);
+    let mut marks = vec![in alloc; true; 1 + 4 * VALUES as usize].ok()?;
+    marks[0] = false;
+    let mut from = 1;
+    for done in [&a.1, &b.1, &c.1, &d.1] {
+        assert!(rt; done.len() as u64 == 2 * VALUES);
+        unmark_refused(&mut marks, from, done);
+        from = VALUES.wrapping_add(from);
+    }
+    for done in [&a.1, &b.1, &c.1, &d.1] {
+        assert!(rt; unmark_taken(&mut marks, done));
+    }
+    let mut state = [0; 65];
+    assert!(rt; closed(shared, a.0, &mut state));
+    assert!(rt; unmark_left(&mut marks, &state));
+    Some(!marks.contains(&true))
+}
+
+#[test]
+fn four_threads_on_a_queue(rt: HostRuntime) {
+    assert!(rt; queue_in_four_threads(&rt, rt.alloc()) == Some(true));
+}

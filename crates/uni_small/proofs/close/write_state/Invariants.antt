@@ -1,0 +1,6 @@
+use Rattle.std.proofs.Common.{◌≡◌, ℕ, ◌+◌, ◌<◌, slice_index}
+use Rattle.std.specs.Mem.Slots.{slots_items}
+use Rattle.uni_small.proofs.close.write_state.Given as goal
+
+abbrev pub invariant-loop-i : goal.invariant-loop-i
+invariant-loop-i l = (j : ℕ) → j < l.i → slice_index l.state j ≡ slice_index (slots_items l.fn.closed.words) (l.from + j)

@@ -1,0 +1,52 @@
+use Rattle.std.proofs.Common.{◌≡◌, ◌∙◌, ◌∷◌, ◌++◌, [], List, sym, ap, subst, flat_map, inl, inr, Contains, append_assoc, append-nil}
+use Rattle.std.proofs.lemmas.List.Elements.{All-contains, All-head, All-same, All-tail, Contains-append_cases, Contains-append_left, Contains-append_right, Contains-push}
+use Rattle.std.proofs.lemmas.List.{nil_from_length}
+use Rattle.std.specs.Vec.Iter.{into_iter_items}
+use Rattle.uni_small.specs.View.{ProcessReturned}
+use Rattle.uni_small.specs.Belongs.{IsSeatOf, known_calls}
+use Rattle.uni_small.specs.declared.seat.SmallSeat.{SmallSeat}
+use Rattle.uni_small.proofs.Closing.{final_of_fewer}
+use Rattle.uni_small.proofs.Seating.{All-each, known_last}
+use Rattle.uni_small.proofs.log.SmallShared.close_all.Goals as goal
+
+pub loop-seat-init : goal.loop-seat-init
+loop-seat-init g c =
+    let P = IsSeatOf c.args.self in
+    let rest = into_iter_items c.into_iter-seat-iterator.result in
+    let same : rest ≡ c.pop.new.self.items = c.into_iter-seat-iterator.ensures.into_iter_gives.0 in
+    let all : c.args.seats.items ≡ rest ++ c.in-Some.first ∷ [] = subst (λ l. c.args.seats.items ≡ l ++ c.in-Some.first ∷ []) (sym same) c.in-Some.ensures.items in
+    let each = All-same P _ _ (sym all) c.requires.seats in (
+      All-contains P _ c.in-Some.first each (Contains-push rest c.in-Some.first),
+      All-each P rest (λ x has. All-contains P _ x each (Contains-append_left rest _ x has)),
+      known_last c.args.seats.items rest c.in-Some.first all,
+    )
+
+pub take_in-requires : goal.take_in-requires
+take_in-requires g c =
+    let P = IsSeatOf c.args.self in
+    record { seats = (c.loop-seat.invariant.0, All-head P c.in-Some-seat.seat (into_iter_items c.next.new.self) (All-same P _ _ (sym c.in-Some-seat.ensures.steps.0) c.loop-seat.invariant.1)) }
+
+pub loop-seat-preserved : goal.loop-seat-preserved
+loop-seat-preserved g c =
+    let P = IsSeatOf c.args.self in
+    let steps = c.in-Some-seat.ensures.steps.0 in
+    let rest = into_iter_items c.next.new.self in (
+      c.take_in.ensures.kept.0,
+      All-tail P c.in-Some-seat.seat rest (All-same P _ _ (sym steps) c.loop-seat.invariant.1),
+      λ its has. subst (λ l. Contains l its)
+          (ap (λ l. known_calls c.loop-seat.first ++ flat_map known_calls l) steps
+          ∙ sym (append_assoc (known_calls c.loop-seat.first) (known_calls c.in-Some-seat.seat) (flat_map known_calls rest))
+          ∙ ap (λ l. l ++ flat_map known_calls rest) (sym c.take_in.ensures.known))
+          (c.loop-seat.invariant.2 its has),
+    )
+
+pub close_with-requires : goal.close_with-requires
+close_with-requires g c = record { seat = c.loop-seat.invariant.0; wide = c.requires.wide }
+
+pub returns : goal.returns
+returns g c =
+    let none = nil_from_length _ (sym c.loop-seat.seat-iterator.rest.ok.0 ∙ c.in-None.ensures.steps.0) in
+    record {
+      told = final_of_fewer (g.O.SmallObject.sequential c.args.self.setup.object) (known_calls c.loop-seat.first) (flat_map known_calls c.args.seats.items) c.close_with.new.state
+          (λ its has. subst (λ l. Contains l its) (ap (λ l. known_calls c.loop-seat.first ++ flat_map known_calls l) none ∙ append-nil (known_calls c.loop-seat.first)) (c.loop-seat.invariant.2 its has)) c.close_with.ensures.told;
+    }

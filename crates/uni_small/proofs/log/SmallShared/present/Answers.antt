@@ -1,0 +1,27 @@
+use Rattle.std.proofs.Common.{ℕ, arith, refl}
+use mathlib.Core.Option.{none}
+use Rattle.atomic_table.specs.Table.{step}
+use Rattle.uni_small.specs.Plays.{HasFollowed}
+use Rattle.uni_small.specs.Laws.{nothing}
+use Rattle.uni_small.proofs.Allowed.{by_key}
+use Rattle.uni_small.proofs.Loads.{follows_on}
+use Rattle.uni_small.proofs.log.SmallShared.present.Goals as goal
+
+pub load-requires : goal.load-requires
+load-requires g c =
+    let shared = c.args.self.now in
+    let n = shared.setup.n in
+    let width = shared.setup.width in
+    let o = shared.setup.object in
+    let meaning = g.O.SmallObject.sequential in
+    let slots = shared.table.shared.table_id.slots in
+    let id = c.args.seat.now.id in
+    let me = c.args.seat.now.me in
+    let i : ℕ = 0 in
+    let st = step slots 0 0 0 none in (
+      c.requires.table,
+      (let q0 = shared.sized in omega arith),
+      by_key meaning shared.table.shared.key shared.setup shared.same slots id me i 0 refl (λ x. x) (λ x me'. HasFollowed st me x me')
+          nothing
+          (follows_on meaning o n width id shared.few.1 st me c.requires.of.alone c.requires.stage),
+    )
