@@ -21,7 +21,7 @@ pub shows_rows : (places : Places) (parts : List Meaning) (strokes : List code.S
     → AreApartFrom 0 places.lanes → AreShown places parts (map (λ stroke. outline_of (stroke_shown stroke)) strokes) → AreSide 0 places.width blocks
     → ShowsRows places parts (map stroke_shown strokes) blocks
 shows_rows places parts strokes blocks columns lanes all side = record {
-      apart = record { columns = columns; lanes = lanes; };
-      shown = subst (AreShown places parts) (sym (map-map outline_of stroke_shown strokes)) all;
-      side = side;
-    }
+  apart = record { columns = columns; lanes = lanes };
+  shown = subst (AreShown places parts) (sym (map-map outline_of stroke_shown strokes)) all;
+  side = side;
+}
