@@ -141,6 +141,8 @@ module _ {S I R : Type 0} (object : Sequential S I R) where
       accepted = accepted;
       returned = served.returned;
       begun = served.begun;
+      among = served.among;
+      few = served.few;
       turns = served.turns;
       steps = counted;
       floor = floor;

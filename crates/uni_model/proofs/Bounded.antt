@@ -1,8 +1,8 @@
 -- Every event that is accepted goes on helping each pending call; so each call ends within n + 1 turns.
-use Rattle.std.proofs.Common.{◌≡◌, ℕ, ◌+◌, ◌*◌, ◌<◌, ◌≤◌, refl, sym, subst, List, [], ◌∷◌, Option, Some, None, arith}
+use Rattle.std.proofs.Common.{◌≡◌, ℕ, ◌+◌, ◌*◌, ◌<◌, ◌≤◌, refl, sym, subst, List, [], ◌∷◌, Option, Some, None, arith, inl, inr}
 use Rattle.std.specs.Option.{option_map_or}
 use Rattle.seq_object.specs.Sequential.{Sequential}
-use Rattle.uni_model.specs.Places.{Name, Memory, memory_with, head_seq, seq_of, new_of}
+use Rattle.uni_model.specs.Places.{Name, Memory, memory_with, head_of, head_seq, seq_of, new_of}
 use Rattle.uni_model.specs.AtomicObject.{set_at}
 use Rattle.uni_model.specs.Stages.{Stage, Pending}
 use Rattle.uni_model.specs.Stages.Stage.{Announce, ScanHead, ScanSeq, WriteScan, Test, ReadAnnounce, ReadHelpSeq, DecideAfter, DecideNew, WriteBefore, WriteSeq, WriteHead, Finish}
@@ -135,15 +135,23 @@ module _ {S I R : Type 0} (object : Sequential S I R) where
         let less : steps_at w.n c.stage (w.turns p) < 10 * w.n + 12 = steps_at-lt w.memory inv.0 w.n p c.mine c.stage (w.turns p) (inv.2.stands p c is) few in
         (counted.0, few, subst (λ u. u < 10 * w.n + 12) (sym counted.2) less)
 
-  -- after n + 1 turns a call's last step finds its own cell no farther than its head
+  -- after n + 1 turns a call's last step finds that its own cell is its head
   pub at_its_cell : (w : WorldOf S I R) → HelpingInvariant object w → (p : ℕ) (mine : Name) (s t : ℕ)
-      → w.call p ≡ Some (record { mine = mine; stage = Finish s t }) → w.turns p ≡ w.n + 1 → t ≤ s
+      → w.call p ≡ Some (record { mine = mine; stage = Finish s t }) → w.turns p ≡ w.n + 1 → (head_of w.memory p ≡ mine) × (t ≤ s)
   at_its_cell w inv p mine s t is turns =
-      let linked = (inv.3.each p (record { mine = mine; stage = Finish s t }) is).linked in
+      let helped = inv.3.each p (record { mine = mine; stage = Finish s t }) is in
+      let linked = helped.linked in
       let stands = inv.2.stands p (record { mine = mine; stage = Finish s t }) is in
       let found : linked.0 + w.turns p ≤ s = linked.1 in
       let near : inv.0 mine ≤ linked.0 + w.n + 1 = linked.2 in
       let threaded : 1 ≤ t = stands.1 in
       let number : seq_of w.memory mine ≡ t = stands.2 in
       let own : seq_of w.memory mine ≡ inv.0 mine = inv.2.numbered.seq mine (omega arith) in
-      omega arith
+      let past : t ≤ s = omega arith in
+      let ahead : s ≤ inv.0 mine = elim helped.ahead [
+        | inl none ↦ absurd (let none : w.turns p ≡ 0 = none in omega arith)
+        | inr own_first ↦ elim own_first [ inl apart ↦ absurd (let apart : inv.0 mine ≡ 0 = apart in omega arith) | inr before ↦ before ]
+      ] in
+      let at : head_seq w.memory p ≡ s = stands.0 in
+      let head : head_seq w.memory p ≡ inv.0 (head_of w.memory p) = inv.2.numbered.seq (head_of w.memory p) (omega arith) in
+      (inv.2.numbered.one_each (head_of w.memory p) mine (omega arith) (let same : inv.0 (head_of w.memory p) ≡ inv.0 mine = omega arith in same), past)

@@ -8,8 +8,7 @@ use Rattle.seq_object.specs.History.{state_after, response_at}
 use Rattle.uni_model.specs.AtomicObject.{Atomic, Act, Accepts, AcceptsAll, Invoked, set_at}
 use Rattle.uni_model.specs.AtomicObject.Act.{Invoke, Linearize, Respond}
 use Rattle.uni_model.specs.Linearizable.{observed}
-use Rattle.uni_model.specs.StrongLinearizable.{one_by_one}
-use Rattle.uni_model.specs.HerlihyWing.{of_process, is_kept}
+use Rattle.uni_model.specs.HerlihyWing.{one_by_one, of_process, is_kept}
 use Rattle.uni_model.proofs.Written.{number_cases, set_at-cases}
 use Rattle.uni_model.proofs.LawProofs.{set_at_elsewhere}
 use Rattle.uni_model.proofs.Appended.{slice_get-append_left, slice_get-append_right, slice_get-append_cases}

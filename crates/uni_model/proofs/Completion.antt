@@ -7,9 +7,8 @@ use Rattle.seq_object.specs.Sequential.{Sequential}
 use Rattle.seq_object.specs.History.{response_at}
 use Rattle.uni_model.specs.AtomicObject.{Atomic, Act, Accepts, AcceptsAll, Invoked, at_start}
 use Rattle.uni_model.specs.AtomicObject.Act.{Invoke, Linearize, Respond}
-use Rattle.uni_model.specs.Linearizable.{observed, IsLinearizableHistory}
-use Rattle.uni_model.specs.StrongLinearizable.{one_by_one}
-use Rattle.uni_model.specs.HerlihyWing.{is_by, of_process, is_kept, AreInTurn, IsWellFormed, IsResponse, Precedes, IsLinearizableByCompletion}
+use Rattle.uni_model.specs.Linearizable.{observed, IsLinearizedAs}
+use Rattle.uni_model.specs.HerlihyWing.{one_by_one, is_by, of_process, is_kept, AreInTurn, IsWellFormed, IsResponse, Precedes, IsLinearizedByCompletion}
 use Rattle.uni_model.proofs.Written.{number_cases, set_at-cases}
 use Rattle.uni_model.proofs.LawProofs.{set_at_elsewhere}
 use Rattle.std.proofs.lemmas.Option.{slice_get_within}
@@ -375,10 +374,8 @@ module _ {S I R : Type 0} (object : Sequential S I R) where
         let k = c.nth in
         let q = d.process in
         let m = d.nth in
-        let here = observed_split acts precedes.before (Respond p k precedes.response) precedes.after precedes.split in
-        let at = place_of_member precedes.after (Invoke q m precedes.inv) precedes.later in
-        let split = split_at precedes.after at.0 (Invoke q m precedes.inv) at.1 in
-        let later = observed_split here.1 split.0 (Invoke q m precedes.inv) split.1 (here.3 ∙ split.2) in
+        let here = observed_split acts precedes.before (Respond p k precedes.response) (precedes.between ++ Invoke q m precedes.inv ∷ precedes.after) precedes.split in
+        let later = observed_split here.1 precedes.between (Invoke q m precedes.inv) precedes.after here.3 in
         let run = AcceptsAll-split (at_start start) b here.0 (Respond p k precedes.response ∷ here.1) (subst (λ l. AcceptsAll object (at_start start) l b) here.2 h) in
         let ok = run.2.1 in
         let more = AcceptsAll-split run.2.0 b later.0 (Invoke q m precedes.inv ∷ later.1) (subst (λ l. AcceptsAll object run.2.0 l b) later.2 run.2.2) in
@@ -397,7 +394,7 @@ module _ {S I R : Type 0} (object : Sequential S I R) where
           | inr after ↦ (let place : y ≡ length mid.agreed + after.0 = after.1 in omega arith)
         ]
 
-    completes : IsLinearizableByCompletion object start (observed acts)
+    completes : IsLinearizedByCompletion object start (observed acts) b.agreed
     completes = record {
       completed = filter (is_kept keeps) (observed acts) ++ responses;
       completion = record {
@@ -407,7 +404,6 @@ module _ {S I R : Type 0} (object : Sequential S I R) where
         are_responses = missing-responses b.open_call start b.agreed;
         appended = refl;
       };
-      order = b.agreed;
       equivalent = equivalent;
       real_time = real_time;
     }
@@ -415,7 +411,8 @@ module _ {S I R : Type 0} (object : Sequential S I R) where
     well_formed : IsWellFormed (observed acts)
     well_formed p = in_turn p (at_start start) b acts h None refl
 
-  pub completed : (start : S) (history : List (Act I R)) → IsLinearizableHistory object start history → IsWellFormed history × IsLinearizableByCompletion object start history
-  completed start history linearizable =
-      let its = linearizable.1 in
-      subst (λ l. IsWellFormed l × IsLinearizableByCompletion object start l) its.2 (well_formed start its.0 its.1 its.3, completes start its.0 its.1 its.3)
+  pub completed : (start : S) (history : List (Act I R)) (order : List (Invoked I)) → IsLinearizedAs object start history order
+      → IsWellFormed history × IsLinearizedByCompletion object start history order
+  completed start history order its =
+      subst (λ l. IsWellFormed l × IsLinearizedByCompletion object start l order) its.2
+      (well_formed start its.0 its.1 its.3, subst (λ o. IsLinearizedByCompletion object start (observed its.0) o) its.4 (completes start its.0 its.1 its.3))

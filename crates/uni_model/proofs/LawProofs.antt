@@ -39,6 +39,8 @@ module _ {S I R : Type 0} (object : Sequential S I R) where
     places = λ x apart. written_elsewhere w.memory (place_of w.n p call.mine call.stage) _ x apart;
     calls = λ q apart. set_at_elsewhere w.call p _ q apart;
     begun = refl;
+    first = refl;
+    among = refl;
     steps = λ q apart. set_at_elsewhere w.steps p _ q apart;
     turns = λ q apart. set_at_elsewhere w.turns p _ q apart;
   }

@@ -9,14 +9,13 @@ use Rattle.seq_object.specs.History.{response_at}
 use Rattle.uni_model.specs.AtomicObject.{Atomic, Act, Accepts, AcceptsAll, Invoked, at_start, set_at}
 use Rattle.uni_model.specs.AtomicObject.Act.{Invoke, Linearize, Respond}
 use Rattle.uni_model.specs.Worlds.{Event, opened_world}
-use Rattle.uni_model.specs.Linearizable.{observed, observed_in, IsLinearizableHistory}
+use Rattle.uni_model.specs.Linearizable.{observed, observed_in, IsLinearizedAs}
 use Rattle.uni_model.proofs.Linearizable.{ObservesLinearizable-holds}
-use Rattle.uni_model.specs.StrongLinearizable.{one_by_one}
-use Rattle.uni_model.specs.HerlihyWing.{is_by, of_process, is_kept, AreInTurn, IsWellFormed, IsResponse, Precedes, IsLinearizableByCompletion, AgreesWithCompletion, ObservesCompletion}
+use Rattle.uni_model.specs.HerlihyWing.{one_by_one, is_by, of_process, is_kept, AreInTurn, IsWellFormed, IsResponse, Precedes, IsLinearizedByCompletion, AgreesInOrder, AgreesWithCompletion, ObservesCompletion}
 use Rattle.uni_model.proofs.Written.{number_cases, set_at-cases}
 use Rattle.uni_model.proofs.LawProofs.{set_at_elsewhere}
 use Rattle.uni_model.proofs.Appended.{slice_get-append_left, slice_get-append_right, slice_get-append_cases}
-use Rattle.uni_model.proofs.Members.{member, place_of_member}
+use Rattle.uni_model.proofs.Members.{member, place_of_member, split_at}
 use Rattle.uni_model.proofs.Completed.{Idle, Waiting, Done, invs, state_of, state-last, response-last, response-longer}
 use Rattle.uni_model.proofs.Completion.{serial_invoked, respond_apart, completed}
 
@@ -49,7 +48,7 @@ module _ {I R : Type 0} where
 its_name : {I : Type 0} (c : Invoked I) (q k : ℕ) → c.process ≡ q → c.nth ≡ k → c ≡ record { process = q; nth = k; inv = c.inv }
 its_name c q k p n = λ i. record { process = p i; nth = n i; inv = c.inv }
 
-module _ {S I R : Type 0} (object : Sequential S I R) (start : S) (history : List (Act I R)) (hw : IsLinearizableByCompletion object start history) where
+module _ {S I R : Type 0} (object : Sequential S I R) (start : S) (history : List (Act I R)) (full : List (Invoked I)) (hw : IsLinearizedByCompletion object start history full) where
   abbrev keeps : ℕ → ℕ → Bool
   keeps q k = hw.completion.keeps q k
 
@@ -187,13 +186,13 @@ module _ {S I R : Type 0} (object : Sequential S I R) (start : S) (history : Lis
     last : Atomic S I
     seen : observed acts ≡ rest
     accepted : AcceptsAll object a acts last
-    all : last.agreed ≡ hw.order
+    all : last.agreed ≡ full
 
   add_point : (a x : Atomic S I) (rest : List (Act I R)) (e : Invoked I) → Accepts object a (Linearize e) x → Places x rest → Places a rest
   add_point a x rest e ok places = record { acts = Linearize e ∷ places.acts; last = places.last; seen = places.seen; accepted = (x, ok, places.accepted); all = places.all }
 
   -- after the last act the calls take effect that are left
-  ends : (todo : List (Invoked I)) (a : Atomic S I) → hw.order ≡ a.agreed ++ todo → ((p : ℕ) → Stand p a [] todo) → Places a []
+  ends : (todo : List (Invoked I)) (a : Atomic S I) → full ≡ a.agreed ++ todo → ((p : ℕ) → Stand p a [] todo) → Places a []
   ends [] a order stands = record { acts = []; last = a; seen = refl; accepted = refl; all = sym (order ∙ append-nil a.agreed) }
   ends (e ∷ todo) a order stands =
       let point = linearize_head a [] e todo (λ i there. (let at = place_of_member [] (Invoke e.process e.nth i) there in let f : None ≡ Some (Invoke e.process e.nth i) = at.1 in cc)) stands in
@@ -236,7 +235,7 @@ module _ {S I R : Type 0} (object : Sequential S I R) (start : S) (history : Lis
     invoked_behind zero p m i at = absurd (respond_apart object (Some (Respond q k r)) q k r p m i refl at)
     invoked_behind (suc j) p m i at = member rest j (Invoke p m i) at
 
-    module _ (a : Atomic S I) (e : Invoked I) (todo : List (Invoked I)) (order : hw.order ≡ a.agreed ++ e ∷ todo) (c : Invoked I) (w : Waiting q a c) (same_k : c.nth ≡ k) where
+    module _ (a : Atomic S I) (e : Invoked I) (todo : List (Invoked I)) (order : full ≡ a.agreed ++ e ∷ todo) (c : Invoked I) (w : Waiting q a c) (same_k : c.nth ≡ k) where
       -- its place among the calls that are left
       place_left : (b : Bool) → keeps c.process c.nth ≡ b → cond b (Invoke c.process c.nth c.inv ∷ []) [] ++ left q (Respond q k r ∷ rest) ≡ serial q (state_of object a) (e ∷ todo)
           → (y : ℕ) × (d : Invoked I) × (slice_get (e ∷ todo) y ≡ Some d) × (d.process ≡ c.process) × (d.nth ≡ c.nth)
@@ -252,7 +251,10 @@ module _ {S I R : Type 0} (object : Sequential S I R) (start : S) (history : Lis
           let found = place_left (keeps c.process c.nth) refl same in
           let d = found.1 in
           let at = place_of_member (Respond q k r ∷ rest) (Invoke e.process e.nth i) there in
-          let precedes : Precedes history q k e.process e.nth = record { before = past; response = r; after = rest; inv = i; split = whole; later = invoked_behind at.0 e.process e.nth i at.1 } in
+          let behind = place_of_member rest (Invoke e.process e.nth i) (invoked_behind at.0 e.process e.nth i at.1) in
+          let split = split_at rest behind.0 (Invoke e.process e.nth i) behind.1 in
+          let precedes : Precedes history q k e.process e.nth
+          = record { before = past; response = r; between = split.0; inv = i; after = split.1; split = whole ∙ ap (λ l. past ++ Respond q k r ∷ l) split.2 } in
           let its : Precedes history d.process d.nth e.process e.nth
           = subst (λ x. Precedes history x d.nth e.process e.nth) (sym (found.3 ∙ w.own)) (subst (λ x. Precedes history q x e.process e.nth) (sym (found.4 ∙ same_k)) precedes) in
           let less : length a.agreed + found.0 < length a.agreed + 0 = hw.real_time (length a.agreed + found.0) (length a.agreed + 0) d e
@@ -307,10 +309,10 @@ module _ {S I R : Type 0} (object : Sequential S I R) (start : S) (history : Lis
 
     -- what comes after the response
     abbrev GoesOn : Type 0
-    GoesOn = (x : Atomic S I) (todo : List (Invoked I)) → hw.order ≡ x.agreed ++ todo → ((p : ℕ) → Stand p x rest todo) → Places x rest
+    GoesOn = (x : Atomic S I) (todo : List (Invoked I)) → full ≡ x.agreed ++ todo → ((p : ℕ) → Stand p x rest todo) → Places x rest
 
     -- calls take effect up to the one that responds, and it responds
-    catches_up : GoesOn → (todo : List (Invoked I)) (a : Atomic S I) → hw.order ≡ a.agreed ++ todo → ((p : ℕ) → Stand p a (Respond q k r ∷ rest) todo) → Stand q a (Respond q k r ∷ rest) todo
+    catches_up : GoesOn → (todo : List (Invoked I)) (a : Atomic S I) → full ≡ a.agreed ++ todo → ((p : ℕ) → Stand p a (Respond q k r ∷ rest) todo) → Stand q a (Respond q k r ∷ rest) todo
         → Places a (Respond q k r ∷ rest)
     catches_up goes todo a order stands (Quiet h turn same) = absurd (no_turn_respond q k (a.next_nth q) r rest turn)
     catches_up goes todo a order stands (Taken c place s h response turn same) =
@@ -374,7 +376,7 @@ module _ {S I R : Type 0} (object : Sequential S I R) (start : S) (history : Lis
     by_stand (Asked d h turn same) = subst (λ acts. AreInTurn true d.nth acts) own_point turn
     by_stand (Taken d place r h response turn same) = subst (λ acts. AreInTurn true d.nth acts) own_point turn
 
-  places : (rest past : List (Act I R)) (a : Atomic S I) (todo : List (Invoked I)) → history ≡ past ++ rest → hw.order ≡ a.agreed ++ todo → ((p : ℕ) → Stand p a rest todo) → Places a rest
+  places : (rest past : List (Act I R)) (a : Atomic S I) (todo : List (Invoked I)) → history ≡ past ++ rest → full ≡ a.agreed ++ todo → ((p : ℕ) → Stand p a rest todo) → Places a rest
   places [] past a todo whole order stands = ends todo a order stands
   places (Invoke q k i ∷ rest) past a todo whole order stands =
       let own = invokes q k i rest a todo stands (stands q) in
@@ -387,20 +389,26 @@ module _ {S I R : Type 0} (object : Sequential S I R) (start : S) (history : Lis
       (λ x left_todo left_order left_stands. places rest (past ++ Respond q k r ∷ []) x left_todo (whole ∙ sym (append_assoc past (Respond q k r ∷ []) rest)) left_order left_stands)
       todo a order stands (stands q)
 
-  at_first : IsWellFormed history → (p : ℕ) → Stand p (at_start start) history hw.order
+  at_first : IsWellFormed history → (p : ℕ) → Stand p (at_start start) history full
   at_first well p = Quiet
       (record { is_open = refl; below = λ j d at own. absurd (let e : None ≡ Some d = at in cc) })
       (well p)
       (sym (filter-append (is_by p) (filter (is_kept keeps) history) hw.completion.responses) ∙ ap (of_process p) (sym hw.completion.appended) ∙ hw.equivalent p)
 
-  pub linearizable : IsWellFormed history → IsLinearizableHistory object start history
+  pub linearizable : IsWellFormed history → IsLinearizedAs object start history full
   linearizable well =
-      let placed = places history [] (at_start start) hw.order refl refl (at_first well) in
-      (hw.order, (placed.acts, placed.last, placed.seen, placed.accepted, placed.all))
+      let placed = places history [] (at_start start) full refl refl (at_first well) in
+      (placed.acts, placed.last, placed.seen, placed.accepted, placed.all)
+
+pub AgreesInOrder-holds : {S I R : Type 0} (object : Sequential S I R) (start : S) (history : List (Act I R)) (order : List (Invoked I)) → AgreesInOrder object start history order
+AgreesInOrder-holds object start history order = (completed object start history order, λ both. linearizable object start history order both.1 both.0)
 
 pub AgreesWithCompletion-holds : {S I R : Type 0} (object : Sequential S I R) (start : S) (history : List (Act I R)) → AgreesWithCompletion object start history
-AgreesWithCompletion-holds object start history = (completed object start history, λ both. linearizable object start history both.1 both.0)
+AgreesWithCompletion-holds object start history = (
+  λ its. let both = completed object start history its.0 its.1 in (both.0, (its.0, both.1)),
+  λ both. (both.1.0, linearizable object start history both.1.0 both.1.1 both.0),
+)
 
 pub ObservesCompletion-holds : {S I R : Type 0} (object : Sequential S I R) (n : ℕ) (start : S) (number : ℕ) (events : List (Event I)) → ObservesCompletion object n start number events
 ObservesCompletion-holds object n start number events positive ok =
-    completed object start (observed_in object (opened_world n start number) events) (ObservesLinearizable-holds object n start number events positive ok)
+    (AgreesWithCompletion-holds object start (observed_in object (opened_world n start number) events)).0 (ObservesLinearizable-holds object n start number events positive ok)

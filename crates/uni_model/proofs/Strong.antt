@@ -9,9 +9,12 @@ use Rattle.uni_model.specs.AtomicObject.Act.{Invoke, Respond}
 use Rattle.uni_model.specs.Worlds.{Event, opened_world, AreAccepted}
 use Rattle.uni_model.specs.History.{log_of_run}
 use Rattle.uni_model.specs.Growth.{IsPrefixOf}
-use Rattle.uni_model.specs.StrongLinearizable.{one_by_one, LinearizesStrongly, IsStronglyLinearizable}
+use Rattle.uni_model.specs.StrongLinearizable.{LinearizesStrongly, IsStronglyLinearizable}
 use Rattle.uni_model.proofs.Joined.{JoinedLogGrows-holds}
+use Rattle.uni_model.specs.Linearizable.{observed_in}
+use Rattle.uni_model.specs.HerlihyWing.{one_by_one}
 use Rattle.uni_model.proofs.Linearizable.{IsLinearizedAs-holds}
+use Rattle.uni_model.proofs.Completion.{completed}
 
 module _ {I R : Type 0} where
   abbrev calls : List (Entry I R) → List (Invoked I)
@@ -54,7 +57,7 @@ module _ {S I R : Type 0} (object : Sequential S I R) where
 
     strongly : LinearizesStrongly object n start number order
     strongly = record {
-      linearizes = λ events ok. IsLinearizedAs-holds object n start number events positive ok;
+      linearizes = λ events ok. (completed object start (observed_in object (opened_world n start number) events) (order events) (IsLinearizedAs-holds object n start number events positive ok)).1;
       keeps_order = keeps;
       keeps_history = λ events more ok. let k = keeps events more ok in (
         one_by_one object (state_after object start (map (λ (c : Invoked I). c.inv) (order events))) k.0,

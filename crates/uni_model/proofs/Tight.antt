@@ -90,6 +90,7 @@ record Called {S I R : Type 0} (n first p q j : ℕ) (v : WorldOf S I R) : Type 
   announced : announce_of v.memory p ≡ Of p 0
   begun : (r : ℕ) → j ≤ r → r ≢ p → Of r (v.begun r) ≡ cell q r
   idle : (r : ℕ) → j ≤ r → r ≢ p → v.call r ≡ None
+  few : (r : ℕ) → r ≢ p → v.begun r ≤ 2
   announced_too : (r : ℕ) → r < j → r ≢ p → announce_of v.memory r ≡ cell q r
   seq : (r k : ℕ) → Of r k ≢ Of q 0 → seq_of v.memory (Of r k) ≡ 0
   after : (r k : ℕ) → after_of v.memory (Of r k) ≡ None
@@ -102,6 +103,7 @@ record Losing {S I R : Type 0} (n first p q : ℕ) (c : Name) (s turns : ℕ) (v
   count : v.turns p ≡ turns
   among : v.among p ≡ n
   begun_p : v.begun p ≡ 1
+  few : (r : ℕ) → r ≢ p → v.begun r ≤ 2
   announced : announce_of v.memory p ≡ Of p 0
   seq_own : seq_of v.memory (Of p 0) ≡ 0
   end : after_of v.memory c ≡ None
@@ -116,6 +118,7 @@ pub record Served {S I R : Type 0} (n first p : ℕ) (v : WorldOf S I R) : Type 
   pub turns : v.turns p ≡ n + 1
   pub among : v.among p ≡ n
   pub begun : v.begun p ≡ 1
+  pub few : (r : ℕ) → r ≢ p → v.begun r ≤ 2
   pub seq : seq_of v.memory (Of p 0) ≡ first + n + 1
 
 -- the process that calls has another call number and another n
@@ -231,6 +234,12 @@ module _ {S I R : Type 0} (object : Sequential S I R) (n first p q : ℕ) (set :
     | inr other ↦ rw other.1 (ap (λ k. Of r k) (l.begun r other.0 not_p))
   ]
 
+  few_begun : (v : WorldOf S I R) → Lost n first p q v → (r : ℕ) → r ≢ p → v.begun r ≤ 2
+  few_begun v l r not_p = elim (number_cases r q) [
+    | inl is ↦ (let one : v.begun r ≡ 1 = ap v.begun is.0 ∙ l.begun_q in omega arith)
+    | inr other ↦ (let none = l.begun r other.0 not_p in omega arith)
+  ]
+
   at_freed : (v : WorldOf S I R) → Lost n first p q v → (steps : ℕ) → Called n first p q 0 (world_at v q (Of q 0) (m_freed v) None (v.turns q) steps)
   at_freed v l steps = record {
     size = l.size;
@@ -240,6 +249,7 @@ module _ {S I R : Type 0} (object : Sequential S I R) (n first p q : ℕ) (set :
     begun_p = l.begun_p;
     announced = l.announced;
     begun = λ r from not_p. cell_begun v l r not_p;
+    few = few_begun v l;
     idle = λ r from not_p. elim (set_at-cases v.call q None r) [ inl h ↦ h.1 | inr h ↦ h.1 ∙ l.idle r h.0 not_p ];
     announced_too = λ r below not_p. absurd (omega arith);
     seq = λ r k other. elim (seq_of-memory_with v.memory (Of q 0) (Of r k) (first + 1)) [ inl h ↦ absurd (other h.0) | inr h ↦ h.1 ∙ l.seq r k other ];
@@ -258,6 +268,13 @@ module _ {S I R : Type 0} (object : Sequential S I R) (n first p q : ℕ) (set :
   abbrev m_called : WorldOf S I R → ℕ → Memory S I R
   m_called v j = memory_with (calls_it v j) (Announced j) (CellName (Of j (v.begun j)))
 
+  -- a process that has begun as many calls as its cell says begins at most its second one
+  second : (j k : ℕ) → Of j k ≡ cell q j → k + 1 ≤ 2
+  second j k same = elim (number_cases j q) [
+    | inl is ↦ (let e = same_nth j j k 1 (same ∙ rw is.1 refl) in omega arith)
+    | inr other ↦ (let e = same_nth j j k 0 (same ∙ rw other.1 refl) in omega arith)
+  ]
+
   at_called : (j : ℕ) (v : WorldOf S I R) → Called n first p q j v → j ≢ p → (steps : ℕ)
       → Called n first p q (j + 1) (world_at (called v j) j (Of j (v.begun j)) (m_called v j) (Some (ScanHead 0 Anchor 0)) 0 steps)
   at_called j v c not_p steps =
@@ -269,6 +286,10 @@ module _ {S I R : Type 0} (object : Sequential S I R) (n first p q : ℕ) (set :
         begun_p = set_at_elsewhere v.begun j _ p not_j ∙ c.begun_p;
         announced = elim (announce_of-memory_with v.memory j p (Of j (v.begun j))) [ inl h ↦ absurd (not_j h.0) | inr h ↦ h.1 ∙ c.announced ];
         begun = λ r from other. ap (λ k. Of r k) (set_at_elsewhere v.begun j _ r (omega arith)) ∙ c.begun r (omega arith) other;
+        few = λ r other. elim (set_at-cases v.begun j (v.begun j + 1) r) [
+          | inl h ↦ (let at = h.1 in let most = second j (v.begun j) (c.begun j (omega arith) not_p) in omega arith)
+          | inr h ↦ (let at = h.1 in let most = c.few r other in omega arith)
+        ];
         idle = λ r from other. set_at_elsewhere v.call j _ r (omega arith) ∙ c.idle r (omega arith) other;
         announced_too = λ r below other. elim (announce_of-memory_with v.memory j r (Of j (v.begun j))) [
           | inl h ↦ h.1 ∙ c.begun j (omega arith) not_p ∙ ap (λ x. cell q x) (sym h.0)
@@ -288,6 +309,7 @@ module _ {S I R : Type 0} (object : Sequential S I R) (n first p q : ℕ) (set :
       begun_p = c.begun_p;
       announced = c.announced;
       begun = λ r from other. c.begun r (omega arith) other;
+      few = c.few;
       idle = λ r from other. c.idle r (omega arith) other;
       announced_too = λ r less other. c.announced_too r (let is = same.0 in omega arith) other;
       seq = c.seq;
@@ -318,6 +340,7 @@ module _ {S I R : Type 0} (object : Sequential S I R) (n first p q : ℕ) (set :
     count = c.turns;
     among = c.among;
     begun_p = c.begun_p;
+    few = c.few;
     announced = c.announced;
     seq_own = c.seq p 0 (λ same. p_not_q cc);
     end = c.after q 0;
@@ -342,6 +365,7 @@ module _ {S I R : Type 0} (object : Sequential S I R) (n first p q : ℕ) (set :
           count = set_at_here v.turns p (turns + 1);
           among = l.among;
           begun_p = l.begun_p;
+          few = l.few;
           announced = l.announced;
           seq_own = elim (seq_of-memory_with v.memory d (Of p 0) (s + 1)) [ inl h ↦ absurd (not_own s from to (let same = h.0 in cc)) | inr h ↦ h.1 ∙ l.seq_own ];
           end = elim (after_of-memory_with v.memory c d (Some d)) [ inl h ↦ absurd (l.apart s (omega arith) to h.0) | inr h ↦ h.1 ∙ l.after s (omega arith) to ];
@@ -381,6 +405,7 @@ module _ {S I R : Type 0} (object : Sequential S I R) (n first p q : ℕ) (set :
     turns = set_at_here v.turns p (n + 1);
     among = l.among;
     begun = l.begun_p;
+    few = l.few;
     seq = elim (seq_of-memory_with v.memory (Of p 0) (Of p 0) (first + n + 1)) [ inl h ↦ h.1 | inr h ↦ absurd (h.0 refl) ];
   }
 

@@ -3,12 +3,17 @@
 use Rattle.std.specs.Prelude.{◌≡◌, ◌↔◌, refl, ℕ, ◌+◌, ◌≤◌, ◌==◌, ◌<◌, Bool, true, false, List, [], ◌∷◌, ◌++◌}
 use Rattle.std.specs.Prelude.{Contains, filter, slice_get, Some}
 use Rattle.std.specs.List.{AllByRecursion}
-use Rattle.seq_object.specs.Sequential.{Sequential}
+use Rattle.seq_object.specs.Sequential.{Sequential, counter}
 use Rattle.uni_model.specs.AtomicObject.{Act, Invoked}
 use Rattle.uni_model.specs.AtomicObject.Act.{Invoke, Linearize, Respond}
-use Rattle.uni_model.specs.StrongLinearizable.{one_by_one}
 use Rattle.uni_model.specs.Worlds.{Event, opened_world, AreAccepted}
-use Rattle.uni_model.specs.Linearizable.{observed_in, IsLinearizableHistory}
+use Rattle.uni_model.specs.Linearizable.{observed_in, IsLinearizableHistory, IsLinearizedAs}
+
+-- the legal sequential history of these calls from a state: each is begun, and responds before the next one is begun
+abbrev pub one_by_one : {S I R : Type 0} → Sequential S I R → S → List (Invoked I) → List (Act I R)
+one_by_one object s [] = []
+one_by_one object s (c ∷ cs) =
+    Invoke c.process c.nth c.inv ∷ Respond c.process c.nth (object.answer s c.inv) ∷ one_by_one object (object.next s c.inv) cs
 
 -- the subhistory of a process
 abbrev pub is_by : {I R : Type 0} → ℕ → Act I R → Bool
@@ -51,23 +56,33 @@ pub record IsCompletion {I R : Type 0} (history completed : List (Act I R)) : Ty
 pub record Precedes {I R : Type 0} (history : List (Act I R)) (p k q m : ℕ) : Type 0 where
   pub before : List (Act I R)
   pub response : R
-  pub after : List (Act I R)
+  pub between : List (Act I R)
   pub inv : I
-  pub split : history ≡ before ++ Respond p k response ∷ after
-  pub later : Contains after (Invoke q m inv)
+  pub after : List (Act I R)
+  pub split : history ≡ before ++ Respond p k response ∷ (between ++ Invoke q m inv ∷ after)
 
 module _ {S I R : Type 0} (object : Sequential S I R) where
-  -- The history has a completion that is equivalent to a legal sequential history, in which what precedes a call in the history
-  -- stands before it.
-  pub record IsLinearizableByCompletion (start : S) (history : List (Act I R)) : Type 0 where
+  -- The history has a completion that is equivalent to the legal sequential history of the calls in this order, in which what precedes
+  -- a call in the history stands before it. Only the calls that the completion keeps are asked: a call can precede a pending one
+  -- that is dropped, which stands nowhere.
+  pub record IsLinearizedByCompletion (start : S) (history : List (Act I R)) (order : List (Invoked I)) : Type 0 where
     pub completed : List (Act I R)
     pub completion : IsCompletion history completed
-    pub order : List (Invoked I)
     pub equivalent : (p : ℕ) → of_process p completed ≡ of_process p (one_by_one object start order)
     pub real_time : (x y : ℕ) (c d : Invoked I) → slice_get order x ≡ Some c → slice_get order y ≡ Some d
         → Precedes history c.process c.nth d.process d.nth → x < y
 
-  -- A history is linearizable with linearization points put in exactly where it is well-formed and has such a completion.
+  -- there is such an order
+  abbrev pub IsLinearizableByCompletion : S → List (Act I R) → Type 0
+  IsLinearizableByCompletion start history = (order : List (Invoked I)) × IsLinearizedByCompletion start history order
+
+  -- A history is linearized in an order by linearization points that are put in exactly where it is well-formed and has such a completion
+  -- for that order.
+  abbrev pub AgreesInOrder : S → List (Act I R) → List (Invoked I) → Type 0
+  AgreesInOrder start history order =
+      IsLinearizedAs object start history order ↔ (IsWellFormed history × IsLinearizedByCompletion start history order)
+
+  -- So it is linearizable in the one sense exactly where it is so in the other.
   abbrev pub AgreesWithCompletion : S → List (Act I R) → Type 0
   AgreesWithCompletion start history =
       IsLinearizableHistory object start history ↔ (IsWellFormed history × IsLinearizableByCompletion start history)
@@ -86,9 +101,20 @@ sample = Invoke 1 0 5 ∷ Invoke 0 0 3 ∷ Respond 1 0 7 ∷ []
 sample-of_process : of_process 1 sample ≡ Invoke 1 0 5 ∷ Respond 1 0 7 ∷ []
 sample-of_process = refl
 
+-- where process 0 calls after process 1 has its response, the call of 1 precedes it, although that of 0 may be dropped
+sample-precedes : Precedes {I = ℕ} {R = ℕ} (Invoke 1 0 5 ∷ Respond 1 0 7 ∷ Invoke 0 0 3 ∷ []) 1 0 0 0
+sample-precedes = record { before = Invoke 1 0 5 ∷ []; response = 7; between = []; inv = 3; after = []; split = refl }
+
 -- its completion where the call of 0 is dropped
 sample-kept : filter (is_kept (λ p k. p == 1)) sample ≡ Invoke 1 0 5 ∷ Respond 1 0 7 ∷ []
 sample-kept = refl
 
 sample-in_turn : AreInTurn false 0 (of_process 1 sample)
 sample-in_turn = (refl, (refl, tt))
+
+-- two calls of the counter, one by one
+abbrev sample_calls : List (Invoked ℕ)
+sample_calls = record { process = 1; nth = 0; inv = 5 } ∷ record { process = 0; nth = 0; inv = 3 } ∷ []
+
+sample_one_by_one : one_by_one counter 0 sample_calls ≡ Invoke 1 0 5 ∷ Respond 1 0 0 ∷ Invoke 0 0 3 ∷ Respond 0 0 5 ∷ []
+sample_one_by_one = refl

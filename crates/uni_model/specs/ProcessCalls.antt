@@ -1,19 +1,18 @@
 -- The calls of one process, as it sees them: what it asked, and what it was answered.
-use Rattle.std.specs.Prelude.{◌≡◌, ℕ, ◌+◌, ◌==◌, List, [], ◌∷◌, if◌then◌else◌, refl}
+use Rattle.std.specs.Prelude.{◌≡◌, ℕ, ◌+◌, List, [], ◌∷◌, refl}
 use Rattle.uni_model.specs.AtomicObject.{Act}
 use Rattle.uni_model.specs.AtomicObject.Act.{Invoke, Linearize, Respond}
+use Rattle.uni_model.specs.Linearizable.{observed}
+use Rattle.uni_model.specs.HerlihyWing.{of_process}
 
 -- the calls of one process that have returned, in their order, each with its invocation and its response
 pub record ProcessCalls (I R : Type 0) : Type 0 where
   pub process : ℕ
   pub calls : List (I × R)
 
--- the acts of a process in a history, in its order: it begins its calls, and is given its responses
+-- the acts of a process that are observed in a history, in its order: it begins its calls, and is given its responses
 abbrev pub acts_by : {I R : Type 0} → ℕ → List (Act I R) → List (Act I R)
-acts_by p [] = []
-acts_by p (Invoke q k i ∷ acts) = if q == p then Invoke q k i ∷ acts_by p acts else acts_by p acts
-acts_by p (Linearize c ∷ acts) = acts_by p acts
-acts_by p (Respond q k r ∷ acts) = if q == p then Respond q k r ∷ acts_by p acts else acts_by p acts
+acts_by p acts = of_process p (observed acts)
 
 -- the acts of calls of a process, from its call k on, each of which has returned before the next one begins
 abbrev pub sequential_acts : {I R : Type 0} → (p k : ℕ) → List (I × R) → List (Act I R)

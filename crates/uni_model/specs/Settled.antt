@@ -23,6 +23,8 @@ pub record ChangesOnly {S I R : Type 0} (place : Place) (p : ℕ) (w w' : WorldO
   pub places : (x : Place) → x ≢ place → w'.memory x ≡ w.memory x
   pub calls : (q : ℕ) → q ≢ p → w'.call q ≡ w.call q
   pub begun : w'.begun ≡ w.begun
+  pub first : w'.first ≡ w.first
+  pub among : w'.among ≡ w.among
   pub steps : (q : ℕ) → q ≢ p → w'.steps q ≡ w.steps q
   pub turns : (q : ℕ) → q ≢ p → w'.turns q ≡ w.turns q
 

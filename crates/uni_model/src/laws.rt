@@ -17,9 +17,9 @@ ghost use Rattle.uni_model.specs.WaitFree.{NeverBlocks, CallIsWaitFree, CallEnds
 ghost use Rattle.uni_model.specs.Universal.{RunIsUniversal};
 ghost use Rattle.uni_model.specs.Tight.{BoundIsMet, TakesOneTurn, EndsAtItsCell};
 ghost use Rattle.uni_model.specs.StrongLinearizable.{IsStronglyLinearizable};
-ghost use Rattle.uni_model.specs.HerlihyWing.{AgreesWithCompletion, ObservesCompletion};
+ghost use Rattle.uni_model.specs.HerlihyWing.{AgreesWithCompletion, AgreesInOrder, ObservesCompletion};
 ghost use Rattle.uni_model.specs.Locality.{IsLocal};
-ghost use Rattle.uni_model.specs.AtomicObject.{Act};
+ghost use Rattle.uni_model.specs.AtomicObject.{Act, Invoked};
 ghost use Rattle.uni_model.specs.Laws.{IsReached, KeepsInvariant, KeepsHelping, KeepsSettled, IsAtomic, KeepsLog};
 ghost use Rattle.uni_model.specs.Laws.{KeepsLogAlong, OpensSound, StepIsLocal, SettledStays, Simulates, IsLinearizable};
 ghost use Rattle.uni_model.specs.Laws.{LinksSoon, HasFloorOnceAnnounced};
@@ -37,8 +37,8 @@ pub fn is_universal<O: SeqObject>()
         RunIsUniversal (O.sequential object) n start number events }
 {}
 
-/// A step touches the one place that its process's stage names; it changes that process's stage,
-/// steps and turns, and nothing else.
+/// A step changes of the shared places only the one that its process's stage names, and of the
+/// processes only its own one's stage, steps and turns.
 pub fn changes_one_place<O: SeqObject>()
     ensures { (object : O) (w : WorldOf O.State O.Inv O.Resp) (p : ℕ) (call : Pending) →
         StepIsLocal (O.sequential object) w p call }
@@ -241,15 +241,16 @@ pub fn is_wait_free<O: SeqObject>()
 
 /// The bounds of a call are met, so no smaller ones hold (to Herlihy 1991, section 4): for two processes or
 /// more, every object and every start there is a run in which a call returns after n + 1 turns, at its
-/// process's (10n + 12)th own step, with the number n + 1 past its floor.
+/// process's (10n + 12)th own step, with the number n + 1 past its floor, and every other process begins at
+/// most two calls.
 pub fn bound_is_met<O: SeqObject>()
     ensures { (object : O) (n : ℕ) (start : O.State) (number : ℕ) (i : O.Inv) →
         BoundIsMet (O.sequential object) n start number i }
 {}
 
 /// The construction is strongly linearizable (Golab, Higham and Woelfel 2011): one function gives each run
-/// from an opening, whichever eras end in it, a linearization of what is observed of it, and what it gives a
-/// run is a prefix of what it gives every longer one.
+/// from an opening, whichever eras end in it, a linearization of what is observed of it in the words of
+/// Herlihy and Wing 1990, and what it gives a run is a prefix of what it gives every longer one.
 pub fn is_strongly_linearizable<O: SeqObject>()
     ensures { (object : O) (n : ℕ) (start : O.State) (number : ℕ) →
         IsStronglyLinearizable (O.sequential object) n start number }
@@ -257,10 +258,13 @@ pub fn is_strongly_linearizable<O: SeqObject>()
 
 /// A history is linearizable with linearization points put in exactly where it is so in the words of Herlihy
 /// and Wing 1990: it is well-formed, and has a completion that is equivalent, process by process, to a legal
-/// sequential history that keeps its real-time order. The law names no construction.
+/// sequential history that keeps its real-time order. The orders are the same in both senses. The law names
+/// no construction.
 pub fn agrees_with_completion<O: SeqObject>()
-    ensures { (object : O) (start : O.State) (history : List (Act O.Inv O.Resp)) →
+    ensures history { (object : O) (start : O.State) (history : List (Act O.Inv O.Resp)) →
         AgreesWithCompletion (O.sequential object) start history }
+    ensures order { (object : O) (start : O.State) (history : List (Act O.Inv O.Resp)) (order : List (Invoked O.Inv)) →
+        AgreesInOrder (O.sequential object) start history order }
 {}
 
 /// The construction is linearizable in the words of Herlihy and Wing 1990: what is observed of every run is
@@ -277,13 +281,14 @@ pub fn takes_one_turn_alone<O: SeqObject>()
 {}
 
 /// Linearizability is local (Herlihy and Wing 1990, theorem 1): a well-formed history over several objects is
-/// linearizable exactly where the subhistory of each object is. The law names no construction.
+/// linearizable exactly where the subhistory of each object is. The objects have one type: several types are
+/// one that tells them apart, as an enum does. The law names no construction.
 pub fn is_local<O: SeqObject>()
     ensures { (objects : ℕ → O) (start : ℕ → O.State) (history : List (Act (ℕ × O.Inv) (ℕ × O.Resp))) →
         IsLocal (λ x. O.sequential (objects x)) start history }
 {}
 
-/// A call's last step after n + 1 turns writes no head: the process's own cell is its head by then. So where
+/// A call's last step after n + 1 turns writes no head: its own cell is its process's head by then. So where
 /// a step takes a known number of steps on words, a call of the most turns takes no further one for its head.
 pub fn ends_at_its_cell<O: SeqObject>()
     ensures { (object : O) (w : WorldOf O.State O.Inv O.Resp) (p : ℕ) → EndsAtItsCell (O.sequential object) w p }
