@@ -125,7 +125,8 @@ impl Axis {
         self.column(&self.remarks, place)
     }
 
-    /// Where the events stand, and so many processes, whose lanes begin at a top and are each so high; all ends at a place.
+    /// Where the events stand, and so many processes, whose lanes begin at a top and are each so high; all
+    /// ends at a place.
     ///
     /// An `Err` says that memory was refused.
     pub fn layout(

@@ -1,7 +1,8 @@
 //! The runs of scripts as lines of a terminal: from the bytes of a script to a text of 100 columns.
 //!
-//! What a picture shows of a script (`run_layout`) becomes strokes, one upon the other (`sketch_of`); they are tried, and
-//! where they show all of it they become a text (`tried`). docs/pictures.md tells what a reader sees.
+//! What a picture shows of a script (`run_layout`) becomes strokes, one upon the other (`sketch_of`); they
+//! are tried, and where they show all of it they become a text (`tried`). docs/pictures.md tells what a
+//! reader sees.
 #![tactic(auto)]
 
 mod canvas;

@@ -36,8 +36,8 @@ fn text_of_subject(alloc: Global, range: Range, subject: Subject) -> Result<Vec<
 /// The run of the script that a reader has, where these events are chosen, as lines for a terminal of 100 columns.
 ///
 /// An `Err` is the first fault of the script; `Read` where the reader failed; `Memory` where memory was
-/// refused; `TooManyEvents` of a good script that has more than 2,000 events; or `Misdrawn` where what is drawn of its run
-/// does not show its marks, of which no script is known.
+/// refused; `TooManyEvents` of a good script that has more than 2,000 events; or `Misdrawn` where what is
+/// drawn of its run does not show its marks, of which no script is known.
 pub fn lines_of<I: TextIn>(
     alloc: Global,
     range: Range,

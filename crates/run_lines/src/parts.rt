@@ -6,7 +6,8 @@ ghost use Rattle.signs.specs.Signs.{meaning};
 ghost use Rattle.run_marks.specs.Shown.{marks_shown};
 ghost use Rattle.run_layout.specs.Marked.{sign_shown};
 ghost use Rattle.run_lines.specs.Numbers.{no_notes};
-ghost use Rattle.run_lines.specs.Parts.{is_arrow, layered, number_parts, numbers_from, parts_for, parts_of, parts_of_run};
+ghost use Rattle.run_lines.specs.Parts.{is_arrow, layered, number_parts, numbers_from};
+ghost use Rattle.run_lines.specs.Parts.{parts_for, parts_of, parts_of_run};
 ghost use Rattle.run_lines.specs.Parts.{step_letter};
 
 use crate::numbering::Numbering;

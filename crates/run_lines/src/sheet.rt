@@ -7,7 +7,8 @@ ghost use Rattle.signs.specs.Signs.{meaning, places_shown};
 ghost use Rattle.uni_script.specs.declared.fault.BenchFault.{BenchFault as Fault};
 ghost use Rattle.run_marks.specs.Shown.{marks_shown};
 ghost use Rattle.run_lines.specs.Canvas.{stroke_shown};
-ghost use Rattle.run_lines.specs.Sheet.{AreSide, HasText, IsTextOf, ShowsRows, above_text, below_text, block_text, bottom_row};
+ghost use Rattle.run_lines.specs.Sheet.{AreSide, HasText, IsTextOf, ShowsRows, above_text};
+ghost use Rattle.run_lines.specs.Sheet.{below_text, block_text, bottom_row};
 ghost use Rattle.run_lines.specs.Sheet.{named_row, part_of, row_name, row_text, rows_text_of, shown_line, trimmed};
 
 use crate::canvas::{Stroke, rows_of};
@@ -21,7 +22,7 @@ use run_layout::{
     lanes_between, name_of, signs_of, title_of,
 };
 use run_marks::Marks;
-use signs::{Layout, Part, are_apart, are_shown};
+use signs::{Layout, Part, are_shown};
 use std::alloc::{AllocError, Global};
 use uni_script::PlacedRemark;
 
@@ -214,17 +215,14 @@ fn are_side(from: u64, to: u64, blocks: &[Block]) -> bool
 }
 
 /// Whether strokes are these, and blocks show all columns.
+#[tactic(auto, using(crate::proofs::Pieces::shown_strokes))]
 fn shows(parts: &[Part], sketch: &Sketch) -> bool
     ensures { IsTrue result → ShowsRows (places_shown sketch.now.layout) (map meaning parts.now)
         (map stroke_shown sketch.now.strokes.items) sketch.now.blocks.items }
 {
-    if !are_apart(&sketch.layout.columns) || !are_apart(&sketch.layout.lanes) {
-        return false;
-    }
-    if !are_shown(&sketch.layout, parts, &sketch.strokes) {
-        return false;
-    }
-    are_side(0, sketch.layout.width, &sketch.blocks)
+    sketch.layout.is_apart()
+        && are_shown(&sketch.layout, parts, &sketch.strokes)
+        && are_side(0, sketch.layout.width, &sketch.blocks)
 }
 
 /// The letters of a row in a block.

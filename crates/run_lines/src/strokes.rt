@@ -6,7 +6,7 @@ use crate::canvas::{Ink, Stroke};
 use crate::numbering::Numbering;
 use crate::parts::{refusal_text, step_letter};
 use run_layout::{Axis, Mark, Sign, letters};
-use signs::{Layout, Span};
+use signs::{FURTHEST, Layout, Span};
 use std::alloc::{AllocError, Global};
 use std::io::Write;
 use uni_script::{PlacedRemark, Remark};
@@ -16,9 +16,6 @@ pub const ABOVE: u64 = 2;
 
 /// How many rows a lane has: labels, bars with the letters of steps, dots, and counts.
 pub const LANE: u64 = 4;
-
-/// How far from the left a refusal stands at most, so that each place is a number of 64 bits.
-const FURTHEST: u64 = 1_000_000_000_000;
 
 /// Adds a stroke in one row.
 ///

@@ -1,7 +1,7 @@
 //! Pictures of the runs of scripts: from the bytes of a script to the text of an SVG.
 //!
-//! What a picture shows of a script (`run_layout`) is drawn (`draw`), the drawing is tried (`tried`), and one that shows
-//! all of it becomes a text (`svg_text`). docs/pictures.md tells what a reader sees.
+//! What a picture shows of a script (`run_layout`) is drawn (`draw`), the drawing is tried (`tried`), and one
+//! that shows all of it becomes a text (`svg_text`). docs/pictures.md tells what a reader sees.
 #![tactic(auto)]
 
 mod cells;

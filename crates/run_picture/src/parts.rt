@@ -5,7 +5,8 @@ ghost use Rattle.std.specs.List.{flat_map};
 ghost use Rattle.signs.specs.Signs.{meaning};
 ghost use Rattle.run_marks.specs.Shown.{cell_shown, era_shown};
 ghost use Rattle.run_layout.specs.Marked.{sign_shown};
-ghost use Rattle.run_picture.specs.Parts.{anchor_lines, anywhere, box_parts, cell_lines, cell_parts, era_name, era_parts};
+ghost use Rattle.run_picture.specs.Parts.{anchor_lines, anywhere, box_parts, cell_lines};
+ghost use Rattle.run_picture.specs.Parts.{cell_parts, era_name, era_parts};
 ghost use Rattle.run_picture.specs.Parts.{eras_from, parts_of, step_look};
 
 use run_layout::{

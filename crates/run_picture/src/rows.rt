@@ -37,8 +37,8 @@ fn push_free_edges(
     Ok(())
 }
 
-/// Where a row may end: at the left edge of an event or of what is told that goes through none of these labels, and with
-/// the strip.
+/// Where a row may end: at the left edge of an event or of what is told that goes through none of these
+/// labels, and with the strip.
 ///
 /// An `Err` says that memory was refused.
 fn edges_of(alloc: Global, labels: &[Span], axis: &Axis) -> Result<Vec<u64>, AllocError> {

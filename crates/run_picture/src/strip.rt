@@ -9,7 +9,7 @@ use crate::figures::{
 use crate::lanes::{LANE, TOP};
 use crate::paint::{letter_paint, mark_paint};
 use run_layout::{Mark, Sign, letter_of};
-use signs::{Layout, Span};
+use signs::{FURTHEST, Layout, Span};
 use std::alloc::{AllocError, Global};
 use svg_text::{Anchor, Paint, Shape};
 use uni_core::StepKind;
@@ -37,9 +37,6 @@ const LABEL: u64 = 18;
 
 /// The base line of counts.
 const COUNTS: u64 = 86;
-
-/// How far from the left a refusal stands at most, so that each place is a number of 64 bits.
-const FURTHEST: u64 = 1_000_000_000_000;
 
 /// The middle of a span.
 fn middle(span: Span) -> u64
@@ -157,7 +154,8 @@ fn push_refusal(shapes: &mut Vec<Shape>, x: u64, label: Vec<u8>) -> Result<u64, 
     Ok(x + 4 + width)
 }
 
-/// Adds a sign; the name of a lane is drawn with its lane, and a refusal no further left than `free`, which is moved on.
+/// Adds a sign; the name of a lane is drawn with its lane, and a refusal no further left than `free`, which
+/// is moved on.
 ///
 /// An `Err` says that memory was refused.
 fn push_sign(

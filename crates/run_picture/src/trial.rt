@@ -12,7 +12,7 @@ use crate::parts::{boxes_of, parts_of};
 use crate::sheet::Drawn;
 use run_layout::{PictureFault, signs_of, title_of};
 use run_marks::Marks;
-use signs::{Layout, Part, are_apart, are_shown, are_within, fill};
+use signs::{Layout, Part, are_shown, are_within, fill};
 use std::alloc::Global;
 use svg_text::Drawing;
 use uni_script::PlacedRemark;
@@ -22,8 +22,7 @@ use uni_script::PlacedRemark;
 fn is_strip(layout: &Layout, start: u64, parts: &[Part], drawing: &Drawing) -> bool
     ensures { IsTrue result → IsStripOf (places_shown layout.now) (map meaning parts.now) (picture drawing.now) }
 {
-    are_apart(&layout.columns)
-        && are_apart(&layout.lanes)
+    layout.is_apart()
         && are_shown(layout, parts, &drawing.strip)
         && are_within(layout.width, layout.height, &drawing.strip)
         && fill(start, layout.width, &drawing.shapes)

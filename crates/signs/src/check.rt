@@ -2,7 +2,7 @@
 
 ghost use Rattle.std.specs.Prelude.{◌≡◌, ◌∷◌, ℕ, IsTrue, IfSome, Some, List, drop, map};
 ghost use Rattle.svg_text.specs.Figures.{Figure, figure};
-ghost use Rattle.signs.specs.Signs.{AreApartFrom, AreShown, AreWithin, Fills, IsWithin, Outline, Shows};
+ghost use Rattle.signs.specs.Signs.{AreApart, AreApartFrom, AreShown, AreWithin, Fills, IsWithin, Outline, Shows};
 ghost use Rattle.signs.specs.Signs.{meaning, places_shown};
 
 use crate::sign::{Layout, Look, Part, Span};
@@ -30,7 +30,7 @@ pub trait Seen {
 }
 
 /// Whether spans stand one after the other.
-pub fn are_apart(spans: &[Span]) -> bool
+fn are_apart(spans: &[Span]) -> bool
     ensures { IsTrue result → AreApartFrom 0 spans.now }
 {
     let mut end = 0;
@@ -41,6 +41,15 @@ pub fn are_apart(spans: &[Span]) -> bool
         end = span.to;
     }
     true
+}
+
+impl Layout {
+    /// Whether the columns stand one after the other, and so do the lanes.
+    pub fn is_apart(&self) -> bool
+        ensures { IsTrue result → AreApart (places_shown self.now) }
+    {
+        are_apart(&self.columns) && are_apart(&self.lanes)
+    }
 }
 
 /// Whether all shapes are within a width and a height.
@@ -71,7 +80,8 @@ fn shows<S: Seen>(layout: &Layout, part: &Part, shape: &S, look: Look) -> bool
     shape.is_within(layout.wide(part.columns), layout.high(part.lanes))
 }
 
-/// Up to which part a shape and those before it tell, where they told so many before it; `None` where it tells another.
+/// Up to which part a shape and those before it tell, where they told so many before it; `None` where it tells
+/// another.
 fn told<S: Seen>(layout: &Layout, parts: &[Part], next: usize, shape: &S) -> Option<usize>
     ensures { IfSome result (λ after. (rest : List Outline)
         → AreShown (places_shown layout.now) (map meaning (drop after parts.now)) rest
@@ -104,7 +114,8 @@ pub fn are_shown<S: Seen>(layout: &Layout, parts: &[Part], shapes: &[S]) -> bool
     next >= parts.len()
 }
 
-/// Up to where a strip is shown by a shape and those before it, which show it up to a place; `None` where it leaves a gap.
+/// Up to where a strip is shown by a shape and those before it, which show it up to a place; `None` where it
+/// leaves a gap.
 fn filled(end: u64, shape: &Shape) -> Option<u64>
     ensures { IfSome result (λ after. (to : ℕ) (rest : List Figure)
         → Fills after to rest → Fills end to (figure shape.now ∷ rest)) }

@@ -5,6 +5,6 @@ mod check;
 mod shape;
 mod sign;
 
-pub use check::{Seen, are_apart, are_shown, are_within, fill};
+pub use check::{Seen, are_shown, are_within, fill};
 pub use shape::holds;
-pub use sign::{Edge, Layout, Look, Part, Span};
+pub use sign::{Edge, FURTHEST, Layout, Look, Part, Span};

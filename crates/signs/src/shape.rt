@@ -2,7 +2,7 @@
 
 ghost use Rattle.std.specs.Prelude.{◌≡◌, ◌+◌, IsTrue};
 ghost use Rattle.svg_text.specs.Figures.{figure};
-ghost use Rattle.signs.specs.Signs.{Holds, IsWithin, line_look, look_of, outline_of, text_of};
+ghost use Rattle.signs.specs.Signs.{Holds, line_look};
 
 use crate::check::Seen;
 use crate::sign::{Look, Span};
@@ -21,49 +21,6 @@ fn holds_box(wide: Span, high: Span, x: u64, y: u64, width: u64, height: u64) ->
     ensures last { IsTrue result → Holds wide high (x + width, y + height) }
 {
     holds(wide, high, x, y) && width <= wide.to - x && height <= high.to - y
-}
-
-/// Whether a shape is.
-fn is_within(wide: Span, high: Span, shape: &Shape) -> bool
-    ensures { IsTrue result → IsWithin wide high (outline_of (figure shape.now)) }
-{
-    match shape {
-        Shape::Rect {
-            x,
-            y,
-            width,
-            height,
-            ..
-        }
-        | Shape::Titled {
-            x,
-            y,
-            width,
-            height,
-            ..
-        }
-        | Shape::View {
-            x,
-            y,
-            width,
-            height,
-            ..
-        } => holds_box(wide, high, *x, *y, *width, *height),
-        Shape::Line { x1, y1, x2, y2, .. } => {
-            holds(wide, high, *x1, *y1) && holds(wide, high, *x2, *y2)
-        }
-        Shape::Dot { x, y } | Shape::Text { x, y, .. } => holds(wide, high, *x, *y),
-        Shape::Tip {
-            x,
-            y,
-            x1,
-            y1,
-            x2,
-            y2,
-        } => {
-            holds(wide, high, *x, *y) && holds(wide, high, *x1, *y1) && holds(wide, high, *x2, *y2)
-        }
-    }
 }
 
 /// What a line tells.
@@ -114,6 +71,42 @@ impl Seen for Shape {
     }
 
     fn is_within(&self, wide: Span, high: Span) -> bool {
-        is_within(wide, high, self)
+        match self {
+            Shape::Rect {
+                x,
+                y,
+                width,
+                height,
+                ..
+            }
+            | Shape::Titled {
+                x,
+                y,
+                width,
+                height,
+                ..
+            }
+            | Shape::View {
+                x,
+                y,
+                width,
+                height,
+                ..
+            } => holds_box(wide, high, *x, *y, *width, *height),
+            Shape::Line { x1, y1, x2, y2, .. } => {
+                holds(wide, high, *x1, *y1) && holds(wide, high, *x2, *y2)
+            }
+            Shape::Dot { x, y } | Shape::Text { x, y, .. } => holds(wide, high, *x, *y),
+            Shape::Tip {
+                x,
+                y,
+                x1,
+                y1,
+                x2,
+                y2,
+            } => {
+                holds(wide, high, *x, *y) && holds(wide, high, *x1, *y1) && holds(wide, high, *x2, *y2)
+            }
+        }
     }
 }

@@ -38,7 +38,7 @@ pub struct Span {
 }
 
 /// How far things are drawn at most, so that each place is a number of 64 bits.
-const FURTHEST: u64 = 1_000_000_000_000;
+pub const FURTHEST: u64 = 1_000_000_000_000;
 
 impl Span {
     /// As much of it as things are drawn.

@@ -106,8 +106,8 @@ fn draw<I: TextIn, O: TextOut, F: TextOut>(
 /// The picture of the script that a reader has, in a form.
 ///
 /// An `Err` is the first fault of the script; `Read` where the reader failed; `Memory` where memory was
-/// refused; `TooManyEvents` of a good script that has more than 2,000 events; or `Misdrawn` where the drawing of its run
-/// does not show it.
+/// refused; `TooManyEvents` of a good script that has more than 2,000 events; or `Misdrawn` where the drawing
+/// of its run does not show it.
 fn picture_in<I: TextIn>(alloc: Global, form: Form, reader: &mut I) -> Result<Vec<u8>, PictureFault>
     requires { I.has_failed reader.old ≡ false }
     ensures picture { IfOk result (λ text. IsPictureIn form (I.remaining reader.old) text.items) }

@@ -42,8 +42,8 @@ fn status_of(fault: PictureFault) -> u32
     }
 }
 
-/// Tells the line of a fault of a script, with status 1; or 5 where a drawing does not show its run; or 3, for any other
-/// fault, and where memory is refused to the line.
+/// Tells the line of a fault of a script, with status 1; or 5 where a drawing does not show its run; or 3,
+/// for any other fault, and where memory is refused to the line.
 pub(crate) fn refuse(alloc: Global, fault: PictureFault, out: &mut [u8], written: &mut usize) -> u32
     ensures status { (result ≤ 3) ⊎ (result ≡ 5) }
     ensures told { 1 ≤ result }
