@@ -6,6 +6,8 @@ mod layouts;
 #[cfg(test)]
 mod marks;
 #[cfg(test)]
+mod misdrawn;
+#[cfg(test)]
 mod pictures;
 #[cfg(test)]
 mod svgs;

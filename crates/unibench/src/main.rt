@@ -1,5 +1,5 @@
 //! The program: hands its words and its standard streams to `run` of `unibench_run`, and ends with the status
-//! that it answers. On a terminal it shows how far a long run is.
+//! that it answers. On a terminal it shows how far a long run is, and tells at once why a typed line is bad.
 #![tactic(auto)]
 
 mod progress;
@@ -8,9 +8,10 @@ use progress::{Cleared, Counted, Progress};
 use std::alloc::Global;
 use std::env::Env;
 use std::process::ExitCode;
+use std::io::IsTerminal;
 use std::{env, io};
 use uni_script::{Checked, refuse_words};
-use unibench_run::{Kept, run};
+use unibench_run::{Kept, Typed, run};
 
 /// The argument texts, the program's name first.
 fn words<R: Env + Alloc<A = Global>>(rt: &R) -> io::Result<Vec<String>> {
@@ -19,7 +20,10 @@ fn words<R: Env + Alloc<A = Global>>(rt: &R) -> io::Result<Vec<String>> {
 
 fn main(rt: HostRuntime) -> ExitCode {
     let progress = Progress::new(&rt, rt.stderr());
-    let mut input = Kept::new(Checked::new(Counted::new(rt.stdin(), &progress)));
+    let is_typed = rt.stdin().is_terminal() && rt.stderr().is_terminal();
+    let lines = Counted::new(rt.stdin(), &progress);
+    let typed = Typed::new(rt.alloc(), lines, rt.stderr(), is_typed);
+    let mut input = Kept::new(Checked::new(typed));
     let mut output = Checked::new(Cleared::new(rt.stdout(), &progress));
     let mut faults = Checked::new(Cleared::new(rt.stderr(), &progress));
     let status = match words(&rt) {

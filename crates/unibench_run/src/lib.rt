@@ -9,10 +9,12 @@ mod lock;
 mod program;
 mod request;
 mod threads;
+mod typed;
 mod watch;
 
 pub use explain::{KeepsText, Kept};
 pub use program::run;
 pub use request::{Form, Plan, RandomPlan, Request, ThreadsObject, read_words};
 pub use threads::{ThreadsFault, push_agrees, push_threads_fault, run_plan};
+pub use typed::Typed;
 pub use watch::Watch;

@@ -1,6 +1,7 @@
 //! Tests of the program over memory: what it writes, and its status.
 
 mod drawn;
+mod typed;
 
 use seq_object::CallId;
 use std::alloc::{AllocError, Global};

@@ -1,0 +1,292 @@
+//! Wrong drawings: each is answered `Misdrawn`.
+
+ghost use Rattle.std.specs.Prelude.{◌≤◌, IfOk, length};
+
+use run_layout::{PictureFault, Subject, subject_of};
+use run_lines::{Ink, Sketch, Stroke, sketch_of};
+use run_picture::{Drawn, draw};
+use std::alloc::{AllocError, Global};
+use std::test::Fail;
+use svg_text::{Paint, Shape};
+use uni_script::Checked;
+
+/// Process 0 helps process 1, which stopped after its first step; a refusal comes before, and a call of a process that
+/// a new era brings comes last.
+const SCRIPT: &str = "universal 2 queue 2 16
+call 1 enq 5
+step 1
+step 0
+call 0 enq 6
+finish 0
+finish 1
+reshape 3
+call 2 deq
+finish 2
+call 1 deq
+";
+
+/// How high a lane is.
+const LANE: u64 = 96;
+
+/// What is wrong with a drawing.
+#[derive(Clone, Copy)]
+enum Wrong {
+    /// Nothing.
+    Nothing,
+    /// A dot is in the lane above or below its own.
+    DotInAnotherLane,
+    /// A dot is drawn twice.
+    DotTwice,
+    /// The last shape of the strip, a text, is left out.
+    LeftOut,
+    /// The columns of two events are changed over.
+    ColumnsChangedOver,
+    /// Two lanes are the same.
+    LanesOverlap,
+    /// The tip of an arrow of help is in the lane of the process that helps.
+    TipOfTheHelper,
+    /// An open bar is drawn as one that has returned.
+    OpenBarIsClosed,
+    /// The bar of a call ends too late.
+    BarEndsLate,
+    /// A label says something else.
+    LabelLies,
+    /// The mark of a step is in the column before its own.
+    StepBefore,
+    /// The cross of a refusal stands after the next event.
+    RefusalLate,
+    /// A row begins further right than the one before it ends.
+    RowBeginsLate,
+    /// The last row ends before the strip.
+    RowEndsEarly,
+    /// The texts of the boxes of cells are exchanged.
+    BoxesExchanged,
+    /// A text of a box is left out.
+    BoxTextLeftOut,
+    /// A shape passes the right edge.
+    Outside,
+    /// The title is another.
+    Title,
+}
+
+/// What a picture shows of the script.
+fn subject(alloc: Global) -> Result<Subject, Fail>
+    ensures few { IfOk result (λ subject. subject.marks.events ≤ 2000) }
+    ensures remarks { IfOk result (λ subject. length subject.remarks.items ≤ 100000) }
+{
+    match subject_of(alloc, &mut Checked::new(SCRIPT.as_bytes())) {
+        Ok(subject) => Ok(subject),
+        Err(_) => Err(Fail::from("the script should be drawn")),
+    }
+}
+
+/// A text that no mark has.
+fn lie(alloc: Global) -> Result<Vec<u8>, AllocError> {
+    b"lie".to_vec(alloc)
+}
+
+/// Makes each shape of the strip wrong that can be wrong in this way.
+fn spoil_shape(alloc: Global, wrong: Wrong, shape: &mut Shape) -> Result<(), AllocError> {
+    match (wrong, shape) {
+        (Wrong::DotInAnotherLane, Shape::Dot { y, .. }) => {
+            *y = if *y > LANE {
+                *y - LANE
+            } else {
+                y.saturating_add(LANE)
+            };
+        }
+        (Wrong::TipOfTheHelper, Shape::Tip { y, y1, y2, .. }) => {
+            *y = y.saturating_sub(LANE);
+            *y1 = y1.saturating_sub(LANE);
+            *y2 = y2.saturating_sub(LANE);
+        }
+        (Wrong::BarEndsLate, Shape::Rect { width, .. }) => *width = width.saturating_add(20),
+        (Wrong::LabelLies, Shape::Text { text, .. }) => *text = lie(alloc)?,
+        (Wrong::StepBefore, Shape::Titled { x, .. }) => *x = x.saturating_sub(20),
+        (
+            Wrong::RefusalLate,
+            Shape::Line {
+                x1,
+                x2,
+                paint: Paint::Cross,
+                ..
+            },
+        ) => {
+            *x1 = x1.saturating_add(500);
+            *x2 = x2.saturating_add(500);
+        }
+        (
+            Wrong::OpenBarIsClosed,
+            Shape::Rect {
+                height: 46,
+                paint,
+                ..
+            },
+        ) => *paint = Paint::Frame,
+        (Wrong::RowBeginsLate, Shape::View { left, .. }) => *left = left.saturating_add(20),
+        (Wrong::RowEndsEarly, Shape::View { width, .. }) => *width = width.saturating_sub(20),
+        _ => {}
+    }
+    Ok(())
+}
+
+/// Makes a drawing wrong.
+fn spoil(alloc: Global, wrong: Wrong, drawn: &mut Drawn) -> Result<(), AllocError> {
+    for shape in &mut drawn.drawing.strip {
+        spoil_shape(alloc, wrong, shape)?;
+    }
+    for shape in &mut drawn.drawing.shapes {
+        if let Shape::View { .. } = shape {
+            spoil_shape(alloc, wrong, shape)?;
+        }
+    }
+    spoil_order(alloc, wrong, drawn)
+}
+
+/// Makes a drawing wrong where no single shape is.
+fn spoil_order(alloc: Global, wrong: Wrong, drawn: &mut Drawn) -> Result<(), AllocError> {
+    let first = drawn.boxes.0;
+    match wrong {
+        Wrong::DotTwice => drawn.drawing.strip.push(Shape::Dot { x: 60, y: 80 })?,
+        Wrong::LeftOut => {
+            drawn.drawing.strip.pop();
+        }
+        Wrong::ColumnsChangedOver if drawn.layout.columns.len() > 4 => {
+            drawn.layout.columns.swap(3, 4);
+        }
+        Wrong::LanesOverlap if drawn.layout.lanes.len() > 1 => {
+            drawn.layout.lanes[1] = drawn.layout.lanes[0];
+        }
+        Wrong::BoxesExchanged if first < 1000 && drawn.drawing.shapes.len() > first + 4 => {
+            drawn.drawing.shapes.swap(first + 2, first + 3);
+        }
+        Wrong::BoxTextLeftOut => drawn.boxes.1 = drawn.boxes.1.saturating_sub(1),
+        Wrong::Outside => drawn.drawing.width = 500,
+        Wrong::Title => drawn.drawing.title = lie(alloc)?,
+        _ => {}
+    }
+    Ok(())
+}
+
+/// Whether a drawing that is wrong in this way is answered `Misdrawn`.
+fn is_misdrawn(alloc: Global, wrong: Wrong) -> Result<bool, Fail> {
+    let subject = subject(alloc)?;
+    let mut drawn = draw(alloc, &subject.marks, &subject.remarks)?;
+    spoil(alloc, wrong, &mut drawn)?;
+    match run_picture::tried(alloc, &subject.marks, &subject.remarks, drawn) {
+        Ok(_) => Ok(false),
+        Err(fault) => Ok(fault == PictureFault::Misdrawn),
+    }
+}
+
+/// Each way in which a drawing is made wrong.
+const ALL: [Wrong; 17] = [
+    Wrong::DotInAnotherLane,
+    Wrong::DotTwice,
+    Wrong::LeftOut,
+    Wrong::ColumnsChangedOver,
+    Wrong::LanesOverlap,
+    Wrong::TipOfTheHelper,
+    Wrong::OpenBarIsClosed,
+    Wrong::BarEndsLate,
+    Wrong::LabelLies,
+    Wrong::StepBefore,
+    Wrong::RefusalLate,
+    Wrong::RowBeginsLate,
+    Wrong::RowEndsEarly,
+    Wrong::BoxesExchanged,
+    Wrong::BoxTextLeftOut,
+    Wrong::Outside,
+    Wrong::Title,
+];
+
+#[test]
+fn wrong_drawings_are_refused(rt: HostRuntime) -> Result<(), Fail> {
+    assert!(rt; !is_misdrawn(rt.alloc(), Wrong::Nothing)?);
+    for (place, wrong) in ALL.iter().enumerate() {
+        assert!(rt; is_misdrawn(rt.alloc(), *wrong)?, "{place}");
+    }
+    Ok(())
+}
+
+/// Makes a stroke wrong, if it can be wrong in this way.
+fn spoil_stroke(alloc: Global, wrong: Wrong, stroke: &mut Stroke) -> Result<(), AllocError> {
+    match (wrong, &mut stroke.ink) {
+        (Wrong::DotInAnotherLane, Ink::Text(text)) if text.as_slice() == b"*".as_slice() => {
+            stroke.top = stroke.top.saturating_add(4);
+            stroke.bottom = stroke.bottom.saturating_add(4);
+        }
+        (Wrong::TipOfTheHelper, Ink::Arrow) => stroke.bottom = stroke.bottom.saturating_add(4),
+        (Wrong::BarEndsLate, Ink::Bar(width)) => *width = width.saturating_add(1),
+        (Wrong::LabelLies, Ink::Text(text)) => *text = lie(alloc)?,
+        (Wrong::StepBefore, Ink::Text(text)) if text.as_slice() == b"h".as_slice() => {
+            stroke.column = stroke.column.saturating_sub(1);
+        }
+        (Wrong::RefusalLate, Ink::Text(text)) if text.starts_with(b"x ") => {
+            stroke.column = stroke.column.saturating_add(50);
+        }
+        _ => {}
+    }
+    Ok(())
+}
+
+/// Makes a sketch wrong.
+fn spoil_sketch(alloc: Global, wrong: Wrong, sketch: &mut Sketch) -> Result<(), AllocError> {
+    for stroke in &mut sketch.strokes {
+        spoil_stroke(alloc, wrong, stroke)?;
+    }
+    match wrong {
+        Wrong::LeftOut => {
+            sketch.strokes.pop();
+        }
+        Wrong::ColumnsChangedOver if sketch.layout.columns.len() > 4 => {
+            sketch.layout.columns.swap(3, 4);
+        }
+        Wrong::LanesOverlap if sketch.layout.lanes.len() > 1 => {
+            sketch.layout.lanes[1] = sketch.layout.lanes[0];
+        }
+        Wrong::RowBeginsLate if sketch.blocks.len() > 1 => {
+            sketch.blocks[1].from = sketch.blocks[1].from.saturating_add(1);
+        }
+        Wrong::RowEndsEarly => {
+            sketch.blocks.pop();
+        }
+        _ => {}
+    }
+    Ok(())
+}
+
+/// Whether a sketch that is wrong in this way is answered `Misdrawn`.
+fn is_misdrawn_in_lines(alloc: Global, wrong: Wrong) -> Result<bool, Fail> {
+    let subject = subject(alloc)?;
+    let mut sketch = sketch_of(alloc, &subject.marks, &subject.remarks)?;
+    spoil_sketch(alloc, wrong, &mut sketch)?;
+    match run_lines::tried(alloc, &subject.marks, &subject.remarks, &sketch) {
+        Ok(_) => Ok(false),
+        Err(fault) => Ok(fault == PictureFault::Misdrawn),
+    }
+}
+
+/// Each way in which rows are made wrong.
+const IN_LINES: [Wrong; 11] = [
+    Wrong::DotInAnotherLane,
+    Wrong::LeftOut,
+    Wrong::ColumnsChangedOver,
+    Wrong::LanesOverlap,
+    Wrong::TipOfTheHelper,
+    Wrong::BarEndsLate,
+    Wrong::LabelLies,
+    Wrong::StepBefore,
+    Wrong::RefusalLate,
+    Wrong::RowBeginsLate,
+    Wrong::RowEndsEarly,
+];
+
+#[test]
+fn wrong_rows_are_refused(rt: HostRuntime) -> Result<(), Fail> {
+    assert!(rt; !is_misdrawn_in_lines(rt.alloc(), Wrong::Nothing)?);
+    for (place, wrong) in IN_LINES.iter().enumerate() {
+        assert!(rt; is_misdrawn_in_lines(rt.alloc(), *wrong)?, "{place}");
+    }
+    Ok(())
+}
