@@ -1,22 +1,17 @@
 #!/usr/bin/env python3
-"""Answers scripts over a queue or a sticky register: a second implementation, in Python.
+"""Answers scripts: a second implementation, in Python.
 
-It is written from the algorithm in docs/course.md, line by line, over one dictionary of shared places, and
-shares nothing with the code of the library. So it tells what a new case of `crates/cases/data` has to be
-answered, without asking the program that the case is to test.
-
-    oracle.py SCRIPT...               prints the answers to each script
-    oracle.py --flaw FLAW SCRIPT...   the same of a world with a flaw, and what broke
-    oracle.py --goal GOAL SCRIPT...   tells that each script meets a goal, or the first line that it doesn't meet
-    oracle.py --compare DIR...        compares what files of these folders have: NAME.answers of NAME.script, and
-                                      NAME.flawed of it where NAME.flaw names a flaw; that NAME.script meets
-                                      NAME.goal, and that NAME.missing is told of NAME.beside. Scripts over other
-                                      objects, and those with a fault, are left out
+It is written from the algorithm in docs/course.md, line by line, over one dictionary of shared places, and from the
+tables of docs/script-language.md, and shares nothing with the code of the library. So it tells what a new case of
+`crates/cases/data` has to be answered, without asking the program that the case is to test.
 """
+import argparse
 import pathlib
+import re
 import sys
 
 ANCHOR = "anchor"
+MOST_LINES, MOST_BYTES, MOST_EVENTS = 100_000, 200, 1_048_576
 
 
 def queue(state, words):
@@ -34,7 +29,57 @@ def sticky(state, words):
     return state, "unset" if state is None else str(state)
 
 
-OBJECTS = {"queue": queue, "sticky": sticky}
+def directory(state, words):
+    """The same of a directory; a state is a tuple of pairs of a name and a number, in the order in which names came."""
+    pairs = dict(state or ())
+    if words[0] == "size":
+        return tuple(pairs.items()), str(len(pairs))
+    if words[0] == "at":
+        numbers = list(pairs.values())
+        return tuple(pairs.items()), str(numbers[int(words[1])]) if int(words[1]) < len(numbers) else "none"
+    had = pairs.get(words[1])
+    if words[0] == "put":
+        reply = "new" if had is None else f"was {had}"
+        if had is None and len(pairs) == 256:
+            reply = "full"
+        else:
+            pairs[words[1]] = int(words[2])
+    else:
+        reply = "none" if had is None else str(had)
+        if words[0] == "del":
+            pairs.pop(words[1], None)
+    return tuple(pairs.items()), reply
+
+
+def book(state, words):
+    """The same of a book; a state is a tuple of sixteen balances."""
+    balances = list(state or (0,) * 16)
+    if words[0] == "total":
+        return tuple(balances), str(sum(balances))
+    *accounts, amount = map(int, words[1:])
+    if words[0] != "deposit":
+        if balances[accounts[0]] < amount:
+            return tuple(balances), "short"
+        balances[accounts[0]] -= amount
+    if words[0] != "withdraw":
+        if balances[accounts[-1]] + amount > 999_999_999_999:
+            return state or (0,) * 16, "over"
+        balances[accounts[-1]] += amount
+    return tuple(balances), "moved" if words[0] == "move" else str(balances[accounts[0]])
+
+
+OBJECTS = {"queue": queue, "directory": directory, "book": book, "sticky": sticky}
+
+# The calls of each object, and the commands; a word in capitals is a field.
+CALLS = {
+    "queue": ["enq V", "deq"],
+    "directory": ["put NAME V", "get NAME", "del NAME", "size", "at I"],
+    "book": ["deposit A V", "withdraw A V", "move A A V", "total"],
+    "sticky": ["stick V", "read"],
+}
+COMMANDS = ["step P", "step P M", "finish P", "trim", "log", "heads"]
+LEAST = {"M": 1}
+MOST = {"M": 1000, "A": 15, "I": 255}
 
 # What a world with a flaw does, as the first line says it; where there is no flaw at all the world is told as none.
 FLAWS = {
@@ -57,7 +102,7 @@ class World:
         self.begun, self.era_began = {}, {}
         self.steps, self.turns, self.most = {}, {}, {}
         self.inv, self.seq, self.after, self.before, self.new = {}, {}, {}, {}, {}
-        self.eras, self.ended, self.returns, self.broken = 0, [], [], []
+        self.eras, self.events, self.ended, self.returns, self.broken = 0, 0, [], [], []
         self.open(None, 1)
 
     def open(self, state, number):
@@ -70,6 +115,7 @@ class World:
 
     def begin(self, p, words):
         """Process p begins a call."""
+        self.events += 1
         nth = self.begun.get(p, 0)
         self.begun[p] = nth + 1
         self.steps[p] = self.turns[p] = 0
@@ -168,6 +214,7 @@ class World:
     def step(self, p):
         """The next step of p; its reply where that was the last one, `?` where it has none."""
         mine, steps = self.calls[p]
+        self.events += 1
         self.steps[p] += 1
         if next(steps) == "F":
             del self.calls[p]
@@ -202,6 +249,7 @@ class World:
     def end_era(self, processes):
         """The list is replaced by its last cell that has a state; the number of that cell."""
         self.end_entries()
+        self.events += 1
         number, state = self.seq[self.anchor], self.new[self.anchor][0]
         for place, cell in enumerate(self.chain()[0]):
             if cell in self.new:
@@ -292,33 +340,102 @@ def log_lines(world):
         yield "%d %d.%d %s -> %s" % (number, *call, " ".join(inv), "?" if reply is None else reply)
 
 
+class Fault(Exception):
+    """The first fault of a script, as its line says it, and the answers to the lines before it."""
+
+    def __init__(self, line, answered):
+        super().__init__(line)
+        self.answered = "".join(f"{answer}\n" for answer in answered)
+
+
+def is_field(field, word):
+    """A word is what a field asks for."""
+    if field == "NAME":
+        return re.fullmatch("[a-z0-9]{1,16}", word) is not None
+    if re.fullmatch("0|[1-9][0-9]{0,11}", word) is None:
+        return False
+    return LEAST.get(field, 0) <= int(word) <= MOST.get(field, 999_999_999_999)
+
+
+def has_form(form, words):
+    """Words have this form."""
+    fields = form.split(" ")
+    return len(fields) == len(words) and all(
+        is_field(field, word) if field.isupper() else field == word for field, word in zip(fields, words)
+    )
+
+
+def header_of(line):
+    """The version, object, number of processes and row of a header; None where the line is none."""
+    words = line.split(" ")
+    if not has_form("universal V", words[:2]) or len(words) != 5 or words[1] not in ("1", "2"):
+        return None
+    most = 16 if words[1] == "1" else 64
+    if words[2] not in OBJECTS or not has_form("N K", words[3:]):
+        return None
+    if not (1 <= int(words[3]) <= most and 1 <= int(words[4]) <= 4096):
+        return None
+    return int(words[1]), words[2], int(words[3]), int(words[4])
+
+
+def is_command(header, words):
+    """Words after this header are a command."""
+    if words[0] == "call":
+        return len(words) > 2 and is_field("P", words[1]) and any(has_form(form, words[2:]) for form in CALLS[header[1]])
+    if words[0] == "reshape":
+        return header[0] == 2 and has_form("reshape N", words)
+    return any(has_form(form, words) for form in COMMANDS)
+
+
+def command_lines(world, words):
+    """The answers to a command."""
+    if words[0] in ("call", "step", "finish"):
+        return [process_line(world, words)]
+    if words[0] in ("trim", "reshape"):
+        return [era_line(world, words)]
+    if words[0] == "log":
+        return list(log_lines(world))
+    heads = (world.seq.get(world.head.get(p, world.anchor), 0) for p in range(world.processes))
+    return [" ".join(["heads", *map(str, heads)])]
+
+
+def lines_of(script):
+    """The lines of a script, without their ends."""
+    return script.removesuffix(b"\n").split(b"\n") if script else []
+
+
 def answers(script, flaw="nothing"):
-    """The answers to a script without a fault, and what broke; None where its object isn't one of these."""
-    world, lines = None, []
-    for line in script.splitlines():
-        words = line.split()
-        if not words or line.startswith("#"):
+    """The answers to a script, and what broke at its end."""
+    header, world, said = None, None, []
+    for number, line in enumerate(lines_of(script), 1):
+        if number > MOST_LINES:
+            raise Fault(f"line {number}: too many lines", said)
+        if len(line) > MOST_BYTES:
+            raise Fault(f"line {number}: too long", said)
+        if not all(32 <= byte <= 126 for byte in line):
+            raise Fault(f"line {number}: bad byte", said)
+        text = line.decode()
+        if is_note(text):
             continue
-        if world is None:
-            if words[2] not in OBJECTS:
-                return None
-            world = World(OBJECTS[words[2]], int(words[3]), int(words[4]), flaw)
-        elif words[0] in ("call", "step", "finish"):
-            lines.append(process_line(world, words))
-        elif words[0] in ("trim", "reshape"):
-            lines.append(era_line(world, words))
-        elif words[0] == "log":
-            lines += log_lines(world)
+        if header is None:
+            header = header_of(text)
+            if header is None:
+                raise Fault(f"line {number}: bad header", said)
+            world = World(OBJECTS[header[1]], header[2], header[3], flaw)
+        elif is_command(header, text.split(" ")):
+            said += command_lines(world, text.split(" "))
         else:
-            heads = (world.seq.get(world.head.get(p, world.anchor), 0) for p in range(world.processes))
-            lines.append(" ".join(["heads", *map(str, heads)]))
-    return "".join(line + "\n" for line in [*lines, *broken(world)])
+            raise Fault(f"line {number}: bad line", said)
+        if world.events > MOST_EVENTS:
+            raise Fault(f"line {number}: more events than a history has by default: not answered here", said)
+    if world is None:
+        raise Fault(f"line {len(lines_of(script)) + 1}: no header", said)
+    return "".join(f"{line}\n" for line in [*said, *broken(world)])
 
 
 def flawed(script, flaw):
     """The same of a world with a flaw, which is told on the first line."""
-    had = answers(script, flaw)
-    return None if had is None else f"not the proved construction: {FLAWS[flaw]}\n{had}"
+    return f"not the proved construction: {FLAWS[flaw]}\n{answers(script, flaw)}"
 
 
 def is_note(line):
@@ -353,63 +470,94 @@ def is_met(line, script, lines):
 
 def judgement(goal, script):
     """`met`, or the first line of a goal that a script doesn't meet."""
-    lines = answers(script).splitlines()
+    lines, script_lines = answers(script).splitlines(), script.decode().splitlines()
     for number, line in enumerate(goal.splitlines(), 1):
-        if not is_note(line) and not is_met(line, script.splitlines(), lines):
+        if not is_note(line) and not is_met(line, script_lines, lines):
             return f"line {number} is not met: {line}\n"
     return "met\n"
 
 
+def told(tell, *said):
+    """What is told of a script: the text, or what is answered before its fault, and the fault's line."""
+    try:
+        return tell(*said), ""
+    except Fault as fault:
+        return fault.answered, f"{fault}\n"
+
+
+def pairs_of(script):
+    """What is told of a case, beside the files that say it."""
+    text = script.read_bytes()
+    said, fault = told(answers, text)
+    yield said, script.with_suffix(".answers")
+    yield fault, script.with_suffix(".fault")
+    flaw, goal = script.with_suffix(".flaw"), script.with_suffix(".goal")
+    if flaw.exists():
+        yield flawed(text, flaw.read_text().strip()), script.with_suffix(".flawed")
+    if goal.exists():
+        beside = script.with_suffix(".beside").read_bytes()
+        yield judgement(goal.read_text(), beside), script.with_suffix(".missing")
+        yield judgement(goal.read_text(), text).removeprefix("met\n"), script.with_suffix(".unmet")
+
+
 def compare(folders):
-    """How many cases agree, and the names of those that differ."""
+    """Compares what the files of folders say with what is told: how many agree, and the names of those that differ."""
     agree, differ = 0, []
-    for folder in map(pathlib.Path, folders):
-        for script in sorted(folder.glob("*.script")):
-            wanted = script.with_suffix(".answers")
-            others = [script.with_suffix(end) for end in (".fault", ".words", ".lines", ".status")]
-            if not wanted.exists() or any(other.exists() for other in others):
-                continue
-            had = answers(script.read_text())
-            if had is None:
-                continue
-            pairs = [(had, wanted)]
-            flaw = script.with_suffix(".flaw")
-            if flaw.exists():
-                pairs.append((flawed(script.read_text(), flaw.read_text().strip()), script.with_suffix(".flawed")))
-            told = [(had, wanted.read_text(), wanted) for had, wanted in pairs]
-            goal = script.with_suffix(".goal")
-            if goal.exists():
-                beside, missing = script.with_suffix(".beside"), script.with_suffix(".missing")
-                told.append((judgement(goal.read_text(), script.read_text()), "met\n", goal))
-                told.append((judgement(goal.read_text(), beside.read_text()), missing.read_text(), missing))
-            for had, text, wanted in told:
-                if had == text:
-                    agree += 1
-                else:
-                    differ.append(str(wanted))
+    for script in sorted(script for folder in folders for script in pathlib.Path(folder).glob("*.script")):
+        if any(script.with_suffix(end).exists() for end in (".words", ".lines", ".status")):
+            continue
+        for had, wanted in pairs_of(script):
+            if had == (wanted.read_text() if wanted.exists() else ""):
+                agree += 1
+            else:
+                differ.append(str(wanted))
     return agree, differ
 
 
+def words_of(arguments):
+    """The command line."""
+    words = argparse.ArgumentParser(description="Answers scripts: a second implementation, in Python.")
+    options = words.add_mutually_exclusive_group()
+    options.add_argument("--flaw", choices=FLAWS, help="answers in a world with a flaw, and tells what broke")
+    options.add_argument("--goal", metavar="GOAL", help="tells that each script meets a goal, or the line that isn't met")
+    options.add_argument(
+        "--compare",
+        action="store_true",
+        help="takes folders: compares NAME.answers and NAME.fault of NAME.script, NAME.flawed where NAME.flaw names a "
+        "flaw, and NAME.missing of NAME.beside where there is NAME.goal, which NAME.script meets; scripts with words, "
+        "lines or a status of their own are left out",
+    )
+    words.add_argument("names", nargs="+", metavar="SCRIPT", help="the scripts, or the folders of --compare")
+    return words.parse_args(arguments)
+
+
 def main(arguments):
-    if arguments[:1] == ["--compare"]:
-        agree, differ = compare(arguments[1:])
+    """The status: 0; 1 where a goal isn't met or a case differs; 2 for a fault of a script or of the command line."""
+    words, status = words_of(arguments), 0
+    if words.compare:
+        agree, differ = compare(words.names)
         for name in differ:
             print(f"differs: {name}")
         print(f"{agree} agree, {len(differ)} differ")
         return 1 if differ else 0
-    option, value = "", ""
-    if arguments[:1] in (["--flaw"], ["--goal"]):
-        option, value, arguments = arguments[0], arguments[1], arguments[2:]
-    for name in arguments:
-        script = pathlib.Path(name).read_text()
-        if option == "--flaw":
-            had = flawed(script, value)
-        elif option == "--goal":
-            had = judgement(pathlib.Path(value).read_text(), script)
-        else:
-            had = answers(script)
-        sys.stdout.write(had or f"{name}: another object\n")
-    return 0
+    for name in words.names:
+        try:
+            script = pathlib.Path(name).read_bytes()
+            if words.goal:
+                said, fault = told(judgement, pathlib.Path(words.goal).read_text(), script)
+                said = "" if fault else said
+                status = max(status, 0 if said == "met\n" else 1)
+            elif words.flaw:
+                said, fault = told(flawed, script, words.flaw)
+            else:
+                said, fault = told(answers, script)
+        except OSError as error:
+            said, fault = "", f"{name}: {error.strerror}\n"
+        sys.stdout.write(said)
+        sys.stdout.flush()
+        sys.stderr.write(fault)
+        status = 2 if fault else status
+    return status
 
 
 if __name__ == "__main__":
