@@ -83,6 +83,7 @@ impl<I: Read + Drop, F: Write + Drop> Typed<I, F> {
             let _ = self.faults.write_all(b"> ");
             let line = self.typed_line()?;
             if line.is_empty() {
+                let _ = self.faults.write_all(b"\n");
                 return Ok(line);
             }
             let reason = self.reason(&line)?;

@@ -11,14 +11,15 @@ const TYPED: &[u8] = b"# help\nuniversl 2 queue 2 8\nuniversal 2 queue 2 8\nfins
 /// What is handed on of it.
 const GOOD: &[u8] = b"# help\nuniversal 2 queue 2 8\n\ncall 1 enq 5\nfinish 1\n";
 
-/// What the user is told: a prompt for each line and the end, and why two lines are bad.
+/// What the user is told: a prompt for each line and for the end, and why two lines are bad.
 const TOLD: &[u8] = b"> > universl 2 queue 2 8
 ^^^^^^^^
 the first line that isn't a note is the header: universal VERSION OBJECT N K
 > > finsh 1
 ^^^^^
 unknown command: the nearest is 'finish'
-> > > > ";
+> > > >\x20
+";
 
 #[test]
 fn bad_line_is_survived(rt: HostRuntime) {
