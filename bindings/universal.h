@@ -1,7 +1,7 @@
 /* Shared objects that no thread can hold up: a tally, a sticky register, a register and a machine of two tables.
  *
  * A log is an object that n processes share. Each process has a seat, by which it makes up to k calls. A call takes no
- * lock and no memory, and ends within 12n + 16 steps on shared words, whatever the other threads do. All calls have one
+ * lock and no memory, and ends within 12n + 15 steps on shared words, whatever the other threads do. All calls have one
  * order: the log is a history of the object in which each call has the reply that it was given.
  *
  * The functions of this file are proved in crates/universal_c. What a caller owes is written here, and nothing checks it.

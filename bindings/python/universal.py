@@ -1,7 +1,7 @@
 """Shared objects that no thread can hold up: a tally, a sticky register, a register and a machine of two tables.
 
 A `Log` is an object that n processes share. It gives out a `Seat` for each, and a seat makes up to k calls. A call
-takes no lock of its own and no memory, and ends within 12n + 16 steps on shared words, whatever the other threads do.
+takes no lock of its own and no memory, and ends within 12n + 15 steps on shared words, whatever the other threads do.
 The last seat closes the log and gets all calls in their one order.
 
     with Log.tally(4, 1000) as log:

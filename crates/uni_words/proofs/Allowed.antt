@@ -1,5 +1,5 @@
 -- What the functions of the word steps ask, in parts.
-use Rattle.std.proofs.Common.{◌≡◌, ◌∙◌, ℕ, zero, suc, ◌+◌, ◌*◌, ◌<◌, ◌≤◌, inl, inr, refl, sym, ap, subst, Option, Some, None, option_map, arith, nat_lt, eqb, if◌then◌else◌}
+use Rattle.std.proofs.Common.{◌≡◌, ◌∙◌, ℕ, zero, suc, ◌+◌, ◌*◌, ◌<◌, ◌≤◌, inl, inr, refl, sym, ap, subst, Option, Some, None, option_map, arith, nat_lt, eqb, if◌then◌else◌, ◌==◌}
 use Rattle.std.specs.Option.{option_or}
 use prog.Atomic.{either}
 use mathlib.Core.Option.{none}
@@ -11,9 +11,9 @@ use Rattle.uni_model.specs.Places.Name.{Of}
 use Rattle.uni_model.specs.Places.Place.{InvOf}
 use Rattle.uni_model.specs.Places.Content.{Link}
 use Rattle.uni_model.specs.Stages.{Stage, Pending}
-use Rattle.uni_model.specs.Stages.Stage.{Announce}
+use Rattle.uni_model.specs.Stages.Stage.{Announce, Test, ReadAnnounce, Finish}
 use Rattle.uni_model.specs.Transition.{place_of, content_after, turn_of}
-use Rattle.uni_model.proofs.Written.{lt_cases}
+use Rattle.uni_model.proofs.Written.{lt_cases, number_cases}
 use Rattle.uni_model.specs.Indices.{index_of, name_of}
 use Rattle.uni_model.proofs.Indices.{name_of-index_of}
 use Rattle.uni_words.specs.Words.{cells_of, start_of, index_in, link_of, word_of, content_of}
@@ -145,6 +145,15 @@ within_here n row p mine stage found me me' moved stands =
 
 pub few_turns : (n row p : ℕ) (mine : Name) (stage : Stage) (found : ℕ) (me me' : Me ℕ View) → HasMoved me (record { mine = mine; stage = stage }) found me' → StandsAt n row p mine stage me → me'.0.known.its.turns ≤ n + 1
 few_turns n row p mine stage found me me' moved stands = subst (λ k. me'.0.known.its.turns ≤ k + 1) stands.processes moved.turns
+
+-- after the most turns a test finds its own cell no farther than its head
+pub own_cell : (n row p : ℕ) (mine h : Name) (s found : ℕ) (me me' : Me ℕ View) → HasMoved me (record { mine = mine; stage = Test h s }) found me' → StandsAt n row p mine (Test h s) me
+    → StandsAt n row p mine (if found == 0 then ReadAnnounce h s else Finish s found) me' → me'.0.known.its.turns ≡ n + 1 → found ≤ s
+own_cell n row p mine h s found me me' moved stands next many = elim (number_cases found 0) [
+  | inl same ↦ (let e : found ≡ 0 = same.0 in omega arith)
+  | inr some ↦ moved.own_cell s found (next.call ∙ ap (λ b. Some (record { mine = mine; stage = if b then ReadAnnounce h s else Finish s found })) some.1)
+      (many ∙ ap (λ k. k + 1) (sym stands.processes))
+]
 
 -- a read of a settled word changes nothing else
 pub stands_still : (n row p : ℕ) (mine : Name) (stage : Stage) (read : Reading) (me me' : Me ℕ View) → StandsAt n row p mine stage me → HasLooked me read me' → StandsAt n row p mine stage me'

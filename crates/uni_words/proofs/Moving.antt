@@ -16,7 +16,7 @@ use Rattle.uni_model.specs.Worlds.{WorldOf}
 use Rattle.uni_model.specs.Worlds.Event.{Step}
 use Rattle.uni_model.specs.Settled.{Grows}
 use Rattle.uni_model.proofs.Counted.{IsCounted-pending}
-use Rattle.uni_model.proofs.Bounded.{turns_bounded}
+use Rattle.uni_model.proofs.Bounded.{turns_bounded, at_its_cell}
 use Rattle.uni_model.proofs.Simulation.{set_at_same}
 use Rattle.uni_words.specs.Words.{content_of, word_of}
 use Rattle.uni_words.specs.View.{Known, stage_found, moved_at}
@@ -182,6 +182,7 @@ module _ (object : Sequential ℕ ℕ ℕ) (row : ℕ) where
             within = subst (λ k. IsWithin k v.row (place_of k v.first c.mine c.stage) said) (sym (told.processes (let one = single in omega arith)))
                 (subst (λ r. IsWithin w.n r (place_of w.n v.first c.mine c.stage) said) (sym (told.calls (let one = single in omega arith))) small);
             turns = subst (λ k. v'.its.turns ≤ k + 1) (sym (told.processes (let one = single in omega arith))) (subst (λ t. t ≤ w.n + 1) tells.turns few);
+            own_cell = λ s t ends many. (at_its_cell object after shown.sound v.first c.mine s t (tells.call ∙ ends) (tells.turns ∙ many ∙ ap (λ k. k + 1) (told.processes (let one = single in omega arith)))).1;
           }
 
   -- The seat may take the step, by which the word becomes f of what it was, and it is told so of what it found.

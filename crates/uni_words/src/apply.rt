@@ -101,6 +101,7 @@ impl<O: WordObject> WordLog<O> {
         ensures number { result.1 ≤ cells_of self.now.setup.n self.now.setup.k }
         ensures goes { GoesBy seat.old.me seat.new.me (10 * result.0 + 1) result.0 }
         ensures bound { result.0 ≤ self.now.setup.n + 1 }
+        ensures own_cell { result.0 ≡ self.now.setup.n + 1 → result.2 ≤ result.1 }
     {
         let mut at = at;
         for turns in 0..self.setup.n + 2 {
@@ -164,8 +165,8 @@ impl WordSeat {
     /// Applies the invocation: the call, its reply, its number, and how many turns it took. It returns after a known
     /// number of word steps, whatever the other seats do, and takes no memory and no lock. The seat
     /// is one of this log's. With n processes a call of so many turns takes `2n + 5` word steps and
-    /// ten a turn; where its last step stores the head that is one more, which the seat counts. The
-    /// numbers of a seat's calls rise.
+    /// ten a turn; where its last step stores the head that is one more, which the seat counts, and which
+    /// comes only after n turns at most. The numbers of a seat's calls rise.
     ///
     /// The error says that the seat has made all the calls that it can make; nothing is changed then.
     pub fn apply<O: WordObject>(&mut self, log: &WordLog<O>, inv: u64) -> Result<Answer, RowFull>
@@ -186,7 +187,7 @@ impl WordSeat {
         ensures steps { IfOk result (λ answer.
             IsCountOf (processes_of log.now) answer.turns (view_of self.old) (view_of self.new)) }
         ensures few_steps { OnOk result
-            (word_steps_of self.new ≤ word_steps_of self.old + (12 * processes_of log.now + 16)) }
+            (word_steps_of self.new ≤ word_steps_of self.old + (12 * processes_of log.now + 15)) }
     {
         if self.made == self.k {
             return Err(RowFull);

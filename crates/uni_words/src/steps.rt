@@ -86,6 +86,7 @@ impl<O: WordObject> WordLog<O> {
         ensures goes { GoesBy seat.old.me seat.new.me 1 (if result == 0 then 1 else 0) }
         ensures within { result ≤ cells_of self.now.setup.n self.now.setup.k }
         ensures bound { seat.new.me.0.known.its.turns ≤ self.now.setup.n + 1 }
+        ensures own_cell { seat.new.me.0.known.its.turns ≡ self.now.setup.n + 1 → result ≤ at.number }
     {
         self.table
             .shared

@@ -63,12 +63,12 @@ HasSeat new process = IsSomeAnd (seat_in new) (λ seat.
 abbrev pub IsFull : Option Held → Type 0
 IsFull old = IsSomeAnd (log_in old) (λ log. IsSomeAnd (seat_in old) (λ seat. calls_made seat ≡ row_of log))
 
--- the same seat, which has made one more call: inv, which was answered reply after these turns, in at most 12n + 16 word steps
+-- the same seat, which has made one more call: inv, which was answered reply after these turns, in at most 12n + 15 word steps
 abbrev pub HasCalled : (old new : Option Held) (inv reply turns : ℕ) → Type 0
 HasCalled old new inv reply turns = IsSomeAnd (log_in old) (λ log. IsSomeAnd (seat_in old) (λ s. IsSomeAnd (seat_in new) (λ t.
     (process_of t ≡ process_of s) × (own_calls t ≡ own_calls s ++ (inv, reply) ∷ [])
     × (calls_made t ≡ calls_made s + 1) × (latest_turns t ≡ turns)
-    × (word_steps_of t ≤ word_steps_of s + (12 * processes_of log + 16)))))
+    × (word_steps_of t ≤ word_steps_of s + (12 * processes_of log + 15)))))
 
 -- the same seat, which has asked about the call
 abbrev pub HasAsked : (old new : Option Held) (process nth number : ℕ) → Type 0

@@ -120,7 +120,7 @@ impl Seated {
     ghost use Rattle.universal_c.specs.declared.held.Seated.{Seated};
     ghost use Rattle.universal_c.specs.declared.held.CloseFault.TheVariants.{Busy, Memory};
 
-    /// Applies the invocation, in at most 12n + 16 steps on shared words, whatever other threads do.
+    /// Applies the invocation, in at most 12n + 15 steps on shared words, whatever other threads do.
     /// Error: the seat has made its k calls, and nothing is changed.
     pub(crate) fn apply(&mut self, inv: u64) -> Result<Answer, RowFull>
         ensures log { self.new.log ≡ self.old.log }
@@ -133,7 +133,7 @@ impl Seated {
         ensures turns { IfOk result (λ answer. latest_turns self.new.seat ≡ answer.turns) }
         ensures steps { OnOk result
             (word_steps_of self.new.seat ≤ word_steps_of self.old.seat
-            + (12 * processes_of self.old.log.value + 16)) }
+            + (12 * processes_of self.old.log.value + 15)) }
     {
         self.seat.apply(&self.log, inv)
     }
