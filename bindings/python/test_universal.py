@@ -1,5 +1,9 @@
 """Each call on its happy path and each refusal: python3 -m unittest"""
 
+import contextlib
+import copy
+import pickle
+import signal
 import unittest
 
 from universal import Differs, Entry, Fault, Log, Refused, in_threads
@@ -52,7 +56,7 @@ class Calls(unittest.TestCase):
         self.assertEqual(seat.apply(4).reply, 0)
         self.refuses(Fault.FULL, lambda: seat.apply(4))
         self.assertRaises(ValueError, lambda: seat.apply(1 << 64))
-        self.assertEqual(seat.close(), [Entry(seq=2, process=0, nth=0, inv=4, reply=0)])
+        self.assertEqual(seat.finish(), [Entry(seq=2, process=0, nth=0, inv=4, reply=0)])
 
     def test_follows(self):
         with Log.tally(2, 1) as log:
@@ -68,12 +72,57 @@ class Calls(unittest.TestCase):
         log = Log.tally(2, 2)
         first, second = log.seats()
         self.assertEqual(first.apply(3).reply, 0)
-        self.refuses(Fault.BUSY, first.close)
-        log.drop()
-        self.refuses(Fault.BUSY, first.close)
+        self.refuses(Fault.BUSY, first.finish)
+        log.close()
+        self.refuses(Fault.BUSY, first.finish)
         self.assertEqual(first.apply(1).reply, 3)
-        second.drop()
-        self.assertEqual(len(first.close()), 2)
+        second.close()
+        self.assertEqual(len(first.finish()), 2)
+
+    def test_one_call_at_a_time(self):
+        with Log.tally(1, 4096) as log:
+            seat = log.seat()
+        refused = []
+
+        def interrupt(*_):
+            try:
+                seat.apply(1)
+            except Refused as fault:
+                refused.append(fault.fault)
+
+        # the handler runs while the seat's lock is held
+        with seat._lock:
+            interrupt()
+        self.assertEqual(refused, [Fault.BUSY])
+        had = signal.signal(signal.SIGALRM, interrupt)
+        signal.setitimer(signal.ITIMER_REAL, 0.001, 0.001)
+        made = sum(1 for _ in range(2000) if seat.apply(1))
+        signal.setitimer(signal.ITIMER_REAL, 0)
+        signal.signal(signal.SIGALRM, had)
+        self.assertEqual(made, 2000)
+        self.assertLessEqual(set(refused), {Fault.BUSY})
+
+    def test_handles_are_not_copied(self):
+        log = Log.tally(1, 1)
+        for held in [log, log.seat()]:
+            for copied in [copy.copy, copy.deepcopy, pickle.dumps]:
+                self.assertRaises(TypeError, lambda: copied(held))
+
+    def test_closing(self):
+        with contextlib.closing(Log.tally(2, 1)) as log:
+            first, second = log.seats()
+        self.assertEqual((repr(log), repr(first)), ("<Log, closed>", "<Seat of process 1>"))
+        with contextlib.closing(second):
+            second.apply(5)
+        self.assertEqual(repr(second), "<Seat, closed>")
+        self.assertEqual([entry.inv for entry in first.finish()], [5])
+
+    def test_seats_of_two_logs(self):
+        with Log.tally(2, 1) as one, Log.tally(1, 1) as other:
+            seats, strangers = one.seats(), other.seats()
+        for bad in [[*seats, *strangers], [seats[0], seats[0]]]:
+            self.assertRaises(ValueError, lambda: in_threads(bad, lambda seat: seat.apply(1)))
+        self.assertEqual(len(in_threads(seats, lambda seat: seat.apply(1))), 2)
 
     def test_told(self):
         def seats():
@@ -81,12 +130,12 @@ class Calls(unittest.TestCase):
                 first, second = log.seats()
             replies = [first.apply(3), first.apply(1), second.apply(7)]
             self.assertEqual([reply.reply for reply in replies], [0, 3, 4])
-            second.drop()
+            second.close()
             return first
 
         told = {1: [(3, 0), (1, 3)], 0: [(7, 4)]}
-        self.assertEqual([entry.inv for entry in seats().close(told)], [3, 1, 7])
-        self.assertEqual(len(seats().close({0: [(7, 4)], 2: []})), 3)
+        self.assertEqual([entry.inv for entry in seats().finish(told)], [3, 1, 7])
+        self.assertEqual(len(seats().finish({0: [(7, 4)], 2: []})), 3)
         for other, process, nth in [
             ({0: [(7, 5)]}, 0, 0),
             ({1: [(3, 0)]}, 1, 1),
@@ -96,19 +145,20 @@ class Calls(unittest.TestCase):
         ]:
             seat = seats()
             with self.assertRaises(Differs) as raised:
-                seat.close(other)
+                seat.finish(other)
             self.assertEqual((raised.exception.process, raised.exception.nth), (process, nth))
-            self.refuses(Fault.WRONG_HANDLE, seat.close)
+            self.refuses(Fault.WRONG_HANDLE, seat.finish)
         seat = seats()
-        self.assertRaises(ValueError, lambda: seat.close({0: [(1 << 64, 0)]}))
-        self.assertEqual(len(seat.close()), 3)
+        for told in [{0: [(1 << 64, 0)]}, {0: [], 1 << 64: []}, {0: [], 1: [(3, 1 << 32)]}]:
+            self.assertRaises(ValueError, lambda: seat.finish(told))
+        self.assertEqual(len(seat.finish()), 3)
 
     def test_wrong_handle(self):
         with Log.tally(1, 1) as log:
             seat = log.seat()
         self.refuses(Fault.WRONG_HANDLE, log.seat)
-        self.assertEqual(seat.close(), [])
-        self.refuses(Fault.WRONG_HANDLE, seat.close)
+        self.assertEqual(seat.finish(), [])
+        self.refuses(Fault.WRONG_HANDLE, seat.finish)
         self.refuses(Fault.WRONG_HANDLE, lambda: seat.apply(1))
 
     def test_threads(self):
@@ -144,15 +194,15 @@ class Calls(unittest.TestCase):
         self.assertEqual(raised.exception.args, (1,))
         # all three were joined, and none was dropped
         self.assertEqual(seats[2].apply(5).reply, 3)
-        self.refuses(Fault.BUSY, seats[0].close)
+        self.refuses(Fault.BUSY, seats[0].finish)
         self.assertRaises(ValueError, lambda: in_threads([], work))
 
     def test_threads_beside_a_log(self):
         log = Log.tally(2, 1)
         seats = log.seats()
         self.refuses(Fault.BUSY, lambda: in_threads(seats, lambda seat: seat.apply(4)))
-        log.drop()
-        self.assertEqual(sorted(call.reply for call in seats[0].close()), [0, 4])
+        log.close()
+        self.assertEqual(sorted(call.reply for call in seats[0].finish()), [0, 4])
 
 
 if __name__ == "__main__":

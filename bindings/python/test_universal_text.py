@@ -3,7 +3,7 @@
 import unittest
 from pathlib import Path
 
-from universal_text import BadScript, Svg, draw, lines, replay
+from universal.text import BadScript, Svg, TooLong, draw, lines, replay
 
 CASES = Path(__file__).parent.parent.parent / "crates" / "cases" / "data"
 SCRIPT = "universal 1 queue 2 8\ncall 0 enq 10\nstep 0 10\nfinish 0\nlog\n"
@@ -21,6 +21,14 @@ class Scripts(unittest.TestCase):
         for history in [33, 1 << 24]:
             self.assertEqual(replay(SCRIPT, history), answers)
         self.assertEqual(replay(SCRIPT, history=32), "refused history\nrefused idle 0\nrefused idle 0\nend\n")
+
+    def test_a_limit(self):
+        answers = replay(SCRIPT)
+        self.assertEqual(replay(SCRIPT, limit=len(answers)), answers)
+        for call in [replay, draw, lines]:
+            with self.assertRaises(TooLong) as raised:
+                call(SCRIPT, limit=10)
+            self.assertEqual(raised.exception.needed, len(str(call(SCRIPT))))
 
     def test_bad_history(self):
         for history in [0, (1 << 24) + 1, -1, 1 << 64]:

@@ -8,21 +8,21 @@ The last seat closes the log and gets all calls in their one order.
         seats = log.seats()
     in_threads(seats, lambda seat: seat.apply(5))   # [Entry(seq=2, process=.., nth=0, inv=5, reply=0), ..]
 
-The functions behind this module are proved; this module is not. A seat is in one call at a time: the module takes a
-lock of the seat for each call, so that two threads that use one seat by mistake wait for each other. It finds the
-library `libuniversal.so` by the variable `UNIVERSAL_LIBRARY`, or else in `bindings/out`, where `bindings/test` puts it.
+The functions behind this module are proved; this module is not. A seat is in one call at a time: where a second thread
+or a signal handler uses it meanwhile, that is refused as `BUSY`. The library `libuniversal.so` is the one that the
+variable `UNIVERSAL_LIBRARY` names, or else the one in the package, where `pip install bindings/python` puts it.
 """
 
 from __future__ import annotations
 
 import ctypes
-import os
 import threading
 from collections.abc import Callable, Mapping, Sequence
 from ctypes import POINTER, byref, c_size_t, c_uint32, c_uint64, c_void_p
 from enum import IntEnum
-from pathlib import Path
-from typing import NamedTuple
+from typing import NamedTuple, NoReturn
+
+from ._native import load
 
 __all__ = ["Differs", "Entry", "Fault", "Log", "Refused", "Reply", "Seat", "in_threads"]
 
@@ -122,17 +122,8 @@ _SIGNATURES = {
 }
 
 
-def _library() -> ctypes.CDLL:
-    path = os.environ.get("UNIVERSAL_LIBRARY") or Path(__file__).parent.parent / "out" / "libuniversal.so"
-    library = ctypes.CDLL(str(path))
-    for name, takes in _SIGNATURES.items():
-        function = getattr(library, name)
-        function.argtypes = takes
-        function.restype = None if name == "universal_drop" else c_uint32
-    return library
-
-
-_LIBRARY = _library()
+_LIBRARY = load("libuniversal", "UNIVERSAL_LIBRARY", _SIGNATURES)
+_LIBRARY.universal_drop.restype = None
 
 
 def _number(value: int, bits: int) -> int:
@@ -146,38 +137,62 @@ class _Held:
 
     def __init__(self) -> None:
         self._handle = _Handle()
+        self._at = byref(self._handle)
         self._lock = threading.Lock()
 
-    def _call(self, name: str, *args: object) -> None:
-        with self._lock:
-            status = getattr(_LIBRARY, name)(*args)
+    def _call(self, function: Callable[..., int], *args: object) -> None:
+        if not self._lock.acquire(False):
+            raise Refused(Fault.BUSY)
+        try:
+            status = function(self._at, *args)
+        finally:
+            self._lock.release()
         if status != 0:
             raise Refused(Fault(status))
 
-    def drop(self) -> None:
-        """Lets go what is held. Each later call raises `Refused` with `WRONG_HANDLE`."""
-        with self._lock:
-            _LIBRARY.universal_drop(byref(self._handle))
+    def close(self) -> None:
+        """Lets go what is held. Each later call raises `Refused` with `WRONG_HANDLE`. Raises `Refused`: busy."""
+        if not self._lock.acquire(False):
+            raise Refused(Fault.BUSY)
+        try:
+            _LIBRARY.universal_drop(self._at)
+        finally:
+            self._lock.release()
+
+    def _is_closed(self) -> bool:
+        return self._handle.at is None
 
     def __enter__(self):
         return self
 
     def __exit__(self, *_: object) -> None:
-        self.drop()
+        self.close()
 
     def __del__(self) -> None:
         if hasattr(self, "_lock"):
-            self.drop()
+            self.close()
+
+    def __reduce_ex__(self, _: object) -> NoReturn:
+        raise TypeError(f"a {type(self).__name__} can't be copied: it is one handle of the library")
 
 
 class Log(_Held):
     """An object that n processes share, with the seats that are still to be given out."""
 
+    def __init__(self) -> None:
+        super().__init__()
+        self._given: list[Seat] = []
+
     @classmethod
-    def _open(cls, name: str, *args: object) -> Log:
+    def _open(cls, function: Callable[..., int], *args: object) -> Log:
         log = cls()
-        log._call(name, *args, byref(log._handle))
+        status = function(*args, log._at)
+        if status != 0:
+            raise Refused(Fault(status))
         return log
+
+    def __repr__(self) -> str:
+        return "<Log, closed>" if self._is_closed() else "<Log>"
 
     @classmethod
     def tally(cls, n: int, k: int) -> Log:
@@ -185,7 +200,7 @@ class Log(_Held):
 
         Raises `Refused`: n isn't from 1 to 64; k isn't from 1 to 4096; memory was refused; in this order.
         """
-        return cls._open("universal_open_tally", _number(n, 64), _number(k, 64))
+        return cls._open(_LIBRARY.universal_open_tally, _number(n, 64), _number(k, 64))
 
     @classmethod
     def sticky(cls, n: int, k: int) -> Log:
@@ -193,7 +208,7 @@ class Log(_Held):
 
         The reply is the value afterwards, 0 for unset. Raises as `tally`.
         """
-        return cls._open("universal_open_sticky", _number(n, 64), _number(k, 64))
+        return cls._open(_LIBRARY.universal_open_sticky, _number(n, 64), _number(k, 64))
 
     @classmethod
     def register(cls, n: int, k: int) -> Log:
@@ -202,7 +217,7 @@ class Log(_Held):
         0 reads, 1 writes, 2 swaps, 3 adds, 4 writes a greater value, and 2^31 + e writes where the register has e. A
         write is answered 0, and each other call the value before. Raises as `tally`.
         """
-        return cls._open("universal_open_register", _number(n, 64), _number(k, 64))
+        return cls._open(_LIBRARY.universal_open_register, _number(n, 64), _number(k, 64))
 
     @classmethod
     def machine(cls, n: int, k: int, next: Sequence[Sequence[int]], reply: Sequence[Sequence[int]]) -> Log:
@@ -217,7 +232,7 @@ class Log(_Held):
         tables = [(c_uint32 * max(1, len(table)))(*table) for table in flat]
         count = states * invocations
         return cls._open(
-            "universal_open_machine",
+            _LIBRARY.universal_open_machine,
             _number(n, 64),
             _number(k, 64),
             states,
@@ -230,21 +245,24 @@ class Log(_Held):
 
     def seat(self) -> Seat:
         """The seat of the greatest process that has none yet. Raises `Refused`: all are given out, or memory."""
-        seat, process = Seat(), c_uint64()
-        self._call("universal_seat", byref(self._handle), byref(seat._handle), byref(process))
+        seat, process = Seat(self), c_uint64()
+        self._call(_LIBRARY.universal_seat, seat._at, byref(process))
         seat.process = process.value
         return seat
 
     def seats(self) -> list[Seat]:
-        """All seats that are left, that of the greatest process first. Raises `Refused`: memory."""
-        seats = []
+        """All seats that are left, that of the greatest process first.
+
+        Raises `Refused`: memory; then those that were had are among those of the next call.
+        """
         while True:
             try:
-                seats.append(self.seat())
+                self._given.append(self.seat())
             except Refused as refused:
                 if refused.fault is not Fault.NO_SEAT:
                     raise
-                return seats
+                given, self._given = self._given, []
+                return given
 
 
 class Seat(_Held):
@@ -252,10 +270,17 @@ class Seat(_Held):
 
     process: int
 
+    def __init__(self, log: Log) -> None:
+        super().__init__()
+        self._log_id = id(log._lock)
+
+    def __repr__(self) -> str:
+        return "<Seat, closed>" if self._is_closed() else f"<Seat of process {self.process}>"
+
     def apply(self, inv: int) -> Reply:
-        """A call. Raises `Refused`: the seat has made its calls, and nothing is changed."""
+        """A call. Raises `Refused`: the seat is busy; or it has made its calls, and nothing is changed."""
         answer = _Reply()
-        self._call("universal_apply", byref(self._handle), _number(inv, 64), byref(answer))
+        self._call(_LIBRARY.universal_apply, _number(inv, 64), byref(answer))
         return Reply(answer.reply, answer.turns)
 
     def follows(self, process: int, nth: int) -> bool:
@@ -264,32 +289,36 @@ class Seat(_Held):
         It is always true of a call that has returned.
         """
         is_there = c_uint32()
-        self._call("universal_follows", byref(self._handle), _number(process, 64), _number(nth, 64), byref(is_there))
+        self._call(_LIBRARY.universal_follows, _number(process, 64), _number(nth, 64), byref(is_there))
         return is_there.value != 0
 
-    def close(self, told: Mapping[int, Sequence[tuple[int, int]]] | None = None) -> list[Entry]:
+    def finish(self, told: Mapping[int, Sequence[tuple[int, int]]] | None = None) -> list[Entry]:
         """Closes the log, by the last that has it: all calls, in their order.
 
         `told` has for processes the calls that they made, each with its reply, with which the log is compared. That it
         has those of the process whose seat closes it is proved.
 
-        Raises `Refused`: another has the log, and the seat stays; or memory was refused, and the log is lost. Raises
-        `Differs`, for the first of these processes of which the log has other calls: the log is let go.
+        Raises `ValueError`: a number of `told` has too many bits. Raises `Refused`: another has the log. The seat stays in
+        both. Raises `Refused`: memory was refused, and the log is lost. Raises `Differs`, for the first of these processes
+        of which the log has other calls: the log is let go.
         """
-        lists = {process: [(_number(inv, 64), _number(reply, 32)) for inv, reply in calls] for process, calls in (told or {}).items()}
-        self._call("universal_close", byref(self._handle))
+        lists = {
+            _number(process, 64): [(_number(inv, 64), _number(reply, 32)) for inv, reply in calls]
+            for process, calls in (told or {}).items()
+        }
+        self._call(_LIBRARY.universal_close)
         try:
             for process, calls in lists.items():
                 self._compare(process, calls)
             return self._entries()
         finally:
-            self.drop()
+            self.close()
 
     def _compare(self, process: int, calls: list[tuple[int, int]]) -> None:
         made = (_Call * max(1, len(calls)))(*[_Call(inv, _Reply(reply, 0)) for inv, reply in calls])
         nth = c_uint64()
         try:
-            self._call("universal_compare", byref(self._handle), _number(process, 64), made, len(calls), byref(nth))
+            self._call(_LIBRARY.universal_compare, process, made, len(calls), byref(nth))
         except Refused as refused:
             if refused.fault is Fault.DIFFERS:
                 raise Differs(process, nth.value) from None
@@ -297,21 +326,26 @@ class Seat(_Held):
 
     def _entries(self) -> list[Entry]:
         count = c_size_t()
-        self._call("universal_read", byref(self._handle), (_Entry * 1)(), 0, byref(count))
+        self._call(_LIBRARY.universal_read, (_Entry * 1)(), 0, byref(count))
         entries = (_Entry * max(1, count.value))()
-        self._call("universal_read", byref(self._handle), entries, count.value, byref(count))
+        self._call(_LIBRARY.universal_read, entries, count.value, byref(count))
         return [Entry(e.seq, e.process, e.nth, e.inv, e.reply if e.is_replied else None) for e in entries[: count.value]]
 
 
 def in_threads(seats: Sequence[Seat], work: Callable[[Seat], object]) -> list[Entry]:
     """Runs `work(seat)` for each seat in a thread of its own, joins them all, and closes the log: all calls, in their order.
 
-    The seats are those that a log has given out, with the log dropped before. All but the first are dropped, and the
-    first closes. Raises what `work` raised, that of the first seat where several did: all threads are joined then, the
-    log is not closed, and the seats stay. Raises `ValueError`: there is no seat. Else raises as `Seat.close`.
+    The seats are those that a log has given out, with the log closed before. All but the first are closed, and the
+    first closes the log. Raises what `work` raised, that of the first seat where several did: all threads are joined
+    then, the log is not closed, and the seats stay. Raises `ValueError`: there is no seat, one is there twice, or two are
+    of two logs. Else raises as `Seat.finish`.
     """
     if not seats:
         raise ValueError("there is no seat")
+    if len({id(seat) for seat in seats}) < len(seats):
+        raise ValueError("a seat is there twice")
+    if len({seat._log_id for seat in seats}) > 1:
+        raise ValueError("the seats are of two logs")
     raised: dict[int, BaseException] = {}
 
     def run(place: int) -> None:
@@ -332,5 +366,5 @@ def in_threads(seats: Sequence[Seat], work: Callable[[Seat], object]) -> list[En
     if raised:
         raise raised[min(raised)]
     for seat in seats[1:]:
-        seat.drop()
-    return seats[0].close()
+        seat.close()
+    return seats[0].finish()
