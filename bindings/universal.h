@@ -29,13 +29,21 @@
 extern "C" {
 #endif
 
+/* The version of this header and of the library: major, minor and patch as 10000 * major + 100 * minor + patch. */
+#define UNIVERSAL_VERSION 100
+
 /* A log, a seat, the entries of a closed log, or nothing. */
 typedef struct universal_handle {
     void *at; /* null where it has nothing; else of no use to a caller */
 } universal_handle;
 
-/* What a handle is at the start. */
-#define UNIVERSAL_NONE {0}
+/* What a handle is at the start: a value, which a handle can be set to as long as it has nothing. A handle of static storage
+ * begins so by itself. */
+#ifdef __cplusplus
+#define UNIVERSAL_NONE (universal_handle{nullptr})
+#else
+#define UNIVERSAL_NONE ((universal_handle){0})
+#endif
 
 /* What a call answers. */
 typedef enum universal_status {
@@ -50,6 +58,23 @@ typedef enum universal_status {
     UNIVERSAL_BAD_TABLE = 8,    /* the tables aren't those of a machine */
     UNIVERSAL_DIFFERS = 9       /* the closed log has other calls of the process */
 } universal_status;
+
+/* What a status says, in words; "no status" of any other number. The text stays for good. */
+static inline const char *universal_strerror(uint32_t status) {
+    switch (status) {
+    case UNIVERSAL_DONE: return "done";
+    case UNIVERSAL_BAD_COUNT: return "the number of processes isn't from 1 to 64";
+    case UNIVERSAL_BAD_ROW: return "the number of calls of a process isn't from 1 to 4096";
+    case UNIVERSAL_MEMORY: return "memory was refused";
+    case UNIVERSAL_FULL: return "the seat has made all its calls";
+    case UNIVERSAL_NO_SEAT: return "all seats are given out";
+    case UNIVERSAL_BUSY: return "another handle still has the log";
+    case UNIVERSAL_WRONG_HANDLE: return "the handle hasn't what the call is for";
+    case UNIVERSAL_BAD_TABLE: return "the tables aren't those of a machine";
+    case UNIVERSAL_DIFFERS: return "the closed log has other calls of the process";
+    default: return "no status";
+    }
+}
 
 /* A reply. */
 typedef struct universal_reply {

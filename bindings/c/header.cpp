@@ -1,0 +1,12 @@
+/* The header in C++: it compiles without a warning, and its macros are values. */
+#include "universal.h"
+#include "universal_text.h"
+
+static universal_handle at_start = UNIVERSAL_NONE;
+
+int main() {
+    universal_handle handle = UNIVERSAL_NONE;
+    handle = UNIVERSAL_NONE;
+    static_assert(UNIVERSAL_FETCH_ADD(-1) >> 31 == 3, "the operation is a fetch-add");
+    return handle.at == at_start.at && universal_strerror(UNIVERSAL_FULL)[0] == 't' ? 0 : 1;
+}
