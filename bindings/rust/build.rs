@@ -1,4 +1,5 @@
-//! Links the static library of the folder that `UNIVERSAL_LIB` names, or of `../out`, which `bindings/test` makes.
+//! Links the static library `libuniversal.a` of the folder that `UNIVERSAL_LIB` names, as `bindings/install` makes one, or of
+//! `../out`, which `bindings/test` makes.
 use std::env;
 use std::path::PathBuf;
 
@@ -8,7 +9,9 @@ fn main() {
         Some(folder) => PathBuf::from(folder),
         None => PathBuf::from(env::var_os("CARGO_MANIFEST_DIR").expect("cargo sets it")).join("../out"),
     };
+    let library = folder.join("libuniversal.a");
+    println!("cargo:rerun-if-changed={}", library.display());
+    assert!(library.exists(), "{} isn't there: UNIVERSAL_LIB names the folder of libuniversal.a", library.display());
     println!("cargo:rustc-link-search=native={}", folder.display());
     println!("cargo:rustc-link-lib=static=universal");
-    println!("cargo:rerun-if-changed={}", folder.join("libuniversal.a").display());
 }

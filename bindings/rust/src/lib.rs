@@ -26,13 +26,14 @@
 mod raw;
 pub mod register;
 
-pub use raw::{Call, Entry, Reply};
 use raw::Handle;
+pub use raw::{Call, Entry, Reply};
 use std::error::Error;
 use std::fmt;
 
 /// Why a call was refused.
 #[derive(Clone, Copy, Debug, PartialEq, Eq)]
+#[non_exhaustive]
 pub enum Fault {
     /// The number of processes isn't from 1 to 64.
     BadCount,
@@ -141,27 +142,64 @@ impl Log {
 
     /// All seats that are left, that of the greatest process first.
     ///
-    /// Error: `Memory`.
-    pub fn into_seats(mut self) -> Result<Vec<Seat>, Fault> {
+    /// An `Err` has the log, and the seats that were had.
+    pub fn into_seats(mut self) -> Result<Vec<Seat>, NotAllSeats> {
         let mut seats = Vec::new();
         loop {
             match self.seat() {
                 Ok(seat) => seats.push(seat),
                 Err(Fault::NoSeat) => return Ok(seats),
-                Err(fault) => return Err(fault),
+                Err(fault) => return Err(NotAllSeats { fault, log: self, seats }),
             }
         }
     }
 }
 
+/// Not all seats could be given out, since memory was refused.
+#[derive(Debug)]
+pub struct NotAllSeats {
+    /// Why.
+    pub fault: Fault,
+    /// The log, which has the others.
+    pub log: Log,
+    /// The seats that were given out.
+    pub seats: Vec<Seat>,
+}
+
+impl fmt::Display for NotAllSeats {
+    fn fmt(&self, out: &mut fmt::Formatter<'_>) -> fmt::Result {
+        write!(out, "{} seats were given out: {}", self.seats.len(), self.fault)
+    }
+}
+
+impl Error for NotAllSeats {}
+
+impl From<NotAllSeats> for Fault {
+    fn from(refused: NotAllSeats) -> Fault {
+        refused.fault
+    }
+}
+
 /// Why a log was not closed.
 #[derive(Debug)]
+#[non_exhaustive]
 pub enum NotClosed {
     /// Another handle has the log: the seat comes back.
     Busy(Seat),
     /// Memory was refused: the log is lost.
     Memory,
 }
+
+impl fmt::Display for NotClosed {
+    fn fmt(&self, out: &mut fmt::Formatter<'_>) -> fmt::Result {
+        out.write_str(match self {
+            NotClosed::Busy(_) => "another handle has the log",
+            NotClosed::Memory => "memory was refused: the log is lost",
+        })
+    }
+}
+
+impl Error for NotClosed {}
 
 /// A process of a log, which makes its calls.
 #[derive(Debug)]

@@ -97,17 +97,7 @@ pub(crate) fn open_machine(n: u64, k: u64, machine: Machine<'_>, log: &mut Handl
     let Machine { states, invocations, next, reply } = machine;
     // SAFETY: the slices lie in memory that is borrowed for the call, and the library only reads and copies them.
     unsafe {
-        universal_open_machine(
-            n,
-            k,
-            states,
-            invocations,
-            next.as_ptr(),
-            next.len(),
-            reply.as_ptr(),
-            reply.len(),
-            log,
-        )
+        universal_open_machine(n, k, states, invocations, next.as_ptr(), next.len(), reply.as_ptr(), reply.len(), log)
     }
 }
 

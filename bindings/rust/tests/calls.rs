@@ -146,9 +146,7 @@ fn the_log_has_what_each_thread_was_told() {
     let told: BTreeMap<u64, Vec<u32>> = scope(|threads| {
         let started: Vec<_> = seats
             .iter_mut()
-            .map(|seat| {
-                threads.spawn(|| (seat.process(), (0..500).map(|i| seat.apply(i).unwrap().reply).collect()))
-            })
+            .map(|seat| threads.spawn(|| (seat.process(), (0..500).map(|i| seat.apply(i).unwrap().reply).collect())))
             .collect();
         started.into_iter().map(|thread| thread.join().unwrap()).collect()
     });
@@ -182,4 +180,14 @@ fn a_call_that_has_returned_is_there() {
     assert!(!seats[0].follows(2, 0));
     assert!(!seats[0].follows(1 << 32, 0));
     assert_eq!(seats[0].apply(3).unwrap().reply, 5);
+}
+
+#[test]
+fn faults_are_errors() {
+    let mut log = Log::tally(2, 1).unwrap();
+    let seat = log.seat().unwrap();
+    let busy: Box<dyn std::error::Error> = Box::new(seat.close().unwrap_err());
+    assert_eq!(busy.to_string(), "another handle has the log");
+    let none: Box<dyn std::error::Error> = Box::new(Log::tally(0, 1).unwrap_err());
+    assert_eq!(none.to_string(), "there aren't from 1 to 64 processes");
 }
