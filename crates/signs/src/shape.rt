@@ -105,7 +105,9 @@ impl Seen for Shape {
                 x2,
                 y2,
             } => {
-                holds(wide, high, *x, *y) && holds(wide, high, *x1, *y1) && holds(wide, high, *x2, *y2)
+                holds(wide, high, *x, *y)
+                    && holds(wide, high, *x1, *y1)
+                    && holds(wide, high, *x2, *y2)
             }
         }
     }

@@ -6,7 +6,8 @@ use std::process::Abort;
 use unibench_run::Typed;
 
 /// What a user types: a header and a command with a letter left out, and all others right.
-const TYPED: &[u8] = b"# help\nuniversl 2 queue 2 8\nuniversal 2 queue 2 8\nfinsh 1\n\ncall 1 enq 5\nfinish 1\n";
+const TYPED: &[u8] =
+    b"# help\nuniversl 2 queue 2 8\nuniversal 2 queue 2 8\nfinsh 1\n\ncall 1 enq 5\nfinish 1\n";
 
 /// What is handed on of it.
 const GOOD: &[u8] = b"# help\nuniversal 2 queue 2 8\n\ncall 1 enq 5\nfinish 1\n";
