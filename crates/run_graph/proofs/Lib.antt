@@ -1,0 +1,4 @@
+pub mod Along
+pub mod Parts
+pub mod Moves
+pub mod Reached

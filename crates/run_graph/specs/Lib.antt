@@ -1,0 +1,3 @@
+pub mod Schedule
+pub mod Graph
+pub mod Examples
