@@ -1,6 +1,7 @@
 -- The calls of a seat's process in the log are the seat's own calls.
 use Rattle.std.proofs.Common.{◌≡◌, ◌≢◌, ◌∙◌, ℕ, zero, suc, ◌+◌, ◌*◌, ◌<◌, ◌≤◌, inl, inr, refl, sym, ap, subst, List, [], ◌∷◌, length, map, slice_get, drop, Option, Some, None, arith, ◌==◌, cond}
 use Rattle.std.specs.Option.{option_map_or}
+use Rattle.std.proofs.lemmas.List.{drop_all}
 use Rattle.atomic_table.specs.Table.{State}
 use Rattle.seq_object.specs.Sequential.{Sequential}
 use Rattle.uni_model.specs.Places.{Name, inv_of, after_of}
@@ -22,12 +23,6 @@ pub drop-here : {A : Type 0} (l : List A) (i : ℕ) (a : A) → slice_get l i �
 drop-here [] i a e = absurd (let f : None ≡ Some a = e in cc)
 drop-here (x ∷ xs) zero a e = let same : x ≡ a = (let f : Some x ≡ Some a = e in cc) in ap (λ y. y ∷ xs) same
 drop-here (x ∷ xs) (suc i) a e = drop-here xs i a e
-
-pub drop-past : {A : Type 0} (l : List A) (i : ℕ) → length l ≤ i → drop i l ≡ []
-drop-past [] zero h = refl
-drop-past [] (suc i) h = refl
-drop-past (x ∷ xs) zero h = absurd (omega arith)
-drop-past (x ∷ xs) (suc i) h = drop-past xs i (omega arith)
 
 -- a process that has no call pending, with the calls that it was given replies to
 module _ (object : Sequential ℕ ℕ ℕ) (row : ℕ) (w : WorldOf ℕ ℕ ℕ) (s : State ℕ View) (is : IsShown object row w s)
@@ -60,7 +55,7 @@ module _ (object : Sequential ℕ ℕ ℕ) (row : ℕ) (w : WorldOf ℕ ℕ ℕ)
         let more = around.after i (omega arith) less.0 in
         let top = sound.numbered.greatest (Of p i) in
         end (omega arith))
-    | inr done ↦ sym (ap (map replied) (drop-past own i done.0))
+    | inr done ↦ sym (ap (map replied) (drop_all i own done.0))
   ]
 
   -- the next cell is that of the next own call
