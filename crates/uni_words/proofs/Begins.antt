@@ -76,15 +76,10 @@ module _ (object : Sequential ℕ ℕ ℕ) (row : ℕ) where
     elsewhere : (x : Place) → x ≢ InvOf mine → memory_of w.n row words' later.begun x ≡ was x
     elsewhere x apart = by_place x apart (set_elsewhere w.n row s.words is.words.wide (InvOf mine) i word_is inv x apart) where
       by_place : (x : Place) → x ≢ InvOf mine → word_at w.n row words' x ≡ word_at w.n row s.words x → memory_of w.n row words' later.begun x ≡ was x
-      by_place (Announced q) a e = ap (content_of w.n (Announced q)) e
-      by_place (HeadOf q) a e = ap (content_of w.n (HeadOf q)) e
       by_place (InvOf Anchor) a e = refl
       by_place (InvOf (Of q k)) a e = ap (λ b. Invocation (cond b (Some (word_at w.n row words' (InvOf (Of q k)))) None)) (same_test q k (λ same. a (ap InvOf same)))
           ∙ ap (λ u. Invocation (cond (nat_lt k (w.begun q)) (Some u) None)) e
-      by_place (SeqOf y) a e = ap (content_of w.n (SeqOf y)) e
-      by_place (AfterOf y) a e = ap (content_of w.n (AfterOf y)) e
-      by_place (NewOf y) a e = ap (content_of w.n (NewOf y)) e
-      by_place (BeforeOf y) a e = ap (content_of w.n (BeforeOf y)) e
+      by_place y a e = ap (content_of w.n y) e
 
     here : memory_of w.n row words' later.begun (InvOf mine) ≡ Invocation (Some inv)
     here = ap (λ b. Invocation (cond b (Some (word_at w.n row words' (InvOf mine))) None)) begun_is ∙ ap (λ u. Invocation (Some u)) (set_here w.n row s.words is.words.wide (InvOf mine) i word_is inv)

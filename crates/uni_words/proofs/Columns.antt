@@ -119,12 +119,7 @@ module _ (n row : ℕ) where
 
   few_columns : (x : Place) → column_of x < 7
   few_columns (Announced p) = omega arith
-  few_columns (HeadOf p) = omega arith
-  few_columns (InvOf x) = omega arith
-  few_columns (SeqOf x) = omega arith
-  few_columns (BeforeOf x) = omega arith
-  few_columns (AfterOf x) = omega arith
-  few_columns (NewOf x) = omega arith
+  few_columns _ = omega arith
 
   pub word_below : (x : Place) (i : ℕ) → word_of n row x ≡ Some i → i < words_of n row
   word_below x i e =

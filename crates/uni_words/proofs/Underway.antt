@@ -51,15 +51,5 @@ module _ (m m' : Memory ℕ ℕ ℕ) (grows : Grows m m') where
 -- a step touches no invocation
 pub place_shared : (n p : ℕ) (mine : Name) (stage : Stage) → IsShared (place_of n p mine stage)
 place_shared n p mine Announce = tt
-place_shared n p mine (ScanHead q best s) = tt
-place_shared n p mine (ScanSeq q best s h) = tt
-place_shared n p mine (WriteScan best s) = tt
-place_shared n p mine (Test c s) = tt
 place_shared n p mine (ReadAnnounce c s) = tt
-place_shared n p mine (ReadHelpSeq c s help) = tt
-place_shared n p mine (DecideAfter c s prefer) = tt
-place_shared n p mine (DecideNew c s d) = tt
-place_shared n p mine (WriteBefore c s d) = tt
-place_shared n p mine (WriteSeq c s d) = tt
-place_shared n p mine (WriteHead c s d) = tt
-place_shared n p mine (Finish s t) = tt
+place_shared n p mine _ = tt
