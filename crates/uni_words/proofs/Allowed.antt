@@ -2,27 +2,15 @@
 use Rattle.std.proofs.Common.{◌≡◌, ◌∙◌, ℕ, zero, suc, ◌+◌, ◌*◌, ◌<◌, ◌≤◌, inl, inr, refl, sym, ap, subst, Option, Some, None, option_map, arith, nat_lt, eqb, if◌then◌else◌, ◌==◌}
 use Rattle.std.specs.Option.{option_or}
 use prog.Atomic.{either}
-use mathlib.Core.Option.{none}
-use Rattle.atomic_table.specs.Table.{Me, Step, Allows, step}
+use Rattle.uni_words.proofs.Names.{Allows, Announce, Content, Finish, HasLooked, HasMoved, InvOf, IsWithin, Me, Memory, Moved, Name, Of, Pending, Place, ReadAnnounce, Reading, Sequential, Stage, Step, Test, View, begun_by, cells_of, content_of, index_in, index_of, link_of, looked_at, moved_at, name_of, none, stage_found, start_of, step, word_of}
 use Rattle.atomic_table.proofs.Lists.{exchanged}
-use Rattle.seq_object.specs.Sequential.{Sequential}
-use Rattle.uni_model.specs.Places.{Content, Memory, Name, Place}
-use Rattle.uni_model.specs.Places.Name.{Of}
-use Rattle.uni_model.specs.Places.Place.{InvOf}
 use Rattle.uni_model.specs.Places.Content.{Link}
-use Rattle.uni_model.specs.Stages.{Stage, Pending}
-use Rattle.uni_model.specs.Stages.Stage.{Announce, Test, ReadAnnounce, Finish}
 use Rattle.uni_model.specs.Transition.{place_of, content_after, turn_of}
 use Rattle.uni_model.proofs.Written.{lt_cases, number_cases}
-use Rattle.uni_model.specs.Indices.{index_of, name_of}
 use Rattle.uni_model.proofs.Indices.{name_of-index_of}
-use Rattle.uni_words.specs.Words.{cells_of, start_of, index_in, link_of, word_of, content_of}
 use Rattle.uni_model.specs.Effects.{call_after}
-use Rattle.uni_words.specs.View.{Reading, stage_found, moved_at, looked_at, begun_by}
-use Rattle.uni_words.specs.Seats.{HasMoved, HasLooked, Moved, IsWithin}
 use Rattle.uni_words.specs.Standing.{StandsAt, GoesBy, IsIdle}
 use Rattle.uni_words.specs.Rule.{Rule}
-use Rattle.uni_words.specs.declared.view.View.{View}
 use Rattle.uni_words.specs.declared.rule.Setup.{Setup}
 use Rattle.uni_words.specs.declared.log.WordLog.{WordLog}
 use Rattle.uni_words.proofs.Columns.{index_in-name_of, word_below}

@@ -1,21 +1,10 @@
 -- The laws of the word steps.
 use Rattle.std.proofs.Common.{◌≡◌, ◌∙◌, ℕ, ◌<◌, ◌^◌, sym, ap, subst, [], ◌∷◌, slice_index, Option, Some}
-use mathlib.Core.Option.{some}
-use lib.ListN.{get_elem?}
-use Rattle.atomic_table.specs.Table.{State}
-use Rattle.seq_object.specs.Sequential.{Sequential}
-use Rattle.uni_model.specs.Places.{Name, new_of}
-use Rattle.uni_model.specs.Stages.{Stage, Pending}
-use Rattle.uni_model.specs.Stages.Stage.{DecideNew, Finish}
-use Rattle.uni_model.specs.Worlds.{WorldOf}
+use Rattle.uni_words.proofs.Names.{DecideNew, Finish, HasRead, IsShown, Known, Name, Pending, Reading, Sequential, Stage, State, View, WorldOf, finished_by, get_elem?, moved_at, new_of, reply_at, reply_in, some}
 use Rattle.uni_model.specs.Worlds.Event.{Step}
 use Rattle.uni_model.proofs.Steps.{linked_call, head_number}
 use Rattle.uni_words.specs.Laws.{IsLoad, Leads, after_word, WordStepMoves, StoreEnds, LoadEnds}
-use Rattle.uni_words.specs.Shown.{HasRead, IsShown}
-use Rattle.uni_words.specs.View.{Known, Reading, moved_at, finished_by}
 use Rattle.uni_words.specs.View.Reading.{Nothing, Invocation, Applied, Reply}
-use Rattle.uni_words.specs.Words.{reply_in, reply_at}
-use Rattle.uni_words.specs.declared.view.View.{View}
 use Rattle.uni_words.proofs.Finishes.{stored_leads, loaded_leads}
 use Rattle.uni_words.proofs.Happens.{own_local, later_is}
 use Rattle.uni_words.proofs.Looks.{stands, underway, inv_told, state_told, reply_told}

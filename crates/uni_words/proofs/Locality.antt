@@ -1,13 +1,10 @@
 -- A word that is memory_with is a place that is memory_with.
 use Rattle.std.proofs.Common.{◌≡◌, ◌≢◌, ◌∙◌, ℕ, ◌<◌, inl, inr, refl, sym, ap, subst, List, length, slice_index, slice_set, Option, Some, None, nat_lt, Bool, true, false, cond, get_or-set_same, get_or-set_other}
 use Rattle.std.specs.Option.{option_map_or}
-use Rattle.uni_model.specs.Places.{Place, memory_with, place_eq}
-use Rattle.uni_model.specs.Places.Name.{Anchor, Of}
-use Rattle.uni_model.specs.Places.Place.{Announced, HeadOf, InvOf, SeqOf, AfterOf, NewOf, BeforeOf}
+use Rattle.uni_words.proofs.Names.{AfterOf, Anchor, Announced, BeforeOf, HeadOf, InvOf, IsShared, NewOf, Of, Place, SeqOf, content_of, memory_of, memory_with, place_eq, word_at, word_of, words_of}
 use Rattle.uni_model.specs.Places.Content.{Invocation}
 use Rattle.uni_model.proofs.Written.{number_cases, place_eq_true}
 use Rattle.uni_model.proofs.SamePlace.{place_eq_false}
-use Rattle.uni_words.specs.Words.{content_of, IsShared, word_of, words_of, word_at, memory_of}
 use Rattle.uni_words.proofs.Columns.{one_place, word_below}
 
 module _ (n row : ℕ) where

@@ -1,30 +1,16 @@
 -- The word steps that are events, all but those of `new` and of the last step of a call.
 use Rattle.std.proofs.Common.{◌≡◌, ◌∙◌, ℕ, ◌+◌, ◌<◌, ◌≤◌, ◌^◌, refl, sym, ap, subst, List, [], ◌∷◌, length, slice_index, slice_set, Option, Some, None, arith, length-set, get_or-set_same}
-use mathlib.Core.Option.{some}
-use lib.ListN.{get_elem?}
-use Rattle.atomic_table.specs.Table.{State, Me, keeps, Allows}
+use Rattle.uni_words.proofs.Names.{AfterOf, Allows, Announce, Announced, BeforeOf, Content, DecideAfter, DecideNew, Finish, HasMoved, HeadOf, InvOf, IsLocal, IsShown, IsUnderway, IsWithin, Known, Me, Memory, Moved, Name, NewOf, Of, Pending, Place, ReadAnnounce, ReadHelpSeq, ScanHead, ScanSeq, SeqOf, Sequential, ShowsRun, Stage, State, Test, View, WorldOf, WriteBefore, WriteHead, WriteScan, WriteSeq, content_of, get_elem?, keeps, memory_with, moved_at, new_of, pending_count, some, stage_found, word_of}
 use Rattle.atomic_table.specs.Table as table
-use Rattle.seq_object.specs.Sequential.{Sequential}
-use Rattle.uni_model.specs.Places.{Name, Place, Content, Memory, memory_with, new_of}
-use Rattle.uni_model.specs.Places.Name.{Of}
-use Rattle.uni_model.specs.Places.Place.{Announced, HeadOf, InvOf, SeqOf, AfterOf, NewOf, BeforeOf}
-use Rattle.uni_model.specs.Stages.{Stage, Pending}
-use Rattle.uni_model.specs.Stages.Stage.{Announce, ScanHead, ScanSeq, WriteScan, Test, ReadAnnounce, ReadHelpSeq, DecideAfter, DecideNew, WriteBefore, WriteSeq, WriteHead, Finish}
 use Rattle.uni_model.specs.Transition.{place_of, stage_after, content_after, response_after, turn_of}
 use Rattle.uni_model.specs.Effects.{Effect, call_after}
-use Rattle.uni_model.specs.Worlds.{WorldOf}
 use Rattle.uni_model.specs.Worlds.Event.{Step}
 use Rattle.uni_model.specs.Settled.{Grows}
 use Rattle.uni_model.proofs.Counted.{IsCounted-pending}
 use Rattle.uni_model.proofs.Bounded.{turns_bounded, at_its_cell}
 use Rattle.uni_model.proofs.Simulation.{set_at_same}
-use Rattle.uni_words.specs.Words.{content_of, word_of}
-use Rattle.uni_words.specs.View.{Known, stage_found, moved_at}
 use Rattle.uni_words.specs.View.Reading.{Nothing}
-use Rattle.uni_words.specs.Seats.{IsWithin, HasMoved, Moved}
 use Rattle.uni_words.specs.Laws.{Leads, after_word}
-use Rattle.uni_words.specs.Shown.{IsUnderway, IsLocal, IsShown, ShowsRun, pending_count}
-use Rattle.uni_words.specs.declared.view.View.{View}
 use Rattle.uni_words.proofs.Columns.{word_below}
 use Rattle.uni_words.proofs.Underway.{HasReturned-grows, last_number-grows}
 use Rattle.uni_words.proofs.Within.{within}

@@ -3,25 +3,12 @@ use Rattle.std.proofs.Common.{◌≡◌, ◌∙◌, ℕ, zero, suc, ◌+◌, ◌
 use Rattle.std.specs.Option.{option_map_or}
 use Rattle.std.proofs.lemmas.Nat.{div-mul-add}
 use Rattle.std.proofs.lemmas.List.{length-replicate}
-use lib.ListN.{get_elem?}
-use mathlib.Core.Option.{some, some-injective, some-ne-none}
-use Rattle.atomic_table.specs.Table.{opening}
-use Rattle.seq_object.specs.Sequential.{Sequential}
-use Rattle.uni_model.specs.Indices.{name_of}
-use Rattle.uni_model.specs.Places.{Name, Place, memory_with, new_of}
-use Rattle.uni_model.specs.Places.Name.{Anchor, Of}
-use Rattle.uni_model.specs.Places.Place.{Announced, HeadOf, InvOf, SeqOf, AfterOf, NewOf, BeforeOf}
+use Rattle.uni_words.proofs.Names.{AfterOf, Anchor, Announced, BeforeOf, HeadOf, InvOf, IsLocal, IsShown, LeadsTo, Name, NewOf, Of, Place, SeqOf, Sequential, ShowsRun, Tells, View, acts_in_view, anchor_memory, content_of, first_view, first_words, get_elem?, link_of, memory_of, memory_with, name_of, new_of, no_calls, opening, settled_at, settled_word, some, some-injective, some-ne-none, start_of, state_in, word_at, word_of, words_of}
 use Rattle.uni_model.specs.Places.Content.{CellName, Number, Link, Settled}
-use Rattle.uni_model.specs.Worlds.{anchor_memory}
 use Rattle.uni_model.proofs.Written.{lt_cases}
 use Rattle.uni_model.proofs.Bounded.{HelpingInvariant-opened_world}
 use Rattle.uni_model.proofs.Counted.{CountsSteps-opened_world}
-use Rattle.uni_words.specs.Words.{first_words, settled_word, settled_at, state_in, link_of, content_of, start_of, word_of, words_of, word_at, memory_of}
-use Rattle.uni_words.specs.View.{no_calls}
 use Rattle.uni_words.specs.Run.{opened}
-use Rattle.uni_words.specs.Seats.{first_view}
-use Rattle.uni_words.specs.Shown.{IsLocal, Tells, IsShown, LeadsTo, ShowsRun, acts_in_view}
-use Rattle.uni_words.specs.declared.view.View.{View}
 use Rattle.uni_words.proofs.Locality.{words_written}
 
 anchor_code : (s : ℕ) → settled_at Anchor (settled_word s 0) ≡ Some (s, None)

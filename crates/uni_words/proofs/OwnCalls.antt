@@ -2,20 +2,14 @@
 use Rattle.std.proofs.Common.{◌≡◌, ◌≢◌, ◌∙◌, ℕ, zero, suc, ◌+◌, ◌*◌, ◌<◌, ◌≤◌, inl, inr, refl, sym, ap, subst, List, [], ◌∷◌, length, map, slice_get, drop, Option, Some, None, arith, ◌==◌, cond}
 use Rattle.std.specs.Option.{option_map_or}
 use Rattle.std.proofs.lemmas.List.{drop_all}
-use Rattle.atomic_table.specs.Table.{State}
-use Rattle.seq_object.specs.Sequential.{Sequential}
-use Rattle.uni_model.specs.Places.{Name, inv_of, after_of}
-use Rattle.uni_model.specs.Places.Name.{Anchor, Of}
+use Rattle.uni_words.proofs.Names.{Anchor, HasReturned, IsShown, Name, Of, Sequential, State, View, WorldOf, after_of, calls_in_era, inv_of}
 use Rattle.uni_model.specs.Chain.{cells_from, entries_from, invoked_at, response_in}
-use Rattle.uni_model.specs.Worlds.{WorldOf, calls_in_era}
 use Rattle.uni_model.specs.Counting.{era_calls}
 use Rattle.uni_model.specs.Invariant.{IsSound}
 use Rattle.uni_model.proofs.Ranges.{sum_below-bound}
 use Rattle.uni_model.proofs.Simulation.{enough}
 use Rattle.uni_model.proofs.Written.{lt_cases, number_cases}
 use Rattle.uni_words.specs.Log.{calls_by, log_of, replied}
-use Rattle.uni_words.specs.Shown.{HasReturned, IsShown}
-use Rattle.uni_words.specs.declared.view.View.{View}
 use Rattle.uni_words.proofs.Closing.{log_is}
 use Rattle.uni_words.proofs.Underway.{there_below}
 

@@ -1,11 +1,7 @@
 use Rattle.std.proofs.Common.{◌+◌, ◌*◌, refl, eqb}
 use prog.Atomic.{either}
-use mathlib.Core.Option.{none}
-use Rattle.atomic_table.specs.Table.{step}
-use Rattle.uni_model.specs.Indices.{name_of}
-use Rattle.uni_model.specs.Places.Place.{NewOf}
+use Rattle.uni_words.proofs.Names.{Moved, NewOf, name_of, none, step}
 use Rattle.uni_words.proofs.Allowed.{may_step, cell_word, stands_next, goes_one}
-use Rattle.uni_words.specs.Seats.{Moved}
 use Rattle.uni_words.proofs.Decides.{decides_word}
 use Rattle.uni_words.proofs.log.WordLog.decide_new.Goals as goal
 

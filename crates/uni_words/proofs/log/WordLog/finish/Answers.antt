@@ -1,7 +1,4 @@
-use mathlib.Core.Option.{none}
-use Rattle.atomic_table.specs.Table.{step}
-use Rattle.uni_words.specs.Seats.{EndsCall}
-use Rattle.uni_model.specs.Places.Place.{HeadOf}
+use Rattle.uni_words.proofs.Names.{EndsCall, HeadOf, none, step}
 use Rattle.uni_words.proofs.Allowed.{may_step, first_word}
 use Rattle.uni_words.proofs.Finishes.{ends}
 use Rattle.uni_words.proofs.log.WordLog.finish.Goals as goal

@@ -1,8 +1,4 @@
-use mathlib.Core.Option.{none}
-use Rattle.atomic_table.specs.Table.{step}
-use Rattle.uni_words.specs.Seats.{TellsState}
-use Rattle.uni_model.specs.Indices.{name_of}
-use Rattle.uni_model.specs.Places.Place.{NewOf}
+use Rattle.uni_words.proofs.Names.{NewOf, TellsState, name_of, none, step}
 use Rattle.uni_words.proofs.Allowed.{may_step, cell_word, stands_still, goes_still, read_is}
 use Rattle.uni_words.proofs.Looks.{told_state}
 use Rattle.uni_words.proofs.log.WordLog.load_new.Goals as goal

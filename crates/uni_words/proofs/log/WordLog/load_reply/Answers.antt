@@ -1,8 +1,4 @@
-use mathlib.Core.Option.{none}
-use Rattle.atomic_table.specs.Table.{step}
-use Rattle.uni_words.specs.Seats.{TellsReply}
-use Rattle.uni_model.specs.Indices.{name_of}
-use Rattle.uni_model.specs.Places.Place.{NewOf}
+use Rattle.uni_words.proofs.Names.{NewOf, TellsReply, name_of, none, step}
 use Rattle.uni_words.proofs.Allowed.{may_step, cell_word}
 use Rattle.uni_words.proofs.Finishes.{told_reply}
 use Rattle.uni_words.proofs.log.WordLog.load_reply.Goals as goal

@@ -1,9 +1,5 @@
 use Rattle.std.proofs.Common.{◌∙◌, ◌+◌, ◌*◌, arith, ap}
-use mathlib.Core.Option.{none}
-use Rattle.atomic_table.specs.Table.{step}
-use Rattle.uni_words.specs.Seats.{HasBegun}
-use Rattle.uni_model.specs.Places.Place.{InvOf}
-use Rattle.uni_model.specs.Places.Name.{Of}
+use Rattle.uni_words.proofs.Names.{HasBegun, InvOf, Of, none, step}
 use Rattle.uni_words.proofs.Allowed.{may_step, called_word, stands_begun}
 use Rattle.uni_words.proofs.Begins.{begins}
 use Rattle.uni_words.proofs.log.WordLog.store_inv.Goals as goal

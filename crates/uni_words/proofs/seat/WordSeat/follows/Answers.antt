@@ -1,12 +1,6 @@
 use Rattle.std.proofs.Common.{◌≡◌, ◌∙◌, ap, arith, refl, subst, Some}
-use mathlib.Core.Option.{none}
-use Rattle.atomic_table.specs.Table.{step}
-use Rattle.uni_model.specs.Indices.{name_of}
-use Rattle.uni_model.specs.Places.Name.{Of}
-use Rattle.uni_model.specs.Places.Place.{SeqOf}
+use Rattle.uni_words.proofs.Names.{HasAsked, Of, SeqOf, name_of, none, step, word_of}
 use Rattle.uni_model.proofs.Indices.{name_of-index_of}
-use Rattle.uni_words.specs.Seats.{HasAsked}
-use Rattle.uni_words.specs.Words.{word_of}
 use Rattle.uni_words.proofs.Allowed.{may_step, cell_word}
 use Rattle.uni_words.proofs.Asking.{asks}
 use Rattle.uni_words.proofs.seat.WordSeat.follows.Goals as goal
