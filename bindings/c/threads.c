@@ -1,55 +1,10 @@
 /* Threads that count, that agree on a value, and that run a machine by its tables. */
-#include "universal.h"
-#include <pthread.h>
-#include <stdbool.h>
-#include <stdio.h>
-#include <stdlib.h>
+#include "working.h"
 
 enum { THREADS = 4, CALLS = 1000 };
 
-typedef struct worker {
-    universal_handle seat;
-    uint64_t process;
-    uint64_t (*inv_of)(uint64_t process);
-} worker;
-
-static void expect(bool holds, const char *what) {
-    if (!holds) {
-        fprintf(stderr, "not so: %s\n", what);
-        exit(1);
-    }
-}
-
-static void *work(void *it) {
-    worker *me = it;
-    for (int i = 0; i < CALLS; i++) {
-        universal_reply answer = {0, 0};
-        expect(universal_apply(&me->seat, me->inv_of(me->process), &answer) == UNIVERSAL_DONE, "a call is done");
-    }
-    return NULL;
-}
-
-/* Each seat in a thread of its own; then all calls in their order, of which there are THREADS * CALLS. */
-static void shared(universal_handle *log, uint64_t (*inv_of)(uint64_t), universal_entry *calls) {
-    static worker workers[THREADS];
-    pthread_t threads[THREADS];
-    for (int t = 0; t < THREADS; t++) {
-        workers[t].inv_of = inv_of;
-        expect(universal_seat(log, &workers[t].seat, &workers[t].process) == UNIVERSAL_DONE, "there is a seat");
-    }
-    universal_drop(log);
-    for (int t = 0; t < THREADS; t++)
-        expect(pthread_create(&threads[t], NULL, work, &workers[t]) == 0, "a thread starts");
-    for (int t = 0; t < THREADS; t++)
-        pthread_join(threads[t], NULL);
-    for (int t = 1; t < THREADS; t++)
-        universal_drop(&workers[t].seat);
-    size_t count = 0;
-    expect(universal_close(&workers[0].seat) == UNIVERSAL_DONE, "the last seat closes");
-    expect(universal_read(&workers[0].seat, calls, THREADS * CALLS, &count) == UNIVERSAL_DONE, "the calls are read");
-    expect(count == THREADS * CALLS, "the log has each call");
-    universal_drop(&workers[0].seat);
-}
+/* The invocation that a process makes, again and again. */
+static uint64_t (*inv_of)(uint64_t process);
 
 static uint64_t one_more(uint64_t process) {
     return process + 1;
@@ -57,6 +12,20 @@ static uint64_t one_more(uint64_t process) {
 
 static uint64_t odd(uint64_t process) {
     return process % 2;
+}
+
+static void *work(void *it) {
+    worker *me = it;
+    for (int i = 0; i < CALLS; i++)
+        call(me, inv_of(me->process));
+    return NULL;
+}
+
+static void shared(universal_handle *log, uint64_t (*inv)(uint64_t), universal_entry *calls) {
+    static worker workers[THREADS];
+    inv_of = inv;
+    take_seats(log, workers, THREADS);
+    work_and_read(workers, THREADS, work, calls, THREADS * CALLS);
 }
 
 int main(void) {

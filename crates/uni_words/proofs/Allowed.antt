@@ -2,27 +2,15 @@
 use Rattle.std.proofs.Common.{◌≡◌, ◌∙◌, ℕ, zero, suc, ◌+◌, ◌*◌, ◌<◌, ◌≤◌, inl, inr, refl, sym, ap, subst, Option, Some, None, option_map, arith, nat_lt, eqb, if◌then◌else◌, ◌==◌}
 use Rattle.std.specs.Option.{option_or}
 use prog.Atomic.{either}
-use mathlib.Core.Option.{none}
-use Rattle.atomic_table.specs.Table.{Me, Step, Allows, step}
+use Rattle.uni_words.proofs.Names.{Allows, Announce, Content, Finish, HasLooked, HasMoved, InvOf, IsWithin, Me, Memory, Moved, Name, Of, Pending, Place, ReadAnnounce, Reading, Sequential, Stage, Step, Test, View, begun_by, cells_of, content_of, index_in, index_of, link_of, looked_at, moved_at, name_of, none, stage_found, start_of, step, word_of}
 use Rattle.atomic_table.proofs.Lists.{exchanged}
-use Rattle.seq_object.specs.Sequential.{Sequential}
-use Rattle.uni_model.specs.Places.{Memory, Name, Content}
-use Rattle.uni_model.specs.Places.Name.{Of}
-use Rattle.uni_model.specs.Places.Place.{InvOf}
 use Rattle.uni_model.specs.Places.Content.{Link}
-use Rattle.uni_model.specs.Stages.{Stage, Pending}
-use Rattle.uni_model.specs.Stages.Stage.{Announce, Test, ReadAnnounce, Finish}
 use Rattle.uni_model.specs.Transition.{place_of, content_after, turn_of}
 use Rattle.uni_model.proofs.Written.{lt_cases, number_cases}
-use Rattle.uni_model.specs.Indices.{index_of, name_of}
 use Rattle.uni_model.proofs.Indices.{name_of-index_of}
-use Rattle.uni_words.specs.Words.{cells_of, start_of, index_in, link_of, word_of, content_of}
 use Rattle.uni_model.specs.Effects.{call_after}
-use Rattle.uni_words.specs.View.{Known, Reading, stage_found, moved_at, looked_at, begun_by}
-use Rattle.uni_words.specs.Seats.{HasMoved, HasLooked, Moved, IsWithin}
 use Rattle.uni_words.specs.Standing.{StandsAt, GoesBy, IsIdle}
 use Rattle.uni_words.specs.Rule.{Rule}
-use Rattle.uni_words.specs.declared.view.View.{View}
 use Rattle.uni_words.specs.declared.rule.Setup.{Setup}
 use Rattle.uni_words.specs.declared.log.WordLog.{WordLog}
 use Rattle.uni_words.proofs.Columns.{index_in-name_of, word_below}
@@ -41,11 +29,15 @@ may_move meaning told setup same slots id i st me f said single c pending goes w
     subst (λ key. Allows (Rule meaning key) slots id me i f (λ found me'. Moved st me (said found) me')) (sym same)
     (moves (meaning setup.object) setup.k setup.n slots id i st me f said single c pending goes word writes stays small)
 
-pub by_key : {O : Type 0} (meaning : O → Sequential ℕ ℕ ℕ) (told setup : Setup O) → told ≡ setup
-    → (slots id : ℕ) (me : Me ℕ View) (i : ℕ) (f : ℕ → ℕ) (says : ℕ → Me ℕ View → Type 0)
-    → Allows (Rule meaning setup) slots id me i f says → Allows (Rule meaning told) slots id me i f says
-by_key meaning told setup same slots id me i f says allowed =
-    subst (λ key. Allows (Rule meaning key) slots id me i f says) (sym same) allowed
+-- a step at a word of the table: the seat is of the table, the word is there, and the rule holds after it
+pub may_step : {O : Type 0} (meaning : O → Sequential ℕ ℕ ℕ) (log : WordLog O) (id : ℕ) (me : Me ℕ View) (i : ℕ) (f : ℕ → ℕ) (says : ℕ → Me ℕ View → Type 0) (place : Place) → word_of log.setup.n log.setup.k place ≡ Some i
+    → {OfTable : Type 0} → OfTable → Allows (Rule meaning log.setup) log.table.shared.table_id.slots id me i f says
+    → OfTable × (i < log.table.shared.table_id.words) × Allows (Rule meaning log.table.shared.key) log.table.shared.table_id.slots id me i f says
+may_step meaning log id me i f says place word of_table allowed = (
+  of_table,
+  subst (λ k. i < k) (sym log.sized) (word_below log.setup.n log.setup.k place i word),
+  subst (λ key. Allows (Rule meaning key) log.table.shared.table_id.slots id me i f says) (sym log.same) allowed,
+)
 
 -- A word step of a call that stands at its stage, at the word of the stage's place: a load, a store, and a proposal to a word that is 0.
 -- With it goes what else the table asks of a seat.
@@ -122,20 +114,18 @@ called_word n row first begun p nth i inside room same_p same_k word =
     ]))
 
 pub goes_one : (me : Me ℕ View) (c : Pending) (found t : ℕ) (me' : Me ℕ View) → HasMoved me c found me' → turn_of c.stage (content_of me.0.known.n (place_of me.0.known.n me.0.known.first c.mine c.stage) found) ≡ t → GoesBy me me' 1 t
-goes_one me c found t me' moved turn =
-    let now : me'.0.known ≡ moved_at me.0.known c found = ap (λ (x : Me ℕ View). x.0.known) moved.view in
-    record {
-      word_steps = ap (λ (k : Known). k.word_steps) now;
-      stored_ends = ap (λ (k : Known). k.stored_ends) now;
-      turns = ap (λ (k : Known). k.its.turns) now ∙ ap (λ x. me.0.known.its.turns + x) turn;
-      inv = ap (λ (k : Known). k.its.inv) now;
-      begun = ap (λ (k : Known). k.its.begun) now;
-      own = ap (λ (k : Known). k.its.own) now;
-      taken = ap (λ (k : Known). k.taken) now;
-      seen = ap (λ (k : Known). k.seen) now;
-      number = ap (λ (k : Known). k.its.number) now;
-      carried = ap (λ (x : Me ℕ View). x.1) moved.view;
-    }
+goes_one me c found t me' moved turn = subst (λ to. GoesBy me to 1 t) (sym moved.view) (record {
+  word_steps = refl;
+  stored_ends = refl;
+  turns = ap (λ x. me.0.known.its.turns + x) turn;
+  inv = refl;
+  begun = refl;
+  own = refl;
+  taken = refl;
+  seen = refl;
+  number = refl;
+  carried = refl;
+})
 
 pub within_here : (n row p : ℕ) (mine : Name) (stage : Stage) (found : ℕ) (me me' : Me ℕ View) → HasMoved me (record { mine = mine; stage = stage }) found me' → StandsAt n row p mine stage me → IsWithin n row (place_of n p mine stage) found
 within_here n row p mine stage found me me' moved stands =
@@ -162,20 +152,18 @@ stands_still n row p mine stage read me me' stands looked =
     rw now (record { processes = stands.processes; calls = stands.calls; first = stands.first; alone = stands.alone; call = stands.call })
 
 pub goes_still : (read : Reading) (me me' : Me ℕ View) → HasLooked me read me' → GoesBy me me' 1 0
-goes_still read me me' looked =
-    let now : me'.0.known ≡ looked_at me.0.known read = ap (λ (x : Me ℕ View). x.0.known) looked in
-    record {
-      word_steps = ap (λ (k : Known). k.word_steps) now;
-      stored_ends = ap (λ (k : Known). k.stored_ends) now;
-      turns = (let t = ap (λ (k : Known). k.its.turns) now in omega arith);
-      inv = ap (λ (k : Known). k.its.inv) now;
-      begun = ap (λ (k : Known). k.its.begun) now;
-      own = ap (λ (k : Known). k.its.own) now;
-      taken = ap (λ (k : Known). k.taken) now;
-      seen = ap (λ (k : Known). k.seen) now;
-      number = ap (λ (k : Known). k.its.number) now;
-      carried = ap (λ (x : Me ℕ View). x.1) looked;
-    }
+goes_still read me me' looked = subst (λ to. GoesBy me to 1 0) (sym looked) (record {
+  word_steps = refl;
+  stored_ends = refl;
+  turns = omega arith;
+  inv = refl;
+  begun = refl;
+  own = refl;
+  taken = refl;
+  seen = refl;
+  number = refl;
+  carried = refl;
+})
 
 pub read_is : (read : Reading) (me me' : Me ℕ View) → HasLooked me read me' → me'.0.known.its.read ≡ read
 read_is read me me' looked = ap (λ (x : Me ℕ View). x.0.known.its.read) looked

@@ -1,30 +1,18 @@
 -- A seat asks about a call.
 use Rattle.std.proofs.Common.{All, ◌≡◌, ◌∙◌, ℕ, zero, suc, ◌+◌, ◌<◌, ◌≤◌, inl, inr, refl, sym, ap, subst, List, [], ◌∷◌, append-nil, length, map, slice_get, slice_index, slice_set, Contains, Some, None, option_and_then, arith}
 use Rattle.std.proofs.lemmas.List.Elements.{All-append, All-contains, All-map, Contains-append_cases}
-use mathlib.Core.Option.{some}
-use lib.ListN.{get_elem?}
-use Rattle.atomic_table.specs.Table.{State, Me, Step, keeps, Allows}
-use Rattle.seq_object.specs.Sequential.{Sequential}
+use Rattle.uni_words.proofs.Names.{Allows, Anchor, Event, FirstCalls, HasAsked, HasCall, InvOf, IsShown, Known, LeadsTo, Me, Name, Of, Seen, SeqOf, Sequential, ShowsRun, State, Step, View, WorldOf, all_of, asked_of, calls_in_view, chain, get_elem?, inv_of, keeps, logged_in_view, own_of, seen_of, seq_of, some, told_by, up_to, word_at, word_of}
 use Rattle.seq_object.specs.declared.call_id.CallId.{CallId}
 use Rattle.uni_model.specs.Chain.{response_in}
 use Rattle.uni_model.specs.Eras.{HasReturned, StandsAt}
 use Rattle.uni_model.specs.History.{log, log_of_run}
 use Rattle.uni_model.specs.Invariant.{Has}
-use Rattle.uni_model.specs.Places.{Name, inv_of, seq_of}
-use Rattle.uni_model.specs.Places.Name.{Anchor, Of}
-use Rattle.uni_model.specs.Places.Place.{InvOf, SeqOf}
 use Rattle.uni_model.specs.ProcessCalls.{ProcessCalls}
-use Rattle.uni_model.specs.Worlds.{WorldOf, Event, chain}
 use Rattle.uni_model.proofs.Growing.{entry_of, slice_get-log}
 use Rattle.uni_model.proofs.OneLists.{HasOneList-held}
 use Rattle.uni_model.proofs.Written.{lt_cases}
 use Rattle.uni_words.specs.Laws.{Leads, after_word}
 use Rattle.uni_words.specs.Run.{AreLogged, opened, HasSeen}
-use Rattle.uni_words.specs.Seats.{HasAsked, HasCall, calls_in_view, logged_in_view}
-use Rattle.uni_words.specs.Shown.{IsShown, LeadsTo, ShowsRun}
-use Rattle.uni_words.specs.View.{FirstCalls, Known, Seen, all_of, asked_of, own_of, seen_of, told_by, up_to}
-use Rattle.uni_words.specs.Words.{word_at, word_of}
-use Rattle.uni_words.specs.declared.view.View.{View}
 use Rattle.uni_words.proofs.Columns.{one_place}
 use Rattle.uni_words.proofs.Happens.{knows_more, own_local}
 use Rattle.uni_words.proofs.Locality.{word_here}

@@ -1,15 +1,7 @@
 -- The word step that begins a call.
 use Rattle.std.proofs.Common.{◌≡◌, ◌≢◌, ◌∙◌, ℕ, ◌+◌, ◌<◌, ◌≤◌, inl, inr, refl, sym, ap, subst, List, [], ◌∷◌, length, slice_set, Some, None, arith, Bool, true, false, cond, nat_lt, length-set}
-use mathlib.Core.Option.{some}
-use lib.ListN.{get_elem?}
-use Rattle.atomic_table.specs.Table.{State, Me, Step, keeps, Allows}
-use Rattle.seq_object.specs.Sequential.{Sequential}
-use Rattle.uni_model.specs.Places.{Name, Place, invocation_in, Memory, memory_with, place_eq, inv_of}
-use Rattle.uni_model.specs.Places.Name.{Anchor, Of}
-use Rattle.uni_model.specs.Places.Place.{Announced, HeadOf, InvOf, SeqOf, AfterOf, NewOf, BeforeOf}
+use Rattle.uni_words.proofs.Names.{AfterOf, Allows, Anchor, Announce, Announced, BeforeOf, HasBegun, HeadOf, InvOf, IsLocal, IsShown, Known, Me, Memory, Name, NewOf, Of, Place, SeqOf, Sequential, ShowsRun, State, Step, View, WorldOf, begun_by, content_of, get_elem?, inv_of, invocation_in, keeps, memory_of, memory_with, pending_count, place_eq, some, word_at, word_of, world_after_call}
 use Rattle.uni_model.specs.Places.Content.{Invocation}
-use Rattle.uni_model.specs.Stages.Stage.{Announce}
-use Rattle.uni_model.specs.Worlds.{WorldOf, world_after_call}
 use Rattle.uni_model.specs.Worlds.Event.{Call}
 use Rattle.uni_model.specs.Settled.{Grows}
 use Rattle.uni_model.proofs.Written.{number_cases, lt_cases, place_eq_true}
@@ -19,12 +11,7 @@ use Rattle.uni_model.proofs.SamePlace.{place_eq_false}
 use Rattle.uni_model.proofs.Kept.{Invariant-begun}
 use Rattle.uni_model.proofs.Bounded.{HelpingInvariant-begun}
 use Rattle.uni_model.proofs.Counted.{CountsSteps-world_after}
-use Rattle.uni_words.specs.Words.{content_of, word_of, word_at, memory_of}
-use Rattle.uni_words.specs.View.{Known, begun_by}
-use Rattle.uni_words.specs.Seats.{HasBegun}
 use Rattle.uni_words.specs.Laws.{Leads, after_word}
-use Rattle.uni_words.specs.Shown.{IsLocal, IsShown, ShowsRun, pending_count}
-use Rattle.uni_words.specs.declared.view.View.{View}
 use Rattle.uni_words.proofs.Locality.{set_here, set_elsewhere}
 use Rattle.uni_words.proofs.Underway.{HasReturned-grows, last_number-grows}
 use Rattle.uni_words.proofs.Happens.{own_local, keeps_rule}
@@ -76,15 +63,10 @@ module _ (object : Sequential ℕ ℕ ℕ) (row : ℕ) where
     elsewhere : (x : Place) → x ≢ InvOf mine → memory_of w.n row words' later.begun x ≡ was x
     elsewhere x apart = by_place x apart (set_elsewhere w.n row s.words is.words.wide (InvOf mine) i word_is inv x apart) where
       by_place : (x : Place) → x ≢ InvOf mine → word_at w.n row words' x ≡ word_at w.n row s.words x → memory_of w.n row words' later.begun x ≡ was x
-      by_place (Announced q) a e = ap (content_of w.n (Announced q)) e
-      by_place (HeadOf q) a e = ap (content_of w.n (HeadOf q)) e
       by_place (InvOf Anchor) a e = refl
       by_place (InvOf (Of q k)) a e = ap (λ b. Invocation (cond b (Some (word_at w.n row words' (InvOf (Of q k)))) None)) (same_test q k (λ same. a (ap InvOf same)))
           ∙ ap (λ u. Invocation (cond (nat_lt k (w.begun q)) (Some u) None)) e
-      by_place (SeqOf y) a e = ap (content_of w.n (SeqOf y)) e
-      by_place (AfterOf y) a e = ap (content_of w.n (AfterOf y)) e
-      by_place (NewOf y) a e = ap (content_of w.n (NewOf y)) e
-      by_place (BeforeOf y) a e = ap (content_of w.n (BeforeOf y)) e
+      by_place y a e = ap (content_of w.n y) e
 
     here : memory_of w.n row words' later.begun (InvOf mine) ≡ Invocation (Some inv)
     here = ap (λ b. Invocation (cond b (Some (word_at w.n row words' (InvOf mine))) None)) begun_is ∙ ap (λ u. Invocation (Some u)) (set_here w.n row s.words is.words.wide (InvOf mine) i word_is inv)

@@ -1,13 +1,9 @@
 -- What the words of a closed table show.
 use Rattle.std.proofs.Common.{◌≡◌, ◌∙◌, ℕ, ◌+◌, ◌*◌, ◌<◌, ◌≤◌, inl, inr, refl, sym, ap, subst, map, slice_get, Some, None, option_map, arith, true}
-use Rattle.atomic_table.specs.Table.{State}
-use Rattle.seq_object.specs.Sequential.{Sequential}
+use Rattle.uni_words.proofs.Names.{Anchor, IsShown, Memory, Name, Of, Sequential, State, View, WorldOf, after_of, calls_in_era, inv_of, memory_of, seq_of}
 use Rattle.seq_object.specs.History.{IsLegal}
-use Rattle.uni_model.specs.Places.{Name, Memory, inv_of, seq_of, after_of}
-use Rattle.uni_model.specs.Places.Name.{Anchor, Of}
 use Rattle.uni_model.specs.Chain.{cells_from, entries_from, invoked_at, response_in}
 use Rattle.uni_model.specs.History.{log, logged_call}
-use Rattle.uni_model.specs.Worlds.{WorldOf, calls_in_era}
 use Rattle.uni_model.specs.Counting.{era_calls}
 use Rattle.uni_model.specs.Invariant.{IsNumbered, IsSound}
 use Rattle.uni_model.proofs.Chains.{cells_from-enough, cells_from-same, number_at}
@@ -18,9 +14,6 @@ use Rattle.uni_model.proofs.SameLog.{entries_from-same}
 use Rattle.uni_model.proofs.Simulation.{enough}
 use Rattle.uni_model.proofs.Written.{lt_cases}
 use Rattle.uni_words.specs.Log.{AreAnswered, AreCallsOf, IsChained, is_call_cell, log_of, told_memory}
-use Rattle.uni_words.specs.Shown.{IsShown}
-use Rattle.uni_words.specs.Words.{memory_of}
-use Rattle.uni_words.specs.declared.view.View.{View}
 
 module _ (object : Sequential ℕ ℕ ℕ) (row : ℕ) (w : WorldOf ℕ ℕ ℕ) (s : State ℕ View) (is : IsShown object row w s) where
   abbrev told : Memory ℕ ℕ ℕ

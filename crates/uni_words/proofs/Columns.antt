@@ -2,13 +2,9 @@
 use Rattle.std.proofs.Common.{◌≡◌, ◌∙◌, ℕ, zero, suc, ◌+◌, ◌*◌, ◌/◌, ◌%◌, ◌<◌, ◌≤◌, inl, inr, refl, sym, ap, subst, Option, Some, None, option_map, arith, mul-le-mul_right, suc-mul, nat_lt, if◌then◌else◌}
 use Rattle.std.proofs.lemmas.Nat.{div-add-mod', mod_below}
 use Rattle.std.proofs.Math.Nat.{div-lt_iff_lt-mul}
-use Rattle.uni_model.specs.Places.{Name, Place}
-use Rattle.uni_model.specs.Places.Name.{Anchor, Of}
-use Rattle.uni_model.specs.Places.Place.{Announced, HeadOf, InvOf, SeqOf, AfterOf, NewOf, BeforeOf}
+use Rattle.uni_words.proofs.Names.{AfterOf, Anchor, Announced, BeforeOf, HeadOf, InvOf, Name, NewOf, Of, Place, SeqOf, cells_of, column_of, index_in, index_of, name_of, row_of, start_of, word_of, words_of}
 use Rattle.uni_model.proofs.Written.{lt_cases}
-use Rattle.uni_model.specs.Indices.{index_of, name_of}
 use Rattle.uni_model.proofs.Indices.{name_of-index_of}
-use Rattle.uni_words.specs.Words.{cells_of, index_in, column_of, start_of, row_of, word_of, words_of}
 
 -- an index whose process and number fit is in the table
 pub index_in-there : (n row i : ℕ) → i % n < n → i / n < row → suc i < cells_of n row
@@ -119,12 +115,7 @@ module _ (n row : ℕ) where
 
   few_columns : (x : Place) → column_of x < 7
   few_columns (Announced p) = omega arith
-  few_columns (HeadOf p) = omega arith
-  few_columns (InvOf x) = omega arith
-  few_columns (SeqOf x) = omega arith
-  few_columns (BeforeOf x) = omega arith
-  few_columns (AfterOf x) = omega arith
-  few_columns (NewOf x) = omega arith
+  few_columns _ = omega arith
 
   pub word_below : (x : Place) (i : ℕ) → word_of n row x ≡ Some i → i < words_of n row
   word_below x i e =

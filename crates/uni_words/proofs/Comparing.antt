@@ -1,5 +1,6 @@
 -- Comparing a log with what callers were told, entry by entry.
 use Rattle.std.proofs.Common.{◌≡◌, ◌≢◌, ◌∙◌, ℕ, zero, suc, ◌+◌, ◌<◌, ◌≤◌, inl, inr, refl, sym, ap, subst, List, [], ◌∷◌, ◌++◌, append-nil, append_assoc, length, map, slice_get, slice_index_or, take, drop, Option, Some, None, option_map, arith, ◌==◌, cond}
+use Rattle.std.proofs.lemmas.List.{drop_all, take_all}
 use Rattle.seq_object.specs.Sequential.{Sequential}
 use Rattle.seq_object.specs.History.{state_after, response_at}
 use Rattle.seq_object.specs.declared.call_id.CallId.{CallId}
@@ -8,7 +9,7 @@ use Rattle.uni_model.proofs.Written.{number_cases, lt_cases}
 use Rattle.uni_words.specs.Compare.{invocations_of, Agrees, IsRight, IsFirstWrong, IsFirstOther, DiffersFirstAt}
 use Rattle.uni_words.specs.Log.{calls_by, entry_shown, replied}
 use Rattle.uni_words.specs.declared.read.WordEntry.{WordEntry}
-use Rattle.uni_words.proofs.OwnCalls.{drop-here, drop-past}
+use Rattle.uni_words.proofs.OwnCalls.{drop-here}
 use Rattle.uni_words.proofs.Underway.{there_below}
 
 pub slice_get-map : {A B : Type 0} (f : A → B) (l : List A) (i : ℕ) (a : A) → slice_get l i ≡ Some a → slice_get (map f l) i ≡ Some (f a)
@@ -51,12 +52,6 @@ take-further : {A : Type 0} (xs : List A) (n : ℕ) (x : A) → slice_get xs n �
 take-further [] n x e = absurd (let f : None ≡ Some x = e in cc)
 take-further (y ∷ ys) zero x e = let same : y ≡ x = (let f : Some y ≡ Some x = e in cc) in ap (λ z. z ∷ []) same
 take-further (y ∷ ys) (suc n) x e = ap (λ l. y ∷ l) (take-further ys n x e)
-
-take-whole : {A : Type 0} (xs : List A) (n : ℕ) → length xs ≤ n → take n xs ≡ xs
-take-whole [] zero h = refl
-take-whole [] (suc n) h = refl
-take-whole (x ∷ xs) zero h = absurd (omega arith)
-take-whole (x ∷ xs) (suc n) h = ap (λ l. x ∷ l) (take-whole xs n (omega arith))
 
 module _ (object : Sequential ℕ ℕ ℕ) where
   state_after-further : (s : ℕ) (is : List ℕ) (n i : ℕ) → slice_get is n ≡ Some i → state_after object s (take (suc n) is) ≡ object.next (state_after object s (take n is)) i
@@ -136,7 +131,7 @@ module _ (p : ℕ) (log : List (Entry ℕ ℕ)) (own : List (ℕ × ℕ)) where
 
     module _ (end : length log ≤ place) where
       nothing : calls_by p (drop place log) ≡ []
-      nothing = ap (calls_by p) (drop-past log place end)
+      nothing = ap (calls_by p) (drop_all place log end)
 
       pub told-more : at < length own → DiffersFirstAt (calls_by p log) told at
       told-more less = (
@@ -146,7 +141,7 @@ module _ (p : ℕ) (log : List (Entry ℕ ℕ)) (own : List (ℕ × ℕ)) where
 
       pub told-all : length own ≤ at → calls_by p log ≡ told
       told-all full =
-          sym to.whole ∙ ap (λ l. take at told ++ l) nothing ∙ append-nil (take at told) ∙ take-whole told at (let l = length-mapped replied own in omega arith)
+          sym to.whole ∙ ap (λ l. take at told ++ l) nothing ∙ append-nil (take at told) ∙ take_all at told (let l = length-mapped replied own in omega arith)
 
     module _ (e : Entry ℕ ℕ) (here : slice_get log place ≡ Some e) where
       rest_is : calls_by p (drop place log) ≡ cond (e.call.process == p) ((e.call.inv, e.response) ∷ calls_by p (drop (suc place) log)) (calls_by p (drop (suc place) log))

@@ -2,25 +2,13 @@
 use Rattle.std.proofs.Common.{◌≡◌, ◌≢◌, ◌∙◌, ℕ, zero, suc, ◌+◌, ◌*◌, ◌<◌, ◌^◌, inl, inr, refl, sym, ap, subst, slice_index, Option, Some, arith, eqb}
 use Rattle.std.specs.Option.{option_or}
 use prog.Atomic.{either}
-use Rattle.atomic_table.specs.Table.{Me, Step, keeps, Allows}
+use Rattle.uni_words.proofs.Names.{Allows, Anchor, Content, DecideNew, HasMoved, HasRead, IsShown, Known, Me, Moved, Name, NewOf, Of, Pending, Sequential, ShowsRun, Stage, Step, View, WorldOf, WriteBefore, content_of, inv_of, keeps, moved_at, new_of, settled_at, settled_in, settled_word, stage_found, word_of}
 use Rattle.atomic_table.proofs.Lists.{exchanged}
-use Rattle.seq_object.specs.Sequential.{Sequential}
-use Rattle.uni_model.specs.Places.{Name, Content, inv_of, new_of, settled_in}
-use Rattle.uni_model.specs.Places.Name.{Anchor, Of}
-use Rattle.uni_model.specs.Places.Place.{NewOf}
 use Rattle.uni_model.specs.Places.Content.{Settled}
-use Rattle.uni_model.specs.Stages.{Stage, Pending}
-use Rattle.uni_model.specs.Stages.Stage.{DecideNew, WriteBefore}
 use Rattle.uni_model.specs.Transition.{value_after}
-use Rattle.uni_model.specs.Worlds.{WorldOf}
 use Rattle.uni_model.proofs.Written.{new_of-memory_with}
 use Rattle.uni_model.proofs.Values.{not_anchor}
-use Rattle.uni_words.specs.Words.{settled_word, settled_at, content_of, word_of}
-use Rattle.uni_words.specs.View.{Known, moved_at, stage_found}
 use Rattle.uni_words.specs.View.Reading.{Applied}
-use Rattle.uni_words.specs.Seats.{HasMoved, Moved}
-use Rattle.uni_words.specs.Shown.{HasRead, IsShown, ShowsRun}
-use Rattle.uni_words.specs.declared.view.View.{View}
 use Rattle.uni_words.proofs.Codes.{settled_at-word}
 use Rattle.uni_words.proofs.Within.{within}
 use Rattle.uni_words.proofs.Happens.{effect, later, there}

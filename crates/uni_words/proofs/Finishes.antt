@@ -1,31 +1,16 @@
 -- The last step of a call.
 use Rattle.std.proofs.Common.{◌≡◌, ◌∙◌, ℕ, zero, suc, ◌+◌, ◌<◌, ◌≤◌, ◌⊎◌, inl, inr, refl, sym, ap, subst, List, [], ◌∷◌, ◌++◌, length, length-append, slice_get, slice_index, slice_set, Option, Some, None, arith, length-set}
 use Rattle.std.proofs.lemmas.List.{set-get_or}
-use mathlib.Core.Option.{some}
-use lib.ListN.{get_elem?}
-use Rattle.atomic_table.specs.Table.{State, Me, keeps, Allows}
+use Rattle.uni_words.proofs.Names.{Allows, Content, Finish, HasFinished, HasRead, HasReturned, HeadOf, IsLocal, IsShown, Known, Me, Name, NewOf, Of, Pending, Sequential, ShowsRun, State, TellsReply, View, WorldOf, content_of, finished_by, get_elem?, keeps, last_number, memory_of, memory_with, name_of, number_of, pending_count, reply_in, seq_of, some, word_of}
 use Rattle.atomic_table.specs.Table as table
-use Rattle.seq_object.specs.Sequential.{Sequential}
-use Rattle.uni_model.specs.Indices.{name_of}
-use Rattle.uni_model.specs.Places.{Name, Content, memory_with, seq_of}
-use Rattle.uni_model.specs.Places.Name.{Of}
-use Rattle.uni_model.specs.Places.Place.{HeadOf, NewOf}
 use Rattle.uni_model.specs.Places.Content.{CellName}
-use Rattle.uni_model.specs.Stages.{Pending}
-use Rattle.uni_model.specs.Stages.Stage.{Finish}
 use Rattle.uni_model.specs.Chain.{response_in}
 use Rattle.uni_model.specs.Settled.{Grows}
-use Rattle.uni_model.specs.Worlds.{WorldOf}
 use Rattle.uni_model.specs.Worlds.Event.{Step}
 use Rattle.uni_model.proofs.Simulation.{set_at_same}
 use Rattle.uni_model.proofs.Written.{lt_cases, written_same}
-use Rattle.uni_words.specs.Words.{reply_in, content_of, word_of, memory_of}
-use Rattle.uni_words.specs.View.{Known, finished_by, number_of}
 use Rattle.uni_words.specs.View.Reading.{Reply}
-use Rattle.uni_words.specs.Seats.{HasFinished, TellsReply}
 use Rattle.uni_words.specs.Laws.{Leads, after_word}
-use Rattle.uni_words.specs.Shown.{HasReturned, HasRead, IsLocal, IsShown, ShowsRun, last_number, pending_count}
-use Rattle.uni_words.specs.declared.view.View.{View}
 use Rattle.uni_words.proofs.Underway.{HasReturned-grows, there_below}
 use Rattle.uni_words.proofs.Happens.{own_local, effect, later, memory_grows, memory_set, kept}
 use Rattle.uni_words.proofs.Running.{led, run_ends}

@@ -1,16 +1,9 @@
 -- A word step keeps the rule: what has to be shown of it, and of a step that is an event.
 use Rattle.std.proofs.Common.{◌≡◌, ◌≢◌, ◌∙◌, ℕ, zero, suc, ◌+◌, ◌<◌, ◌≤◌, ◌^◌, inl, inr, ⊎_elim, refl, sym, ap, subst, List, [], ◌∷◌, length, slice_index, slice_set, Contains, Option, Some, None, IsSome, arith, set}
 use Rattle.std.proofs.lemmas.List.{set-get_or}
-use mathlib.Core.Option.{some, some-injective, some-ne-none}
-use lib.ListN.{get_elem?}
-use Rattle.atomic_table.specs.Table.{State}
+use Rattle.uni_words.proofs.Names.{Anchor, IsAmong, IsLocal, IsShown, IsTaken, Known, Name, Of, Pending, Place, Process, Sequential, State, Tells, View, WorldOf, content_of, get_elem?, memory_of, memory_with, new_of, some, some-injective, some-ne-none, word_of, words_of, world_after, world_after_step}
 use Rattle.atomic_table.proofs.Lists.{at_set}
-use Rattle.seq_object.specs.Sequential.{Sequential}
-use Rattle.uni_model.specs.Places.{Name, Place, memory_with, new_of}
-use Rattle.uni_model.specs.Places.Name.{Anchor, Of}
-use Rattle.uni_model.specs.Stages.{Pending}
 use Rattle.uni_model.specs.Transition.{place_of, turn_of}
-use Rattle.uni_model.specs.Worlds.{WorldOf, world_after_step, world_after}
 use Rattle.uni_model.specs.Effects.{effect_in, Effect, call_after}
 use Rattle.uni_model.specs.Worlds.Event.{Step}
 use Rattle.uni_model.specs.Helping.{HelpingInvariant}
@@ -23,10 +16,6 @@ use Rattle.uni_model.proofs.Kept.{Invariant-world_after_step}
 use Rattle.uni_model.proofs.Bounded.{HelpingInvariant-world_after_step}
 use Rattle.uni_model.proofs.Counted.{CountsSteps-world_after}
 use Rattle.uni_model.specs.ProcessCalls.{ProcessCalls}
-use Rattle.uni_words.specs.Words.{content_of, word_of, memory_of, words_of}
-use Rattle.uni_words.specs.View.{Known, Process}
-use Rattle.uni_words.specs.Shown.{IsLocal, IsTaken, Tells, IsAmong, IsShown}
-use Rattle.uni_words.specs.declared.view.View.{View}
 use Rattle.uni_words.proofs.Locality.{memory_at, word_here, words_written}
 use Rattle.uni_words.proofs.Underway.{HasReturned-grows, IsUnderway-grows, last_number-grows, place_shared}
 

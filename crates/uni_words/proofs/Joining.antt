@@ -1,20 +1,12 @@
 -- A seat takes in another one.
 use Rattle.std.proofs.Common.{◌≡◌, ◌≢◌, ◌∙◌, ℕ, ◌+◌, ◌≤◌, inl, inr, refl, sym, subst, List, [], length, Contains, None, arith, ◌==◌, if◌then◌else◌, set}
 use Rattle.std.proofs.lemmas.List.Elements.{Contains-append_cases}
-use mathlib.Core.Option.{some}
-use lib.ListN.{get_elem?}
-use Rattle.atomic_table.specs.Table.{State, Joins}
+use Rattle.uni_words.proofs.Names.{Event, IsAmong, IsLocal, IsShown, IsTaken, Joins, LeadsTo, Process, Seen, Sequential, ShowsRun, State, Tells, View, WorldOf, acts_in_view, calls_in_view, get_elem?, logged_in_view, nobody, pending_count, some, took_in}
 use Rattle.atomic_table.proofs.Lists.{at_set, set_else}
-use Rattle.seq_object.specs.Sequential.{Sequential}
-use Rattle.uni_model.specs.Worlds.{WorldOf, Event}
 use Rattle.uni_model.proofs.Written.{number_cases}
 use Rattle.uni_model.specs.ProcessCalls.{ProcessCalls, acts_by, sequential_acts}
 use Rattle.uni_words.specs.Laws.{Leads, after_join}
 use Rattle.uni_words.specs.Run.{run_history, HasSeen}
-use Rattle.uni_words.specs.View.{Seen, Process}
-use Rattle.uni_words.specs.Seats.{calls_in_view, logged_in_view, nobody, took_in}
-use Rattle.uni_words.specs.Shown.{IsLocal, IsTaken, Tells, IsAmong, IsShown, LeadsTo, ShowsRun, acts_in_view, pending_count}
-use Rattle.uni_words.specs.declared.view.View.{View}
 use Rattle.uni_words.proofs.Asking.{sees_now, view_logged}
 use Rattle.uni_words.proofs.Running.{idle_acts, led, no_more}
 use Rattle.uni_words.proofs.Views.{Holds-set, first_or}

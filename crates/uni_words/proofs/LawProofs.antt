@@ -1,47 +1,16 @@
 -- The laws of the word steps.
-use Rattle.std.proofs.Common.{◌≡◌, ◌∙◌, ℕ, ◌<◌, ◌≤◌, ◌^◌, sym, ap, subst, [], ◌∷◌, slice_index, Option, Some, arith}
-use mathlib.Core.Option.{some}
-use lib.ListN.{get_elem?}
-use Rattle.atomic_table.specs.Table.{State}
-use Rattle.seq_object.specs.Sequential.{Sequential}
-use Rattle.seq_object.specs.declared.call_id.CallId.{CallId}
-use Rattle.uni_model.specs.Places.{Name, new_of}
-use Rattle.uni_model.specs.Places.Name.{Of}
-use Rattle.uni_model.specs.Stages.{Stage, Pending}
-use Rattle.uni_model.specs.Stages.Stage.{DecideNew, Finish}
-use Rattle.uni_model.specs.Worlds.{WorldOf}
+use Rattle.std.proofs.Common.{◌≡◌, ◌∙◌, ℕ, ◌<◌, ◌^◌, sym, ap, subst, [], ◌∷◌, slice_index, Option, Some}
+use Rattle.uni_words.proofs.Names.{DecideNew, Finish, HasRead, IsShown, Known, Name, Pending, Reading, Sequential, Stage, State, View, WorldOf, finished_by, get_elem?, moved_at, new_of, reply_at, reply_in, some}
 use Rattle.uni_model.specs.Worlds.Event.{Step}
 use Rattle.uni_model.proofs.Steps.{linked_call, head_number}
-use Rattle.uni_words.specs.Laws.{IsLoad, Leads, after_word, StoreBegins, WordStepMoves, StoreEnds, LoadEnds, LoadKeeps, OwnCallsRise, SplitKeeps, JoinKeeps, ReturnedIsThere, AskKeeps}
-use Rattle.uni_words.specs.Shown.{HasRead, IsShown}
-use Rattle.uni_words.specs.View.{Known, Reading, moved_at, finished_by}
+use Rattle.uni_words.specs.Laws.{IsLoad, Leads, after_word, WordStepMoves, StoreEnds, LoadEnds}
 use Rattle.uni_words.specs.View.Reading.{Nothing, Invocation, Applied, Reply}
-use Rattle.uni_words.specs.Words.{reply_in, reply_at}
-use Rattle.uni_words.specs.declared.view.View.{View}
-use Rattle.uni_words.proofs.Begins.{begun_leads}
 use Rattle.uni_words.proofs.Finishes.{stored_leads, loaded_leads}
 use Rattle.uni_words.proofs.Happens.{own_local, later_is}
-use Rattle.uni_words.proofs.Joining.{join_leads}
-use Rattle.uni_words.proofs.Looks.{stands, underway, inv_told, state_told, reply_told, looked_leads}
+use Rattle.uni_words.proofs.Looks.{stands, underway, inv_told, state_told, reply_told}
 use Rattle.uni_words.proofs.Moving.{moved_leads}
-use Rattle.uni_words.proofs.Asking.{asked_leads, number_told, returned_numbered}
-use Rattle.uni_words.proofs.Rising.{own_rises}
-use Rattle.uni_words.proofs.Splitting.{split_leads}
-
-pub SplitKeeps-holds : (object : Sequential ℕ ℕ ℕ) (row : ℕ) (w : WorldOf ℕ ℕ ℕ) (s : State ℕ View) (id : ℕ) (v : View) → SplitKeeps object row w s id v
-SplitKeeps-holds object row w s id v is at some_left = split_leads object row id v some_left w s is at
-
-pub JoinKeeps-holds : (object : Sequential ℕ ℕ ℕ) (row : ℕ) (w : WorldOf ℕ ℕ ℕ) (s : State ℕ View) (id : ℕ) (v : View) (other : ℕ) (x : View) → JoinKeeps object row w s id v other x
-JoinKeeps-holds object row w s id v other x is at there apart some_left own_idle single idle = join_leads object row id v some_left own_idle other x single idle w s is at apart there
-
-pub ReturnedIsThere-holds : (object : Sequential ℕ ℕ ℕ) (row : ℕ) (w : WorldOf ℕ ℕ ℕ) (s : State ℕ View) (call : CallId) (word : ℕ) → ReturnedIsThere object row w s call word
-ReturnedIsThere-holds object row w s call word is over there =
-    subst (λ t. 1 ≤ t) (number_told object row w s is (Of call.process call.nth) word there) (returned_numbered object row w s is call.process call.nth over)
 
 module _ (object : Sequential ℕ ℕ ℕ) (row : ℕ) (w : WorldOf ℕ ℕ ℕ) (s : State ℕ View) (id : ℕ) (v : Known) where
-  pub StoreBegins-holds : (word inv : ℕ) → StoreBegins object row w s id v word inv
-  StoreBegins-holds word inv is seat idle room there = begun_leads object row w s is id v seat.0 seat.1 idle room word there inv
-
   pub WordStepMoves-holds : (c : Pending) (next : Stage) (word x : ℕ) → WordStepMoves object row w s id v c next word x
   WordStepMoves-holds c next word x is seat pending there goes writes fits =
       let happens = later_is object row w s is id v seat.0 seat.1 c pending in
@@ -60,7 +29,7 @@ module _ (object : Sequential ℕ ℕ ℕ) (row : ℕ) (w : WorldOf ℕ ℕ ℕ)
       (loaded_leads object row w s is id v seat.0 seat.1 mine c_seq mine_seq pending more word there)
 
   -- what is read is settled so
-  loaded : (is : IsShown object row w s) → (at : get_elem? s.views id ≡ some (record { known = v })) → (single : v.count ≡ 1) → (mine : Name) (stage : Stage) (pending : v.its.call ≡ Some (record { mine = mine; stage = stage })) (word : ℕ) (read : Reading)
+  pub loaded : (is : IsShown object row w s) → (at : get_elem? s.views id ≡ some (record { known = v })) → (single : v.count ≡ 1) → (mine : Name) (stage : Stage) (pending : v.its.call ≡ Some (record { mine = mine; stage = stage })) (word : ℕ) (read : Reading)
       → IsLoad w.n row v mine stage word (slice_index s.words word) read → HasRead w.memory mine stage read
   loaded is at single mine (DecideNew c c_seq d) pending word (Invocation inv) load =
       let h = stands object row w s is id v at single mine (DecideNew c c_seq d) pending in
@@ -78,14 +47,3 @@ module _ (object : Sequential ℕ ℕ ℕ) (row : ℕ) (w : WorldOf ℕ ℕ ℕ)
       reply_told object row w s is id v at single mine c_seq mine_seq pending word load.0 ∙ ap Some (sym load.1)
   loaded is at single mine stage pending word Nothing load = tt
   loaded is at single mine _ pending word _ load = absurd load
-
-  pub LoadKeeps-holds : (c : Pending) (word : ℕ) (read : Reading) → LoadKeeps object row w s id v c word read
-  LoadKeeps-holds c word read is seat pending load =
-      looked_leads object row w s is id v seat.0 seat.1 c.mine c.stage pending word read (loaded is seat.0 seat.1 c.mine c.stage pending word read load)
-
-  pub AskKeeps-holds : (call : CallId) (word : ℕ) → AskKeeps object row w s id v call word
-  AskKeeps-holds call word is seat idle there = asked_leads object row w s is id v seat.0 seat.1 idle call word there
-
-  pub OwnCallsRise-holds : (j k : ℕ) (a b : ℕ × ℕ) → OwnCallsRise object row w s id v j k a b
-  OwnCallsRise-holds j k a b is seat less first second =
-      own_rises object row w s is id (record { known = v }) seat.0 (let one = seat.1 in omega arith) j k a b less first second

@@ -1,35 +1,22 @@
 -- A word that is memory_with is a place that is memory_with.
 use Rattle.std.proofs.Common.{◌≡◌, ◌≢◌, ◌∙◌, ℕ, ◌<◌, inl, inr, refl, sym, ap, subst, List, length, slice_index, slice_set, Option, Some, None, nat_lt, Bool, true, false, cond, get_or-set_same, get_or-set_other}
 use Rattle.std.specs.Option.{option_map_or}
-use Rattle.uni_model.specs.Places.{Place, memory_with, place_eq}
-use Rattle.uni_model.specs.Places.Name.{Anchor, Of}
-use Rattle.uni_model.specs.Places.Place.{Announced, HeadOf, InvOf, SeqOf, AfterOf, NewOf, BeforeOf}
+use Rattle.uni_words.proofs.Names.{AfterOf, Anchor, Announced, BeforeOf, HeadOf, InvOf, IsShared, NewOf, Of, Place, SeqOf, content_of, memory_of, memory_with, place_eq, word_at, word_of, words_of}
 use Rattle.uni_model.specs.Places.Content.{Invocation}
 use Rattle.uni_model.proofs.Written.{number_cases, place_eq_true}
 use Rattle.uni_model.proofs.SamePlace.{place_eq_false}
-use Rattle.uni_words.specs.Words.{content_of, IsShared, word_of, words_of, word_at, memory_of}
 use Rattle.uni_words.proofs.Columns.{one_place, word_below}
 
 module _ (n row : ℕ) where
   -- the memory at a place is told by the word there
   pub same_word : (begun : ℕ → ℕ) (ws ws' : List ℕ) (x : Place) → word_at n row ws' x ≡ word_at n row ws x → memory_of n row ws' begun x ≡ memory_of n row ws begun x
-  same_word begun ws ws' (Announced p) e = ap (content_of n (Announced p)) e
-  same_word begun ws ws' (HeadOf p) e = ap (content_of n (HeadOf p)) e
   same_word begun ws ws' (InvOf Anchor) e = refl
   same_word begun ws ws' (InvOf (Of p k)) e = ap (λ u. Invocation (cond (nat_lt k (begun p)) (Some u) None)) e
-  same_word begun ws ws' (SeqOf x) e = ap (content_of n (SeqOf x)) e
-  same_word begun ws ws' (AfterOf x) e = ap (content_of n (AfterOf x)) e
-  same_word begun ws ws' (NewOf x) e = ap (content_of n (NewOf x)) e
-  same_word begun ws ws' (BeforeOf x) e = ap (content_of n (BeforeOf x)) e
+  same_word begun ws ws' x e = ap (content_of n x) e
 
   pub memory_at : (ws : List ℕ) (begun : ℕ → ℕ) (x : Place) → IsShared x → memory_of n row ws begun x ≡ content_of n x (word_at n row ws x)
-  memory_at ws begun (Announced p) h = refl
-  memory_at ws begun (HeadOf p) h = refl
   memory_at ws begun (InvOf x) h = absurd h
-  memory_at ws begun (SeqOf x) h = refl
-  memory_at ws begun (AfterOf x) h = refl
-  memory_at ws begun (NewOf x) h = refl
-  memory_at ws begun (BeforeOf x) h = refl
+  memory_at ws begun _ h = refl
 
   module _ (words : List ℕ) (wide : length words ≡ words_of n row) (t : Place) (i : ℕ) (is : word_of n row t ≡ Some i) where
     pub word_here : word_at n row words t ≡ slice_index words i

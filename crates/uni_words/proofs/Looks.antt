@@ -1,25 +1,11 @@
 -- The word steps that are no events: reads of settled words.
 use Rattle.std.proofs.Common.{◌≡◌, ◌∙◌, ℕ, zero, suc, ◌<◌, ◌≤◌, ◌^◌, refl, sym, ap, subst, [], slice_index, slice_set, Option, Some, None, option_and_then, arith, nat_lt, Bool, true, false, cond}
-use mathlib.Core.Option.{some}
-use lib.ListN.{get_elem?}
-use Rattle.atomic_table.specs.Table.{State, Me, Step, keeps, Allows}
-use Rattle.seq_object.specs.Sequential.{Sequential}
-use Rattle.uni_model.specs.Places.{Name, inv_of, new_of, seq_of}
-use Rattle.uni_model.specs.Places.Name.{Anchor, Of}
-use Rattle.uni_model.specs.Places.Place.{InvOf, NewOf}
-use Rattle.uni_model.specs.Stages.{Stage}
-use Rattle.uni_model.specs.Stages.Stage.{DecideNew, Finish}
+use Rattle.uni_words.proofs.Names.{Allows, Anchor, DecideNew, Finish, HasLooked, HasRead, InvOf, IsLocal, IsShown, IsUnderway, Known, Me, Name, NewOf, Of, Reading, Sequential, ShowsRun, Stage, State, Step, TellsState, View, WorldOf, get_elem?, inv_of, keeps, looked_at, new_of, reply_at, reply_in, seq_of, settled_at, some, state_in, word_at, word_of}
 use Rattle.uni_model.specs.Chain.{response_in}
-use Rattle.uni_model.specs.Worlds.{WorldOf}
 use Rattle.uni_model.specs.Invariant.{Has, Stands}
 use Rattle.uni_model.proofs.Steps.{linked_call, head_number}
-use Rattle.uni_words.specs.Words.{settled_at, state_in, reply_in, reply_at, word_of, word_at}
-use Rattle.uni_words.specs.View.{Known, Reading, looked_at}
 use Rattle.uni_words.specs.View.Reading.{Invocation, Applied, Reply}
-use Rattle.uni_words.specs.Seats.{HasLooked, TellsState}
 use Rattle.uni_words.specs.Laws.{Leads, after_word}
-use Rattle.uni_words.specs.Shown.{HasRead, IsUnderway, IsLocal, IsShown, ShowsRun}
-use Rattle.uni_words.specs.declared.view.View.{View}
 use Rattle.uni_words.proofs.Locality.{word_here}
 use Rattle.uni_words.proofs.Happens.{own_local, knows_more}
 use Rattle.uni_words.proofs.Running.{led, no_more, run_stays}

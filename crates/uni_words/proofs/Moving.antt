@@ -1,30 +1,16 @@
 -- The word steps that are events, all but those of `new` and of the last step of a call.
 use Rattle.std.proofs.Common.{◌≡◌, ◌∙◌, ℕ, ◌+◌, ◌<◌, ◌≤◌, ◌^◌, refl, sym, ap, subst, List, [], ◌∷◌, length, slice_index, slice_set, Option, Some, None, arith, length-set, get_or-set_same}
-use mathlib.Core.Option.{some}
-use lib.ListN.{get_elem?}
-use Rattle.atomic_table.specs.Table.{State, Me, keeps, Allows}
+use Rattle.uni_words.proofs.Names.{AfterOf, Allows, Announce, Announced, BeforeOf, Content, DecideAfter, DecideNew, Finish, HasMoved, HeadOf, InvOf, IsLocal, IsShown, IsUnderway, IsWithin, Known, Me, Memory, Moved, Name, NewOf, Of, Pending, Place, ReadAnnounce, ReadHelpSeq, ScanHead, ScanSeq, SeqOf, Sequential, ShowsRun, Stage, State, Test, View, WorldOf, WriteBefore, WriteHead, WriteScan, WriteSeq, content_of, get_elem?, keeps, memory_with, moved_at, new_of, pending_count, some, stage_found, word_of}
 use Rattle.atomic_table.specs.Table as table
-use Rattle.seq_object.specs.Sequential.{Sequential}
-use Rattle.uni_model.specs.Places.{Name, Place, Content, Memory, memory_with, new_of}
-use Rattle.uni_model.specs.Places.Name.{Of}
-use Rattle.uni_model.specs.Places.Place.{Announced, HeadOf, InvOf, SeqOf, AfterOf, NewOf, BeforeOf}
-use Rattle.uni_model.specs.Stages.{Stage, Pending}
-use Rattle.uni_model.specs.Stages.Stage.{Announce, ScanHead, ScanSeq, WriteScan, Test, ReadAnnounce, ReadHelpSeq, DecideAfter, DecideNew, WriteBefore, WriteSeq, WriteHead, Finish}
 use Rattle.uni_model.specs.Transition.{place_of, stage_after, content_after, response_after, turn_of}
 use Rattle.uni_model.specs.Effects.{Effect, call_after}
-use Rattle.uni_model.specs.Worlds.{WorldOf}
 use Rattle.uni_model.specs.Worlds.Event.{Step}
 use Rattle.uni_model.specs.Settled.{Grows}
 use Rattle.uni_model.proofs.Counted.{IsCounted-pending}
 use Rattle.uni_model.proofs.Bounded.{turns_bounded, at_its_cell}
 use Rattle.uni_model.proofs.Simulation.{set_at_same}
-use Rattle.uni_words.specs.Words.{content_of, word_of}
-use Rattle.uni_words.specs.View.{Known, stage_found, moved_at}
 use Rattle.uni_words.specs.View.Reading.{Nothing}
-use Rattle.uni_words.specs.Seats.{IsWithin, HasMoved, Moved}
 use Rattle.uni_words.specs.Laws.{Leads, after_word}
-use Rattle.uni_words.specs.Shown.{IsUnderway, IsLocal, IsShown, ShowsRun, pending_count}
-use Rattle.uni_words.specs.declared.view.View.{View}
 use Rattle.uni_words.proofs.Columns.{word_below}
 use Rattle.uni_words.proofs.Underway.{HasReturned-grows, last_number-grows}
 use Rattle.uni_words.proofs.Within.{within}
@@ -36,13 +22,8 @@ IsNotNew (NewOf x) = ⊥
 IsNotNew _ = Unit {0}
 
 new_elsewhere : (m : Memory ℕ ℕ ℕ) (place : Place) (u : Content ℕ ℕ ℕ) (x : Name) → IsNotNew place → new_of (memory_with m place u) x ≡ new_of m x
-new_elsewhere m (Announced p) u x h = refl
-new_elsewhere m (HeadOf p) u x h = refl
-new_elsewhere m (InvOf y) u x h = refl
-new_elsewhere m (SeqOf y) u x h = refl
-new_elsewhere m (AfterOf y) u x h = refl
 new_elsewhere m (NewOf y) u x h = absurd h
-new_elsewhere m (BeforeOf y) u x h = refl
+new_elsewhere m _ u x h = refl
 
 -- the steps of this file: the call goes on after them, and they don't touch `new`
 abbrev pub GoesOn : Stage → Type 0
@@ -51,50 +32,19 @@ GoesOn (Finish s t) = ⊥
 GoesOn _ = Unit {0}
 
 not_new : (n p : ℕ) (mine : Name) (stage : Stage) → GoesOn stage → IsNotNew (place_of n p mine stage)
-not_new n p mine Announce h = tt
-not_new n p mine (ScanHead q best s) h = tt
-not_new n p mine (ScanSeq q best s x) h = tt
-not_new n p mine (WriteScan best s) h = tt
-not_new n p mine (Test c s) h = tt
-not_new n p mine (ReadAnnounce c s) h = tt
-not_new n p mine (ReadHelpSeq c s help) h = tt
-not_new n p mine (DecideAfter c s prefer) h = tt
 not_new n p mine (DecideNew c s d) h = absurd h
-not_new n p mine (WriteBefore c s d) h = tt
-not_new n p mine (WriteSeq c s d) h = tt
-not_new n p mine (WriteHead c s d) h = tt
 not_new n p mine (Finish s t) h = absurd h
+not_new n p mine _ h = tt
 
 goes_on : (n p : ℕ) (mine : Name) (stage : Stage) (found : ℕ) → GoesOn stage → (k : Stage) × (stage_found n p mine stage found ≡ Some k)
-goes_on n p mine Announce found h = (_, refl)
-goes_on n p mine (ScanHead q best s) found h = (_, refl)
-goes_on n p mine (ScanSeq q best s x) found h = (_, refl)
-goes_on n p mine (WriteScan best s) found h = (_, refl)
-goes_on n p mine (Test c s) found h = (_, refl)
-goes_on n p mine (ReadAnnounce c s) found h = (_, refl)
-goes_on n p mine (ReadHelpSeq c s help) found h = (_, refl)
-goes_on n p mine (DecideAfter c s prefer) found h = (_, refl)
 goes_on n p mine (DecideNew c s d) found h = absurd h
-goes_on n p mine (WriteBefore c s d) found h = (_, refl)
-goes_on n p mine (WriteSeq c s d) found h = (_, refl)
-goes_on n p mine (WriteHead c s d) found h = (_, refl)
 goes_on n p mine (Finish s t) found h = absurd h
+goes_on n p mine _ found h = (_, refl)
 
 -- a step after which the call goes on has no response
 silent : (n p : ℕ) (mine : Name) (stage : Stage) (found : ℕ) (next : Stage) (seen : Memory ℕ ℕ ℕ) → stage_found n p mine stage found ≡ Some next → response_after mine stage seen ≡ None
-silent n p mine Announce found next seen on = refl
-silent n p mine (ScanHead q best s) found next seen on = refl
-silent n p mine (ScanSeq q best s x) found next seen on = refl
-silent n p mine (WriteScan best s) found next seen on = refl
-silent n p mine (Test c s) found next seen on = refl
-silent n p mine (ReadAnnounce c s) found next seen on = refl
-silent n p mine (ReadHelpSeq c s help) found next seen on = refl
-silent n p mine (DecideAfter c s prefer) found next seen on = refl
-silent n p mine (DecideNew c s d) found next seen on = refl
-silent n p mine (WriteBefore c s d) found next seen on = refl
-silent n p mine (WriteSeq c s d) found next seen on = refl
-silent n p mine (WriteHead c s d) found next seen on = refl
 silent n p mine (Finish s t) found next seen on = absurd (let none : None ≡ Some next = on in cc)
+silent n p mine _ found next seen on = refl
 
 module _ (object : Sequential ℕ ℕ ℕ) (row : ℕ) where
   -- a step after which the call goes on, whatever the word of its place becomes

@@ -3,26 +3,12 @@ use Rattle.std.proofs.Common.{◌≡◌, ◌∙◌, ℕ, zero, suc, ◌+◌, ◌
 use Rattle.std.specs.Option.{option_map_or}
 use Rattle.std.proofs.lemmas.Nat.{div-mul-add}
 use Rattle.std.proofs.lemmas.List.{length-replicate}
-use lib.ListN.{get_elem?}
-use mathlib.Core.Option.{some, some-injective, some-ne-none}
-use Rattle.atomic_table.specs.Table.{opening}
-use Rattle.seq_object.specs.Sequential.{Sequential}
-use Rattle.uni_model.specs.Indices.{name_of}
-use Rattle.uni_model.specs.Places.{Name, Place, memory_with, new_of}
-use Rattle.uni_model.specs.Places.Name.{Anchor, Of}
-use Rattle.uni_model.specs.Places.Place.{Announced, HeadOf, InvOf, SeqOf, AfterOf, NewOf, BeforeOf}
+use Rattle.uni_words.proofs.Names.{AfterOf, Anchor, Announced, BeforeOf, HeadOf, InvOf, IsLocal, IsShown, LeadsTo, Name, NewOf, Of, Place, SeqOf, Sequential, ShowsRun, Tells, View, acts_in_view, anchor_memory, content_of, first_view, first_words, get_elem?, link_of, memory_of, memory_with, name_of, new_of, no_calls, opening, settled_at, settled_word, some, some-injective, some-ne-none, start_of, state_in, word_at, word_of, words_of}
 use Rattle.uni_model.specs.Places.Content.{CellName, Number, Link, Settled}
-use Rattle.uni_model.specs.Worlds.{anchor_memory}
 use Rattle.uni_model.proofs.Written.{lt_cases}
 use Rattle.uni_model.proofs.Bounded.{HelpingInvariant-opened_world}
 use Rattle.uni_model.proofs.Counted.{CountsSteps-opened_world}
-use Rattle.uni_words.specs.Words.{first_words, settled_word, settled_at, state_in, link_of, content_of, start_of, word_of, words_of, word_at, memory_of}
-use Rattle.uni_words.specs.View.{no_calls}
-use Rattle.uni_words.specs.Laws.{OpeningShows}
 use Rattle.uni_words.specs.Run.{opened}
-use Rattle.uni_words.specs.Seats.{first_view}
-use Rattle.uni_words.specs.Shown.{IsLocal, Tells, IsShown, LeadsTo, ShowsRun, acts_in_view}
-use Rattle.uni_words.specs.declared.view.View.{View}
 use Rattle.uni_words.proofs.Locality.{words_written}
 
 anchor_code : (s : ℕ) → settled_at Anchor (settled_word s 0) ≡ Some (s, None)
@@ -101,7 +87,7 @@ module _ (object : Sequential ℕ ℕ ℕ) (n row : ℕ) (below : object.initial
       (subst (λ (z : View). Tells (opened object n) (λ p. 0) row 0 z.known) h.1
       (record { processes = λ any. refl; calls = λ any. refl; several = λ two. refl; each = λ q from to. (refl, first_local q (omega arith)); taken = λ c has. absurd (let k = has.1 in omega arith) }))
 
-  opening_shown : IsShown object row (opened object n) (opening {S = ℕ} words [] (first_view n row))
+  pub opening_shown : IsShown object row (opened object n) (opening {S = ℕ} words [] (first_view n row))
   opening_shown = record {
     words = record {
       wide = length-set _ j (settled_word object.initial 0) ∙ (length-set _ i 1 ∙ long);
@@ -116,7 +102,7 @@ module _ (object : Sequential ℕ ℕ ℕ) (n row : ℕ) (below : object.initial
     counts = CountsSteps-opened_world object n object.initial 1;
   }
 
-  opening_leads : LeadsTo object n [] (opened object n) (first_view n row ∷ [])
+  pub opening_leads : LeadsTo object n [] (opened object n) (first_view n row ∷ [])
   opening_leads = record {
     accepted = tt;
     one_era = tt;
@@ -126,11 +112,8 @@ module _ (object : Sequential ℕ ℕ ℕ) (n row : ℕ) (below : object.initial
     seen = λ id v e t has. absurd (let h = only_seat id v e in let none : Contains (first_view n row).known.seen t = subst (λ (z : View). Contains z.known.seen t) (sym h.1) has in let k = none.1 in omega arith);
   }
 
-pub OpeningShows-holds : (object : Sequential ℕ ℕ ℕ) (n row : ℕ) → OpeningShows object n row
-OpeningShows-holds object n row below = (opening_shown object n row below, opening_leads object n row below)
-
 pub opening_shows : (object : Sequential ℕ ℕ ℕ) (n row : ℕ) → object.initial < 2 ^ 31 → ShowsRun object n row (opening {S = ℕ} (first_words n row object.initial) [] (first_view n row))
-opening_shows object n row below = let h = OpeningShows-holds object n row below in (opened object n, refl, h.0, ([], h.1))
+opening_shows object n row below = (opened object n, refl, opening_shown object n row below, ([], opening_leads object n row below))
 
 -- the words as the code writes them
 pub words_made : (xs : List ℕ) (n row s start : ℕ) → xs ≡ replicate (words_of n row) 0 → s ≡ start

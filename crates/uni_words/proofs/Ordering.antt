@@ -2,14 +2,13 @@
 use Rattle.std.proofs.Common.{◌≡◌, ◌∙◌, ℕ, suc, ◌+◌, ◌<◌, inl, inr, refl, sym, ap, subst, List, [], ◌∷◌, ◌++◌, length, take, arith}
 use Rattle.std.proofs.Math.Seq.{take-append_seam}
 use Rattle.std.proofs.lemmas.Option.{slice_get_within}
-use Rattle.seq_object.specs.Sequential.{Sequential}
+use Rattle.uni_words.proofs.Names.{AreAccepted, Event, Seen, Sequential, WorldOf, world_after_all}
 use Rattle.uni_model.specs.AtomicObject.{Act, Atomic, AcceptsAll, at_start}
 use Rattle.uni_model.specs.AtomicObject.Act.{Invoke, Linearize, Respond}
 use Rattle.uni_model.specs.Chain.{Entry}
 use Rattle.uni_model.specs.Eras.{StandsAt}
 use Rattle.uni_model.specs.Growth.{IsPrefixOf}
 use Rattle.uni_model.specs.History.{log_of_run}
-use Rattle.uni_model.specs.Worlds.{WorldOf, Event, AreAccepted, world_after_all}
 use Rattle.uni_model.proofs.Joined.{IsRun-opened_world, begun_run, prefixes_run}
 use Rattle.uni_model.proofs.LawProofs.{set_at_elsewhere}
 use Rattle.uni_model.proofs.Linearized.{IsLinearizable-holds}
@@ -19,7 +18,6 @@ use Rattle.uni_model.proofs.Written.{lt_cases, number_cases}
 use Rattle.uni_model.specs.ProcessCalls.{acts_by, sequential_acts}
 use Rattle.uni_words.specs.Log.{IsInOrder}
 use Rattle.uni_words.specs.Run.{AreLogged, opened, run_history, HasSeen}
-use Rattle.uni_words.specs.View.{Seen}
 use Rattle.uni_words.proofs.Underway.{there_below}
 
 -- how many calls these acts begin

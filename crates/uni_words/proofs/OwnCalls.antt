@@ -1,20 +1,15 @@
 -- The calls of a seat's process in the log are the seat's own calls.
 use Rattle.std.proofs.Common.{◌≡◌, ◌≢◌, ◌∙◌, ℕ, zero, suc, ◌+◌, ◌*◌, ◌<◌, ◌≤◌, inl, inr, refl, sym, ap, subst, List, [], ◌∷◌, length, map, slice_get, drop, Option, Some, None, arith, ◌==◌, cond}
 use Rattle.std.specs.Option.{option_map_or}
-use Rattle.atomic_table.specs.Table.{State}
-use Rattle.seq_object.specs.Sequential.{Sequential}
-use Rattle.uni_model.specs.Places.{Name, inv_of, after_of}
-use Rattle.uni_model.specs.Places.Name.{Anchor, Of}
+use Rattle.std.proofs.lemmas.List.{drop_all}
+use Rattle.uni_words.proofs.Names.{Anchor, HasReturned, IsShown, Name, Of, Sequential, State, View, WorldOf, after_of, calls_in_era, inv_of}
 use Rattle.uni_model.specs.Chain.{cells_from, entries_from, invoked_at, response_in}
-use Rattle.uni_model.specs.Worlds.{WorldOf, calls_in_era}
 use Rattle.uni_model.specs.Counting.{era_calls}
 use Rattle.uni_model.specs.Invariant.{IsSound}
 use Rattle.uni_model.proofs.Ranges.{sum_below-bound}
 use Rattle.uni_model.proofs.Simulation.{enough}
 use Rattle.uni_model.proofs.Written.{lt_cases, number_cases}
 use Rattle.uni_words.specs.Log.{calls_by, log_of, replied}
-use Rattle.uni_words.specs.Shown.{HasReturned, IsShown}
-use Rattle.uni_words.specs.declared.view.View.{View}
 use Rattle.uni_words.proofs.Closing.{log_is}
 use Rattle.uni_words.proofs.Underway.{there_below}
 
@@ -22,12 +17,6 @@ pub drop-here : {A : Type 0} (l : List A) (i : ℕ) (a : A) → slice_get l i �
 drop-here [] i a e = absurd (let f : None ≡ Some a = e in cc)
 drop-here (x ∷ xs) zero a e = let same : x ≡ a = (let f : Some x ≡ Some a = e in cc) in ap (λ y. y ∷ xs) same
 drop-here (x ∷ xs) (suc i) a e = drop-here xs i a e
-
-pub drop-past : {A : Type 0} (l : List A) (i : ℕ) → length l ≤ i → drop i l ≡ []
-drop-past [] zero h = refl
-drop-past [] (suc i) h = refl
-drop-past (x ∷ xs) zero h = absurd (omega arith)
-drop-past (x ∷ xs) (suc i) h = drop-past xs i (omega arith)
 
 -- a process that has no call pending, with the calls that it was given replies to
 module _ (object : Sequential ℕ ℕ ℕ) (row : ℕ) (w : WorldOf ℕ ℕ ℕ) (s : State ℕ View) (is : IsShown object row w s)
@@ -60,7 +49,7 @@ module _ (object : Sequential ℕ ℕ ℕ) (row : ℕ) (w : WorldOf ℕ ℕ ℕ)
         let more = around.after i (omega arith) less.0 in
         let top = sound.numbered.greatest (Of p i) in
         end (omega arith))
-    | inr done ↦ sym (ap (map replied) (drop-past own i done.0))
+    | inr done ↦ sym (ap (map replied) (drop_all i own done.0))
   ]
 
   -- the next cell is that of the next own call

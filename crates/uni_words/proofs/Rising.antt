@@ -1,20 +1,11 @@
 -- The calls of one process stand in the chain in their order.
 use Rattle.std.proofs.Common.{◌≡◌, ◌∙◌, ℕ, suc, ◌<◌, ◌≤◌, sym, ap, Some, length, slice_get, arith}
-use mathlib.Core.Option.{some}
-use lib.ListN.{get_elem?}
-use Rattle.atomic_table.specs.Table.{State}
-use Rattle.seq_object.specs.Sequential.{Sequential}
-use Rattle.uni_model.specs.Places.{seq_of}
-use Rattle.uni_model.specs.Places.Name.{Of}
-use Rattle.uni_model.specs.Worlds.{WorldOf}
+use Rattle.uni_words.proofs.Names.{IsShown, Of, Sequential, State, View, WorldOf, get_elem?, last_number, own_of, seq_of, some}
 use Rattle.uni_model.specs.History.{log}
 use Rattle.uni_model.proofs.Eras.{entry_at, number_of_entry}
 use Rattle.uni_words.specs.Log.{HasNumber, log_of}
-use Rattle.uni_words.specs.Shown.{IsShown, last_number}
-use Rattle.uni_words.specs.View.{own_of}
 use Rattle.uni_words.proofs.Closing.{log_of_world}
 use Rattle.uni_words.proofs.Underway.{there_below}
-use Rattle.uni_words.specs.declared.view.View.{View}
 
 -- a seat's own calls have rising numbers
 pub own_rises : (object : Sequential ℕ ℕ ℕ) (row : ℕ) (w : WorldOf ℕ ℕ ℕ) (s : State ℕ View) (is : IsShown object row w s) (id : ℕ) (v : View) → get_elem? s.views id ≡ some v → 1 ≤ v.known.count

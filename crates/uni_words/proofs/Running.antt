@@ -1,20 +1,13 @@
 -- A run with one more event, and what it tells of each process.
 use Rattle.std.proofs.Common.{◌≡◌, ◌≢◌, ◌∙◌, ℕ, suc, ◌+◌, ◌≤◌, inl, inr, ⊎_elim, refl, sym, ap, subst, List, [], ◌∷◌, ◌++◌, append_assoc, append-nil, length, drop, map, Contains, Option, Some, None, IsSome, arith, set}
 use Rattle.std.specs.Option.{option_map_or}
-use mathlib.Core.Option.{some}
-use lib.ListN.{get_elem?}
-use Rattle.atomic_table.specs.Table.{State}
+use Rattle.uni_words.proofs.Names.{Event, IsAccepted, IsAmong, IsLocal, IsShown, Known, LeadsTo, Memory, Name, Of, Pending, Seen, Sequential, ShowsRun, State, View, WorldOf, acts_in_view, get_elem?, inv_of, pending_acts, pending_count, some, world_after, world_after_all, world_after_call, world_after_step}
 use Rattle.atomic_table.proofs.Lists.{at_set}
-use Rattle.seq_object.specs.Sequential.{Sequential}
 use Rattle.uni_model.specs.AtomicObject.{Act, Invoked}
 use Rattle.uni_model.specs.AtomicObject.Act.{Invoke, Linearize, Respond}
 use Rattle.uni_model.specs.Chain.{invoked_at}
 use Rattle.uni_model.specs.Growth.{EndsNoEra, EndNoEra}
 use Rattle.uni_model.specs.History.{acts_of, calls_of, log, log_of_run, responses_of}
-use Rattle.uni_model.specs.Places.{Name, Memory, inv_of}
-use Rattle.uni_model.specs.Places.Name.{Of}
-use Rattle.uni_model.specs.Stages.{Pending}
-use Rattle.uni_model.specs.Worlds.{WorldOf, Event, world_after, world_after_all, world_after_call, world_after_step, IsAccepted}
 use Rattle.uni_model.specs.Transition.{response_after}
 use Rattle.uni_model.specs.Worlds.Event.{Call, Step, Trim, Reshape}
 use Rattle.uni_model.proofs.Written.{number_cases}
@@ -22,9 +15,6 @@ use Rattle.uni_model.specs.ProcessCalls.{ProcessCalls, acts_by, sequential_acts}
 use Rattle.uni_model.proofs.Runs.{world_after_all-snoc, AreAccepted-snoc, history_of-snoc}
 use Rattle.uni_words.specs.Laws.{Leads}
 use Rattle.uni_words.specs.Run.{opened, run_history, HasSeen}
-use Rattle.uni_words.specs.View.{Seen, Known}
-use Rattle.uni_words.specs.Shown.{IsLocal, IsAmong, IsShown, ShowsRun, LeadsTo, acts_in_view, pending_count, pending_acts}
-use Rattle.uni_words.specs.declared.view.View.{View}
 use Rattle.uni_words.proofs.Happens.{taken_apart}
 use Rattle.uni_words.proofs.Views.{Holds-kept, Holds-later, Holds-set}
 

@@ -1,20 +1,13 @@
 -- A seat of several processes is cut in two.
 use Rattle.std.proofs.Common.{◌≡◌, ◌≢◌, ◌∙◌, ℕ, zero, suc, ◌<◌, ◌≤◌, ◌⊎◌, inl, inr, refl, sym, ap, subst, List, [], ◌∷◌, ◌++◌, length, Contains, arith, set, length-set}
-use mathlib.Core.Option.{some, some-injective, some-ne-none}
-use lib.ListN.{get_elem?}
-use Rattle.atomic_table.specs.Table.{State, Splits}
+use Rattle.uni_words.proofs.Names.{Event, IsAmong, IsLocal, IsShown, LeadsTo, Sequential, ShowsRun, Splits, State, Tells, View, WorldOf, acts_in_view, first_alone, get_elem?, others, some, some-injective, some-ne-none}
 use Rattle.atomic_table.proofs.Lists.{at_set}
-use Rattle.seq_object.specs.Sequential.{Sequential}
 use Rattle.uni_model.specs.AtomicObject.{set_at}
-use Rattle.uni_model.specs.Worlds.{WorldOf, Event}
 use Rattle.uni_model.proofs.Simulation.{set_at_same}
 use Rattle.uni_model.proofs.LawProofs.{set_at_elsewhere}
 use Rattle.uni_model.specs.ProcessCalls.{ProcessCalls, acts_by, sequential_acts}
 use Rattle.uni_words.specs.Laws.{Leads, after_split}
 use Rattle.uni_words.specs.Run.{run_history, HasSeen}
-use Rattle.uni_words.specs.Seats.{first_alone, others}
-use Rattle.uni_words.specs.Shown.{IsLocal, Tells, IsAmong, IsShown, LeadsTo, ShowsRun, acts_in_view}
-use Rattle.uni_words.specs.declared.view.View.{View}
 use Rattle.uni_words.proofs.Happens.{taken_apart}
 use Rattle.uni_words.proofs.Running.{led, no_more}
 use Rattle.uni_words.proofs.Views.{Holds-kept, Holds-push}

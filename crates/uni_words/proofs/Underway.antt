@@ -1,16 +1,10 @@
 -- What a seat knows stays while the memory grows.
 use Rattle.std.proofs.Common.{◌≡◌, ◌∙◌, ℕ, zero, suc, ◌<◌, ◌≤◌, refl, sym, subst, List, [], ◌∷◌, length, slice_get, Option, Some, None, option_and_then, ap, arith}
-use Rattle.uni_model.specs.Places.{Name, Memory, new_of}
-use Rattle.uni_model.specs.Places.Name.{Of}
-use Rattle.uni_model.specs.Stages.{Stage, Pending}
-use Rattle.uni_model.specs.Stages.Stage.{Announce, ScanHead, ScanSeq, WriteScan, Test, ReadAnnounce, ReadHelpSeq, DecideAfter, DecideNew, WriteBefore, WriteSeq, WriteHead, Finish}
+use Rattle.uni_words.proofs.Names.{Announce, DecideAfter, DecideNew, Finish, HasRead, HasReturned, IsShared, IsUnderway, Memory, Name, Of, Pending, ReadAnnounce, ReadHelpSeq, Reading, ScanHead, ScanSeq, Stage, Test, WriteBefore, WriteHead, WriteScan, WriteSeq, last_number, new_of}
 use Rattle.uni_model.specs.Chain.{response_in}
 use Rattle.uni_model.specs.Transition.{place_of}
 use Rattle.uni_model.specs.Settled.{Grows}
-use Rattle.uni_words.specs.Words.{IsShared}
-use Rattle.uni_words.specs.View.{Reading}
 use Rattle.uni_words.specs.View.Reading.{Nothing, Invocation, Applied, Reply}
-use Rattle.uni_words.specs.Shown.{HasReturned, HasRead, IsUnderway, last_number}
 
 pub there_below : {A : Type 0} (l : List A) (i : ℕ) → i < length l → (a : A) × (slice_get l i ≡ Some a)
 there_below [] i h = absurd (omega arith)
@@ -51,15 +45,5 @@ module _ (m m' : Memory ℕ ℕ ℕ) (grows : Grows m m') where
 -- a step touches no invocation
 pub place_shared : (n p : ℕ) (mine : Name) (stage : Stage) → IsShared (place_of n p mine stage)
 place_shared n p mine Announce = tt
-place_shared n p mine (ScanHead q best s) = tt
-place_shared n p mine (ScanSeq q best s h) = tt
-place_shared n p mine (WriteScan best s) = tt
-place_shared n p mine (Test c s) = tt
 place_shared n p mine (ReadAnnounce c s) = tt
-place_shared n p mine (ReadHelpSeq c s help) = tt
-place_shared n p mine (DecideAfter c s prefer) = tt
-place_shared n p mine (DecideNew c s d) = tt
-place_shared n p mine (WriteBefore c s d) = tt
-place_shared n p mine (WriteSeq c s d) = tt
-place_shared n p mine (WriteHead c s d) = tt
-place_shared n p mine (Finish s t) = tt
+place_shared n p mine _ = tt

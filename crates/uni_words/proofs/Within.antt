@@ -1,19 +1,9 @@
 -- What the words of a table that meets the rule can be.
 use Rattle.std.proofs.Common.{◌≡◌, ◌∙◌, ℕ, zero, suc, ◌*◌, ◌/◌, ◌%◌, ◌<◌, ◌≤◌, ◌^◌, ◌⊎◌, inl, inr, sym, ap, subst, slice_index, Some, arith}
-use Rattle.atomic_table.specs.Table.{State}
-use Rattle.seq_object.specs.Sequential.{Sequential}
-use Rattle.uni_model.specs.Indices.{name_of}
-use Rattle.uni_model.specs.Places.{Name, Place, announce_of, head_of, seq_of, after_of, before_of, new_of, inv_of}
-use Rattle.uni_model.specs.Places.Name.{Anchor}
-use Rattle.uni_model.specs.Places.Place.{Announced, HeadOf, InvOf, SeqOf, AfterOf, NewOf, BeforeOf}
-use Rattle.uni_model.specs.Worlds.{WorldOf, calls_in_era}
+use Rattle.uni_words.proofs.Names.{AfterOf, Anchor, Announced, BeforeOf, HeadOf, InvOf, IsShown, IsWithin, Name, NewOf, Place, SeqOf, Sequential, State, View, WorldOf, after_of, announce_of, before_of, calls_in_era, cells_of, head_of, inv_of, link_of, name_of, new_of, seq_of, settled_at, state_in, word_of}
 use Rattle.uni_model.specs.Counting.{era_calls}
 use Rattle.uni_model.specs.Invariant.{Has, IsSound}
 use Rattle.uni_model.proofs.Ranges.{sum_below-bound, announced_cell, head_cell, after_cell, before_cell, seq_bound}
-use Rattle.uni_words.specs.Words.{cells_of, link_of, settled_at, state_in, word_of}
-use Rattle.uni_words.specs.Shown.{IsShown}
-use Rattle.uni_words.specs.Seats.{IsWithin}
-use Rattle.uni_words.specs.declared.view.View.{View}
 use Rattle.uni_words.proofs.Columns.{index_in-there, process_below, head_below}
 use Rattle.uni_words.proofs.Locality.{word_here}
 

@@ -1,5 +1,8 @@
-use Rattle.uni_words.proofs.LawProofs.{ReturnedIsThere-holds}
+use Rattle.std.proofs.Common.{◌≤◌, subst}
+use Rattle.uni_model.specs.Places.Name.{Of}
+use Rattle.uni_words.proofs.Asking.{number_told, returned_numbered}
 use Rattle.uni_words.proofs.laws.returned_is_there.Goals as goal
 
 pub returns : goal.returns
-returns g c object = ReturnedIsThere-holds (g.O.WordObject.sequential object)
+returns g c object row w s call word is over there =
+    subst (λ t. 1 ≤ t) (number_told (g.O.WordObject.sequential object) row w s is (Of call.process call.nth) word there) (returned_numbered (g.O.WordObject.sequential object) row w s is call.process call.nth over)

@@ -1,5 +1,5 @@
-use Rattle.uni_words.proofs.LawProofs.{SplitKeeps-holds}
+use Rattle.uni_words.proofs.Splitting.{split_leads}
 use Rattle.uni_words.proofs.laws.split_keeps.Goals as goal
 
 pub returns : goal.returns
-returns g c object = SplitKeeps-holds (g.O.WordObject.sequential object)
+returns g c object row w s id v is at some_left = split_leads (g.O.WordObject.sequential object) row id v some_left w s is at

@@ -5,10 +5,8 @@ use Rattle.uni_words.proofs.log.WordLog.announce.Goals as goal
 pub store-requires : goal.store-requires
 store-requires g c =
     let log = c.args.self.now in
-    let n = log.setup.n in
-    let k = log.setup.k in
     may_store g.O.WordObject.sequential log c.args.seat.now.id c.args.seat.now.me _ _ _ c.announce_word.result c.requires.stands tt
-    (first_word n k 0 c.args.seat.now.me.0.known.first c.args.at.process _ c.requires.cursor.process c.requires.stands.first c.announce_word.ensures) c.requires.table c.args.at.cell (λ found seen. refl) (λ found. refl)
+    (first_word log.setup.n log.setup.k 0 c.args.seat.now.me.0.known.first c.args.at.process _ c.requires.cursor.process c.requires.stands.first c.announce_word.ensures) c.requires.table c.args.at.cell (λ found seen. refl) (λ found. refl)
 
 pub returns : goal.returns
 returns g c =

@@ -5,10 +5,8 @@ use Rattle.uni_words.proofs.log.WordLog.decide_after.Goals as goal
 pub compare_exchange-requires : goal.compare_exchange-requires
 compare_exchange-requires g c =
     let log = c.args.self.now in
-    let n = log.setup.n in
-    let k = log.setup.k in
     may_propose g.O.WordObject.sequential log c.args.seat.now.id c.args.seat.now.me _ _ _ c.after_word.result c.requires.stands tt
-    (cell_word n k 5 c.args.at.head _ log.few.0 c.requires.cursor.head c.after_word.ensures) c.requires.table (c.args.prefer + 1) (λ found seen. link_decided n c.args.prefer found)
+    (cell_word log.setup.n log.setup.k 5 c.args.at.head _ log.few.0 c.requires.cursor.head c.after_word.ensures) c.requires.table (c.args.prefer + 1) (λ found seen. link_decided log.setup.n c.args.prefer found)
 
 pub returns : goal.returns
 returns g c =

@@ -1,28 +1,19 @@
-use Rattle.std.proofs.Common.{◌+◌, ◌*◌, arith, refl, eqb}
+use Rattle.std.proofs.Common.{◌+◌, ◌*◌, refl, eqb}
 use prog.Atomic.{either}
-use mathlib.Core.Option.{none}
-use Rattle.atomic_table.specs.Table.{step}
-use Rattle.uni_model.specs.Indices.{name_of}
-use Rattle.uni_words.proofs.Allowed.{by_key, cell_word, stands_next, goes_one}
-use Rattle.uni_words.specs.Seats.{Moved}
+use Rattle.uni_words.proofs.Names.{Moved, NewOf, name_of, none, step}
+use Rattle.uni_words.proofs.Allowed.{may_step, cell_word, stands_next, goes_one}
 use Rattle.uni_words.proofs.Decides.{decides_word}
 use Rattle.uni_words.proofs.log.WordLog.decide_new.Goals as goal
 
 pub compare_exchange-requires : goal.compare_exchange-requires
 compare_exchange-requires g c =
     let log = c.args.self.now in
-    let n = log.setup.n in
-    let k = log.setup.k in
-    let slots = log.table.shared.table_id.slots in
     let id = c.args.seat.now.id in
     let me = c.args.seat.now.me in
-    let object = g.O.WordObject.sequential log.setup.object in
-    let i = c.new_word.result in (
-      c.requires.table,
-      (let a = c.new_word.ensures in let b = c.requires.inside.0 in let d = log.sized in omega arith),
-      by_key g.O.WordObject.sequential log.table.shared.key log.setup log.same slots id me i (λ found. either (eqb found 0) (1 + 2 * c.answer-reply.result + 4294967296 * c.next-next.result) found) (λ found me'. Moved (step slots i 0 (1 + 2 * c.answer-reply.result + 4294967296 * c.next-next.result) none) me found me')
-          (decides_word object k n slots id i (step slots i 0 (1 + 2 * c.answer-reply.result + 4294967296 * c.next-next.result) none) me c.requires.stands.alone (name_of n c.args.at.cell) (name_of n c.args.at.head) (name_of n c.args.d) c.args.at.number c.args.inv c.args.state c.next-next.result c.answer-reply.result c.requires.stands.call c.requires.read c.next-next.ensures.value c.next-next.ensures.fits c.answer-reply.ensures.value c.answer-reply.ensures.fits (cell_word n k 6 c.args.d i log.few.0 c.requires.inside.0 c.new_word.ensures)),
-    )
+    let i = c.new_word.result in
+    let word = cell_word log.setup.n log.setup.k 6 c.args.d i log.few.0 c.requires.inside.0 c.new_word.ensures in
+    may_step g.O.WordObject.sequential log id me i (λ found. either (eqb found 0) (1 + 2 * c.answer-reply.result + 4294967296 * c.next-next.result) found) (λ found me'. Moved (step log.table.shared.table_id.slots i 0 (1 + 2 * c.answer-reply.result + 4294967296 * c.next-next.result) none) me found me') (NewOf (name_of log.setup.n c.args.d)) word c.requires.table
+    (decides_word (g.O.WordObject.sequential log.setup.object) log.setup.k log.setup.n log.table.shared.table_id.slots id i (step log.table.shared.table_id.slots i 0 (1 + 2 * c.answer-reply.result + 4294967296 * c.next-next.result) none) me c.requires.stands.alone (name_of log.setup.n c.args.at.cell) (name_of log.setup.n c.args.at.head) (name_of log.setup.n c.args.d) c.args.at.number c.args.inv c.args.state c.next-next.result c.answer-reply.result c.requires.stands.call c.requires.read c.next-next.ensures.value c.next-next.ensures.fits c.answer-reply.ensures.value c.answer-reply.ensures.fits word)
 
 pub returns-clause-stands : goal.returns-clause-stands
 returns-clause-stands g c = stands_next _ _ _ _ _ _ _ _ _ c.requires.stands (c.compare_exchange.ensures.2 _ c.requires.stands.call) refl

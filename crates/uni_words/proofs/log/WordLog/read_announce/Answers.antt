@@ -6,10 +6,8 @@ use Rattle.uni_words.proofs.log.WordLog.read_announce.Goals as goal
 pub load-requires : goal.load-requires
 load-requires g c =
     let log = c.args.self.now in
-    let n = log.setup.n in
-    let k = log.setup.k in
     may_load g.O.WordObject.sequential log c.args.seat.now.id c.args.seat.now.me _ _ _ c.announce_word.result c.requires.stands tt
-    (process_word n k 0 (c.args.at.number % n) _ (mod_below c.args.at.number n log.few.0) c.announce_word.ensures) c.requires.table (λ found seen. refl)
+    (process_word log.setup.n log.setup.k 0 (c.args.at.number % log.setup.n) _ (mod_below c.args.at.number log.setup.n log.few.0) c.announce_word.ensures) c.requires.table (λ found seen. refl)
 
 pub returns : goal.returns
 returns g c =

@@ -1,8 +1,6 @@
 use Rattle.std.proofs.Common.{rules, refl, ◌+◌, ◌≡◌, ℕ, ◌-◌, arith, sym, ap, subst}
-use Rattle.atomic_table.specs.Table.{Me, Splits}
-use Rattle.uni_words.specs.Seats.{others, first_alone}
+use Rattle.uni_words.proofs.Names.{Me, Splits, View, first_alone, others}
 use Rattle.uni_words.specs.Rule.{Rule}
-use Rattle.uni_words.specs.declared.view.View.{View}
 use Rattle.uni_words.specs.Belongs.{AreFirstSeats}
 use Rattle.uni_words.proofs.Seating.{all_own, one_more}
 use Rattle.uni_words.proofs.Splitting.{splits}

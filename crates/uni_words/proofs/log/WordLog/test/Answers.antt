@@ -5,10 +5,8 @@ use Rattle.uni_words.proofs.log.WordLog.test.Goals as goal
 pub load-requires : goal.load-requires
 load-requires g c =
     let log = c.args.self.now in
-    let n = log.setup.n in
-    let k = log.setup.k in
     may_load g.O.WordObject.sequential log c.args.seat.now.id c.args.seat.now.me _ _ _ c.seq_word.result c.requires.stands tt
-    (cell_word n k 3 c.args.at.cell _ log.few.0 c.requires.cursor.cell c.seq_word.ensures) c.requires.table (λ found seen. refl)
+    (cell_word log.setup.n log.setup.k 3 c.args.at.cell _ log.few.0 c.requires.cursor.cell c.seq_word.ensures) c.requires.table (λ found seen. refl)
 
 pub returns : goal.returns
 returns g c =

@@ -1,8 +1,5 @@
 use Rattle.std.proofs.Common.{◌≡◌, ℕ, [], List, arith, sym, subst, ◌∙◌}
-use Rattle.atomic_table.specs.Table.{opening}
-use Rattle.uni_words.specs.Words.{first_words}
-use Rattle.uni_words.specs.Seats.{first_view}
-use Rattle.uni_words.specs.Shown.{ShowsRun}
+use Rattle.uni_words.proofs.Names.{ShowsRun, first_view, first_words, opening}
 use Rattle.uni_words.proofs.Opening.{opening_shows, words_made}
 use Rattle.uni_words.proofs.log.WordLog.with_one_seat.Goals as goal
 

@@ -5,10 +5,8 @@ use Rattle.uni_words.proofs.log.WordLog.write_before.Goals as goal
 pub store-requires : goal.store-requires
 store-requires g c =
     let log = c.args.self.now in
-    let n = log.setup.n in
-    let k = log.setup.k in
     may_store g.O.WordObject.sequential log c.args.seat.now.id c.args.seat.now.me _ _ _ c.before_word.result c.requires.stands tt
-    (cell_word n k 4 c.args.d _ log.few.0 c.requires.inside c.before_word.ensures) c.requires.table (1 + c.args.at.head) (λ found seen. link_is n c.args.at.head) (λ found. refl)
+    (cell_word log.setup.n log.setup.k 4 c.args.d _ log.few.0 c.requires.inside c.before_word.ensures) c.requires.table (1 + c.args.at.head) (λ found seen. link_is log.setup.n c.args.at.head) (λ found. refl)
 
 pub returns : goal.returns
 returns g c =

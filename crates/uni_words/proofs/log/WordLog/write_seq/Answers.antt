@@ -5,10 +5,8 @@ use Rattle.uni_words.proofs.log.WordLog.write_seq.Goals as goal
 pub store-requires : goal.store-requires
 store-requires g c =
     let log = c.args.self.now in
-    let n = log.setup.n in
-    let k = log.setup.k in
     may_store g.O.WordObject.sequential log c.args.seat.now.id c.args.seat.now.me _ _ _ c.seq_word.result c.requires.stands tt
-    (cell_word n k 3 c.args.d _ log.few.0 c.requires.inside c.seq_word.ensures) c.requires.table (c.args.at.number + 1) (λ found seen. refl) (λ found. refl)
+    (cell_word log.setup.n log.setup.k 3 c.args.d _ log.few.0 c.requires.inside c.seq_word.ensures) c.requires.table (c.args.at.number + 1) (λ found seen. refl) (λ found. refl)
 
 pub returns : goal.returns
 returns g c =

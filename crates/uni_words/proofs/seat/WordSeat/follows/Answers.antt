@@ -1,21 +1,13 @@
 use Rattle.std.proofs.Common.{◌≡◌, ◌∙◌, ap, arith, refl, subst, Some}
-use mathlib.Core.Option.{none}
-use Rattle.atomic_table.specs.Table.{step}
-use Rattle.uni_model.specs.Indices.{name_of}
-use Rattle.uni_model.specs.Places.Name.{Of}
-use Rattle.uni_model.specs.Places.Place.{SeqOf}
+use Rattle.uni_words.proofs.Names.{HasAsked, Of, SeqOf, name_of, none, step, word_of}
 use Rattle.uni_model.proofs.Indices.{name_of-index_of}
-use Rattle.uni_words.specs.Seats.{HasAsked}
-use Rattle.uni_words.specs.Words.{word_of}
-use Rattle.uni_words.proofs.Allowed.{by_key, cell_word}
+use Rattle.uni_words.proofs.Allowed.{may_step, cell_word}
 use Rattle.uni_words.proofs.Asking.{asks}
 use Rattle.uni_words.proofs.seat.WordSeat.follows.Goals as goal
 
 pub load-requires : goal.load-requires
 load-requires g c =
     let log = c.args.log.now in
-    let n = log.setup.n in
-    let k = log.setup.k in
     let slots = log.table.shared.table_id.slots in
     let mine = c.args.self.now in
     let id = mine.seat.id in
@@ -26,10 +18,7 @@ load-requires g c =
     let inside = c.if-process-self.false in
     let processes = c.requires.seat.processes in
     let calls = c.requires.seat.calls in
-    let word : word_of n k (SeqOf (Of call.process call.nth)) ≡ Some i
-    = subst (λ x. word_of n k (SeqOf x) ≡ Some i) (ap (name_of n) c.cell.ensures.0 ∙ name_of-index_of n call.process call.nth (omega arith)) (cell_word n k 3 c.cell.result i log.few.0 c.cell.ensures.1 c.seq_word-word.ensures) in (
-      c.requires.seat.table,
-      (let a = c.seq_word-word.ensures in let b = c.cell.ensures.1 in let d = log.sized in omega arith),
-      by_key g.O.WordObject.sequential log.table.shared.key log.setup log.same slots id me i (λ x. x) (λ x me'. HasAsked st me x me')
-          (asks (g.O.WordObject.sequential log.setup.object) k n slots id i st me (mine.idle.0 ∙ processes) (mine.idle.1 ∙ calls) mine.idle.3 mine.idle.5 refl call word),
-    )
+    let word : word_of log.setup.n log.setup.k (SeqOf (Of call.process call.nth)) ≡ Some i
+    = subst (λ x. word_of log.setup.n log.setup.k (SeqOf x) ≡ Some i) (ap (name_of log.setup.n) c.cell.ensures.0 ∙ name_of-index_of log.setup.n call.process call.nth (omega arith)) (cell_word log.setup.n log.setup.k 3 c.cell.result i log.few.0 c.cell.ensures.1 c.seq_word-word.ensures) in
+    may_step g.O.WordObject.sequential log id me i (λ x. x) (λ x me'. HasAsked st me x me') (SeqOf (Of call.process call.nth)) word c.requires.seat.table
+    (asks (g.O.WordObject.sequential log.setup.object) log.setup.k log.setup.n slots id i st me (mine.idle.0 ∙ processes) (mine.idle.1 ∙ calls) mine.idle.3 mine.idle.5 refl call word)

@@ -1,7 +1,6 @@
 use Rattle.std.proofs.Common.{sym, subst, arith}
-use Rattle.atomic_table.specs.Table.{Joins}
+use Rattle.uni_words.proofs.Names.{Joins, nobody, took_in}
 use Rattle.uni_words.specs.Rule.{Rule}
-use Rattle.uni_words.specs.Seats.{nobody, took_in}
 use Rattle.uni_words.proofs.Joining.{joins}
 use Rattle.uni_words.proofs.seat.WordSeat.take_in.Goals as goal
 
