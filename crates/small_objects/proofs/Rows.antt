@@ -3,7 +3,6 @@ use Rattle.std.proofs.Common.{◌≡◌, ◌≢◌, ◌∙◌, ℕ, zero, suc, �
 use Rattle.seq_object.specs.Sequential.{Sequential}
 use Rattle.seq_object.specs.History.{state_after}
 use Rattle.uni_model.proofs.Written.{number_cases, lt_cases}
-use Rattle.uni_small.specs.Image.{IsReached}
 use Rattle.uni_small.proofs.Lists.{same_list}
 use Rattle.small_objects.specs.Encoding.{IsStateOf, encoded, Fits}
 use Rattle.small_objects.specs.Padded.{padded, row_of, values_in, length-padded}
@@ -110,12 +109,12 @@ module _ (capacity : ℕ) where
     pub words_are : words ≡ row_of capacity values
     pub read : values_in words ≡ values
 
-  pub queue_values : (words : List ℕ) → IsReached (queue capacity) words → (values : List ℕ) × HasValues words values
+  pub queue_values : (words : List ℕ) → IsStateOf (queue capacity) words → (values : List ℕ) × HasValues words values
   queue_values words was =
       let h = reached_is (bounded_queue capacity) (row_of capacity) values_in queue_fits words was in
       (h.0, record { few = reached_few (bounded_queue capacity) queue_few refl h.0 h.1; words_are = h.2; read = h.3 })
 
-  pub stack_values : (words : List ℕ) → IsReached (stack capacity) words → (values : List ℕ) × HasValues words values
+  pub stack_values : (words : List ℕ) → IsStateOf (stack capacity) words → (values : List ℕ) × HasValues words values
   stack_values words was =
       let h = reached_is (bounded_stack capacity) (row_of capacity) values_in stack_fits words was in
       (h.0, record { few = reached_few (bounded_stack capacity) stack_few refl h.0 h.1; words_are = h.2; read = h.3 })

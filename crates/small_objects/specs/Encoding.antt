@@ -1,16 +1,16 @@
--- An object whose states are stored in words.
-use Rattle.std.specs.Prelude.{◌≡◌, ℕ, List, length}
+-- An object whose states, invocations and replies are stored in words.
+use Rattle.std.specs.Prelude.{◌≡◌, ℕ, List, [], ◌∷◌, length, slice_index}
 use Rattle.seq_object.specs.Sequential.{Sequential}
 use Rattle.seq_object.specs.History.{state_after}
-use Rattle.uni_small.specs.Image.{IsSteady}
+use Rattle.uni_small.specs.Image.{IsSteady, Meaning}
 
 -- a state that some calls lead to
 abbrev pub IsStateOf : {S I R : Type 0} → Sequential S I R → S → Type 0
 IsStateOf {S} {I} {R} plain state = (is : List I) × (state_after plain plain.initial is ≡ state)
 
-module _ {S : Type 0} (plain : Sequential S ℕ ℕ) (encode : S → List ℕ) (decode : List ℕ → S) where
+module _ {S I R : Type 0} (plain : Sequential S I R) (encode : S → List ℕ) (decode : List ℕ → S) where
   -- the object on the words of its states
-  abbrev pub encoded : Sequential (List ℕ) ℕ ℕ
+  abbrev pub encoded : Sequential (List ℕ) I R
   encoded = record {
     initial = encode plain.initial;
     next = λ words inv. encode (plain.next (decode words) inv);
@@ -21,6 +21,28 @@ module _ {S : Type 0} (plain : Sequential S ℕ ℕ) (encode : S → List ℕ) (
   abbrev pub Fits : Type 0
   Fits = (state : S) → IsStateOf plain state → decode (encode state) ≡ state
 
-  -- where all states have as many words, no invocation changes how many there are
-  pub always_steady : ((state : S) → length (encode state) ≡ length (encode plain.initial)) → IsSteady encoded
-  always_steady wide state inv long = wide (plain.next (decode state) inv)
+-- the object whose invocations are those in words, and whose replies are spelled in words
+abbrev pub in_words : {S I R : Type 0} → Sequential S I R → (call_in : List ℕ → I) → (spell : R → List ℕ) → Sequential S (List ℕ) (List ℕ)
+in_words object call_in spell = record {
+  initial = object.initial;
+  next = λ state inv. object.next state (call_in inv);
+  answer = λ state inv. spell (object.answer state (call_in inv));
+}
+
+-- an invocation, and a reply, of one word
+abbrev pub first_word : List ℕ → ℕ
+first_word words = slice_index words 0
+
+abbrev pub one_word : ℕ → List ℕ
+one_word word = word ∷ []
+
+-- an object on words whose invocations and replies are one word each
+abbrev pub of_one_word : Sequential (List ℕ) ℕ ℕ → Meaning
+of_one_word object = record { object = in_words object first_word one_word; invocation = 1; reply = 1 }
+
+-- an object on words is steady where all next states have as many words, and all replies
+pub steady_in_words : {I R : Type 0} (object : Sequential (List ℕ) I R) (call_in : List ℕ → I) (spell : R → List ℕ) (wide : ℕ)
+    → ((state : List ℕ) (inv : I) → length state ≡ length object.initial → length (object.next state inv) ≡ length object.initial)
+    → ((reply : R) → length (spell reply) ≡ wide) → IsSteady (in_words object call_in spell) wide
+steady_in_words object call_in spell wide states replies state inv long =
+    (states state (call_in inv) long, replies (object.answer state (call_in inv)))

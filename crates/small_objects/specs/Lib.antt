@@ -5,3 +5,4 @@ pub mod Padded
 pub mod Queue
 pub mod Register
 pub mod Stack
+pub mod Typed

@@ -1,8 +1,7 @@
 -- A bounded queue: its state is the list of its values, the oldest one first.
 use Rattle.std.specs.Prelude.{◌≡◌, ℕ, zero, suc, List, [], ◌∷◌, ◌++◌, refl, length, drop, slice_index, nat_lt, if◌then◌else◌}
 use Rattle.seq_object.specs.Sequential.{Sequential}
-use Rattle.uni_small.specs.Image.{IsSteady}
-use Rattle.small_objects.specs.Encoding.{encoded, always_steady}
+use Rattle.small_objects.specs.Encoding.{encoded}
 use Rattle.small_objects.specs.Padded.{row_of, row_wide, values_in}
 
 -- The values after an invocation: 0 takes the oldest one out, and another number goes in behind the others, where there is room.
@@ -22,8 +21,9 @@ bounded_queue capacity = record { initial = []; next = queue_next capacity; answ
 abbrev pub queue : (capacity : ℕ) → Sequential (List ℕ) ℕ ℕ
 queue capacity = encoded (bounded_queue capacity) (row_of capacity) values_in
 
-pub queue_steady : (capacity : ℕ) → IsSteady (queue capacity)
-queue_steady capacity = always_steady (bounded_queue capacity) (row_of capacity) values_in (row_wide capacity)
+-- all its states have as many words
+pub queue_steady : (capacity : ℕ) (state : List ℕ) (inv : ℕ) → length state ≡ length (queue capacity).initial → length ((queue capacity).next state inv) ≡ length (queue capacity).initial
+queue_steady capacity state inv long = row_wide capacity (queue_next capacity (values_in state) inv)
 
 sample_in : (queue 4).next (1 ∷ 8 ∷ 0 ∷ 0 ∷ 0 ∷ []) 9 ≡ 2 ∷ 8 ∷ 9 ∷ 0 ∷ 0 ∷ []
 sample_in = refl

@@ -1,8 +1,7 @@
 -- A bounded stack: its state is the list of its values, the newest one last.
 use Rattle.std.specs.Prelude.{◌≡◌, ℕ, zero, suc, ◌-◌, List, [], ◌∷◌, ◌++◌, refl, length, take, slice_index, nat_lt, if◌then◌else◌}
 use Rattle.seq_object.specs.Sequential.{Sequential}
-use Rattle.uni_small.specs.Image.{IsSteady}
-use Rattle.small_objects.specs.Encoding.{encoded, always_steady}
+use Rattle.small_objects.specs.Encoding.{encoded}
 use Rattle.small_objects.specs.Padded.{row_of, row_wide, values_in}
 
 -- The values after an invocation: 0 takes the newest one off, and another number goes on the others, where there is room.
@@ -22,8 +21,9 @@ bounded_stack capacity = record { initial = []; next = stack_next capacity; answ
 abbrev pub stack : (capacity : ℕ) → Sequential (List ℕ) ℕ ℕ
 stack capacity = encoded (bounded_stack capacity) (row_of capacity) values_in
 
-pub stack_steady : (capacity : ℕ) → IsSteady (stack capacity)
-stack_steady capacity = always_steady (bounded_stack capacity) (row_of capacity) values_in (row_wide capacity)
+-- all its states have as many words
+pub stack_steady : (capacity : ℕ) (state : List ℕ) (inv : ℕ) → length state ≡ length (stack capacity).initial → length ((stack capacity).next state inv) ≡ length (stack capacity).initial
+stack_steady capacity state inv long = row_wide capacity (stack_next capacity (values_in state) inv)
 
 sample_on : (stack 4).next (1 ∷ 8 ∷ 0 ∷ 0 ∷ 0 ∷ []) 9 ≡ 2 ∷ 8 ∷ 9 ∷ 0 ∷ 0 ∷ []
 sample_on = refl

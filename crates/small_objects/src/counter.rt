@@ -1,6 +1,8 @@
 //! A counter.
+ghost use Rattle.std.specs.Prelude.{refl};
 ghost use Rattle.std.proofs.Common.{◌∙◌, length-set};
 ghost use Rattle.small_objects.specs.Counter.{counter};
+ghost use Rattle.small_objects.specs.Encoding.{of_one_word};
 
 use uni_small::SmallObject;
 
@@ -8,10 +10,19 @@ use uni_small::SmallObject;
 #[derive(Clone, Copy, Debug, Drop)]
 pub struct SmallCounter;
 
+#[tactic(auto, using(crate::proofs::Short::one_set))]
 impl SmallObject for SmallCounter {
-    ghost sequential = { λ o. counter };
+    ghost meaning = { λ o. of_one_word counter };
 
     fn width(&self) -> u64 {
+        1
+    }
+
+    fn invocation_width(&self) -> u64 {
+        1
+    }
+
+    fn reply_width(&self) -> u64 {
         1
     }
 
@@ -19,11 +30,11 @@ impl SmallObject for SmallCounter {
         state[0] = 0;
     }
 
-    fn apply(&self, state: &mut [u64], inv: u64) -> u64 {
+    fn apply(&self, state: &mut [u64], invocation: &[u64], reply: &mut [u64]) {
         let before = state[0];
-        state[0] = before.wrapping_add(inv);
-        before
+        state[0] = before.wrapping_add(invocation[0]);
+        reply[0] = before;
     }
 
-    ghost steady = { λ o state inv long. length-set state 0 _ ∙ long };
+    ghost steady = { λ o state inv long. (length-set state 0 _ ∙ long, refl) };
 }

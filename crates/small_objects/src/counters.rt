@@ -1,23 +1,72 @@
 //! An array of counters.
-ghost use Rattle.std.specs.Prelude.{◌≡◌};
+ghost use Rattle.std.specs.Prelude.{[], ◌≡◌, ◌∷◌, refl};
 ghost use Rattle.std.proofs.Common.{◌∙◌, length-set};
-ghost use Rattle.small_objects.specs.Counters.{counters};
+ghost use Rattle.small_objects.specs.Counters.{call_in, call_words, counters, spelled};
+ghost use Rattle.small_objects.specs.Encoding.{in_words, one_word};
 
+use crate::words::Words;
 use uni_small::SmallObject;
 
-/// So many counters modulo 2^64, each from 0. An invocation names one of them by its index: it adds 1 to it,
-/// and is answered the number before. One that names none changes nothing, and is answered 0.
+/// A call of an array of counters.
+#[derive(Clone, Copy, Debug, PartialEq, Eq, Drop)]
+pub struct CountersCall {
+    /// The index of a counter.
+    pub counter: u64,
+    /// What is added to it.
+    pub operand: u64,
+}
+
+#[tactic(auto, using(crate::proofs::Short::two_set))]
+impl Words for CountersCall {
+    ghost words = { 2 };
+
+    ghost encode = { call_words };
+
+    ghost decode = { call_in };
+
+    fn count() -> u64 {
+        2
+    }
+
+    fn store(&self, to: &mut [u64]) {
+        to[0] = self.counter;
+        to[1] = self.operand;
+    }
+
+    fn load(from: &[u64]) -> CountersCall {
+        CountersCall {
+            counter: from[0],
+            operand: from[1],
+        }
+    }
+
+    ghost long = { λ x. refl };
+
+    ghost fits = { λ x. refl };
+}
+
+/// So many counters modulo 2^64, each from 0. A call adds its operand to one of them, and is answered the
+/// number before. One that names none changes nothing, and is answered 0.
 #[derive(Clone, Copy, Debug, Drop)]
 pub struct SmallCounters {
     /// How many counters there are.
     pub count: u64,
 }
 
+#[tactic(auto, using(crate::proofs::Short::one_set))]
 impl SmallObject for SmallCounters {
-    ghost sequential = { λ o. counters o.count };
+    ghost meaning = { λ o. spelled o.count };
 
     fn width(&self) -> u64 {
         self.count
+    }
+
+    fn invocation_width(&self) -> u64 {
+        2
+    }
+
+    fn reply_width(&self) -> u64 {
+        1
     }
 
     fn start(&self, state: &mut [u64]) {
@@ -26,15 +75,17 @@ impl SmallObject for SmallCounters {
         }
     }
 
-    fn apply(&self, state: &mut [u64], inv: u64) -> u64 {
-        let i = inv as usize;
+    fn apply(&self, state: &mut [u64], invocation: &[u64], reply: &mut [u64]) {
+        let CountersCall { counter, operand } = CountersCall::load(invocation);
+        let i = counter as usize;
         if i >= state.len() {
-            return 0;
+            reply[0] = 0;
+            return;
         }
         let before = state[i];
-        state[i] = before.wrapping_add(1);
-        before
+        state[i] = before.wrapping_add(operand);
+        reply[0] = before;
     }
 
-    ghost steady = { λ o state inv long. length-set state inv _ ∙ long };
+    ghost steady = { λ o state inv long. (length-set state _ _ ∙ long, refl) };
 }

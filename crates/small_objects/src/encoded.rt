@@ -1,21 +1,28 @@
 //! Objects whose states are structs, stored in words.
-ghost use Rattle.std.specs.Prelude.{◌≡◌, ℕ, List, length};
+ghost use Rattle.std.specs.Prelude.{List, ℕ, ◌≡◌, length, map};
 ghost use Rattle.seq_object.specs.History.{state_after};
 ghost use Rattle.seq_object.specs.Sequential.{Sequential};
-ghost use Rattle.small_objects.specs.Encoding.{Fits, IsStateOf, always_steady, encoded};
+ghost use Rattle.small_objects.specs.Encoding.{Fits, IsStateOf, encoded, in_words, steady_in_words};
 
+use crate::words::Words;
 use uni_small::SmallObject;
 
-/// A sequential object that needs no memory, and whose states are stored in words and loaded from them.
+/// A sequential object that needs no memory, whose states are stored in words and loaded from them, and so
+/// are its calls and replies.
 ///
 /// The record `sequential` is what the object means.
 pub trait StoredObject: Drop {
     /// A state of the object.
     type State: Drop;
 
-    /// What the object means: its start state, and for each state and invocation the next state and
-    /// the reply.
-    ghost sequential: { Self → Sequential Self.State ℕ ℕ };
+    /// An invocation.
+    type Call: Words;
+
+    /// A reply.
+    type Reply: Words;
+
+    /// What the object means: its start state, and for each state and call the next state and the reply.
+    ghost sequential: { Self → Sequential Self.State Self.Call Self.Reply };
 
     /// The words of a state.
     ghost encode: { Self → Self.State → List ℕ };
@@ -41,11 +48,11 @@ pub trait StoredObject: Drop {
         requires wide { length words.old ≡ length (encode self.now (sequential self.now).initial) }
         ensures words { words.new ≡ encode self.now state.now };
 
-    /// Applies an invocation to a state that calls lead to, and gives the reply.
-    fn apply(&self, state: &mut Self::State, inv: u64) -> u64
+    /// Applies a call to a state that calls lead to, and gives the reply.
+    fn apply(&self, state: &mut Self::State, call: &Self::Call) -> Self::Reply
         requires reached { IsStateOf (sequential self.now) state.old }
-        ensures state { state.new ≡ (sequential self.now).next state.old inv }
-        ensures reply { result ≡ (sequential self.now).answer state.old inv };
+        ensures state { state.new ≡ (sequential self.now).next state.old call.now }
+        ensures reply { result ≡ (sequential self.now).answer state.old call.now };
 
     /// All states have as many words.
     ghost steady: { (o : Self) (state : Self.State) →
@@ -64,10 +71,23 @@ pub struct Encoded<T: StoredObject> {
 }
 
 impl<T: StoredObject> SmallObject for Encoded<T> {
-    ghost sequential = { λ o. encoded (T.sequential o.object) (T.encode o.object) (T.decode o.object) };
+    ghost meaning = { λ o. record {
+      object = in_words (encoded (T.sequential o.object) (T.encode o.object) (T.decode o.object))
+          T.Call.decode T.Reply.encode;
+      invocation = T.Call.words;
+      reply = T.Reply.words;
+    } };
 
     fn width(&self) -> u64 {
         self.object.width()
+    }
+
+    fn invocation_width(&self) -> u64 {
+        T::Call::count()
+    }
+
+    fn reply_width(&self) -> u64 {
+        T::Reply::count()
     }
 
     fn start(&self, state: &mut [u64]) {
@@ -75,20 +95,22 @@ impl<T: StoredObject> SmallObject for Encoded<T> {
         self.object.store(&first, state);
     }
 
-    fn apply(&self, state: &mut [u64], inv: u64) -> u64 {
+    fn apply(&self, state: &mut [u64], invocation: &[u64], reply: &mut [u64]) {
+        let call = T::Call::load(invocation);
         let mut stored = self.object.load(state);
-        let reply = self.object.apply(&mut stored, inv);
+        let told = self.object.apply(&mut stored, &call);
+        told.store(reply);
         self.object.store(&stored, state);
-        reply
     }
 
-    ghost steady = { λ o. always_steady (T.sequential o.object) (T.encode o.object) (T.decode o.object)
-        (T.steady o.object) };
+    ghost steady = { λ o. steady_in_words (encoded (T.sequential o.object) (T.encode o.object) (T.decode o.object))
+        T.Call.decode T.Reply.encode T.Reply.words (λ state call long. T.steady o.object _) T.Reply.long };
 }
 
 /// What is so of the states on words is so of the plain ones: after the same invocations the words are those
 /// of the plain object's state.
 pub fn encoded_follows_plain<T: StoredObject>()
-    ensures { (o : T) (is : List ℕ) → let words = encoded (T.sequential o) (T.encode o) (T.decode o) in
-        state_after words words.initial is ≡ T.encode o (state_after (T.sequential o) (T.sequential o).initial is) }
+    ensures { (o : T) (is : List (List ℕ)) → let plain = T.sequential o in
+        let words = in_words (encoded plain (T.encode o) (T.decode o)) T.Call.decode T.Reply.encode in
+        state_after words words.initial is ≡ T.encode o (state_after plain plain.initial (map T.Call.decode is)) }
 {}

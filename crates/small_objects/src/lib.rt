@@ -7,10 +7,14 @@ mod encoded;
 mod queue;
 mod register;
 mod stack;
+mod typed;
+mod words;
 
 pub use counter::SmallCounter;
-pub use counters::SmallCounters;
+pub use counters::{CountersCall, SmallCounters};
 pub use encoded::{Encoded, StoredObject};
 pub use queue::SmallQueue;
 pub use register::{RegisterCall, SmallRegister};
 pub use stack::SmallStack;
+pub use typed::{Told, TypedSeat};
+pub use words::Words;

@@ -1,6 +1,7 @@
 //! A bounded queue.
-ghost use Rattle.std.specs.Prelude.{◌≡◌, ℕ, ◌≤◌, ◌<◌, ◌+◌, length, slice_index};
+ghost use Rattle.std.specs.Prelude.{ℕ, ◌+◌, ◌<◌, ◌≡◌, ◌≤◌, length, refl, slice_index};
 ghost use Rattle.small_objects.specs.Queue.{queue, queue_steady};
+ghost use Rattle.small_objects.specs.Encoding.{IsStateOf, first_word, of_one_word};
 
 use uni_small::SmallObject;
 
@@ -31,20 +32,14 @@ fn shift(state: &mut [u64], count: usize) -> u64
     first
 }
 
-impl SmallObject for SmallQueue {
-    ghost sequential = { λ o. queue o.capacity };
-
-    fn width(&self) -> u64 {
-        self.capacity as u64 + 1
-    }
-
-    fn start(&self, state: &mut [u64]) {
-        for i in 0..state.len() {
-            state[i] = 0;
-        }
-    }
-
-    fn apply(&self, state: &mut [u64], inv: u64) -> u64 {
+impl SmallQueue {
+    /// Applies an invocation of one word to a state that calls lead to, and gives the reply.
+    fn step(&self, state: &mut [u64], inv: u64) -> u64
+        requires wide { length state.old ≡ length (queue self.now.capacity).initial }
+        requires reached { IsStateOf (queue self.now.capacity) state.old }
+        ensures state { state.new ≡ (queue self.now.capacity).next state.old inv }
+        ensures reply { result ≡ (queue self.now.capacity).answer state.old inv }
+    {
         let count = state[0] as usize;
         if inv == 0 {
             if count == 0 {
@@ -61,6 +56,33 @@ impl SmallObject for SmallQueue {
         state[0] = count as u64 + 1;
         1
     }
+}
 
-    ghost steady = { λ o. queue_steady o.capacity };
+#[tactic(auto, using(crate::proofs::Reached::reached_in, crate::proofs::Short::one_set))]
+impl SmallObject for SmallQueue {
+    ghost meaning = { λ o. of_one_word (queue o.capacity) };
+
+    fn width(&self) -> u64 {
+        self.capacity as u64 + 1
+    }
+
+    fn invocation_width(&self) -> u64 {
+        1
+    }
+
+    fn reply_width(&self) -> u64 {
+        1
+    }
+
+    fn start(&self, state: &mut [u64]) {
+        for i in 0..state.len() {
+            state[i] = 0;
+        }
+    }
+
+    fn apply(&self, state: &mut [u64], invocation: &[u64], reply: &mut [u64]) {
+        reply[0] = self.step(state, invocation[0]);
+    }
+
+    ghost steady = { λ o state inv long. (queue_steady o.capacity state (first_word inv) long, refl) };
 }

@@ -1,78 +1,76 @@
 //! A register with compare-and-exchange.
-ghost use Rattle.std.specs.Prelude.{◌≡◌, ◌<◌, ◌^◌};
+ghost use Rattle.std.specs.Prelude.{refl};
 ghost use Rattle.std.proofs.Common.{◌∙◌, length-set};
-ghost use Rattle.small_objects.specs.Register.{register, register_call};
-ghost use Rattle.small_objects.specs.declared.register.RegisterCall.{RegisterCall};
+ghost use Rattle.small_objects.specs.Register.{call_fits, call_in, call_long, call_words, spelled};
 
+use crate::words::Words;
 use uni_small::SmallObject;
 
-/// The number of values of a register, 2^31.
-const VALUES: u64 = 2_147_483_648;
-
-/// The number of pairs of values, 2^62.
-const PAIRS: u64 = 4_611_686_018_427_387_904;
-
-/// A call of a register. Its numbers are below 2^31 each. The reply is the value before.
-#[derive(Clone, Copy, Debug, PartialEq, Eq)]
+/// A call of a register. The reply is the value before.
+#[derive(Clone, Copy, Debug, PartialEq, Eq, Drop)]
 pub enum RegisterCall {
     /// Reads the value.
     Read,
     /// Writes a value.
-    Write(u32),
+    Write(u64),
     /// Writes the second value where the register has the first. So it has written where the reply is
     /// the first value.
-    CompareExchange(u32, u32),
+    CompareExchange(u64, u64),
 }
 
-/// A register of 31 bits. It is 0 at the start.
-///
-/// An invocation is the number that one of the functions below makes of a call. Each other number
-/// reads. The reply is the value before.
-#[derive(Clone, Copy, Debug, Drop)]
-pub struct SmallRegister;
+#[tactic(auto, using(crate::proofs::Short::three_set))]
+impl Words for RegisterCall {
+    ghost words = { 3 };
 
-impl SmallRegister {
-    /// The invocation that reads.
-    pub fn read() -> u64
-        ensures { register_call result ≡ RegisterCall.Read }
-    {
-        0
+    ghost encode = { call_words };
+
+    ghost decode = { call_in };
+
+    fn count() -> u64 {
+        3
     }
 
-    /// The invocation that writes a value below 2^31.
-    pub fn write(value: u32) -> u64
-        requires { value < 2 ^ 31 }
-        ensures { register_call result ≡ RegisterCall.Write value }
-    {
-        PAIRS + value as u64
+    fn store(&self, to: &mut [u64]) {
+        let (operation, first, second) = match *self {
+            RegisterCall::Read => (0, 0, 0),
+            RegisterCall::Write(value) => (1, value, 0),
+            RegisterCall::CompareExchange(expected, value) => (2, expected, value),
+        };
+        to[0] = operation;
+        to[1] = first;
+        to[2] = second;
     }
 
-    /// The invocation that writes a value where the register has the expected one, both below 2^31.
-    pub fn compare_exchange(expected: u32, value: u32) -> u64
-        requires expected { expected < 2 ^ 31 }
-        requires value { value < 2 ^ 31 }
-        ensures { register_call result ≡ RegisterCall.CompareExchange expected value }
-    {
-        2 * PAIRS + expected as u64 * VALUES + value as u64
-    }
-
-    /// The call that an invocation makes.
-    pub fn call_of(inv: u64) -> RegisterCall
-        ensures { result ≡ register_call inv }
-    {
-        let value = (inv % VALUES) as u32;
-        match inv / PAIRS {
-            1 => RegisterCall::Write(value),
-            2 => RegisterCall::CompareExchange((inv / VALUES % VALUES) as u32, value),
+    fn load(from: &[u64]) -> RegisterCall {
+        match from[0] {
+            1 => RegisterCall::Write(from[1]),
+            2 => RegisterCall::CompareExchange(from[1], from[2]),
             _ => RegisterCall::Read,
         }
     }
+
+    ghost long = { call_long };
+
+    ghost fits = { call_fits };
 }
 
+/// A register of 64 bits. It is 0 at the start.
+#[derive(Clone, Copy, Debug, Drop)]
+pub struct SmallRegister;
+
+#[tactic(auto, using(crate::proofs::Short::one_set))]
 impl SmallObject for SmallRegister {
-    ghost sequential = { λ o. register };
+    ghost meaning = { λ o. spelled };
 
     fn width(&self) -> u64 {
+        1
+    }
+
+    fn invocation_width(&self) -> u64 {
+        3
+    }
+
+    fn reply_width(&self) -> u64 {
         1
     }
 
@@ -80,21 +78,17 @@ impl SmallObject for SmallRegister {
         state[0] = 0;
     }
 
-    fn apply(&self, state: &mut [u64], inv: u64) -> u64 {
+    fn apply(&self, state: &mut [u64], invocation: &[u64], reply: &mut [u64]) {
         let before = state[0];
-        state[0] = match SmallRegister::call_of(inv) {
+        state[0] = match RegisterCall::load(invocation) {
             RegisterCall::Read => before,
-            RegisterCall::Write(value) => value as u64,
+            RegisterCall::Write(value) => value,
             RegisterCall::CompareExchange(expected, value) => {
-                if before == expected as u64 {
-                    value as u64
-                } else {
-                    before
-                }
+                if before == expected { value } else { before }
             }
         };
-        before
+        reply[0] = before;
     }
 
-    ghost steady = { λ o state inv long. length-set state 0 _ ∙ long };
+    ghost steady = { λ o state inv long. (length-set state 0 _ ∙ long, refl) };
 }

@@ -1,5 +1,7 @@
 //! A bounded stack.
+ghost use Rattle.std.specs.Prelude.{◌≡◌, length, refl};
 ghost use Rattle.small_objects.specs.Stack.{stack, stack_steady};
+ghost use Rattle.small_objects.specs.Encoding.{IsStateOf, first_word, of_one_word};
 
 use uni_small::SmallObject;
 
@@ -12,20 +14,14 @@ pub struct SmallStack {
     pub capacity: u32,
 }
 
-impl SmallObject for SmallStack {
-    ghost sequential = { λ o. stack o.capacity };
-
-    fn width(&self) -> u64 {
-        self.capacity as u64 + 1
-    }
-
-    fn start(&self, state: &mut [u64]) {
-        for i in 0..state.len() {
-            state[i] = 0;
-        }
-    }
-
-    fn apply(&self, state: &mut [u64], inv: u64) -> u64 {
+impl SmallStack {
+    /// Applies an invocation of one word to a state that calls lead to, and gives the reply.
+    fn step(&self, state: &mut [u64], inv: u64) -> u64
+        requires wide { length state.old ≡ length (stack self.now.capacity).initial }
+        requires reached { IsStateOf (stack self.now.capacity) state.old }
+        ensures state { state.new ≡ (stack self.now.capacity).next state.old inv }
+        ensures reply { result ≡ (stack self.now.capacity).answer state.old inv }
+    {
         let count = state[0] as usize;
         if inv == 0 {
             if count == 0 {
@@ -43,6 +39,33 @@ impl SmallObject for SmallStack {
         state[0] = count as u64 + 1;
         1
     }
+}
 
-    ghost steady = { λ o. stack_steady o.capacity };
+#[tactic(auto, using(crate::proofs::Reached::reached_in, crate::proofs::Short::one_set))]
+impl SmallObject for SmallStack {
+    ghost meaning = { λ o. of_one_word (stack o.capacity) };
+
+    fn width(&self) -> u64 {
+        self.capacity as u64 + 1
+    }
+
+    fn invocation_width(&self) -> u64 {
+        1
+    }
+
+    fn reply_width(&self) -> u64 {
+        1
+    }
+
+    fn start(&self, state: &mut [u64]) {
+        for i in 0..state.len() {
+            state[i] = 0;
+        }
+    }
+
+    fn apply(&self, state: &mut [u64], invocation: &[u64], reply: &mut [u64]) {
+        reply[0] = self.step(state, invocation[0]);
+    }
+
+    ghost steady = { λ o state inv long. (stack_steady o.capacity state (first_word inv) long, refl) };
 }

@@ -21,6 +21,10 @@ pub struct AccountObject;
 impl StoredObject for AccountObject {
     type State = Account;
 
+    type Call = u64;
+
+    type Reply = u64;
+
     ghost sequential = { λ o. account };
 
     ghost encode = { λ o. words_of };
@@ -53,10 +57,10 @@ impl StoredObject for AccountObject {
         words[2] = account.refused;
     }
 
-    fn apply(&self, account: &mut Account, inv: u64) -> u64 {
+    fn apply(&self, account: &mut Account, inv: &u64) -> u64 {
         let before = account.balance;
-        let amount = inv / 2;
-        if inv % 2 == 0 {
+        let amount = *inv / 2;
+        if *inv % 2 == 0 {
             account.balance = before.wrapping_add(amount);
         } else if amount <= before {
             account.balance = before - amount;

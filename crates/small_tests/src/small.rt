@@ -2,27 +2,55 @@
 
 ghost use Rattle.std.specs.Prelude.{◌≡◌, All, length};
 ghost use Rattle.uni_small.specs.Belongs.{IsSeatOf, width_of};
+ghost use Rattle.small_objects.specs.Typed.{IsTypedSeatOf};
 
 use crate::account::AccountObject;
-use small_objects::{Encoded, SmallCounter, SmallCounters, SmallQueue, SmallRegister, SmallStack};
+use small_objects::{
+    CountersCall, Encoded, RegisterCall, SmallCounter, SmallCounters, SmallQueue, SmallRegister,
+    SmallStack, Told, TypedSeat, Words,
+};
 use std::alloc::Global;
 use std::process::Abort;
-use uni_small::{Answer, SmallObject, SmallOpenFault, SmallSeat, SmallShared};
+use uni_small::{SmallObject, SmallOpenFault, SmallSeat, SmallShared};
 
-/// The answer to the seat's next call.
+/// The seat's next call, of an object whose invocations and replies are one word each.
 fn answer<O: SmallObject>(
     rt: &impl Abort,
     shared: &SmallShared<O>,
     seat: &mut SmallSeat<O>,
     inv: u64,
-) -> Answer
+) -> Told<u64>
     requires { IsSeatOf shared.now seat.old }
     ensures { IsSeatOf shared.now seat.new }
 {
-    let Ok(answer) = seat.apply(shared, inv) else {
+    assert!(rt; shared.invocation_width() == 1);
+    assert!(rt; shared.reply_width() == 1);
+    let mut reply = [0];
+    let Ok(version) = seat.apply(shared, &[inv], &mut reply) else {
         panic!(rt; "calls are spent")
     };
-    answer
+    Told {
+        reply: reply[0],
+        version,
+    }
+}
+
+/// The typed seat's next calls, each with its reply.
+fn told<O: SmallObject, C: Words>(
+    rt: &impl Abort,
+    shared: &SmallShared<O>,
+    seat: &mut TypedSeat<O, C, u64>,
+    rows: &[(C, u64)],
+)
+    requires { IsTypedSeatOf C.words 1 shared.now seat.old }
+    ensures { IsTypedSeatOf C.words 1 shared.now seat.new }
+{
+    for row in rows {
+        let Ok(answer) = seat.call(shared, &row.0) else {
+            panic!(rt; "calls are spent")
+        };
+        assert!(rt; answer.reply == row.1, "not {}: {}", row.1, answer.reply);
+    }
 }
 
 /// The seat's next calls, each with its invocation and its reply.
@@ -86,23 +114,45 @@ fn a_stack(rt: HostRuntime) {
     answers(&rt, &shared, &mut seats[0], &[(0, 9), (0, 8), (0, 0)]);
 }
 
+/// A seat for calls of type `C`, which are answered a number.
+fn typed<O: SmallObject, C: Words>(
+    rt: &impl Abort,
+    alloc: Global,
+    shared: &SmallShared<O>,
+    seat: SmallSeat<O>,
+) -> TypedSeat<O, C, u64>
+    requires { IsSeatOf shared.now seat }
+    ensures { IsTypedSeatOf C.words 1 shared.now result }
+{
+    assert!(rt; shared.invocation_width() == C::count());
+    assert!(rt; shared.reply_width() == 1);
+    let Ok(seat) = TypedSeat::new(alloc, shared, seat) else {
+        panic!(rt; "out of memory")
+    };
+    seat
+}
+
 #[test]
 fn a_register(rt: HostRuntime) {
-    let Ok((shared, mut seats)) = SmallShared::open(rt.alloc(), SmallRegister, 2) else {
+    let Ok((shared, mut seats)) = SmallShared::open(rt.alloc(), SmallRegister, 1) else {
         panic!(rt; "not opened")
     };
-    let swap = SmallRegister::compare_exchange(7, 9);
-    answers(
+    let Some(seat) = seats.pop() else {
+        panic!(rt; "no seat")
+    };
+    let mut seat = typed(&rt, rt.alloc(), &shared, seat);
+    let most = u64::MAX;
+    let swap = RegisterCall::CompareExchange(most, 9);
+    told(
         &rt,
         &shared,
-        &mut seats[1],
-        &[(swap, 0), (SmallRegister::write(7), 0)],
-    );
-    answers(
-        &rt,
-        &shared,
-        &mut seats[0],
-        &[(swap, 7), (SmallRegister::read(), 9)],
+        &mut seat,
+        &[
+            (swap, 0),
+            (RegisterCall::Write(most), 0),
+            (swap, most),
+            (RegisterCall::Read, 9),
+        ],
     );
 }
 
@@ -112,11 +162,51 @@ fn counters(rt: HostRuntime) {
     else {
         panic!(rt; "not opened")
     };
-    answers(
+    let Some(seat) = seats.pop() else {
+        panic!(rt; "no seat")
+    };
+    let mut seat = typed(&rt, rt.alloc(), &shared, seat);
+    told(
         &rt,
         &shared,
-        &mut seats[0],
-        &[(2, 0), (2, 1), (0, 0), (3, 0), (2, 2)],
+        &mut seat,
+        &[
+            (
+                CountersCall {
+                    counter: 2,
+                    operand: 5,
+                },
+                0,
+            ),
+            (
+                CountersCall {
+                    counter: 2,
+                    operand: u64::MAX,
+                },
+                5,
+            ),
+            (
+                CountersCall {
+                    counter: 0,
+                    operand: 1,
+                },
+                0,
+            ),
+            (
+                CountersCall {
+                    counter: 3,
+                    operand: 7,
+                },
+                0,
+            ),
+            (
+                CountersCall {
+                    counter: 2,
+                    operand: 0,
+                },
+                4,
+            ),
+        ],
     );
 }
 

@@ -1,7 +1,7 @@
 //! Calls of four threads at the same time, on a queue.
 
 ghost use Rattle.std.specs.Prelude.{◌≡◌, All, IfSome, length};
-ghost use Rattle.uni_small.specs.Belongs.{IsSeatOf, width_of};
+ghost use Rattle.uni_small.specs.Belongs.{IsSeatOf, invocation_width_of, reply_width_of, width_of};
 
 use small_objects::SmallQueue;
 use std::alloc::Global;
@@ -23,18 +23,21 @@ fn calls(
     mut seat: SmallSeat<SmallQueue>,
     first: u64,
 ) -> Done
-    requires { IsSeatOf shared.now seat }
+    requires seat { IsSeatOf shared.now seat }
+    requires call { invocation_width_of shared.now ≡ 1 }
+    requires reply { reply_width_of shared.now ≡ 1 }
     ensures { IsSeatOf shared.now result.0 }
 {
     let mut replies = Vec::new(alloc);
+    let mut reply = [0];
     for i in 0..2 * VALUES {
         let inv = if i % 2 == 0 {
             first.wrapping_add(i / 2)
         } else {
             0
         };
-        if let Ok(answer) = seat.apply(shared, inv) {
-            let _ = replies.push(answer.reply);
+        if seat.apply(shared, &[inv], &mut reply).is_ok() {
+            let _ = replies.push(reply[0]);
         }
     }
     (seat, replies)
@@ -48,7 +51,8 @@ fn in_two_threads<R: Threads + Sync>(
     seats: (SmallSeat<SmallQueue>, SmallSeat<SmallQueue>),
     firsts: (u64, u64),
 ) -> (Done, Done)
-    requires { IsSeatOf shared.now seats.0 × IsSeatOf shared.now seats.1 }
+    requires seats { IsSeatOf shared.now seats.0 × IsSeatOf shared.now seats.1 }
+    requires wide { (invocation_width_of shared.now ≡ 1) × (reply_width_of shared.now ≡ 1) }
     ensures { IsSeatOf shared.now result.0.0 × IsSeatOf shared.now result.1.0 }
 {
     let (first, second) = seats;
@@ -69,16 +73,19 @@ fn in_four_threads<R: Threads + Sync>(
 ) -> ((Done, Done), (Done, Done))
     requires first { IsSeatOf shared.now first.0 × IsSeatOf shared.now first.1 }
     requires second { IsSeatOf shared.now second.0 × IsSeatOf shared.now second.1 }
+    requires wide { (invocation_width_of shared.now ≡ 1) × (reply_width_of shared.now ≡ 1) }
     ensures first { IsSeatOf shared.now result.0.0.0 × IsSeatOf shared.now result.0.1.0 }
     ensures second { IsSeatOf shared.now result.1.0.0 × IsSeatOf shared.now result.1.1.0 }
 {
     join(
         rt,
         move ||
-            requires { IsSeatOf shared.now first.0 × IsSeatOf shared.now first.1 }
+            requires { IsSeatOf shared.now first.0 × IsSeatOf shared.now first.1
+                × (invocation_width_of shared.now ≡ 1) × (reply_width_of shared.now ≡ 1) }
         { in_two_threads(rt, alloc, shared, first, (1, 1 + VALUES)) },
         move ||
-            requires { IsSeatOf shared.now second.0 × IsSeatOf shared.now second.1 }
+            requires { IsSeatOf shared.now second.0 × IsSeatOf shared.now second.1
+                × (invocation_width_of shared.now ≡ 1) × (reply_width_of shared.now ≡ 1) }
         { in_two_threads(rt, alloc, shared, second, (1 + 2 * VALUES, 1 + 3 * VALUES)) },
     )
 }
@@ -175,6 +182,8 @@ fn closed(shared: SmallShared<SmallQueue>, seat: SmallSeat<SmallQueue>, state: &
 /// Whether each value that went into the queue came out once, or is left; `None` where memory was refused.
 fn queue_in_four_threads<R: Threads + Abort + Sync>(rt: &R, alloc: Global) -> Option<bool> {
     let (shared, mut seats) = SmallShared::open(alloc, SmallQueue { capacity: 64 }, 4).ok()?;
+    assert!(rt; shared.invocation_width() == 1);
+    assert!(rt; shared.reply_width() == 1);
     let second = last_two(&shared, &mut seats)?;
     let first = last_two(&shared, &mut seats)?;
     let ((a, b), (c, d)) = in_four_threads(rt, alloc, &shared, first, second);

@@ -6,7 +6,7 @@ use Rattle.uni_model.proofs.Written.{number_cases}
 use Rattle.uni_model.specs.ProcessCalls.{acts_by, sequential_acts}
 use Rattle.uni_small.specs.View.{Returned, plain}
 
-pub acts_by-append : (p : ℕ) (xs ys : List (Act ℕ ℕ)) → acts_by p (xs ++ ys) ≡ acts_by p xs ++ acts_by p ys
+pub acts_by-append : (p : ℕ) (xs ys : List (Act (List ℕ) (List ℕ))) → acts_by p (xs ++ ys) ≡ acts_by p xs ++ acts_by p ys
 acts_by-append p [] ys = refl
 acts_by-append p (Linearize c ∷ xs) ys = acts_by-append p xs ys
 acts_by-append p (Invoke q k i ∷ xs) ys = elim (number_cases q p) [
@@ -19,30 +19,30 @@ acts_by-append p (Respond q k r ∷ xs) ys = elim (number_cases q p) [
 ]
 
 -- what takes effect is nobody's act
-pub acts_by-linearized : (p : ℕ) (cs : List (Invoked ℕ)) (ys : List (Act ℕ ℕ)) → acts_by p (map (λ c. Linearize c) cs ++ ys) ≡ acts_by p ys
+pub acts_by-linearized : (p : ℕ) (cs : List (Invoked (List ℕ))) (ys : List (Act (List ℕ) (List ℕ))) → acts_by p (map (λ c. Linearize c) cs ++ ys) ≡ acts_by p ys
 acts_by-linearized p [] ys = refl
 acts_by-linearized p (c ∷ cs) ys = acts_by-linearized p cs ys
 
 -- what another process does is no act of this one
-pub invoked_other : (q p k i : ℕ) (acts : List (Act ℕ ℕ)) → q ≢ p → acts_by q (acts ++ Invoke p k i ∷ []) ≡ acts_by q acts
+pub invoked_other : (q p k : ℕ) (i : List ℕ) (acts : List (Act (List ℕ) (List ℕ))) → q ≢ p → acts_by q (acts ++ Invoke p k i ∷ []) ≡ acts_by q acts
 invoked_other q p k i acts apart = acts_by-append q acts (Invoke p k i ∷ []) ∙ ap (λ l. acts_by q acts ++ l) (elim (number_cases p q) [
   | inl same ↦ absurd (apart (sym same.0))
   | inr other ↦ rw other.1 refl
 ]) ∙ append-nil (acts_by q acts)
 
-pub responded_other : (q p k r : ℕ) (acts : List (Act ℕ ℕ)) → q ≢ p → acts_by q (acts ++ Respond p k r ∷ []) ≡ acts_by q acts
+pub responded_other : (q p k : ℕ) (r : List ℕ) (acts : List (Act (List ℕ) (List ℕ))) → q ≢ p → acts_by q (acts ++ Respond p k r ∷ []) ≡ acts_by q acts
 responded_other q p k r acts apart = acts_by-append q acts (Respond p k r ∷ []) ∙ ap (λ l. acts_by q acts ++ l) (elim (number_cases p q) [
   | inl same ↦ absurd (apart (sym same.0))
   | inr other ↦ rw other.1 refl
 ]) ∙ append-nil (acts_by q acts)
 
-pub invoked_own : (p k i : ℕ) (acts : List (Act ℕ ℕ)) → acts_by p (acts ++ Invoke p k i ∷ []) ≡ acts_by p acts ++ Invoke p k i ∷ []
+pub invoked_own : (p k : ℕ) (i : List ℕ) (acts : List (Act (List ℕ) (List ℕ))) → acts_by p (acts ++ Invoke p k i ∷ []) ≡ acts_by p acts ++ Invoke p k i ∷ []
 invoked_own p k i acts = acts_by-append p acts (Invoke p k i ∷ []) ∙ ap (λ l. acts_by p acts ++ l) (elim (number_cases p p) [
   | inl same ↦ rw same.1 refl
   | inr other ↦ absurd (other.0 refl)
 ])
 
-pub responded_own : (p k r : ℕ) (acts : List (Act ℕ ℕ)) → acts_by p (acts ++ Respond p k r ∷ []) ≡ acts_by p acts ++ Respond p k r ∷ []
+pub responded_own : (p k : ℕ) (r : List ℕ) (acts : List (Act (List ℕ) (List ℕ))) → acts_by p (acts ++ Respond p k r ∷ []) ≡ acts_by p acts ++ Respond p k r ∷ []
 responded_own p k r acts = acts_by-append p acts (Respond p k r ∷ []) ∙ ap (λ l. acts_by p acts ++ l) (elim (number_cases p p) [
   | inl same ↦ rw same.1 refl
   | inr other ↦ absurd (other.0 refl)

@@ -3,6 +3,7 @@ use Rattle.std.proofs.Common.{◌≡◌, ℕ, List, sym, subst}
 use Rattle.atomic_table.specs.Table.{Me, keeps, Allows}
 use Rattle.seq_object.specs.Sequential.{Sequential}
 use Rattle.uni_model.specs.AtomicObject.{Act}
+use Rattle.uni_small.specs.Image.{Meaning}
 use Rattle.uni_small.specs.Board.{Board}
 use Rattle.uni_small.specs.Laws.{Moves}
 use Rattle.uni_small.specs.Rule.{Rule}
@@ -10,9 +11,9 @@ use Rattle.uni_small.specs.declared.view.View.{View}
 use Rattle.uni_small.specs.declared.rule.Setup.{Setup}
 
 -- what the table was told is what the object has, the word is this one, and the step moves the board
-pub by_key : {O : Type 0} (meaning : O → Sequential (List ℕ) ℕ ℕ) (told setup : Setup O) → told ≡ setup
-    → (slots id : ℕ) (me : Me ℕ (View O)) (i j : ℕ) → i ≡ j → (f : ℕ → ℕ) (says : ℕ → Me ℕ (View O) → Type 0) (acts : Board → ℕ → List (Act ℕ ℕ))
-    → Moves meaning setup.object setup.n setup.width id me j f acts says → Allows (Rule meaning told) slots id me i f says
+pub by_key : {O : Type 0} (meaning : O → Meaning) (told setup : Setup O) → told ≡ setup
+    → (slots id : ℕ) (me : Me ℕ (View O)) (i j : ℕ) → i ≡ j → (f : ℕ → ℕ) (says : ℕ → Me ℕ (View O) → Type 0) (acts : Board → ℕ → List (Act (List ℕ) (List ℕ)))
+    → Moves meaning setup.object setup.sizes id me j f acts says → Allows (Rule meaning told) slots id me i f says
 by_key meaning told setup same slots id me i j word f says acts moves =
     subst (λ k. Allows (Rule meaning told) slots id me k f says) (sym word) (subst (λ key. Allows (Rule meaning key) slots id me j f says) (sym same)
     (λ s holds homes at fits.

@@ -4,7 +4,8 @@ use mathlib.Core.Option.{some}
 use lib.ListN.{get_elem?}
 use Rattle.atomic_table.specs.Table.{State, Final, Seen}
 use Rattle.seq_object.specs.Sequential.{Sequential}
-use Rattle.uni_small.specs.Image.{Image}
+use Rattle.uni_small.specs.declared.sizes.Sizes.{Sizes}
+use Rattle.uni_small.specs.Image.{Meaning, Image, state_place}
 use Rattle.uni_small.specs.View.{Local, ProcessReturned, plain}
 use Rattle.uni_small.specs.View.Stage.{Idle}
 use Rattle.uni_small.specs.Board.{Board, buffer_in, buffer_word, words_of}
@@ -21,15 +22,12 @@ use Rattle.uni_small.proofs.Lists.{same_list}
 use Rattle.uni_small.proofs.Loads.{buffer_of, call_at}
 
 -- the words are those of a table that shows a board, and the seats of these views, if any, are among those that it has
-module _ {O : Type 0} (meaning : O → Sequential (List ℕ) ℕ ℕ) (setup : Setup O) (few : setup.n ≤ 64) (last : State ℕ (View O)) (holds : Rule meaning setup last) (words : List ℕ) (words_of_last : last.words ≡ words) where
-  abbrev n : ℕ
-  n = setup.n
+module _ {O : Type 0} (meaning : O → Meaning) (setup : Setup O) (few : setup.sizes.processes ≤ 64) (last : State ℕ (View O)) (holds : Rule meaning setup last) (words : List ℕ) (words_of_last : last.words ≡ words) where
+  abbrev sizes : Sizes
+  sizes = setup.sizes
 
-  abbrev width : ℕ
-  width = setup.width
-
-  abbrev object : Sequential (List ℕ) ℕ ℕ
-  object = meaning setup.object
+  abbrev object : Sequential (List ℕ) (List ℕ) (List ℕ)
+  object = (meaning setup.object).object
 
   abbrev g : Board
   g = holds.0
@@ -37,34 +35,34 @@ module _ {O : Type 0} (meaning : O → Sequential (List ℕ) ℕ ℕ) (setup : S
   abbrev local : ℕ → Local
   local = holds.1.0
 
-  is : IsShown n width meaning setup.object g local holds.1.1.0 last
+  is : IsShown sizes meaning setup.object g local holds.1.1.0 last
   is = holds.1.1.1
 
-  words_are : AreWords n width g words
-  words_are = subst (AreWords n width g) words_of_last is.words
+  words_are : AreWords sizes g words
+  words_are = subst (AreWords sizes g) words_of_last is.words
 
-  board : IsBoard object n width g
+  board : IsBoard object sizes g
   board = is.sound.board
 
   -- S names a buffer of the table
   named : buffer_in (slice_index words 0) ≡ g.current
   named = ap buffer_in words_are.current ∙ buffer_of g.version g.current (let c = board.current in omega arith)
 
-  pub named_inside : buffer_in (slice_index words 0) < 2 * n
-  named_inside = subst (λ b. b < 2 * n) (sym named) board.current
+  pub named_inside : buffer_in (slice_index words 0) < 2 * sizes.processes
+  named_inside = subst (λ b. b < 2 * sizes.processes) (sym named) board.current
 
   -- the state of the buffer that S names
-  state_is : (state : List ℕ) → IsStateIn n width words state → g.image.state ≡ state
+  state_is : (state : List ℕ) → IsStateIn sizes words state → g.image.state ≡ state
   state_is state read = sym (same_list state g.image.state (read.long ∙ sym board.rows.state) (λ i below.
-      let inside : i < width = (let l = read.long in omega arith) in
-      read.each i inside ∙ words_are.buffer (buffer_in (slice_index words 0)) (2 * n + i) named_inside (omega arith)
-      ∙ ap (λ b. g.buffer b (2 * n + i)) named ∙ board.exact (2 * n + i) (omega arith) ∙ spell-state n width g.image board.rows i))
+      let inside : i < sizes.state = (let l = read.long in omega arith) in
+      read.each i inside ∙ words_are.buffer (buffer_in (slice_index words 0)) (state_place sizes i) named_inside (omega arith)
+      ∙ ap (λ b. g.buffer b (state_place sizes i)) named ∙ board.exact (state_place sizes i) (omega arith) ∙ spell-state sizes g.image board.rows i))
 
   -- a process with no call pending, whose calls these are
   abbrev IsDone : ProcessReturned → Type 0
-  IsDone its = (its.process < n) × ((local its.process).stage ≡ Idle) × ((local its.process).own ≡ its.calls)
+  IsDone its = (its.process < sizes.processes) × ((local its.process).stage ≡ Idle []) × ((local its.process).own ≡ its.calls)
 
-  final : (known : List ProcessReturned) → ((its : ProcessReturned) → Contains known its → IsDone its) → (state : List ℕ) → IsStateIn n width words state → IsFinal object known state
+  final : (known : List ProcessReturned) → ((its : ProcessReturned) → Contains known its → IsDone its) → (state : List ℕ) → IsStateIn sizes words state → IsFinal object known state
   final known done state read = record {
     acts = g.acts;
     atomic = g.atomic;
@@ -72,20 +70,20 @@ module _ {O : Type 0} (meaning : O → Sequential (List ℕ) ℕ ℕ) (setup : S
     linearized = (g.acts, g.atomic, refl, board.history, refl);
     state = sym (reached_from object _ g.atomic.agreed) ∙ ap (λ (i : Image). i.state) board.image ∙ state_is state read;
     own = λ its has. (let d = done its has in (closed its d).acts ∙ ap (λ cs. sequential_acts its.process 0 (map plain cs)) d.2);
-    agreed_at = g.agreed_at;
+    calls_in_version = g.calls_in_version;
     rising = board.rising;
     stand = λ its has k call at. (let d = done its has in (is.sound.each its.process d.0).ordered.stand k call (ap (λ cs. slice_get cs k) d.2 ∙ at));
   } where
     closed : (its : ProcessReturned) → IsDone its → IsClosed g its.process (local its.process).own
-    closed its d = call_at object n width g its.process (local its.process) Idle (is.sound.each its.process d.0) d.1
+    closed its d = (call_at object sizes g its.process (local its.process) (Idle []) (is.sound.each its.process d.0) d.1).0
 
   -- with no seat
-  pub closes_alone : (state : List ℕ) → IsStateIn n width words state → IsFinal object [] state
+  pub closes_alone : (state : List ℕ) → IsStateIn sizes words state → IsFinal object [] state
   closes_alone = final [] (λ its has. absurd (let h = has.1 in omega arith))
 
   -- with a seat of one process that has no call pending, and of those that it has taken in
-  pub closes_with : (id : ℕ) (view : View O) → get_elem? last.views id ≡ some view → view.known.count ≡ 1 → view.known.local.stage ≡ Idle
-      → (state : List ℕ) → IsStateIn n width words state → IsFinal object (record { process = view.known.first; calls = view.known.local.own } ∷ view.known.taken) state
+  pub closes_with : (id : ℕ) (view : View O) → get_elem? last.views id ≡ some view → view.known.count ≡ 1 → view.known.local.stage ≡ Idle []
+      → (state : List ℕ) → IsStateIn sizes words state → IsFinal object (record { process = view.known.first; calls = view.known.local.own } ∷ view.known.taken) state
   closes_with id view seen single idle = final (record { process = view.known.first; calls = view.known.local.own } ∷ view.known.taken) one where
     one : (its : ProcessReturned) → Contains (record { process = view.known.first; calls = view.known.local.own } ∷ view.known.taken) its → IsDone its
     one its (zero, below, e) =
@@ -94,7 +92,7 @@ module _ {O : Type 0} (meaning : O → Sequential (List ℕ) ℕ ℕ) (setup : S
     one its (suc k, below, e) = (let t = (is.seats id view seen).taken its (k, (let b = below in omega arith), e) in (t.inside, t.idle, t.calls))
 
 -- what tells of more calls tells of fewer
-pub final_of_fewer : (object : Sequential (List ℕ) ℕ ℕ) (all known : List ProcessReturned) (state : List ℕ) → ((its : ProcessReturned) → Contains known its → Contains all its) → IsFinal object all state → IsFinal object known state
+pub final_of_fewer : (object : Sequential (List ℕ) (List ℕ) (List ℕ)) (all known : List ProcessReturned) (state : List ℕ) → ((its : ProcessReturned) → Contains known its → Contains all its) → IsFinal object all state → IsFinal object known state
 final_of_fewer _ all known state among final = record {
   acts = final.acts;
   atomic = final.atomic;
@@ -102,7 +100,7 @@ final_of_fewer _ all known state among final = record {
   linearized = final.linearized;
   state = final.state;
   own = λ its has. final.own its (among its has);
-  agreed_at = final.agreed_at;
+  calls_in_version = final.calls_in_version;
   rising = final.rising;
   stand = λ its has. final.stand its (among its has);
 }

@@ -1,5 +1,5 @@
 -- The exchange that makes a spare buffer current.
-use Rattle.std.proofs.Common.{◌≡◌, ◌≢◌, ◌∙◌, ℕ, zero, suc, ◌+◌, ◌*◌, ◌<◌, ◌≤◌, ◌⊎◌, inl, inr, refl, sym, ap, subst, List, [], ◌∷◌, ◌++◌, length, map, slice_index, slice_get, slice_set, Option, Some, None, arith, append-nil, if◌then◌else◌, length-append, nat_lt, ◌==◌, eqb, Bool, true, false}
+use Rattle.std.proofs.Common.{◌≡◌, ◌≢◌, ◌∙◌, ℕ, zero, suc, ◌+◌, ◌*◌, ◌<◌, ◌≤◌, ◌⊎◌, inl, inr, refl, sym, ap, subst, List, [], ◌∷◌, ◌++◌, length, map, slice_index, slice_get, slice_set, take, Option, Some, None, arith, append-nil, if◌then◌else◌, length-append, nat_lt, ◌==◌, eqb, Bool, true, false}
 use Rattle.std.proofs.lemmas.List.{map-append, set-get_or}
 use Rattle.std.proofs.lemmas.List.Elements.{Contains-append_cases}
 use Rattle.std.proofs.lemmas.Option.{slice_get_within}
@@ -15,9 +15,10 @@ use Rattle.uni_model.proofs.Simulation.{set_at_same}
 use Rattle.uni_model.proofs.LawProofs.{set_at_elsewhere, AcceptsAll-append}
 use Rattle.uni_model.proofs.Appended.{slice_get-append_left, slice_get-append_right, response_at-append}
 use Rattle.uni_model.specs.ProcessCalls.{acts_by}
-use Rattle.uni_small.specs.Image.{Image, HasRows, IsSteady, buffer_words, due_at, calls_seen, first_image, image_from, with_seen}
+use Rattle.uni_small.specs.declared.sizes.Sizes.{Sizes}
+use Rattle.uni_small.specs.Image.{Meaning, AreWhole, HasRows, Image, IsSteady, buffer_words, calls_seen, due_at, first_image, image_from, reply_of, reply_place, with_seen}
 use Rattle.uni_small.specs.View.{Local, Returned, Stage, goes, brings}
-use Rattle.uni_small.specs.View.Stage.{Idle, Armed, Ready, Reading, Asking, Writing, Last}
+use Rattle.uni_small.specs.View.Stage.{Idle, Last, Reading, Ready, Writing}
 use Rattle.uni_small.specs.Board.{Board, in_of, current_word, buffer_in, version_in}
 use Rattle.uni_small.specs.Invariant.{IsBoard, IsSound, IsCallAt, IsAttemptAt, IsClosed, IsOpen, HasTaken, HasSeen, AreIn, IsWritten}
 use Rattle.uni_small.specs.Order.{StandsIn, IsOrdered}
@@ -32,6 +33,7 @@ use Rattle.uni_small.proofs.Acts.{acts_by-append, acts_by-linearized}
 use Rattle.uni_small.proofs.Images.{spell-reply, image_from-append, with_seen-calls, reached_from, rows-seen, width_is, applied-seen, reply-seen}
 use Rattle.uni_small.proofs.Batch.{call_seen, taken_seen, linearized, sum-rises}
 use Rattle.uni_small.proofs.Loads.{call_at, attempt_at, buffer_of, version_of}
+use Rattle.uni_small.proofs.Rows.{begins_whole, later}
 use Rattle.uni_small.proofs.Words.{words_current}
 
 length_map : {A B : Type 0} (f : A → B) (xs : List A) → length (map f xs) ≡ length xs
@@ -39,22 +41,22 @@ length_map f [] = refl
 length_map f (x ∷ xs) = let e = length_map f xs in omega arith
 
 -- a response stays when the log grows
-response_stays : (object : Sequential (List ℕ) ℕ ℕ) (s : List ℕ) (is js : List ℕ) (place r : ℕ) → response_at object s is place ≡ Some r → response_at object s (is ++ js) place ≡ Some r
+response_stays : (object : Sequential (List ℕ) (List ℕ) (List ℕ)) (s : List ℕ) (is js : List (List ℕ)) (place : ℕ) (r : List ℕ) → response_at object s is place ≡ Some r → response_at object s (is ++ js) place ≡ Some r
 response_stays object s [] js place r e = absurd (let f = e in cc)
 response_stays object s (i ∷ is) js zero r e = e
 response_stays object s (i ∷ is) js (suc place) r e = response_stays object (object.next s i) is js place r e
 
-module _ (object : Sequential (List ℕ) ℕ ℕ) (steady : IsSteady object) (n width : ℕ) (few : n ≤ 64)
-    (g : Board) (local : ℕ → Local) (sound : IsSound object n width g local) (seen : List (Option ℕ)) (long : length seen ≡ n)
-    (p : ℕ) (p_inside : p < n) (known : HasSeen g p seen) (not_in : in_of g p < g.announced p)
-    (b : ℕ) (b_inside : b < 2 * n) (written : IsWritten object n width g b (with_seen object g.image 0 seen) (buffer_words n width)) where
+module _ (object : Sequential (List ℕ) (List ℕ) (List ℕ)) (sizes : Sizes) (steady : IsSteady object sizes.reply) (few : sizes.processes ≤ 64)
+    (g : Board) (local : ℕ → Local) (sound : IsSound object sizes g local) (seen : List (Option (List ℕ))) (long : length seen ≡ sizes.processes) (full : AreWhole sizes seen)
+    (p : ℕ) (p_inside : p < sizes.processes) (known : HasSeen g p seen) (not_in : in_of g p < g.announced p)
+    (b : ℕ) (b_inside : b < 2 * sizes.processes) (written : IsWritten object sizes g b (with_seen object g.image 0 seen) (buffer_words sizes)) where
   abbrev image' : Image
   image' = with_seen object g.image 0 seen
 
-  abbrev calls : List (Invoked ℕ)
+  abbrev calls : List (Invoked (List ℕ))
   calls = calls_seen g.image.applied 0 seen
 
-  abbrev agreed' : List (Invoked ℕ)
+  abbrev agreed' : List (Invoked (List ℕ))
   agreed' = g.atomic.agreed ++ calls
 
   abbrev pub brought_board : Board
@@ -64,43 +66,49 @@ module _ (object : Sequential (List ℕ) ℕ ℕ) (steady : IsSteady object) (n 
     mark = set_at g.mark b (λ r. slice_index image'.applied r);
     image = image';
     atomic = record g.atomic { agreed = agreed' };
-    agreed_at = λ v. if nat_lt g.version v then length agreed' else g.agreed_at v;
+    calls_in_version = λ v. if nat_lt g.version v then length agreed' else g.calls_in_version v;
     acts = g.acts ++ map (λ c. Linearize c) calls;
   }
 
-  was : IsBoard object n width g
+  was : IsBoard object sizes g
   was = sound.board
 
   -- how many calls are in then, and which replies are as before
-  pub in_later : (r : ℕ) → r < n → slice_index image'.applied r ≡ in_of g r + due_at seen r
+  pub in_later : (r : ℕ) → r < sizes.processes → slice_index image'.applied r ≡ in_of g r + due_at seen r
   in_later r inside =
       let z : r ≡ 0 + r = omega arith in
       ap (slice_index image'.applied) z ∙ applied-seen object g.image 0 seen r (let a = was.rows.applied in omega arith) ∙ ap (λ k. slice_index g.image.applied k + due_at seen r) (sym z)
 
+  -- an invocation that was seen is the argument
+  argument_is : (r : ℕ) (inv : List ℕ) → slice_get seen r ≡ Some (Some inv) → g.argument r ≡ inv
+  argument_is r inv at =
+      let inside : r < sizes.processes = (let w = slice_get_within seen r (Some inv) at in omega arith) in
+      begins_whole inv (g.argument r) (known.told r inv at).1 (full r inv at ∙ sym (was.arguments r inside))
+
   due_is : (r : ℕ) → (due_at seen r ≡ 0) ⊎ ((due_at seen r ≡ 1) × (g.announced r ≡ in_of g r + 1))
   due_is r = elim (due_cases seen r) [ inl none ↦ inl none | inr some ↦ inr (some.1, (known.told r some.0 some.2).0) ]
 
-  same_reply : (r : ℕ) → g.announced r ≤ in_of g r → slice_index image'.reply r ≡ slice_index g.image.reply r
+  same_reply : (r : ℕ) → g.announced r ≤ in_of g r → reply_of image' r ≡ reply_of g.image r
   same_reply r all_in = elim (due_is r) [
     | inl none ↦
         let z : r ≡ 0 + r = omega arith in
-        ap (slice_index image'.reply) z ∙ reply-seen object g.image 0 seen r none ∙ ap (slice_index g.image.reply) (sym z)
+        ap (reply_of image') z ∙ reply-seen object g.image 0 seen r none ∙ ap (reply_of g.image) (sym z)
     | inr due ↦ absurd (let d = due.1 in omega arith)
   ]
 
-  rows' : HasRows n width image'
-  rows' = rows-seen object steady n width (width_is object steady n width g.atomic.agreed g.image was.image was.rows) g.image 0 seen was.rows
+  rows' : HasRows sizes image'
+  rows' = rows-seen object sizes steady (width_is object sizes steady g.atomic.agreed g.image was.image was.rows) g.image 0 seen was.rows
 
   state_is : state_after object object.initial (map (λ c. c.inv) g.atomic.agreed) ≡ g.image.state
   state_is = sym (reached_from object _ g.atomic.agreed) ∙ ap (λ (i : Image). i.state) was.image
 
   -- what was answered at a place is
-  response_kept : (place reply : ℕ) → response_at object object.initial (map (λ c. c.inv) g.atomic.agreed) place ≡ Some reply → response_at object object.initial (map (λ c. c.inv) agreed') place ≡ Some reply
-  response_kept place reply told = subst (λ is. response_at object object.initial is place ≡ Some reply) (sym (map-append (λ (c : Invoked ℕ). c.inv) g.atomic.agreed calls))
+  response_kept : (place : ℕ) (reply : List ℕ) → response_at object object.initial (map (λ c. c.inv) g.atomic.agreed) place ≡ Some reply → response_at object object.initial (map (λ c. c.inv) agreed') place ≡ Some reply
+  response_kept place reply told = subst (λ is. response_at object object.initial is place ≡ Some reply) (sym (map-append (λ (c : Invoked (List ℕ)). c.inv) g.atomic.agreed calls))
       (response_stays object object.initial (map (λ c. c.inv) g.atomic.agreed) (map (λ c. c.inv) calls) place reply told)
 
   -- a call that has taken effect has
-  taken_stays : (call : Invoked ℕ) (reply : ℕ) → HasTaken object g call reply → HasTaken object brought_board call reply
+  taken_stays : (call : Invoked (List ℕ)) (reply : List ℕ) → HasTaken object g call reply → HasTaken object brought_board call reply
   taken_stays call reply h = record {
     place = h.place;
     there = slice_get-append_left g.atomic.agreed calls h.place call h.there;
@@ -108,11 +116,11 @@ module _ (object : Sequential (List ℕ) ℕ ℕ) (steady : IsSteady object) (n 
   }
 
   -- a call that was seen takes effect
-  taken_now : (r inv : ℕ) → slice_get seen r ≡ Some (Some inv) → HasTaken object brought_board (record { process = r; nth = in_of g r; inv = inv }) (slice_index image'.reply r)
+  taken_now : (r : ℕ) (inv : List ℕ) → slice_get seen r ≡ Some (Some inv) → HasTaken object brought_board (record { process = r; nth = in_of g r; inv = inv }) (reply_of image' r)
   taken_now r inv at =
       let now = taken_seen object g.image.applied g.image 0 seen r inv at (let a = was.rows.reply in omega arith) in
       let z : 0 + r ≡ r = omega arith in
-      let inv_of : Invoked ℕ → ℕ = (λ c. c.inv) in
+      let inv_of : Invoked (List ℕ) → List ℕ = (λ c. c.inv) in
       let wide : length (map inv_of g.atomic.agreed) ≡ length g.atomic.agreed = length_map inv_of g.atomic.agreed in
       record {
         place = length g.atomic.agreed + now.0;
@@ -122,14 +130,14 @@ module _ (object : Sequential (List ℕ) ℕ ℕ) (steady : IsSteady object) (n 
             ∙ ap (λ k. response_at object object.initial (map inv_of g.atomic.agreed ++ map inv_of calls) (k + now.0)) (sym wide)
             ∙ response_at-append object object.initial (map inv_of g.atomic.agreed) (map inv_of calls) now.0
             ∙ ap (λ s. response_at object s (map inv_of calls) now.0) state_is
-            ∙ now.2 ∙ ap (λ i. Some (slice_index image'.reply i)) z;
+            ∙ now.2 ∙ ap (λ i. Some (reply_of image' i)) z;
       }
 
   acts_same : (q : ℕ) → acts_by q brought_board.acts ≡ acts_by q g.acts
   acts_same q = acts_by-append q g.acts (map (λ c. Linearize c) calls) ∙ ap (λ l. acts_by q g.acts ++ l) (
       ap (acts_by q) (sym (append-nil (map (λ c. Linearize c) calls))) ∙ acts_by-linearized q calls []) ∙ append-nil (acts_by q g.acts)
 
-  closed_stays : (q : ℕ) (own : List Returned) → q < n → IsClosed g q own → IsClosed brought_board q own
+  closed_stays : (q : ℕ) (own : List Returned) → q < sizes.processes → IsClosed g q own → IsClosed brought_board q own
   closed_stays q own inside h = record {
     none_open = h.none_open;
     next = h.next;
@@ -141,7 +149,7 @@ module _ (object : Sequential (List ℕ) ℕ ℕ) (steady : IsSteady object) (n 
     acts = acts_same q ∙ h.acts;
   }
 
-  open_stays : (q inv : ℕ) (own : List Returned) → q < n → IsOpen object g q inv own → IsOpen object brought_board q inv own
+  open_stays : (q : ℕ) (inv : List ℕ) (own : List Returned) → q < sizes.processes → IsOpen object g q inv own → IsOpen object brought_board q inv own
   open_stays q inv own inside h = record {
     is_open = h.is_open;
     next = h.next;
@@ -156,24 +164,22 @@ module _ (object : Sequential (List ℕ) ℕ ℕ) (steady : IsSteady object) (n 
       | inr some ↦
           let told = known.told q some.0 some.2 in
           let nth : in_of g q ≡ length own = (let a = h.announced in let t = told.0 in omega arith) in
-          let same : some.0 ≡ inv = sym told.1 ∙ h.argument in
-          subst (λ k. HasTaken object brought_board (record { process = q; nth = k; inv = inv }) (slice_index image'.reply q)) nth
-          (subst (λ i. HasTaken object brought_board (record { process = q; nth = in_of g q; inv = i }) (slice_index image'.reply q)) same (taken_now q some.0 some.2))
+          let same : some.0 ≡ inv = sym (argument_is q some.0 some.2) ∙ h.argument in
+          subst (λ k. HasTaken object brought_board (record { process = q; nth = k; inv = inv }) (reply_of image' q)) nth
+          (subst (λ i. HasTaken object brought_board (record { process = q; nth = in_of g q; inv = i }) (reply_of image' q)) same (taken_now q some.0 some.2))
     ];
     acts = acts_same q ∙ h.acts;
   }
 
-  pub call_stays : (q : ℕ) (l : Local) (stage : Stage) → q < n → IsCallAt object n width g q l stage → IsCallAt object n width brought_board q l stage
-  call_stays q l Idle inside h = closed_stays q l.own inside h
-  call_stays q l Armed inside h = (closed_stays q l.own inside h.0, h.1)
+  pub call_stays : (q : ℕ) (l : Local) (stage : Stage) → q < sizes.processes → IsCallAt object sizes g q l stage → IsCallAt object sizes brought_board q l stage
+  call_stays q l (Idle stored) inside h = (closed_stays q l.own inside h.0, h.1)
   call_stays q l (Ready t) inside h = open_stays q l.inv l.own inside h
   call_stays q l (Reading t s copy seen) inside h = open_stays q l.inv l.own inside h
-  call_stays q l (Asking t s copy seen) inside h = open_stays q l.inv l.own inside h
   call_stays q l (Writing t s image seen k) inside h = open_stays q l.inv l.own inside h
-  call_stays q l (Last s) inside h = open_stays q l.inv l.own inside h
+  call_stays q l (Last s loaded) inside h = open_stays q l.inv l.own inside h
 
   -- the marks of another buffer stay, and those of this one don't fall
-  mark_least : (d r : ℕ) → r < n → g.mark d r ≤ brought_board.mark d r
+  mark_least : (d r : ℕ) → r < sizes.processes → g.mark d r ≤ brought_board.mark d r
   mark_least d r inside = elim (set_at-cases g.mark b (λ r. slice_index image'.applied r) d) [
     | inl here ↦
         let now : brought_board.mark d r ≡ slice_index image'.applied r = ap (λ f. f r) here.1 in
@@ -185,7 +191,7 @@ module _ (object : Sequential (List ℕ) ℕ ℕ) (steady : IsSteady object) (n 
   too_old : (s : ℕ) → (128 * g.version ≤ s → (s ≡ current_word g.version g.current)) → 128 * (g.version + 1) ≤ s → ⊥
   too_old s was_fresh fresh = let e = was_fresh (omega arith) in let c = was.current in omega arith
 
-  written_stays : (q d k : ℕ) (image : Image) → d ≢ b → IsWritten object n width g d image k → IsWritten object n width brought_board d image k
+  written_stays : (q d k : ℕ) (image : Image) → d ≢ b → IsWritten object sizes g d image k → IsWritten object sizes brought_board d image k
   written_stays q d k image apart h = record {
     rows = h.rows;
     words = h.words;
@@ -195,19 +201,19 @@ module _ (object : Sequential (List ℕ) ℕ ℕ) (steady : IsSteady object) (n 
   }
 
   -- the calls of a version that has been are the same ones, and the next version has all
-  at_old : (v : ℕ) → v ≤ g.version → brought_board.agreed_at v ≡ g.agreed_at v
+  at_old : (v : ℕ) → v ≤ g.version → brought_board.calls_in_version v ≡ g.calls_in_version v
   at_old v old = elim (lt_cases g.version v) [ inl new ↦ absurd (let n = new.0 in omega arith) | inr h ↦ rw h.1 refl ]
 
-  at_new : (v : ℕ) → g.version < v → brought_board.agreed_at v ≡ length agreed'
+  at_new : (v : ℕ) → g.version < v → brought_board.calls_in_version v ≡ length agreed'
   at_new v new = elim (lt_cases g.version v) [ inl h ↦ rw h.1 refl | inr old ↦ absurd (let o = old.0 in omega arith) ]
 
   grown : length agreed' ≡ length g.atomic.agreed + length calls
   grown = length-append g.atomic.agreed calls
 
-  at_most : (v : ℕ) → v ≤ g.version → g.agreed_at v ≤ length g.atomic.agreed
+  at_most : (v : ℕ) → v ≤ g.version → g.calls_in_version v ≤ length g.atomic.agreed
   at_most v old = (let r = was.rising v g.version old in let c = was.counted g.version (omega arith) in omega arith)
 
-  rising' : (v w : ℕ) → v ≤ w → brought_board.agreed_at v ≤ brought_board.agreed_at w
+  rising' : (v w : ℕ) → v ≤ w → brought_board.calls_in_version v ≤ brought_board.calls_in_version w
   rising' v w below = elim (lt_cases g.version w) [
     | inl new ↦ elim (lt_cases g.version v) [
       | inl also ↦ (let a = at_new v also.0 in let b = at_new w new.0 in omega arith)
@@ -217,7 +223,7 @@ module _ (object : Sequential (List ℕ) ℕ ℕ) (steady : IsSteady object) (n 
   ]
 
   -- a call that takes effect now is after all that did before
-  stands_stays : (q k : ℕ) (call : Returned) → call.version ≤ g.version → StandsIn object g.atomic.agreed g.agreed_at q k call → StandsIn object agreed' brought_board.agreed_at q k call
+  stands_stays : (q k : ℕ) (call : Returned) → call.version ≤ g.version → StandsIn object g.atomic.agreed g.calls_in_version q k call → StandsIn object agreed' brought_board.calls_in_version q k call
   stands_stays q k call known h =
       let first : call.after ≤ g.version = elim (lt_cases g.version call.after) [
         | inl late ↦ absurd (let l = late.0 in let r = was.rising call.version call.after (omega arith) in let a = h.after in let b = h.before in omega arith)
@@ -231,7 +237,7 @@ module _ (object : Sequential (List ℕ) ℕ ℕ) (steady : IsSteady object) (n 
         before = (let b = h.before in let o = at_old call.version known in omega arith);
       }
 
-  pub ordered_stays : (q after : ℕ) (own : List Returned) → IsOrdered object g.atomic.agreed g.agreed_at g.version q after own → IsOrdered object agreed' brought_board.agreed_at (g.version + 1) q after own
+  pub ordered_stays : (q after : ℕ) (own : List Returned) → IsOrdered object g.atomic.agreed g.calls_in_version g.version q after own → IsOrdered object agreed' brought_board.calls_in_version (g.version + 1) q after own
   ordered_stays q after own h = record {
     reached = (let r = h.reached in omega arith);
     later = λ c place at mine from. elim (get-append g.atomic.agreed calls place c at) [
@@ -265,23 +271,22 @@ module _ (object : Sequential (List ℕ) ℕ ℕ) (steady : IsSteady object) (n 
     λ c place at mine below. (let w = slice_get_within agreed' place c at in let a = at_new version (omega arith) in omega arith),
   )
 
-  pub attempt_stays : (q d : ℕ) (stage : Stage) → q < n → d ≢ b → IsAttemptAt object n width g q d stage → IsAttemptAt object n width brought_board q d stage
-  attempt_stays q d Idle inside apart h = h
-  attempt_stays q d Armed inside apart h = h
+  pub attempt_stays : (q d : ℕ) (stage : Stage) → q < sizes.processes → d ≢ b → IsAttemptAt object sizes g q d stage → IsAttemptAt object sizes brought_board q d stage
+  attempt_stays q d (Idle stored) inside apart h = h
   attempt_stays q d (Ready t) inside apart h = omega arith
   attempt_stays q d (Reading t s copy seen) inside apart h = (h.0, λ fresh. absurd (too_old s (λ f. (h.1 f).0) fresh))
-  attempt_stays q d (Asking t s copy seen) inside apart h = (h.0, λ fresh. absurd (too_old s (λ f. (h.1 f).0) fresh))
   attempt_stays q d (Writing t s image seen k) inside apart h = (h.0, (λ fresh. absurd (too_old s (λ f. (h.1 f).0) fresh)), written_stays q d k (with_seen object image 0 seen) apart h.2)
-  attempt_stays q d (Last s) inside apart h = (
+  attempt_stays q d (Last s loaded) inside apart h = (
     h.0,
     (let m = mark_least (buffer_in s) q inside in let a = h.1 in omega arith),
     are_in_stays q (version_in s) (let m = was.marked (buffer_in s) q inside in let a = h.1 in omega arith) h.2,
+    ap (take (length loaded)) (same_reply q (let m = was.marked (buffer_in s) q inside in let a = h.1 in omega arith)) ∙ h.3,
   )
 
-  pub board' : IsBoard object n width brought_board
+  pub board' : IsBoard object sizes brought_board
   board' = record {
     current = b_inside;
-    image = image_from-append object (first_image object n) g.atomic.agreed calls ∙ ap (λ i. image_from object i calls) was.image ∙ sym (with_seen-calls object g.image g.image.applied 0 seen);
+    image = image_from-append object (first_image object sizes) g.atomic.agreed calls ∙ ap (λ i. image_from object i calls) was.image ∙ sym (with_seen-calls object g.image g.image.applied 0 seen);
     rows = rows';
     exact = λ i below. written.words i below;
     marked = λ d r inside. elim (set_at-cases g.mark b (λ r. slice_index image'.applied r) d) [
@@ -289,12 +294,13 @@ module _ (object : Sequential (List ℕ) ℕ ℕ) (steady : IsSteady object) (n 
       | inr other ↦ (let same : brought_board.mark d r ≡ g.mark d r = ap (λ f. f r) other.1 in let m = was.marked d r inside in let i = in_later r inside in omega arith)
     ];
     at_current = λ r inside. (let now : brought_board.mark b r ≡ slice_index image'.applied r = ap (λ f. f r) (set_at_same g.mark b (λ r. slice_index image'.applied r)) in omega arith);
-    kept = λ d r inside below least. elim (set_at-cases g.mark b (λ r. slice_index image'.applied r) d) [
-      | inl here ↦ ap (λ e. g.buffer e (n + r)) here.0 ∙ written.words (n + r) (omega arith) ∙ spell-reply n width image' rows' r below
+    kept = λ d r k inside below room least. elim (set_at-cases g.mark b (λ r. slice_index image'.applied r) d) [
+      | inl here ↦ ap (λ e. g.buffer e (reply_place sizes r k)) here.0 ∙ written.words (reply_place sizes r k) (let h = later r sizes.processes sizes.reply below in omega arith) ∙ spell-reply sizes image' rows' r k below room
       | inr other ↦
           let held : g.announced r ≤ g.mark d r = subst (λ f. g.announced r ≤ f r) other.1 least in
-          was.kept d r inside below held ∙ sym (same_reply r (let m = was.marked d r below in omega arith))
+          was.kept d r k inside below room held ∙ ap (λ ws. slice_index ws k) (sym (same_reply r (let m = was.marked d r below in omega arith)))
     ];
+    arguments = was.arguments;
     in_most = λ r inside. (let i = in_later r inside in let m = was.in_most r inside in elim (due_is r) [ inl none ↦ (let z = none in omega arith) | inr due ↦ (let d = due.0 in let a = due.1 in omega arith) ]);
     soon = λ r inside late. (let i = in_later r inside in let c = known.caught r (omega arith) (inr (omega arith)) in omega arith);
     versions = (let v = was.versions in elim (due_is p) [
@@ -308,7 +314,7 @@ module _ (object : Sequential (List ℕ) ℕ ℕ) (steady : IsSteady object) (n 
           let h = call_seen g.image.applied 0 seen c new in
           let z : 0 + h.0 ≡ h.0 = omega arith in
           let at : c.process ≡ h.0 = h.1 ∙ z in
-          let inside : c.process < n = (let w = slice_get_within seen h.0 (Some c.inv) h.3 in omega arith) in
+          let inside : c.process < sizes.processes = (let w = slice_get_within seen h.0 (Some c.inv) h.3 in omega arith) in
           let nth : c.nth ≡ in_of g c.process = h.2 ∙ ap (slice_index g.image.applied) (z ∙ sym at) in
           let due : due_at seen c.process ≡ 1 = elim (due_is c.process) [
             | inl none ↦ absurd (elim (due_cases seen h.0) [
@@ -325,42 +331,40 @@ module _ (object : Sequential (List ℕ) ℕ ℕ) (steady : IsSteady object) (n 
     history = AcceptsAll-append object (at_start object.initial) g.atomic (record g.atomic { agreed = agreed' }) g.acts (map (λ c. Linearize c) calls) was.history
         (linearized object g.image.applied 0 seen g.atomic (λ j inv at. opened j inv at) (λ c has. inr (was.agreed c has).1));
   } where
-    due_not : (seen : List (Option ℕ)) (j inv : ℕ) → slice_get seen j ≡ Some (Some inv) → due_at seen j ≡ 0 → ⊥
+    due_not : (seen : List (Option (List ℕ))) (j : ℕ) (inv : List ℕ) → slice_get seen j ≡ Some (Some inv) → due_at seen j ≡ 0 → ⊥
     due_not [] j inv at z = let f = at in cc
     due_not (None ∷ seen) zero inv at z = let f : None ≡ Some inv = cc in cc
     due_not (Some i ∷ seen) zero inv at z = omega arith
     due_not (None ∷ seen) (suc j) inv at z = due_not seen j inv at z
     due_not (Some i ∷ seen) (suc j) inv at z = due_not seen j inv at z
 
-    of_open : (r inv : ℕ) (l : Local) → g.announced r ≡ in_of g r + 1 → g.argument r ≡ inv → IsOpen object g r l.inv l.own
+    of_open : (r : ℕ) (inv : List ℕ) (l : Local) → g.announced r ≡ in_of g r + 1 → g.argument r ≡ inv → IsOpen object g r l.inv l.own
         → g.atomic.open_call r ≡ Some (record { process = r; nth = in_of g r; inv = inv })
     of_open r inv l due argument h =
         let nth : length l.own ≡ in_of g r = (let a = h.announced in omega arith) in
         h.is_open ∙ (λ k. Some (record { process = r; nth = nth k; inv = (sym h.argument ∙ argument) k }))
 
     -- a call that was seen is open
-    open_at : (r inv : ℕ) → r < n → g.announced r ≡ in_of g r + 1 → g.argument r ≡ inv → (l : Local) (stage : Stage) → IsCallAt object n width g r l stage
+    open_at : (r : ℕ) (inv : List ℕ) → r < sizes.processes → g.announced r ≡ in_of g r + 1 → g.argument r ≡ inv → (l : Local) (stage : Stage) → IsCallAt object sizes g r l stage
         → g.atomic.open_call r ≡ Some (record { process = r; nth = in_of g r; inv = inv })
-    open_at r inv inside due argument l Idle h = absurd (let a = h.announced in let i = h.in_is in omega arith)
-    open_at r inv inside due argument l Armed h = absurd (let a = h.0.announced in let i = h.0.in_is in omega arith)
+    open_at r inv inside due argument l (Idle stored) h = absurd (let a = h.0.announced in let i = h.0.in_is in omega arith)
     open_at r inv inside due argument l (Ready t) h = of_open r inv l due argument h
     open_at r inv inside due argument l (Reading t s copy seen) h = of_open r inv l due argument h
-    open_at r inv inside due argument l (Asking t s copy seen) h = of_open r inv l due argument h
     open_at r inv inside due argument l (Writing t s image seen k) h = of_open r inv l due argument h
-    open_at r inv inside due argument l (Last s) h = of_open r inv l due argument h
+    open_at r inv inside due argument l (Last s loaded) h = of_open r inv l due argument h
 
-    opened : (j inv : ℕ) → slice_get seen j ≡ Some (Some inv) → g.atomic.open_call (0 + j) ≡ Some (record { process = 0 + j; nth = slice_index g.image.applied (0 + j); inv = inv })
+    opened : (j : ℕ) (inv : List ℕ) → slice_get seen j ≡ Some (Some inv) → g.atomic.open_call (0 + j) ≡ Some (record { process = 0 + j; nth = slice_index g.image.applied (0 + j); inv = inv })
     opened j inv at =
         let z : j ≡ 0 + j = omega arith in
-        let inside : j < n = (let w = slice_get_within seen j (Some inv) at in omega arith) in
+        let inside : j < sizes.processes = (let w = slice_get_within seen j (Some inv) at in omega arith) in
         let told = known.told j inv at in
         subst (λ k. g.atomic.open_call k ≡ Some (record { process = k; nth = slice_index g.image.applied k; inv = inv })) z
-        (open_at j inv inside told.0 told.1 (local j) (local j).stage (sound.each j inside).call)
+        (open_at j inv inside told.0 (argument_is j inv at) (local j) (local j).stage (sound.each j inside).call)
 
-module _ {O : Type 0} (meaning : O → Sequential (List ℕ) ℕ ℕ) (o : O) (n width id : ℕ) (few : n ≤ 64) (st : Step ℕ) (me : Me ℕ (View O)) (single : me.0.known.count ≡ 1)
-    (steady : IsSteady (meaning o)) where
-  abbrev object : Sequential (List ℕ) ℕ ℕ
-  object = meaning o
+module _ {O : Type 0} (meaning : O → Meaning) (o : O) (sizes : Sizes) (id : ℕ) (few : sizes.processes ≤ 64) (st : Step ℕ) (me : Me ℕ (View O)) (single : me.0.known.count ≡ 1)
+    (steady : IsSteady (meaning o).object (meaning o).reply) where
+  abbrev object : Sequential (List ℕ) (List ℕ) (List ℕ)
+  object = (meaning o).object
 
   abbrev p : ℕ
   p = me.0.known.first
@@ -368,38 +372,41 @@ module _ {O : Type 0} (meaning : O → Sequential (List ℕ) ℕ ℕ) (o : O) (n
   abbrev l : Local
   l = me.0.known.local
 
-  module _ (tries s : ℕ) (has : HasWrittenAll n width tries s me) (new_is : st.second ≡ current_word (version_in s + 1) (2 * p + l.spare)) where
+  module _ (tries s : ℕ) (has : HasWrittenAll sizes tries s me) (new_is : st.second ≡ current_word (version_in s + 1) (2 * p + l.spare)) where
     abbrev image : Image
     image = has.0
 
-    abbrev seen : List (Option ℕ)
+    abbrev seen : List (Option (List ℕ))
     seen = has.1.0
 
-    stage : l.stage ≡ Writing tries s image seen (buffer_words n width)
+    stage : l.stage ≡ Writing tries s image seen (buffer_words sizes)
     stage = has.1.1
 
     -- what the seat is told is by what was found
     told : (found : ℕ) (l' : Local) (test : Bool) → (found == s) ≡ test → (if test then brings l st.second else goes l (Ready (tries + 1))) ≡ l'
         → HasBrought st me found (with_local me.0 l', me.1)
     told found l' test is same tries' s' image' seen' k' stage' =
-        let e : Writing tries s image seen (buffer_words n width) ≡ Writing tries' s' image' seen' k' = sym stage ∙ stage' in
+        let e : Writing tries s image seen (buffer_words sizes) ≡ Writing tries' s' image' seen' k' = sym stage ∙ stage' in
         let a : tries ≡ tries' = cc in let c : s ≡ s' = cc in
         let here : brought l tries s st.second found ≡ l' = rw is same in
         ap (λ (x : Local). (with_local me.0 x, me.1)) (sym here ∙ (λ k. brought l (a k) (c k) st.second found))
 
-    module _ (g : Board) (local : ℕ → Local) (words : List ℕ) (f : Found meaning o n width me g local words) where
-      call : IsOpen object g p l.inv l.own
-      call = call_at object n width g p l (Writing tries s image seen (buffer_words n width)) f.mine stage
+    module _ (g : Board) (local : ℕ → Local) (words : List ℕ) (f : Found meaning o sizes me g local words) where
+      steadily : IsSteady object sizes.reply
+      steadily = subst (IsSteady object) f.widths.1 steady
 
-      at_it : IsAttemptAt object n width g p (2 * p + l.spare) (Writing tries s image seen (buffer_words n width))
-      at_it = attempt_at object n width g p l (Writing tries s image seen (buffer_words n width)) f.mine stage
+      call : IsOpen object g p l.inv l.own
+      call = call_at object sizes g p l (Writing tries s image seen (buffer_words sizes)) f.mine stage
+
+      at_it : IsAttemptAt object sizes g p (2 * p + l.spare) (Writing tries s image seen (buffer_words sizes))
+      at_it = attempt_at object sizes g p l (Writing tries s image seen (buffer_words sizes)) f.mine stage
 
       -- S has changed
-      miss : slice_index words 0 ≢ s → Given meaning o n width me g local (slice_set words 0 (slice_index words 0)) (takes_effect s seen g (slice_index words 0)) (HasBrought st me (slice_index words 0))
+      miss : slice_index words 0 ≢ s → Given meaning o sizes me g local (slice_set words 0 (slice_index words 0)) (takes_effect s seen g (slice_index words 0)) (HasBrought st me (slice_index words 0))
       miss apart = record {
         board = g;
         local' = goes l (Ready (tries + 1));
-        sound = sound_same object n width g local p (goes l (Ready (tries + 1))) f.sound (record {
+        sound = sound_same object sizes g local p (goes l (Ready (tries + 1))) f.sound (record {
           spare = f.mine.spare;
           apart = f.mine.apart;
           call = call;
@@ -409,7 +416,7 @@ module _ {O : Type 0} (meaning : O → Sequential (List ℕ) ℕ ℕ) (o : O) (n
           ];
           ordered = f.mine.ordered;
         });
-        words_are = subst (AreWords n width g) (sym (set-get_or words 0 0)) f.words_are;
+        words_are = subst (AreWords sizes g) (sym (set-get_or words 0 0)) f.words_are;
         said = elim (number_cases (slice_index words 0) s) [
           | inl same ↦ absurd (apart same.0)
           | inr other ↦ told (slice_index words 0) (goes l (Ready (tries + 1))) false other.1 refl
@@ -418,47 +425,48 @@ module _ {O : Type 0} (meaning : O → Sequential (List ℕ) ℕ ℕ) (o : O) (n
       }
 
       -- S is as it was
-      hit : slice_index words 0 ≡ s → Given meaning o n width me g local (slice_set words 0 st.second) (takes_effect s seen g (slice_index words 0)) (HasBrought st me (slice_index words 0))
+      hit : slice_index words 0 ≡ s → Given meaning o sizes me g local (slice_set words 0 st.second) (takes_effect s seen g (slice_index words 0)) (HasBrought st me (slice_index words 0))
       hit same =
           let is : s ≡ current_word g.version g.current = sym same ∙ f.words_are.current in
           let now = at_it.1 (omega arith) in
           let small : g.current < 128 = (let c = f.sound.board.current in omega arith) in
           let version : version_in s ≡ g.version = ap version_in is ∙ version_of g.version g.current small in
-          let b_inside : 2 * p + l.spare < 2 * n = (let i = f.inside in let c = f.mine.spare in omega arith) in
+          let b_inside : 2 * p + l.spare < 2 * sizes.processes = (let i = f.inside in let c = f.mine.spare in omega arith) in
           let b_small : 2 * p + l.spare < 128 = omega arith in
-          let written : IsWritten object n width g (2 * p + l.spare) (with_seen object g.image 0 seen) (buffer_words n width) = subst (λ i. IsWritten object n width g (2 * p + l.spare) (with_seen object i 0 seen) (buffer_words n width)) now.1.0 at_it.2 in
-          let g' : Board = brought_board object steady n width few g local f.sound seen now.1.1 p f.inside now.1.2 now.1.3 (2 * p + l.spare) b_inside written in
+          let written : IsWritten object sizes g (2 * p + l.spare) (with_seen object g.image 0 seen) (buffer_words sizes) = subst (λ i. IsWritten object sizes g (2 * p + l.spare) (with_seen object i 0 seen) (buffer_words sizes)) now.1.0 at_it.2 in
+          let g' : Board = brought_board object sizes steadily few g local f.sound seen now.1.1 now.1.4 p f.inside now.1.2 now.1.3 (2 * p + l.spare) b_inside written in
           let word : st.second ≡ current_word (g.version + 1) (2 * p + l.spare) = new_is ∙ ap (λ v. current_word (v + 1) (2 * p + l.spare)) version in
           let named : buffer_in st.second ≡ 2 * p + l.spare = ap buffer_in word ∙ buffer_of (g.version + 1) (2 * p + l.spare) b_small in
           record {
             board = g';
             local' = brings l st.second;
-            sound = sound_with object n width g g' local p (brings l st.second) f.sound
-                (board' object steady n width few g local f.sound seen now.1.1 p f.inside now.1.2 now.1.3 (2 * p + l.spare) b_inside written)
+            sound = sound_with object sizes g g' local p (brings l st.second) f.sound
+                (board' object sizes steadily few g local f.sound seen now.1.1 now.1.4 p f.inside now.1.2 now.1.3 (2 * p + l.spare) b_inside written)
                 (λ q inside apart h.
                 let other : 2 * q + (local q).spare ≢ 2 * p + l.spare = (λ e. apart (let a = h.spare in let c = f.mine.spare in omega arith)) in
                 record {
                   spare = h.spare;
                   apart = other;
-                  call = call_stays object steady n width few g local f.sound seen now.1.1 p f.inside now.1.2 now.1.3 (2 * p + l.spare) b_inside written q (local q) (local q).stage inside h.call;
-                  attempt = attempt_stays object steady n width few g local f.sound seen now.1.1 p f.inside now.1.2 now.1.3 (2 * p + l.spare) b_inside written q (2 * q + (local q).spare) (local q).stage inside other h.attempt;
-                  ordered = ordered_stays object steady n width few g local f.sound seen now.1.1 p f.inside now.1.2 now.1.3 (2 * p + l.spare) b_inside written q (local q).after (local q).own h.ordered;
+                  call = call_stays object sizes steadily few g local f.sound seen now.1.1 now.1.4 p f.inside now.1.2 now.1.3 (2 * p + l.spare) b_inside written q (local q) (local q).stage inside h.call;
+                  attempt = attempt_stays object sizes steadily few g local f.sound seen now.1.1 now.1.4 p f.inside now.1.2 now.1.3 (2 * p + l.spare) b_inside written q (2 * q + (local q).spare) (local q).stage inside other h.attempt;
+                  ordered = ordered_stays object sizes steadily few g local f.sound seen now.1.1 now.1.4 p f.inside now.1.2 now.1.3 (2 * p + l.spare) b_inside written q (local q).after (local q).own h.ordered;
                 })
                 (record {
                   spare = omega arith;
                   apart = (λ e. let c = f.mine.spare in omega arith);
-                  call = call_stays object steady n width few g local f.sound seen now.1.1 p f.inside now.1.2 now.1.3 (2 * p + l.spare) b_inside written p l (Ready 0) f.inside call;
+                  call = call_stays object sizes steadily few g local f.sound seen now.1.1 now.1.4 p f.inside now.1.2 now.1.3 (2 * p + l.spare) b_inside written p l (Ready 0) f.inside call;
                   attempt = (
-                    subst (λ b. b < 2 * n) (sym named) b_inside,
+                    subst (λ b. b < 2 * sizes.processes) (sym named) b_inside,
                     subst (λ b. g.announced p ≤ g'.mark b p) (sym named) (
                         let marked : g'.mark (2 * p + l.spare) p ≡ slice_index (with_seen object g.image 0 seen).applied p = ap (λ f. f p) (set_at_same g.mark (2 * p + l.spare) _) in
-                        let later = in_later object steady n width few g local f.sound seen now.1.1 p f.inside now.1.2 now.1.3 (2 * p + l.spare) b_inside written p f.inside in
+                        let later = in_later object sizes steadily few g local f.sound seen now.1.1 now.1.4 p f.inside now.1.2 now.1.3 (2 * p + l.spare) b_inside written p f.inside in
                         let caught = now.1.2.caught p (let w = now.1.1 in let i = f.inside in omega arith) (inl refl) in omega arith),
-                    all_now object steady n width few g local f.sound seen now.1.1 p f.inside now.1.2 now.1.3 (2 * p + l.spare) b_inside written p (version_in st.second) (ap version_in word ∙ version_of (g.version + 1) (2 * p + l.spare) b_small),
+                    all_now object sizes steadily few g local f.sound seen now.1.1 now.1.4 p f.inside now.1.2 now.1.3 (2 * p + l.spare) b_inside written p (version_in st.second) (ap version_in word ∙ version_of (g.version + 1) (2 * p + l.spare) b_small),
+                    refl,
                   );
-                  ordered = ordered_stays object steady n width few g local f.sound seen now.1.1 p f.inside now.1.2 now.1.3 (2 * p + l.spare) b_inside written p l.after l.own f.mine.ordered;
+                  ordered = ordered_stays object sizes steadily few g local f.sound seen now.1.1 now.1.4 p f.inside now.1.2 now.1.3 (2 * p + l.spare) b_inside written p l.after l.own f.mine.ordered;
                 });
-            words_are = words_current n width g g' words f.words_are refl refl refl st.second word;
+            words_are = words_current sizes g g' words f.words_are refl refl refl st.second word;
             said = elim (number_cases (slice_index words 0) s) [
               | inl here ↦ told (slice_index words 0) (brings l st.second) true here.1 refl
               | inr other ↦ absurd (other.0 same)
@@ -466,7 +474,7 @@ module _ {O : Type 0} (meaning : O → Sequential (List ℕ) ℕ ℕ) (o : O) (n
             appended = elim (number_cases (slice_index words 0) s) [ inl here ↦ rw here.1 refl | inr other ↦ absurd (other.0 same) ];
           }
 
-    pub brings_in : Moves meaning o n width id me 0 (λ found. either (eqb found s) st.second found) (takes_effect s seen) (λ found me'. HasBrought st me found me')
-    brings_in = step_law meaning o n width id me 0 (λ found. either (eqb found s) st.second found) (takes_effect s seen) (λ found me'. HasBrought st me found me') single (λ g local words f fits.
-        exchanged (slice_index words 0) s st.second (λ x. Given meaning o n width me g local (slice_set words 0 x) (takes_effect s seen g (slice_index words 0)) (HasBrought st me (slice_index words 0)))
+    pub brings_in : Moves meaning o sizes id me 0 (λ found. either (eqb found s) st.second found) (takes_effect s seen) (λ found me'. HasBrought st me found me')
+    brings_in = step_law meaning o sizes id me 0 (λ found. either (eqb found s) st.second found) (takes_effect s seen) (λ found me'. HasBrought st me found me') single (λ g local words f fits.
+        exchanged (slice_index words 0) s st.second (λ x. Given meaning o sizes me g local (slice_set words 0 x) (takes_effect s seen g (slice_index words 0)) (HasBrought st me (slice_index words 0)))
         (hit g local words f) (miss g local words f))

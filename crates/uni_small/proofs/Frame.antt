@@ -10,6 +10,8 @@ use Rattle.uni_model.specs.AtomicObject.{Act, set_at}
 use Rattle.uni_model.proofs.Written.{set_at-cases}
 use Rattle.uni_model.proofs.Simulation.{set_at_same}
 use Rattle.uni_model.proofs.LawProofs.{set_at_elsewhere}
+use Rattle.uni_small.specs.Image.{AreWidths, Meaning}
+use Rattle.uni_small.specs.declared.sizes.Sizes.{Sizes}
 use Rattle.uni_small.specs.View.{Local}
 use Rattle.uni_small.specs.Board.{Board}
 use Rattle.uni_small.specs.Invariant.{IsAt, IsBoard, IsSound}
@@ -19,74 +21,76 @@ use Rattle.uni_small.specs.Plays.{with_local}
 use Rattle.uni_small.specs.declared.view.View.{View}
 
 -- one process gets another local, and the others stay where they are
-pub sound_with : (object : Sequential (List ℕ) ℕ ℕ) (n width : ℕ) (g g' : Board) (local : ℕ → Local) (p : ℕ) (l' : Local) → IsSound object n width g local
-    → IsBoard object n width g' → ((q : ℕ) → q < n → q ≢ p → IsAt object n width g q (local q) → IsAt object n width g' q (local q)) → IsAt object n width g' p l'
-    → IsSound object n width g' (set_at local p l')
-sound_with object n width g g' local p l' sound board others mine = record {
+pub sound_with : (object : Sequential (List ℕ) (List ℕ) (List ℕ)) (sizes : Sizes) (g g' : Board) (local : ℕ → Local) (p : ℕ) (l' : Local) → IsSound object sizes g local
+    → IsBoard object sizes g' → ((q : ℕ) → q < sizes.processes → q ≢ p → IsAt object sizes g q (local q) → IsAt object sizes g' q (local q)) → IsAt object sizes g' p l'
+    → IsSound object sizes g' (set_at local p l')
+sound_with object sizes g g' local p l' sound board others mine = record {
   board = board;
   each = λ q inside. elim (set_at-cases local p l' q) [
-    | inl here ↦ subst (λ l. IsAt object n width g' q l) (sym here.1) (subst (λ k. IsAt object n width g' k l') (sym here.0) mine)
-    | inr other ↦ subst (λ l. IsAt object n width g' q l) (sym other.1) (others q inside other.0 (sound.each q inside))
+    | inl here ↦ subst (λ l. IsAt object sizes g' q l) (sym here.1) (subst (λ k. IsAt object sizes g' k l') (sym here.0) mine)
+    | inr other ↦ subst (λ l. IsAt object sizes g' q l) (sym other.1) (others q inside other.0 (sound.each q inside))
   ];
 }
 
 -- where the board stays as it is
-pub sound_same : (object : Sequential (List ℕ) ℕ ℕ) (n width : ℕ) (g : Board) (local : ℕ → Local) (p : ℕ) (l' : Local) → IsSound object n width g local
-    → IsAt object n width g p l' → IsSound object n width g (set_at local p l')
-sound_same object n width g local p l' sound mine = sound_with object n width g g local p l' sound sound.board (λ q inside apart h. h) mine
+pub sound_same : (object : Sequential (List ℕ) (List ℕ) (List ℕ)) (sizes : Sizes) (g : Board) (local : ℕ → Local) (p : ℕ) (l' : Local) → IsSound object sizes g local
+    → IsAt object sizes g p l' → IsSound object sizes g (set_at local p l')
+sound_same object sizes g local p l' sound mine = sound_with object sizes g g local p l' sound sound.board (λ q inside apart h. h) mine
 
 -- what is found of the seat and of the board when a step is taken
-pub record Found {O : Type 0} (meaning : O → Sequential (List ℕ) ℕ ℕ) (o : O) (n width : ℕ) (me : Me ℕ (View O)) (g : Board) (local : ℕ → Local) (words : List ℕ) : Type 0 where
+pub record Found {O : Type 0} (meaning : O → Meaning) (o : O) (sizes : Sizes) (me : Me ℕ (View O)) (g : Board) (local : ℕ → Local) (words : List ℕ) : Type 0 where
   pub object : me.0.object ≡ Some o
-  pub processes : me.0.known.n ≡ n
-  pub inside : me.0.known.first < n
+  pub widths : AreWidths (meaning o) sizes
+  pub processes : me.0.known.sizes ≡ sizes
+  pub inside : me.0.known.first < sizes.processes
   pub local_is : local me.0.known.first ≡ me.0.known.local
-  pub words_are : AreWords n width g words
-  pub sound : IsSound (meaning o) n width g local
-  pub mine : IsAt (meaning o) n width g me.0.known.first me.0.known.local
+  pub words_are : AreWords sizes g words
+  pub sound : IsSound (meaning o).object sizes g local
+  pub mine : IsAt (meaning o).object sizes g me.0.known.first me.0.known.local
 
 -- what has to be given: the board afterwards, with these acts more, and what the process knows then
-pub record Given {O : Type 0} (meaning : O → Sequential (List ℕ) ℕ ℕ) (o : O) (n width : ℕ) (me : Me ℕ (View O)) (g : Board) (local : ℕ → Local) (words' : List ℕ) (acts : List (Act ℕ ℕ)) (says : Me ℕ (View O) → Type 0) : Type 0 where
+pub record Given {O : Type 0} (meaning : O → Meaning) (o : O) (sizes : Sizes) (me : Me ℕ (View O)) (g : Board) (local : ℕ → Local) (words' : List ℕ) (acts : List (Act (List ℕ) (List ℕ))) (says : Me ℕ (View O) → Type 0) : Type 0 where
   pub board : Board
   pub local' : Local
-  pub sound : IsSound (meaning o) n width board (set_at local me.0.known.first local')
-  pub words_are : AreWords n width board words'
+  pub sound : IsSound (meaning o).object sizes board (set_at local me.0.known.first local')
+  pub words_are : AreWords sizes board words'
   pub said : says (with_local me.0 local', me.1)
   pub appended : board.acts ≡ g.acts ++ acts
 
-module _ {O : Type 0} (meaning : O → Sequential (List ℕ) ℕ ℕ) (o : O) (n width id : ℕ) (me : Me ℕ (View O)) (i : ℕ) (f : ℕ → ℕ) (acts : Board → ℕ → List (Act ℕ ℕ)) (says : ℕ → Me ℕ (View O) → Type 0)
+module _ {O : Type 0} (meaning : O → Meaning) (o : O) (sizes : Sizes) (id : ℕ) (me : Me ℕ (View O)) (i : ℕ) (f : ℕ → ℕ) (acts : Board → ℕ → List (Act (List ℕ) (List ℕ))) (says : ℕ → Me ℕ (View O) → Type 0)
     (single : me.0.known.count ≡ 1) where
   abbrev p : ℕ
   p = me.0.known.first
 
-  module _ (s : State ℕ (View O)) (g : Board) (local : ℕ → Local) (seat_of : ℕ → ℕ) (is : IsShown n width meaning o g local seat_of s) (at : get_elem? s.views id ≡ some me.0) where
-    told : Tells n width o local seat_of id me.0
+  module _ (s : State ℕ (View O)) (g : Board) (local : ℕ → Local) (seat_of : ℕ → ℕ) (is : IsShown sizes meaning o g local seat_of s) (at : get_elem? s.views id ≡ some me.0) where
+    told : Tells sizes o local seat_of id me.0
     told = is.seats id me.0 at
 
-    own : (p < n) × (seat_of p ≡ id) × (local p ≡ me.0.known.local)
+    own : (p < sizes.processes) × (seat_of p ≡ id) × (local p ≡ me.0.known.local)
     own = told.each p (omega arith) (omega (arith, single))
 
-    found : Found meaning o n width me g local s.words
+    found : Found meaning o sizes me g local s.words
     found = record {
       object = told.object (omega (arith, single));
+      widths = is.widths;
       processes = told.processes (omega (arith, single));
       inside = own.0;
       local_is = own.2;
       words_are = is.words;
       sound = is.sound;
-      mine = subst (λ l. IsAt (meaning o) n width g p l) own.2 (is.sound.each p own.0);
+      mine = subst (λ l. IsAt (meaning o).object sizes g p l) own.2 (is.sound.each p own.0);
     }
 
-    module _ (given : Given meaning o n width me g local (slice_set s.words i (f (slice_index s.words i))) (acts g (slice_index s.words i)) (says (slice_index s.words i))) where
-      seats_later : (j : ℕ) (u : View O) → get_elem? (set s.views id (with_local me.0 given.local')) j ≡ some u → Tells n width o (set_at local p given.local') seat_of j u
+    module _ (given : Given meaning o sizes me g local (slice_set s.words i (f (slice_index s.words i))) (acts g (slice_index s.words i)) (says (slice_index s.words i))) where
+      seats_later : (j : ℕ) (u : View O) → get_elem? (set s.views id (with_local me.0 given.local')) j ≡ some u → Tells sizes o (set_at local p given.local') seat_of j u
       seats_later j u e = ⊎_elim
           (λ (h : (j ≡ id) × (with_local me.0 given.local' ≡ u)).
-          subst (λ (z : View O). Tells n width o (set_at local p given.local') seat_of j z) h.1 (record {
+          subst (λ (z : View O). Tells sizes o (set_at local p given.local') seat_of j z) h.1 (record {
             object = told.object;
             processes = told.processes;
             each = λ q from below.
                 let here : q ≡ p = omega (arith, from, below, single) in (
-                  subst (λ k. k < n) (sym here) own.0,
+                  subst (λ k. k < sizes.processes) (sym here) own.0,
                   ap seat_of here ∙ own.1 ∙ sym h.0,
                   ap (set_at local p given.local') here ∙ set_at_same local p given.local',
                 );
@@ -116,9 +120,9 @@ module _ {O : Type 0} (meaning : O → Sequential (List ℕ) ℕ ℕ) (o : O) (n
           })
           (at_set s.views id j (with_local me.0 given.local') u e)
 
-  pub step_law : ((g : Board) (local : ℕ → Local) (words : List ℕ) → Found meaning o n width me g local words → slice_index words i < 18446744073709551616
-      → Given meaning o n width me g local (slice_set words i (f (slice_index words i))) (acts g (slice_index words i)) (says (slice_index words i)))
-      → Moves meaning o n width id me i f acts says
+  pub step_law : ((g : Board) (local : ℕ → Local) (words : List ℕ) → Found meaning o sizes me g local words → slice_index words i < 18446744073709551616
+      → Given meaning o sizes me g local (slice_set words i (f (slice_index words i))) (acts g (slice_index words i)) (says (slice_index words i)))
+      → Moves meaning o sizes id me i f acts says
   step_law give s g local seat_of is at fits =
       let given = give g local s.words (found s g local seat_of is at) fits in (
         with_local me.0 given.local',
@@ -126,7 +130,7 @@ module _ {O : Type 0} (meaning : O → Sequential (List ℕ) ℕ ℕ) (o : O) (n
           given.board,
           (
             set_at local p given.local',
-            record { words = given.words_are; seats = seats_later s g local seat_of is at given; sound = given.sound },
+            record { widths = is.widths; words = given.words_are; seats = seats_later s g local seat_of is at given; sound = given.sound },
             given.said,
             given.appended,
           ),
@@ -134,18 +138,18 @@ module _ {O : Type 0} (meaning : O → Sequential (List ℕ) ℕ ℕ) (o : O) (n
       )
 
 -- a load leaves the words and the board as they are
-pub load_law : {O : Type 0} (meaning : O → Sequential (List ℕ) ℕ ℕ) (o : O) (n width id : ℕ) (me : Me ℕ (View O)) (i : ℕ) (says : ℕ → Me ℕ (View O) → Type 0)
+pub load_law : {O : Type 0} (meaning : O → Meaning) (o : O) (sizes : Sizes) (id : ℕ) (me : Me ℕ (View O)) (i : ℕ) (says : ℕ → Me ℕ (View O) → Type 0)
     → me.0.known.count ≡ 1
-    → ((g : Board) (local : ℕ → Local) (words : List ℕ) → Found meaning o n width me g local words
-    → (l' : Local) × IsAt (meaning o) n width g me.0.known.first l' × says (slice_index words i) (with_local me.0 l', me.1))
-    → Moves meaning o n width id me i (λ x. x) nothing says
-load_law meaning o n width id me i says single give = step_law meaning o n width id me i (λ x. x) nothing says single
+    → ((g : Board) (local : ℕ → Local) (words : List ℕ) → Found meaning o sizes me g local words
+    → (l' : Local) × IsAt (meaning o).object sizes g me.0.known.first l' × says (slice_index words i) (with_local me.0 l', me.1))
+    → Moves meaning o sizes id me i (λ x. x) nothing says
+load_law meaning o sizes id me i says single give = step_law meaning o sizes id me i (λ x. x) nothing says single
     (λ g local words found fits.
     let given = give g local words found in record {
       board = g;
       local' = given.0;
-      sound = sound_same (meaning o) n width g local me.0.known.first given.0 found.sound given.1;
-      words_are = subst (AreWords n width g) (sym (set-get_or words i 0)) found.words_are;
+      sound = sound_same (meaning o).object sizes g local me.0.known.first given.0 found.sound given.1;
+      words_are = subst (AreWords sizes g) (sym (set-get_or words i 0)) found.words_are;
       said = given.2;
       appended = sym (append-nil g.acts);
     })

@@ -3,9 +3,10 @@ use Rattle.std.proofs.Common.{◌≡◌, ◌≢◌, ◌∙◌, ℕ, ◌+◌, inl
 use Rattle.atomic_table.specs.Table.{Me}
 use Rattle.seq_object.specs.Sequential.{Sequential}
 use Rattle.uni_model.proofs.Written.{number_cases}
+use Rattle.uni_small.specs.declared.sizes.Sizes.{Sizes}
 use Rattle.uni_small.specs.Image.{Image, with_seen}
 use Rattle.uni_small.specs.View.{Stage, goes}
-use Rattle.uni_small.specs.View.Stage.{Reading, Asking, Writing}
+use Rattle.uni_small.specs.View.Stage.{Reading, Writing}
 use Rattle.uni_small.specs.Plays.{Goes, looked, stage_of, with_local}
 use Rattle.uni_small.specs.Standing.{IsOf, GoesBy, local_of, went}
 use Rattle.uni_small.specs.declared.view.View.{View}
@@ -29,8 +30,8 @@ module _ {O : Type 0} (me : Me ℕ (View O)) where
     pub spare_after : (local_of me1).spare ≡ (local_of me).spare
     spare_after = ap (λ (m : Me ℕ (View O)). (local_of m).spare) first
 
-    pub of_after : {o : O} {n p : ℕ} → IsOf o n p me → IsOf o n p me1
-    of_after {o} {n} {p} of = subst (λ (m : Me ℕ (View O)). IsOf o n p m) (sym first) (record { object = of.object; processes = of.processes; first = of.first; alone = of.alone })
+    pub of_after : {o : O} {sizes : Sizes} {p : ℕ} → IsOf o sizes p me → IsOf o sizes p me1
+    of_after {o} {sizes} {p} of = subst (λ (m : Me ℕ (View O)). IsOf o sizes p m) (sym first) (record { object = of.object; sizes = of.sizes; first = of.first; alone = of.alone })
 
     pub goes_on : (me2 : Me ℕ (View O)) (st2 : Stage) → Goes me1 st2 me2 → GoesBy me (a + 1) st2 me2
     goes_on me2 st2 next =
@@ -47,14 +48,14 @@ module _ {O : Type 0} (me : Me ℕ (View O)) where
         next ∙ here ∙ (λ k. (with_local me.0 (record (local_of me) { stage = st2; steps = count k }), me.1))
 
 -- where an announcement is as the copy has it, and where it isn't
-pub looked_same : (tries s : ℕ) (copy : List ℕ) (seen : List (Option ℕ)) (found : ℕ) → found ≡ slice_index copy (length seen) → looked tries s copy seen found ≡ Reading tries s copy (seen ++ None ∷ [])
-looked_same tries s copy seen found same = elim (number_cases found (slice_index copy (length seen))) [ inl h ↦ rw h.1 refl | inr h ↦ absurd (h.0 same) ]
+pub looked_same : (copy : List ℕ) (r found : ℕ) → found ≡ slice_index copy r → looked copy r found ≡ None
+looked_same copy r found same = elim (number_cases found (slice_index copy r)) [ inl h ↦ rw h.1 refl | inr h ↦ absurd (h.0 same) ]
 
-pub looked_other : (tries s : ℕ) (copy : List ℕ) (seen : List (Option ℕ)) (found : ℕ) → found ≢ slice_index copy (length seen) → looked tries s copy seen found ≡ Asking tries s copy seen
-looked_other tries s copy seen found apart = elim (number_cases found (slice_index copy (length seen))) [ inl h ↦ absurd (apart h.0) | inr h ↦ rw h.1 refl ]
+pub looked_other : (copy : List ℕ) (r found : ℕ) → found ≢ slice_index copy r → looked copy r found ≡ Some []
+looked_other copy r found apart = elim (number_cases found (slice_index copy r)) [ inl h ↦ absurd (apart h.0) | inr h ↦ rw h.1 refl ]
 
 -- what was seen is applied one by one
-pub with_seen-cons : (object : Sequential (List ℕ) ℕ ℕ) (image : Image) (r : ℕ) (o : Option ℕ) (seen : List (Option ℕ)) → with_seen object image r (o ∷ seen) ≡ with_seen object (with_seen object image r (o ∷ [])) (r + 1) seen
+pub with_seen-cons : (object : Sequential (List ℕ) (List ℕ) (List ℕ)) (image : Image) (r : ℕ) (o : Option (List ℕ)) (seen : List (Option (List ℕ))) → with_seen object image r (o ∷ seen) ≡ with_seen object (with_seen object image r (o ∷ [])) (r + 1) seen
 with_seen-cons object image r None seen = refl
 with_seen-cons object image r (Some inv) seen = refl
 
@@ -66,12 +67,12 @@ module _ {O : Type 0} (me me1 me2 : Me ℕ (View O)) (a tries s : ℕ) where
   copied_more copy row first next = goes_more me me1 a (Reading tries s copy []) first me2 (length row) (Reading tries s (copy ++ row) []) (next copy (stage_after me me1 a (Reading tries s copy []) first))
 
   -- one more row is written
-  pub wrote_more : (image : Image) (seen : List (Option ℕ)) (k : ℕ) (row : List ℕ) → GoesBy me a (Writing tries s image seen k) me1
-      → ((image : Image) (seen : List (Option ℕ)) → stage_of me1 ≡ Writing tries s image seen k → GoesBy me1 (length row) (Writing tries s image seen (k + length row)) me2)
+  pub wrote_more : (image : Image) (seen : List (Option (List ℕ))) (k : ℕ) (row : List ℕ) → GoesBy me a (Writing tries s image seen k) me1
+      → ((image : Image) (seen : List (Option (List ℕ))) → stage_of me1 ≡ Writing tries s image seen k → GoesBy me1 (length row) (Writing tries s image seen (k + length row)) me2)
       → GoesBy me (a + length row) (Writing tries s image seen (k + length row)) me2
   wrote_more image seen k row first next = goes_more me me1 a (Writing tries s image seen k) first me2 (length row) (Writing tries s image seen (k + length row)) (next image seen (stage_after me me1 a (Writing tries s image seen k) first))
 
 -- so many word steps and words written, by other names
-pub renamed : {O : Type 0} (me me1 : Me ℕ (View O)) (tries s : ℕ) (image : Image) (seen : List (Option ℕ)) (a b k j : ℕ) → a ≡ b → k ≡ j → GoesBy me a (Writing tries s image seen k) me1 → GoesBy me b (Writing tries s image seen j) me1
+pub renamed : {O : Type 0} (me me1 : Me ℕ (View O)) (tries s : ℕ) (image : Image) (seen : List (Option (List ℕ))) (a b k j : ℕ) → a ≡ b → k ≡ j → GoesBy me a (Writing tries s image seen k) me1 → GoesBy me b (Writing tries s image seen j) me1
 renamed me me1 tries s image seen a b k j e f first =
     subst (λ x. GoesBy me x (Writing tries s image seen j) me1) e (subst (λ x. GoesBy me a (Writing tries s image seen x) me1) f first)

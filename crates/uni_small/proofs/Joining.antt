@@ -7,6 +7,8 @@ use Rattle.atomic_table.specs.Table.{Joins}
 use Rattle.atomic_table.proofs.Lists.{at_set, set_else}
 use Rattle.seq_object.specs.Sequential.{Sequential}
 use Rattle.uni_model.proofs.Written.{number_cases}
+use Rattle.uni_small.specs.Image.{Meaning}
+use Rattle.uni_small.specs.declared.sizes.Sizes.{Sizes}
 use Rattle.uni_small.specs.View.{Local, ProcessReturned}
 use Rattle.uni_small.specs.View.Stage.{Idle}
 use Rattle.uni_small.specs.Board.{Board}
@@ -26,9 +28,9 @@ moved_not : (seat_of : ℕ → ℕ) (id other q : ℕ) → seat_of q ≢ other �
 unfolding moved
 moved_not seat_of id other q e = elim (number_cases (seat_of q) other) [ inl h ↦ absurd (e h.0) | inr h ↦ rw h.1 refl ]
 
-pub joins : {O : Type 0} (meaning : O → Sequential (List ℕ) ℕ ℕ) (o : O) (n width id : ℕ) (v : View O) (other : ℕ) (x : View O) → 1 ≤ v.known.count → x.known.count ≡ 1 → x.known.local.stage ≡ Idle
-    → Joins {S = ℕ} (ShowsBoard meaning o n width) id v other x (took_in v x) nobody
-joins {O} meaning o n width id v other x some_left single idle s holds at apart there =
+pub joins : {O : Type 0} (meaning : O → Meaning) (o : O) (sizes : Sizes) (id : ℕ) (v : View O) (other : ℕ) (x : View O) → 1 ≤ v.known.count → x.known.count ≡ 1 → x.known.local.stage ≡ Idle []
+    → Joins {S = ℕ} (ShowsBoard meaning o sizes) id v other x (took_in v x) nobody
+joins {O} meaning o sizes id v other x some_left single idle s holds at apart there =
     let g = holds.0 in
     let local = holds.1.0 in
     let seat_of = holds.1.1.0 in
@@ -41,6 +43,7 @@ joins {O} meaning o n width id v other x some_left single idle s holds at apart 
         (
           moved seat_of id other,
           record {
+            widths = is.widths;
             words = is.words;
             seats = seats_later g local seat_of is told theirs;
             sound = is.sound;
@@ -48,20 +51,20 @@ joins {O} meaning o n width id v other x some_left single idle s holds at apart 
         ),
       ),
     ) where
-      seats_later : (g : Board) (local : ℕ → Local) (seat_of : ℕ → ℕ) → IsShown n width meaning o g local seat_of s → Tells n width o local seat_of id v → Tells n width o local seat_of other x
-          → (j : ℕ) (u : View O) → get_elem? (set (set s.views id (took_in v x)) other nobody) j ≡ some u → Tells n width o local (moved seat_of id other) j u
+      seats_later : (g : Board) (local : ℕ → Local) (seat_of : ℕ → ℕ) → IsShown sizes meaning o g local seat_of s → Tells sizes o local seat_of id v → Tells sizes o local seat_of other x
+          → (j : ℕ) (u : View O) → get_elem? (set (set s.views id (took_in v x)) other nobody) j ≡ some u → Tells sizes o local (moved seat_of id other) j u
       seats_later g local seat_of is told theirs j u e =
           let of_id : (q : ℕ) → seat_of q ≡ id → moved seat_of id other q ≡ id = (λ q h. moved_not seat_of id other q (λ same. apart (sym same ∙ h)) ∙ h) in
           let first = theirs.each x.known.first (omega arith) (omega (arith, single)) in
           elim (at_set (set s.views id (took_in v x)) other j nobody u e) [
-            | inl spent ↦ subst (λ (z : View O). Tells n width o local (moved seat_of id other) j z) spent.1 (record {
+            | inl spent ↦ subst (λ (z : View O). Tells sizes o local (moved seat_of id other) j z) spent.1 (record {
               object = λ any. absurd (omega (arith, any));
               processes = λ any. absurd (omega (arith, any));
               each = λ q from below. absurd (omega (arith, from, below));
               taken = λ its has. absurd (let h = has.1 in omega arith);
             })
             | inr rest ↦ elim (at_set s.views id j (took_in v x) u rest.1) [
-              | inl mine ↦ subst (λ (z : View O). Tells n width o local (moved seat_of id other) j z) mine.1 (record {
+              | inl mine ↦ subst (λ (z : View O). Tells sizes o local (moved seat_of id other) j z) mine.1 (record {
                 object = told.object;
                 processes = told.processes;
                 each = λ q from below. let its = told.each q from below in (its.0, of_id q its.1 ∙ sym mine.0, its.2);
@@ -70,7 +73,7 @@ joins {O} meaning o n width id v other x some_left single idle s holds at apart 
                   | inr new ↦ elim (Contains-append_cases (own_in_view x ∷ []) x.known.taken its new) [
                     | inl own ↦
                         let same : own_in_view x ≡ its = only (own_in_view x) its own in
-                        subst (λ (c : ProcessReturned). IsTaken n width local (moved seat_of id other) j (took_in v x).known c) same (record {
+                        subst (λ (c : ProcessReturned). IsTaken sizes local (moved seat_of id other) j (took_in v x).known c) same (record {
                           inside = first.0;
                           seat = moved_here seat_of id other x.known.first first.1 ∙ sym mine.0;
                           apart = λ from below. apart (sym first.1 ∙ (told.each x.known.first from below).1);

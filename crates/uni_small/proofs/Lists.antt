@@ -23,22 +23,35 @@ get_snoc [] x (suc j) y e = absurd (let f = e in cc)
 get_snoc (z ∷ xs) x zero y e = inl e
 get_snoc (z ∷ xs) x (suc j) y e = elim (get_snoc xs x j y e) [ inl h ↦ inl h | inr h ↦ inr (ap suc h.0, h.1) ]
 
-pub due_snoc : (seen : List (Option ℕ)) (o : Option ℕ) (j : ℕ) → j < length seen → due_at (seen ++ o ∷ []) j ≡ due_at seen j
+pub get_last : {A : Type 0} (xs : List A) (x : A) → slice_get (xs ++ x ∷ []) (length xs) ≡ Some x
+get_last [] x = refl
+get_last (y ∷ xs) x = get_last xs x
+
+pub due_snoc : (seen : List (Option (List ℕ))) (o : Option (List ℕ)) (j : ℕ) → j < length seen → due_at (seen ++ o ∷ []) j ≡ due_at seen j
 due_snoc [] o j h = absurd (omega arith)
 due_snoc (None ∷ seen) o zero h = refl
 due_snoc (Some i ∷ seen) o zero h = refl
 due_snoc (None ∷ seen) o (suc j) h = due_snoc seen o j (omega arith)
 due_snoc (Some i ∷ seen) o (suc j) h = due_snoc seen o j (omega arith)
 
-pub due_last : (seen : List (Option ℕ)) (inv j : ℕ) → j ≡ length seen → due_at (seen ++ Some inv ∷ []) j ≡ 1
+pub due_last : (seen : List (Option (List ℕ))) (inv : List ℕ) (j : ℕ) → j ≡ length seen → due_at (seen ++ Some inv ∷ []) j ≡ 1
 due_last [] inv zero e = refl
 due_last [] inv (suc j) e = absurd (omega arith)
 due_last (x ∷ seen) inv zero e = absurd (omega arith)
 due_last (None ∷ seen) inv (suc j) e = due_last seen inv j (omega arith)
 due_last (Some i ∷ seen) inv (suc j) e = due_last seen inv j (omega arith)
 
+-- whatever words of an invocation are loaded, its process is due
+pub due_same : (seen : List (Option (List ℕ))) (a b : List ℕ) (j : ℕ) → due_at (seen ++ Some a ∷ []) j ≡ due_at (seen ++ Some b ∷ []) j
+due_same [] a b zero = refl
+due_same [] a b (suc j) = refl
+due_same (None ∷ seen) a b zero = refl
+due_same (Some i ∷ seen) a b zero = refl
+due_same (None ∷ seen) a b (suc j) = due_same seen a b j
+due_same (Some i ∷ seen) a b (suc j) = due_same seen a b j
+
 -- a process that is due was seen with an invocation
-pub due_cases : (seen : List (Option ℕ)) (j : ℕ) → (due_at seen j ≡ 0) ⊎ ((inv : ℕ) × (due_at seen j ≡ 1) × (slice_get seen j ≡ Some (Some inv)))
+pub due_cases : (seen : List (Option (List ℕ))) (j : ℕ) → (due_at seen j ≡ 0) ⊎ ((inv : List ℕ) × (due_at seen j ≡ 1) × (slice_get seen j ≡ Some (Some inv)))
 due_cases [] j = inl refl
 due_cases (None ∷ seen) zero = inl refl
 due_cases (Some i ∷ seen) zero = inr (i, refl, refl)

@@ -1,18 +1,19 @@
 -- A step of one process by which S, the image and the marks stay leaves the others where they are.
-use Rattle.std.proofs.Common.{◌≡◌, ◌≢◌, ◌∙◌, ℕ, ◌+◌, ◌*◌, ◌<◌, ◌≤◌, inl, inr, refl, sym, ap, subst, List, [], ◌∷◌, ◌++◌, length, map, slice_get, Option, arith, append-nil}
+use Rattle.std.proofs.Common.{◌≡◌, ◌≢◌, ◌∙◌, ℕ, ◌+◌, ◌*◌, ◌<◌, ◌≤◌, inl, inr, refl, sym, ap, subst, List, [], ◌∷◌, ◌++◌, length, map, slice_get, take, Option, arith, append-nil}
 use Rattle.seq_object.specs.Sequential.{Sequential}
 use Rattle.seq_object.specs.History.{response_at}
 use Rattle.uni_model.specs.AtomicObject.{Atomic, Act, Invoked}
 use Rattle.uni_model.specs.AtomicObject.Act.{Invoke, Respond}
 use Rattle.uni_model.proofs.Written.{number_cases}
 use Rattle.uni_model.specs.ProcessCalls.{acts_by}
+use Rattle.uni_small.specs.declared.sizes.Sizes.{Sizes}
 use Rattle.uni_small.specs.View.{Local, Returned, Stage}
-use Rattle.uni_small.specs.View.Stage.{Idle, Armed, Ready, Reading, Asking, Writing, Last}
+use Rattle.uni_small.specs.View.Stage.{Idle, Last, Reading, Ready, Writing}
 use Rattle.uni_small.specs.Board.{Board, in_of}
 use Rattle.uni_small.specs.Invariant.{IsAt, IsCallAt, IsAttemptAt, IsClosed, IsOpen, HasTaken, HasSeen}
 use Rattle.uni_small.specs.Order.{IsOrdered}
 
-module _ (object : Sequential (List ℕ) ℕ ℕ) (n width : ℕ) (g : Board) (announced' argument' since' : ℕ → ℕ) (buffer' : ℕ → ℕ → ℕ) (atomic' : Atomic (List ℕ) ℕ) (acts' : List (Act ℕ ℕ)) where
+module _ (object : Sequential (List ℕ) (List ℕ) (List ℕ)) (sizes : Sizes) (g : Board) (announced' : ℕ → ℕ) (argument' : ℕ → List ℕ) (since' : ℕ → ℕ) (buffer' : ℕ → ℕ → ℕ) (atomic' : Atomic (List ℕ) (List ℕ)) (acts' : List (Act (List ℕ) (List ℕ))) where
   -- the board afterwards
   abbrev pub quiet : Board
   quiet = record g { announced = announced'; argument = argument'; since = since'; buffer = buffer'; atomic = atomic'; acts = acts' }
@@ -20,46 +21,44 @@ module _ (object : Sequential (List ℕ) ℕ ℕ) (n width : ℕ) (g : Board) (a
   -- what stays as it is for process q, whose spare buffer is b
   pub record Spares (q b : ℕ) : Type 0 where
     pub since : since' q ≡ g.since q
-    pub seen : (seen : List (Option ℕ)) → HasSeen g q seen → HasSeen quiet q seen
-    pub due : (r : ℕ) → g.announced r ≡ in_of g r + 1 → announced' r ≡ in_of g r + 1
+    pub seen : (seen : List (Option (List ℕ))) → HasSeen g q seen → HasSeen quiet q seen
     pub announced : announced' q ≡ g.announced q
     pub argument : argument' q ≡ g.argument q
     pub buffer : (i : ℕ) → buffer' b i ≡ g.buffer b i
-    pub marked : (r : ℕ) → r < n → announced' r ≤ g.mark b r → g.announced r ≤ g.mark b r
+    pub marked : (r : ℕ) → r < sizes.processes → announced' r ≤ g.mark b r → g.announced r ≤ g.mark b r
     pub is_open : atomic'.open_call q ≡ g.atomic.open_call q
     pub next : atomic'.next_nth q ≡ g.atomic.next_nth q
     pub agreed : atomic'.agreed ≡ g.atomic.agreed
     pub acts : acts_by q acts' ≡ acts_by q g.acts
 
   module _ (q b : ℕ) (spares : Spares q b) where
-    attempt_stays : (stage : Stage) → IsAttemptAt object n width g q b stage → IsAttemptAt object n width quiet q b stage
-    attempt_stays Idle h = h
-    attempt_stays Armed h = h
+    attempt_stays : (stage : Stage) → IsAttemptAt object sizes g q b stage → IsAttemptAt object sizes quiet q b stage
+    attempt_stays (Idle stored) h = h
     attempt_stays (Ready t) h = let e = spares.since in omega arith
     attempt_stays (Reading t s copy seen) h = ((let e = spares.since in let a = h.0 in omega arith), λ fresh. let now = h.1 fresh in (now.0, (now.1.0, spares.seen seen now.1.1)))
-    attempt_stays (Asking t s copy seen) h = ((let e = spares.since in let a = h.0 in omega arith), λ fresh. let now = h.1 fresh in (now.0, (now.1.0, spares.seen seen now.1.1, spares.due (length seen) now.1.2)))
     attempt_stays (Writing t s image seen k) h = (
       (let e = spares.since in let a = h.0 in omega arith),
-      (λ fresh. let now = h.1 fresh in (now.0, (now.1.0, now.1.1, spares.seen seen now.1.2, (let e = spares.announced in let m = now.1.3 in omega arith)))),
+      (λ fresh. let now = h.1 fresh in (now.0, (now.1.0, now.1.1, spares.seen seen now.1.2, (let e = spares.announced in let m = now.1.3 in omega arith), now.1.4))),
       record { rows = h.2.rows; words = λ i below. spares.buffer i ∙ h.2.words i below; replies = λ r inside least. h.2.replies r inside (spares.marked r inside least) },
     )
-    attempt_stays (Last s) h = (
+    attempt_stays (Last s loaded) h = (
       h.0,
       (let e = spares.announced in let m = h.1 in omega arith),
       (h.2.0, λ c place at own below. h.2.1 c place (ap (λ xs. slice_get xs place) (sym spares.agreed) ∙ at) own (subst (λ k. c.nth < k) spares.announced below)),
+      h.3,
     )
 
-    taken_stays : (call : Invoked ℕ) (reply : ℕ) → HasTaken object g call reply → HasTaken object quiet call reply
+    taken_stays : (call : Invoked (List ℕ)) (reply : List ℕ) → HasTaken object g call reply → HasTaken object quiet call reply
     taken_stays call reply h = record {
       place = h.place;
       there = ap (λ xs. slice_get xs h.place) spares.agreed ∙ h.there;
-      reply_is = ap (λ (xs : List (Invoked ℕ)). response_at object object.initial (map (λ c. c.inv) xs) h.place) spares.agreed ∙ h.reply_is;
+      reply_is = ap (λ (xs : List (Invoked (List ℕ))). response_at object object.initial (map (λ c. c.inv) xs) h.place) spares.agreed ∙ h.reply_is;
     }
 
     closed_stays : (own : List Returned) → IsClosed g q own → IsClosed quiet q own
     closed_stays own h = record { none_open = spares.is_open ∙ h.none_open; next = spares.next ∙ h.next; announced = spares.announced ∙ h.announced; in_is = h.in_is; acts = spares.acts ∙ h.acts }
 
-    open_stays : (inv : ℕ) (own : List Returned) → IsOpen object g q inv own → IsOpen object quiet q inv own
+    open_stays : (inv : List ℕ) (own : List Returned) → IsOpen object g q inv own → IsOpen object quiet q inv own
     open_stays inv own h = record {
       is_open = spares.is_open ∙ h.is_open;
       next = spares.next ∙ h.next;
@@ -70,20 +69,18 @@ module _ (object : Sequential (List ℕ) ℕ ℕ) (n width : ℕ) (g : Board) (a
       acts = spares.acts ∙ h.acts;
     }
 
-    call_stays : (l : Local) (stage : Stage) → IsCallAt object n width g q l stage → IsCallAt object n width quiet q l stage
-    call_stays l Idle h = closed_stays l.own h
-    call_stays l Armed h = (closed_stays l.own h.0, spares.argument ∙ h.1)
+    call_stays : (l : Local) (stage : Stage) → IsCallAt object sizes g q l stage → IsCallAt object sizes quiet q l stage
+    call_stays l (Idle stored) h = (closed_stays l.own h.0, ap (take (length stored)) spares.argument ∙ h.1)
     call_stays l (Ready t) h = open_stays l.inv l.own h
     call_stays l (Reading t s copy seen) h = open_stays l.inv l.own h
-    call_stays l (Asking t s copy seen) h = open_stays l.inv l.own h
     call_stays l (Writing t s image seen k) h = open_stays l.inv l.own h
-    call_stays l (Last s) h = open_stays l.inv l.own h
+    call_stays l (Last s loaded) h = open_stays l.inv l.own h
 
-  pub at_stays : (q : ℕ) (l : Local) → Spares q (2 * q + l.spare) → IsAt object n width g q l → IsAt object n width quiet q l
+  pub at_stays : (q : ℕ) (l : Local) → Spares q (2 * q + l.spare) → IsAt object sizes g q l → IsAt object sizes quiet q l
   at_stays q l spares h = record {
     spare = h.spare;
     apart = h.apart;
     call = call_stays q (2 * q + l.spare) spares l l.stage h.call;
     attempt = attempt_stays q (2 * q + l.spare) spares l.stage h.attempt;
-    ordered = subst (λ agreed. IsOrdered object agreed g.agreed_at g.version q l.after l.own) (sym spares.agreed) h.ordered;
+    ordered = subst (λ agreed. IsOrdered object agreed g.calls_in_version g.version q l.after l.own) (sym spares.agreed) h.ordered;
   }

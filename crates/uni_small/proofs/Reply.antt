@@ -10,24 +10,28 @@ use Rattle.uni_model.proofs.Written.{lt_cases}
 use Rattle.uni_model.proofs.Simulation.{set_at_same}
 use Rattle.uni_model.proofs.LawProofs.{set_at_elsewhere, AcceptsAll-append}
 use Rattle.uni_model.specs.ProcessCalls.{sequential_acts}
-use Rattle.uni_small.specs.View.{Local, Returned, ending, plain, returns}
+use Rattle.uni_small.specs.declared.sizes.Sizes.{Sizes}
+use Rattle.uni_small.specs.View.{Local, Returned, Stage, ending, goes, plain, returns}
 use Rattle.uni_small.specs.View.Stage.{Last}
 use Rattle.uni_small.specs.Board.{Board, in_of, buffer_in, buffer_word, version_in}
 use Rattle.uni_small.specs.Order.{StandsIn}
-use Rattle.uni_small.specs.Invariant.{IsOpen, HasTaken}
+use Rattle.uni_small.specs.Invariant.{HasTaken, IsBeginning, IsOpen}
 use Rattle.uni_small.specs.Shown.{AreWords}
-use Rattle.uni_small.specs.Laws.{Moves, ends}
-use Rattle.uni_small.specs.Plays.{stage_of, with_local, HasReplied}
+use Rattle.uni_small.specs.Laws.{Moves, ends, nothing}
+use Rattle.uni_small.specs.Plays.{HasLoaded, HasReplied, stage_of, with_local}
+use Rattle.uni_small.specs.Standing.{IsLoading}
+use Rattle.uni_small.specs.Image.{Meaning, reply_of, reply_place}
 use Rattle.uni_small.specs.declared.view.View.{View}
-use Rattle.uni_small.proofs.Frame.{step_law, sound_with}
+use Rattle.uni_small.proofs.Frame.{Found, load_law, sound_with, step_law}
+use Rattle.uni_small.proofs.Rows.{begins_more, begins_whole, later}
 use Rattle.uni_small.proofs.Lists.{get_snoc}
 use Rattle.uni_small.proofs.Loads.{call_at, attempt_at, none_beyond}
 use Rattle.uni_small.proofs.Acts.{responded_other, responded_own, sequential_acts-snoc}
 use Rattle.uni_small.proofs.Others.{quiet, at_stays}
 
-module _ {O : Type 0} (meaning : O → Sequential (List ℕ) ℕ ℕ) (o : O) (n width id : ℕ) (st : Step ℕ) (me : Me ℕ (View O)) (single : me.0.known.count ≡ 1) where
-  abbrev object : Sequential (List ℕ) ℕ ℕ
-  object = meaning o
+module _ {O : Type 0} (meaning : O → Meaning) (o : O) (sizes : Sizes) (id : ℕ) (st : Step ℕ) (me : Me ℕ (View O)) (single : me.0.known.count ≡ 1) where
+  abbrev object : Sequential (List ℕ) (List ℕ) (List ℕ)
+  object = (meaning o).object
 
   abbrev p : ℕ
   p = me.0.known.first
@@ -35,32 +39,70 @@ module _ {O : Type 0} (meaning : O → Sequential (List ℕ) ℕ ℕ) (o : O) (n
   abbrev l : Local
   l = me.0.known.local
 
-  pub replies : (s : ℕ) → stage_of me ≡ Last s → buffer_in s < 2 * n
-      → Moves meaning o n width id me (buffer_word n width (buffer_in s) (n + p)) (λ x. x) (ends l p) (λ found me'. HasReplied st me found me')
-  replies s stage named = step_law meaning o n width id me (buffer_word n width (buffer_in s) (n + p)) (λ x. x) (ends l p) (λ found me'. HasReplied st me found me') single (λ g local words f fits.
-      let x = slice_index words (buffer_word n width (buffer_in s) (n + p)) in
-      let call : IsOpen object g p l.inv l.own = call_at object n width g p l (Last s) f.mine stage in
-      let was = attempt_at object n width g p l (Last s) f.mine stage in
+  -- what is found of the reply
+  reply_found : (s : ℕ) (loaded : List ℕ) → stage_of me ≡ Last s loaded → length loaded < sizes.reply → buffer_in s < 2 * sizes.processes
+      → {g : Board} {local : ℕ → Local} {words : List ℕ} → Found meaning o sizes me g local words
+      → IsBeginning (loaded ++ slice_index words (buffer_word sizes (buffer_in s) (reply_place sizes p (length loaded))) ∷ []) (reply_of g.image p)
+  reply_found s loaded stage room named {g} {local} {words} f =
+      let k = length loaded in
+      let was = attempt_at object sizes g p l (Last s loaded) f.mine stage in
       let b = f.sound.board in
-      let found : x ≡ g.buffer (buffer_in s) (n + p) = f.words_are.buffer (buffer_in s) (n + p) named (let i = f.inside in omega arith) in
-      let reply : x ≡ slice_index g.image.reply p = found ∙ b.kept (buffer_in s) p named f.inside was.1 in
+      let found = f.words_are.buffer (buffer_in s) (reply_place sizes p (length loaded)) named (let i = f.inside in let h = later p sizes.processes sizes.reply i in omega arith) in
+      begins_more loaded (reply_of g.image p) was.3 (let r = b.rows.replies p f.inside in omega arith) (slice_index words (buffer_word sizes (buffer_in s) (reply_place sizes p (length loaded))))
+      (found ∙ b.kept (buffer_in s) p (length loaded) named f.inside room was.1)
+
+  -- a word of it, of which more are to come
+  pub loads : (s k : ℕ) → IsLoading s k me → k < sizes.reply → buffer_in s < 2 * sizes.processes
+      → Moves meaning o sizes id me (buffer_word sizes (buffer_in s) (reply_place sizes p k)) (λ x. x) nothing (λ found me'. HasLoaded st me found me')
+  loads s k loading room named =
+      let loaded = loading.0 in
+      let stage : l.stage ≡ Last s loaded = loading.1 in
+      let long : length loaded ≡ k = loading.2 in
+      subst (λ j. Moves meaning o sizes id me (buffer_word sizes (buffer_in s) (reply_place sizes p j)) (λ x. x) nothing (λ found me'. HasLoaded st me found me')) long
+      (load_law meaning o sizes id me (buffer_word sizes (buffer_in s) (reply_place sizes p (length loaded))) (λ found me'. HasLoaded st me found me') single (λ g local words f.
+      let x = slice_index words (buffer_word sizes (buffer_in s) (reply_place sizes p (length loaded))) in
+      let was = attempt_at object sizes g p l (Last s loaded) f.mine stage in (
+        goes l (Last s (loaded ++ x ∷ [])),
+        record {
+          spare = f.mine.spare;
+          apart = f.mine.apart;
+          call = call_at object sizes g p l (Last s loaded) f.mine stage;
+          attempt = (was.0, was.1, was.2, reply_found s loaded stage (omega arith) named f);
+          ordered = f.mine.ordered;
+        },
+        λ s' loaded' stage'.
+            let e : Last s loaded ≡ Last s' loaded' = sym stage ∙ stage' in
+            let a : s ≡ s' = cc in let c : loaded ≡ loaded' = cc in
+            λ i. (with_local me.0 (goes l (Last (a i) (c i ++ x ∷ []))), me.1),
+      )))
+
+  -- the last word
+  pub replies : (s : ℕ) (loaded : List ℕ) → stage_of me ≡ Last s loaded → length loaded + 1 ≡ sizes.reply → buffer_in s < 2 * sizes.processes
+      → Moves meaning o sizes id me (buffer_word sizes (buffer_in s) (reply_place sizes p (length loaded))) (λ x. x) (ends l p loaded) (λ found me'. HasReplied st me found me')
+  replies s loaded stage last named = step_law meaning o sizes id me (buffer_word sizes (buffer_in s) (reply_place sizes p (length loaded))) (λ x. x) (ends l p loaded) (λ found me'. HasReplied st me found me') single (λ g local words f fits.
+      let x = loaded ++ slice_index words (buffer_word sizes (buffer_in s) (reply_place sizes p (length loaded))) ∷ [] in
+      let call : IsOpen object g p l.inv l.own = call_at object sizes g p l (Last s loaded) f.mine stage in
+      let was = attempt_at object sizes g p l (Last s loaded) f.mine stage in
+      let b = f.sound.board in
+      let reply : x ≡ reply_of g.image p = sym (begins_whole x (reply_of g.image p) (reply_found s loaded stage (omega arith) named f)
+      (length-append loaded (slice_index words (buffer_word sizes (buffer_in s) (reply_place sizes p (length loaded))) ∷ []) ∙ last ∙ sym (b.rows.replies p f.inside))) in
       let all_in : in_of g p ≡ length l.own + 1 = (let m = b.marked (buffer_in s) p f.inside in let w = was.1 in let i = b.in_most p f.inside in let a = call.announced in omega arith) in
-      let taken : HasTaken object g (record { process = p; nth = length l.own; inv = l.inv }) (slice_index g.image.reply p) = call.taken all_in in
+      let taken : HasTaken object g (record { process = p; nth = length l.own; inv = l.inv }) (reply_of g.image p) = call.taken all_in in
       let more : length (l.own ++ ending l s x ∷ []) ≡ length l.own + 1 = length-append l.own (ending l s x ∷ []) in
-      let stands : StandsIn object g.atomic.agreed g.agreed_at p (length l.own) (ending l s x) = record {
+      let stands : StandsIn object g.atomic.agreed g.calls_in_version p (length l.own) (ending l s x) = record {
         place = taken.place;
         there = taken.there;
         reply = taken.reply_is ∙ ap Some (sym reply);
         after = f.mine.ordered.later (record { process = p; nth = length l.own; inv = l.inv }) taken.place taken.there refl (omega arith);
         before = was.2.1 (record { process = p; nth = length l.own; inv = l.inv }) taken.place taken.there refl (let a = call.announced in omega arith);
       } in
-      let atomic' : Atomic (List ℕ) ℕ = record g.atomic { open_call = set_at g.atomic.open_call p None } in
-      let acts' : List (Act ℕ ℕ) = g.acts ++ Respond p (length l.own) x ∷ [] in
-      let g' : Board = quiet object n width g g.announced g.argument g.since g.buffer atomic' acts' in
+      let atomic' : Atomic (List ℕ) (List ℕ) = record g.atomic { open_call = set_at g.atomic.open_call p None } in
+      let acts' : List (Act (List ℕ) (List ℕ)) = g.acts ++ Respond p (length l.own) x ∷ [] in
+      let g' : Board = quiet object sizes g g.announced g.argument g.since g.buffer atomic' acts' in
       record {
         board = g';
         local' = returns l s x;
-        sound = sound_with object n width g g' local p (returns l s x) f.sound
+        sound = sound_with object sizes g g' local p (returns l s x) f.sound
             (record {
               current = b.current;
               image = b.image;
@@ -69,6 +111,7 @@ module _ {O : Type 0} (meaning : O → Sequential (List ℕ) ℕ ℕ) (o : O) (n
               marked = b.marked;
               at_current = b.at_current;
               kept = b.kept;
+              arguments = b.arguments;
               in_most = b.in_most;
               soon = b.soon;
               versions = b.versions;
@@ -85,18 +128,17 @@ module _ {O : Type 0} (meaning : O → Sequential (List ℕ) ℕ ℕ) (o : O) (n
                     taken.place,
                     call.is_open,
                     taken.there,
-                    ap (λ z. response_at object z (map (λ (c : Invoked ℕ). c.inv) g.atomic.agreed) taken.place) b.start ∙ taken.reply_is ∙ ap Some (sym reply),
+                    ap (λ z. response_at object z (map (λ (c : Invoked (List ℕ)). c.inv) g.atomic.agreed) taken.place) b.start ∙ taken.reply_is ∙ ap Some (sym reply),
                   ),
                   refl,
                 ),
                 refl,
               );
             })
-            (λ q inside apart h. at_stays object n width g g.announced g.argument g.since g.buffer atomic' acts' q (local q)
+            (λ q inside apart h. at_stays object sizes g g.announced g.argument g.since g.buffer atomic' acts' q (local q)
             (record {
               since = refl;
               seen = λ seen k. record { told = k.told; caught = k.caught };
-              due = λ r d. d;
               announced = refl;
               argument = refl;
               buffer = λ i. refl;
@@ -109,40 +151,44 @@ module _ {O : Type 0} (meaning : O → Sequential (List ℕ) ℕ ℕ) (o : O) (n
             (record {
               spare = f.mine.spare;
               apart = f.mine.apart;
-              call = record {
-                none_open = set_at_same g.atomic.open_call p None;
-                next = call.next ∙ sym more;
-                announced = call.announced ∙ sym more;
-                in_is = all_in ∙ sym more;
-                acts = responded_own p (length l.own) x g.acts ∙ ap (λ xs. xs ++ Respond p (length l.own) x ∷ []) call.acts
-                    ∙ append_assoc (sequential_acts p 0 (map plain l.own)) (Invoke p (length l.own) l.inv ∷ []) (Respond p (length l.own) x ∷ [])
-                    ∙ ap (λ k. sequential_acts p 0 (map plain l.own) ++ Invoke p k l.inv ∷ Respond p k x ∷ []) (let z : length l.own ≡ length l.own + 0 = omega arith in z)
-                    ∙ sym (sequential_acts-snoc p 0 l.own (ending l s x));
-              };
+              call = (
+                record {
+                  none_open = set_at_same g.atomic.open_call p None;
+                  next = call.next ∙ sym more;
+                  announced = call.announced ∙ sym more;
+                  in_is = all_in ∙ sym more;
+                  acts = responded_own p (length l.own) x g.acts ∙ ap (λ xs. xs ++ Respond p (length l.own) x ∷ []) call.acts
+                      ∙ append_assoc (sequential_acts p 0 (map plain l.own)) (Invoke p (length l.own) l.inv ∷ []) (Respond p (length l.own) x ∷ [])
+                      ∙ ap (λ k. sequential_acts p 0 (map plain l.own) ++ Invoke p k l.inv ∷ Respond p k x ∷ []) (let z : length l.own ≡ length l.own + 0 = omega arith in z)
+                      ∙ sym (sequential_acts-snoc p 0 l.own (ending l s x));
+                },
+                refl,
+              );
               attempt = tt;
               ordered = record {
                 reached = was.2.0;
-                later = λ c place at own from. absurd (none_beyond object n width g p b c place at own (omega arith));
+                later = λ c place at own from. absurd (none_beyond object sizes g p b c place at own (omega arith));
                 known = λ k call at. elim (get_snoc l.own (ending l s x) k call at) [
                   | inl old ↦ f.mine.ordered.known k call old
                   | inr new ↦ subst (λ c. c.version ≤ g.version) new.1 was.2.0
                 ];
                 stand = λ k call at. elim (get_snoc l.own (ending l s x) k call at) [
                   | inl old ↦ f.mine.ordered.stand k call old
-                  | inr new ↦ subst (λ (c : Returned). StandsIn object g.atomic.agreed g.agreed_at p k c) new.1 (subst (λ j. StandsIn object g.atomic.agreed g.agreed_at p j (ending l s x)) (sym new.0) stands)
+                  | inr new ↦ subst (λ (c : Returned). StandsIn object g.atomic.agreed g.calls_in_version p k c) new.1 (subst (λ j. StandsIn object g.atomic.agreed g.calls_in_version p j (ending l s x)) (sym new.0) stands)
                 ];
               };
             });
-        words_are = subst (AreWords n width g') (sym (set-get_or words (buffer_word n width (buffer_in s) (n + p)) 0)) (record {
+        words_are = subst (AreWords sizes g') (sym (set-get_or words (buffer_word sizes (buffer_in s) (reply_place sizes p (length loaded))) 0)) (record {
           wide = f.words_are.wide;
           current = f.words_are.current;
           announced = f.words_are.announced;
           argument = f.words_are.argument;
           buffer = f.words_are.buffer;
         });
-        said = λ s' stage'.
-            let same : s ≡ s' = (let e : Last s ≡ Last s' = sym stage ∙ stage' in cc) in (
-              (λ k. (with_local me.0 (returns l (same k) x), me.1)),
+        said = λ s' loaded' stage'.
+            let e : Last s loaded ≡ Last s' loaded' = sym stage ∙ stage' in
+            let same : s ≡ s' = cc in let also : loaded ≡ loaded' = cc in (
+              (λ k. (with_local me.0 (returns l (same k) (also k ++ slice_index words (buffer_word sizes (buffer_in s) (reply_place sizes p (length loaded))) ∷ [])), me.1)),
               subst (λ k. l.after < version_in k) same (elim (lt_cases l.after (version_in s)) [
                 | inl less ↦ less.0
                 | inr more ↦ absurd (let r = b.rising (version_in s) l.after more.0 in let t = stands.after in let u = stands.before in omega arith)

@@ -8,6 +8,8 @@ use Rattle.seq_object.specs.Sequential.{Sequential}
 use Rattle.uni_model.specs.AtomicObject.{set_at}
 use Rattle.uni_model.proofs.Simulation.{set_at_same}
 use Rattle.uni_model.proofs.LawProofs.{set_at_elsewhere}
+use Rattle.uni_small.specs.Image.{Meaning}
+use Rattle.uni_small.specs.declared.sizes.Sizes.{Sizes}
 use Rattle.uni_small.specs.View.{Local}
 use Rattle.uni_small.specs.Board.{Board}
 use Rattle.uni_small.specs.Shown.{Tells, IsShown, ShowsBoard}
@@ -21,9 +23,9 @@ at_end [] a b (suc j) e = absurd (some-ne-none b (sym e))
 at_end (x ∷ xs) a b zero e = inl e
 at_end (x ∷ xs) a b (suc j) e = elim (at_end xs a b j e) [ inl h ↦ inl h | inr h ↦ inr (ap suc h.0, h.1) ]
 
-pub splits : {O : Type 0} (meaning : O → Sequential (List ℕ) ℕ ℕ) (o : O) (n width id : ℕ) (v : View O) → 1 ≤ v.known.count
-    → Splits {S = ℕ} (ShowsBoard meaning o n width) id v (others v) (first_alone v)
-splits {O} meaning o n width id v some_left s holds at =
+pub splits : {O : Type 0} (meaning : O → Meaning) (o : O) (sizes : Sizes) (id : ℕ) (v : View O) → 1 ≤ v.known.count
+    → Splits {S = ℕ} (ShowsBoard meaning o sizes) id v (others v) (first_alone v)
+splits {O} meaning o sizes id v some_left s holds at =
     let g = holds.0 in
     let local = holds.1.0 in
     let seat_of = holds.1.1.0 in
@@ -35,6 +37,7 @@ splits {O} meaning o n width id v some_left s holds at =
         (
           set_at seat_of v.known.first (length s.views),
           record {
+            widths = is.widths;
             words = is.words;
             seats = seats_later g local seat_of is told;
             sound = is.sound;
@@ -42,23 +45,23 @@ splits {O} meaning o n width id v some_left s holds at =
         ),
       ),
     ) where
-      seats_later : (g : Board) (local : ℕ → Local) (seat_of : ℕ → ℕ) → IsShown n width meaning o g local seat_of s → Tells n width o local seat_of id v
-          → (j : ℕ) (u : View O) → get_elem? (set s.views id (others v) ++ first_alone v ∷ []) j ≡ some u → Tells n width o local (set_at seat_of v.known.first (length s.views)) j u
+      seats_later : (g : Board) (local : ℕ → Local) (seat_of : ℕ → ℕ) → IsShown sizes meaning o g local seat_of s → Tells sizes o local seat_of id v
+          → (j : ℕ) (u : View O) → get_elem? (set s.views id (others v) ++ first_alone v ∷ []) j ≡ some u → Tells sizes o local (set_at seat_of v.known.first (length s.views)) j u
       seats_later g local seat_of is told j u e = elim (at_end (set s.views id (others v)) (first_alone v) u j e) [
-        | inr last ↦ subst (λ (z : View O). Tells n width o local (set_at seat_of v.known.first (length s.views)) j z) last.1 (record {
+        | inr last ↦ subst (λ (z : View O). Tells sizes o local (set_at seat_of v.known.first (length s.views)) j z) last.1 (record {
           object = λ some. told.object some_left;
           processes = λ some. told.processes some_left;
           each = λ q from below.
               let here : q ≡ v.known.first = omega (arith, from, below) in
               let its = told.each v.known.first (omega arith) (omega (arith, some_left)) in (
-                subst (λ k. k < n) (sym here) its.0,
+                subst (λ k. k < sizes.processes) (sym here) its.0,
                 ap (set_at seat_of v.known.first (length s.views)) here ∙ set_at_same seat_of v.known.first (length s.views) ∙ sym (last.0 ∙ length-set s.views id (others v)),
                 ap local here ∙ its.2,
               );
           taken = λ its has. absurd (let h = has.1 in omega arith);
         })
         | inl old ↦ elim (at_set s.views id j (others v) u old) [
-          | inl mine ↦ subst (λ (z : View O). Tells n width o local (set_at seat_of v.known.first (length s.views)) j z) mine.1 (record {
+          | inl mine ↦ subst (λ (z : View O). Tells sizes o local (set_at seat_of v.known.first (length s.views)) j z) mine.1 (record {
             object = λ some. told.object some_left;
             processes = λ some. told.processes some_left;
             each = λ q from below.

@@ -1,5 +1,5 @@
 -- The word steps that store.
-use Rattle.std.proofs.Common.{◌≡◌, ◌≢◌, ◌∙◌, ℕ, ◌+◌, ◌*◌, ◌<◌, ◌≤◌, inl, inr, refl, sym, ap, subst, List, [], ◌∷◌, ◌++◌, length, slice_index, Some, append-nil, arith}
+use Rattle.std.proofs.Common.{◌≡◌, ◌≢◌, ◌∙◌, ℕ, ◌+◌, ◌*◌, ◌<◌, ◌≤◌, inl, inr, refl, sym, ap, subst, List, [], ◌∷◌, ◌++◌, length, slice_index, slice_set, Some, append-nil, arith, length-set}
 use Rattle.atomic_table.specs.Table.{Me, Step}
 use Rattle.seq_object.specs.Sequential.{Sequential}
 use Rattle.uni_model.specs.AtomicObject.{Atomic, Act, at_start, set_at}
@@ -7,25 +7,27 @@ use Rattle.uni_model.specs.AtomicObject.Act.{Invoke}
 use Rattle.uni_model.proofs.Written.{set_at-cases, number_cases}
 use Rattle.uni_model.proofs.Simulation.{set_at_same}
 use Rattle.uni_model.proofs.LawProofs.{set_at_elsewhere, AcceptsAll-append}
-use Rattle.uni_small.specs.Image.{buffer_words, spell, due_at, with_seen}
-use Rattle.uni_small.specs.View.{Local, goes, arms}
-use Rattle.uni_small.specs.View.Stage.{Idle, Armed, Ready, Writing}
+use Rattle.uni_small.specs.declared.sizes.Sizes.{Sizes}
+use Rattle.uni_small.specs.Image.{Meaning, buffer_words, due_at, reply_of, reply_place, spell, with_seen}
+use Rattle.uni_small.specs.View.{Local, announces, goes}
+use Rattle.uni_small.specs.View.Stage.{Idle, Ready, Writing}
 use Rattle.uni_small.specs.Board.{Board, in_of, announce_word, argument_word, buffer_word}
-use Rattle.uni_small.specs.Invariant.{IsClosed, IsOpen, most_calls}
+use Rattle.uni_small.specs.Invariant.{IsBeginning, IsClosed, IsOpen, most_calls}
 use Rattle.uni_small.specs.Laws.{Moves, nothing, begins}
-use Rattle.uni_small.specs.Plays.{stage_of, with_local, HasArmed, HasAnnounced, HasWritten}
-use Rattle.uni_small.specs.Standing.{IsWriting}
+use Rattle.uni_small.specs.Plays.{HasAnnounced, HasStored, HasWritten, stage_of, with_local}
+use Rattle.uni_small.specs.Standing.{IsStoring, IsWriting}
 use Rattle.uni_small.specs.declared.view.View.{View}
 use Rattle.uni_small.proofs.Frame.{step_law, sound_with}
 use Rattle.uni_small.proofs.Images.{spell-reply}
 use Rattle.uni_small.proofs.Loads.{call_at, attempt_at}
 use Rattle.uni_small.proofs.Acts.{invoked_other, invoked_own}
 use Rattle.uni_small.proofs.Others.{quiet, at_stays}
+use Rattle.uni_small.proofs.Rows.{begins_set, begins_whole}
 use Rattle.uni_small.proofs.Words.{words_announced, words_argument, words_buffer}
 
-module _ {O : Type 0} (meaning : O → Sequential (List ℕ) ℕ ℕ) (o : O) (n width id : ℕ) (st : Step ℕ) (me : Me ℕ (View O)) (single : me.0.known.count ≡ 1) where
-  abbrev object : Sequential (List ℕ) ℕ ℕ
-  object = meaning o
+module _ {O : Type 0} (meaning : O → Meaning) (o : O) (sizes : Sizes) (id : ℕ) (st : Step ℕ) (me : Me ℕ (View O)) (single : me.0.known.count ≡ 1) where
+  abbrev object : Sequential (List ℕ) (List ℕ) (List ℕ)
+  object = (meaning o).object
 
   abbrev p : ℕ
   p = me.0.known.first
@@ -33,15 +35,25 @@ module _ {O : Type 0} (meaning : O → Sequential (List ℕ) ℕ ℕ) (o : O) (n
   abbrev l : Local
   l = me.0.known.local
 
-  -- the invocation of the next call is stored
-  pub arms_call : (inv : ℕ) → stage_of me ≡ Idle → Moves meaning o n width id me (argument_word n p) (λ x. inv) nothing (λ found me'. HasArmed st me inv me')
-  arms_call inv stage = step_law meaning o n width id me (argument_word n p) (λ x. inv) nothing (λ found me'. HasArmed st me inv me') single (λ g local words f fits.
-      let closed : IsClosed g p l.own = call_at object n width g p l Idle f.mine stage in
+  -- a word of the invocation of the next call is stored
+  pub stores : (k x : ℕ) → IsStoring k me → k < sizes.invocation → Moves meaning o sizes id me (argument_word sizes p k) (λ y. x) nothing (λ found me'. HasStored st me x me')
+  stores k x storing room = step_law meaning o sizes id me (argument_word sizes p k) (λ y. x) nothing (λ found me'. HasStored st me x me') single (λ g local words f fits.
+      let stored = storing.0 in
+      let stage : l.stage ≡ Idle stored = storing.1 in
+      let long : length stored ≡ k = storing.2 in
+      let call = call_at object sizes g p l (Idle stored) f.mine stage in
+      let closed : IsClosed g p l.own = call.0 in
       let b = f.sound.board in
+      let whole : length (g.argument p) ≡ sizes.invocation = b.arguments p f.inside in
+      let argument' : ℕ → List ℕ = set_at g.argument p (slice_set (g.argument p) k x) in
+      let g' : Board = record g { argument = argument' } in
+      let mine : argument' p ≡ slice_set (g.argument p) k x = set_at_same g.argument p (slice_set (g.argument p) k x) in
+      let more : IsBeginning (stored ++ x ∷ []) (argument' p) = subst (λ ws. IsBeginning (stored ++ x ∷ []) ws) (sym mine)
+      (subst (λ j. IsBeginning (stored ++ x ∷ []) (slice_set (g.argument p) j x)) long (begins_set stored (g.argument p) call.1 (omega arith) x)) in
       record {
-        board = record g { argument = set_at g.argument p inv };
-        local' = arms l inv;
-        sound = sound_with object n width g (record g { argument = set_at g.argument p inv }) local p (arms l inv) f.sound
+        board = g';
+        local' = goes l (Idle (stored ++ x ∷ []));
+        sound = sound_with object sizes g g' local p (goes l (Idle (stored ++ x ∷ []))) f.sound
             (record {
               current = b.current;
               image = b.image;
@@ -50,6 +62,10 @@ module _ {O : Type 0} (meaning : O → Sequential (List ℕ) ℕ ℕ) (o : O) (n
               marked = b.marked;
               at_current = b.at_current;
               kept = b.kept;
+              arguments = λ r inside. elim (set_at-cases g.argument p (slice_set (g.argument p) k x) r) [
+                | inl here ↦ ap (λ (ws : List ℕ). length ws) here.1 ∙ length-set (g.argument p) k x ∙ whole
+                | inr other ↦ ap (λ (ws : List ℕ). length ws) other.1 ∙ b.arguments r inside
+              ];
               in_most = b.in_most;
               soon = b.soon;
               versions = b.versions;
@@ -60,17 +76,16 @@ module _ {O : Type 0} (meaning : O → Sequential (List ℕ) ℕ ℕ) (o : O) (n
               start = b.start;
               history = b.history;
             })
-            (λ q inside apart h. at_stays object n width g g.announced (set_at g.argument p inv) g.since g.buffer g.atomic g.acts q (local q)
+            (λ q inside apart h. at_stays object sizes g g.announced argument' g.since g.buffer g.atomic g.acts q (local q)
             (record {
               since = refl;
-              seen = λ seen k. record {
-                told = λ r i at. let t = k.told r i at in
-                    (t.0, set_at_elsewhere g.argument p inv r (λ same. let a : g.announced r ≡ g.announced p = ap g.announced same in let c : in_of g r ≡ in_of g p = ap (in_of g) same in let d = closed.announced in let e = closed.in_is in omega (arith, t.0)) ∙ t.1);
-                caught = k.caught;
+              seen = λ seen known. record {
+                told = λ r inv at. let t = known.told r inv at in
+                    (t.0, subst (λ ws. IsBeginning inv ws) (sym (set_at_elsewhere g.argument p (slice_set (g.argument p) k x) r (λ same. let a : g.announced r ≡ g.announced p = ap g.announced same in let c : in_of g r ≡ in_of g p = ap (in_of g) same in let d = closed.announced in let e = closed.in_is in omega (arith, t.0)))) t.1);
+                caught = known.caught;
               };
-              due = λ r d. d;
               announced = refl;
-              argument = set_at_elsewhere g.argument p inv q apart;
+              argument = set_at_elsewhere g.argument p (slice_set (g.argument p) k x) q apart;
               buffer = λ i. refl;
               marked = λ r inside m. m;
               is_open = refl;
@@ -81,35 +96,37 @@ module _ {O : Type 0} (meaning : O → Sequential (List ℕ) ℕ ℕ) (o : O) (n
             (record {
               spare = f.mine.spare;
               apart = f.mine.apart;
-              call = (record { none_open = closed.none_open; next = closed.next; announced = closed.announced; in_is = closed.in_is; acts = closed.acts }, set_at_same g.argument p inv);
+              call = (record { none_open = closed.none_open; next = closed.next; announced = closed.announced; in_is = closed.in_is; acts = closed.acts }, more);
               attempt = tt;
               ordered = f.mine.ordered;
             });
-        words_are = words_argument n width g (record g { argument = set_at g.argument p inv }) words f.words_are refl refl p inv f.inside refl refl refl;
-        said = refl;
+        words_are = words_argument sizes g g' words f.words_are refl refl p k x f.inside room whole refl refl refl;
+        said = λ stored' stage'.
+            let same : stored ≡ stored' = (let e : Idle stored ≡ Idle stored' = sym stage ∙ stage' in cc) in
+            λ i. (with_local me.0 (goes l (Idle (same i ++ x ∷ []))), me.1);
         appended = sym (append-nil g.acts);
       })
 
   -- the call is announced: it begins
-  pub announces : (number : ℕ) → number ≡ length l.own + 1 → number ≤ most_calls → stage_of me ≡ Armed
-      → Moves meaning o n width id me (announce_word p) (λ x. number) (begins l p) (λ found me'. HasAnnounced st me number me')
-  announces number is few stage = step_law meaning o n width id me (announce_word p) (λ x. number) (begins l p) (λ found me'. HasAnnounced st me number me') single (λ g local words f fits.
-      let armed = call_at object n width g p l Armed f.mine stage in
-      let closed : IsClosed g p l.own = armed.0 in
+  pub announced : (number : ℕ) (inv : List ℕ) → number ≡ length l.own + 1 → number ≤ most_calls → stage_of me ≡ Idle inv → length inv ≡ sizes.invocation
+      → Moves meaning o sizes id me (announce_word p) (λ x. number) (begins l p inv) (λ found me'. HasAnnounced st me number me')
+  announced number inv is few stage long = step_law meaning o sizes id me (announce_word p) (λ x. number) (begins l p inv) (λ found me'. HasAnnounced st me number me') single (λ g local words f fits.
+      let call = call_at object sizes g p l (Idle inv) f.mine stage in
+      let closed : IsClosed g p l.own = call.0 in
       let b = f.sound.board in
       let full : g.announced p ≡ in_of g p = closed.announced ∙ sym closed.in_is in
       let announced' : ℕ → ℕ = set_at g.announced p number in
-      let atomic' : Atomic (List ℕ) ℕ = record g.atomic {
-        open_call = set_at g.atomic.open_call p (Some (record { process = p; nth = length l.own; inv = l.inv }));
+      let atomic' : Atomic (List ℕ) (List ℕ) = record g.atomic {
+        open_call = set_at g.atomic.open_call p (Some (record { process = p; nth = length l.own; inv = inv }));
         next_nth = set_at g.atomic.next_nth p (length l.own + 1);
       } in
       let since' : ℕ → ℕ = set_at g.since p g.version in
-      let acts' : List (Act ℕ ℕ) = g.acts ++ Invoke p (length l.own) l.inv ∷ [] in
-      let g' : Board = quiet object n width g announced' g.argument since' g.buffer atomic' acts' in
+      let acts' : List (Act (List ℕ) (List ℕ)) = g.acts ++ Invoke p (length l.own) inv ∷ [] in
+      let g' : Board = quiet object sizes g announced' g.argument since' g.buffer atomic' acts' in
       record {
         board = g';
-        local' = goes l (Ready 0);
-        sound = sound_with object n width g g' local p (goes l (Ready 0)) f.sound
+        local' = announces l inv;
+        sound = sound_with object sizes g g' local p (announces l inv) f.sound
             (record {
               current = b.current;
               image = b.image;
@@ -117,10 +134,11 @@ module _ {O : Type 0} (meaning : O → Sequential (List ℕ) ℕ ℕ) (o : O) (n
               exact = b.exact;
               marked = b.marked;
               at_current = b.at_current;
-              kept = λ d r inside below least. elim (set_at-cases g.announced p number r) [
+              kept = λ d r k inside below room least. elim (set_at-cases g.announced p number r) [
                 | inl here ↦ absurd (let m = b.marked d r below in let a : in_of g r ≡ in_of g p = ap (in_of g) here.0 in let c = closed.in_is in let v = here.1 in omega arith)
-                | inr other ↦ b.kept d r inside below (subst (λ x. x ≤ g.mark d r) other.1 least)
+                | inr other ↦ b.kept d r k inside below room (subst (λ x. x ≤ g.mark d r) other.1 least)
               ];
+              arguments = b.arguments;
               in_most = λ r inside. elim (set_at-cases g.announced p number r) [
                 | inl here ↦ (let a : in_of g r ≡ in_of g p = ap (in_of g) here.0 in let c = closed.in_is in let v = here.1 in omega arith)
                 | inr other ↦ subst (λ x. in_of g r ≤ x) (sym other.1) (b.in_most r inside)
@@ -139,10 +157,10 @@ module _ {O : Type 0} (meaning : O → Sequential (List ℕ) ℕ ℕ) (o : O) (n
               counted = b.counted;
               rising = b.rising;
               start = b.start;
-              history = AcceptsAll-append object (at_start object.initial) g.atomic atomic' g.acts (Invoke p (length l.own) l.inv ∷ []) b.history
+              history = AcceptsAll-append object (at_start object.initial) g.atomic atomic' g.acts (Invoke p (length l.own) inv ∷ []) b.history
                   (atomic', (closed.none_open, closed.next, refl), refl);
             })
-            (λ q inside apart h. at_stays object n width g announced' g.argument since' g.buffer atomic' acts' q (local q)
+            (λ q inside apart h. at_stays object sizes g announced' g.argument since' g.buffer atomic' acts' q (local q)
             (record {
               since = set_at_elsewhere g.since p g.version q apart;
               seen = λ seen k. record {
@@ -160,7 +178,6 @@ module _ {O : Type 0} (meaning : O → Sequential (List ℕ) ℕ ℕ) (o : O) (n
                       ]))
                 ];
               };
-              due = λ r d. set_at_elsewhere g.announced p number r (λ same. let a : g.announced r ≡ g.announced p = ap g.announced same in let c : in_of g r ≡ in_of g p = ap (in_of g) same in omega (arith, d)) ∙ d;
               announced = set_at_elsewhere g.announced p number q apart;
               argument = refl;
               buffer = λ i. refl;
@@ -171,7 +188,7 @@ module _ {O : Type 0} (meaning : O → Sequential (List ℕ) ℕ ℕ) (o : O) (n
               is_open = set_at_elsewhere g.atomic.open_call p _ q apart;
               next = set_at_elsewhere g.atomic.next_nth p _ q apart;
               agreed = refl;
-              acts = invoked_other q p (length l.own) l.inv g.acts apart;
+              acts = invoked_other q p (length l.own) inv g.acts apart;
             }) h)
             (record {
               spare = f.mine.spare;
@@ -180,41 +197,41 @@ module _ {O : Type 0} (meaning : O → Sequential (List ℕ) ℕ ℕ) (o : O) (n
                 is_open = set_at_same g.atomic.open_call p _;
                 next = set_at_same g.atomic.next_nth p _;
                 announced = set_at_same g.announced p number ∙ is;
-                argument = armed.1;
+                argument = begins_whole inv (g.argument p) call.1 (long ∙ sym (b.arguments p f.inside));
                 in_least = (let c = closed.in_is in omega arith);
                 taken = λ more. absurd (let c = closed.in_is in omega arith);
-                acts = invoked_own p (length l.own) l.inv g.acts ∙ ap (λ xs. xs ++ Invoke p (length l.own) l.inv ∷ []) closed.acts;
+                acts = invoked_own p (length l.own) inv g.acts ∙ ap (λ xs. xs ++ Invoke p (length l.own) inv ∷ []) closed.acts;
               };
               attempt = (let v = set_at_same g.since p g.version in omega arith);
               ordered = f.mine.ordered;
             });
-        words_are = words_announced n width g g' words f.words_are refl refl p number f.inside refl refl refl;
-        said = refl;
+        words_are = words_announced sizes g g' words f.words_are refl refl p number f.inside refl refl refl;
+        said = λ inv' stage'. (let same : inv ≡ inv' = (let e : Idle inv ≡ Idle inv' = sym stage ∙ stage' in cc) in λ i. (with_local me.0 (announces l (same i)), me.1));
         appended = refl;
       })
 
   -- a word of the spare buffer is stored
-  pub writes : (tries s k x : ℕ) → IsWriting object tries s k x me → k < buffer_words n width
-      → Moves meaning o n width id me (buffer_word n width (2 * p + l.spare) k) (λ y. x) nothing (λ found me'. HasWritten st me x me')
-  writes tries s k x writing room = step_law meaning o n width id me (buffer_word n width (2 * p + l.spare) k) (λ y. x) nothing (λ found me'. HasWritten st me x me') single (λ g local words f fits.
+  pub writes : (tries s k x : ℕ) → IsWriting object tries s k x me → k < buffer_words sizes
+      → Moves meaning o sizes id me (buffer_word sizes (2 * p + l.spare) k) (λ y. x) nothing (λ found me'. HasWritten st me x me')
+  writes tries s k x writing room = step_law meaning o sizes id me (buffer_word sizes (2 * p + l.spare) k) (λ y. x) nothing (λ found me'. HasWritten st me x me') single (λ g local words f fits.
       let image = writing.0 in
       let seen = writing.1.0 in
       let stage : l.stage ≡ Writing tries s image seen k = writing.1.1 in
       let word : x ≡ slice_index (spell (with_seen object image 0 seen)) k = writing.1.2 in
-      let call : IsOpen object g p l.inv l.own = call_at object n width g p l (Writing tries s image seen k) f.mine stage in
-      let was = attempt_at object n width g p l (Writing tries s image seen k) f.mine stage in
+      let call : IsOpen object g p l.inv l.own = call_at object sizes g p l (Writing tries s image seen k) f.mine stage in
+      let was = attempt_at object sizes g p l (Writing tries s image seen k) f.mine stage in
       let mine : ℕ = 2 * p + l.spare in
       let b = f.sound.board in
-      let inside_mine : 2 * p + l.spare < 2 * n = (let i = f.inside in let c = f.mine.spare in omega arith) in
+      let inside_mine : 2 * p + l.spare < 2 * sizes.processes = (let i = f.inside in let c = f.mine.spare in omega arith) in
       let buffer' : ℕ → ℕ → ℕ = set_at g.buffer (2 * p + l.spare) (set_at (g.buffer (2 * p + l.spare)) k x) in
-      let g' : Board = quiet object n width g g.announced g.argument g.since buffer' g.atomic g.acts in
+      let g' : Board = quiet object sizes g g.announced g.argument g.since buffer' g.atomic g.acts in
       let other_buffer : (d i : ℕ) → d ≢ 2 * p + l.spare → buffer' d i ≡ g.buffer d i = (λ d i apart. ap (λ h. h i) (set_at_elsewhere g.buffer (2 * p + l.spare) _ d apart)) in
       let same_spot : buffer' (2 * p + l.spare) k ≡ x = ap (λ h. h k) (set_at_same g.buffer (2 * p + l.spare) _) ∙ set_at_same (g.buffer (2 * p + l.spare)) k x in
       let other_spot : (i : ℕ) → i ≢ k → buffer' (2 * p + l.spare) i ≡ g.buffer (2 * p + l.spare) i = (λ i apart. ap (λ h. h i) (set_at_same g.buffer (2 * p + l.spare) _) ∙ set_at_elsewhere (g.buffer (2 * p + l.spare)) k x i apart) in
       record {
         board = g';
         local' = goes l (Writing tries s image seen (k + 1));
-        sound = sound_with object n width g g' local p (goes l (Writing tries s image seen (k + 1))) f.sound
+        sound = sound_with object sizes g g' local p (goes l (Writing tries s image seen (k + 1))) f.sound
             (record {
               current = b.current;
               image = b.image;
@@ -222,15 +239,16 @@ module _ {O : Type 0} (meaning : O → Sequential (List ℕ) ℕ ℕ) (o : O) (n
               exact = λ i below. other_buffer g.current i (λ same. f.mine.apart (sym same)) ∙ b.exact i below;
               marked = b.marked;
               at_current = b.at_current;
-              kept = λ d r inside below least. elim (number_cases d (2 * p + l.spare)) [
-                | inl here ↦ elim (number_cases (n + r) k) [
+              kept = λ d r i inside below small least. elim (number_cases d (2 * p + l.spare)) [
+                | inl here ↦ elim (number_cases (reply_place sizes r i) k) [
                   | inl at ↦
-                      ap (λ e. buffer' e (n + r)) here.0 ∙ ap (buffer' (2 * p + l.spare)) at.0 ∙ same_spot ∙ word ∙ ap (slice_index (spell (with_seen object image 0 seen))) (sym at.0)
-                      ∙ spell-reply n width (with_seen object image 0 seen) was.2.rows r below ∙ was.2.replies r below (subst (λ e. g.announced r ≤ g.mark e r) here.0 least)
-                  | inr elsewhere ↦ ap (λ e. buffer' e (n + r)) here.0 ∙ other_spot (n + r) elsewhere.0 ∙ ap (λ e. g.buffer e (n + r)) (sym here.0) ∙ b.kept d r inside below least
+                      ap (λ e. buffer' e (reply_place sizes r i)) here.0 ∙ ap (buffer' (2 * p + l.spare)) at.0 ∙ same_spot ∙ word ∙ ap (slice_index (spell (with_seen object image 0 seen))) (sym at.0)
+                      ∙ spell-reply sizes (with_seen object image 0 seen) was.2.rows r i below small ∙ ap (λ ws. slice_index ws i) (was.2.replies r below (subst (λ e. g.announced r ≤ g.mark e r) here.0 least))
+                  | inr elsewhere ↦ ap (λ e. buffer' e (reply_place sizes r i)) here.0 ∙ other_spot (reply_place sizes r i) elsewhere.0 ∙ ap (λ e. g.buffer e (reply_place sizes r i)) (sym here.0) ∙ b.kept d r i inside below small least
                 ]
-                | inr other ↦ other_buffer d (n + r) other.0 ∙ b.kept d r inside below least
+                | inr other ↦ other_buffer d (reply_place sizes r i) other.0 ∙ b.kept d r i inside below small least
               ];
+              arguments = b.arguments;
               in_most = b.in_most;
               soon = b.soon;
               versions = b.versions;
@@ -241,11 +259,10 @@ module _ {O : Type 0} (meaning : O → Sequential (List ℕ) ℕ ℕ) (o : O) (n
               start = b.start;
               history = b.history;
             })
-            (λ q inside apart h. at_stays object n width g g.announced g.argument g.since buffer' g.atomic g.acts q (local q)
+            (λ q inside apart h. at_stays object sizes g g.announced g.argument g.since buffer' g.atomic g.acts q (local q)
             (record {
               since = refl;
               seen = λ seen k. record { told = k.told; caught = k.caught };
-              due = λ r d. d;
               announced = refl;
               argument = refl;
               buffer = λ i. other_buffer (2 * q + (local q).spare) i (λ same. apart (let a = h.spare in let c = f.mine.spare in omega arith));
@@ -269,7 +286,7 @@ module _ {O : Type 0} (meaning : O → Sequential (List ℕ) ℕ ℕ) (o : O) (n
               };
               attempt = (
                 was.0,
-                (λ fresh. let now = was.1 fresh in (now.0, (now.1.0, now.1.1, record { told = now.1.2.told; caught = now.1.2.caught }, now.1.3))),
+                (λ fresh. let now = was.1 fresh in (now.0, (now.1.0, now.1.1, record { told = now.1.2.told; caught = now.1.2.caught }, now.1.3, now.1.4))),
                 record {
                   rows = was.2.rows;
                   words = λ i below. elim (number_cases i k) [
@@ -281,7 +298,7 @@ module _ {O : Type 0} (meaning : O → Sequential (List ℕ) ℕ ℕ) (o : O) (n
               );
               ordered = f.mine.ordered;
             });
-        words_are = words_buffer n width g g' words f.words_are refl refl (2 * p + l.spare) k x inside_mine room refl refl refl;
+        words_are = words_buffer sizes g g' words f.words_are refl refl (2 * p + l.spare) k x inside_mine room refl refl refl;
         said = λ tries' s' image' seen' k' stage'.
             let e : Writing tries s image seen k ≡ Writing tries' s' image' seen' k' = sym stage ∙ stage' in
             let a : tries ≡ tries' = cc in let c : s ≡ s' = cc in let d : image ≡ image' = cc in let h : seen ≡ seen' = cc in let i : k ≡ k' = cc in

@@ -1,19 +1,32 @@
 -- Which seats are an object's, and what they have.
-use Rattle.std.specs.Prelude.{◌≡◌, ℕ, ◌<◌, List, [], ◌∷◌, length, slice_get, Some}
-use Rattle.uni_small.specs.Image.{Image}
+use Rattle.std.specs.Prelude.{All, None, Option, Some, if◌then◌else◌, ◌≡◌, ℕ, ◌*◌, ◌<◌, List, [], ◌∷◌, length, map, slice_get}
+use Rattle.uni_small.specs.Image.{Image, rows}
 use Rattle.uni_small.specs.View.{Returned, ProcessReturned}
 use Rattle.uni_small.specs.declared.log.SmallShared.{SmallShared}
 use Rattle.uni_small.specs.declared.seat.SmallSeat.{SmallSeat}
 use Rattle.uni_small.specs.declared.seat.Room.{Room}
+use Rattle.uni_small.specs.declared.seat.Seen.{Seen}
+use Rattle.uni_small.specs.declared.sizes.Sizes.{Sizes}
 
 abbrev pub object_of : {O : Type 0} → SmallShared O → O
 object_of shared = shared.setup.object
 
 abbrev pub processes_of : {O : Type 0} → SmallShared O → ℕ
-processes_of shared = shared.setup.n
+processes_of shared = shared.setup.sizes.processes
 
 abbrev pub width_of : {O : Type 0} → SmallShared O → ℕ
-width_of shared = shared.setup.width
+width_of shared = shared.setup.sizes.state
+
+-- how many words an invocation has, and a reply
+abbrev pub invocation_width_of : {O : Type 0} → SmallShared O → ℕ
+invocation_width_of shared = shared.setup.sizes.invocation
+
+abbrev pub reply_width_of : {O : Type 0} → SmallShared O → ℕ
+reply_width_of shared = shared.setup.sizes.reply
+
+-- all of these numbers
+abbrev pub sizes_of : {O : Type 0} → SmallShared O → Sizes
+sizes_of shared = shared.setup.sizes
 
 -- a seat's process; its calls that have returned; how many they are; the version that its next calls come after; and how many word
 -- steps it has taken
@@ -32,24 +45,42 @@ version_of seat = seat.seat.me.0.known.local.after
 abbrev pub word_steps_of : {O : Type 0} → SmallSeat O → ℕ
 word_steps_of seat = seat.seat.me.0.known.local.steps
 
--- room for an image of n processes, and for what is seen of them
-pub record HasRoom (n width : ℕ) (room : Room) : Type 0 where
-  pub applied : length room.applied.items ≡ n
-  pub reply : length room.reply.items ≡ n
-  pub state : length room.state.items ≡ width
-  pub seen : length room.seen.items ≡ n
+-- room for the words of an invocation
+abbrev pub HasInvocation : Sizes → Seen → Type 0
+HasInvocation sizes seen = length seen.invocation.items ≡ sizes.invocation
+
+-- room for an image, and for what is seen of the processes
+pub record HasRoom (sizes : Sizes) (room : Room) : Type 0 where
+  pub applied : length room.applied.items ≡ sizes.processes
+  pub reply : length room.reply.items ≡ sizes.processes * sizes.reply
+  pub state : length room.state.items ≡ sizes.state
+  pub seen : length room.seen.items ≡ sizes.processes
+  pub invocations : All (HasInvocation sizes) room.seen.items
+
+-- an image with its replies in words, one after another
+abbrev pub image_of_rows : Sizes → (applied replies state : List ℕ) → Image
+image_of_rows sizes applied replies state =
+    record { applied = applied; reply = rows sizes.processes sizes.reply replies; state = state }
 
 -- the image in a room
-abbrev pub image_in : Room → Image
-image_in room = record { applied = room.applied.items; reply = room.reply.items; state = room.state.items }
+abbrev pub image_in : Sizes → Room → Image
+image_in sizes room = image_of_rows sizes room.applied.items room.reply.items room.state.items
+
+-- what is seen of a process
+abbrev pub seen_in : Seen → Option (List ℕ)
+seen_in seen = if seen.due then Some seen.invocation.items else None
+
+-- what is seen of all of them
+abbrev pub all_seen : Room → List (Option (List ℕ))
+all_seen room = map seen_in room.seen.items
 
 -- The seat is one of this object's.
 pub record IsSeatOf {O : Type 0} (shared : SmallShared O) (seat : SmallSeat O) : Type 0 where
   pub table : seat.seat.table_id ≡ shared.table.shared.table_id
   pub object : seat.seat.me.0.object ≡ Some shared.setup.object
-  pub processes : seat.seat.me.0.known.n ≡ shared.setup.n
-  pub inside : seat.p < shared.setup.n
-  pub room : HasRoom shared.setup.n shared.setup.width seat.room
+  pub sizes : seat.seat.me.0.known.sizes ≡ shared.setup.sizes
+  pub inside : seat.p < shared.setup.sizes.processes
+  pub room : HasRoom shared.setup.sizes seat.room
 
 -- the seat of process p, which has made no call
 pub record IsFreshSeat {O : Type 0} (shared : SmallShared O) (p : ℕ) (seat : SmallSeat O) : Type 0 where

@@ -14,31 +14,31 @@ use Rattle.uni_small.specs.Order.{StandsIn}
 -- calls took effect. The state is that after them. In the history each of these processes takes the acts of its calls, each with its reply
 -- before the next one begins, and no others. Each version has so many calls in it, the first ones of that order, and later versions no
 -- fewer; and each call of these processes comes after those of one version, and is among those of another one, as its seat was told.
-pub record IsFinal (object : Sequential (List ℕ) ℕ ℕ) (known : List ProcessReturned) (words : List ℕ) : Type 0 where
-  pub acts : List (Act ℕ ℕ)
-  pub atomic : Atomic (List ℕ) ℕ
+pub record IsFinal (object : Sequential (List ℕ) (List ℕ) (List ℕ)) (known : List ProcessReturned) (words : List ℕ) : Type 0 where
+  pub acts : List (Act (List ℕ) (List ℕ))
+  pub atomic : Atomic (List ℕ) (List ℕ)
   pub accepted : AcceptsAll object (at_start object.initial) acts atomic
   pub linearized : IsLinearizedAs object object.initial (observed acts) atomic.agreed
   pub state : state_after object object.initial (map (λ c. c.inv) atomic.agreed) ≡ words
   pub own : (its : ProcessReturned) → Contains known its
       → acts_by its.process acts ≡ sequential_acts its.process 0 (map plain its.calls)
-  pub agreed_at : ℕ → ℕ
-  pub rising : (v w : ℕ) → v ≤ w → agreed_at v ≤ agreed_at w
+  pub calls_in_version : ℕ → ℕ
+  pub rising : (v w : ℕ) → v ≤ w → calls_in_version v ≤ calls_in_version w
   pub stand : (its : ProcessReturned) → Contains known its
-      → (k : ℕ) (call : Returned) → slice_get its.calls k ≡ Some call → StandsIn object atomic.agreed agreed_at its.process k call
+      → (k : ℕ) (call : Returned) → slice_get its.calls k ≡ Some call → StandsIn object atomic.agreed calls_in_version its.process k call
 
 -- two processes that overlap, on a counter: both have begun before a call takes effect, and one exchange brings both in
-abbrev overlapping : List (Act ℕ ℕ)
+abbrev overlapping : List (Act (List ℕ) (List ℕ))
 overlapping =
-    Invoke 0 0 5 ∷ Invoke 1 0 3
-    ∷ Linearize (record { process = 0; nth = 0; inv = 5 }) ∷ Linearize (record { process = 1; nth = 0; inv = 3 })
-    ∷ Respond 1 0 5 ∷ Respond 0 0 0 ∷ []
+    Invoke 0 0 (5 ∷ []) ∷ Invoke 1 0 (3 ∷ [])
+    ∷ Linearize (record { process = 0; nth = 0; inv = 5 ∷ [] }) ∷ Linearize (record { process = 1; nth = 0; inv = 3 ∷ [] })
+    ∷ Respond 1 0 (5 ∷ []) ∷ Respond 0 0 (0 ∷ []) ∷ []
 
-sample_first : acts_by 0 overlapping ≡ sequential_acts 0 0 (map plain (record { inv = 5; reply = 0; after = 0; version = 1 } ∷ []))
+sample_first : acts_by 0 overlapping ≡ sequential_acts 0 0 (map plain (record { inv = 5 ∷ []; reply = 0 ∷ []; after = 0; version = 1 } ∷ []))
 sample_first = refl
 
-sample_second : acts_by 1 overlapping ≡ sequential_acts 1 0 (map plain (record { inv = 3; reply = 5; after = 0; version = 1 } ∷ []))
+sample_second : acts_by 1 overlapping ≡ sequential_acts 1 0 (map plain (record { inv = 3 ∷ []; reply = 5 ∷ []; after = 0; version = 1 } ∷ []))
 sample_second = refl
 
-sample_state : state_after sample_counter sample_counter.initial (5 ∷ 3 ∷ []) ≡ 8 ∷ []
+sample_state : state_after sample_counter sample_counter.initial ((5 ∷ []) ∷ (3 ∷ []) ∷ []) ≡ 8 ∷ []
 sample_state = refl

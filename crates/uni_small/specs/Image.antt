@@ -1,101 +1,161 @@
--- What a buffer contains: for each process how many of its calls are in and the reply of the last one of them, and the state.
-use Rattle.std.specs.Prelude.{◌≡◌, ℕ, zero, suc, ◌+◌, ◌*◌, List, [], ◌∷◌, ◌++◌, Option, None, Some, take, drop, replicate}
-use Rattle.std.specs.Prelude.{length, refl, slice_index, slice_set}
+-- What a buffer contains: for each process how many of its calls are in and the reply to the last one of them, and the state.
+use Rattle.std.specs.Prelude.{◌≡◌, ℕ, zero, suc, ◌+◌, ◌*◌, ◌<◌, List, [], ◌∷◌, ◌++◌, Option, None, Some, take, drop, replicate}
+use Rattle.std.specs.Prelude.{length, refl, slice_get, slice_index, slice_index_or, slice_set}
 use Rattle.seq_object.specs.Sequential.{Sequential}
 use Rattle.seq_object.specs.History.{state_after}
 use Rattle.uni_model.specs.AtomicObject.{Invoked}
+use Rattle.uni_small.specs.declared.sizes.Sizes.{Sizes}
+
+-- what an object of words means, and how many words an invocation and a reply have
+pub record Meaning : Type 0 where
+  pub object : Sequential (List ℕ) (List ℕ) (List ℕ)
+  pub invocation : ℕ
+  pub reply : ℕ
+
+-- they have as many as the sizes say
+abbrev pub AreWidths : Meaning → Sizes → Type 0
+AreWidths meaning sizes = (meaning.invocation ≡ sizes.invocation) × (meaning.reply ≡ sizes.reply)
 
 pub record Image : Type 0 where
   pub applied : List ℕ
-  pub reply : List ℕ
+  pub reply : List (List ℕ)
   pub state : List ℕ
+
+-- the words of rows, one row after another
+abbrev pub joined : List (List ℕ) → List ℕ
+joined [] = []
+joined (row ∷ rows) = row ++ joined rows
+
+-- the first words as so many rows, each of so many words
+abbrev pub rows : (count wide : ℕ) → List ℕ → List (List ℕ)
+rows zero wide words = []
+rows (suc count) wide words = take wide words ∷ rows count wide (drop wide words)
 
 -- the words of a buffer, in order
 abbrev pub spell : Image → List ℕ
-spell image = image.applied ++ (image.reply ++ image.state)
+spell image = image.applied ++ (joined image.reply ++ image.state)
 
--- what the words of a buffer of n processes mean
-abbrev pub read_image : (n : ℕ) → List ℕ → Image
-read_image n words = record { applied = take n words; reply = take n (drop n words); state = drop n (drop n words) }
+-- what the words of a buffer mean
+abbrev pub read_image : Sizes → List ℕ → Image
+read_image sizes words = record {
+  applied = take sizes.processes words;
+  reply = rows sizes.processes sizes.reply (drop sizes.processes words);
+  state = drop (sizes.processes * sizes.reply) (drop sizes.processes words);
+}
 
--- how many words a buffer has, where a state has so many
-abbrev pub buffer_words : (n width : ℕ) → ℕ
-buffer_words n width = 2 * n + width
+-- how many words a buffer has; where in it a word of a process's reply is, and a word of the state
+abbrev pub buffer_words : Sizes → ℕ
+buffer_words sizes = sizes.processes + sizes.processes * sizes.reply + sizes.state
 
--- the lengths of an image of n processes
-pub record HasRows (n width : ℕ) (image : Image) : Type 0 where
-  pub applied : length image.applied ≡ n
-  pub reply : length image.reply ≡ n
-  pub state : length image.state ≡ width
+abbrev pub reply_place : Sizes → (r k : ℕ) → ℕ
+reply_place sizes r k = sizes.processes + (r * sizes.reply + k)
+
+abbrev pub state_place : Sizes → (i : ℕ) → ℕ
+state_place sizes i = sizes.processes + (sizes.processes * sizes.reply + i)
+
+-- the reply to the last call of process r that is in
+abbrev pub reply_of : Image → (r : ℕ) → List ℕ
+reply_of image r = slice_index_or image.reply r []
+
+-- the lengths of an image
+pub record HasRows (sizes : Sizes) (image : Image) : Type 0 where
+  pub applied : length image.applied ≡ sizes.processes
+  pub reply : length image.reply ≡ sizes.processes
+  pub replies : (r : ℕ) → r < sizes.processes → length (reply_of image r) ≡ sizes.reply
+  pub state : length image.state ≡ sizes.state
 
 -- a state that some calls lead to
-abbrev pub IsReached : Sequential (List ℕ) ℕ ℕ → List ℕ → Type 0
-IsReached object state = (is : List ℕ) × (state_after object object.initial is ≡ state)
+abbrev pub IsReached : Sequential (List ℕ) (List ℕ) (List ℕ) → List ℕ → Type 0
+IsReached object state = (is : List (List ℕ)) × (state_after object object.initial is ≡ state)
 
--- an object's invocations change no state's number of words, where a state has as many as the start state
-abbrev pub IsSteady : Sequential (List ℕ) ℕ ℕ → Type 0
-IsSteady object = (state : List ℕ) (inv : ℕ) → length state ≡ length object.initial
-    → length (object.next state inv) ≡ length object.initial
+-- where a state has as many words as the start state, so has the next one, and a reply has so many words
+abbrev pub IsSteady : Sequential (List ℕ) (List ℕ) (List ℕ) → (reply : ℕ) → Type 0
+IsSteady object reply = (state inv : List ℕ) → length state ≡ length object.initial
+    → (length (object.next state inv) ≡ length object.initial) × (length (object.answer state inv) ≡ reply)
 
 -- what a scan saw of process r: 1 where it saw a call that is to be applied
-abbrev pub due_at : List (Option ℕ) → (r : ℕ) → ℕ
+abbrev pub due_at : List (Option (List ℕ)) → (r : ℕ) → ℕ
 due_at [] r = 0
 due_at (None ∷ seen) zero = 0
 due_at (Some inv ∷ seen) zero = 1
 due_at (x ∷ seen) (suc r) = due_at seen r
 
+-- each invocation that a scan saw has all its words
+abbrev pub AreWhole : Sizes → List (Option (List ℕ)) → Type 0
+AreWhole sizes seen = (r : ℕ) (inv : List ℕ) → slice_get seen r ≡ Some (Some inv) → length inv ≡ sizes.invocation
+
 -- the calls that a scan saw from process r on, each with its number
-abbrev pub calls_seen : (applied : List ℕ) → (r : ℕ) → List (Option ℕ) → List (Invoked ℕ)
+abbrev pub calls_seen : (applied : List ℕ) → (r : ℕ) → List (Option (List ℕ)) → List (Invoked (List ℕ))
 calls_seen applied r [] = []
 calls_seen applied r (None ∷ seen) = calls_seen applied (r + 1) seen
 calls_seen applied r (Some inv ∷ seen) =
     record { process = r; nth = slice_index applied r; inv = inv } ∷ calls_seen applied (r + 1) seen
 
-module _ (object : Sequential (List ℕ) ℕ ℕ) where
+module _ (object : Sequential (List ℕ) (List ℕ) (List ℕ)) where
   -- a call of process r is applied
-  abbrev pub taken_in : Image → (r inv : ℕ) → Image
+  abbrev pub taken_in : Image → (r : ℕ) → (inv : List ℕ) → Image
   taken_in image r inv = record {
     applied = slice_set image.applied r (slice_index image.applied r + 1);
     reply = slice_set image.reply r (object.answer image.state inv);
     state = object.next image.state inv;
   }
 
-  abbrev pub first_image : (n : ℕ) → Image
-  first_image n = record { applied = replicate n 0; reply = replicate n 0; state = object.initial }
+  abbrev pub first_image : Sizes → Image
+  first_image sizes = record {
+    applied = replicate sizes.processes 0;
+    reply = replicate sizes.processes (replicate sizes.reply 0);
+    state = object.initial;
+  }
 
   -- these calls are applied, the first of them first
-  abbrev pub image_from : Image → List (Invoked ℕ) → Image
+  abbrev pub image_from : Image → List (Invoked (List ℕ)) → Image
   image_from image [] = image
   image_from image (c ∷ cs) = image_from (taken_in image c.process c.inv) cs
 
   -- the calls that a scan saw from process r on are applied
-  abbrev pub with_seen : Image → (r : ℕ) → List (Option ℕ) → Image
+  abbrev pub with_seen : Image → (r : ℕ) → List (Option (List ℕ)) → Image
   with_seen image r [] = image
   with_seen image r (None ∷ seen) = with_seen image (r + 1) seen
   with_seen image r (Some inv ∷ seen) = with_seen (taken_in image r inv) (r + 1) seen
 
--- two processes, of which the first has one call in, with a state of one word
-abbrev sample : Image
-sample = record { applied = 1 ∷ 0 ∷ []; reply = 5 ∷ 0 ∷ []; state = 9 ∷ [] }
+-- two processes, of which the first has one call in, with a state of one word, and replies of two
+abbrev sample_sizes : Sizes
+sample_sizes = record { processes = 2; state = 1; invocation = 1; reply = 2 }
 
-sample_spelled : spell sample ≡ 1 ∷ 0 ∷ 5 ∷ 0 ∷ 9 ∷ []
+abbrev sample : Image
+sample = record { applied = 1 ∷ 0 ∷ []; reply = (5 ∷ 6 ∷ []) ∷ (0 ∷ 0 ∷ []) ∷ []; state = 9 ∷ [] }
+
+sample_spelled : spell sample ≡ 1 ∷ 0 ∷ 5 ∷ 6 ∷ 0 ∷ 0 ∷ 9 ∷ []
 sample_spelled = refl
 
-sample_read : read_image 2 (1 ∷ 0 ∷ 5 ∷ 0 ∷ 9 ∷ []) ≡ sample
+sample_read : read_image sample_sizes (1 ∷ 0 ∷ 5 ∷ 6 ∷ 0 ∷ 0 ∷ 9 ∷ []) ≡ sample
 sample_read = refl
 
+sample_reply : slice_index (spell sample) (reply_place sample_sizes 0 1) ≡ 6
+sample_reply = refl
+
+sample_state : slice_index (spell sample) (state_place sample_sizes 0) ≡ 9
+sample_state = refl
+
 -- a scan sees a call of the second process, its first one
-sample_seen : calls_seen sample.applied 0 (None ∷ Some 7 ∷ []) ≡ record { process = 1; nth = 0; inv = 7 } ∷ []
+sample_seen : calls_seen sample.applied 0 (None ∷ Some (7 ∷ []) ∷ []) ≡ record { process = 1; nth = 0; inv = 7 ∷ [] } ∷ []
 sample_seen = refl
 
-sample_due : due_at (None ∷ Some 7 ∷ []) 1 ≡ 1
+sample_due : due_at (None ∷ Some (7 ∷ []) ∷ []) 1 ≡ 1
 sample_due = refl
 
--- a counter of one word
-abbrev pub sample_counter : Sequential (List ℕ) ℕ ℕ
-sample_counter = record { initial = 0 ∷ []; next = λ state inv. (slice_index state 0 + inv) ∷ []; answer = λ state inv. slice_index state 0 }
+-- a counter of one word, with invocations and replies of one word
+abbrev pub sample_counter : Sequential (List ℕ) (List ℕ) (List ℕ)
+sample_counter = record {
+  initial = 0 ∷ [];
+  next = λ state inv. (slice_index state 0 + slice_index inv 0) ∷ [];
+  answer = λ state inv. slice_index state 0 ∷ [];
+}
+
+abbrev pub counter_sizes : (processes : ℕ) → Sizes
+counter_sizes processes = record { processes = processes; state = 1; invocation = 1; reply = 1 }
 
 -- a batch of three: each call is answered the sum before it
-sample_batch : with_seen sample_counter (first_image sample_counter 3) 0 (Some 5 ∷ Some 3 ∷ Some 1 ∷ [])
-    ≡ record { applied = 1 ∷ 1 ∷ 1 ∷ []; reply = 0 ∷ 5 ∷ 8 ∷ []; state = 9 ∷ [] }
+sample_batch : with_seen sample_counter (first_image sample_counter (counter_sizes 3)) 0 (Some (5 ∷ []) ∷ Some (3 ∷ []) ∷ Some (1 ∷ []) ∷ [])
+    ≡ record { applied = 1 ∷ 1 ∷ 1 ∷ []; reply = (0 ∷ []) ∷ (5 ∷ []) ∷ (8 ∷ []) ∷ []; state = 9 ∷ [] }
 sample_batch = refl

@@ -1,15 +1,16 @@
 -- What holds between any two steps.
 use Rattle.std.specs.Prelude.{◌≡◌, ◌≢◌, ◌⊎◌, ℕ, ◌+◌, ◌*◌, ◌^◌, ◌<◌, ◌≤◌, List, [], ◌∷◌, ◌++◌, Option, None, Some}
-use Rattle.std.specs.Prelude.{Contains, length, map, slice_get, slice_index, sum}
+use Rattle.std.specs.Prelude.{Contains, length, map, slice_get, slice_index, sum, take}
 use Rattle.seq_object.specs.Sequential.{Sequential}
 use Rattle.seq_object.specs.History.{response_at}
 use Rattle.uni_model.specs.AtomicObject.{Invoked, AcceptsAll, at_start}
 use Rattle.uni_model.specs.AtomicObject.Act.{Invoke}
 use Rattle.uni_model.specs.ProcessCalls.{acts_by, sequential_acts}
 use Rattle.uni_small.specs.Order.{IsOrdered}
-use Rattle.uni_small.specs.Image.{Image, HasRows, buffer_words, spell, due_at, first_image, image_from, with_seen}
+use Rattle.uni_small.specs.Image.{AreWhole, Image, HasRows, buffer_words, spell, due_at, first_image, image_from, reply_of, reply_place, with_seen}
 use Rattle.uni_small.specs.View.{Local, Returned, Stage, plain}
-use Rattle.uni_small.specs.View.Stage.{Idle, Armed, Ready, Reading, Asking, Writing, Last}
+use Rattle.uni_small.specs.View.Stage.{Idle, Ready, Reading, Writing, Last}
+use Rattle.uni_small.specs.declared.sizes.Sizes.{Sizes}
 use Rattle.uni_small.specs.Board.{Board, in_of, current_word, buffer_in, version_in}
 
 -- how many calls a process can make: so many that versions fit
@@ -17,7 +18,7 @@ abbrev pub most_calls : ℕ
 most_calls = 2 ^ 50
 
 -- the call of a process has taken effect, with this reply
-pub record HasTaken (object : Sequential (List ℕ) ℕ ℕ) (g : Board) (call : Invoked ℕ) (reply : ℕ) : Type 0 where
+pub record HasTaken (object : Sequential (List ℕ) (List ℕ) (List ℕ)) (g : Board) (call : Invoked (List ℕ)) (reply : List ℕ) : Type 0 where
   pub place : ℕ
   pub there : slice_get g.atomic.agreed place ≡ Some call
   pub reply_is : response_at object object.initial (map (λ c. c.inv) g.atomic.agreed) place ≡ Some reply
@@ -32,31 +33,35 @@ pub record IsClosed (g : Board) (p : ℕ) (own : List Returned) : Type 0 where
 
 -- A process with a call pending, which is announced, with its argument: all its calls but perhaps this one are in; once this one is in,
 -- its reply is that of the image.
-pub record IsOpen (object : Sequential (List ℕ) ℕ ℕ) (g : Board) (p inv : ℕ) (own : List Returned) : Type 0 where
+pub record IsOpen (object : Sequential (List ℕ) (List ℕ) (List ℕ)) (g : Board) (p : ℕ) (inv : List ℕ) (own : List Returned) : Type 0 where
   pub is_open : g.atomic.open_call p ≡ Some (record { process = p; nth = length own; inv = inv })
   pub next : g.atomic.next_nth p ≡ length own + 1
   pub announced : g.announced p ≡ length own + 1
   pub argument : g.argument p ≡ inv
   pub in_least : length own ≤ in_of g p
   pub taken : in_of g p ≡ length own + 1
-      → HasTaken object g (record { process = p; nth = length own; inv = inv }) (slice_index g.image.reply p)
+      → HasTaken object g (record { process = p; nth = length own; inv = inv }) (reply_of g.image p)
   pub acts : acts_by p g.acts ≡ sequential_acts p 0 (map plain own) ++ Invoke p (length own) inv ∷ []
 
 -- the words that were copied are those of the current buffer
 abbrev pub IsCopied : Board → List ℕ → Type 0
 IsCopied g copy = (i : ℕ) → i < length copy → slice_index copy i ≡ slice_index (spell g.image) i
 
--- Process p has looked at the processes up to some one, and S has not changed since. A call that it saw is pending and not in. A call that
--- it did not see is in, but perhaps one that was announced at the present version by another process.
-pub record HasSeen (g : Board) (p : ℕ) (seen : List (Option ℕ)) : Type 0 where
-  pub told : (r inv : ℕ) → slice_get seen r ≡ Some (Some inv) → (g.announced r ≡ in_of g r + 1) × (g.argument r ≡ inv)
+-- these are the first words of the whole
+abbrev pub IsBeginning : (part whole : List ℕ) → Type 0
+IsBeginning part whole = take (length part) whole ≡ part
+
+-- Process p has looked at the processes up to some one, and S has not changed since. A call that it saw is pending and not in, and the
+-- words that it loaded are the first ones of its argument. A call that it did not see is in, but perhaps one that was announced at the present version by another process.
+pub record HasSeen (g : Board) (p : ℕ) (seen : List (Option (List ℕ))) : Type 0 where
+  pub told : (r : ℕ) (inv : List ℕ) → slice_get seen r ≡ Some (Some inv) → (g.announced r ≡ in_of g r + 1) × IsBeginning inv (g.argument r)
   pub caught : (r : ℕ) → r < length seen → (r ≡ p) ⊎ (g.since r < g.version) → g.announced r ≤ in_of g r + due_at seen r
 
 -- the version has come; and all calls that process p has announced, where they took effect, are in it
 abbrev pub AreIn : Board → (p version : ℕ) → Type 0
 AreIn g p version = (version ≤ g.version)
-    × ((c : Invoked ℕ) (place : ℕ) → slice_get g.atomic.agreed place ≡ Some c → c.process ≡ p → c.nth < g.announced p
-    → place < g.agreed_at version)
+    × ((c : Invoked (List ℕ)) (place : ℕ) → slice_get g.atomic.agreed place ≡ Some c → c.process ≡ p → c.nth < g.announced p
+    → place < g.calls_in_version version)
 
 -- where s is not an earlier S, it is the present one, and this holds
 abbrev pub IfFresh : Board → (s : ℕ) → Type 0 → Type 0
@@ -66,34 +71,32 @@ IfFresh g s F = 128 * g.version ≤ s → (s ≡ current_word g.version g.curren
 abbrev pub IsAfter : Board → (p tries s : ℕ) → Type 0
 IsAfter g p tries s = 128 * (g.since p + tries) ≤ s
 
-module _ (object : Sequential (List ℕ) ℕ ℕ) (n width : ℕ) where
+module _ (object : Sequential (List ℕ) (List ℕ) (List ℕ)) (sizes : Sizes) where
   -- k words of the spare buffer b are those of the image. Its reply to a call that was in when b was last current, and that is
   -- pending, is that of the current buffer.
   pub record IsWritten (g : Board) (b : ℕ) (image : Image) (k : ℕ) : Type 0 where
-    pub rows : HasRows n width image
+    pub rows : HasRows sizes image
     pub words : (i : ℕ) → i < k → g.buffer b i ≡ slice_index (spell image) i
-    pub replies : (r : ℕ) → r < n → g.announced r ≤ g.mark b r → slice_index image.reply r ≡ slice_index g.image.reply r
+    pub replies : (r : ℕ) → r < sizes.processes → g.announced r ≤ g.mark b r → reply_of image r ≡ reply_of g.image r
 
   -- the call of a process, at its stage
   abbrev pub IsCallAt : Board → (p : ℕ) → Local → Stage → Type 0
-  IsCallAt g p l Idle = IsClosed g p l.own
-  IsCallAt g p l Armed = IsClosed g p l.own × (g.argument p ≡ l.inv)
+  IsCallAt g p l (Idle stored) = IsClosed g p l.own × IsBeginning stored (g.argument p)
   IsCallAt g p l _ = IsOpen object g p l.inv l.own
 
   -- the attempt of a process, at its stage, with its spare buffer b
   abbrev pub IsAttemptAt : Board → (p b : ℕ) → Stage → Type 0
-  IsAttemptAt g p b Idle = Unit {0}
-  IsAttemptAt g p b Armed = Unit {0}
+  IsAttemptAt g p b (Idle stored) = Unit {0}
   IsAttemptAt g p b (Ready tries) = g.since p + tries ≤ g.version
   IsAttemptAt g p b (Reading tries s copy seen) =
       IsAfter g p tries s × IfFresh g s (IsCopied g copy × HasSeen g p seen)
-  IsAttemptAt g p b (Asking tries s copy seen) =
-      IsAfter g p tries s
-      × IfFresh g s (IsCopied g copy × HasSeen g p seen × (g.announced (length seen) ≡ in_of g (length seen) + 1))
   IsAttemptAt g p b (Writing tries s image seen k) =
-      IsAfter g p tries s × IfFresh g s ((image ≡ g.image) × (length seen ≡ n) × HasSeen g p seen × (in_of g p < g.announced p))
+      IsAfter g p tries s
+      × IfFresh g s ((image ≡ g.image) × (length seen ≡ sizes.processes) × HasSeen g p seen × (in_of g p < g.announced p) × AreWhole sizes seen)
       × IsWritten g b (with_seen object image 0 seen) k
-  IsAttemptAt g p b (Last s) = (buffer_in s < 2 * n) × (g.announced p ≤ g.mark (buffer_in s) p) × AreIn g p (version_in s)
+  IsAttemptAt g p b (Last s loaded) =
+      (buffer_in s < 2 * sizes.processes) × (g.announced p ≤ g.mark (buffer_in s) p) × AreIn g p (version_in s)
+      × IsBeginning loaded (reply_of g.image p)
 
   -- process p is where its seat says
   pub record IsAt (g : Board) (p : ℕ) (l : Local) : Type 0 where
@@ -101,31 +104,33 @@ module _ (object : Sequential (List ℕ) ℕ ℕ) (n width : ℕ) where
     pub apart : 2 * p + l.spare ≢ g.current
     pub call : IsCallAt g p l l.stage
     pub attempt : IsAttemptAt g p (2 * p + l.spare) l.stage
-    pub ordered : IsOrdered object g.atomic.agreed g.agreed_at g.version p l.after l.own
+    pub ordered : IsOrdered object g.atomic.agreed g.calls_in_version g.version p l.after l.own
 
   -- The board on its own. The current buffer is the image of the calls that took effect, in their order, of which each process has as
   -- many as are in. What a buffer tells a process whose pending call was in when the buffer was last current is the reply of that call.
   -- A call is in two versions after it was announced, at the latest. The calls of a version are in each later one. The history is
   -- accepted by the atomic object.
   pub record IsBoard (g : Board) : Type 0 where
-    pub current : g.current < 2 * n
-    pub image : image_from object (first_image object n) g.atomic.agreed ≡ g.image
-    pub rows : HasRows n width g.image
-    pub exact : (i : ℕ) → i < buffer_words n width → g.buffer g.current i ≡ slice_index (spell g.image) i
-    pub marked : (b r : ℕ) → r < n → g.mark b r ≤ in_of g r
-    pub at_current : (r : ℕ) → r < n → in_of g r ≤ g.mark g.current r
-    pub kept : (b r : ℕ) → b < 2 * n → r < n → g.announced r ≤ g.mark b r → g.buffer b (n + r) ≡ slice_index g.image.reply r
-    pub in_most : (r : ℕ) → r < n → in_of g r ≤ g.announced r
-    pub soon : (r : ℕ) → r < n → g.since r + 2 ≤ g.version → g.announced r ≤ in_of g r
+    pub current : g.current < 2 * sizes.processes
+    pub image : image_from object (first_image object sizes) g.atomic.agreed ≡ g.image
+    pub rows : HasRows sizes g.image
+    pub exact : (i : ℕ) → i < buffer_words sizes → g.buffer g.current i ≡ slice_index (spell g.image) i
+    pub marked : (b r : ℕ) → r < sizes.processes → g.mark b r ≤ in_of g r
+    pub at_current : (r : ℕ) → r < sizes.processes → in_of g r ≤ g.mark g.current r
+    pub kept : (b r k : ℕ) → b < 2 * sizes.processes → r < sizes.processes → k < sizes.reply → g.announced r ≤ g.mark b r
+        → g.buffer b (reply_place sizes r k) ≡ slice_index (reply_of g.image r) k
+    pub arguments : (r : ℕ) → r < sizes.processes → length (g.argument r) ≡ sizes.invocation
+    pub in_most : (r : ℕ) → r < sizes.processes → in_of g r ≤ g.announced r
+    pub soon : (r : ℕ) → r < sizes.processes → g.since r + 2 ≤ g.version → g.announced r ≤ in_of g r
     pub versions : g.version ≤ sum g.image.applied
-    pub room : (r : ℕ) → r < n → g.announced r ≤ most_calls
-    pub agreed : (c : Invoked ℕ) → Contains g.atomic.agreed c → (c.process < n) × (c.nth < in_of g c.process)
-    pub counted : (v : ℕ) → g.version ≤ v → g.agreed_at v ≡ length g.atomic.agreed
-    pub rising : (v w : ℕ) → v ≤ w → g.agreed_at v ≤ g.agreed_at w
+    pub room : (r : ℕ) → r < sizes.processes → g.announced r ≤ most_calls
+    pub agreed : (c : Invoked (List ℕ)) → Contains g.atomic.agreed c → (c.process < sizes.processes) × (c.nth < in_of g c.process)
+    pub counted : (v : ℕ) → g.version ≤ v → g.calls_in_version v ≡ length g.atomic.agreed
+    pub rising : (v w : ℕ) → v ≤ w → g.calls_in_version v ≤ g.calls_in_version w
     pub start : g.atomic.start ≡ object.initial
     pub history : AcceptsAll object (at_start object.initial) g.acts g.atomic
 
   -- the board with all processes
   pub record IsSound (g : Board) (local : ℕ → Local) : Type 0 where
     pub board : IsBoard g
-    pub each : (p : ℕ) → p < n → IsAt g p (local p)
+    pub each : (p : ℕ) → p < sizes.processes → IsAt g p (local p)

@@ -6,44 +6,45 @@ use Rattle.atomic_table.specs.Table.{State, Me, keeps, stepped}
 use Rattle.seq_object.specs.Sequential.{Sequential}
 use Rattle.uni_model.specs.AtomicObject.{Act}
 use Rattle.uni_model.specs.AtomicObject.Act.{Invoke, Linearize, Respond}
-use Rattle.uni_small.specs.Image.{calls_seen, sample_counter}
+use Rattle.uni_small.specs.Image.{Meaning, calls_seen, counter_sizes, sample_counter}
 use Rattle.uni_small.specs.View.{Local}
 use Rattle.uni_small.specs.Board.{Board, opened}
 use Rattle.uni_small.specs.Shown.{IsShown}
+use Rattle.uni_small.specs.declared.sizes.Sizes.{Sizes}
 use Rattle.uni_small.specs.declared.view.View.{View}
 
-module _ {O : Type 0} (meaning : O → Sequential (List ℕ) ℕ ℕ) (o : O) (n width id : ℕ) (me : Me ℕ (View O)) where
+module _ {O : Type 0} (meaning : O → Meaning) (o : O) (sizes : Sizes) (id : ℕ) (me : Me ℕ (View O)) where
   -- Where the table shows a board, and the word i becomes f of what it was by a step of the seat id, the table shows a board whose history
   -- has these acts more, and the seat is told this.
-  abbrev pub Moves : (i : ℕ) → (f : ℕ → ℕ) → (acts : Board → (found : ℕ) → List (Act ℕ ℕ)) → (says : ℕ → Me ℕ (View O) → Type 0) → Type 0
+  abbrev pub Moves : (i : ℕ) → (f : ℕ → ℕ) → (acts : Board → (found : ℕ) → List (Act (List ℕ) (List ℕ))) → (says : ℕ → Me ℕ (View O) → Type 0) → Type 0
   Moves i f acts says =
-      (s : State ℕ (View O)) (g : Board) (local : ℕ → Local) (seat_of : ℕ → ℕ) → IsShown n width meaning o g local seat_of s
+      (s : State ℕ (View O)) (g : Board) (local : ℕ → Local) (seat_of : ℕ → ℕ) → IsShown sizes meaning o g local seat_of s
       → get_elem? s.views id ≡ some me.0 → slice_index s.words i < 18446744073709551616
       → (v : View O) × ((g' : Board) × ((local' : ℕ → Local)
-      × IsShown n width meaning o g' local' seat_of (stepped s i (f (slice_index s.words i)) id me.1 v keeps)
+      × IsShown sizes meaning o g' local' seat_of (stepped s i (f (slice_index s.words i)) id me.1 v keeps)
       × says (slice_index s.words i) (v, me.1) × (g'.acts ≡ g.acts ++ acts g (slice_index s.words i))))
 
 -- no act
-abbrev pub nothing : Board → (found : ℕ) → List (Act ℕ ℕ)
+abbrev pub nothing : Board → (found : ℕ) → List (Act (List ℕ) (List ℕ))
 nothing g found = []
 
 -- a call begins
-abbrev pub begins : Local → (p : ℕ) → Board → (found : ℕ) → List (Act ℕ ℕ)
-begins l p g found = Invoke p (length l.own) l.inv ∷ []
+abbrev pub begins : Local → (p : ℕ) → (inv : List ℕ) → Board → (found : ℕ) → List (Act (List ℕ) (List ℕ))
+begins l p inv g found = Invoke p (length l.own) inv ∷ []
 
 -- where the exchange finds what the attempt began with, the calls that its scan saw take effect, in the order of their processes
-abbrev pub takes_effect : (s : ℕ) → (seen : List (Option ℕ)) → Board → (found : ℕ) → List (Act ℕ ℕ)
+abbrev pub takes_effect : (s : ℕ) → (seen : List (Option (List ℕ))) → Board → (found : ℕ) → List (Act (List ℕ) (List ℕ))
 takes_effect s seen g found = if found == s then map (λ c. Linearize c) (calls_seen g.image.applied 0 seen) else []
 
--- a call ends with the reply that was found
-abbrev pub ends : Local → (p : ℕ) → Board → (found : ℕ) → List (Act ℕ ℕ)
-ends l p g found = Respond p (length l.own) found ∷ []
+-- a call ends with the reply of which these words were loaded, and then the one that was found
+abbrev pub ends : Local → (p : ℕ) → (loaded : List ℕ) → Board → (found : ℕ) → List (Act (List ℕ) (List ℕ))
+ends l p loaded g found = Respond p (length l.own) (loaded ++ found ∷ []) ∷ []
 
 -- a batch of three takes effect by the exchange of S = 0, and not by one that finds version 1
-sample_batch : takes_effect 0 (Some 5 ∷ Some 3 ∷ Some 1 ∷ []) (opened sample_counter 3) 0
-    ≡ Linearize (record { process = 0; nth = 0; inv = 5 }) ∷ Linearize (record { process = 1; nth = 0; inv = 3 })
-    ∷ Linearize (record { process = 2; nth = 0; inv = 1 }) ∷ []
+sample_batch : takes_effect 0 (Some (5 ∷ []) ∷ Some (3 ∷ []) ∷ Some (1 ∷ []) ∷ []) (opened sample_counter (counter_sizes 3)) 0
+    ≡ Linearize (record { process = 0; nth = 0; inv = 5 ∷ [] }) ∷ Linearize (record { process = 1; nth = 0; inv = 3 ∷ [] })
+    ∷ Linearize (record { process = 2; nth = 0; inv = 1 ∷ [] }) ∷ []
 sample_batch = refl
 
-sample_missed : takes_effect 0 (Some 5 ∷ []) (opened sample_counter 3) 130 ≡ []
+sample_missed : takes_effect 0 (Some (5 ∷ []) ∷ []) (opened sample_counter (counter_sizes 3)) 130 ≡ []
 sample_missed = refl

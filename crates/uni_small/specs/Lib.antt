@@ -1,4 +1,5 @@
 pub mod Image
+pub mod TooWide
 pub mod View
 pub mod Board
 pub mod Order

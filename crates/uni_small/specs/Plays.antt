@@ -3,15 +3,16 @@ use Rattle.std.specs.Prelude.{◌≡◌, ℕ, ◌+◌, ◌-◌, ◌*◌, ◌<◌
 use Rattle.std.specs.Prelude.{length, slice_index}
 use Rattle.atomic_table.specs.Table.{Me, Step}
 use Rattle.seq_object.specs.Sequential.{Sequential}
-use Rattle.uni_small.specs.Image.{Image, IsReached, read_image}
-use Rattle.uni_small.specs.View.{Local, ProcessReturned, Stage, at_rest, everyone, goes, arms, brings, returns, knows}
-use Rattle.uni_small.specs.View.Stage.{Idle, Ready, Reading, Asking, Writing, Last}
+use Rattle.uni_small.specs.Image.{AreWidths, Image, IsReached, Meaning, counter_sizes, read_image}
+use Rattle.uni_small.specs.View.{Local, ProcessReturned, Stage, announces, at_rest, everyone, goes, brings, returns, knows}
+use Rattle.uni_small.specs.View.Stage.{Idle, Ready, Reading, Writing, Last}
 use Rattle.uni_small.specs.Board.{buffer_in, version_in}
 use Rattle.uni_small.specs.Invariant.{most_calls}
+use Rattle.uni_small.specs.declared.sizes.Sizes.{Sizes}
 use Rattle.uni_small.specs.declared.view.View.{View}
 
-abbrev pub first_view : {O : Type 0} → O → (n : ℕ) → View O
-first_view object n = record { marker = record {}; known = everyone n; object = Some object }
+abbrev pub first_view : {O : Type 0} → O → Sizes → View O
+first_view object sizes = record { marker = record {}; known = everyone sizes; object = Some object }
 
 -- the first process of a seat, and the others
 abbrev pub first_alone : {O : Type 0} → View O → View O
@@ -29,7 +30,8 @@ abbrev pub took_in : {O : Type 0} → View O → View O → View O
 took_in v x = record v { known = record v.known { taken = v.known.taken ++ own_in_view x ∷ x.known.taken } }
 
 abbrev pub nobody : {O : Type 0} → View O
-nobody = record { marker = record {}; known = everyone 0; object = None }
+nobody =
+    record { marker = record {}; known = everyone (record { processes = 0; state = 0; invocation = 0; reply = 0 }); object = None }
 
 -- a seat is left with this local, and has changed in nothing else
 abbrev pub with_local : {O : Type 0} → View O → Local → View O
@@ -45,61 +47,64 @@ stage_of me = me.0.known.local.stage
 abbrev pub Goes : {O : Type 0} → Me ℕ (View O) → Stage → Me ℕ (View O) → Type 0
 Goes me stage me' = IsLeft me (goes me.0.known.local stage) me'
 
-abbrev pub HasArmed : {O : Type 0} → Step ℕ → Me ℕ (View O) → (inv : ℕ) → Me ℕ (View O) → Type 0
-HasArmed step me inv me' = IsLeft me (arms me.0.known.local inv) me'
+-- one more word of the next invocation is stored
+abbrev pub HasStored : {O : Type 0} → Step ℕ → Me ℕ (View O) → (x : ℕ) → Me ℕ (View O) → Type 0
+HasStored step me x me' = (stored : List ℕ) → stage_of me ≡ Idle stored → Goes me (Idle (stored ++ x ∷ [])) me'
 
 abbrev pub HasAnnounced : {O : Type 0} → Step ℕ → Me ℕ (View O) → ℕ → Me ℕ (View O) → Type 0
-HasAnnounced step me x me' = Goes me (Ready 0) me'
+HasAnnounced step me number me' = (inv : List ℕ) → stage_of me ≡ Idle inv → IsLeft me (announces me.0.known.local inv) me'
 
 -- a word S that was found names a buffer, and its version leaves room for more
-abbrev pub IsNamed : (n s : ℕ) → Type 0
-IsNamed n s = (buffer_in s < 2 * n) × (version_in s ≤ n * most_calls)
+abbrev pub IsNamed : Sizes → (s : ℕ) → Type 0
+IsNamed sizes s = (buffer_in s < 2 * sizes.processes) × (version_in s ≤ sizes.processes * most_calls)
 
 abbrev pub HasStarted : {O : Type 0} → Step ℕ → Me ℕ (View O) → (s : ℕ) → Me ℕ (View O) → Type 0
 HasStarted step me s me' =
-    (tries : ℕ) → stage_of me ≡ Ready tries → Goes me (Reading tries s [] []) me' × IsNamed me.0.known.n s
+    (tries : ℕ) → stage_of me ≡ Ready tries → Goes me (Reading tries s [] []) me' × IsNamed me.0.known.sizes s
 
 abbrev pub HasCopied : {O : Type 0} → Step ℕ → Me ℕ (View O) → (found : ℕ) → Me ℕ (View O) → Type 0
 HasCopied step me found me' =
     (tries s : ℕ) (copy : List ℕ) → stage_of me ≡ Reading tries s copy [] → Goes me (Reading tries s (copy ++ found ∷ []) []) me'
 
--- where an announcement is as the copy has it, the process has no call to apply
-abbrev pub looked : (tries s : ℕ) (copy : List ℕ) (seen : List (Option ℕ)) (found : ℕ) → Stage
-looked tries s copy seen found =
-    if found == slice_index copy (length seen) then Reading tries s copy (seen ++ None ∷ []) else Asking tries s copy seen
+-- what is seen of process r by this announcement: no call to apply where the copy has the same, and else one of whose invocation no word
+-- is loaded
+abbrev pub looked : (copy : List ℕ) → (r found : ℕ) → Option (List ℕ)
+looked copy r found = if found == slice_index copy r then None else Some []
 
 abbrev pub HasLooked : {O : Type 0} → Step ℕ → Me ℕ (View O) → (found : ℕ) → Me ℕ (View O) → Type 0
 HasLooked step me found me' =
-    (tries s : ℕ) (copy : List ℕ) (seen : List (Option ℕ)) → stage_of me ≡ Reading tries s copy seen
-    → Goes me (looked tries s copy seen found) me'
+    (tries s : ℕ) (copy : List ℕ) (seen : List (Option (List ℕ))) → stage_of me ≡ Reading tries s copy seen
+    → Goes me (Reading tries s copy (seen ++ looked copy (length seen) found ∷ [])) me'
 
+-- one more word of the invocation that was seen last is loaded
 abbrev pub HasAsked : {O : Type 0} → Step ℕ → Me ℕ (View O) → (found : ℕ) → Me ℕ (View O) → Type 0
 HasAsked step me found me' =
-    (tries s : ℕ) (copy : List ℕ) (seen : List (Option ℕ)) → stage_of me ≡ Asking tries s copy seen
-    → Goes me (Reading tries s copy (seen ++ Some found ∷ [])) me'
+    (tries s : ℕ) (copy : List ℕ) (seen : List (Option (List ℕ))) (part : List ℕ)
+    → stage_of me ≡ Reading tries s copy (seen ++ Some part ∷ [])
+    → Goes me (Reading tries s copy (seen ++ Some (part ++ found ∷ []) ∷ [])) me'
 
 -- where S is as it was, the copy was good: the call is in already, or the spare buffer is written
-abbrev pub checked : (n p made tries s : ℕ) (copy : List ℕ) (seen : List (Option ℕ)) (found : ℕ) → Stage
-checked n p made tries s copy seen found =
+abbrev pub checked : Sizes → (p made tries s : ℕ) (copy : List ℕ) (seen : List (Option (List ℕ))) (found : ℕ) → Stage
+checked sizes p made tries s copy seen found =
     if found == s
-    then (if slice_index copy p == made then Last s else Writing tries s (read_image n copy) seen 0)
+    then (if slice_index copy p == made then Last s [] else Writing tries s (read_image sizes copy) seen 0)
     else Ready (tries + 1)
 
--- an image is that of a state that calls lead to, and counts no more calls than there can be
-abbrev pub IsGood : Sequential (List ℕ) ℕ ℕ → (n : ℕ) → Image → Type 0
-IsGood object n image =
-    IsReached object image.state × ((r : ℕ) → r < n → slice_index image.applied r ≤ most_calls)
+-- an image is that of a state that calls lead to, and counts no more calls than there can be; and the sizes are the object's
+abbrev pub IsGood : Meaning → Sizes → Image → Type 0
+IsGood meaning sizes image =
+    AreWidths meaning sizes × IsReached meaning.object image.state × ((r : ℕ) → r < sizes.processes → slice_index image.applied r ≤ most_calls)
 
-abbrev pub HasChecked : {O : Type 0} → Sequential (List ℕ) ℕ ℕ → Step ℕ → Me ℕ (View O) → (found : ℕ) → Me ℕ (View O) → Type 0
-HasChecked object step me found me' =
-    (tries s : ℕ) (copy : List ℕ) (seen : List (Option ℕ)) → stage_of me ≡ Reading tries s copy seen
+abbrev pub HasChecked : {O : Type 0} → Meaning → Step ℕ → Me ℕ (View O) → (found : ℕ) → Me ℕ (View O) → Type 0
+HasChecked meaning step me found me' =
+    (tries s : ℕ) (copy : List ℕ) (seen : List (Option (List ℕ))) → stage_of me ≡ Reading tries s copy seen
     → let v = me.0.known in
-    Goes me (checked v.n v.first (length v.local.own + 1) tries s copy seen found) me'
-    × (found ≡ s → IsGood object v.n (read_image v.n copy))
+    Goes me (checked v.sizes v.first (length v.local.own + 1) tries s copy seen found) me'
+    × (found ≡ s → IsGood meaning v.sizes (read_image v.sizes copy))
 
 abbrev pub HasWritten : {O : Type 0} → Step ℕ → Me ℕ (View O) → ℕ → Me ℕ (View O) → Type 0
 HasWritten step me x me' =
-    (tries s : ℕ) (image : Image) (seen : List (Option ℕ)) (k : ℕ) → stage_of me ≡ Writing tries s image seen k
+    (tries s : ℕ) (image : Image) (seen : List (Option (List ℕ))) (k : ℕ) → stage_of me ≡ Writing tries s image seen k
     → Goes me (Writing tries s image seen (k + 1)) me'
 
 -- where the exchange finds what the attempt began with, the spare buffer is current
@@ -108,33 +113,39 @@ brought l tries s new found = if found == s then brings l new else goes l (Ready
 
 abbrev pub HasBrought : {O : Type 0} → Step ℕ → Me ℕ (View O) → (found : ℕ) → Me ℕ (View O) → Type 0
 HasBrought step me found me' =
-    (tries s : ℕ) (image : Image) (seen : List (Option ℕ)) (k : ℕ) → stage_of me ≡ Writing tries s image seen k
+    (tries s : ℕ) (image : Image) (seen : List (Option (List ℕ))) (k : ℕ) → stage_of me ≡ Writing tries s image seen k
     → IsLeft me (brought me.0.known.local tries s step.second found) me'
 
 abbrev pub HasTurned : {O : Type 0} → Step ℕ → Me ℕ (View O) → (s : ℕ) → Me ℕ (View O) → Type 0
 HasTurned step me s me' =
-    (tries : ℕ) → stage_of me ≡ Ready tries → 2 ≤ tries → Goes me (Last s) me' × IsNamed me.0.known.n s
+    (tries : ℕ) → stage_of me ≡ Ready tries → 2 ≤ tries → Goes me (Last s []) me' × IsNamed me.0.known.sizes s
 
--- the version that a call is in is greater than the one that it comes after
+-- one more word of the reply is loaded
+abbrev pub HasLoaded : {O : Type 0} → Step ℕ → Me ℕ (View O) → (found : ℕ) → Me ℕ (View O) → Type 0
+HasLoaded step me found me' =
+    (s : ℕ) (loaded : List ℕ) → stage_of me ≡ Last s loaded → Goes me (Last s (loaded ++ found ∷ [])) me'
+
+-- its last word is: the version that a call is in is greater than the one that it comes after
 abbrev pub HasReplied : {O : Type 0} → Step ℕ → Me ℕ (View O) → (found : ℕ) → Me ℕ (View O) → Type 0
 HasReplied step me found me' =
-    (s : ℕ) → stage_of me ≡ Last s → let l = me.0.known.local in IsLeft me (returns l s found) me' × (l.after < version_in s)
+    (s : ℕ) (loaded : List ℕ) → stage_of me ≡ Last s loaded
+    → let l = me.0.known.local in IsLeft me (returns l s (loaded ++ found ∷ [])) me' × (l.after < version_in s)
 
 -- the version that S names is no smaller than the one that the process knew of
 abbrev pub HasFollowed : {O : Type 0} → Step ℕ → Me ℕ (View O) → (s : ℕ) → Me ℕ (View O) → Type 0
 HasFollowed step me s me' =
-    stage_of me ≡ Idle → let l = me.0.known.local in IsLeft me (knows l (version_in s)) me' × (l.after ≤ version_in s)
+    stage_of me ≡ Idle [] → let l = me.0.known.local in IsLeft me (knows l (version_in s)) me' × (l.after ≤ version_in s)
 
 -- One that fails twice: at the exchange of its first attempt S is another one, and then at the check of its second one. An attempt whose
 -- exchange finds what it began with is at its end, and so is one whose copy has the call.
 sample_misses : (brought at_rest 0 128 257 256).stage ≡ Ready 1
 sample_misses = refl
 
-sample_misses_again : checked 2 0 1 1 256 (0 ∷ 4 ∷ 0 ∷ 7 ∷ 9 ∷ []) (Some 5 ∷ None ∷ []) 384 ≡ Ready 2
+sample_misses_again : checked (counter_sizes 2) 0 1 1 256 (0 ∷ 4 ∷ 0 ∷ 7 ∷ 9 ∷ []) (Some (5 ∷ []) ∷ None ∷ []) 384 ≡ Ready 2
 sample_misses_again = refl
 
-sample_brings : (brought at_rest 0 128 257 128).stage ≡ Last 257
+sample_brings : (brought at_rest 0 128 257 128).stage ≡ Last 257 []
 sample_brings = refl
 
-sample_is_in : checked 2 0 1 1 256 (1 ∷ 4 ∷ 0 ∷ 7 ∷ 9 ∷ []) (None ∷ None ∷ []) 256 ≡ Last 256
+sample_is_in : checked (counter_sizes 2) 0 1 1 256 (1 ∷ 4 ∷ 0 ∷ 7 ∷ 9 ∷ []) (None ∷ None ∷ []) 256 ≡ Last 256 []
 sample_is_in = refl

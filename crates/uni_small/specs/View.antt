@@ -2,17 +2,18 @@
 use Rattle.std.specs.Prelude.{ℕ, ◌+◌, ◌-◌, List, [], ◌∷◌, ◌++◌, Option}
 use Rattle.uni_small.specs.Image.{Image}
 use Rattle.uni_small.specs.Board.{version_in}
+use Rattle.uni_small.specs.declared.sizes.Sizes.{Sizes}
 
 -- A call that has returned: its invocation and its reply. It comes after all calls that are in its version `after`, and is one of those
 -- that are in its version `version`.
 pub record Returned : Type 0 where
-  pub inv : ℕ
-  pub reply : ℕ
+  pub inv : List ℕ
+  pub reply : List ℕ
   pub after : ℕ
   pub version : ℕ
 
 -- its invocation with its reply
-abbrev pub plain : Returned → ℕ × ℕ
+abbrev pub plain : Returned → List ℕ × List ℕ
 plain call = (call.inv, call.reply)
 
 -- the calls of one process that have returned, in their order
@@ -21,68 +22,65 @@ pub record ProcessReturned : Type 0 where
   pub calls : List Returned
 
 -- Where a process stands. `tries` counts the attempts of its call that have failed, `s` is the word S that the attempt began with,
--- `copy` the words of the buffer that it has copied, and `seen` what it has seen of each process: nothing to apply, or an invocation.
+-- `copy` the words of the buffer that it has copied, and `seen` what it has seen of each process: nothing to apply, or an invocation,
+-- of which the last one may still lack words.
 pub data Stage : Type 0 where
-  -- no call is pending
-  Idle : Stage
-  -- the invocation is stored, and not announced
-  Armed : Stage
+  -- no call is pending, and these words of the next invocation are stored
+  Idle : (stored : List ℕ) → Stage
   -- an attempt, or the end of the call, comes next
   Ready : (tries : ℕ) → Stage
-  -- the words of the buffer are copied, and then the announcements are looked at
-  Reading : (tries s : ℕ) → (copy : List ℕ) → (seen : List (Option ℕ)) → Stage
-  -- the next process has a call that isn't in: its invocation comes next
-  Asking : (tries s : ℕ) → (copy : List ℕ) → (seen : List (Option ℕ)) → Stage
+  -- the words of the buffer are copied, and then the announcements are looked at, and the words of invocations that aren't in
+  Reading : (tries s : ℕ) → (copy : List ℕ) → (seen : List (Option (List ℕ))) → Stage
   -- the copy was good; with what was seen applied, it is written, and k words of it are
-  Writing : (tries s : ℕ) → Image → (seen : List (Option ℕ)) → (k : ℕ) → Stage
-  -- the call is in, and its reply is in the buffer that s names
-  Last : (s : ℕ) → Stage
+  Writing : (tries s : ℕ) → Image → (seen : List (Option (List ℕ))) → (k : ℕ) → Stage
+  -- the call is in, its reply is in the buffer that s names, and these words of it are loaded
+  Last : (s : ℕ) → (loaded : List ℕ) → Stage
 
 -- of one process: its stage, the invocation of its latest call, which of its buffers is its spare one, the version that its next calls
 -- come after, its calls that have returned, and how many word steps it has taken
 pub record Local : Type 0 where
   pub stage : Stage
-  pub inv : ℕ
+  pub inv : List ℕ
   pub spare : ℕ
   pub after : ℕ
   pub own : List Returned
   pub steps : ℕ
 
--- a seat has the processes from the first on, of n; what it knows of each of them; and the calls of each process whose seat it has
--- taken in
+-- a seat has the processes from the first on, of an object of these sizes; what it knows of each of them; and the calls of each process
+-- whose seat it has taken in
 pub record Known : Type 0 where
-  pub n : ℕ
+  pub sizes : Sizes
   pub first : ℕ
   pub count : ℕ
   pub local : Local
   pub taken : List ProcessReturned
 
 abbrev pub at_rest : Local
-at_rest = record { stage = Idle; inv = 0; spare = 1; after = 0; own = []; steps = 0 }
+at_rest = record { stage = Idle []; inv = []; spare = 1; after = 0; own = []; steps = 0 }
 
-abbrev pub everyone : (n : ℕ) → Known
-everyone n = record { n = n; first = 0; count = n; local = at_rest; taken = [] }
+abbrev pub everyone : Sizes → Known
+everyone sizes = record { sizes = sizes; first = 0; count = sizes.processes; local = at_rest; taken = [] }
 
 -- the process after a step, at its next stage
 abbrev pub goes : Local → Stage → Local
 goes l stage = record l { stage = stage; steps = l.steps + 1 }
 
--- after it has stored the invocation of its next call
-abbrev pub arms : Local → (inv : ℕ) → Local
-arms l inv = record l { stage = Armed; inv = inv; steps = l.steps + 1 }
+-- after it has announced its next call, of this invocation
+abbrev pub announces : Local → (inv : List ℕ) → Local
+announces l inv = record l { stage = Ready 0; inv = inv; steps = l.steps + 1 }
 
 -- after it has brought in its spare buffer, by this word
 abbrev pub brings : Local → (s : ℕ) → Local
-brings l s = record l { stage = Last s; spare = 1 - l.spare; steps = l.steps + 1 }
+brings l s = record l { stage = Last s []; spare = 1 - l.spare; steps = l.steps + 1 }
 
 -- its call that returns with this reply, which was read in the buffer that s names
-abbrev pub ending : Local → (s reply : ℕ) → Returned
+abbrev pub ending : Local → (s : ℕ) → (reply : List ℕ) → Returned
 ending l s reply = record { inv = l.inv; reply = reply; after = l.after; version = version_in s }
 
 -- after that call has returned
-abbrev pub returns : Local → (s reply : ℕ) → Local
+abbrev pub returns : Local → (s : ℕ) → (reply : List ℕ) → Local
 returns l s reply =
-    record l { stage = Idle; after = version_in s; own = l.own ++ ending l s reply ∷ []; steps = l.steps + 1 }
+    record l { stage = Idle []; after = version_in s; own = l.own ++ ending l s reply ∷ []; steps = l.steps + 1 }
 
 -- after it has asked which version has come, and found this one
 abbrev pub knows : Local → (version : ℕ) → Local

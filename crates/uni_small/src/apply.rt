@@ -4,11 +4,12 @@ ghost use Rattle.std.specs.Prelude.{IsErr, IsTrue, IfOk, OnOk, OnErr, length};
 ghost use Rattle.uni_small.specs.View.Stage.{Idle};
 ghost use Rattle.uni_small.specs.Invariant.{most_calls};
 ghost use Rattle.uni_small.specs.Plays.{stage_of};
-ghost use Rattle.uni_small.specs.Standing.{IsOf, local_of, CallEnds, call_steps};
-ghost use Rattle.uni_small.specs.Belongs.{IsSeatOf, HasRoom, calls_made, calls_of, own_calls, process_of, processes_of};
-ghost use Rattle.uni_small.specs.Belongs.{taken_calls, version_of, width_of, word_steps_of};
+ghost use Rattle.uni_small.specs.View.Stage.{Last};
+ghost use Rattle.uni_small.specs.Board.{buffer_in, version_in};
+ghost use Rattle.uni_small.specs.Standing.{CallEnds, GoesBy, IsOf, ReplyEnds, call_steps, local_of};
+ghost use Rattle.uni_small.specs.Belongs.{IsSeatOf, HasRoom, calls_made, calls_of, own_calls, process_of};
+ghost use Rattle.uni_small.specs.Belongs.{invocation_width_of, reply_width_of, sizes_of, taken_calls, version_of, word_steps_of};
 
-use crate::answer::Answer;
 use crate::log::SmallShared;
 use crate::object::SmallObject;
 use crate::seat::{Room, SmallSeat};
@@ -23,7 +24,42 @@ pub const MAX_CALLS: u64 = 1_125_899_906_842_624;
 pub struct CallsSpent;
 
 impl<O: SmallObject> SmallShared<O> {
-    /// The call of this number, from its start to its answer.
+    /// Stores the invocation of the next call.
+    fn store_argument(&self, seat: &mut Seat<u8, View<O>>, p: u64, invocation: &[u64])
+        requires table { seat.old.table_id ≡ self.now.table.shared.table_id }
+        requires inside { (p < self.now.setup.sizes.processes)
+            × (length invocation.now ≡ self.now.setup.sizes.invocation) }
+        requires of { IsOf self.now.setup.object self.now.setup.sizes p seat.old.me }
+        requires stage { stage_of seat.old.me ≡ Idle [] }
+        ensures same { (seat.new.table_id ≡ seat.old.table_id) × (seat.new.id ≡ seat.old.id) }
+        ensures goes { GoesBy seat.old.me (length invocation.now) (Idle invocation.now) seat.new.me }
+    {
+        for k in 0..invocation.len() {
+            self.store_word(seat, p, k as u64, invocation[k]);
+        }
+    }
+
+    /// Loads the reply: the call returns, and is in the version that s names.
+    fn load_reply(&self, seat: &mut Seat<u8, View<O>>, p: u64, s: u64, reply: &mut [u64]) -> u64
+        requires table { seat.old.table_id ≡ self.now.table.shared.table_id }
+        requires inside { (p < self.now.setup.sizes.processes) × (length reply.old ≡ self.now.setup.sizes.reply) }
+        requires of { IsOf self.now.setup.object self.now.setup.sizes p seat.old.me }
+        requires stage { stage_of seat.old.me ≡ Last s [] }
+        requires named { buffer_in s < 2 * self.now.setup.sizes.processes }
+        ensures same { (seat.new.table_id ≡ seat.old.table_id) × (seat.new.id ≡ seat.old.id) }
+        ensures left { ReplyEnds seat.old.me s reply.new self.now.setup.sizes.reply seat.new.me }
+        ensures version { result ≡ version_in s }
+        ensures later { (local_of seat.old.me).after < version_in s }
+    {
+        let last = reply.len() - 1;
+        for k in 0..last {
+            reply[k] = self.load_word(seat, p, s, k as u64);
+        }
+        reply[last] = self.load_last(seat, p, s, last as u64);
+        s / 128
+    }
+
+    /// The call of this number, from its start to its reply: a version in which it is.
     fn call(
         &self,
         seat: &mut Seat<u8, View<O>>,
@@ -31,70 +67,89 @@ impl<O: SmallObject> SmallShared<O> {
         number: u64,
         spare: &mut u64,
         room: &mut Room,
-        inv: u64,
-    ) -> Answer
+        invocation: &[u64],
+        reply: &mut [u64],
+    ) -> u64
         requires table { seat.old.table_id ≡ self.now.table.shared.table_id }
-        requires inside { p < self.now.setup.n }
-        requires of { IsOf self.now.setup.object self.now.setup.n p seat.old.me }
-        requires stage { stage_of seat.old.me ≡ Idle }
+        requires inside { p < self.now.setup.sizes.processes }
+        requires wide { (length invocation.now ≡ self.now.setup.sizes.invocation)
+            × (length reply.old ≡ self.now.setup.sizes.reply) }
+        requires of { IsOf self.now.setup.object self.now.setup.sizes p seat.old.me }
+        requires stage { stage_of seat.old.me ≡ Idle [] }
         requires number { (number ≡ length (local_of seat.old.me).own + 1) × (number ≤ most_calls) }
         requires spare { ((local_of seat.old.me).spare ≡ spare.old) × (spare.old ≤ 1) }
-        requires room { HasRoom self.now.setup.n self.now.setup.width room.old }
+        requires room { HasRoom self.now.setup.sizes room.old }
         ensures same { (seat.new.table_id ≡ seat.old.table_id) × (seat.new.id ≡ seat.old.id) }
-        ensures ends { CallEnds self.now.setup.n self.now.setup.width seat.old.me inv
-            result.reply result.version spare.new seat.new.me }
+        ensures ends { CallEnds self.now.setup.sizes seat.old.me invocation.now reply.new result spare.new seat.new.me }
         ensures spare { spare.new ≤ 1 }
-        ensures room { HasRoom self.now.setup.n self.now.setup.width room.new }
+        ensures room { HasRoom self.now.setup.sizes room.new }
     {
-        self.store_argument(seat, p, inv);
+        self.store_argument(seat, p, invocation);
         self.announce(seat, p, number);
         if let Some(s) = self.attempt(seat, p, number, 0, spare, room) {
-            return self.load_reply(seat, p, s);
+            return self.load_reply(seat, p, s, reply);
         }
         if let Some(s) = self.attempt(seat, p, number, 1, spare, room) {
-            return self.load_reply(seat, p, s);
+            return self.load_reply(seat, p, s, reply);
         }
         let s = self.turn(seat, p, 2);
-        self.load_reply(seat, p, s)
+        self.load_reply(seat, p, s, reply)
     }
 }
 
 impl<O: SmallObject> SmallSeat<O> {
-    /// Applies the invocation, and gives the reply, with a version in which the call is. With n processes
-    /// and states of so many words it returns after at most `12 * n + 4 * width + 10` word steps, whatever
-    /// the other seats do, and takes no memory and no lock. The seat is one of this object's.
+    /// Applies the invocation, and writes the reply: a version in which the call is. Versions count from 0, the
+    /// start state, and each exchange of the current buffer makes the next one. The seat is one of this
+    /// object's; `invocation` and `reply` have as many words as `invocation_width` and `reply_width` of
+    /// the object say.
+    ///
+    /// Where a state has W words, an invocation I and a reply R, it returns after at most
+    /// `4 * W + (6 + 2 * I + 4 * R) * n + I + R + 8` word steps with n processes, whatever the other seats do,
+    /// and takes no memory and no lock.
     ///
     /// The call comes after all calls that are in the version which the seat has, and its own version is
     /// greater; the seat has that one then.
     ///
     /// The error says that the seat has made all the calls that it can make; nothing is changed then.
-    pub fn apply(&mut self, shared: &SmallShared<O>, inv: u64) -> Result<Answer, CallsSpent>
+    pub fn apply(
+        &mut self,
+        shared: &SmallShared<O>,
+        invocation: &[u64],
+        reply: &mut [u64],
+    ) -> Result<u64, CallsSpent>
         requires seat { IsSeatOf shared.now self.old }
+        requires invocation { length invocation.now ≡ invocation_width_of shared.now }
+        requires reply { length reply.old ≡ reply_width_of shared.now }
         ensures kept { IsSeatOf shared.now self.new × (process_of self.new ≡ process_of self.old) }
         ensures spent { IsErr result ↔ (calls_made self.old ≡ most_calls) }
-        ensures unchanged { OnErr result (self.new ≡ self.old) }
+        ensures unchanged { OnErr result ((self.new ≡ self.old) × (reply.new ≡ reply.old)) }
         ensures taken { taken_calls self.new ≡ taken_calls self.old }
-        ensures own { IfOk result (λ answer. own_calls self.new ≡ own_calls self.old
-            ++ record { inv = inv; reply = answer.reply; after = version_of self.old; version = answer.version } ∷ []) }
-        ensures later { IfOk result (λ answer. version_of self.old < answer.version) }
-        ensures version { IfOk result (λ answer. version_of self.new ≡ answer.version) }
+        ensures own { IfOk result (λ version. own_calls self.new ≡ own_calls self.old ++ record {
+          inv = invocation.now;
+          reply = reply.new;
+          after = version_of self.old;
+          version = version;
+        } ∷ []) }
+        ensures later { IfOk result (λ version. version_of self.old < version) }
+        ensures version { IfOk result (λ version. version_of self.new ≡ version) }
         ensures made { OnOk result (calls_made self.new ≡ calls_made self.old + 1) }
         ensures few_steps { OnOk result (word_steps_of self.new
-            ≤ word_steps_of self.old + call_steps (processes_of shared.now) (width_of shared.now)) }
+            ≤ word_steps_of self.old + call_steps (sizes_of shared.now)) }
     {
         if self.made == MAX_CALLS {
             return Err(CallsSpent);
         }
-        let answer = shared.call(
+        let version = shared.call(
             &mut self.seat,
             self.p,
             self.made + 1,
             &mut self.spare,
             &mut self.room,
-            inv,
+            invocation,
+            reply,
         );
         self.made += 1;
-        Ok(answer)
+        Ok(version)
     }
 
     /// Asks whether this version has come, by one load of the word that names the present one. The seat has

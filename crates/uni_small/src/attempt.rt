@@ -1,17 +1,17 @@
 //! An attempt at a call: copy the current buffer, apply what was announced, and bring the copy in.
-ghost use Rattle.std.specs.Prelude.{◌≡◌, ℕ, ◌+◌, ◌*◌, ◌<◌, ◌≤◌, ◌++◌, ◌∷◌, List, [], Option, length, slice_index};
-ghost use Rattle.uni_small.specs.Image.{Image, IsReached, buffer_words, spell, with_seen};
+ghost use Rattle.std.specs.Prelude.{All, List, Option, Some, [], ℕ, ◌*◌, ◌+◌, ◌++◌, ◌<◌, ◌≡◌, ◌≤◌, ◌∷◌, length, map, slice_index};
+ghost use Rattle.uni_small.specs.Image.{AreWidths, Image, IsReached, buffer_words, spell, with_seen};
 ghost use Rattle.uni_small.specs.View.Stage.{Ready, Reading, Writing};
 ghost use Rattle.uni_small.specs.Board.{buffer_in};
 ghost use Rattle.uni_small.specs.Invariant.{most_calls};
 ghost use Rattle.uni_small.specs.Plays.{stage_of, IsNamed, IsGood};
-ghost use Rattle.uni_small.specs.Standing.{IsOf, GoesBy, GoesWithin, IsCopying, IsLooking};
+ghost use Rattle.uni_small.specs.Standing.{GoesBy, GoesWithin, IsAsking, IsCopying, IsLooking, IsOf};
 ghost use Rattle.uni_small.specs.Standing.{HasCopy, HasRow, local_of, AttemptEnds, BringEnds};
-ghost use Rattle.uni_small.specs.Belongs.{HasRoom, image_in};
+ghost use Rattle.uni_small.specs.Belongs.{HasInvocation, HasRoom, all_seen, image_in, image_of_rows, seen_in};
 
 use crate::log::SmallShared;
 use crate::object::SmallObject;
-use crate::seat::Room;
+use crate::seat::{Room, Seen};
 use crate::view::View;
 use atomic_table::Seat;
 
@@ -27,11 +27,11 @@ impl<O: SmallObject> SmallShared<O> {
         row: &mut [u64],
     )
         requires table { seat.old.table_id ≡ self.now.table.shared.table_id }
-        requires inside { (p < self.now.setup.n)
-            × (from + length row.old ≤ buffer_words self.now.setup.n self.now.setup.width) }
-        requires of { IsOf self.now.setup.object self.now.setup.n p seat.old.me }
+        requires inside { (p < self.now.setup.sizes.processes)
+            × (from + length row.old ≤ buffer_words self.now.setup.sizes) }
+        requires of { IsOf self.now.setup.object self.now.setup.sizes p seat.old.me }
         requires stage { IsCopying tries s from seat.old.me }
-        requires named { buffer_in s < 2 * self.now.setup.n }
+        requires named { buffer_in s < 2 * self.now.setup.sizes.processes }
         ensures same { (seat.new.table_id ≡ seat.old.table_id) × (seat.new.id ≡ seat.old.id) }
         ensures goes { (copy : List ℕ) → stage_of seat.old.me ≡ Reading tries s copy []
             → GoesBy seat.old.me (length row.new) (Reading tries s (copy ++ row.new) []) seat.new.me }
@@ -41,7 +41,34 @@ impl<O: SmallObject> SmallShared<O> {
         }
     }
 
-    /// Looks at process r, of which the copy has so many calls in: the invocation of one that isn't in.
+    /// Loads the invocation of process r, whose call isn't in.
+    fn ask_all(
+        &self,
+        seat: &mut Seat<u8, View<O>>,
+        p: u64,
+        tries: u64,
+        s: u64,
+        r: u64,
+        invocation: &mut [u64],
+    )
+        requires table { seat.old.table_id ≡ self.now.table.shared.table_id }
+        requires inside { (p < self.now.setup.sizes.processes) × (r < self.now.setup.sizes.processes)
+            × (length invocation.old ≡ self.now.setup.sizes.invocation) }
+        requires of { IsOf self.now.setup.object self.now.setup.sizes p seat.old.me }
+        requires stage { IsAsking tries s r 0 seat.old.me }
+        ensures same { (seat.new.table_id ≡ seat.old.table_id) × (seat.new.id ≡ seat.old.id) }
+        ensures goes { (copy : List ℕ) (seen : List (Option (List ℕ)))
+            → stage_of seat.old.me ≡ Reading tries s copy (seen ++ Some [] ∷ [])
+            → GoesBy seat.old.me (length invocation.new)
+            (Reading tries s copy (seen ++ Some invocation.new ∷ [])) seat.new.me }
+    {
+        for k in 0..invocation.len() {
+            invocation[k] = self.ask(seat, p, tries, s, r, k as u64);
+        }
+    }
+
+    /// Looks at process r, of which the copy has so many calls in: whether there is one that isn't in, and
+    /// its invocation.
     fn see(
         &self,
         seat: &mut Seat<u8, View<O>>,
@@ -50,23 +77,27 @@ impl<O: SmallObject> SmallShared<O> {
         s: u64,
         r: u64,
         known: u64,
-    ) -> Option<u64>
+        seen: &mut Seen,
+    )
         requires table { seat.old.table_id ≡ self.now.table.shared.table_id }
-        requires inside { (p < self.now.setup.n) × (r < self.now.setup.n) }
-        requires of { IsOf self.now.setup.object self.now.setup.n p seat.old.me }
-        requires stage { IsLooking self.now.setup.n self.now.setup.width tries s r seat.old.me }
-        requires known { (copy : List ℕ) (seen : List (Option ℕ)) → stage_of seat.old.me ≡ Reading tries s copy seen
-            → slice_index copy r ≡ known }
+        requires inside { (p < self.now.setup.sizes.processes) × (r < self.now.setup.sizes.processes) }
+        requires of { IsOf self.now.setup.object self.now.setup.sizes p seat.old.me }
+        requires stage { IsLooking self.now.setup.sizes tries s r seat.old.me }
+        requires known { (copy : List ℕ) (seen : List (Option (List ℕ)))
+            → stage_of seat.old.me ≡ Reading tries s copy seen → slice_index copy r ≡ known }
+        requires room { HasInvocation self.now.setup.sizes seen.old }
         ensures same { (seat.new.table_id ≡ seat.old.table_id) × (seat.new.id ≡ seat.old.id) }
-        ensures goes { (copy : List ℕ) (seen : List (Option ℕ)) → stage_of seat.old.me ≡ Reading tries s copy seen
-            → GoesWithin seat.old.me 2 (Reading tries s copy (seen ++ result ∷ [])) seat.new.me }
+        ensures goes { (copy : List ℕ) (before : List (Option (List ℕ)))
+            → stage_of seat.old.me ≡ Reading tries s copy before
+            → GoesWithin seat.old.me (1 + self.now.setup.sizes.invocation)
+            (Reading tries s copy (before ++ seen_in seen.new ∷ [])) seat.new.me }
+        ensures room { HasInvocation self.now.setup.sizes seen.new }
     {
         let announced = self.look(seat, p, tries, s, r);
-        if announced == known {
-            return None;
+        seen.due = announced != known;
+        if announced != known {
+            self.ask_all(seat, p, tries, s, r, &mut seen.invocation);
         }
-        let inv = self.ask(seat, p, tries, s, r);
-        Some(inv)
     }
 
     /// Looks at all processes: a call that isn't in the copy is seen.
@@ -77,19 +108,31 @@ impl<O: SmallObject> SmallShared<O> {
         tries: u64,
         s: u64,
         applied: &[u64],
-        seen: &mut [Option<u64>],
+        seen: &mut [Seen],
     )
         requires table { seat.old.table_id ≡ self.now.table.shared.table_id }
-        requires inside { (p < self.now.setup.n) × (length applied.now ≡ self.now.setup.n)
-            × (length seen.old ≡ self.now.setup.n) }
-        requires of { IsOf self.now.setup.object self.now.setup.n p seat.old.me }
-        requires stage { HasCopy self.now.setup.n self.now.setup.width tries s applied.now seat.old.me }
+        requires inside { (p < self.now.setup.sizes.processes) × (length applied.now ≡ self.now.setup.sizes.processes)
+            × (length seen.old ≡ self.now.setup.sizes.processes) }
+        requires of { IsOf self.now.setup.object self.now.setup.sizes p seat.old.me }
+        requires stage { HasCopy self.now.setup.sizes tries s applied.now seat.old.me }
+        requires room { All (HasInvocation self.now.setup.sizes) seen.old }
         ensures same { (seat.new.table_id ≡ seat.old.table_id) × (seat.new.id ≡ seat.old.id) }
         ensures goes { (copy : List ℕ) → stage_of seat.old.me ≡ Reading tries s copy []
-            → GoesWithin seat.old.me (2 * self.now.setup.n) (Reading tries s copy seen.new) seat.new.me }
+            → GoesWithin seat.old.me
+            (self.now.setup.sizes.processes + self.now.setup.sizes.processes * self.now.setup.sizes.invocation)
+            (Reading tries s copy (map seen_in seen.new)) seat.new.me }
+        ensures room { All (HasInvocation self.now.setup.sizes) seen.new }
     {
-        for r in 0..self.setup.n {
-            seen[r as usize] = self.see(seat, p, tries, s, r, applied[r as usize]);
+        for r in 0..self.setup.sizes.processes {
+            self.see(
+                seat,
+                p,
+                tries,
+                s,
+                r,
+                applied[r as usize],
+                &mut seen[r as usize],
+            );
         }
     }
 
@@ -100,42 +143,44 @@ impl<O: SmallObject> SmallShared<O> {
         reply: &mut [u64],
         state: &mut [u64],
         r: usize,
-        due: Option<u64>,
+        seen: &Seen,
     )
-        requires rows { (r < length applied.old) × (r < length reply.old) }
-        requires reached { IsReached (O.sequential self.now.setup.object) state.old }
+        requires rows { (r < self.now.setup.sizes.processes) × (length applied.old ≡ self.now.setup.sizes.processes)
+            × (length reply.old ≡ self.now.setup.sizes.processes * self.now.setup.sizes.reply) }
+        requires widths { AreWidths (O.meaning self.now.setup.object) self.now.setup.sizes }
+        requires room { HasInvocation self.now.setup.sizes seen.now }
+        requires reached { IsReached (O.meaning self.now.setup.object).object state.old }
         requires few { slice_index applied.old r ≤ most_calls }
-        ensures image { record { applied = applied.new; reply = reply.new; state = state.new }
-            ≡ with_seen (O.sequential self.now.setup.object)
-            (record { applied = applied.old; reply = reply.old; state = state.old }) r (due ∷ []) }
-        ensures reached { IsReached (O.sequential self.now.setup.object) state.new }
+        ensures image { image_of_rows self.now.setup.sizes applied.new reply.new state.new
+            ≡ with_seen (O.meaning self.now.setup.object).object
+            (image_of_rows self.now.setup.sizes applied.old reply.old state.old) r (seen_in seen.now ∷ []) }
+        ensures reached { IsReached (O.meaning self.now.setup.object).object state.new }
     {
-        let Some(inv) = due else {
+        if !seen.due {
             return;
-        };
+        }
         applied[r] += 1;
-        let answer = self.setup.object.apply(state, inv);
-        reply[r] = answer;
+        let words = self.setup.sizes.reply as usize;
+        let from = r * words;
+        self.setup
+            .object
+            .apply(state, &seen.invocation, &mut reply[from..from + words]);
     }
 
     /// Applies what was seen to the copy.
-    fn apply_seen(
-        &self,
-        applied: &mut [u64],
-        reply: &mut [u64],
-        state: &mut [u64],
-        seen: &[Option<u64>],
-    )
-        requires rows { (length applied.old ≡ self.now.setup.n) × (length reply.old ≡ self.now.setup.n)
-            × (length seen.now ≡ self.now.setup.n) }
-        requires good { IsGood (O.sequential self.now.setup.object) self.now.setup.n
-            (record { applied = applied.old; reply = reply.old; state = state.old }) }
-        ensures image { record { applied = applied.new; reply = reply.new; state = state.new }
-            ≡ with_seen (O.sequential self.now.setup.object)
-            (record { applied = applied.old; reply = reply.old; state = state.old }) 0 seen.now }
+    fn apply_seen(&self, applied: &mut [u64], reply: &mut [u64], state: &mut [u64], seen: &[Seen])
+        requires rows { (length applied.old ≡ self.now.setup.sizes.processes)
+            × (length reply.old ≡ self.now.setup.sizes.processes * self.now.setup.sizes.reply)
+            × (length seen.now ≡ self.now.setup.sizes.processes) }
+        requires room { All (HasInvocation self.now.setup.sizes) seen.now }
+        requires good { IsGood (O.meaning self.now.setup.object) self.now.setup.sizes
+            (image_of_rows self.now.setup.sizes applied.old reply.old state.old) }
+        ensures image { image_of_rows self.now.setup.sizes applied.new reply.new state.new
+            ≡ with_seen (O.meaning self.now.setup.object).object
+            (image_of_rows self.now.setup.sizes applied.old reply.old state.old) 0 (map seen_in seen.now) }
     {
-        for r in 0..self.setup.n as usize {
-            self.apply_one(applied, reply, state, r, seen[r]);
+        for r in 0..self.setup.sizes.processes as usize {
+            self.apply_one(applied, reply, state, r, &seen[r]);
         }
     }
 
@@ -151,13 +196,13 @@ impl<O: SmallObject> SmallShared<O> {
         row: &[u64],
     )
         requires table { seat.old.table_id ≡ self.now.table.shared.table_id }
-        requires inside { (p < self.now.setup.n)
-            × (from + length row.now ≤ buffer_words self.now.setup.n self.now.setup.width) }
-        requires of { IsOf self.now.setup.object self.now.setup.n p seat.old.me }
-        requires stage { HasRow (O.sequential self.now.setup.object) tries s from row.now seat.old.me }
+        requires inside { (p < self.now.setup.sizes.processes)
+            × (from + length row.now ≤ buffer_words self.now.setup.sizes) }
+        requires of { IsOf self.now.setup.object self.now.setup.sizes p seat.old.me }
+        requires stage { HasRow (O.meaning self.now.setup.object).object tries s from row.now seat.old.me }
         requires spare { ((local_of seat.old.me).spare ≡ spare) × (spare ≤ 1) }
         ensures same { (seat.new.table_id ≡ seat.old.table_id) × (seat.new.id ≡ seat.old.id) }
-        ensures goes { (image : Image) (seen : List (Option ℕ)) → stage_of seat.old.me ≡ Writing tries s image seen from
+        ensures goes { (image : Image) (seen : List (Option (List ℕ))) → stage_of seat.old.me ≡ Writing tries s image seen from
             → GoesBy seat.old.me (length row.now) (Writing tries s image seen (from + length row.now)) seat.new.me }
     {
         for i in 0..row.len() {
@@ -168,22 +213,24 @@ impl<O: SmallObject> SmallShared<O> {
     /// Begins an attempt: loads S, copies the buffer that it names, and looks at all processes.
     fn gather(&self, seat: &mut Seat<u8, View<O>>, p: u64, tries: u64, room: &mut Room) -> u64
         requires table { seat.old.table_id ≡ self.now.table.shared.table_id }
-        requires inside { p < self.now.setup.n }
-        requires of { IsOf self.now.setup.object self.now.setup.n p seat.old.me }
+        requires inside { p < self.now.setup.sizes.processes }
+        requires of { IsOf self.now.setup.object self.now.setup.sizes p seat.old.me }
         requires stage { stage_of seat.old.me ≡ Ready tries }
-        requires room { HasRoom self.now.setup.n self.now.setup.width room.old }
+        requires room { HasRoom self.now.setup.sizes room.old }
         ensures same { (seat.new.table_id ≡ seat.old.table_id) × (seat.new.id ≡ seat.old.id) }
         ensures goes { GoesWithin seat.old.me
-            (1 + buffer_words self.now.setup.n self.now.setup.width + 2 * self.now.setup.n)
-            (Reading tries result (spell (image_in room.new)) room.new.seen.items) seat.new.me }
-        ensures named { IsNamed self.now.setup.n result }
-        ensures room { HasRoom self.now.setup.n self.now.setup.width room.new }
+            (1 + buffer_words self.now.setup.sizes
+            + (self.now.setup.sizes.processes + self.now.setup.sizes.processes * self.now.setup.sizes.invocation))
+            (Reading tries result (spell (image_in self.now.setup.sizes room.new)) (all_seen room.new)) seat.new.me }
+        ensures named { IsNamed self.now.setup.sizes result }
+        ensures room { HasRoom self.now.setup.sizes room.new }
     {
-        let n = self.setup.n;
+        let sizes = &self.setup.sizes;
+        let n = sizes.processes;
         let s = self.start(seat, p, tries);
         self.copy_row(seat, p, tries, s, 0, &mut room.applied);
         self.copy_row(seat, p, tries, s, n, &mut room.reply);
-        self.copy_row(seat, p, tries, s, 2 * n, &mut room.state);
+        self.copy_row(seat, p, tries, s, n + n * sizes.reply, &mut room.state);
         self.scan(seat, p, tries, s, &room.applied, &mut room.seen);
         s
     }
@@ -199,20 +246,22 @@ impl<O: SmallObject> SmallShared<O> {
         room: &Room,
     )
         requires table { seat.old.table_id ≡ self.now.table.shared.table_id }
-        requires inside { p < self.now.setup.n }
-        requires of { IsOf self.now.setup.object self.now.setup.n p seat.old.me }
-        requires stage { HasRow (O.sequential self.now.setup.object) tries s 0 (spell (image_in room.now)) seat.old.me }
+        requires inside { p < self.now.setup.sizes.processes }
+        requires of { IsOf self.now.setup.object self.now.setup.sizes p seat.old.me }
+        requires stage { HasRow (O.meaning self.now.setup.object).object tries s 0 (spell (image_in self.now.setup.sizes room.now)) seat.old.me }
         requires spare { ((local_of seat.old.me).spare ≡ spare) × (spare ≤ 1) }
-        requires room { HasRoom self.now.setup.n self.now.setup.width room.now }
+        requires room { HasRoom self.now.setup.sizes room.now }
         ensures same { (seat.new.table_id ≡ seat.old.table_id) × (seat.new.id ≡ seat.old.id) }
-        ensures goes { (image : Image) (seen : List (Option ℕ)) → stage_of seat.old.me ≡ Writing tries s image seen 0
-            → GoesBy seat.old.me (buffer_words self.now.setup.n self.now.setup.width)
-            (Writing tries s image seen (buffer_words self.now.setup.n self.now.setup.width)) seat.new.me }
+        ensures goes { (image : Image) (seen : List (Option (List ℕ))) → stage_of seat.old.me ≡ Writing tries s image seen 0
+            → GoesBy seat.old.me (buffer_words self.now.setup.sizes)
+            (Writing tries s image seen (buffer_words self.now.setup.sizes)) seat.new.me }
     {
-        let n = self.setup.n;
+        let sizes = &self.setup.sizes;
+        let n = sizes.processes;
+        let at_state = n + n * sizes.reply;
         self.write_row(seat, p, tries, s, spare, 0, &room.applied);
         self.write_row(seat, p, tries, s, spare, n, &room.reply);
-        self.write_row(seat, p, tries, s, spare, 2 * n, &room.state);
+        self.write_row(seat, p, tries, s, spare, at_state, &room.state);
     }
 
     /// Ends an attempt whose copy was good: applies what was seen to the copy, writes it to the spare
@@ -227,16 +276,16 @@ impl<O: SmallObject> SmallShared<O> {
         room: &mut Room,
     ) -> Option<u64>
         requires table { seat.old.table_id ≡ self.now.table.shared.table_id }
-        requires inside { p < self.now.setup.n }
-        requires of { IsOf self.now.setup.object self.now.setup.n p seat.old.me }
-        requires stage { stage_of seat.old.me ≡ Writing tries s (image_in room.old) room.old.seen.items 0 }
-        requires named { IsNamed self.now.setup.n s }
-        requires good { IsGood (O.sequential self.now.setup.object) self.now.setup.n (image_in room.old) }
+        requires inside { p < self.now.setup.sizes.processes }
+        requires of { IsOf self.now.setup.object self.now.setup.sizes p seat.old.me }
+        requires stage { stage_of seat.old.me ≡ Writing tries s (image_in self.now.setup.sizes room.old) (all_seen room.old) 0 }
+        requires named { IsNamed self.now.setup.sizes s }
+        requires good { IsGood (O.meaning self.now.setup.object) self.now.setup.sizes (image_in self.now.setup.sizes room.old) }
         requires spare { ((local_of seat.old.me).spare ≡ spare) × (spare ≤ 1) }
-        requires room { HasRoom self.now.setup.n self.now.setup.width room.old }
+        requires room { HasRoom self.now.setup.sizes room.old }
         ensures same { (seat.new.table_id ≡ seat.old.table_id) × (seat.new.id ≡ seat.old.id) }
-        ensures ends { BringEnds self.now.setup.n self.now.setup.width tries seat.old.me result seat.new.me }
-        ensures room { HasRoom self.now.setup.n self.now.setup.width room.new }
+        ensures ends { BringEnds self.now.setup.sizes tries seat.old.me result seat.new.me }
+        ensures room { HasRoom self.now.setup.sizes room.new }
     {
         self.apply_seen(
             &mut room.applied,
@@ -262,17 +311,17 @@ impl<O: SmallObject> SmallShared<O> {
         room: &mut Room,
     ) -> Option<u64>
         requires table { seat.old.table_id ≡ self.now.table.shared.table_id }
-        requires inside { p < self.now.setup.n }
-        requires of { IsOf self.now.setup.object self.now.setup.n p seat.old.me }
+        requires inside { p < self.now.setup.sizes.processes }
+        requires of { IsOf self.now.setup.object self.now.setup.sizes p seat.old.me }
         requires stage { stage_of seat.old.me ≡ Ready tries }
         requires number { number ≡ length (local_of seat.old.me).own + 1 }
         requires spare { ((local_of seat.old.me).spare ≡ spare.old) × (spare.old ≤ 1) }
-        requires room { HasRoom self.now.setup.n self.now.setup.width room.old }
+        requires room { HasRoom self.now.setup.sizes room.old }
         ensures same { (seat.new.table_id ≡ seat.old.table_id) × (seat.new.id ≡ seat.old.id) }
-        ensures ends { AttemptEnds self.now.setup.n self.now.setup.width tries
+        ensures ends { AttemptEnds self.now.setup.sizes tries
             seat.old.me result spare.new seat.new.me }
         ensures spare { spare.new ≤ 1 }
-        ensures room { HasRoom self.now.setup.n self.now.setup.width room.new }
+        ensures room { HasRoom self.now.setup.sizes room.new }
     {
         let s = self.gather(seat, p, tries, room);
         let again = self.check(seat, p, tries, s);

@@ -1,8 +1,9 @@
 //! Closing an object.
 ghost use Rattle.std.specs.Prelude.{◌≡◌, ◌++◌, ◌+◌, ◌*◌, ◌<◌, ◌≤◌, [], All, flat_map, length, slice_index};
 ghost use Rattle.std.specs.Mem.Slots.{IsFull, slots_items, slots_len};
-ghost use Rattle.uni_small.specs.Belongs.{IsSeatOf, calls_made, calls_of, known_calls, object_of, version_of, width_of};
-ghost use Rattle.uni_small.specs.Board.{buffer_in, words_of};
+ghost use Rattle.uni_small.specs.Belongs.{IsSeatOf, calls_made, calls_of, known_calls, object_of, version_of};
+ghost use Rattle.uni_small.specs.Belongs.{invocation_width_of, reply_width_of, width_of};
+ghost use Rattle.uni_small.specs.Board.{AreFew, buffer_in, words_of};
 ghost use Rattle.uni_small.specs.Final.{IsFinal};
 ghost use Rattle.uni_small.specs.Reading.{IsStateIn};
 
@@ -10,21 +11,24 @@ use crate::log::SmallShared;
 use crate::object::SmallObject;
 use crate::rule::{Setup, TakesIn};
 use crate::seat::SmallSeat;
+use crate::sizes::Sizes;
 use atomic_table::Closed;
 use std::alloc::Global;
 
-/// Writes the state that is in a closed table of n processes with states of so many words.
-fn write_state(closed: Closed<u8, Global>, n: u64, width: u64, state: &mut [u64])
-    requires full { IsFull closed.words × (slots_len closed.words ≡ words_of n width) }
+/// Writes the state that is in a closed table of an object of these sizes.
+fn write_state(closed: Closed<u8, Global>, sizes: &Sizes, state: &mut [u64])
+    requires full { IsFull closed.words × (slots_len closed.words ≡ words_of sizes.now) }
     requires slotless { slots_len closed.slots ≡ 0 }
-    requires few { (n ≤ 64) × (width ≤ 65536) }
-    requires named { buffer_in (slice_index (slots_items closed.words) 0) < 2 * n }
-    requires wide { length state.old ≡ width }
-    ensures read { IsStateIn n width (slots_items closed.words) state.new }
+    requires few { AreFew sizes.now }
+    requires named { buffer_in (slice_index (slots_items closed.words) 0) < 2 * sizes.now.processes }
+    requires wide { length state.old ≡ sizes.now.state }
+    ensures read { IsStateIn sizes.now (slots_items closed.words) state.new }
 {
+    let n = sizes.processes;
+    let at_state = n + n * sizes.reply;
     let buffer = closed.word(0) % 128;
-    let from = 1 + 2 * n + buffer * (2 * n + width) + 2 * n;
-    for i in 0..width {
+    let from = 1 + n + n * sizes.invocation + buffer * (at_state + sizes.state) + at_state;
+    for i in 0..sizes.state {
         state[i as usize] = closed.word((from + i) as usize);
     }
     closed.free();
@@ -35,7 +39,21 @@ impl<O: SmallObject> SmallShared<O> {
     pub fn width(&self) -> u64
         ensures { result ≡ width_of self.now }
     {
-        self.setup.width
+        self.setup.sizes.state
+    }
+
+    /// How many words an invocation has.
+    pub fn invocation_width(&self) -> u64
+        ensures { result ≡ invocation_width_of self.now }
+    {
+        self.setup.sizes.invocation
+    }
+
+    /// How many words a reply has.
+    pub fn reply_width(&self) -> u64
+        ensures { result ≡ reply_width_of self.now }
+    {
+        self.setup.sizes.reply
     }
 
     /// Closes the object with no seat, and writes its state: that after a list of calls, in the order in which
@@ -43,12 +61,12 @@ impl<O: SmallObject> SmallShared<O> {
     /// was in when its thread died has taken effect whole, or not at all.
     pub fn close(self, state: &mut [u64])
         requires wide { length state.old ≡ width_of self }
-        ensures told { IsFinal (O.sequential (object_of self)) [] state.new }
+        ensures told { IsFinal (O.meaning (object_of self)).object [] state.new }
     {
         let SmallShared { setup, table } = self;
-        let Setup { object, n, width } = setup;
+        let Setup { object, sizes } = setup;
         drop(object);
-        write_state(table.close(), n, width, state);
+        write_state(table.close(), &sizes, state);
     }
 
     /// Closes the object with the seat of one of its processes, which is one of this object's, and writes its
@@ -61,13 +79,13 @@ impl<O: SmallObject> SmallShared<O> {
     pub fn close_with(self, seat: SmallSeat<O>, state: &mut [u64])
         requires seat { IsSeatOf self seat }
         requires wide { length state.old ≡ width_of self }
-        ensures told { IsFinal (O.sequential (object_of self)) (known_calls seat) state.new }
+        ensures told { IsFinal (O.meaning (object_of self)).object (known_calls seat) state.new }
     {
         let SmallShared { setup, table } = self;
-        let Setup { object, n, width } = setup;
+        let Setup { object, sizes } = setup;
         drop(object);
         let SmallSeat { seat, .. } = seat;
-        write_state(table.close_with(seat), n, width, state);
+        write_state(table.close_with(seat), &sizes, state);
     }
 
     /// Closes the object with these seats, of all processes, of some, or of none: what `close_with` tells of one
@@ -75,7 +93,7 @@ impl<O: SmallObject> SmallShared<O> {
     pub fn close_all(self, seats: Vec<SmallSeat<O>>, state: &mut [u64])
         requires seats { All (IsSeatOf self) seats.items }
         requires wide { length state.old ≡ width_of self }
-        ensures told { IsFinal (O.sequential (object_of self)) (flat_map known_calls seats.items) state.new }
+        ensures told { IsFinal (O.meaning (object_of self)).object (flat_map known_calls seats.items) state.new }
     {
         let mut seats = seats;
         let Some(mut first) = seats.pop() else {

@@ -1,7 +1,6 @@
 //! The wait-free protocol for objects of several words on the words of an `atomic_table`.
 #![tactic(auto)]
 
-mod answer;
 mod apply;
 mod attempt;
 mod close;
@@ -11,11 +10,12 @@ mod object;
 mod open;
 mod rule;
 mod seat;
+mod sizes;
 mod steps;
 mod view;
 
-pub use answer::Answer;
 pub use apply::{CallsSpent, MAX_CALLS};
-pub use log::{MAX_PROCESSES, MAX_WIDTH, SmallOpenFault, SmallShared};
+pub use log::{MAX_PROCESSES, SmallOpenFault, SmallShared};
 pub use object::SmallObject;
 pub use seat::SmallSeat;
+pub use sizes::MAX_WIDTH;

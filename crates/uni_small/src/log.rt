@@ -1,10 +1,12 @@
 //! An object of several words that threads share.
-ghost use Rattle.std.specs.Prelude.{◌≡◌, ◌≤◌, ◌<◌, ◌+◌, ◌*◌, ◌^◌, [], IfOk, length};
-ghost use Rattle.uni_small.specs.Board.{words_of, announce_word, argument_word, buffer_word};
+ghost use Rattle.std.specs.Prelude.{[], ◌*◌, ◌+◌, ◌<◌, ◌≡◌, IfOk, length};
+ghost use Rattle.uni_small.specs.Image.{AreWidths, buffer_words, reply_place};
+ghost use Rattle.uni_small.specs.Board.{AreFew, announce_word, argument_word, buffer_in, buffer_word, words_of};
 ghost use Rattle.uni_small.specs.Plays.{first_view};
 
 use crate::object::SmallObject;
 use crate::rule::{Setup, SmallTable};
+use crate::sizes::Sizes;
 use crate::view::View;
 use atomic_table::{Seat, Table};
 use std::alloc::{AllocError, Global};
@@ -13,17 +15,14 @@ use thiserror::Error;
 /// The greatest number of processes.
 pub const MAX_PROCESSES: u64 = 64;
 
-/// The greatest number of words of a state.
-pub const MAX_WIDTH: u64 = 65_536;
-
 /// Why an object is not opened. Where several hold, the first of these is told.
 #[derive(Debug, Clone, Copy, PartialEq, Eq, Drop, Error)]
 pub enum SmallOpenFault {
     /// The number of processes isn't from 1 to 64.
     #[error("the number of processes isn't from 1 to 64")]
     BadCount,
-    /// A state has more than 65536 words.
-    #[error("a state has more than 65536 words")]
+    /// A state, an invocation or a reply has more than 65536 words, or a reply has none.
+    #[error("a state, an invocation or a reply has more than 65536 words, or a reply has none")]
     BadWidth,
     /// Memory was refused.
     #[error("out of memory")]
@@ -36,58 +35,74 @@ pub struct SmallShared<O: SmallObject> {
     pub(crate) setup: Setup<O>,
     pub(crate) table: SmallTable<O>,
     pub ghost same: { table.shared.key ≡ setup },
-    pub ghost sized: { table.shared.table_id.words ≡ words_of setup.n setup.width },
+    pub ghost sized: { table.shared.table_id.words ≡ words_of setup.sizes },
     pub ghost slotless: { table.shared.table_id.slots ≡ 0 },
-    pub ghost few: { (1 ≤ setup.n) × (setup.n ≤ 64) × (setup.width ≤ 65536) },
+    pub ghost few: { AreFew setup.sizes },
 }
 
 impl<O: SmallObject> SmallShared<O> {
-    /// An object of n processes, with states of so many words, and the seat of all of them.
+    /// An object of these sizes, and the seat of all its processes.
     pub(crate) fn with_one_seat(
         alloc: Global,
         object: O,
-        n: u64,
-        width: u64,
+        sizes: Sizes,
     ) -> Result<(SmallShared<O>, Seat<u8, View<O>>), AllocError>
-        requires few { (1 ≤ n) × (n ≤ 64) × (width ≤ 65536) }
-        requires wide { length (O.sequential object).initial ≡ width }
-        ensures { IfOk result (λ made. (made.0.setup ≡ record { object = object; n = n; width = width })
-            × (made.1.table_id ≡ made.0.table.shared.table_id) × (made.1.me ≡ (first_view object n, []))) }
+        requires few { AreFew sizes }
+        requires widths { AreWidths (O.meaning object) sizes }
+        requires wide { length (O.meaning object).object.initial ≡ sizes.state }
+        ensures { IfOk result (λ made. (made.0.setup ≡ record { object = object; sizes = sizes })
+            × (made.1.table_id ≡ made.0.table.shared.table_id) × (made.1.me ≡ (first_view object sizes, []))) }
     {
-        let first = 1 + 4 * n;
-        let rest = 1 + 2 * n + 2 * n * (2 * n + width) - (first + width);
-        let mut state = vec![in alloc; 0u64; width as usize]?;
+        let n = sizes.processes;
+        let buffer = n + n * sizes.reply + sizes.state;
+        let first = 1 + n + n * sizes.invocation + (n + n * sizes.reply);
+        let rest = 1 + n + n * sizes.invocation + 2 * n * buffer - (first + sizes.state);
+        let mut state = vec![in alloc; 0u64; sizes.state as usize]?;
         object.start(&mut state);
         let mut words = vec![in alloc; 0u64; first as usize]?;
         words.extend_from_slice(&state)?;
         let zeros = vec![in alloc; 0u64; rest as usize]?;
         words.extend_from_slice(&zeros)?;
-        let setup = Setup { object, n, width };
+        let setup = Setup { object, sizes };
         let (table, seat) = Table::of_words(alloc, &words, &setup)?;
         Ok((SmallShared { setup, table }, seat))
     }
 
     /// The word of an announcement.
     pub(crate) fn announce_word(&self, p: u64) -> usize
-        requires { p < self.now.setup.n }
+        requires { p < self.now.setup.sizes.processes }
         ensures { result ≡ announce_word p }
     {
         (1 + p) as usize
     }
 
-    /// The word of an argument.
-    pub(crate) fn argument_word(&self, p: u64) -> usize
-        requires { p < self.now.setup.n }
-        ensures { result ≡ argument_word self.now.setup.n p }
+    /// A word of an argument.
+    pub(crate) fn argument_word(&self, p: u64, k: u64) -> usize
+        requires { (p < self.now.setup.sizes.processes) × (k < self.now.setup.sizes.invocation) }
+        ensures { result ≡ argument_word self.now.setup.sizes p k }
     {
-        (1 + self.setup.n + p) as usize
+        let sizes = &self.setup.sizes;
+        (1 + sizes.processes + (p * sizes.invocation + k)) as usize
     }
 
     /// A word of a buffer.
     pub(crate) fn buffer_word(&self, b: u64, i: u64) -> usize
-        requires { (b < 2 * self.now.setup.n) × (i < 2 * self.now.setup.n + self.now.setup.width) }
-        ensures { result ≡ buffer_word self.now.setup.n self.now.setup.width b i }
+        requires { (b < 2 * self.now.setup.sizes.processes) × (i < buffer_words self.now.setup.sizes) }
+        ensures { result ≡ buffer_word self.now.setup.sizes b i }
     {
-        (1 + 2 * self.setup.n + b * (2 * self.setup.n + self.setup.width) + i) as usize
+        let sizes = &self.setup.sizes;
+        let n = sizes.processes;
+        let buffer = n + n * sizes.reply + sizes.state;
+        (1 + n + n * sizes.invocation + b * buffer + i) as usize
+    }
+
+    /// A word of the reply to process p in the buffer that s names.
+    pub(crate) fn reply_word(&self, p: u64, s: u64, k: u64) -> usize
+        requires inside { (p < self.now.setup.sizes.processes) × (k < self.now.setup.sizes.reply) }
+        requires named { buffer_in s < 2 * self.now.setup.sizes.processes }
+        ensures { result ≡ buffer_word self.now.setup.sizes (buffer_in s) (reply_place self.now.setup.sizes p k) }
+    {
+        let sizes = &self.setup.sizes;
+        self.buffer_word(s % 128, sizes.processes + (p * sizes.reply + k))
     }
 }

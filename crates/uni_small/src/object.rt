@@ -1,33 +1,41 @@
 //! What an object of several words is.
-ghost use Rattle.std.specs.Prelude.{ℕ, List, ◌≡◌, length};
-ghost use Rattle.seq_object.specs.Sequential.{Sequential};
-ghost use Rattle.uni_small.specs.Image.{IsReached, IsSteady};
+ghost use Rattle.std.specs.Prelude.{◌≡◌, length};
+ghost use Rattle.uni_small.specs.Image.{IsReached, IsSteady, Meaning};
 
-/// A sequential object whose state is a fixed number of words, and whose invocations and replies are
-/// words.
+/// A sequential object whose states, invocations and replies are words, of each so many as the object says.
 ///
-/// The record `sequential` is what the object means.
+/// The record `meaning` is what the object means.
 pub trait SmallObject: Drop {
-    /// What the object means: its start state, and for each state and invocation the next state and
-    /// the reply.
-    ghost sequential: { Self → Sequential (List ℕ) ℕ ℕ };
+    /// What the object means: its start state, for each state and invocation the next state and the reply,
+    /// and how many words an invocation and a reply have.
+    ghost meaning: { Self → Meaning };
 
     /// How many words a state has.
     fn width(&self) -> u64
-        ensures { result ≡ length (sequential self.now).initial };
+        ensures { result ≡ length (meaning self.now).object.initial };
+
+    /// How many words an invocation has.
+    fn invocation_width(&self) -> u64
+        ensures { result ≡ (meaning self.now).invocation };
+
+    /// How many words a reply has: one at least.
+    fn reply_width(&self) -> u64
+        ensures { result ≡ (meaning self.now).reply };
 
     /// Writes the start state.
     fn start(&self, state: &mut [u64])
-        requires { length state.old ≡ length (sequential self.now).initial }
-        ensures { state.new ≡ (sequential self.now).initial };
+        requires { length state.old ≡ length (meaning self.now).object.initial }
+        ensures { state.new ≡ (meaning self.now).object.initial };
 
-    /// Applies an invocation to a state that calls lead to, and gives the reply.
-    fn apply(&self, state: &mut [u64], inv: u64) -> u64
-        requires wide { length state.old ≡ length (sequential self.now).initial }
-        requires reached { IsReached (sequential self.now) state.old }
-        ensures state { state.new ≡ (sequential self.now).next state.old inv }
-        ensures reply { result ≡ (sequential self.now).answer state.old inv };
+    /// Applies an invocation to a state that calls lead to, and writes the reply.
+    fn apply(&self, state: &mut [u64], invocation: &[u64], reply: &mut [u64])
+        requires wide { length state.old ≡ length (meaning self.now).object.initial }
+        requires invocation { length invocation.now ≡ (meaning self.now).invocation }
+        requires reply { length reply.old ≡ (meaning self.now).reply }
+        requires reached { IsReached (meaning self.now).object state.old }
+        ensures state { state.new ≡ (meaning self.now).object.next state.old invocation.now }
+        ensures reply { reply.new ≡ (meaning self.now).object.answer state.old invocation.now };
 
-    /// No invocation changes how many words a state has.
-    ghost steady: { (o : Self) → IsSteady (sequential o) };
+    /// No invocation changes how many words a state has, and each is answered with a whole reply.
+    ghost steady: { (o : Self) → IsSteady (meaning o).object (meaning o).reply };
 }

@@ -1,25 +1,46 @@
 //! Opening an object.
-ghost use Rattle.std.specs.Prelude.{◌≡◌, ◌⊎◌, ◌↔◌, ◌<◌, ◌≤◌, [], All, IfOk, IsErrOf, length};
+ghost use Rattle.std.specs.Prelude.{All, IfOk, IsErrOf, [], ◌<◌, ◌≡◌, ◌≤◌, ◌⊎◌, ◌↔◌, length};
 ghost use Rattle.uni_small.specs.Plays.{first_view};
-ghost use Rattle.uni_small.specs.Belongs.{AreFirstSeats, HasRoom, IsSeatOf, object_of, processes_of};
+ghost use Rattle.uni_small.specs.Board.{AreFew};
+ghost use Rattle.uni_small.specs.TooWide.{IsTooWide};
+ghost use Rattle.uni_small.specs.Belongs.{AreFirstSeats, HasInvocation, HasRoom, IsSeatOf, object_of, sizes_of};
 
-use crate::log::{MAX_PROCESSES, MAX_WIDTH, SmallOpenFault, SmallShared};
+use crate::log::{MAX_PROCESSES, SmallOpenFault, SmallShared};
 use crate::object::SmallObject;
 use crate::rule::First;
-use crate::seat::{Room, SmallSeat};
+use crate::seat::{Room, Seen, SmallSeat};
+use crate::sizes::Sizes;
 use crate::view::View;
 use atomic_table::Seat;
 use std::alloc::{AllocError, Global};
 
-/// Room for a process's copy of a buffer, and for what it sees.
-fn room(alloc: Global, n: u64, width: u64) -> Result<Room, AllocError>
-    ensures { IfOk result (λ room. HasRoom n width room) }
+/// Room for what a process sees of the others.
+fn seen_room(alloc: Global, sizes: &Sizes) -> Result<Vec<Seen>, AllocError>
+    ensures long { IfOk result (λ seen. length seen.items ≡ sizes.now.processes) }
+    ensures each { IfOk result (λ seen. All (HasInvocation sizes.now) seen.items) }
 {
+    let mut seen = Vec::new(alloc);
+    for _ in 0..sizes.processes {
+        let invocation = vec![in alloc; 0u64; sizes.invocation as usize]?;
+        seen.push(Seen {
+            due: false,
+            invocation,
+        })?;
+    }
+    Ok(seen)
+}
+
+/// Room for a process's copy of a buffer, and for what it sees.
+fn room(alloc: Global, sizes: &Sizes) -> Result<Room, AllocError>
+    requires { AreFew sizes.now }
+    ensures { IfOk result (λ room. HasRoom sizes.now room) }
+{
+    let n = sizes.processes;
     Ok(Room {
         applied: vec![in alloc; 0u64; n as usize]?,
-        reply: vec![in alloc; 0u64; n as usize]?,
-        state: vec![in alloc; 0u64; width as usize]?,
-        seen: vec![in alloc; None; n as usize]?,
+        reply: vec![in alloc; 0u64; (n * sizes.reply) as usize]?,
+        state: vec![in alloc; 0u64; sizes.state as usize]?,
+        seen: seen_room(alloc, sizes)?,
     })
 }
 
@@ -27,16 +48,16 @@ impl<O: SmallObject> SmallShared<O> {
     /// Cuts the seat of all processes into one for each.
     fn seats(&self, alloc: Global, all: Seat<u8, View<O>>) -> Result<Vec<SmallSeat<O>>, AllocError>
         requires table { all.table_id ≡ self.now.table.shared.table_id }
-        requires all { all.me ≡ (first_view self.now.setup.object self.now.setup.n, []) }
-        ensures first { IfOk result (λ seats. AreFirstSeats self.now self.now.setup.n seats.items) }
+        requires all { all.me ≡ (first_view self.now.setup.object self.now.setup.sizes, []) }
+        ensures first { IfOk result (λ seats. AreFirstSeats self.now self.now.setup.sizes.processes seats.items) }
         ensures own { IfOk result (λ seats. All (IsSeatOf self.now) seats.items) }
     {
-        let n = self.setup.n;
-        let width = self.setup.width;
+        let sizes = &self.setup.sizes;
+        let n = sizes.processes;
         let mut rest = all;
         let mut seats = Vec::new(alloc);
         for p in 0..n - 1 {
-            let room = room(alloc, n, width)?;
+            let room = room(alloc, sizes)?;
             let seat = self.table.shared.split_seat::<First>(&mut rest);
             seats.push(SmallSeat {
                 seat,
@@ -46,7 +67,7 @@ impl<O: SmallObject> SmallShared<O> {
                 room,
             })?;
         }
-        let room = room(alloc, n, width)?;
+        let room = room(alloc, sizes)?;
         seats.push(SmallSeat {
             seat: rest,
             p: n - 1,
@@ -60,27 +81,40 @@ impl<O: SmallObject> SmallShared<O> {
     /// An object of several words, and the seats of its n processes, in order, none of which has made
     /// a call.
     ///
-    /// Errors, in this order: `BadCount` where `n` isn't from 1 to 64; `BadWidth` where a state has
-    /// more than 65536 words; `Memory`. After each the object is dropped.
+    /// Errors, in this order: `BadCount` where `n` isn't from 1 to 64; `BadWidth` where a state, an
+    /// invocation or a reply has more than 65536 words, or a reply has none; `Memory`. After each the object is
+    /// dropped.
     pub fn open(
         alloc: Global,
         object: O,
         n: u64,
     ) -> Result<(SmallShared<O>, Vec<SmallSeat<O>>), SmallOpenFault>
         ensures count { IsErrOf result SmallOpenFault.BadCount ↔ ((n ≡ 0) ⊎ (64 < n)) }
+        ensures width { IsErrOf result SmallOpenFault.BadWidth ↔ (1 ≤ n) × (n ≤ 64) × IsTooWide
+            (length (O.meaning object).object.initial) ((O.meaning object).invocation) ((O.meaning object).reply) }
         ensures object { IfOk result (λ opened. object_of opened.0 ≡ object) }
-        ensures shape { IfOk result (λ opened. processes_of opened.0 ≡ n) }
+        ensures shape { IfOk result (λ opened. sizes_of opened.0 ≡ record {
+          processes = n;
+          state = length (O.meaning object).object.initial;
+          invocation = (O.meaning object).invocation;
+          reply = (O.meaning object).reply;
+        }) }
         ensures seats { IfOk result (λ opened. AreFirstSeats opened.0 n opened.1.items) }
         ensures own { IfOk result (λ opened. All (IsSeatOf opened.0) opened.1.items) }
     {
         if n < 1 || n > MAX_PROCESSES {
             return Err(SmallOpenFault::BadCount);
         }
-        let width = object.width();
-        if width > MAX_WIDTH {
+        let sizes = Sizes {
+            processes: n,
+            state: object.width(),
+            invocation: object.invocation_width(),
+            reply: object.reply_width(),
+        };
+        if sizes.are_too_wide() {
             return Err(SmallOpenFault::BadWidth);
         }
-        let Ok((shared, all)) = SmallShared::with_one_seat(alloc, object, n, width) else {
+        let Ok((shared, all)) = SmallShared::with_one_seat(alloc, object, sizes) else {
             return Err(SmallOpenFault::Memory);
         };
         let Ok(seats) = shared.seats(alloc, all) else {

@@ -1,16 +1,16 @@
 //! The rule of the table, and what its steps tell.
 use crate::object::SmallObject;
+use crate::sizes::Sizes;
 use crate::view::View;
 use atomic_table::{Join, Play, Split, Table, TableRule};
 use std::alloc::Global;
 use std::marker::PhantomData;
 
-/// What the table is told once: the object, how many processes there are, and how many words a state has.
+/// What the table is told once: the object, and its sizes.
 #[derive(Drop)]
 pub struct Setup<O: SmallObject> {
     pub object: O,
-    pub n: u64,
-    pub width: u64,
+    pub sizes: Sizes,
 }
 
 /// The rule of the table: its words and the views of its seats show a board.
@@ -22,18 +22,18 @@ impl<O: SmallObject> TableRule<u8, View<O>, Setup<O>> for Boards<O> {
     ghost use Rattle.uni_small.specs.Shown.{ShowsBoard};
     ghost use Rattle.uni_small.specs.Plays.{first_view};
 
-    ghost holds = { λ key. ShowsBoard O.sequential key.object key.n key.width };
+    ghost holds = { λ key. ShowsBoard O.meaning key.object key.sizes };
 
-    ghost first = { λ key. first_view key.object key.n };
+    ghost first = { λ key. first_view key.object key.sizes };
 }
 
-/// The store of an invocation.
-pub struct Arms;
+/// The store of a word of an invocation.
+pub struct Stores;
 
-impl<O> Play<u8, View<O>> for Arms {
-    ghost use Rattle.uni_small.specs.Plays.{HasArmed};
+impl<O> Play<u8, View<O>> for Stores {
+    ghost use Rattle.uni_small.specs.Plays.{HasStored};
 
-    ghost then = { HasArmed };
+    ghost then = { HasStored };
 }
 
 /// The store of an announcement.
@@ -72,7 +72,7 @@ impl<O> Play<u8, View<O>> for Looks {
     ghost then = { HasLooked };
 }
 
-/// The load of an invocation.
+/// The load of a word of an invocation.
 pub struct Asks;
 
 impl<O> Play<u8, View<O>> for Asks {
@@ -108,7 +108,16 @@ impl<O> Play<u8, View<O>> for Turns {
     ghost then = { HasTurned };
 }
 
-/// The load of the reply.
+/// The load of a word of the reply, of which more are to come.
+pub struct Loads;
+
+impl<O> Play<u8, View<O>> for Loads {
+    ghost use Rattle.uni_small.specs.Plays.{HasLoaded};
+
+    ghost then = { HasLoaded };
+}
+
+/// The load of the last word of the reply.
 pub struct Replies;
 
 impl<O> Play<u8, View<O>> for Replies {
@@ -134,7 +143,7 @@ impl<O: SmallObject> Play<u8, View<O>> for Checks {
     ghost use Rattle.uni_small.specs.Plays.{HasChecked};
 
     ghost then = { λ step me found me'. (o : O) → me.0.object ≡ Some o
-        → HasChecked (O.sequential o) step me found me' };
+        → HasChecked (O.meaning o) step me found me' };
 }
 
 /// The first process apart from the others.

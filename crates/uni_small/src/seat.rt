@@ -1,19 +1,25 @@
 //! A process's place at an object.
-ghost use Rattle.std.specs.Prelude.{◌≡◌, ◌≤◌, [], length};
+ghost use Rattle.std.specs.Prelude.{[], ◌≡◌, ◌≤◌, length};
 ghost use Rattle.uni_small.specs.View.Stage.{Idle};
 ghost use Rattle.uni_small.specs.Invariant.{most_calls};
 
 use crate::view::View;
 use atomic_table::Seat;
 
-/// A process's copy of a buffer, and what it has seen of each process: nothing to apply, or an
-/// invocation.
+/// What is seen of a process: whether it has a call to apply, and room for the words of its invocation.
+#[derive(Drop)]
+pub(crate) struct Seen {
+    pub due: bool,
+    pub invocation: Vec<u64>,
+}
+
+/// A process's copy of a buffer, with the replies one after another, and what it has seen of each process.
 #[derive(Drop)]
 pub(crate) struct Room {
     pub applied: Vec<u64>,
     pub reply: Vec<u64>,
     pub state: Vec<u64>,
-    pub seen: Vec<Option<u64>>,
+    pub seen: Vec<Seen>,
 }
 
 /// A process's place at the object.
@@ -25,6 +31,6 @@ pub struct SmallSeat<O> {
     pub(crate) spare: u64,
     pub(crate) room: Room,
     pub ghost stands: { (seat.me.0.known.first ≡ p) × (seat.me.0.known.count ≡ 1) × (seat.me.1 ≡ []) },
-    pub ghost local: { (seat.me.0.known.local.stage ≡ Idle) × (seat.me.0.known.local.spare ≡ spare) × (spare ≤ 1) },
+    pub ghost local: { (seat.me.0.known.local.stage ≡ Idle []) × (seat.me.0.known.local.spare ≡ spare) × (spare ≤ 1) },
     pub ghost counted: { (length seat.me.0.known.local.own ≡ made) × (made ≤ most_calls) },
 }

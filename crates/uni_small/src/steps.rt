@@ -2,46 +2,49 @@
 ghost use Rattle.std.specs.Prelude.{◌≡◌, ℕ, ◌+◌, ◌*◌, ◌<◌, ◌≤◌, ◌==◌, List, [], ◌∷◌, ◌++◌, Option, Some, None};
 ghost use Rattle.std.specs.Prelude.{if◌then◌else◌, length, slice_index};
 ghost use Rattle.uni_small.specs.Image.{Image, HasRows, buffer_words, spell, with_seen, read_image};
-ghost use Rattle.uni_small.specs.View.{goes, arms, brings, returns, knows};
-ghost use Rattle.uni_small.specs.View.Stage.{Idle, Armed, Ready, Reading, Asking, Writing, Last};
+ghost use Rattle.uni_small.specs.View.{announces, brings, goes, knows, returns};
+ghost use Rattle.uni_small.specs.View.Stage.{Idle, Last, Reading, Ready, Writing};
 ghost use Rattle.uni_small.specs.Board.{buffer_in, current_word, version_in};
 ghost use Rattle.uni_small.specs.Invariant.{most_calls};
 ghost use Rattle.uni_small.specs.Plays.{Goes, IsLeft, stage_of, IsNamed, looked, checked, IsGood, brought};
-ghost use Rattle.uni_small.specs.Standing.{IsOf, local_of, IsCopying, IsLooking, IsAsking, IsWriting, HasWrittenAll};
+ghost use Rattle.uni_small.specs.Standing.{HasWrittenAll, IsAsking, IsCopying, IsLoading, IsLooking, IsOf};
+ghost use Rattle.uni_small.specs.Standing.{IsStoring, IsWriting, local_of};
 
-use crate::answer::Answer;
 use crate::log::SmallShared;
 use crate::object::SmallObject;
 use crate::rule::{
-    Announces, Arms, Asks, Brings, Checks, Copies, Follows, Looks, Replies, Starts, Turns, Writes,
+    Announces, Asks, Brings, Checks, Copies, Follows, Loads, Looks, Replies, Starts, Stores, Turns,
+    Writes,
 };
 use crate::view::View;
 use atomic_table::Seat;
 
 impl<O: SmallObject> SmallShared<O> {
-    /// Stores the invocation of the next call.
-    pub(crate) fn store_argument(&self, seat: &mut Seat<u8, View<O>>, p: u64, inv: u64)
+    /// Stores word k of the invocation of the next call.
+    pub(crate) fn store_word(&self, seat: &mut Seat<u8, View<O>>, p: u64, k: u64, x: u64)
         requires table { seat.old.table_id ≡ self.now.table.shared.table_id }
-        requires inside { p < self.now.setup.n }
-        requires of { IsOf self.now.setup.object self.now.setup.n p seat.old.me }
-        requires stage { stage_of seat.old.me ≡ Idle }
+        requires inside { (p < self.now.setup.sizes.processes) × (k < self.now.setup.sizes.invocation) }
+        requires of { IsOf self.now.setup.object self.now.setup.sizes p seat.old.me }
+        requires stage { IsStoring k seat.old.me }
         ensures same { (seat.new.table_id ≡ seat.old.table_id) × (seat.new.id ≡ seat.old.id) }
-        ensures left { IsLeft seat.old.me (arms (local_of seat.old.me) inv) seat.new.me }
+        ensures left { (stored : List ℕ) → stage_of seat.old.me ≡ Idle stored
+            → Goes seat.old.me (Idle (stored ++ x ∷ [])) seat.new.me }
     {
         self.table
             .shared
-            .store::<Arms>(seat, self.argument_word(p), inv);
+            .store::<Stores>(seat, self.argument_word(p, k), x);
     }
 
-    /// Announces the next call, by its number, from 1 on: the call begins.
+    /// Announces the next call, whose invocation is stored, by its number, from 1 on: the call begins.
     pub(crate) fn announce(&self, seat: &mut Seat<u8, View<O>>, p: u64, number: u64)
         requires table { seat.old.table_id ≡ self.now.table.shared.table_id }
-        requires inside { p < self.now.setup.n }
-        requires of { IsOf self.now.setup.object self.now.setup.n p seat.old.me }
-        requires stage { stage_of seat.old.me ≡ Armed }
+        requires inside { p < self.now.setup.sizes.processes }
+        requires of { IsOf self.now.setup.object self.now.setup.sizes p seat.old.me }
+        requires stage { IsStoring self.now.setup.sizes.invocation seat.old.me }
         requires number { (number ≡ length (local_of seat.old.me).own + 1) × (number ≤ most_calls) }
         ensures same { (seat.new.table_id ≡ seat.old.table_id) × (seat.new.id ≡ seat.old.id) }
-        ensures left { Goes seat.old.me (Ready 0) seat.new.me }
+        ensures left { (inv : List ℕ) → stage_of seat.old.me ≡ Idle inv
+            → IsLeft seat.old.me (announces (local_of seat.old.me) inv) seat.new.me }
     {
         self.table
             .shared
@@ -51,12 +54,12 @@ impl<O: SmallObject> SmallShared<O> {
     /// Loads S, with which an attempt begins.
     pub(crate) fn start(&self, seat: &mut Seat<u8, View<O>>, p: u64, tries: u64) -> u64
         requires table { seat.old.table_id ≡ self.now.table.shared.table_id }
-        requires inside { p < self.now.setup.n }
-        requires of { IsOf self.now.setup.object self.now.setup.n p seat.old.me }
+        requires inside { p < self.now.setup.sizes.processes }
+        requires of { IsOf self.now.setup.object self.now.setup.sizes p seat.old.me }
         requires stage { stage_of seat.old.me ≡ Ready tries }
         ensures same { (seat.new.table_id ≡ seat.old.table_id) × (seat.new.id ≡ seat.old.id) }
         ensures left { Goes seat.old.me (Reading tries result [] []) seat.new.me }
-        ensures named { IsNamed self.now.setup.n result }
+        ensures named { IsNamed self.now.setup.sizes result }
     {
         self.table.shared.load::<Starts>(seat, 0)
     }
@@ -71,10 +74,10 @@ impl<O: SmallObject> SmallShared<O> {
         i: u64,
     ) -> u64
         requires table { seat.old.table_id ≡ self.now.table.shared.table_id }
-        requires inside { (p < self.now.setup.n) × (i < buffer_words self.now.setup.n self.now.setup.width) }
-        requires of { IsOf self.now.setup.object self.now.setup.n p seat.old.me }
+        requires inside { (p < self.now.setup.sizes.processes) × (i < buffer_words self.now.setup.sizes) }
+        requires of { IsOf self.now.setup.object self.now.setup.sizes p seat.old.me }
         requires stage { IsCopying tries s i seat.old.me }
-        requires named { buffer_in s < 2 * self.now.setup.n }
+        requires named { buffer_in s < 2 * self.now.setup.sizes.processes }
         ensures same { (seat.new.table_id ≡ seat.old.table_id) × (seat.new.id ≡ seat.old.id) }
         ensures left { (copy : List ℕ) → stage_of seat.old.me ≡ Reading tries s copy []
             → Goes seat.old.me (Reading tries s (copy ++ result ∷ []) []) seat.new.me }
@@ -94,17 +97,17 @@ impl<O: SmallObject> SmallShared<O> {
         r: u64,
     ) -> u64
         requires table { seat.old.table_id ≡ self.now.table.shared.table_id }
-        requires inside { (p < self.now.setup.n) × (r < self.now.setup.n) }
-        requires of { IsOf self.now.setup.object self.now.setup.n p seat.old.me }
-        requires stage { IsLooking self.now.setup.n self.now.setup.width tries s r seat.old.me }
+        requires inside { (p < self.now.setup.sizes.processes) × (r < self.now.setup.sizes.processes) }
+        requires of { IsOf self.now.setup.object self.now.setup.sizes p seat.old.me }
+        requires stage { IsLooking self.now.setup.sizes tries s r seat.old.me }
         ensures same { (seat.new.table_id ≡ seat.old.table_id) × (seat.new.id ≡ seat.old.id) }
-        ensures left { (copy : List ℕ) (seen : List (Option ℕ)) → stage_of seat.old.me ≡ Reading tries s copy seen
-            → Goes seat.old.me (looked tries s copy seen result) seat.new.me }
+        ensures left { (copy : List ℕ) (seen : List (Option (List ℕ))) → stage_of seat.old.me ≡ Reading tries s copy seen
+            → Goes seat.old.me (Reading tries s copy (seen ++ looked copy (length seen) result ∷ [])) seat.new.me }
     {
         self.table.shared.load::<Looks>(seat, self.announce_word(r))
     }
 
-    /// Loads the argument of process r, whose call isn't in.
+    /// Loads word k of the argument of process r, whose call isn't in.
     pub(crate) fn ask(
         &self,
         seat: &mut Seat<u8, View<O>>,
@@ -112,31 +115,36 @@ impl<O: SmallObject> SmallShared<O> {
         tries: u64,
         s: u64,
         r: u64,
+        k: u64,
     ) -> u64
         requires table { seat.old.table_id ≡ self.now.table.shared.table_id }
-        requires inside { (p < self.now.setup.n) × (r < self.now.setup.n) }
-        requires of { IsOf self.now.setup.object self.now.setup.n p seat.old.me }
-        requires stage { IsAsking tries s r seat.old.me }
+        requires inside { (p < self.now.setup.sizes.processes) × (r < self.now.setup.sizes.processes)
+            × (k < self.now.setup.sizes.invocation) }
+        requires of { IsOf self.now.setup.object self.now.setup.sizes p seat.old.me }
+        requires stage { IsAsking tries s r k seat.old.me }
         ensures same { (seat.new.table_id ≡ seat.old.table_id) × (seat.new.id ≡ seat.old.id) }
-        ensures left { (copy : List ℕ) (seen : List (Option ℕ)) → stage_of seat.old.me ≡ Asking tries s copy seen
-            → Goes seat.old.me (Reading tries s copy (seen ++ Some result ∷ [])) seat.new.me }
+        ensures left { (copy : List ℕ) (seen : List (Option (List ℕ))) (part : List ℕ)
+            → stage_of seat.old.me ≡ Reading tries s copy (seen ++ Some part ∷ [])
+            → Goes seat.old.me (Reading tries s copy (seen ++ Some (part ++ result ∷ []) ∷ [])) seat.new.me }
     {
-        self.table.shared.load::<Asks>(seat, self.argument_word(r))
+        self.table
+            .shared
+            .load::<Asks>(seat, self.argument_word(r, k))
     }
 
     /// Loads S again: where it is as it was, the copy was good.
     pub(crate) fn check(&self, seat: &mut Seat<u8, View<O>>, p: u64, tries: u64, s: u64) -> u64
         requires table { seat.old.table_id ≡ self.now.table.shared.table_id }
-        requires inside { p < self.now.setup.n }
-        requires of { IsOf self.now.setup.object self.now.setup.n p seat.old.me }
-        requires stage { IsLooking self.now.setup.n self.now.setup.width tries s self.now.setup.n seat.old.me }
-        requires named { buffer_in s < 2 * self.now.setup.n }
+        requires inside { p < self.now.setup.sizes.processes }
+        requires of { IsOf self.now.setup.object self.now.setup.sizes p seat.old.me }
+        requires stage { IsLooking self.now.setup.sizes tries s self.now.setup.sizes.processes seat.old.me }
+        requires named { buffer_in s < 2 * self.now.setup.sizes.processes }
         ensures same { (seat.new.table_id ≡ seat.old.table_id) × (seat.new.id ≡ seat.old.id) }
-        ensures left { (copy : List ℕ) (seen : List (Option ℕ)) → stage_of seat.old.me ≡ Reading tries s copy seen
+        ensures left { (copy : List ℕ) (seen : List (Option (List ℕ))) → stage_of seat.old.me ≡ Reading tries s copy seen
             → Goes seat.old.me
-            (checked self.now.setup.n p (length (local_of seat.old.me).own + 1) tries s copy seen result)
-            seat.new.me × (result ≡ s → IsGood (O.sequential self.now.setup.object) self.now.setup.n
-            (read_image self.now.setup.n copy)) }
+            (checked self.now.setup.sizes p (length (local_of seat.old.me).own + 1) tries s copy seen result)
+            seat.new.me × (result ≡ s → IsGood (O.meaning self.now.setup.object) self.now.setup.sizes
+            (read_image self.now.setup.sizes copy)) }
     {
         self.table.shared.load::<Checks>(seat, 0)
     }
@@ -153,12 +161,12 @@ impl<O: SmallObject> SmallShared<O> {
         x: u64,
     )
         requires table { seat.old.table_id ≡ self.now.table.shared.table_id }
-        requires inside { (p < self.now.setup.n) × (i < buffer_words self.now.setup.n self.now.setup.width) }
-        requires of { IsOf self.now.setup.object self.now.setup.n p seat.old.me }
-        requires stage { IsWriting (O.sequential self.now.setup.object) tries s i x seat.old.me }
+        requires inside { (p < self.now.setup.sizes.processes) × (i < buffer_words self.now.setup.sizes) }
+        requires of { IsOf self.now.setup.object self.now.setup.sizes p seat.old.me }
+        requires stage { IsWriting (O.meaning self.now.setup.object).object tries s i x seat.old.me }
         requires spare { ((local_of seat.old.me).spare ≡ spare) × (spare ≤ 1) }
         ensures same { (seat.new.table_id ≡ seat.old.table_id) × (seat.new.id ≡ seat.old.id) }
-        ensures left { (image : Image) (seen : List (Option ℕ)) → stage_of seat.old.me ≡ Writing tries s image seen i
+        ensures left { (image : Image) (seen : List (Option (List ℕ))) → stage_of seat.old.me ≡ Writing tries s image seen i
             → Goes seat.old.me (Writing tries s image seen (i + 1)) seat.new.me }
     {
         self.table
@@ -177,9 +185,9 @@ impl<O: SmallObject> SmallShared<O> {
         new: u64,
     ) -> u64
         requires table { seat.old.table_id ≡ self.now.table.shared.table_id }
-        requires inside { p < self.now.setup.n }
-        requires of { IsOf self.now.setup.object self.now.setup.n p seat.old.me }
-        requires stage { HasWrittenAll self.now.setup.n self.now.setup.width tries s seat.old.me }
+        requires inside { p < self.now.setup.sizes.processes }
+        requires of { IsOf self.now.setup.object self.now.setup.sizes p seat.old.me }
+        requires stage { HasWrittenAll self.now.setup.sizes tries s seat.old.me }
         requires spare { ((local_of seat.old.me).spare ≡ spare) × (spare ≤ 1) }
         requires word { new ≡ current_word (version_in s + 1) (2 * p + spare) }
         ensures same { (seat.new.table_id ≡ seat.old.table_id) × (seat.new.id ≡ seat.old.id) }
@@ -193,44 +201,55 @@ impl<O: SmallObject> SmallShared<O> {
     /// Loads S after two attempts that have failed: the call is in.
     pub(crate) fn turn(&self, seat: &mut Seat<u8, View<O>>, p: u64, tries: u64) -> u64
         requires table { seat.old.table_id ≡ self.now.table.shared.table_id }
-        requires inside { (p < self.now.setup.n) × (2 ≤ tries) }
-        requires of { IsOf self.now.setup.object self.now.setup.n p seat.old.me }
+        requires inside { (p < self.now.setup.sizes.processes) × (2 ≤ tries) }
+        requires of { IsOf self.now.setup.object self.now.setup.sizes p seat.old.me }
         requires stage { stage_of seat.old.me ≡ Ready tries }
         ensures same { (seat.new.table_id ≡ seat.old.table_id) × (seat.new.id ≡ seat.old.id) }
-        ensures left { Goes seat.old.me (Last result) seat.new.me }
-        ensures named { IsNamed self.now.setup.n result }
+        ensures left { Goes seat.old.me (Last result []) seat.new.me }
+        ensures named { IsNamed self.now.setup.sizes result }
     {
         self.table.shared.load::<Turns>(seat, 0)
     }
 
-    /// Loads the reply: the call returns, and is in the version that s names.
-    pub(crate) fn load_reply(&self, seat: &mut Seat<u8, View<O>>, p: u64, s: u64) -> Answer
+    /// Loads word k of the reply, which isn't the last one.
+    pub(crate) fn load_word(&self, seat: &mut Seat<u8, View<O>>, p: u64, s: u64, k: u64) -> u64
         requires table { seat.old.table_id ≡ self.now.table.shared.table_id }
-        requires inside { p < self.now.setup.n }
-        requires of { IsOf self.now.setup.object self.now.setup.n p seat.old.me }
-        requires stage { stage_of seat.old.me ≡ Last s }
-        requires named { buffer_in s < 2 * self.now.setup.n }
+        requires inside { (p < self.now.setup.sizes.processes) × (k + 1 < self.now.setup.sizes.reply) }
+        requires of { IsOf self.now.setup.object self.now.setup.sizes p seat.old.me }
+        requires stage { IsLoading s k seat.old.me }
+        requires named { buffer_in s < 2 * self.now.setup.sizes.processes }
         ensures same { (seat.new.table_id ≡ seat.old.table_id) × (seat.new.id ≡ seat.old.id) }
-        ensures left { IsLeft seat.old.me (returns (local_of seat.old.me) s result.reply) seat.new.me }
-        ensures version { result.version ≡ version_in s }
+        ensures left { (loaded : List ℕ) → stage_of seat.old.me ≡ Last s loaded
+            → Goes seat.old.me (Last s (loaded ++ result ∷ [])) seat.new.me }
+    {
+        self.table
+            .shared
+            .load::<Loads>(seat, self.reply_word(p, s, k))
+    }
+
+    /// Loads the last word of the reply: the call returns, and is in the version that s names.
+    pub(crate) fn load_last(&self, seat: &mut Seat<u8, View<O>>, p: u64, s: u64, k: u64) -> u64
+        requires table { seat.old.table_id ≡ self.now.table.shared.table_id }
+        requires inside { (p < self.now.setup.sizes.processes) × (k + 1 ≡ self.now.setup.sizes.reply) }
+        requires of { IsOf self.now.setup.object self.now.setup.sizes p seat.old.me }
+        requires stage { IsLoading s k seat.old.me }
+        requires named { buffer_in s < 2 * self.now.setup.sizes.processes }
+        ensures same { (seat.new.table_id ≡ seat.old.table_id) × (seat.new.id ≡ seat.old.id) }
+        ensures left { (loaded : List ℕ) → stage_of seat.old.me ≡ Last s loaded
+            → IsLeft seat.old.me (returns (local_of seat.old.me) s (loaded ++ result ∷ [])) seat.new.me }
         ensures later { (local_of seat.old.me).after < version_in s }
     {
-        let reply = self
-            .table
+        self.table
             .shared
-            .load::<Replies>(seat, self.buffer_word(s % 128, self.setup.n + p));
-        Answer {
-            reply,
-            version: s / 128,
-        }
+            .load::<Replies>(seat, self.reply_word(p, s, k))
     }
 
     /// Loads S between calls: the present version.
     pub(crate) fn present(&self, seat: &mut Seat<u8, View<O>>, p: u64) -> u64
         requires table { seat.old.table_id ≡ self.now.table.shared.table_id }
-        requires inside { p < self.now.setup.n }
-        requires of { IsOf self.now.setup.object self.now.setup.n p seat.old.me }
-        requires stage { stage_of seat.old.me ≡ Idle }
+        requires inside { p < self.now.setup.sizes.processes }
+        requires of { IsOf self.now.setup.object self.now.setup.sizes p seat.old.me }
+        requires stage { stage_of seat.old.me ≡ Idle [] }
         ensures same { (seat.new.table_id ≡ seat.old.table_id) × (seat.new.id ≡ seat.old.id) }
         ensures left { IsLeft seat.old.me (knows (local_of seat.old.me) result) seat.new.me }
         ensures later { (local_of seat.old.me).after ≤ result }

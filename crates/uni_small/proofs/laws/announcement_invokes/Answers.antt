@@ -1,5 +1,5 @@
-use Rattle.uni_small.proofs.Stores.{announces}
+use Rattle.uni_small.proofs.Stores.{announced}
 use Rattle.uni_small.proofs.laws.announcement_invokes.Goals as goal
 
 pub returns : goal.returns
-returns g c o n width id number st me single is few stage = announces g.O.SmallObject.sequential o n width id st me single number is few stage
+returns g c o sizes id number inv st me single is few stage long = announced g.O.SmallObject.meaning o sizes id st me single number inv is few stage long

@@ -1,23 +1,27 @@
 use Rattle.uni_small.proofs.Loads.{starts, copies, looks, asks, checks, turns, follows_on}
+use Rattle.uni_small.proofs.Reply.{loads}
 use Rattle.uni_small.proofs.laws.loads_append_nothing.Goals as goal
 
 pub returns-clause-start : goal.returns-clause-start
-returns-clause-start g c o n width id tries st me few single stage = starts g.O.SmallObject.sequential o n width id few st me single tries stage
+returns-clause-start g c o sizes id tries st me few single stage = starts g.O.SmallObject.meaning o sizes id few st me single tries stage
 
 pub returns-clause-copy : goal.returns-clause-copy
-returns-clause-copy g c o n width id tries s i st me few single copying below named = copies g.O.SmallObject.sequential o n width id few st me single tries s i copying below named
+returns-clause-copy g c o sizes id tries s i st me few single copying below named = copies g.O.SmallObject.meaning o sizes id few st me single tries s i copying below named
 
 pub returns-clause-look : goal.returns-clause-look
-returns-clause-look g c o n width id tries s r st me few single looking inside = looks g.O.SmallObject.sequential o n width id few st me single tries s r looking inside
+returns-clause-look g c o sizes id tries s r st me few single looking inside = looks g.O.SmallObject.meaning o sizes id few st me single tries s r looking inside
 
 pub returns-clause-ask : goal.returns-clause-ask
-returns-clause-ask g c o n width id tries s r st me few single asking inside = asks g.O.SmallObject.sequential o n width id few st me single tries s r asking inside
+returns-clause-ask g c o sizes id tries s r k st me few single asking inside below = asks g.O.SmallObject.meaning o sizes id few st me single tries s r k asking inside below
 
 pub returns-clause-check : goal.returns-clause-check
-returns-clause-check g c o n width id tries s st me few single looking = checks g.O.SmallObject.sequential o n width id few st me single tries s looking (g.met.O.SmallObject.steady o)
+returns-clause-check g c o sizes id tries s st me few single looking = checks g.O.SmallObject.meaning o sizes id few st me single tries s looking (g.met.O.SmallObject.steady o)
 
 pub returns-clause-turn : goal.returns-clause-turn
-returns-clause-turn g c o n width id tries st me few single two stage = turns g.O.SmallObject.sequential o n width id few st me single tries two stage
+returns-clause-turn g c o sizes id tries st me few single two stage = turns g.O.SmallObject.meaning o sizes id few st me single tries two stage
 
 pub returns-clause-follow : goal.returns-clause-follow
-returns-clause-follow g c o n width id st me few single stage = follows_on g.O.SmallObject.sequential o n width id few st me single stage
+returns-clause-follow g c o sizes id st me few single stage = follows_on g.O.SmallObject.meaning o sizes id few st me single stage
+
+pub returns-clause-reply : goal.returns-clause-reply
+returns-clause-reply g c o sizes id s k st me single loading below named = loads g.O.SmallObject.meaning o sizes id st me single s k loading below named

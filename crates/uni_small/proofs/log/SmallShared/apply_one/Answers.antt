@@ -1,16 +1,30 @@
-use Rattle.std.proofs.Common.{◌∙◌, ◌++◌, ◌∷◌, [], ap, refl, sym, List, ℕ, length}
+use Rattle.std.proofs.Common.{arith, ◌≡◌, ◌∙◌, ◌+◌, ◌*◌, ◌-◌, ◌++◌, ◌∷◌, [], ap, refl, sym, List, ℕ, length, true}
 use Rattle.uni_model.proofs.Appended.{state_after-append}
 use Rattle.uni_small.proofs.Images.{reached_length}
+use Rattle.uni_small.proofs.Rooms.{applied_in_room}
 use Rattle.uni_small.proofs.log.SmallShared.apply_one.Goals as goal
 
 pub returns-clause-reached : goal.returns-clause-reached
 returns-clause-reached g c =
-    let object = g.O.SmallObject.sequential c.args.self.now.setup.object in
+    let object = (g.O.SmallObject.meaning c.args.self.now.setup.object).object in
     let was = c.requires.reached in
-    (was.0 ++ c.in-Some.inv ∷ [], state_after-append object object.initial was.0 (c.in-Some.inv ∷ []) ∙ ap (λ s. object.next s c.in-Some.inv) was.1 ∙ sym c.apply-answer.ensures.state)
+    let inv = c.deref.result.now in
+    (was.0 ++ inv ∷ [], state_after-append object object.initial was.0 (inv ∷ []) ∙ ap (λ s. object.next s inv) was.1 ∙ sym c.apply.ensures.state)
 
-pub apply-answer-requires-clause-wide : goal.apply-answer-requires-clause-wide
-apply-answer-requires-clause-wide g c =
-    let object = g.O.SmallObject.sequential c.args.self.now.setup.object in
+pub apply-requires-clause-wide : goal.apply-requires-clause-wide
+apply-requires-clause-wide g c =
+    let meaning = g.O.SmallObject.meaning c.args.self.now.setup.object in
     let was = c.requires.reached in
-    ap (λ (s : List ℕ). length s) (sym was.1) ∙ reached_length object (g.met.O.SmallObject.steady c.args.self.now.setup.object) object.initial was.0 refl
+    ap (λ (s : List ℕ). length s) (sym was.1) ∙ reached_length meaning.object meaning.reply (g.met.O.SmallObject.steady c.args.self.now.setup.object) meaning.object.initial was.0 refl
+
+pub returns-clause-image : goal.returns-clause-image
+returns-clause-image g c =
+    let sizes = c.args.self.now.setup.sizes in
+    let meaning = g.O.SmallObject.meaning c.args.self.now.setup.object in
+    let was = c.requires.reached in
+    let steady = g.met.O.SmallObject.steady c.args.self.now.setup.object in
+    let wide : c.args.r * sizes.reply + sizes.reply - c.args.r * sizes.reply ≡ sizes.reply = omega arith in
+    let full : length c.apply.new.reply ≡ sizes.reply = ap (λ (ws : List ℕ). length ws) c.apply.ensures.reply
+    ∙ (steady c.args.state.now c.deref.result.now (ap (λ (s : List ℕ). length s) (sym was.1) ∙ reached_length meaning.object meaning.reply steady meaning.object.initial was.0 refl)).1 ∙ c.requires.widths.1 in
+    applied_in_room meaning.object sizes c.args.r (c.args.r * sizes.reply + sizes.reply - c.args.r * sizes.reply) c.args.applied.now c.args.reply.now c.args.state.now c.args.seen.now c.deref.result.now c.apply.new.reply c.apply.new.state
+    c.requires.rows.0 c.requires.rows.2 wide full c.if-not-seen.false c.deref.ensures.value c.apply.ensures.reply c.apply.ensures.state

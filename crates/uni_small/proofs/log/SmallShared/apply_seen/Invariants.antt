@@ -1,12 +1,14 @@
-use Rattle.std.proofs.Common.{◌≡◌, ℕ, ◌<◌, ◌≤◌, drop, slice_index}
+use Rattle.std.proofs.Common.{◌≡◌, ℕ, ◌<◌, ◌≤◌, drop, map, slice_index}
 use Rattle.uni_small.specs.Image.{IsReached, with_seen}
 use Rattle.uni_small.specs.Invariant.{most_calls}
+use Rattle.uni_small.specs.Belongs.{image_of_rows, seen_in}
 use Rattle.uni_small.proofs.log.SmallShared.apply_seen.Given as goal
 
 abbrev pub invariant-loop-r : goal.invariant-loop-r
 invariant-loop-r g l =
-    let object = g.O.SmallObject.sequential l.fn.self.setup.object in
-    (with_seen object (record { applied = l.applied; reply = l.reply; state = l.state }) l.r (drop l.r l.seen)
-    ≡ with_seen object (record { applied = l.fn.applied; reply = l.fn.reply; state = l.fn.state }) 0 l.seen)
+    let object = (g.O.SmallObject.meaning l.fn.self.setup.object).object in
+    let sizes = l.fn.self.setup.sizes in
+    (with_seen object (image_of_rows sizes l.applied l.reply l.state) l.r (drop l.r (map seen_in l.seen))
+    ≡ with_seen object (image_of_rows sizes l.fn.applied l.fn.reply l.fn.state) 0 (map seen_in l.seen))
     × IsReached object l.state
-    × ((q : ℕ) → l.r ≤ q → q < l.fn.self.setup.n → slice_index l.applied q ≤ most_calls)
+    × ((q : ℕ) → l.r ≤ q → q < sizes.processes → slice_index l.applied q ≤ most_calls)

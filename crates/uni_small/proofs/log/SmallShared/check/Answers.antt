@@ -13,10 +13,9 @@ use Rattle.uni_small.proofs.log.SmallShared.check.Goals as goal
 pub load-requires : goal.load-requires
 load-requires g c =
     let shared = c.args.self.now in
-    let n = shared.setup.n in
-    let width = shared.setup.width in
+    let sizes = shared.setup.sizes in
     let o = shared.setup.object in
-    let meaning = g.O.SmallObject.sequential in
+    let meaning = g.O.SmallObject.meaning in
     let slots = shared.table.shared.table_id.slots in
     let id = c.args.seat.now.id in
     let me = c.args.seat.now.me in
@@ -26,15 +25,15 @@ load-requires g c =
       (let q0 = shared.sized in omega arith),
       by_key meaning shared.table.shared.key shared.setup shared.same slots id me i 0 refl (λ x. x) (λ x me'. (q : _) → me.0.object ≡ Some q → HasChecked (meaning q) st me x me')
           nothing
-          (checks meaning o n width id shared.few.1 st me c.requires.of.alone c.args.tries c.args.s c.requires.stage (g.met.O.SmallObject.steady o)),
+          (checks meaning o sizes id shared.few.1 st me c.requires.of.alone c.args.tries c.args.s c.requires.stage (g.met.O.SmallObject.steady o)),
     )
 
 pub returns-clause-left : goal.returns-clause-left
 returns-clause-left g c copy seen stage =
     let me = c.args.seat.now.me in
-    let n = c.args.self.now.setup.n in
+    let sizes = c.args.self.now.setup.sizes in
     let of = c.requires.of in
     let told = c.load.ensures.2 c.args.self.now.setup.object of.object c.args.tries c.args.s copy seen stage in (
-      told.0 ∙ (λ k. (with_local me.0 (goes me.0.known.local (checked (of.processes k) (of.first k) (length me.0.known.local.own + 1) c.args.tries c.args.s copy seen c.load.result)), me.1)),
-      λ same. subst (λ k. IsGood (g.O.SmallObject.sequential c.args.self.now.setup.object) k (read_image k copy)) of.processes (told.1 same),
+      told.0 ∙ (λ k. (with_local me.0 (goes me.0.known.local (checked (of.sizes k) (of.first k) (length me.0.known.local.own + 1) c.args.tries c.args.s copy seen c.load.result)), me.1)),
+      λ same. subst (λ k. IsGood (g.O.SmallObject.meaning c.args.self.now.setup.object) k (read_image k copy)) of.sizes (told.1 same),
     )

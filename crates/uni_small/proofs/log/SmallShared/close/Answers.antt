@@ -9,12 +9,12 @@ write_state-requires g c =
     let self = c.args.self in
     let closed = c.close.ensures in
     let final = closed.values.2 in
-    let holds = subst (λ key. Rule g.O.SmallObject.sequential key final.0) self.same final.1 in
+    let holds = subst (λ key. Rule g.O.SmallObject.meaning key final.0) self.same final.1 in
     record {
       full = (closed.values.0, closed.counts.0 ∙ self.sized);
       slotless = closed.counts.1 ∙ self.slotless;
-      few = (self.few.1, self.few.2);
-      named = named_inside g.O.SmallObject.sequential self.setup self.few.1 final.0 holds (slots_items c.close.result.words) final.2;
+      few = self.few;
+      named = named_inside g.O.SmallObject.meaning self.setup self.few.1 final.0 holds (slots_items c.close.result.words) final.2;
       wide = c.requires.wide;
     }
 
@@ -22,5 +22,5 @@ pub returns : goal.returns
 returns g c =
     let self = c.args.self in
     let final = c.close.ensures.values.2 in
-    let holds = subst (λ key. Rule g.O.SmallObject.sequential key final.0) self.same final.1 in
-    record { told = closes_alone g.O.SmallObject.sequential self.setup self.few.1 final.0 holds (slots_items c.close.result.words) final.2 c.write_state.new.state c.write_state.ensures.read }
+    let holds = subst (λ key. Rule g.O.SmallObject.meaning key final.0) self.same final.1 in
+    record { told = closes_alone g.O.SmallObject.meaning self.setup self.few.1 final.0 holds (slots_items c.close.result.words) final.2 c.write_state.new.state c.write_state.ensures.read }

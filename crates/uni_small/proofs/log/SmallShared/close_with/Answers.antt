@@ -10,12 +10,12 @@ write_state-requires g c =
     let self = c.args.self in
     let closed = c.close_with.ensures in
     let final = closed.values.2 in
-    let holds = subst (λ key. Rule g.O.SmallObject.sequential key final.0) self.same final.1.0 in
+    let holds = subst (λ key. Rule g.O.SmallObject.meaning key final.0) self.same final.1.0 in
     record {
       full = (closed.values.0, closed.counts.0 ∙ self.sized);
       slotless = closed.counts.1 ∙ self.slotless;
-      few = (self.few.1, self.few.2);
-      named = named_inside g.O.SmallObject.sequential self.setup self.few.1 final.0 holds (slots_items c.close_with.result.words) final.2;
+      few = self.few;
+      named = named_inside g.O.SmallObject.meaning self.setup self.few.1 final.0 holds (slots_items c.close_with.result.words) final.2;
       wide = c.requires.wide;
     }
 
@@ -24,8 +24,8 @@ returns g c =
     let self = c.args.self in
     let seat = c.args.seat in
     let final = c.close_with.ensures.values.2 in
-    let holds = subst (λ key. Rule g.O.SmallObject.sequential key final.0) self.same final.1.0 in
+    let holds = subst (λ key. Rule g.O.SmallObject.meaning key final.0) self.same final.1.0 in
     record {
-      told = subst (λ p. IsFinal (g.O.SmallObject.sequential self.setup.object) (record { process = p; calls = seat.seat.me.0.known.local.own } ∷ seat.seat.me.0.known.taken) c.write_state.new.state) seat.stands.0
-          (closes_with g.O.SmallObject.sequential self.setup self.few.1 final.0 holds (slots_items c.close_with.result.words) final.2 seat.seat.id seat.seat.me.0 final.1.1 seat.stands.1 seat.local.0 c.write_state.new.state c.write_state.ensures.read);
+      told = subst (λ p. IsFinal (g.O.SmallObject.meaning self.setup.object).object (record { process = p; calls = seat.seat.me.0.known.local.own } ∷ seat.seat.me.0.known.taken) c.write_state.new.state) seat.stands.0
+          (closes_with g.O.SmallObject.meaning self.setup self.few.1 final.0 holds (slots_items c.close_with.result.words) final.2 seat.seat.id seat.seat.me.0 final.1.1 seat.stands.1 seat.local.0 c.write_state.new.state c.write_state.ensures.read);
     }

@@ -1,7 +1,10 @@
-use Rattle.std.proofs.Common.{arith, sym, ap, subst, ◌≡◌, ◌∙◌, ◌+◌, ◌++◌, List, ℕ, [], length, append_assoc, length-append}
+use Rattle.std.proofs.Common.{arith, map, sym, ap, subst, ◌≡◌, ◌∙◌, ◌+◌, ◌++◌, List, ℕ, [], length, append_assoc, length-append}
 use Rattle.std.proofs.lemmas.List.{with_items_is}
+use Rattle.uni_small.specs.Belongs.{seen_in}
+use Rattle.uni_small.specs.Image.{joined, rows}
 use Rattle.uni_small.specs.View.Stage.{Reading}
 use Rattle.uni_small.specs.Standing.{GoesBy}
+use Rattle.uni_small.proofs.Rows.{joined-rows}
 use Rattle.uni_small.proofs.Going.{stage_after, of_after, goes_more, copied_more}
 use Rattle.uni_small.proofs.log.SmallShared.gather.Goals as goal
 
@@ -110,9 +113,11 @@ returns-clause-goes g c =
     let wb = with_items_is c.args.room.now.reply b (c.copy_row-2.auto.row ∙ c.deref_mut-2.ensures.len) in
     let wd = with_items_is c.args.room.now.state d (c.copy_row-3.auto.row ∙ c.deref_mut-3.ensures.len) in
     let ws = with_items_is c.args.room.now.seen c.scan.new.seen (c.scan.auto.seen ∙ c.deref_mut-4.ensures.len) in
-    let here = ap (λ xs. Reading t s xs c.scan.new.seen) (append_assoc a b d) ∙ (λ i. Reading t s (sym wa i ++ (sym wb i ++ sym wd i)) (sym ws i)) in (
+    let sizes = c.args.self.now.setup.sizes in
+    let wj = ap (λ ws. joined (rows sizes.processes sizes.reply ws)) wb ∙ joined-rows sizes.processes sizes.reply b lb in
+    let here = ap (λ xs. Reading t s xs (map seen_in c.scan.new.seen)) (append_assoc a b d) ∙ (λ i. Reading t s (sym wa i ++ (sym wj i ++ sym wd i)) (map seen_in (sym ws i))) in (
       1 + length a + length b + length d + scanned.0,
       (let k = scanned.1 in omega arith),
       subst (λ st. GoesBy me (1 + length a + length b + length d + scanned.0) st c.scan.new.seat.me) here
-          (goes_more me c.copy_row-3.new.seat.me (1 + length a + length b + length d) (Reading t s ((a ++ b) ++ d) []) g3 c.scan.new.seat.me scanned.0 (Reading t s ((a ++ b) ++ d) c.scan.new.seen) scanned.2),
+          (goes_more me c.copy_row-3.new.seat.me (1 + length a + length b + length d) (Reading t s ((a ++ b) ++ d) []) g3 c.scan.new.seat.me scanned.0 (Reading t s ((a ++ b) ++ d) (map seen_in c.scan.new.seen)) scanned.2),
     )

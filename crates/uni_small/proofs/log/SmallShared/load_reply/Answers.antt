@@ -1,29 +1,77 @@
-use Rattle.std.proofs.Common.{arith, ap, sym, ◌∙◌, ◌+◌}
-use mathlib.Core.Option.{none}
-use Rattle.atomic_table.specs.Table.{step}
-use Rattle.uni_small.specs.Board.{buffer_word, buffer_in}
-use Rattle.uni_small.specs.Plays.{HasReplied}
-use Rattle.uni_small.specs.Laws.{ends}
-use Rattle.uni_small.proofs.Allowed.{by_key}
-use Rattle.uni_small.proofs.Reply.{replies}
-use Rattle.uni_small.proofs.Words.{buffer_inside}
+use Rattle.std.proofs.Common.{arith, refl, sym, ap, ◌≡◌, ◌∙◌, ◌+◌, ◌-◌, ◌++◌, ◌∷◌, ◌<◌, [], List, ℕ, set, take, length, length-set, length-take-le, subst}
+use Rattle.std.proofs.lemmas.List.{take_all, take_more_set}
+use Rattle.atomic_table.specs.Table.{Me}
+use Rattle.uni_small.specs.Board.{version_in}
+use Rattle.uni_small.specs.View.{Local, returns}
+use Rattle.uni_small.specs.View.Stage.{Last}
+use Rattle.uni_small.specs.Plays.{IsLeft, with_local}
+use Rattle.uni_small.specs.Standing.{GoesBy, ReplyEnds, local_of, went}
+use Rattle.uni_small.specs.declared.view.View.{View}
+use Rattle.uni_small.proofs.Ending.{left_more}
+use Rattle.uni_small.proofs.Going.{goes_zero, stage_after, of_after, goes_on}
 use Rattle.uni_small.proofs.log.SmallShared.load_reply.Goals as goal
 
-pub load-reply-requires : goal.load-reply-requires
-load-reply-requires g c =
-    let shared = c.args.self.now in
-    let n = shared.setup.n in
-    let width = shared.setup.width in
-    let o = shared.setup.object in
-    let meaning = g.O.SmallObject.sequential in
-    let slots = shared.table.shared.table_id.slots in
-    let id = c.args.seat.now.id in
-    let me = c.args.seat.now.me in
-    let i = c.buffer_word.result in
-    let st = step slots i 0 0 none in (
-      c.requires.table,
-      (let q = c.buffer_word.ensures in let r = buffer_inside n width (buffer_in c.args.s) (n + c.args.p) c.requires.named (let a = c.requires.inside in omega arith) in let t = shared.sized in omega arith),
-      by_key meaning shared.table.shared.key shared.setup shared.same slots id me i (buffer_word n width (buffer_in c.args.s) (n + me.0.known.first)) (c.buffer_word.ensures ∙ ap (λ k. buffer_word n width (buffer_in c.args.s) (n + k)) (sym c.requires.of.first)) (λ x. x) (λ x me'. HasReplied st me x me')
-          (ends me.0.known.local me.0.known.first)
-          (replies meaning o n width id st me c.requires.of.alone c.args.s c.requires.stage c.requires.named),
+pub loop-k-init : goal.loop-k-init
+loop-k-init g c = (refl, refl, goes_zero c.args.seat.now.me (Last c.args.s []) c.requires.stage)
+
+pub load_word-requires-clause-table : goal.load_word-requires-clause-table
+load_word-requires-clause-table g c = c.loop-k.invariant.0 ∙ c.requires.table
+
+pub load_word-requires-clause-of : goal.load_word-requires-clause-of
+load_word-requires-clause-of g c = of_after c.args.seat.now.me c.loop-k.seat.me c.loop-k.k (Last c.args.s (take c.loop-k.k c.loop-k.reply)) c.loop-k.invariant.2 c.requires.of
+
+pub load_word-requires-clause-stage : goal.load_word-requires-clause-stage
+load_word-requires-clause-stage g c = (
+  take c.loop-k.k c.loop-k.reply,
+  stage_after c.args.seat.now.me c.loop-k.seat.me c.loop-k.k (Last c.args.s (take c.loop-k.k c.loop-k.reply)) c.loop-k.invariant.2,
+  length-take-le c.loop-k.k c.loop-k.reply (omega arith),
+)
+
+pub loop-k-preserved : goal.loop-k-preserved
+loop-k-preserved g c =
+    let k = c.loop-k.k in
+    let words = c.loop-k.reply in
+    let at = stage_after c.args.seat.now.me c.loop-k.seat.me k (Last c.args.s (take k words)) c.loop-k.invariant.2 in
+    let more : take (k + 1) (set words k c.load_word.result) ≡ take k words ++ c.load_word.result ∷ [] = take_more_set words k c.load_word.result (omega arith) in (
+      c.load_word.ensures.same.0 ∙ c.loop-k.invariant.0,
+      c.load_word.ensures.same.1 ∙ c.loop-k.invariant.1,
+      subst (λ xs. GoesBy c.args.seat.now.me (k + 1) (Last c.args.s xs) c.load_word.new.seat.me) (sym more)
+          (goes_on c.args.seat.now.me c.loop-k.seat.me k (Last c.args.s (take k words)) c.loop-k.invariant.2 c.load_word.new.seat.me (Last c.args.s (take k words ++ c.load_word.result ∷ [])) (c.load_word.ensures.left (take k words) at)),
     )
+
+pub load_last-requires-clause-table : goal.load_last-requires-clause-table
+load_last-requires-clause-table g c = c.loop-k.invariant.0 ∙ c.requires.table
+
+pub load_last-requires-clause-of : goal.load_last-requires-clause-of
+load_last-requires-clause-of g c = of_after c.args.seat.now.me c.loop-k.seat.me c.loop-k.k (Last c.args.s (take c.loop-k.k c.loop-k.reply)) c.loop-k.invariant.2 c.requires.of
+
+pub load_last-requires-clause-stage : goal.load_last-requires-clause-stage
+load_last-requires-clause-stage g c = (
+  take c.loop-k.k c.loop-k.reply,
+  stage_after c.args.seat.now.me c.loop-k.seat.me c.loop-k.k (Last c.args.s (take c.loop-k.k c.loop-k.reply)) c.loop-k.invariant.2,
+  length-take-le c.loop-k.k c.loop-k.reply (omega arith) ∙ (let t = c.loop-k-test.false in let e = c.loop-k.auto.k-end in omega arith),
+)
+
+-- the last word
+ended : {O : Type 0} (me me1 me2 : Me ℕ (View O)) (s k wide x : ℕ) (words : List ℕ) → k + 1 ≡ wide → length words ≡ wide → GoesBy me k (Last s (take k words)) me1
+    → IsLeft me1 (returns (local_of me1) s (take k words ++ x ∷ [])) me2 → ReplyEnds me s (set words k x) wide me2
+ended me me1 me2 s k wide x words last long first next =
+    let all : take k words ++ x ∷ [] ≡ set words k x = sym (take_more_set words k x (omega arith)) ∙ take_all (k + 1) (set words k x) (let l = length-set words k x in omega arith) in
+    let whole = left_more me me1 me2 (λ l. returns l s (take k words ++ x ∷ [])) (went (local_of me) k (Last s (take k words))) first next in
+    let count : (local_of me).steps + k + 1 ≡ (local_of me).steps + wide = omega arith in
+    whole ∙ (λ i. (with_local me.0 (record (returns (local_of me) s (all i)) { steps = count i }), me.1))
+
+pub returns-clause-left : goal.returns-clause-left
+returns-clause-left g c =
+    let at = stage_after c.args.seat.now.me c.loop-k.seat.me c.loop-k.k (Last c.args.s (take c.loop-k.k c.loop-k.reply)) c.loop-k.invariant.2 in
+    let end : c.loop-k.k ≡ length c.args.reply.now - 1 = (let t = c.loop-k-test.false in let e = c.loop-k.auto.k-end in omega arith) in
+    let wide = c.requires.inside.1 in
+    let some = c.args.self.now.few.4 in
+    subst (λ j. ReplyEnds c.args.seat.now.me c.args.s (set c.loop-k.reply j c.load_last.result) c.args.self.now.setup.sizes.reply c.load_last.new.seat.me) end
+    (ended c.args.seat.now.me c.loop-k.seat.me c.load_last.new.seat.me c.args.s c.loop-k.k c.args.self.now.setup.sizes.reply c.load_last.result c.loop-k.reply (omega arith) (c.loop-k.auto.reply ∙ wide) c.loop-k.invariant.2
+    (c.load_last.ensures.left (take c.loop-k.k c.loop-k.reply) at))
+
+pub returns-clause-later : goal.returns-clause-later
+returns-clause-later g c =
+    let same : (local_of c.loop-k.seat.me).after ≡ (local_of c.args.seat.now.me).after = ap (λ (m : Me ℕ (View _)). (local_of m).after) c.loop-k.invariant.2 in
+    subst (λ v. v < version_in c.args.s) same c.load_last.ensures.later

@@ -11,10 +11,9 @@ use Rattle.uni_small.proofs.log.SmallShared.look.Goals as goal
 pub load-requires : goal.load-requires
 load-requires g c =
     let shared = c.args.self.now in
-    let n = shared.setup.n in
-    let width = shared.setup.width in
+    let sizes = shared.setup.sizes in
     let o = shared.setup.object in
-    let meaning = g.O.SmallObject.sequential in
+    let meaning = g.O.SmallObject.meaning in
     let slots = shared.table.shared.table_id.slots in
     let id = c.args.seat.now.id in
     let me = c.args.seat.now.me in
@@ -24,5 +23,5 @@ load-requires g c =
       (let q0 = c.announce_word.ensures in let q1 = c.requires.inside.1 in let q2 = shared.sized in omega arith),
       by_key meaning shared.table.shared.key shared.setup shared.same slots id me i (announce_word c.args.r) c.announce_word.ensures (λ x. x) (λ x me'. HasLooked st me x me')
           nothing
-          (looks meaning o n width id shared.few.1 st me c.requires.of.alone c.args.tries c.args.s c.args.r c.requires.stage c.requires.inside.1),
+          (looks meaning o sizes id shared.few.1 st me c.requires.of.alone c.args.tries c.args.s c.args.r c.requires.stage c.requires.inside.1),
     )

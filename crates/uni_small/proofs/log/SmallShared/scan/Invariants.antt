@@ -1,11 +1,13 @@
-use Rattle.std.proofs.Common.{◌≡◌, List, ℕ, [], ◌*◌, take}
+use Rattle.std.proofs.Common.{All, ◌≡◌, List, ℕ, [], ◌*◌, ◌+◌, map, take}
 use Rattle.uni_small.specs.View.Stage.{Reading}
 use Rattle.uni_small.specs.Plays.{stage_of}
 use Rattle.uni_small.specs.Standing.{GoesWithin}
+use Rattle.uni_small.specs.Belongs.{HasInvocation, seen_in}
 use Rattle.uni_small.proofs.log.SmallShared.scan.Given as goal
 
 abbrev pub invariant-loop-r : goal.invariant-loop-r
 invariant-loop-r g l =
     (l.seat.table_id ≡ l.fn.seat.table_id) × (l.seat.id ≡ l.fn.seat.id)
     × ((copy : List ℕ) → stage_of l.fn.seat.me ≡ Reading l.tries l.s copy []
-    → GoesWithin l.fn.seat.me (2 * l.r) (Reading l.tries l.s copy (take l.r l.seen)) l.seat.me)
+    → GoesWithin l.fn.seat.me (l.r + l.r * l.fn.self.setup.sizes.invocation) (Reading l.tries l.s copy (map seen_in (take l.r l.seen))) l.seat.me)
+    × All (HasInvocation l.fn.self.setup.sizes) l.seen

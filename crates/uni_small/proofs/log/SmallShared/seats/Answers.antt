@@ -12,11 +12,11 @@ pub split_seat-seat-requires : goal.split_seat-seat-requires
 split_seat-seat-requires g c =
     let shared = c.args.self.now in
     let v = c.loop-p.rest.me.0 in
-    let count : v.known.count ≡ shared.setup.n - c.loop-p.p = ap (λ (m : Me ℕ (View _)). m.0.known.count) c.loop-p.invariant.1 in (
+    let count : v.known.count ≡ shared.setup.sizes.processes - c.loop-p.p = ap (λ (m : Me ℕ (View _)). m.0.known.count) c.loop-p.invariant.1 in (
       c.loop-p.invariant.0,
       (let a = shared.sized in omega arith),
-      subst (λ key. Splits (Rule g.O.SmallObject.sequential key) c.loop-p.rest.id v (others v) (first_alone v)) (sym shared.same)
-          (splits g.O.SmallObject.sequential shared.setup.object shared.setup.n shared.setup.width c.loop-p.rest.id v (let t = c.loop-p-test.true in omega arith)),
+      subst (λ key. Splits (Rule g.O.SmallObject.meaning key) c.loop-p.rest.id v (others v) (first_alone v)) (sym shared.same)
+          (splits g.O.SmallObject.meaning shared.setup.object shared.setup.sizes c.loop-p.rest.id v (let t = c.loop-p-test.true in omega arith)),
     )
 
 pub loop-p-preserved : goal.loop-p-preserved
@@ -28,9 +28,9 @@ loop-p-preserved g c = (
 
 pub returns-clause-first : goal.returns-clause-first
 returns-clause-first g c =
-    let whole : c.loop-p.p + 1 ≡ c.args.self.now.setup.n = (let t = c.loop-p-test.false in let a = c.loop-p.auto.p-end in let f = c.args.self.now.few.0 in omega arith) in
+    let whole : c.loop-p.p + 1 ≡ c.args.self.now.setup.sizes.processes = (let t = c.loop-p-test.false in let a = c.loop-p.auto.p-end in let f = c.args.self.now.few.0 in omega arith) in
     subst (λ k. AreFirstSeats c.args.self.now k c.push-2.new.self.items) whole
     (one_more c.args.self.now c.loop-p.p c.loop-p.seats.items c.push-2.new.self.items _ c.loop-p.invariant.2 c.in_ok-push-2.ensures.items (search rules) (search rules) (search rules) (search rules) (search rules) (search rules) (search rules) refl (search rules))
 
 pub returns-clause-own : goal.returns-clause-own
-returns-clause-own g c = all_own c.args.self.now c.args.self.now.setup.n c.push-2.new.self.items (returns-clause-first g c)
+returns-clause-own g c = all_own c.args.self.now c.args.self.now.setup.sizes.processes c.push-2.new.self.items (returns-clause-first g c)

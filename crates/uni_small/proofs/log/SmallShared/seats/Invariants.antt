@@ -9,7 +9,7 @@ invariant-loop-p g l =
     × (l.rest.me ≡ (
       record {
         marker = record {};
-        known = record { n = l.fn.self.setup.n; first = l.p; count = l.fn.self.setup.n - l.p; local = at_rest; taken = [] };
+        known = record { sizes = l.fn.self.setup.sizes; first = l.p; count = l.fn.self.setup.sizes.processes - l.p; local = at_rest; taken = [] };
         object = Some l.fn.self.setup.object;
       },
       [],

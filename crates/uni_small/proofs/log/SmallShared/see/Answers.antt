@@ -1,56 +1,81 @@
-use Rattle.std.proofs.Common.{arith, sym, ap, ◌≡◌, ◌≢◌, ◌∙◌, ◌++◌, ◌∷◌, List, Option, Some, ℕ, [], length, subst, slice_index}
-use Rattle.uni_small.specs.View.Stage.{Reading, Asking}
+use Rattle.std.proofs.Common.{inl, inr, true, false, not, eqb, ◌+◌, arith, refl, sym, ap, ◌≡◌, ◌≢◌, ◌∙◌, ◌++◌, ◌∷◌, List, Option, Some, None, ℕ, [], length, subst, slice_index}
+use Rattle.uni_small.specs.View.Stage.{Reading}
+use Rattle.std.proofs.lemmas.List.{with_items_is}
+use Rattle.std.specs.Vec.{with_items}
+use Rattle.uni_model.proofs.Written.{number_cases}
+use Rattle.uni_small.specs.Belongs.{seen_in}
 use Rattle.uni_small.specs.Plays.{Goes, looked}
-use Rattle.uni_small.proofs.Going.{looked_same, looked_other, stage_after, of_after, goes_on}
+use Rattle.uni_small.specs.Standing.{GoesBy}
+use Rattle.uni_small.specs.declared.seat.Seen.{Seen}
+use Rattle.uni_small.proofs.Rooms.{seen_due, seen_none}
+use Rattle.uni_small.proofs.Going.{looked_same, looked_other, stage_after, of_after, goes_more}
 use Rattle.uni_small.proofs.log.SmallShared.see.Goals as goal
 
--- what the copy has of process r, where the scan has come to it
-known_here : (copy : List ℕ) (seen : List (Option ℕ)) (r known : ℕ) → length seen ≡ r → slice_index copy r ≡ known → slice_index copy (length seen) ≡ known
-known_here copy seen r known long is = ap (slice_index copy) long ∙ is
-
-pub returns-then-announced-known-clause-goes : goal.returns-then-announced-known-clause-goes
-returns-then-announced-known-clause-goes g c copy seen stage =
-    let e : Reading c.args.tries c.args.s c.requires.stage.0 c.requires.stage.1.0 ≡ Reading c.args.tries c.args.s copy seen = sym c.requires.stage.1.1 ∙ stage in
-    let seen_is : c.requires.stage.1.0 ≡ seen = cc in
-    let long : length seen ≡ c.args.r = ap (λ (xs : List (Option ℕ)). length xs) (sym seen_is) ∙ c.requires.stage.1.3 in
-    let here = known_here copy seen c.args.r c.args.known long (c.requires.known copy seen stage) in (
-      1,
-      (omega arith),
-      subst (λ st. Goes c.args.seat.now.me st c.look-announced.new.seat.me)
-          (looked_same c.args.tries c.args.s copy seen c.look-announced.result (c.if-announced-known.true ∙ sym here)) (c.look-announced.ensures.left copy seen stage),
-    )
-
-pub ask-inv-requires-clause-of : goal.ask-inv-requires-clause-of
-ask-inv-requires-clause-of g c =
+pub ask_all-requires-clause-of : goal.ask_all-requires-clause-of
+ask_all-requires-clause-of g c =
     let copy = c.requires.stage.0 in
     let seen = c.requires.stage.1.0 in
-    let stage = c.requires.stage.1.1 in
-    of_after c.args.seat.now.me c.look-announced.new.seat.me 1 (looked c.args.tries c.args.s copy seen c.look-announced.result) (c.look-announced.ensures.left copy seen stage) c.requires.of
+    of_after c.args.seat.now.me c.look-announced.new.seat.me 1 (Reading c.args.tries c.args.s copy (seen ++ looked copy (length seen) c.look-announced.result ∷ [])) (c.look-announced.ensures.left copy seen c.requires.stage.1.1) c.requires.of
 
-pub ask-inv-requires-clause-stage : goal.ask-inv-requires-clause-stage
-ask-inv-requires-clause-stage g c =
+pub ask_all-requires-clause-stage : goal.ask_all-requires-clause-stage
+ask_all-requires-clause-stage g c =
     let copy = c.requires.stage.0 in
     let seen = c.requires.stage.1.0 in
-    let stage = c.requires.stage.1.1 in
-    let here = known_here copy seen c.args.r c.args.known c.requires.stage.1.3 (c.requires.known copy seen stage) in
-    let apart : c.look-announced.result ≢ slice_index copy (length seen) = (λ same. c.if-announced-known.false (same ∙ here)) in (
+    let here : slice_index copy (length seen) ≡ c.args.known = ap (slice_index copy) c.requires.stage.1.3 ∙ c.requires.known copy seen c.requires.stage.1.1 in
+    let apart : c.look-announced.result ≢ slice_index copy (length seen) = (λ same. c.if-announced-known.true (same ∙ here)) in (
       copy,
       (
         seen,
-        stage_after c.args.seat.now.me c.look-announced.new.seat.me 1 (looked c.args.tries c.args.s copy seen c.look-announced.result) (c.look-announced.ensures.left copy seen stage)
-            ∙ looked_other c.args.tries c.args.s copy seen c.look-announced.result apart,
-        c.requires.stage.1.3,
+        (
+          [],
+          stage_after c.args.seat.now.me c.look-announced.new.seat.me 1 (Reading c.args.tries c.args.s copy (seen ++ looked copy (length seen) c.look-announced.result ∷ [])) (c.look-announced.ensures.left copy seen c.requires.stage.1.1)
+              ∙ ap (λ o. Reading c.args.tries c.args.s copy (seen ++ o ∷ [])) (looked_other copy (length seen) c.look-announced.result apart),
+          c.requires.stage.1.3,
+          refl,
+        ),
       ),
     )
 
-pub returns-clause-goes : goal.returns-clause-goes
-returns-clause-goes g c copy seen stage =
-    let e : Reading c.args.tries c.args.s c.requires.stage.0 c.requires.stage.1.0 ≡ Reading c.args.tries c.args.s copy seen = sym c.requires.stage.1.1 ∙ stage in
-    let seen_is : c.requires.stage.1.0 ≡ seen = cc in
-    let long : length seen ≡ c.args.r = ap (λ (xs : List (Option ℕ)). length xs) (sym seen_is) ∙ c.requires.stage.1.3 in
-    let here = known_here copy seen c.args.r c.args.known long (c.requires.known copy seen stage) in
-    let apart : c.look-announced.result ≢ slice_index copy (length seen) = (λ same. c.if-announced-known.false (same ∙ here)) in
-    let first : Goes c.args.seat.now.me (Asking c.args.tries c.args.s copy seen) c.look-announced.new.seat.me = subst (λ st. Goes c.args.seat.now.me st c.look-announced.new.seat.me)
-    (looked_other c.args.tries c.args.s copy seen c.look-announced.result apart) (c.look-announced.ensures.left copy seen stage) in
-    let at = stage_after c.args.seat.now.me c.look-announced.new.seat.me 1 (Asking c.args.tries c.args.s copy seen) first in
-    (2, (omega arith), goes_on c.args.seat.now.me c.look-announced.new.seat.me 1 (Asking c.args.tries c.args.s copy seen) first c.ask-inv.new.seat.me (Reading c.args.tries c.args.s copy (seen ++ Some c.ask-inv.result ∷ [])) (c.ask-inv.ensures.left copy seen at))
+pub returns-then-announced-known-clause-goes : goal.returns-then-announced-known-clause-goes
+returns-then-announced-known-clause-goes g c copy before stage =
+    let t = c.args.tries in
+    let s = c.args.s in
+    let me = c.args.seat.now.me in
+    let me1 = c.look-announced.new.seat.me in
+    let found = c.look-announced.result in
+    let words = c.ask_all.new.invocation in
+    let e : Reading t s c.requires.stage.0 c.requires.stage.1.0 ≡ Reading t s copy before = sym c.requires.stage.1.1 ∙ stage in
+    let before_is : c.requires.stage.1.0 ≡ before = cc in
+    let here : slice_index copy (length before) ≡ c.args.known = ap (slice_index copy) (ap (λ (xs : List (Option (List ℕ))). length xs) (sym before_is) ∙ c.requires.stage.1.3) ∙ c.requires.known copy before stage in
+    let apart : found ≢ slice_index copy (length before) = (λ same. c.if-announced-known.true (same ∙ here)) in
+    let first : Goes me (Reading t s copy (before ++ Some [] ∷ [])) me1 = subst (λ o. Goes me (Reading t s copy (before ++ o ∷ [])) me1) (looked_other copy (length before) found apart) (c.look-announced.ensures.left copy before stage) in
+    let asked = c.ask_all.ensures.goes copy before (stage_after me me1 1 (Reading t s copy (before ++ Some [] ∷ [])) first) in
+    let long : length words ≡ c.args.self.now.setup.sizes.invocation = c.ask_all.auto.invocation ∙ ap (λ (xs : List ℕ). length xs) c.deref_mut.ensures.value ∙ c.requires.room in
+    let items : (with_items c.args.seen.now.invocation words).items ≡ words = with_items_is c.args.seen.now.invocation words (c.ask_all.auto.invocation ∙ c.deref_mut.ensures.len) in
+    let now : Seen = record { due = not (eqb found c.args.known); invocation = with_items c.args.seen.now.invocation words } in
+    let due : not (eqb found c.args.known) ≡ true = elim (number_cases found c.args.known) [ inl same ↦ absurd (c.if-announced-known.true same.0) | inr other ↦ ap not other.1 ] in
+    let seen : seen_in now ≡ Some words = seen_due now due ∙ ap Some items in (
+      1 + length words,
+      (omega arith),
+      subst (λ o. GoesBy me (1 + length words) (Reading t s copy (before ++ o ∷ [])) c.ask_all.new.seat.me) (sym seen)
+          (goes_more me me1 1 (Reading t s copy (before ++ Some [] ∷ [])) first c.ask_all.new.seat.me (length words) (Reading t s copy (before ++ Some words ∷ [])) asked),
+    )
+
+pub returns-else-announced-known-clause-goes : goal.returns-else-announced-known-clause-goes
+returns-else-announced-known-clause-goes g c copy before stage =
+    let t = c.args.tries in
+    let s = c.args.s in
+    let me = c.args.seat.now.me in
+    let me1 = c.look-announced.new.seat.me in
+    let found = c.look-announced.result in
+    let e : Reading t s c.requires.stage.0 c.requires.stage.1.0 ≡ Reading t s copy before = sym c.requires.stage.1.1 ∙ stage in
+    let before_is : c.requires.stage.1.0 ≡ before = cc in
+    let here : slice_index copy (length before) ≡ c.args.known = ap (slice_index copy) (ap (λ (xs : List (Option (List ℕ))). length xs) (sym before_is) ∙ c.requires.stage.1.3) ∙ c.requires.known copy before stage in
+    let same : found ≡ slice_index copy (length before) = c.if-announced-known.false ∙ sym here in
+    let now : Seen = record { due = not (eqb found c.args.known); invocation = c.args.seen.now.invocation } in
+    let due : not (eqb found c.args.known) ≡ false = elim (number_cases found c.args.known) [ inl same ↦ ap not same.1 | inr other ↦ absurd (other.0 c.if-announced-known.false) ] in
+    let seen : seen_in now ≡ None = seen_none now due in (
+      1,
+      (omega arith),
+      subst (λ o. GoesBy me 1 (Reading t s copy (before ++ o ∷ [])) me1) (looked_same copy (length before) found same ∙ sym seen) (c.look-announced.ensures.left copy before stage),
+    )

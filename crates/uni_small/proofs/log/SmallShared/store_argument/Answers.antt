@@ -1,28 +1,42 @@
-use Rattle.std.proofs.Common.{arith, ap, sym, ◌∙◌}
-use mathlib.Core.Option.{none}
-use Rattle.atomic_table.specs.Table.{step}
-use Rattle.uni_small.specs.Board.{argument_word}
-use Rattle.uni_small.specs.Plays.{HasArmed}
-use Rattle.uni_small.specs.Laws.{nothing}
-use Rattle.uni_small.proofs.Allowed.{by_key}
-use Rattle.uni_small.proofs.Stores.{arms_call}
+use Rattle.std.proofs.Common.{arith, refl, sym, ap, ◌≡◌, ◌∙◌, ◌+◌, ◌++◌, ◌∷◌, [], List, ℕ, take, length, length-take-le, slice_index, subst}
+use Rattle.std.proofs.Math.Seq.{take-length}
+use Rattle.std.proofs.lemmas.List.{take_more}
+use Rattle.uni_small.specs.View.Stage.{Idle}
+use Rattle.uni_small.specs.Standing.{GoesBy}
+use Rattle.uni_small.proofs.Going.{goes_zero, stage_after, of_after, goes_on}
 use Rattle.uni_small.proofs.log.SmallShared.store_argument.Goals as goal
 
-pub store-requires : goal.store-requires
-store-requires g c =
-    let shared = c.args.self.now in
-    let n = shared.setup.n in
-    let width = shared.setup.width in
-    let o = shared.setup.object in
-    let meaning = g.O.SmallObject.sequential in
-    let slots = shared.table.shared.table_id.slots in
-    let id = c.args.seat.now.id in
-    let me = c.args.seat.now.me in
-    let i = c.argument_word.result in
-    let st = step slots i c.args.inv 0 none in (
-      c.requires.table,
-      (let q0 = c.argument_word.ensures in let q1 = c.requires.inside in let q2 = shared.sized in omega arith),
-      by_key meaning shared.table.shared.key shared.setup shared.same slots id me i (argument_word n me.0.known.first) (c.argument_word.ensures ∙ ap (argument_word n) (sym c.requires.of.first)) (λ x. c.args.inv) (λ x me'. HasArmed st me c.args.inv me')
-          nothing
-          (arms_call meaning o n width id st me c.requires.of.alone c.args.inv c.requires.stage),
+pub loop-k-init : goal.loop-k-init
+loop-k-init g c = (refl, refl, goes_zero c.args.seat.now.me (Idle []) c.requires.stage)
+
+pub store_word-requires-clause-table : goal.store_word-requires-clause-table
+store_word-requires-clause-table g c = c.loop-k.invariant.0 ∙ c.requires.table
+
+pub store_word-requires-clause-of : goal.store_word-requires-clause-of
+store_word-requires-clause-of g c = of_after c.args.seat.now.me c.loop-k.seat.me c.loop-k.k (Idle (take c.loop-k.k c.args.invocation.now)) c.loop-k.invariant.2 c.requires.of
+
+pub store_word-requires-clause-stage : goal.store_word-requires-clause-stage
+store_word-requires-clause-stage g c = (
+  take c.loop-k.k c.args.invocation.now,
+  stage_after c.args.seat.now.me c.loop-k.seat.me c.loop-k.k (Idle (take c.loop-k.k c.args.invocation.now)) c.loop-k.invariant.2,
+  length-take-le c.loop-k.k c.args.invocation.now (omega arith),
+)
+
+pub loop-k-preserved : goal.loop-k-preserved
+loop-k-preserved g c =
+    let k = c.loop-k.k in
+    let words = c.args.invocation.now in
+    let at = stage_after c.args.seat.now.me c.loop-k.seat.me k (Idle (take k words)) c.loop-k.invariant.2 in
+    let more : take (k + 1) words ≡ take k words ++ slice_index words k ∷ [] = take_more words k 0 (omega arith) in (
+      c.store_word.ensures.same.0 ∙ c.loop-k.invariant.0,
+      c.store_word.ensures.same.1 ∙ c.loop-k.invariant.1,
+      subst (λ xs. GoesBy c.args.seat.now.me (k + 1) (Idle xs) c.store_word.new.seat.me) (sym more)
+          (goes_on c.args.seat.now.me c.loop-k.seat.me k (Idle (take k words)) c.loop-k.invariant.2 c.store_word.new.seat.me (Idle (take k words ++ slice_index words k ∷ [])) (c.store_word.ensures.left (take k words) at)),
     )
+
+pub returns-clause-goes : goal.returns-clause-goes
+returns-clause-goes g c =
+    let words = c.args.invocation.now in
+    let end : c.loop-k.k ≡ length words = (let t = c.loop-k-test.false in let e = c.loop-k.auto.k-end in omega arith) in
+    subst (λ k. GoesBy c.args.seat.now.me k (Idle words) c.loop-k.seat.me) end
+    (subst (λ xs. GoesBy c.args.seat.now.me c.loop-k.k (Idle xs) c.loop-k.seat.me) (ap (λ k. take k words) end ∙ take-length words) c.loop-k.invariant.2)

@@ -6,7 +6,7 @@ use Rattle.uni_small.specs.Standing.{GoesBy}
 use Rattle.uni_small.proofs.Going.{goes_zero, stage_after, of_after, spare_after, goes_on}
 use Rattle.uni_small.proofs.log.SmallShared.write_row.Goals as goal
 
-abbrev writing : (tries s : ℕ) → Image → List (Option ℕ) → ℕ → Stage
+abbrev writing : (tries s : ℕ) → Image → List (Option (List ℕ)) → ℕ → Stage
 writing tries s image seen k = Writing tries s image seen k
 
 pub loop-i-init : goal.loop-i-init

@@ -1,0 +1,109 @@
+-- Rows of words, and the first words of a list.
+use Rattle.std.proofs.Common.{◌≡◌, ◌∙◌, ℕ, zero, suc, ◌+◌, ◌*◌, ◌<◌, refl, sym, ap, List, [], ◌∷◌, ◌++◌, length, slice_index, slice_index_or, slice_set, arith, take, drop, append_assoc, length-append, suc-mul, mul-le-mul_right, ◌≤◌}
+use Rattle.std.proofs.lemmas.List.{drop-append-le, drop-drop, drop-take, drop_at, get_or-append-add, get_or_append_left, length-drop, length-take-le, nil_from_length, take-append-drop, take_all, take_at, take_more, take_more_set}
+use Rattle.std.proofs.lemmas.Slice.{take-put_mid_below}
+use borrow.Rule.Slice.PartMut.{put_mid}
+use Rattle.uni_small.specs.Image.{joined, rows}
+use Rattle.uni_small.specs.Invariant.{IsBeginning}
+
+-- each of the rows has so many words
+abbrev pub AreEven : (wide : ℕ) → List (List ℕ) → Type 0
+AreEven wide xs = (r : ℕ) → r < length xs → length (slice_index_or xs r []) ≡ wide
+
+even_rest : (wide : ℕ) (x : List ℕ) (xs : List (List ℕ)) → AreEven wide (x ∷ xs) → AreEven wide xs
+even_rest wide x xs even r below = even (suc r) (omega arith)
+
+pub joined-length : (wide : ℕ) (xs : List (List ℕ)) → AreEven wide xs → length (joined xs) ≡ length xs * wide
+joined-length wide [] even = omega arith
+joined-length wide (x ∷ xs) even =
+    let first : length x ≡ wide = even 0 (omega arith) in
+    let rest = joined-length wide xs (even_rest wide x xs even) in
+    let more : suc (length xs) * wide ≡ length xs * wide + wide = suc-mul (length xs) wide in
+    let both = length-append x (joined xs) in
+    omega arith
+
+pub joined-index : (wide : ℕ) (xs : List (List ℕ)) (rest : List ℕ) → AreEven wide xs → (r k : ℕ) → r < length xs → k < wide
+    → slice_index (joined xs ++ rest) (r * wide + k) ≡ slice_index (slice_index_or xs r []) k
+joined-index wide [] rest even r k below inside = absurd (omega arith)
+joined-index wide (x ∷ xs) rest even zero k below inside =
+    let first : length x ≡ wide = even 0 (omega arith) in
+    let e : 0 * wide + k ≡ k = omega arith in
+    ap (slice_index ((x ++ joined xs) ++ rest)) e ∙ ap (λ ws. slice_index ws k) (append_assoc x (joined xs) rest) ∙ get_or_append_left x (joined xs ++ rest) 0 k (omega arith)
+joined-index wide (x ∷ xs) rest even (suc r) k below inside =
+    let first : length x ≡ wide = even 0 (omega arith) in
+    let e : suc r * wide + k ≡ length x + (r * wide + k) = (let m : suc r * wide ≡ r * wide + wide = suc-mul r wide in omega arith) in
+    ap (slice_index ((x ++ joined xs) ++ rest)) e ∙ ap (λ ws. slice_index ws (length x + (r * wide + k))) (append_assoc x (joined xs) rest)
+    ∙ get_or-append-add x (joined xs ++ rest) (r * wide + k) 0 ∙ joined-index wide xs rest (even_rest wide x xs even) r k (omega arith) inside
+
+-- rows are read back as they were written
+pub rows-joined : (wide : ℕ) (xs : List (List ℕ)) (rest : List ℕ) → AreEven wide xs → rows (length xs) wide (joined xs ++ rest) ≡ xs
+rows-joined wide [] rest even = refl
+rows-joined wide (x ∷ xs) rest even =
+    let first : length x ≡ wide = even 0 (omega arith) in
+    let whole : (x ++ joined xs) ++ rest ≡ x ++ (joined xs ++ rest) = append_assoc x (joined xs) rest in
+    let a : take wide ((x ++ joined xs) ++ rest) ≡ x = ap (take wide) whole ∙ take_at x (joined xs ++ rest) wide first in
+    let b : drop wide ((x ++ joined xs) ++ rest) ≡ joined xs ++ rest = ap (drop wide) whole ∙ drop_at x (joined xs ++ rest) wide first in
+    (λ i. a i ∷ rows (length xs) wide (b i)) ∙ ap (λ l. x ∷ l) (rows-joined wide xs rest (even_rest wide x xs even))
+
+-- words are written as they were read
+pub joined-rows : (count wide : ℕ) (words : List ℕ) → length words ≡ count * wide → joined (rows count wide words) ≡ words
+joined-rows zero wide words long = sym (nil_from_length words (omega arith))
+joined-rows (suc count) wide words long =
+    let more : suc count * wide ≡ count * wide + wide = suc-mul count wide in
+    let l = length-drop wide words in
+    ap (λ l. take wide words ++ l) (joined-rows count wide (drop wide words) (omega arith)) ∙ take-append-drop wide words
+
+pub rows-length : (count wide : ℕ) (words : List ℕ) → length (rows count wide words) ≡ count
+rows-length zero wide words = refl
+rows-length (suc count) wide words = ap suc (rows-length count wide (drop wide words))
+
+pub rows-even : (count wide : ℕ) (words : List ℕ) → length words ≡ count * wide → AreEven wide (rows count wide words)
+rows-even zero wide words long r below = absurd (omega arith)
+rows-even (suc count) wide words long zero below =
+    let more : suc count * wide ≡ count * wide + wide = suc-mul count wide in
+    length-take-le wide words (omega arith)
+rows-even (suc count) wide words long (suc r) below =
+    let more : suc count * wide ≡ count * wide + wide = suc-mul count wide in
+    let l = length-drop wide words in
+    rows-even count wide (drop wide words) (omega arith) r (omega arith)
+
+-- the words of a row end before those of later ones begin
+pub later : (r count wide : ℕ) → r < count → r * wide + wide ≤ count * wide
+later r count wide below = let h : suc r * wide ≤ count * wide = mul-le-mul_right wide (let b : suc r ≤ count = omega arith in b) in let s : suc r * wide ≡ r * wide + wide = suc-mul r wide in omega arith
+
+-- where a row is written over in the words, it is
+pub rows-set : (count wide r : ℕ) (words row : List ℕ) → r < count → length words ≡ count * wide → length row ≡ wide
+    → rows count wide (put_mid (r * wide) wide words row) ≡ slice_set (rows count wide words) r row
+rows-set zero wide r words row below long full = absurd (omega arith)
+rows-set (suc count) wide zero words row below long full =
+    let z : 0 * wide ≡ 0 = omega arith in
+    let a : take wide (put_mid (0 * wide) wide words row) ≡ row = ap (λ k. take wide (put_mid k wide words row)) z ∙ take_at row (drop wide words) wide full in
+    let b : drop wide (put_mid (0 * wide) wide words row) ≡ drop wide words = ap (λ k. drop wide (put_mid k wide words row)) z ∙ drop_at row (drop wide words) wide full in
+    (λ i. a i ∷ rows count wide (b i))
+rows-set (suc count) wide (suc r) words row below long full =
+    let m : suc r * wide ≡ wide + r * wide = (let e : suc r * wide ≡ r * wide + wide = suc-mul r wide in omega arith) in
+    let more : suc count * wide ≡ count * wide + wide = suc-mul count wide in
+    let at : put_mid (suc r * wide) wide words row ≡ put_mid (wide + r * wide) wide words row = ap (λ k. put_mid k wide words row) m in
+    let room : r * wide + wide ≤ count * wide = later r count wide (omega arith) in
+    let first : take wide (put_mid (suc r * wide) wide words row) ≡ take wide words = ap (take wide) at ∙ take-put_mid_below (wide + r * wide) wide words row wide (omega arith) (omega arith) in
+    let l = length-take-le (wide + r * wide) words (omega arith) in
+    let d : drop wide (put_mid (suc r * wide) wide words row) ≡ put_mid (r * wide) wide (drop wide words) row
+    = ap (drop wide) at ∙ drop-append-le wide (take (wide + r * wide) words) (row ++ drop wide (drop (wide + r * wide) words)) (omega arith)
+    ∙ (λ i. drop-take wide (r * wide) words i ++ (row ++ drop wide (sym (drop-drop (r * wide) wide words) i))) in
+    (λ i. first i ∷ rows count wide (d i)) ∙ ap (λ l. take wide words ∷ l) (rows-set count wide r (drop wide words) row (omega arith) (let k = length-drop wide words in omega arith) full)
+
+module _ (part whole : List ℕ) (begins : IsBeginning part whole) (room : length part < length whole) where
+  -- one more of the first words
+  pub begins_more : (x : ℕ) → x ≡ slice_index whole (length part) → IsBeginning (part ++ x ∷ []) whole
+  begins_more x is =
+      ap (λ k. take k whole) (length-append part (x ∷ [])) ∙ take_more whole (length part) 0 room
+      ∙ (λ i. begins i ++ sym is i ∷ [])
+
+  pub begins_set : (x : ℕ) → IsBeginning (part ++ x ∷ []) (slice_set whole (length part) x)
+  begins_set x =
+      ap (λ k. take k (slice_set whole (length part) x)) (length-append part (x ∷ [])) ∙ take_more_set whole (length part) x room
+      ∙ ap (λ ws. ws ++ x ∷ []) begins
+
+-- all of them
+pub begins_whole : (part whole : List ℕ) → IsBeginning part whole → length part ≡ length whole → whole ≡ part
+begins_whole part whole begins long = sym (take_all (length part) whole (omega arith)) ∙ begins

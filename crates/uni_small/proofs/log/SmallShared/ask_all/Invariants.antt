@@ -1,0 +1,11 @@
+use Rattle.std.proofs.Common.{◌≡◌, List, Option, Some, ℕ, [], ◌∷◌, ◌++◌, take}
+use Rattle.uni_small.specs.View.Stage.{Reading}
+use Rattle.uni_small.specs.Plays.{stage_of}
+use Rattle.uni_small.specs.Standing.{GoesBy}
+use Rattle.uni_small.proofs.log.SmallShared.ask_all.Given as goal
+
+abbrev pub invariant-loop-k : goal.invariant-loop-k
+invariant-loop-k g l =
+    (l.seat.table_id ≡ l.fn.seat.table_id) × (l.seat.id ≡ l.fn.seat.id)
+    × ((copy : List ℕ) (seen : List (Option (List ℕ))) → stage_of l.fn.seat.me ≡ Reading l.tries l.s copy (seen ++ Some [] ∷ [])
+    → GoesBy l.fn.seat.me l.k (Reading l.tries l.s copy (seen ++ Some (take l.k l.invocation) ∷ [])) l.seat.me)

@@ -1,0 +1,6 @@
+use Rattle.std.proofs.Common.{All, ◌≡◌, length}
+use Rattle.uni_small.specs.Belongs.{HasInvocation}
+use Rattle.uni_small.proofs.open.seen_room.Given as goal
+
+abbrev pub invariant-loop : goal.invariant-loop
+invariant-loop l = (length l.seen.items ≡ l.counter) × All (HasInvocation l.sizes) l.seen.items
