@@ -101,6 +101,9 @@ module _ {O : Type 0} (log : WordLog O) (seed : ℕ) (done : List Done) (are : A
   lists_told : map own_calls (map seat_in done) ≡ map (λ (its : ProcessCalls ℕ ℕ). its.calls) (map told_to done)
   lists_told = sym (map-map calls_of (λ (its : ProcessCalls ℕ ℕ). its.calls) (map seat_in done)) ∙ ap (map (λ (its : ProcessCalls ℕ ℕ). its.calls)) seats_told
 
+  pub told_lists : map (λ (its : ProcessCalls ℕ ℕ). its.calls) (map told_to done) ≡ map (λ (own : Vec (ℕ × ℕ) Global). own.items) (map list_in done)
+  told_lists = sym lists_told ∙ lists_are
+
   -- a log of a run of the seats' calls, with which they agree, is that of a run of the threads
   pub run_of_threads : (object : Sequential ℕ ℕ ℕ) (entries : List (Entry ℕ ℕ)) (seats : List WordSeat) → seats ≡ map seat_in done → IsLogOfRun object (processes_of log) entries (map calls_of seats)
       → Agrees object entries (map own_calls seats) → IsRunOfThreads object (processes_of log) (row_of log) seed (map told_to done)

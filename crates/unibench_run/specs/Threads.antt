@@ -88,6 +88,11 @@ pub record IsRunOfThreads (object : Sequential ℕ ℕ ℕ) (threads calls seed 
   pub run : IsLogOfRun object threads log told
   pub agrees : Agrees object log (map (λ its. its.calls) told)
 
+-- these lists are what the threads of such a run were told, the p-th one what process p was
+abbrev pub AreTold : Sequential ℕ ℕ ℕ → (threads calls seed : ℕ) → (lists : List (List (ℕ × ℕ))) → Type 0
+AreTold object threads calls seed lists =
+    (told : List (ProcessCalls ℕ ℕ)) × (map (λ (its : ProcessCalls ℕ ℕ). its.calls) told ≡ lists) × IsRunOfThreads object threads calls seed told
+
 -- so many replies are those of all calls of such a run
 abbrev pub HasRun : Sequential ℕ ℕ ℕ → (threads calls seed replies : ℕ) → Type 0
 HasRun object threads calls seed replies =

@@ -8,7 +8,7 @@ ghost use Rattle.uni_words.specs.Compare.{Agrees, IsFirstFault};
 ghost use Rattle.uni_words.specs.Log.{entry_shown};
 ghost use Rattle.unibench_run.specs.Draws.{seed_of};
 ghost use Rattle.unibench_run.specs.Statuses.{status_of_threads};
-ghost use Rattle.unibench_run.specs.Threads.{AreDone, HasRun, IsCounted, IsDoneOf, IsJob};
+ghost use Rattle.unibench_run.specs.Threads.{AreDone, AreTold, IsCounted, IsDoneOf, IsJob};
 ghost use Rattle.unibench_run.specs.Threads.{IsRunOfThreads, IsThreadsPlan};
 ghost use Rattle.unibench_run.specs.Threads.{agrees_line, line_of_fault, refusal_of, text_of_fault, told_to};
 
@@ -221,40 +221,53 @@ fn count_agreed<O: WordObject>(
     }
 }
 
+/// What the threads of a run over words were told, by process, and how many replies that is.
+#[derive(Drop)]
+struct Agreed {
+    replies: u64,
+    lists: Vec<Vec<(u64, u32)>>,
+}
+
 /// Closes a log with the seats of all its processes, which have made the calls of a plan, and compares it
-/// with what the threads were told: how many replies that is. They agree.
+/// with what the threads were told: the lists of these, and how many replies that is. They agree.
 fn close_words<O: WordObject>(
     alloc: Global,
     object: &O,
     log: WordLog<O>,
     done: Vec<Done>,
     plan: &Plan,
-) -> Result<u64, ThreadsFault>
+) -> Result<Agreed, ThreadsFault>
     requires object { object.now ≡ object_of log }
     requires calls { plan.now.calls ≡ row_of log }
     requires done { AreDone log plan.now.seed done.items }
     requires few { (processes_of log ≤ 64) × (1 ≤ processes_of log) × (row_of log ≤ 4096) }
-    ensures replies { IfOk result (λ replies. replies ≡ processes_of log * row_of log) }
-    ensures run { OnOk result
-        (IsRunOfThreads (O.sequential object.now) (processes_of log) (row_of log) plan.now.seed
-        (map told_to done.items)) }
+    ensures replies { IfOk result (λ agreed. agreed.replies ≡ processes_of log * row_of log) }
+    ensures lists { IfOk result (λ agreed. agreed.lists.items ≡ map (λ one. one.told) done.items) }
+    ensures told { IfOk result (λ agreed.
+        AreTold (O.sequential object.now) (processes_of log) (row_of log) plan.now.seed
+        (map (λ own. own.items) agreed.lists.items)) }
     ensures faults { (fault : ThreadsFault) → IsErrOf result fault → fault ≡ ThreadsFault.Memory }
 {
     let (seats, lists) = parted(alloc, done)?;
     let words = log.close_all(seats);
     let entries = read_log(alloc, &words)?;
-    count_agreed(object, &entries, &lists, plan.calls)
+    let replies = count_agreed(object, &entries, &lists, plan.calls)?;
+    Ok(Agreed { replies, lists })
 }
 
 /// Makes the calls of a plan on an object of words, each seat's in a thread of its own where one can
-/// be made: how many replies the threads were given. The log agrees with what they were told.
+/// be made. The log agrees with what the threads were told, which is the result: the lists that they gave
+/// back when they were joined, by process.
 fn run_on_words<R: Threads + Watch + Sync, O: WordObject + Copy + Sync>(
     rt: &R,
     alloc: Global,
     object: O,
     plan: &Plan,
-) -> Result<u64, ThreadsFault>
-    ensures run { IfOk result (HasRun (O.sequential object) plan.now.processes plan.now.calls plan.now.seed) }
+) -> Result<Agreed, ThreadsFault>
+    ensures replies { IfOk result (λ agreed. agreed.replies ≡ plan.now.processes * plan.now.calls) }
+    ensures told { IfOk result (λ agreed.
+        AreTold (O.sequential object) plan.now.processes plan.now.calls plan.now.seed
+        (map (λ own. own.items) agreed.lists.items)) }
     ensures faults { (fault : ThreadsFault) → IsErrOf result fault → fault ≡ ThreadsFault.Memory }
 {
     let Ok((log, seats)) = WordLog::open(alloc, object, plan.processes, plan.calls) else {
@@ -293,8 +306,12 @@ pub fn run_plan<R: Threads + Wait + Watch + Sync>(
 {
     rt.begins(plan.processes * plan.calls);
     match (plan.form, plan.object) {
-        (Form::Words, ThreadsObject::Sticky) => run_on_words(rt, alloc, WordSticky, plan),
-        (Form::Words, ThreadsObject::Tally) => run_on_words(rt, alloc, WordTally, plan),
+        (Form::Words, ThreadsObject::Sticky) => {
+            Ok(run_on_words(rt, alloc, WordSticky, plan)?.replies)
+        }
+        (Form::Words, ThreadsObject::Tally) => {
+            Ok(run_on_words(rt, alloc, WordTally, plan)?.replies)
+        }
         (Form::Lock, ThreadsObject::Queue) => run_under_lock(rt, alloc, QueueObject, plan),
         (Form::Lock, ThreadsObject::Directory) => run_under_lock(rt, alloc, DirectoryObject, plan),
         (Form::Lock, ThreadsObject::Book) => run_under_lock(rt, alloc, BookObject, plan),

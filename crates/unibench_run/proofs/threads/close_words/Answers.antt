@@ -1,16 +1,11 @@
-use Rattle.std.proofs.Common.{◌≡◌, ◌∙◌, ℕ, Vec, Global, map, sym, ap, subst, vec_len, Result, Ok, Err, IsOk, IsErrOf, true, false}
+use Rattle.std.proofs.Common.{◌≡◌, ◌∙◌, ℕ, Vec, Global, map, sym, ap, subst, vec_len, IsOk, true, false}
 use Rattle.std.proofs.lemmas.List.Elements.{All-same}
 use Rattle.uni_words.specs.Belongs.{AreAllSeats, IsSeatOf, log_in, own_calls, processes_of, row_of}
 use Rattle.uni_words.specs.Compare.{Agrees}
 use Rattle.uni_words.specs.Log.{entry_shown}
 use Rattle.unibench_run.specs.Threads.{IsRunOfThreads, told_to}
-use Rattle.unibench_run.proofs.Locked.{on_ok}
-use Rattle.unibench_run.proofs.Told.{all_seats, done_seats, lists_are, lists_whole, run_of_threads}
+use Rattle.unibench_run.proofs.Told.{all_seats, done_seats, lists_are, lists_whole, run_of_threads, told_lists}
 use Rattle.unibench_run.proofs.threads.close_words.Goals as goal
-
-ok_is_no_fault : {T E : Type 0} (r : Result T E) (e : E) → IsOk r → IsErrOf r e → ⊥
-ok_is_no_fault (Ok x) e ok is = let bad : Ok x ≡ Err e = is in cc
-ok_is_no_fault (Err f) e ok is = let bad : false ≡ true = ok in cc
 
 pub close_all-words-requires-clause-seats : goal.close_all-words-requires-clause-seats
 close_all-words-requires-clause-seats g c = All-same (IsSeatOf c.args.log) _ _ c.in_ok-seats.ensures.seats (done_seats c.args.log c.args.plan.now.seed c.args.done.items c.requires.done)
@@ -21,17 +16,17 @@ count_agreed-requires-clause-whole g c = λ k d below.
     (lists_whole c.args.log c.args.plan.now.seed c.args.done.items c.requires.done) in
     whole k d below ∙ sym c.requires.calls
 
-pub returns-clause-run : goal.returns-clause-run
-returns-clause-run g c =
+pub returns-clause-told : goal.returns-clause-told
+returns-clause-told g c =
     let object = g.O.WordObject.sequential in
     let seed = c.args.plan.now.seed in
     let all : AreAllSeats c.args.log c.in_ok-seats.seats.items = subst (AreAllSeats c.args.log) (sym c.in_ok-seats.ensures.seats) (all_seats c.args.log seed c.args.done.items c.requires.done) in
     let run = subst (λ o. IsRunOfThreads (object o) (processes_of c.args.log) (row_of c.args.log) seed (map told_to c.args.done.items)) (sym c.requires.object)
     (run_of_threads c.args.log seed c.args.done.items c.requires.done (object c.args.log.setup.object) _ c.in_ok-seats.seats.items c.in_ok-seats.ensures.seats c.close_all-words.ensures.run (c.close_all-words.ensures.agrees all)) in
-    on_ok c.count_agreed.result run
+    (map told_to c.args.done.items, told_lists c.args.log seed c.args.done.items c.requires.done ∙ ap (map (λ (own : Vec (ℕ × ℕ) Global). own.items)) (sym c.in_ok-seats.ensures.told), run)
 
-pub returns-clause-faults : goal.returns-clause-faults
-returns-clause-faults g c = λ fault is.
+pub returns-in_err-replies-clause-faults : goal.returns-in_err-replies-clause-faults
+returns-in_err-replies-clause-faults g c = λ fault is.
     let object = g.O.WordObject.sequential in
     let seed = c.args.plan.now.seed in
     let all : AreAllSeats c.args.log c.in_ok-seats.seats.items = subst (AreAllSeats c.args.log) (sym c.in_ok-seats.ensures.seats) (all_seats c.args.log seed c.args.done.items c.requires.done) in
@@ -44,4 +39,4 @@ returns-clause-faults g c = λ fault is.
     (subst (λ ls. Agrees (object c.args.log.setup.object) (map entry_shown c.deref.result.now) ls) lists
     (subst (λ es. Agrees (object c.args.log.setup.object) es (map own_calls c.in_ok-seats.seats.items)) entries (c.close_all-words.ensures.agrees all))) in
     let ok = c.count_agreed.ensures.agrees.1 agreed in
-    absurd (ok_is_no_fault c.count_agreed.result fault ok is)
+    let bad : false ≡ true = subst IsOk c.in_err-replies.was ok in cc
