@@ -10,13 +10,13 @@ abbrev pub invocations_of : List (Entry ℕ ℕ) → List ℕ
 invocations_of log = map (λ e. e.call.inv) log
 
 -- the entry at this place has the object's reply at it, from the start state on, and is a call of one of so many processes
-abbrev pub IsRight : Sequential ℕ ℕ ℕ → List (Entry ℕ ℕ) → (processes place : ℕ) → Type 0
+abbrev pub IsRight : {S : Type 0} → Sequential S ℕ ℕ → List (Entry ℕ ℕ) → (processes place : ℕ) → Type 0
 IsRight object log processes place =
     (e : Entry ℕ ℕ) → slice_get log place ≡ Some e
     → (e.response ≡ response_at object object.initial (invocations_of log) place) × (e.call.process < processes)
 
 -- all entries are right, and the lists are the calls of their processes, in order
-pub record Agrees (object : Sequential ℕ ℕ ℕ) (log : List (Entry ℕ ℕ)) (lists : List (List (ℕ × ℕ))) : Type 0 where
+pub record Agrees {S : Type 0} (object : Sequential S ℕ ℕ) (log : List (Entry ℕ ℕ)) (lists : List (List (ℕ × ℕ))) : Type 0 where
   pub right : (place : ℕ) → IsRight object log (length lists) place
   pub calls : (p : ℕ) (own : List (ℕ × ℕ)) → slice_get lists p ≡ Some own → calls_by p log ≡ map replied own
 

@@ -50,10 +50,20 @@ pub(crate) fn tip_for<S: AsStr>(error: &clap::Error, words: &[S]) -> Option<&'st
 const SHARED: [&str; 4] = ["queue", "directory", "book", "sticky"];
 
 /// The names of the objects of threads.
-const OBJECTS: [&str; 5] = ["queue", "directory", "book", "sticky", "tally"];
+const OBJECTS: [&str; 9] = [
+    "queue",
+    "directory",
+    "book",
+    "sticky",
+    "tally",
+    "counter",
+    "counters",
+    "register",
+    "stack",
+];
 
 /// The names of the forms.
-const FORMS: [&str; 2] = ["lock", "words"];
+const FORMS: [&str; 3] = ["lock", "words", "small"];
 
 /// A command of which `clap` knows the names that an option or a word can have.
 fn naming<'a>(

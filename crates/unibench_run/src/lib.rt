@@ -8,6 +8,7 @@ mod language;
 mod lock;
 mod program;
 mod request;
+mod small;
 mod threads;
 mod typed;
 mod watch;

@@ -2,4 +2,6 @@
 #![tactic(auto)]
 
 #[cfg(test)]
+mod replays;
+#[cfg(test)]
 mod runs;

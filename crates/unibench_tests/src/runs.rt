@@ -446,6 +446,66 @@ fn threads_that_agree(rt: HostRuntime) {
     );
 }
 
+/// Plans on an object of several words, each by its object, processes, calls and seed, with its line.
+const ON_SMALL: &[(&str, &str, &str, &str, &str)] = &[
+    ("counter", "8", "100", "3", "threads 8 calls 800 agrees\n"),
+    ("counters", "3", "200", "1", "threads 3 calls 600 agrees\n"),
+    ("register", "4", "300", "2", "threads 4 calls 1200 agrees\n"),
+    ("queue", "4", "5000", "1", "threads 4 calls 20000 agrees\n"),
+    ("stack", "64", "10", "0", "threads 64 calls 640 agrees\n"),
+];
+
+#[test]
+fn threads_on_several_words_that_agree(rt: HostRuntime) {
+    for &(object, processes, calls, seed, output) in ON_SMALL {
+        let words = [
+            "unibench",
+            "threads",
+            "--form",
+            "small",
+            "--object",
+            object,
+            "--processes",
+            processes,
+            "--calls",
+            calls,
+            "--seed",
+            seed,
+        ];
+        runs(&rt, rt.alloc(), words.as_slice(), (output, "", 0));
+    }
+}
+
+/// Plans that are refused, each by its form, object, processes and calls, with what is told.
+const REFUSED: &[(&str, &str, &str, &str, &str)] = &[
+    ("small", "book", "2", "1", "no such object in this form\n"),
+    ("words", "queue", "2", "1", "no such object in this form\n"),
+    ("words", "tally", "1", "4097", "calls too many\n"),
+    ("lock", "queue", "1", "4097", "calls too many\n"),
+    ("lock", "queue", "64", "402", "calls too many\n"),
+    ("small", "queue", "5", "10000000", "calls too many\n"),
+    ("small", "queue", "64", "625001", "calls too many\n"),
+];
+
+#[test]
+fn threads_that_are_refused(rt: HostRuntime) {
+    for &(form, object, processes, calls, fault) in REFUSED {
+        let words = [
+            "unibench",
+            "threads",
+            "--form",
+            form,
+            "--object",
+            object,
+            "--processes",
+            processes,
+            "--calls",
+            calls,
+        ];
+        runs(&rt, rt.alloc(), words.as_slice(), ("", fault, 2));
+    }
+}
+
 /// Plans under a lock, each by its object, processes and calls, with its line.
 const UNDER_A_LOCK: &[(&str, &str, &str, &str)] = &[
     ("book", "4", "50", "threads 4 calls 200 agrees\n"),
@@ -482,6 +542,7 @@ const FAULTS: &[(ThreadsFault, &str)] = &[
     (ThreadsFault::SeatMissing(3), "close: seat 3 missing\n"),
     (ThreadsFault::SeatPending(0), "close: seat 0 pending\n"),
     (ThreadsFault::OtherRecord, "close: another record\n"),
+    (ThreadsFault::LastState, "close: the last state differs\n"),
     (ThreadsFault::Differs(CALL), "close: call 1.2 differs\n"),
     (
         ThreadsFault::Audit(Verdict::BadReply(12)),

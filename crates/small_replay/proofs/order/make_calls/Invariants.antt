@@ -1,0 +1,6 @@
+use Rattle.std.proofs.Common.{map}
+use Rattle.small_replay.proofs.Replaying.{IsUnderway}
+use Rattle.small_replay.proofs.order.make_calls.Given as goal
+
+abbrev pub invariant-loop-place : goal.invariant-loop-place
+invariant-loop-place g l = IsUnderway (g.O.SmallObject.sequential l.object) (map (λ own. own.items) l.lists) l.made l.place l.state
