@@ -265,7 +265,9 @@ fn closed(shared: SmallShared<SmallCounter>, seats: Vec<SmallSeat<SmallCounter>>
 /// The state of a counter after two calls, closed with so many of its two seats, the others dropped: `None`
 /// where memory was refused.
 fn closed_with(rt: &impl Abort, alloc: Global, kept: usize) -> Option<u64> {
-    let (shared, mut seats) = SmallShared::open(alloc, SmallCounter, 2).ok()?;
+    let Ok((shared, mut seats)) = SmallShared::open(alloc, SmallCounter, 2) else {
+        return None;
+    };
     answers(rt, &shared, &mut seats[0], &[(5, 0)]);
     answers(rt, &shared, &mut seats[1], &[(3, 5)]);
     for _ in kept..2 {
