@@ -26,8 +26,9 @@ unknown command: the nearest is 'finish'
 fn bad_line_is_survived(rt: HostRuntime) {
     let mut told = Vec::new(rt.alloc());
     let mut text = Vec::new(rt.alloc());
-    let mut typed = Typed::new(rt.alloc(), by_sevens(TYPED, false), &mut told, true);
-    let is_read = typed.read_to_end(&mut text).is_ok();
+    let is_read = Typed::new(rt.alloc(), by_sevens(TYPED, false), &mut told, true)
+        .read_to_end(&mut text)
+        .is_ok();
     assert!(rt; is_read && text.as_slice() == GOOD);
     assert!(rt; told.as_slice() == TOLD);
 }
@@ -36,8 +37,9 @@ fn bad_line_is_survived(rt: HostRuntime) {
 fn other_script_is_handed_on(rt: HostRuntime) {
     let mut told = Vec::new(rt.alloc());
     let mut text = Vec::new(rt.alloc());
-    let mut piped = Typed::new(rt.alloc(), by_sevens(TYPED, false), &mut told, false);
-    let is_read = piped.read_to_end(&mut text).is_ok();
+    let is_read = Typed::new(rt.alloc(), by_sevens(TYPED, false), &mut told, false)
+        .read_to_end(&mut text)
+        .is_ok();
     assert!(rt; is_read && text.as_slice() == TYPED);
     assert!(rt; told.is_empty());
 }
