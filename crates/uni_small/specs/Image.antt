@@ -16,6 +16,10 @@ pub record Meaning : Type 0 where
 abbrev pub AreWidths : Meaning → Sizes → Type 0
 AreWidths meaning sizes = (meaning.invocation ≡ sizes.invocation) × (meaning.reply ≡ sizes.reply)
 
+-- what a scan has seen of the processes, in their order: of each the invocation of a call that isn't in, as far as it was loaded
+abbrev pub Scan : Type 0
+Scan = List (Option (List ℕ))
+
 pub record Image : Type 0 where
   pub applied : List ℕ
   pub reply : List (List ℕ)

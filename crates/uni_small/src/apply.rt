@@ -8,7 +8,8 @@ ghost use Rattle.uni_small.specs.View.Stage.{Last};
 ghost use Rattle.uni_small.specs.Board.{buffer_in, version_in};
 ghost use Rattle.uni_small.specs.Standing.{CallEnds, GoesBy, IsOf, ReplyEnds, call_steps, local_of};
 ghost use Rattle.uni_small.specs.Belongs.{IsSeatOf, HasRoom, calls_made, calls_of, own_calls, process_of};
-ghost use Rattle.uni_small.specs.Belongs.{invocation_width_of, reply_width_of, sizes_of, taken_calls, version_of, word_steps_of};
+ghost use Rattle.uni_small.specs.Belongs.{invocation_width_of, reply_width_of, sizes_of};
+ghost use Rattle.uni_small.specs.Belongs.{taken_calls, version_of, word_steps_of};
 
 use crate::log::SmallShared;
 use crate::object::SmallObject;

@@ -1,6 +1,7 @@
 //! An attempt at a call: copy the current buffer, apply what was announced, and bring the copy in.
-ghost use Rattle.std.specs.Prelude.{All, List, Option, Some, [], ℕ, ◌*◌, ◌+◌, ◌++◌, ◌<◌, ◌≡◌, ◌≤◌, ◌∷◌, length, map, slice_index};
-ghost use Rattle.uni_small.specs.Image.{AreWidths, Image, IsReached, buffer_words, spell, with_seen};
+ghost use Rattle.std.specs.Prelude.{All, List, Some, [], ℕ, ◌*◌, ◌+◌, ◌++◌, ◌<◌, ◌≡◌, ◌≤◌, ◌∷◌};
+ghost use Rattle.std.specs.Prelude.{length, map, slice_index};
+ghost use Rattle.uni_small.specs.Image.{AreWidths, Image, IsReached, Scan, buffer_words, spell, with_seen};
 ghost use Rattle.uni_small.specs.View.Stage.{Ready, Reading, Writing};
 ghost use Rattle.uni_small.specs.Board.{buffer_in};
 ghost use Rattle.uni_small.specs.Invariant.{most_calls};
@@ -57,7 +58,7 @@ impl<O: SmallObject> SmallShared<O> {
         requires of { IsOf self.now.setup.object self.now.setup.sizes p seat.old.me }
         requires stage { IsAsking tries s r 0 seat.old.me }
         ensures same { (seat.new.table_id ≡ seat.old.table_id) × (seat.new.id ≡ seat.old.id) }
-        ensures goes { (copy : List ℕ) (seen : List (Option (List ℕ)))
+        ensures goes { (copy : List ℕ) (seen : Scan)
             → stage_of seat.old.me ≡ Reading tries s copy (seen ++ Some [] ∷ [])
             → GoesBy seat.old.me (length invocation.new)
             (Reading tries s copy (seen ++ Some invocation.new ∷ [])) seat.new.me }
@@ -83,11 +84,11 @@ impl<O: SmallObject> SmallShared<O> {
         requires inside { (p < self.now.setup.sizes.processes) × (r < self.now.setup.sizes.processes) }
         requires of { IsOf self.now.setup.object self.now.setup.sizes p seat.old.me }
         requires stage { IsLooking self.now.setup.sizes tries s r seat.old.me }
-        requires known { (copy : List ℕ) (seen : List (Option (List ℕ)))
+        requires known { (copy : List ℕ) (seen : Scan)
             → stage_of seat.old.me ≡ Reading tries s copy seen → slice_index copy r ≡ known }
         requires room { HasInvocation self.now.setup.sizes seen.old }
         ensures same { (seat.new.table_id ≡ seat.old.table_id) × (seat.new.id ≡ seat.old.id) }
-        ensures goes { (copy : List ℕ) (before : List (Option (List ℕ)))
+        ensures goes { (copy : List ℕ) (before : Scan)
             → stage_of seat.old.me ≡ Reading tries s copy before
             → GoesWithin seat.old.me (1 + self.now.setup.sizes.invocation)
             (Reading tries s copy (before ++ seen_in seen.new ∷ [])) seat.new.me }
@@ -202,7 +203,7 @@ impl<O: SmallObject> SmallShared<O> {
         requires stage { HasRow (O.meaning self.now.setup.object).object tries s from row.now seat.old.me }
         requires spare { ((local_of seat.old.me).spare ≡ spare) × (spare ≤ 1) }
         ensures same { (seat.new.table_id ≡ seat.old.table_id) × (seat.new.id ≡ seat.old.id) }
-        ensures goes { (image : Image) (seen : List (Option (List ℕ))) → stage_of seat.old.me ≡ Writing tries s image seen from
+        ensures goes { (image : Image) (seen : Scan) → stage_of seat.old.me ≡ Writing tries s image seen from
             → GoesBy seat.old.me (length row.now) (Writing tries s image seen (from + length row.now)) seat.new.me }
     {
         for i in 0..row.len() {
@@ -248,11 +249,12 @@ impl<O: SmallObject> SmallShared<O> {
         requires table { seat.old.table_id ≡ self.now.table.shared.table_id }
         requires inside { p < self.now.setup.sizes.processes }
         requires of { IsOf self.now.setup.object self.now.setup.sizes p seat.old.me }
-        requires stage { HasRow (O.meaning self.now.setup.object).object tries s 0 (spell (image_in self.now.setup.sizes room.now)) seat.old.me }
+        requires stage { HasRow (O.meaning self.now.setup.object).object tries s 0
+            (spell (image_in self.now.setup.sizes room.now)) seat.old.me }
         requires spare { ((local_of seat.old.me).spare ≡ spare) × (spare ≤ 1) }
         requires room { HasRoom self.now.setup.sizes room.now }
         ensures same { (seat.new.table_id ≡ seat.old.table_id) × (seat.new.id ≡ seat.old.id) }
-        ensures goes { (image : Image) (seen : List (Option (List ℕ))) → stage_of seat.old.me ≡ Writing tries s image seen 0
+        ensures goes { (image : Image) (seen : Scan) → stage_of seat.old.me ≡ Writing tries s image seen 0
             → GoesBy seat.old.me (buffer_words self.now.setup.sizes)
             (Writing tries s image seen (buffer_words self.now.setup.sizes)) seat.new.me }
     {
@@ -278,9 +280,11 @@ impl<O: SmallObject> SmallShared<O> {
         requires table { seat.old.table_id ≡ self.now.table.shared.table_id }
         requires inside { p < self.now.setup.sizes.processes }
         requires of { IsOf self.now.setup.object self.now.setup.sizes p seat.old.me }
-        requires stage { stage_of seat.old.me ≡ Writing tries s (image_in self.now.setup.sizes room.old) (all_seen room.old) 0 }
+        requires stage { stage_of seat.old.me
+            ≡ Writing tries s (image_in self.now.setup.sizes room.old) (all_seen room.old) 0 }
         requires named { IsNamed self.now.setup.sizes s }
-        requires good { IsGood (O.meaning self.now.setup.object) self.now.setup.sizes (image_in self.now.setup.sizes room.old) }
+        requires good { IsGood (O.meaning self.now.setup.object) self.now.setup.sizes
+            (image_in self.now.setup.sizes room.old) }
         requires spare { ((local_of seat.old.me).spare ≡ spare) × (spare ≤ 1) }
         requires room { HasRoom self.now.setup.sizes room.old }
         ensures same { (seat.new.table_id ≡ seat.old.table_id) × (seat.new.id ≡ seat.old.id) }

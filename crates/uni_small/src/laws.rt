@@ -22,7 +22,8 @@ use crate::object::SmallObject;
 
 /// The store of an announcement begins a call: the history has its invocation more.
 pub fn announcement_invokes<O: SmallObject>()
-    ensures { (o : O) (sizes : Sizes) (id number : ℕ) (inv : List ℕ) (st : Step ℕ) (me : Me ℕ (View O)) → let p = me.0.known.first in
+    ensures { (o : O) (sizes : Sizes) (id number : ℕ) (inv : List ℕ) (st : Step ℕ) (me : Me ℕ (View O)) →
+        let p = me.0.known.first in
         me.0.known.count ≡ 1 → number ≡ length (local_of me).own + 1 → number ≤ most_calls
         → stage_of me ≡ Idle inv → length inv ≡ sizes.invocation
         → Moves O.meaning o sizes id me (announce_word p) (λ x. number)
@@ -101,6 +102,6 @@ pub fn loads_append_nothing<O: SmallObject>()
 pub fn returned_has_come<O: SmallObject>()
     ensures { (o : O) (sizes : Sizes) (g : Board) (local : ℕ → Local) (seat_of : ℕ → ℕ)
         (s : State ℕ (View O)) (p k : ℕ) (call : Returned) →
-        sizes.processes ≤ 64 → IsShown sizes O.meaning o g local seat_of s → p < sizes.processes → slice_get (local p).own k ≡ Some call
-        → call.version ≤ version_in (slice_index s.words 0) }
+        sizes.processes ≤ 64 → IsShown sizes O.meaning o g local seat_of s → p < sizes.processes
+        → slice_get (local p).own k ≡ Some call → call.version ≤ version_in (slice_index s.words 0) }
 {}

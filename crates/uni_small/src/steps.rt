@@ -1,7 +1,7 @@
 //! The word steps, each one function.
-ghost use Rattle.std.specs.Prelude.{◌≡◌, ℕ, ◌+◌, ◌*◌, ◌<◌, ◌≤◌, ◌==◌, List, [], ◌∷◌, ◌++◌, Option, Some, None};
+ghost use Rattle.std.specs.Prelude.{◌≡◌, ℕ, ◌+◌, ◌*◌, ◌<◌, ◌≤◌, ◌==◌, List, [], ◌∷◌, ◌++◌, Some, None};
 ghost use Rattle.std.specs.Prelude.{if◌then◌else◌, length, slice_index};
-ghost use Rattle.uni_small.specs.Image.{Image, HasRows, buffer_words, spell, with_seen, read_image};
+ghost use Rattle.uni_small.specs.Image.{Image, HasRows, Scan, buffer_words, spell, with_seen, read_image};
 ghost use Rattle.uni_small.specs.View.{announces, brings, goes, knows, returns};
 ghost use Rattle.uni_small.specs.View.Stage.{Idle, Last, Reading, Ready, Writing};
 ghost use Rattle.uni_small.specs.Board.{buffer_in, current_word, version_in};
@@ -101,7 +101,7 @@ impl<O: SmallObject> SmallShared<O> {
         requires of { IsOf self.now.setup.object self.now.setup.sizes p seat.old.me }
         requires stage { IsLooking self.now.setup.sizes tries s r seat.old.me }
         ensures same { (seat.new.table_id ≡ seat.old.table_id) × (seat.new.id ≡ seat.old.id) }
-        ensures left { (copy : List ℕ) (seen : List (Option (List ℕ))) → stage_of seat.old.me ≡ Reading tries s copy seen
+        ensures left { (copy : List ℕ) (seen : Scan) → stage_of seat.old.me ≡ Reading tries s copy seen
             → Goes seat.old.me (Reading tries s copy (seen ++ looked copy (length seen) result ∷ [])) seat.new.me }
     {
         self.table.shared.load::<Looks>(seat, self.announce_word(r))
@@ -123,7 +123,7 @@ impl<O: SmallObject> SmallShared<O> {
         requires of { IsOf self.now.setup.object self.now.setup.sizes p seat.old.me }
         requires stage { IsAsking tries s r k seat.old.me }
         ensures same { (seat.new.table_id ≡ seat.old.table_id) × (seat.new.id ≡ seat.old.id) }
-        ensures left { (copy : List ℕ) (seen : List (Option (List ℕ))) (part : List ℕ)
+        ensures left { (copy : List ℕ) (seen : Scan) (part : List ℕ)
             → stage_of seat.old.me ≡ Reading tries s copy (seen ++ Some part ∷ [])
             → Goes seat.old.me (Reading tries s copy (seen ++ Some (part ++ result ∷ []) ∷ [])) seat.new.me }
     {
@@ -140,7 +140,7 @@ impl<O: SmallObject> SmallShared<O> {
         requires stage { IsLooking self.now.setup.sizes tries s self.now.setup.sizes.processes seat.old.me }
         requires named { buffer_in s < 2 * self.now.setup.sizes.processes }
         ensures same { (seat.new.table_id ≡ seat.old.table_id) × (seat.new.id ≡ seat.old.id) }
-        ensures left { (copy : List ℕ) (seen : List (Option (List ℕ))) → stage_of seat.old.me ≡ Reading tries s copy seen
+        ensures left { (copy : List ℕ) (seen : Scan) → stage_of seat.old.me ≡ Reading tries s copy seen
             → Goes seat.old.me
             (checked self.now.setup.sizes p (length (local_of seat.old.me).own + 1) tries s copy seen result)
             seat.new.me × (result ≡ s → IsGood (O.meaning self.now.setup.object) self.now.setup.sizes
@@ -166,7 +166,7 @@ impl<O: SmallObject> SmallShared<O> {
         requires stage { IsWriting (O.meaning self.now.setup.object).object tries s i x seat.old.me }
         requires spare { ((local_of seat.old.me).spare ≡ spare) × (spare ≤ 1) }
         ensures same { (seat.new.table_id ≡ seat.old.table_id) × (seat.new.id ≡ seat.old.id) }
-        ensures left { (image : Image) (seen : List (Option (List ℕ))) → stage_of seat.old.me ≡ Writing tries s image seen i
+        ensures left { (image : Image) (seen : Scan) → stage_of seat.old.me ≡ Writing tries s image seen i
             → Goes seat.old.me (Writing tries s image seen (i + 1)) seat.new.me }
     {
         self.table
