@@ -44,7 +44,8 @@ abbrev pub IsResponse : {I R : Type 0} → Act I R → Type 0
 IsResponse (Respond p k r) = Unit {0}
 IsResponse act = ⊥
 
--- a completion of a history: some invocations are dropped, all of them pending, and responses are appended
+-- A completion of a history: some invocations are dropped, all of them pending, and responses are appended. That each appended
+-- response belongs to a pending call is for the equivalence below to say: a response that belongs to none is in no legal history.
 pub record IsCompletion {I R : Type 0} (history completed : List (Act I R)) : Type 0 where
   pub keeps : (process nth : ℕ) → Bool
   pub pending : (p k : ℕ) (r : R) → keeps p k ≡ false → ¬ (Contains history (Respond p k r))
@@ -64,7 +65,8 @@ pub record Precedes {I R : Type 0} (history : List (Act I R)) (p k q m : ℕ) : 
 module _ {S I R : Type 0} (object : Sequential S I R) where
   -- The history has a completion that is equivalent to the legal sequential history of the calls in this order, in which what precedes
   -- a call in the history stands before it. Only the calls that the completion keeps are asked: a call can precede a pending one
-  -- that is dropped, which stands nowhere.
+  -- that is dropped, which stands nowhere. With one strengthening: Herlihy and Wing order returned calls only; here a returned call
+  -- also precedes a later one that is still pending, where the completion keeps that one.
   pub record IsLinearizedByCompletion (start : S) (history : List (Act I R)) (order : List (Invoked I)) : Type 0 where
     pub completed : List (Act I R)
     pub completion : IsCompletion history completed

@@ -7,7 +7,7 @@ use Rattle.uni_model.specs.AtomicObject.Act.{Invoke, Linearize, Respond}
 use Rattle.uni_model.specs.Linearizable.{IsLinearizableHistory}
 use Rattle.uni_model.specs.HerlihyWing.{IsWellFormed}
 
--- several objects as one: each invocation and each response names the object that it belongs to
+-- several objects as one, their product: each invocation and each response names the object that it belongs to
 abbrev pub together : {S I R : Type 0} → (ℕ → Sequential S I R) → Sequential (ℕ → S) (ℕ × I) (ℕ × R)
 together objects =
     record {

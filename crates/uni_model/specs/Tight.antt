@@ -11,9 +11,9 @@ use Rattle.uni_model.specs.Bound.{most_steps}
 use Rattle.uni_model.specs.Laws.{IsReached}
 
 module _ {S I R : Type 0} (object : Sequential S I R) where
-  -- A run from an opening of n processes, in which the first call of a process meets the bounds of Herlihy 1991, section 4: it has
-  -- returned after n + 1 turns, at its process's (10n + 12)th own step, and its number is n + 1 past its floor. It is its process's one
-  -- call, and every other process makes at most two: rows of two cells are enough.
+  -- A run from an opening of n processes, in which the first call of a process meets the bounds of this construction (after Herlihy
+  -- 1991, section 4): it has returned after n + 1 turns, at its process's (10n + 12)th own step, and its number is n + 1 past its
+  -- floor. It is its process's one call, and every other process makes at most two: rows of two cells are enough.
   pub record MeetsBound (n : ℕ) (start : S) (first : ℕ) : Type 0 where
     pub events : List (Event I)
     pub process : ℕ

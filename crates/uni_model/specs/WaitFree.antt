@@ -1,5 +1,5 @@
--- Wait-freedom as the textbooks state it: a pending process can always take its next step, and its call has returned after a
--- known number of them, whatever the others do meanwhile.
+-- Bounded wait-freedom as the textbooks state it: a pending process can always take its next step, and its call has returned
+-- after a known number of them, whatever the others do meanwhile.
 use Rattle.std.specs.Prelude.{◌≡◌, refl, ℕ, ◌+◌, ◌≤◌, ◌==◌, Bool, false, List, [], ◌∷◌, Some, None, Contains}
 use Rattle.std.specs.Prelude.{count_by, replicate}
 use Rattle.seq_object.specs.Sequential.{Sequential}

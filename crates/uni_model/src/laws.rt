@@ -38,7 +38,7 @@ pub fn is_universal<O: SeqObject>()
 {}
 
 /// A step changes of the shared places only the one that its process's stage names, and of the
-/// processes only its own one's stage, steps and turns.
+/// processes only its own one's call, steps and turns.
 pub fn changes_one_place<O: SeqObject>()
     ensures { (object : O) (w : WorldOf O.State O.Inv O.Resp) (p : ℕ) (call : Pending) →
         StepIsLocal (O.sequential object) w p call }
@@ -239,10 +239,10 @@ pub fn is_wait_free<O: SeqObject>()
         → CallEndsAlone (O.sequential object) w p }
 {}
 
-/// The bounds of a call are met, so no smaller ones hold (to Herlihy 1991, section 4): for two processes or
-/// more, every object and every start there is a run in which a call returns after n + 1 turns, at its
-/// process's (10n + 12)th own step, with the number n + 1 past its floor, and every other process begins at
-/// most two calls.
+/// The bounds of a call are met, so no smaller ones hold (after Herlihy 1991, section 4): for two processes
+/// or more, every object that has an invocation, and every start there is a run in which a call returns after
+/// n + 1 turns, at its process's (10n + 12)th own step, with the number n + 1 past its floor, and every other
+/// process begins at most two calls.
 pub fn bound_is_met<O: SeqObject>()
     ensures { (object : O) (n : ℕ) (start : O.State) (number : ℕ) (i : O.Inv) →
         BoundIsMet (O.sequential object) n start number i }
@@ -250,7 +250,7 @@ pub fn bound_is_met<O: SeqObject>()
 
 /// The construction is strongly linearizable (Golab, Higham and Woelfel 2011): one function gives each run
 /// from an opening, whichever eras end in it, a linearization of what is observed of it in the words of
-/// Herlihy and Wing 1990, and what it gives a run is a prefix of what it gives every longer one.
+/// Herlihy and Wing 1990, and what it gives a run is a prefix of what it gives every extension of it.
 pub fn is_strongly_linearizable<O: SeqObject>()
     ensures { (object : O) (n : ℕ) (start : O.State) (number : ℕ) →
         IsStronglyLinearizable (O.sequential object) n start number }
@@ -258,8 +258,9 @@ pub fn is_strongly_linearizable<O: SeqObject>()
 
 /// A history is linearizable with linearization points put in exactly where it is so in the words of Herlihy
 /// and Wing 1990: it is well-formed, and has a completion that is equivalent, process by process, to a legal
-/// sequential history that keeps its real-time order. The orders are the same in both senses. The law names
-/// no construction.
+/// sequential history that keeps its real-time order; a returned call precedes a later one that is still
+/// pending too, where the completion keeps it. The orders are the same in both senses. The law names no
+/// construction.
 pub fn agrees_with_completion<O: SeqObject>()
     ensures history { (object : O) (start : O.State) (history : List (Act O.Inv O.Resp)) →
         AgreesWithCompletion (O.sequential object) start history }
