@@ -6,6 +6,7 @@ use script_advice::explanation;
 use std::alloc::{AllocError, Global};
 use std::io;
 use std::io::{ErrorKind, Read, Write};
+use uni_script::is_note;
 
 /// How much of a line is looked at, in bytes; the rest of a longer one is a line of its own.
 const MOST: usize = 4096;
@@ -24,11 +25,6 @@ pub struct Typed<I: Drop, F: Drop> {
     line: Vec<u8>,
     /// How much of it was.
     given: usize,
-}
-
-/// Whether a line is a note of a script.
-fn is_note(line: &[u8]) -> bool {
-    line == b"\n".as_slice() || line.first() == Some(&b'#')
 }
 
 impl<I: Read + Drop, F: Write + Drop> Typed<I, F> {
@@ -88,7 +84,8 @@ impl<I: Read + Drop, F: Write + Drop> Typed<I, F> {
             }
             let reason = self.reason(&line)?;
             if reason.is_empty() {
-                if self.header.is_empty() && !is_note(&line) {
+                let words = line.strip_suffix(b"\n".as_slice()).unwrap_or(&line);
+                if self.header.is_empty() && !is_note(words) {
                     self.header = line.clone()?;
                 }
                 return Ok(line);
