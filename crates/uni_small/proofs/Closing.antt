@@ -62,12 +62,13 @@ module _ {O : Type 0} (meaning : O → Meaning) (setup : Setup O) (few : setup.s
   abbrev IsDone : ProcessReturned → Type 0
   IsDone its = (its.process < sizes.processes) × ((local its.process).stage ≡ Idle []) × ((local its.process).own ≡ its.calls)
 
-  final : (known : List ProcessReturned) → ((its : ProcessReturned) → Contains known its → IsDone its) → (state : List ℕ) → IsStateIn sizes words state → IsFinal object known state
+  final : (known : List ProcessReturned) → ((its : ProcessReturned) → Contains known its → IsDone its) → (state : List ℕ) → IsStateIn sizes words state → IsFinal object sizes.processes known state
   final known done state read = record {
     acts = g.acts;
     atomic = g.atomic;
     accepted = board.history;
     linearized = (g.acts, g.atomic, refl, board.history, refl);
+    inside = λ c has. (board.agreed c has).0;
     state = sym (reached_from object _ g.atomic.agreed) ∙ ap (λ (i : Image). i.state) board.image ∙ state_is state read;
     own = λ its has. (let d = done its has in (closed its d).acts ∙ ap (λ cs. sequential_acts its.process 0 (map plain cs)) d.2);
     calls_in_version = g.calls_in_version;
@@ -78,12 +79,12 @@ module _ {O : Type 0} (meaning : O → Meaning) (setup : Setup O) (few : setup.s
     closed its d = (call_at object sizes g its.process (local its.process) (Idle []) (is.sound.each its.process d.0) d.1).0
 
   -- with no seat
-  pub closes_alone : (state : List ℕ) → IsStateIn sizes words state → IsFinal object [] state
+  pub closes_alone : (state : List ℕ) → IsStateIn sizes words state → IsFinal object sizes.processes [] state
   closes_alone = final [] (λ its has. absurd (let h = has.1 in omega arith))
 
   -- with a seat of one process that has no call pending, and of those that it has taken in
   pub closes_with : (id : ℕ) (view : View O) → get_elem? last.views id ≡ some view → view.known.count ≡ 1 → view.known.local.stage ≡ Idle []
-      → (state : List ℕ) → IsStateIn sizes words state → IsFinal object (record { process = view.known.first; calls = view.known.local.own } ∷ view.known.taken) state
+      → (state : List ℕ) → IsStateIn sizes words state → IsFinal object sizes.processes (record { process = view.known.first; calls = view.known.local.own } ∷ view.known.taken) state
   closes_with id view seen single idle = final (record { process = view.known.first; calls = view.known.local.own } ∷ view.known.taken) one where
     one : (its : ProcessReturned) → Contains (record { process = view.known.first; calls = view.known.local.own } ∷ view.known.taken) its → IsDone its
     one its (zero, below, e) =
@@ -92,13 +93,14 @@ module _ {O : Type 0} (meaning : O → Meaning) (setup : Setup O) (few : setup.s
     one its (suc k, below, e) = (let t = (is.seats id view seen).taken its (k, (let b = below in omega arith), e) in (t.inside, t.idle, t.calls))
 
 -- what tells of more calls tells of fewer
-pub final_of_fewer : (object : Sequential (List ℕ) (List ℕ) (List ℕ)) (all known : List ProcessReturned) (state : List ℕ) → ((its : ProcessReturned) → Contains known its → Contains all its) → IsFinal object all state → IsFinal object known state
-final_of_fewer _ all known state among final = record {
+pub final_of_fewer : (object : Sequential (List ℕ) (List ℕ) (List ℕ)) (n : ℕ) (all known : List ProcessReturned) (state : List ℕ) → ((its : ProcessReturned) → Contains known its → Contains all its) → IsFinal object n all state → IsFinal object n known state
+final_of_fewer _ n all known state among final = record {
   acts = final.acts;
   atomic = final.atomic;
   accepted = final.accepted;
   linearized = final.linearized;
   state = final.state;
+  inside = final.inside;
   own = λ its has. final.own its (among its has);
   calls_in_version = final.calls_in_version;
   rising = final.rising;

@@ -9,8 +9,8 @@ use Rattle.uni_small.proofs.Lists.{get_snoc, get-contains, slice_get-index}
 
 pub one_more : {O : Type 0} (shared : SmallShared O) (count : ℕ) (seats later : List (SmallSeat O)) (seat : SmallSeat O) → AreFirstSeats shared count seats → later ≡ seats ++ seat ∷ []
     → seat.seat.table_id ≡ shared.table.shared.table_id → seat.seat.me.0.object ≡ Some shared.setup.object → seat.seat.me.0.known.sizes ≡ shared.setup.sizes → seat.p < shared.setup.sizes.processes → seat.p ≡ count
-    → HasRoom shared.setup.sizes seat.room → seat.seat.me.0.known.local.own ≡ [] → seat.made ≡ 0 → seat.seat.me.0.known.local.after ≡ 0 → AreFirstSeats shared (count + 1) later
-one_more shared count seats later seat are is table object sizes inside place room own made version = subst (AreFirstSeats shared (count + 1)) (sym is) (record {
+    → HasRoom shared.setup.sizes seat.room → seat.seat.me.0.known.local.own ≡ [] → seat.made ≡ 0 → seat.seat.me.0.known.local.after ≡ 0 → seat.seat.me.0.known.taken ≡ [] → AreFirstSeats shared (count + 1) later
+one_more shared count seats later seat are is table object sizes inside place room own made version taken = subst (AreFirstSeats shared (count + 1)) (sym is) (record {
   many = length-append seats (seat ∷ []) ∙ (let m = are.many in omega arith);
   each = λ p u e. elim (get_snoc seats seat p u e) [
     | inl old ↦ are.each p u old
@@ -21,6 +21,7 @@ one_more shared count seats later seat are is table object sizes inside place ro
           calls = own;
           made = made;
           version = version;
+          taken = taken;
         }))
   ];
 })

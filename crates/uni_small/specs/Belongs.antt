@@ -82,19 +82,6 @@ pub record IsSeatOf {O : Type 0} (shared : SmallShared O) (seat : SmallSeat O) :
   pub inside : seat.p < shared.setup.sizes.processes
   pub room : HasRoom shared.setup.sizes seat.room
 
--- the seat of process p, which has made no call
-pub record IsFreshSeat {O : Type 0} (shared : SmallShared O) (p : ℕ) (seat : SmallSeat O) : Type 0 where
-  pub own : IsSeatOf shared seat
-  pub process : process_of seat ≡ p
-  pub calls : own_calls seat ≡ []
-  pub made : calls_made seat ≡ 0
-  pub version : version_of seat ≡ 0
-
--- the seats of the first processes, in order, none of which has made a call
-pub record AreFirstSeats {O : Type 0} (shared : SmallShared O) (count : ℕ) (seats : List (SmallSeat O)) : Type 0 where
-  pub many : length seats ≡ count
-  pub each : (p : ℕ) (seat : SmallSeat O) → slice_get seats p ≡ Some seat → IsFreshSeat shared p seat
-
 -- a seat's process with its calls
 abbrev pub calls_of : {O : Type 0} → SmallSeat O → ProcessReturned
 calls_of seat = record { process = process_of seat; calls = own_calls seat }
@@ -105,3 +92,17 @@ taken_calls seat = seat.seat.me.0.known.taken
 
 abbrev pub known_calls : {O : Type 0} → SmallSeat O → List (ProcessReturned)
 known_calls seat = calls_of seat ∷ taken_calls seat
+
+-- the seat of process p, which has made no call
+pub record IsFreshSeat {O : Type 0} (shared : SmallShared O) (p : ℕ) (seat : SmallSeat O) : Type 0 where
+  pub own : IsSeatOf shared seat
+  pub process : process_of seat ≡ p
+  pub calls : own_calls seat ≡ []
+  pub made : calls_made seat ≡ 0
+  pub version : version_of seat ≡ 0
+  pub taken : taken_calls seat ≡ []
+
+-- the seats of the first processes, in order, none of which has made a call
+pub record AreFirstSeats {O : Type 0} (shared : SmallShared O) (count : ℕ) (seats : List (SmallSeat O)) : Type 0 where
+  pub many : length seats ≡ count
+  pub each : (p : ℕ) (seat : SmallSeat O) → slice_get seats p ≡ Some seat → IsFreshSeat shared p seat

@@ -1,8 +1,8 @@
 -- What a closed object tells.
-use Rattle.std.specs.Prelude.{◌≡◌, ℕ, ◌≤◌, List, [], ◌∷◌, refl, map, slice_get, Some, Contains}
+use Rattle.std.specs.Prelude.{◌≡◌, ℕ, ◌<◌, ◌≤◌, List, [], ◌∷◌, refl, map, slice_get, Some, Contains}
 use Rattle.seq_object.specs.Sequential.{Sequential}
 use Rattle.seq_object.specs.History.{state_after}
-use Rattle.uni_model.specs.AtomicObject.{Atomic, Act, AcceptsAll, at_start}
+use Rattle.uni_model.specs.AtomicObject.{Atomic, Act, Invoked, AcceptsAll, at_start}
 use Rattle.uni_model.specs.AtomicObject.Act.{Invoke, Linearize, Respond}
 use Rattle.uni_model.specs.Linearizable.{observed, IsLinearizedAs}
 use Rattle.uni_model.specs.ProcessCalls.{acts_by, sequential_acts}
@@ -11,15 +11,17 @@ use Rattle.uni_small.specs.View.{Returned, ProcessReturned, plain}
 use Rattle.uni_small.specs.Order.{StandsIn}
 
 -- There is a history that the atomic object accepts, from its start on. What is observed of it is linearizable, in the order in which the
--- calls took effect. The state is that after them. In the history each of these processes takes the acts of its calls, each with its reply
--- before the next one begins, and no others. Each version has so many calls in it, the first ones of that order, and later versions no
--- fewer; and each call of these processes comes after those of one version, and is among those of another one, as its seat was told.
-pub record IsFinal (object : Sequential (List ℕ) (List ℕ) (List ℕ)) (known : List ProcessReturned) (words : List ℕ) : Type 0 where
+-- calls took effect. The state is that after them. Each is a call of one of n processes; so where all n are known, these are their calls
+-- and no others. In the history each known process takes the acts of its calls, each with its reply before the next one begins, and no
+-- others. The first calls_in_version v calls of that order are in version v, or all where there are fewer, and a later version has no
+-- fewer; and each known call comes after those of one version, and is among those of another one, as its seat was told.
+pub record IsFinal (object : Sequential (List ℕ) (List ℕ) (List ℕ)) (n : ℕ) (known : List ProcessReturned) (words : List ℕ) : Type 0 where
   pub acts : List (Act (List ℕ) (List ℕ))
   pub atomic : Atomic (List ℕ) (List ℕ)
   pub accepted : AcceptsAll object (at_start object.initial) acts atomic
   pub linearized : IsLinearizedAs object object.initial (observed acts) atomic.agreed
   pub state : state_after object object.initial (map (λ c. c.inv) atomic.agreed) ≡ words
+  pub inside : (c : Invoked (List ℕ)) → Contains atomic.agreed c → c.process < n
   pub own : (its : ProcessReturned) → Contains known its
       → acts_by its.process acts ≡ sequential_acts its.process 0 (map plain its.calls)
   pub calls_in_version : ℕ → ℕ

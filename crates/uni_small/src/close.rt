@@ -2,7 +2,7 @@
 ghost use Rattle.std.specs.Prelude.{◌≡◌, ◌++◌, ◌+◌, ◌*◌, ◌<◌, ◌≤◌, [], All, flat_map, length, slice_index};
 ghost use Rattle.std.specs.Mem.Slots.{IsFull, slots_items, slots_len};
 ghost use Rattle.uni_small.specs.Belongs.{IsSeatOf, calls_made, calls_of, known_calls, object_of, version_of};
-ghost use Rattle.uni_small.specs.Belongs.{invocation_width_of, reply_width_of, width_of};
+ghost use Rattle.uni_small.specs.Belongs.{invocation_width_of, processes_of, reply_width_of, width_of, word_steps_of};
 ghost use Rattle.uni_small.specs.Board.{AreFew, buffer_in, words_of};
 ghost use Rattle.uni_small.specs.Final.{IsFinal};
 ghost use Rattle.uni_small.specs.Reading.{IsStateIn};
@@ -61,7 +61,7 @@ impl<O: SmallObject> SmallShared<O> {
     /// was in when its thread died has taken effect whole, or not at all.
     pub fn close(self, state: &mut [u64])
         requires wide { length state.old ≡ width_of self }
-        ensures told { IsFinal (O.meaning (object_of self)).object [] state.new }
+        ensures told { IsFinal (O.meaning (object_of self)).object (processes_of self) [] state.new }
     {
         let SmallShared { setup, table } = self;
         let Setup { object, sizes } = setup;
@@ -79,7 +79,7 @@ impl<O: SmallObject> SmallShared<O> {
     pub fn close_with(self, seat: SmallSeat<O>, state: &mut [u64])
         requires seat { IsSeatOf self seat }
         requires wide { length state.old ≡ width_of self }
-        ensures told { IsFinal (O.meaning (object_of self)).object (known_calls seat) state.new }
+        ensures told { IsFinal (O.meaning (object_of self)).object (processes_of self) (known_calls seat) state.new }
     {
         let SmallShared { setup, table } = self;
         let Setup { object, sizes } = setup;
@@ -93,7 +93,8 @@ impl<O: SmallObject> SmallShared<O> {
     pub fn close_all(self, seats: Vec<SmallSeat<O>>, state: &mut [u64])
         requires seats { All (IsSeatOf self) seats.items }
         requires wide { length state.old ≡ width_of self }
-        ensures told { IsFinal (O.meaning (object_of self)).object (flat_map known_calls seats.items) state.new }
+        ensures told { IsFinal (O.meaning (object_of self)).object (processes_of self)
+            (flat_map known_calls seats.items) state.new }
     {
         let mut seats = seats;
         let Some(mut first) = seats.pop() else {
@@ -107,13 +108,15 @@ impl<O: SmallObject> SmallShared<O> {
 }
 
 impl<O: SmallObject> SmallSeat<O> {
-    /// Takes in another seat of this object: this seat knows its calls then. It costs one load. For this
-    /// seat's later calls to come after the other's, follow the version of its last call.
+    /// Takes in another seat of this object: this seat knows its calls then. It costs one load, which the seat
+    /// doesn't count among its word steps. For this seat's later calls to come after the other's, follow the
+    /// version of its last call.
     pub fn take_in(&mut self, shared: &SmallShared<O>, other: SmallSeat<O>)
         requires seats { IsSeatOf shared.now self.old × IsSeatOf shared.now other }
         ensures kept { IsSeatOf shared.now self.new × (calls_of self.new ≡ calls_of self.old) }
         ensures made { calls_made self.new ≡ calls_made self.old }
         ensures version { version_of self.new ≡ version_of self.old }
+        ensures steps { word_steps_of self.new ≡ word_steps_of self.old }
         ensures known { known_calls self.new ≡ known_calls self.old ++ known_calls other }
     {
         let SmallSeat { seat, .. } = other;

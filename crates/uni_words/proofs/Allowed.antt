@@ -9,7 +9,7 @@ use Rattle.uni_model.specs.Transition.{place_of, content_after, turn_of}
 use Rattle.uni_model.proofs.Written.{lt_cases, number_cases}
 use Rattle.uni_model.proofs.Indices.{name_of-index_of}
 use Rattle.uni_model.specs.Effects.{call_after}
-use Rattle.uni_words.specs.Standing.{StandsAt, GoesBy, IsIdle}
+use Rattle.uni_words.specs.Standing.{IsAtStage, GoesBy, IsIdle}
 use Rattle.uni_words.specs.Rule.{Rule}
 use Rattle.uni_words.specs.declared.rule.Setup.{Setup}
 use Rattle.uni_words.specs.declared.log.WordLog.{WordLog}
@@ -42,7 +42,7 @@ may_step meaning log id me i f says place word of_table allowed = (
 -- A word step of a call that stands at its stage, at the word of the stage's place: a load, a store, and a proposal to a word that is 0.
 -- With it goes what else the table asks of a seat.
 module _ {O : Type 0} (meaning : O → Sequential ℕ ℕ ℕ) (log : WordLog O) (id : ℕ) (me : Me ℕ View) (p : ℕ) (mine : Name) (stage : Stage) (i : ℕ)
-    (stands : StandsAt log.setup.n log.setup.k p mine stage me) (goes : GoesOn stage)
+    (stands : IsAtStage log.setup.n log.setup.k p mine stage me) (goes : GoesOn stage)
     (word : word_of log.setup.n log.setup.k (place_of log.setup.n me.0.known.first mine stage) ≡ Some i) where
   -- what a step tells says nothing of its operands
   abbrev no_step : Step ℕ
@@ -98,8 +98,8 @@ link_decided n prefer zero = ap link (link_to n prefer)
 link_decided n prefer (suc found) = exchanged (suc found) 0 (prefer + 1) (λ x. link (link_of n x) ≡ link (option_or (link_of n (suc found)) (Some (name_of n prefer)))) (λ e. absurd (omega arith)) (λ apart. refl)
 
 -- where a seat stands after a step
-pub stands_next : (n row p : ℕ) (mine : Name) (stage next : Stage) (found : ℕ) (me me' : Me ℕ View) → StandsAt n row p mine stage me → HasMoved me (record { mine = mine; stage = stage }) found me'
-    → stage_found n p mine stage found ≡ Some next → StandsAt n row p mine next me'
+pub stands_next : (n row p : ℕ) (mine : Name) (stage next : Stage) (found : ℕ) (me me' : Me ℕ View) → IsAtStage n row p mine stage me → HasMoved me (record { mine = mine; stage = stage }) found me'
+    → stage_found n p mine stage found ≡ Some next → IsAtStage n row p mine next me'
 stands_next n row p mine stage next found me me' stands moved goes =
     let same : stage_found me.0.known.n me.0.known.first mine stage found ≡ Some next = rw (stands.processes, stands.first) goes in
     let now : me'.0.known ≡ moved_at me.0.known (record { mine = mine; stage = stage }) found = ap (λ (x : Me ℕ View). x.0.known) moved.view in
@@ -127,18 +127,18 @@ goes_one me c found t me' moved turn = subst (λ to. GoesBy me to 1 t) (sym move
   carried = refl;
 })
 
-pub within_here : (n row p : ℕ) (mine : Name) (stage : Stage) (found : ℕ) (me me' : Me ℕ View) → HasMoved me (record { mine = mine; stage = stage }) found me' → StandsAt n row p mine stage me → IsWithin n row (place_of n p mine stage) found
+pub within_here : (n row p : ℕ) (mine : Name) (stage : Stage) (found : ℕ) (me me' : Me ℕ View) → HasMoved me (record { mine = mine; stage = stage }) found me' → IsAtStage n row p mine stage me → IsWithin n row (place_of n p mine stage) found
 within_here n row p mine stage found me me' moved stands =
     subst (λ k. IsWithin k row (place_of k p mine stage) found) stands.processes
     (subst (λ r. IsWithin me.0.known.n r (place_of me.0.known.n p mine stage) found) stands.calls
     (subst (λ q. IsWithin me.0.known.n me.0.known.row (place_of me.0.known.n q mine stage) found) stands.first moved.within))
 
-pub few_turns : (n row p : ℕ) (mine : Name) (stage : Stage) (found : ℕ) (me me' : Me ℕ View) → HasMoved me (record { mine = mine; stage = stage }) found me' → StandsAt n row p mine stage me → me'.0.known.its.turns ≤ n + 1
+pub few_turns : (n row p : ℕ) (mine : Name) (stage : Stage) (found : ℕ) (me me' : Me ℕ View) → HasMoved me (record { mine = mine; stage = stage }) found me' → IsAtStage n row p mine stage me → me'.0.known.its.turns ≤ n + 1
 few_turns n row p mine stage found me me' moved stands = subst (λ k. me'.0.known.its.turns ≤ k + 1) stands.processes moved.turns
 
 -- after the most turns a test finds its own cell no farther than its head
-pub own_cell : (n row p : ℕ) (mine h : Name) (s found : ℕ) (me me' : Me ℕ View) → HasMoved me (record { mine = mine; stage = Test h s }) found me' → StandsAt n row p mine (Test h s) me
-    → StandsAt n row p mine (if found == 0 then ReadAnnounce h s else Finish s found) me' → me'.0.known.its.turns ≡ n + 1 → found ≤ s
+pub own_cell : (n row p : ℕ) (mine h : Name) (s found : ℕ) (me me' : Me ℕ View) → HasMoved me (record { mine = mine; stage = Test h s }) found me' → IsAtStage n row p mine (Test h s) me
+    → IsAtStage n row p mine (if found == 0 then ReadAnnounce h s else Finish s found) me' → me'.0.known.its.turns ≡ n + 1 → found ≤ s
 own_cell n row p mine h s found me me' moved stands next many = elim (number_cases found 0) [
   | inl same ↦ (let e : found ≡ 0 = same.0 in omega arith)
   | inr some ↦ moved.own_cell s found (next.call ∙ ap (λ b. Some (record { mine = mine; stage = if b then ReadAnnounce h s else Finish s found })) some.1)
@@ -146,7 +146,7 @@ own_cell n row p mine h s found me me' moved stands next many = elim (number_cas
 ]
 
 -- a read of a settled word changes nothing else
-pub stands_still : (n row p : ℕ) (mine : Name) (stage : Stage) (read : Reading) (me me' : Me ℕ View) → StandsAt n row p mine stage me → HasLooked me read me' → StandsAt n row p mine stage me'
+pub stands_still : (n row p : ℕ) (mine : Name) (stage : Stage) (read : Reading) (me me' : Me ℕ View) → IsAtStage n row p mine stage me → HasLooked me read me' → IsAtStage n row p mine stage me'
 stands_still n row p mine stage read me me' stands looked =
     let now : me'.0.known ≡ looked_at me.0.known read = ap (λ (x : Me ℕ View). x.0.known) looked in
     rw now (record { processes = stands.processes; calls = stands.calls; first = stands.first; alone = stands.alone; call = stands.call })
@@ -168,7 +168,7 @@ goes_still read me me' looked = subst (λ to. GoesBy me to 1 0) (sym looked) (re
 pub read_is : (read : Reading) (me me' : Me ℕ View) → HasLooked me read me' → me'.0.known.its.read ≡ read
 read_is read me me' looked = ap (λ (x : Me ℕ View). x.0.known.its.read) looked
 
-pub stands_begun : (n row p nth mine inv : ℕ) (me me' : Me ℕ View) → p < n → mine ≡ index_of n p nth → IsIdle n row p nth me → me' ≡ (record { known = begun_by me.0.known inv }, me.1) → StandsAt n row p (name_of n mine) Announce me'
+pub stands_begun : (n row p nth mine inv : ℕ) (me me' : Me ℕ View) → p < n → mine ≡ index_of n p nth → IsIdle n row p nth me → me' ≡ (record { known = begun_by me.0.known inv }, me.1) → IsAtStage n row p (name_of n mine) Announce me'
 stands_begun n row p nth mine inv me me' inside cell idle begun =
     let now : me'.0.known ≡ begun_by me.0.known inv = ap (λ (x : Me ℕ View). x.0.known) begun in
     let name : name_of n mine ≡ Of p nth = ap (name_of n) cell ∙ name_of-index_of n p nth inside in

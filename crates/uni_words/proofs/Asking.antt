@@ -12,11 +12,11 @@ use Rattle.uni_model.proofs.Growing.{entry_of, slice_get-log}
 use Rattle.uni_model.proofs.OneLists.{HasOneList-held}
 use Rattle.uni_model.proofs.Written.{lt_cases}
 use Rattle.uni_words.specs.Laws.{Leads, after_word}
-use Rattle.uni_words.specs.Run.{AreLogged, opened, HasSeen}
+use Rattle.uni_words.specs.Run.{StandInLog, opened, HasSeen}
 use Rattle.uni_words.proofs.Columns.{one_place}
 use Rattle.uni_words.proofs.Happens.{knows_more, own_local}
 use Rattle.uni_words.proofs.Locality.{word_here}
-use Rattle.uni_words.proofs.Ordering.{AreLogged-later}
+use Rattle.uni_words.proofs.Ordering.{StandInLog-later}
 use Rattle.uni_words.proofs.Running.{idle_acts, joined_is_log, led, no_more, run_stays}
 use Rattle.uni_words.proofs.Underway.{there_below}
 use Rattle.uni_words.proofs.Views.{All-each, first_or}
@@ -99,15 +99,15 @@ module _ (object : Sequential ℕ ℕ ℕ) (row : ℕ) (w : WorldOf ℕ ℕ ℕ)
     logged p k threaded = subst (λ l. (j : ℕ) × StandsAt l p k j) (sym (joined_is_log object (opened object n) events run.one_era ∙ ap log run.reached)) (stands_logged p k threaded)
 
     -- all calls of which a seat knows stand in the log
-    pub view_logged : (id : ℕ) (v : View) → get_elem? s.views id ≡ some v → 1 ≤ v.known.count → All (AreLogged object n events) (logged_in_view v)
-    view_logged id v at some_left = All-append (AreLogged object n events) (map all_of (calls_in_view v)) (map (λ (t : Seen). t.earlier) v.known.seen)
-        (All-map (AreLogged object n events) all_of (calls_in_view v)
-        (All-each (λ c. AreLogged object n events (all_of c)) (calls_in_view v) (λ c has j below. logged c.process j (had id v at some_left c has j below))))
-        (All-map (AreLogged object n events) (λ (t : Seen). t.earlier) v.known.seen
-        (All-each (λ (t : Seen). AreLogged object n events t.earlier) v.known.seen (λ t has. AreLogged-later object n events run.accepted t (run.seen id v at t has))))
+    pub view_logged : (id : ℕ) (v : View) → get_elem? s.views id ≡ some v → 1 ≤ v.known.count → All (StandInLog object n events) (logged_in_view v)
+    view_logged id v at some_left = All-append (StandInLog object n events) (map all_of (calls_in_view v)) (map (λ (t : Seen). t.earlier) v.known.seen)
+        (All-map (StandInLog object n events) all_of (calls_in_view v)
+        (All-each (λ c. StandInLog object n events (all_of c)) (calls_in_view v) (λ c has j below. logged c.process j (had id v at some_left c has j below))))
+        (All-map (StandInLog object n events) (λ (t : Seen). t.earlier) v.known.seen
+        (All-each (λ (t : Seen). StandInLog object n events t.earlier) v.known.seen (λ t has. StandInLog-later object n events run.accepted t (run.seen id v at t has))))
 
     -- at this time a seat with no call pending sees that these stand there
-    pub sees_now : (id : ℕ) (v : View) → get_elem? s.views id ≡ some v → 1 ≤ v.known.count → v.known.its.call ≡ None → (earlier : List FirstCalls) → All (AreLogged object n events) earlier
+    pub sees_now : (id : ℕ) (v : View) → get_elem? s.views id ≡ some v → 1 ≤ v.known.count → v.known.its.call ≡ None → (earlier : List FirstCalls) → All (StandInLog object n events) earlier
         → (t : Seen) → Contains (seen_of (own_of v.known) earlier) t → HasSeen object n events t
     sees_now id v at some_left idle earlier all t has = All-contains (HasSeen object n events) (seen_of (own_of v.known) earlier) t
         (All-map (HasSeen object n events) (λ (its : FirstCalls). record { earlier = its; made = own_of v.known }) earlier
@@ -116,7 +116,7 @@ module _ (object : Sequential ℕ ℕ ℕ) (row : ℕ) (w : WorldOf ℕ ℕ ℕ)
           before = events;
           after = [];
           joins = sym (append-nil events);
-          earlier = All-contains (AreLogged object n events) earlier its all there;
+          earlier = All-contains (StandInLog object n events) earlier its all there;
           made = idle_acts object n events w s.views run id v at some_left idle;
         }))) has
 
@@ -125,10 +125,10 @@ module _ (object : Sequential ℕ ℕ ℕ) (row : ℕ) (w : WorldOf ℕ ℕ ℕ)
     abbrev found : ℕ
     found = slice_index s.words i
 
-    told_logged : (n : ℕ) (events : List (Event ℕ)) → LeadsTo object n events w s.views → (u : ℕ) → seq_of w.memory (Of call.process call.nth) ≡ u → All (AreLogged object n events) (told_by call u)
+    told_logged : (n : ℕ) (events : List (Event ℕ)) → LeadsTo object n events w s.views → (u : ℕ) → seq_of w.memory (Of call.process call.nth) ≡ u → All (StandInLog object n events) (told_by call u)
     told_logged n events run zero e = λ k d inside. absurd (omega arith)
-    told_logged n events run (suc u) e = All-each (AreLogged object n events) (up_to call ∷ []) (λ its has. elim (first_or (up_to call) [] its has) [
-      | inl same ↦ subst (AreLogged object n events) same (λ k below. logged n events run call.process k (numbered_before call.process call.nth k (omega (arith, below)) (omega (arith, e))))
+    told_logged n events run (suc u) e = All-each (StandInLog object n events) (up_to call ∷ []) (λ its has. elim (first_or (up_to call) [] its has) [
+      | inl same ↦ subst (StandInLog object n events) same (λ k below. logged n events run call.process k (numbered_before call.process call.nth k (omega (arith, below)) (omega (arith, e))))
       | inr none ↦ absurd (let k = none.1 in omega arith)
     ])
 

@@ -13,7 +13,7 @@ use Rattle.uni_model.proofs.Bounded.{HelpingInvariant-begun}
 use Rattle.uni_model.proofs.Counted.{CountsSteps-world_after}
 use Rattle.uni_words.specs.Laws.{Leads, after_word}
 use Rattle.uni_words.proofs.Locality.{set_here, set_elsewhere}
-use Rattle.uni_words.proofs.Underway.{HasReturned-grows, last_number-grows}
+use Rattle.uni_words.proofs.Underway.{HasOutcome-grows, last_number-grows}
 use Rattle.uni_words.proofs.Happens.{own_local, keeps_rule}
 use Rattle.uni_words.proofs.Running.{led, run_begins}
 
@@ -100,7 +100,7 @@ module _ (object : Sequential ℕ ℕ ℕ) (row : ℕ) where
       turns = set_at_same w.turns p 0;
       underway = (subst (λ k. inv_of later.memory (Of p k) ≡ Some inv) before.begun told_inv, tt);
       counted = (let was : v.its.begun ≡ length v.its.own + 0 = subst (λ o. v.its.begun ≡ length v.its.own + pending_count o) idle before.counted in omega arith);
-      own = λ k call e. HasReturned-grows w.memory later.memory grows (Of p k) call.0 call.1 (before.own k call e);
+      own = λ k call e. HasOutcome-grows w.memory later.memory grows (Of p k) call.0 call.1 (before.own k call e);
       number = before.number ∙ sym (last_number-grows w.memory later.memory grows p v.its.own before.own);
     }
 

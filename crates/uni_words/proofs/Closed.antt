@@ -12,11 +12,11 @@ use Rattle.uni_model.proofs.Ordered.{KeepsRealTime-holds}
 use Rattle.uni_model.proofs.Responses.{LogsResponses-holds}
 use Rattle.uni_model.proofs.Universal.{RunIsUniversal-holds}
 use Rattle.uni_model.specs.ProcessCalls.{ProcessCalls, acts_by, sequential_acts}
-use Rattle.uni_words.specs.Log.{AreAnswered, AreCallsOf, AreCallCells, HasNumber, IsChained, IsInOrder, IsLogged, told_memory, log_of, calls_by, replied}
+use Rattle.uni_words.specs.Log.{AreAnswered, AreCallsOf, AreCallCells, LastHasNumber, IsChained, IsInOrder, IsLogged, told_memory, log_of, calls_by, replied}
 use Rattle.uni_words.specs.Rule.{Rule}
 use Rattle.uni_words.specs.Run.{HasSeen, IsLogOfRun, IsLogOfSeenRun, opened, run_history}
 use Rattle.uni_words.specs.Seats.{calls_in_view}
-use Rattle.uni_words.specs.Shown.{HasReturned, IsShown, LeadsTo}
+use Rattle.uni_words.specs.Shown.{HasOutcome, IsShown, LeadsTo}
 use Rattle.uni_words.specs.View.{Seen as SeenCalls, own_of}
 use Rattle.uni_words.specs.declared.rule.Setup.{Setup}
 use Rattle.uni_words.specs.declared.view.View.{View}
@@ -65,11 +65,11 @@ module _ {O : Type 0} (meaning : O → Sequential ℕ ℕ ℕ) (told setup : Set
 
   -- the seat's process and those that it took in have no call pending, and their calls have returned
   ended : view.known.its.call ≡ None → 1 ≤ view.known.count → (c : ProcessCalls ℕ ℕ) → Contains (calls_in_view view) c
-      → (w.begun c.process ≡ length c.calls) × ((j : ℕ) (a : ℕ × ℕ) → slice_get c.calls j ≡ Some a → HasReturned w.memory (Of c.process j) a.0 a.1)
+      → (w.begun c.process ≡ length c.calls) × ((j : ℕ) (a : ℕ × ℕ) → slice_get c.calls j ≡ Some a → HasOutcome w.memory (Of c.process j) a.0 a.1)
   ended idle any c has = elim (first_or _ _ c has) [
     | inl here ↦
         let local = (is.seats.each id view last.1.1).each view.known.first (omega arith) (omega (arith, any)) in
-        subst (λ (k : ProcessCalls ℕ ℕ). (w.begun k.process ≡ length k.calls) × ((j : ℕ) (a : ℕ × ℕ) → slice_get k.calls j ≡ Some a → HasReturned w.memory (Of k.process j) a.0 a.1)) here
+        subst (λ (k : ProcessCalls ℕ ℕ). (w.begun k.process ≡ length k.calls) × ((j : ℕ) (a : ℕ × ℕ) → slice_get k.calls j ≡ Some a → HasOutcome w.memory (Of k.process j) a.0 a.1)) here
         (ended_local w view.known.first view.known.its local.1 idle, local.1.own)
     | inr taken ↦ let its = ((is.seats.each id view last.1.1).taken c taken).1 in (its.begun, its.own)
   ]
@@ -114,6 +114,7 @@ module _ {O : Type 0} (meaning : O → Sequential ℕ ℕ ℕ) (told setup : Set
     record {
       events = events;
       accepted = run.accepted;
+      one_era = run.one_era;
       universal = RunIsUniversal-holds object setup.n object.initial 1 events (omega arith) run.accepted;
       real_time = KeepsRealTime-holds object setup.n object.initial 1 events;
       responses = responses;
@@ -134,6 +135,6 @@ module _ {O : Type 0} (meaning : O → Sequential ℕ ℕ ℕ) (told setup : Set
   closed_order = All-each (IsInOrder (log_of setup.n setup.k words)) view.known.seen (λ t has. subst (λ l. IsInOrder l t) joined (in_order object setup.n events run.accepted t (was_seen t has)))
 
   -- the seat's latest call has the number that the seat knows
-  pub closed_number : view.known.count ≡ 1 → HasNumber (log_of setup.n setup.k words) (own_of view.known) view.known.its.number
-  closed_number single = left setup.n words w last.0 last.1.0.1 last.2 (λ n ws. HasNumber (log_of n setup.k ws) (own_of view.known) view.known.its.number)
+  pub closed_number : view.known.count ≡ 1 → LastHasNumber (log_of setup.n setup.k words) (own_of view.known) view.known.its.number
+  closed_number single = left setup.n words w last.0 last.1.0.1 last.2 (λ n ws. LastHasNumber (log_of n setup.k ws) (own_of view.known) view.known.its.number)
       (last_numbered object setup.k w last.0 is id view last.1.1 single)

@@ -2,7 +2,7 @@
 use Rattle.std.proofs.Common.{◌≡◌, ◌∙◌, ℕ, zero, suc, ◌+◌, ◌*◌, ◌/◌, ◌%◌, ◌<◌, ◌≤◌, inl, inr, refl, sym, ap, subst, Option, Some, None, option_map, arith, mul-le-mul_right, suc-mul, nat_lt, if◌then◌else◌}
 use Rattle.std.proofs.lemmas.Nat.{div-add-mod', mod_below}
 use Rattle.std.proofs.Math.Nat.{div-lt_iff_lt-mul}
-use Rattle.uni_words.proofs.Names.{AfterOf, Anchor, Announced, BeforeOf, HeadOf, InvOf, Name, NewOf, Of, Place, SeqOf, cells_of, column_of, index_in, index_of, name_of, row_of, start_of, word_of, words_of}
+use Rattle.uni_words.proofs.Names.{AfterOf, Anchor, Announced, BeforeOf, HeadOf, InvOf, Name, NewOf, Of, Place, SeqOf, cells_of, column_of, index_in, index_of, name_of, offset_of, start_of, word_of, words_of}
 use Rattle.uni_model.proofs.Written.{lt_cases}
 use Rattle.uni_model.proofs.Indices.{name_of-index_of}
 
@@ -68,7 +68,7 @@ module _ (n row : ℕ) where
     | inr h ↦ absurd (let f = rw h.1 at e in cc)
   ]
 
-  row_is : (x : Place) (j : ℕ) → row_of n row x ≡ Some j → (place_at (column_of x) j ≡ x) × (j < size_of (column_of x))
+  row_is : (x : Place) (j : ℕ) → offset_of n row x ≡ Some j → (place_at (column_of x) j ≡ x) × (j < size_of (column_of x))
   unfolding place_at
   row_is (Announced p) j e = let h = entry_is p j e in (ap Announced (sym h.0), h.1)
   row_is (HeadOf p) j e = let h = entry_is p j e in (ap HeadOf (sym h.0), h.1)
@@ -106,8 +106,8 @@ module _ (n row : ℕ) where
 
   pub one_place : (x y : Place) (i : ℕ) → word_of n row x ≡ Some i → word_of n row y ≡ Some i → x ≡ y
   one_place x y i e f =
-      let a = map_some (λ j. start_of n row (column_of x) + j) (row_of n row x) i e in
-      let b = map_some (λ j. start_of n row (column_of y) + j) (row_of n row y) i f in
+      let a = map_some (λ j. start_of n row (column_of x) + j) (offset_of n row x) i e in
+      let b = map_some (λ j. start_of n row (column_of y) + j) (offset_of n row y) i f in
       let at_x = row_is x a.0 a.1 in
       let at_y = row_is y b.0 b.1 in
       let same = one_column (column_of x) (column_of y) a.0 b.0 at_x.1 at_y.1 (a.2 ∙ sym b.2) in
@@ -119,14 +119,14 @@ module _ (n row : ℕ) where
 
   pub word_below : (x : Place) (i : ℕ) → word_of n row x ≡ Some i → i < words_of n row
   word_below x i e =
-      let a = map_some (λ j. start_of n row (column_of x) + j) (row_of n row x) i e in
+      let a = map_some (λ j. start_of n row (column_of x) + j) (offset_of n row x) i e in
       let below = (row_is x a.0 a.1).1 in
       let ends : start_of n row (column_of x) + size_of (column_of x) ≤ start_of n row 7 = ends_before (column_of x) 7 (few_columns x) in
       let is = a.2 in
       omega arith
 
   pub process_below : (p i : ℕ) → word_of n row (Announced p) ≡ Some i → p < n
-  process_below p i e = let a = map_some (λ j. start_of n row 0 + j) (row_of n row (Announced p)) i e in let h = entry_is p a.0 a.1 in subst (λ k. k < n) (sym h.0) h.1
+  process_below p i e = let a = map_some (λ j. start_of n row 0 + j) (offset_of n row (Announced p)) i e in let h = entry_is p a.0 a.1 in subst (λ k. k < n) (sym h.0) h.1
 
   pub head_below : (p i : ℕ) → word_of n row (HeadOf p) ≡ Some i → p < n
-  head_below p i e = let a = map_some (λ j. start_of n row 1 + j) (row_of n row (HeadOf p)) i e in let h = entry_is p a.0 a.1 in subst (λ k. k < n) (sym h.0) h.1
+  head_below p i e = let a = map_some (λ j. start_of n row 1 + j) (offset_of n row (HeadOf p)) i e in let h = entry_is p a.0 a.1 in subst (λ k. k < n) (sym h.0) h.1

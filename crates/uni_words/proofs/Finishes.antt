@@ -1,7 +1,7 @@
 -- The last step of a call.
 use Rattle.std.proofs.Common.{◌≡◌, ◌∙◌, ℕ, zero, suc, ◌+◌, ◌<◌, ◌≤◌, ◌⊎◌, inl, inr, refl, sym, ap, subst, List, [], ◌∷◌, ◌++◌, length, length-append, slice_get, slice_index, slice_set, Option, Some, None, arith, length-set}
 use Rattle.std.proofs.lemmas.List.{set-get_or}
-use Rattle.uni_words.proofs.Names.{Allows, Content, Finish, HasFinished, HasRead, HasReturned, HeadOf, IsLocal, IsShown, Known, Me, Name, NewOf, Of, Pending, Sequential, ShowsRun, State, TellsReply, View, WorldOf, content_of, finished_by, get_elem?, keeps, last_number, memory_of, memory_with, name_of, number_of, pending_count, reply_in, seq_of, some, word_of}
+use Rattle.uni_words.proofs.Names.{Allows, Content, Finish, HasFinished, HasRead, HasOutcome, HeadOf, IsLocal, IsShown, Known, Me, Name, NewOf, Of, Pending, Sequential, ShowsRun, State, TellsReply, View, WorldOf, content_of, finished_by, get_elem?, keeps, last_number, memory_of, memory_with, name_of, number_of, pending_count, reply_in, seq_of, some, word_of}
 use Rattle.atomic_table.specs.Table as table
 use Rattle.uni_model.specs.Places.Content.{CellName}
 use Rattle.uni_model.specs.Chain.{response_in}
@@ -11,7 +11,7 @@ use Rattle.uni_model.proofs.Simulation.{set_at_same}
 use Rattle.uni_model.proofs.Written.{lt_cases, written_same}
 use Rattle.uni_words.specs.View.Reading.{Reply}
 use Rattle.uni_words.specs.Laws.{Leads, after_word}
-use Rattle.uni_words.proofs.Underway.{HasReturned-grows, there_below}
+use Rattle.uni_words.proofs.Underway.{HasOutcome-grows, there_below}
 use Rattle.uni_words.proofs.Happens.{own_local, effect, later, memory_grows, memory_set, kept}
 use Rattle.uni_words.proofs.Running.{led, run_ends}
 use Rattle.uni_words.proofs.Looks.{stands, underway, reply_told, looks_reply}
@@ -86,12 +86,12 @@ module _ (object : Sequential ℕ ℕ ℕ) (row : ℕ) where
       grows : Grows w.memory ended.memory
       grows = memory_grows object row w s is id v at single call pending
 
-      returned : HasReturned ended.memory (Of v.first (length v.its.own)) v.its.inv reply
+      returned : HasOutcome ended.memory (Of v.first (length v.its.own)) v.its.inv reply
       returned =
           let h = stands object row w s is id v at single mine (Finish c_seq mine_seq) pending in
           let under = underway object row w s is id v at single mine (Finish c_seq mine_seq) pending in
-          let was : HasReturned w.memory mine v.its.inv reply = record { inv_is = under.0; threaded = subst (λ t. 1 ≤ t) (sym h.2) h.1; reply_is = replied } in
-          subst (λ x. HasReturned ended.memory x v.its.inv reply) mine_is (HasReturned-grows w.memory ended.memory grows mine v.its.inv reply was)
+          let was : HasOutcome w.memory mine v.its.inv reply = record { inv_is = under.0; threaded = subst (λ t. 1 ≤ t) (sym h.2) h.1; reply_is = replied } in
+          subst (λ x. HasOutcome ended.memory x v.its.inv reply) mine_is (HasOutcome-grows w.memory ended.memory grows mine v.its.inv reply was)
 
       tells : IsLocal ended v.first (finished_by v stores reply).its
       tells = record {
@@ -103,8 +103,8 @@ module _ (object : Sequential ℕ ℕ ℕ) (row : ℕ) where
         underway = tt;
         counted = (let l : length (v.its.own ++ (v.its.inv, reply) ∷ []) ≡ length v.its.own + 1 = length-append v.its.own ((v.its.inv, reply) ∷ []) in let d = counted in omega arith);
         own = λ k c e. elim (last_of_list v.its.own (v.its.inv, reply) k c e) [
-          | inl old ↦ HasReturned-grows w.memory ended.memory grows (Of v.first k) c.0 c.1 (before.own k c old)
-          | inr new ↦ subst (λ (y : ℕ × ℕ). HasReturned ended.memory (Of v.first k) y.0 y.1) new.1 (subst (λ j. HasReturned ended.memory (Of v.first j) v.its.inv reply) (sym new.0) returned)
+          | inl old ↦ HasOutcome-grows w.memory ended.memory grows (Of v.first k) c.0 c.1 (before.own k c old)
+          | inr new ↦ subst (λ (y : ℕ × ℕ). HasOutcome ended.memory (Of v.first k) y.0 y.1) new.1 (subst (λ j. HasOutcome ended.memory (Of v.first j) v.its.inv reply) (sym new.0) returned)
         ];
         number =
             let h = stands object row w s is id v at single mine (Finish c_seq mine_seq) pending in

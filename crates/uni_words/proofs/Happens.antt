@@ -17,7 +17,7 @@ use Rattle.uni_model.proofs.Bounded.{HelpingInvariant-world_after_step}
 use Rattle.uni_model.proofs.Counted.{CountsSteps-world_after}
 use Rattle.uni_model.specs.ProcessCalls.{ProcessCalls}
 use Rattle.uni_words.proofs.Locality.{memory_at, word_here, words_written}
-use Rattle.uni_words.proofs.Underway.{HasReturned-grows, IsUnderway-grows, last_number-grows, place_shared}
+use Rattle.uni_words.proofs.Underway.{HasOutcome-grows, IsUnderway-grows, last_number-grows, place_shared}
 
 pub set_there : {A : Type 0} (l : List A) (i : ℕ) (a b : A) → get_elem? l i ≡ some a → get_elem? (set l i b) i ≡ some b
 set_there [] i a b e = absurd (some-ne-none a (sym e))
@@ -75,7 +75,7 @@ module _ (object : Sequential ℕ ℕ ℕ) (row : ℕ) (w : WorldOf ℕ ℕ ℕ)
       turns = stay.turns q apart ∙ h.turns;
       underway = IsUnderway-grows _ _ grows u.call u.inv u.read h.underway;
       counted = h.counted;
-      own = λ k call e. HasReturned-grows _ _ grows (Of q k) call.0 call.1 (h.own k call e);
+      own = λ k call e. HasOutcome-grows _ _ grows (Of q k) call.0 call.1 (h.own k call e);
       number = h.number ∙ sym (last_number-grows _ _ grows q u.own h.own);
     }
 
@@ -85,7 +85,7 @@ module _ (object : Sequential ℕ ℕ ℕ) (row : ℕ) (w : WorldOf ℕ ℕ ℕ)
       inside = subst (λ k. c.process < k) (sym stay.n) h.inside;
       call = stay.call c.process apart ∙ h.call;
       begun = stay.begun c.process apart ∙ h.begun;
-      own = λ k call e. HasReturned-grows _ _ grows (Of c.process k) call.0 call.1 (h.own k call e);
+      own = λ k call e. HasOutcome-grows _ _ grows (Of c.process k) call.0 call.1 (h.own k call e);
     }
 
     seats_later : (j : ℕ) (u : View) → get_elem? (set s.views id (record { known = v' })) j ≡ some u → Tells w' is.seats.owner row j u.known

@@ -12,7 +12,7 @@ use Rattle.uni_model.proofs.Simulation.{set_at_same}
 use Rattle.uni_words.specs.View.Reading.{Nothing}
 use Rattle.uni_words.specs.Laws.{Leads, after_word}
 use Rattle.uni_words.proofs.Columns.{word_below}
-use Rattle.uni_words.proofs.Underway.{HasReturned-grows, last_number-grows}
+use Rattle.uni_words.proofs.Underway.{HasOutcome-grows, last_number-grows}
 use Rattle.uni_words.proofs.Within.{within}
 use Rattle.uni_words.proofs.Running.{led, run_moves}
 use Rattle.uni_words.proofs.Happens.{own_call, own_local, effect, there, memory_set, memory_grows, later, kept}
@@ -95,7 +95,7 @@ module _ (object : Sequential ℕ ℕ ℕ) (row : ℕ) where
               ∙ ap (λ k. k + turn_of c.stage (w.memory place)) before.turns ∙ ap (λ k. v.its.turns + k) turn_is;
           underway = subst (λ o. IsUnderway after.memory (call_after c.mine o) v.its.inv Nothing) (sym on.1) (grows.inv c.mine v.its.inv underway.0, tt);
           counted = subst (λ o. v.its.begun ≡ length v.its.own + pending_count (call_after c.mine o)) (sym on.1) counted;
-          own = λ k call e. HasReturned-grows w.memory after.memory grows (Of v.first k) call.0 call.1 (before.own k call e);
+          own = λ k call e. HasOutcome-grows w.memory after.memory grows (Of v.first k) call.0 call.1 (before.own k call e);
           number = before.number ∙ sym (last_number-grows w.memory after.memory grows v.first v.its.own before.own);
         }
 

@@ -12,6 +12,6 @@ pub use Rattle.uni_model.specs.Stages.Stage.{Announce, DecideAfter, DecideNew, F
 pub use Rattle.uni_model.specs.Indices.{index_of, name_of}
 pub use Rattle.uni_words.specs.declared.view.View.{View}
 pub use Rattle.uni_words.specs.View.{FirstCalls, Known, Process, Reading, Seen, all_of, asked_of, begun_by, finished_by, looked_at, moved_at, no_calls, number_of, own_of, seen_of, stage_found, told_by, up_to}
-pub use Rattle.uni_words.specs.Words.{IsShared, cells_of, column_of, content_of, first_words, index_in, link_of, memory_of, reply_at, reply_in, row_of, settled_at, settled_word, start_of, state_in, word_at, word_of, words_of}
-pub use Rattle.uni_words.specs.Shown.{HasRead, HasReturned, IsAmong, IsLocal, IsShown, IsTaken, IsUnderway, LeadsTo, ShowsRun, Tells, acts_in_view, last_number, pending_acts, pending_count}
+pub use Rattle.uni_words.specs.Words.{IsShared, cells_of, column_of, content_of, first_words, index_in, link_of, memory_of, reply_at, reply_in, offset_of, settled_at, settled_word, start_of, state_in, word_at, word_of, words_of}
+pub use Rattle.uni_words.specs.Shown.{HasRead, HasOutcome, IsAmong, IsLocal, IsShown, IsTaken, IsUnderway, LeadsTo, ShowsRun, Tells, acts_in_view, last_number, pending_acts, pending_count}
 pub use Rattle.uni_words.specs.Seats.{EndsCall, HasAsked, HasBegun, HasCall, HasFinished, HasLooked, HasMoved, IsWithin, Moved, TellsReply, TellsState, calls_in_view, first_alone, first_view, logged_in_view, nobody, others, took_in}

@@ -17,7 +17,7 @@ use Rattle.uni_model.proofs.Runs.{AreAccepted-split}
 use Rattle.uni_model.proofs.Written.{lt_cases, number_cases}
 use Rattle.uni_model.specs.ProcessCalls.{acts_by, sequential_acts}
 use Rattle.uni_words.specs.Log.{IsInOrder}
-use Rattle.uni_words.specs.Run.{AreLogged, opened, run_history, HasSeen}
+use Rattle.uni_words.specs.Run.{StandInLog, opened, run_history, HasSeen}
 use Rattle.uni_words.proofs.Underway.{there_below}
 
 -- how many calls these acts begin
@@ -71,8 +71,8 @@ module _ (object : Sequential ℕ ℕ ℕ) where
       (prefixes_run object (opened object n) events object.initial (IsRun-opened_world object n object.initial 1 events (omega arith) ok) (length before))
 
   -- what stands in the log of the first events stands in that of all
-  pub AreLogged-later : (n : ℕ) (events : List (Event ℕ)) → AreAccepted object (opened object n) events → (t : Seen) → HasSeen object n events t → AreLogged object n events t.earlier
-  AreLogged-later n events ok t seen i inside =
+  pub StandInLog-later : (n : ℕ) (events : List (Event ℕ)) → AreAccepted object (opened object n) events → (t : Seen) → HasSeen object n events t → StandInLog object n events t.earlier
+  StandInLog-later n events ok t seen i inside =
       let at = seen.earlier i inside in
       (at.0, stays_at _ _ (grows_to n events seen.before seen.after ok seen.joins) t.earlier.process i at.0 at.1)
 

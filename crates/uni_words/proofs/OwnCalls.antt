@@ -2,7 +2,7 @@
 use Rattle.std.proofs.Common.{◌≡◌, ◌≢◌, ◌∙◌, ℕ, zero, suc, ◌+◌, ◌*◌, ◌<◌, ◌≤◌, inl, inr, refl, sym, ap, subst, List, [], ◌∷◌, length, map, slice_get, drop, Option, Some, None, arith, ◌==◌, cond}
 use Rattle.std.specs.Option.{option_map_or}
 use Rattle.std.proofs.lemmas.List.{drop_all}
-use Rattle.uni_words.proofs.Names.{Anchor, HasReturned, IsShown, Name, Of, Sequential, State, View, WorldOf, after_of, calls_in_era, inv_of}
+use Rattle.uni_words.proofs.Names.{Anchor, HasOutcome, IsShown, Name, Of, Sequential, State, View, WorldOf, after_of, calls_in_era, inv_of}
 use Rattle.uni_model.specs.Chain.{cells_from, entries_from, invoked_at, response_in}
 use Rattle.uni_model.specs.Counting.{era_calls}
 use Rattle.uni_model.specs.Invariant.{IsSound}
@@ -21,7 +21,7 @@ drop-here (x ∷ xs) (suc i) a e = drop-here xs i a e
 -- a process that has no call pending, with the calls that it was given replies to
 module _ (object : Sequential ℕ ℕ ℕ) (row : ℕ) (w : WorldOf ℕ ℕ ℕ) (s : State ℕ View) (is : IsShown object row w s)
     (p : ℕ) (own : List (ℕ × ℕ)) (all_returned : w.begun p ≡ length own)
-    (returned : (j : ℕ) (c : ℕ × ℕ) → slice_get own j ≡ Some c → HasReturned w.memory (Of p j) c.0 c.1) where
+    (returned : (j : ℕ) (c : ℕ × ℕ) → slice_get own j ≡ Some c → HasOutcome w.memory (Of p j) c.0 c.1) where
   abbrev num : Name → ℕ
   num = is.sound.0
 

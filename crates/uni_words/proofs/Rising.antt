@@ -3,7 +3,7 @@ use Rattle.std.proofs.Common.{◌≡◌, ◌∙◌, ℕ, suc, ◌<◌, ◌≤◌
 use Rattle.uni_words.proofs.Names.{IsShown, Of, Sequential, State, View, WorldOf, get_elem?, last_number, own_of, seq_of, some}
 use Rattle.uni_model.specs.History.{log}
 use Rattle.uni_model.proofs.Eras.{entry_at, number_of_entry}
-use Rattle.uni_words.specs.Log.{HasNumber, log_of}
+use Rattle.uni_words.specs.Log.{LastHasNumber, log_of}
 use Rattle.uni_words.proofs.Closing.{log_of_world}
 use Rattle.uni_words.proofs.Underway.{there_below}
 
@@ -22,7 +22,7 @@ own_rises object row w s is id v at some_left j k a b less first second =
 
 -- the last call that a seat made has its number in the log
 pub last_numbered : (object : Sequential ℕ ℕ ℕ) (row : ℕ) (w : WorldOf ℕ ℕ ℕ) (s : State ℕ View) (is : IsShown object row w s) (id : ℕ) (v : View) → get_elem? s.views id ≡ some v → v.known.count ≡ 1
-    → HasNumber (log_of w.n row s.words) (own_of v.known) v.known.its.number
+    → LastHasNumber (log_of w.n row s.words) (own_of v.known) v.known.its.number
 last_numbered object row w s is id v at single place e there mine last =
     let local = ((is.seats.each id v at).each v.known.first (omega arith) (let one = single in omega arith)).1 in
     let logged : slice_get (log w) place ≡ Some e = ap (λ l. slice_get l place) (log_of_world object row w s is) ∙ there in

@@ -1,6 +1,6 @@
 -- What a seat knows stays while the memory grows.
 use Rattle.std.proofs.Common.{◌≡◌, ◌∙◌, ℕ, zero, suc, ◌<◌, ◌≤◌, refl, sym, subst, List, [], ◌∷◌, length, slice_get, Option, Some, None, option_and_then, ap, arith}
-use Rattle.uni_words.proofs.Names.{Announce, DecideAfter, DecideNew, Finish, HasRead, HasReturned, IsShared, IsUnderway, Memory, Name, Of, Pending, ReadAnnounce, ReadHelpSeq, Reading, ScanHead, ScanSeq, Stage, Test, WriteBefore, WriteHead, WriteScan, WriteSeq, last_number, new_of}
+use Rattle.uni_words.proofs.Names.{Announce, DecideAfter, DecideNew, Finish, HasRead, HasOutcome, IsShared, IsUnderway, Memory, Name, Of, Pending, ReadAnnounce, ReadHelpSeq, Reading, ScanHead, ScanSeq, Stage, Test, WriteBefore, WriteHead, WriteScan, WriteSeq, last_number, new_of}
 use Rattle.uni_model.specs.Chain.{response_in}
 use Rattle.uni_model.specs.Transition.{place_of}
 use Rattle.uni_model.specs.Settled.{Grows}
@@ -18,14 +18,14 @@ module _ (m m' : Memory ℕ ℕ ℕ) (grows : Grows m m') where
     by_new None is f = cc
     by_new (Some v) is f = ap (λ o. option_and_then (λ (new : ℕ × Option ℕ). new.1) o) (grows.new x v is) ∙ f
 
-  pub HasReturned-grows : (x : Name) (inv reply : ℕ) → HasReturned m x inv reply → HasReturned m' x inv reply
-  HasReturned-grows x inv reply h = record {
+  pub HasOutcome-grows : (x : Name) (inv reply : ℕ) → HasOutcome m x inv reply → HasOutcome m' x inv reply
+  HasOutcome-grows x inv reply h = record {
     inv_is = grows.inv x inv h.inv_is;
     threaded = subst (λ t. 1 ≤ t) (sym (grows.seq x h.threaded)) h.threaded;
     reply_is = response-grows x reply h.reply_is;
   }
 
-  pub last_number-grows : (p : ℕ) (own : List (ℕ × ℕ)) → ((j : ℕ) (c : ℕ × ℕ) → slice_get own j ≡ Some c → HasReturned m (Of p j) c.0 c.1) → last_number m' p (length own) ≡ last_number m p (length own)
+  pub last_number-grows : (p : ℕ) (own : List (ℕ × ℕ)) → ((j : ℕ) (c : ℕ × ℕ) → slice_get own j ≡ Some c → HasOutcome m (Of p j) c.0 c.1) → last_number m' p (length own) ≡ last_number m p (length own)
   last_number-grows p own returned = by_count (length own) refl where
     by_count : (k : ℕ) → length own ≡ k → last_number m' p k ≡ last_number m p k
     by_count zero e = refl

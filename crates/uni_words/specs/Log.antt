@@ -12,11 +12,11 @@ use Rattle.uni_words.specs.View.{Seen}
 use Rattle.uni_words.specs.Words.{words_of, memory_of}
 use Rattle.uni_words.specs.declared.read.WordEntry.{WordEntry}
 
--- what the shared places of a table contain that no seat uses any more; of its cells only those of the chain are looked at
+-- What the words of a closed table tell. All invocations count as begun, since only cells of the chain are looked at.
 abbrev pub told_memory : (n row : ℕ) → List ℕ → Memory ℕ ℕ ℕ
 told_memory n row words = memory_of n row words (λ p. row)
 
--- the entries of the chain, from the cell after the anchor on
+-- The entries of the chain after the anchor. At most n * row cells are followed; none is left out, by `few` and `linked` of `IsChained`.
 abbrev pub log_of : (n row : ℕ) → List ℕ → List (Entry ℕ ℕ)
 log_of n row words =
     entries_from (told_memory n row words) (seq_of (told_memory n row words) Anchor + 1)
@@ -60,7 +60,7 @@ AreCallsOf n log = (place : ℕ) (e : Entry ℕ ℕ) → slice_get log place ≡
 abbrev pub replied : ℕ × ℕ → ℕ × Option ℕ
 replied c = (c.0, Some c.1)
 
--- In the log a process has these calls, in this order, each with its reply; its entries are numbered from 0 on.
+-- In the log a process has exactly these calls, in this order, each with its reply; the j-th of its entries is its call j.
 pub record IsLogged (log : List (Entry ℕ ℕ)) (its : ProcessCalls ℕ ℕ) : Type 0 where
   pub calls : calls_by its.process log ≡ map replied its.calls
   pub numbered : (place : ℕ) (e : Entry ℕ ℕ) → slice_get log place ≡ Some e → e.call.process ≡ its.process
@@ -72,9 +72,9 @@ IsInOrder log s =
     (i j place : ℕ) → i < s.earlier.count → length s.made.calls ≤ j → StandsAt log s.made.process j place
     → (before : ℕ) × (before < place) × StandsAt log s.earlier.process i before
 
--- where a process has made these calls, the entry of the last one has this number
-abbrev pub HasNumber : List (Entry ℕ ℕ) → ProcessCalls ℕ ℕ → (number : ℕ) → Type 0
-HasNumber log its number =
+-- The entry of the last of these calls, where the log has one, has this number. That it has one says `IsLogged`.
+abbrev pub LastHasNumber : List (Entry ℕ ℕ) → ProcessCalls ℕ ℕ → (number : ℕ) → Type 0
+LastHasNumber log its number =
     (place : ℕ) (e : Entry ℕ ℕ) → slice_get log place ≡ Some e → e.call.process ≡ its.process → e.call.nth + 1 ≡ length its.calls
     → e.number ≡ number
 

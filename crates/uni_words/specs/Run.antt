@@ -6,6 +6,7 @@ use Rattle.uni_model.specs.AtomicObject.{Act}
 use Rattle.uni_model.specs.AtomicObject.Act.{Invoke, Linearize, Respond}
 use Rattle.uni_model.specs.Chain.{Entry}
 use Rattle.uni_model.specs.Eras.{KeepsRealTime, StandsAt}
+use Rattle.uni_model.specs.Growth.{EndNoEra}
 use Rattle.uni_model.specs.History.{history_of, log_of_run}
 use Rattle.uni_model.specs.Responses.{HoldsResponses}
 use Rattle.uni_model.specs.Universal.{IsUniversal}
@@ -24,9 +25,9 @@ module _ (object : Sequential ℕ ℕ ℕ) (n : ℕ) where
   abbrev pub run_history : List (Event ℕ) → List (Act ℕ ℕ)
   run_history events = history_of object opened events
 
-  -- these calls stand in the log of a run
-  abbrev pub AreLogged : List (Event ℕ) → FirstCalls → Type 0
-  AreLogged events its = (i : ℕ) → i < its.count → (place : ℕ) × StandsAt (log_of_run object opened events) its.process i place
+  -- these calls stand in the log of a run, each with a reply or without
+  abbrev pub StandInLog : List (Event ℕ) → FirstCalls → Type 0
+  StandInLog events its = (i : ℕ) → i < its.count → (place : ℕ) × StandsAt (log_of_run object opened events) its.process i place
 
   -- After some of these events the calls of `earlier` stood in the log, and the process of `made` had made those calls, all of which had
   -- returned, and no others: each further call of it begins later.
@@ -34,15 +35,16 @@ module _ (object : Sequential ℕ ℕ ℕ) (n : ℕ) where
     pub before : List (Event ℕ)
     pub after : List (Event ℕ)
     pub joins : events ≡ before ++ after
-    pub earlier : AreLogged before s.earlier
+    pub earlier : StandInLog before s.earlier
     pub made : acts_by s.made.process (run_history before) ≡ sequential_acts s.made.process 0 s.made.calls
 
-  -- The log is that of a run of n processes: it is the joined log of events that are accepted one after another from the opening on.
-  -- All that holds of every run holds of it: it is universal, the log keeps real-time order, and has the response of each call. In its
+  -- The log is that of a run of n processes: it is the joined log of events that are accepted one after another from the opening on, and
+  -- end no era. All that holds of every run holds of it: it is universal, the log keeps real-time order, and has the response of each call. In its
   -- history each of these processes takes the acts of its calls, each with its reply before the next one begins, and no others.
   pub record IsLogOfRun (log : List (Entry ℕ ℕ)) (calls : List (ProcessCalls ℕ ℕ)) : Type 0 where
     pub events : List (Event ℕ)
     pub accepted : AreAccepted object opened events
+    pub one_era : EndNoEra events
     pub universal : IsUniversal object n object.initial 1 events
     pub real_time : KeepsRealTime object n object.initial 1 events
     pub responses : HoldsResponses log (run_history events)
@@ -80,6 +82,6 @@ sample_order = record {
   earlier = logged;
   made = refl;
 } where
-  logged : AreLogged tally 2 (Call 0 5 ∷ replicate 16 (Step 0)) (record { process = 0; count = 1 })
+  logged : StandInLog tally 2 (Call 0 5 ∷ replicate 16 (Step 0)) (record { process = 0; count = 1 })
   logged zero inside = (0, record { entry = _; at = refl; process = refl; nth = refl })
   logged (suc i) inside = absurd (omega arith)

@@ -23,8 +23,9 @@ use Rattle.uni_words.specs.View.{Seen, Known, Process, Reading}
 use Rattle.uni_words.specs.View.Reading.{Nothing, Invocation, Applied, Reply}
 use Rattle.uni_words.specs.declared.view.View.{View}
 
--- the call of a cell has returned: it is threaded, with this invocation and this reply
-pub record HasReturned (m : Memory ℕ ℕ ℕ) (x : Name) (inv reply : ℕ) : Type 0 where
+-- the cell of a call has its number, this invocation and this reply: so it is of each call that has returned, and may be of one whose
+-- last step is to come
+pub record HasOutcome (m : Memory ℕ ℕ ℕ) (x : Name) (inv reply : ℕ) : Type 0 where
   pub inv_is : inv_of m x ≡ Some inv
   pub threaded : 1 ≤ seq_of m x
   pub reply_is : response_in m x ≡ Some reply
@@ -62,7 +63,7 @@ pub record IsLocal (w : WorldOf ℕ ℕ ℕ) (p : ℕ) (its : Process) : Type 0 
   pub underway : IsUnderway w.memory its.call its.inv its.read
   -- its own calls are those that it has begun, but for the pending one
   pub counted : its.begun ≡ length its.own + pending_count its.call
-  pub own : (j : ℕ) (c : ℕ × ℕ) → slice_get its.own j ≡ Some c → HasReturned w.memory (Of p j) c.0 c.1
+  pub own : (j : ℕ) (c : ℕ × ℕ) → slice_get its.own j ≡ Some c → HasOutcome w.memory (Of p j) c.0 c.1
   pub number : its.number ≡ last_number w.memory p (length its.own)
 
 -- a process whose seat was taken in: all its calls have returned
@@ -70,7 +71,7 @@ pub record IsTaken (w : WorldOf ℕ ℕ ℕ) (its : ProcessCalls ℕ ℕ) : Type
   pub inside : its.process < w.n
   pub call : w.call its.process ≡ None
   pub begun : w.begun its.process ≡ length its.calls
-  pub own : (j : ℕ) (c : ℕ × ℕ) → slice_get its.calls j ≡ Some c → HasReturned w.memory (Of its.process j) c.0 c.1
+  pub own : (j : ℕ) (c : ℕ × ℕ) → slice_get its.calls j ≡ Some c → HasOutcome w.memory (Of its.process j) c.0 c.1
 
 -- the process is one of this seat's that take steps
 abbrev pub IsAmong : ℕ → Known → Type 0
@@ -100,8 +101,8 @@ pub record ShowsSeats (row : ℕ) (w : WorldOf ℕ ℕ ℕ) (views : List View) 
   pub owner : ℕ → ℕ
   pub each : (id : ℕ) (v : View) → get_elem? views id ≡ some v → Tells w owner row id v.known
 
--- The words and the views show the world w, which has the invariant, with what helps each pending call, and whose own steps are
--- counted.
+-- The words and the views show the world w. It has the invariant, each pending call is helped in time, and its counts of own steps are
+-- right.
 pub record IsShown (object : Sequential ℕ ℕ ℕ) (row : ℕ) (w : WorldOf ℕ ℕ ℕ) (s : State ℕ View) : Type 0 where
   pub words : ShowsWords object row w s.words
   pub seats : ShowsSeats row w s.views

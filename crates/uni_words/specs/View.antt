@@ -22,10 +22,11 @@ pub record FirstCalls : Type 0 where
   pub process : ℕ
   pub count : ℕ
 
--- a call with all that its process made before it; and all calls that a process has made
+-- a call with all that its process made before it
 abbrev pub up_to : CallId → FirstCalls
 up_to call = record { process = call.process; count = call.nth + 1 }
 
+-- all calls that a process has made
 abbrev pub all_of : ProcessCalls ℕ ℕ → FirstCalls
 all_of its = record { process = its.process; count = length its.calls }
 
@@ -39,9 +40,9 @@ pub record Seen : Type 0 where
 abbrev pub seen_of : (made : ProcessCalls ℕ ℕ) → (earlier : List FirstCalls) → List Seen
 seen_of made earlier = map (λ its. record { earlier = its; made = made }) earlier
 
--- What a process is: the pending call with its invocation and what it has read, how many calls it has begun, the own steps and the
--- turns of the latest one, and those that have returned, each with its invocation and its reply, and the number of the last of them,
--- 0 where there is none.
+-- What a process is: the pending call with its invocation and what it has read; how many calls it has begun; the latest one's own
+-- steps, which are events of the model and not word steps, and turns; its calls that have returned, each with its invocation and its
+-- reply; and the number of the last of these, 0 where there is none.
 pub record Process : Type 0 where
   pub call : Option Pending
   pub inv : ℕ
@@ -52,7 +53,7 @@ pub record Process : Type 0 where
   pub own : List (ℕ × ℕ)
   pub number : ℕ
 
--- What a seat knows. Its processes are those from the first on, of n with rows of so many calls, each of which is so. How many word
+-- What a seat knows. It has `count` processes from `first` on, of n with rows of `row` calls, and each is as `its` says. How many word
 -- steps the seat has taken, and how many of its calls ended with a store of the head. The calls of each process whose seat it has taken
 -- in. And what it has seen of calls that it asked about.
 pub record Known : Type 0 where

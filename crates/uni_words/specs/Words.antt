@@ -35,18 +35,18 @@ start_of n row (suc zero) = n
 start_of n row (suc (suc f)) = 2 * n + f * cells_of n row
 
 -- where a place stands in its column
-abbrev pub row_of : (n row : ℕ) → Place → Option ℕ
-row_of n row (Announced p) = if nat_lt p n then Some p else None
-row_of n row (HeadOf p) = if nat_lt p n then Some p else None
-row_of n row (InvOf x) = index_in n row x
-row_of n row (SeqOf x) = index_in n row x
-row_of n row (BeforeOf x) = index_in n row x
-row_of n row (AfterOf x) = index_in n row x
-row_of n row (NewOf x) = index_in n row x
+abbrev pub offset_of : (n row : ℕ) → Place → Option ℕ
+offset_of n row (Announced p) = if nat_lt p n then Some p else None
+offset_of n row (HeadOf p) = if nat_lt p n then Some p else None
+offset_of n row (InvOf x) = index_in n row x
+offset_of n row (SeqOf x) = index_in n row x
+offset_of n row (BeforeOf x) = index_in n row x
+offset_of n row (AfterOf x) = index_in n row x
+offset_of n row (NewOf x) = index_in n row x
 
 -- the word that a place is
 abbrev pub word_of : (n row : ℕ) → Place → Option ℕ
-word_of n row place = option_map (λ j. start_of n row (column_of place) + j) (row_of n row place)
+word_of n row place = option_map (λ j. start_of n row (column_of place) + j) (offset_of n row place)
 
 abbrev pub words_of : (n row : ℕ) → ℕ
 words_of n row = 2 * n + 5 * cells_of n row

@@ -2,7 +2,7 @@
 ghost use Rattle.std.specs.Prelude.{◌≡◌, ◌↔◌, ◌+◌, ◌*◌, ◌<◌, ◌≤◌, ◌++◌, ◌∷◌};
 ghost use Rattle.std.specs.Prelude.{[], IsErr, IfOk, OnOk, OnErr};
 ghost use Rattle.uni_words.specs.Standing.{GetsOn, GoesBy, IsCountOf, IsCursor};
-ghost use Rattle.uni_words.specs.Standing.{IsIdle, Stands, StandsAt, cell_at, head_at};
+ghost use Rattle.uni_words.specs.Standing.{IsIdle, Stands, IsAtStage, cell_at, head_at};
 ghost use Rattle.uni_words.specs.Words.{cells_of};
 ghost use Rattle.uni_words.specs.Belongs.{IsSeatOf, processes_of, row_of, process_of, calls_made, own_calls};
 ghost use Rattle.uni_words.specs.Belongs.{taken_calls, seen_by, latest_number, latest_turns, view_of, word_steps_of};
@@ -96,7 +96,7 @@ impl<O: WordObject> WordLog<O> {
         requires stands { Stands self.now at (Test (head_at self.now at) at.number) seat.old.me }
         requires first { seat.old.me.0.known.its.turns ≡ 0 }
         ensures same { (seat.new.table_id ≡ seat.old.table_id) × (seat.new.id ≡ seat.old.id) }
-        ensures stands { StandsAt self.now.setup.n self.now.setup.k at.process (cell_at self.now at.cell)
+        ensures stands { IsAtStage self.now.setup.n self.now.setup.k at.process (cell_at self.now at.cell)
             (Finish result.1 result.2) seat.new.me }
         ensures number { result.1 ≤ cells_of self.now.setup.n self.now.setup.k }
         ensures goes { GoesBy seat.old.me seat.new.me (10 * result.0 + 1) result.0 }

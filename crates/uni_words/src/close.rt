@@ -7,7 +7,7 @@ ghost use Rattle.uni_words.specs.Belongs.{calls_of, known_calls, latest_number, 
 ghost use Rattle.uni_words.specs.Belongs.{count_in, row_in, words_in, log_in};
 ghost use Rattle.uni_words.specs.Compare.{Agrees};
 ghost use Rattle.uni_words.specs.Run.{IsLogOfRun, IsLogOfSeenRun};
-ghost use Rattle.uni_words.specs.Log.{AreAnswered, AreCallsOf, HasNumber, IsChained, IsInOrder, IsLogged};
+ghost use Rattle.uni_words.specs.Log.{AreAnswered, AreCallsOf, LastHasNumber, IsChained, IsInOrder, IsLogged};
 
 use crate::log::WordLog;
 use crate::object::WordObject;
@@ -49,7 +49,7 @@ impl<O: WordObject> WordLog<O> {
         ensures seen { let object = O.sequential (object_of self) in
             IsLogOfSeenRun object (processes_of self) (log_in result) (known_calls seat) (seen_by seat) }
         ensures order { All (IsInOrder (log_in result)) (seen_by seat) }
-        ensures number { HasNumber (log_in result) (calls_of seat) (latest_number seat) }
+        ensures number { LastHasNumber (log_in result) (calls_of seat) (latest_number seat) }
     {
         let WordLog { setup, table } = self;
         let Setup { object, n, k } = setup;

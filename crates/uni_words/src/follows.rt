@@ -1,7 +1,7 @@
 //! Asking about a call, and taking in a seat: what a seat's later calls come after.
 ghost use Rattle.std.specs.Prelude.{◌≡◌, ◌+◌, ◌++◌, ◌∷◌, [], true, false};
 ghost use Rattle.uni_words.specs.Belongs.{IsCallOf, IsSeatOf, KnowsCall, calls_made, calls_of, known_calls};
-ghost use Rattle.uni_words.specs.Belongs.{logged_calls, seen_by, view_of, word_steps_of};
+ghost use Rattle.uni_words.specs.Belongs.{logged_calls, seen_by, taken_calls, view_of, word_steps_of};
 ghost use Rattle.uni_words.specs.View.{seen_of, up_to};
 
 use crate::log::WordLog;
@@ -42,7 +42,7 @@ impl WordSeat {
 
     /// Takes in another seat of this log: this seat knows its calls then, and has seen what it saw. All
     /// later calls of this seat come after the other's own, and after all that the other comes after. It
-    /// costs one load.
+    /// costs one load, which the seat doesn't count among its word steps.
     pub fn take_in<O: WordObject>(&mut self, log: &WordLog<O>, other: WordSeat)
         requires seats { IsSeatOf log.now self.old × IsSeatOf log.now other }
         ensures kept { IsSeatOf log.now self.new × (calls_of self.new ≡ calls_of self.old) }
@@ -50,6 +50,10 @@ impl WordSeat {
         ensures known { known_calls self.new ≡ known_calls self.old ++ known_calls other }
         ensures seen { seen_by self.new
             ≡ seen_by self.old ++ (seen_by other ++ seen_of (calls_of self.old) (logged_calls other)) }
+        ensures rest { view_of self.new ≡ record (view_of self.old) {
+          taken = taken_calls self.new;
+          seen = seen_by self.new;
+        } }
     {
         let WordSeat { seat, .. } = other;
         log.table.shared.join_seat::<TakesIn>(&mut self.seat, seat);

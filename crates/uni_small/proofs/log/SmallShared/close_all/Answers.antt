@@ -47,6 +47,6 @@ pub returns : goal.returns
 returns g c =
     let none = nil_from_length _ (sym c.loop-seat.seat-iterator.rest.ok.0 ∙ c.in-None.ensures.steps.0) in
     record {
-      told = final_of_fewer (g.O.SmallObject.meaning c.args.self.setup.object).object (known_calls c.loop-seat.first) (flat_map known_calls c.args.seats.items) c.close_with.new.state
+      told = final_of_fewer (g.O.SmallObject.meaning c.args.self.setup.object).object c.args.self.setup.sizes.processes (known_calls c.loop-seat.first) (flat_map known_calls c.args.seats.items) c.close_with.new.state
           (λ its has. subst (λ l. Contains l its) (ap (λ l. known_calls c.loop-seat.first ++ flat_map known_calls l) none ∙ append-nil (known_calls c.loop-seat.first)) (c.loop-seat.invariant.2 its has)) c.close_with.ensures.told;
     }

@@ -55,6 +55,7 @@ returns-clause-seen g c =
       record {
         events = run.events;
         accepted = run.accepted;
+        one_era = run.one_era;
         universal = run.universal;
         real_time = run.real_time;
         responses = run.responses;
