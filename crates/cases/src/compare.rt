@@ -9,12 +9,13 @@ ghost use Rattle.unibench_run.specs.Statuses.{Tells};
 ghost use Rattle.unidraw_run.specs.Drawn.{form_of_words, IsDrawn};
 ghost use Rattle.cases.specs.Comparing.{AsksForReplayOf, IsAnsweredBy};
 
+use script_advice::KeepsText;
 use std::alloc::Global;
 use std::convert::AsStr;
 use std::sync::Wait;
 use std::thread::Threads;
-use uni_script::{Checked, TextIn, TextOut};
-use unibench_run::{KeepsText, Request, Watch};
+use uni_script::{Checked, TextOut};
+use unibench_run::{Request, Watch};
 use unidraw_run::Form;
 
 /// What a run is to write, and how it is to end.
@@ -86,7 +87,7 @@ pub fn is_run<R: Threads + Wait + Watch + Sync, S: AsStr, I: KeepsText>(
 /// Whether `unidraw`, over these words and what a reader has, writes and tells what it should, and ends so.
 ///
 /// An `Err` is a status above 2: memory was refused, or an end failed.
-pub fn is_drawn<S: AsStr, I: TextIn>(
+pub fn is_drawn<S: AsStr, I: KeepsText>(
     alloc: Global,
     words: &[S],
     input: &mut I,

@@ -26,13 +26,14 @@ use crate::compare::{Wanted, is_drawn, is_run};
 use crate::files::names_in;
 use crate::lesson::{Lesson, is_about, lesson_of};
 use crate::pieces::Pieces;
+use script_advice::Kept;
 use std::alloc::Global;
 use std::env::Env;
 use std::fs::Files;
 use std::sync::Wait;
 use std::thread::Threads;
 use std::{env, io};
-use unibench_run::{Kept, Watch};
+use unibench_run::Watch;
 
 /// How many bytes of a script are read at a time: it is run once with each of these.
 const AT_A_TIME: [usize; 4] = [1, 2, 7, 5_000];

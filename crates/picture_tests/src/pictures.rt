@@ -2,6 +2,7 @@
 
 use run_layout::Range;
 use run_picture::picture_of;
+use script_advice::Kept;
 use std::alloc::Global;
 use std::process::Abort;
 use uni_script::Checked;
@@ -113,7 +114,7 @@ fn is_written(rt: &impl Abort, alloc: Global, words: &[&str]) {
     let status = run(
         alloc,
         words,
-        &mut Checked::new(b"universal 1 queue 1 4\ncall 0 deq\n".as_slice()),
+        &mut Kept::new(Checked::new(b"universal 1 queue 1 4\ncall 0 deq\n".as_slice())),
         &mut output,
         &mut faults,
     );

@@ -5,7 +5,7 @@ ghost use Rattle.std.specs.Prelude.{◌≤◌, ◌<◌, ◌^◌, ◌+◌, ◌*�
 use crate::cells::lower;
 use crate::figures::{LETTER, Toward, push_label, push_line, push_text, push_tip};
 use crate::lanes::{MARGIN, START};
-use run_layout::{Axis, push_lines};
+use run_layout::{Axis, Column, push_lines};
 use signs::Span;
 use std::alloc::{AllocError, Global};
 use svg_text::{Paint, Shape};
@@ -103,13 +103,20 @@ fn note_text(remark: &Remark) -> &[u8] {
     }
 }
 
-/// The text of a note whose stem stands in a row; nothing of anything else.
-fn text_in<'a>(axis: &Axis, row: Span, place: usize, remark: &'a Remark) -> &'a [u8] {
-    let stem = stem_of(axis, place);
-    if row.from <= stem && stem < row.to {
-        note_text(remark)
-    } else {
-        &[]
+/// What is told in a row, with its place among all that is told: the stem of each stands in the row.
+fn told_in<'a>(axis: &Axis, row: Span, remarks: &'a [PlacedRemark]) -> (usize, &'a [PlacedRemark])
+    ensures few { length result.1.now ≤ length remarks.now }
+{
+    let stands_before = |column: &Column, end| u64::from(column.left) + STEM < end;
+    let first = axis
+        .remarks
+        .partition_point(|column| stands_before(column, row.from));
+    let end = axis
+        .remarks
+        .partition_point(|column| stands_before(column, row.to));
+    match remarks.get(first..end) {
+        Some(told) => (first, told),
+        None => (0, &[]),
     }
 }
 
@@ -160,7 +167,7 @@ fn caption_of(
     ensures few { IfOk result (λ caption. length caption.lines.items ≤ 200) }
 {
     let stem = START + stem_of(axis, place).saturating_sub(row.from);
-    let text = text_in(axis, row, place, remark);
+    let text = note_text(remark);
     let (left, most) = beside(width, stem, text);
     let mut lines = Vec::new(alloc);
     push_lines(alloc, text, most as usize, &mut lines)?;
@@ -181,7 +188,9 @@ fn captions_height(
     ensures small { IfOk result (λ height. height ≤ 400000000) }
 {
     let mut height = 0;
-    for (place, one) in remarks.iter().enumerate() {
+    let (first, told) = told_in(axis, row, remarks);
+    for (i, one) in told.iter().enumerate() {
+        let place = first.saturating_add(i);
         let caption = caption_of(alloc, axis, row, width, place, &one.remark)?;
         height += caption.lines.len() as u64 * LINE;
     }
@@ -253,7 +262,9 @@ pub fn push_captions(
 {
     let mut top = lower(bottom, MARGIN);
     let foot = top + captions_height(alloc, remarks, axis, row, width)? + 10;
-    for (place, one) in remarks.iter().enumerate() {
+    let (first, told) = told_in(axis, row, remarks);
+    for (i, one) in told.iter().enumerate() {
+        let place = first.saturating_add(i);
         let caption = caption_of(alloc, axis, row, width, place, &one.remark)?;
         push_caption(alloc, &caption, top, foot, shapes)?;
         top += caption.lines.len() as u64 * LINE;

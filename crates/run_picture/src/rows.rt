@@ -13,11 +13,28 @@ use uni_script::PlacedRemark;
 /// How wide a row is at most.
 const WIDEST: u64 = 1_348;
 
-/// Whether an edge goes through one of some labels.
+/// Labels in the order of where they begin, each up to the furthest end of those so far.
+///
+/// An `Err` says that memory was refused.
+fn reaching(alloc: Global, labels: &[Span]) -> Result<Vec<Span>, AllocError> {
+    let mut spans = Vec::with_capacity(alloc, labels.len())?;
+    spans.extend_from_slice(labels)?;
+    spans.sort_unstable_by_key(|span| span.from);
+    let mut furthest = 0;
+    for span in &mut spans {
+        furthest = span.to.max(furthest);
+        span.to = furthest;
+    }
+    Ok(spans)
+}
+
+/// Whether an edge goes through one of the labels that these reach over.
 fn is_cut(edge: u64, labels: &[Span]) -> bool {
-    labels
-        .iter()
-        .any(|label| label.from < edge && edge < label.to)
+    let begun = labels.partition_point(|label| label.from < edge);
+    match labels[..begun].last() {
+        Some(label) => edge < label.to,
+        None => false,
+    }
 }
 
 /// Adds the left edges of columns that go through no label.
@@ -37,31 +54,31 @@ fn push_free_edges(
     Ok(())
 }
 
-/// Where a row may end: at the left edge of an event or of what is told that goes through none of these
+/// Where a row may end, in order: at the left edge of an event or of what is told that goes through none of these
 /// labels, and with the strip.
 ///
 /// An `Err` says that memory was refused.
 fn edges_of(alloc: Global, labels: &[Span], axis: &Axis) -> Result<Vec<u64>, AllocError> {
+    let labels = reaching(alloc, labels)?;
     let mut edges = Vec::new(alloc);
-    push_free_edges(labels, &axis.events, &mut edges)?;
-    push_free_edges(labels, &axis.remarks, &mut edges)?;
+    push_free_edges(&labels, &axis.events, &mut edges)?;
+    push_free_edges(&labels, &axis.remarks, &mut edges)?;
     edges.push(strip_end(axis))?;
+    edges.sort_unstable();
     Ok(edges)
 }
 
-/// The furthest of some edges that are not past a limit, or a place where none is further than it.
+/// The furthest of some edges in order that are not past a limit, or a place where none is further than it.
 fn furthest(edges: &[u64], limit: u64, from: u64) -> u64
     requires { from ≤ limit }
     ensures further { from ≤ result }
     ensures near { result ≤ limit }
 {
-    let mut to = from;
-    for edge in edges {
-        if *edge <= limit {
-            to = to.max(*edge);
-        }
+    let near = edges.partition_point(|edge| *edge <= limit);
+    match edges[..near].last() {
+        Some(edge) => from.max(*edge).min(limit),
+        None => from,
     }
-    to
 }
 
 /// Where a row ends that begins at a place.

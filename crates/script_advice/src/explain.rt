@@ -1,11 +1,11 @@
-//! A replay that says why a line is bad.
+//! A fault of a script, told with why its line is bad.
 
-ghost use Rattle.std.specs.Prelude.{◌≡◌, ◌++◌, ℕ, List, IfOk, IsSome};
+ghost use Rattle.std.specs.Prelude.{◌≡◌, ◌++◌, ℕ, List, None, IfOk, IsSome};
 ghost use Rattle.uni_script.specs.Fault.{fault_line};
-ghost use Rattle.uni_script.specs.Statuses.{IsStatusOf, status_of};
-ghost use Rattle.unibench_run.specs.Statuses.{TellsMore};
+ghost use Rattle.uni_script.specs.Statuses.{IsStatusOf, TellsFault, status_of};
+ghost use Rattle.script_advice.specs.Told.{TellsMore};
 
-use script_advice::explanation;
+use crate::reasons::explanation;
 use std::alloc::{AllocError, Global};
 use uni_script::{BenchFault, Failed, TextIn, TextOut, push_fault, report_fault, tell};
 
@@ -108,7 +108,7 @@ fn explained(
 
 /// Says what went wrong with a script and, of a line of it, why, as far as the end takes it; the answer is the
 /// status. Where the script isn't known, or memory is refused to the explanation, the fault alone is told.
-pub(crate) fn report_explained<F: TextOut>(
+pub fn report_explained<F: TextOut>(
     alloc: Global,
     fault: BenchFault,
     script: Option<&[u8]>,
@@ -116,6 +116,8 @@ pub(crate) fn report_explained<F: TextOut>(
 ) -> u8
     ensures status { IsStatusOf fault result }
     ensures told { TellsMore (F.contents faults.old) (F.contents faults.new) (F.has_failed faults.new) result }
+    ensures alone { script.entry ≡ None → TellsFault (F.contents faults.old) (F.contents faults.new)
+        (F.has_failed faults.new) result }
 {
     let Some(script) = script else {
         return report_fault(alloc, fault, faults);

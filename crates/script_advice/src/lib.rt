@@ -4,10 +4,12 @@
 #![tactic(auto)]
 
 mod advice;
+mod explain;
 mod forms;
 mod reasons;
 mod words;
 
 pub use advice::{Advice, Cause, Place, advice_on};
+pub use explain::{KeepsText, Kept, report_explained};
 pub use forms::{Field, Form};
 pub use reasons::explanation;

@@ -5,13 +5,14 @@
 mod progress;
 
 use progress::{Cleared, Counted, Progress};
+use script_advice::Kept;
 use std::alloc::Global;
 use std::env::Env;
 use std::io::IsTerminal;
 use std::process::ExitCode;
 use std::{env, io};
 use uni_script::{Checked, refuse_words};
-use unibench_run::{Kept, Typed, run};
+use unibench_run::{Typed, run};
 
 /// The argument texts, the program's name first.
 fn words<R: Env + Alloc<A = Global>>(rt: &R) -> io::Result<Vec<String>> {

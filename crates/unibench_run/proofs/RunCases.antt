@@ -1,6 +1,5 @@
 -- What a run comes to by what was asked for, and what refused memory leaves.
-use Rattle.std.proofs.Common.{◌≡◌, ◌∙◌, ℕ, List, [], Option, Some, Bool, false, inl, inr, ◌++◌, refl, sym, subst, arith}
-use Rattle.std.proofs.lemmas.List.{append-nil}
+use Rattle.std.proofs.Common.{◌≡◌, ◌∙◌, ℕ, List, Option, Some, Bool, false, inl, inr, refl, sym, subst, arith}
 use Rattle.std.specs.Io.KnownBytes.{Appends}
 use Rattle.uni_script.specs.Ends.{AppendsPrefix}
 use Rattle.uni_script.specs.Fault.{fault_line}
@@ -11,7 +10,8 @@ use Rattle.unibench_run.specs.Runs.{IsRunOf}
 use Rattle.uni_script.specs.Replay.{IsFaultOfScript}
 use Rattle.uni_script.specs.Scripts.{scripts}
 use Rattle.uni_script.specs.Statuses.{IsStatusOf, TellsFault, TellsLine, status_of}
-use Rattle.unibench_run.specs.Statuses.{Tells, TellsMore, TellsThreadsFault}
+use Rattle.script_advice.proofs.More.{told_more}
+use Rattle.unibench_run.specs.Statuses.{Tells, TellsThreadsFault}
 use Rattle.unibench_run.specs.Threads.{refusal_of}
 use Rattle.unibench_run.specs.declared.request.Request.{Request}
 use Rattle.unibench_run.specs.declared.request.Request.TheVariants.{Replay, Explained, Random, Threads, Language}
@@ -45,31 +45,6 @@ threads_told refusal old new failed status four told = by_fault told.fault told.
     by_fault bench.Write is prefix whole = absurd (omega arith)
     by_fault (bench.Audit verdict) is prefix whole = absurd (omega arith)
     by_fault bench.Memory is prefix whole = record { fault = Memory; status_is = (four, λ two. absurd (omega arith)); prefix = prefix; whole = whole }
-
--- the line of a fault alone, where more may follow it
-pub told_more : (old new : Option (List ℕ)) (failed : Bool) (status : ℕ) → TellsFault old new failed status → TellsMore old new failed status
-told_more old new failed status told = (
-  [],
-  record {
-    fault = told.fault;
-    status_is = told.status_is;
-    prefix = subst (AppendsPrefix old new) (sym (append-nil (fault_line told.fault))) told.prefix;
-    whole = λ good. subst (Appends old new) (sym (append-nil (fault_line told.fault))) (told.whole good);
-  },
-)
-
--- the line of a fault and more, as one text
-pub told_with : (old new : Option (List ℕ)) (failed : Bool) (fault : BenchFault) (more text line : List ℕ) → status_of fault ≡ 2
-    → line ≡ text → text ≡ fault_line fault ++ more → AppendsPrefix old new line → (failed ≡ false → Appends old new line) → TellsMore old new failed 2
-told_with old new failed fault more text line ends is are prefix whole = (
-  more,
-  record {
-    fault = fault;
-    status_is = sym ends;
-    prefix = subst (AppendsPrefix old new) (is ∙ are) prefix;
-    whole = λ good. subst (Appends old new) (is ∙ are) (whole good);
-  },
-)
 
 pub told_by_memory : (r : Request) (old new : Option (List ℕ)) (failed : Bool) (status : ℕ) → status ≡ 4 → TellsFault old new failed status → Tells r old new failed status
 told_by_memory (Replay options) old new failed status four told = told

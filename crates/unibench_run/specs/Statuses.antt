@@ -1,8 +1,8 @@
 -- The statuses with which the program ends.
-use Rattle.std.specs.Prelude.{◌≡◌, ◌≢◌, ◌≤◌, ◌⊎◌, ◌++◌, ℕ, List, Option, Some, Bool}
+use Rattle.std.specs.Prelude.{◌≡◌, ◌≢◌, ◌≤◌, ◌⊎◌, ℕ, List, Option, Some, Bool}
 use Rattle.clap.specs.Words.{Text}
-use Rattle.uni_script.specs.Fault.{fault_line}
-use Rattle.uni_script.specs.Statuses.{TellsFault, TellsLine, status_of}
+use Rattle.uni_script.specs.Statuses.{TellsFault, TellsLine}
+use Rattle.script_advice.specs.Told.{TellsMore}
 use Rattle.unibench_run.specs.CommandLine.{AsksFor}
 use Rattle.unibench_run.specs.Threads.{line_of_fault, refusal_of}
 use Rattle.unibench_run.specs.declared.request.Form.TheVariants.{Lock}
@@ -34,11 +34,6 @@ EndsThreads refusal fault status = (status ≡ status_of_threads fault) × (stat
 
 abbrev pub TellsThreadsFault : (refusal : Option ThreadsFault) (old new : Option (List ℕ)) (failed : Bool) (status : ℕ) → Type 0
 TellsThreadsFault refusal = TellsLine (EndsThreads refusal) line_of_fault
-
--- known bytes grew by the line of a fault of a script that ends with this status, and by some text after it
-abbrev pub TellsMore : (old new : Option (List ℕ)) (failed : Bool) (status : ℕ) → Type 0
-TellsMore old new failed status =
-    (more : List ℕ) × TellsLine (λ fault status. status ≡ status_of fault) (λ fault. fault_line fault ++ more) old new failed status
 
 -- what is told of a fault depends on what was asked for
 abbrev pub Tells : Request → (old new : Option (List ℕ)) (failed : Bool) (status : ℕ) → Type 0

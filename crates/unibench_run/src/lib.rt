@@ -2,7 +2,6 @@
 //! of `uni_script`, draws a schedule, or runs threads that share an object.
 #![tactic(auto)]
 
-mod explain;
 mod hints;
 mod language;
 mod lock;
@@ -12,7 +11,6 @@ mod threads;
 mod typed;
 mod watch;
 
-pub use explain::{KeepsText, Kept};
 pub use program::run;
 pub use request::{Form, Plan, RandomPlan, Request, ThreadsObject, read_words};
 pub use threads::{ThreadsFault, push_agrees, push_threads_fault, run_plan};

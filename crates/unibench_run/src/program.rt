@@ -9,11 +9,11 @@ ghost use Rattle.unibench_run.specs.CommandLine.{AsksFor, AsksForReplay, IsRefus
 ghost use Rattle.uni_script.specs.Schedules.{IsPlan};
 ghost use Rattle.unibench_run.specs.Runs.{IsRandomRun, IsReplayRun, IsRunOf, IsStatusOfEnds, IsThreadsRun};
 ghost use Rattle.uni_script.specs.Statuses.{TellsFault};
-ghost use Rattle.unibench_run.specs.Statuses.{IsStatusFor, IsStatusOfThreads, Tells, TellsMore, TellsThreadsFault};
+ghost use Rattle.script_advice.specs.Told.{TellsMore};
+ghost use Rattle.unibench_run.specs.Statuses.{IsStatusFor, IsStatusOfThreads, Tells, TellsThreadsFault};
 ghost use Rattle.unibench_run.specs.Statuses.{status_of_threads};
 ghost use Rattle.unibench_run.specs.Threads.{IsThreadsPlan, OfAgreed, refusal_of};
 
-use crate::explain::{KeepsText, report_explained};
 use crate::hints::{fault_of_names, tip_for};
 use crate::language::write_language;
 use crate::request::{Form, Plan, RandomPlan, Request, read_words};
@@ -22,6 +22,7 @@ use crate::watch::Watch;
 use command_line::answer_words;
 use rand_core::SeedableRng;
 use rand_xoshiro::Xoshiro256PlusPlus;
+use script_advice::{KeepsText, report_explained};
 use std::alloc::{AllocError, Global};
 use std::convert::AsStr;
 use std::sync::Wait;

@@ -3,6 +3,7 @@
 mod drawn;
 mod typed;
 
+use script_advice::Kept;
 use seq_object::CallId;
 use std::alloc::{AllocError, Global};
 use std::io;
@@ -13,7 +14,7 @@ use std::test::Fail;
 use std::thread::Threads;
 use uni_record::Verdict;
 use uni_script::Checked;
-use unibench_run::{Kept, ThreadsFault, Watch, push_threads_fault, run};
+use unibench_run::{ThreadsFault, Watch, push_threads_fault, run};
 
 /// A reader over memory that gives at most so many bytes at a time, and then ends or fails.
 #[derive(Drop)]

@@ -2,6 +2,7 @@
 //! that it answers.
 #![tactic(auto)]
 
+use script_advice::Kept;
 use std::alloc::Global;
 use std::env::Env;
 use std::process::ExitCode;
@@ -15,7 +16,7 @@ fn words<R: Env + Alloc<A = Global>>(rt: &R) -> io::Result<Vec<String>> {
 }
 
 fn main(rt: HostRuntime) -> ExitCode {
-    let mut input = Checked::new(rt.stdin());
+    let mut input = Kept::new(Checked::new(rt.stdin()));
     let mut output = Checked::new(rt.stdout());
     let mut faults = Checked::new(rt.stderr());
     let status = match words(&rt) {

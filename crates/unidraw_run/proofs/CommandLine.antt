@@ -1,17 +1,24 @@
 -- The command line that the program builds is the one of the definitions, and what refused memory leaves.
-use Rattle.std.proofs.Common.{◌≡◌, ◌∙◌, ℕ, List, [], ◌∷◌, Option, None, Some, Bool, true, inl, inr, refl, ap, sym, subst, arith}
+use Rattle.std.proofs.Common.{◌≡◌, ◌∙◌, ◌++◌, ℕ, List, [], ◌∷◌, Option, None, Some, is_some, Bool, true, false, inl, inr, refl, ap, sym, subst, arith}
+use Rattle.std.proofs.lemmas.List.{append-nil}
+use Rattle.std.specs.Io.KnownBytes.{Appends}
 use Rattle.clap.specs.Values.{kind_of}
 use Rattle.clap.specs.Words.{HasKind, Kinds, app_of, is_simple_and_free, is_simple}
 use Rattle.clap.specs.declared.builder.command.Command.{Command}
 use Rattle.clap.specs.declared.error.Error.{Error}
 use Rattle.clap.specs.declared.error.kind.ErrorKind.TheVariants.{ArgumentConflict, OutOfMemory}
 use Rattle.command_line.proofs.ErrorKinds.{memory_of}
+use Rattle.uni_script.specs.Ends.{AppendsPrefix}
+use Rattle.uni_script.specs.Fault.{fault_line}
 use Rattle.uni_script.specs.Statuses.{TellsFault}
+use Rattle.script_advice.specs.Told.{TellsMore}
+use Rattle.run_layout.specs.declared.subject.PictureFault.{PictureFault}
 use Rattle.run_layout.specs.declared.subject.PictureFault.TheVariants.{Script}
 use Rattle.unidraw_run.specs.CommandLine.{faults_with, unidraw, unless_faulty}
 use Rattle.unidraw_run.specs.Drawn.{IsDrawn}
-use Rattle.unidraw_run.specs.Statuses.{TellsPictureFault}
+use Rattle.unidraw_run.specs.Statuses.{TellsPictureFault, picture_fault_line, status_of_picture}
 use Rattle.unidraw_run.specs.declared.program.Form.{Form}
+use Rattle.unidraw_run.specs.declared.program.Request.{Request}
 
 pub is_simple_and_free-unidraw : (whole : Command) → app_of whole ≡ unidraw → is_simple_and_free (app_of whole) ≡ true
 is_simple_and_free-unidraw whole is = let simple : is_simple_and_free unidraw ≡ true = refl in ap is_simple_and_free is ∙ simple
@@ -19,25 +26,25 @@ is_simple_and_free-unidraw whole is = let simple : is_simple_and_free unidraw �
 pub is_simple-unidraw : (whole : Command) → app_of whole ≡ unidraw → is_simple (app_of whole) ≡ true
 is_simple-unidraw whole is = let simple : is_simple unidraw ≡ true = refl in ap is_simple is ∙ simple
 
--- words without a fault ask for their form
-pub unless_faulty-none : (kinds : Kinds) (form : Option Form) → kinds ≡ [] → unless_faulty kinds form ≡ form
+-- words without a fault ask for what they ask
+pub unless_faulty-none : (kinds : Kinds) (form : Option Request) → kinds ≡ [] → unless_faulty kinds form ≡ form
 unless_faulty-none kinds form none = ap (λ ks. unless_faulty ks form) none
 
 -- a fault of clap is one of the words, and so is a conflict where there is none
-pub faulty : (kinds : Kinds) (form : Option Form) (e : Error) → HasKind kinds e → HasKind (faults_with kinds form) e
+pub faulty : (kinds : Kinds) (form : Option Request) (e : Error) → HasKind kinds e → HasKind (faults_with kinds form) e
 faulty [] None e has = inl (memory_of [] e has refl)
 faulty [] (Some f) e has = has
 faulty (kind ∷ kinds) form e has = has
 
-pub conflicting : (kinds : Kinds) (form : Option Form) (e : Error) → kinds ≡ [] → form ≡ None → kind_of e ≡ ArgumentConflict → HasKind (faults_with kinds form) e
+pub conflicting : (kinds : Kinds) (form : Option Request) (e : Error) → kinds ≡ [] → form ≡ None → kind_of e ≡ ArgumentConflict → HasKind (faults_with kinds form) e
 conflicting kinds form e none no_form is =
     subst (λ f. HasKind (faults_with kinds f) e) (sym no_form) (subst (λ ks. HasKind (faults_with ks None) e) (sym none) (inr (inl is)))
 
-pub refused_memory : (kinds : Kinds) (form : Option Form) (e : Error) → kind_of e ≡ OutOfMemory → HasKind (faults_with kinds form) e
+pub refused_memory : (kinds : Kinds) (form : Option Request) (e : Error) → kind_of e ≡ OutOfMemory → HasKind (faults_with kinds form) e
 refused_memory kinds form e is = inl is
 
--- an error of words that ask for a form is refused memory
-pub memory_of_form : (kinds : Kinds) (e : Error) (form : Option Form) (asked : Form) → HasKind (faults_with kinds form) e → unless_faulty kinds form ≡ Some asked → kind_of e ≡ OutOfMemory
+-- an error of words that ask for something is refused memory
+pub memory_of_form : (kinds : Kinds) (e : Error) (form : Option Request) (asked : Request) → HasKind (faults_with kinds form) e → unless_faulty kinds form ≡ Some asked → kind_of e ≡ OutOfMemory
 memory_of_form [] e None asked has is = absurd (let bad : None ≡ Some asked = is in cc)
 memory_of_form [] e (Some f) asked has is = memory_of [] e has refl
 memory_of_form (kind ∷ kinds) e form asked has is = absurd (let bad : None ≡ Some asked = is in cc)
@@ -47,5 +54,33 @@ pub drawn_of_memory : (form : Form) (left old : Option (List ℕ)) (status : ℕ
 drawn_of_memory form left old status four =
     record { drawn = λ e. absurd (omega arith); bad = λ e. absurd (omega arith); prefix = λ e. absurd (omega arith); nothing = λ _. refl }
 
-pub told_of_fault : (old new : Option (List ℕ)) (failed : Bool) (status : ℕ) → TellsFault old new failed status → TellsPictureFault old new failed status
-told_of_fault old new failed status told = record { fault = Script told.fault; status_is = told.status_is; prefix = told.prefix; whole = told.whole }
+-- the line of a fault and more is told by its bytes
+pub told_as : (is_explained : Bool) (fault : PictureFault) (more line : List ℕ) (old new : Option (List ℕ)) (failed : Bool) (status : ℕ) → (is_explained ≡ false → more ≡ [])
+    → status ≡ status_of_picture fault → line ≡ picture_fault_line fault ++ more → AppendsPrefix old new line → (failed ≡ false → Appends old new line) → TellsPictureFault is_explained old new failed status
+told_as is_explained fault more line old new failed status none ends is prefix whole = (
+  more,
+  none,
+  record { fault = fault; status_is = ends; prefix = subst (AppendsPrefix old new) is prefix; whole = λ good. subst (Appends old new) is (whole good) },
+)
+
+-- and so is the line alone, and that of a fault of a script
+pub told_alone : (is_explained : Bool) (fault : PictureFault) (line : List ℕ) (old new : Option (List ℕ)) (failed : Bool) (status : ℕ)
+    → status ≡ status_of_picture fault → line ≡ picture_fault_line fault → AppendsPrefix old new line → (failed ≡ false → Appends old new line) → TellsPictureFault is_explained old new failed status
+told_alone is_explained fault line old new failed status ends is prefix whole =
+    told_as is_explained fault [] line old new failed status (λ _. refl) ends (is ∙ sym (append-nil (picture_fault_line fault))) prefix whole
+
+pub told_of_fault : (is_explained : Bool) (old new : Option (List ℕ)) (failed : Bool) (status : ℕ) → TellsFault old new failed status → TellsPictureFault is_explained old new failed status
+told_of_fault is_explained old new failed status told =
+    told_alone is_explained (Script told.fault) (fault_line told.fault) old new failed status told.status_is refl told.prefix told.whole
+
+-- what isn't there is nothing
+pub not_some : {A : Type 0} (x : Option A) → is_some x ≡ false → x ≡ None
+not_some None is = refl
+not_some (Some a) is = cc
+
+-- a fault of a script is told with more only where it is explained
+pub told_of_more : (is_explained : Bool) (old new : Option (List ℕ)) (failed : Bool) (status : ℕ) → TellsMore old new failed status → (is_explained ≡ false → TellsFault old new failed status)
+    → TellsPictureFault is_explained old new failed status
+told_of_more true old new failed status told alone =
+    let line = told.1 in told_as true (Script line.fault) told.0 (fault_line line.fault ++ told.0) old new failed status (λ e. cc) line.status_is refl line.prefix line.whole
+told_of_more false old new failed status told alone = told_of_fault false old new failed status (alone refl)

@@ -1,6 +1,6 @@
 -- What the words of the command line ask for, by clap's own account of a command.
 use Rattle.std.specs.Prelude.{◌≡◌, ◌⊎◌, ◌-◌, ◌^◌, ℕ, List, [], ◌∷◌, map, filter, fold, Option, None, Some, option_and_then}
-use Rattle.std.specs.Prelude.{codes, refl}
+use Rattle.std.specs.Prelude.{Bool, codes, false, if◌then◌else◌, nat_lt, option_map, refl, true}
 use Rattle.clap.specs.Words.{App, IsAmong, Kinds, Row, Rule, Text, fault_of, matches_of, new_app, new_rule, with_rule}
 use Rattle.clap.proofs.OnLiterals.{clap_on_literals}
 use Rattle.clap.specs.declared.error.kind.ErrorKind.TheVariants.{ArgumentConflict, DisplayHelp, DisplayVersion, UnknownArgument}
@@ -11,6 +11,7 @@ use Rattle.run_layout.specs.declared.choice.Range.{Range}
 use Rattle.run_layout.specs.Choice.{all_events}
 use Rattle.unidraw_run.specs.declared.program.Form.{Form}
 use Rattle.unidraw_run.specs.declared.program.Form.TheVariants.{Svg, Lines, Steps, Json, Full, Html, History}
+use Rattle.unidraw_run.specs.declared.program.Request.{Request}
 
 -- an option that asks for a form
 pub record FormOption : Type 0 where
@@ -34,10 +35,10 @@ event_option name = in_range (record (new_rule name) { long = Some name; value_n
 abbrev pub with_options : App → List FormOption → App
 with_options = fold (λ app o. with_rule app (flag o.name))
 
--- the program has a version, the options of forms, and two that choose events
+-- the program has a version, the options of forms, two that choose events, and one that asks why a line is bad
 abbrev pub unidraw : App
-unidraw = with_rule (with_rule (with_options (versioned (new_app (codes "unidraw"))) form_options)
-    (event_option (codes "from"))) (event_option (codes "to"))
+unidraw = with_rule (with_rule (with_rule (with_options (versioned (new_app (codes "unidraw"))) form_options)
+    (event_option (codes "from"))) (event_option (codes "to"))) (flag (codes "explain"))
 
 -- the forms whose options are used, in the order of these
 abbrev pub forms_used : List Row → List FormOption → List Form
@@ -64,34 +65,51 @@ abbrev pub range_in : List Row → Option Range
 range_in rows =
     range_with (value_of (number_in 0 (2 ^ 64 - 1)) (codes "from") rows) (value_of (number_in 0 (2 ^ 64 - 1)) (codes "to") rows)
 
--- a form with the events that are chosen, if they are: there is no such choice but of an SVG and of lines
+-- a form with some events chosen: there is no such choice but of an SVG and of lines
+abbrev pub ranged : Range → Form → Option Form
+ranged range (Svg all) = Some (Svg range)
+ranged range (Lines all) = Some (Lines range)
+ranged range form = None
+
+-- an event comes after the last one, if there is a last
+abbrev pub comes_after : (event : ℕ) → (last : Option ℕ) → Bool
+comes_after event None = false
+comes_after event (Some last) = nat_lt last event
+
+-- a form with the events that are chosen, if they are: none where the first one comes after the last
 abbrev pub with_range : Option Range → Form → Option Form
 with_range None form = Some form
-with_range (Some range) (Svg all) = Some (Svg range)
-with_range (Some range) (Lines all) = Some (Lines range)
-with_range (Some range) form = None
+with_range (Some range) form = if comes_after range.from range.to then None else ranged range form
 
 abbrev pub form_in : List Row → Option Form
 form_in rows = option_and_then (with_range (range_in rows)) (form_among (forms_used rows form_options))
 
+-- what is asked for: a form, and whether the reason of a bad line is told
+abbrev pub request_in : List Row → Option Request
+request_in rows = option_map (λ form. record { form = form; is_explained = is_set (codes "explain") rows }) (form_in rows)
+
 -- the kinds of fault, where options that don't go together are a conflict
-abbrev pub faults_with : Kinds → Option Form → Kinds
+abbrev pub faults_with : Kinds → Option Request → Kinds
 faults_with [] None = ArgumentConflict ∷ []
-faults_with [] (Some form) = []
-faults_with (kind ∷ kinds) form = kind ∷ kinds
+faults_with [] (Some request) = []
+faults_with (kind ∷ kinds) request = kind ∷ kinds
 
 -- the kinds of the first fault that these words have, of which the program's name is the first
 abbrev pub faults_of_words : List Text → Kinds
-faults_of_words words = faults_with (fault_of unidraw words) (form_in (matches_of unidraw words))
+faults_of_words words = faults_with (fault_of unidraw words) (request_in (matches_of unidraw words))
 
--- a form, where there is no fault
-abbrev pub unless_faulty : Kinds → Option Form → Option Form
-unless_faulty [] form = form
-unless_faulty (kind ∷ kinds) form = None
+-- a request, where there is no fault
+abbrev pub unless_faulty : Kinds → Option Request → Option Request
+unless_faulty [] request = request
+unless_faulty (kind ∷ kinds) request = None
 
--- the form that the words of a command line ask for, the program's name first
+-- what the words of a command line ask for, the program's name first
+abbrev pub request_of_words : List Text → Option Request
+request_of_words words = unless_faulty (fault_of unidraw words) (request_in (matches_of unidraw words))
+
+-- and in which form
 abbrev pub form_of_words : List Text → Option Form
-form_of_words words = unless_faulty (fault_of unidraw words) (form_in (matches_of unidraw words))
+form_of_words words = option_map (λ r. r.form) (request_of_words words)
 
 -- they may ask for the help or the version
 abbrev pub MayAskForHelp : List Text → Type 0
@@ -154,10 +172,20 @@ form_of_lines_to_zero : (name : Text) → form_of_words (name ∷ codes "--text"
 unfolding clap_on_literals
 form_of_lines_to_zero name = refl
 
+steps_are_explained : (name : Text)
+    → request_of_words (name ∷ codes "--explain" ∷ codes "--steps" ∷ []) ≡ Some (record { form = Steps; is_explained = true })
+unfolding clap_on_literals
+steps_are_explained name = refl
+
 steps_from_ten_are_a_fault : (name : Text)
     → faults_of_words (name ∷ codes "--steps" ∷ codes "--from" ∷ codes "10" ∷ []) ≡ ArgumentConflict ∷ []
 unfolding clap_on_literals
 steps_from_ten_are_a_fault name = refl
+
+from_above_to_is_a_fault : (name : Text)
+    → faults_of_words (name ∷ codes "--from" ∷ codes "20" ∷ codes "--to" ∷ codes "10" ∷ []) ≡ ArgumentConflict ∷ []
+unfolding clap_on_literals
+from_above_to_is_a_fault name = refl
 
 from_a_word_is_a_fault : (name : Text) → faults_of_words (name ∷ codes "--from" ∷ codes "ten" ∷ []) ≡ ValueValidation ∷ []
 unfolding clap_on_literals

@@ -1,5 +1,5 @@
 -- The statuses with which the program ends.
-use Rattle.std.specs.Prelude.{◌≡◌, ◌∷◌, ◌++◌, [], ℕ, List, Option, Bool}
+use Rattle.std.specs.Prelude.{◌≡◌, ◌∷◌, ◌++◌, [], ℕ, List, Option, Bool, false}
 use Rattle.uni_script.specs.Statuses.{IsStatusOf, TellsLine, status_of}
 use Rattle.run_layout.specs.Subject.{picture_fault_text}
 use Rattle.run_layout.specs.declared.subject.PictureFault.{PictureFault}
@@ -21,6 +21,9 @@ IsStatusOfPicture Misdrawn status = status ≡ 5
 abbrev pub picture_fault_line : PictureFault → List ℕ
 picture_fault_line fault = picture_fault_text fault ++ 10 ∷ []
 
--- known bytes grew by the line of a fault that ends with this status: by all of it, where the end hasn't failed, else by a prefix
-abbrev pub TellsPictureFault : (old new : Option (List ℕ)) (failed : Bool) (status : ℕ) → Type 0
-TellsPictureFault = TellsLine (λ fault status. status ≡ status_of_picture fault) picture_fault_line
+-- known bytes grew by the line of a fault that ends with this status, and where it is explained by some text after it: by all of it,
+-- where the end hasn't failed, else by a prefix
+abbrev pub TellsPictureFault : (is_explained : Bool) (old new : Option (List ℕ)) (failed : Bool) (status : ℕ) → Type 0
+TellsPictureFault is_explained old new failed status =
+    (more : List ℕ) × (is_explained ≡ false → more ≡ [])
+    × TellsLine (λ fault status. status ≡ status_of_picture fault) (λ fault. picture_fault_line fault ++ more) old new failed status

@@ -5,4 +5,4 @@
 mod program;
 mod words;
 
-pub use program::{Form, run};
+pub use program::{Form, Request, run};

@@ -1,12 +1,12 @@
 //! The program over its ends, and its statuses.
 
-ghost use Rattle.std.specs.Prelude.{◌≡◌, ◌≢◌, ◌⊎◌, ◌↔◌, true, false, None, Some, IfOk, IsErrOf};
+ghost use Rattle.std.specs.Prelude.{◌≡◌, ◌≢◌, ◌⊎◌, ◌↔◌, true, false, None, Some, IfOk, IsErrOf, is_some};
 ghost use Rattle.std.specs.Prelude.{map};
 ghost use Rattle.uni_script.specs.Replay.{HasFault, IsFaultOfScript};
 ghost use Rattle.uni_script.specs.Scripts.{scripts_of};
 ghost use Rattle.uni_script.specs.declared.fault.BenchFault.{BenchFault as Fault};
 ghost use Rattle.run_layout.specs.Subject.{HasTooManyEvents};
-ghost use Rattle.unidraw_run.specs.CommandLine.{form_of_words, IsRefused};
+ghost use Rattle.unidraw_run.specs.CommandLine.{form_of_words, request_of_words, IsRefused};
 ghost use Rattle.unidraw_run.specs.Drawn.{IsPictureIn, IsDrawn};
 ghost use Rattle.unidraw_run.specs.Statuses.{IsStatusOfPicture, TellsPictureFault};
 
@@ -19,9 +19,10 @@ use run_lines::lines_of;
 use run_page::page_of;
 use run_picture::picture_of;
 use run_steps::steps_of;
+use script_advice::{KeepsText, report_explained};
 use std::alloc::Global;
 use std::convert::AsStr;
-use uni_script::{BenchFault, Failed, TextIn, TextOut, report_fault, tell, write_all};
+use uni_script::{BenchFault, Failed, TextIn, TextOut, tell, write_all};
 
 /// What a picture is drawn as.
 #[derive(Clone, Copy)]
@@ -42,18 +43,27 @@ pub enum Form {
     History,
 }
 
+/// What words ask for.
+#[derive(Clone, Copy)]
+pub struct Request {
+    /// What the picture is drawn as.
+    pub form: Form,
+    /// Whether the reason of a bad line is told too.
+    pub is_explained: bool,
+}
+
 /// Draws the script on `input` in the form that the argument texts ask for, the program's name first, and
 /// writes the picture to `output`; the answer is the status that the program ends with. With `--text` the
 /// picture is one of lines, with `--steps` it is a sentence for each event, with `--json` the trace of the run, and
 /// beside that with `--full` the whole memory after each event, with `--html` a page that shows the trace, with
 /// `--history` the calls and the replies of the run, and with no word an SVG. Of an SVG and of lines `--from` and
-/// `--to` choose the events.
+/// `--to` choose the events. With `--explain` the text of a bad line says why it is bad.
 ///
 /// The status is 0 where all went well, also for help or the version, which go to `output`; 2 for a bad script,
 /// one of more than 2,000 events, or words that ask for nothing that there is; 3 where `input` or `output`
 /// failed; 4 where memory was refused; and 5 where the drawing does not show its run, of which no script is known. The
 /// text that says so goes to `faults`, as far as that takes it.
-pub fn run<S: AsStr, I: TextIn, O: TextOut, F: TextOut>(
+pub fn run<S: AsStr, I: KeepsText, O: TextOut, F: TextOut>(
     alloc: Global,
     words: &[S],
     input: &mut I,
@@ -66,40 +76,46 @@ pub fn run<S: AsStr, I: TextIn, O: TextOut, F: TextOut>(
         → IsDrawn form (I.remaining input.old) (O.contents output.old) (O.contents output.new) result }
     ensures written { O.has_failed output.new ≡ true → result ≡ 3 }
     ensures silent { result ≡ 0 → faults.new ≡ faults.old }
-    ensures told { (form : Form) → form_of_words (map S.text words.now) ≡ Some form → result ≢ 0
-        → TellsPictureFault (F.contents faults.old) (F.contents faults.new) (F.has_failed faults.new) result }
+    ensures told { (r : Request) → request_of_words (map S.text words.now) ≡ Some r → result ≢ 0
+        → TellsPictureFault r.is_explained (F.contents faults.old) (F.contents faults.new)
+        (F.has_failed faults.new) result }
     ensures unread { form_of_words (map S.text words.now) ≡ None → input.new ≡ input.old }
     ensures refused { IsRefused (map S.text words.now)
         → ((result ≡ 2) ⊎ (result ≡ 4)) × (output.new ≡ output.old) }
 {
     match read_words(alloc, words) {
-        Ok(form) => draw(alloc, form, input, output, faults),
+        Ok(request) => draw(alloc, request, input, output, faults),
         Err(error) => answer_words(alloc, &error, tip_for(&error, words), output, faults),
     }
 }
 
-/// Draws the script on `input` in a form, and writes the picture to `output`; the answer is the status.
-fn draw<I: TextIn, O: TextOut, F: TextOut>(
+/// Draws the script on `input` as it is asked for, and writes the picture to `output`; the answer is the status.
+fn draw<I: KeepsText, O: TextOut, F: TextOut>(
     alloc: Global,
-    form: Form,
+    request: Request,
     input: &mut I,
     output: &mut O,
     faults: &mut F,
 ) -> u8
     requires input { I.has_failed input.old ≡ false }
     requires output { O.has_failed output.old ≡ false }
-    ensures drawn { IsDrawn form (I.remaining input.old) (O.contents output.old) (O.contents output.new) result }
+    ensures drawn { IsDrawn request.form (I.remaining input.old) (O.contents output.old) (O.contents output.new)
+        result }
     ensures written { O.has_failed output.new ≡ true → result ≡ 3 }
     ensures silent { result ≡ 0 → faults.new ≡ faults.old }
-    ensures told { result ≢ 0 → TellsPictureFault (F.contents faults.old) (F.contents faults.new)
-        (F.has_failed faults.new) result }
+    ensures told { result ≢ 0 → TellsPictureFault request.is_explained (F.contents faults.old)
+        (F.contents faults.new) (F.has_failed faults.new) result }
 {
-    match picture_in(alloc, form, input) {
+    if request.is_explained {
+        input.keep(alloc);
+    }
+    match picture_in(alloc, request.form, input) {
         Ok(text) => match write_all(output, text.as_slice()) {
             Ok(()) => 0,
-            Err(Failed) => report(alloc, PictureFault::Script(BenchFault::Write), faults),
+            Err(Failed) => report(alloc, PictureFault::Script(BenchFault::Write), None, faults),
         },
-        Err(fault) => report(alloc, fault, faults),
+        Err(fault) if request.is_explained => report(alloc, fault, input.kept(), faults),
+        Err(fault) => report(alloc, fault, None, faults),
     }
 }
 
@@ -126,14 +142,21 @@ fn picture_in<I: TextIn>(alloc: Global, form: Form, reader: &mut I) -> Result<Ve
     }
 }
 
-/// Says why there is no picture, as far as the end takes it; the answer is the status. Where the text of a
-/// fault of the script is refused memory, that is what is told, with its status.
-fn report<F: TextOut>(alloc: Global, fault: PictureFault, faults: &mut F) -> u8
+/// Says why there is no picture and, of a line of the script, why it is bad, where the script is there; as far as the
+/// end takes it. The answer is the status. Where the text of a fault of the script is refused memory, that is what is
+/// told, with its status.
+fn report<F: TextOut>(
+    alloc: Global,
+    fault: PictureFault,
+    script: Option<&[u8]>,
+    faults: &mut F,
+) -> u8
     ensures status { IsStatusOfPicture fault result }
-    ensures told { TellsPictureFault (F.contents faults.old) (F.contents faults.new) (F.has_failed faults.new) result }
+    ensures told { TellsPictureFault (is_some script.entry) (F.contents faults.old) (F.contents faults.new)
+        (F.has_failed faults.new) result }
 {
     match fault {
-        PictureFault::Script(fault) => report_fault(alloc, fault, faults),
+        PictureFault::Script(fault) => report_explained(alloc, fault, script, faults),
         PictureFault::TooManyEvents => {
             tell(faults, b"too many events for a picture\n");
             2

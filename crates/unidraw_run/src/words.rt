@@ -5,11 +5,12 @@ ghost use Rattle.clap.specs.Values.{kind_of};
 ghost use Rattle.clap.specs.Words.{HasKind, app_of, found_of, new_app, rows_of, rule_of};
 ghost use Rattle.clap.specs.declared.builder.command.Command.TheViews.{out-Command};
 ghost use Rattle.command_line.specs.Flags.{versioned};
-ghost use Rattle.unidraw_run.specs.CommandLine.{event_option, faults_of_words, form_among, form_in, form_of_words};
-ghost use Rattle.unidraw_run.specs.CommandLine.{form_with, forms_used, range_in, unidraw, with_options, with_range};
+ghost use Rattle.unidraw_run.specs.CommandLine.{comes_after, event_option, faults_of_words, form_among, form_in, form_with};
+ghost use Rattle.unidraw_run.specs.CommandLine.{forms_used, range_in, request_in, request_of_words, unidraw};
+ghost use Rattle.unidraw_run.specs.CommandLine.{with_options, with_range};
 ghost use Rattle.unidraw_run.specs.Shown.{option_shown};
 
-use crate::program::Form;
+use crate::program::{Form, Request};
 use clap::error::ErrorKind;
 use clap::{Arg, ArgMatches, Command};
 use command_line::{flag, in_range, is_set, may_be_path, number_of};
@@ -31,7 +32,8 @@ told alone, for a program that judges histories. A script of more than 2000
 events has no picture.
 
 With --from and --to a picture shows these events alone, both included, by the
-numbers that --steps tells, from 0. Where there are none it has no columns.
+numbers that --steps tells, from 0. Where the run has none of them it has no
+columns. With --explain the text of a bad line says why it is bad.
 
 Examples:
   unidraw < queue.script > queue.svg
@@ -46,6 +48,9 @@ Examples:
 const SEVERAL: &str = "\
 only one of --text, --steps, --json, --html and --history can be used, --full beside --json alone, \
 and --from and --to without any of them but --text";
+
+/// What is said where no event is chosen.
+const BACKWARD: &str = "--from is above --to";
 
 /// What is said where a word may have been meant for a file.
 const TIP: &str = "tip: a script is read from standard input: unidraw < FILE\n";
@@ -144,7 +149,8 @@ fn unidraw<'a>(alloc: Global) -> Result<Command<'a>, AllocError>
 {
     with_options(alloc, described(alloc), &OPTIONS)?
         .arg(event_option(alloc, "from", "Draws the events from this number on"))?
-        .arg(event_option(alloc, "to", "Draws the events up to this number"))
+        .arg(event_option(alloc, "to", "Draws the events up to this number"))?
+        .arg(flag(alloc, "explain", "Says why a line is bad"))
 }
 
 /// The form that is asked for where a further option is used, which asks for this one; `None` where they don't go
@@ -186,12 +192,24 @@ fn range_in(matches: &ArgMatches<'_>) -> Option<Range>
     }
 }
 
-/// A form with the events that are chosen, if they are; `None` where the form has no such choice.
+/// Whether an event comes after the last one, if there is a last.
+fn comes_after(event: u64, last: Option<u64>) -> bool
+    ensures { result ≡ comes_after event last }
+{
+    match last {
+        Some(last) => event > last,
+        None => false,
+    }
+}
+
+/// A form with the events that are chosen, if they are; `None` where the form has no such choice, or the first one comes
+/// after the last.
 fn with_range(form: Form, range: Option<Range>) -> Option<Form>
     ensures { result ≡ with_range range form }
 {
     match (form, range) {
         (form, None) => Some(form),
+        (_, Some(range)) if comes_after(range.from, range.to) => None,
         (Form::Svg(_), Some(range)) => Some(Form::Svg(range)),
         (Form::Lines(_), Some(range)) => Some(Form::Lines(range)),
         (_, Some(_)) => None,
@@ -205,26 +223,41 @@ fn form_in(matches: &ArgMatches<'_>) -> Option<Form>
     with_range(form_among(matches, &OPTIONS)?, range_in(matches))
 }
 
-/// The fault of words that ask for several forms.
-///
-/// An `Err` says that memory was refused.
-fn several_forms(alloc: Global) -> Result<clap::Error, AllocError>
-    ensures { IfOk result (λ error. kind_of error ≡ ErrorKind.ArgumentConflict) }
+/// What is asked for; `None` where the options don't go together.
+fn request_in(matches: &ArgMatches<'_>) -> Option<Request>
+    ensures { result ≡ request_in (rows_of (found_of matches.now)) }
 {
-    unidraw(alloc)?.error(ErrorKind::ArgumentConflict, SEVERAL)
+    let form = form_in(matches)?;
+    Some(Request {
+        form,
+        is_explained: is_set(matches, "explain"),
+    })
 }
 
-/// Reads a command line, the program's name first: the form that it asks for.
+/// The fault of options that don't go together.
+///
+/// An `Err` says that memory was refused.
+fn conflict(alloc: Global, matches: &ArgMatches<'_>) -> Result<clap::Error, AllocError>
+    ensures { IfOk result (λ error. kind_of error ≡ ErrorKind.ArgumentConflict) }
+{
+    let said = match range_in(matches) {
+        Some(range) if comes_after(range.from, range.to) => BACKWARD,
+        _ => SEVERAL,
+    };
+    unidraw(alloc)?.error(ErrorKind::ArgumentConflict, said)
+}
+
+/// Reads a command line, the program's name first: what it asks for.
 ///
 /// An `Err` has the fault of the words, or says that memory was refused.
-pub(crate) fn read_words<S: AsStr>(alloc: Global, words: &[S]) -> Result<Form, clap::Error>
-    ensures asked { IfOk result (λ form. form_of_words (map S.text words.now) ≡ Some form) }
+pub(crate) fn read_words<S: AsStr>(alloc: Global, words: &[S]) -> Result<Request, clap::Error>
+    ensures asked { IfOk result (λ request. request_of_words (map S.text words.now) ≡ Some request) }
     ensures fault { IfErr result (HasKind (faults_of_words (map S.text words.now))) }
 {
     match unidraw(alloc)?.try_get_matches_from(words) {
-        Ok(matches) => match form_in(&matches) {
-            Some(form) => Ok(form),
-            None => Err(several_forms(alloc)?),
+        Ok(matches) => match request_in(&matches) {
+            Some(request) => Ok(request),
+            None => Err(conflict(alloc, &matches)?),
         },
         Err(error) => Err(error),
     }

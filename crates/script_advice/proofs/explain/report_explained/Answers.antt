@@ -1,7 +1,7 @@
 use Rattle.std.proofs.Common.{◌≡◌, rules}
 use Rattle.uni_script.specs.Statuses.{status_of}
-use Rattle.unibench_run.proofs.RunCases.{told_more, told_with}
-use Rattle.unibench_run.proofs.explain.report_explained.Goals as goal
+use Rattle.script_advice.proofs.More.{told_more, told_with}
+use Rattle.script_advice.proofs.explain.report_explained.Goals as goal
 
 pub returns-in-Ok-clause-told : goal.returns-in-Ok-clause-told
 returns-in-Ok-clause-told g c =

@@ -1,13 +1,13 @@
 use Rattle.std.proofs.Common.{refl}
-use Rattle.run_layout.specs.declared.subject.PictureFault.TheVariants.{Script, TooManyEvents, Misdrawn}
+use Rattle.run_layout.specs.declared.subject.PictureFault.TheVariants.{TooManyEvents, Misdrawn}
+use Rattle.unidraw_run.proofs.CommandLine.{not_some, told_alone, told_of_more}
 use Rattle.unidraw_run.proofs.program.report.Goals as goal
 
 pub returns-in-Script-clause-told : goal.returns-in-Script-clause-told
-returns-in-Script-clause-told g c =
-    let told = c.report_fault.ensures.told in record { fault = Script told.fault; status_is = told.status_is; prefix = told.prefix; whole = told.whole }
+returns-in-Script-clause-told g c = told_of_more _ _ _ _ _ c.report_explained.ensures.told (λ none. c.report_explained.ensures.alone (not_some _ none))
 
 pub returns-in-TooManyEvents-clause-told : goal.returns-in-TooManyEvents-clause-told
-returns-in-TooManyEvents-clause-told g c = record { fault = TooManyEvents; status_is = refl; prefix = c.tell.ensures.prefix; whole = c.tell.ensures.whole }
+returns-in-TooManyEvents-clause-told g c = told_alone _ TooManyEvents _ _ _ _ _ refl refl c.tell.ensures.prefix c.tell.ensures.whole
 
 pub returns-in-Misdrawn-clause-told : goal.returns-in-Misdrawn-clause-told
-returns-in-Misdrawn-clause-told g c = record { fault = Misdrawn; status_is = refl; prefix = c.tell-in-Misdrawn.ensures.prefix; whole = c.tell-in-Misdrawn.ensures.whole }
+returns-in-Misdrawn-clause-told g c = told_alone _ Misdrawn _ _ _ _ _ refl refl c.tell-in-Misdrawn.ensures.prefix c.tell-in-Misdrawn.ensures.whole

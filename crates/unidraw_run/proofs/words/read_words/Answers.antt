@@ -1,6 +1,6 @@
 use Rattle.std.proofs.Common.{◌∙◌, sym, ap, map, subst}
 use Rattle.clap.specs.Words.{HasKind, fault_of, matches_of}
-use Rattle.unidraw_run.specs.CommandLine.{form_in}
+use Rattle.unidraw_run.specs.CommandLine.{request_in}
 use Rattle.unidraw_run.proofs.CommandLine.{conflicting, faulty, is_simple_and_free-unidraw, is_simple-unidraw, unless_faulty-none}
 use Rattle.unidraw_run.proofs.words.read_words.Goals as goal
 
@@ -11,7 +11,7 @@ returns-in-Some-clause-asked g c =
     let words = map g.S.AsStr.text c.args.words.now in
     let good = ap (λ app. fault_of app words) (sym is) ∙ c.in-Ok.ensures.kinds (is_simple_and_free-unidraw whole is) in
     let rows = (c.in-Ok.ensures.matches (is_simple-unidraw whole is)).0 ∙ ap (λ app. matches_of app words) is in
-    unless_faulty-none _ _ good ∙ ap form_in (sym rows) ∙ sym c.form_in.ensures ∙ c.in-Some.is
+    unless_faulty-none _ _ good ∙ ap request_in (sym rows) ∙ sym c.request_in.ensures ∙ c.in-Some.is
 
 pub returns-in-Ok-clause-fault : goal.returns-in-Ok-clause-fault
 returns-in-Ok-clause-fault g c =
@@ -20,7 +20,7 @@ returns-in-Ok-clause-fault g c =
     let words = map g.S.AsStr.text c.args.words.now in
     let good = ap (λ app. fault_of app words) (sym is) ∙ c.in-Ok.ensures.kinds (is_simple_and_free-unidraw whole is) in
     let rows = (c.in-Ok.ensures.matches (is_simple-unidraw whole is)).0 ∙ ap (λ app. matches_of app words) is in
-    conflicting _ _ c.in_ok-several_forms-in-None.field-0 good (ap form_in (sym rows) ∙ sym c.form_in.ensures ∙ c.in-None.is) c.in_ok-several_forms-in-None.ensures
+    conflicting _ _ c.in_ok-conflict-in-None.field-0 good (ap request_in (sym rows) ∙ sym c.request_in.ensures ∙ c.in-None.is) c.in_ok-conflict-in-None.ensures
 
 pub returns-clause-fault : goal.returns-clause-fault
 returns-clause-fault g c =
