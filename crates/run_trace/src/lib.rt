@@ -14,4 +14,4 @@ mod whole;
 pub use frame::{Begun, Change, EraEnd, Field, Frame, Held, Scene, Step, changes_of};
 pub use laws::{ends_leave_one_anchor, scenes_tell_each_event, steps_change_one_place};
 pub use places::{cell_text, field_name};
-pub use replay::scenes_of;
+pub use replay::{begun_of, scenes_of, step_of};

@@ -135,7 +135,7 @@ fn reshaped<O: Spoken>(
 /// A process begins a call in a replay; the answer is what that did.
 ///
 /// An `Err` says that memory was refused, or the call.
-fn begun_of<O: Spoken>(
+pub fn begun_of<O: Spoken>(
     alloc: Global,
     process: u64,
     inv: &O::Inv,
@@ -291,7 +291,7 @@ fn take_step<O: Spoken>(
 /// A process takes a step in a replay; the answer is what it did.
 ///
 /// An `Err` says that memory was refused, or the step.
-fn step_of<O: Spoken>(
+pub fn step_of<O: Spoken>(
     alloc: Global,
     process: u64,
     replay: &mut World<O>,
