@@ -1,3 +1,4 @@
+pub mod Pairs
 pub mod Reached
 pub mod Rows
 pub mod Short

@@ -1,34 +1,38 @@
 -- An object on the words of its states does what the plain one does.
-use Rattle.std.proofs.Common.{◌≡◌, ◌∙◌, ℕ, refl, sym, ap, subst, List, [], ◌∷◌, ◌++◌, length, map}
+use Rattle.std.proofs.Common.{◌≡◌, ◌∙◌, ℕ, refl, sym, ap, List, [], ◌∷◌, ◌++◌, map}
+use Rattle.std.proofs.lemmas.List.{map-append}
 use Rattle.seq_object.specs.Sequential.{Sequential}
 use Rattle.seq_object.specs.History.{state_after}
 use Rattle.uni_model.proofs.Appended.{state_after-append}
 use Rattle.uni_small.specs.Image.{IsReached}
 use Rattle.small_objects.specs.Encoding.{IsStateOf, encoded, Fits, in_words}
 
-module _ {S I R : Type 0} (plain : Sequential S I R) (encode : S → List ℕ) (decode : List ℕ → S) where
-  module _ (fits : Fits plain encode decode) where
-    from : (before is : List I) → state_after (encoded plain encode decode) (encode (state_after plain plain.initial before)) is ≡ encode (state_after plain plain.initial (before ++ is))
-    from before [] = ap (λ js. encode (state_after plain plain.initial js)) (sym (append_nil before)) where
-      append_nil : (xs : List I) → xs ++ [] ≡ xs
-      append_nil [] = refl
-      append_nil (x ∷ xs) = ap (λ l. x ∷ l) (append_nil xs)
-    from before (i ∷ is) =
-        let s = state_after plain plain.initial before in
-        let one : encode (plain.next (decode (encode s)) i) ≡ encode (state_after plain plain.initial (before ++ i ∷ []))
-        = ap (λ x. encode (plain.next x i)) (fits s (before, refl)) ∙ ap encode (sym (state_after-append plain plain.initial before (i ∷ []))) in
-        ap (λ w. state_after (encoded plain encode decode) w is) one ∙ from (before ++ i ∷ []) is ∙ ap (λ js. encode (state_after plain plain.initial js)) (shift before) where
-          shift : (xs : List I) → (xs ++ i ∷ []) ++ is ≡ xs ++ i ∷ is
-          shift [] = refl
-          shift (x ∷ xs) = ap (λ l. x ∷ l) (shift xs)
+module _ {S I R : Type 0} (plain : Sequential S I R) (call_in : List ℕ → I) where
+  -- one more call leads to such a state again
+  pub further : (state : S) → IsStateOf plain call_in state → (i : List ℕ) → IsStateOf plain call_in (plain.next state (call_in i))
+  further state was i = (
+    was.0 ++ i ∷ [],
+    ap (state_after plain plain.initial) (map-append call_in was.0 (i ∷ [])) ∙ state_after-append plain plain.initial (map call_in was.0) (call_in i ∷ [])
+        ∙ ap (λ s. plain.next s (call_in i)) was.1,
+  )
 
-    pub follows_plain : (is : List I) → state_after (encoded plain encode decode) (encode plain.initial) is ≡ encode (state_after plain plain.initial is)
-    follows_plain is = from [] is
+  module _ (encode : S → List ℕ) (decode : List ℕ → S) (fits : Fits plain encode decode call_in) where
+    from : (state : S) → IsStateOf plain call_in state → (is : List (List ℕ))
+        → state_after (encoded plain encode decode) (encode state) (map call_in is) ≡ encode (state_after plain state (map call_in is))
+    from state was [] = refl
+    from state was (i ∷ is) =
+        ap (λ s. state_after (encoded plain encode decode) (encode (plain.next s (call_in i))) (map call_in is)) (fits state was)
+        ∙ from (plain.next state (call_in i)) (further state was i) is
+
+    pub follows_plain : (is : List (List ℕ))
+        → state_after (encoded plain encode decode) (encode plain.initial) (map call_in is) ≡ encode (state_after plain plain.initial (map call_in is))
+    follows_plain is = from plain.initial ([], refl) is
 
     -- words that calls lead to are those of a state that calls lead to
-    pub reached_is : (words : List ℕ) → IsStateOf (encoded plain encode decode) words → (state : S) × IsStateOf plain state × (words ≡ encode state) × (decode words ≡ state)
+    pub reached_is : (words : List ℕ) → IsStateOf (encoded plain encode decode) call_in words
+        → (state : S) × IsStateOf plain call_in state × (words ≡ encode state) × (decode words ≡ state)
     reached_is words was =
-        let state = state_after plain plain.initial was.0 in
+        let state = state_after plain plain.initial (map call_in was.0) in
         let is : words ≡ encode state = sym was.1 ∙ follows_plain was.0 in
         (state, (was.0, refl), is, ap decode is ∙ fits state (was.0, refl))
 
@@ -38,5 +42,5 @@ module _ {I R : Type 0} (object : Sequential (List ℕ) I R) (call_in : List ℕ
   after_in state [] = refl
   after_in state (i ∷ is) = after_in (object.next state (call_in i)) is
 
-  pub reached_in : (words : List ℕ) → IsReached (in_words object call_in spell) words → IsStateOf object words
-  reached_in words was = (map call_in was.0, sym (after_in object.initial was.0) ∙ was.1)
+  pub reached_in : (words : List ℕ) → IsReached (in_words object call_in spell) words → IsStateOf object call_in words
+  reached_in words was = (was.0, sym (after_in object.initial was.0) ∙ was.1)

@@ -1,10 +1,12 @@
 -- Values in a row of words: what the steps on the words do to the values.
-use Rattle.std.proofs.Common.{◌≡◌, ◌≢◌, ◌∙◌, ℕ, zero, suc, ◌+◌, ◌-◌, ◌<◌, ◌≤◌, inl, inr, refl, sym, ap, subst, List, [], ◌∷◌, ◌++◌, length, length-append, length-set, take, drop, replicate, slice_index, slice_set, arith, get_or-set_same, get_or-set_other, nat_lt, if◌then◌else◌}
+use Rattle.std.proofs.Common.{◌≡◌, ◌≢◌, ◌∙◌, ℕ, zero, suc, ◌+◌, ◌-◌, ◌<◌, ◌≤◌, inl, inr, refl, sym, ap, subst, List, [], ◌∷◌, ◌++◌, length, length-append, length-set, map, take, drop, replicate, slice_index, slice_set, arith, nat_lt, if◌then◌else◌}
+use Rattle.std.specs.List.{remove}
+use Rattle.std.proofs.lemmas.List.Edits.{get_or-remove_above, get_or-remove_below, length-remove}
 use Rattle.seq_object.specs.Sequential.{Sequential}
 use Rattle.seq_object.specs.History.{state_after}
 use Rattle.uni_model.proofs.Written.{number_cases, lt_cases}
 use Rattle.uni_small.proofs.Lists.{same_list}
-use Rattle.small_objects.specs.Encoding.{IsStateOf, encoded, Fits}
+use Rattle.small_objects.specs.Encoding.{IsStateOf, encoded, Fits, first_word}
 use Rattle.small_objects.specs.Padded.{padded, row_of, values_in, length-padded}
 use Rattle.small_objects.specs.Queue.{bounded_queue, queue_next, queue}
 use Rattle.small_objects.specs.Stack.{bounded_stack, stack_next, stack}
@@ -71,6 +73,63 @@ pub zeros_are : (state : List ℕ) → ((j : ℕ) → j < length state → slice
 zeros_are [] each = refl
 zeros_are (x ∷ state) each = (let first : x ≡ 0 = each 0 (omega arith) in let rest : state ≡ replicate (length state) 0 = zeros_are state (λ j below. each (suc j) (omega arith)) in cc)
 
+-- states that are lists of no more elements than so many
+module _ {A I R : Type 0} (object : Sequential (List A) I R) (call_in : List ℕ → I) (most : ℕ)
+    (few : (xs : List A) (inv : I) → length xs ≤ most → length (object.next xs inv) ≤ most) where
+  after_few : (xs : List A) (is : List I) → length xs ≤ most → length (state_after object xs is) ≤ most
+  after_few xs [] h = h
+  after_few xs (i ∷ is) h = after_few (object.next xs i) is (few xs i h)
+
+  pub reached_few : object.initial ≡ [] → (xs : List A) → IsStateOf object call_in xs → length xs ≤ most
+  reached_few empty xs was =
+      let start : length object.initial ≤ most = (let e : length object.initial ≡ 0 = ap length empty in omega arith) in
+      subst (λ ys. length ys ≤ most) was.1 (after_few object.initial (map call_in was.0) start)
+
+-- what taking the word at an index out of the words up to a last one does to them
+pub record IsTakenOut (old new : List ℕ) (at last : ℕ) : Type 0 where
+  pub long : length new ≡ length old
+  pub before : (i : ℕ) → i < at → slice_index new i ≡ slice_index old i
+  pub moved : (i : ℕ) → at ≤ i → i < last → slice_index new i ≡ slice_index old (i + 1)
+  pub cleared : slice_index new last ≡ 0
+  pub others : (i : ℕ) → last < i → slice_index new i ≡ slice_index old i
+
+-- a value is taken out of a row
+pub taken_out : (room c : ℕ) (values new : List ℕ) (j at last : ℕ) → j < length values → length values ≤ room → at ≡ suc j → last ≡ length values
+    → IsTakenOut (c ∷ padded room values) new at last → new ≡ c ∷ padded room (remove values j)
+taken_out room c values new j at last below few at_is last_is t = same_list new (c ∷ padded room (remove values j)) lengths each where
+  lengths : length new ≡ length (c ∷ padded room (remove values j))
+  lengths = t.long ∙ ap suc (length-padded room values ∙ sym (length-padded room (remove values j)))
+
+  old_is : (k : ℕ) → k < room → slice_index (c ∷ padded room values) (suc k) ≡ slice_index values k
+  old_is k inside = index-padded room values k inside
+
+  each : (i : ℕ) → i < length new → slice_index new i ≡ slice_index (c ∷ padded room (remove values j)) i
+  each zero inside = t.before 0 (omega arith)
+  each (suc k) inside =
+      let long = t.long in
+      let wide = length-padded room values in
+      let room_for : k < room = omega arith in
+      let fewer = length-remove values j below in
+      elim (lt_cases k j) [
+        | inl early ↦ t.before (suc k) (let e = early.0 in omega arith) ∙ old_is k room_for ∙ sym (get_or-remove_below values j 0 k early.0 below)
+        | inr late ↦ elim (lt_cases (suc k) (length values)) [
+          | inl inner ↦
+              let next : suc k + 1 ≡ suc (suc k) = omega arith in
+              let again : k + 1 ≡ suc k = omega arith in
+              t.moved (suc k) (let l = late.0 in omega arith) (let i = inner.0 in omega arith) ∙ ap (slice_index (c ∷ padded room values)) next
+              ∙ old_is (suc k) (let i = inner.0 in omega arith) ∙ ap (slice_index values) (sym again) ∙ sym (get_or-remove_above values j 0 k late.0 below)
+          | inr outer ↦ elim (number_cases (suc k) (length values)) [
+            | inl here ↦
+                let same : suc k ≡ last = (let e = here.0 in omega arith) in
+                ap (slice_index new) same ∙ t.cleared ∙ sym (index_beyond (remove values j) k (let e = here.0 in omega arith))
+            | inr away ↦
+                t.others (suc k) (let o = outer.0 in let a = away.0 in omega (arith, a)) ∙ old_is k room_for
+                ∙ index_beyond values k (let o = outer.0 in let a = away.0 in omega (arith, a))
+                ∙ sym (index_beyond (remove values j) k (let o = outer.0 in omega arith))
+          ]
+        ]
+      ] ∙ sym (index-padded room (remove values j) k room_for)
+
 module _ (capacity : ℕ) where
   -- no more values than fit
   queue_few : (values : List ℕ) (inv : ℕ) → length values ≤ capacity → length (queue_next capacity values inv) ≤ capacity
@@ -87,21 +146,11 @@ module _ (capacity : ℕ) where
     | inr more ↦ rw more.1 few
   ]
 
-  module _ (object : Sequential (List ℕ) ℕ ℕ) (few : (values : List ℕ) (inv : ℕ) → length values ≤ capacity → length (object.next values inv) ≤ capacity) where
-    after_few : (values is : List ℕ) → length values ≤ capacity → length (state_after object values is) ≤ capacity
-    after_few values [] h = h
-    after_few values (i ∷ is) h = after_few (object.next values i) is (few values i h)
+  pub queue_fits : Fits (bounded_queue capacity) (row_of capacity) values_in first_word
+  queue_fits values was = row_fits capacity values (reached_few (bounded_queue capacity) first_word capacity queue_few refl values was)
 
-  reached_few : (object : Sequential (List ℕ) ℕ ℕ) → ((values : List ℕ) (inv : ℕ) → length values ≤ capacity → length (object.next values inv) ≤ capacity) → object.initial ≡ [] → (values : List ℕ) → IsStateOf object values → length values ≤ capacity
-  reached_few object few empty values was =
-      let start : length object.initial ≤ capacity = (let e : length object.initial ≡ 0 = ap length empty in omega arith) in
-      subst (λ vs. length vs ≤ capacity) was.1 (after_few object few object.initial was.0 start)
-
-  pub queue_fits : Fits (bounded_queue capacity) (row_of capacity) values_in
-  queue_fits values was = row_fits capacity values (reached_few (bounded_queue capacity) queue_few refl values was)
-
-  pub stack_fits : Fits (bounded_stack capacity) (row_of capacity) values_in
-  stack_fits values was = row_fits capacity values (reached_few (bounded_stack capacity) stack_few refl values was)
+  pub stack_fits : Fits (bounded_stack capacity) (row_of capacity) values_in first_word
+  stack_fits values was = row_fits capacity values (reached_few (bounded_stack capacity) first_word capacity stack_few refl values was)
 
   -- the words of a queue and of a stack, by their values
   pub record HasValues (words values : List ℕ) : Type 0 where
@@ -109,15 +158,15 @@ module _ (capacity : ℕ) where
     pub words_are : words ≡ row_of capacity values
     pub read : values_in words ≡ values
 
-  pub queue_values : (words : List ℕ) → IsStateOf (queue capacity) words → (values : List ℕ) × HasValues words values
+  pub queue_values : (words : List ℕ) → IsStateOf (queue capacity) first_word words → (values : List ℕ) × HasValues words values
   queue_values words was =
-      let h = reached_is (bounded_queue capacity) (row_of capacity) values_in queue_fits words was in
-      (h.0, record { few = reached_few (bounded_queue capacity) queue_few refl h.0 h.1; words_are = h.2; read = h.3 })
+      let h = reached_is (bounded_queue capacity) first_word (row_of capacity) values_in queue_fits words was in
+      (h.0, record { few = reached_few (bounded_queue capacity) first_word capacity queue_few refl h.0 h.1; words_are = h.2; read = h.3 })
 
-  pub stack_values : (words : List ℕ) → IsStateOf (stack capacity) words → (values : List ℕ) × HasValues words values
+  pub stack_values : (words : List ℕ) → IsStateOf (stack capacity) first_word words → (values : List ℕ) × HasValues words values
   stack_values words was =
-      let h = reached_is (bounded_stack capacity) (row_of capacity) values_in stack_fits words was in
-      (h.0, record { few = reached_few (bounded_stack capacity) stack_few refl h.0 h.1; words_are = h.2; read = h.3 })
+      let h = reached_is (bounded_stack capacity) first_word (row_of capacity) values_in stack_fits words was in
+      (h.0, record { few = reached_few (bounded_stack capacity) first_word capacity stack_few refl h.0 h.1; words_are = h.2; read = h.3 })
 
   module _ (words values : List ℕ) (h : HasValues words values) where
     pub count_is : slice_index words 0 ≡ length values
@@ -206,41 +255,20 @@ module _ (capacity : ℕ) where
         ap (slice_index words) some ∙ word_is k (let f = h.few in omega arith) ∙ ap (slice_index values) less ∙ ap (λ vs. slice_index vs (length vs - 1)) (sym h.read)
 
     -- the oldest value is taken out
-    pub out_state : (k : ℕ) → slice_index words 0 ≡ suc k → (moved : List ℕ) → length moved ≡ length words → slice_index moved 0 ≡ slice_index words 0
-        → ((i : ℕ) → 1 ≤ i → i < slice_index words 0 → slice_index moved i ≡ slice_index words (i + 1)) → slice_index moved (slice_index words 0) ≡ 0
-        → ((i : ℕ) → slice_index words 0 < i → slice_index moved i ≡ slice_index words i)
+    pub out_state : (k : ℕ) → slice_index words 0 ≡ suc k → (moved : List ℕ) → IsTakenOut words moved 1 (slice_index words 0)
         → slice_set moved 0 (slice_index words 0 - 1) ≡ row_of capacity (queue_next capacity (values_in words) 0)
-    out_state k some moved long first shifted cleared others = same_list (slice_set moved 0 (slice_index words 0 - 1)) (row_of capacity (drop 1 values)) lengths at
+    out_state k some moved taken =
+        let row : moved ≡ row_of_rest = taken_out capacity (length values) values moved 0 1 (slice_index words 0) (let c = count_is in omega arith) h.few refl
+        count_is (subst (λ w. IsTakenOut w moved 1 (slice_index words 0)) h.words_are taken) in
+        ap (λ w. slice_set w 0 (slice_index words 0 - 1)) row
+        ∙ ap (λ c. c ∷ padded capacity (drop 1 values)) (ap (λ c. c - 1) count_is ∙ sym (fewer values))
         ∙ ap (λ vs. row_of capacity (queue_next capacity vs 0)) (sym h.read) where
-          lengths : length (slice_set moved 0 (slice_index words 0 - 1)) ≡ length (row_of capacity (drop 1 values))
-          lengths = length-set moved 0 (slice_index words 0 - 1) ∙ long ∙ wide ∙ ap suc (sym (length-padded capacity (drop 1 values)))
-
-          dropped : (vs : List ℕ) (j : ℕ) → slice_index (drop 1 vs) j ≡ slice_index vs (suc j)
-          dropped [] j = refl
-          dropped (v ∷ vs) j = refl
+          row_of_rest : List ℕ
+          row_of_rest = length values ∷ padded capacity (drop 1 values)
 
           fewer : (vs : List ℕ) → length (drop 1 vs) ≡ length vs - 1
           fewer [] = refl
           fewer (v ∷ vs) = (let e : length vs ≡ suc (length vs) - 1 = omega arith in e)
-
-          at : (i : ℕ) → i < length (slice_set moved 0 (slice_index words 0 - 1)) → slice_index (slice_set moved 0 (slice_index words 0 - 1)) i ≡ slice_index (row_of capacity (drop 1 values)) i
-          at zero below = get_or-set_same moved 0 (slice_index words 0 - 1) 0 (let l = length-set moved 0 (slice_index words 0 - 1) in omega arith) ∙ ap (λ c. c - 1) count_is ∙ sym (fewer values)
-          at (suc j) below =
-              let room : j < capacity = (let l = length-set moved 0 (slice_index words 0 - 1) in let w = wide in omega arith) in
-              let few = h.few in
-              let count = count_is in
-              get_or-set_other moved 0 (suc j) (slice_index words 0 - 1) 0 (λ (e : suc j ≡ 0). omega arith)
-              ∙ elim (lt_cases (suc j) (slice_index words 0)) [
-                | inl inner ↦
-                    let next : suc j + 1 ≡ suc (suc j) = omega arith in
-                    shifted (suc j) (omega arith) inner.0 ∙ ap (slice_index words) next ∙ word_is (suc j) (let i = inner.0 in omega arith) ∙ sym (dropped values j)
-                | inr outer ↦ elim (number_cases (suc j) (slice_index words 0)) [
-                  | inl here ↦ ap (slice_index moved) here.0 ∙ cleared ∙ sym (index_beyond values (suc j) (let e = here.0 in omega arith)) ∙ sym (dropped values j)
-                  | inr away ↦
-                      others (suc j) (let o = outer.0 in let a = away.0 in omega (arith, a)) ∙ word_is j room ∙ index_beyond values j (let o = outer.0 in let a = away.0 in omega (arith, a))
-                      ∙ sym (index_beyond values (suc j) (let o = outer.0 in omega arith)) ∙ sym (dropped values j)
-                ]
-              ] ∙ sym (index-padded capacity (drop 1 values) j room)
 
     pub out_reply : (k : ℕ) → slice_index words 0 ≡ suc k → slice_index words 1 ≡ slice_index (values_in words) 0
     out_reply k some = word_is 0 (let f = h.few in let c = count_is in omega arith) ∙ ap (λ vs. slice_index vs 0) (sym h.read)

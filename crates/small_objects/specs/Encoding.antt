@@ -1,12 +1,12 @@
 -- An object whose states, invocations and replies are stored in words.
-use Rattle.std.specs.Prelude.{◌≡◌, ℕ, List, [], ◌∷◌, length, slice_index}
+use Rattle.std.specs.Prelude.{◌≡◌, ℕ, List, [], ◌∷◌, length, map, slice_index}
 use Rattle.seq_object.specs.Sequential.{Sequential}
 use Rattle.seq_object.specs.History.{state_after}
 use Rattle.uni_small.specs.Image.{IsSteady, Meaning}
 
--- a state that some calls lead to
-abbrev pub IsStateOf : {S I R : Type 0} → Sequential S I R → S → Type 0
-IsStateOf {S} {I} {R} plain state = (is : List I) × (state_after plain plain.initial is ≡ state)
+-- a state that some calls lead to, of those that words are
+abbrev pub IsStateOf : {S I R : Type 0} → Sequential S I R → (call_in : List ℕ → I) → S → Type 0
+IsStateOf plain call_in state = (is : List (List ℕ)) × (state_after plain plain.initial (map call_in is) ≡ state)
 
 module _ {S I R : Type 0} (plain : Sequential S I R) (encode : S → List ℕ) (decode : List ℕ → S) where
   -- the object on the words of its states
@@ -18,8 +18,8 @@ module _ {S I R : Type 0} (plain : Sequential S I R) (encode : S → List ℕ) (
   }
 
   -- each state that calls lead to is read back as it was written
-  abbrev pub Fits : Type 0
-  Fits = (state : S) → IsStateOf plain state → decode (encode state) ≡ state
+  abbrev pub Fits : (call_in : List ℕ → I) → Type 0
+  Fits call_in = (state : S) → IsStateOf plain call_in state → decode (encode state) ≡ state
 
 -- the object whose invocations are those in words, and whose replies are spelled in words
 abbrev pub in_words : {S I R : Type 0} → Sequential S I R → (call_in : List ℕ → I) → (spell : R → List ℕ) → Sequential S (List ℕ) (List ℕ)

@@ -1,6 +1,7 @@
 pub mod Counter
 pub mod Counters
 pub mod Encoding
+pub mod Map
 pub mod Padded
 pub mod Queue
 pub mod Register

@@ -4,6 +4,7 @@ ghost use Rattle.std.proofs.Common.{◌∙◌, length-set};
 ghost use Rattle.small_objects.specs.Counters.{call_in, call_words, counters, spelled};
 ghost use Rattle.small_objects.specs.Encoding.{in_words, one_word};
 
+use crate::row::clear;
 use crate::words::Words;
 use uni_small::SmallObject;
 
@@ -42,7 +43,7 @@ impl Words for CountersCall {
 
     ghost long = { λ x. refl };
 
-    ghost fits = { λ x. refl };
+    ghost fits = { λ x valid. refl };
 }
 
 /// So many counters modulo 2^64, each from 0. A call adds its operand to one of them, and is answered the
@@ -70,9 +71,7 @@ impl SmallObject for SmallCounters {
     }
 
     fn start(&self, state: &mut [u64]) {
-        for i in 0..state.len() {
-            state[i] = 0;
-        }
+        clear(state);
     }
 
     fn apply(&self, state: &mut [u64], invocation: &[u64], reply: &mut [u64]) {

@@ -50,7 +50,7 @@ pub trait StoredObject: Drop {
 
     /// Applies a call to a state that calls lead to, and gives the reply.
     fn apply(&self, state: &mut Self::State, call: &Self::Call) -> Self::Reply
-        requires reached { IsStateOf (sequential self.now) state.old }
+        requires reached { IsStateOf (sequential self.now) Self.Call.decode state.old }
         ensures state { state.new ≡ (sequential self.now).next state.old call.now }
         ensures reply { result ≡ (sequential self.now).answer state.old call.now };
 
@@ -58,8 +58,8 @@ pub trait StoredObject: Drop {
     ghost steady: { (o : Self) (state : Self.State) →
         length (encode o state) ≡ length (encode o (sequential o).initial) };
 
-    /// A state that was stored is loaded as it was.
-    ghost fits: { (o : Self) → Fits (sequential o) (encode o) (decode o) };
+    /// A state that calls lead to, and that was stored, is loaded as it was.
+    ghost fits: { (o : Self) → Fits (sequential o) (encode o) (decode o) Self.Call.decode };
 }
 
 /// An object of several words that is one on stored states: what it means is that object's meaning, on the
@@ -108,9 +108,13 @@ impl<T: StoredObject> SmallObject for Encoded<T> {
 }
 
 /// What is so of the states on words is so of the plain ones: after the same invocations the words are those
-/// of the plain object's state.
+/// of the plain object's state, and the next reply is the plain object's.
 pub fn encoded_follows_plain<T: StoredObject>()
-    ensures { (o : T) (is : List (List ℕ)) → let plain = T.sequential o in
+    ensures states { (o : T) (is : List (List ℕ)) → let plain = T.sequential o in
         let words = in_words (encoded plain (T.encode o) (T.decode o)) T.Call.decode T.Reply.encode in
         state_after words words.initial is ≡ T.encode o (state_after plain plain.initial (map T.Call.decode is)) }
+    ensures replies { (o : T) (is : List (List ℕ)) (i : List ℕ) → let plain = T.sequential o in
+        let words = in_words (encoded plain (T.encode o) (T.decode o)) T.Call.decode T.Reply.encode in
+        words.answer (state_after words words.initial is) i
+        ≡ T.Reply.encode (plain.answer (state_after plain plain.initial (map T.Call.decode is)) (T.Call.decode i)) }
 {}

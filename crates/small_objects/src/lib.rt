@@ -4,8 +4,10 @@
 mod counter;
 mod counters;
 mod encoded;
+mod map;
 mod queue;
 mod register;
+mod row;
 mod stack;
 mod typed;
 mod words;
@@ -13,6 +15,7 @@ mod words;
 pub use counter::SmallCounter;
 pub use counters::{CountersCall, SmallCounters};
 pub use encoded::{Encoded, StoredObject};
+pub use map::{MapCall, MapReply, SmallMap};
 pub use queue::SmallQueue;
 pub use register::{RegisterCall, SmallRegister};
 pub use stack::SmallStack;

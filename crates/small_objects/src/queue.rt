@@ -1,8 +1,9 @@
 //! A bounded queue.
-ghost use Rattle.std.specs.Prelude.{ℕ, ◌+◌, ◌<◌, ◌≡◌, ◌≤◌, length, refl, slice_index};
+ghost use Rattle.std.specs.Prelude.{◌≡◌, length, refl};
 ghost use Rattle.small_objects.specs.Queue.{queue, queue_steady};
 ghost use Rattle.small_objects.specs.Encoding.{IsStateOf, first_word, of_one_word};
 
+use crate::row::{clear, take_out};
 use uni_small::SmallObject;
 
 /// A queue of numbers that aren't 0, at most so many. An invocation that isn't 0 puts its number in, and is
@@ -14,29 +15,11 @@ pub struct SmallQueue {
     pub capacity: u32,
 }
 
-/// Takes the first of so many values out of the row behind word 0: the others move up, and 0 comes last.
-fn shift(state: &mut [u64], count: usize) -> u64
-    requires inside { (1 ≤ count) × (count < length state.old) }
-    ensures taken { result ≡ slice_index state.old 1 }
-    ensures long { length state.new ≡ length state.old }
-    ensures first { slice_index state.new 0 ≡ slice_index state.old 0 }
-    ensures moved { (i : ℕ) → 1 ≤ i → i < count → slice_index state.new i ≡ slice_index state.old (i + 1) }
-    ensures cleared { slice_index state.new count ≡ 0 }
-    ensures others { (i : ℕ) → count < i → slice_index state.new i ≡ slice_index state.old i }
-{
-    let first = state[1];
-    for i in 1..count {
-        state[i] = state[i + 1];
-    }
-    state[count] = 0;
-    first
-}
-
 impl SmallQueue {
     /// Applies an invocation of one word to a state that calls lead to, and gives the reply.
     fn step(&self, state: &mut [u64], inv: u64) -> u64
         requires wide { length state.old ≡ length (queue self.now.capacity).initial }
-        requires reached { IsStateOf (queue self.now.capacity) state.old }
+        requires reached { IsStateOf (queue self.now.capacity) first_word state.old }
         ensures state { state.new ≡ (queue self.now.capacity).next state.old inv }
         ensures reply { result ≡ (queue self.now.capacity).answer state.old inv }
     {
@@ -45,7 +28,7 @@ impl SmallQueue {
             if count == 0 {
                 return 0;
             }
-            let first = shift(state, count);
+            let first = take_out(state, 1, count);
             state[0] = count as u64 - 1;
             return first;
         }
@@ -75,9 +58,7 @@ impl SmallObject for SmallQueue {
     }
 
     fn start(&self, state: &mut [u64]) {
-        for i in 0..state.len() {
-            state[i] = 0;
-        }
+        clear(state);
     }
 
     fn apply(&self, state: &mut [u64], invocation: &[u64], reply: &mut [u64]) {

@@ -51,7 +51,7 @@ impl Words for RegisterCall {
 
     ghost long = { call_long };
 
-    ghost fits = { call_fits };
+    ghost fits = { λ x valid. call_fits x };
 }
 
 /// A register of 64 bits. It is 0 at the start.

@@ -3,6 +3,7 @@ ghost use Rattle.std.specs.Prelude.{◌≡◌, length, refl};
 ghost use Rattle.small_objects.specs.Stack.{stack, stack_steady};
 ghost use Rattle.small_objects.specs.Encoding.{IsStateOf, first_word, of_one_word};
 
+use crate::row::clear;
 use uni_small::SmallObject;
 
 /// A stack of numbers that aren't 0, at most so many. An invocation that isn't 0 puts its number on, and is
@@ -18,7 +19,7 @@ impl SmallStack {
     /// Applies an invocation of one word to a state that calls lead to, and gives the reply.
     fn step(&self, state: &mut [u64], inv: u64) -> u64
         requires wide { length state.old ≡ length (stack self.now.capacity).initial }
-        requires reached { IsStateOf (stack self.now.capacity) state.old }
+        requires reached { IsStateOf (stack self.now.capacity) first_word state.old }
         ensures state { state.new ≡ (stack self.now.capacity).next state.old inv }
         ensures reply { result ≡ (stack self.now.capacity).answer state.old inv }
     {
@@ -58,9 +59,7 @@ impl SmallObject for SmallStack {
     }
 
     fn start(&self, state: &mut [u64]) {
-        for i in 0..state.len() {
-            state[i] = 0;
-        }
+        clear(state);
     }
 
     fn apply(&self, state: &mut [u64], invocation: &[u64], reply: &mut [u64]) {

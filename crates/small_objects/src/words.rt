@@ -13,6 +13,9 @@ pub trait Words: Drop {
     /// The value that words are.
     ghost decode: { List ℕ → Self };
 
+    /// What is so of each value.
+    ghost valid: { Self → Type 0 } = { λ _. Unit {0} };
+
     /// How many words a value has.
     fn count() -> u64
         ensures { result ≡ words };
@@ -31,7 +34,7 @@ pub trait Words: Drop {
     ghost long: { (x : Self) → length (encode x) ≡ words };
 
     /// A value that was stored is loaded as it was.
-    ghost fits: { (x : Self) → decode (encode x) ≡ x };
+    ghost fits: { (x : Self) → valid x → decode (encode x) ≡ x };
 }
 
 #[tactic(auto, using(crate::proofs::Short::one_set))]
@@ -56,5 +59,5 @@ impl Words for u64 {
 
     ghost long = { λ x. refl };
 
-    ghost fits = { λ x. refl };
+    ghost fits = { λ x valid. refl };
 }

@@ -6,10 +6,11 @@ ghost use Rattle.small_objects.specs.Typed.{IsTypedSeatOf};
 
 use crate::account::AccountObject;
 use small_objects::{
-    CountersCall, Encoded, RegisterCall, SmallCounter, SmallCounters, SmallQueue, SmallRegister,
-    SmallStack, Told, TypedSeat, Words,
+    CountersCall, Encoded, MapCall, MapReply, RegisterCall, SmallCounter, SmallCounters, SmallMap,
+    SmallQueue, SmallRegister, SmallStack, Told, TypedSeat, Words,
 };
 use std::alloc::Global;
+use std::fmt::Debug;
 use std::process::Abort;
 use uni_small::{SmallObject, SmallOpenFault, SmallSeat, SmallShared};
 
@@ -36,20 +37,25 @@ fn answer<O: SmallObject>(
 }
 
 /// The typed seat's next calls, each with its reply.
-fn told<O: SmallObject, C: Words>(
+fn told<O: SmallObject, C: Words, R: Words + Debug + PartialEq>(
     rt: &impl Abort,
     shared: &SmallShared<O>,
-    seat: &mut TypedSeat<O, C, u64>,
-    rows: &[(C, u64)],
+    seat: &mut TypedSeat<O, C, R>,
+    rows: &[(C, R)],
 )
-    requires { IsTypedSeatOf C.words 1 shared.now seat.old }
-    ensures { IsTypedSeatOf C.words 1 shared.now seat.new }
+    requires { IsTypedSeatOf C.words R.words shared.now seat.old }
+    ensures { IsTypedSeatOf C.words R.words shared.now seat.new }
 {
     for row in rows {
         let Ok(answer) = seat.call(shared, &row.0) else {
             panic!(rt; "calls are spent")
         };
-        assert!(rt; answer.reply == row.1, "not {}: {}", row.1, answer.reply);
+        assert!(rt;
+            answer.reply == row.1,
+            "not {:?}: {:?}",
+            row.1,
+            answer.reply
+        );
     }
 }
 
@@ -114,18 +120,18 @@ fn a_stack(rt: HostRuntime) {
     answers(&rt, &shared, &mut seats[0], &[(0, 9), (0, 8), (0, 0)]);
 }
 
-/// A seat for calls of type `C`, which are answered a number.
-fn typed<O: SmallObject, C: Words>(
+/// A seat for calls of type `C`, which are answered with a value of type `R`.
+fn typed<O: SmallObject, C: Words, R: Words>(
     rt: &impl Abort,
     alloc: Global,
     shared: &SmallShared<O>,
     seat: SmallSeat<O>,
-) -> TypedSeat<O, C, u64>
+) -> TypedSeat<O, C, R>
     requires { IsSeatOf shared.now seat }
-    ensures { IsTypedSeatOf C.words 1 shared.now result }
+    ensures { IsTypedSeatOf C.words R.words shared.now result }
 {
     assert!(rt; shared.invocation_width() == C::count());
-    assert!(rt; shared.reply_width() == 1);
+    assert!(rt; shared.reply_width() == R::count());
     let Ok(seat) = TypedSeat::new(alloc, shared, seat) else {
         panic!(rt; "out of memory")
     };
@@ -208,6 +214,48 @@ fn counters(rt: HostRuntime) {
             ),
         ],
     );
+}
+
+#[test]
+fn a_map(rt: HostRuntime) {
+    let Ok((shared, mut seats)) = SmallShared::open(rt.alloc(), SmallMap { capacity: 2 }, 2) else {
+        panic!(rt; "not opened")
+    };
+    let (Some(second), Some(first)) = (seats.pop(), seats.pop()) else {
+        panic!(rt; "no seats")
+    };
+    let mut first = typed(&rt, rt.alloc(), &shared, first);
+    let mut second = typed(&rt, rt.alloc(), &shared, second);
+    told(
+        &rt,
+        &shared,
+        &mut first,
+        &[
+            (MapCall::Get(7), MapReply::Absent),
+            (MapCall::Insert(7, 70), MapReply::Absent),
+            (MapCall::Insert(0, u64::MAX), MapReply::Absent),
+            (MapCall::Insert(9, 90), MapReply::Full),
+            (MapCall::Insert(7, 71), MapReply::Value(70)),
+        ],
+    );
+    told(
+        &rt,
+        &shared,
+        &mut second,
+        &[
+            (MapCall::Get(0), MapReply::Value(u64::MAX)),
+            (MapCall::Remove(7), MapReply::Value(71)),
+            (MapCall::Remove(7), MapReply::Absent),
+            (MapCall::Get(0), MapReply::Value(u64::MAX)),
+            (MapCall::Insert(9, 90), MapReply::Absent),
+            (MapCall::Remove(0), MapReply::Value(u64::MAX)),
+            (MapCall::Get(9), MapReply::Value(90)),
+        ],
+    );
+    let mut state = [0; 5];
+    assert!(rt; shared.width() == 5);
+    shared.close(&mut state);
+    assert!(rt; state == [1, 9, 90, 0, 0]);
 }
 
 #[test]

@@ -11,8 +11,8 @@ returns-then-count-eq0-clause-state c =
     let v = queue_values room words c.requires.reached in
     subst (λ i. words ≡ row_of room (queue_next room (values_in words) i)) (sym c.if-inv-eq0.true) (none_queued room words v.0 v.1 c.if-count-eq0.true)
 
-pub shift-first-requires : goal.shift-first-requires
-shift-first-requires c =
+pub take_out-first-requires : goal.take_out-first-requires
+take_out-first-requires c =
     let words = c.args.state.now in
     let room = c.args.self.now.capacity in
     let v = queue_values room words c.requires.reached in
@@ -28,9 +28,10 @@ returns-then-inv-eq0-clause-state c =
     let room = c.args.self.now.capacity in
     let v = queue_values room words c.requires.reached in
     let some : slice_index words 0 ≢ 0 = c.if-count-eq0.false in
-    let s = c.shift-first.ensures in
-    subst (λ i. slice_set c.shift-first.new.state 0 (slice_index words 0 - 1) ≡ row_of room (queue_next room (values_in words) i)) (sym c.if-inv-eq0.true)
-    (out_state room words v.0 v.1 (slice_index words 0 - 1) (omega (arith, some)) c.shift-first.new.state s.long s.first s.moved s.cleared s.others)
+    let s = c.take_out-first.ensures in
+    subst (λ i. slice_set c.take_out-first.new.state 0 (slice_index words 0 - 1) ≡ row_of room (queue_next room (values_in words) i)) (sym c.if-inv-eq0.true)
+    (out_state room words v.0 v.1 (slice_index words 0 - 1) (omega (arith, some)) c.take_out-first.new.state
+    (record { long = s.long; before = s.before; moved = s.moved; cleared = s.cleared; others = s.others }))
 
 pub returns-then-inv-eq0-clause-reply : goal.returns-then-inv-eq0-clause-reply
 returns-then-inv-eq0-clause-reply c =
@@ -38,8 +39,8 @@ returns-then-inv-eq0-clause-reply c =
     let room = c.args.self.now.capacity in
     let v = queue_values room words c.requires.reached in
     let some : slice_index words 0 ≢ 0 = c.if-count-eq0.false in
-    subst (λ i. c.shift-first.result ≡ queue_answer room (values_in words) i) (sym c.if-inv-eq0.true)
-    (c.shift-first.ensures.taken ∙ out_reply room words v.0 v.1 (slice_index words 0 - 1) (omega (arith, some)))
+    subst (λ i. c.take_out-first.result ≡ queue_answer room (values_in words) i) (sym c.if-inv-eq0.true)
+    (c.take_out-first.ensures.taken ∙ out_reply room words v.0 v.1 (slice_index words 0 - 1) (omega (arith, some)))
 
 pub returns-then-count-self-clause-state : goal.returns-then-count-self-clause-state
 returns-then-count-self-clause-state c =

@@ -1,0 +1,5 @@
+use Rattle.std.proofs.Common.{ℕ, ◌+◌, ◌*◌, ◌<◌, ◌≢◌, slice_index}
+use Rattle.small_objects.proofs.map.pair_of.Given as goal
+
+abbrev pub invariant-loop-i : goal.invariant-loop-i
+invariant-loop-i l = (j : ℕ) → j < l.i → slice_index l.state (1 + 2 * j) ≢ l.key
