@@ -1,8 +1,8 @@
 //! Lists whose verdicts were worked out by hand.
 
+use crate::acts::call;
 use seq_object::{CallId, SeqObject, SwapRegister};
 use std::alloc::{AllocError, Global};
-use std::process::Abort;
 use uni_log::Entry;
 use uni_record::{Return, Verdict, audit};
 
@@ -36,11 +36,6 @@ impl SeqObject for Refused {
     fn copy_inv(_alloc: Global, number: &u32) -> Result<u32, AllocError> {
         Ok(*number)
     }
-}
-
-/// The name of a call.
-fn call(process: u32, nth: u64) -> CallId {
-    CallId { process, nth }
 }
 
 /// Entries of calls that ask for 7: each by its process, its number and its reply.
@@ -87,15 +82,21 @@ fn verdict(alloc: Global, row: &Row) -> Result<Verdict, AllocError> {
     audit(alloc, &SwapRegister { start: 9 }, &entries, &returns)
 }
 
-/// Each row has its verdict.
-fn judges(rt: &impl Abort, alloc: Global, rows: &[Row]) {
-    for row in rows {
-        assert!(rt; verdict(alloc, row) == Ok(row.3), "{}", row.0);
-    }
-}
+/// Call 0.0.
+pub(crate) const FIRST: CallId = CallId { process: 0, nth: 0 };
 
-/// Lists that agree.
-const AGREE: &[Row] = &[
+/// The greatest name that a call can have.
+const GREATEST: CallId = CallId {
+    process: 4_294_967_295,
+    nth: 18_446_744_073_709_551_615,
+};
+
+/// Calls 3.0, 1.0 and 3.1, in this order.
+const IN_TURN: Calls = &[(3, 0, Some(9)), (1, 0, Some(7)), (3, 1, Some(7))];
+
+/// Lists, each with its verdict.
+const ROWS: &[Row] = &[
+    // Lists that agree.
     ("nothing", &[], &[], Verdict::Agrees),
     (
         "one call",
@@ -115,15 +116,7 @@ const AGREE: &[Row] = &[
         &[],
         Verdict::Agrees,
     ),
-];
-
-#[test]
-fn what_the_object_answers_agrees(rt: HostRuntime) {
-    judges(&rt, rt.alloc(), AGREE);
-}
-
-/// Entries that are wrong.
-const WRONG_ENTRIES: &[Row] = &[
+    // Entries that are wrong.
     (
         "reply that the object does not give",
         &[(0, 0, Some(5))],
@@ -148,18 +141,7 @@ const WRONG_ENTRIES: &[Row] = &[
         &[],
         Verdict::BadCall(2),
     ),
-];
-
-#[test]
-fn entries_that_are_wrong(rt: HostRuntime) {
-    judges(&rt, rt.alloc(), WRONG_ENTRIES);
-}
-
-/// Call 0.0.
-pub(crate) const FIRST: CallId = CallId { process: 0, nth: 0 };
-
-/// Returns that are wrong.
-const WRONG_RETURNS: &[Row] = &[
+    // Returns that are wrong.
     ("no entry", &[], &[(0, 0, 9)], Verdict::Missing(FIRST)),
     (
         "entry that has no reply",
@@ -179,15 +161,7 @@ const WRONG_RETURNS: &[Row] = &[
         &[(0, 0, 9), (0, 0, 9)],
         Verdict::Twice(FIRST),
     ),
-];
-
-#[test]
-fn returns_that_are_wrong(rt: HostRuntime) {
-    judges(&rt, rt.alloc(), WRONG_RETURNS);
-}
-
-/// Lists that are wrong in two ways.
-const TWO_FAULTS: &[Row] = &[
+    // Lists that are wrong in two ways.
     (
         "on one entry the call comes before the reply",
         &[(0, 1, Some(5))],
@@ -206,18 +180,7 @@ const TWO_FAULTS: &[Row] = &[
         &[(0, 0, 9), (0, 0, 9)],
         Verdict::BadReply(0),
     ),
-];
-
-#[test]
-fn first_fault_is_answered(rt: HostRuntime) {
-    judges(&rt, rt.alloc(), TWO_FAULTS);
-}
-
-/// Calls 3.0, 1.0 and 3.1, in this order.
-const IN_TURN: Calls = &[(3, 0, Some(9)), (1, 0, Some(7)), (3, 1, Some(7))];
-
-/// What returned of them, in another order.
-const OUT_OF_TURN: &[Row] = &[
+    // What returned of calls 3.0, 1.0 and 3.1 in another order.
     (
         "the last one first",
         IN_TURN,
@@ -230,21 +193,7 @@ const OUT_OF_TURN: &[Row] = &[
         &[(1, 0, 7), (3, 1, 7), (1, 0, 7)],
         Verdict::Twice(CallId { process: 1, nth: 0 }),
     ),
-];
-
-#[test]
-fn calls_of_two_processes_return_in_another_order(rt: HostRuntime) {
-    judges(&rt, rt.alloc(), OUT_OF_TURN);
-}
-
-/// The greatest name that a call can have.
-const GREATEST: CallId = CallId {
-    process: 4_294_967_295,
-    nth: 18_446_744_073_709_551_615,
-};
-
-/// Returns of calls that aren't among them.
-const PAST: &[Row] = &[
+    // Returns of calls that aren't among them.
     (
         "process 3",
         IN_TURN,
@@ -272,8 +221,10 @@ const PAST: &[Row] = &[
 ];
 
 #[test]
-fn calls_past_those_of_the_entries(rt: HostRuntime) {
-    judges(&rt, rt.alloc(), PAST);
+fn lists_have_their_verdicts(rt: HostRuntime) {
+    for row in ROWS {
+        assert!(rt; verdict(rt.alloc(), row) == Ok(row.3), "{}", row.0);
+    }
 }
 
 /// The verdict on one entry, of process 0's call with this number, where no invocation can be applied.

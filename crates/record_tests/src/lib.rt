@@ -1,12 +1,25 @@
-//! Tests of the recorded history and its audit, and of the form under a lock.
+//! Tests of the construction and of what stores its runs: cells and their arenas, laws, worlds and their logs, records
+//! and their audit, and the form under a lock, with threads.
 #![tactic(auto)]
 
 #[cfg(test)]
+mod acts;
+#[cfg(test)]
+mod arenas;
+#[cfg(test)]
 mod audits;
+#[cfg(test)]
+mod cells;
 #[cfg(test)]
 mod gates;
 #[cfg(test)]
 mod holds;
+#[cfg(test)]
+mod laws;
+#[cfg(test)]
+mod logs;
+#[cfg(test)]
+mod objects;
 #[cfg(test)]
 mod records;
 #[cfg(test)]
@@ -15,3 +28,5 @@ mod seat_calls;
 mod seats;
 #[cfg(test)]
 mod threads;
+#[cfg(test)]
+mod worlds;

@@ -1,0 +1,124 @@
+//! Tests of the labels of equal refusals, of columns, and of the longest picture.
+
+use run_layout::{
+    Axis, Column, MOST_EVENTS, MOST_REMARKS, PictureFault, Scale, Subject, Told, axis_of,
+    subject_of, told_of,
+};
+use std::alloc::Global;
+use std::io::Write;
+use std::test::Fail;
+use uni_script::Checked;
+
+/// A call that has begun and taken a step, with a note before the header, a refusal, a note and another
+/// refusal.
+const PENDING: &str = "# One call.
+universal 1 queue 2 8
+call 1 enq 5
+step 1
+call 1 deq
+# It goes no further.
+trim
+";
+
+/// A letter is one wide, and so is all else.
+const NARROW: Scale = Scale {
+    start: 0,
+    step: 1,
+    letter: 1,
+    mark: 1,
+};
+
+/// What a picture shows of a good script.
+fn subject(alloc: Global, script: &str) -> Result<Subject, Fail> {
+    match subject_of(alloc, &mut Checked::new(script.as_bytes())) {
+        Ok(subject) => Ok(subject),
+        Err(_) => Err(Fail::from("the script should be drawn")),
+    }
+}
+
+/// What was told twice of one process, once of another, and once again of that after a step.
+const IDLE: &str = "universal 1 queue 2 8
+step 0
+step 0
+step 1
+call 1 deq
+step 1
+step 0
+";
+
+/// Whether the label of a remark is this.
+fn is_labelled(told: &[Told], place: usize, want: Option<&str>) -> bool {
+    match (told.get(place), want) {
+        (Some(one), Some(want)) => match &one.label {
+            Some(label) => label.as_slice() == want.as_bytes(),
+            None => false,
+        },
+        (Some(one), None) => one.label.is_none(),
+        (None, _) => false,
+    }
+}
+
+#[test]
+fn equal_refusals_have_one_label(rt: HostRuntime) -> Result<(), Fail> {
+    let subject = subject(rt.alloc(), IDLE)?;
+    let told = told_of(rt.alloc(), &subject.remarks)?;
+    assert!(rt; told.len() == 4);
+    assert!(rt; is_labelled(&told, 0, None));
+    assert!(rt; is_labelled(&told, 1, Some("step refused: P0 idle x2")));
+    assert!(rt; is_labelled(&told, 2, Some("step refused: P1 idle")));
+    assert!(rt; is_labelled(&told, 3, Some("step refused: P0 idle")));
+    Ok(())
+}
+
+/// Whether columns have their events and their remarks where they should.
+fn has_columns(axis: &Axis) -> bool {
+    // The label has nine letters and the room beside them, of which the step after it takes one.
+    let events = axis.event(0) == (Column { left: 0, width: 9 })
+        && axis.event(1) == (Column { left: 9, width: 1 })
+        && axis.event(2) == (Column { left: 65, width: 0 });
+    // The mark, and "call refused: P1 busy" or "end of era refused: P1 pending" with the room beside it.
+    let remarks = axis.remark(1)
+        == (Column {
+            left: 10,
+            width: 23,
+        })
+        && axis.remark(2) == (Column { left: 33, width: 0 })
+        && axis.remark(3)
+            == (Column {
+                left: 33,
+                width: 32,
+            })
+        && axis.remark(4) == (Column { left: 65, width: 0 });
+    events && remarks && axis.end == 65
+}
+
+#[test]
+fn columns(rt: HostRuntime) -> Result<(), Fail> {
+    let subject = subject(rt.alloc(), PENDING)?;
+    if subject.marks.events > MOST_EVENTS || subject.remarks.len() > MOST_REMARKS {
+        return Err(Fail::from("the script is short"));
+    }
+    let axis = axis_of(rt.alloc(), &subject.marks, &subject.remarks, NARROW)?;
+    assert!(rt; has_columns(&axis));
+    Ok(())
+}
+
+/// A script of 133 calls of one process, 15 events each, and of one that takes so many steps.
+fn long_script(alloc: Global, steps: u64) -> Result<Vec<u8>, Fail> {
+    let mut script = Vec::from_slice(alloc, b"universal 1 queue 1 4096\n")?;
+    for _ in 0..133 {
+        script.extend_from_slice(b"call 0 deq\nfinish 0\n")?;
+    }
+    write!(script, "call 0 deq\nstep 0 {steps}\n")?;
+    Ok(script)
+}
+
+#[test]
+fn a_picture_has_2000_events(rt: HostRuntime) -> Result<(), Fail> {
+    for (steps, fault) in [(4, None), (5, Some(PictureFault::TooManyEvents))] {
+        let script = long_script(rt.alloc(), steps)?;
+        let subject = subject_of(rt.alloc(), &mut Checked::new(script.as_slice()));
+        assert!(rt; subject.err() == fault, "{steps}");
+    }
+    Ok(())
+}
