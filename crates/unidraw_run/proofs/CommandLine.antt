@@ -1,5 +1,5 @@
 -- The command line that the program builds is the one of the definitions, and what refused memory leaves.
-use Rattle.std.proofs.Common.{◌≡◌, ◌∙◌, ◌++◌, ℕ, List, [], ◌∷◌, Option, None, Some, is_some, Bool, true, false, inl, inr, refl, ap, sym, subst, arith}
+use Rattle.std.proofs.Common.{◌≡◌, ◌∙◌, ◌++◌, ℕ, List, [], ◌∷◌, Option, None, Some, is_some, option_map, Bool, true, false, inl, inr, refl, ap, sym, subst, arith}
 use Rattle.std.proofs.lemmas.List.{append-nil}
 use Rattle.std.specs.Io.KnownBytes.{Appends}
 use Rattle.clap.specs.Values.{kind_of}
@@ -44,10 +44,15 @@ pub refused_memory : (kinds : Kinds) (form : Option Request) (e : Error) → kin
 refused_memory kinds form e is = inl is
 
 -- an error of words that ask for something is refused memory
-pub memory_of_form : (kinds : Kinds) (e : Error) (form : Option Request) (asked : Request) → HasKind (faults_with kinds form) e → unless_faulty kinds form ≡ Some asked → kind_of e ≡ OutOfMemory
+pub memory_of_request : (kinds : Kinds) (e : Error) (request : Option Request) (asked : Request) → HasKind (faults_with kinds request) e → unless_faulty kinds request ≡ Some asked → kind_of e ≡ OutOfMemory
+memory_of_request [] e None asked has is = absurd (let bad : None ≡ Some asked = is in cc)
+memory_of_request [] e (Some r) asked has is = memory_of [] e has refl
+memory_of_request (kind ∷ kinds) e request asked has is = absurd (let bad : None ≡ Some asked = is in cc)
+
+pub memory_of_form : (kinds : Kinds) (e : Error) (request : Option Request) (asked : Form) → HasKind (faults_with kinds request) e → option_map (λ (r : Request). r.form) (unless_faulty kinds request) ≡ Some asked → kind_of e ≡ OutOfMemory
 memory_of_form [] e None asked has is = absurd (let bad : None ≡ Some asked = is in cc)
-memory_of_form [] e (Some f) asked has is = memory_of [] e has refl
-memory_of_form (kind ∷ kinds) e form asked has is = absurd (let bad : None ≡ Some asked = is in cc)
+memory_of_form [] e (Some r) asked has is = memory_of [] e has refl
+memory_of_form (kind ∷ kinds) e request asked has is = absurd (let bad : None ≡ Some asked = is in cc)
 
 -- which draws nothing
 pub drawn_of_memory : (form : Form) (left old : Option (List ℕ)) (status : ℕ) → status ≡ 4 → IsDrawn form left old old status
@@ -84,3 +89,7 @@ pub told_of_more : (is_explained : Bool) (old new : Option (List ℕ)) (failed :
 told_of_more true old new failed status told alone =
     let line = told.1 in told_as true (Script line.fault) told.0 (fault_line line.fault ++ told.0) old new failed status (λ e. cc) line.status_is refl line.prefix line.whole
 told_of_more false old new failed status told alone = told_of_fault false old new failed status (alone refl)
+
+-- what is told of a fault that isn't explained may be told where it is
+pub told_wider : (script asked : Bool) (old new : Option (List ℕ)) (failed : Bool) (status : ℕ) → (asked ≡ false → script ≡ false) → TellsPictureFault script old new failed status → TellsPictureFault asked old new failed status
+told_wider script asked old new failed status narrow told = (told.0, λ e. told.1 (narrow e), told.2)
