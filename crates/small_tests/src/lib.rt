@@ -6,6 +6,8 @@ mod account;
 pub use account::{Account, AccountObject};
 
 #[cfg(test)]
+mod replays;
+#[cfg(test)]
 mod scripts;
 #[cfg(test)]
 mod small;
