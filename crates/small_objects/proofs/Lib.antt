@@ -1,4 +1,6 @@
+pub mod Books
 pub mod Pairs
 pub mod Reached
 pub mod Rows
+pub mod Scripts
 pub mod Short

@@ -57,7 +57,7 @@ length-drop_less [] = omega arith
 length-drop_less (x ∷ xs) = omega arith
 
 -- a word behind the values
-index_beyond : (values : List ℕ) (k : ℕ) → length values ≤ k → slice_index values k ≡ 0
+pub index_beyond : (values : List ℕ) (k : ℕ) → length values ≤ k → slice_index values k ≡ 0
 index_beyond [] k above = refl
 index_beyond (v ∷ values) zero above = absurd (omega arith)
 index_beyond (v ∷ values) (suc k) above = index_beyond values k (omega arith)
@@ -178,6 +178,33 @@ module _ (capacity : ℕ) where
     pub word_is : (k : ℕ) → k < capacity → slice_index words (suc k) ≡ slice_index values k
     word_is k below = ap (λ w. slice_index w (suc k)) h.words_are ∙ index-padded capacity values k below
 
+    -- a value goes in behind the others
+    pub put_row : (v : ℕ) → slice_index words 0 < capacity
+        → slice_set (slice_set words (1 + slice_index words 0) v) 0 (slice_index words 0 + 1) ≡ row_of capacity (values ++ v ∷ [])
+    put_row v room =
+        let less : length values < capacity = (let c = count_is in omega arith) in
+        let spot : 1 + slice_index words 0 ≡ suc (length values) = (let c = count_is in omega arith) in
+        let one : slice_index words 0 + 1 ≡ length (values ++ v ∷ []) = (let c = count_is in let a = length-append values (v ∷ []) in omega arith) in
+        ap (λ k. slice_set (slice_set words k v) 0 (slice_index words 0 + 1)) spot
+        ∙ ap (λ w. slice_set (slice_set w (suc (length values)) v) 0 (slice_index words 0 + 1)) h.words_are
+        ∙ ap (λ k. k ∷ slice_set (padded capacity values) (length values) v) one
+        ∙ ap (λ p. length (values ++ v ∷ []) ∷ p) (pushed capacity values v less)
+
+    -- the first value is taken out
+    pub out_row : 1 ≤ slice_index words 0 → (moved : List ℕ) → IsTakenOut words moved 1 (slice_index words 0)
+        → slice_set moved 0 (slice_index words 0 - 1) ≡ row_of capacity (drop 1 values)
+    out_row some moved taken =
+        let row : moved ≡ row_of_rest = taken_out capacity (length values) values moved 0 1 (slice_index words 0) (let c = count_is in omega arith) h.few refl
+        count_is (subst (λ w. IsTakenOut w moved 1 (slice_index words 0)) h.words_are taken) in
+        ap (λ w. slice_set w 0 (slice_index words 0 - 1)) row
+        ∙ ap (λ c. c ∷ padded capacity (drop 1 values)) (ap (λ c. c - 1) count_is ∙ sym (fewer values)) where
+          row_of_rest : List ℕ
+          row_of_rest = length values ∷ padded capacity (drop 1 values)
+
+          fewer : (vs : List ℕ) → length (drop 1 vs) ≡ length vs - 1
+          fewer [] = refl
+          fewer (v ∷ vs) = (let e : length vs ≡ suc (length vs) - 1 = omega arith in e)
+
     -- a value that goes in, to a queue and to a stack
     module _ (next : List ℕ → ℕ → List ℕ) (same : (values : List ℕ) (i : ℕ) → next values (suc i) ≡ (if nat_lt (length values) capacity then values ++ suc i ∷ [] else values)) where
       pub put_state : (inv : ℕ) → inv ≢ 0 → slice_index words 0 < capacity → slice_set (slice_set words (1 + slice_index words 0) inv) 0 (slice_index words 0 + 1) ≡ row_of capacity (next (values_in words) inv)
@@ -185,13 +212,7 @@ module _ (capacity : ℕ) where
       put_state (suc i) some room = elim (lt_cases (length values) capacity) [
         | inl less ↦
             let after : next values (suc i) ≡ values ++ suc i ∷ [] = same values i ∙ rw less.1 refl in
-            let spot : 1 + slice_index words 0 ≡ suc (length values) = (let c = count_is in omega arith) in
-            let one : slice_index words 0 + 1 ≡ length (values ++ suc i ∷ []) = (let c = count_is in let a = length-append values (suc i ∷ []) in omega arith) in
-            ap (λ k. slice_set (slice_set words k (suc i)) 0 (slice_index words 0 + 1)) spot
-            ∙ ap (λ w. slice_set (slice_set w (suc (length values)) (suc i)) 0 (slice_index words 0 + 1)) h.words_are
-            ∙ ap (λ k. k ∷ slice_set (padded capacity values) (length values) (suc i)) one
-            ∙ ap (λ p. length (values ++ suc i ∷ []) ∷ p) (pushed capacity values (suc i) less.0)
-            ∙ ap (row_of capacity) (sym after) ∙ ap (λ vs. row_of capacity (next vs (suc i))) (sym h.read)
+            put_row (suc i) room ∙ ap (row_of capacity) (sym after) ∙ ap (λ vs. row_of capacity (next vs (suc i))) (sym h.read)
         | inr more ↦ absurd (let m = more.0 in let c = count_is in omega arith)
       ]
 
@@ -255,20 +276,9 @@ module _ (capacity : ℕ) where
         ap (slice_index words) some ∙ word_is k (let f = h.few in omega arith) ∙ ap (slice_index values) less ∙ ap (λ vs. slice_index vs (length vs - 1)) (sym h.read)
 
     -- the oldest value is taken out
-    pub out_state : (k : ℕ) → slice_index words 0 ≡ suc k → (moved : List ℕ) → IsTakenOut words moved 1 (slice_index words 0)
+    pub out_state : 1 ≤ slice_index words 0 → (moved : List ℕ) → IsTakenOut words moved 1 (slice_index words 0)
         → slice_set moved 0 (slice_index words 0 - 1) ≡ row_of capacity (queue_next capacity (values_in words) 0)
-    out_state k some moved taken =
-        let row : moved ≡ row_of_rest = taken_out capacity (length values) values moved 0 1 (slice_index words 0) (let c = count_is in omega arith) h.few refl
-        count_is (subst (λ w. IsTakenOut w moved 1 (slice_index words 0)) h.words_are taken) in
-        ap (λ w. slice_set w 0 (slice_index words 0 - 1)) row
-        ∙ ap (λ c. c ∷ padded capacity (drop 1 values)) (ap (λ c. c - 1) count_is ∙ sym (fewer values))
-        ∙ ap (λ vs. row_of capacity (queue_next capacity vs 0)) (sym h.read) where
-          row_of_rest : List ℕ
-          row_of_rest = length values ∷ padded capacity (drop 1 values)
-
-          fewer : (vs : List ℕ) → length (drop 1 vs) ≡ length vs - 1
-          fewer [] = refl
-          fewer (v ∷ vs) = (let e : length vs ≡ suc (length vs) - 1 = omega arith in e)
+    out_state some moved taken = out_row some moved taken ∙ ap (λ vs. row_of capacity (queue_next capacity vs 0)) (sym h.read)
 
     pub out_reply : (k : ℕ) → slice_index words 0 ≡ suc k → slice_index words 1 ≡ slice_index (values_in words) 0
     out_reply k some = word_is 0 (let f = h.few in let c = count_is in omega arith) ∙ ap (λ vs. slice_index vs 0) (sym h.read)

@@ -1,4 +1,4 @@
--- Lists of one, two and three words that are written one by one.
+-- Lists of one to four words that are written one by one.
 use Rattle.std.proofs.Common.{◌≡◌, ℕ, List, [], ◌∷◌, length, refl, set, arith}
 
 pub one_set : (words : List ℕ) (x : ℕ) → length words ≡ 1 → set words 0 x ≡ x ∷ []
@@ -18,3 +18,11 @@ three_set (a ∷ []) x y z long = absurd (omega arith)
 three_set (a ∷ b ∷ []) x y z long = absurd (omega arith)
 three_set (a ∷ b ∷ c ∷ []) x y z long = refl
 three_set (a ∷ b ∷ c ∷ d ∷ words) x y z long = absurd (omega arith)
+
+pub four_set : (words : List ℕ) (x y z w : ℕ) → length words ≡ 4 → set (set (set (set words 0 x) 1 y) 2 z) 3 w ≡ x ∷ y ∷ z ∷ w ∷ []
+four_set [] x y z w long = absurd (omega arith)
+four_set (a ∷ []) x y z w long = absurd (omega arith)
+four_set (a ∷ b ∷ []) x y z w long = absurd (omega arith)
+four_set (a ∷ b ∷ c ∷ []) x y z w long = absurd (omega arith)
+four_set (a ∷ b ∷ c ∷ d ∷ []) x y z w long = refl
+four_set (a ∷ b ∷ c ∷ d ∷ e ∷ words) x y z w long = absurd (omega arith)

@@ -1,5 +1,6 @@
 -- An object whose states, invocations and replies are stored in words.
 use Rattle.std.specs.Prelude.{◌≡◌, ℕ, List, [], ◌∷◌, length, map, slice_index}
+use Rattle.std.proofs.Common.{subst}
 use Rattle.seq_object.specs.Sequential.{Sequential}
 use Rattle.seq_object.specs.History.{state_after}
 use Rattle.uni_small.specs.Image.{IsSteady, Meaning}
@@ -7,6 +8,15 @@ use Rattle.uni_small.specs.Image.{IsSteady, Meaning}
 -- a state that some calls lead to, of those that words are
 abbrev pub IsStateOf : {S I R : Type 0} → Sequential S I R → (call_in : List ℕ → I) → S → Type 0
 IsStateOf plain call_in state = (is : List (List ℕ)) × (state_after plain plain.initial (map call_in is) ≡ state)
+
+-- what is so of the start state, and stays so in each call, is so of each state that calls lead to
+pub kept_by_calls : {S I R : Type 0} (plain : Sequential S I R) (call_in : List ℕ → I) (Holds : S → Type 0) → Holds plain.initial
+    → ((state : S) (words : List ℕ) → Holds state → Holds (plain.next state (call_in words)))
+    → (state : S) → IsStateOf plain call_in state → Holds state
+kept_by_calls {S = S} plain call_in Holds start keeps state was = subst Holds was.1 (along plain.initial was.0 start) where
+  along : (state : S) (is : List (List ℕ)) → Holds state → Holds (state_after plain state (map call_in is))
+  along state [] is_so = is_so
+  along state (i ∷ is) is_so = along (plain.next state (call_in i)) is (keeps state i is_so)
 
 module _ {S I R : Type 0} (plain : Sequential S I R) (encode : S → List ℕ) (decode : List ℕ → S) where
   -- the object on the words of its states

@@ -1,3 +1,5 @@
+pub mod Amount
+pub mod Book
 pub mod Counter
 pub mod Counters
 pub mod Encoding
@@ -5,5 +7,7 @@ pub mod Map
 pub mod Padded
 pub mod Queue
 pub mod Register
+pub mod ScriptQueue
 pub mod Stack
+pub mod Sticky
 pub mod Typed

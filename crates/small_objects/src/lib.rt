@@ -1,6 +1,8 @@
 //! Objects of several words, for threads to share without a lock.
 #![tactic(auto)]
 
+mod amount;
+mod book;
 mod counter;
 mod counters;
 mod encoded;
@@ -8,16 +10,20 @@ mod map;
 mod queue;
 mod register;
 mod row;
+mod script_queue;
 mod stack;
+mod sticky;
 mod typed;
 mod words;
 
+pub use book::{SmallBook, small_book_follows_plain};
 pub use counter::SmallCounter;
 pub use counters::{CountersCall, SmallCounters};
-pub use encoded::{Encoded, StoredObject};
+pub use encoded::{Encoded, StoredObject, encoded_follows_plain};
 pub use map::{MapCall, MapReply, SmallMap};
 pub use queue::SmallQueue;
 pub use register::{RegisterCall, SmallRegister};
+pub use script_queue::{SmallScriptQueue, small_queue_follows_plain};
 pub use stack::SmallStack;
 pub use typed::{Told, TypedSeat};
 pub use words::Words;

@@ -6,6 +6,10 @@ mod account;
 pub use account::{Account, AccountObject};
 
 #[cfg(test)]
+mod replays;
+#[cfg(test)]
+mod scripts;
+#[cfg(test)]
 mod small;
 #[cfg(test)]
 mod threads;

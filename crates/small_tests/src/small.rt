@@ -37,7 +37,7 @@ fn answer<O: SmallObject>(
 }
 
 /// The typed seat's next calls, each with its reply.
-fn told<O: SmallObject, C: Words, R: Words + Debug + PartialEq>(
+pub(crate) fn told<O: SmallObject, C: Words, R: Words + Debug + PartialEq>(
     rt: &impl Abort,
     shared: &SmallShared<O>,
     seat: &mut TypedSeat<O, C, R>,
@@ -121,7 +121,7 @@ fn a_stack(rt: HostRuntime) {
 }
 
 /// A seat for calls of type `C`, which are answered with a value of type `R`.
-fn typed<O: SmallObject, C: Words, R: Words>(
+pub(crate) fn typed<O: SmallObject, C: Words, R: Words>(
     rt: &impl Abort,
     alloc: Global,
     shared: &SmallShared<O>,

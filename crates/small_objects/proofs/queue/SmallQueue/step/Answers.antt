@@ -30,7 +30,7 @@ returns-then-inv-eq0-clause-state c =
     let some : slice_index words 0 ≢ 0 = c.if-count-eq0.false in
     let s = c.take_out-first.ensures in
     subst (λ i. slice_set c.take_out-first.new.state 0 (slice_index words 0 - 1) ≡ row_of room (queue_next room (values_in words) i)) (sym c.if-inv-eq0.true)
-    (out_state room words v.0 v.1 (slice_index words 0 - 1) (omega (arith, some)) c.take_out-first.new.state
+    (out_state room words v.0 v.1 (omega (arith, some)) c.take_out-first.new.state
     (record { long = s.long; before = s.before; moved = s.moved; cleared = s.cleared; others = s.others }))
 
 pub returns-then-inv-eq0-clause-reply : goal.returns-then-inv-eq0-clause-reply

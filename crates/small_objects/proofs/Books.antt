@@ -1,0 +1,28 @@
+-- The balances of a book on words.
+use Rattle.std.proofs.Common.{◌≡◌, ◌∙◌, ℕ, ◌<◌, ◌≤◌, inl, inr, refl, subst, sym, List, length, map, slice_index, arith}
+use Rattle.std.proofs.lemmas.List.{get_or_past}
+use Rattle.std.proofs.lemmas.List.Elements.{All-get_or}
+use Rattle.std.specs.List.{All, sum}
+use Rattle.seq_object.specs.History.{state_after}
+use Rattle.uni_model.proofs.Written.{lt_cases}
+use Rattle.uni_small.proofs.Lists.{sum_most}
+use Rattle.ready_objects.specs.Book.{book, book_start}
+use Rattle.ready_objects.proofs.BookSums.{state_after-book_start-limit}
+use Rattle.small_objects.specs.Book.{call_in, length-book_next}
+use Rattle.small_objects.specs.Encoding.{IsStateOf, kept_by_calls}
+
+pub record IsBook (balances : List ℕ) : Type 0 where
+  pub sixteen : length balances ≡ 16
+  pub small : (i : ℕ) → slice_index balances i ≤ 999999999999
+
+pub reached_book : (balances : List ℕ) → IsStateOf book call_in balances → IsBook balances
+reached_book balances was = record {
+  sixteen = kept_by_calls book call_in (λ state. length state ≡ 16) refl (λ state words is. length-book_next state (call_in words) ∙ is) balances was;
+  small = λ i. elim (lt_cases i (length balances)) [
+    | inl inside ↦ All-get_or (λ (b : ℕ). b ≤ 999999999999) balances i 0 inside.0 (subst (All (λ (b : ℕ). b ≤ 999999999999)) was.1 (state_after-book_start-limit (map call_in was.0)))
+    | inr past ↦ (let none = get_or_past balances i 0 past.0 in omega (arith, none))
+  ];
+}
+
+pub sum_fits : (balances : List ℕ) → IsBook balances → sum balances < 18446744073709551616
+sum_fits balances is = (let most = sum_most 999999999999 balances (λ i below. is.small i) in let sixteen = is.sixteen in omega (arith, most))

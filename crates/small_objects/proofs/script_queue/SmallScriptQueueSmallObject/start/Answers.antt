@@ -1,0 +1,9 @@
+use Rattle.std.proofs.Common.{◌∙◌, suc, ap, []}
+use Rattle.small_objects.specs.Padded.{length-padded}
+use Rattle.small_objects.proofs.Rows.{zero_row}
+use Rattle.small_objects.proofs.script_queue.SmallScriptQueueSmallObject.start.Goals as goal
+
+pub returns : goal.returns
+returns c =
+    zero_row c.args.self.now.capacity c.clear.new.state (c.clear.auto.state ∙ c.requires ∙ ap suc (length-padded c.args.self.now.capacity []))
+    (λ j below. c.clear.ensures j)

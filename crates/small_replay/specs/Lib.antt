@@ -1,0 +1,3 @@
+pub mod Placed
+pub mod Replay
+pub mod Rooms
