@@ -89,6 +89,16 @@ pub fn run<S: AsStr, I: KeepsText, O: TextOut, F: TextOut>(
     }
 }
 
+/// Keeps what is read from now on, where that is asked for.
+fn keep_if<I: KeepsText>(alloc: Global, is_asked: bool, input: &mut I)
+    ensures remaining { I.remaining input.new ≡ I.remaining input.old }
+    ensures failed { I.has_failed input.new ≡ I.has_failed input.old }
+{
+    if is_asked {
+        input.keep(alloc);
+    }
+}
+
 /// Draws the script on `input` as it is asked for, and writes the picture to `output`; the answer is the status.
 fn draw<I: KeepsText, O: TextOut, F: TextOut>(
     alloc: Global,
@@ -106,9 +116,7 @@ fn draw<I: KeepsText, O: TextOut, F: TextOut>(
     ensures told { result ≢ 0 → TellsPictureFault request.is_explained (F.contents faults.old)
         (F.contents faults.new) (F.has_failed faults.new) result }
 {
-    if request.is_explained {
-        input.keep(alloc);
-    }
+    keep_if(alloc, request.is_explained, input);
     match picture_in(alloc, request.form, input) {
         Ok(text) => match write_all(output, text.as_slice()) {
             Ok(()) => 0,
