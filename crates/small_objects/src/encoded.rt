@@ -64,7 +64,7 @@ pub trait StoredObject: Drop {
 
 /// An object of several words that is one on stored states: what it means is that object's meaning, on the
 /// words of its states.
-#[derive(Drop)]
+#[derive(Clone, Copy, Debug, Drop)]
 pub struct Encoded<T: StoredObject> {
     /// The object on stored states.
     pub object: T,

@@ -1,8 +1,8 @@
 //! Seats that are called with calls, and give replies.
-ghost use Rattle.std.specs.Prelude.{List, [], IfOk, IsErr, IsErrOf, ℕ, ◌+◌, ◌++◌, ◌≡◌, ◌≢◌, ◌≤◌, ◌⊎◌, ◌↔◌, ◌∷◌, OnErr, OnOk};
+ghost use Rattle.std.specs.Prelude.{List, [], IfOk, IsErr, IsErrOf, ℕ, ◌+◌, ◌++◌, ◌<◌, ◌≡◌, ◌≢◌, ◌≤◌, ◌⊎◌, ◌↔◌, ◌∷◌, OnErr, OnOk};
 ghost use Rattle.uni_small.specs.Invariant.{most_calls};
 ghost use Rattle.uni_small.specs.Belongs.{IsSeatOf, calls_made, invocation_width_of, own_calls, reply_width_of};
-ghost use Rattle.uni_small.specs.Belongs.{sizes_of, version_of, word_steps_of};
+ghost use Rattle.uni_small.specs.Belongs.{process_of, sizes_of, version_of, word_steps_of};
 ghost use Rattle.uni_small.specs.Standing.{call_steps};
 ghost use Rattle.small_objects.specs.Typed.{IsTypedSeatOf, seat_of};
 
@@ -56,6 +56,7 @@ impl<O: SmallObject, C: Words, R: Words> TypedSeat<O, C, R> {
         ensures kept { IsTypedSeatOf C.words R.words shared.now self.new }
         ensures spent { IsErr result ↔ (calls_made (seat_of self.old) ≡ most_calls) }
         ensures unchanged { OnErr result (seat_of self.new ≡ seat_of self.old) }
+        ensures process { process_of (seat_of self.new) ≡ process_of (seat_of self.old) }
         ensures own { IfOk result (λ told. (words : List ℕ) × (told.reply ≡ R.decode words)
             × (own_calls (seat_of self.new) ≡ own_calls (seat_of self.old) ++ record {
               inv = C.encode call.now;
@@ -63,6 +64,9 @@ impl<O: SmallObject, C: Words, R: Words> TypedSeat<O, C, R> {
               after = version_of (seat_of self.old);
               version = told.version;
             } ∷ [])) }
+        ensures made { OnOk result (calls_made (seat_of self.new) ≡ calls_made (seat_of self.old) + 1) }
+        ensures later { IfOk result (λ told. version_of (seat_of self.old) < told.version) }
+        ensures version { IfOk result (λ told. version_of (seat_of self.new) ≡ told.version) }
         ensures few_steps { OnOk result (word_steps_of (seat_of self.new)
             ≤ word_steps_of (seat_of self.old) + call_steps (sizes_of shared.now)) }
     {
