@@ -12,6 +12,7 @@ use Rattle.uni_script.specs.declared.remarks.Remark.{Remark}
 use Rattle.uni_script.specs.declared.remarks.Remark.TheVariants.{Heading, Note, Refused}
 use Rattle.run_layout.specs.Refusals.{refused_text}
 use Rattle.run_layout.specs.Wording.{counted_text, letter_of}
+use Rattle.run_layout.specs.Wrapping.{lines_of}
 use Rattle.run_trace.specs.Held.{Change, Field, Held, alone, cell_text, changes_between}
 use Rattle.run_trace.specs.Frames.{Begun, Ended, Frame, Stepped, Begins, Steps, Ends}
 use Rattle.run_telling.specs.Access.{access_of}
@@ -19,12 +20,18 @@ use Rattle.run_telling.specs.Opened.{Opening}
 
 -- ---- lines
 
--- words that have room in 100 columns, and else the first of them, before three points
-abbrev pub fitted : List ℕ → List ℕ
-fitted words = if nat_le (length words) 100 then words else take 97 words ++ codes "..."
+-- a line that goes on from the one above
+abbrev pub indented : List ℕ → List ℕ
+indented line = codes "        " ++ line ++ codes "\n"
 
+-- lines of which each but the first goes on from the one above
+abbrev pub broken : List (List ℕ) → List ℕ
+broken [] = []
+broken (first ∷ rest) = first ++ codes "\n" ++ flat_map indented rest
+
+-- words in one line where they have room in 100 columns, and else in lines of at most so many
 abbrev pub line_text : List ℕ → List ℕ
-line_text words = fitted words ++ codes "\n"
+line_text words = if nat_le (length words) 100 then words ++ codes "\n" else broken (lines_of 200 92 words)
 
 -- a place that has changed
 abbrev pub change_words : Change → List ℕ

@@ -1,41 +1,71 @@
 //! The lines of a run, for a terminal.
 
 ghost use Rattle.std.specs.Prelude.{◌≡◌, ◌++◌, OnOk, codes, map};
+ghost use Rattle.std.specs.List.{flat_map};
 ghost use Rattle.run_trace.specs.Frames.{Begins, Steps};
 ghost use Rattle.run_trace.specs.Shown.{begun_shown, change_shown, frame_shown, step_shown};
 ghost use Rattle.run_telling.specs.Opened.{opening_shown};
-ghost use Rattle.run_steps.specs.Sentences.{change_words, changes_text, fitted, frame_text, line_text};
+ghost use Rattle.run_steps.specs.Sentences.{broken, change_words, changes_text, frame_text, indented, line_text};
 ghost use Rattle.run_steps.specs.Sentences.{opening_words, remark_words};
 
 use crate::sentences::{begun_words, end_words, opening_words, remark_words, step_words};
+use run_layout::push_lines;
 use run_telling::Opened;
 use run_trace::{Begun, Change, Frame, Step, changes_of};
 use std::alloc::{AllocError, Global};
 use uni_script::PlacedRemark;
 
-/// Adds words that have room in a line of 100 columns, and else the first 97, before three points.
+/// How many columns a line has at most.
+const COLUMNS: usize = 100;
+
+/// What a line begins with that goes on from the one above.
+const INDENT: &str = "        ";
+
+/// Adds lines that go on from the one above.
 ///
 /// An `Err` says that memory was refused.
-fn push_fitted(text: &mut Vec<u8>, words: &[u8]) -> Result<(), AllocError>
-    ensures { OnOk result (text.new.items ≡ text.old.items ++ fitted words.now) }
+fn push_indented(text: &mut Vec<u8>, lines: &[Vec<u8>]) -> Result<(), AllocError>
+    ensures { OnOk result (text.new.items
+        ≡ text.old.items ++ flat_map indented (map (λ line. line.items) lines.now)) }
 {
-    if words.len() <= 100 {
-        return text.extend_from_slice(words);
+    for line in lines {
+        text.extend_from_slice(INDENT.as_bytes())?;
+        text.extend_from_slice(line)?;
+        text.push(b'\n')?;
     }
-    let (start, _) = words.split_at(97);
-    text.extend_from_slice(start)?;
-    text.extend_from_slice(b"...")
+    Ok(())
 }
 
-/// Adds a line with these words.
+/// Adds lines of which each but the first goes on from the one above.
 ///
 /// An `Err` says that memory was refused.
-fn push_line(text: &mut Vec<u8>, words: &[u8]) -> Result<(), AllocError>
+fn push_broken(text: &mut Vec<u8>, lines: &[Vec<u8>]) -> Result<(), AllocError>
+    ensures { OnOk result (text.new.items ≡ text.old.items ++ broken (map (λ line. line.items) lines.now)) }
+{
+    match lines {
+        [] => Ok(()),
+        [first, rest @ ..] => {
+            text.extend_from_slice(first)?;
+            text.push(b'\n')?;
+            push_indented(text, rest)
+        }
+    }
+}
+
+/// Adds words in a line, or in several where one hasn't room for them.
+///
+/// An `Err` says that memory was refused.
+fn push_line(alloc: Global, text: &mut Vec<u8>, words: &[u8]) -> Result<(), AllocError>
     ensures { OnOk result (text.new.items ≡ text.old.items ++ line_text words.now) }
 {
-    push_fitted(text, words)?;
-    text.push(b'\n')?;
-    Ok(())
+    if words.len() <= COLUMNS {
+        text.extend_from_slice(words)?;
+        text.push(b'\n')?;
+        return Ok(());
+    }
+    let mut lines = Vec::new(alloc);
+    push_lines(alloc, words, COLUMNS - INDENT.len(), &mut lines)?;
+    push_broken(text, &lines)
 }
 
 /// Adds the words of a place that has changed.
@@ -61,7 +91,7 @@ fn push_change(alloc: Global, change: &Change, text: &mut Vec<u8>) -> Result<(),
     let mut words = Vec::new(alloc);
     words.extend_from_slice(b"    ")?;
     push_change_words(&mut words, change)?;
-    push_line(text, &words)
+    push_line(alloc, text, &words)
 }
 
 /// Adds a line for each place that has changed.
@@ -90,7 +120,7 @@ fn push_begun(
 {
     let changes = changes_of(alloc, &begun.before, &begun.after)?;
     let words = begun_words(alloc, event, begun)?;
-    push_line(text, &words)?;
+    push_line(alloc, text, &words)?;
     push_changes(alloc, &changes, text)
 }
 
@@ -103,7 +133,7 @@ fn push_step(alloc: Global, event: u64, step: &Step, text: &mut Vec<u8>) -> Resu
 {
     let changes = changes_of(alloc, &step.before, &step.after)?;
     let words = step_words(alloc, event, step, &changes)?;
-    push_line(text, &words)?;
+    push_line(alloc, text, &words)?;
     push_changes(alloc, &changes, text)
 }
 
@@ -123,7 +153,7 @@ pub fn push_event(
         Frame::Step(step) => push_step(alloc, event, step, text),
         Frame::End(end) => {
             let words = end_words(alloc, event, end)?;
-            push_line(text, &words)
+            push_line(alloc, text, &words)
         }
     }
 }
@@ -135,7 +165,7 @@ pub fn push_start(alloc: Global, opened: &Opened<'_>, text: &mut Vec<u8>) -> Res
     ensures { OnOk result (text.new.items ≡ text.old.items ++ line_text (opening_words (opening_shown opened.now))) }
 {
     let words = opening_words(alloc, opened)?;
-    push_line(text, &words)
+    push_line(alloc, text, &words)
 }
 
 /// Adds the line of what is told beside the events.
@@ -145,5 +175,5 @@ pub fn push_told(alloc: Global, one: &PlacedRemark, text: &mut Vec<u8>) -> Resul
     ensures { OnOk result (text.new.items ≡ text.old.items ++ line_text (remark_words one.now.remark)) }
 {
     let words = remark_words(alloc, &one.remark)?;
-    push_line(text, &words)
+    push_line(alloc, text, &words)
 }
