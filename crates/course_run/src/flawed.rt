@@ -7,7 +7,7 @@ ghost use Rattle.course_run.specs.Flaws.{AppendsBanner, AppendsBannerPrefix, Beg
 
 use crate::flaw::Flaw;
 use crate::world::World;
-use ready_objects::{QueueObject, Spoken, StickyObject};
+use ready_objects::{BookObject, DirectoryObject, QueueObject, Spoken, StickyObject};
 use std::alloc::{AllocError, Global};
 use uni_script::{
     BenchFault, Failed, Header, ObjectName, TextOut, Words, command_of, header_of, is_note,
@@ -128,7 +128,8 @@ fn answers_to(alloc: Global, flaw: Flaw, script: &[u8]) -> Result<Vec<u8>, Bench
     match start.header.object {
         ObjectName::Queue => answers_on(alloc, QueueObject, flaw, start, lines),
         ObjectName::Sticky => answers_on(alloc, StickyObject, flaw, start, lines),
-        ObjectName::Directory | ObjectName::Book => Err(BenchFault::BadHeader(start.number)),
+        ObjectName::Directory => answers_on(alloc, DirectoryObject, flaw, start, lines),
+        ObjectName::Book => answers_on(alloc, BookObject, flaw, start, lines),
     }
 }
 
@@ -160,9 +161,9 @@ pub fn flawed_text(alloc: Global, flaw: Flaw, script: &[u8]) -> Result<Vec<u8>, 
 
 /// Writes what comes of a script on a world with a flaw to `output`; the answer is the status that a program ends with.
 ///
-/// The status is 0 where all went well; 2 where the script has a fault, or another object than a queue or a sticky
-/// register, which is told as a bad header; 3 where `output` failed; and 4 where memory was refused. The text that says
-/// so of the last three goes to `faults`, as far as that takes it. Nothing is promised of the answers.
+/// The status is 0 where all went well; 2 where the script has a fault; 3 where `output` failed; and 4 where memory was
+/// refused. The text that says so of the last three goes to `faults`, as far as that takes it. Nothing is promised of the
+/// answers.
 pub fn run_flawed<O: TextOut, F: TextOut>(
     alloc: Global,
     flaw: Flaw,

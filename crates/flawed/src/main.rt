@@ -15,8 +15,6 @@ Runs the script on standard input on a construction that is wrong
 
 Usage: flawed FLAW < SCRIPT
 
-The script's object is a queue or a sticky register.
-
 Flaws:
   nothing        a plain world that has no flaw
   never-helps    it never helps

@@ -8,7 +8,7 @@ const FAULTS: &[(&str, &str)] = &[
     ("", "line 1: no header\n"),
     ("# a note\n\n", "line 3: no header\n"),
     ("universal 1 stack 2 4\n", "line 1: bad header\n"),
-    ("\nuniversal 1 book 2 4\nbad\n", "line 2: bad header\n"),
+    ("\nuniversal 1 book 2 4\nbad\n", "line 3: bad line\n"),
     ("universal 1 queue 2 4\ncall 0\tdeq\n", "line 2: bad byte\n"),
     ("universal 1 queue 2 4\nreshape 3\n", "line 2: bad line\n"),
     (
