@@ -3,7 +3,7 @@
 ghost use Rattle.std.specs.Prelude.{◌≤◌, IfOk, length};
 
 use run_layout::{PictureFault, Subject, subject_of};
-use run_lines::{Ink, Sketch, Stroke, sketch_of};
+use run_lines::{COLUMNS, Ink, Sketch, Stroke, sketch_of};
 use run_picture::{Drawn, draw};
 use std::alloc::{AllocError, Global};
 use std::test::Fail;
@@ -259,9 +259,9 @@ fn spoil_sketch(alloc: Global, wrong: Wrong, sketch: &mut Sketch) -> Result<(), 
 /// Whether a sketch that is wrong in this way is answered `Misdrawn`.
 fn is_misdrawn_in_lines(alloc: Global, wrong: Wrong) -> Result<bool, Fail> {
     let subject = subject(alloc)?;
-    let mut sketch = sketch_of(alloc, &subject.marks, &subject.remarks)?;
+    let mut sketch = sketch_of(alloc, COLUMNS, &subject.marks, &subject.remarks)?;
     spoil_sketch(alloc, wrong, &mut sketch)?;
-    match run_lines::tried(alloc, &subject.marks, &subject.remarks, &sketch) {
+    match run_lines::tried(alloc, COLUMNS, &subject.marks, &subject.remarks, &sketch) {
         Ok(_) => Ok(false),
         Err(fault) => Ok(fault == PictureFault::Misdrawn),
     }

@@ -8,10 +8,10 @@ use Rattle.run_lines.specs.declared.canvas.Stroke as code
 use Rattle.run_lines.specs.Canvas.{outline_of, stroke_shown}
 use Rattle.run_lines.specs.Sheet.{HasText, above_text, below_text}
 
-pub has_text : (marks : RunMarks) (remarks : List PlacedRemark) (rows legend above with_rows below whole : List ℕ) → above ≡ above_text marks remarks → with_rows ≡ above ++ rows
-    → below ≡ with_rows ++ below_text marks remarks → whole ≡ below ++ legend → HasText marks remarks rows whole
-has_text marks remarks rows legend above with_rows below whole is_above is_rows is_below is =
-    let b = below_text marks remarks in record {
+pub has_text : (columns : ℕ) (marks : RunMarks) (remarks : List PlacedRemark) (rows legend above with_rows below whole : List ℕ) → above ≡ above_text columns marks remarks → with_rows ≡ above ++ rows
+    → below ≡ with_rows ++ below_text columns marks remarks → whole ≡ below ++ legend → HasText columns marks remarks rows whole
+has_text columns marks remarks rows legend above with_rows below whole is_above is_rows is_below is =
+    let b = below_text columns marks remarks in record {
       legend = legend;
       parts = is ∙ ap (λ l. l ++ legend) (is_below ∙ ap (λ l. l ++ b) (is_rows ∙ ap (λ l. l ++ rows) is_above));
     }

@@ -1,4 +1,4 @@
--- The whole text, for a terminal of 100 columns.
+-- The whole text, for a terminal of so many columns.
 use Rattle.std.specs.Prelude.{◌≡◌, ℕ, ◌+◌, ◌-◌, ◌*◌, ◌/◌, ◌%◌, ◌≤◌, ◌&&◌, ◌==◌, nat_lt, nat_le, if◌then◌else◌}
 use Rattle.std.specs.Prelude.{List, [], ◌∷◌, ◌++◌, length, map, take, drop, replicate, Option, None, Some, codes, refl}
 use Rattle.std.specs.List.{flat_map, suffix_len}
@@ -23,9 +23,9 @@ use Rattle.run_lines.specs.Parts.{parts_of_run}
 abbrev pub ended : List ℕ → List ℕ
 ended line = line ++ 10 ∷ []
 
--- a text in lines of at most 100 letters
-abbrev pub wrapped : List ℕ → List ℕ
-wrapped text = flat_map ended (lines_of 200 100 text)
+-- a text in lines of at most so many letters
+abbrev pub wrapped : (columns : ℕ) → List ℕ → List ℕ
+wrapped columns text = flat_map ended (lines_of 200 columns text)
 
 -- a text with blanks up to a width
 abbrev pub padded : (width : ℕ) → List ℕ → List ℕ
@@ -38,13 +38,13 @@ trimmed text = take (length text - suffix_len (λ letter. letter == 32) text) te
 -- ---- above the lanes
 
 -- a note before the header
-abbrev pub heading_text : Remark → List ℕ
-heading_text (Heading text) = wrapped text.items
-heading_text (Note text) = []
-heading_text (Refused refusal) = []
+abbrev pub heading_text : (columns : ℕ) → Remark → List ℕ
+heading_text columns (Heading text) = wrapped columns text.items
+heading_text columns (Note text) = []
+heading_text columns (Refused refusal) = []
 
-abbrev pub headings_text : List PlacedRemark → List ℕ
-headings_text remarks = flat_map (λ one. heading_text one.remark) remarks
+abbrev pub headings_text : (columns : ℕ) → List PlacedRemark → List ℕ
+headings_text columns remarks = flat_map (λ one. heading_text columns one.remark) remarks
 
 -- ---- rows
 
@@ -91,52 +91,55 @@ block_text rows block = 10 ∷ rows_text block 0 (take (bottom_row block.lanes) 
 -- ---- below the lanes
 
 -- a note after the header, with its number, in lines; nothing of one that is empty
-abbrev pub numbered_note : (number : ℕ) → List ℕ → List ℕ
-numbered_note number text = if length text == 0 then [] else wrapped (codes "note " ++ decimal number ++ codes ": " ++ text)
+abbrev pub numbered_note : (columns number : ℕ) → List ℕ → List ℕ
+numbered_note columns number text =
+    if length text == 0 then [] else wrapped columns (codes "note " ++ decimal number ++ codes ": " ++ text)
 
-abbrev pub note_text : (number : ℕ) → Remark → List ℕ
-note_text number (Note text) = numbered_note number text.items
-note_text number (Heading text) = []
-note_text number (Refused refusal) = []
+abbrev pub note_text : (columns number : ℕ) → Remark → List ℕ
+note_text columns number (Note text) = numbered_note columns number text.items
+note_text columns number (Heading text) = []
+note_text columns number (Refused refusal) = []
 
-abbrev pub notes_from : Numbering → List PlacedRemark → List ℕ
-notes_from numbering [] = []
-notes_from numbering (one ∷ remarks) =
-    let next = numbering_after numbering one in note_text next.number one.remark ++ notes_from next remarks
+abbrev pub notes_from : (columns : ℕ) → Numbering → List PlacedRemark → List ℕ
+notes_from columns numbering [] = []
+notes_from columns numbering (one ∷ remarks) =
+    let next = numbering_after numbering one in note_text columns next.number one.remark ++ notes_from columns next remarks
 
 -- the state after a cell, where it is short
 abbrev pub state_text : Option (List ℕ) → List ℕ
 state_text (Some state) = codes ", " ++ state
 state_text None = []
 
--- a cell of an era
-abbrev pub cell_text : List Dot → Cell → List ℕ
-cell_text dots cell =
-    ended (codes "  " ++ cell_name dots cell ++ codes " " ++ cell_words cell ++ state_text (cell_state cell))
+-- a cell of an era, in lines
+abbrev pub cell_line : List Dot → Cell → List ℕ
+cell_line dots cell = codes "  " ++ cell_name dots cell ++ codes " " ++ cell_words cell ++ state_text (cell_state cell)
+
+abbrev pub cell_text : (columns : ℕ) → List Dot → Cell → List ℕ
+cell_text columns dots cell = wrapped columns (cell_line dots cell)
 
 -- an era, by its place from 0, with its anchor and its cells
-abbrev pub era_text : List Dot → (place : ℕ) → EraMarks → List ℕ
-era_text dots place era =
+abbrev pub era_text : (columns : ℕ) → List Dot → (place : ℕ) → EraMarks → List ℕ
+era_text columns dots place era =
     ended (codes "era " ++ decimal (place + 1) ++ codes ", after the anchor " ++ decimal era.anchor ++ codes ":")
-    ++ flat_map (cell_text dots) era.cells
+    ++ flat_map (cell_text columns dots) era.cells
 
-abbrev pub eras_from : List Dot → (place : ℕ) → List EraMarks → List ℕ
-eras_from dots place [] = []
-eras_from dots place (era ∷ eras) = era_text dots place era ++ eras_from dots (place + 1) eras
+abbrev pub eras_from : (columns : ℕ) → List Dot → (place : ℕ) → List EraMarks → List ℕ
+eras_from columns dots place [] = []
+eras_from columns dots place (era ∷ eras) = era_text columns dots place era ++ eras_from columns dots (place + 1) eras
 
 -- ---- the whole text
 
 -- the title and the headings
-abbrev pub above_text : RunMarks → List PlacedRemark → List ℕ
-above_text marks remarks = wrapped (title_text marks) ++ headings_text remarks
+abbrev pub above_text : (columns : ℕ) → RunMarks → List PlacedRemark → List ℕ
+above_text columns marks remarks = wrapped columns (title_text marks) ++ headings_text columns remarks
 
 -- the rows, block by block, and a blank line
 abbrev pub rows_text_of : Places → List Stroke → List Block → List ℕ
 rows_text_of places strokes blocks = flat_map (block_text (rows_of strokes places.width places.height)) blocks ++ 10 ∷ []
 
 -- the notes and the eras
-abbrev pub below_text : RunMarks → List PlacedRemark → List ℕ
-below_text marks remarks = notes_from no_notes remarks ++ eras_from marks.dots 0 marks.eras
+abbrev pub below_text : (columns : ℕ) → RunMarks → List PlacedRemark → List ℕ
+below_text columns marks remarks = notes_from columns no_notes remarks ++ eras_from columns marks.dots 0 marks.eras
 
 -- strokes are these, each once and in order, in the columns of their events and the lanes of their processes; blocks show all columns
 pub record ShowsRows (places : Places) (parts : List Meaning) (strokes : List Stroke) (blocks : List Block) : Type 0 where
@@ -145,17 +148,17 @@ pub record ShowsRows (places : Places) (parts : List Meaning) (strokes : List St
   pub side : AreSide 0 places.width blocks
 
 -- a text has these rows, and ends with a legend
-pub record HasText (marks : RunMarks) (remarks : List PlacedRemark) (rows text : List ℕ) : Type 0 where
+pub record HasText (columns : ℕ) (marks : RunMarks) (remarks : List PlacedRemark) (rows text : List ℕ) : Type 0 where
   pub legend : List ℕ
-  pub parts : text ≡ above_text marks remarks ++ rows ++ below_text marks remarks ++ legend
+  pub parts : text ≡ above_text columns marks remarks ++ rows ++ below_text columns marks remarks ++ legend
 
 -- a text of marks, with what is told beside them: its rows show the signs of both
-pub record IsTextOf (marks : RunMarks) (remarks : List PlacedRemark) (text : List ℕ) : Type 0 where
+pub record IsTextOf (columns : ℕ) (marks : RunMarks) (remarks : List PlacedRemark) (text : List ℕ) : Type 0 where
   pub places : Places
   pub strokes : List Stroke
   pub blocks : List Block
   pub shown : ShowsRows places (parts_of_run marks remarks) strokes blocks
-  pub whole : HasText marks remarks (rows_text_of places strokes blocks) text
+  pub whole : HasText columns marks remarks (rows_text_of places strokes blocks) text
 
 -- a row of bars has its name; a row without letters is blank, and above the lanes left out
 fourth_row : row_text 1 3 (codes "[AH  ") ≡ codes "P0  [AH\n"

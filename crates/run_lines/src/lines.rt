@@ -20,20 +20,26 @@ use uni_script::TextIn;
 /// The lines of what a picture shows where these events are chosen.
 ///
 /// An `Err` is `Misdrawn` where what is drawn does not show it, or says that memory was refused.
-fn text_of_subject(alloc: Global, range: Range, subject: Subject) -> Result<Vec<u8>, PictureFault>
+fn text_of_subject(
+    alloc: Global,
+    range: Range,
+    columns: u64,
+    subject: Subject,
+) -> Result<Vec<u8>, PictureFault>
     requires events { subject.marks.events ≤ 2000 }
     requires remarks { length subject.remarks.items ≤ 100000 }
-    ensures text { IfOk result (λ text. IsTextOf (chosen range (marks_shown subject.marks))
+    ensures text { IfOk result (λ text. IsTextOf columns (chosen range (marks_shown subject.marks))
         (chosen_remarks range subject.remarks.items) text.items) }
     ensures few { IsErrOf result PictureFault.TooManyEvents → ⊥ }
     ensures memory { (e : Fault) → IsErrOf result (PictureFault.Script e) → e ≡ Fault.Memory }
 {
     let part = subject.chosen(alloc, range)?;
-    let drawn = sketch_of(alloc, &part.marks, &part.remarks)?;
-    tried(alloc, &part.marks, &part.remarks, &drawn)
+    let drawn = sketch_of(alloc, columns, &part.marks, &part.remarks)?;
+    tried(alloc, columns, &part.marks, &part.remarks, &drawn)
 }
 
-/// The run of the script that a reader has, where these events are chosen, as lines for a terminal of 100 columns.
+/// The run of the script that a reader has, where these events are chosen, as lines for a terminal of so many columns.
+/// A block has at least one column behind the names of lanes, and at most 1,000.
 ///
 /// An `Err` is the first fault of the script; `Read` where the reader failed; `Memory` where memory was
 /// refused; `TooManyEvents` of a good script that has more than 2,000 events; or `Misdrawn` where what is
@@ -41,16 +47,17 @@ fn text_of_subject(alloc: Global, range: Range, subject: Subject) -> Result<Vec<
 pub fn lines_of<I: TextIn>(
     alloc: Global,
     range: Range,
+    columns: u64,
     reader: &mut I,
 ) -> Result<Vec<u8>, PictureFault>
     requires { I.has_failed reader.old ≡ false }
-    ensures lines { IfOk result (λ text. IsLines range (I.remaining reader.old) text.items) }
+    ensures lines { IfOk result (λ text. IsLines range columns (I.remaining reader.old) text.items) }
     ensures many { IsErrOf result PictureFault.TooManyEvents → HasTooManyEvents (I.remaining reader.old) }
     ensures fault { (e : Fault) → IsErrOf result (PictureFault.Script e) → IsFaultOfScript e
         → HasFault (scripts_of 1048576) (I.remaining reader.old) e }
 {
     let subject = subject_of(alloc, reader)?;
-    text_of_subject(alloc, range, subject)
+    text_of_subject(alloc, range, columns, subject)
 }
 
 /// The same of a script over an object, whose header names the object by this word, as for
@@ -62,13 +69,14 @@ pub fn lines_of_object<O: Spoken + Copy, I: TextIn>(
     object: O,
     name: &str,
     range: Range,
+    columns: u64,
     reader: &mut I,
 ) -> Result<Vec<u8>, PictureFault>
     requires { I.has_failed reader.old ≡ false }
     ensures lines { IfOk result (λ text. IsLinesOf
         (own_scripts_of (spoken O.sequential O.language object) name.now 1048576)
         (marks_of_own (spoken O.sequential O.language object) O.state_text name.now)
-        range (I.remaining reader.old) text.items) }
+        range columns (I.remaining reader.old) text.items) }
     ensures many { IsErrOf result PictureFault.TooManyEvents
         → HasMoreEvents (own_scripts_of (spoken O.sequential O.language object) name.now 1048576)
         (I.remaining reader.old) }
@@ -77,5 +85,5 @@ pub fn lines_of_object<O: Spoken + Copy, I: TextIn>(
         (I.remaining reader.old) e }
 {
     let subject = subject_of_object(alloc, object, name, reader)?;
-    text_of_subject(alloc, range, subject)
+    text_of_subject(alloc, range, columns, subject)
 }

@@ -15,7 +15,7 @@ use crate::canvas::{Stroke, rows_of};
 use crate::parts::{layered, parts_of_run};
 use crate::strokes::{ABOVE, LANE, push_numbers, push_signs};
 use crate::texts::{
-    WIDTH, legend_of, push_eras, push_headings, push_line, push_notes, push_padded, push_wrapped,
+    legend_of, push_eras, push_headings, push_line, push_notes, push_padded, push_wrapped,
 };
 use run_layout::{
     MOST_LANES, PictureFault, Scale, Side, Stretch, any_unchanged, axis_of, kinds_of,
@@ -29,8 +29,8 @@ use uni_script::PlacedRemark;
 /// How wide the names of lanes at the left are.
 const NAMES: usize = 4;
 
-/// How many columns a block has at most.
-const BLOCK: usize = WIDTH - NAMES;
+/// How many columns a block has at most, however wide the terminal is.
+const MOST_COLUMNS: u64 = 1_000;
 
 /// Each letter is one column wide, and the mark of a refusal takes two.
 const NARROW: Scale = Scale {
@@ -128,20 +128,23 @@ fn push_row(
     push_shown(row, trimmed(&line), text)
 }
 
-/// How wide a block is that begins at a column: as wide as it can be, so that its end cuts no label.
-fn block_width(strokes: &[Stroke], from: usize) -> usize
+/// How wide a block is that begins at a column: as wide as it can be behind the names, so that its end cuts no label.
+fn block_width(columns: u64, strokes: &[Stroke], from: usize) -> usize
     requires { from ≤ 2 ^ 33 }
     ensures some { 0 < result }
-    ensures most { result ≤ 96 }
+    ensures most { result ≤ 1000 }
 {
-    for left_out in 0..BLOCK {
-        let width = BLOCK - left_out;
+    let most = (columns.min(MOST_COLUMNS) as usize)
+        .saturating_sub(NAMES)
+        .max(1);
+    for left_out in 0..most {
+        let width = most - left_out;
         let edge = (from + width) as u64;
         if !strokes.iter().any(|stroke| stroke.goes_across(edge)) {
             return width;
         }
     }
-    BLOCK
+    most
 }
 
 /// The blocks of the rows.
@@ -149,6 +152,7 @@ fn block_width(strokes: &[Stroke], from: usize) -> usize
 /// An `Err` says that memory was refused.
 fn blocks_of(
     alloc: Global,
+    columns: u64,
     width: u32,
     stretches: &[Stretch],
     strokes: &[Stroke],
@@ -157,7 +161,7 @@ fn blocks_of(
     let mut blocks = Vec::new(alloc);
     let mut from = 0;
     while from < width {
-        let to = from + block_width(strokes, from);
+        let to = from + block_width(columns, strokes, from);
         let start = from as u64;
         let named = lanes_between(stretches, start, start + 1);
         let lanes = lanes_between(stretches, start, to as u64) as u8;
@@ -172,11 +176,12 @@ fn blocks_of(
     Ok(blocks)
 }
 
-/// Draws the marks of a run in rows, with what was told beside its events.
+/// Draws the marks of a run in rows, told in blocks of at most so many columns, with what was told beside its events.
 ///
 /// An `Err` says that memory was refused.
 pub fn sketch_of(
     alloc: Global,
+    columns: u64,
     marks: &Marks,
     remarks: &[PlacedRemark],
 ) -> Result<Sketch, AllocError>
@@ -192,7 +197,7 @@ pub fn sketch_of(
     push_signs(alloc, &layout, signs, &mut strokes)?;
     push_numbers(alloc, remarks, &axis, &mut strokes)?;
     let stretches = axis.stretches(alloc, &marks.eras, 0, end, Side::Left)?;
-    let blocks = blocks_of(alloc, width, &stretches, &strokes)?;
+    let blocks = blocks_of(alloc, columns, width, &stretches, &strokes)?;
     Ok(Sketch {
         strokes,
         layout,
@@ -290,14 +295,15 @@ fn push_blocks(
 /// An `Err` says that memory was refused.
 fn push_above(
     alloc: Global,
+    columns: u64,
     marks: &Marks,
     remarks: &[PlacedRemark],
     text: &mut Vec<u8>,
 ) -> Result<(), AllocError>
-    ensures { OnOk result (text.new.items ≡ text.old.items ++ above_text (marks_shown marks.now) remarks.now) }
+    ensures { OnOk result (text.new.items ≡ text.old.items ++ above_text columns (marks_shown marks.now) remarks.now) }
 {
-    push_wrapped(alloc, &title_of(alloc, marks)?, text)?;
-    push_headings(alloc, remarks, text)
+    push_wrapped(alloc, columns, &title_of(alloc, marks)?, text)?;
+    push_headings(alloc, columns, remarks, text)
 }
 
 /// Adds the rows of a sketch, and a blank line.
@@ -319,15 +325,16 @@ fn push_sketch(alloc: Global, sketch: &Sketch, text: &mut Vec<u8>) -> Result<(),
 /// An `Err` says that memory was refused.
 fn push_below(
     alloc: Global,
+    columns: u64,
     marks: &Marks,
     remarks: &[PlacedRemark],
     text: &mut Vec<u8>,
 ) -> Result<(), AllocError>
     requires { length remarks.now ≤ 100000 }
-    ensures { OnOk result (text.new.items ≡ text.old.items ++ below_text (marks_shown marks.now) remarks.now) }
+    ensures { OnOk result (text.new.items ≡ text.old.items ++ below_text columns (marks_shown marks.now) remarks.now) }
 {
-    push_notes(alloc, remarks, text)?;
-    push_eras(alloc, &marks.dots, &marks.eras, text)
+    push_notes(alloc, columns, remarks, text)?;
+    push_eras(alloc, columns, &marks.dots, &marks.eras, text)
 }
 
 /// The text of a sketch, with what stands above and below its rows.
@@ -336,36 +343,39 @@ fn push_below(
 #[tactic(auto, using(crate::proofs::Pieces::has_text))]
 fn text_of(
     alloc: Global,
+    columns: u64,
     marks: &Marks,
     remarks: &[PlacedRemark],
     sketch: &Sketch,
 ) -> Result<Vec<u8>, AllocError>
     requires remarks { length remarks.now ≤ 100000 }
-    ensures { IfOk result (λ text. HasText (marks_shown marks.now) remarks.now
+    ensures { IfOk result (λ text. HasText columns (marks_shown marks.now) remarks.now
         (rows_text_of (places_shown sketch.now.layout) (map stroke_shown sketch.now.strokes.items)
         sketch.now.blocks.items) text.items) }
 {
     let mut text = Vec::new(alloc);
-    push_above(alloc, marks, remarks, &mut text)?;
+    push_above(alloc, columns, marks, remarks, &mut text)?;
     push_sketch(alloc, sketch, &mut text)?;
-    push_below(alloc, marks, remarks, &mut text)?;
+    push_below(alloc, columns, marks, remarks, &mut text)?;
     let kinds = kinds_of(alloc, &marks.steps)?;
-    let legend = legend_of(alloc, &kinds, any_unchanged(&marks.steps))?;
+    let legend = legend_of(alloc, columns, &kinds, any_unchanged(&marks.steps))?;
     text.extend_from_slice(&legend)?;
     Ok(text)
 }
 
-/// The text of a sketch, where it shows the marks of a run with what was told beside its events.
+/// The text of a sketch for a terminal of so many columns, where it shows the marks of a run with what was told beside
+/// its events.
 ///
 /// An `Err` is `Misdrawn` where it does not, or says that memory was refused.
 pub fn tried(
     alloc: Global,
+    columns: u64,
     marks: &Marks,
     remarks: &[PlacedRemark],
     sketch: &Sketch,
 ) -> Result<Vec<u8>, PictureFault>
     requires remarks { length remarks.now ≤ 100000 }
-    ensures text { IfOk result (λ text. IsTextOf (marks_shown marks.now) remarks.now text.items) }
+    ensures text { IfOk result (λ text. IsTextOf columns (marks_shown marks.now) remarks.now text.items) }
     ensures few { IsErrOf result PictureFault.TooManyEvents → ⊥ }
     ensures memory { (e : Fault) → IsErrOf result (PictureFault.Script e) → e ≡ Fault.Memory }
 {
@@ -373,5 +383,5 @@ pub fn tried(
     if !shows(&parts, sketch) {
         return Err(PictureFault::Misdrawn);
     }
-    Ok(text_of(alloc, marks, remarks, sketch)?)
+    Ok(text_of(alloc, columns, marks, remarks, sketch)?)
 }

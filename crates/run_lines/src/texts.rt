@@ -5,7 +5,7 @@ ghost use Rattle.std.specs.Prelude.{length, map, option_map};
 ghost use Rattle.run_marks.specs.Shown.{cell_shown, era_shown};
 ghost use Rattle.run_lines.specs.Numbers.{no_notes};
 ghost use Rattle.run_lines.specs.Sheet.{ended, wrapped, padded, headings_text, numbered_note, notes_from, state_text};
-ghost use Rattle.run_lines.specs.Sheet.{cell_text, era_text, eras_from};
+ghost use Rattle.run_lines.specs.Sheet.{cell_line, cell_text, era_text, eras_from};
 
 use crate::numbering::Numbering;
 use run_layout::{cell_name, cell_state, cell_words, letter_of, meaning_of, push_lines};
@@ -15,8 +15,8 @@ use std::io::Write;
 use uni_core::StepKind;
 use uni_script::{PlacedRemark, Remark};
 
-/// How wide a terminal is.
-pub const WIDTH: usize = 100;
+/// How many columns a terminal has where none are asked for.
+pub const COLUMNS: u64 = 100;
 
 /// How wide an entry of the legend is that others follow in its line.
 const ENTRY: usize = 30;
@@ -35,14 +35,19 @@ pub fn push_line(line: &[u8], text: &mut Vec<u8>) -> Result<(), AllocError>
     Ok(())
 }
 
-/// Adds a text in lines of the terminal's width.
+/// Adds a text in lines of at most so many columns.
 ///
 /// An `Err` says that memory was refused.
-pub fn push_wrapped(alloc: Global, whole: &[u8], text: &mut Vec<u8>) -> Result<(), AllocError>
-    ensures { OnOk result (text.new.items ≡ text.old.items ++ wrapped whole.now) }
+pub fn push_wrapped(
+    alloc: Global,
+    columns: u64,
+    whole: &[u8],
+    text: &mut Vec<u8>,
+) -> Result<(), AllocError>
+    ensures { OnOk result (text.new.items ≡ text.old.items ++ wrapped columns whole.now) }
 {
     let mut lines = Vec::new(alloc);
-    push_lines(alloc, whole, WIDTH, &mut lines)?;
+    push_lines(alloc, whole, columns as usize, &mut lines)?;
     for line in &lines {
         push_line(line, text)?;
     }
@@ -70,14 +75,15 @@ pub fn push_padded(
 /// An `Err` says that memory was refused.
 pub fn push_headings(
     alloc: Global,
+    columns: u64,
     remarks: &[PlacedRemark],
     text: &mut Vec<u8>,
 ) -> Result<(), AllocError>
-    ensures { OnOk result (text.new.items ≡ text.old.items ++ headings_text remarks.now) }
+    ensures { OnOk result (text.new.items ≡ text.old.items ++ headings_text columns remarks.now) }
 {
     for one in remarks {
         if let Remark::Heading(heading) = &one.remark {
-            push_wrapped(alloc, heading, text)?;
+            push_wrapped(alloc, columns, heading, text)?;
         }
     }
     Ok(())
@@ -86,8 +92,14 @@ pub fn push_headings(
 /// Adds a note with its number, in lines; nothing of one that is empty.
 ///
 /// An `Err` says that memory was refused.
-fn push_note(alloc: Global, number: u64, note: &[u8], text: &mut Vec<u8>) -> Result<(), AllocError>
-    ensures { OnOk result (text.new.items ≡ text.old.items ++ numbered_note number note.now) }
+fn push_note(
+    alloc: Global,
+    columns: u64,
+    number: u64,
+    note: &[u8],
+    text: &mut Vec<u8>,
+) -> Result<(), AllocError>
+    ensures { OnOk result (text.new.items ≡ text.old.items ++ numbered_note columns number note.now) }
 {
     if note.is_empty() {
         return Ok(());
@@ -95,7 +107,7 @@ fn push_note(alloc: Global, number: u64, note: &[u8], text: &mut Vec<u8>) -> Res
     let mut line = Vec::new(alloc);
     write!(line, "note {number}: ").map_err(|_| AllocError)?;
     line.extend_from_slice(note)?;
-    push_wrapped(alloc, &line, text)
+    push_wrapped(alloc, columns, &line, text)
 }
 
 /// Adds the notes that come after the header, with the numbers that they have above the lanes.
@@ -103,17 +115,18 @@ fn push_note(alloc: Global, number: u64, note: &[u8], text: &mut Vec<u8>) -> Res
 /// An `Err` says that memory was refused.
 pub fn push_notes(
     alloc: Global,
+    columns: u64,
     remarks: &[PlacedRemark],
     text: &mut Vec<u8>,
 ) -> Result<(), AllocError>
     requires { length remarks.now ≤ 100000 }
-    ensures { OnOk result (text.new.items ≡ text.old.items ++ notes_from no_notes remarks.now) }
+    ensures { OnOk result (text.new.items ≡ text.old.items ++ notes_from columns no_notes remarks.now) }
 {
     let mut numbering = Numbering::none();
     for one in remarks {
         numbering = numbering.after(one);
         if let Remark::Note(note) = &one.remark {
-            push_note(alloc, numbering.number, note, text)?;
+            push_note(alloc, columns, numbering.number, note, text)?;
         }
     }
     Ok(())
@@ -135,24 +148,34 @@ fn push_state(state: Option<Vec<u8>>, text: &mut Vec<u8>) -> Result<(), AllocErr
     }
 }
 
-/// Adds a cell, with the state after it where it is short.
+/// A cell, with the state after it where it is short.
+///
+/// An `Err` says that memory was refused.
+fn cell_line(alloc: Global, dots: &[Dot], cell: &CellBox) -> Result<Vec<u8>, AllocError>
+    ensures { IfOk result (λ line. line.items ≡ cell_line dots.now (cell_shown cell.now)) }
+{
+    let mut line = Vec::new(alloc);
+    line.extend_from_slice(b"  ")?;
+    line.extend_from_slice(&cell_name(alloc, dots, cell)?)?;
+    line.push(b' ')?;
+    line.extend_from_slice(&cell_words(alloc, cell)?)?;
+    push_state(cell_state(alloc, cell)?, &mut line)?;
+    Ok(line)
+}
+
+/// Adds a cell, in lines.
 ///
 /// An `Err` says that memory was refused.
 fn push_cell(
     alloc: Global,
+    columns: u64,
     dots: &[Dot],
     cell: &CellBox,
     text: &mut Vec<u8>,
 ) -> Result<(), AllocError>
-    ensures { OnOk result (text.new.items ≡ text.old.items ++ cell_text dots.now (cell_shown cell.now)) }
+    ensures { OnOk result (text.new.items ≡ text.old.items ++ cell_text columns dots.now (cell_shown cell.now)) }
 {
-    text.extend_from_slice(b"  ")?;
-    text.extend_from_slice(&cell_name(alloc, dots, cell)?)?;
-    text.push(b' ')?;
-    text.extend_from_slice(&cell_words(alloc, cell)?)?;
-    push_state(cell_state(alloc, cell)?, text)?;
-    text.push(b'\n')?;
-    Ok(())
+    push_wrapped(alloc, columns, &cell_line(alloc, dots, cell)?, text)
 }
 
 /// Adds an era, with its place among the eras from 0: its anchor, and its cells in the order of the list.
@@ -160,19 +183,20 @@ fn push_cell(
 /// An `Err` says that memory was refused.
 fn push_era(
     alloc: Global,
+    columns: u64,
     dots: &[Dot],
     place: u64,
     era: &Era,
     text: &mut Vec<u8>,
 ) -> Result<(), AllocError>
     requires { place + 1 < 2 ^ 64 }
-    ensures { OnOk result (text.new.items ≡ text.old.items ++ era_text dots.now place (era_shown era.now)) }
+    ensures { OnOk result (text.new.items ≡ text.old.items ++ era_text columns dots.now place (era_shown era.now)) }
 {
     let number = place + 1;
     let anchor = era.anchor;
     writeln!(text, "era {number}, after the anchor {anchor}:").map_err(|_| AllocError)?;
     for cell in &era.cells {
-        push_cell(alloc, dots, cell, text)?;
+        push_cell(alloc, columns, dots, cell, text)?;
     }
     Ok(())
 }
@@ -182,39 +206,52 @@ fn push_era(
 /// An `Err` says that memory was refused.
 pub fn push_eras(
     alloc: Global,
+    columns: u64,
     dots: &[Dot],
     eras: &[Era],
     text: &mut Vec<u8>,
 ) -> Result<(), AllocError>
-    ensures { OnOk result (text.new.items ≡ text.old.items ++ eras_from dots.now 0 (map era_shown eras.now)) }
+    ensures { OnOk result (text.new.items ≡ text.old.items ++ eras_from columns dots.now 0 (map era_shown eras.now)) }
 {
     for (place, era) in eras.iter().enumerate() {
-        push_era(alloc, dots, place as u64, era, text)?;
+        push_era(alloc, columns, dots, place as u64, era, text)?;
     }
     Ok(())
 }
 
-/// The legend of some kinds of step, three in a line, with what a small letter means where a step changed nothing.
+/// The legend of some kinds of step, as many in a line as fit, but three at most, with what a small letter means where a
+/// step changed nothing.
 ///
 /// An `Err` says that memory was refused.
 pub fn legend_of(
     alloc: Global,
+    columns: u64,
     kinds: &[StepKind],
     unchanged: bool,
 ) -> Result<Vec<u8>, AllocError> {
     let mut legend = b"\n".to_vec(alloc)?;
+    let last = match columns as usize / ENTRY {
+        0 | 1 => 0,
+        2 => 1,
+        _ => 2,
+    };
     for (place, kind) in kinds.iter().enumerate() {
         let mut entry = [letter_of(*kind), b' '].to_vec(alloc)?;
         entry.extend_from_slice(meaning_of(*kind).as_bytes())?;
-        if place % 3 == 2 || place + 1 == kinds.len() {
+        if place % (last + 1) == last || place + 1 == kinds.len() {
             push_line(&entry, &mut legend)?;
         } else {
             push_padded(alloc, &entry, ENTRY, &mut legend)?;
         }
     }
     if unchanged {
-        push_line(b"a small letter: that step changed nothing", &mut legend)?;
+        push_wrapped(
+            alloc,
+            columns,
+            b"a small letter: that step changed nothing",
+            &mut legend,
+        )?;
     }
-    push_line(SIGNS.as_bytes(), &mut legend)?;
+    push_wrapped(alloc, columns, SIGNS.as_bytes(), &mut legend)?;
     Ok(legend)
 }

@@ -6,7 +6,7 @@
 ghost use Rattle.std.specs.Prelude.{◌≡◌, false};
 
 use run_layout::Range;
-use run_lines::lines_of_object;
+use run_lines::{COLUMNS, lines_of_object};
 use run_steps::InWords;
 use run_telling::trace_of_record;
 use stack::Stack;
@@ -43,6 +43,7 @@ fn show<W: TextOut>(alloc: Global, output: &mut W) -> Option<()>
         Stack,
         "stack",
         Range::all(),
+        COLUMNS,
         &mut Checked::new(SCRIPT),
     )
     .ok()?;

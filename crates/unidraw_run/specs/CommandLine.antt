@@ -24,21 +24,26 @@ asks name form = record { name = name; form = form }
 -- the options, in the order of the help: one for each form but an SVG
 abbrev pub form_options : List FormOption
 form_options =
-    asks (codes "text") (Lines all_events) ∷ asks (codes "steps") Steps ∷ asks (codes "json") Json ∷ asks (codes "full") Full
+    asks (codes "text") (Lines all_events 100) ∷ asks (codes "steps") Steps ∷ asks (codes "json") Json ∷ asks (codes "full") Full
     ∷ asks (codes "html") Html ∷ asks (codes "history") History ∷ []
 
 -- an option whose value is the number of an event
 abbrev pub event_option : (name : Text) → Rule
 event_option name = in_range (record (new_rule name) { long = Some name; value_names = 1 }) 0 (2 ^ 64 - 1)
 
+-- one whose value says how many columns a line has at most
+abbrev pub columns_option : Rule
+columns_option = in_range (record (new_rule (codes "columns")) { long = Some (codes "columns"); value_names = 1 }) 40 1000
+
 -- a program with these options more
 abbrev pub with_options : App → List FormOption → App
 with_options = fold (λ app o. with_rule app (flag o.name))
 
--- the program has a version, the options of forms, two that choose events, and one that asks why a line is bad
+-- the program has a version, the options of forms, two that choose events, one that says how long a line is, and one that asks why a
+-- line is bad
 abbrev pub unidraw : App
-unidraw = with_rule (with_rule (with_rule (with_options (versioned (new_app (codes "unidraw"))) form_options)
-    (event_option (codes "from"))) (event_option (codes "to"))) (flag (codes "explain"))
+unidraw = with_rule (with_rule (with_rule (with_rule (with_options (versioned (new_app (codes "unidraw"))) form_options)
+    (event_option (codes "from"))) (event_option (codes "to"))) columns_option) (flag (codes "explain"))
 
 -- the forms whose options are used, in the order of these
 abbrev pub forms_used : List Row → List FormOption → List Form
@@ -68,7 +73,7 @@ range_in rows =
 -- a form with some events chosen: there is no such choice but of an SVG and of lines
 abbrev pub ranged : Range → Form → Option Form
 ranged range (Svg all) = Some (Svg range)
-ranged range (Lines all) = Some (Lines range)
+ranged range (Lines all columns) = Some (Lines range columns)
 ranged range form = None
 
 -- an event comes after the last one, if there is a last
@@ -81,8 +86,15 @@ abbrev pub with_range : Option Range → Form → Option Form
 with_range None form = Some form
 with_range (Some range) form = if comes_after range.from range.to then None else ranged range form
 
+-- a form with its longest line, if that is chosen: there is no such choice but of lines
+abbrev pub with_columns : Option ℕ → Form → Option Form
+with_columns None form = Some form
+with_columns (Some columns) (Lines range default) = Some (Lines range columns)
+with_columns (Some columns) form = None
+
 abbrev pub form_in : List Row → Option Form
-form_in rows = option_and_then (with_range (range_in rows)) (form_among (forms_used rows form_options))
+form_in rows = option_and_then (with_columns (value_of (number_in 40 1000) (codes "columns") rows))
+    (option_and_then (with_range (range_in rows)) (form_among (forms_used rows form_options)))
 
 -- what is asked for: a form, and whether the reason of a bad line is told
 abbrev pub request_in : List Row → Option Request
@@ -125,7 +137,7 @@ form_without_words : (name : Text) → form_of_words (name ∷ []) ≡ Some (Svg
 unfolding clap_on_literals
 form_without_words name = refl
 
-form_of_text : (name : Text) → form_of_words (name ∷ codes "--text" ∷ []) ≡ Some (Lines all_events)
+form_of_text : (name : Text) → form_of_words (name ∷ codes "--text" ∷ []) ≡ Some (Lines all_events 100)
 unfolding clap_on_literals
 form_of_text name = refl
 
@@ -163,14 +175,28 @@ unfolding clap_on_literals
 form_of_ten_to_twenty name = refl
 
 form_of_lines_from_ten : (name : Text) → form_of_words (name ∷ codes "--from=10" ∷ codes "--text" ∷ [])
-    ≡ Some (Lines (record { from = 10; to = None }))
+    ≡ Some (Lines (record { from = 10; to = None }) 100)
 unfolding clap_on_literals
 form_of_lines_from_ten name = refl
 
 form_of_lines_to_zero : (name : Text) → form_of_words (name ∷ codes "--text" ∷ codes "--to" ∷ codes "0" ∷ [])
-    ≡ Some (Lines (record { from = 0; to = Some 0 }))
+    ≡ Some (Lines (record { from = 0; to = Some 0 }) 100)
 unfolding clap_on_literals
 form_of_lines_to_zero name = refl
+
+lines_of_80_columns : (name : Text) → form_of_words (name ∷ codes "--text" ∷ codes "--columns" ∷ codes "80" ∷ [])
+    ≡ Some (Lines all_events 80)
+unfolding clap_on_literals
+lines_of_80_columns name = refl
+
+columns_of_an_svg_are_a_fault : (name : Text) → faults_of_words (name ∷ codes "--columns" ∷ codes "80" ∷ []) ≡ ArgumentConflict ∷ []
+unfolding clap_on_literals
+columns_of_an_svg_are_a_fault name = refl
+
+thirty_nine_columns_are_a_fault : (name : Text)
+    → faults_of_words (name ∷ codes "--text" ∷ codes "--columns" ∷ codes "39" ∷ []) ≡ ValueValidation ∷ []
+unfolding clap_on_literals
+thirty_nine_columns_are_a_fault name = refl
 
 steps_are_explained : (name : Text)
     → request_of_words (name ∷ codes "--explain" ∷ codes "--steps" ∷ []) ≡ Some (record { form = Steps; is_explained = true })

@@ -20,7 +20,7 @@ use Rattle.unidraw_run.specs.declared.program.Form.TheVariants.{Svg, Lines, Step
 -- whole memory, the page of it, or its history
 abbrev pub IsPictureIn : Form → (left : Option (List ℕ)) → (text : List ℕ) → Type 0
 IsPictureIn (Svg range) left text = IsPicture range left text
-IsPictureIn (Lines range) left text = IsLines range left text
+IsPictureIn (Lines range columns) left text = IsLines range columns left text
 IsPictureIn Steps left text = IsSteps left text
 IsPictureIn Json left text = IsTrace left text
 IsPictureIn Full left text = IsWholeTrace left text

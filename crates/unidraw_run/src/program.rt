@@ -29,8 +29,8 @@ use uni_script::{BenchFault, Failed, TextIn, TextOut, tell, write_all};
 pub enum Form {
     /// An SVG of these events.
     Svg(Range),
-    /// Lines of text, for a terminal of 100 columns, that draw these events.
-    Lines(Range),
+    /// Lines of text, for a terminal of so many columns, that draw these events.
+    Lines(Range, u64),
     /// Lines of text, with a sentence for each event.
     Steps,
     /// Lines of JSON, which tell what each event did to the memory.
@@ -57,7 +57,7 @@ pub struct Request {
 /// picture is one of lines, with `--steps` it is a sentence for each event, with `--json` the trace of the run, and
 /// beside that with `--full` the whole memory after each event, with `--html` a page that shows the trace, with
 /// `--history` the calls and the replies of the run, and with no word an SVG. Of an SVG and of lines `--from` and
-/// `--to` choose the events. With `--explain` the text of a bad line says why it is bad.
+/// `--to` choose the events, and `--columns` says how long lines are at most. With `--explain` the text of a bad line says why it is bad.
 ///
 /// The status is 0 where all went well, also for help or the version, which go to `output`; 2 for a bad script,
 /// one of more than 2,000 events, or words that ask for nothing that there is; 3 where `input` or `output`
@@ -141,7 +141,7 @@ fn picture_in<I: TextIn>(alloc: Global, form: Form, reader: &mut I) -> Result<Ve
 {
     match form {
         Form::Svg(range) => picture_of(alloc, range, reader),
-        Form::Lines(range) => lines_of(alloc, range, reader),
+        Form::Lines(range, columns) => lines_of(alloc, range, columns, reader),
         Form::Steps => steps_of(alloc, reader),
         Form::Json => json_of(alloc, reader),
         Form::Full => whole_json_of(alloc, reader),

@@ -5,9 +5,9 @@ ghost use Rattle.clap.specs.Values.{kind_of};
 ghost use Rattle.clap.specs.Words.{HasKind, app_of, found_of, new_app, rows_of, rule_of};
 ghost use Rattle.clap.specs.declared.builder.command.Command.TheViews.{out-Command};
 ghost use Rattle.command_line.specs.Flags.{versioned};
-ghost use Rattle.unidraw_run.specs.CommandLine.{comes_after, event_option, faults_of_words, form_among, form_in, form_with};
+ghost use Rattle.unidraw_run.specs.CommandLine.{columns_option, comes_after, event_option, faults_of_words, form_among, form_in, form_with};
 ghost use Rattle.unidraw_run.specs.CommandLine.{forms_used, range_in, request_in, request_of_words, unidraw};
-ghost use Rattle.unidraw_run.specs.CommandLine.{with_options, with_range};
+ghost use Rattle.unidraw_run.specs.CommandLine.{with_columns, with_options, with_range};
 ghost use Rattle.unidraw_run.specs.Shown.{option_shown};
 
 use crate::program::{Form, Request};
@@ -15,8 +15,15 @@ use clap::error::ErrorKind;
 use clap::{Arg, ArgMatches, Command};
 use command_line::{flag, in_range, is_set, may_be_path, number_of};
 use run_layout::Range;
+use run_lines::COLUMNS;
 use std::alloc::{AllocError, Global};
 use std::convert::AsStr;
+
+/// The least number of columns of a line that can be asked for.
+const LEAST_COLUMNS: u64 = 40;
+
+/// The greatest.
+const MOST_COLUMNS: u64 = 1_000;
 
 /// The version of the program.
 const VERSION: &str = "0.1.0";
@@ -24,7 +31,7 @@ const VERSION: &str = "0.1.0";
 /// What the help says last.
 const NOTES: &str = "\
 The script is read from standard input, and the picture is written to standard
-output: an SVG, or with --text lines of at most 100 columns. With --steps each
+output: an SVG, or with --text lines of a terminal. With --steps each
 step is told in words, with what it changed, and with --json for programs: see
 docs/trace.md; with --json --full the whole memory is told after each event.
 With --html a browser shows the steps. With --history calls and replies are
@@ -38,7 +45,7 @@ columns. With --explain the text of a bad line says why it is bad.
 Examples:
   unidraw < queue.script > queue.svg
   unidraw --text < queue.script
-  unidraw --text --from 10 --to 20 < queue.script
+  unidraw --text --from 10 --to 20 --columns 80 < queue.script
   unidraw --steps < queue.script
   unidraw --json < queue.script
   unidraw --html < queue.script > queue.html
@@ -47,7 +54,7 @@ Examples:
 /// What is said where words ask for forms that don't go together.
 const SEVERAL: &str = "\
 only one of --text, --steps, --json, --html and --history can be used, --full beside --json alone, \
-and --from and --to without any of them but --text";
+--columns beside --text alone, and --from and --to without any of them but --text";
 
 /// What is said where no event is chosen.
 const BACKWARD: &str = "--from is above --to";
@@ -70,7 +77,7 @@ struct FormOption {
 const OPTIONS: [FormOption; 6] = [
     FormOption {
         name: "text",
-        form: Form::Lines(Range { from: 0, to: None }),
+        form: Form::Lines(Range { from: 0, to: None }, COLUMNS),
         help: "Draws lines of text in place of an SVG",
     },
     FormOption {
@@ -141,6 +148,18 @@ fn event_option<'a>(alloc: Global, name: &'a str, help: &'a str) -> Arg<'a>
     in_range(option, 0, u64::MAX)
 }
 
+/// An option whose value says how many columns a line has at most.
+fn columns_option<'a>(alloc: Global) -> Arg<'a>
+    ensures rule { rule_of result ≡ columns_option }
+    ensures local { result.global ≡ false }
+{
+    let option = Arg::new(alloc, "columns")
+        .long("columns")
+        .value_name("N")
+        .help("Beside --text: the longest line, from 40 to 1000 [default: 100]");
+    in_range(option, LEAST_COLUMNS, MOST_COLUMNS)
+}
+
 /// The command line of the program.
 ///
 /// An `Err` says that memory was refused.
@@ -150,6 +169,7 @@ fn unidraw<'a>(alloc: Global) -> Result<Command<'a>, AllocError>
     with_options(alloc, described(alloc), &OPTIONS)?
         .arg(event_option(alloc, "from", "Draws the events from this number on"))?
         .arg(event_option(alloc, "to", "Draws the events up to this number"))?
+        .arg(columns_option(alloc))?
         .arg(flag(alloc, "explain", "Says why a line is bad"))
 }
 
@@ -211,16 +231,31 @@ fn with_range(form: Form, range: Option<Range>) -> Option<Form>
         (form, None) => Some(form),
         (_, Some(range)) if comes_after(range.from, range.to) => None,
         (Form::Svg(_), Some(range)) => Some(Form::Svg(range)),
-        (Form::Lines(_), Some(range)) => Some(Form::Lines(range)),
+        (Form::Lines(_, columns), Some(range)) => Some(Form::Lines(range, columns)),
         (_, Some(_)) => None,
     }
 }
 
-/// The form that is asked for, with the events that are chosen; `None` where the options don't go together.
+/// A form with its longest line, if that is chosen; `None` where the form has no such choice.
+fn with_columns(form: Form, columns: Option<u64>) -> Option<Form>
+    ensures { result ≡ with_columns columns form }
+{
+    match (form, columns) {
+        (form, None) => Some(form),
+        (Form::Lines(range, _), Some(columns)) => Some(Form::Lines(range, columns)),
+        (_, Some(_)) => None,
+    }
+}
+
+/// The form that is asked for, with what is chosen of it; `None` where the options don't go together.
 fn form_in(matches: &ArgMatches<'_>) -> Option<Form>
     ensures { result ≡ form_in (rows_of (found_of matches.now)) }
 {
-    with_range(form_among(matches, &OPTIONS)?, range_in(matches))
+    let form = with_range(form_among(matches, &OPTIONS)?, range_in(matches))?;
+    with_columns(
+        form,
+        number_of(matches, "columns", LEAST_COLUMNS, MOST_COLUMNS),
+    )
 }
 
 /// What is asked for; `None` where the options don't go together.

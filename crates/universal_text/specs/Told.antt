@@ -63,7 +63,7 @@ abbrev pub HasPicture : (script : List ℕ) → (List ℕ → Type 0) → Type 0
 HasPicture script Is = (svg : List ℕ) × IsPicture all_events (Some script) svg × Is svg
 
 abbrev pub HasLines : (script : List ℕ) → (List ℕ → Type 0) → Type 0
-HasLines script Is = (text : List ℕ) × IsLines all_events (Some script) text × Is text
+HasLines script Is = (text : List ℕ) × IsLines all_events 100 (Some script) text × Is text
 
 abbrev pub HasRefusal : (script : List ℕ) → (List ℕ → Type 0) → Type 0
 HasRefusal script Is = (fault : PictureFault) × HasNoPicture script fault × Is (line_of fault)

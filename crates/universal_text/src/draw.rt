@@ -6,7 +6,7 @@ ghost use Rattle.universal_text.specs.Told.{HasLines, HasPicture, HasRefusal, Is
 use crate::status::DONE;
 use crate::tell::{refuse, tell};
 use run_layout::Range;
-use run_lines::lines_of;
+use run_lines::{COLUMNS, lines_of};
 use run_picture::picture_of;
 use std::alloc::Global;
 use uni_script::Checked;
@@ -55,7 +55,7 @@ pub extern "C" fn universal_lines(
         ⊎ HasRefusal script.now (λ line. IsTooLong line out.old out.new written.new) }
     ensures unchanged { 3 ≤ result → (out.new ≡ out.old) × (written.new ≡ written.old) }
 {
-    match lines_of(alloc, Range::all(), &mut Checked::new(script)) {
+    match lines_of(alloc, Range::all(), COLUMNS, &mut Checked::new(script)) {
         Ok(text) => tell(DONE, text.as_slice(), out, written),
         Err(fault) => refuse(alloc, fault, out, written),
     }

@@ -1,7 +1,0 @@
-use Rattle.std.proofs.Common.{◌∙◌, append_assoc}
-use Rattle.run_lines.proofs.texts.push_cell.Goals as goal
-
-pub returns : goal.returns
-returns c =
-    c.in_ok-push-2.ensures.items
-    ∙ rw (c.in_ok-push_state.ensures, c.in_ok-extend_from_slice-3.ensures.items, c.in_ok-push.ensures.items, c.in_ok-extend_from_slice-2.ensures.items, c.in_ok-extend_from_slice.ensures.items, c.deref.ensures.value, c.deref-2.ensures.value, c.in_ok-cell_name.ensures, c.in_ok-cell_words.ensures, c.in_ok-cell_state.ensures) (simp append_assoc)
