@@ -338,6 +338,7 @@ const FAULTS: &[(ThreadsFault, &str)] = &[
     (ThreadsFault::SeatMissing(3), "close: seat 3 missing\n"),
     (ThreadsFault::SeatPending(0), "close: seat 0 pending\n"),
     (ThreadsFault::OtherRecord, "close: another record\n"),
+    (ThreadsFault::LastState, "close: the last state differs\n"),
     (ThreadsFault::Differs(CALL), "close: call 1.2 differs\n"),
     (
         ThreadsFault::Audit(Verdict::BadReply(12)),

@@ -7,3 +7,4 @@ pub mod Told
 pub mod DrawnBy
 pub mod Locked
 pub mod ThreadsFailed
+pub mod ToldSmall

@@ -47,7 +47,7 @@ random_of-IsPlan rows plan is =
     (read-range 1 64 (first_of (codes "processes") rows)) (read-range 1 4096 (first_of (codes "row") rows)) (read-range 1 99000 (first_of (codes "events") rows)) is
 
 plan_with-IsThreadsPlan : (form : Option Form) (object : Option ThreadsObject) (processes calls seed : Option ℕ) (plan : Plan)
-    → ((n : ℕ) → processes ≡ Some n → (1 ≤ n) × (n ≤ 64)) → ((c : ℕ) → calls ≡ Some c → (1 ≤ c) × (c ≤ 4096))
+    → ((n : ℕ) → processes ≡ Some n → (1 ≤ n) × (n ≤ 64)) → ((c : ℕ) → calls ≡ Some c → (1 ≤ c) × (c ≤ 10000000))
     → plan_with form object processes calls seed ≡ Some plan → IsThreadsPlan plan
 plan_with-IsThreadsPlan (Some f) (Some o) (Some n) (Some c) (Some s) plan few short e =
     let ns = few n refl in
@@ -64,7 +64,7 @@ plan_with-IsThreadsPlan (Some f) (Some o) (Some n) (Some c) None plan few short 
 plan_of-IsThreadsPlan : (rows : List Row) (plan : Plan) → plan_of rows ≡ Some plan → IsThreadsPlan plan
 plan_of-IsThreadsPlan rows plan is =
     plan_with-IsThreadsPlan (value_of form_named (codes "form") rows) (value_of object_named (codes "object") rows) _ _ _ plan
-    (read-range 1 64 (first_of (codes "processes") rows)) (read-range 1 4096 (first_of (codes "calls") rows)) is
+    (read-range 1 64 (first_of (codes "processes") rows)) (read-range 1 10000000 (first_of (codes "calls") rows)) is
 
 options_of-IsHistory : (rows : List Row) (options : Options) → options_of rows ≡ Some options → IsHistory options.history
 options_of-IsHistory rows options is = at (value_of (number_in 1 16777216) (codes "history") rows) (read-range 1 16777216 (first_of (codes "history") rows)) is

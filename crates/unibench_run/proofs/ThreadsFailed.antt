@@ -1,28 +1,24 @@
 -- What threads come to, by the fault that ended them.
-use Rattle.std.proofs.Common.{◌≡◌, ◌≢◌, ◌⊎◌, ◌↔◌, ◌∙◌, ℕ, Bool, true, false, List, Option, Some, None, IsSome, inl, inr, refl, sym, ap, arith, nat_lt, cond}
+use Rattle.std.proofs.Common.{◌≡◌, ◌≢◌, ◌⊎◌, ◌↔◌, ◌∙◌, ◌*◌, ℕ, Bool, true, false, List, Option, Some, None, IsSome, inl, inr, refl, sym, ap, arith, nat_lt, cond}
 use Rattle.std.specs.Io.KnownBytes.{Appends}
 use Rattle.uni_script.specs.Ends.{AppendsPrefix}
 use Rattle.unibench_run.specs.Runs.{IsThreadsRun}
 use Rattle.unibench_run.specs.Statuses.{IsStatusOfThreads, status_of_threads}
-use Rattle.unibench_run.specs.Threads.{OfAgreed, refusal_of, refusal_of_events, has_form, events_of}
-use Rattle.unibench_run.specs.declared.request.Form.{Form}
-use Rattle.unibench_run.specs.declared.request.Form.TheVariants.{Lock, Words}
+use Rattle.unibench_run.specs.Threads.{OfAgreed, are_too_many, events_of, has_form, refusal_of}
+use Rattle.unibench_run.specs.declared.request.Form.TheVariants.{Words}
 use Rattle.unibench_run.specs.declared.request.Plan.{Plan}
 use Rattle.unibench_run.specs.declared.threads.ThreadsFault.{ThreadsFault}
 use Rattle.unibench_run.specs.declared.threads.ThreadsFault.TheVariants as fault
 
 -- a plan is refused for one of two reasons
 two_refusals : (plan : Plan) → IsSome (refusal_of plan) → (refusal_of plan ≡ Some fault.NoSuchObject) ⊎ (refusal_of plan ≡ Some fault.CallsTooMany)
-two_refusals plan some = by_form (has_form plan.form plan.object) plan.form (events_of plan) some where
-  by_form : (t : Bool) (form : Form) (events : ℕ) → IsSome (cond t (refusal_of_events form events) (Some fault.NoSuchObject))
-      → (cond t (refusal_of_events form events) (Some fault.NoSuchObject) ≡ Some fault.NoSuchObject) ⊎ (cond t (refusal_of_events form events) (Some fault.NoSuchObject) ≡ Some fault.CallsTooMany)
-  by_form false form events some = inl refl
-  by_form true Words events some = absurd (cc)
-  by_form true Lock events some = by_events (nat_lt 16777216 events) some where
-    by_events : (u : Bool) → IsSome (cond u (Some fault.CallsTooMany) None)
-        → (cond u (Some fault.CallsTooMany) None ≡ Some fault.NoSuchObject) ⊎ (cond u (Some fault.CallsTooMany) None ≡ Some fault.CallsTooMany)
-    by_events true some = inr refl
-    by_events false some = absurd (cc)
+two_refusals plan some = by_tests (has_form plan.form plan.object) (are_too_many plan.form plan.calls (events_of plan) (plan.processes * plan.calls)) some where
+  by_tests : (there many : Bool) → IsSome (cond there (cond many (Some fault.CallsTooMany) None) (Some fault.NoSuchObject))
+      → (cond there (cond many (Some fault.CallsTooMany) None) (Some fault.NoSuchObject) ≡ Some fault.NoSuchObject)
+      ⊎ (cond there (cond many (Some fault.CallsTooMany) None) (Some fault.NoSuchObject) ≡ Some fault.CallsTooMany)
+  by_tests false many some = inl refl
+  by_tests true true some = inr refl
+  by_tests true false some = absurd (cc)
 
 -- which faults have a status
 status_2 : (f : ThreadsFault) → status_of_threads f ≡ 2 → (f ≡ fault.NoSuchObject) ⊎ (f ≡ fault.CallsTooMany)
@@ -31,6 +27,7 @@ status_2 fault.CallsTooMany e = inr refl
 status_2 fault.Write e = absurd (omega (arith, e))
 status_2 fault.Memory e = absurd (omega (arith, e))
 status_2 (fault.Differs call) e = absurd (omega (arith, e))
+status_2 fault.LastState e = absurd (omega (arith, e))
 status_2 (fault.SeatMissing p) e = absurd (omega (arith, e))
 status_2 (fault.SeatPending p) e = absurd (omega (arith, e))
 status_2 fault.OtherRecord e = absurd (omega (arith, e))
@@ -42,6 +39,7 @@ status_3 fault.CallsTooMany e = absurd (omega (arith, e))
 status_3 fault.Write e = refl
 status_3 fault.Memory e = absurd (omega (arith, e))
 status_3 (fault.Differs call) e = absurd (omega (arith, e))
+status_3 fault.LastState e = absurd (omega (arith, e))
 status_3 (fault.SeatMissing p) e = absurd (omega (arith, e))
 status_3 (fault.SeatPending p) e = absurd (omega (arith, e))
 status_3 fault.OtherRecord e = absurd (omega (arith, e))
@@ -53,6 +51,7 @@ no_status_0 fault.CallsTooMany e = omega (arith, e)
 no_status_0 fault.Write e = omega (arith, e)
 no_status_0 fault.Memory e = omega (arith, e)
 no_status_0 (fault.Differs call) e = omega (arith, e)
+no_status_0 fault.LastState e = omega (arith, e)
 no_status_0 (fault.SeatMissing p) e = omega (arith, e)
 no_status_0 (fault.SeatPending p) e = omega (arith, e)
 no_status_0 fault.OtherRecord e = omega (arith, e)
@@ -89,7 +88,7 @@ module _ (plan : Plan) (old new : Option (List ℕ)) (failed : Bool) (f : Thread
       own_status (λ five. omega (arith, three, five)) ∙ three
 
   pub threads_failed : (f ≡ fault.Write → OfAgreed plan (AppendsPrefix old new)) → (failed ≡ false → new ≡ old)
-      → (status_of_threads f ≡ 5 → plan.form ≡ Lock) → IsThreadsRun plan old new failed status
+      → (status_of_threads f ≡ 5 → plan.form ≢ Words) → IsThreadsRun plan old new failed status
   threads_failed prefix kept closing = record {
     there = λ two. elim (status_2 f (by_status 2 two (λ e. omega (arith, e)))) [
       | inl nowhere ↦ rw (there.0 nowhere) (refl {a = true})

@@ -26,7 +26,7 @@ at_below (x ∷ xs) zero a e = omega arith
 at_below (x ∷ xs) (suc i) a e = let h = at_below xs i a e in omega arith
 
 -- functions that give the same of each element
-map-same : {A B : Type 0} (f g : A → B) (xs : List A) → ((i : ℕ) (x : A) → slice_get xs i ≡ Some x → f x ≡ g x) → map f xs ≡ map g xs
+pub map-same : {A B : Type 0} (f g : A → B) (xs : List A) → ((i : ℕ) (x : A) → slice_get xs i ≡ Some x → f x ≡ g x) → map f xs ≡ map g xs
 map-same f g [] each = refl
 map-same f g (x ∷ xs) each = ap (λ y. y ∷ map f xs) (each 0 x refl) ∙ ap (λ l. g x ∷ l) (map-same f g xs (λ i y at. each (suc i) y at))
 
@@ -34,10 +34,10 @@ pub map-map : {A B C : Type 0} (f : A → B) (g : B → C) (xs : List A) → map
 map-map f g [] = refl
 map-map f g (x ∷ xs) = ap (λ l. g (f x) ∷ l) (map-map f g xs)
 
-abbrev pub seat_in : Done → WordSeat
+abbrev pub seat_in : Done WordSeat (ℕ × ℕ) → WordSeat
 seat_in one = one.seat
 
-abbrev pub list_in : Done → Vec (ℕ × ℕ) Global
+abbrev pub list_in : Done WordSeat (ℕ × ℕ) → Vec (ℕ × ℕ) Global
 list_in one = one.told
 
 abbrev pub seat_of : Job WordSeat → WordSeat
@@ -55,12 +55,12 @@ fresh_job log count jobs seats of first i job below here =
 -- what is done with all jobs, each result being that of the job at its place
 pub all_are_done : {O : Type 0} (log : WordLog O) (seed : ℕ) (jobs : List (Job WordSeat)) (seats : List WordSeat) → map seat_of jobs ≡ seats
     → map seed_in jobs ≡ map (seed_of seed) (range_with_len 0 (length jobs)) → AreFirstSeats log (processes_of log) seats
-    → (results : List (Result Done AllocError)) (done : List Done) → results ≡ map Ok done → length results ≡ length jobs
-    → ((p : ℕ) (d : Result Done AllocError) → p < length jobs → (job : Job WordSeat) × (job ≡ slice_index_or jobs p job)
+    → (results : List (Result (Done WordSeat (ℕ × ℕ)) AllocError)) (done : List (Done WordSeat (ℕ × ℕ))) → results ≡ map Ok done → length results ≡ length jobs
+    → ((p : ℕ) (d : Result (Done WordSeat (ℕ × ℕ)) AllocError) → p < length jobs → (job : Job WordSeat) × (job ≡ slice_index_or jobs p job)
     × IfOk (slice_index_or results p d) (IsDoneOf log job))
     → AreDone log seed done
 all_are_done log seed jobs seats of seeds first results done are count given = record {
-  many = sym (length-map {B = Result Done AllocError} done Ok) ∙ ap length (sym are) ∙ count ∙ sym (length-map jobs seat_of) ∙ ap length of ∙ first.many;
+  many = sym (length-map {B = Result (Done WordSeat (ℕ × ℕ)) AllocError} done Ok) ∙ ap length (sym are) ∙ count ∙ sym (length-map jobs seat_of) ∙ ap length of ∙ first.many;
   each = λ p one at.
       let result : slice_get results p ≡ Some (Ok one) = ap (λ l. slice_get l p) are ∙ slice_get-map Ok done p one at in
       let below : p < length results = at_below results p (Ok one) result in
@@ -75,7 +75,7 @@ all_are_done log seed jobs seats of seeds first results done are count given = r
       );
 }
 
-module _ {O : Type 0} (log : WordLog O) (seed : ℕ) (done : List Done) (are : AreDone log seed done) where
+module _ {O : Type 0} (log : WordLog O) (seed : ℕ) (done : List (Done WordSeat (ℕ × ℕ))) (are : AreDone log seed done) where
   pub done_seats : All (IsSeatOf log) (map seat_in done)
   done_seats = All-map (IsSeatOf log) seat_in done (λ k d below. (are.each k (slice_index_or done k d) (slice_get-index done k d below)).0.0)
 

@@ -51,7 +51,7 @@ threads_command =
     (option (codes "form") (codes "lock")))
     (option (codes "object") (codes "queue")))
     (in_range (option (codes "processes") (codes "2")) 1 64))
-    (in_range (option (codes "calls") (codes "100")) 1 4096))
+    (in_range (option (codes "calls") (codes "100")) 1 10000000))
     (in_range (option (codes "seed") (codes "1")) 0 (2 ^ 64 - 1))
 
 abbrev pub language_command : App
@@ -345,8 +345,8 @@ calls_of_threads_least : (name : Text) → AsksFor (with_option name (codes "thr
 unfolding clap_on_literals
 calls_of_threads_least name = (refl, refl)
 
-calls_of_threads_greatest : (name : Text) → AsksFor (with_option name (codes "threads") (codes "--calls") (codes "4096"))
-    (threads_request 2 4096 1)
+calls_of_threads_greatest : (name : Text) → AsksFor (with_option name (codes "threads") (codes "--calls") (codes "10000000"))
+    (threads_request 2 10000000 1)
 unfolding clap_on_literals
 calls_of_threads_greatest name = (refl, refl)
 
@@ -356,7 +356,7 @@ unfolding clap_on_literals
 calls_of_threads_below_the_least name = refl
 
 calls_of_threads_past_the_greatest : (name : Text)
-    → faults_of_words (with_option name (codes "threads") (codes "--calls") (codes "4097")) ≡ ValueValidation ∷ []
+    → faults_of_words (with_option name (codes "threads") (codes "--calls") (codes "10000001")) ≡ ValueValidation ∷ []
 unfolding clap_on_literals
 calls_of_threads_past_the_greatest name = refl
 
@@ -380,9 +380,9 @@ random_on_a_tally : (name : Text) → asked_of (with_option name (codes "random"
 unfolding clap_on_literals
 random_on_a_tally name = refl
 
-threads_on_a_register : (name : Text) → asked_of (with_option name (codes "threads") (codes "--object") (codes "register")) ≡ None
+threads_on_a_ring : (name : Text) → asked_of (with_option name (codes "threads") (codes "--object") (codes "ring")) ≡ None
 unfolding clap_on_literals
-threads_on_a_register name = refl
+threads_on_a_ring name = refl
 
 threads_of_another_form : (name : Text) → asked_of (with_option name (codes "threads") (codes "--form") (codes "locks")) ≡ None
 unfolding clap_on_literals

@@ -3,5 +3,7 @@ pub mod CommandLine
 pub mod Request
 pub mod Draws
 pub mod Runs
+pub mod SmallDraws
+pub mod Small
 pub mod Threads
 pub mod Language

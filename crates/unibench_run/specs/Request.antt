@@ -20,7 +20,9 @@ use Rattle.unibench_run.specs.declared.request.RandomPlan.{RandomPlan}
 abbrev pub form_named : Text → Option Form
 form_named name =
     if bytes_eq name (codes "lock") then Some form.Lock
+    else if bytes_eq name (codes "shared") then Some form.Lock
     else if bytes_eq name (codes "words") then Some form.Words
+    else if bytes_eq name (codes "small") then Some form.Small
     else None
 
 abbrev pub object_named : Text → Option ThreadsObject
@@ -30,6 +32,11 @@ object_named name =
     else if bytes_eq name (codes "book") then Some object.Book
     else if bytes_eq name (codes "sticky") then Some object.Sticky
     else if bytes_eq name (codes "tally") then Some object.Tally
+    else if bytes_eq name (codes "counter") then Some object.Counter
+    else if bytes_eq name (codes "counters") then Some object.Counters
+    else if bytes_eq name (codes "register") then Some object.Register
+    else if bytes_eq name (codes "stack") then Some object.Stack
+    else if bytes_eq name (codes "map") then Some object.Map
     else None
 
 -- whether lines are written before their answers
@@ -57,7 +64,7 @@ plan_with _ _ _ _ _ = None
 abbrev pub plan_of : List Row → Option Plan
 plan_of rows = plan_with (value_of form_named (codes "form") rows) (value_of object_named (codes "object") rows)
     (value_of (number_in 1 64) (codes "processes") rows)
-    (value_of (number_in 1 4096) (codes "calls") rows)
+    (value_of (number_in 1 10000000) (codes "calls") rows)
     (value_of (number_in 0 (2 ^ 64 - 1)) (codes "seed") rows)
 
 -- the plan of a schedule of these values, if each is there
@@ -83,9 +90,13 @@ processes_are_1_to_64 : map (number_in 1 64) (codes "0" ∷ codes "1" ∷ codes 
     ≡ None ∷ Some 1 ∷ Some 64 ∷ None ∷ []
 processes_are_1_to_64 = refl
 
-calls_and_rows_are_1_to_4096 : map (number_in 1 4096) (codes "0" ∷ codes "1" ∷ codes "4096" ∷ codes "4097" ∷ [])
+rows_are_1_to_4096 : map (number_in 1 4096) (codes "0" ∷ codes "1" ∷ codes "4096" ∷ codes "4097" ∷ [])
     ≡ None ∷ Some 1 ∷ Some 4096 ∷ None ∷ []
-calls_and_rows_are_1_to_4096 = refl
+rows_are_1_to_4096 = refl
+
+calls_are_1_to_10000000 : map (number_in 1 10000000) (codes "0" ∷ codes "1" ∷ codes "10000000" ∷ codes "10000001" ∷ [])
+    ≡ None ∷ Some 1 ∷ Some 10000000 ∷ None ∷ []
+calls_are_1_to_10000000 = refl
 
 events_are_1_to_99000 : map (number_in 1 99000) (codes "0" ∷ codes "1" ∷ codes "99000" ∷ codes "99001" ∷ [])
     ≡ None ∷ Some 1 ∷ Some 99000 ∷ None ∷ []
@@ -95,11 +106,12 @@ seeds_have_64_bits : map (number_in 0 (2 ^ 64 - 1)) (codes "0" ∷ codes "184467
     ≡ Some 0 ∷ Some 18446744073709551615 ∷ None ∷ []
 seeds_have_64_bits = refl
 
-two_words_are_forms : map form_named (codes "lock" ∷ codes "words" ∷ codes "locks" ∷ [])
-    ≡ Some form.Lock ∷ Some form.Words ∷ None ∷ []
-two_words_are_forms = refl
+four_words_are_forms : map form_named (codes "lock" ∷ codes "shared" ∷ codes "words" ∷ codes "small" ∷ codes "locks" ∷ [])
+    ≡ Some form.Lock ∷ Some form.Lock ∷ Some form.Words ∷ Some form.Small ∷ None ∷ []
+four_words_are_forms = refl
 
-five_words_are_objects : map object_named (codes "queue" ∷ codes "directory" ∷ codes "book" ∷ codes "sticky" ∷ codes "tally"
-    ∷ codes "register" ∷ [])
-    ≡ Some object.Queue ∷ Some object.Directory ∷ Some object.Book ∷ Some object.Sticky ∷ Some object.Tally ∷ None ∷ []
-five_words_are_objects = refl
+ten_words_are_objects : map object_named (codes "queue" ∷ codes "directory" ∷ codes "book" ∷ codes "sticky" ∷ codes "tally"
+    ∷ codes "counter" ∷ codes "counters" ∷ codes "register" ∷ codes "stack" ∷ codes "map" ∷ codes "ring" ∷ [])
+    ≡ Some object.Queue ∷ Some object.Directory ∷ Some object.Book ∷ Some object.Sticky ∷ Some object.Tally
+    ∷ Some object.Counter ∷ Some object.Counters ∷ Some object.Register ∷ Some object.Stack ∷ Some object.Map ∷ None ∷ []
+ten_words_are_objects = refl

@@ -9,7 +9,7 @@ use Rattle.unibench_run.specs.Draws.{drawn_text}
 use Rattle.uni_script.specs.declared.grammar.ObjectName.{ObjectName}
 use Rattle.unibench_run.specs.Language.{language_text}
 use Rattle.unibench_run.specs.Threads.{OfAgreed, refusal_of}
-use Rattle.unibench_run.specs.declared.request.Form.TheVariants.{Lock}
+use Rattle.unibench_run.specs.declared.request.Form.TheVariants.{Words}
 use Rattle.unibench_run.specs.declared.request.Plan.{Plan}
 use Rattle.unibench_run.specs.declared.request.RandomPlan.{RandomPlan}
 use Rattle.unibench_run.specs.declared.request.Request.{Request}
@@ -41,7 +41,7 @@ pub record IsRandomRun (plan : RandomPlan) (old new : Option (List ℕ)) (output
   pub nothing : status ≡ 4 → new ≡ old
 
 -- A run of threads that ended with this status, from what the output held: 2 only where the plan is refused, since the object isn't
--- there in the form or, under a lock, the calls are too many, and there only 2 or refused memory; 0 only where the line was
+-- there in the form or the calls are too many for it, and there only 2 or refused memory; 0 only where the line was
 -- written that says of as many replies as the plan has calls that they agree, which are those of a run of it. After a failure of
 -- the output a prefix of such a line was written, and after any other fault nothing.
 pub record IsThreadsRun (plan : Plan) (old new : Option (List ℕ)) (output_failed : Bool) (status : ℕ) : Type 0 where
@@ -51,7 +51,7 @@ pub record IsThreadsRun (plan : Plan) (old new : Option (List ℕ)) (output_fail
   pub prefix : status ≡ 3 → OfAgreed plan (AppendsPrefix old new)
   pub failed : (status ≡ 3) ↔ (output_failed ≡ true)
   pub nothing : status ≢ 0 → status ≢ 3 → new ≡ old
-  pub closing : status ≡ 5 → plan.form ≡ Lock
+  pub closing : status ≡ 5 → plan.form ≢ Words
 
 -- The language that was printed with this status, from what the output held: 0 only where its text was written, 3 exactly where the
 -- output failed, after a prefix of it, and 4 where memory was refused, where nothing was written.

@@ -5,7 +5,7 @@ use Rattle.uni_script.specs.Statuses.{TellsFault, TellsLine}
 use Rattle.script_advice.specs.Told.{TellsMore}
 use Rattle.unibench_run.specs.CommandLine.{AsksFor}
 use Rattle.unibench_run.specs.Threads.{line_of_fault, refusal_of}
-use Rattle.unibench_run.specs.declared.request.Form.TheVariants.{Lock}
+use Rattle.unibench_run.specs.declared.request.Form.TheVariants.{Words}
 use Rattle.unibench_run.specs.declared.request.Plan.{Plan}
 use Rattle.unibench_run.specs.declared.request.Request.{Request}
 use Rattle.unibench_run.specs.declared.request.Request.TheVariants.{Replay, Explained, Random, Threads, Language}
@@ -19,6 +19,7 @@ status_of_threads fault.CallsTooMany = 2
 status_of_threads fault.Write = 3
 status_of_threads fault.Memory = 4
 status_of_threads (fault.Differs call) = 5
+status_of_threads fault.LastState = 5
 status_of_threads (fault.SeatMissing p) = 5
 status_of_threads (fault.SeatPending p) = 5
 status_of_threads fault.OtherRecord = 5
@@ -43,8 +44,8 @@ Tells (Random plan) = TellsFault
 Tells (Threads plan) = TellsThreadsFault (refusal_of plan)
 Tells (Language object) = TellsFault
 
--- a status of the program: 5 only where the words ask for threads under a lock
+-- a status of the program: 5 only where the words ask for threads under a lock or on an object of several words
 pub record IsStatusFor (words : List Text) (status : ℕ) : Type 0 where
   pub most : status ≤ 5
   pub not_1 : status ≢ 1
-  pub closing : status ≡ 5 → (plan : Plan) × AsksFor words (Threads plan) × (plan.form ≡ Lock)
+  pub closing : status ≡ 5 → (plan : Plan) × AsksFor words (Threads plan) × (plan.form ≢ Words)

@@ -1,5 +1,5 @@
 -- What a run of threads comes to.
-use Rattle.std.specs.Prelude.{◌≡◌, ◌<◌, ◌≤◌, ◌*◌, ℕ, Bool, true, false, nat_lt, if◌then◌else◌, Option, None, Some, List}
+use Rattle.std.specs.Prelude.{◌≡◌, ◌<◌, ◌≤◌, ◌*◌, ℕ, Bool, true, false, ◌||◌, nat_lt, if◌then◌else◌, Option, None, Some, List}
 use Rattle.std.specs.Prelude.{[], ◌∷◌, ◌++◌, codes, length, map, slice_get, vec_len, IsSomeAnd, refl}
 use Rattle.std.specs.Fmt.{decimal, digits}
 use Rattle.std.specs.List.{Contains}
@@ -30,6 +30,7 @@ use Rattle.uni_model.specs.ProcessCalls.{ProcessCalls}
 use Rattle.uni_words.specs.declared.log.WordLog.{WordLog}
 use Rattle.uni_words.specs.declared.seat.WordSeat.{WordSeat}
 use Rattle.unibench_run.specs.Draws.{below_1000, drawn_by, seed_of}
+use Rattle.unibench_run.specs.Small.{HasSmallRun}
 use Rattle.unibench_run.specs.declared.request.Form.{Form}
 use Rattle.unibench_run.specs.declared.request.Form.TheVariants as form
 use Rattle.unibench_run.specs.declared.request.Plan.{Plan}
@@ -48,24 +49,37 @@ has_form form.Lock object.Queue = true
 has_form form.Lock object.Directory = true
 has_form form.Lock object.Book = true
 has_form form.Lock object.Sticky = true
+has_form form.Small object.Counter = true
+has_form form.Small object.Counters = true
+has_form form.Small object.Register = true
+has_form form.Small object.Stack = true
+has_form form.Small object.Map = true
+has_form form.Small object.Queue = true
+has_form form.Small object.Book = true
+has_form form.Small object.Sticky = true
 has_form _ _ = false
 
 -- the numbers of a plan are in range
 abbrev pub IsThreadsPlan : Plan → Type 0
-IsThreadsPlan plan = (1 ≤ plan.processes) × (plan.processes ≤ 64) × (1 ≤ plan.calls) × (plan.calls ≤ 4096)
+IsThreadsPlan plan = (1 ≤ plan.processes) × (plan.processes ≤ 64) × (1 ≤ plan.calls) × (plan.calls ≤ 10000000)
 
 -- how many events all calls of a plan set aside, where each process has its share for each of its calls
 abbrev pub events_of : Plan → ℕ
 events_of plan = plan.processes * plan.calls * share plan.processes
 
--- what so many events are refused for: a history has room for 16777216, and there is one under a lock alone
-abbrev pub refusal_of_events : Form → ℕ → Option ThreadsFault
-refusal_of_events form.Words events = None
-refusal_of_events form.Lock events = if nat_lt 16777216 events then Some fault.CallsTooMany else None
+-- Whether a form has too little room for so many calls of each process, with so many events in all, or for so many calls of all: a row
+-- has 4096 calls, a history 16777216 events, and 40000000 calls are kept with their replies.
+abbrev pub are_too_many : Form → (calls events all : ℕ) → Bool
+are_too_many form.Words calls events all = nat_lt 4096 calls
+are_too_many form.Lock calls events all = nat_lt 4096 calls || nat_lt 16777216 events
+are_too_many form.Small calls events all = nat_lt 40000000 all
 
 -- what a plan is refused for before anything is opened
 abbrev pub refusal_of : Plan → Option ThreadsFault
-refusal_of plan = if has_form plan.form plan.object then refusal_of_events plan.form (events_of plan) else Some fault.NoSuchObject
+refusal_of plan =
+    if has_form plan.form plan.object
+    then if are_too_many plan.form plan.calls (events_of plan) (plan.processes * plan.calls) then Some fault.CallsTooMany else None
+    else Some fault.NoSuchObject
 
 -- what an object means over words, if it is there
 abbrev pub meaning_over_words : ThreadsObject → Option (Sequential ℕ ℕ ℕ)
@@ -129,11 +143,12 @@ HasRunUnderLock object.Queue = HasLockedRun {O = QueueObject} (λ _. queue) queu
 HasRunUnderLock object.Directory = HasLockedRun {O = DirectoryObject} (λ _. directory) directory_language.inv_of_word
 HasRunUnderLock object.Book = HasLockedRun {O = BookObject} (λ _. book) book_language.inv_of_word
 HasRunUnderLock object.Sticky = HasLockedRun {O = StickyObject} (λ _. sticky_register) sticky_language.inv_of_word
-HasRunUnderLock object.Tally = λ _ _ _ _. ⊥
+HasRunUnderLock _ = λ _ _ _ _. ⊥
 
 abbrev pub HasRunIn : Form → ThreadsObject → (threads calls seed replies : ℕ) → Type 0
 HasRunIn form.Words = HasRunOverWords
 HasRunIn form.Lock = HasRunUnderLock
+HasRunIn form.Small = HasSmallRun
 
 -- so many replies are those of all calls of a plan, in a run of it
 abbrev pub IsCounted : Plan → (replies : ℕ) → Type 0
@@ -173,6 +188,7 @@ text_of_fault fault.CallsTooMany = codes "calls too many"
 text_of_fault fault.Memory = codes "out of memory"
 text_of_fault fault.Write = codes "cannot write"
 text_of_fault (fault.Differs call) = codes "close: call " ++ (decimal call.process ++ codes "." ++ decimal call.nth) ++ codes " differs"
+text_of_fault fault.LastState = codes "close: the last state differs"
 text_of_fault (fault.SeatMissing p) = codes "close: seat " ++ decimal p ++ codes " missing"
 text_of_fault (fault.SeatPending p) = codes "close: seat " ++ decimal p ++ codes " pending"
 text_of_fault fault.OtherRecord = codes "close: another record"
@@ -187,23 +203,23 @@ abbrev pub IsJob : {O : Type 0} → WordLog O → Job WordSeat → Type 0
 IsJob log job = IsSeatOf log job.seat × (own_calls job.seat ≡ [])
 
 -- a seat of this log that has made all its calls, and what it was told is listed
-abbrev pub IsDone : {O : Type 0} → WordLog O → Done → Type 0
+abbrev pub IsDone : {O : Type 0} → WordLog O → Done WordSeat (ℕ × ℕ) → Type 0
 IsDone log done = IsSeatOf log done.seat × (vec_len done.told ≡ row_of log) × (done.told.items ≡ own_calls done.seat)
 
 -- a job is done: its seat has made all its calls, as they are drawn from its seed
-pub record IsDoneOf {O : Type 0} (log : WordLog O) (job : Job WordSeat) (done : Done) : Type 0 where
+pub record IsDoneOf {O : Type 0} (log : WordLog O) (job : Job WordSeat) (done : Done WordSeat (ℕ × ℕ)) : Type 0 where
   pub made : IsDone log done
   pub process : process_of done.seat ≡ process_of job.seat
   pub asked : asked_in done.told.items ≡ drawn_by below_1000 job.seed (row_of log)
 
 -- so are the jobs of all its processes, in order, by the seed of the first
-pub record AreDone {O : Type 0} (log : WordLog O) (seed : ℕ) (done : List Done) : Type 0 where
+pub record AreDone {O : Type 0} (log : WordLog O) (seed : ℕ) (done : List (Done WordSeat (ℕ × ℕ))) : Type 0 where
   pub many : length done ≡ processes_of log
-  pub each : (p : ℕ) (one : Done) → slice_get done p ≡ Some one → IsDone log one × (process_of one.seat ≡ p)
+  pub each : (p : ℕ) (one : Done WordSeat (ℕ × ℕ)) → slice_get done p ≡ Some one → IsDone log one × (process_of one.seat ≡ p)
       × (asked_in one.told.items ≡ drawn_by below_1000 (seed_of seed p) (row_of log))
 
 -- what a thread was told, by its process
-abbrev pub told_to : Done → ProcessCalls ℕ ℕ
+abbrev pub told_to : Done WordSeat (ℕ × ℕ) → ProcessCalls ℕ ℕ
 told_to one = record { process = process_of one.seat; calls = one.told.items }
 
 eight_threads : agrees_line 8 800 ≡ codes "threads 8 calls 800 agrees" ++ 10 ∷ []
@@ -229,15 +245,27 @@ no_tally_under_a_lock : refusal_of (record { form = form.Lock; object = object.T
     ≡ Some fault.NoSuchObject
 no_tally_under_a_lock = refl
 
--- the last number of events that a lock has room for, and the first that it hasn't
-a_lock_has_room_for_16777216_events : refusal_of_events form.Lock 16777216 ≡ None
+-- the last number that each has room for, and the first that it hasn't
+a_lock_has_room_for_16777216_events : are_too_many form.Lock 4096 16777216 40000001 ≡ false
 a_lock_has_room_for_16777216_events = refl
 
-a_lock_has_none_for_16777217 : refusal_of_events form.Lock 16777217 ≡ Some fault.CallsTooMany
+a_lock_has_none_for_16777217 : are_too_many form.Lock 4096 16777217 1 ≡ true
 a_lock_has_none_for_16777217 = refl
 
-words_have_room_for_any_events : refusal_of_events form.Words 16777217 ≡ None
+a_lock_has_none_for_4097_calls : are_too_many form.Lock 4097 1 1 ≡ true
+a_lock_has_none_for_4097_calls = refl
+
+words_have_room_for_any_events : are_too_many form.Words 4096 16777217 40000001 ≡ false
 words_have_room_for_any_events = refl
+
+words_have_none_for_4097_calls : are_too_many form.Words 4097 1 1 ≡ true
+words_have_none_for_4097_calls = refl
+
+forty_million_calls_are_kept : are_too_many form.Small 10000000 16777217 40000000 ≡ false
+forty_million_calls_are_kept = refl
+
+one_more_is_not : are_too_many form.Small 1 1 40000001 ≡ true
+one_more_is_not = refl
 
 -- a plan of a queue under a lock
 abbrev under_lock : (processes calls : ℕ) → Plan
@@ -266,7 +294,7 @@ the_greatest_plan_over_words = refl
 the_least_plan : IsThreadsPlan (under_lock 1 1)
 the_least_plan = (omega arith, omega arith, omega arith, omega arith)
 
-the_greatest_plan : IsThreadsPlan (under_lock 64 4096)
+the_greatest_plan : IsThreadsPlan (under_lock 64 10000000)
 the_greatest_plan = (omega arith, omega arith, omega arith, omega arith)
 
 no_plan_has_no_process : ¬ (IsThreadsPlan (under_lock 0 1))
@@ -278,5 +306,5 @@ no_plan_has_65_processes = λ plan. let most = plan.1 in omega arith
 no_plan_has_no_call : ¬ (IsThreadsPlan (under_lock 1 0))
 no_plan_has_no_call = λ plan. let least = plan.2 in omega arith
 
-no_plan_has_4097_calls : ¬ (IsThreadsPlan (under_lock 1 4097))
-no_plan_has_4097_calls = λ plan. let most = plan.3 in omega arith
+no_plan_has_10000001_calls : ¬ (IsThreadsPlan (under_lock 1 10000001))
+no_plan_has_10000001_calls = λ plan. let most = plan.3 in omega arith

@@ -50,10 +50,21 @@ pub(crate) fn tip_for<S: AsStr>(error: &clap::Error, words: &[S]) -> Option<&'st
 const SHARED: [&str; 4] = ["queue", "directory", "book", "sticky"];
 
 /// The names of the objects of threads.
-const OBJECTS: [&str; 5] = ["queue", "directory", "book", "sticky", "tally"];
+const OBJECTS: [&str; 10] = [
+    "queue",
+    "directory",
+    "book",
+    "sticky",
+    "tally",
+    "counter",
+    "counters",
+    "register",
+    "stack",
+    "map",
+];
 
 /// The names of the forms.
-const FORMS: [&str; 2] = ["lock", "words"];
+const FORMS: [&str; 4] = ["lock", "shared", "words", "small"];
 
 /// A command of which `clap` knows the names that an option or a word can have.
 fn naming<'a>(

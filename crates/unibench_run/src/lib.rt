@@ -7,6 +7,8 @@ mod language;
 mod lock;
 mod program;
 mod request;
+mod small;
+mod small_calls;
 mod threads;
 mod typed;
 mod watch;

@@ -1,6 +1,6 @@
 //! Threads that make calls on one object under a lock.
 
-ghost use Rattle.std.specs.Prelude.{◌≡◌, ◌≢◌, ◌<◌, ◌≤◌, ◌*◌, ◌↔◌, All, []};
+ghost use Rattle.std.specs.Prelude.{◌≡◌, ◌≢◌, ◌≤◌, ◌*◌, ◌↔◌, All, []};
 ghost use Rattle.std.specs.Prelude.{IsErr, IsErrOf, IfOk, OnOk, length};
 ghost use Rattle.uni_record.specs.Recorded.{Recording, IsPromised};
 ghost use Rattle.uni_shared.specs.Agreement.{IsClosed};
@@ -23,10 +23,10 @@ use uni_script::Drawn;
 use uni_shared::{ApplyFault, CloseFault, NoGate, Seat, Shared};
 
 /// The most events that a history holds.
-const MOST_EVENTS: u64 = 16_777_216;
+pub(crate) const MOST_EVENTS: u64 = 16_777_216;
 
 /// How many events the calls of a plan can take: `10 n + 13` each.
-fn events_of(plan: &Plan) -> u64
+pub(crate) fn events_of(plan: &Plan) -> u64
     requires { IsThreadsPlan plan.now }
     ensures { result ≡ events_of plan.now }
 {
@@ -150,16 +150,14 @@ where
     O::Inv: Send,
     O::Resp: Send,
     requires plan { IsThreadsPlan plan.now }
+    requires room { (plan.now.calls ≤ 4096) × (events_of plan.now ≤ 16777216) }
     ensures run { IfOk result (HasLockedRun O.sequential O.language.inv_of_word plan.now.processes plan.now.calls
         plan.now.seed) }
-    ensures few { IsErrOf result ThreadsFault.CallsTooMany ↔ (16777216 < events_of plan.now) }
-    ensures others { (IsErrOf result ThreadsFault.NoSuchObject → ⊥) × (IsErrOf result ThreadsFault.Write → ⊥) }
+    ensures others { (IsErrOf result ThreadsFault.NoSuchObject → ⊥)
+        × (IsErrOf result ThreadsFault.CallsTooMany → ⊥) × (IsErrOf result ThreadsFault.Write → ⊥) }
     ensures audited { (verdict : Verdict) → IsErrOf result (ThreadsFault.Audit verdict) → ⊥ }
 {
     let events = events_of(plan);
-    if events > MOST_EVENTS {
-        return Err(ThreadsFault::CallsTooMany);
-    }
     let Ok((shared, seats)) = Shared::open(alloc, object, plan.processes, plan.calls, events) else {
         return Err(ThreadsFault::Memory);
     };

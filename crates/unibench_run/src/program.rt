@@ -36,9 +36,9 @@ use uni_script::{
 ///
 /// The status is 0 where all went well, also for the help or the version, which go to `output`.
 /// It is 2 for a bad script, a bad command line, an object that isn't there in a form of threads or
-/// calls that are too many for a history, 3 where `input` or `output` failed, 4 where memory was
-/// refused, and 5 where threads under a lock and their record don't agree; the text that says so goes
-/// to `faults`, as far as that takes it.
+/// calls that are too many for it, 3 where `input` or `output` failed, 4 where memory was refused,
+/// and 5 where threads and their record or their object don't agree; the text that says so goes to
+/// `faults`, as far as that takes it.
 pub fn run<R: Threads + Wait + Watch + Sync, S: AsStr, I: KeepsText, O: TextOut, F: TextOut>(
     rt: &R,
     alloc: Global,
@@ -78,9 +78,9 @@ pub fn run<R: Threads + Wait + Watch + Sync, S: AsStr, I: KeepsText, O: TextOut,
 /// Runs the threads of a plan, and writes to `output` that they agree; the answer is the status.
 ///
 /// The status is 0 where all went well, 2 where the object isn't there in the form or the calls are
-/// too many under a lock, 3 where `output` failed, 4 where memory was refused, and 5 where what the
-/// threads were told isn't what the record under a lock has; the text that says so goes to `faults`,
-/// as far as that takes it. Over words it is never 5.
+/// too many for it, 3 where `output` failed, 4 where memory was refused, and 5 where what the threads
+/// were told isn't what the record under a lock or the object of several words has; the text that
+/// says so goes to `faults`, as far as that takes it. Over words it is never 5.
 fn threads<R: Threads + Wait + Watch + Sync, O: TextOut, F: TextOut>(
     rt: &R,
     alloc: Global,
@@ -122,7 +122,7 @@ fn write_agreed<R: Threads + Wait + Watch + Sync, O: TextOut>(
         → OfAgreed plan.now (AppendsPrefix (O.contents output.old) (O.contents output.new)) }
     ensures kept { OnErr result (O.has_failed output.new ≡ false → output.new ≡ output.old) }
     ensures closing { (fault : ThreadsFault) → IsErrOf result fault →
-        status_of_threads fault ≡ 5 → plan.now.form ≡ Form.Lock }
+        status_of_threads fault ≡ 5 → plan.now.form ≢ Form.Words }
 {
     let replies = run_plan(rt, alloc, plan)?;
     let mut line = Vec::new(alloc);
@@ -158,6 +158,7 @@ fn report_threads<F: TextOut>(alloc: Global, fault: ThreadsFault, faults: &mut F
             4
         }
         ThreadsFault::Differs(_)
+        | ThreadsFault::LastState
         | ThreadsFault::SeatMissing(_)
         | ThreadsFault::SeatPending(_)
         | ThreadsFault::OtherRecord

@@ -19,6 +19,9 @@ use std::convert::AsStr;
 use uni_model::{MAX_PROCESSES, MAX_ROW};
 use uni_script::{Echo, ObjectName, Options, object_of};
 
+/// The most calls that each thread can be asked to make.
+const MAX_CALLS: u64 = 10_000_000;
+
 /// A form of the construction that threads can share.
 #[derive(Clone, Copy)]
 pub enum Form {
@@ -26,6 +29,8 @@ pub enum Form {
     Lock,
     /// Atomic words.
     Words,
+    /// Atomic words, for an object of several of them.
+    Small,
 }
 
 impl Form {
@@ -34,14 +39,15 @@ impl Form {
         ensures { result ≡ form_named name.now }
     {
         match name {
-            "lock" => Some(Form::Lock),
+            "lock" | "shared" => Some(Form::Lock),
             "words" => Some(Form::Words),
+            "small" => Some(Form::Small),
             _ => None,
         }
     }
 }
 
-/// An object that threads can share, in one form or in both.
+/// An object that threads can share, in one form or in more.
 #[derive(Clone, Copy)]
 pub enum ThreadsObject {
     /// A queue.
@@ -54,6 +60,16 @@ pub enum ThreadsObject {
     Sticky,
     /// A tally.
     Tally,
+    /// A counter.
+    Counter,
+    /// Counters.
+    Counters,
+    /// A register.
+    Register,
+    /// A stack.
+    Stack,
+    /// A map.
+    Map,
 }
 
 impl ThreadsObject {
@@ -67,6 +83,11 @@ impl ThreadsObject {
             "book" => Some(ThreadsObject::Book),
             "sticky" => Some(ThreadsObject::Sticky),
             "tally" => Some(ThreadsObject::Tally),
+            "counter" => Some(ThreadsObject::Counter),
+            "counters" => Some(ThreadsObject::Counters),
+            "register" => Some(ThreadsObject::Register),
+            "stack" => Some(ThreadsObject::Stack),
+            "map" => Some(ThreadsObject::Map),
             _ => None,
         }
     }
@@ -81,7 +102,7 @@ pub struct Plan {
     pub object: ThreadsObject,
     /// How many threads there are, from 1 to 64.
     pub processes: u64,
-    /// How many calls each makes, from 1 to 4096.
+    /// How many calls each makes, from 1 to 10000000.
     pub calls: u64,
     /// The seed of the first thread's words; each further thread has the next one.
     pub seed: u64,
@@ -97,7 +118,7 @@ impl Plan {
             form: form_in(matches)?,
             object: object_in(matches)?,
             processes: number_of(matches, "processes", 1, MAX_PROCESSES)?,
-            calls: number_of(matches, "calls", 1, MAX_ROW)?,
+            calls: number_of(matches, "calls", 1, MAX_CALLS)?,
             seed: number_of(matches, "seed", 0, u64::MAX)?,
         })
     }
@@ -338,15 +359,21 @@ pub(crate) fn random_command<'a>(alloc: Global) -> Result<Command<'a>, AllocErro
 
 /// What the help of `threads` says last.
 const THREADS_NOTES: &str = "\
-With --form lock the object is queue, directory, book or sticky, with --form
-words sticky or tally. Where all replies are those of the log, the line
-'threads N calls M agrees' is written, M being the number of replies. Under a
-lock each of the N * C calls takes at most 10 * N + 13 events, and there is
-room for 16777216.
+With --form lock, or shared, the object is queue, directory, book or sticky,
+with --form words sticky or tally, with --form small counter, counters,
+register, stack, map, queue, book or sticky. Where all replies are those of the
+log, the line 'threads N calls M agrees' is written, M being the number of
+replies. With --form small each reply tells its place, and all calls are made
+again in that order.
+
+Only --form small takes more than 4096 calls of a thread, and at most 40000000
+in all. Under a lock each of the N * C calls takes at most 10 * N + 13 events,
+and there is room for 16777216.
 
 Examples:
   unibench threads --object book --processes 4 --calls 50
-  unibench threads --form words --object tally --processes 8";
+  unibench threads --form words --object tally --processes 8
+  unibench threads --form small --processes 4 --calls 1000000";
 
 /// The subcommand that runs threads.
 pub(crate) fn threads_command<'a>(alloc: Global) -> Result<Command<'a>, AllocError>
@@ -359,12 +386,18 @@ pub(crate) fn threads_command<'a>(alloc: Global) -> Result<Command<'a>, AllocErr
         "Makes calls in threads, and compares the replies with the log",
         THREADS_NOTES,
     )
-    .arg(option(alloc, "form", "NAME", "One of lock and words", "lock"))?
+    .arg(option(
+        alloc,
+        "form",
+        "NAME",
+        "One of lock, words and small",
+        "lock",
+    ))?
     .arg(option(
         alloc,
         "object",
         "NAME",
-        "queue, directory, book, sticky or tally",
+        "An object that the form has, as below",
         "queue",
     ))?
     .arg(in_range(
@@ -383,11 +416,11 @@ pub(crate) fn threads_command<'a>(alloc: Global) -> Result<Command<'a>, AllocErr
             alloc,
             "calls",
             "C",
-            "How many calls each makes, from 1 to 4096",
+            "Calls of each thread, from 1 to 10000000",
             "100",
         ),
         1,
-        MAX_ROW,
+        MAX_CALLS,
     ))?
     .arg(in_range(
         option(

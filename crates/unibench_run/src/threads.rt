@@ -1,6 +1,6 @@
 //! Threads that make calls on one object.
 
-ghost use Rattle.std.specs.Prelude.{◌↔◌, ◌≡◌, ◌++◌, ◌*◌, ◌<◌, ◌≤◌, ◌^◌, ℕ, All, []};
+ghost use Rattle.std.specs.Prelude.{◌↔◌, ◌≡◌, ◌≢◌, ◌++◌, ◌*◌, ◌<◌, ◌≤◌, ◌^◌, ℕ, All, []};
 ghost use Rattle.std.specs.Prelude.{IfOk, IsErrOf, IsOk, Ok, OnOk, Some, length, map, vec_len};
 ghost use Rattle.std.specs.List.{range_with_len};
 ghost use Rattle.uni_words.specs.Belongs.{object_of, processes_of, row_of};
@@ -8,12 +8,14 @@ ghost use Rattle.uni_words.specs.Compare.{Agrees, IsFirstFault};
 ghost use Rattle.uni_words.specs.Log.{entry_shown};
 ghost use Rattle.unibench_run.specs.Draws.{seed_of};
 ghost use Rattle.unibench_run.specs.Statuses.{status_of_threads};
-ghost use Rattle.unibench_run.specs.Threads.{AreDone, AreTold, IsCounted, IsDoneOf, IsJob};
+ghost use Rattle.unibench_run.specs.Threads.{AreDone, AreTold, IsCounted, IsDoneOf, IsJob, are_too_many, events_of};
+ghost use Rattle.unibench_run.specs.Threads.{has_form};
 ghost use Rattle.unibench_run.specs.Threads.{IsRunOfThreads, IsThreadsPlan};
 ghost use Rattle.unibench_run.specs.Threads.{agrees_line, line_of_fault, refusal_of, text_of_fault, told_to};
 
-use crate::lock::run_under_lock;
+use crate::lock::{MOST_EVENTS, events_of, run_under_lock};
 use crate::request::{Form, Plan, ThreadsObject};
+use crate::small::{MOST_KEPT_CALLS, run_named};
 use crate::watch::Watch;
 use rand_core::SeedableRng;
 use rand_xoshiro::Xoshiro256PlusPlus;
@@ -24,6 +26,7 @@ use std::io::Write;
 use std::sync::Wait;
 use std::thread::Threads;
 use std::{fmt, thread};
+use uni_model::MAX_ROW;
 use uni_record::Verdict;
 use uni_script::{BenchFault, Drawn};
 use uni_words::{
@@ -44,6 +47,8 @@ pub enum ThreadsFault {
     /// What the threads were told isn't what the log has, at this call first; or it is the first call, by
     /// process, that a thread under a lock was to make and hasn't made.
     Differs(CallId),
+    /// The calls of an object of several words that are made again don't lead to its last state.
+    LastState,
     /// Under a lock, the seat of this process, the least of such, isn't there once.
     SeatMissing(u64),
     /// Under a lock, this process, the least of such, has a call pending.
@@ -75,6 +80,7 @@ impl fmt::Display for ThreadsFault {
             ThreadsFault::Memory => write!(f, "out of memory"),
             ThreadsFault::Write => write!(f, "cannot write"),
             ThreadsFault::Differs(call) => write!(f, "close: call {call} differs"),
+            ThreadsFault::LastState => write!(f, "close: the last state differs"),
             ThreadsFault::SeatMissing(p) => write!(f, "close: seat {p} missing"),
             ThreadsFault::SeatPending(p) => write!(f, "close: seat {p} pending"),
             ThreadsFault::OtherRecord => write!(f, "close: another record"),
@@ -130,11 +136,11 @@ pub(crate) fn all_done<T: Drop>(
     Ok(all)
 }
 
-/// A seat whose calls are made, with what its thread was told: each invocation with its reply.
+/// A seat whose calls are made, with what its thread was told: each call with its reply.
 #[derive(Drop)]
-struct Done {
-    seat: WordSeat,
-    told: Vec<(u64, u32)>,
+pub(crate) struct Done<S: Drop, A: Drop> {
+    pub(crate) seat: S,
+    pub(crate) told: Vec<A>,
 }
 
 /// Makes so many calls by a seat, with invocations below 1000 that are drawn: one word a call.
@@ -144,7 +150,7 @@ fn make_calls<W: Watch, O: WordObject>(
     log: &WordLog<O>,
     job: Job<WordSeat>,
     calls: u64,
-) -> Result<Done, AllocError>
+) -> Result<Done<WordSeat, (u64, u32)>, AllocError>
     requires job { IsJob log.now job }
     requires calls { calls ≡ row_of log.now }
     ensures { IfOk result (IsDoneOf log.now job) }
@@ -166,10 +172,10 @@ fn make_calls<W: Watch, O: WordObject>(
 /// The seats, and what their threads were told, in order.
 ///
 /// An `Err` says that memory was refused.
-fn parted(
+pub(crate) fn parted<S: Drop, A: Drop>(
     alloc: Global,
-    done: Vec<Done>,
-) -> Result<(Vec<WordSeat>, Vec<Vec<(u64, u32)>>), AllocError>
+    done: Vec<Done<S, A>>,
+) -> Result<(Vec<S>, Vec<Vec<A>>), AllocError>
     ensures seats { IfOk result (λ parts. parts.0.items ≡ map (λ one. one.seat) done.items) }
     ensures told { IfOk result (λ parts. parts.1.items ≡ map (λ one. one.told) done.items) }
 {
@@ -234,7 +240,7 @@ fn close_words<O: WordObject>(
     alloc: Global,
     object: &O,
     log: WordLog<O>,
-    done: Vec<Done>,
+    done: Vec<Done<WordSeat, (u64, u32)>>,
     plan: &Plan,
 ) -> Result<Agreed, ThreadsFault>
     requires object { object.now ≡ object_of log }
@@ -264,6 +270,7 @@ fn run_on_words<R: Threads + Watch + Sync, O: WordObject + Copy + Sync>(
     object: O,
     plan: &Plan,
 ) -> Result<Agreed, ThreadsFault>
+    requires row { plan.now.calls ≤ 4096 }
     ensures replies { IfOk result (λ agreed. agreed.replies ≡ plan.now.processes * plan.now.calls) }
     ensures told { IfOk result (λ agreed.
         AreTold (O.sequential object) plan.now.processes plan.now.calls plan.now.seed
@@ -278,13 +285,67 @@ fn run_on_words<R: Threads + Watch + Sync, O: WordObject + Copy + Sync>(
     let done = thread::map_vec(
         rt,
         jobs,
-        &|job: Job<WordSeat>| -> Result<Done, AllocError>
+        &|job: Job<WordSeat>| -> Result<Done<WordSeat, (u64, u32)>, AllocError>
             requires { IsJob log job × (calls ≡ row_of log) }
             ensures { IfOk result (IsDoneOf log job) }
         { make_calls(rt, alloc, &log, job, calls) },
     )?;
     let done = all_done(alloc, done)?;
     close_words(alloc, &object, log, done, plan)
+}
+
+/// Whether there is an object in a form.
+fn has_form(form: Form, object: ThreadsObject) -> bool
+    ensures { result ≡ has_form form object }
+{
+    match form {
+        Form::Words => matches!(object, ThreadsObject::Sticky | ThreadsObject::Tally),
+        Form::Lock => matches!(
+            object,
+            ThreadsObject::Queue
+                | ThreadsObject::Directory
+                | ThreadsObject::Book
+                | ThreadsObject::Sticky
+        ),
+        Form::Small => matches!(
+            object,
+            ThreadsObject::Counter
+                | ThreadsObject::Counters
+                | ThreadsObject::Register
+                | ThreadsObject::Stack
+                | ThreadsObject::Map
+                | ThreadsObject::Queue
+                | ThreadsObject::Book
+                | ThreadsObject::Sticky
+        ),
+    }
+}
+
+/// Whether the calls of a plan are too many for its form.
+fn are_too_many(plan: &Plan) -> bool
+    requires { IsThreadsPlan plan.now }
+    ensures { result ≡ are_too_many plan.now.form plan.now.calls (events_of plan.now)
+        (plan.now.processes * plan.now.calls) }
+{
+    match plan.form {
+        Form::Words => plan.calls > MAX_ROW,
+        Form::Lock => plan.calls > MAX_ROW || events_of(plan) > MOST_EVENTS,
+        Form::Small => plan.processes * plan.calls > MOST_KEPT_CALLS,
+    }
+}
+
+/// What a plan is refused for before anything is opened.
+fn refusal_of(plan: &Plan) -> Option<ThreadsFault>
+    requires { IsThreadsPlan plan.now }
+    ensures { result ≡ refusal_of plan.now }
+{
+    if !has_form(plan.form, plan.object) {
+        Some(ThreadsFault::NoSuchObject)
+    } else if are_too_many(plan) {
+        Some(ThreadsFault::CallsTooMany)
+    } else {
+        None
+    }
 }
 
 /// Makes the calls of a plan: how many replies the threads were given.
@@ -302,8 +363,11 @@ pub fn run_plan<R: Threads + Wait + Watch + Sync>(
     ensures written { IsErrOf result ThreadsFault.Write → ⊥ }
     ensures audited { (verdict : Verdict) → IsErrOf result (ThreadsFault.Audit verdict) → ⊥ }
     ensures closing { (fault : ThreadsFault) → IsErrOf result fault →
-        status_of_threads fault ≡ 5 → plan.now.form ≡ Form.Lock }
+        status_of_threads fault ≡ 5 → plan.now.form ≢ Form.Words }
 {
+    if let Some(fault) = refusal_of(plan) {
+        return Err(fault);
+    }
     rt.begins(plan.processes * plan.calls);
     match (plan.form, plan.object) {
         (Form::Words, ThreadsObject::Sticky) => {
@@ -316,7 +380,8 @@ pub fn run_plan<R: Threads + Wait + Watch + Sync>(
         (Form::Lock, ThreadsObject::Directory) => run_under_lock(rt, alloc, DirectoryObject, plan),
         (Form::Lock, ThreadsObject::Book) => run_under_lock(rt, alloc, BookObject, plan),
         (Form::Lock, ThreadsObject::Sticky) => run_under_lock(rt, alloc, StickyObject, plan),
-        (Form::Words | Form::Lock, _) => Err(ThreadsFault::NoSuchObject),
+        (Form::Small, _) => run_named(rt, alloc, plan),
+        (Form::Words | Form::Lock, _) => unreachable!(),
     }
 }
 

@@ -9,7 +9,7 @@ returns-clause-app c =
     let one = c.in_ok-arg.ensures.shape c.option.ensures.local ∙ ap₂ with_rule c.described.ensures.app c.option.ensures.rule in
     let two = c.in_ok-arg-2.ensures.shape c.option-2.ensures.local ∙ ap₂ with_rule one c.option-2.ensures.rule in
     let three = c.in_ok-arg-3.ensures.shape (c.in_range.ensures.local ∙ c.option-3.ensures.local) ∙ ap₂ with_rule two (c.in_range.ensures.rule ∙ ap (λ r. in_range r 1 64) c.option-3.ensures.rule) in
-    let four = c.in_ok-arg-4.ensures.shape (c.in_range-2.ensures.local ∙ c.option-4.ensures.local) ∙ ap₂ with_rule three (c.in_range-2.ensures.rule ∙ ap (λ r. in_range r 1 4096) c.option-4.ensures.rule) in
+    let four = c.in_ok-arg-4.ensures.shape (c.in_range-2.ensures.local ∙ c.option-4.ensures.local) ∙ ap₂ with_rule three (c.in_range-2.ensures.rule ∙ ap (λ r. in_range r 1 10000000) c.option-4.ensures.rule) in
     IfOk-weaker c.arg-5.result _ _ (λ command added. added.shape (c.in_range-3.ensures.local ∙ c.option-5.ensures.local) ∙ ap₂ with_rule four (c.in_range-3.ensures.rule ∙ ap (λ r. in_range r 0 (2 ^ 64 - 1)) c.option-5.ensures.rule)) c.arg-5.ensures
 
 pub returns-clause-local : goal.returns-clause-local

@@ -1,16 +1,15 @@
 use Rattle.std.proofs.Common.{◌≡◌, ◌∙◌, ◌++◌, ◌∷◌, [], List, map, ap, sym, append_assoc}
 use Rattle.std.specs.Vec.Iter.{into_iter_items}
-use Rattle.unibench_run.specs.declared.threads.Done.{Done}
 use Rattle.unibench_run.proofs.threads.parted.Goals as goal
 
 -- one more has been taken, and its part pushed
-further : {A : Type 0} (part : Done → A) (all was now : List Done) (one : Done) (parts more : List A) → was ≡ one ∷ now → more ≡ parts ++ part one ∷ []
+further : {D A : Type 0} (part : D → A) (all was now : List D) (one : D) (parts more : List A) → was ≡ one ∷ now → more ≡ parts ++ part one ∷ []
     → map part all ≡ parts ++ map part was → map part all ≡ more ++ map part now
 further part all was now one parts more taken pushed before =
     before ∙ ap (λ l. parts ++ map part l) taken ∙ sym (append_assoc parts (part one ∷ []) (map part now)) ∙ ap (λ l. l ++ map part now) (sym pushed)
 
 pub loop-one-preserved : goal.loop-one-preserved
-loop-one-preserved c =
+loop-one-preserved g c =
     let was = into_iter_items c.loop-one.one-iterator in
     let now = into_iter_items c.next.new.self in (
       further (λ one. one.seat) _ was now c.in-Some.one c.loop-one.seats.items _ c.in-Some.ensures.steps.0 c.in_ok-push.ensures.items c.loop-one.invariant.0,

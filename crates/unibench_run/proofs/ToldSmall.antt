@@ -1,0 +1,145 @@
+-- Threads on an object of several words whose calls are all made: their seats, and what they were told.
+use Rattle.std.proofs.Common.{◌≡◌, ◌∙◌, ℕ, zero, suc, ◌+◌, ◌*◌, ◌^◌, ◌<◌, ◌≤◌, List, [], ◌∷◌, ◌++◌, drop, length, map, slice_get, slice_index_or, vec_len, flat_map, All, Contains, Vec, Global, Result, Ok, IfOk, Some, None, refl, sym, ap, subst, arith}
+use Rattle.std.specs.List.{range_with_len, sum_by}
+use Rattle.std.proofs.lemmas.List.{length-map, map-append}
+use Rattle.std.proofs.lemmas.List.Elements.{All-map, Contains-append_left, Contains-append_right}
+use Rattle.std.proofs.lemmas.List.Sums.{sum_by-le}
+use Rattle.std.specs.declared.alloc.AllocError.{AllocError}
+use Rattle.small_replay.specs.Placed.{placed}
+use Rattle.small_replay.specs.Replay.{IsReplayed}
+use Rattle.small_replay.specs.declared.placed.InPlace.{InPlace}
+use Rattle.uni_small.specs.Belongs.{AreFirstSeats, IsSeatOf, calls_of, invocation_width_of, known_calls, processes_of, reply_width_of}
+use Rattle.uni_small.specs.Final.{IsFinal}
+use Rattle.uni_small.specs.Image.{Meaning}
+use Rattle.uni_small.specs.View.{ProcessReturned, Returned}
+use Rattle.uni_small.specs.declared.log.SmallShared.{SmallShared}
+use Rattle.uni_small.specs.declared.seat.SmallSeat.{SmallSeat}
+use Rattle.uni_words.proofs.Agreeing.{at_of_map}
+use Rattle.uni_words.proofs.Comparing.{slice_get-index, slice_get-map}
+use Rattle.uni_words.proofs.Views.{first_there}
+use Rattle.unibench_run.specs.Draws.{drawn_by, seed_of, seeded_word}
+use Rattle.unibench_run.specs.Small.{AreSmallDone, IsDrawnList, IsSmallDone, IsSmallDoneOf, IsSmallJob, IsSmallRun, asked_in}
+use Rattle.unibench_run.specs.Small.{in_words_of, read_in_place}
+use Rattle.unibench_run.specs.declared.threads.Done.{Done}
+use Rattle.unibench_run.specs.declared.threads.Job.{Job}
+use Rattle.unibench_run.proofs.DrawnBy.{drawn-next, of_place}
+use Rattle.unibench_run.proofs.Told.{at_below}
+
+-- one call more is told as it was kept, and asked for as it was drawn
+module _ {C R : Type 0} (own more : List (C × InPlace R)) (call : C) (told : InPlace R) (longer : more ≡ own ++ (call, told) ∷ []) where
+  pub told_more : (asks : C → List ℕ) (reads : List ℕ → R) (its all : List Returned) (returned : Returned) → map (in_words_of asks) own ≡ map (read_in_place reads) its
+      → all ≡ its ++ returned ∷ [] → in_words_of asks (call, told) ≡ read_in_place reads returned → map (in_words_of asks) more ≡ map (read_in_place reads) all
+  told_more asks reads its all returned before are kept =
+      ap (map (in_words_of asks)) longer ∙ map-append (in_words_of asks) own ((call, told) ∷ []) ∙ ap (λ l. l ++ in_words_of asks (call, told) ∷ []) before
+      ∙ ap (λ x. map (read_in_place reads) its ++ x ∷ []) kept ∙ sym (map-append (read_in_place reads) its (returned ∷ [])) ∙ ap (map (read_in_place reads)) (sym are)
+
+  pub asked_more : (read : ℕ → C) (seed count word : ℕ) → asked_in own ≡ drawn_by read seed count → call ≡ read word → word ≡ seeded_word seed (count + 0)
+      → asked_in more ≡ drawn_by read seed (count + 1)
+  asked_more read seed count word before asked is = drawn-next read (λ (one : C × InPlace R). one.0) seed count word own more (call, told) before longer asked is
+
+module _ {O : Type 0} (shared : SmallShared O) where
+  abbrev small_seat : Job (SmallSeat O) → SmallSeat O
+  small_seat job = job.seat
+
+  abbrev small_seed : Job (SmallSeat O) → ℕ
+  small_seed job = job.seed
+
+  -- a job has the seat of its place, which has made no call
+  small_job_at : (count : ℕ) (jobs : List (Job (SmallSeat O))) (seats : List (SmallSeat O)) → map small_seat jobs ≡ seats → AreFirstSeats shared count seats
+      → (i : ℕ) (job : Job (SmallSeat O)) → i < length jobs → job ≡ slice_index_or jobs i job → slice_get seats i ≡ Some job.seat
+  small_job_at count jobs seats of first i job below here =
+      subst (λ l. slice_get l i ≡ Some job.seat) of (slice_get-map small_seat jobs i job (slice_get-index jobs i job below ∙ ap Some (sym here)))
+
+  pub small_job : (count call reply calls : ℕ) (jobs : List (Job (SmallSeat O))) (seats : List (SmallSeat O)) → map small_seat jobs ≡ seats → AreFirstSeats shared count seats
+      → calls ≤ 10000000 → invocation_width_of shared ≡ call → reply_width_of shared ≡ suc reply
+      → (i : ℕ) (job : Job (SmallSeat O)) → i < length jobs → job ≡ slice_index_or jobs i job → IsSmallJob shared call reply calls job
+  small_job count call reply calls jobs seats of first few call_wide reply_wide i job below here =
+      let fresh = first.each i job.seat (small_job_at count jobs seats of first i job below here) in
+      record { seat = fresh.own; unused = fresh.calls; made = fresh.made; few = few; call_wide = call_wide; reply_wide = reply_wide }
+
+  module _ {C R : Type 0} (asks : C → List ℕ) (reads : List ℕ → R) (read : ℕ → C) where
+    abbrev DoneOf : Type 0
+    DoneOf = Done (SmallSeat O) (C × InPlace R)
+
+    -- what is done with all jobs, each result being that of the job at its place
+    pub all_small_done : (calls seed : ℕ) (jobs : List (Job (SmallSeat O))) (seats : List (SmallSeat O)) → map small_seat jobs ≡ seats
+        → map small_seed jobs ≡ map (seed_of seed) (range_with_len 0 (length jobs)) → AreFirstSeats shared (processes_of shared) seats
+        → (results : List (Result DoneOf AllocError)) (done : List DoneOf) → results ≡ map Ok done → length results ≡ length jobs
+        → ((p : ℕ) (d : Result DoneOf AllocError) → p < length jobs → (job : Job (SmallSeat O)) × (job ≡ slice_index_or jobs p job)
+        × IfOk (slice_index_or results p d) (IsSmallDoneOf shared asks reads read calls job))
+        → AreSmallDone shared asks reads read calls seed done
+    all_small_done calls seed jobs seats of seeds first results done are count given = record {
+      many = sym (length-map {B = Result DoneOf AllocError} done Ok) ∙ ap length (sym are) ∙ count ∙ sym (length-map jobs small_seat) ∙ ap length of ∙ first.many;
+      each = λ p one at.
+          let result : slice_get results p ≡ Some (Ok one) = ap (λ l. slice_get l p) are ∙ slice_get-map Ok done p one at in
+          let below : p < length results = at_below results p (Ok one) result in
+          let its = given p (Ok one) (omega (arith, below, count)) in
+          let here : slice_index_or results p (Ok one) ≡ Ok one = (let e = sym (slice_get-index results p (Ok one) below) ∙ result in cc) in
+          let within : p < length jobs = omega (arith, below, count) in
+          let made : IsSmallDone shared asks reads read calls its.0.seed its.0.seat.p one = subst (λ r. IfOk r (IsSmallDoneOf shared asks reads read calls its.0)) here its.2 in
+          let seeded : its.0.seed ≡ seed_of seed p = of_place small_seed (seed_of seed) (length jobs) jobs seeds p its.0 within its.1 in
+          let process : its.0.seat.p ≡ p = (first.each p its.0.seat (small_job_at (processes_of shared) jobs seats of first p its.0 within its.1)).process in
+          subst (λ s. IsSmallDone shared asks reads read calls s p one) seeded (subst (λ q. IsSmallDone shared asks reads read calls its.0.seed q one) process made);
+    }
+
+    abbrev pub seat_done : DoneOf → SmallSeat O
+    seat_done one = one.seat
+
+    abbrev pub list_done : DoneOf → Vec (C × InPlace R) Global
+    list_done one = one.told
+
+    abbrev pub told_done : DoneOf → ProcessReturned
+    told_done one = calls_of one.seat
+
+    abbrev items_of : Vec (C × InPlace R) Global → List (C × InPlace R)
+    items_of own = own.items
+
+    -- what a seat was told is among what the seats know
+    known_there : (done : List DoneOf) (its : ProcessReturned) → Contains (map told_done done) its → Contains (flat_map known_calls (map seat_done done)) its
+    known_there [] its has = absurd (let none = has.1 in omega (arith, none))
+    known_there (one ∷ done) its (zero, below, is) =
+        Contains-append_left (known_calls one.seat) (flat_map known_calls (map seat_done done)) its (subst (Contains (known_calls one.seat)) is (first_there (calls_of one.seat) one.seat.seat.me.0.known.taken))
+    known_there (one ∷ done) its (suc i, below, is) =
+        Contains-append_right (known_calls one.seat) (flat_map known_calls (map seat_done done)) its (known_there done its (i, omega (arith, below), is))
+
+    module _ (calls seed : ℕ) (done : List DoneOf) (are : AreSmallDone shared asks reads read calls seed done) where
+      pub small_seats : All (IsSeatOf shared) (map seat_done done)
+      small_seats = All-map (IsSeatOf shared) seat_done done (λ k d below. (are.each k (slice_index_or done k d) (slice_get-index done k d below)).seat)
+
+      pub few_told : processes_of shared ≤ 64 → calls ≤ 10000000 → (length (map list_done done) < 2 ^ 32) × (sum_by vec_len (map list_done done) < 2 ^ 64)
+      few_told few short =
+          let many : length (map list_done done) ≡ processes_of shared = length-map done list_done ∙ are.many in
+          let each = All-map (λ told. vec_len told ≤ 10000000) list_done done (λ k d below.
+          let whole = (are.each k (slice_index_or done k d) (slice_get-index done k d below)).many in omega (arith, whole, short)) in
+          let sum = sum_by-le vec_len 10000000 (map list_done done) each in
+          (omega (arith, many, few), omega (arith, sum, many, few))
+
+      -- the closed object's calls, and their replay, are those of a run of the threads
+      pub small_run : (meaning : Meaning) (tells : R → List ℕ) (last : List ℕ)
+          → IsFinal (placed meaning).object (processes_of shared) (flat_map known_calls (map seat_done done)) last
+          → IsReplayed meaning.object asks tells (map items_of (map list_done done)) (drop 1 last)
+          → IsSmallRun meaning asks tells reads read (processes_of shared) calls seed (map items_of (map list_done done))
+      small_run meaning tells last final replayed = record {
+        told = map told_done done;
+        many = length-map done told_done ∙ are.many;
+        each = λ p its at.
+            let one = at_of_map told_done done p its at in
+            let made = are.each p one.0 one.1 in
+            let own : slice_get (map items_of (map list_done done)) p ≡ Some one.0.told.items =
+            slice_get-map items_of (map list_done done) p one.0.told (slice_get-map list_done done p one.0 one.1) in
+            (one.0.told.items, own, subst (λ k. IsDrawnList asks reads read calls (seed_of seed p) p k one.0.told.items) one.2 made.list);
+        last = last;
+        final = record {
+          acts = final.acts;
+          atomic = final.atomic;
+          accepted = final.accepted;
+          linearized = final.linearized;
+          state = final.state;
+          inside = final.inside;
+          own = λ its has. final.own its (known_there done its has);
+          calls_in_version = final.calls_in_version;
+          rising = final.rising;
+          stand = λ its has. final.stand its (known_there done its has);
+        };
+        replayed = replayed;
+      }

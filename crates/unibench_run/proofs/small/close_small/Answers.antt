@@ -1,0 +1,39 @@
+use Rattle.std.proofs.Common.{◌≡◌, ◌∙◌, List, Vec, Global, drop, flat_map, map, sym, subst}
+use Rattle.std.proofs.lemmas.List.Elements.{All-same}
+use Rattle.small_replay.specs.Placed.{placed}
+use Rattle.small_replay.specs.Replay.{IsReplayed}
+use Rattle.small_replay.specs.declared.placed.InPlace.{InPlace}
+use Rattle.uni_small.specs.Belongs.{IsSeatOf, known_calls, processes_of}
+use Rattle.uni_small.specs.Final.{IsFinal}
+use Rattle.unibench_run.specs.Small.{IsSmallRun}
+use Rattle.unibench_run.proofs.ToldSmall.{few_told, small_run, small_seats}
+use Rattle.unibench_run.proofs.small.close_small.Goals as goal
+
+pub close_and_replay-requires-clause-seats : goal.close_and_replay-requires-clause-seats
+close_and_replay-requires-clause-seats g c =
+    let plan = c.args.plan.now in
+    All-same (IsSeatOf c.args.shared) _ _ c.in_ok-seats.ensures.seats
+    (small_seats c.args.shared g.O.Call.Words.encode g.O.Reply.Words.decode g.O.DrawnCalls.call_of_word plan.calls plan.seed c.args.done.items c.requires.done)
+
+pub close_and_replay-requires-clause-few : goal.close_and_replay-requires-clause-few
+close_and_replay-requires-clause-few g c =
+    let plan = c.args.plan.now in
+    let few = few_told c.args.shared g.O.Call.Words.encode g.O.Reply.Words.decode g.O.DrawnCalls.call_of_word plan.calls plan.seed c.args.done.items c.requires.done c.requires.few.0 c.requires.few.1 in
+    rw (c.deref.ensures.value ∙ c.in_ok-seats.ensures.told) few
+
+pub returns-clause-told : goal.returns-clause-told
+returns-clause-told g c =
+    let C : Type 0 = g.row.O-Call.Denot in
+    let R : Type 0 = g.row.O-Reply.Denot in
+    let plan = c.args.plan.now in
+    let shared = c.args.shared in
+    let meaning = g.O.SmallObject.meaning c.args.object.now in
+    let asks = g.O.Call.Words.encode in
+    let tells = g.O.Reply.Words.encode in
+    let reads = g.O.Reply.Words.decode in
+    let closed = c.in_ok-close_and_replay.ensures.closed in
+    let final = subst (λ seats. IsFinal (placed meaning).object (processes_of shared) (flat_map known_calls seats) closed.0) c.in_ok-seats.ensures.seats closed.1 in
+    let replayed = subst (λ (lists : List (Vec (C × InPlace R) Global)). IsReplayed meaning.object asks tells (map (λ own. own.items) lists) (drop 1 closed.0))
+    (c.deref.ensures.value ∙ c.in_ok-seats.ensures.told) closed.2 in
+    subst (λ (lists : List (Vec (C × InPlace R) Global)). IsSmallRun meaning asks tells reads g.O.DrawnCalls.call_of_word (processes_of shared) plan.calls plan.seed (map (λ own. own.items) lists))
+    (sym c.in_ok-seats.ensures.told) (small_run shared asks reads g.O.DrawnCalls.call_of_word plan.calls plan.seed c.args.done.items c.requires.done meaning tells closed.0 final replayed)
