@@ -15,7 +15,7 @@ use Rattle.universal_c.specs.Asks.{AsksOf}
 use Rattle.universal_c.specs.Meaning.{meaning}
 use Rattle.universal_c.specs.declared.object.Object.{Object}
 use Rattle.universal_c.specs.declared.held.Held.{Held}
-use Rattle.universal_c.specs.declared.held.Held.TheVariants.{Log, Seat, Entries, Nothing}
+use Rattle.universal_c.specs.declared.held.Held.TheVariants.{Log, Seat, Entries, Small, Place, Nothing}
 
 -- the log that a handle has, or whose seat it has
 abbrev pub log_in : Option Held → Option (WordLog Object)
@@ -23,6 +23,8 @@ log_in None = None
 log_in (Some (Log l)) = Some l.log.value
 log_in (Some (Seat s)) = Some s.log.value
 log_in (Some (Entries e)) = None
+log_in (Some (Small s)) = None
+log_in (Some (Place p)) = None
 log_in (Some Nothing) = None
 
 -- how many seats of its log a handle has still to give out
@@ -31,6 +33,8 @@ left_in None = None
 left_in (Some (Log l)) = Some (vec_len l.seats)
 left_in (Some (Seat s)) = None
 left_in (Some (Entries e)) = None
+left_in (Some (Small s)) = None
+left_in (Some (Place p)) = None
 left_in (Some Nothing) = None
 
 -- the seat that a handle has
@@ -39,6 +43,8 @@ seat_in None = None
 seat_in (Some (Log l)) = None
 seat_in (Some (Seat s)) = Some s.seat
 seat_in (Some (Entries e)) = None
+seat_in (Some (Small s)) = None
+seat_in (Some (Place p)) = None
 seat_in (Some Nothing) = None
 
 -- the entries of a closed log that a handle has
@@ -47,6 +53,8 @@ entries_in None = None
 entries_in (Some (Log l)) = None
 entries_in (Some (Seat s)) = None
 entries_in (Some (Entries e)) = Some e.items
+entries_in (Some (Small s)) = None
+entries_in (Some (Place p)) = None
 entries_in (Some Nothing) = None
 
 -- a log of this object, with as many processes and calls, none of whose seats was given out

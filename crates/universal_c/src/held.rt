@@ -1,4 +1,4 @@
-//! What a handle holds: a log with its seats, a seat, or the entries of a closed log.
+//! What a handle holds: a log with its seats, a seat, the entries of a closed log, or a small object.
 ghost use Rattle.std.specs.Prelude.{◌≡◌, ◌==◌, ◌+◌, ◌*◌, ◌<◌, ◌≤◌, ◌++◌, ◌∷◌};
 ghost use Rattle.std.specs.Prelude.{◌↔◌, ◌⊎◌, All, [], map, vec_len, IfOk, IfErr, IsErr, IsErrOf, OnOk, OnErr};
 ghost use Rattle.seq_object.specs.History.{IsLegal};
@@ -11,6 +11,7 @@ ghost use Rattle.universal_c.specs.Asks.{AsksOf};
 ghost use Rattle.universal_c.specs.Meaning.{meaning};
 
 use crate::object::Object;
+use crate::small::{SmallOpened, SmallPlace};
 use seq_object::CallId;
 use std::alloc::Global;
 use std::sync::Arc;
@@ -41,6 +42,10 @@ pub enum Held {
     Seat(Seated),
     /// The calls of a log that was closed, in order.
     Entries(Vec<WordEntry>),
+    /// A small object, with the seats that are left.
+    Small(SmallOpened),
+    /// A seat of a small object.
+    Place(SmallPlace),
     /// Nothing: what it held was lost at a closing that was refused memory.
     Nothing,
 }

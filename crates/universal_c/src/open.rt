@@ -28,7 +28,7 @@ fn status_of(fault: WordOpenFault) -> u32
 }
 
 /// Puts what is held into a handle, and drops what the handle had.
-fn put(alloc: Global, out: &mut Handle, held: Held) -> u32
+pub(crate) fn put(alloc: Global, out: &mut Handle, held: Held) -> u32
     ensures status { (result ≡ 0) ⊎ (result ≡ 3) }
     ensures done { result ≡ 0 → out.new.value ≡ Some held }
     ensures same { result ≢ 0 → out.new ≡ out.old }
