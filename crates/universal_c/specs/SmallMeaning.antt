@@ -1,5 +1,5 @@
 -- What a small object means, and how many words it has.
-use Rattle.std.specs.Prelude.{◌≡◌, ℕ, ◌+◌, ◌*◌, List, [], length, refl}
+use Rattle.std.specs.Prelude.{◌≡◌, ℕ, ◌+◌, ◌*◌, [], length, refl}
 use Rattle.std.proofs.Common.{◌∙◌, arith, length-set}
 use Rattle.std.proofs.lemmas.List.{length-replicate}
 use Rattle.uni_small.specs.Image.{IsSteady, Meaning}
