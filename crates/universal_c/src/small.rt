@@ -112,8 +112,8 @@ impl SmallOpened {
         ensures busy { IfErr result (λ opened. (opened.shared ≡ self.shared)
             × (vec_len opened.seats ≡ vec_len self.seats)) }
         ensures unchanged { OnErr result (state.new ≡ state.old) }
-        ensures told { let shared = self.shared.value in OnOk result
-            (IsFinal (small_meaning (object_of shared)).object (processes_of shared) [] state.new) }
+        ensures told { let shared = self.shared.value in let object = (small_meaning (object_of shared)).object in
+            OnOk result (IsFinal object (processes_of shared) [] state.new) }
     {
         let SmallOpened { shared, seats } = self;
         match Arc::try_unwrap(shared) {
@@ -180,8 +180,8 @@ impl SmallPlace {
         requires wide { length state.old ≡ width_of self.shared.value }
         ensures busy { IfErr result (λ place. (place.shared ≡ self.shared) × (place.seat ≡ self.seat)) }
         ensures unchanged { OnErr result (state.new ≡ state.old) }
-        ensures told { let shared = self.shared.value in OnOk result
-            (IsFinal (small_meaning (object_of shared)).object (processes_of shared) (known_calls self.seat) state.new) }
+        ensures told { let shared = self.shared.value in let object = (small_meaning (object_of shared)).object in
+            OnOk result (IsFinal object (processes_of shared) (known_calls self.seat) state.new) }
     {
         let SmallPlace { shared, seat } = self;
         match Arc::try_unwrap(shared) {

@@ -2,8 +2,8 @@
 ghost use Rattle.std.specs.Prelude.{◌≡◌, ◌≢◌, ◌↔◌, ◌⊎◌, ◌<◌, ◌≤◌};
 ghost use Rattle.universal_c.specs.SmallCalls.{HasOpenedSmall};
 ghost use Rattle.universal_c.specs.SmallMeaning.{state_words};
-ghost use Rattle.universal_c.specs.declared.small_kind.SmallKind.TheVariants.{Counter, Register, Counters, Queue, Stack};
-ghost use Rattle.universal_c.specs.declared.small_kind.SmallKind.TheVariants.{Map, Book};
+ghost use Rattle.universal_c.specs.declared.small_kind.SmallKind.TheVariants.{Book, Counter, Counters, Map};
+ghost use Rattle.universal_c.specs.declared.small_kind.SmallKind.TheVariants.{Queue, Register, Stack};
 
 use crate::handle::Handle;
 use crate::held::Held;

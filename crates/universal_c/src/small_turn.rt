@@ -1,8 +1,8 @@
 //! Taking a seat of a small object, and a call by it.
 ghost use Rattle.std.specs.Prelude.{◌≡◌, ◌≢◌, ◌↔◌, ◌⊎◌, ◌+◌, vec_len};
 ghost use Rattle.std.specs.declared.option.Option.TheVariants.{None, Some};
-ghost use Rattle.universal_c.specs.SmallCalls.{HasAskedVersion, HasCalledSmall, HasFirstPlace, HasOtherWidths, HasWidths};
-ghost use Rattle.universal_c.specs.SmallCalls.{IsSpent, place_in, shared_in, small_left_in};
+ghost use Rattle.universal_c.specs.SmallCalls.{HasAskedVersion, HasCalledSmall, HasFirstPlace, HasOtherWidths};
+ghost use Rattle.universal_c.specs.SmallCalls.{HasWidths, IsSpent, place_in, shared_in, small_left_in};
 
 use crate::handle::Handle;
 use crate::held::Held;
