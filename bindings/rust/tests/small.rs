@@ -1,6 +1,8 @@
 //! Small objects: each call on its happy path, each refusal, and what its types keep.
 use std::num::NonZeroU64;
-use universal::small::{Book, BookFault, Busy, Counter, Counters, Map, PutFault, Queue, Register, Small, SmallSeat, Stack};
+use universal::small::{
+    Book, BookFault, Busy, Counter, Counters, Map, PutFault, Queue, Register, Small, SmallSeat, Stack,
+};
 use universal::Fault;
 
 fn number(of: u64) -> NonZeroU64 {
