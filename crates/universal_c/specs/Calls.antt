@@ -16,40 +16,23 @@ use Rattle.universal_c.specs.Asks.{AsksOf}
 use Rattle.universal_c.specs.Meaning.{meaning}
 use Rattle.universal_c.specs.declared.object.Object.{Object}
 use Rattle.universal_c.specs.declared.held.Held.{Held}
-use Rattle.universal_c.specs.declared.held.Held.TheVariants.{Log, Seat, Closed, Entries, Small, Place, Nothing}
+use Rattle.universal_c.specs.declared.held.Held.TheVariants.{Log, Seat, Closed, Entries}
 
 -- the log that a handle has, or whose seat it has
 abbrev pub log_in : Option Held → Option (WordLog Object)
-log_in None = None
 log_in (Some (Log l)) = Some l.log.value
 log_in (Some (Seat s)) = Some s.log.value
-log_in (Some (Entries e)) = None
-log_in (Some (Closed words)) = None
-log_in (Some (Small s)) = None
-log_in (Some (Place p)) = None
-log_in (Some Nothing) = None
+log_in _ = None
 
 -- how many seats of its log a handle has still to give out
 abbrev pub left_in : Option Held → Option ℕ
-left_in None = None
 left_in (Some (Log l)) = Some (vec_len l.seats)
-left_in (Some (Seat s)) = None
-left_in (Some (Entries e)) = None
-left_in (Some (Closed words)) = None
-left_in (Some (Small s)) = None
-left_in (Some (Place p)) = None
-left_in (Some Nothing) = None
+left_in _ = None
 
 -- the seat that a handle has
 abbrev pub seat_in : Option Held → Option WordSeat
-seat_in None = None
-seat_in (Some (Log l)) = None
 seat_in (Some (Seat s)) = Some s.seat
-seat_in (Some (Entries e)) = None
-seat_in (Some (Closed words)) = None
-seat_in (Some (Small s)) = None
-seat_in (Some (Place p)) = None
-seat_in (Some Nothing) = None
+seat_in _ = None
 
 -- the log that was closed and is still to be read
 abbrev pub unread_in : Option Held → Option (List (Entry ℕ ℕ))
@@ -64,14 +47,8 @@ closed_in _ = None
 
 -- the entries of a closed log that a handle has
 abbrev pub entries_in : Option Held → Option (List WordEntry)
-entries_in None = None
-entries_in (Some (Log l)) = None
-entries_in (Some (Seat s)) = None
 entries_in (Some (Entries e)) = Some e.items
-entries_in (Some (Closed words)) = None
-entries_in (Some (Small s)) = None
-entries_in (Some (Place p)) = None
-entries_in (Some Nothing) = None
+entries_in _ = None
 
 -- a log of this object, with as many processes and calls, none of whose seats was given out
 abbrev pub HasOpened : (new : Option Held) → Object → (n k : ℕ) → Type 0
