@@ -34,7 +34,7 @@ extern "C" {
 #endif
 
 /* The version of this header and of the library: major, minor and patch as 10000 * major + 100 * minor + patch. */
-#define UNIVERSAL_VERSION 100
+#define UNIVERSAL_VERSION 200
 
 /* A small object, a log, a seat of either, the entries of a closed log, or nothing. */
 typedef struct universal_handle {
