@@ -91,7 +91,7 @@ static inline const char *universal_strerror(uint32_t status) {
  * be the initial value of an array:
  *
  *     const uint64_t insert[] = UNIVERSAL_MAP_INSERT(7, 70);
- *     uint64_t reply[2], version;
+ *     uint64_t reply[2] = {0}, version = 0;
  *     universal_small_apply(&seat, insert, 3, reply, 2, &version);
  *
  * object       invocation   reply   state

@@ -74,15 +74,15 @@ static void use_small(uint32_t (*open)(universal_handle *)) {
     long before = asked;
     for (uint64_t i = 0; i < 6; i++) {
         const uint64_t insert[] = UNIVERSAL_MAP_INSERT(i % 3, i + 1);
-        uint64_t reply[2], version;
-        uint32_t has_come;
+        uint64_t reply[2] = {0}, version = 0;
+        uint32_t has_come = 0;
         expect(universal_small_apply(&seats[i % 2], insert, 3, reply, 2, &version) == UNIVERSAL_DONE, "a call is done");
         expect(reply[1] == (i < 3 ? 0 : i - 2), "it is told the value before");
         expect(universal_small_follows(&seats[(i + 1) % 2], version, &has_come) == UNIVERSAL_DONE && has_come, "it has come");
     }
     universal_drop(&object);
     universal_drop(&seats[1]);
-    uint64_t state[7];
+    uint64_t state[7] = {0};
     expect(universal_small_close(&seats[0], state, 7) == UNIVERSAL_DONE && state[0] == 3, "the object closes");
     expect(asked == before, "calls and closing take no memory");
 }

@@ -43,7 +43,7 @@ static universal_handle only_seat(universal_handle *object) {
 }
 
 static void closes(universal_handle *handle, const uint64_t *wanted, size_t count) {
-    uint64_t state[16];
+    uint64_t state[16] = {0};
     IS(universal_small_close(handle, state, count), UNIVERSAL_DONE);
     IS(memcmp(state, wanted, 8 * count), 0);
     IS(handle->at != NULL, 0);

@@ -123,7 +123,7 @@ static void *chain(void *it) {
 
 static void map(void) {
     universal_handle object = UNIVERSAL_NONE;
-    uint64_t state[1 + 2 * KEYS], found = 0;
+    uint64_t state[1 + 2 * KEYS] = {0}, found = 0;
     before = room(4), followed = room(4), place = room(4);
     expect(universal_open_map(threads, KEYS, &object) == UNIVERSAL_DONE, "a map opens");
     shared(&object, chain, state, 1 + 2 * KEYS);
@@ -199,7 +199,7 @@ static void in_order(uint64_t count) {
 
 static void queue(void) {
     universal_handle object = UNIVERSAL_NONE;
-    uint64_t state[1 + MOST];
+    uint64_t state[1 + MOST] = {0};
     passages = room(sizeof(passage));
     expect(universal_open_queue(threads, MOST, &object) == UNIVERSAL_DONE, "a queue opens");
     shared(&object, pass_on, state, 1 + MOST);
