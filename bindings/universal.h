@@ -1,8 +1,12 @@
-/* Shared objects that no thread can hold up: a tally, a sticky register, a register and a machine of two tables.
+/* Objects that threads share, and that no thread can hold up. A call takes no lock and no memory, and ends within a number
+ * of steps on shared words that is told beforehand, whatever the other threads do. All calls have one order, in which each
+ * has the reply that it was given.
  *
- * A log is an object that n processes share. Each process has a seat, by which it makes up to k calls. A call takes no
- * lock and no memory, and ends within 12n + 15 steps on shared words, whatever the other threads do. All calls have one
- * order: the log is a history of the object in which each call has the reply that it was given.
+ * n processes share an object, from 1 to 64. Each has a seat, by which it makes its calls. There are two kinds:
+ *   - a small object: a counter, a register, an array of counters, a queue, a stack, a map, or a book of accounts, on words
+ *     of 64 bits. Its seats make calls without end, and it keeps no history.
+ *   - a log: a tally, a sticky register, a register, or a machine of two tables, on words of 31 bits. A seat makes up to k
+ *     calls, at most 4,096, and the closed log tells all of them in their order.
  *
  * The functions of this file are proved in crates/universal_c. What a caller owes is written here, and nothing checks it.
  *
@@ -30,9 +34,9 @@ extern "C" {
 #endif
 
 /* The version of this header and of the library: major, minor and patch as 10000 * major + 100 * minor + patch. */
-#define UNIVERSAL_VERSION 100
+#define UNIVERSAL_VERSION 200
 
-/* A log, a seat, the entries of a closed log, or nothing. */
+/* A small object, a log, a seat of either, the entries of a closed log, or nothing. */
 typedef struct universal_handle {
     void *at; /* null where it has nothing; else of no use to a caller */
 } universal_handle;
@@ -51,12 +55,14 @@ typedef enum universal_status {
     UNIVERSAL_BAD_COUNT = 1,    /* n isn't from 1 to 64 */
     UNIVERSAL_BAD_ROW = 2,      /* k isn't from 1 to 4096 */
     UNIVERSAL_MEMORY = 3,       /* memory was refused */
-    UNIVERSAL_FULL = 4,         /* the seat has made its k calls */
+    UNIVERSAL_FULL = 4,         /* the seat has made its k calls; of a small object, its 2^50 calls */
     UNIVERSAL_NO_SEAT = 5,      /* all n seats are given out */
-    UNIVERSAL_BUSY = 6,         /* another handle still has the log */
+    UNIVERSAL_BUSY = 6,         /* another handle still has the log or the object */
     UNIVERSAL_WRONG_HANDLE = 7, /* the handle hasn't what the call is for */
     UNIVERSAL_BAD_TABLE = 8,    /* the tables aren't those of a machine */
-    UNIVERSAL_DIFFERS = 9       /* the closed log has other calls of the process */
+    UNIVERSAL_DIFFERS = 9,      /* the closed log has other calls of the process */
+    UNIVERSAL_BAD_CAPACITY = 10, /* a state would have more than 65,536 words */
+    UNIVERSAL_BAD_WIDTH = 11    /* these aren't as many words as those of the object */
 } universal_status;
 
 /* What a status says, in words; "no status" of any other number. The text stays for good. */
@@ -68,13 +74,151 @@ static inline const char *universal_strerror(uint32_t status) {
     case UNIVERSAL_MEMORY: return "memory was refused";
     case UNIVERSAL_FULL: return "the seat has made all its calls";
     case UNIVERSAL_NO_SEAT: return "all seats are given out";
-    case UNIVERSAL_BUSY: return "another handle still has the log";
+    case UNIVERSAL_BUSY: return "another handle still has the log or the object";
     case UNIVERSAL_WRONG_HANDLE: return "the handle hasn't what the call is for";
     case UNIVERSAL_BAD_TABLE: return "the tables aren't those of a machine";
     case UNIVERSAL_DIFFERS: return "the closed log has other calls of the process";
+    case UNIVERSAL_BAD_CAPACITY: return "a state would have more than 65536 words";
+    case UNIVERSAL_BAD_WIDTH: return "these aren't as many words as those of the object";
     default: return "no status";
     }
 }
+
+/* ------------------------------------------------------------------------------------------------------------------
+ * Small objects
+ *
+ * An invocation, a reply and a state are each so many words, as the table says. A macro makes the words of an invocation, to
+ * be the initial value of an array:
+ *
+ *     const uint64_t insert[] = UNIVERSAL_MAP_INSERT(7, 70);
+ *     uint64_t reply[2] = {0}, version = 0;
+ *     universal_small_apply(&seat, insert, 3, reply, 2, &version);
+ *
+ * object       invocation   reply   state
+ * counter      1            1       1
+ * register64   3            1       1
+ * counters     2            1       count
+ * queue        1            1       1 + capacity: how many numbers, and then they, the oldest first
+ * stack        1            1       1 + capacity: how many numbers, and then they, the newest last
+ * map          3            2       1 + 2 * capacity: how many keys, and then each with its value, the oldest key first
+ * book         4            2       16: the balances
+ *
+ * Where a state has W words, an invocation I and a reply R, a call takes at most 4W + (6 + 2I + 4R)n + I + R + 8 steps on
+ * shared words.
+ * ------------------------------------------------------------------------------------------------------------------ */
+
+/* Opens a counter modulo 2^64, 0 at the start, for n processes. A call adds its number, and is answered the sum before.
+ *
+ * UNIVERSAL_BAD_COUNT, UNIVERSAL_MEMORY, in this order; after either *object is as it was. After UNIVERSAL_DONE it has the
+ * object, and what it had before is dropped. */
+uint32_t universal_open_counter(uint64_t n, universal_handle *object);
+
+#define UNIVERSAL_COUNTER_ADD(number) {(uint64_t)(number)}
+
+/* Opens a register of 64 bits, 0 at the start. Each call is answered the value before; so a compare-and-exchange has
+ * written where that is the expected one. Other words than those of the macros read.
+ * The statuses are those of universal_open_counter. */
+uint32_t universal_open_register64(uint64_t n, universal_handle *object);
+
+#define UNIVERSAL_REGISTER64_READ {0, 0, 0}
+#define UNIVERSAL_REGISTER64_WRITE(value) {1, (uint64_t)(value), 0}
+#define UNIVERSAL_REGISTER64_COMPARE_EXCHANGE(expected, value) {2, (uint64_t)(expected), (uint64_t)(value)}
+
+/* Opens an array of `count` counters modulo 2^64, each 0 at the start. A call adds a number to one of them, by its index from
+ * 0, and is answered the sum before. One that names none changes nothing, and is answered 0.
+ *
+ * UNIVERSAL_BAD_COUNT; UNIVERSAL_BAD_CAPACITY where count is more than 65,536; UNIVERSAL_MEMORY; in this order. After each
+ * *object is as it was. */
+uint32_t universal_open_counters(uint64_t n, uint32_t count, universal_handle *object);
+
+#define UNIVERSAL_COUNTERS_ADD(index, number) {(uint64_t)(index), (uint64_t)(number)}
+
+/* Opens a queue of at most `capacity` numbers that aren't 0. A number that is put in is answered 1, or 0 where the queue is
+ * full. Taking the oldest number out is answered it, or 0 where there is none. To put 0 in is to take one out.
+ *
+ * UNIVERSAL_BAD_COUNT; UNIVERSAL_BAD_CAPACITY where capacity is more than 65,535; UNIVERSAL_MEMORY; in this order. After each
+ * *object is as it was. */
+uint32_t universal_open_queue(uint64_t n, uint32_t capacity, universal_handle *object);
+
+#define UNIVERSAL_QUEUE_PUT(number) {(uint64_t)(number)}
+#define UNIVERSAL_QUEUE_TAKE {0}
+
+/* Opens a stack of at most `capacity` numbers that aren't 0. It is as the queue is, but that the newest number comes off.
+ * The statuses are those of universal_open_queue. */
+uint32_t universal_open_stack(uint64_t n, uint32_t capacity, universal_handle *object);
+
+#define UNIVERSAL_STACK_PUSH(number) {(uint64_t)(number)}
+#define UNIVERSAL_STACK_POP {0}
+
+/* Opens a map from words to words, of at most `capacity` keys. The reply is UNIVERSAL_MAP_VALUE and the value that the key had
+ * before the call, or UNIVERSAL_MAP_ABSENT and 0. It is UNIVERSAL_MAP_FULL and 0 where a new key has no room: the map stays as
+ * it is. Other words than those of the macros get.
+ * The statuses are those of universal_open_queue, with UNIVERSAL_BAD_CAPACITY where capacity is more than 32,767. */
+uint32_t universal_open_map(uint64_t n, uint32_t capacity, universal_handle *object);
+
+#define UNIVERSAL_MAP_GET(key) {0, (uint64_t)(key), 0}
+#define UNIVERSAL_MAP_INSERT(key, value) {1, (uint64_t)(key), (uint64_t)(value)}
+#define UNIVERSAL_MAP_REMOVE(key) {2, (uint64_t)(key), 0}
+
+enum { UNIVERSAL_MAP_ABSENT = 0, UNIVERSAL_MAP_VALUE = 1, UNIVERSAL_MAP_FULL = 2 };
+
+/* Opens a book of sixteen accounts, 0 to 15, each with a balance from 0 to 999,999,999,999 that is 0 at the start. Where an
+ * account or an amount of a call is none, it asks for the total. The first word of a reply says which one it is:
+ *   UNIVERSAL_BOOK_BALANCE, with the balance after a deposit or a withdrawal;
+ *   UNIVERSAL_BOOK_MOVED;
+ *   UNIVERSAL_BOOK_OVER, where a balance would be too great, and nothing is changed;
+ *   UNIVERSAL_BOOK_SHORT, where a balance is too small, and nothing is changed;
+ *   UNIVERSAL_BOOK_SUM, with the sum of all balances.
+ * The statuses are those of universal_open_counter. */
+uint32_t universal_open_book(uint64_t n, universal_handle *object);
+
+#define UNIVERSAL_BOOK_DEPOSIT(account, amount) {0, (uint64_t)(account), 0, (uint64_t)(amount)}
+#define UNIVERSAL_BOOK_WITHDRAW(account, amount) {1, (uint64_t)(account), 0, (uint64_t)(amount)}
+#define UNIVERSAL_BOOK_MOVE(from, to, amount) {2, (uint64_t)(from), (uint64_t)(to), (uint64_t)(amount)}
+#define UNIVERSAL_BOOK_TOTAL {3, 0, 0, 0}
+
+enum {
+    UNIVERSAL_BOOK_BALANCE = 0,
+    UNIVERSAL_BOOK_OVER = 1,
+    UNIVERSAL_BOOK_SHORT = 2,
+    UNIVERSAL_BOOK_MOVED = 3,
+    UNIVERSAL_BOOK_SUM = 4
+};
+
+/* Gives out the next seat of a small object: that of the greatest process that has none yet. *process is which it is. What
+ * *seat had before is dropped. A seat may be used, and closed, after the object's own handle is dropped.
+ *
+ * UNIVERSAL_WRONG_HANDLE: *object has no small object. UNIVERSAL_NO_SEAT: all are given out. UNIVERSAL_MEMORY: no seat is
+ * lost. In this order; after each *seat and *process are as they were. */
+uint32_t universal_small_seat(universal_handle *object, universal_handle *seat, uint64_t *process);
+
+/* A call by a seat of a small object. Versions count from 0, the start; *version is one that the call is in, and greater than
+ * each that the seat has had.
+ *
+ * UNIVERSAL_WRONG_HANDLE: *seat has no seat of a small object. UNIVERSAL_BAD_WIDTH: the invocation or the reply hasn't as many
+ * words as those of the object. UNIVERSAL_FULL: the seat has made 2^50 calls. In this order; after each nothing is changed. */
+uint32_t universal_small_apply(universal_handle *seat, const uint64_t *invocation, size_t invocation_count, uint64_t *reply,
+                               size_t reply_count, uint64_t *version);
+
+/* Asks whether a version has come, by one load: *has_come is 1 or 0. 1: all later calls of this seat come after all calls that
+ * are in that version. It is always 1 of a version that a call was answered, so that whoever was told so can rely on it.
+ *
+ * UNIVERSAL_WRONG_HANDLE: *seat has no seat of a small object, and nothing is changed. */
+uint32_t universal_small_follows(universal_handle *seat, uint64_t version, uint32_t *has_come);
+
+/* Closes a small object, by the last handle that has it, and writes its last state: that after all calls. The handle is the
+ * object's own or that of a seat, and has nothing afterwards. It takes no memory. Where all seats are lost, as with a thread
+ * that died, the object's own handle closes it: drop the seats' handles before.
+ *
+ * UNIVERSAL_WRONG_HANDLE: *handle has neither. UNIVERSAL_BAD_WIDTH: a state hasn't so many words. UNIVERSAL_BUSY: another
+ * handle has the object. In this order; after each *handle and the words are as they were. */
+uint32_t universal_small_close(universal_handle *handle, uint64_t *state, size_t state_count);
+
+/* ------------------------------------------------------------------------------------------------------------------
+ * Logs
+ *
+ * A call of a log ends within 12n + 15 steps on shared words.
+ * ------------------------------------------------------------------------------------------------------------------ */
 
 /* A reply. */
 typedef struct universal_reply {
@@ -132,8 +276,8 @@ uint32_t universal_open_register(uint64_t n, uint64_t k, universal_handle *log);
  * of inv i is answered reply[s * invocations + i], and next[s * invocations + i] is the state after it.
  *
  * UNIVERSAL_BAD_TABLE: states isn't from 1 to 2^31; or invocations is 0; or a table hasn't states * invocations entries;
- * or an entry of `next` isn't below states; or one of `reply` isn't below 2^31. It comes before UNIVERSAL_BAD_COUNT and
- * UNIVERSAL_BAD_ROW. UNIVERSAL_MEMORY can come before it, as the tables are copied first. After each *log is as it was. */
+ * or an entry of `next` isn't below states; or one of `reply` isn't below 2^31. Then come the statuses of
+ * universal_open_tally. After each *log is as it was. */
 uint32_t universal_open_machine(uint64_t n, uint64_t k, uint32_t states, uint32_t invocations, const uint32_t *next,
                                 size_t next_count, const uint32_t *reply, size_t reply_count, universal_handle *log);
 
@@ -161,7 +305,8 @@ uint32_t universal_follows(universal_handle *seat, uint64_t process, uint64_t nt
  * Afterwards *seat has the entries in place of the seat.
  *
  * UNIVERSAL_WRONG_HANDLE: *seat has no seat. UNIVERSAL_BUSY: another handle has the log. After either *seat is as it was.
- * UNIVERSAL_MEMORY: the log is lost, and *seat has nothing that a call is for. */
+ * UNIVERSAL_MEMORY: the log is closed, but its entries could not be read: *seat has it in place of the seat, and a further
+ * universal_close reads them. */
 uint32_t universal_close(universal_handle *seat);
 
 /* Writes the first entries of a closed log in their order, up to `capacity`, and to *count how many there are in all.

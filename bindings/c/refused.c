@@ -13,8 +13,7 @@ static void expect(bool holds, const char *what) {
     }
 }
 
-/* A use, in which a refused call is made again: all goes on as if nothing had been refused. A refused closing loses the
- * log, and so ends the use. */
+/* A use, in which a refused call is made again: all goes on as if nothing had been refused. */
 static void use(uint32_t (*open)(universal_handle *)) {
     universal_handle log = UNIVERSAL_NONE, seats[2] = {UNIVERSAL_NONE, UNIVERSAL_NONE};
     uint32_t status = open(&log);
@@ -44,12 +43,52 @@ static void use(uint32_t (*open)(universal_handle *)) {
     size_t count = 0;
     status = universal_close(&seats[0]);
     if (status == UNIVERSAL_MEMORY) {
-        expect(universal_read(&seats[0], entries, 6, &count) == UNIVERSAL_WRONG_HANDLE, "the log is lost");
-    } else {
-        expect(status == UNIVERSAL_DONE, "the log closes");
-        expect(universal_read(&seats[0], entries, 6, &count) == UNIVERSAL_DONE && count == 6, "it has each call");
+        universal_reply answer = {0, 0};
+        expect(universal_read(&seats[0], entries, 6, &count) == UNIVERSAL_WRONG_HANDLE, "it isn't read yet");
+        expect(universal_apply(&seats[0], 1, &answer) == UNIVERSAL_WRONG_HANDLE, "it is closed");
+        status = universal_close(&seats[0]);
     }
+    expect(status == UNIVERSAL_DONE, "the log closes");
+    expect(universal_read(&seats[0], entries, 6, &count) == UNIVERSAL_DONE && count == 6, "it has each call");
     universal_drop(&seats[0]);
+}
+
+/* The same with a small object. */
+static void use_small(uint32_t (*open)(universal_handle *)) {
+    universal_handle object = UNIVERSAL_NONE, seats[2] = {UNIVERSAL_NONE, UNIVERSAL_NONE};
+    uint32_t status = open(&object);
+    if (status == UNIVERSAL_MEMORY) {
+        expect(object.at == NULL, "the handle is as it was");
+        status = open(&object);
+    }
+    expect(status == UNIVERSAL_DONE, "an object opens");
+    for (uint64_t t = 0; t < 2; t++) {
+        uint64_t process = 9;
+        status = universal_small_seat(&object, &seats[t], &process);
+        if (status == UNIVERSAL_MEMORY) {
+            expect(seats[t].at == NULL && process == 9, "the seat's handle is as it was");
+            status = universal_small_seat(&object, &seats[t], &process);
+        }
+        expect(status == UNIVERSAL_DONE && process == 1 - t, "no seat is lost");
+    }
+    long before = asked;
+    for (uint64_t i = 0; i < 6; i++) {
+        const uint64_t insert[] = UNIVERSAL_MAP_INSERT(i % 3, i + 1);
+        uint64_t reply[2] = {0}, version = 0;
+        uint32_t has_come = 0;
+        expect(universal_small_apply(&seats[i % 2], insert, 3, reply, 2, &version) == UNIVERSAL_DONE, "a call is done");
+        expect(reply[1] == (i < 3 ? 0 : i - 2), "it is told the value before");
+        expect(universal_small_follows(&seats[(i + 1) % 2], version, &has_come) == UNIVERSAL_DONE && has_come, "it has come");
+    }
+    universal_drop(&object);
+    universal_drop(&seats[1]);
+    uint64_t state[7] = {0};
+    expect(universal_small_close(&seats[0], state, 7) == UNIVERSAL_DONE && state[0] == 3, "the object closes");
+    expect(asked == before, "calls and closing take no memory");
+}
+
+static uint32_t map(universal_handle *object) {
+    return universal_open_map(2, 3, object);
 }
 
 static uint32_t tally(universal_handle *log) {
@@ -61,11 +100,11 @@ static uint32_t machine(universal_handle *log) {
     return universal_open_machine(2, 3, 2, 2, next, 4, reply, 4, log);
 }
 
-static long each(uint32_t (*open)(universal_handle *)) {
+static long each(void (*run)(uint32_t (*)(universal_handle *)), uint32_t (*open)(universal_handle *)) {
     long last = 0;
     for (refused = 1;; refused++) {
         asked = 0;
-        use(open);
+        run(open);
         if (asked < refused)
             return last;
         last = refused;
@@ -73,8 +112,13 @@ static long each(uint32_t (*open)(universal_handle *)) {
 }
 
 int main(void) {
-    long of_tally = each(tally), of_machine = each(machine);
-    expect(of_tally > 0 && of_machine > of_tally, "there were allocations to refuse");
-    printf("refused: %ld and %ld allocations, each in turn\n", of_tally, of_machine);
+    const uint32_t outside[] = {0, 1, 2, 0};
+    universal_handle log = UNIVERSAL_NONE;
+    refused = 1;
+    expect(universal_open_machine(2, 3, 2, 2, outside, 4, outside, 4, &log) == UNIVERSAL_BAD_TABLE && asked == 0,
+           "bad tables are told before memory is asked for");
+    long of_tally = each(use, tally), of_machine = each(use, machine), of_map = each(use_small, map);
+    expect(of_tally > 0 && of_machine > of_tally && of_map > 0, "there were allocations to refuse");
+    printf("refused: %ld, %ld and %ld allocations, each in turn\n", of_tally, of_machine, of_map);
     return 0;
 }

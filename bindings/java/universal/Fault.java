@@ -8,18 +8,28 @@ public enum Fault {
     BAD_ROW,
     /** Memory was refused. */
     MEMORY,
-    /** The seat has made its calls. */
+    /** The seat has made all its calls. */
     FULL,
     /** All seats are given out. */
     NO_SEAT,
-    /** Another handle has the log. */
+    /** Another handle has the log or the object. */
     BUSY,
     /** The handle hasn't what the call is for. */
     WRONG_HANDLE,
     /** The tables aren't those of a machine. */
     BAD_TABLE,
     /** The closed log has other calls of a process. */
-    DIFFERS;
+    DIFFERS,
+    /** A state would have more than 65,536 words. */
+    BAD_CAPACITY,
+    /** These aren't as many words as those of the object. No call of this package gets it. */
+    BAD_WIDTH,
+    /** A map has no room for a new key: no status of the library, but a reply. */
+    NO_ROOM,
+    /** A balance would be too great: a reply, too. */
+    OVER,
+    /** A balance is too small: a reply, too. */
+    SHORT;
 
     static Fault of(int status) {
         return values()[status - 1];

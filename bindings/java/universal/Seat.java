@@ -43,7 +43,7 @@ public final class Seat implements AutoCloseable {
 
     /**
      * Closes the log, by the last that has it: all calls, in their order. Refused: another has the log, and the seat stays;
-     * memory was refused, and the log is lost.
+     * memory was refused: the log is closed then, and a further call reads it.
      */
     public List<Entry> finish() throws Refused {
         return finish(Map.of());

@@ -23,6 +23,17 @@ final class Universal {
     static final MethodHandle OPEN_REGISTER = status("universal_open_register", JAVA_LONG, JAVA_LONG, ADDRESS);
     static final MethodHandle OPEN_MACHINE = status("universal_open_machine", JAVA_LONG, JAVA_LONG, JAVA_INT, JAVA_INT, ADDRESS,
             JAVA_LONG, ADDRESS, JAVA_LONG, ADDRESS);
+    static final MethodHandle OPEN_COUNTER = status("universal_open_counter", JAVA_LONG, ADDRESS);
+    static final MethodHandle OPEN_REGISTER64 = status("universal_open_register64", JAVA_LONG, ADDRESS);
+    static final MethodHandle OPEN_BOOK = status("universal_open_book", JAVA_LONG, ADDRESS);
+    static final MethodHandle OPEN_COUNTERS = status("universal_open_counters", JAVA_LONG, JAVA_INT, ADDRESS);
+    static final MethodHandle OPEN_QUEUE = status("universal_open_queue", JAVA_LONG, JAVA_INT, ADDRESS);
+    static final MethodHandle OPEN_STACK = status("universal_open_stack", JAVA_LONG, JAVA_INT, ADDRESS);
+    static final MethodHandle OPEN_MAP = status("universal_open_map", JAVA_LONG, JAVA_INT, ADDRESS);
+    static final MethodHandle SMALL_SEAT = status("universal_small_seat", ADDRESS, ADDRESS, ADDRESS);
+    static final MethodHandle SMALL_APPLY = status("universal_small_apply", ADDRESS, ADDRESS, JAVA_LONG, ADDRESS, JAVA_LONG, ADDRESS);
+    static final MethodHandle SMALL_FOLLOWS = status("universal_small_follows", ADDRESS, JAVA_LONG, ADDRESS);
+    static final MethodHandle SMALL_CLOSE = status("universal_small_close", ADDRESS, ADDRESS, JAVA_LONG);
     static final MethodHandle SEAT = status("universal_seat", ADDRESS, ADDRESS, ADDRESS);
     static final MethodHandle APPLY = status("universal_apply", ADDRESS, JAVA_LONG, ADDRESS);
     static final MethodHandle FOLLOWS = status("universal_follows", ADDRESS, JAVA_LONG, JAVA_LONG, ADDRESS);

@@ -1,4 +1,8 @@
-"""Shared objects that no thread can hold up: a tally, a sticky register, a register and a machine of two tables.
+"""Shared objects that no thread can hold up.
+
+`universal.small` has a counter, a register, a queue, a stack, a map and more on words of 64 bits, whose seats make calls
+without end. A `Log` is a tally, a sticky register, a register or a machine of two tables on words of 31 bits, and tells all
+its calls in the end.
 
 A `Log` is an object that n processes share. It gives out a `Seat` for each, and a seat makes up to k calls. A call
 takes no lock of its own and no memory, and ends within 12n + 15 steps on shared words, whatever the other threads do.
@@ -39,6 +43,8 @@ class Fault(IntEnum):
     WRONG_HANDLE = 7
     BAD_TABLE = 8
     DIFFERS = 9
+    BAD_CAPACITY = 10
+    BAD_WIDTH = 11
 
 
 class Refused(Exception):
@@ -112,6 +118,24 @@ _SIGNATURES = {
         c_size_t,
         POINTER(_Handle),
     ],
+    "universal_open_counter": [c_uint64, POINTER(_Handle)],
+    "universal_open_register64": [c_uint64, POINTER(_Handle)],
+    "universal_open_book": [c_uint64, POINTER(_Handle)],
+    "universal_open_counters": [c_uint64, c_uint32, POINTER(_Handle)],
+    "universal_open_queue": [c_uint64, c_uint32, POINTER(_Handle)],
+    "universal_open_stack": [c_uint64, c_uint32, POINTER(_Handle)],
+    "universal_open_map": [c_uint64, c_uint32, POINTER(_Handle)],
+    "universal_small_seat": [POINTER(_Handle), POINTER(_Handle), POINTER(c_uint64)],
+    "universal_small_apply": [
+        POINTER(_Handle),
+        POINTER(c_uint64),
+        c_size_t,
+        POINTER(c_uint64),
+        c_size_t,
+        POINTER(c_uint64),
+    ],
+    "universal_small_follows": [POINTER(_Handle), c_uint64, POINTER(c_uint32)],
+    "universal_small_close": [POINTER(_Handle), POINTER(c_uint64), c_size_t],
     "universal_seat": [POINTER(_Handle), POINTER(_Handle), POINTER(c_uint64)],
     "universal_apply": [POINTER(_Handle), c_uint64, POINTER(_Reply)],
     "universal_follows": [POINTER(_Handle), c_uint64, c_uint64, POINTER(c_uint32)],
@@ -176,12 +200,33 @@ class _Held:
         raise TypeError(f"a {type(self).__name__} can't be copied: it is one handle of the library")
 
 
-class Log(_Held):
-    """An object that n processes share, with the seats that are still to be given out."""
+class _Shared(_Held):
+    """What n processes share, with the seats that are still to be given out."""
 
     def __init__(self) -> None:
         super().__init__()
-        self._given: list[Seat] = []
+        self._given: list = []
+
+    def _id(self) -> int:
+        return id(self._lock)
+
+    def seats(self) -> list:
+        """All seats that are left, that of the greatest process first.
+
+        Raises `Refused`: memory; then those that were had are among those of the next call.
+        """
+        while True:
+            try:
+                self._given.append(self.seat())
+            except Refused as refused:
+                if refused.fault is not Fault.NO_SEAT:
+                    raise
+                given, self._given = self._given, []
+                return given
+
+
+class Log(_Shared):
+    """An object that n processes share, with the seats that are still to be given out."""
 
     @classmethod
     def _open(cls, function: Callable[..., int], *args: object) -> Log:
@@ -250,20 +295,6 @@ class Log(_Held):
         seat.process = process.value
         return seat
 
-    def seats(self) -> list[Seat]:
-        """All seats that are left, that of the greatest process first.
-
-        Raises `Refused`: memory; then those that were had are among those of the next call.
-        """
-        while True:
-            try:
-                self._given.append(self.seat())
-            except Refused as refused:
-                if refused.fault is not Fault.NO_SEAT:
-                    raise
-                given, self._given = self._given, []
-                return given
-
 
 class Seat(_Held):
     """A process of a log, which makes its calls. `process` is which it is."""
@@ -272,7 +303,7 @@ class Seat(_Held):
 
     def __init__(self, log: Log) -> None:
         super().__init__()
-        self._log_id = id(log._lock)
+        self._log_id = log._id()
 
     def __repr__(self) -> str:
         return "<Seat, closed>" if self._is_closed() else f"<Seat of process {self.process}>"
@@ -299,7 +330,7 @@ class Seat(_Held):
         has those of the process whose seat closes it is proved.
 
         Raises `ValueError`: a number of `told` has too many bits. Raises `Refused`: another has the log. The seat stays in
-        both. Raises `Refused`: memory was refused, and the log is lost. Raises `Differs`, for the first of these processes
+        both. Raises `Refused`: memory was refused; the log is closed then, and a further call reads it. Raises `Differs`, for the first of these processes
         of which the log has other calls: the log is let go.
         """
         lists = {
@@ -332,11 +363,12 @@ class Seat(_Held):
         return [Entry(e.seq, e.process, e.nth, e.inv, e.reply if e.is_replied else None) for e in entries[: count.value]]
 
 
-def in_threads(seats: Sequence[Seat], work: Callable[[Seat], object]) -> list[Entry]:
-    """Runs `work(seat)` for each seat in a thread of its own, joins them all, and closes the log: all calls, in their order.
+def in_threads(seats: Sequence, work: Callable[..., object]):
+    """Runs `work(seat)` for each seat in a thread of its own, joins them all, and closes what they are seats of: what `finish`
+    gives, which is all calls of a log, in their order, or the last state of a small object.
 
-    The seats are those that a log has given out, with the log closed before. All but the first are closed, and the
-    first closes the log. Raises what `work` raised, that of the first seat where several did: all threads are joined
+    The seats are those that a log or a small object has given out, which was closed before. All but the first are closed,
+    and the first closes the log. Raises what `work` raised, that of the first seat where several did: all threads are joined
     then, the log is not closed, and the seats stay. Raises `ValueError`: there is no seat, one is there twice, or two are
     of two logs. Else raises as `Seat.finish`.
     """

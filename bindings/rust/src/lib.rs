@@ -1,4 +1,8 @@
-//! Shared objects that no thread can hold up: a tally, a sticky register, a register and a machine of two tables.
+//! Shared objects that no thread can hold up.
+//!
+//! [`small`] has a counter, a register, a queue, a stack, a map and more on words of 64 bits, whose seats make calls
+//! without end. A [`Log`] is a tally, a sticky register, a register or a machine of two tables on words of 31 bits, and
+//! tells all its calls in the end.
 //!
 //! A [`Log`] is an object that `n` processes share. It gives out a [`Seat`] for each, and a seat makes up to `k`
 //! calls, from any thread. A call takes no lock and no memory, and ends within `12n + 15` steps on shared words,
@@ -25,6 +29,7 @@
 
 mod raw;
 pub mod register;
+pub mod small;
 
 use raw::Handle;
 pub use raw::{Call, Entry, Reply};
@@ -41,16 +46,18 @@ pub enum Fault {
     BadRow,
     /// Memory was refused.
     Memory,
-    /// The seat has made its calls.
+    /// The seat has made all its calls.
     Full,
     /// All seats are given out.
     NoSeat,
-    /// Another handle has the log.
+    /// Another handle has the log or the object.
     Busy,
     /// The handle hasn't what the call is for. No call of this crate's types gets it.
     WrongHandle,
     /// The tables aren't those of a machine.
     BadTable,
+    /// A state would have more than 65,536 words.
+    BadCapacity,
 }
 
 impl Fault {
@@ -64,6 +71,7 @@ impl Fault {
             5 => Fault::NoSeat,
             6 => Fault::Busy,
             8 => Fault::BadTable,
+            10 => Fault::BadCapacity,
             _ => Fault::WrongHandle,
         })
     }
@@ -75,11 +83,12 @@ impl fmt::Display for Fault {
             Fault::BadCount => "there aren't from 1 to 64 processes",
             Fault::BadRow => "there aren't from 1 to 4096 calls for each process",
             Fault::Memory => "memory was refused",
-            Fault::Full => "the seat has made its calls",
+            Fault::Full => "the seat has made all its calls",
             Fault::NoSeat => "all seats are given out",
-            Fault::Busy => "another handle has the log",
+            Fault::Busy => "another handle has the log or the object",
             Fault::WrongHandle => "the handle hasn't what the call is for",
             Fault::BadTable => "the tables aren't those of a machine",
+            Fault::BadCapacity => "a state would have more than 65536 words",
         })
     }
 }
@@ -186,15 +195,15 @@ impl From<NotAllSeats> for Fault {
 pub enum NotClosed {
     /// Another handle has the log: the seat comes back.
     Busy(Seat),
-    /// Memory was refused: the log is lost.
-    Memory,
+    /// Memory was refused: the log is closed, and is still to be read.
+    Memory(Unread),
 }
 
 impl fmt::Display for NotClosed {
     fn fmt(&self, out: &mut fmt::Formatter<'_>) -> fmt::Result {
         out.write_str(match self {
             NotClosed::Busy(_) => "another handle has the log",
-            NotClosed::Memory => "memory was refused: the log is lost",
+            NotClosed::Memory(_) => "memory was refused: the log is closed, and is still to be read",
         })
     }
 }
@@ -237,7 +246,21 @@ impl Seat {
         match self.handle.close() {
             Ok(()) => Ok(Closed(self.handle)),
             Err(Fault::Busy) => Err(NotClosed::Busy(self)),
-            Err(_) => Err(NotClosed::Memory),
+            Err(_) => Err(NotClosed::Memory(Unread(self.handle))),
+        }
+    }
+}
+
+/// A closed log that is still to be read, since memory was refused.
+#[derive(Debug)]
+pub struct Unread(Handle);
+
+impl Unread {
+    /// Reads the log. Memory may be refused again.
+    pub fn finish(mut self) -> Result<Closed, Unread> {
+        match self.0.close() {
+            Ok(()) => Ok(Closed(self.0)),
+            Err(_) => Err(self),
         }
     }
 }

@@ -71,6 +71,24 @@ extern "C" {
         reply_count: usize,
         log: &mut Handle,
     ) -> u32;
+    fn universal_open_counter(n: u64, object: &mut Handle) -> u32;
+    fn universal_open_register64(n: u64, object: &mut Handle) -> u32;
+    fn universal_open_book(n: u64, object: &mut Handle) -> u32;
+    fn universal_open_counters(n: u64, count: u32, object: &mut Handle) -> u32;
+    fn universal_open_queue(n: u64, capacity: u32, object: &mut Handle) -> u32;
+    fn universal_open_stack(n: u64, capacity: u32, object: &mut Handle) -> u32;
+    fn universal_open_map(n: u64, capacity: u32, object: &mut Handle) -> u32;
+    fn universal_small_seat(object: &mut Handle, seat: &mut Handle, process: &mut u64) -> u32;
+    fn universal_small_apply(
+        seat: &mut Handle,
+        invocation: *const u64,
+        invocation_count: usize,
+        reply: *mut u64,
+        reply_count: usize,
+        version: &mut u64,
+    ) -> u32;
+    fn universal_small_follows(seat: &mut Handle, version: u64, has_come: &mut u32) -> u32;
+    fn universal_small_close(handle: &mut Handle, state: *mut u64, state_count: usize) -> u32;
     fn universal_seat(log: &mut Handle, seat: &mut Handle, process: &mut u64) -> u32;
     fn universal_apply(seat: &mut Handle, inv: u64, answer: &mut Reply) -> u32;
     fn universal_follows(seat: &mut Handle, process: u64, nth: u64, is_there: &mut u32) -> u32;
@@ -101,6 +119,34 @@ pub(crate) fn open_machine(n: u64, k: u64, machine: Machine<'_>, log: &mut Handl
     }
 }
 
+pub(crate) fn open_counter(n: u64, object: &mut Handle) -> u32 {
+    unsafe { universal_open_counter(n, object) }
+}
+
+pub(crate) fn open_register64(n: u64, object: &mut Handle) -> u32 {
+    unsafe { universal_open_register64(n, object) }
+}
+
+pub(crate) fn open_book(n: u64, object: &mut Handle) -> u32 {
+    unsafe { universal_open_book(n, object) }
+}
+
+pub(crate) fn open_counters(n: u64, count: u32, object: &mut Handle) -> u32 {
+    unsafe { universal_open_counters(n, count, object) }
+}
+
+pub(crate) fn open_queue(n: u64, capacity: u32, object: &mut Handle) -> u32 {
+    unsafe { universal_open_queue(n, capacity, object) }
+}
+
+pub(crate) fn open_stack(n: u64, capacity: u32, object: &mut Handle) -> u32 {
+    unsafe { universal_open_stack(n, capacity, object) }
+}
+
+pub(crate) fn open_map(n: u64, capacity: u32, object: &mut Handle) -> u32 {
+    unsafe { universal_open_map(n, capacity, object) }
+}
+
 impl Handle {
     fn none() -> Handle {
         Handle { at: null_mut() }
@@ -118,6 +164,35 @@ impl Handle {
         let mut process = 0;
         Fault::of(unsafe { universal_seat(self, &mut seat, &mut process) })?;
         Ok((seat, process))
+    }
+
+    pub(crate) fn small_seat(&mut self) -> Result<(Handle, u64), Fault> {
+        let mut seat = Handle::none();
+        let mut process = 0;
+        Fault::of(unsafe { universal_small_seat(self, &mut seat, &mut process) })?;
+        Ok((seat, process))
+    }
+
+    /// A call of a small object: its reply, and a version that it is in.
+    pub(crate) fn small_apply<const REPLY: usize>(&mut self, invocation: &[u64]) -> Result<([u64; REPLY], u64), Fault> {
+        let mut reply = [0; REPLY];
+        let mut version = 0;
+        // SAFETY: both slices are borrowed for the call.
+        Fault::of(unsafe {
+            universal_small_apply(self, invocation.as_ptr(), invocation.len(), reply.as_mut_ptr(), REPLY, &mut version)
+        })?;
+        Ok((reply, version))
+    }
+
+    pub(crate) fn small_follows(&mut self, version: u64) -> Result<bool, Fault> {
+        let mut has_come = 0;
+        Fault::of(unsafe { universal_small_follows(self, version, &mut has_come) })?;
+        Ok(has_come != 0)
+    }
+
+    pub(crate) fn small_close(&mut self, state: &mut [u64]) -> Result<(), Fault> {
+        // SAFETY: the slice is borrowed for the call.
+        Fault::of(unsafe { universal_small_close(self, state.as_mut_ptr(), state.len()) })
     }
 
     pub(crate) fn apply(&mut self, inv: u64) -> Result<Reply, Fault> {

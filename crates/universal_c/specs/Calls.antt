@@ -3,51 +3,52 @@ use Rattle.std.specs.Prelude.{All, ◌≡◌, ℕ, ◌+◌, ◌*◌, ◌≤◌, 
 use Rattle.std.specs.declared.option.Option.{Option}
 use Rattle.std.specs.declared.option.Option.TheVariants.{None, Some}
 use Rattle.seq_object.specs.History.{IsLegal}
+use Rattle.uni_model.specs.Chain.{Entry}
 use Rattle.uni_model.specs.History.{logged_call}
 use Rattle.uni_words.specs.declared.log.WordLog.{WordLog}
 use Rattle.uni_words.specs.declared.seat.WordSeat.{WordSeat}
 use Rattle.uni_words.specs.declared.read.WordEntry.{WordEntry}
 use Rattle.uni_words.specs.Belongs.{object_of, own_calls, calls_made, calls_of, known_calls, latest_turns, process_of, processes_of, row_of}
-use Rattle.uni_words.specs.Belongs.{seen_by, word_steps_of}
+use Rattle.uni_words.specs.Belongs.{log_in as log_told, seen_by, word_steps_of}
 use Rattle.uni_words.specs.Log.{AreAnswered, AreCallsOf, IsInOrder, IsLogged, entry_shown}
 use Rattle.uni_words.specs.Run.{IsLogOfRun}
 use Rattle.universal_c.specs.Asks.{AsksOf}
 use Rattle.universal_c.specs.Meaning.{meaning}
 use Rattle.universal_c.specs.declared.object.Object.{Object}
 use Rattle.universal_c.specs.declared.held.Held.{Held}
-use Rattle.universal_c.specs.declared.held.Held.TheVariants.{Log, Seat, Entries, Nothing}
+use Rattle.universal_c.specs.declared.held.Held.TheVariants.{Log, Seat, Closed, Entries}
 
 -- the log that a handle has, or whose seat it has
 abbrev pub log_in : Option Held → Option (WordLog Object)
-log_in None = None
 log_in (Some (Log l)) = Some l.log.value
 log_in (Some (Seat s)) = Some s.log.value
-log_in (Some (Entries e)) = None
-log_in (Some Nothing) = None
+log_in _ = None
 
 -- how many seats of its log a handle has still to give out
 abbrev pub left_in : Option Held → Option ℕ
-left_in None = None
 left_in (Some (Log l)) = Some (vec_len l.seats)
-left_in (Some (Seat s)) = None
-left_in (Some (Entries e)) = None
-left_in (Some Nothing) = None
+left_in _ = None
 
 -- the seat that a handle has
 abbrev pub seat_in : Option Held → Option WordSeat
-seat_in None = None
-seat_in (Some (Log l)) = None
 seat_in (Some (Seat s)) = Some s.seat
-seat_in (Some (Entries e)) = None
-seat_in (Some Nothing) = None
+seat_in _ = None
+
+-- the log that was closed and is still to be read
+abbrev pub unread_in : Option Held → Option (List (Entry ℕ ℕ))
+unread_in (Some (Closed words)) = Some (log_told words)
+unread_in _ = None
+
+-- the closed log that a handle has, read or not
+abbrev pub closed_in : Option Held → Option (List (Entry ℕ ℕ))
+closed_in (Some (Closed words)) = Some (log_told words)
+closed_in (Some (Entries e)) = Some (map entry_shown e.items)
+closed_in _ = None
 
 -- the entries of a closed log that a handle has
 abbrev pub entries_in : Option Held → Option (List WordEntry)
-entries_in None = None
-entries_in (Some (Log l)) = None
-entries_in (Some (Seat s)) = None
 entries_in (Some (Entries e)) = Some e.items
-entries_in (Some Nothing) = None
+entries_in _ = None
 
 -- a log of this object, with as many processes and calls, none of whose seats was given out
 abbrev pub HasOpened : (new : Option Held) → Object → (n k : ℕ) → Type 0
@@ -75,11 +76,16 @@ abbrev pub HasAsked : (old new : Option Held) (process nth number : ℕ) → Typ
 HasAsked old new process nth number = IsSomeAnd (log_in old) (λ log. IsSomeAnd (seat_in old) (λ s. IsSomeAnd (seat_in new) (λ t.
     AsksOf log s t (record { process = process; nth = nth }) number)))
 
--- In place of the seat are the log's entries: a legal history of the object from its start, that of a run of the construction,
--- in which the calls of the seat's process are the seat's own, with the replies that it was given. They are in the order that it saw.
+-- The entries are the log's: a legal history of the object from its start, that of a run of the construction, in which the calls of the
+-- seat's process are the seat's own, with the replies that it was given. They are in the order that it saw.
+pub record IsLogOf (log : WordLog Object) (seat : WordSeat) (entries : List (Entry ℕ ℕ)) : Type 0 where
+  pub legal : IsLegal (meaning (object_of log)) (meaning (object_of log)).initial (map logged_call entries)
+  pub answered : AreAnswered entries
+  pub inside : AreCallsOf (processes_of log) entries
+  pub own : IsLogged entries (calls_of seat)
+  pub run : IsLogOfRun (meaning (object_of log)) (processes_of log) entries (known_calls seat)
+  pub order : All (IsInOrder entries) (seen_by seat)
+
+-- in place of the seat is its log, closed
 abbrev pub HasClosed : (old new : Option Held) → Type 0
-HasClosed old new = IsSomeAnd (log_in old) (λ log. IsSomeAnd (seat_in old) (λ s. IsSomeAnd (entries_in new) (λ called.
-    let object = meaning (object_of log) in let entries = map entry_shown called in
-    IsLegal object object.initial (map logged_call entries) × AreAnswered entries × AreCallsOf (processes_of log) entries
-    × IsLogged entries (calls_of s) × IsLogOfRun object (processes_of log) entries (known_calls s)
-    × All (IsInOrder entries) (seen_by s))))
+HasClosed old new = IsSomeAnd (log_in old) (λ log. IsSomeAnd (seat_in old) (λ seat. IsSomeAnd (closed_in new) (IsLogOf log seat)))

@@ -2,4 +2,6 @@ pub mod Asks
 pub mod Calls
 pub mod Meaning
 pub mod Owned
+pub mod SmallCalls
+pub mod SmallMeaning
 pub mod Told

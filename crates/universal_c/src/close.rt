@@ -1,39 +1,60 @@
 //! Closing a log, reading its entries, and letting a handle go.
 ghost use Rattle.std.specs.Prelude.{◌≡◌, ◌≢◌, ◌↔◌, ◌⊎◌, ◌++◌, List, drop, length, map};
-ghost use Rattle.std.specs.Prelude.{take, IfSome};
+ghost use Rattle.std.specs.Prelude.{take, IfSome, IsSome};
 ghost use Rattle.std.specs.declared.option.Option.TheVariants.{None, Some};
 ghost use Rattle.uni_words.specs.declared.read.WordEntry.{WordEntry};
-ghost use Rattle.universal_c.specs.Calls.{HasClosed, entries_in, log_in, seat_in};
+ghost use Rattle.uni_words.specs.Belongs.{log_in as log_told};
+ghost use Rattle.universal_c.specs.Calls.{HasClosed, closed_in, entries_in, log_in, seat_in, unread_in};
 ghost use Rattle.universal_c.specs.Told.{told};
 
 use crate::Entry;
 use crate::handle::Handle;
-use crate::held::{CloseFault, Held};
+use crate::held::Held;
 use crate::status::{BUSY, DONE, MEMORY, WRONG_HANDLE};
 use std::alloc::Global;
 use std::mem::replace;
-use uni_words::WordEntry;
+use uni_words::{WordEntry, Words, read_log};
+
+/// Reads the calls of a closed log.
+fn read_closed(alloc: Global, words: Words, held: &mut Held) -> u32
+    ensures status { (result ≡ 0) ⊎ (result ≡ 3) }
+    ensures same { closed_in (Some held.new) ≡ Some (log_told words) }
+    ensures read { result ≡ 0 → IsSome (entries_in (Some held.new)) }
+    ensures unread { result ≡ 3 → IsSome (unread_in (Some held.new)) }
+{
+    match read_log(alloc, &words) {
+        Ok(entries) => {
+            *held = Held::Entries(entries);
+            DONE
+        }
+        Err(_) => {
+            *held = Held::Closed(words);
+            MEMORY
+        }
+    }
+}
 
 fn close_in(alloc: Global, held: &mut Held) -> u32
-    ensures wrong { (result ≡ 7) ↔ (seat_in (Some held.old) ≡ None) }
+    ensures wrong { (result ≡ 7) ↔ ((seat_in (Some held.old) ≡ None) × (unread_in (Some held.old) ≡ None)) }
     ensures status { (result ≡ 0) ⊎ (result ≡ 3) ⊎ (result ≡ 6) ⊎ (result ≡ 7) }
     ensures kept { result ≡ 7 → held.new ≡ held.old }
-    ensures busy { result ≡ 6 →
-        (seat_in (Some held.new) ≡ seat_in (Some held.old)) × (log_in (Some held.new) ≡ log_in (Some held.old)) }
-    ensures closed { result ≡ 0 → HasClosed (Some held.old) (Some held.new) }
+    ensures busy { result ≡ 6 → IsSome (seat_in (Some held.new))
+        × (seat_in (Some held.new) ≡ seat_in (Some held.old)) × (log_in (Some held.new) ≡ log_in (Some held.old)) }
+    ensures closed { IsSome (seat_in (Some held.old)) → (result ≡ 0) ⊎ (result ≡ 3)
+        → HasClosed (Some held.old) (Some held.new) }
+    ensures again { IsSome (unread_in (Some held.old)) → closed_in (Some held.new) ≡ closed_in (Some held.old) }
+    ensures read { result ≡ 0 → IsSome (entries_in (Some held.new)) }
+    ensures unread { result ≡ 3 → IsSome (unread_in (Some held.new)) }
 {
     match replace(held, Held::Nothing) {
-        Held::Seat(seated) => match seated.close(alloc) {
-            Ok(entries) => {
-                *held = Held::Entries(entries);
-                DONE
-            }
-            Err(CloseFault::Busy(seated)) => {
+        Held::Seat(seated) => match seated.close() {
+            Ok(words) => read_closed(alloc, words, held),
+            Err(seated) => {
                 *held = Held::Seat(seated);
                 BUSY
             }
-            Err(CloseFault::Memory) => MEMORY,
         },
+        Held::Closed(words) => read_closed(alloc, words, held),
         other => {
             *held = other;
             WRONG_HANDLE
@@ -41,17 +62,22 @@ fn close_in(alloc: Global, held: &mut Held) -> u32
     }
 }
 
-/// Closes the log of a seat, by the last handle that has the log. 0: the entries are held in place of
-/// the seat. 3: memory was refused, and the log is lost. 6: another handle has the log. 7: no seat is
+/// Closes the log of a seat, by the last handle that has the log, and reads its entries.
+/// 0: the entries are held in place of the seat. 3: memory was refused; the log is closed, and is held in place of
+/// the seat: a further call reads the entries. 6: another handle has the log. 7: neither a seat nor such a log is
 /// held. After 6 and 7 the handle is as before.
 #[unsafe(no_mangle)]
 pub extern "C" fn universal_close(alloc: Global, seat: &mut Handle) -> u32
-    ensures wrong { (result ≡ 7) ↔ (seat_in seat.old.value ≡ None) }
+    ensures wrong { (result ≡ 7) ↔ ((seat_in seat.old.value ≡ None) × (unread_in seat.old.value ≡ None)) }
     ensures status { (result ≡ 0) ⊎ (result ≡ 3) ⊎ (result ≡ 6) ⊎ (result ≡ 7) }
     ensures kept { result ≡ 7 → seat.new.value ≡ seat.old.value }
-    ensures busy { result ≡ 6 →
-        (seat_in seat.new.value ≡ seat_in seat.old.value) × (log_in seat.new.value ≡ log_in seat.old.value) }
-    ensures closed { result ≡ 0 → HasClosed seat.old.value seat.new.value }
+    ensures busy { result ≡ 6 → IsSome (seat_in seat.new.value)
+        × (seat_in seat.new.value ≡ seat_in seat.old.value) × (log_in seat.new.value ≡ log_in seat.old.value) }
+    ensures closed { IsSome (seat_in seat.old.value) → (result ≡ 0) ⊎ (result ≡ 3)
+        → HasClosed seat.old.value seat.new.value }
+    ensures again { IsSome (unread_in seat.old.value) → closed_in seat.new.value ≡ closed_in seat.old.value }
+    ensures read { result ≡ 0 → IsSome (entries_in seat.new.value) }
+    ensures unread { result ≡ 3 → IsSome (unread_in seat.new.value) }
 {
     match replace(seat, Handle::empty(alloc)).into_box() {
         Some(mut held) => {

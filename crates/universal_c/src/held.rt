@@ -1,20 +1,16 @@
-//! What a handle holds: a log with its seats, a seat, or the entries of a closed log.
+//! What a handle holds: a log with its seats, a seat, the entries of a closed log, or a small object.
 ghost use Rattle.std.specs.Prelude.{◌≡◌, ◌==◌, ◌+◌, ◌*◌, ◌<◌, ◌≤◌, ◌++◌, ◌∷◌};
-ghost use Rattle.std.specs.Prelude.{◌↔◌, ◌⊎◌, All, [], map, vec_len, IfOk, IfErr, IsErr, IsErrOf, OnOk, OnErr};
-ghost use Rattle.seq_object.specs.History.{IsLegal};
-ghost use Rattle.uni_model.specs.History.{logged_call};
-ghost use Rattle.uni_words.specs.Belongs.{AreFirstSeats, IsSeatOf, own_calls, calls_made, latest_turns, process_of};
-ghost use Rattle.uni_words.specs.Belongs.{processes_of, row_of, word_steps_of, calls_of, known_calls, object_of, seen_by};
-ghost use Rattle.uni_words.specs.Log.{AreAnswered, AreCallsOf, IsInOrder, IsLogged, entry_shown};
-ghost use Rattle.uni_words.specs.Run.{IsLogOfRun};
+ghost use Rattle.std.specs.Prelude.{◌↔◌, ◌⊎◌, [], vec_len, IfOk, IfErr, IsErr, IsErrOf, OnOk, OnErr};
+ghost use Rattle.uni_words.specs.Belongs.{AreFirstSeats, IsSeatOf, calls_made, latest_turns, log_in as log_told};
+ghost use Rattle.uni_words.specs.Belongs.{object_of, own_calls, process_of, processes_of, row_of, word_steps_of};
 ghost use Rattle.universal_c.specs.Asks.{AsksOf};
-ghost use Rattle.universal_c.specs.Meaning.{meaning};
 
 use crate::object::Object;
+use crate::small::{SmallOpened, SmallPlace};
 use seq_object::CallId;
 use std::alloc::Global;
 use std::sync::Arc;
-use uni_words::{Answer, RowFull, WordEntry, WordLog, WordOpenFault, WordSeat, read_log};
+use uni_words::{Answer, RowFull, WordEntry, WordLog, WordOpenFault, WordSeat, Words};
 
 /// A log, with its seats that are still to be given out, the last one first.
 #[derive(Drop)]
@@ -39,19 +35,16 @@ pub enum Held {
     Log(Opened),
     /// A seat.
     Seat(Seated),
+    /// A log that was closed, whose calls are still to be read.
+    Closed(Words),
     /// The calls of a log that was closed, in order.
     Entries(Vec<WordEntry>),
-    /// Nothing: what it held was lost at a closing that was refused memory.
+    /// A small object, with the seats that are left.
+    Small(SmallOpened),
+    /// A seat of a small object.
+    Place(SmallPlace),
+    /// Nothing.
     Nothing,
-}
-
-/// Why there are no entries.
-#[derive(Drop)]
-pub enum CloseFault {
-    /// Another has the log: the seat comes back.
-    Busy(Seated),
-    /// Memory was refused: the log is lost.
-    Memory,
 }
 
 /// Why there is no further seat.
@@ -117,8 +110,7 @@ impl Opened {
 }
 
 impl Seated {
-    ghost use Rattle.universal_c.specs.declared.held.Seated.{Seated};
-    ghost use Rattle.universal_c.specs.declared.held.CloseFault.TheVariants.{Busy, Memory};
+    ghost use Rattle.universal_c.specs.Calls.{IsLogOf};
 
     /// Applies the invocation, in at most 12n + 15 steps on shared words, whatever other threads do.
     /// Error: the seat has made its k calls, and nothing is changed.
@@ -154,30 +146,16 @@ impl Seated {
         }
     }
 
-    /// Closes the log, where this is the last that has it: the calls that took effect, in order.
-    /// Errors: another has the log, and the seat comes back; memory was refused, and the log is lost.
-    pub(crate) fn close(self, alloc: Global) -> Result<Vec<WordEntry>, CloseFault>
-        ensures busy { IfErr result (λ fault. (fault ≡ Memory)
-            ⊎ ((seated : Seated) × (fault ≡ Busy seated) × (seated.log ≡ self.log)
-            × (seated.seat ≡ self.seat))) }
-        ensures legal { let object = meaning (object_of self.log.value) in
-            IfOk result (λ entries. IsLegal object object.initial (map logged_call (map entry_shown entries.items))) }
-        ensures answered { IfOk result (λ entries. AreAnswered (map entry_shown entries.items)) }
-        ensures inside { IfOk result (λ entries.
-            AreCallsOf (processes_of self.log.value) (map entry_shown entries.items)) }
-        ensures own { IfOk result (λ entries. IsLogged (map entry_shown entries.items) (calls_of self.seat)) }
-        ensures run { let object = meaning (object_of self.log.value) in
-            IfOk result (λ entries.
-            IsLogOfRun object (processes_of self.log.value) (map entry_shown entries.items) (known_calls self.seat)) }
-        ensures order { IfOk result (λ entries. All (IsInOrder (map entry_shown entries.items)) (seen_by self.seat)) }
+    /// Closes the log, where this is the last that has it: its words, of which the calls are to be read.
+    /// Error: another has the log, and the seat comes back.
+    pub(crate) fn close(self) -> Result<Words, Seated>
+        ensures busy { IfErr result (λ seated. (seated.log ≡ self.log) × (seated.seat ≡ self.seat)) }
+        ensures closed { IfOk result (λ words. IsLogOf self.log.value self.seat (log_told words)) }
     {
         let Seated { log, seat } = self;
         match Arc::try_unwrap(log) {
-            Ok(log) => match read_log(alloc, &log.close_with(seat)) {
-                Ok(entries) => Ok(entries),
-                Err(_) => Err(CloseFault::Memory),
-            },
-            Err(log) => Err(CloseFault::Busy(Seated { log, seat })),
+            Ok(log) => Ok(log.close_with(seat)),
+            Err(log) => Err(Seated { log, seat }),
         }
     }
 }

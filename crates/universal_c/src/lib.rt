@@ -1,4 +1,4 @@
-//! The wait-free objects of words for C: one opaque handle, and the calls on it.
+//! The wait-free objects for C: one opaque handle, and the calls on it.
 #![tactic(auto)]
 
 mod close;
@@ -8,6 +8,11 @@ mod held;
 mod loose;
 mod object;
 mod open;
+mod small;
+mod small_close;
+mod small_kind;
+mod small_open;
+mod small_turn;
 mod status;
 mod turn;
 

@@ -1,6 +1,6 @@
 //! Opening a log.
-ghost use Rattle.std.specs.Prelude.{◌≡◌, ◌≢◌, ◌↔◌, ◌⊎◌, ◌<◌, ◌≤◌, IfErr, IfOk};
-ghost use Rattle.std.specs.Prelude.{IsSome};
+ghost use Rattle.std.specs.Prelude.{◌≡◌, ◌≢◌, ◌↔◌, ◌⊎◌, ◌<◌, ◌≤◌, IfOk};
+ghost use Rattle.std.specs.Prelude.{IfSome, IsSome};
 ghost use Rattle.std.specs.declared.option.Option.TheVariants.{None, Some};
 ghost use Rattle.word_objects.specs.Machine.{machine_fault};
 ghost use Rattle.universal_c.specs.Calls.{HasOpened};
@@ -11,9 +11,10 @@ use crate::handle::Handle;
 use crate::held::{Held, Opened};
 use crate::object::Object;
 use crate::status::{BAD_COUNT, BAD_ROW, BAD_TABLE, DONE, MEMORY};
-use std::alloc::Global;
+use std::alloc::{AllocError, Global};
+use uni_model::{MAX_PROCESSES, MAX_ROW};
 use uni_words::WordOpenFault;
-use word_objects::WordMachine;
+use word_objects::{WordMachine, table_fault};
 
 fn status_of(fault: WordOpenFault) -> u32
     ensures count { (result ≡ 1) ↔ (fault ≡ WordOpenFault.BadCount) }
@@ -28,7 +29,7 @@ fn status_of(fault: WordOpenFault) -> u32
 }
 
 /// Puts what is held into a handle, and drops what the handle had.
-fn put(alloc: Global, out: &mut Handle, held: Held) -> u32
+pub(crate) fn put(alloc: Global, out: &mut Handle, held: Held) -> u32
     ensures status { (result ≡ 0) ⊎ (result ≡ 3) }
     ensures done { result ≡ 0 → out.new.value ≡ Some held }
     ensures same { result ≢ 0 → out.new ≡ out.old }
@@ -94,35 +95,42 @@ pub extern "C" fn universal_open_register(alloc: Global, n: u64, k: u64, log: &m
     open(alloc, Object::Register, n, k, log)
 }
 
-/// The machine of two tables, which are copied.
-/// Errors: 3, memory was refused; 8, the tables are wrong.
+/// The status of sizes that no log has.
+fn size_fault(n: u64, k: u64) -> Option<u32>
+    ensures count { (result ≡ Some 1) ↔ ((n ≡ 0) ⊎ (64 < n)) }
+    ensures row { (result ≡ Some 2) ↔ ((1 ≤ n) × (n ≤ 64) × ((k ≡ 0) ⊎ (4096 < k))) }
+    ensures fault { IfSome result (λ status. (status ≡ 1) ⊎ (status ≡ 2)) }
+{
+    if n < 1 || n > MAX_PROCESSES {
+        return Some(BAD_COUNT);
+    }
+    if k < 1 || k > MAX_ROW {
+        return Some(BAD_ROW);
+    }
+    None
+}
+
+/// The machine of two tables, which are copied. Error: memory was refused.
 fn machine_of(
     alloc: Global,
     states: u32,
     invocations: u32,
     next: &[u32],
     reply: &[u32],
-) -> Result<Object, u32>
-    ensures machine { let tables = tables_of states invocations next.now reply.now in
-        IfOk result (λ object. (object ≡ Machine tables) × (machine_fault tables ≡ None)) }
-    ensures fault { let tables = tables_of states invocations next.now reply.now in
-        IfErr result (λ status. (status ≡ 3) ⊎ ((status ≡ 8) × IsSome (machine_fault tables))) }
+) -> Result<Object, AllocError>
+    requires { machine_fault (tables_of states invocations next.now reply.now) ≡ None }
+    ensures { IfOk result (λ object. object ≡ Machine (tables_of states invocations next.now reply.now)) }
 {
-    let Ok(next) = Vec::from_slice(alloc, next) else {
-        return Err(MEMORY);
-    };
-    let Ok(reply) = Vec::from_slice(alloc, reply) else {
-        return Err(MEMORY);
-    };
+    let next = Vec::from_slice(alloc, next)?;
+    let reply = Vec::from_slice(alloc, reply)?;
     match WordMachine::new(states, invocations, next, reply) {
         Ok(machine) => Ok(Object::Machine(machine)),
-        Err(_) => Err(BAD_TABLE),
+        Err(_) => unreachable!(),
     }
 }
 
 /// Opens a log of the machine of two tables, which are copied.
-/// 8: the tables are wrong. Else the statuses are those of `universal_open_tally`. 3, that memory was
-/// refused, can come before each.
+/// 8: the tables are wrong. Else the statuses are those of `universal_open_tally`.
 #[unsafe(no_mangle)]
 pub extern "C" fn universal_open_machine(
     alloc: Global,
@@ -134,19 +142,24 @@ pub extern "C" fn universal_open_machine(
     reply: &[u32],
     log: &mut Handle,
 ) -> u32
-    ensures fault { IsSome (machine_fault (tables_of states invocations next.now reply.now)) →
-        (result ≡ 3) ⊎ (result ≡ 8) }
-    ensures count { machine_fault (tables_of states invocations next.now reply.now) ≡ None →
-        (result ≡ 3) ⊎ ((result ≡ 1) ↔ ((n ≡ 0) ⊎ (64 < n))) }
-    ensures row { machine_fault (tables_of states invocations next.now reply.now) ≡ None →
-        (result ≡ 3) ⊎ ((result ≡ 2) ↔ ((1 ≤ n) × (n ≤ 64) × ((k ≡ 0) ⊎ (4096 < k)))) }
+    ensures table { (result ≡ 8) ↔ IsSome (machine_fault (tables_of states invocations next.now reply.now)) }
+    ensures count { (result ≡ 1) ↔
+        ((machine_fault (tables_of states invocations next.now reply.now) ≡ None) × ((n ≡ 0) ⊎ (64 < n))) }
+    ensures row { (result ≡ 2) ↔ ((machine_fault (tables_of states invocations next.now reply.now) ≡ None)
+        × (1 ≤ n) × (n ≤ 64) × ((k ≡ 0) ⊎ (4096 < k))) }
     ensures status { (result ≤ 3) ⊎ (result ≡ 8) }
     ensures unchanged { result ≢ 0 → log.new ≡ log.old }
     ensures opened { result ≡ 0 →
         HasOpened log.new.value (Machine (tables_of states invocations next.now reply.now)) n k }
 {
+    if table_fault(states, invocations, next, reply).is_some() {
+        return BAD_TABLE;
+    }
+    if let Some(status) = size_fault(n, k) {
+        return status;
+    }
     match machine_of(alloc, states, invocations, next, reply) {
         Ok(machine) => open(alloc, machine, n, k, log),
-        Err(status) => status,
+        Err(_) => MEMORY,
     }
 }

@@ -12,7 +12,7 @@ pub const BAD_ROW: u32 = 2;
 /// Memory was refused.
 pub const MEMORY: u32 = 3;
 
-/// The seat has made its calls.
+/// The seat has made all the calls that it can make.
 pub const FULL: u32 = 4;
 
 /// All seats are given out.
@@ -29,3 +29,9 @@ pub const BAD_TABLE: u32 = 8;
 
 /// The log has other calls of the process.
 pub const DIFFERS: u32 = 9;
+
+/// The object would have too many words.
+pub const BAD_CAPACITY: u32 = 10;
+
+/// There aren't as many words as the object has.
+pub const BAD_WIDTH: u32 = 11;

@@ -4,7 +4,7 @@
 mod machine;
 mod register;
 
-pub use machine::{MachineFault, WordMachine};
+pub use machine::{MachineFault, WordMachine, table_fault};
 pub use register::{RegisterCall, WordRegister};
 
 #[cfg(test)]

@@ -78,8 +78,13 @@ fn first_outside(entries: &[u32], bound: u32) -> Option<usize>
     entries.iter().position(|entry| *entry >= bound)
 }
 
-/// What is wrong with tables, if anything is.
-fn fault_of(states: u32, invocations: u32, next: &[u32], reply: &[u32]) -> Option<MachineFault>
+/// What is wrong with tables, if anything is: the fault that `WordMachine::new` would tell.
+pub fn table_fault(
+    states: u32,
+    invocations: u32,
+    next: &[u32],
+    reply: &[u32],
+) -> Option<MachineFault>
     ensures fault { result ≡ machine_fault (record {
       states = states;
       invocations = invocations;
@@ -148,7 +153,7 @@ impl WordMachine {
           reply = reply.items;
         }) ≡ Some fault) }
     {
-        match fault_of(states, invocations, &next, &reply) {
+        match table_fault(states, invocations, &next, &reply) {
             Some(fault) => Err(fault),
             None => Ok(WordMachine {
                 states,

@@ -13,7 +13,7 @@ use Rattle.std.specs.declared.option.Option.{Option}
 use Rattle.std.proofs.alloc.Global.TheSendSync as global
 use Rattle.std.proofs.Crossing.{frees}
 use Rattle.std_alloc.proofs.SendSync.{quiet}
-use Rattle.universal_c.proofs.held.Held.TheSendSync.{the_send as held}
+use Rattle.universal_c.proofs.Sent.{held_send}
 use Rattle.universal_c.specs.Owned.{owned}
 use Rattle.universal_c.specs.contracts.handle.Handle.{the_row, the_type}
 
@@ -24,4 +24,4 @@ owned_keyless R s heap (block_ptr b o) value = λ x. ((λ _. tt), (part_keyless 
 pub send : IsSend the_row
 send =
     let all : AllSend (fields the_type) = (search sendable, (global.the_field_send, tt)) in
-    owning_send the_type all (λ d. owned_keyless _ held d.heap d.at d.value) (λ k. quiet (to the_type) (exits_of k (fields the_type)) ((struct_send (shape the_type) all).leaving k))
+    owning_send the_type all (λ d. owned_keyless _ held_send d.heap d.at d.value) (λ k. quiet (to the_type) (exits_of k (fields the_type)) ((struct_send (shape the_type) all).leaving k))

@@ -1,0 +1,299 @@
+/* Small objects: each call on its happy path, each refusal, and each misuse that has a status. */
+#include "universal.h"
+#include <stdio.h>
+#include <string.h>
+
+static int wrong = 0;
+
+static void is(uint64_t found, uint64_t wanted, const char *what, int line) {
+    if (found != wanted) {
+        fprintf(stderr, "small.c:%d: %s is %llu, and not %llu\n", line, what, (unsigned long long)found,
+                (unsigned long long)wanted);
+        wrong++;
+    }
+}
+
+#define IS(found, wanted) is((uint64_t)(found), (uint64_t)(wanted), #found, __LINE__)
+
+enum { NEVER = 12345 };
+
+static uint64_t process, version, reply[2];
+static uint32_t has_come;
+
+/* A call of these words, answered so many words. */
+#define CALL(seat, replies, ...) call(seat, (const uint64_t[])__VA_ARGS__, sizeof(uint64_t[])__VA_ARGS__ / 8, replies)
+
+static uint64_t call(universal_handle *seat, const uint64_t *invocation, size_t count, size_t replies) {
+    uint64_t before = version;
+    reply[0] = reply[1] = NEVER;
+    IS(universal_small_apply(seat, invocation, count, reply, replies, &version), UNIVERSAL_DONE);
+    IS(version > before, 1);
+    IS(reply[1] == NEVER, replies == 1);
+    return reply[0];
+}
+
+/* The seat of an object for one process, whose own handle is dropped. */
+static universal_handle only_seat(universal_handle *object) {
+    universal_handle seat = UNIVERSAL_NONE;
+    IS(universal_small_seat(object, &seat, &process), UNIVERSAL_DONE);
+    IS(process, 0);
+    universal_drop(object);
+    version = 0;
+    return seat;
+}
+
+static void closes(universal_handle *handle, const uint64_t *wanted, size_t count) {
+    uint64_t state[16] = {0};
+    IS(universal_small_close(handle, state, count), UNIVERSAL_DONE);
+    IS(memcmp(state, wanted, 8 * count), 0);
+    IS(handle->at != NULL, 0);
+}
+
+static void numbers(void) {
+    universal_handle object = UNIVERSAL_NONE, seat;
+    IS(universal_open_counter(1, &object), UNIVERSAL_DONE);
+    seat = only_seat(&object);
+    IS(CALL(&seat, 1, UNIVERSAL_COUNTER_ADD(5)), 0);
+    IS(CALL(&seat, 1, UNIVERSAL_COUNTER_ADD(-1)), 5);
+    IS(CALL(&seat, 1, UNIVERSAL_COUNTER_ADD(0)), 4);
+    closes(&seat, (const uint64_t[]){4}, 1);
+
+    IS(universal_open_register64(1, &object), UNIVERSAL_DONE);
+    seat = only_seat(&object);
+    IS(CALL(&seat, 1, UNIVERSAL_REGISTER64_WRITE(-1)), 0);
+    IS(CALL(&seat, 1, UNIVERSAL_REGISTER64_COMPARE_EXCHANGE(3, 9)), UINT64_MAX);
+    IS(CALL(&seat, 1, UNIVERSAL_REGISTER64_COMPARE_EXCHANGE(-1, 9)), UINT64_MAX);
+    IS(CALL(&seat, 1, UNIVERSAL_REGISTER64_READ), 9);
+    IS(CALL(&seat, 1, {3, 1, 1}), 9);
+    closes(&seat, (const uint64_t[]){9}, 1);
+
+    IS(universal_open_counters(1, 3, &object), UNIVERSAL_DONE);
+    seat = only_seat(&object);
+    IS(CALL(&seat, 1, UNIVERSAL_COUNTERS_ADD(2, 8)), 0);
+    IS(CALL(&seat, 1, UNIVERSAL_COUNTERS_ADD(2, 1)), 8);
+    IS(CALL(&seat, 1, UNIVERSAL_COUNTERS_ADD(3, 1)), 0);
+    closes(&seat, (const uint64_t[]){0, 0, 9}, 3);
+}
+
+static void rows(void) {
+    universal_handle object = UNIVERSAL_NONE, seat;
+    IS(universal_open_queue(1, 2, &object), UNIVERSAL_DONE);
+    seat = only_seat(&object);
+    IS(CALL(&seat, 1, UNIVERSAL_QUEUE_TAKE), 0);
+    IS(CALL(&seat, 1, UNIVERSAL_QUEUE_PUT(8)), 1);
+    IS(CALL(&seat, 1, UNIVERSAL_QUEUE_PUT(9)), 1);
+    IS(CALL(&seat, 1, UNIVERSAL_QUEUE_PUT(7)), 0);
+    IS(CALL(&seat, 1, UNIVERSAL_QUEUE_TAKE), 8);
+    closes(&seat, (const uint64_t[]){1, 9, 0}, 3);
+
+    IS(universal_open_stack(1, 2, &object), UNIVERSAL_DONE);
+    seat = only_seat(&object);
+    IS(CALL(&seat, 1, UNIVERSAL_STACK_POP), 0);
+    IS(CALL(&seat, 1, UNIVERSAL_STACK_PUSH(8)), 1);
+    IS(CALL(&seat, 1, UNIVERSAL_STACK_PUSH(9)), 1);
+    IS(CALL(&seat, 1, UNIVERSAL_STACK_PUSH(7)), 0);
+    IS(CALL(&seat, 1, UNIVERSAL_STACK_POP), 9);
+    closes(&seat, (const uint64_t[]){1, 8, 0}, 3);
+}
+
+static void map(void) {
+    universal_handle object = UNIVERSAL_NONE, seat;
+    IS(universal_open_map(1, 2, &object), UNIVERSAL_DONE);
+    seat = only_seat(&object);
+    IS(CALL(&seat, 2, UNIVERSAL_MAP_INSERT(7, 70)), UNIVERSAL_MAP_ABSENT);
+    IS(reply[1], 0);
+    IS(CALL(&seat, 2, UNIVERSAL_MAP_INSERT(7, 71)), UNIVERSAL_MAP_VALUE);
+    IS(reply[1], 70);
+    IS(CALL(&seat, 2, UNIVERSAL_MAP_INSERT(0, -1)), UNIVERSAL_MAP_ABSENT);
+    IS(CALL(&seat, 2, UNIVERSAL_MAP_INSERT(9, 90)), UNIVERSAL_MAP_FULL);
+    IS(CALL(&seat, 2, UNIVERSAL_MAP_GET(9)), UNIVERSAL_MAP_ABSENT);
+    IS(CALL(&seat, 2, UNIVERSAL_MAP_GET(0)), UNIVERSAL_MAP_VALUE);
+    IS(reply[1], UINT64_MAX);
+    IS(CALL(&seat, 2, UNIVERSAL_MAP_REMOVE(7)), UNIVERSAL_MAP_VALUE);
+    IS(reply[1], 71);
+    closes(&seat, (const uint64_t[]){1, 0, UINT64_MAX, 0, 0}, 5);
+}
+
+static void book(void) {
+    universal_handle object = UNIVERSAL_NONE, seat;
+    uint64_t most = 999999999999, state[16] = {0};
+    IS(universal_open_book(1, &object), UNIVERSAL_DONE);
+    seat = only_seat(&object);
+    IS(CALL(&seat, 2, UNIVERSAL_BOOK_DEPOSIT(3, 10)), UNIVERSAL_BOOK_BALANCE);
+    IS(reply[1], 10);
+    IS(CALL(&seat, 2, UNIVERSAL_BOOK_DEPOSIT(3, most)), UNIVERSAL_BOOK_OVER);
+    IS(CALL(&seat, 2, UNIVERSAL_BOOK_WITHDRAW(3, 11)), UNIVERSAL_BOOK_SHORT);
+    IS(CALL(&seat, 2, UNIVERSAL_BOOK_WITHDRAW(3, 1)), UNIVERSAL_BOOK_BALANCE);
+    IS(reply[1], 9);
+    IS(CALL(&seat, 2, UNIVERSAL_BOOK_MOVE(3, 15, 4)), UNIVERSAL_BOOK_MOVED);
+    IS(CALL(&seat, 2, UNIVERSAL_BOOK_TOTAL), UNIVERSAL_BOOK_SUM);
+    IS(reply[1], 9);
+    IS(CALL(&seat, 2, UNIVERSAL_BOOK_DEPOSIT(16, 1)), UNIVERSAL_BOOK_SUM);
+    state[3] = 5, state[15] = 4;
+    closes(&seat, state, 16);
+}
+
+static void bad_sizes(void) {
+    universal_handle object = UNIVERSAL_NONE;
+    IS(universal_open_counter(0, &object), UNIVERSAL_BAD_COUNT);
+    IS(universal_open_register64(65, &object), UNIVERSAL_BAD_COUNT);
+    IS(universal_open_book(UINT64_MAX, &object), UNIVERSAL_BAD_COUNT);
+    IS(universal_open_map(0, UINT32_MAX, &object), UNIVERSAL_BAD_COUNT);
+    IS(universal_open_counters(1, 65537, &object), UNIVERSAL_BAD_CAPACITY);
+    IS(universal_open_queue(1, 65536, &object), UNIVERSAL_BAD_CAPACITY);
+    IS(universal_open_stack(1, UINT32_MAX, &object), UNIVERSAL_BAD_CAPACITY);
+    IS(universal_open_map(1, 32768, &object), UNIVERSAL_BAD_CAPACITY);
+    IS(object.at != NULL, 0);
+    IS(universal_open_counters(1, 65536, &object), UNIVERSAL_DONE);
+    IS(universal_open_queue(1, 65535, &object), UNIVERSAL_DONE);
+    IS(universal_open_map(1, 32767, &object), UNIVERSAL_DONE);
+    IS(universal_open_queue(1, 65536, &object), UNIVERSAL_BAD_CAPACITY);
+    universal_handle seat = only_seat(&object);
+    IS(CALL(&seat, 2, UNIVERSAL_MAP_GET(1)), UNIVERSAL_MAP_ABSENT);
+    universal_drop(&seat);
+    /* objects of no room */
+    IS(universal_open_counters(1, 0, &object), UNIVERSAL_DONE);
+    seat = only_seat(&object);
+    IS(CALL(&seat, 1, UNIVERSAL_COUNTERS_ADD(0, 1)), 0);
+    closes(&seat, reply, 0);
+    IS(universal_open_queue(1, 0, &object), UNIVERSAL_DONE);
+    seat = only_seat(&object);
+    IS(CALL(&seat, 1, UNIVERSAL_QUEUE_PUT(1)), 0);
+    closes(&seat, (const uint64_t[]){0}, 1);
+}
+
+/* Other counts of words are refused, and nothing is written. */
+static void widths(void) {
+    universal_handle object = UNIVERSAL_NONE;
+    const uint64_t insert[] = {1, 7, 70, 0};
+    uint64_t state[6] = {NEVER, NEVER, NEVER, NEVER, NEVER, NEVER};
+    IS(universal_open_map(1, 2, &object), UNIVERSAL_DONE);
+    universal_handle seat = only_seat(&object);
+    version = NEVER;
+    reply[0] = reply[1] = NEVER;
+    for (size_t count = 0; count <= 4; count++)
+        for (size_t replies = 0; replies <= 2; replies++)
+            if (count != 3 || replies != 2)
+                IS(universal_small_apply(&seat, insert, count, reply, replies, &version), UNIVERSAL_BAD_WIDTH);
+    IS(reply[0] != NEVER || reply[1] != NEVER || version != NEVER, 0);
+    for (size_t count = 0; count <= 6; count++)
+        if (count != 5)
+            IS(universal_small_close(&seat, state, count), UNIVERSAL_BAD_WIDTH);
+    IS(state[0], NEVER);
+    version = 0;
+    IS(CALL(&seat, 2, UNIVERSAL_MAP_GET(7)), UNIVERSAL_MAP_ABSENT);
+    closes(&seat, (const uint64_t[]){0, 0, 0, 0, 0}, 5);
+}
+
+static void seats_end(void) {
+    universal_handle object = UNIVERSAL_NONE, first = UNIVERSAL_NONE, second = UNIVERSAL_NONE, third = UNIVERSAL_NONE;
+    uint64_t state = NEVER;
+    IS(universal_open_counter(2, &object), UNIVERSAL_DONE);
+    IS(universal_small_seat(&object, &first, &process), UNIVERSAL_DONE);
+    IS(process, 1);
+    IS(universal_small_seat(&object, &second, &process), UNIVERSAL_DONE);
+    IS(process, 0);
+    process = NEVER;
+    IS(universal_small_seat(&object, &third, &process), UNIVERSAL_NO_SEAT);
+    IS(process != NEVER || third.at != NULL, 0);
+
+    /* a version is followed from the other seat */
+    version = 0;
+    IS(CALL(&first, 1, UNIVERSAL_COUNTER_ADD(5)), 0);
+    uint64_t told = version;
+    IS(universal_small_follows(&second, told, &has_come), UNIVERSAL_DONE);
+    IS(has_come, 1);
+    IS(universal_small_follows(&second, told + 1, &has_come), UNIVERSAL_DONE);
+    IS(has_come, 0);
+    IS(CALL(&second, 1, UNIVERSAL_COUNTER_ADD(2)), 5);
+    IS(version > told, 1);
+
+    /* each handle is busy as long as another has the object; then the object's own one closes it with no seat */
+    IS(universal_small_close(&first, &state, 1), UNIVERSAL_BUSY);
+    universal_drop(&second);
+    IS(universal_small_close(&first, &state, 1), UNIVERSAL_BUSY);
+    IS(universal_small_close(&object, &state, 1), UNIVERSAL_BUSY);
+    IS(state, NEVER);
+    IS(CALL(&first, 1, UNIVERSAL_COUNTER_ADD(1)), 7);
+    IS(universal_small_seat(&object, &third, &process), UNIVERSAL_NO_SEAT);
+    universal_drop(&first);
+    closes(&object, (const uint64_t[]){8}, 1);
+
+    /* seats that were never given out */
+    IS(universal_open_queue(64, 1, &object), UNIVERSAL_DONE);
+    closes(&object, (const uint64_t[]){0, 0}, 2);
+}
+
+/* What is on a handle that has no small object, or no seat of one, is refused and changes nothing. */
+static void refuses(universal_handle *handle) {
+    universal_handle seat = UNIVERSAL_NONE;
+    const uint64_t add[] = UNIVERSAL_COUNTER_ADD(1);
+    uint64_t state = NEVER;
+    process = version = reply[0] = has_come = NEVER;
+    IS(universal_small_seat(handle, &seat, &process), UNIVERSAL_WRONG_HANDLE);
+    IS(universal_small_apply(handle, add, 1, reply, 1, &version), UNIVERSAL_WRONG_HANDLE);
+    IS(universal_small_apply(handle, add, 0, reply, 0, &version), UNIVERSAL_WRONG_HANDLE);
+    IS(universal_small_follows(handle, 0, &has_come), UNIVERSAL_WRONG_HANDLE);
+    IS(universal_small_close(handle, &state, 1), UNIVERSAL_WRONG_HANDLE);
+    IS(universal_small_close(handle, &state, 0), UNIVERSAL_WRONG_HANDLE);
+    IS(seat.at != NULL || process != NEVER || version != NEVER || reply[0] != NEVER || has_come != NEVER || state != NEVER, 0);
+}
+
+static void misuse(void) {
+    universal_handle none = UNIVERSAL_NONE, log = UNIVERSAL_NONE, seat = UNIVERSAL_NONE, object = UNIVERSAL_NONE;
+    refuses(&none);
+
+    /* a log, its seat, and its entries */
+    IS(universal_open_tally(1, 2, &log), UNIVERSAL_DONE);
+    refuses(&log);
+    IS(universal_seat(&log, &seat, &process), UNIVERSAL_DONE);
+    refuses(&seat);
+    universal_drop(&log);
+    IS(universal_close(&seat), UNIVERSAL_DONE);
+    refuses(&seat);
+    universal_drop(&seat);
+
+    /* a call and a question by an object's own handle, a seat of a seat */
+    IS(universal_open_counter(1, &object), UNIVERSAL_DONE);
+    const uint64_t add[] = UNIVERSAL_COUNTER_ADD(1);
+    IS(universal_small_apply(&object, add, 1, reply, 1, &version), UNIVERSAL_WRONG_HANDLE);
+    IS(universal_small_follows(&object, 0, &has_come), UNIVERSAL_WRONG_HANDLE);
+    IS(universal_small_seat(&object, &seat, &process), UNIVERSAL_DONE);
+    IS(universal_small_seat(&seat, &none, &process), UNIVERSAL_WRONG_HANDLE);
+
+    /* the functions of logs, on both */
+    universal_reply answer = {NEVER, NEVER};
+    size_t count = NEVER;
+    for (int i = 0; i < 2; i++) {
+        universal_handle *it = i == 0 ? &object : &seat;
+        IS(universal_seat(it, &none, &process), UNIVERSAL_WRONG_HANDLE);
+        IS(universal_apply(it, 1, &answer), UNIVERSAL_WRONG_HANDLE);
+        IS(universal_follows(it, 0, 0, &has_come), UNIVERSAL_WRONG_HANDLE);
+        IS(universal_close(it), UNIVERSAL_WRONG_HANDLE);
+        IS(universal_read(it, &(universal_entry){0}, 1, &count), UNIVERSAL_WRONG_HANDLE);
+    }
+    IS(answer.reply != NEVER || count != NEVER || none.at != NULL, 0);
+    version = 0;
+    IS(CALL(&seat, 1, UNIVERSAL_COUNTER_ADD(1)), 0);
+    universal_drop(&object);
+    closes(&seat, (const uint64_t[]){1}, 1);
+    refuses(&seat);
+    universal_drop(&seat);
+}
+
+int main(void) {
+    numbers();
+    rows();
+    map();
+    book();
+    bad_sizes();
+    widths();
+    seats_end();
+    misuse();
+    for (uint32_t status = 0; status <= 11; status++)
+        IS(strcmp(universal_strerror(status), "no status") == 0, 0);
+    IS(strcmp(universal_strerror(12), "no status"), 0);
+    if (wrong == 0)
+        printf("small: as the header says\n");
+    return wrong != 0;
+}

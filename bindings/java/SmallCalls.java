@@ -1,0 +1,194 @@
+import java.util.ArrayList;
+import java.util.Arrays;
+import java.util.List;
+import java.util.OptionalLong;
+import java.util.concurrent.atomic.AtomicLongArray;
+import universal.Fault;
+import universal.Refused;
+import universal.Small;
+
+/** Small objects: each call on its happy path, each refusal, and threads, whose order is legal by replies and versions. */
+public final class SmallCalls {
+    private interface Action {
+        void run() throws Exception;
+    }
+
+    private interface Work<S> {
+        void on(S seat) throws Exception;
+    }
+
+    private static void is(Object found, Object wanted) {
+        if (!found.equals(wanted)) {
+            throw new AssertionError(found + " is not " + wanted);
+        }
+    }
+
+    private static void refuses(Fault fault, Action action) throws Exception {
+        try {
+            action.run();
+        } catch (Refused refused) {
+            is(refused.fault, fault);
+            return;
+        }
+        throw new AssertionError("not refused: " + fault);
+    }
+
+    private static <S extends Small.Seat> S only(Small<S> object) throws Refused {
+        try (object) {
+            return object.seat();
+        }
+    }
+
+    private static void state(long[] found, long... wanted) {
+        is(Arrays.toString(found), Arrays.toString(wanted));
+    }
+
+    private static void objects() throws Exception {
+        Small.Counter counter = only(Small.Counter.open(1));
+        is(List.of(counter.add(5), counter.add(-1), counter.add(0)), List.of(0L, 5L, 4L));
+        state(counter.finish(), 4);
+        Small.Register register = only(Small.Register.open(1));
+        is(List.of(register.write(-1), register.compareExchange(3, 9), register.compareExchange(-1, 9), register.read()), List.of(0L, -1L, -1L, 9L));
+        state(register.finish(), 9);
+        Small.Counters counters = only(Small.Counters.open(1, 3));
+        is(List.of(counters.add(2, 8), counters.add(2, 1), counters.add(3, 1)), List.of(0L, 8L, 0L));
+        state(counters.finish(), 0, 0, 9);
+        Small.Queue queue = only(Small.Queue.open(1, 2));
+        is(List.of(queue.take(), queue.put(8), queue.put(9), queue.put(7), queue.take()), List.of(0L, true, true, false, 8L));
+        state(queue.finish(), 1, 9, 0);
+        Small.Stack stack = only(Small.Stack.open(1, 2));
+        is(List.of(stack.pop(), stack.push(8), stack.push(9), stack.push(7), stack.pop()), List.of(0L, true, true, false, 9L));
+        state(stack.finish(), 1, 8, 0);
+        Small.Map map = only(Small.Map.open(1, 2));
+        is(List.of(map.insert(7, 70), map.insert(7, 71), map.insert(0, 5)), List.of(OptionalLong.empty(), OptionalLong.of(70), OptionalLong.empty()));
+        refuses(Fault.NO_ROOM, () -> map.insert(9, 90));
+        is(List.of(map.get(9), map.get(0), map.remove(7)), List.of(OptionalLong.empty(), OptionalLong.of(5), OptionalLong.of(71)));
+        state(map.finish(), 1, 0, 5, 0, 0);
+        Small.Book book = only(Small.Book.open(1));
+        is(book.deposit(3, 10), 10L);
+        refuses(Fault.OVER, () -> book.deposit(3, 999_999_999_999L));
+        refuses(Fault.SHORT, () -> book.withdraw(3, 11));
+        book.transfer(3, 15, 4);
+        is(List.of(book.withdraw(3, 1), book.total()), List.of(5L, 9L));
+        state(book.finish(), 0, 0, 0, 5, 0, 0, 0, 0, 0, 0, 0, 0, 0, 0, 0, 4);
+    }
+
+    private static void refusals() throws Exception {
+        refuses(Fault.BAD_COUNT, () -> Small.Counter.open(0));
+        refuses(Fault.BAD_COUNT, () -> Small.Book.open(65));
+        refuses(Fault.BAD_CAPACITY, () -> Small.Counters.open(1, 65537));
+        refuses(Fault.BAD_CAPACITY, () -> Small.Queue.open(1, 65536));
+        refuses(Fault.BAD_CAPACITY, () -> Small.Stack.open(1, -1));
+        refuses(Fault.BAD_CAPACITY, () -> Small.Map.open(1, 32768));
+        state(only(Small.Counters.open(1, 0)).finish());
+    }
+
+    private static void seats() throws Exception {
+        Small<Small.Counter> object = Small.Counter.open(2);
+        List<Small.Counter> seats = object.seats();
+        Small.Counter first = seats.get(0), second = seats.get(1);
+        is(List.of(first.process, second.process, first.version()), List.of(1L, 0L, 0L));
+        refuses(Fault.NO_SEAT, object::seat);
+        is(first.add(5), 0L);
+        is(List.of(second.follows(first.version()), second.follows(first.version() + 1), second.add(2)), List.of(true, false, 5L));
+        refuses(Fault.BUSY, first::finish);
+        second.close();
+        refuses(Fault.BUSY, object::finish);
+        is(first.add(1), 7L);
+        first.close();
+        state(object.finish(), 8);
+        for (Action closed : List.<Action>of(object::seat, object::finish, first::finish, () -> first.add(1))) {
+            try {
+                closed.run();
+                throw new AssertionError("it was closed");
+            } catch (IllegalStateException expected) {
+                // it was
+            }
+        }
+    }
+
+    /** Each seat's work in a thread of its own; then the last state, by the object's own handle. */
+    private static <S extends Small.Seat> long[] shared(Small<S> object, Work<S> work) throws Exception {
+        List<Throwable> wrong = new ArrayList<>();
+        List<S> seats = object.seats();
+        List<Thread> threads = new ArrayList<>();
+        for (S seat : seats) {
+            threads.add(Thread.ofPlatform().start(() -> {
+                try (seat) {
+                    work.on(seat);
+                } catch (Throwable thrown) {
+                    synchronized (wrong) {
+                        wrong.add(thrown);
+                    }
+                }
+            }));
+        }
+        for (Thread thread : threads) {
+            thread.join();
+        }
+        if (!wrong.isEmpty()) {
+            throw new AssertionError(wrong.get(0));
+        }
+        return object.finish();
+    }
+
+    private static void threads(int n, int calls) throws Exception {
+        // each call adds 1, so its reply is its place; each thread follows what another one told
+        AtomicLongArray mark = new AtomicLongArray(n), told = new AtomicLongArray(n);
+        AtomicLongArray places = new AtomicLongArray(n * calls);
+        state(shared(Small.Counter.open(n), seat -> {
+            for (int i = 0; i < calls; i++) {
+                int other = (int) ((seat.process + 1 + i) % n);
+                long earlier = mark.get(other);
+                is(i % 16 != 0 || seat.follows(told.get(other)), true);
+                long place = seat.add(1);
+                is(i % 16 != 0 || place >= earlier, true);
+                is(places.getAndIncrement((int) place), 0L);
+                mark.set((int) seat.process, place + 1);
+                told.set((int) seat.process, seat.version());
+            }
+        }), (long) n * calls);
+
+        // each call is answered the value before, so these tell the order of a key's calls
+        AtomicLongArray before = new AtomicLongArray(n * calls + 1);
+        long[] last = shared(Small.Map.open(n, 8), seat -> {
+            for (int i = 0; i < calls; i++) {
+                int value = (int) (1 + (long) i * n + seat.process);
+                before.set(value, seat.insert(i % 8, value).orElse(0));
+            }
+        });
+        int found = 0;
+        for (int k = 0; k < last[0]; k++) {
+            for (int value = (int) last[2 + 2 * k]; value != 0; value = (int) before.getAndSet(value, -1)) {
+                found++;
+            }
+        }
+        is(found, n * calls);
+
+        // no number of a thread overtakes an earlier one
+        AtomicLongArray after = new AtomicLongArray(n * calls / 2), version = new AtomicLongArray(n * calls / 2);
+        is(shared(Small.Queue.open(n, 64), seat -> {
+            for (int i = 0; i < calls / 2; i++) {
+                is(seat.put(1 + (long) i * n + seat.process), true);
+                long since = seat.version();
+                int taken = (int) seat.take() - 1;
+                after.set(taken, since);
+                is(version.getAndSet(taken, seat.version()), 0L);
+            }
+        })[0], 0L);
+        for (int i = n; i < n * calls / 2; i++) {
+            is(version.get(i) > after.get(i - n), true);
+        }
+    }
+
+    /** The arguments are how many calls each thread makes, and how many threads there are, once or more. */
+    public static void main(String[] arguments) throws Exception {
+        objects();
+        refusals();
+        seats();
+        for (int i = 1; i < arguments.length; i++) {
+            threads(Integer.parseInt(arguments[i]), Integer.parseInt(arguments[0]));
+        }
+        System.out.println("small: each call and each refusal");
+    }
+}

@@ -1,0 +1,357 @@
+package universal;
+
+import static java.lang.foreign.ValueLayout.JAVA_INT;
+import static java.lang.foreign.ValueLayout.JAVA_LONG;
+
+import java.lang.foreign.Arena;
+import java.lang.foreign.MemorySegment;
+import java.lang.invoke.MethodHandle;
+import java.util.ArrayList;
+import java.util.List;
+import java.util.OptionalLong;
+import universal.Universal.Handle;
+
+/**
+ * A small object that n processes share, on words of 64 bits, with the seats that are still to be given out. {@code open} of
+ * the class of its seats gives one, as {@code Small.Queue.open(4, 100)}. Its seats make calls without end.
+ *
+ * <p>A call takes no lock of the library and no memory. It comes with a version: a number of the object's state, in which the
+ * call is. Who is told a version, by whatever means, can follow it.
+ */
+public final class Small<S extends Small.Seat> implements AutoCloseable {
+    private final Handle handle = new Handle();
+    private final int width;
+    private final Seats<S> seats;
+
+    private interface Seats<S> {
+        S of(Handle handle, long process, int width);
+    }
+
+    private Small(int width, Seats<S> seats) {
+        this.width = width;
+        this.seats = seats;
+    }
+
+    private static <S extends Seat> Small<S> opened(MethodHandle open, long n, int width, Seats<S> seats) throws Refused {
+        Small<S> object = new Small<>(width, seats);
+        return object.opened(() -> (int) open.invokeExact(n, object.handle.at));
+    }
+
+    private static <S extends Seat> Small<S> opened(MethodHandle open, long n, int size, int width, Seats<S> seats) throws Refused {
+        Small<S> object = new Small<>(width, seats);
+        return object.opened(() -> (int) open.invokeExact(n, size, object.handle.at));
+    }
+
+    private Small<S> opened(Universal.Call open) throws Refused {
+        try {
+            Universal.done(open);
+            return this;
+        } catch (Refused refused) {
+            close();
+            throw refused;
+        }
+    }
+
+    /** The seat of the greatest process that has none yet. Refused: all are given out; memory. */
+    public synchronized S seat() throws Refused {
+        Handle seat = new Handle();
+        try (Arena arena = Arena.ofConfined()) {
+            MemorySegment process = arena.allocate(JAVA_LONG);
+            Universal.done(() -> (int) Universal.SMALL_SEAT.invokeExact(handle.use(), seat.at, process));
+            return seats.of(seat, process.get(JAVA_LONG, 0), width);
+        } catch (Refused refused) {
+            seat.close();
+            throw refused;
+        }
+    }
+
+    /** All seats that are left, that of the greatest process first. Refused: memory. */
+    public List<S> seats() throws Refused {
+        List<S> given = new ArrayList<>();
+        while (true) {
+            try {
+                given.add(seat());
+            } catch (Refused refused) {
+                if (refused.fault != Fault.NO_SEAT) {
+                    throw refused;
+                }
+                return given;
+            }
+        }
+    }
+
+    /** Closes the object, if all its seats are closed: the words of the last state. Refused: a seat has the object. */
+    public synchronized long[] finish() throws Refused {
+        return finish(handle, width);
+    }
+
+    private static long[] finish(Handle handle, int width) throws Refused {
+        try (Arena arena = Arena.ofConfined()) {
+            MemorySegment state = arena.allocate(JAVA_LONG, Math.max(1, width));
+            Universal.done(() -> (int) Universal.SMALL_CLOSE.invokeExact(handle.use(), state, (long) width));
+            handle.close();
+            return state.asSlice(0, 8L * width).toArray(JAVA_LONG);
+        }
+    }
+
+    /** Lets the object go; seats that were given out stay. */
+    @Override
+    public synchronized void close() {
+        handle.close();
+    }
+
+    /** A process of a small object, which makes its calls: from any thread, one at a time. */
+    public abstract static sealed class Seat implements AutoCloseable {
+        private static final int MOST = 4;
+
+        private final Handle handle;
+        private final int width;
+        private final Arena arena = Arena.ofShared();
+        private final MemorySegment invocation = arena.allocate(JAVA_LONG, MOST), reply = arena.allocate(JAVA_LONG, 2);
+        private final MemorySegment answer = arena.allocate(JAVA_LONG);
+        private long version;
+
+        /** Which process it is, from 0 to n - 1. */
+        public final long process;
+
+        private Seat(Handle handle, long process, int width) {
+            this.handle = handle;
+            this.process = process;
+            this.width = width;
+        }
+
+        /** The version that the latest call was answered: one that the call is in, greater than each before. 0: there was none. */
+        public final synchronized long version() {
+            return version;
+        }
+
+        /**
+         * Whether a version has come: all later calls of this seat come after all calls that are in it then. It is always true
+         * of one that a call was answered.
+         */
+        public final synchronized boolean follows(long version) throws Refused {
+            Universal.done(() -> (int) Universal.SMALL_FOLLOWS.invokeExact(handle.use(), version, answer));
+            return answer.get(JAVA_INT, 0) != 0;
+        }
+
+        /** Closes the object, by the last that has it: the words of the last state. Refused: another has it. */
+        public final synchronized long[] finish() throws Refused {
+            long[] state = Small.finish(handle, width);
+            close();
+            return state;
+        }
+
+        /** Lets the seat go; at a seat that was let go or has finished it does nothing. */
+        @Override
+        public final synchronized void close() {
+            handle.close();
+            if (arena.scope().isAlive()) {
+                arena.close();
+            }
+        }
+
+        /** A call: the words of its reply. */
+        final synchronized long[] apply(int replies, long... words) throws Refused {
+            handle.use();
+            MemorySegment.copy(words, 0, invocation, JAVA_LONG, 0, words.length);
+            Universal.done(() -> (int) Universal.SMALL_APPLY.invokeExact(handle.use(), invocation, (long) words.length, reply,
+                    (long) replies, answer));
+            version = answer.get(JAVA_LONG, 0);
+            return new long[] {reply.get(JAVA_LONG, 0), reply.get(JAVA_LONG, 8)};
+        }
+
+        final long ask(long... words) throws Refused {
+            return apply(1, words)[0];
+        }
+    }
+
+    /** A seat of a counter modulo 2^64, 0 at the start. A state is the sum. */
+    public static final class Counter extends Seat {
+        private Counter(Handle handle, long process, int width) {
+            super(handle, process, width);
+        }
+
+        /** A counter for n processes. */
+        public static Small<Counter> open(long n) throws Refused {
+            return opened(Universal.OPEN_COUNTER, n, 1, Counter::new);
+        }
+
+        /** Adds a number: the sum before. */
+        public long add(long number) throws Refused {
+            return ask(number);
+        }
+    }
+
+    /** A seat of a register of 64 bits, 0 at the start. A state is the value. */
+    public static final class Register extends Seat {
+        private Register(Handle handle, long process, int width) {
+            super(handle, process, width);
+        }
+
+        /** A register for n processes. */
+        public static Small<Register> open(long n) throws Refused {
+            return opened(Universal.OPEN_REGISTER64, n, 1, Register::new);
+        }
+
+        /** The value. */
+        public long read() throws Refused {
+            return ask(0, 0, 0);
+        }
+
+        /** Writes a value: the one before. */
+        public long write(long value) throws Refused {
+            return ask(1, value, 0);
+        }
+
+        /** Writes a value where the register has the expected one: the value before. */
+        public long compareExchange(long expected, long value) throws Refused {
+            return ask(2, expected, value);
+        }
+    }
+
+    /** A seat of an array of counters modulo 2^64, each 0 at the start. A state is each sum. */
+    public static final class Counters extends Seat {
+        private Counters(Handle handle, long process, int width) {
+            super(handle, process, width);
+        }
+
+        /** So many counters for n processes. Refused: there are more than 65,536. */
+        public static Small<Counters> open(long n, int count) throws Refused {
+            return opened(Universal.OPEN_COUNTERS, n, count, count, Counters::new);
+        }
+
+        /** Adds a number to the counter at an index: the sum before. Where there is none, nothing is changed, and that is 0. */
+        public long add(long index, long number) throws Refused {
+            return ask(index, number);
+        }
+    }
+
+    /** A seat of a queue of numbers that aren't 0. A state is how many there are, and then they, the oldest one first. */
+    public static final class Queue extends Seat {
+        private Queue(Handle handle, long process, int width) {
+            super(handle, process, width);
+        }
+
+        /** A queue of at most {@code capacity} numbers for n processes. Refused: capacity is more than 65,535. */
+        public static Small<Queue> open(long n, int capacity) throws Refused {
+            return opened(Universal.OPEN_QUEUE, n, capacity, 1 + capacity, Queue::new);
+        }
+
+        /** Puts a number in, if there is room. */
+        public boolean put(long number) throws Refused {
+            return ask(notZero(number)) == 1;
+        }
+
+        /** Takes the oldest number out; 0 where there is none. */
+        public long take() throws Refused {
+            return ask(0);
+        }
+    }
+
+    /** A seat of a stack of numbers that aren't 0. A state is how many there are, and then they, the newest one last. */
+    public static final class Stack extends Seat {
+        private Stack(Handle handle, long process, int width) {
+            super(handle, process, width);
+        }
+
+        /** A stack of at most {@code capacity} numbers for n processes. Refused: capacity is more than 65,535. */
+        public static Small<Stack> open(long n, int capacity) throws Refused {
+            return opened(Universal.OPEN_STACK, n, capacity, 1 + capacity, Stack::new);
+        }
+
+        /** Puts a number on, if there is room. */
+        public boolean push(long number) throws Refused {
+            return ask(notZero(number)) == 1;
+        }
+
+        /** Takes the newest number off; 0 where there is none. */
+        public long pop() throws Refused {
+            return ask(0);
+        }
+    }
+
+    /** A seat of a map. A state is how many keys there are, and then each with its value, the oldest key first. */
+    public static final class Map extends Seat {
+        private Map(Handle handle, long process, int width) {
+            super(handle, process, width);
+        }
+
+        /** A map of at most {@code capacity} keys for n processes. Refused: capacity is more than 32,767. */
+        public static Small<Map> open(long n, int capacity) throws Refused {
+            return opened(Universal.OPEN_MAP, n, capacity, 1 + 2 * capacity, Map::new);
+        }
+
+        /** The value of a key. */
+        public OptionalLong get(long key) throws Refused {
+            return before(0, key, 0);
+        }
+
+        /** Gives a key a value: the value before. Refused: there is no room for a new key. */
+        public OptionalLong insert(long key, long value) throws Refused {
+            return before(1, key, value);
+        }
+
+        /** Takes a key out: its value. */
+        public OptionalLong remove(long key) throws Refused {
+            return before(2, key, 0);
+        }
+
+        private OptionalLong before(long operation, long key, long value) throws Refused {
+            long[] reply = apply(2, operation, key, value);
+            if (reply[0] == 2) {
+                throw new Refused(Fault.NO_ROOM);
+            }
+            return reply[0] == 1 ? OptionalLong.of(reply[1]) : OptionalLong.empty();
+        }
+    }
+
+    /** A seat of a book of sixteen accounts, each with a balance up to 999,999,999,999. A state is the balances. */
+    public static final class Book extends Seat {
+        private Book(Handle handle, long process, int width) {
+            super(handle, process, width);
+        }
+
+        /** A book for n processes. */
+        public static Small<Book> open(long n) throws Refused {
+            return opened(Universal.OPEN_BOOK, n, 16, Book::new);
+        }
+
+        /** Puts an amount into an account: its balance. Refused: that would be too great. */
+        public long deposit(int account, long amount) throws Refused {
+            return number(0, account, 0, amount);
+        }
+
+        /** Takes an amount out of an account: its balance. Refused: it is too small. */
+        public long withdraw(int account, long amount) throws Refused {
+            return number(1, account, 0, amount);
+        }
+
+        /** Takes an amount out of an account, and puts it into another one. Refused: as both. */
+        public void transfer(int from, int to, long amount) throws Refused {
+            number(2, from, to, amount);
+        }
+
+        /** The sum of all balances. */
+        public long total() throws Refused {
+            return number(3, 0, 0, 0);
+        }
+
+        private long number(long operation, int from, int to, long amount) throws Refused {
+            if (from < 0 || from > 15 || to < 0 || to > 15 || amount < 0 || amount > 999_999_999_999L) {
+                throw new IllegalArgumentException("an account isn't from 0 to 15, or an amount isn't from 0 to 999999999999");
+            }
+            long[] reply = apply(2, operation, from, to, amount);
+            if (reply[0] == 1 || reply[0] == 2) {
+                throw new Refused(reply[0] == 1 ? Fault.OVER : Fault.SHORT);
+            }
+            return reply[1];
+        }
+    }
+
+    private static long notZero(long number) {
+        if (number == 0) {
+            throw new IllegalArgumentException("0 can't be put in");
+        }
+        return number;
+    }
+}

@@ -1,0 +1,191 @@
+"""Small objects: each call on its happy path, each refusal, and threads: python3 -m unittest"""
+
+import copy
+import queue
+import unittest
+
+from universal import Fault, Log, Refused
+from universal.small import Book, Counter, Counters, Full, Map, Over, Queue, Register, Short, Stack, in_threads
+
+MOST = (1 << 64) - 1
+
+
+def only_seat(opened):
+    with opened:
+        return opened.seat()
+
+
+class Calls(unittest.TestCase):
+    def refuses(self, fault, call):
+        with self.assertRaises(Refused) as refused:
+            call()
+        self.assertIs(refused.exception.fault, fault)
+
+    def test_counters(self):
+        counter = only_seat(Counter.open(1))
+        self.assertEqual([counter.add(5), counter.add(-1), counter.add(MOST), counter.add(0)], [0, 5, 4, 3])
+        self.assertEqual(counter.finish(), 3)
+        counters = only_seat(Counters.open(1, 3))
+        self.assertEqual([counters.add(2, 8), counters.add(2, 1)], [0, 8])
+        self.assertRaises(IndexError, lambda: counters.add(3, 1))
+        self.assertEqual(counters.finish(), [0, 0, 9])
+
+    def test_register(self):
+        register = only_seat(Register.open(1))
+        self.assertEqual([register.write(MOST), register.compare_exchange(3, 9)], [0, MOST])
+        self.assertEqual([register.compare_exchange(MOST, 9), register.read()], [MOST, 9])
+        self.assertRaises(ValueError, lambda: register.write(-1))
+        self.assertEqual(register.finish(), 9)
+
+    def test_rows(self):
+        row = only_seat(Queue.open(1, 2))
+        self.assertIsNone(row.take())
+        row.put(8)
+        row.put(9)
+        self.assertRaises(queue.Full, lambda: row.put(7))
+        self.assertRaises(ValueError, lambda: row.put(0))
+        self.assertEqual(row.take(), 8)
+        self.assertEqual(row.finish(), [9])
+        stack = only_seat(Stack.open(1, 2))
+        self.assertIsNone(stack.pop())
+        stack.push(8)
+        stack.push(9)
+        self.assertRaises(Full, lambda: stack.push(7))
+        self.assertEqual(stack.pop(), 9)
+        self.assertEqual(stack.finish(), [8])
+
+    def test_map(self):
+        numbers = only_seat(Map.open(1, 2))
+        self.assertEqual([numbers.insert(7, 70), numbers.insert(7, 71), numbers.insert(0, 0)], [None, 70, None])
+        self.assertRaises(Full, lambda: numbers.insert(9, 90))
+        self.assertEqual([numbers.get(9), numbers.get(0), numbers.remove(7), numbers.remove(7)], [None, 0, 71, None])
+        numbers.insert(9, MOST)
+        self.assertEqual(numbers.finish(), {0: 0, 9: MOST})
+
+    def test_book(self):
+        book = only_seat(Book.open(1))
+        self.assertEqual(book.deposit(3, 10), 10)
+        self.assertRaises(Over, lambda: book.deposit(3, 10**12 - 1))
+        self.assertRaises(Short, lambda: book.withdraw(3, 11))
+        self.assertEqual(book.withdraw(3, 1), 9)
+        book.transfer(3, 15, 4)
+        self.assertRaises(Short, lambda: book.transfer(3, 15, 6))
+        for bad in [(16, 1), (-1, 1), (0, 10**12), (0, -1)]:
+            self.assertRaises(ValueError, lambda: book.deposit(*bad))
+        self.assertEqual(book.total(), 9)
+        self.assertEqual(book.finish(), [0, 0, 0, 5, *[0] * 11, 4])
+
+    def test_bad_sizes(self):
+        self.refuses(Fault.BAD_COUNT, lambda: Counter.open(0))
+        self.refuses(Fault.BAD_COUNT, lambda: Book.open(65))
+        self.refuses(Fault.BAD_CAPACITY, lambda: Counters.open(1, 65537))
+        self.refuses(Fault.BAD_CAPACITY, lambda: Queue.open(1, 65536))
+        self.refuses(Fault.BAD_CAPACITY, lambda: Stack.open(1, 65536))
+        self.refuses(Fault.BAD_CAPACITY, lambda: Map.open(1, 32768))
+        self.assertRaises(ValueError, lambda: Queue.open(1, -1))
+        self.assertRaises(ValueError, lambda: Map.open(1, 1 << 32))
+        self.assertEqual(only_seat(Counters.open(1, 0)).finish(), [])
+
+    def test_seats_and_closing(self):
+        counter = Counter.open(2)
+        first, second = counter.seats()
+        self.assertEqual((repr(counter), repr(first), first.version), ("<Small Counter>", "<Counter of process 1>", 0))
+        self.refuses(Fault.NO_SEAT, counter.seat)
+        self.assertEqual(first.add(5), 0)
+        self.assertTrue(second.follows(first.version))
+        self.assertFalse(second.follows(first.version + 1))
+        self.assertEqual(second.add(2), 5)
+        self.assertGreater(second.version, first.version)
+        self.refuses(Fault.BUSY, first.finish)
+        second.close()
+        self.refuses(Fault.BUSY, first.finish)
+        self.refuses(Fault.BUSY, counter.finish)
+        self.assertEqual(first.add(1), 7)
+        first.close()
+        self.assertEqual(counter.finish(), 8)
+        for closed in [counter.finish, counter.seat, first.finish, lambda: first.add(1), lambda: first.follows(0)]:
+            self.refuses(Fault.WRONG_HANDLE, closed)
+        self.assertEqual((repr(counter), repr(first)), ("<Small Counter, closed>", "<Counter, closed>"))
+
+    def test_one_handle(self):
+        row = Queue.open(1, 1)
+        for held in [row, row.seat()]:
+            self.assertRaises(TypeError, lambda: copy.copy(held))
+        seat = only_seat(Queue.open(1, 1))
+        with seat._lock:
+            self.refuses(Fault.BUSY, lambda: seat.put(1))
+        with Log.tally(1, 1) as log, Counter.open(1) as counter:
+            seats = [log.seat(), counter.seat()]
+        self.assertRaises(ValueError, lambda: in_threads(seats, lambda seat: None))
+
+
+class Threads(unittest.TestCase):
+    """2,000 calls of each thread: the order is legal, by the replies and the versions."""
+
+    COUNTS, CALLS = [2, 4, 16, 64], 2000
+
+    def seats(self, opened):
+        with opened:
+            return opened.seats()
+
+    def test_counter(self):
+        for n in self.COUNTS:
+            told, places = {}, []
+
+            def work(seat):
+                for turn in range(self.CALLS):
+                    earlier = told.get((seat.process + 1 + turn) % n)
+                    if earlier is not None:
+                        self.assertTrue(seat.follows(earlier[1]))
+                    place = seat.add(1)
+                    self.assertGreater(place, earlier[0] if earlier else -1)
+                    told[seat.process] = place, seat.version
+                    places.append(place)
+
+            self.assertEqual(in_threads(self.seats(Counter.open(n)), work), n * self.CALLS)
+            self.assertEqual(sorted(places), list(range(n * self.CALLS)))
+
+    def test_map(self):
+        for n in self.COUNTS:
+            before = {}
+
+            def work(seat):
+                for turn in range(self.CALLS):
+                    value = 1 + turn * n + seat.process
+                    before[value] = seat.insert(turn % 8, value)
+
+            # from the last value of each key back
+            order = []
+            for value in in_threads(self.seats(Map.open(n, 8)), work).values():
+                while value is not None:
+                    order.append(value)
+                    value = before[value]
+            self.assertEqual(sorted(order), list(range(1, 1 + n * self.CALLS)))
+            for process in range(n):
+                own = [(value - 1) // n for value in order if (value - 1) % n == process]
+                for key in range(8):
+                    turns = [turn for turn in own if turn % 8 == key]
+                    self.assertEqual(turns, sorted(turns, reverse=True))
+
+    def test_queue(self):
+        for n in self.COUNTS:
+            out = {}
+
+            def work(seat):
+                for turn in range(self.CALLS // 2):
+                    seat.put(1 + turn * n + seat.process)
+                    after = seat.version
+                    taken = seat.take()
+                    self.assertNotIn(taken, out)
+                    out[taken] = after, seat.version
+
+            self.assertEqual(in_threads(self.seats(Queue.open(n, 64)), work), [])
+            self.assertEqual(len(out), n * (self.CALLS // 2))
+            # no number of a process overtakes an earlier one
+            for number, (_, version) in out.items():
+                if number > n:
+                    self.assertGreater(version, out[number - n][0])
+
+
+if __name__ == "__main__":
+    unittest.main()

@@ -1,0 +1,308 @@
+"""Objects on words of 64 bits, whose seats make calls without end: `Counter`, `Register`, `Counters`, `Queue`, `Stack`, `Map`
+and `Book`.
+
+`open` of a class gives a `Small`, the object for n processes, with its seats of that class:
+
+    with Queue.open(4, 100) as queue:
+        seats = queue.seats()
+    in_threads(seats, lambda seat: seat.put(seat.process + 1))   # the numbers that are left, the oldest first
+
+A call comes with a version: a number of the object's state, in which the call is. A seat has that of its latest call in
+`version`. Who is told a version, by whatever means, can follow it. A seat makes up to 2^50 calls; a further one raises
+`Refused`, with `FULL`.
+"""
+
+from __future__ import annotations
+
+from collections.abc import Callable, Sequence
+from ctypes import byref, c_uint32, c_uint64
+from queue import Full
+from typing import Generic, TypeVar
+
+from . import _LIBRARY, Fault, Refused, _Held, _number, _Shared, in_threads
+
+__all__ = ["Book", "Counter", "Counters", "Full", "Map", "Over", "Queue", "Register", "Short", "Small", "Stack", "in_threads"]
+
+
+class Over(Exception):
+    """A balance would be too great. Nothing is changed."""
+
+
+class Short(Exception):
+    """A balance is too small. Nothing is changed."""
+
+
+class _Seat(_Held):
+    """A process of a small object, which makes its calls. `process` is which it is, and `version` that of its latest call."""
+
+    _replies = 1
+
+    def __init__(self, object_: Small) -> None:
+        super().__init__()
+        self._log_id, self._width = object_._id(), object_._width
+        self.process = self.version = 0
+
+    def __repr__(self) -> str:
+        name = type(self).__name__
+        return f"<{name}, closed>" if self._is_closed() else f"<{name} of process {self.process}>"
+
+    def _apply(self, *words: int) -> Sequence[int]:
+        invocation, version = (c_uint64 * len(words))(*words), c_uint64()
+        reply = (c_uint64 * self._replies)()
+        self._call(_LIBRARY.universal_small_apply, invocation, len(words), reply, self._replies, byref(version))
+        self.version = version.value
+        return reply
+
+    def follows(self, version: int) -> bool:
+        """Whether a version has come: all later calls of this seat come after all calls that are in it then.
+
+        It is always true of one that a call was answered. Raises `Refused`: the seat is busy.
+        """
+        has_come = c_uint32()
+        self._call(_LIBRARY.universal_small_follows, _number(version, 64), byref(has_come))
+        return has_come.value != 0
+
+    def finish(self):
+        """Closes the object, by the last that has it: the last state.
+
+        Raises `Refused`: another has the object, and the seat stays.
+        """
+        return self._state(_words(self, self._width))
+
+    @classmethod
+    def _state(cls, words: list[int]):
+        return words
+
+
+_S = TypeVar("_S", bound=_Seat)
+
+
+def _words(held: _Held, width: int) -> list[int]:
+    state = (c_uint64 * max(1, width))()
+    held._call(_LIBRARY.universal_small_close, state, width)
+    return list(state[:width])
+
+
+class Small(_Shared, Generic[_S]):
+    """A small object that n processes share, with the seats that are still to be given out."""
+
+    def __init__(self, seats_of: type[_S], width: int) -> None:
+        super().__init__()
+        self._seats_of, self._width = seats_of, width
+
+    def __repr__(self) -> str:
+        name = self._seats_of.__name__
+        return f"<Small {name}, closed>" if self._is_closed() else f"<Small {name}>"
+
+    @classmethod
+    def _open(cls, seats_of: type[_S], width: int, function: Callable[..., int], *args: int) -> Small[_S]:
+        opened = cls(seats_of, width)
+        status = function(*args, opened._at)
+        if status != 0:
+            raise Refused(Fault(status))
+        return opened
+
+    def seat(self) -> _S:
+        """The seat of the greatest process that has none yet. Raises `Refused`: all are given out, or memory."""
+        seat, process = self._seats_of(self), c_uint64()
+        self._call(_LIBRARY.universal_small_seat, seat._at, byref(process))
+        seat.process = process.value
+        return seat
+
+    def finish(self):
+        """Closes the object, if all its seats are closed: the last state.
+
+        Raises `Refused`: a seat has the object, which stays.
+        """
+        return self._seats_of._state(_words(self, self._width))
+
+
+class Counter(_Seat):
+    """A seat of a counter modulo 2^64, 0 at the start. The last state is the sum."""
+
+    @classmethod
+    def open(cls, n: int) -> Small[Counter]:
+        """A counter for n processes. Raises `Refused`: n isn't from 1 to 64; memory was refused."""
+        return Small._open(cls, 1, _LIBRARY.universal_open_counter, _number(n, 64))
+
+    def add(self, number: int) -> int:
+        """Adds a number modulo 2^64: the sum before."""
+        return self._apply(number % (1 << 64))[0]
+
+    @classmethod
+    def _state(cls, words: list[int]) -> int:
+        return words[0]
+
+
+class Register(_Seat):
+    """A seat of a register of 64 bits, 0 at the start. The last state is the value."""
+
+    @classmethod
+    def open(cls, n: int) -> Small[Register]:
+        """A register for n processes. Raises as `Counter.open`."""
+        return Small._open(cls, 1, _LIBRARY.universal_open_register64, _number(n, 64))
+
+    def read(self) -> int:
+        """The value."""
+        return self._apply(0, 0, 0)[0]
+
+    def write(self, value: int) -> int:
+        """Writes a value: the one before."""
+        return self._apply(1, _number(value, 64), 0)[0]
+
+    def compare_exchange(self, expected: int, value: int) -> int:
+        """Writes a value where the register has the expected one: the value before.
+
+        So it has written where that is the expected one.
+        """
+        return self._apply(2, _number(expected, 64), _number(value, 64))[0]
+
+    @classmethod
+    def _state(cls, words: list[int]) -> int:
+        return words[0]
+
+
+class Counters(_Seat):
+    """A seat of an array of counters modulo 2^64, each 0 at the start. The last state is their list."""
+
+    @classmethod
+    def open(cls, n: int, count: int) -> Small[Counters]:
+        """So many counters for n processes.
+
+        Raises `Refused`: n isn't from 1 to 64; there are more than 65,536 counters; memory was refused.
+        """
+        return Small._open(cls, count, _LIBRARY.universal_open_counters, _number(n, 64), _number(count, 32))
+
+    def add(self, index: int, number: int) -> int:
+        """Adds a number modulo 2^64 to the counter at an index: the sum before. Raises `IndexError`: there is none."""
+        if not 0 <= index < self._width:
+            raise IndexError(f"there is no counter {index}")
+        return self._apply(index, number % (1 << 64))[0]
+
+
+class _Row(_Seat):
+    @classmethod
+    def _state(cls, words: list[int]) -> list[int]:
+        return words[1 : 1 + words[0]]
+
+    def _put(self, number: int) -> None:
+        if number == 0:
+            raise ValueError("0 can't be put in")
+        if self._apply(_number(number, 64))[0] == 0:
+            raise Full
+
+    def _take(self) -> int | None:
+        return self._apply(0)[0] or None
+
+
+class Queue(_Row):
+    """A seat of a queue of numbers from 1 to 2^64 - 1. The last state is their list, the oldest one first."""
+
+    @classmethod
+    def open(cls, n: int, capacity: int) -> Small[Queue]:
+        """A queue of at most `capacity` numbers for n processes.
+
+        Raises `Refused`: n isn't from 1 to 64; capacity is more than 65,535; memory was refused.
+        """
+        return Small._open(cls, 1 + capacity, _LIBRARY.universal_open_queue, _number(n, 64), _number(capacity, 32))
+
+    def put(self, number: int) -> None:
+        """Puts a number in. Raises `Full`, which is `queue.Full`."""
+        self._put(number)
+
+    def take(self) -> int | None:
+        """Takes the oldest number out."""
+        return self._take()
+
+
+class Stack(_Row):
+    """A seat of a stack of numbers from 1 to 2^64 - 1. The last state is their list, the newest one last."""
+
+    @classmethod
+    def open(cls, n: int, capacity: int) -> Small[Stack]:
+        """A stack of at most `capacity` numbers for n processes. Raises as `Queue.open`."""
+        return Small._open(cls, 1 + capacity, _LIBRARY.universal_open_stack, _number(n, 64), _number(capacity, 32))
+
+    def push(self, number: int) -> None:
+        """Puts a number on. Raises `Full`, which is `queue.Full`."""
+        self._put(number)
+
+    def pop(self) -> int | None:
+        """Takes the newest number off."""
+        return self._take()
+
+
+class Map(_Seat):
+    """A seat of a map from words to words. The last state is a dictionary, with the oldest key first."""
+
+    _replies = 2
+
+    @classmethod
+    def open(cls, n: int, capacity: int) -> Small[Map]:
+        """A map of at most `capacity` keys for n processes.
+
+        Raises `Refused`: n isn't from 1 to 64; capacity is more than 32,767; memory was refused.
+        """
+        return Small._open(cls, 1 + 2 * capacity, _LIBRARY.universal_open_map, _number(n, 64), _number(capacity, 32))
+
+    def _before(self, operation: int, key: int, value: int) -> int | None:
+        kind, before = self._apply(operation, _number(key, 64), _number(value, 64))
+        if kind == 2:
+            raise Full
+        return before if kind == 1 else None
+
+    def get(self, key: int) -> int | None:
+        """The value of a key."""
+        return self._before(0, key, 0)
+
+    def insert(self, key: int, value: int) -> int | None:
+        """Gives a key a value: the value before. Raises `Full`, which is `queue.Full`: a new key has no room."""
+        return self._before(1, key, value)
+
+    def remove(self, key: int) -> int | None:
+        """Takes a key out: its value."""
+        return self._before(2, key, 0)
+
+    @classmethod
+    def _state(cls, words: list[int]) -> dict[int, int]:
+        return dict(zip(words[1 : 1 + 2 * words[0] : 2], words[2::2]))
+
+
+class Book(_Seat):
+    """A seat of a book of sixteen accounts, each with a balance up to 999,999,999,999 that is 0 at the start.
+
+    The last state is the list of the balances.
+    """
+
+    _replies = 2
+
+    @classmethod
+    def open(cls, n: int) -> Small[Book]:
+        """A book for n processes. Raises as `Counter.open`."""
+        return Small._open(cls, 16, _LIBRARY.universal_open_book, _number(n, 64))
+
+    def _number_of(self, operation: int, account: int, target: int, amount: int) -> int:
+        if not (0 <= account < 16 and 0 <= target < 16 and 0 <= amount < 10**12):
+            raise ValueError("an account isn't from 0 to 15, or an amount isn't from 0 to 999999999999")
+        kind, number = self._apply(operation, account, target, amount)
+        if kind == 1:
+            raise Over
+        if kind == 2:
+            raise Short
+        return number
+
+    def deposit(self, account: int, amount: int) -> int:
+        """Puts an amount into an account: its balance. Raises `Over`."""
+        return self._number_of(0, account, 0, amount)
+
+    def withdraw(self, account: int, amount: int) -> int:
+        """Takes an amount out of an account: its balance. Raises `Short`."""
+        return self._number_of(1, account, 0, amount)
+
+    def transfer(self, source: int, target: int, amount: int) -> None:
+        """Takes an amount out of an account, and puts it into another one. Raises `Over` and `Short`."""
+        self._number_of(2, source, target, amount)
+
+    def total(self) -> int:
+        """The sum of all balances."""
+        return self._number_of(3, 0, 0, 0)

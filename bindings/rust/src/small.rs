@@ -1,0 +1,463 @@
+//! Objects on words of 64 bits, whose seats make calls without end.
+//!
+//! [`Counter`], [`Register`], [`Counters`], [`Queue`], [`Stack`], [`Map`] and [`Book`] are seats. `open` gives a [`Small`],
+//! the object with its seats. A call comes with a version: a number of the object's state, in which the call is
+//! ([`SmallSeat::version`]). Who is told a version, by whatever means, can follow it ([`SmallSeat::follows`]).
+//!
+//! ```
+//! use std::num::NonZeroU64;
+//! use universal::small::Queue;
+//!
+//! let mut seats = Queue::open(4, 100)?.into_seats()?;
+//! std::thread::scope(|scope| {
+//!     for seat in &mut seats {
+//!         scope.spawn(|| seat.put(NonZeroU64::MIN).unwrap());
+//!     }
+//! });
+//! assert_eq!(seats[0].take().unwrap(), Some(NonZeroU64::MIN));
+//! let last = seats.pop().unwrap();
+//! drop(seats);
+//! assert_eq!(last.close().unwrap(), [1, 1, 1]);
+//! # Ok::<(), universal::Fault>(())
+//! ```
+
+use crate::raw::{self, Handle};
+use crate::Fault;
+use std::error::Error;
+use std::fmt;
+use std::marker::PhantomData;
+use std::num::NonZeroU64;
+
+mod kind {
+    /// What an object is, by its last state.
+    pub trait Kind {
+        /// The last state.
+        type State;
+
+        /// The state that words are.
+        fn state(words: Vec<u64>) -> Self::State;
+    }
+}
+
+use kind::Kind;
+
+macro_rules! kinds {
+    ($($name:ident: $state:ty, $words:ident => $read:expr;)*) => {$(
+        #[doc = concat!("What a seat of a [`", stringify!($name), "`](super::", stringify!($name), ") is a seat of.")]
+        #[derive(Debug)]
+        pub enum $name {}
+
+        impl super::Kind for $name {
+            type State = $state;
+
+            fn state($words: Vec<u64>) -> $state {
+                $read
+            }
+        }
+    )*};
+}
+
+/// The kinds of objects.
+pub mod kinds {
+    kinds! {
+        Counter: u64, words => words[0];
+        Register: u64, words => words[0];
+        Counters: Vec<u64>, words => words;
+        Queue: Vec<u64>, words => words[1..][..words[0] as usize].to_vec();
+        Stack: Vec<u64>, words => words[1..][..words[0] as usize].to_vec();
+        Map: Vec<(u64, u64)>, words => words[1..].chunks(2).take(words[0] as usize).map(|pair| (pair[0], pair[1])).collect();
+        Book: [u64; 16], words => std::array::from_fn(|account| words[account]);
+    }
+}
+
+/// A seat of a counter modulo 2^64, 0 at the start.
+pub type Counter = SmallSeat<kinds::Counter>;
+
+/// A seat of a register of 64 bits, 0 at the start.
+pub type Register = SmallSeat<kinds::Register>;
+
+/// A seat of an array of counters modulo 2^64, each 0 at the start.
+pub type Counters = SmallSeat<kinds::Counters>;
+
+/// A seat of a queue of numbers that aren't 0. The last state has the oldest one first.
+pub type Queue = SmallSeat<kinds::Queue>;
+
+/// A seat of a stack of numbers that aren't 0. The last state has the newest one last.
+pub type Stack = SmallSeat<kinds::Stack>;
+
+/// A seat of a map from words to words. The last state has each key with its value, the oldest key first.
+pub type Map = SmallSeat<kinds::Map>;
+
+/// A seat of a book of sixteen accounts, each with a balance up to 999,999,999,999 that is 0 at the start.
+pub type Book = SmallSeat<kinds::Book>;
+
+/// The seat has made all the calls that it can make, which are 2^50. Nothing is changed.
+#[derive(Clone, Copy, Debug, PartialEq, Eq)]
+pub struct Spent;
+
+impl fmt::Display for Spent {
+    fn fmt(&self, out: &mut fmt::Formatter<'_>) -> fmt::Result {
+        out.write_str("the seat has made all its calls")
+    }
+}
+
+impl Error for Spent {}
+
+/// Why nothing was put in. Nothing is changed.
+#[derive(Clone, Copy, Debug, PartialEq, Eq)]
+pub enum PutFault {
+    /// There is no room.
+    Full,
+    /// The seat has made all the calls that it can make.
+    Spent,
+}
+
+impl From<Spent> for PutFault {
+    fn from(_: Spent) -> PutFault {
+        PutFault::Spent
+    }
+}
+
+impl fmt::Display for PutFault {
+    fn fmt(&self, out: &mut fmt::Formatter<'_>) -> fmt::Result {
+        match self {
+            PutFault::Full => out.write_str("there is no room"),
+            PutFault::Spent => Spent.fmt(out),
+        }
+    }
+}
+
+impl Error for PutFault {}
+
+/// Why a book is as it was.
+#[derive(Clone, Copy, Debug, PartialEq, Eq)]
+pub enum BookFault {
+    /// An account isn't from 0 to 15.
+    NoAccount,
+    /// An amount is greater than 999,999,999,999.
+    NoAmount,
+    /// A balance would be too great.
+    Over,
+    /// A balance is too small.
+    Short,
+    /// The seat has made all the calls that it can make.
+    Spent,
+}
+
+impl From<Spent> for BookFault {
+    fn from(_: Spent) -> BookFault {
+        BookFault::Spent
+    }
+}
+
+impl fmt::Display for BookFault {
+    fn fmt(&self, out: &mut fmt::Formatter<'_>) -> fmt::Result {
+        out.write_str(match self {
+            BookFault::NoAccount => "an account isn't from 0 to 15",
+            BookFault::NoAmount => "an amount is greater than 999999999999",
+            BookFault::Over => "a balance would be too great",
+            BookFault::Short => "a balance is too small",
+            BookFault::Spent => return Spent.fmt(out),
+        })
+    }
+}
+
+impl Error for BookFault {}
+
+/// Another handle has the object: what was to close it comes back.
+#[derive(Debug)]
+pub struct Busy<T>(pub T);
+
+impl<T> fmt::Display for Busy<T> {
+    fn fmt(&self, out: &mut fmt::Formatter<'_>) -> fmt::Result {
+        out.write_str("another handle has the object")
+    }
+}
+
+impl<T: fmt::Debug> Error for Busy<T> {}
+
+/// A handle of a small object, and how many words its states have.
+#[derive(Debug)]
+struct Held {
+    handle: Handle,
+    width: usize,
+}
+
+impl Held {
+    fn close<K: Kind>(&mut self) -> Option<K::State> {
+        let mut state = vec![0; self.width];
+        self.handle.small_close(&mut state).ok()?;
+        Some(K::state(state))
+    }
+}
+
+/// An object that is shared, with the seats that are still to be given out.
+#[derive(Debug)]
+pub struct Small<K> {
+    held: Held,
+    kind: PhantomData<fn() -> K>,
+}
+
+impl<K: Kind> Small<K> {
+    fn opened(width: usize, open: impl FnOnce(&mut Handle) -> u32) -> Result<Small<K>, Fault> {
+        let handle = Handle::opened(open)?;
+        Ok(Small { held: Held { handle, width }, kind: PhantomData })
+    }
+
+    /// The seat of the greatest process that has none yet.
+    ///
+    /// Errors: `NoSeat`, `Memory`. After either no seat is lost.
+    pub fn seat(&mut self) -> Result<SmallSeat<K>, Fault> {
+        let (handle, process) = self.held.handle.small_seat()?;
+        Ok(SmallSeat { held: Held { handle, width: self.held.width }, process, version: 0, kind: PhantomData })
+    }
+
+    /// All seats that are left, that of the greatest process first.
+    ///
+    /// An `Err` has the object, and the seats that were had.
+    pub fn into_seats(mut self) -> Result<Vec<SmallSeat<K>>, NotAllSmallSeats<K>> {
+        let mut seats = Vec::new();
+        loop {
+            match self.seat() {
+                Ok(seat) => seats.push(seat),
+                Err(Fault::NoSeat) => return Ok(seats),
+                Err(fault) => return Err(NotAllSmallSeats { fault, object: self, seats }),
+            }
+        }
+    }
+
+    /// Closes the object, if all its seats are dropped: the last state.
+    pub fn close(mut self) -> Result<K::State, Busy<Small<K>>> {
+        self.held.close::<K>().ok_or(Busy(self))
+    }
+}
+
+/// Not all seats could be given out, since memory was refused.
+#[derive(Debug)]
+pub struct NotAllSmallSeats<K> {
+    /// Why.
+    pub fault: Fault,
+    /// The object, which has the others.
+    pub object: Small<K>,
+    /// The seats that were given out.
+    pub seats: Vec<SmallSeat<K>>,
+}
+
+impl<K> fmt::Display for NotAllSmallSeats<K> {
+    fn fmt(&self, out: &mut fmt::Formatter<'_>) -> fmt::Result {
+        write!(out, "{} seats were given out: {}", self.seats.len(), self.fault)
+    }
+}
+
+impl<K: fmt::Debug> Error for NotAllSmallSeats<K> {}
+
+impl<K> From<NotAllSmallSeats<K>> for Fault {
+    fn from(refused: NotAllSmallSeats<K>) -> Fault {
+        refused.fault
+    }
+}
+
+/// A process of a small object, which makes its calls.
+#[derive(Debug)]
+pub struct SmallSeat<K> {
+    held: Held,
+    process: u64,
+    version: u64,
+    kind: PhantomData<fn() -> K>,
+}
+
+impl<K: Kind> SmallSeat<K> {
+    /// Which process it is, from 0 to `n - 1`.
+    pub fn process(&self) -> u64 {
+        self.process
+    }
+
+    /// The version that the latest call of this seat was answered: one that the call is in, greater than each before.
+    /// 0 where there was none.
+    pub fn version(&self) -> u64 {
+        self.version
+    }
+
+    /// Whether a version has come: all later calls of this seat come after all calls that are in it then. It is always
+    /// `true` of one that a call was answered.
+    pub fn follows(&mut self, version: u64) -> bool {
+        self.held.handle.small_follows(version).expect("a seat's handle has a seat")
+    }
+
+    /// Closes the object, if this is the last handle that has it: the last state.
+    pub fn close(mut self) -> Result<K::State, Busy<SmallSeat<K>>> {
+        self.held.close::<K>().ok_or(Busy(self))
+    }
+
+    fn apply<const REPLY: usize>(&mut self, invocation: &[u64]) -> Result<[u64; REPLY], Spent> {
+        let (reply, version) = self.held.handle.small_apply(invocation).map_err(|_| Spent)?;
+        self.version = version;
+        Ok(reply)
+    }
+
+    fn ask(&mut self, invocation: &[u64]) -> Result<u64, Spent> {
+        let [reply] = self.apply(invocation)?;
+        Ok(reply)
+    }
+
+    fn put_in(&mut self, number: NonZeroU64) -> Result<(), PutFault> {
+        match self.ask(&[number.get()])? {
+            0 => Err(PutFault::Full),
+            _ => Ok(()),
+        }
+    }
+}
+
+impl Counter {
+    /// A counter for `n` processes. Errors: `BadCount`, `Memory`.
+    pub fn open(n: u64) -> Result<Small<kinds::Counter>, Fault> {
+        Small::opened(1, |object| raw::open_counter(n, object))
+    }
+
+    /// Adds a number: the sum before.
+    pub fn add(&mut self, number: u64) -> Result<u64, Spent> {
+        self.ask(&[number])
+    }
+}
+
+impl Register {
+    /// A register for `n` processes. Errors: `BadCount`, `Memory`.
+    pub fn open(n: u64) -> Result<Small<kinds::Register>, Fault> {
+        Small::opened(1, |object| raw::open_register64(n, object))
+    }
+
+    /// The value.
+    pub fn read(&mut self) -> Result<u64, Spent> {
+        self.ask(&[0, 0, 0])
+    }
+
+    /// Writes a value: the one before.
+    pub fn write(&mut self, value: u64) -> Result<u64, Spent> {
+        self.ask(&[1, value, 0])
+    }
+
+    /// Writes a value where the register has the expected one: the value before. So it has written where that is the
+    /// expected one.
+    pub fn compare_exchange(&mut self, expected: u64, value: u64) -> Result<u64, Spent> {
+        self.ask(&[2, expected, value])
+    }
+}
+
+impl Counters {
+    /// So many counters for `n` processes. Errors: `BadCount`; `BadCapacity` for more than 65,536 counters; `Memory`.
+    pub fn open(n: u64, count: u32) -> Result<Small<kinds::Counters>, Fault> {
+        Small::opened(count as usize, |object| raw::open_counters(n, count, object))
+    }
+
+    /// Adds a number to the counter at an index: the sum before. Where there is none, nothing is changed, and that is 0.
+    pub fn add(&mut self, index: u64, number: u64) -> Result<u64, Spent> {
+        self.ask(&[index, number])
+    }
+}
+
+impl Queue {
+    /// A queue of at most `capacity` numbers for `n` processes.
+    /// Errors: `BadCount`; `BadCapacity` for more than 65,535 numbers; `Memory`.
+    pub fn open(n: u64, capacity: u32) -> Result<Small<kinds::Queue>, Fault> {
+        Small::opened(1 + capacity as usize, |object| raw::open_queue(n, capacity, object))
+    }
+
+    /// Puts a number in.
+    pub fn put(&mut self, number: NonZeroU64) -> Result<(), PutFault> {
+        self.put_in(number)
+    }
+
+    /// Takes the oldest number out.
+    pub fn take(&mut self) -> Result<Option<NonZeroU64>, Spent> {
+        Ok(NonZeroU64::new(self.ask(&[0])?))
+    }
+}
+
+impl Stack {
+    /// A stack of at most `capacity` numbers for `n` processes. The errors are those of [`Queue::open`].
+    pub fn open(n: u64, capacity: u32) -> Result<Small<kinds::Stack>, Fault> {
+        Small::opened(1 + capacity as usize, |object| raw::open_stack(n, capacity, object))
+    }
+
+    /// Puts a number on.
+    pub fn push(&mut self, number: NonZeroU64) -> Result<(), PutFault> {
+        self.put_in(number)
+    }
+
+    /// Takes the newest number off.
+    pub fn pop(&mut self) -> Result<Option<NonZeroU64>, Spent> {
+        Ok(NonZeroU64::new(self.ask(&[0])?))
+    }
+}
+
+impl Map {
+    /// A map of at most `capacity` keys for `n` processes.
+    /// Errors: `BadCount`; `BadCapacity` for more than 32,767 keys; `Memory`.
+    pub fn open(n: u64, capacity: u32) -> Result<Small<kinds::Map>, Fault> {
+        Small::opened(1 + 2 * capacity as usize, |object| raw::open_map(n, capacity, object))
+    }
+
+    /// The value of a key.
+    pub fn get(&mut self, key: u64) -> Result<Option<u64>, Spent> {
+        let [kind, value] = self.apply(&[0, key, 0])?;
+        Ok((kind == 1).then_some(value))
+    }
+
+    /// Gives a key a value: the value before.
+    pub fn insert(&mut self, key: u64, value: u64) -> Result<Option<u64>, PutFault> {
+        let [kind, before] = self.apply(&[1, key, value])?;
+        match kind {
+            2 => Err(PutFault::Full),
+            _ => Ok((kind == 1).then_some(before)),
+        }
+    }
+
+    /// Takes a key out: its value.
+    pub fn remove(&mut self, key: u64) -> Result<Option<u64>, Spent> {
+        let [kind, value] = self.apply(&[2, key, 0])?;
+        Ok((kind == 1).then_some(value))
+    }
+}
+
+impl Book {
+    /// A book for `n` processes. Errors: `BadCount`, `Memory`.
+    pub fn open(n: u64) -> Result<Small<kinds::Book>, Fault> {
+        Small::opened(16, |object| raw::open_book(n, object))
+    }
+
+    fn call(&mut self, operation: u64, accounts: [u8; 2], amount: u64) -> Result<u64, BookFault> {
+        if accounts.iter().any(|account| *account > 15) {
+            return Err(BookFault::NoAccount);
+        }
+        if amount > 999_999_999_999 {
+            return Err(BookFault::NoAmount);
+        }
+        let [kind, number] = self.apply(&[operation, accounts[0].into(), accounts[1].into(), amount])?;
+        match kind {
+            1 => Err(BookFault::Over),
+            2 => Err(BookFault::Short),
+            _ => Ok(number),
+        }
+    }
+
+    /// Puts an amount into an account: its balance. Error: each of [`BookFault`] but `Short`.
+    pub fn deposit(&mut self, account: u8, amount: u64) -> Result<u64, BookFault> {
+        self.call(0, [account, 0], amount)
+    }
+
+    /// Takes an amount out of an account: its balance. Error: each of [`BookFault`] but `Over`.
+    pub fn withdraw(&mut self, account: u8, amount: u64) -> Result<u64, BookFault> {
+        self.call(1, [account, 0], amount)
+    }
+
+    /// Takes an amount out of an account, and puts it into another one.
+    pub fn transfer(&mut self, from: u8, to: u8, amount: u64) -> Result<(), BookFault> {
+        self.call(2, [from, to], amount).map(drop)
+    }
+
+    /// The sum of all balances.
+    pub fn total(&mut self) -> Result<u64, Spent> {
+        let [_, sum] = self.apply(&[3, 0, 0, 0])?;
+        Ok(sum)
+    }
+}

@@ -1,0 +1,113 @@
+//! Small objects: each call on its happy path, each refusal, and what its types keep.
+use std::num::NonZeroU64;
+use universal::small::{
+    Book, BookFault, Busy, Counter, Counters, Map, PutFault, Queue, Register, Small, SmallSeat, Stack,
+};
+use universal::Fault;
+
+fn number(of: u64) -> NonZeroU64 {
+    NonZeroU64::new(of).unwrap()
+}
+
+macro_rules! only_seat {
+    ($opened:expr) => {
+        $opened.unwrap().into_seats().unwrap().pop().unwrap()
+    };
+}
+
+#[test]
+fn counters_answer_the_sum_before() {
+    let mut counter = only_seat!(Counter::open(1));
+    assert_eq!([counter.add(5), counter.add(u64::MAX), counter.add(0)], [Ok(0), Ok(5), Ok(4)]);
+    assert_eq!(counter.close().unwrap(), 4);
+    let mut counters = only_seat!(Counters::open(1, 3));
+    assert_eq!([counters.add(2, 8), counters.add(2, 1), counters.add(3, 1)], [Ok(0), Ok(8), Ok(0)]);
+    assert_eq!(counters.close().unwrap(), [0, 0, 9]);
+}
+
+#[test]
+fn a_register_answers_the_value_before() {
+    let mut register = only_seat!(Register::open(1));
+    assert_eq!([register.write(7), register.compare_exchange(3, 9)], [Ok(0), Ok(7)]);
+    assert_eq!([register.compare_exchange(7, 9), register.read()], [Ok(7), Ok(9)]);
+    assert_eq!(register.close().unwrap(), 9);
+}
+
+#[test]
+fn a_queue_gives_the_oldest_and_a_stack_the_newest() {
+    let mut queue = only_seat!(Queue::open(1, 2));
+    assert_eq!(queue.take(), Ok(None));
+    assert_eq!([8, 9, 7].map(|it| queue.put(number(it))), [Ok(()), Ok(()), Err(PutFault::Full)]);
+    assert_eq!(queue.take(), Ok(Some(number(8))));
+    assert_eq!(queue.close().unwrap(), [9]);
+    let mut stack = only_seat!(Stack::open(1, 2));
+    assert_eq!(stack.pop(), Ok(None));
+    assert_eq!([8, 9, 7].map(|it| stack.push(number(it))), [Ok(()), Ok(()), Err(PutFault::Full)]);
+    assert_eq!(stack.pop(), Ok(Some(number(9))));
+    assert_eq!(stack.close().unwrap(), [8]);
+}
+
+#[test]
+fn a_map_tells_the_value_before() {
+    let mut map = only_seat!(Map::open(1, 2));
+    assert_eq!([map.insert(7, 70), map.insert(7, 71), map.insert(0, 5)], [Ok(None), Ok(Some(70)), Ok(None)]);
+    assert_eq!(map.insert(9, 90), Err(PutFault::Full));
+    assert_eq!([map.get(9), map.get(0), map.remove(7), map.remove(7)], [Ok(None), Ok(Some(5)), Ok(Some(71)), Ok(None)]);
+    assert_eq!(map.close().unwrap(), [(0, 5)]);
+}
+
+#[test]
+fn a_book_keeps_its_balances() {
+    let mut book = only_seat!(Book::open(1));
+    let most = 999_999_999_999;
+    assert_eq!([book.deposit(3, 10), book.deposit(3, most)], [Ok(10), Err(BookFault::Over)]);
+    assert_eq!([book.withdraw(3, 11), book.withdraw(3, 1)], [Err(BookFault::Short), Ok(9)]);
+    assert_eq!([book.transfer(3, 15, 4), book.transfer(3, 15, 6)], [Ok(()), Err(BookFault::Short)]);
+    assert_eq!(book.deposit(16, 1), Err(BookFault::NoAccount));
+    assert_eq!(book.deposit(0, most + 1), Err(BookFault::NoAmount));
+    assert_eq!(book.total(), Ok(9));
+    let balances = book.close().unwrap();
+    assert_eq!((balances[3], balances[15], balances.iter().sum()), (5, 4, 9u64));
+}
+
+#[test]
+fn bad_sizes_are_refused() {
+    assert_eq!(Counter::open(0).unwrap_err(), Fault::BadCount);
+    assert_eq!(Book::open(65).unwrap_err(), Fault::BadCount);
+    assert_eq!(Counters::open(1, 65537).unwrap_err(), Fault::BadCapacity);
+    assert_eq!(Queue::open(1, 65536).unwrap_err(), Fault::BadCapacity);
+    assert_eq!(Stack::open(1, u32::MAX).unwrap_err(), Fault::BadCapacity);
+    assert_eq!(Map::open(1, 32768).unwrap_err(), Fault::BadCapacity);
+    assert!(Map::open(1, 32767).is_ok());
+    assert_eq!(only_seat!(Counters::open(1, 0)).close().unwrap(), []);
+}
+
+#[test]
+fn seats_end_and_follow_and_close() {
+    let mut object = Counter::open(2).unwrap();
+    let (mut first, mut second) = (object.seat().unwrap(), object.seat().unwrap());
+    assert_eq!((first.process(), second.process(), first.version()), (1, 0, 0));
+    assert_eq!(object.seat().unwrap_err(), Fault::NoSeat);
+    assert_eq!(first.add(5), Ok(0));
+    let version = first.version();
+    assert_eq!([second.follows(version), second.follows(version + 1)], [true, false]);
+    assert_eq!(second.add(2), Ok(5));
+    assert!(second.version() > version);
+
+    // whoever closes comes back as long as another has the object
+    let Err(Busy(first)) = first.close() else { panic!("another seat has it") };
+    drop(second);
+    let Err(Busy(object)) = object.close() else { panic!("a seat has it") };
+    let Err(Busy(mut first)) = first.close() else { panic!("the object's own handle has it") };
+    assert_eq!(first.add(1), Ok(7));
+    drop(first);
+    assert_eq!(object.close().unwrap(), 8);
+}
+
+#[test]
+fn what_goes_to_another_thread() {
+    fn goes<T: Send>() {}
+    goes::<Map>();
+    goes::<Small<universal::small::kinds::Map>>();
+    goes::<Busy<SmallSeat<universal::small::kinds::Queue>>>();
+}

@@ -1,0 +1,145 @@
+//! Opening a small object.
+ghost use Rattle.std.specs.Prelude.{◌≡◌, ◌≢◌, ◌↔◌, ◌⊎◌, ◌<◌, ◌≤◌};
+ghost use Rattle.universal_c.specs.SmallCalls.{HasOpenedSmall};
+ghost use Rattle.universal_c.specs.SmallMeaning.{state_words};
+ghost use Rattle.universal_c.specs.declared.small_kind.SmallKind.TheVariants.{Book, Counter, Counters, Map};
+ghost use Rattle.universal_c.specs.declared.small_kind.SmallKind.TheVariants.{Queue, Register, Stack};
+
+use crate::handle::Handle;
+use crate::held::Held;
+use crate::open::put;
+use crate::small::SmallOpened;
+use crate::small_kind::SmallKind;
+use crate::status::{BAD_CAPACITY, BAD_COUNT, MEMORY};
+use small_objects::{SmallCounters, SmallMap, SmallQueue, SmallStack};
+use std::alloc::Global;
+use uni_small::SmallOpenFault;
+
+/// Opens a small object of this kind, with the statuses of `universal_open_queue`.
+fn open(alloc: Global, kind: SmallKind, n: u64, object: &mut Handle) -> u32
+    ensures count { (result ≡ 1) ↔ ((n ≡ 0) ⊎ (64 < n)) }
+    ensures capacity { (result ≡ 10) ↔ ((1 ≤ n) × (n ≤ 64) × (65536 < state_words kind)) }
+    ensures status { (result ≡ 0) ⊎ (result ≡ 1) ⊎ (result ≡ 3) ⊎ (result ≡ 10) }
+    ensures unchanged { result ≢ 0 → object.new ≡ object.old }
+    ensures opened { result ≡ 0 → HasOpenedSmall object.new.value kind n }
+{
+    match SmallOpened::open(alloc, kind, n) {
+        Ok(opened) => put(alloc, object, Held::Small(opened)),
+        Err(SmallOpenFault::BadCount) => BAD_COUNT,
+        Err(SmallOpenFault::BadWidth) => BAD_CAPACITY,
+        Err(SmallOpenFault::Memory) => MEMORY,
+    }
+}
+
+/// Opens a counter of 64 bits, for n processes.
+/// 1: `n` isn't from 1 to 64. 3: memory was refused. After either the handle is as before; else what it had
+/// is dropped.
+#[unsafe(no_mangle)]
+pub extern "C" fn universal_open_counter(alloc: Global, n: u64, object: &mut Handle) -> u32
+    ensures count { (result ≡ 1) ↔ ((n ≡ 0) ⊎ (64 < n)) }
+    ensures status { (result ≡ 0) ⊎ (result ≡ 1) ⊎ (result ≡ 3) }
+    ensures unchanged { result ≢ 0 → object.new ≡ object.old }
+    ensures opened { result ≡ 0 → HasOpenedSmall object.new.value Counter n }
+{
+    open(alloc, SmallKind::Counter, n, object)
+}
+
+/// Opens a register of 64 bits, with the statuses of `universal_open_counter`.
+#[unsafe(no_mangle)]
+pub extern "C" fn universal_open_register64(alloc: Global, n: u64, object: &mut Handle) -> u32
+    ensures count { (result ≡ 1) ↔ ((n ≡ 0) ⊎ (64 < n)) }
+    ensures status { (result ≡ 0) ⊎ (result ≡ 1) ⊎ (result ≡ 3) }
+    ensures unchanged { result ≢ 0 → object.new ≡ object.old }
+    ensures opened { result ≡ 0 → HasOpenedSmall object.new.value Register n }
+{
+    open(alloc, SmallKind::Register, n, object)
+}
+
+/// Opens a book of sixteen accounts, with the statuses of `universal_open_counter`.
+#[unsafe(no_mangle)]
+pub extern "C" fn universal_open_book(alloc: Global, n: u64, object: &mut Handle) -> u32
+    ensures count { (result ≡ 1) ↔ ((n ≡ 0) ⊎ (64 < n)) }
+    ensures status { (result ≡ 0) ⊎ (result ≡ 1) ⊎ (result ≡ 3) }
+    ensures unchanged { result ≢ 0 → object.new ≡ object.old }
+    ensures opened { result ≡ 0 → HasOpenedSmall object.new.value Book n }
+{
+    open(alloc, SmallKind::Book, n, object)
+}
+
+/// Opens an array of so many counters, with the statuses of `universal_open_queue`: 10 where there are more
+/// than 65,536.
+#[unsafe(no_mangle)]
+pub extern "C" fn universal_open_counters(
+    alloc: Global,
+    n: u64,
+    count: u32,
+    object: &mut Handle,
+) -> u32
+    ensures count { (result ≡ 1) ↔ ((n ≡ 0) ⊎ (64 < n)) }
+    ensures capacity { (result ≡ 10) ↔ ((1 ≤ n) × (n ≤ 64) × (65536 < count)) }
+    ensures status { (result ≡ 0) ⊎ (result ≡ 1) ⊎ (result ≡ 3) ⊎ (result ≡ 10) }
+    ensures unchanged { result ≢ 0 → object.new ≡ object.old }
+    ensures opened { result ≡ 0 → HasOpenedSmall object.new.value (Counters (record { count = count })) n }
+{
+    let count = count as u64;
+    open(
+        alloc,
+        SmallKind::Counters(SmallCounters { count }),
+        n,
+        object,
+    )
+}
+
+/// Opens a queue of at most `capacity` numbers, for n processes.
+/// 1: `n` isn't from 1 to 64. 10: `capacity` is more than 65,535. 3: memory was refused. After each the handle
+/// is as before; else what it had is dropped.
+#[unsafe(no_mangle)]
+pub extern "C" fn universal_open_queue(
+    alloc: Global,
+    n: u64,
+    capacity: u32,
+    object: &mut Handle,
+) -> u32
+    ensures count { (result ≡ 1) ↔ ((n ≡ 0) ⊎ (64 < n)) }
+    ensures capacity { (result ≡ 10) ↔ ((1 ≤ n) × (n ≤ 64) × (65535 < capacity)) }
+    ensures status { (result ≡ 0) ⊎ (result ≡ 1) ⊎ (result ≡ 3) ⊎ (result ≡ 10) }
+    ensures unchanged { result ≢ 0 → object.new ≡ object.old }
+    ensures opened { result ≡ 0 → HasOpenedSmall object.new.value (Queue (record { capacity = capacity })) n }
+{
+    open(alloc, SmallKind::Queue(SmallQueue { capacity }), n, object)
+}
+
+/// Opens a stack of at most `capacity` numbers, with the statuses of `universal_open_queue`.
+#[unsafe(no_mangle)]
+pub extern "C" fn universal_open_stack(
+    alloc: Global,
+    n: u64,
+    capacity: u32,
+    object: &mut Handle,
+) -> u32
+    ensures count { (result ≡ 1) ↔ ((n ≡ 0) ⊎ (64 < n)) }
+    ensures capacity { (result ≡ 10) ↔ ((1 ≤ n) × (n ≤ 64) × (65535 < capacity)) }
+    ensures status { (result ≡ 0) ⊎ (result ≡ 1) ⊎ (result ≡ 3) ⊎ (result ≡ 10) }
+    ensures unchanged { result ≢ 0 → object.new ≡ object.old }
+    ensures opened { result ≡ 0 → HasOpenedSmall object.new.value (Stack (record { capacity = capacity })) n }
+{
+    open(alloc, SmallKind::Stack(SmallStack { capacity }), n, object)
+}
+
+/// Opens a map of at most `capacity` keys, with the statuses of `universal_open_queue`: 10 where `capacity` is
+/// more than 32,767.
+#[unsafe(no_mangle)]
+pub extern "C" fn universal_open_map(
+    alloc: Global,
+    n: u64,
+    capacity: u32,
+    object: &mut Handle,
+) -> u32
+    ensures count { (result ≡ 1) ↔ ((n ≡ 0) ⊎ (64 < n)) }
+    ensures capacity { (result ≡ 10) ↔ ((1 ≤ n) × (n ≤ 64) × (32767 < capacity)) }
+    ensures status { (result ≡ 0) ⊎ (result ≡ 1) ⊎ (result ≡ 3) ⊎ (result ≡ 10) }
+    ensures unchanged { result ≢ 0 → object.new ≡ object.old }
+    ensures opened { result ≡ 0 → HasOpenedSmall object.new.value (Map (record { capacity = capacity })) n }
+{
+    open(alloc, SmallKind::Map(SmallMap { capacity }), n, object)
+}
