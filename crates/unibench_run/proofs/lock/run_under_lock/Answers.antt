@@ -36,7 +36,7 @@ close_and_audit-requires g c =
     let plan : IsThreadsPlan c.args.plan.now = c.requires.plan in
     let few : length c.in_ok-seats.seats.items ≤ 64 = (let many = are.many in let most = plan.1 in omega arith) in
     record {
-      few = (few, plan.3);
+      few = (few, c.requires.room.0);
       no_more = no_more read processes c.args.plan.now.calls c.args.plan.now.seed c.in_ok-seats.seats.items are;
     }
 
